@@ -1,13 +1,6 @@
-// A library with one function.
+//! The definitions of zfpi, and laws about them.
+//!
+//! The definitions stand in `specs/`. A law is a function with no parameters and an empty body, whose contract is a theorem over them.
 #![tactic(auto)]
 
-ghost use Rattle.std.specs.Prelude.{◌≡◌};
-ghost use Rattle.zf_spec.specs.Echo.{echo_of};
-
-// The `ensures` clause is the contract: what `echo` returns is `echo_of` of its argument, a definition
-// in `specs/Echo.antt`, which a caller's clause can cite too.
-pub fn echo(x: usize) -> usize
-    ensures { result ≡ echo_of x }
-{
-    x
-}
+pub mod tables;
