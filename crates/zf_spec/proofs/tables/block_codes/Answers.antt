@@ -1,0 +1,10 @@
+use Rattle.std.proofs.Common.{refl}
+use Rattle.std.specs.Int.{int_wrap}
+use Rattle.zf_spec.specs.Padding.{pad}
+use Rattle.zf_spec.specs.Lorenzo.{lorenzo}
+use Rattle.zf_spec.specs.Codes.{rev, rev_of_planes}
+use Rattle.zf_spec.proofs.tables.block_codes.Goals as goal
+
+pub returns : goal.returns
+unfolding int_wrap pad lorenzo rev rev_of_planes
+returns c = record { one = refl; least = refl }
