@@ -1,13 +1,11 @@
-// A library with one function.
+//! The types of values, positions, and the shape of an array with its blocks.
 #![tactic(auto)]
 
-ghost use Rattle.std.specs.Prelude.{◌≡◌};
-ghost use Rattle.zf_base.specs.Echo.{echo_of};
+mod lane;
+pub mod laws;
+mod position;
+mod shape;
 
-// The `ensures` clause is the contract: what `echo` returns is `echo_of` of its argument, a definition
-// in `specs/Echo.antt`, which a caller's clause can cite too.
-pub fn echo(x: usize) -> usize
-    ensures { result ≡ echo_of x }
-{
-    x
-}
+pub use lane::{Lane, Ty};
+pub use position::{Extent, Pos};
+pub use shape::{Shape, ShapeFault};

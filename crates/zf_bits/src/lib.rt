@@ -1,13 +1,10 @@
-// A library with one function.
+//! Writing and reading lists of bits, as zfp's streams have them: fields least significant bit first, in words of 64.
 #![tactic(auto)]
 
-ghost use Rattle.std.specs.Prelude.{◌≡◌};
-ghost use Rattle.zf_bits.specs.Echo.{echo_of};
+mod packing;
+mod reader;
+mod writer;
 
-// The `ensures` clause is the contract: what `echo` returns is `echo_of` of its argument, a definition
-// in `specs/Echo.antt`, which a caller's clause can cite too.
-pub fn echo(x: usize) -> usize
-    ensures { result ≡ echo_of x }
-{
-    x
-}
+pub use packing::words_of_bytes;
+pub use reader::BitReader;
+pub use writer::BitWriter;

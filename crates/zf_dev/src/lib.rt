@@ -1,13 +1,17 @@
-// A library with one function.
+//! Sources and sinks of bytes: what they do, how they fail, and those in memory and over the standard streams.
 #![tactic(auto)]
 
-ghost use Rattle.std.specs.Prelude.{◌≡◌};
-ghost use Rattle.zf_dev.specs.Echo.{echo_of};
+mod faults;
+mod memory;
+mod real;
+mod sink;
+mod source;
 
-// The `ensures` clause is the contract: what `echo` returns is `echo_of` of its argument, a definition
-// in `specs/Echo.antt`, which a caller's clause can cite too.
-pub fn echo(x: usize) -> usize
-    ensures { result ≡ echo_of x }
-{
-    x
-}
+pub use faults::Failed;
+pub use memory::{MemSink, MemSource};
+pub use real::{RealSink, RealSource};
+pub use sink::{Sink, write_all};
+pub use source::{Source, fill};
+
+#[cfg(test)]
+mod tests;

@@ -1,9 +1,9 @@
 -- The codes of one block, and what reading them gives.
 --     A block has 4^d values by place; its extents are a list of d numbers from 1 to 4.
-use Rattle.std.specs.Prelude.{ℕ, suc, zero, ◌+◌, ◌-◌, ◌*◌, ◌^◌, max, ℤ, pos, Bool, true, false, nat_lt, List, [], ◌∷◌, ◌++◌, map, reverse, length, take, drop, slice_index_or, if◌then◌else◌}
+use Rattle.std.specs.Prelude.{ℕ, ◌+◌, ◌-◌, ◌^◌, max, ℤ, pos, Bool, false, nat_lt, List, [], ◌++◌, map, reverse, length, take, drop, slice_index_or, if◌then◌else◌}
 use Rattle.std.specs.declared.option.Option.{Option}
 use Rattle.std.specs.Prelude.{Some, None}
-use Rattle.std.specs.Int.{Width, w8, w16, w32, w64, w128}
+use Rattle.std.specs.Int.{Width}
 use mir.Val.{bits}
 use Rattle.zf_spec.specs.Numbers.{digits, value_of, field, number}
 use Rattle.zf_spec.specs.Grid.{upto, places, indices, is_inside}

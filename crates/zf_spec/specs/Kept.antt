@@ -1,6 +1,6 @@
 -- What is kept of planes when a budget cuts their code short (zfp 1.0 documentation, algorithm: embedded coding).
 --     Only the lengths of codes count here; no code is read.
-use Rattle.std.specs.Prelude.{ℕ, suc, zero, ◌+◌, ◌-◌, ◌≤◌, min, max, Bool, true, false, ◌&&◌, nat_lt, nat_le, List, [], ◌∷◌, ◌++◌, map, length, take, drop, replicate, if◌then◌else◌}
+use Rattle.std.specs.Prelude.{ℕ, suc, zero, ◌-◌, min, max, Bool, true, false, ◌&&◌, nat_lt, nat_le, List, [], ◌∷◌, ◌++◌, length, take, drop, replicate, if◌then◌else◌}
 use Rattle.zf_spec.specs.Planes.{has_one, reach, plane_code}
 
 -- as many digits, all zero

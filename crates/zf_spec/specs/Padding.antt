@@ -1,5 +1,5 @@
 -- A partial block is padded to a whole one (zfp 1.0 documentation, algorithm: partial blocks).
-use Rattle.std.specs.Prelude.{ℕ, suc, zero, ◌+◌, ◌-◌, ◌*◌, ◌/◌, ◌%◌, ℤ, pos, List, [], ◌∷◌, map, length, slice_index_or}
+use Rattle.std.specs.Prelude.{ℕ, ◌+◌, ◌-◌, ◌*◌, ◌/◌, ◌%◌, ℤ, pos, List, [], ◌∷◌, map, length, slice_index_or}
 use Rattle.zf_spec.specs.Grid.{places}
 
 -- a line of one to four values a, b, c, d becomes a a a a, or a b b a, or a b c a, or a b c d:

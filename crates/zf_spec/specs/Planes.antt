@@ -1,6 +1,6 @@
 -- Bit planes and their code (Lindstrom 2014, section 4.3; zfp 1.0 documentation, algorithm: embedded coding).
 --     A plane is a list of digits by rank. Planes are a list of planes, the greatest first.
-use Rattle.std.specs.Prelude.{ℕ, suc, zero, ◌+◌, ◌-◌, max, Bool, true, false, ◌||◌, List, [], ◌∷◌, ◌++◌, map, reverse, slice_index_or, take, drop, if◌then◌else◌}
+use Rattle.std.specs.Prelude.{ℕ, suc, max, Bool, true, false, ◌||◌, List, [], ◌∷◌, ◌++◌, map, reverse, slice_index_or, take, drop, if◌then◌else◌}
 use Rattle.zf_spec.specs.Grid.{upto}
 
 -- plane k of coefficients that are given by their digits, the lowest first

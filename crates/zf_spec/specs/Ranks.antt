@@ -1,6 +1,6 @@
 -- The order in which the coefficients of a block are coded (zfp 1.0 documentation, algorithm: coefficient order;
 -- which of two coefficients with equal sums comes first in three and four dimensions is this project's own choice).
-use Rattle.std.specs.Prelude.{ℕ, suc, zero, ◌≡◌, ◌+◌, ◌-◌, ◌*◌, Bool, true, false, ◌&&◌, ◌||◌, ◌==◌, nat_lt, ℤ, pos, List, [], ◌∷◌, ◌++◌, map, slice_index_or, if◌then◌else◌}
+use Rattle.std.specs.Prelude.{ℕ, ◌≡◌, ◌-◌, ◌*◌, Bool, true, false, ◌&&◌, ◌||◌, ◌==◌, nat_lt, ℤ, pos, List, [], ◌∷◌, map, slice_index_or, if◌then◌else◌}
 use Rattle.std.specs.List.{sum, sum_by, position_or_len}
 use Rattle.zf_spec.specs.Grid.{indices, places}
 

@@ -1,6 +1,6 @@
 -- Reading: the only planes whose code begins a list of bits that is continued with zeros.
-use Rattle.std.specs.Prelude.{ℕ, suc, zero, ◌+◌, ◌-◌, max, Bool, true, false, ◌≡◌, List, [], ◌∷◌, ◌++◌, length, take, drop, replicate}
-use Rattle.zf_spec.specs.Planes.{reach, plane_code, code_from}
+use Rattle.std.specs.Prelude.{ℕ, suc, zero, ◌-◌, max, Bool, true, false, ◌≡◌, List, [], ◌∷◌, ◌++◌, length, drop, replicate}
+use Rattle.zf_spec.specs.Planes.{reach, plane_code}
 
 -- the bits begin s continued with zeros
 abbrev pub Begins : List Bool → List Bool → Type 0

@@ -1,0 +1,4 @@
+pub mod Wrapping
+pub mod Boxes
+pub mod Sizes
+pub mod Places

@@ -1,0 +1,93 @@
+//! Positions and extents, and the numbering of the positions of a box.
+
+ghost use Rattle.std.specs.Prelude.{◌≡◌, ◌≤◌, ◌<◌, ◌^◌, true, nat_lt, ◌==◌};
+ghost use Rattle.std.specs.List.{AllByRecursion, list_any};
+ghost use Rattle.zf_spec.specs.Grid.{product, raster, coordinates, is_inside};
+ghost use Rattle.zf_base.specs.Positions.{axes, used, with_unused};
+
+/// A position of an array. Coordinates along unused axes are 0.
+///
+/// It also holds sizes; those along unused axes are 1.
+#[derive(Clone, Copy, Debug, PartialEq, Eq)]
+pub struct Pos {
+    pub x: u64,
+    pub y: u64,
+    pub z: u64,
+    pub w: u64,
+}
+
+/// The part of a block that lies in the array: its first position, and how many values it has along each axis.
+#[derive(Clone, Copy, Debug, PartialEq, Eq)]
+pub struct Extent {
+    pub origin: Pos,
+    pub size: Pos,
+}
+
+impl Pos {
+    /// These sizes along the first axes, and 1 along the others.
+    pub(crate) fn first_axes(self, dims: u8) -> Pos
+        requires one_at_least { 1 ≤ dims }
+        requires four_at_most { dims ≤ 4 }
+        ensures { result ≡ with_unused 1 (used dims self) }
+    {
+        match dims {
+            1 => Pos {
+                x: self.x,
+                y: 1,
+                z: 1,
+                w: 1,
+            },
+            2 => Pos { z: 1, w: 1, ..self },
+            3 => Pos { w: 1, ..self },
+            _ => self,
+        }
+    }
+
+    /// Whether some size is zero.
+    pub(crate) fn any_zero(&self) -> bool
+        ensures { result ≡ list_any (λ n. n == 0) (axes self.now) }
+    {
+        self.x == 0 || self.y == 0 || self.z == 0 || self.w == 0
+    }
+
+    /// Whether some size is more than `most`.
+    pub(crate) fn any_above(&self, most: u64) -> bool
+        ensures { result ≡ list_any (λ n. nat_lt most n) (axes self.now) }
+    {
+        self.x > most || self.y > most || self.z > most || self.w > most
+    }
+
+    /// The number of positions of a box of these sizes.
+    pub(crate) fn product(&self) -> u64
+        requires not_zero { AllByRecursion (λ n. 1 ≤ n) (axes self.now) }
+        requires fits { product (axes self.now) < 2 ^ 64 }
+        ensures { result ≡ product (axes self.now) }
+    {
+        self.x * self.y * self.z * self.w
+    }
+
+    /// The number of a position of a box of these sizes, x fastest.
+    pub(crate) fn raster(&self, at: &Pos) -> u64
+        requires inside { is_inside (axes self.now) (axes at.now) ≡ true }
+        requires fits { product (axes self.now) < 2 ^ 64 }
+        ensures { result ≡ raster (axes self.now) (axes at.now) }
+    {
+        at.x + self.x * (at.y + self.y * (at.z + self.z * at.w))
+    }
+
+    /// The position with this number of a box of these sizes.
+    pub(crate) fn coordinates(&self, number: u64) -> Pos
+        requires { AllByRecursion (λ n. 1 ≤ n) (axes self.now) }
+        ensures { axes result ≡ coordinates (axes self.now) number }
+    {
+        let rows = number / self.x;
+        let slices = rows / self.y;
+        let volumes = slices / self.z;
+        Pos {
+            x: number % self.x,
+            y: rows % self.y,
+            z: slices % self.z,
+            w: volumes % self.w,
+        }
+    }
+}

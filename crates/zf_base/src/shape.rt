@@ -1,0 +1,145 @@
+//! The shape of an array: its sizes, and how it is cut into blocks.
+
+ghost use Rattle.std.specs.Prelude.{◌≡◌, ℕ, ◌+◌, ◌-◌, ◌*◌, ◌/◌, ◌%◌, ◌^◌, ◌<◌, ◌≤◌, ◌↔◌, List, [], ◌∷◌, length, take, map, slice_index_or, IsTrue, IsOk, IfOk};
+ghost use Rattle.std.specs.Result.{result_err};
+ghost use Rattle.zf_spec.specs.Grid.{IsShape, max_values, product, grid, blocks, coordinates, extent_of};
+ghost use Rattle.zf_base.specs.Positions.{used, with_unused, IsPosition, IsExtent};
+ghost use Rattle.zf_base.specs.Shapes.{shape_fault};
+ghost use Rattle.zf_base.specs.Places.{block_number, place_of};
+
+use crate::position::{Extent, Pos};
+use std::marker::Model;
+
+/// The most values of an array, 1 GiB of int64.
+const MAX_VALUES: u64 = 1 << 27;
+
+/// Why sizes are no shape.
+#[derive(Clone, Copy, Debug, PartialEq, Eq)]
+pub enum ShapeFault {
+    /// A size is zero.
+    Zero,
+    /// A size is more than its field of the header holds: 2^48, 2^24, 2^16 or 2^12 in one to four dimensions.
+    Field,
+    /// There are more than 2^27 values.
+    TooLarge,
+}
+
+/// The shape of an array of one to four dimensions, seen as the list of its sizes, x first.
+#[derive(Clone, Copy, Debug, PartialEq, Eq)]
+pub struct Shape {
+    dims: u8,
+    // those along unused axes are 1
+    sizes: Pos,
+}
+
+impl Model for Shape {
+    ghost use Rattle.std.specs.Prelude.{ℕ, List, length};
+    ghost use Rattle.zf_base.specs.Positions.{used, with_unused, IsShapeOf, same_from_parts};
+
+    ghost Value = { List ℕ };
+
+    ghost view = { λ s. used s.dims s.sizes };
+
+    ghost invariant = { λ s. IsShapeOf s.dims s.sizes };
+
+    ghost inverse = { λ ns. record { dims = length ns; sizes = with_unused 1 ns } };
+
+    ghost inverse_ok = { λ a h. same_from_parts (λ d sizes. record { dims = d; sizes = sizes }) _ _ _ _ h.dimension h.unused };
+}
+
+impl Shape {
+    /// The shape with the first `dims` of these sizes; the others are not looked at.
+    pub fn new(dims: u8, nx: u64, ny: u64, nz: u64, nw: u64) -> Result<Shape, ShapeFault>
+        requires one_at_least { 1 ≤ dims }
+        requires four_at_most { dims ≤ 4 }
+        ensures shape { IsOk result ↔ IsShape (take dims (nx ∷ ny ∷ nz ∷ nw ∷ [])) }
+        ensures sizes { IfOk result (λ shape. shape ≡ take dims (nx ∷ ny ∷ nz ∷ nw ∷ [])) }
+        ensures fault { result_err result ≡ shape_fault (take dims (nx ∷ ny ∷ nz ∷ nw ∷ [])) }
+    {
+        let sizes = Pos {
+            x: nx,
+            y: ny,
+            z: nz,
+            w: nw,
+        }
+        .first_axes(dims);
+        if sizes.any_zero() {
+            return Err(ShapeFault::Zero);
+        }
+        if sizes.any_above(most_along_axis(dims)) {
+            return Err(ShapeFault::Field);
+        }
+        if sizes.product() > MAX_VALUES {
+            return Err(ShapeFault::TooLarge);
+        }
+        Ok(Shape { dims, sizes })
+    }
+
+    /// The number of dimensions.
+    pub fn dims(&self) -> u8
+        ensures value { result ≡ length self.now }
+        ensures shape { IsShape self.now }
+    {
+        self.dims
+    }
+
+    /// The size along an axis, x being axis 0; 1 along an unused one.
+    pub fn size(&self, axis: u8) -> u64
+        requires { axis < 4 }
+        ensures { result ≡ slice_index_or self.now axis 1 }
+    {
+        match axis {
+            0 => self.sizes.x,
+            1 => self.sizes.y,
+            2 => self.sizes.z,
+            _ => self.sizes.w,
+        }
+    }
+
+    /// The number of values.
+    pub fn values(&self) -> u64
+        ensures value { result ≡ product self.now }
+        ensures not_zero { 1 ≤ result }
+        ensures bound { result ≤ max_values }
+    {
+        self.sizes.product()
+    }
+
+    /// The number of blocks.
+    pub fn blocks(&self) -> u64
+        ensures value { result ≡ blocks self.now }
+        ensures not_zero { 1 ≤ result }
+        ensures bound { result ≤ max_values }
+    {
+        self.grid().product()
+    }
+
+    // How many blocks there are along each axis.
+    fn grid(&self) -> Pos
+        ensures value { result ≡ with_unused 1 (grid self.now) }
+        ensures shape { IsShape self.now }
+    {
+        Pos {
+            x: blocks_along(self.sizes.x),
+            y: blocks_along(self.sizes.y),
+            z: blocks_along(self.sizes.z),
+            w: blocks_along(self.sizes.w),
+        }
+    }
+}
+
+// The greatest size that a field of the header holds.
+fn most_along_axis(dims: u8) -> u64
+    requires one_at_least { 1 ≤ dims }
+    requires four_at_most { dims ≤ 4 }
+    ensures { result ≡ 2 ^ (48 / dims) }
+{
+    1 << (48 / dims)
+}
+
+// How many blocks there are along an axis of this size.
+fn blocks_along(size: u64) -> u64
+    ensures { result ≡ (size + 3) / 4 }
+{
+    size.div_ceil(4)
+}

@@ -1,0 +1,141 @@
+-- The bits of bytes are the bits of their words, and then zeros.
+use Rattle.std.proofs.Common.{◌≡◌, ℕ, zero, suc, ◌+◌, ◌-◌, ◌*◌, ◌%◌, ◌^◌, ◌<◌, ◌≤◌, false, List, [], ◌∷◌, ◌++◌, length, get_or, drop, replicate, min, refl, sym, ap, ◌∙◌, arith, append_assoc, length-append, length-drop, lit<}
+use Rattle.std.specs.List.{flat_map}
+use Rattle.std.specs.Int.{w64, byte_worth, sum_through, div_ceil, from_le_bytes}
+use Rattle.std.proofs.Math.Nat.{pow-suc, mul-suc, mod-eq_of_lt}
+use Rattle.std.proofs.lemmas.List.{append-nil, drop_all, drop_at, get_or-drop, replicate-append-replicate}
+use Rattle.std.proofs.lemmas.List.Concat.{flat_map-append}
+use Rattle.zf_spec.specs.Numbers.{field, number, word_bits}
+use Rattle.zf_spec.specs.Stream.{first_bytes, filled, to_bits}
+use Rattle.zf_bits.specs.Packing.{word_of, words_from, words_of}
+use Rattle.zf_bits.proofs.Fields.{length-field, number-field, number-append, field-number_at, field-zero}
+use Rattle.zf_bits.proofs.Words.{length-flat_map-field}
+
+-- ---- bytes, continued with zero bytes
+
+pub first_bytes-append-drop : (n : ℕ) (s : List ℕ) → first_bytes n s ++ drop n s ≡ s ++ replicate (n - length s) 0
+first_bytes-append-drop zero s = let none : zero - length s ≡ zero = omega arith in rw none (sym (append-nil s))
+first_bytes-append-drop (suc n) [] =
+    let more : suc n - 0 ≡ suc (n - 0) = omega arith in
+    let none : drop n [] ≡ [] = drop_all n [] (omega arith) in
+    rw more (ap (λ bs. 0 ∷ bs) (ap (λ bs. first_bytes n [] ++ bs) (sym none) ∙ first_bytes-append-drop n []))
+first_bytes-append-drop (suc n) (b ∷ s) =
+    let less : suc n - suc (length s) ≡ n - length s = omega arith in
+    rw less (ap (λ bs. b ∷ bs) (first_bytes-append-drop n s))
+
+pub first_bytes-short : (n : ℕ) (s : List ℕ) → length s ≤ n → first_bytes n s ≡ s ++ replicate (n - length s) 0
+first_bytes-short n s short =
+    sym (append-nil (first_bytes n s)) ∙ ap (λ bs. first_bytes n s ++ bs) (sym (drop_all n s short)) ∙ first_bytes-append-drop n s
+
+pub length-first_bytes : (n : ℕ) (s : List ℕ) → length (first_bytes n s) ≡ n
+length-first_bytes zero s = refl
+length-first_bytes (suc n) [] = ap suc (length-first_bytes n [])
+length-first_bytes (suc n) (b ∷ s) = ap suc (length-first_bytes n s)
+
+-- ---- the number of bytes
+
+pub number-flat_map-field : (w b : ℕ) (bs : List ℕ) → number (flat_map (field w) (b ∷ bs)) ≡ b % 2 ^ w + 2 ^ w * number (flat_map (field w) bs)
+number-flat_map-field w b bs =
+    number-append (field w b) (flat_map (field w) bs) ∙ rw (length-field w b, number-field w b) refl
+
+byte_worth-suc : (i b : ℕ) → byte_worth (suc i) b ≡ 256 * byte_worth i b
+byte_worth-suc zero b = omega arith
+byte_worth-suc (suc i) b =
+    ap (λ p. b * p) (pow-suc 256 (suc i)) ∙ grind arith
+
+-- the first byte, and the number of the others
+sum_through-cons : (k b : ℕ) (bs : List ℕ) → sum_through (λ i. byte_worth i (get_or (b ∷ bs) i 0)) (suc k) ≡ b + 256 * sum_through (λ i. byte_worth i (get_or bs i 0)) k
+sum_through-cons zero b bs = omega (arith, byte_worth-suc 0 (get_or bs 0 0))
+sum_through-cons (suc k) b bs =
+    omega (arith, sum_through-cons k b bs, byte_worth-suc (suc k) (get_or bs (suc k) 0))
+
+-- the bits of bytes are those of the number that they are, least significant byte first
+pub number-to_bits : (k : ℕ) (bs : List ℕ) → length bs ≡ suc k → ((i : ℕ) → get_or bs i 0 < 256) → number (to_bits bs) ≡ sum_through (λ i. byte_worth i (get_or bs i 0)) k
+number-to_bits k [] count bytes = absurd (omega arith)
+number-to_bits zero (b ∷ []) count bytes =
+    let first : b % 2 ^ 8 ≡ b = mod-eq_of_lt (bytes 0) in
+    number-flat_map-field 8 b [] ∙ omega (arith, first)
+number-to_bits zero (b ∷ c ∷ bs) count bytes = absurd (omega arith)
+number-to_bits (suc k) (b ∷ bs) count bytes =
+    let first : b % 2 ^ 8 ≡ b = mod-eq_of_lt (bytes 0) in
+    let others = number-to_bits k bs (omega arith) (λ i. bytes (suc i)) in
+    number-flat_map-field 8 b bs ∙ rw (first, others) (sym (sum_through-cons k b bs))
+
+-- ---- words
+
+length-to_bits : (bytes : List ℕ) → length (to_bits bytes) ≡ 8 * length bytes
+length-to_bits bytes = length-flat_map-field 8 bytes
+
+get_or-first_bytes : (n : ℕ) (s : List ℕ) → ((i : ℕ) → get_or s i 0 < 256) → (i : ℕ) → get_or (first_bytes n s) i 0 < 256
+get_or-first_bytes zero s bytes i = lit< tt
+get_or-first_bytes (suc n) [] bytes zero = lit< tt
+get_or-first_bytes (suc n) [] bytes (suc i) = get_or-first_bytes n [] bytes i
+get_or-first_bytes (suc n) (b ∷ s) bytes zero = bytes 0
+get_or-first_bytes (suc n) (b ∷ s) bytes (suc i) = get_or-first_bytes n s (λ k. bytes (suc k)) i
+
+-- the bits of a word are those of its bytes
+pub field-word_of : (s : List ℕ) → ((i : ℕ) → get_or s i 0 < 256) → field 64 (word_of s) ≡ to_bits (first_bytes 8 s)
+unfolding word_of
+field-word_of s bytes =
+    let whole = first_bytes 8 s in
+    let value = number-to_bits 7 whole (length-first_bytes 8 s) (get_or-first_bytes 8 s bytes) in
+    let count : length (to_bits whole) ≡ 64 = omega (arith, length-to_bits whole, length-first_bytes 8 s) in
+    ap (field 64) (sym value) ∙ field-number_at 64 (to_bits whole) count
+
+flat_map-field-replicate : (w n : ℕ) → flat_map (field w) (replicate n 0) ≡ replicate (w * n) false
+flat_map-field-replicate w zero = let none : w * zero ≡ zero = omega arith in rw none refl
+flat_map-field-replicate w (suc n) =
+    let more : w * suc n ≡ w + w * n = omega (arith, mul-suc w n) in
+    rw (more, field-zero w, flat_map-field-replicate w n) (replicate-append-replicate w (w * n) false)
+
+-- zero bytes in front of zero bits
+to_bits-append-zeros : (s : List ℕ) (m n : ℕ) → to_bits (s ++ replicate m 0) ++ replicate n false ≡ to_bits s ++ replicate (8 * m + n) false
+to_bits-append-zeros s m n =
+    let parts = flat_map-append (field 8) s (replicate m 0) ∙ ap (λ bs. to_bits s ++ bs) (flat_map-field-replicate 8 m) in
+    ap (λ bs. bs ++ replicate n false) parts ∙ append_assoc (to_bits s) (replicate (8 * m) false) (replicate n false) ∙ ap (λ bs. to_bits s ++ bs) (replicate-append-replicate (8 * m) n false)
+
+pub word_bits-words_from : (n : ℕ) (s : List ℕ) → length s ≤ 8 * n → ((i : ℕ) → get_or s i 0 < 256) → word_bits (words_from n s) ≡ to_bits s ++ replicate (64 * n - 8 * length s) false
+word_bits-words_from zero [] fits bytes = refl
+word_bits-words_from zero (b ∷ s) fits bytes = absurd (omega arith)
+word_bits-words_from (suc n) s fits bytes =
+    let rest = drop 8 s in
+    let left = length-drop 8 s in
+    let zeros = replicate (64 * n - 8 * length rest) false in
+    let others = word_bits-words_from n rest (omega arith) (λ i. rw (get_or-drop 8 s i 0) (bytes (8 + i))) in
+    let bits = flat_map-append (field 8) (first_bytes 8 s) rest in
+    let count : 8 * (8 - length s) + (64 * n - 8 * length rest) ≡ 64 * suc n - 8 * length s = omega arith in
+    ap (λ bs. bs ++ word_bits (words_from n rest)) (field-word_of s bytes) ∙ ap (λ bs. to_bits (first_bytes 8 s) ++ bs) others ∙ sym (append_assoc (to_bits (first_bytes 8 s)) (to_bits rest) zeros) ∙ ap (λ bs. bs ++ zeros) (sym bits ∙ ap to_bits (first_bytes-append-drop 8 s)) ∙ to_bits-append-zeros s (8 - length s) (64 * n - 8 * length rest) ∙ ap (λ k. to_bits s ++ replicate k false) count
+
+pub word_bits-words_of : (s : List ℕ) → ((i : ℕ) → get_or s i 0 < 256) → word_bits (words_of s) ≡ filled (to_bits s)
+word_bits-words_of s bytes =
+    let n = div_ceil (length s) 8 in
+    let zeros : 64 * n - 8 * length s ≡ (64 - length (to_bits s) % 64) % 64 = omega (arith, length-to_bits s) in
+    word_bits-words_from n s (omega arith) bytes ∙ ap (λ k. to_bits s ++ replicate k false) zeros
+
+-- ---- one piece more
+
+first_bytes-append : (n : ℕ) (s t : List ℕ) → n ≤ length s → first_bytes n (s ++ t) ≡ first_bytes n s
+first_bytes-append zero s t fits = refl
+first_bytes-append (suc n) [] t fits = absurd (omega arith)
+first_bytes-append (suc n) (b ∷ s) t fits = ap (λ bs. b ∷ bs) (first_bytes-append n s t (omega arith))
+
+-- a whole word, and the bytes behind it
+words_of-whole : (piece rest : List ℕ) → length piece ≡ 8 → words_of (piece ++ rest) ≡ word_of piece ∷ words_of rest
+unfolding word_of
+words_of-whole piece rest count =
+    let n = div_ceil (length rest) 8 in
+    let more : div_ceil (length (piece ++ rest)) 8 ≡ suc n = omega (arith, length-append piece rest) in
+    let front = first_bytes-append 8 piece rest (omega arith) in
+    let behind : drop 8 (piece ++ rest) ≡ rest = drop_at piece rest 8 count in
+    rw (more, behind) (ap (λ bs. from_le_bytes w64 bs ∷ words_from n rest) front)
+
+-- the last word
+words_of-last : (piece : List ℕ) → 0 < length piece → length piece ≤ 8 → words_of piece ≡ word_of piece ∷ []
+words_of-last piece some fits = let one : div_ceil (length piece) 8 ≡ 1 = omega arith in rw one refl
+
+-- a piece of 8 bytes, or of all that are left, is one word
+pub words_of-append : (piece rest : List ℕ) → length piece ≡ min 8 (length (piece ++ rest)) → 0 < length (piece ++ rest) → words_of (piece ++ rest) ≡ word_of piece ∷ words_of rest
+words_of-append piece [] count some =
+    rw (append-nil piece) (words_of-last piece (omega (arith, length-append piece [])) (omega arith))
+words_of-append piece (b ∷ rest) count some =
+    words_of-whole piece (b ∷ rest) (omega (arith, length-append piece (b ∷ rest)))

@@ -1,0 +1,17 @@
+use Rattle.std.proofs.Common.{◌-◌, ◌%◌, length, arith}
+use Rattle.zf_bits.proofs.Fields.{field-zero}
+use Rattle.zf_bits.proofs.Appending.{Appends-same, length-Appends, fill_whole, fill_short}
+use Rattle.zf_bits.proofs.writer.BitWriter.pad_to_word.Goals as goal
+
+pub returns-clause-bits : goal.returns-clause-bits
+returns-clause-bits c =
+    let zeros = field-zero ((64 - length c.args.self.now.bits % 64) % 64) in
+    Appends-same c.write_reserved.ensures.bits (grind arith)
+
+pub returns-clause-whole : goal.returns-clause-whole
+returns-clause-whole c =
+    let more = length-Appends (returns-clause-bits c) in omega (arith, fill_whole c.args.self.now.bits)
+
+pub returns-clause-least : goal.returns-clause-least
+returns-clause-least c =
+    let more = length-Appends (returns-clause-bits c) in omega (arith, fill_short c.args.self.now.bits)

@@ -1,0 +1,49 @@
+//! Bytes as words of 64.
+ghost use Rattle.std.specs.Prelude.{◌≡◌, ◌≤◌, length, IfOk};
+ghost use Rattle.zf_spec.specs.Numbers.{word_bits};
+ghost use Rattle.zf_spec.specs.Stream.{filled, to_bits};
+ghost use Rattle.zf_bits.specs.Packing.{word_of, words_of};
+
+use std::alloc::{AllocError, Global};
+
+/// The words that hold these bytes, the least significant byte of each word first. The last word is filled with zeros.
+///
+/// Bit i of the words is then bit `i % 8` of byte `i / 8` (zfp 1.0 documentation, bit stream).
+pub fn words_of_bytes(alloc: Global, bytes: &[u8]) -> Result<Vec<u64>, AllocError>
+    ensures words { IfOk result (λ words. words.items ≡ words_of bytes.now) }
+    ensures bits { IfOk result (λ words. word_bits words.items ≡ filled (to_bits bytes.now)) }
+{
+    let mut words = Vec::with_capacity(alloc, bytes.len().div_ceil(8))?;
+    for piece in bytes.chunks(8) {
+        words.push(word(piece))?;
+    }
+    Ok(words)
+}
+
+// The word of at most 8 bytes.
+fn word(bytes: &[u8]) -> u64
+    requires { length bytes.now ≤ 8 }
+    ensures { result ≡ word_of bytes.now }
+{
+    let mut whole = [0; 8];
+    whole[..bytes.len()].copy_from_slice(bytes);
+    u64::from_le_bytes(whole)
+}
+
+#[cfg(test)]
+mod tests {
+    use super::*;
+    use std::test::Fail;
+
+    #[test]
+    fn packs_eight_bytes_a_word(rt: HostRuntime) -> Result<(), Fail> {
+        let bytes = [
+            0x7a, 0x66, 0x70, 0x05, 0x00, 0x00, 0x00, 0x00, 0x00, 0x00, 0x00, 0x88, 0x1f,
+        ];
+        let words = words_of_bytes(rt.alloc(), &bytes)?;
+        assert_eq!(rt; words.as_slice(), [0x0570667a, 0x1f_8800_0000].as_slice());
+        let none = words_of_bytes(rt.alloc(), &[])?;
+        assert!(rt; none.is_empty());
+        Ok(())
+    }
+}

@@ -1,0 +1,135 @@
+//! A place in the bits of words.
+ghost use Rattle.std.specs.Prelude.{◌≡◌, ◌+◌, ◌*◌, ◌<◌, ◌≤◌, [], ◌∷◌, length, take, IfSome, IfNone};
+ghost use Rattle.zf_spec.specs.Numbers.{field, number, word_bits};
+ghost use Rattle.zf_bits.specs.Reader.{rest, Reads};
+
+use std::marker::Model;
+
+/// Reads the bits of words from a place on. Contracts see all the bits and the place.
+///
+/// Bit i of words is bit `i % 64` of word `i / 64`, least significant first (zfp 1.0 documentation, bit stream).
+#[derive(Debug, Drop)]
+pub struct BitReader<'a> {
+    words: &'a [u64],
+    bits: u64,
+    at: u64,
+}
+
+impl<'a> Model for BitReader<'a> {
+    ghost use Rattle.std.specs.Prelude.{◌*◌, ◌≤◌, length, take};
+    ghost use Rattle.zf_spec.specs.Numbers.{word_bits};
+    ghost use Rattle.zf_bits.specs.Reader.{Reader};
+
+    ghost Value = { Reader };
+
+    ghost view = { λ r. record { all = take r.bits (word_bits r.words.now); at = r.at } };
+
+    ghost invariant = { λ r. (r.bits ≤ 64 * length r.words.now) × (r.at ≤ r.bits) };
+}
+
+impl<'a> BitReader<'a> {
+    /// A reader that stands before the first of `bits` bits, from the first word on.
+    pub fn new(words: &'a [u64], bits: u64) -> BitReader<'a>
+        requires { bits ≤ 64 * length words.now }
+        ensures { result ≡ record { all = take bits (word_bits words.now); at = 0 } }
+    {
+        BitReader { words, bits, at: 0 }
+    }
+
+    /// The number of bits before the place.
+    pub fn at(&self) -> u64
+        ensures { result ≡ self.now.at }
+    {
+        self.at
+    }
+
+    /// The number of bits that are left.
+    pub fn left(&self) -> u64
+        ensures count { result ≡ length (rest self.now) }
+        ensures within { self.now.at + result ≡ length self.now.all }
+    {
+        self.bits - self.at
+    }
+
+    /// Goes to a place, also back.
+    pub fn seek(&mut self, at: u64)
+        requires { at ≤ length self.old.all }
+        ensures { self.new ≡ record self.old { at = at } }
+    {
+        self.at = at;
+    }
+
+    /// The next bit, or `None` at the end.
+    pub fn read_bit(&mut self) -> Option<bool>
+        ensures reads { IfSome result (λ bit. Reads self.old self.new (bit ∷ [])) }
+        ensures none { IfNone result (self.new ≡ self.old) }
+        ensures at_end { IfNone result (rest self.old ≡ []) }
+    {
+        if self.left() == 0 {
+            return None;
+        }
+        Some(self.next_bit())
+    }
+
+    /// The next `n` bits as a number, the least significant first, or `None` where fewer are left.
+    pub fn read(&mut self, n: u32) -> Option<u64>
+        requires { n ≤ 64 }
+        ensures reads { IfSome result (λ v. Reads self.old self.new (field n v)) }
+        ensures value { IfSome result (λ v. v ≡ number (take n (rest self.old))) }
+        ensures none { IfNone result (self.new ≡ self.old) }
+        ensures short { IfNone result (length (rest self.old) < n) }
+    {
+        if self.left() < n as u64 {
+            return None;
+        }
+        let mut value = 0;
+        for i in 0..n {
+            value += u64::from(self.next_bit()) << i;
+        }
+        Some(value)
+    }
+
+    // The bit at the place, which is not the end.
+    fn next_bit(&mut self) -> bool
+        requires { 0 < length (rest self.old) }
+        ensures { Reads self.old self.new (result ∷ []) }
+    {
+        let word = self.words[self.at as usize / 64];
+        let bit = (word >> (self.at % 64)) % 2 == 1;
+        self.at += 1;
+        bit
+    }
+}
+
+#[cfg(test)]
+mod tests {
+    use super::*;
+
+    // The header of one int32 value without loss, 7a 66 70 05 00 00 00 00 00 00 00 88, and the first bits of its block.
+    #[test]
+    fn reads_a_header(rt: HostRuntime) {
+        let words = [0x0570667a, 0x1f_8800_0000];
+        let mut reader = BitReader::new(&words, 102);
+        let fields = [
+            (24, 0x70667a),
+            (8, 5),
+            (2, 0),
+            (2, 0),
+            (48, 0),
+            (12, 2176),
+            (5, 31),
+            (0, 0),
+        ];
+        for (width, expected) in fields {
+            assert!(rt; width <= 64);
+            assert_eq!(rt; reader.read(width), Some(expected), "{width} bits");
+        }
+        assert_eq!(rt; reader.at(), 101);
+        assert_eq!(rt; reader.left(), 1);
+        assert_eq!(rt; reader.read(2), None);
+        assert_eq!(rt; reader.read_bit(), Some(false));
+        assert_eq!(rt; reader.read_bit(), None);
+        reader.seek(32);
+        assert_eq!(rt; reader.read(64), Some(0x8800_0000_0000_0000));
+    }
+}

@@ -1,0 +1,4 @@
+pub mod Appending
+pub mod Counts
+mod Pieces
+pub mod Taking

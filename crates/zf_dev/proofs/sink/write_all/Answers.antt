@@ -1,0 +1,17 @@
+use Rattle.std.proofs.Common.{arith}
+use Rattle.std.proofs.Math.Seq.{take-add}
+use Rattle.std.proofs.lemmas.List.{take_rest}
+use Rattle.zf_dev.proofs.Appending.{Appends-append}
+use Rattle.zf_dev.proofs.Pieces.{end_in_range}
+use Rattle.zf_dev.proofs.sink.write_all.Goals as goal
+
+pub loop-written-preserved : goal.loop-written-preserved
+loop-written-preserved g c =
+    let bytes = c.args.bytes.now in
+    let at = c.loop-written.written in
+    let count = c.in_ok-written.field-0 in
+    record {
+      in_range = end_in_range bytes at count c.loop-written.invariant.in_range c.in_ok-written.ensures.bound;
+      front = rw (take-add at count bytes, ← take_rest bytes at) (Appends-append _ _ _ _ _ c.loop-written.invariant.front c.in_ok-written.ensures.appended);
+      kept = omega (arith, c.in_ok-written.ensures.cause.0);
+    }

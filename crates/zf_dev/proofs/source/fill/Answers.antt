@@ -1,0 +1,21 @@
+use Rattle.std.proofs.Common.{◌≤◌, length, ◌+◌, ◌-◌, arith}
+use Rattle.zf_dev.proofs.Pieces.{take-put_mid_part, rest_more, end_in_range}
+use Rattle.zf_dev.proofs.Taking.{Takes-append}
+use Rattle.zf_dev.proofs.source.fill.Goals as goal
+
+pub loop-filled-preserved : goal.loop-filled-preserved
+loop-filled-preserved g c =
+    let at = c.loop-filled.filled in
+    let buf = c.loop-filled.buf in
+    let part = c.read.new.buf in
+    let count = c.in_ok-n.n in
+    let in_buf : at ≤ length buf = c.loop-filled.invariant.in_range in
+    let in_range : at + count ≤ length buf = end_in_range buf at count in_buf c.in_ok-n.ensures.bound in
+    let in_part : count ≤ length part = omega arith in
+    record {
+      in_range = omega arith;
+      taken = rw (take-put_mid_part buf part at (length buf - at) count in_buf in_part) (Takes-append _ _ _ _ _ c.loop-filled.invariant.taken c.in_ok-n.ensures.taken);
+      rest = rest_more c.args.buf.now buf part at count in_buf in_part c.loop-filled.invariant.rest c.in_ok-n.ensures.rest;
+      kept = omega (arith, c.in_ok-n.ensures.cause.0);
+      sure = λ sure. (c.in_ok-n.ensures.sure (c.loop-filled.invariant.sure sure)).1;
+    }

@@ -1,0 +1,15 @@
+use Rattle.std.proofs.Common.{length, ◌-◌, ◌≡◌, ◌≤◌, take, drop}
+use Rattle.zf_dev.specs.Source.{Takes}
+use Rattle.zf_dev.proofs.source.fill.Given as goal
+
+abbrev pub invariant-loop-filled : goal.invariant-loop-filled
+invariant-loop-filled g l = record {
+  in_range : l.filled ≤ length l.buf;
+  taken : Takes (g.S.Source.contents l.initial.src) (g.S.Source.contents l.src) (take l.filled l.buf);
+  rest : drop l.filled l.buf ≡ drop l.filled l.initial.buf;
+  kept : g.S.Source.faults l.initial.src ≤ g.S.Source.faults l.src;
+  sure : g.S.Source.never_fails l.initial.src → g.S.Source.never_fails l.src;
+}
+
+abbrev pub decreases-loop-filled : goal.decreases-loop-filled
+decreases-loop-filled g l = length l.initial.buf - l.filled

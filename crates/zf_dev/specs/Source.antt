@@ -1,0 +1,28 @@
+-- What is taken from a source. The bytes still to come are `Some` where the source tells them, and it then goes on telling them.
+use Rattle.std.specs.Prelude.{◌≡◌, ℕ, ◌≤◌, ◌↔◌, min, List, [], ◌++◌, length, Option, Some, None}
+
+-- the bytes to come began with these, which are gone
+abbrev pub Takes : Option (List ℕ) → Option (List ℕ) → List ℕ → Type 0
+Takes None None bytes = Unit {0}
+Takes None (Some now) bytes = ⊥
+Takes (Some before) None bytes = ⊥
+Takes (Some before) (Some now) bytes = before ≡ bytes ++ now
+
+-- some bytes were taken, at most this many
+abbrev pub TakesAtMost : Option (List ℕ) → Option (List ℕ) → ℕ → Type 0
+TakesAtMost old new most = (bytes : List ℕ) × (length bytes ≤ most) × Takes old new bytes
+
+-- no byte is to come
+abbrev pub IsAtEnd : Option (List ℕ) → Type 0
+IsAtEnd None = Unit {0}
+IsAtEnd (Some left) = left ≡ []
+
+-- a read gave no byte exactly where none was to come
+abbrev pub EndsAt : Option (List ℕ) → ℕ → Type 0
+EndsAt None given = Unit {0}
+EndsAt (Some left) given = (given ≡ 0) ↔ (left ≡ [])
+
+-- as many bytes were given as there is room for, or all where fewer were to come
+abbrev pub IsFill : Option (List ℕ) → ℕ → ℕ → Type 0
+IsFill None room given = Unit {0}
+IsFill (Some left) room given = given ≡ min room (length left)

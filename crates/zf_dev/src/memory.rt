@@ -1,0 +1,234 @@
+// Devices in memory: what a test or a caller with the bytes in hand puts in the place of the streams.
+ghost use Rattle.std.specs.Prelude.{◌≡◌, ℕ, ◌<◌, ◌≤◌, ◌↔◌, min, List, [], ◌++◌, length, take, drop, Some, IsTrue, IsOk, IsErr, IfOk, OnErr, Contains};
+ghost use Rattle.zf_dev.specs.Faults.{HasCause};
+ghost use Rattle.zf_dev.specs.Memory.{given_count, source_after_read, source_after_fault, sink_after_write, sink_after_fault, sink_after_want};
+ghost use Rattle.zf_dev.specs.Sink.{Appends};
+ghost use Rattle.zf_dev.specs.Source.{Takes, EndsAt};
+
+use crate::faults::raise;
+use crate::{Failed, Sink, Source};
+use std::alloc::Global;
+use std::marker::Model;
+
+/// A source that gives bytes from memory, and fails at the calls that it was told.
+#[derive(Debug, Drop)]
+pub struct MemSource {
+    bytes: Vec<u8>,
+    at: usize,
+    fail: Vec<u64>,
+    piece: usize,
+    call: u64,
+    faults: u64,
+}
+
+impl Model for MemSource {
+    ghost use Rattle.std.specs.Prelude.{◌<◌, ◌≤◌, drop, vec_len};
+    ghost use Rattle.zf_dev.specs.Memory.{SourceState};
+
+    ghost Value = { SourceState };
+
+    ghost view = { λ s. record {
+      left = drop s.at s.bytes.items;
+      fail = s.fail.items;
+      piece = s.piece;
+      call = s.call;
+      faults = s.faults;
+    } };
+
+    ghost invariant = { λ s. (s.at ≤ vec_len s.bytes) × (0 < s.piece) };
+}
+
+impl MemSource {
+    /// Gives `bytes`, at most `piece` of them a call. The calls that `fail` names fail; they are numbered from 0.
+    pub fn new(bytes: Vec<u8>, fail: Vec<u64>, piece: usize) -> MemSource
+        requires { 0 < piece }
+        ensures { result ≡ record {
+          left = bytes.items;
+          fail = fail.items;
+          piece = piece;
+          call = 0;
+          faults = 0;
+        } }
+    {
+        MemSource {
+            bytes,
+            at: 0,
+            fail,
+            piece,
+            call: 0,
+            faults: 0,
+        }
+    }
+
+    /// The bytes still to come.
+    pub fn left(&self) -> &[u8]
+        ensures { result.now ≡ self.now.left }
+    {
+        &self.bytes[self.at..]
+    }
+
+    /// How many calls failed.
+    pub fn faults(&self) -> u64
+        ensures { result ≡ self.now.faults }
+    {
+        self.faults
+    }
+}
+
+impl Source for MemSource {
+    ghost contents = { λ s. Some s.left };
+
+    ghost faults = { λ s. s.faults };
+
+    ghost never_fails = { λ s. s.fail ≡ [] };
+
+    fn read(&mut self, buf: &mut [u8]) -> Result<usize, Failed>
+        requires { 0 < length buf.old }
+
+        ensures fails { IsErr result ↔ Contains self.old.fail self.old.call }
+        ensures given { IfOk result (λ n. n ≡ given_count self.old (length buf.old)) }
+        ensures bytes { IfOk result (λ n. buf.new ≡ take n self.old.left ++ drop n buf.old) }
+        ensures ok { IfOk result (λ n. self.new ≡ source_after_read self.old n) }
+        ensures err { OnErr result (self.new ≡ source_after_fault self.old) }
+        ensures unread { OnErr result (buf.new ≡ buf.old) }
+
+        // Those of the trait.
+        ensures bound { IfOk result (λ n. n ≤ length buf.old) }
+        ensures taken { IfOk result (λ n. Takes (Some self.old.left) (Some self.new.left) (take n buf.new)) }
+        ensures rest { IfOk result (λ n. drop n buf.new ≡ drop n buf.old) }
+        ensures end { IfOk result (λ n. EndsAt (Some self.old.left) n) }
+        ensures untaken { OnErr result (Some self.new.left ≡ Some self.old.left) }
+        ensures cause { HasCause self.old.faults self.new.faults result }
+        ensures sure { self.old.fail ≡ [] → IsOk result × (self.new.fail ≡ []) }
+    {
+        let call = self.call;
+        raise(&mut self.call);
+        if is_listed(&self.fail, call) {
+            raise(&mut self.faults);
+            return Err(Failed);
+        }
+        let left = &self.bytes[self.at..];
+        let count = self.piece.min(buf.len()).min(left.len());
+        buf[..count].copy_from_slice(&left[..count]);
+        self.at += count;
+        Ok(count)
+    }
+}
+
+/// A sink that keeps the bytes in memory, and fails at the calls that it was told.
+#[derive(Debug, Drop)]
+pub struct MemSink {
+    bytes: Vec<u8>,
+    fail: Vec<u64>,
+    piece: usize,
+    call: u64,
+    faults: u64,
+    starved: u64,
+}
+
+impl Model for MemSink {
+    ghost use Rattle.std.specs.Prelude.{◌<◌};
+    ghost use Rattle.zf_dev.specs.Memory.{SinkState};
+
+    ghost Value = { SinkState };
+
+    ghost view = { λ s. record {
+      written = s.bytes.items;
+      fail = s.fail.items;
+      piece = s.piece;
+      call = s.call;
+      faults = s.faults;
+      starved = s.starved;
+    } };
+
+    ghost invariant = { λ s. 0 < s.piece };
+}
+
+impl MemSink {
+    /// Takes at most `piece` bytes a call. The calls that `fail` names fail; they are numbered from 0.
+    pub fn new(alloc: Global, fail: Vec<u64>, piece: usize) -> MemSink
+        requires { 0 < piece }
+        ensures { result ≡ record {
+          written = [];
+          fail = fail.items;
+          piece = piece;
+          call = 0;
+          faults = 0;
+          starved = 0;
+        } }
+    {
+        MemSink {
+            bytes: Vec::new(alloc),
+            fail,
+            piece,
+            call: 0,
+            faults: 0,
+            starved: 0,
+        }
+    }
+
+    /// The bytes written.
+    pub fn bytes(&self) -> &[u8]
+        ensures { result.now ≡ self.now.written }
+    {
+        &self.bytes
+    }
+
+    /// How many calls failed.
+    pub fn faults(&self) -> u64
+        ensures { result ≡ self.now.faults }
+    {
+        self.faults
+    }
+
+    /// How many of these failed for want of memory.
+    pub fn starved(&self) -> u64
+        ensures { result ≡ self.now.starved }
+    {
+        self.starved
+    }
+}
+
+impl Sink for MemSink {
+    ghost contents = { λ s. Some s.written };
+
+    ghost faults = { λ s. s.faults };
+
+    fn write(&mut self, bytes: &[u8]) -> Result<usize, Failed>
+        requires { 0 < length bytes.now }
+
+        ensures taken { IfOk result (λ n. n ≡ min self.old.piece (length bytes.now)) }
+        ensures ok { IfOk result (λ n. self.new ≡ sink_after_write self.old (take n bytes.now)) }
+        ensures listed { Contains self.old.fail self.old.call → IsErr result × (self.new ≡ sink_after_fault self.old) }
+        // Any other call fails only for want of memory, and counts that.
+        ensures starved { OnErr result (¬ Contains self.old.fail self.old.call → self.new ≡ sink_after_want self.old) }
+
+        // Those of the trait.
+        ensures some { IfOk result (λ n. 0 < n) }
+        ensures bound { IfOk result (λ n. n ≤ length bytes.now) }
+        ensures appended { IfOk result (λ n. Appends (Some self.old.written) (Some self.new.written) (take n bytes.now)) }
+        ensures unwritten { OnErr result (Some self.new.written ≡ Some self.old.written) }
+        ensures cause { HasCause self.old.faults self.new.faults result }
+    {
+        let call = self.call;
+        raise(&mut self.call);
+        if is_listed(&self.fail, call) {
+            raise(&mut self.faults);
+            return Err(Failed);
+        }
+        let count = self.piece.min(bytes.len());
+        if self.bytes.extend_from_slice(&bytes[..count]).is_err() {
+            raise(&mut self.starved);
+            raise(&mut self.faults);
+            return Err(Failed);
+        }
+        Ok(count)
+    }
+}
+
+// Whether the call with this number is to fail.
+fn is_listed(fail: &[u64], call: u64) -> bool
+    ensures { IsTrue result ↔ Contains fail.now call }
+{
+    fail.contains(&call)
+}

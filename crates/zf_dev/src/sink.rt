@@ -1,0 +1,37 @@
+ghost use Rattle.std.specs.Prelude.{◌≡◌, ℕ, ◌<◌, ◌≤◌, List, Option, length, take, IfOk, OnOk, OnErr};
+ghost use Rattle.zf_dev.specs.Faults.{HasCause};
+ghost use Rattle.zf_dev.specs.Sink.{Appends, AppendsFront, AppendsPart};
+
+use crate::Failed;
+
+/// A stream of bytes that is written.
+pub trait Sink {
+    /// The bytes written, where the sink tells them.
+    ghost contents: { Self → Option (List ℕ) };
+
+    /// How many faults there were. It stands still at the last value of a `u64`.
+    ghost faults: { Self → ℕ };
+
+    /// Writes the first of `bytes`, at least one, and says how many.
+    fn write(&mut self, bytes: &[u8]) -> Result<usize, Failed>
+        requires { 0 < length bytes.now }
+        ensures some { IfOk result (λ n. 0 < n) }
+        ensures bound { IfOk result (λ n. n ≤ length bytes.now) }
+        ensures appended { IfOk result (λ n. Appends (contents self.old) (contents self.new) (take n bytes.now)) }
+        ensures unwritten { OnErr result (contents self.new ≡ contents self.old) }
+        ensures cause { HasCause (faults self.old) (faults self.new) result };
+}
+
+/// Writes all of `bytes`.
+pub fn write_all<O: Sink>(out: &mut O, bytes: &[u8]) -> Result<(), Failed>
+    ensures all { OnOk result (Appends (O.contents out.old) (O.contents out.new) bytes.now) }
+    ensures part { OnErr result (AppendsPart (O.contents out.old) (O.contents out.new) bytes.now) }
+    ensures front { AppendsFront (O.contents out.old) (O.contents out.new) bytes.now }
+    ensures cause { HasCause (O.faults out.old) (O.faults out.new) result }
+{
+    let mut written = 0;
+    while written < bytes.len() {
+        written += out.write(&bytes[written..])?;
+    }
+    Ok(())
+}

@@ -1,0 +1,50 @@
+ghost use Rattle.std.specs.Prelude.{◌≡◌, ℕ, ◌<◌, ◌≤◌, List, Option, length, take, drop, IsOk, IfOk, OnErr};
+ghost use Rattle.zf_dev.specs.Faults.{HasCause};
+ghost use Rattle.zf_dev.specs.Source.{Takes, TakesAtMost, IsAtEnd, EndsAt, IsFill};
+
+use crate::Failed;
+
+/// A stream of bytes that is read up to its end.
+pub trait Source {
+    /// The bytes still to come, where the source tells them.
+    ghost contents: { Self → Option (List ℕ) };
+
+    /// How many faults there were. It stands still at the last value of a `u64`.
+    ghost faults: { Self → ℕ };
+
+    /// No call fails from here on.
+    ghost never_fails: { Self → Type 0 };
+
+    /// Reads some of the next bytes into the front of `buf`. 0 bytes are the end of the stream.
+    fn read(&mut self, buf: &mut [u8]) -> Result<usize, Failed>
+        requires { 0 < length buf.old }
+        ensures bound { IfOk result (λ n. n ≤ length buf.old) }
+        ensures taken { IfOk result (λ n. Takes (contents self.old) (contents self.new) (take n buf.new)) }
+        ensures rest { IfOk result (λ n. drop n buf.new ≡ drop n buf.old) }
+        ensures end { IfOk result (λ n. EndsAt (contents self.old) n) }
+        ensures untaken { OnErr result (contents self.new ≡ contents self.old) }
+        ensures cause { HasCause (faults self.old) (faults self.new) result }
+        ensures sure { never_fails self.old → IsOk result × never_fails self.new };
+}
+
+/// Reads until `buf` is full or the source is at its end, and says how many bytes that were.
+pub fn fill<S: Source>(src: &mut S, buf: &mut [u8]) -> Result<usize, Failed>
+    ensures bound { IfOk result (λ n. n ≤ length buf.old) }
+    ensures taken { IfOk result (λ n. Takes (S.contents src.old) (S.contents src.new) (take n buf.new)) }
+    ensures rest { IfOk result (λ n. drop n buf.new ≡ drop n buf.old) }
+    ensures filled { IfOk result (λ n. IsFill (S.contents src.old) (length buf.old) n) }
+    ensures end { IfOk result (λ n. n < length buf.old → IsAtEnd (S.contents src.new)) }
+    ensures lost { OnErr result (TakesAtMost (S.contents src.old) (S.contents src.new) (length buf.old)) }
+    ensures cause { HasCause (S.faults src.old) (S.faults src.new) result }
+    ensures sure { S.never_fails src.old → IsOk result × S.never_fails src.new }
+{
+    let mut filled = 0;
+    while filled < buf.len() {
+        let n = src.read(&mut buf[filled..])?;
+        if n == 0 {
+            return Ok(filled);
+        }
+        filled += n;
+    }
+    Ok(filled)
+}

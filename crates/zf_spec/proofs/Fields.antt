@@ -1,0 +1,66 @@
+-- The lowest bits of a number, and the number that bits stand for.
+use Rattle.std.proofs.Common.{◌≡◌, refl, sym, ap, ◌∙◌, ℕ, zero, suc, ◌+◌, ◌*◌, ◌/◌, ◌%◌, ◌^◌, ◌<◌, Bool, true, false, List, [], ◌∷◌, ◌++◌, length, replicate, pow-suc, mod-eq_of_lt, pow_pos, arith}
+use Rattle.std.proofs.lemmas.Nat.{mod-pow-add, shr-shr}
+use Rattle.std.proofs.Math.Nat.{div-one, mod-one}
+use Rattle.zf_spec.specs.Numbers.{is_odd, digit_value, field, number}
+use Rattle.zf_spec.proofs.Halves.{digit_value-is_odd}
+
+pub length-field : (n v : ℕ) → length (field n v) ≡ n
+length-field zero v = refl
+length-field (suc n) v = ap suc (length-field n (v / 2))
+
+-- the bits are those of v modulo 2^n
+pub number-field : (n v : ℕ) → number (field n v) ≡ v % 2 ^ n
+number-field zero v = sym (mod-one v)
+number-field (suc n) v =
+    let split : v % 2 ^ (n + 1) ≡ (v / 2 ^ 1 % 2 ^ n) * 2 ^ 1 + v % 2 ^ 1 = mod-pow-add v n 1 in
+    let e : suc n ≡ n + 1 = omega arith in
+    let one : v / 2 ^ 1 ≡ v / 2 = refl in
+    let here : number (field (suc n) v) ≡ v % 2 ^ (n + 1) = omega (arith, split, digit_value-is_odd v, number-field n (v / 2)) in
+    here ∙ ap (λ k. v % 2 ^ k) (sym e)
+
+is_odd-digit : (b : Bool) (n : ℕ) → is_odd (digit_value b + 2 * n) ≡ b
+is_odd-digit true n = let e : (1 + 2 * n) % 2 ≡ 1 = omega arith in rw e refl
+is_odd-digit false n = let e : (0 + 2 * n) % 2 ≡ 0 = omega arith in rw e refl
+
+half-digit : (b : Bool) (n : ℕ) → (digit_value b + 2 * n) / 2 ≡ n
+half-digit true n = omega arith
+half-digit false n = omega arith
+
+-- bits are the field of their number
+pub field-number : (n : ℕ) (bs : List Bool) → length bs ≡ n → field n (number bs) ≡ bs
+field-number zero [] l = refl
+field-number zero (b ∷ bs) l = cc
+field-number (suc n) [] l = cc
+field-number (suc n) (b ∷ bs) l =
+    ap (λ c. c ∷ field n (number (b ∷ bs) / 2)) (is_odd-digit b (number bs))
+    ∙ ap (λ m. b ∷ field n m) (half-digit b (number bs))
+    ∙ ap (λ cs. b ∷ cs) (field-number n bs (omega arith))
+
+pub number-lt : (bs : List Bool) → number bs < 2 ^ length bs
+number-lt [] = omega arith
+number-lt (true ∷ bs) = omega (arith, number-lt bs, pow-suc 2 (length bs))
+number-lt (false ∷ bs) = omega (arith, number-lt bs, pow-suc 2 (length bs))
+
+-- a field is its lower part and then its higher part
+pub field-add : (m n v : ℕ) → field (m + n) v ≡ field m v ++ field n (v / 2 ^ m)
+field-add zero n v = let e : zero + n ≡ n = omega arith in rw e (ap (field n) (sym (div-one v)))
+field-add (suc m) n v =
+    let e : suc m + n ≡ suc (m + n) = omega arith in
+    let up : v / 2 / 2 ^ m ≡ v / 2 ^ suc m = shr-shr v 1 m ∙ ap (λ k. v / 2 ^ k) (omega arith) in
+    rw e (ap (λ bs. is_odd v ∷ bs) (field-add m n (v / 2) ∙ ap (λ u. field m (v / 2) ++ field n u) up))
+
+-- only the n lowest bits of a number count
+pub field-mod : (n v : ℕ) → field n (v % 2 ^ n) ≡ field n v
+field-mod n v = ap (field n) (sym (number-field n v)) ∙ field-number n (field n v) (length-field n v)
+
+pub field-zero : (n : ℕ) → field n 0 ≡ replicate n false
+field-zero zero = refl
+field-zero (suc n) = ap (λ bs. false ∷ bs) (field-zero n)
+
+pub number-zeros : (n : ℕ) → number (replicate n false) ≡ 0
+number-zeros n = ap number (sym (field-zero n)) ∙ number-field n 0 ∙ mod-eq_of_lt (pow_pos n)
+
+pub number-append : (as' bs : List Bool) → number (as' ++ bs) ≡ number as' + 2 ^ length as' * number bs
+number-append [] bs = omega arith
+number-append (a ∷ as') bs = omega (arith, number-append as' bs, ap (λ p. p * number bs) (pow-suc 2 (length as')))

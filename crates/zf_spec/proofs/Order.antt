@@ -1,0 +1,84 @@
+-- The order of keys: it is strict, any two keys of one length are in it, and a place is known by its key.
+use Rattle.std.proofs.Common.{◌≡◌, refl, sym, ap, ◌∙◌, ℕ, zero, suc, ◌-◌, ◌/◌, ◌%◌, ◌^◌, ◌<◌, true, false, ◌&&◌, eqb, ltb, eqb-true, ltb-true, lt-ltb, eq-eqb, List, [], ◌∷◌, map, length, ◌⊎◌, inl, inr, ⊎_elim, pow-suc, arith}
+use Rattle.std.proofs.lemmas.Bool.{or_cases, and_parts, or_left, or_right, and_from, cases_order, true≢false}
+use Rattle.std.proofs.lemmas.List.{length-map}
+use Rattle.zf_spec.specs.Grid.{coordinates, fours, indices}
+use Rattle.zf_spec.specs.Ranks.{key, comes_before}
+
+-- what it is that one key comes before another
+comes_before_cases : (a b : ℕ) (as' bs : List ℕ) → comes_before (a ∷ as') (b ∷ bs) ≡ true → (a < b) ⊎ ((a ≡ b) × (comes_before as' bs ≡ true))
+comes_before_cases a b as' bs h = ⊎_elim
+    (λ e. inl (ltb-true a b e))
+    (λ e. let both = and_parts (eqb a b) (comes_before as' bs) e in inr (eqb-true a b both.0, both.1))
+    (or_cases (ltb a b) (eqb a b && comes_before as' bs) h)
+
+comes_before_less : (a b : ℕ) (as' bs : List ℕ) → a < b → comes_before (a ∷ as') (b ∷ bs) ≡ true
+comes_before_less a b as' bs h = or_left (ltb a b) (eqb a b && comes_before as' bs) (lt-ltb a b h)
+
+comes_before_same : (a b : ℕ) (as' bs : List ℕ) → a ≡ b → comes_before as' bs ≡ true → comes_before (a ∷ as') (b ∷ bs) ≡ true
+comes_before_same a b as' bs e h = or_right (ltb a b) (eqb a b && comes_before as' bs) (and_from (eqb a b) (comes_before as' bs) (eq-eqb a b e) h)
+
+pub comes_before_irrefl : (as' : List ℕ) → comes_before as' as' ≡ true → ⊥
+comes_before_irrefl [] h = cc
+comes_before_irrefl (a ∷ as') h = ⊎_elim (λ l. omega arith) (λ p. comes_before_irrefl as' p.1) (comes_before_cases a a as' as' h)
+
+pub comes_before_trans : (as' bs cs : List ℕ) → comes_before as' bs ≡ true → comes_before bs cs ≡ true → comes_before as' cs ≡ true
+comes_before_trans [] bs cs f g = cc
+comes_before_trans (a ∷ as') [] cs f g = cc
+comes_before_trans (a ∷ as') (b ∷ bs) [] f g = cc
+comes_before_trans (a ∷ as') (b ∷ bs) (c ∷ cs) f g = ⊎_elim
+    (λ l. ⊎_elim (λ m. comes_before_less a c as' cs (omega arith)) (λ q. let e = q.0 in comes_before_less a c as' cs (omega arith)) (comes_before_cases b c bs cs g))
+    (λ p. let e = p.0 in ⊎_elim
+    (λ m. comes_before_less a c as' cs (omega arith))
+    (λ q. comes_before_same a c as' cs (p.0 ∙ q.0) (comes_before_trans as' bs cs p.1 q.1))
+    (comes_before_cases b c bs cs g))
+    (comes_before_cases a b as' bs f)
+
+-- of two lists of one length one comes before the other, or they are equal
+pub comes_before_total : (as' bs : List ℕ) → length as' ≡ length bs → (as' ≡ bs) ⊎ ((comes_before as' bs ≡ true) ⊎ (comes_before bs as' ≡ true))
+comes_before_total [] [] l = inl refl
+comes_before_total [] (b ∷ bs) l = cc
+comes_before_total (a ∷ as') [] l = cc
+comes_before_total (a ∷ as') (b ∷ bs) l = ⊎_elim
+    (λ e. ⊎_elim
+    (λ same. inl (ap (λ c. c ∷ as') e ∙ ap (λ cs. b ∷ cs) same))
+    (λ either. inr (⊎_elim (λ h. inl (comes_before_same a b as' bs e h)) (λ h. inr (comes_before_same b a bs as' (sym e) h)) either))
+    (comes_before_total as' bs (omega arith)))
+    (λ either. inr (⊎_elim (λ h. inl (comes_before_less a b as' bs h)) (λ h. inr (comes_before_less b a bs as' h)) either))
+    (cases_order a b)
+
+-- ---- the keys of places
+
+length-fours : (d : ℕ) → length (fours d) ≡ d
+length-fours zero = refl
+length-fours (suc d) = ap suc (length-fours d)
+
+pub length-coordinates : (ns : List ℕ) (k : ℕ) → length (coordinates ns k) ≡ length ns
+length-coordinates [] k = refl
+length-coordinates (n ∷ ns) k = ap suc (length-coordinates ns (k / n))
+
+pub length-indices : (d p : ℕ) → length (indices d p) ≡ d
+length-indices d p = length-coordinates (fours d) p ∙ length-fours d
+
+length-key : (d p : ℕ) → length (key d p) ≡ suc (suc d)
+length-key d p = ap (λ n. suc (suc n)) (length-map (indices d p) (λ i. 3 - i) ∙ length-indices d p)
+
+-- the indices, each taken from 3, are those of one place
+place_from_indices : (d p q : ℕ) → p < 4 ^ d → q < 4 ^ d → map (λ i. 3 - i) (indices d p) ≡ map (λ i. 3 - i) (indices d q) → p ≡ q
+place_from_indices zero p q f g e = omega arith
+place_from_indices (suc d) p q f g e =
+    let power = pow-suc 4 d in
+    let first : 3 - p % 4 ≡ 3 - q % 4 = cc in
+    let others : map (λ i. 3 - i) (indices d (p / 4)) ≡ map (λ i. 3 - i) (indices d (q / 4)) = cc in
+    let rest = place_from_indices d (p / 4) (q / 4) (omega arith) (omega arith) others in
+    omega arith
+
+pub place_from_key : (d p q : ℕ) → p < 4 ^ d → q < 4 ^ d → key d p ≡ key d q → p ≡ q
+place_from_key d p q f g e = place_from_indices d p q f g (cc)
+
+-- of two places one comes before the other
+pub places_total : (d p q : ℕ) → p < 4 ^ d → q < 4 ^ d → (p ≡ q → ⊥) → comes_before (key d p) (key d q) ≡ false → comes_before (key d q) (key d p) ≡ true
+places_total d p q f g apart h = ⊎_elim
+    (λ same. absurd (apart (place_from_key d p q f g same)))
+    (⊎_elim (λ e. absurd (true≢false (sym e ∙ h))) (λ e. e))
+    (comes_before_total (key d p) (key d q) (length-key d p ∙ sym (length-key d q)))

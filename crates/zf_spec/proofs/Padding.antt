@@ -1,0 +1,158 @@
+-- The padded block and the values that exist.
+use Rattle.std.proofs.Common.{◌≡◌, refl, sym, ap, subst, ◌∙◌, ℕ, zero, suc, ◌+◌, ◌*◌, ◌/◌, ◌%◌, ◌^◌, ◌<◌, ◌≤◌, Bool, true, false, cond, ltb, ltb-true, lt-ltb, ℤ, pos, List, [], ◌∷◌, length, get_or, All, ⊎_elim, pow-suc, arith}
+use Rattle.std.proofs.lemmas.Bool.{and_from, and_parts, cases_lt}
+use Rattle.std.proofs.lemmas.List.{get_or_past}
+use Rattle.std.proofs.lemmas.List.Elements.{All-head, All-tail, All-get_or, All-from_get_or}
+use Rattle.zf_spec.specs.Grid.{indices, is_inside}
+use Rattle.zf_spec.specs.Padding.{sources, source_place, pad}
+use Rattle.zf_spec.specs.Codes.{existing}
+use Rattle.zf_spec.proofs.Counting.{length-map-upto, get_or-map-upto, map-upto_same}
+
+-- extents of a block: from 1 to 4 along each axis
+abbrev pub IsExtent : ℕ → Type 0
+IsExtent e = (1 ≤ e) × (e ≤ 4)
+
+-- ---- where the values of a padded line are taken from
+
+-- a value that exists stays where it is
+sources_inside : (e i : ℕ) → IsExtent e → i < e → get_or (sources e) i 0 ≡ i
+sources_inside zero i h l = absurd (omega arith)
+sources_inside (suc zero) zero h l = refl
+sources_inside (suc zero) (suc i) h l = absurd (omega arith)
+sources_inside (suc (suc zero)) zero h l = refl
+sources_inside (suc (suc zero)) (suc zero) h l = refl
+sources_inside (suc (suc zero)) (suc (suc i)) h l = absurd (omega arith)
+sources_inside (suc (suc (suc zero))) zero h l = refl
+sources_inside (suc (suc (suc zero))) (suc zero) h l = refl
+sources_inside (suc (suc (suc zero))) (suc (suc zero)) h l = refl
+sources_inside (suc (suc (suc zero))) (suc (suc (suc i))) h l = absurd (omega arith)
+sources_inside (suc (suc (suc (suc zero)))) zero h l = refl
+sources_inside (suc (suc (suc (suc zero)))) (suc zero) h l = refl
+sources_inside (suc (suc (suc (suc zero)))) (suc (suc zero)) h l = refl
+sources_inside (suc (suc (suc (suc zero)))) (suc (suc (suc zero))) h l = refl
+sources_inside (suc (suc (suc (suc zero)))) (suc (suc (suc (suc i)))) h l = absurd (omega arith)
+sources_inside (suc (suc (suc (suc (suc e))))) i h l = absurd (omega arith)
+
+-- an element of a line of four is one of the four, and 0 stands past them
+one_of_four : (e a b c d i : ℕ) → a < e → b < e → c < e → d < e → get_or (a ∷ b ∷ c ∷ d ∷ []) i 0 < e
+one_of_four e a b c d zero f g h k = f
+one_of_four e a b c d (suc zero) f g h k = g
+one_of_four e a b c d (suc (suc zero)) f g h k = h
+one_of_four e a b c d (suc (suc (suc zero))) f g h k = k
+one_of_four e a b c d (suc (suc (suc (suc i)))) f g h k = omega arith
+
+-- each of the four is taken from a value that exists
+sources_below : (e i : ℕ) → IsExtent e → get_or (sources e) i 0 < e
+sources_below zero i h = absurd (omega arith)
+sources_below (suc zero) i h = one_of_four 1 0 0 0 0 i (omega arith) (omega arith) (omega arith) (omega arith)
+sources_below (suc (suc zero)) i h = one_of_four 2 0 1 1 0 i (omega arith) (omega arith) (omega arith) (omega arith)
+sources_below (suc (suc (suc zero))) i h = one_of_four 3 0 1 2 0 i (omega arith) (omega arith) (omega arith) (omega arith)
+sources_below (suc (suc (suc (suc zero)))) i h = one_of_four 4 0 1 2 3 i (omega arith) (omega arith) (omega arith) (omega arith)
+sources_below (suc (suc (suc (suc (suc e))))) i h = absurd (omega arith)
+
+-- ---- the places that a padded block is taken from
+
+pub source_place_below : (es : List ℕ) (p : ℕ) → All IsExtent es → source_place es p < 4 ^ length es
+source_place_below [] p h = omega arith
+source_place_below (e ∷ es) p h =
+    let fine : IsExtent e = All-head IsExtent e es h in
+    let below = sources_below e (p % 4) fine in
+    let rest = source_place_below es (p / 4) (All-tail IsExtent e es h) in
+    omega (arith, below, fine.1, rest, pow-suc 4 (length es))
+
+-- it is a place that exists
+pub source_place_inside : (es : List ℕ) (p : ℕ) → All IsExtent es → is_inside es (indices (length es) (source_place es p)) ≡ true
+source_place_inside [] p h = refl
+source_place_inside (e ∷ es) p h =
+    let fine : IsExtent e = All-head IsExtent e es h in
+    let s = get_or (sources e) (p % 4) 0 in
+    let r = source_place es (p / 4) in
+    let below : s < e = sources_below e (p % 4) fine in
+    let first : (s + 4 * r) % 4 ≡ s = omega (arith, fine.1) in
+    let others : (s + 4 * r) / 4 ≡ r = omega (arith, fine.1) in
+    let rest = source_place_inside es (p / 4) (All-tail IsExtent e es h) in
+    and_from (ltb ((s + 4 * r) % 4) e) (is_inside es (indices (length es) ((s + 4 * r) / 4)))
+    (ap (λ i. ltb i e) first ∙ lt-ltb s e below) (ap (λ q. is_inside es (indices (length es) q)) others ∙ rest)
+
+-- a place that exists is taken from itself
+pub source_place_existing : (es : List ℕ) (p : ℕ) → All IsExtent es → p < 4 ^ length es → is_inside es (indices (length es) p) ≡ true → source_place es p ≡ p
+source_place_existing [] p h l i = omega arith
+source_place_existing (e ∷ es) p h l i =
+    let parts = and_parts (ltb (p % 4) e) (is_inside es (indices (length es) (p / 4))) i in
+    let first = sources_inside e (p % 4) (All-head IsExtent e es h) (ltb-true (p % 4) e parts.0) in
+    let power = pow-suc 4 (length es) in
+    let rest = source_place_existing es (p / 4) (All-tail IsExtent e es h) (omega arith) parts.1 in
+    omega (arith, first, rest)
+
+-- ---- the padded block
+
+pub length-pad : (es : List ℕ) (block : List ℤ) → length (pad es block) ≡ 4 ^ length es
+unfolding pad
+length-pad es block = length-map-upto (λ p. get_or block (source_place es p) (pos 0)) (4 ^ length es)
+
+pub get_or-pad : (es : List ℕ) (block : List ℤ) (p : ℕ) → p < 4 ^ length es → get_or (pad es block) p (pos 0) ≡ get_or block (source_place es p) (pos 0)
+unfolding pad
+get_or-pad es block p h = get_or-map-upto (λ p. get_or block (source_place es p) (pos 0)) (4 ^ length es) p (pos 0) h
+
+pub length-existing : (es : List ℕ) (block : List ℤ) → length (existing es block) ≡ 4 ^ length es
+unfolding existing
+length-existing es block = length-map-upto (λ p. cond (is_inside es (indices (length es) p)) (get_or block p (pos 0)) (pos 0)) (4 ^ length es)
+
+pub get_or-existing : (es : List ℕ) (block : List ℤ) (p : ℕ) → p < 4 ^ length es → get_or (existing es block) p (pos 0) ≡ cond (is_inside es (indices (length es) p)) (get_or block p (pos 0)) (pos 0)
+unfolding existing
+get_or-existing es block p h = get_or-map-upto (λ p. cond (is_inside es (indices (length es) p)) (get_or block p (pos 0)) (pos 0)) (4 ^ length es) p (pos 0) h
+
+pub get_or-existing_inside : (es : List ℕ) (block : List ℤ) (p : ℕ) → p < 4 ^ length es → is_inside es (indices (length es) p) ≡ true → get_or (existing es block) p (pos 0) ≡ get_or block p (pos 0)
+get_or-existing_inside es block p h i = get_or-existing es block p h ∙ ap (λ t. cond t (get_or block p (pos 0)) (pos 0)) i
+
+-- blocks that agree at the places that exist have the same existing values
+pub existing_same : (es : List ℕ) (a b : List ℤ) → ((p : ℕ) → p < 4 ^ length es → is_inside es (indices (length es) p) ≡ true → get_or a p (pos 0) ≡ get_or b p (pos 0)) → existing es a ≡ existing es b
+unfolding existing
+existing_same es a b same = map-upto_same
+    (λ p. cond (is_inside es (indices (length es) p)) (get_or a p (pos 0)) (pos 0)) (λ p. cond (is_inside es (indices (length es) p)) (get_or b p (pos 0)) (pos 0)) (4 ^ length es)
+    (λ p h. by p (is_inside es (indices (length es) p)) (same p h))
+  where
+    by : (p : ℕ) (t : Bool) → (t ≡ true → get_or a p (pos 0) ≡ get_or b p (pos 0)) → cond t (get_or a p (pos 0)) (pos 0) ≡ cond t (get_or b p (pos 0)) (pos 0)
+    by p true f = f refl
+    by p false f = refl
+
+-- the values that exist are those of the block
+pub existing-pad : (es : List ℕ) (block : List ℤ) → All IsExtent es → existing es (pad es block) ≡ existing es block
+existing-pad es block ok = existing_same es (pad es block) block (λ p h i. get_or-pad es block p h ∙ ap (λ q. get_or block q (pos 0)) (source_place_existing es p ok h i))
+
+pub existing-existing : (es : List ℕ) (block : List ℤ) → existing es (existing es block) ≡ existing es block
+existing-existing es block = existing_same es (existing es block) block (λ p h i. get_or-existing_inside es block p h i)
+
+-- the padded block looks at existing values only
+pub pad-existing : (es : List ℕ) (block : List ℤ) → All IsExtent es → pad es (existing es block) ≡ pad es block
+unfolding pad
+pad-existing es block ok = map-upto_same
+    (λ p. get_or (existing es block) (source_place es p) (pos 0)) (λ p. get_or block (source_place es p) (pos 0)) (4 ^ length es)
+    (λ p h. get_or-existing_inside es block (source_place es p) (source_place_below es p ok) (source_place_inside es p ok))
+
+pub pad_same : (es : List ℕ) (a b : List ℤ) → All IsExtent es → existing es a ≡ existing es b → pad es a ≡ pad es b
+pad_same es a b ok e = sym (pad-existing es a ok) ∙ ap (pad es) e ∙ pad-existing es b ok
+
+-- ---- what holds of each value of the block, and of 0
+
+get_or_all : (P : ℤ → Type 0) (vs : List ℤ) (k : ℕ) → P (pos 0) → All P vs → P (get_or vs k (pos 0))
+get_or_all P vs k z all = ⊎_elim
+    (λ l. All-get_or P vs k (pos 0) l all)
+    (λ l. subst P (sym (get_or_past vs k (pos 0) l)) z)
+    (cases_lt k (length vs))
+
+pub All-pad : (P : ℤ → Type 0) (es : List ℕ) (block : List ℤ) → P (pos 0) → All P block → All P (pad es block)
+All-pad P es block z all =
+    All-from_get_or P (pad es block) (pos 0)
+    (λ p s. let h : p < 4 ^ length es = omega (arith, s, length-pad es block) in subst P (sym (get_or-pad es block p h)) (get_or_all P block (source_place es p) z all))
+
+pub All-existing : (P : ℤ → Type 0) (es : List ℕ) (block : List ℤ) → P (pos 0) → All P block → All P (existing es block)
+All-existing P es block z all =
+    All-from_get_or P (existing es block) (pos 0)
+    (λ p s.
+    let h : p < 4 ^ length es = omega (arith, s, length-existing es block) in
+    subst P (sym (get_or-existing es block p h)) (by p (is_inside es (indices (length es) p))))
+  where
+    by : (p : ℕ) (t : Bool) → P (cond t (get_or block p (pos 0)) (pos 0))
+    by p true = get_or_all P block p z all
+    by p false = z

@@ -1,0 +1,95 @@
+-- The code of a plane: the cases of its tail, and how long the code of planes is at most.
+use Rattle.std.proofs.Common.{◌≡◌, refl, sym, ap, ◌∙◌, ℕ, zero, suc, ◌+◌, ◌-◌, ◌*◌, ◌≤◌, max, Bool, true, false, cond, List, [], ◌∷◌, ◌++◌, length, take, drop, replicate, All, arith}
+use Rattle.std.proofs.lemmas.Bool.{true≢false}
+use Rattle.std.proofs.lemmas.List.{length-append, length-take, length-drop}
+use Rattle.std.proofs.lemmas.List.Elements.{All-head, All-tail}
+use Rattle.zf_spec.specs.Planes.{has_one, reach, group, in_run, tail, plane_code, code_from, code}
+use Rattle.zf_spec.proofs.Reach.{has_one-zeros, has_one-append_one, reach_none, reach_some, reach-le}
+
+-- ---- the cases of the tail
+
+pub tail_is_group : (d : Bool) (ds : List Bool) → tail (d ∷ ds) ≡ group (d ∷ ds) (in_run (d ∷ ds))
+tail_is_group d ds = refl
+
+pub tail-zeros : (n : ℕ) → tail (replicate (suc n) false) ≡ false ∷ []
+tail-zeros n = ap (λ t. cond t (true ∷ in_run (replicate (suc n) false)) (false ∷ [])) (has_one-zeros (suc n))
+
+in_run-first : (j : ℕ) (e : Bool) (rest : List Bool) → in_run (replicate j false ++ true ∷ e ∷ rest) ≡ replicate j false ++ true ∷ tail (e ∷ rest)
+in_run-first zero e rest = refl
+in_run-first (suc zero) e rest = refl
+in_run-first (suc (suc j)) e rest = ap (λ ds. false ∷ ds) (in_run-first (suc j) e rest)
+
+in_run-last : (j : ℕ) → in_run (replicate j false ++ true ∷ []) ≡ replicate j false
+in_run-last zero = refl
+in_run-last (suc zero) = refl
+in_run-last (suc (suc j)) = ap (λ ds. false ∷ ds) (in_run-last (suc j))
+
+-- digits that begin with zeros and then a one have a group bit and a run
+tail_some : (j : ℕ) (rest : List Bool) → tail (replicate j false ++ true ∷ rest) ≡ true ∷ in_run (replicate j false ++ true ∷ rest)
+tail_some zero rest = refl
+tail_some (suc j) rest = ap (λ t. cond t (true ∷ in_run (replicate (suc j) false ++ true ∷ rest)) (false ∷ [])) (has_one-append_one (replicate j false) rest)
+
+-- the first one after j zeros, where something follows
+pub tail-first : (j : ℕ) (e : Bool) (rest : List Bool) → tail (replicate j false ++ true ∷ e ∷ rest) ≡ true ∷ (replicate j false ++ true ∷ tail (e ∷ rest))
+tail-first j e rest = tail_some j (e ∷ rest) ∙ ap (λ ds. true ∷ ds) (in_run-first j e rest)
+
+-- the first one after j zeros at the last rank: it is implied
+pub tail-last : (j : ℕ) → tail (replicate j false ++ true ∷ []) ≡ true ∷ replicate j false
+tail-last j = tail_some j [] ∙ ap (λ ds. true ∷ ds) (in_run-last j)
+
+-- ---- how long codes are at most
+
+group_bound : (ds run : List Bool) → 1 ≤ length ds → (has_one ds ≡ true → 1 + length run ≤ length ds + reach ds) → length (group ds run) ≤ length ds + reach ds
+group_bound ds run h f = by (has_one ds) refl
+  where
+    by : (t : Bool) → has_one ds ≡ t → length (cond t (true ∷ run) (false ∷ [])) ≤ length ds + reach ds
+    by true e = let bound = f e in omega arith
+    by false e = omega arith
+
+in_run_bound : (ds : List Bool) → has_one ds ≡ true → 1 + length (in_run ds) ≤ length ds + reach ds
+in_run_bound [] h = absurd (true≢false (sym h))
+in_run_bound (d ∷ []) h = omega (arith, reach_some d [] h)
+in_run_bound (true ∷ e ∷ ds) h =
+    let rest = group_bound (e ∷ ds) (in_run (e ∷ ds)) (omega arith) (in_run_bound (e ∷ ds)) in
+    omega (arith, reach_some true (e ∷ ds) h)
+in_run_bound (false ∷ e ∷ ds) h =
+    let rest = in_run_bound (e ∷ ds) h in
+    omega (arith, reach_some false (e ∷ ds) h)
+
+pub length-tail-le : (ds : List Bool) → length (tail ds) ≤ length ds + reach ds
+length-tail-le [] = omega arith
+length-tail-le (d ∷ ds) = group_bound (d ∷ ds) (in_run (d ∷ ds)) (omega arith) (in_run_bound (d ∷ ds))
+
+-- past the first digit the reach is one less
+reach-rest : (d : Bool) (ds : List Bool) → reach ds ≤ reach (d ∷ ds) - 1
+reach-rest d ds = by (has_one ds) refl
+  where
+    some : (d : Bool) → has_one ds ≡ true → has_one (d ∷ ds) ≡ true
+    some true e = refl
+    some false e = e
+
+    by : (t : Bool) → has_one ds ≡ t → reach ds ≤ reach (d ∷ ds) - 1
+    by true e = omega (arith, reach_some d ds (some d e))
+    by false e = omega (arith, reach_none ds e)
+
+pub reach-drop-le : (n : ℕ) (ds : List Bool) → reach (drop n ds) ≤ reach ds - n
+reach-drop-le zero ds = omega arith
+reach-drop-le (suc n) [] = omega arith
+reach-drop-le (suc n) (d ∷ ds) = omega (arith, reach-drop-le n ds, reach-rest d ds)
+
+-- a plane of this size takes at most its size and the ranks that have their first one in it
+pub length-plane_code-le : (size n : ℕ) (ds : List Bool) → length ds ≡ size → n ≤ size → length (plane_code n ds) + n ≤ size + max n (reach ds)
+length-plane_code-le size n ds l h =
+    omega (arith, length-append (take n ds) (tail (drop n ds)), length-take n ds, length-drop n ds, length-tail-le (drop n ds), reach-drop-le n ds)
+
+pub length-code_from-le : (size n : ℕ) (planes : List (List Bool)) → n ≤ size → All (λ ds. length ds ≡ size) planes → length (code_from n planes) + n ≤ size * length planes + size
+length-code_from-le size n [] h all = omega arith
+length-code_from-le size n (ds ∷ planes) h all =
+    let l : length ds ≡ size = All-head (λ ds. length ds ≡ size) ds planes all in
+    let wide : max n (reach ds) ≤ size = omega (arith, reach-le ds) in
+    let rest = length-code_from-le size (max n (reach ds)) planes wide (All-tail (λ ds. length ds ≡ size) ds planes all) in
+    omega (arith, rest, length-plane_code-le size n ds l h, length-append (plane_code n ds) (code_from (max n (reach ds)) planes))
+
+-- the code of p planes of this size has at most size * p + size bits
+pub length-code-le : (size : ℕ) (planes : List (List Bool)) → All (λ ds. length ds ≡ size) planes → length (code planes) ≤ size * length planes + size
+length-code-le size planes all = omega (arith, length-code_from-le size 0 planes (omega arith) all)

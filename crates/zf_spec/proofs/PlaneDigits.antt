@@ -1,0 +1,203 @@
+-- Planes and the coefficients that they are the digits of.
+use Rattle.std.proofs.Common.{◌≡◌, refl, sym, ap, subst, ◌∙◌, ℕ, zero, suc, ◌-◌, ◌^◌, ◌<◌, ◌≤◌, max, Bool, false, ℤ, pos, FitsSigned, List, [], ◌∷◌, ◌++◌, map, reverse, length, get_or, take, replicate, All, ext_get_or, ⊎_elim, get_or-take, arith}
+use Rattle.std.proofs.lemmas.Bool.{cases_lt}
+use Rattle.std.proofs.lemmas.List.{length-map, get_or-map, get_or_past, length-reverse, get_or-reverse, length-append, length-replicate, get_or-replicate, get_or_append_left, get_or-append_right, length-take}
+use Rattle.std.proofs.lemmas.List.Elements.{All-get_or, All-from_get_or, All-append, All-replicate}
+use Rattle.std.specs.Int.{Width}
+use mir.Val.{bits}
+use Rattle.zf_spec.specs.Numbers.{digits, value_of}
+use Rattle.zf_spec.specs.Grid.{upto}
+use Rattle.zf_spec.specs.Ranks.{order, ranked, unranked}
+use Rattle.zf_spec.specs.Planes.{plane, planes_of, used}
+use Rattle.zf_spec.specs.Codes.{planes, coefficients_of}
+use Rattle.zf_spec.proofs.Counting.{length-upto, get_or-upto, length-map-upto, get_or-map-upto, from_places, map-upto_same}
+use Rattle.zf_spec.proofs.Negabinary.{length-digits, value_of-digits, digits-value_of, value_of_fits}
+use Rattle.zf_spec.proofs.Ranking.{order_below, length-ranked, length-unranked, get_or-ranked, get_or-unranked, rank_of, rank_of_below, unranked-ranked, ranked-unranked}
+use Rattle.zf_spec.proofs.Reach.{none_at, none_past_used}
+
+-- ---- the numbers below n, the greatest first
+
+length-reverse-upto : (n : ℕ) → length (reverse (upto n)) ≡ n
+length-reverse-upto n = length-reverse (upto n) ∙ length-upto n
+
+get_or-reverse-upto : (n k d : ℕ) → k < n → get_or (reverse (upto n)) k d ≡ n - 1 - k
+get_or-reverse-upto n k d h =
+    let l = length-upto n in
+    get_or-reverse (upto n) k d (omega (arith, h, l)) ∙ ap (λ m. get_or (upto n) (m - 1 - k) d) l ∙ get_or-upto n (n - 1 - k) d (omega arith)
+
+pub length-map-reverse-upto : {X : Type 0} (f : ℕ → X) (n : ℕ) → length (map f (reverse (upto n))) ≡ n
+length-map-reverse-upto f n = length-map (reverse (upto n)) f ∙ length-reverse-upto n
+
+pub get_or-map-reverse-upto : {X : Type 0} (f : ℕ → X) (n k : ℕ) (d : X) → k < n → get_or (map f (reverse (upto n))) k d ≡ f (n - 1 - k)
+get_or-map-reverse-upto f n k d h = get_or-map f (reverse (upto n)) k 0 d (omega (arith, h, length-reverse-upto n)) ∙ ap f (get_or-reverse-upto n k 0 h)
+
+-- ---- planes of lists of digits
+
+pub length-planes_of : (w : ℕ) (coefficients : List (List Bool)) → length (planes_of w coefficients) ≡ w
+length-planes_of w coefficients = length-map-reverse-upto (λ k. plane k coefficients) w
+
+pub get_or-planes_of : (w : ℕ) (coefficients : List (List Bool)) (k : ℕ) → k < w → get_or (planes_of w coefficients) k [] ≡ plane (w - 1 - k) coefficients
+get_or-planes_of w coefficients k h = get_or-map-reverse-upto (λ k. plane k coefficients) w k [] h
+
+-- each plane has a digit of each coefficient
+pub planes_of-length : (w : ℕ) (coefficients : List (List Bool)) → All (λ ds. length ds ≡ length coefficients) (planes_of w coefficients)
+planes_of-length w coefficients k d h =
+    let small : k < w = omega (arith, h, length-planes_of w coefficients) in
+    ap length (get_or-map-reverse-upto (λ k. plane k coefficients) w k d small) ∙ length-map coefficients (λ ds. get_or ds (w - 1 - k) false)
+
+-- digit r of plane k is a digit of coefficient r
+pub get_or-plane : (k : ℕ) (coefficients : List (List Bool)) (r : ℕ) → get_or (plane k coefficients) r false ≡ get_or (get_or coefficients r []) k false
+get_or-plane k [] r = refl
+get_or-plane k (ds ∷ coefficients) zero = refl
+get_or-plane k (ds ∷ coefficients) (suc r) = get_or-plane k coefficients r
+
+-- the digits of the coefficient of rank r, of w planes that are the greatest first
+abbrev pub digits_at : ℕ → List (List Bool) → ℕ → List Bool
+digits_at w planes r = map (λ k. get_or (get_or planes k []) r false) (reverse (upto w))
+
+pub length-digits_at : (w : ℕ) (planes : List (List Bool)) (r : ℕ) → length (digits_at w planes r) ≡ w
+length-digits_at w planes r = length-map-reverse-upto (λ k. get_or (get_or planes k []) r false) w
+
+pub get_or-digits_at : (w : ℕ) (planes : List (List Bool)) (r i : ℕ) → i < w → get_or (digits_at w planes r) i false ≡ get_or (get_or planes (w - 1 - i) []) r false
+get_or-digits_at w planes r i h = get_or-map-reverse-upto (λ k. get_or (get_or planes k []) r false) w i false h
+
+-- the digits of rank r of the planes of coefficients are those of coefficient r
+pub digits_at-planes_of : (w : ℕ) (coefficients : List (List Bool)) (r : ℕ) → length (get_or coefficients r []) ≡ w → digits_at w (planes_of w coefficients) r ≡ get_or coefficients r []
+digits_at-planes_of w coefficients r l =
+    let e = length-digits_at w (planes_of w coefficients) r in
+    ext_get_or false (digits_at w (planes_of w coefficients) r) (get_or coefficients r []) (e ∙ sym l)
+    (λ i s.
+    let h : i < w = omega (arith, s, e) in
+    let back : w - 1 - (w - 1 - i) ≡ i = omega arith in
+    get_or-digits_at w (planes_of w coefficients) r i h
+    ∙ ap (λ ds. get_or ds r false) (get_or-planes_of w coefficients (w - 1 - i) (omega arith))
+    ∙ get_or-plane (w - 1 - (w - 1 - i)) coefficients r
+    ∙ ap (λ j. get_or (get_or coefficients r []) j false) back)
+
+-- planes that have no one may be missing at the end
+pub digits_at-take : (w n : ℕ) (planes : List (List Bool)) (r : ℕ) → used planes ≤ n → digits_at w (take n planes) r ≡ digits_at w planes r
+digits_at-take w n planes r h =
+    let e = length-digits_at w (take n planes) r in
+    ext_get_or false (digits_at w (take n planes) r) (digits_at w planes r) (e ∙ sym (length-digits_at w planes r))
+    (λ i s.
+    let small : i < w = omega (arith, s, e) in
+    get_or-digits_at w (take n planes) r i small ∙ at (w - 1 - i) ∙ sym (get_or-digits_at w planes r i small))
+  where
+    at : (k : ℕ) → get_or (get_or (take n planes) k []) r false ≡ get_or (get_or planes k []) r false
+    at k = ⊎_elim
+        (λ l. ap (λ ds. get_or ds r false) (get_or-take n planes k [] l))
+        (λ l. ap (λ ds. get_or ds r false) (get_or_past (take n planes) k [] (omega (arith, length-take n planes))) ∙ sym (none_at (get_or planes k []) r (none_past_used planes k (omega arith))))
+        (cases_lt k n)
+
+-- ---- planes and coefficients of a block
+
+pub length-planes : (w : Width) (d : ℕ) (c : List ℤ) → length (planes w d c) ≡ bits w
+length-planes w d c = length-planes_of (bits w) (map (digits (bits w)) (ranked d c))
+
+pub planes-length : (w : Width) (d : ℕ) (c : List ℤ) → All (λ ds. length ds ≡ 4 ^ d) (planes w d c)
+planes-length w d c k e h = planes_of-length (bits w) (map (digits (bits w)) (ranked d c)) k e h ∙ length-map (ranked d c) (digits (bits w)) ∙ length-ranked d c
+
+pub length-coefficients_of : (w : Width) (d : ℕ) (ps : List (List Bool)) → length (coefficients_of w d ps) ≡ 4 ^ d
+length-coefficients_of w d ps = length-unranked d (map (λ r. value_of w (digits_at (bits w) ps r)) (upto (4 ^ d)))
+
+-- the values by rank that planes stand for
+abbrev values_by_rank : Width → ℕ → List (List Bool) → List ℤ
+values_by_rank w d ps = map (λ r. value_of w (digits_at (bits w) ps r)) (upto (4 ^ d))
+
+length-values_by_rank : (w : Width) (d : ℕ) (ps : List (List Bool)) → length (values_by_rank w d ps) ≡ 4 ^ d
+length-values_by_rank w d ps = length-map-upto (λ r. value_of w (digits_at (bits w) ps r)) (4 ^ d)
+
+get_or-values_by_rank : (w : Width) (d : ℕ) (ps : List (List Bool)) (r : ℕ) → r < 4 ^ d → get_or (values_by_rank w d ps) r (pos 0) ≡ value_of w (digits_at (bits w) ps r)
+get_or-values_by_rank w d ps r h = get_or-map-upto (λ r. value_of w (digits_at (bits w) ps r)) (4 ^ d) r (pos 0) h
+
+-- the digits that the planes of values have at a rank are those of the value
+digits_at-planes : (w : Width) (vs : List ℤ) (r : ℕ) → r < length vs → digits_at (bits w) (planes_of (bits w) (map (digits (bits w)) vs)) r ≡ digits (bits w) (get_or vs r (pos 0))
+digits_at-planes w vs r h =
+    let at = get_or-map (digits (bits w)) vs r (pos 0) [] h in
+    digits_at-planes_of (bits w) (map (digits (bits w)) vs) r (ap length at ∙ length-digits (bits w) (get_or vs r (pos 0))) ∙ at
+
+-- values of the type come back from their planes
+pub coefficients_of-planes : (w : Width) (d : ℕ) (c : List ℤ) → length c ≡ 4 ^ d → All (λ v. FitsSigned w v) c → coefficients_of w d (planes w d c) ≡ c
+coefficients_of-planes w d c l fits =
+    let vs = ranked d c in
+    let same : values_by_rank w d (planes w d c) ≡ vs =
+    from_places (λ r. value_of w (digits_at (bits w) (planes w d c) r)) (4 ^ d) (pos 0) vs (length-ranked d c)
+    (λ r h.
+    let fit = All-get_or (λ v. FitsSigned w v) c (get_or (order d) r 0) (pos 0) (omega (arith, l, order_below d r h)) fits in
+    let at = get_or-ranked d c r h in
+    sym (ap (value_of w) (digits_at-planes w vs r (omega (arith, h, length-ranked d c)) ∙ ap (digits (bits w)) at) ∙ value_of-digits w (get_or c (get_or (order d) r 0) (pos 0)) fit ∙ sym at)) in
+    ap (unranked d) same ∙ unranked-ranked d c l
+
+-- planes that have no one may be missing below
+pub coefficients_of-take : (w : Width) (d n : ℕ) (ps : List (List Bool)) → used ps ≤ n → coefficients_of w d (take n ps) ≡ coefficients_of w d ps
+coefficients_of-take w d n ps h =
+    ap (unranked d) (map-upto_same (λ r. value_of w (digits_at (bits w) (take n ps) r)) (λ r. value_of w (digits_at (bits w) ps r)) (4 ^ d) (λ r k. ap (value_of w) (digits_at-take (bits w) n ps r h)))
+
+pub coefficients_of-used : (w : Width) (d : ℕ) (c : List ℤ) → length c ≡ 4 ^ d → All (λ v. FitsSigned w v) c → coefficients_of w d (take (max 1 (used (planes w d c))) (planes w d c)) ≡ c
+coefficients_of-used w d c l fits = coefficients_of-take w d (max 1 (used (planes w d c))) (planes w d c) (omega arith) ∙ coefficients_of-planes w d c l fits
+
+-- the values that planes stand for are values of the type
+pub coefficients_of-fit : (w : Width) (d : ℕ) (ps : List (List Bool)) → All (λ v. FitsSigned w v) (coefficients_of w d ps)
+coefficients_of-fit w d ps =
+    All-from_get_or (λ v. FitsSigned w v) (coefficients_of w d ps) (pos 0)
+    (λ p s.
+    let h : p < 4 ^ d = omega (arith, s, length-coefficients_of w d ps) in
+    let at : get_or (coefficients_of w d ps) p (pos 0) ≡ value_of w (digits_at (bits w) ps (rank_of d p)) =
+    get_or-unranked d (values_by_rank w d ps) p h ∙ get_or-values_by_rank w d ps (rank_of d p) (rank_of_below d p h) in
+    subst (λ v. FitsSigned w v) (sym at) (value_of_fits w (digits_at (bits w) ps (rank_of d p))))
+
+-- planes of this size come back from their coefficients, with zeros for those that are missing below
+pub planes-coefficients_of : (w : Width) (d : ℕ) (ps : List (List Bool)) → length ps ≤ bits w → All (λ ds. length ds ≡ 4 ^ d) ps
+    → planes w d (coefficients_of w d ps) ≡ ps ++ replicate (bits w - length ps) (replicate (4 ^ d) false)
+planes-coefficients_of w d ps few all =
+    ap (λ vs. planes_of (bits w) (map (digits (bits w)) vs)) (ranked-unranked d vs (length-values_by_rank w d ps))
+    ∙ ext_get_or [] (planes_of (bits w) cs) (ps ++ missing) (length-planes_of (bits w) cs ∙ sym whole)
+    (λ k s. plane_at k (omega (arith, s, length-planes_of (bits w) cs)))
+  where
+    vs : List ℤ
+    vs = values_by_rank w d ps
+
+    cs : List (List Bool)
+    cs = map (digits (bits w)) vs
+
+    missing : List (List Bool)
+    missing = replicate (bits w - length ps) (replicate (4 ^ d) false)
+
+    whole : length (ps ++ missing) ≡ bits w
+    whole = omega (arith, length-append ps missing, length-replicate (bits w - length ps) (replicate (4 ^ d) false))
+
+    length-cs : length cs ≡ 4 ^ d
+    length-cs = length-map vs (digits (bits w)) ∙ length-values_by_rank w d ps
+
+    -- the digit of each rank
+    digit_at : (k r : ℕ) → k < bits w → r < 4 ^ d → get_or (plane (bits w - 1 - k) cs) r false ≡ get_or (get_or ps k []) r false
+    digit_at k r h g =
+        let back : bits w - 1 - (bits w - 1 - k) ≡ k = omega arith in
+        get_or-plane (bits w - 1 - k) cs r
+        ∙ ap (λ ds. get_or ds (bits w - 1 - k) false)
+        (get_or-map (digits (bits w)) vs r (pos 0) [] (omega (arith, g, length-values_by_rank w d ps))
+        ∙ ap (digits (bits w)) (get_or-values_by_rank w d ps r g)
+        ∙ digits-value_of w (digits_at (bits w) ps r) (length-digits_at (bits w) ps r))
+        ∙ get_or-digits_at (bits w) ps r (bits w - 1 - k) (omega arith)
+        ∙ ap (λ j. get_or (get_or ps j []) r false) back
+
+    -- the same of the planes with those that are missing
+    there : (k r : ℕ) → k < bits w → r < 4 ^ d → get_or (get_or (ps ++ missing) k []) r false ≡ get_or (get_or ps k []) r false
+    there k r h g = ⊎_elim
+        (λ l. ap (λ ds. get_or ds r false) (get_or_append_left ps missing [] k l))
+        (λ l.
+        ap (λ ds. get_or ds r false) (get_or-append_right ps missing (length ps) k [] refl l ∙ get_or-replicate (bits w - length ps) (k - length ps) (replicate (4 ^ d) false) [] (omega arith))
+        ∙ get_or-replicate (4 ^ d) r false false g
+        ∙ sym (ap (λ ds. get_or ds r false) (get_or_past ps k [] l)))
+        (cases_lt k (length ps))
+
+    plane_length : (k : ℕ) → k < bits w → length (get_or (ps ++ missing) k []) ≡ 4 ^ d
+    plane_length k h = All-get_or (λ ds. length ds ≡ 4 ^ d) (ps ++ missing) k [] (omega (arith, h, whole))
+        (All-append (λ ds. length ds ≡ 4 ^ d) ps missing all (All-replicate (λ ds. length ds ≡ 4 ^ d) (bits w - length ps) (replicate (4 ^ d) false) (length-replicate (4 ^ d) false)))
+
+    plane_at : (k : ℕ) → k < bits w → get_or (planes_of (bits w) cs) k [] ≡ get_or (ps ++ missing) k []
+    plane_at k h =
+        let wide : length (plane (bits w - 1 - k) cs) ≡ 4 ^ d = length-map cs (λ ds. get_or ds (bits w - 1 - k) false) ∙ length-cs in
+        get_or-planes_of (bits w) cs k h
+        ∙ ext_get_or false (plane (bits w - 1 - k) cs) (get_or (ps ++ missing) k []) (wide ∙ sym (plane_length k h))
+        (λ r s. let g : r < 4 ^ d = omega (arith, s, wide) in digit_at k r h g ∙ sym (there k r h g))

@@ -1,0 +1,102 @@
+-- The place of each rank and the rank of each place, and a block by rank and by place.
+use Rattle.std.proofs.Common.{◌≡◌, refl, sym, ap, ◌∙◌, ℕ, zero, suc, ◌+◌, ◌^◌, ◌<◌, ◌≤◌, Bool, true, false, cond, not, eqb, eqb-true, ℤ, pos, List, [], ◌∷◌, length, get_or, ◌⊎◌, ⊎_elim, Contains, ext_get_or, arith}
+use Rattle.std.proofs.lemmas.Bool.{eqb-false}
+use Rattle.std.proofs.lemmas.List.{length-map, get_or-map}
+use Rattle.std.proofs.lemmas.List.Elements.{Contains-get_or}
+use Rattle.std.proofs.lemmas.List.Sorted.{IsPermutation-sym, Contains-permutation, length_permutation}
+use Rattle.std.specs.List.{position_or_len}
+use Rattle.zf_spec.specs.Grid.{places}
+use Rattle.zf_spec.specs.Ranks.{order, ranked, unranked}
+use Rattle.zf_spec.proofs.Counting.{count_from_bounds, Contains-count_from, length-upto, from_places, get_or-map-upto, length-map-upto}
+use Rattle.zf_spec.proofs.Rising.{contains_cases, contains_none, same_place, order_moves, order_rises}
+
+-- the first place at which p stands, among a list that has it
+pub position_of : (p : ℕ) (ps : List ℕ) → Contains ps p → (position_or_len (λ q. eqb q p) ps < length ps) × (get_or ps (position_or_len (λ q. eqb q p) ps) 0 ≡ p)
+position_of p [] h = absurd (contains_none p h)
+position_of p (q ∷ ps) h = by (eqb q p) refl (contains_cases q p ps h) (position_of p ps)
+  where
+    rest : ℕ
+    rest = position_or_len (λ q. eqb q p) ps
+
+    by : (t : Bool) → eqb q p ≡ t → (q ≡ p) ⊎ Contains ps p → (Contains ps p → (rest < length ps) × (get_or ps rest 0 ≡ p))
+        → (cond (not t) (1 + rest) 0 < length (q ∷ ps)) × (get_or (q ∷ ps) (cond (not t) (1 + rest) 0) 0 ≡ p)
+    by true e c next = (omega arith, eqb-true q p e)
+    by false e c next = ⊎_elim
+        (λ same. absurd (eqb-false q p e same))
+        (λ k. let n = next k in let s : 1 + rest ≡ suc rest = omega arith in (omega (arith, n.0), ap (λ i. get_or (q ∷ ps) i 0) s ∙ n.1))
+        c
+
+-- nothing before the first place is p
+pub position_first : (p : ℕ) (ps : List ℕ) (k : ℕ) → k < length ps → get_or ps k 0 ≡ p → position_or_len (λ q. eqb q p) ps ≤ k
+position_first p [] k h e = absurd (omega arith)
+position_first p (q ∷ ps) zero h e = by (eqb q p) refl
+  where
+    by : (t : Bool) → eqb q p ≡ t → cond (not t) (1 + position_or_len (λ q. eqb q p) ps) 0 ≤ 0
+    by true f = omega arith
+    by false f = absurd (eqb-false q p f e)
+position_first p (q ∷ ps) (suc k) h e = by (eqb q p) (position_first p ps k (omega arith) e)
+  where
+    by : (t : Bool) → position_or_len (λ q. eqb q p) ps ≤ k → cond (not t) (1 + position_or_len (λ q. eqb q p) ps) 0 ≤ suc k
+    by true f = omega arith
+    by false f = omega arith
+
+-- ---- the order
+
+-- the rank of a place
+abbrev pub rank_of : ℕ → ℕ → ℕ
+rank_of d p = position_or_len (λ q. eqb q p) (order d)
+
+pub length-order : (d : ℕ) → length (order d) ≡ 4 ^ d
+length-order d = length_permutation (places d) (order d) (order_moves d) ∙ length-upto (4 ^ d)
+
+-- each rank has a place of the block
+pub order_below : (d k : ℕ) → k < 4 ^ d → get_or (order d) k 0 < 4 ^ d
+order_below d k h =
+    let among = Contains-get_or (order d) k 0 (omega (arith, h, length-order d)) in
+    let bounds = count_from_bounds 0 (4 ^ d) (get_or (order d) k 0) (Contains-permutation (order d) (places d) (get_or (order d) k 0) (IsPermutation-sym (places d) (order d) (order_moves d)) among) in
+    omega (arith, bounds.1)
+
+order_has : (d p : ℕ) → p < 4 ^ d → Contains (order d) p
+order_has d p h = Contains-permutation (places d) (order d) p (order_moves d) (Contains-count_from 0 (4 ^ d) p (omega arith) (omega arith))
+
+-- each place of the block has a rank
+pub rank_of_below : (d p : ℕ) → p < 4 ^ d → rank_of d p < 4 ^ d
+rank_of_below d p h = omega (arith, (position_of p (order d) (order_has d p h)).0, length-order d)
+
+pub order-rank_of : (d p : ℕ) → p < 4 ^ d → get_or (order d) (rank_of d p) 0 ≡ p
+order-rank_of d p h = (position_of p (order d) (order_has d p h)).1
+
+pub rank_of-order : (d k : ℕ) → k < 4 ^ d → rank_of d (get_or (order d) k 0) ≡ k
+rank_of-order d k h =
+    let p = get_or (order d) k 0 in
+    let small : k < length (order d) = omega (arith, h, length-order d) in
+    same_place d (order d) (rank_of d p) k (order_rises d) (position_first p (order d) k small refl) small (order-rank_of d p (order_below d k h))
+
+-- ---- blocks
+
+pub length-ranked : (d : ℕ) (block : List ℤ) → length (ranked d block) ≡ 4 ^ d
+length-ranked d block = length-map (order d) (λ p. get_or block p (pos 0)) ∙ length-order d
+
+pub length-unranked : (d : ℕ) (values : List ℤ) → length (unranked d values) ≡ 4 ^ d
+length-unranked d values = length-map-upto (λ p. get_or values (rank_of d p) (pos 0)) (4 ^ d)
+
+pub get_or-ranked : (d : ℕ) (block : List ℤ) (k : ℕ) → k < 4 ^ d → get_or (ranked d block) k (pos 0) ≡ get_or block (get_or (order d) k 0) (pos 0)
+get_or-ranked d block k h = get_or-map (λ p. get_or block p (pos 0)) (order d) k 0 (pos 0) (omega (arith, h, length-order d))
+
+pub get_or-unranked : (d : ℕ) (values : List ℤ) (p : ℕ) → p < 4 ^ d → get_or (unranked d values) p (pos 0) ≡ get_or values (rank_of d p) (pos 0)
+get_or-unranked d values p h = get_or-map-upto (λ p. get_or values (rank_of d p) (pos 0)) (4 ^ d) p (pos 0) h
+
+pub unranked-ranked : (d : ℕ) (block : List ℤ) → length block ≡ 4 ^ d → unranked d (ranked d block) ≡ block
+unranked-ranked d block l =
+    from_places (λ p. get_or (ranked d block) (rank_of d p) (pos 0)) (4 ^ d) (pos 0) block l
+    (λ p h. sym (get_or-ranked d block (rank_of d p) (rank_of_below d p h) ∙ ap (λ q. get_or block q (pos 0)) (order-rank_of d p h)))
+
+pub ranked-unranked : (d : ℕ) (values : List ℤ) → length values ≡ 4 ^ d → ranked d (unranked d values) ≡ values
+ranked-unranked d values l =
+    let e = length-ranked d (unranked d values) in
+    ext_get_or (pos 0) (ranked d (unranked d values)) values (e ∙ sym l)
+    (λ k s.
+    let h : k < 4 ^ d = omega (arith, s, e) in
+    get_or-ranked d (unranked d values) k h
+    ∙ get_or-unranked d values (get_or (order d) k 0) (order_below d k h)
+    ∙ ap (λ r. get_or values r (pos 0)) (rank_of-order d k h))

@@ -1,0 +1,60 @@
+-- Positions in a box and their raster numbers.
+use Rattle.std.proofs.Common.{◌≡◌, refl, ap, ◌∙◌, ℕ, zero, suc, ◌+◌, ◌*◌, ◌/◌, ◌%◌, ◌^◌, ◌<◌, ◌≤◌, true, ltb, ltb-true, lt-ltb, List, [], ◌∷◌, length, All, mod-lt, mod-eq_of_lt, pow-suc, div-add-mod', mul-le-mul_left, arith}
+use Rattle.std.proofs.Math.Nat.{add-mul-mod_self_left, add-mul-div_left, div-eq_of_lt}
+use Rattle.std.proofs.lemmas.Bool.{and_from, and_parts}
+use Rattle.std.proofs.lemmas.Nat.{div_below}
+use Rattle.std.proofs.lemmas.List.Elements.{All-head, All-tail, All-nil, All-cons}
+use Rattle.zf_spec.specs.Grid.{product, coordinates, raster, is_inside, fours, indices}
+
+pub product-fours : (d : ℕ) → product (fours d) ≡ 4 ^ d
+product-fours zero = refl
+product-fours (suc d) = omega (arith, product-fours d, pow-suc 4 d)
+
+-- the coordinates of a raster number are inside the box
+pub is_inside-coordinates : (ns : List ℕ) (k : ℕ) → All (λ n. 1 ≤ n) ns → is_inside ns (coordinates ns k) ≡ true
+is_inside-coordinates [] k h = refl
+is_inside-coordinates (n ∷ ns) k h =
+    let some : 0 < n = All-head (λ n. 1 ≤ n) n ns h in
+    and_from (ltb (k % n) n) (is_inside ns (coordinates ns (k / n))) (lt-ltb (k % n) n (mod-lt k some)) (is_inside-coordinates ns (k / n) (All-tail (λ n. 1 ≤ n) n ns h))
+
+-- a raster number is that of its coordinates
+pub raster-coordinates : (ns : List ℕ) (k : ℕ) → k < product ns → raster ns (coordinates ns k) ≡ k
+raster-coordinates [] k h = omega arith
+raster-coordinates (zero ∷ ns) k h = absurd (omega arith)
+raster-coordinates (suc m ∷ ns) k h =
+    let n = suc m in
+    let rest = raster-coordinates ns (k / n) (div_below k n (product ns) (omega arith) (omega arith)) in
+    ap (λ r. k % n + n * r) rest ∙ omega (arith, div-add-mod' k n)
+
+-- a position is that of its raster number
+pub coordinates-raster : (ns ps : List ℕ) → length ps ≡ length ns → is_inside ns ps ≡ true → coordinates ns (raster ns ps) ≡ ps
+coordinates-raster [] [] l h = refl
+coordinates-raster [] (p ∷ ps) l h = cc
+coordinates-raster (n ∷ ns) [] l h = cc
+coordinates-raster (n ∷ ns) (p ∷ ps) l h =
+    let parts = and_parts (ltb p n) (is_inside ns ps) h in
+    let small : p < n = ltb-true p n parts.0 in
+    let some : 0 < n = omega arith in
+    let first : (p + n * raster ns ps) % n ≡ p = add-mul-mod_self_left p n (raster ns ps) ∙ mod-eq_of_lt small in
+    let others : (p + n * raster ns ps) / n ≡ raster ns ps = add-mul-div_left p (raster ns ps) some ∙ ap (λ q. q + raster ns ps) (div-eq_of_lt small) ∙ omega arith in
+    let rest = ap (coordinates ns) others ∙ coordinates-raster ns ps (omega arith) parts.1 in
+    ap (λ q. q ∷ coordinates ns ((p + n * raster ns ps) / n)) first ∙ ap (λ qs. p ∷ qs) rest
+
+-- the raster number of a position in the box is below the number of positions
+pub raster_below : (ns ps : List ℕ) → length ps ≡ length ns → is_inside ns ps ≡ true → raster ns ps < product ns
+raster_below [] [] l h = omega arith
+raster_below [] (p ∷ ps) l h = cc
+raster_below (n ∷ ns) [] l h = cc
+raster_below (n ∷ ns) (p ∷ ps) l h =
+    let parts = and_parts (ltb p n) (is_inside ns ps) h in
+    let small : p < n = ltb-true p n parts.0 in
+    let rest : suc (raster ns ps) ≤ product ns = raster_below ns ps (omega arith) parts.1 in
+    omega (arith, small, mul-le-mul_left n rest)
+
+pub fours_some : (d : ℕ) → All (λ n. 1 ≤ n) (fours d)
+fours_some zero = All-nil (λ n. 1 ≤ n)
+fours_some (suc d) = All-cons (λ n. 1 ≤ n) 4 (fours d) (omega arith) (fours_some d)
+
+-- a place is that of its indices
+pub raster-indices : (d p : ℕ) → p < 4 ^ d → raster (fours d) (indices d p) ≡ p
+raster-indices d p h = raster-coordinates (fours d) p (omega (arith, h, product-fours d))

@@ -1,0 +1,128 @@
+-- How far the ones of a plane reach, and how many planes there are down to the last that has a one.
+use Rattle.std.proofs.Common.{◌≡◌, refl, sym, ap, ◌∙◌, ℕ, zero, suc, ◌<◌, ◌≤◌, Bool, true, false, cond, ◌||◌, List, [], ◌∷◌, ◌++◌, map, length, get_or, replicate, ⊎_elim, arith}
+use Rattle.std.proofs.lemmas.Bool.{true≢false, cases_order}
+use Rattle.std.proofs.lemmas.List.{length-map}
+use Rattle.zf_spec.specs.Planes.{has_one, reach, any_one, used}
+
+-- ---- some digit is one
+
+pub has_one-zeros : (n : ℕ) → has_one (replicate n false) ≡ false
+has_one-zeros zero = refl
+has_one-zeros (suc n) = has_one-zeros n
+
+pub has_one-append_one : (ds rest : List Bool) → has_one (ds ++ true ∷ rest) ≡ true
+has_one-append_one [] rest = refl
+has_one-append_one (true ∷ ds) rest = refl
+has_one-append_one (false ∷ ds) rest = has_one-append_one ds rest
+
+-- digits with no one are zeros
+pub zeros_from_none : (ds : List Bool) → has_one ds ≡ false → ds ≡ replicate (length ds) false
+zeros_from_none [] h = refl
+zeros_from_none (true ∷ ds) h = cc
+zeros_from_none (false ∷ ds) h = ap (λ es. false ∷ es) (zeros_from_none ds h)
+
+pub none_at : (ds : List Bool) (k : ℕ) → has_one ds ≡ false → get_or ds k false ≡ false
+none_at [] k h = refl
+none_at (true ∷ ds) k h = cc
+none_at (false ∷ ds) zero h = refl
+none_at (false ∷ ds) (suc k) h = none_at ds k h
+
+pub none_from_each : (ds : List Bool) → ((k : ℕ) → get_or ds k false ≡ false) → has_one ds ≡ false
+none_from_each [] h = refl
+none_from_each (true ∷ ds) h = h 0
+none_from_each (false ∷ ds) h = none_from_each ds (λ k. h (suc k))
+
+pub one_at : (ds : List Bool) (k : ℕ) → get_or ds k false ≡ true → has_one ds ≡ true
+one_at [] k h = cc
+one_at (true ∷ ds) k h = refl
+one_at (false ∷ ds) zero h = cc
+one_at (false ∷ ds) (suc k) h = one_at ds k h
+
+-- ---- the reach
+
+pub reach-le : (ds : List Bool) → reach ds ≤ length ds
+reach-le [] = omega arith
+reach-le (d ∷ ds) = by (has_one (d ∷ ds)) (reach-le ds)
+  where
+    by : (t : Bool) → reach ds ≤ length ds → cond t (suc (reach ds)) 0 ≤ length (d ∷ ds)
+    by true h = omega arith
+    by false h = omega arith
+
+pub reach_none : (ds : List Bool) → has_one ds ≡ false → reach ds ≡ 0
+reach_none [] h = refl
+reach_none (d ∷ ds) h = ap (λ t. cond t (suc (reach ds)) 0) h
+
+pub reach_some : (d : Bool) (ds : List Bool) → has_one (d ∷ ds) ≡ true → reach (d ∷ ds) ≡ suc (reach ds)
+reach_some d ds h = ap (λ t. cond t (suc (reach ds)) 0) h
+
+-- no one stands from the reach on
+pub none_past_reach : (ds : List Bool) (k : ℕ) → reach ds ≤ k → get_or ds k false ≡ false
+none_past_reach [] k h = refl
+none_past_reach (true ∷ ds) zero h = absurd (omega arith)
+none_past_reach (true ∷ ds) (suc k) h = none_past_reach ds k (omega arith)
+none_past_reach (false ∷ ds) zero h = refl
+none_past_reach (false ∷ ds) (suc k) h = by (has_one ds) refl h (λ l. none_past_reach ds k l)
+  where
+    by : (t : Bool) → has_one ds ≡ t → cond t (suc (reach ds)) 0 ≤ suc k → (reach ds ≤ k → get_or ds k false ≡ false) → get_or ds k false ≡ false
+    by true e l next = next (omega arith)
+    by false e l next = none_at ds k e
+
+-- a one stands just before it
+pub one_at_reach : (ds : List Bool) (k : ℕ) → reach ds ≡ suc k → get_or ds k false ≡ true
+one_at_reach [] k h = absurd (omega arith)
+one_at_reach (d ∷ ds) k h = by (has_one (d ∷ ds)) refl h (one_at_reach ds)
+  where
+    rest : (d : Bool) (j : ℕ) → reach ds ≡ j → has_one (d ∷ ds) ≡ true → ((i : ℕ) → reach ds ≡ suc i → get_or ds i false ≡ true) → get_or (d ∷ ds) j false ≡ true
+    rest true zero e o next = refl
+    rest false zero e o next = absurd (true≢false (sym o ∙ none_from_each ds (λ i. none_past_reach ds i (omega arith))))
+    rest d (suc j) e o next = next j e
+
+    by : (t : Bool) → has_one (d ∷ ds) ≡ t → cond t (suc (reach ds)) 0 ≡ suc k → ((i : ℕ) → reach ds ≡ suc i → get_or ds i false ≡ true) → get_or (d ∷ ds) k false ≡ true
+    by true e l next = rest d k (omega arith) e next
+    by false e l next = absurd (omega arith)
+
+-- the reach is the only number with a one just before it and none from it on
+pub reach_only : (ds : List Bool) (n : ℕ) → ((k : ℕ) → n ≤ k → get_or ds k false ≡ false) → ((k : ℕ) → n ≡ suc k → get_or ds k false ≡ true) → n ≡ reach ds
+reach_only ds n none one = ⊎_elim
+    (λ e. e)
+    (⊎_elim
+    (λ less. absurd (below (reach ds) less refl))
+    (λ more. absurd (above n more refl)))
+    (cases_order n (reach ds))
+  where
+    below : (r : ℕ) → n < r → reach ds ≡ r → ⊥
+    below zero h e = omega arith
+    below (suc r) h e = true≢false (sym (one_at_reach ds r e) ∙ none r (omega arith))
+
+    above : (m : ℕ) → reach ds < m → n ≡ m → ⊥
+    above zero h e = omega arith
+    above (suc m) h e = true≢false (sym (one m e) ∙ none_past_reach ds m (omega arith))
+
+-- ---- the planes that are used: the same over the planes, by whether each has a one
+
+pub any_one-is : (ps : List (List Bool)) → any_one ps ≡ has_one (map has_one ps)
+any_one-is [] = refl
+any_one-is (ds ∷ ps) = ap (λ b. has_one ds || b) (any_one-is ps)
+
+pub used-is : (ps : List (List Bool)) → used ps ≡ reach (map has_one ps)
+used-is [] = refl
+used-is (ds ∷ ps) = ap (λ t. cond t (suc (used ps)) 0) (any_one-is (ds ∷ ps)) ∙ ap (λ n. cond (has_one (map has_one (ds ∷ ps))) (suc n) 0) (used-is ps)
+
+pub used-le : (ps : List (List Bool)) → used ps ≤ length ps
+used-le ps = omega (arith, used-is ps, reach-le (map has_one ps), length-map ps has_one)
+
+has_one_at : (ps : List (List Bool)) (k : ℕ) → get_or (map has_one ps) k false ≡ has_one (get_or ps k [])
+has_one_at [] k = refl
+has_one_at (ds ∷ ps) zero = refl
+has_one_at (ds ∷ ps) (suc k) = has_one_at ps k
+
+-- no plane from there on has a one
+pub none_past_used : (ps : List (List Bool)) (k : ℕ) → used ps ≤ k → has_one (get_or ps k []) ≡ false
+none_past_used ps k h = sym (has_one_at ps k) ∙ none_past_reach (map has_one ps) k (omega (arith, h, used-is ps))
+
+-- the one just before has a one
+pub one_at_used : (ps : List (List Bool)) (k : ℕ) → used ps ≡ suc k → has_one (get_or ps k []) ≡ true
+one_at_used ps k h = sym (has_one_at ps k) ∙ one_at_reach (map has_one ps) k (sym (used-is ps) ∙ h)
+
+pub used_only : (ps : List (List Bool)) (n : ℕ) → ((k : ℕ) → n ≤ k → has_one (get_or ps k []) ≡ false) → ((k : ℕ) → n ≡ suc k → has_one (get_or ps k []) ≡ true) → n ≡ used ps
+used_only ps n none one = reach_only (map has_one ps) n (λ k h. has_one_at ps k ∙ none k h) (λ k h. has_one_at ps k ∙ one k h) ∙ sym (used-is ps)

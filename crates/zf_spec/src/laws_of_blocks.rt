@@ -1,0 +1,38 @@
+//! Laws of the places of a block: their order, padding and the reversible transform.
+
+ghost use Rattle.std.specs.Prelude.{◌≡◌, ℕ, ◌^◌, ◌<◌, ◌≤◌, ℤ, true, List, length, slice_index_or, ◌==◌, All, IsPermutation};
+ghost use Rattle.std.specs.List.{position_or_len};
+ghost use Rattle.zf_spec.specs.Grid.{product, coordinates, raster, is_inside, places};
+ghost use Rattle.zf_spec.specs.Padding.{pad};
+ghost use Rattle.zf_spec.specs.Codes.{existing};
+ghost use Rattle.zf_spec.specs.Ranks.{order, Rises, ranked, unranked};
+
+/// A position in a box and its raster number, below the number of positions, determine one another.
+pub fn positions_and_raster_numbers()
+    ensures inside { (ns : List ℕ) (k : ℕ) → All (λ n. 1 ≤ n) ns → is_inside ns (coordinates ns k) ≡ true }
+    ensures number { (ns : List ℕ) (k : ℕ) → k < product ns → raster ns (coordinates ns k) ≡ k }
+    ensures below { (ns ps : List ℕ) → length ps ≡ length ns → is_inside ns ps ≡ true → raster ns ps < product ns }
+    ensures position { (ns ps : List ℕ) → length ps ≡ length ns → is_inside ns ps ≡ true → coordinates ns (raster ns ps) ≡ ps }
+{}
+
+/// The padded block is a whole one; it has the values that exist, and is made of them alone.
+pub fn padded_blocks()
+    ensures whole { (es : List ℕ) (block : List ℤ) → length (pad es block) ≡ 4 ^ length es }
+    ensures kept { (es : List ℕ) (block : List ℤ) → All (λ e. (1 ≤ e) × (e ≤ 4)) es → existing es (pad es block) ≡ existing es block }
+    ensures only { (es : List ℕ) (a b : List ℤ) → All (λ e. (1 ≤ e) × (e ≤ 4)) es → existing es a ≡ existing es b → pad es a ≡ pad es b }
+{}
+
+/// The order of the places is the only arrangement of them in which the key rises.
+pub fn order_of_places()
+    ensures arrangement { (d : ℕ) → IsPermutation (places d) (order d) }
+    ensures rises { (d : ℕ) → Rises d (order d) }
+    ensures only { (d : ℕ) (ps : List ℕ) → IsPermutation (places d) ps → Rises d ps → ps ≡ order d }
+{}
+
+/// Each rank has a place and each place has a rank, so that a block by rank and by place determine one another.
+pub fn ranks_and_places()
+    ensures place { (d k : ℕ) → k < 4 ^ d → slice_index_or (order d) k 0 < 4 ^ d }
+    ensures rank { (d p : ℕ) → p < 4 ^ d → slice_index_or (order d) (position_or_len (λ q. q == p) (order d)) 0 ≡ p }
+    ensures by_place { (d : ℕ) (block : List ℤ) → length block ≡ 4 ^ d → unranked d (ranked d block) ≡ block }
+    ensures by_rank { (d : ℕ) (values : List ℤ) → length values ≡ 4 ^ d → ranked d (unranked d values) ≡ values }
+{}

@@ -1,0 +1,42 @@
+//! Laws of planes, of their code, and of the coefficients that they are the digits of.
+
+ghost use Rattle.std.specs.Prelude.{◌≡◌, ℕ, suc, ◌+◌, ◌-◌, ◌*◌, ◌^◌, ◌≤◌, max, ℤ, Bool, true, false, List, [], ◌∷◌, ◌++◌, length, take, replicate, slice_index_or, FitsSigned, All};
+ghost use Rattle.std.specs.Int.{Width};
+ghost use mir.Val.{bits};
+ghost use Rattle.zf_spec.specs.Planes.{has_one, reach, tail, code, used};
+ghost use Rattle.zf_spec.specs.Codes.{planes, coefficients_of};
+
+/// The code of the digits from some rank on: of none, of zeros only, and where the first one stands after j zeros, whether something follows it or not.
+pub fn cases_of_a_tail()
+    ensures nothing { tail [] ≡ [] }
+    ensures zeros { (n : ℕ) → tail (replicate (suc n) false) ≡ false ∷ [] }
+    ensures one { (j : ℕ) (e : Bool) (rest : List Bool) → tail (replicate j false ++ true ∷ e ∷ rest) ≡ true ∷ (replicate j false ++ true ∷ tail (e ∷ rest)) }
+    ensures last { (j : ℕ) → tail (replicate j false ++ true ∷ []) ≡ true ∷ replicate j false }
+{}
+
+/// The reach of a plane is the only number with a one just before it and no one from it on; it is 0 where there is no one.
+pub fn reach_of_a_plane()
+    ensures none { (ds : List Bool) (k : ℕ) → reach ds ≤ k → slice_index_or ds k false ≡ false }
+    ensures one { (ds : List Bool) (k : ℕ) → reach ds ≡ suc k → slice_index_or ds k false ≡ true }
+    ensures only { (ds : List Bool) (n : ℕ) → ((k : ℕ) → n ≤ k → slice_index_or ds k false ≡ false) → ((k : ℕ) → n ≡ suc k → slice_index_or ds k false ≡ true) → n ≡ reach ds }
+{}
+
+/// The number of used planes is the only one with a plane that has a one just before it and no such plane from it on.
+pub fn used_planes()
+    ensures none { (ps : List (List Bool)) (k : ℕ) → used ps ≤ k → has_one (slice_index_or ps k []) ≡ false }
+    ensures one { (ps : List (List Bool)) (k : ℕ) → used ps ≡ suc k → has_one (slice_index_or ps k []) ≡ true }
+    ensures only { (ps : List (List Bool)) (n : ℕ) → ((k : ℕ) → n ≤ k → has_one (slice_index_or ps k []) ≡ false) → ((k : ℕ) → n ≡ suc k → has_one (slice_index_or ps k []) ≡ true) → n ≡ used ps }
+{}
+
+/// The code of p planes has at most one bit for each digit, and one more for each rank.
+pub fn length_of_codes()
+    ensures { (size : ℕ) (ps : List (List Bool)) → All (λ ds. length ds ≡ size) ps → length (code ps) ≤ size * length ps + size }
+{}
+
+/// Coefficients of the type and their planes determine one another; planes with no one may be missing below.
+pub fn planes_and_coefficients()
+    ensures coefficients { (w : Width) (d : ℕ) (c : List ℤ) → length c ≡ 4 ^ d → All (λ v. FitsSigned w v) c → coefficients_of w d (planes w d c) ≡ c }
+    ensures used { (w : Width) (d : ℕ) (c : List ℤ) → length c ≡ 4 ^ d → All (λ v. FitsSigned w v) c → coefficients_of w d (take (max 1 (used (planes w d c))) (planes w d c)) ≡ c }
+    ensures planes { (w : Width) (d : ℕ) (ps : List (List Bool)) → length ps ≤ bits w → All (λ ds. length ds ≡ 4 ^ d) ps
+        → planes w d (coefficients_of w d ps) ≡ ps ++ replicate (bits w - length ps) (replicate (4 ^ d) false) }
+{}
