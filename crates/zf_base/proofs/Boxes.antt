@@ -1,10 +1,10 @@
 -- The numbering of the positions of a box.
-use Rattle.std.proofs.Common.{◌≡◌, ℕ, zero, suc, ◌+◌, ◌-◌, ◌*◌, ◌/◌, ◌%◌, ◌^◌, ◌<◌, ◌≤◌, min, true, nat_lt, List, [], ◌∷◌, ◌++◌, length, map, replicate, refl, ap, sym, ◌∙◌, arith, lit<}
+use Rattle.std.proofs.Common.{◌≡◌, ℕ, zero, suc, ◌+◌, ◌-◌, ◌*◌, ◌/◌, ◌%◌, ◌<◌, ◌≤◌, min, true, nat_lt, List, [], ◌∷◌, ◌++◌, length, replicate, refl, ap, arith, lit<}
 use Rattle.std.specs.List.{AllByRecursion}
 use Rattle.std.proofs.lemmas.Bool.{and_parts, and_from, ltb-true, lt-ltb, false≢true}
 use Rattle.std.proofs.lemmas.Nat.{mul-add-lt, div-mul-add, mod-mul-add, mod_below, div_below}
 use Rattle.std.proofs.Math.Nat.{le-mul_of_pos_right, mul-pos}
-use Rattle.zf_spec.specs.Grid.{product, raster, coordinates, is_inside, fours, grid, extents, position_in}
+use Rattle.zf_spec.specs.Grid.{product, raster, coordinates, is_inside, extents}
 use Rattle.zf_base.specs.declared.position.Pos.{Pos}
 use Rattle.zf_base.specs.Positions.{axes}
 
@@ -87,6 +87,15 @@ raster-append_zeros [] ms [] k e = raster-zeros ms k
 raster-append_zeros [] ms (p ∷ ps) k e = absurd (omega arith)
 raster-append_zeros (n ∷ ns) ms [] k e = absurd (omega arith)
 raster-append_zeros (n ∷ ns) ms (p ∷ ps) k e = ap (λ r. p + n * r) (raster-append_zeros ns ms ps k (omega arith))
+
+pub is_inside-append_ones : (ns ps : List ℕ) (k : ℕ) → length ps ≡ length ns → is_inside ns ps ≡ true → is_inside (ns ++ replicate k 1) (ps ++ replicate k 0) ≡ true
+is_inside-append_ones [] [] zero e h = refl
+is_inside-append_ones [] [] (suc k) e h = is_inside-append_ones [] [] k refl refl
+is_inside-append_ones [] (p ∷ ps) k e h = absurd (omega arith)
+is_inside-append_ones (n ∷ ns) [] k e h = absurd (omega arith)
+is_inside-append_ones (n ∷ ns) (p ∷ ps) k e h =
+    let parts = and_parts (nat_lt p n) (is_inside ns ps) h in
+    and_from (nat_lt p n) (is_inside (ns ++ replicate k 1) (ps ++ replicate k 0)) parts.0 (is_inside-append_ones ns ps k (omega arith) parts.1)
 
 pub coordinates-append_ones : (ns : List ℕ) (k b : ℕ) → coordinates (ns ++ replicate k 1) b ≡ coordinates ns b ++ replicate k 0
 coordinates-append_ones [] zero b = refl

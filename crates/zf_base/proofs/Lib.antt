@@ -2,3 +2,5 @@ pub mod Wrapping
 pub mod Boxes
 pub mod Sizes
 pub mod Places
+pub mod Extents
+pub mod Values

@@ -1,11 +1,10 @@
 -- A position is in exactly one block and place: over lists of sizes, of any dimension.
-use Rattle.std.proofs.Common.{◌≡◌, ℕ, zero, suc, ◌+◌, ◌-◌, ◌*◌, ◌/◌, ◌%◌, ◌^◌, ◌<◌, ◌≤◌, min, true, nat_lt, List, [], ◌∷◌, length, map, refl, ap, sym, subst, ◌∙◌, arith}
-use Rattle.std.specs.List.{AllByRecursion}
+use Rattle.std.proofs.Common.{◌≡◌, ℕ, zero, suc, ◌+◌, ◌-◌, ◌*◌, ◌/◌, ◌%◌, ◌^◌, ◌<◌, min, true, nat_lt, List, [], ◌∷◌, length, map, refl, ap, sym, subst, ◌∙◌, arith}
 use Rattle.std.proofs.lemmas.List.{length-map}
 use Rattle.std.proofs.lemmas.Bool.{and_parts, and_from, ltb-true, lt-ltb, false≢true}
-use Rattle.zf_spec.specs.Grid.{product, grid, blocks, raster, coordinates, is_inside, fours, indices, extents, extent_of, position_in}
+use Rattle.zf_spec.specs.Grid.{product, grid, raster, coordinates, is_inside, fours, indices, extents, position_in}
 use Rattle.zf_base.specs.Places.{block_number, place_of, IsAt}
-use Rattle.zf_base.proofs.Boxes.{raster-lt, is_inside-coordinates, raster-coordinates, coordinates-raster, length-coordinates}
+use Rattle.zf_base.proofs.Boxes.{raster-lt, raster-coordinates, coordinates-raster, length-coordinates}
 
 pub product-fours : (d : ℕ) → product (fours d) ≡ 4 ^ d
 product-fours zero = refl

@@ -22,10 +22,6 @@ with_unused n ns = record {
   w = slice_index_or ns 3 n;
 }
 
--- what is made of equal parts is equal
-pub same_from_parts : {X : Type 0} (f : ℕ → Pos → X) (d e : ℕ) (p q : Pos) → d ≡ e → p ≡ q → f e q ≡ f d p
-same_from_parts f d e p q same_d same_p = cc
-
 -- sizes as a shape keeps them: those along its d axes are a shape's, and the others are 1
 pub record IsShapeOf (d : ℕ) (sizes : Pos) : Type 0 where
   pub shape : IsShape (used d sizes)

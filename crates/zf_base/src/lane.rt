@@ -7,7 +7,8 @@ ghost use Rattle.std.proofs.lemmas.Bool.Decides.{Decides-int_eq};
 ghost use mir.Val.{bits};
 ghost use Rattle.zf_spec.specs.Numbers.{wrap, floor_half};
 ghost use Rattle.zf_base.specs.declared.lane.Ty.{Ty};
-ghost use Rattle.zf_base.specs.Widths.{width_of, IsSigned, FitsSigned-bounds};
+ghost use Rattle.zf_base.specs.Widths.{width_of, IsSigned};
+ghost use Rattle.zf_base.specs.Lemmas.{FitsSigned-bounds};
 
 /// The type of the values of an array.
 #[derive(Clone, Copy, Debug, PartialEq, Eq)]
@@ -18,9 +19,10 @@ pub enum Ty {
 
 /// A type of values: `i32` or `i64`, seen as the whole number that it holds.
 ///
-/// Its sums, differences and doublings wrap, as zfp 1.0 leaves to C and this project settles.
+/// Sums, differences and doublings wrap, which is this project's own choice: zfp leaves them to C, where an overflow is
+/// undefined. Each call that takes a value tells that its number is one of the type's.
 pub trait Lane: Copy + Eq {
-    /// How many bits the type has.
+    /// How many bits the type has: 32 or 64.
     const WIDTH: u32;
 
     /// Which of the two types it is.
@@ -86,21 +88,25 @@ pub trait Lane: Copy + Eq {
     /// The number `v`, or nothing where the type does not have it.
     fn from_wide(v: i128) -> Option<Self>
         ensures taken { IsSome result ↔ in_range v }
-        ensures value { IfSome result (λ a. value a ≡ v) };
+        ensures value { IfSome result (λ a. value a ≡ v) }
+        ensures in_type { IfSome result (λ a. in_range (value a)) };
 
-    ghost sized: { (width ≡ w32) ⊎ (width ≡ w64) };
+    // Laws. There are two widths, which the constants say too.
+    ghost two_widths: { (width ≡ w32) ⊎ (width ≡ w64) };
 
     ghost bits_of_width: { WIDTH ≡ bits width };
 
-    ghost ty_of_width: { width ≡ width_of TY };
+    ghost width_of_type: { width ≡ width_of TY };
 
+    // A value is its number, and `==` compares the numbers.
     ghost same_value: { (a b : Self) → value a ≡ value b → a ≡ b };
 
     ghost equal_values: { (a b : Self) → (Self.eq a b ≡ true) ↔ (value a ≡ value b) };
 
-    ghost fits: { (n : ℤ) → in_range n ↔ FitsSigned width n };
+    // The numbers of the type are those of its width, from -2^(WIDTH - 1) to 2^(WIDTH - 1) - 1.
+    ghost in_range_fits: { (n : ℤ) → in_range n ↔ FitsSigned width n };
 
-    ghost bounds: { (n : ℤ) → in_range n ↔ IsSigned WIDTH n };
+    ghost in_range_bounds: { (n : ℤ) → in_range n ↔ IsSigned WIDTH n };
 }
 
 #[tactic(auto, using(std::proofs::lemmas::Int::wraps))]
@@ -119,19 +125,19 @@ impl Lane for i32 {
 
     ghost in_range = { FitsSigned w32 };
 
-    ghost sized = { inl refl };
+    ghost two_widths = { inl refl };
 
     ghost bits_of_width = { refl };
 
-    ghost ty_of_width = { refl };
+    ghost width_of_type = { refl };
 
     ghost same_value = { λ a b h. h };
 
     ghost equal_values = { Decides-int_eq };
 
-    ghost fits = { λ n. (λ h. h, λ h. h) };
+    ghost in_range_fits = { λ n. (λ h. h, λ h. h) };
 
-    ghost bounds = { FitsSigned-bounds w32 };
+    ghost in_range_bounds = { FitsSigned-bounds w32 };
 
     fn zero() -> i32 {
         0
@@ -187,19 +193,19 @@ impl Lane for i64 {
 
     ghost in_range = { FitsSigned w64 };
 
-    ghost sized = { inr refl };
+    ghost two_widths = { inr refl };
 
     ghost bits_of_width = { refl };
 
-    ghost ty_of_width = { refl };
+    ghost width_of_type = { refl };
 
     ghost same_value = { λ a b h. h };
 
     ghost equal_values = { Decides-int_eq };
 
-    ghost fits = { λ n. (λ h. h, λ h. h) };
+    ghost in_range_fits = { λ n. (λ h. h, λ h. h) };
 
-    ghost bounds = { FitsSigned-bounds w64 };
+    ghost in_range_bounds = { FitsSigned-bounds w64 };
 
     fn zero() -> i64 {
         0

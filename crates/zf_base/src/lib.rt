@@ -5,6 +5,8 @@ mod lane;
 pub mod laws;
 mod position;
 mod shape;
+#[cfg(test)]
+mod tests;
 
 pub use lane::{Lane, Ty};
 pub use position::{Extent, Pos};

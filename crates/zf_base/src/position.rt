@@ -1,6 +1,6 @@
 //! Positions and extents, and the numbering of the positions of a box.
 
-ghost use Rattle.std.specs.Prelude.{◌≡◌, ◌≤◌, ◌<◌, ◌^◌, true, nat_lt, ◌==◌};
+ghost use Rattle.std.specs.Prelude.{◌≡◌, ◌≤◌, ◌<◌, ◌^◌, ◌/◌, ◌%◌, true, map, nat_lt, ◌==◌};
 ghost use Rattle.std.specs.List.{AllByRecursion, list_any};
 ghost use Rattle.zf_spec.specs.Grid.{product, raster, coordinates, is_inside};
 ghost use Rattle.zf_base.specs.Positions.{axes, used, with_unused};
@@ -57,6 +57,30 @@ impl Pos {
         self.x > most || self.y > most || self.z > most || self.w > most
     }
 
+    /// The block of this position, by its coordinates among the blocks.
+    pub(crate) fn block(self) -> Pos
+        ensures { axes result ≡ map (λ p. p / 4) (axes self) }
+    {
+        Pos {
+            x: self.x / 4,
+            y: self.y / 4,
+            z: self.z / 4,
+            w: self.w / 4,
+        }
+    }
+
+    /// The indices of this position in its block.
+    pub(crate) fn indices(self) -> Pos
+        ensures { axes result ≡ map (λ p. p % 4) (axes self) }
+    {
+        Pos {
+            x: self.x % 4,
+            y: self.y % 4,
+            z: self.z % 4,
+            w: self.w % 4,
+        }
+    }
+
     /// The number of positions of a box of these sizes.
     pub(crate) fn product(&self) -> u64
         requires not_zero { AllByRecursion (λ n. 1 ≤ n) (axes self.now) }
@@ -78,7 +102,8 @@ impl Pos {
     /// The position with this number of a box of these sizes.
     pub(crate) fn coordinates(&self, number: u64) -> Pos
         requires { AllByRecursion (λ n. 1 ≤ n) (axes self.now) }
-        ensures { axes result ≡ coordinates (axes self.now) number }
+        ensures value { axes result ≡ coordinates (axes self.now) number }
+        ensures bound { AllByRecursion (λ c. c ≤ number) (axes result) }
     {
         let rows = number / self.x;
         let slices = rows / self.y;

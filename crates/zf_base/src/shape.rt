@@ -1,17 +1,25 @@
 //! The shape of an array: its sizes, and how it is cut into blocks.
 
-ghost use Rattle.std.specs.Prelude.{◌≡◌, ℕ, ◌+◌, ◌-◌, ◌*◌, ◌/◌, ◌%◌, ◌^◌, ◌<◌, ◌≤◌, ◌↔◌, List, [], ◌∷◌, length, take, map, slice_index_or, IsTrue, IsOk, IfOk};
+ghost use Rattle.std.specs.Prelude.{◌≡◌, ℕ, ◌+◌, ◌-◌, ◌*◌, ◌/◌, ◌%◌, ◌^◌, ◌<◌, ◌≤◌, ◌↔◌, min, List, [], ◌∷◌, length, take, map, slice_index_or, IsTrue, IsOk, IfOk};
 ghost use Rattle.std.specs.Result.{result_err};
 ghost use Rattle.zf_spec.specs.Grid.{IsShape, max_values, product, grid, blocks, coordinates, extent_of};
 ghost use Rattle.zf_base.specs.Positions.{used, with_unused, IsPosition, IsExtent};
 ghost use Rattle.zf_base.specs.Shapes.{shape_fault};
-ghost use Rattle.zf_base.specs.Places.{block_number, place_of};
+ghost use Rattle.zf_base.specs.Places.{block_number, place_of, IsAt};
 
 use crate::position::{Extent, Pos};
 use std::marker::Model;
 
 /// The most values of an array, 1 GiB of int64.
 const MAX_VALUES: u64 = 1 << 27;
+
+// The sizes of a block.
+const BLOCK: Pos = Pos {
+    x: 4,
+    y: 4,
+    z: 4,
+    w: 4,
+};
 
 /// Why sizes are no shape.
 #[derive(Clone, Copy, Debug, PartialEq, Eq)]
@@ -34,7 +42,8 @@ pub struct Shape {
 
 impl Model for Shape {
     ghost use Rattle.std.specs.Prelude.{ℕ, List, length};
-    ghost use Rattle.zf_base.specs.Positions.{used, with_unused, IsShapeOf, same_from_parts};
+    ghost use Rattle.zf_base.specs.Positions.{used, with_unused, IsShapeOf};
+    ghost use Rattle.zf_base.specs.Lemmas.{same_from_parts};
 
     ghost Value = { List ℕ };
 
@@ -114,6 +123,52 @@ impl Shape {
         self.grid().product()
     }
 
+    /// Whether a position is one of the array's.
+    pub fn contains(&self, p: Pos) -> bool
+        ensures { IsTrue result ↔ IsPosition self.now p }
+    {
+        p.x < self.sizes.x && p.y < self.sizes.y && p.z < self.sizes.z && p.w < self.sizes.w
+    }
+
+    /// The number of the block that a position lies in, and its place there.
+    ///
+    /// Blocks are numbered x fastest, and so are the `4^d` places of a block (Lindstrom 2014, section 3).
+    pub fn place(&self, p: Pos) -> (u64, usize)
+        requires { IsPosition self.now p }
+        ensures block { result.0 ≡ block_number self.now (used (length self.now) p) }
+        ensures place { result.1 ≡ place_of (used (length self.now) p) }
+        ensures at { IsAt self.now (used (length self.now) p) result.0 result.1 }
+    {
+        let block = self.grid().raster(&p.block());
+        let place = BLOCK.raster(&p.indices());
+        (block, place as usize)
+    }
+
+    /// The part of block `b` that lies in the array.
+    pub fn extent(&self, b: u64) -> Extent
+        requires { b < blocks self.now }
+        ensures origin { result.origin
+            ≡ with_unused 0 (map (λ c. 4 * c) (coordinates (grid self.now) b)) }
+        ensures size { result.size ≡ with_unused 1 (extent_of self.now b) }
+        ensures extent { IsExtent (length self.now) result }
+        ensures used_size { used (length self.now) result.size ≡ extent_of self.now b }
+    {
+        let block = self.grid().coordinates(b);
+        let origin = Pos {
+            x: 4 * block.x,
+            y: 4 * block.y,
+            z: 4 * block.z,
+            w: 4 * block.w,
+        };
+        let size = Pos {
+            x: extent_along(self.sizes.x, origin.x),
+            y: extent_along(self.sizes.y, origin.y),
+            z: extent_along(self.sizes.z, origin.z),
+            w: extent_along(self.sizes.w, origin.w),
+        };
+        Extent { origin, size }
+    }
+
     // How many blocks there are along each axis.
     fn grid(&self) -> Pos
         ensures value { result ≡ with_unused 1 (grid self.now) }
@@ -142,4 +197,12 @@ fn blocks_along(size: u64) -> u64
     ensures { result ≡ (size + 3) / 4 }
 {
     size.div_ceil(4)
+}
+
+// How many values of a block that begins at `origin` exist along an axis of this size.
+fn extent_along(size: u64, origin: u64) -> u64
+    requires { origin ≤ size }
+    ensures { result ≡ min 4 (size - origin) }
+{
+    (size - origin).min(4)
 }

@@ -2,7 +2,7 @@
 use Rattle.std.proofs.Common.{◌≡◌, ℕ, suc, zero, ◌+◌, ◌*◌, ◌/◌, ◌%◌, ◌^◌, ◌<◌, ◌≤◌, Bool, true, false, List, [], ◌∷◌, ◌++◌, length, get_or, take, drop, replicate, refl, ap, sym, subst, ◌∙◌, arith}
 use Rattle.std.proofs.Math.Nat.{pow-suc, pow-succ', mul_assoc, mod-eq_of_lt}
 use Rattle.std.proofs.lemmas.Bool.Decides.{nat_tests}
-use Rattle.std.proofs.lemmas.Nat.{shr-shr, mod-pow-add}
+use Rattle.std.proofs.lemmas.Nat.{shr-shr, mod-pow-add, mod_low, mod_below, pow_pos}
 use Rattle.std.proofs.lemmas.List.{take_at, drop_at}
 use Rattle.std.specs.Int.{from_bool}
 use Rattle.zf_spec.specs.Numbers.{is_odd, digit_value, field, number}
@@ -53,7 +53,7 @@ pub number_lt : (bits : List Bool) → number bits < 2 ^ length bits
 number_lt [] = omega arith
 number_lt (b ∷ bits) = omega (arith, number_lt bits, digit_value_le b, pow-suc 2 (length bits))
 
--- a field keeps its number exactly where it is wide enough
+-- a field that is wide enough keeps its number
 pub number-field_whole : (n v : ℕ) → v < 2 ^ n → number (field n v) ≡ v
 number-field_whole n v h = number-field n v ∙ mod-eq_of_lt h
 
@@ -100,9 +100,16 @@ number-append (x ∷ xs) ys =
 
 -- ---- what a field does not see
 
--- the bits from n on
-pub field-mod : (n v : ℕ) → field n (v % 2 ^ n) ≡ field n v
-field-mod n v = rw (← number-field n v) (field-number_at n (field n v) (length-field n v))
+-- the bits from n on, and so what a wider word drops
+pub field-mod : (n k v : ℕ) → field n (v % 2 ^ (n + k)) ≡ field n v
+field-mod n k v =
+    let word = v % 2 ^ (n + k) in
+    let order : k + n ≡ n + k = omega arith in
+    let parts : word ≡ (v / 2 ^ n % 2 ^ k) * 2 ^ n + v % 2 ^ n = ap (λ j. v % 2 ^ j) (sym order) ∙ mod-pow-add v k n in
+    let same : word % 2 ^ n ≡ v % 2 ^ n =
+    ap (λ u. u % 2 ^ n) parts ∙ mod_low (v / 2 ^ n % 2 ^ k) n (v % 2 ^ n) (mod_below v (2 ^ n) (pow_pos n)) in
+    let count = length-field n word in
+    same_from_number (field n word) (field n v) (count ∙ sym (length-field n v)) (number-field n word ∙ same ∙ sym (number-field n v))
 
 pub field-zero : (n : ℕ) → field n 0 ≡ replicate n false
 field-zero zero = refl

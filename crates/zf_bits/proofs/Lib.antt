@@ -2,10 +2,10 @@
 --     Fields       the bits of a number, and the number of bits
 --     Words        the bits of words, and of bytes
 --     Appending    one append after another, and the fill
---     Passing      one read after another
+--     Reading      one read after another
 --     Packed       the bits of bytes are the bits of their words
 pub mod Fields
 pub mod Words
 pub mod Appending
-pub mod Passing
+pub mod Reading
 pub mod Packed

@@ -1,9 +1,9 @@
 -- The bits of bytes are the bits of their words, and then zeros.
-use Rattle.std.proofs.Common.{◌≡◌, ℕ, zero, suc, ◌+◌, ◌-◌, ◌*◌, ◌%◌, ◌^◌, ◌<◌, ◌≤◌, false, List, [], ◌∷◌, ◌++◌, length, get_or, drop, replicate, min, refl, sym, ap, ◌∙◌, arith, append_assoc, length-append, length-drop, lit<}
+use Rattle.std.proofs.Common.{◌≡◌, ℕ, zero, suc, ◌+◌, ◌-◌, ◌*◌, ◌%◌, ◌^◌, ◌<◌, ◌≤◌, false, List, [], ◌∷◌, ◌++◌, length, get_or, take, drop, replicate, min, refl, sym, ap, ◌∙◌, arith, append_assoc, length-append, length-drop, lit<}
 use Rattle.std.specs.List.{flat_map}
 use Rattle.std.specs.Int.{w64, byte_worth, sum_through, div_ceil, from_le_bytes}
 use Rattle.std.proofs.Math.Nat.{pow-suc, mul-suc, mod-eq_of_lt}
-use Rattle.std.proofs.lemmas.List.{append-nil, drop_all, drop_at, get_or-drop, replicate-append-replicate}
+use Rattle.std.proofs.lemmas.List.{append-nil, take_at, drop_all, drop_at, get_or-drop, replicate-append-replicate}
 use Rattle.std.proofs.lemmas.List.Concat.{flat_map-append}
 use Rattle.zf_spec.specs.Numbers.{field, number, word_bits}
 use Rattle.zf_spec.specs.Stream.{first_bytes, filled, to_bits}
@@ -111,6 +111,18 @@ word_bits-words_of s bytes =
     let n = div_ceil (length s) 8 in
     let zeros : 64 * n - 8 * length s ≡ (64 - length (to_bits s) % 64) % 64 = omega (arith, length-to_bits s) in
     word_bits-words_from n s (omega arith) bytes ∙ ap (λ k. to_bits s ++ replicate k false) zeros
+
+-- the bits of the bytes alone, as a reader takes them
+pub take-word_bits-words_of : (s : List ℕ) → ((i : ℕ) → get_or s i 0 < 256) → take (8 * length s) (word_bits (words_of s)) ≡ to_bits s
+take-word_bits-words_of s bytes =
+    ap (take (8 * length s)) (word_bits-words_of s bytes) ∙ take_at (to_bits s) _ (8 * length s) (length-to_bits s)
+
+length-words_from : (n : ℕ) (s : List ℕ) → length (words_from n s) ≡ n
+length-words_from zero s = refl
+length-words_from (suc n) s = ap suc (length-words_from n (drop 8 s))
+
+pub length-words_of : (s : List ℕ) → length (words_of s) ≡ div_ceil (length s) 8
+length-words_of s = length-words_from (div_ceil (length s) 8) s
 
 -- ---- one piece more
 

@@ -11,6 +11,6 @@ pub record Appends (old new : Writer) (more : List Bool) : Type 0 where
   pub bits : new.bits ≡ old.bits ++ more
   pub room : old.room ≤ new.room + length more
 
--- the zero bits that lead to a whole word of 64: none after a whole word (zfp 1.0 documentation, low-level API: stream_pad)
+-- the zero bits that lead to a whole word of 64: none after a whole word (zfp 1.0 documentation, bit stream)
 abbrev pub fill : List Bool → List Bool
 fill bs = replicate ((64 - length bs % 64) % 64) false

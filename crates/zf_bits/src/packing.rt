@@ -1,5 +1,6 @@
 //! Bytes as words of 64.
-ghost use Rattle.std.specs.Prelude.{◌≡◌, ◌≤◌, length, IfOk};
+ghost use Rattle.std.specs.Prelude.{◌≡◌, ◌≤◌, length, vec_len, IfOk};
+ghost use Rattle.std.specs.Int.{div_ceil};
 ghost use Rattle.zf_spec.specs.Numbers.{word_bits};
 ghost use Rattle.zf_spec.specs.Stream.{filled, to_bits};
 ghost use Rattle.zf_bits.specs.Packing.{word_of, words_of};
@@ -10,6 +11,7 @@ use std::alloc::{AllocError, Global};
 ///
 /// Bit i of the words is then bit `i % 8` of byte `i / 8` (zfp 1.0 documentation, bit stream).
 pub fn words_of_bytes(alloc: Global, bytes: &[u8]) -> Result<Vec<u64>, AllocError>
+    ensures len { IfOk result (λ words. vec_len words ≡ div_ceil (length bytes.now) 8) }
     ensures words { IfOk result (λ words. words.items ≡ words_of bytes.now) }
     ensures bits { IfOk result (λ words. word_bits words.items ≡ filled (to_bits bytes.now)) }
 {

@@ -6,12 +6,14 @@ ghost use Rattle.zf_bits.specs.Writer.{Appends, fill};
 use std::alloc::{AllocError, Global};
 use std::marker::Model;
 
-/// Bits, appended at the end. Contracts see the bits written and the spare room, which is counted in bits.
+/// Bits, appended at the end. Contracts see the bits written and the spare room, both counted in bits.
 ///
-/// Memory is asked for in [`BitWriter::reserve`] and [`BitWriter::write`] alone: reserve first, and the
-/// `_reserved` calls cannot fail.
+/// A field is appended least significant bit first (zfp 1.0 documentation, bit stream). Only
+/// [`BitWriter::reserve`] and [`BitWriter::write`] ask for memory; where there is none they answer
+/// `AllocError`, and the writer may be used on. Reserve first, and the other calls cannot fail.
 #[derive(Debug, Drop)]
 pub struct BitWriter {
+    // one element a bit
     bits: Vec<bool>,
 }
 
@@ -103,7 +105,7 @@ impl BitWriter {
         self.bits.push_reserved(bit);
     }
 
-    /// Appends zero bits up to the next multiple of 64, and none where the length is one.
+    /// Appends zero bits up to the next multiple of 64, and none where the length is a multiple already.
     pub fn pad_to_word(&mut self)
         requires { length (fill self.old.bits) ≤ self.old.room }
         ensures bits { Appends self.old self.new (fill self.old.bits) }

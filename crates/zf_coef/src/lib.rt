@@ -1,13 +1,12 @@
-// A library with one function.
+//! The coefficients of a block: their order, their negabinary digits and their bit planes.
 #![tactic(auto)]
 
-ghost use Rattle.std.specs.Prelude.{◌≡◌};
-ghost use Rattle.zf_coef.specs.Echo.{echo_of};
+mod negabinary;
+mod places;
+mod planes;
+mod ranks;
 
-// The `ensures` clause is the contract: what `echo` returns is `echo_of` of its argument, a definition
-// in `specs/Echo.antt`, which a caller's clause can cite too.
-pub fn echo(x: usize) -> usize
-    ensures { result ≡ echo_of x }
-{
-    x
-}
+pub use negabinary::{from_digits, to_digits};
+pub use places::order;
+pub use planes::{from_planes, to_planes};
+pub use ranks::{ranked, unranked};

@@ -10,7 +10,7 @@ use crate::{Failed, Sink, Source};
 use std::alloc::Global;
 use std::marker::Model;
 
-/// A source that gives bytes from memory, and fails at the calls that it was told.
+/// A source that gives bytes from memory, and fails at the calls that it was told to.
 #[derive(Debug, Drop)]
 pub struct MemSource {
     bytes: Vec<u8>,
@@ -115,7 +115,7 @@ impl Source for MemSource {
     }
 }
 
-/// A sink that keeps the bytes in memory, and fails at the calls that it was told.
+/// A sink that keeps the bytes in memory, and fails at the calls that it was told to and where memory runs out.
 #[derive(Debug, Drop)]
 pub struct MemSink {
     bytes: Vec<u8>,

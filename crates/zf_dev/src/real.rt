@@ -8,10 +8,12 @@ use std::io::{ErrorKind, Read, Write};
 use std::marker::Model;
 use std::rt::{Stdin, Stdout};
 
-/// How many bytes one read takes at most.
+// How many bytes one read takes at most.
 const PIECE: usize = 4096;
 
 /// Standard input as a source. It takes no more than it is asked for, so what is left is for the next program.
+///
+/// A read that a signal interrupts is begun again. Each other error is a fault.
 #[derive(Debug, Drop)]
 pub struct RealSource<R = Stdin> {
     stream: R,
@@ -70,7 +72,9 @@ impl<R: Read> Source for RealSource<R> {
     }
 }
 
-/// Standard output or standard error as a sink.
+/// Standard output or standard error as a sink, with no buffer.
+///
+/// A write that a signal interrupts is begun again. Each other error is a fault, and so is a write that takes no byte.
 #[derive(Debug, Drop)]
 pub struct RealSink<W = Stdout> {
     stream: W,

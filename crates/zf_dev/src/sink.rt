@@ -22,7 +22,7 @@ pub trait Sink {
         ensures cause { HasCause (faults self.old) (faults self.new) result };
 }
 
-/// Writes all of `bytes`.
+/// Writes all of `bytes`. After a fault a front of them is written, but not all.
 pub fn write_all<O: Sink>(out: &mut O, bytes: &[u8]) -> Result<(), Failed>
     ensures all { OnOk result (Appends (O.contents out.old) (O.contents out.new) bytes.now) }
     ensures part { OnErr result (AppendsPart (O.contents out.old) (O.contents out.new) bytes.now) }

@@ -15,7 +15,7 @@ pub trait Source {
     /// No call fails from here on.
     ghost never_fails: { Self → Type 0 };
 
-    /// Reads some of the next bytes into the front of `buf`. 0 bytes are the end of the stream.
+    /// Reads some of the next bytes into the front of `buf`, and says how many. 0 is the end of the stream.
     fn read(&mut self, buf: &mut [u8]) -> Result<usize, Failed>
         requires { 0 < length buf.old }
         ensures bound { IfOk result (λ n. n ≤ length buf.old) }
@@ -27,13 +27,16 @@ pub trait Source {
         ensures sure { never_fails self.old → IsOk result × never_fails self.new };
 }
 
-/// Reads until `buf` is full or the source is at its end, and says how many bytes that were.
+/// Reads until `buf` is full or the source is at its end, and says how many bytes it read.
+///
+/// After a fault the bytes read so far can't be told from what stood in `buf` before.
 pub fn fill<S: Source>(src: &mut S, buf: &mut [u8]) -> Result<usize, Failed>
     ensures bound { IfOk result (λ n. n ≤ length buf.old) }
     ensures taken { IfOk result (λ n. Takes (S.contents src.old) (S.contents src.new) (take n buf.new)) }
     ensures rest { IfOk result (λ n. drop n buf.new ≡ drop n buf.old) }
     ensures filled { IfOk result (λ n. IsFill (S.contents src.old) (length buf.old) n) }
     ensures end { IfOk result (λ n. n < length buf.old → IsAtEnd (S.contents src.new)) }
+    // After a fault, some of the next bytes are gone, at most as many as there was room for.
     ensures lost { OnErr result (TakesAtMost (S.contents src.old) (S.contents src.new) (length buf.old)) }
     ensures cause { HasCause (S.faults src.old) (S.faults src.new) result }
     ensures sure { S.never_fails src.old → IsOk result × S.never_fails src.new }

@@ -1,11 +1,13 @@
 -- The padded block and the values that exist.
-use Rattle.std.proofs.Common.{◌≡◌, refl, sym, ap, subst, ◌∙◌, ℕ, zero, suc, ◌+◌, ◌*◌, ◌/◌, ◌%◌, ◌^◌, ◌<◌, ◌≤◌, Bool, true, false, cond, ltb, ltb-true, lt-ltb, ℤ, pos, List, [], ◌∷◌, length, get_or, All, ⊎_elim, pow-suc, arith}
+use Rattle.std.proofs.Common.{◌≡◌, refl, sym, ap, subst, ◌∙◌, ℕ, zero, suc, ◌+◌, ◌*◌, ◌/◌, ◌%◌, ◌^◌, ◌<◌, ◌≤◌, Bool, true, false, cond, ltb, ltb-true, lt-ltb, ℤ, pos, FitsSigned, List, [], ◌∷◌, length, get_or, All, ⊎_elim, pow-suc, arith}
 use Rattle.std.proofs.lemmas.Bool.{and_from, and_parts, cases_lt}
 use Rattle.std.proofs.lemmas.List.{get_or_past}
 use Rattle.std.proofs.lemmas.List.Elements.{All-head, All-tail, All-get_or, All-from_get_or}
+use Rattle.std.specs.Int.{Width}
 use Rattle.zf_spec.specs.Grid.{indices, is_inside}
 use Rattle.zf_spec.specs.Padding.{sources, source_place, pad}
 use Rattle.zf_spec.specs.Codes.{existing}
+use Rattle.zf_spec.proofs.Wrapping.{zero_fits}
 use Rattle.zf_spec.proofs.Counting.{length-map-upto, get_or-map-upto, map-upto_same}
 
 -- extents of a block: from 1 to 4 along each axis
@@ -156,3 +158,10 @@ All-existing P es block z all =
     by : (p : ℕ) (t : Bool) → P (cond t (get_or block p (pos 0)) (pos 0))
     by p true = get_or_all P block p z all
     by p false = z
+
+-- the padded block of values of the type has values of the type, and so have the existing values
+pub pad_fits : (w : Width) (es : List ℕ) (block : List ℤ) → All (λ v. FitsSigned w v) block → All (λ v. FitsSigned w v) (pad es block)
+pad_fits w es block all = All-pad (λ v. FitsSigned w v) es block (zero_fits w) all
+
+pub existing_fits : (w : Width) (es : List ℕ) (block : List ℤ) → All (λ v. FitsSigned w v) block → All (λ v. FitsSigned w v) (existing es block)
+existing_fits w es block all = All-existing (λ v. FitsSigned w v) es block (zero_fits w) all

@@ -77,5 +77,12 @@ same_value w u v f g (negsuc q, e) = absurd (omega (arith, ints, e, bits_is_half
 pub wrap_only : (w : Width) (n v : ℤ) → FitsSigned w v → IsSameModulo (bits w) v n → v ≡ wrap w n
 wrap_only w n v f h = same_value w v (wrap w n) f (wrap_fits w n) (same_modulo_trans (bits w) v n (wrap w n) h (same_modulo_sym (bits w) (wrap w n) n (wrap_is_same w n)))
 
+-- a value of the type is not changed
+pub wrap_value : (w : Width) (v : ℤ) → FitsSigned w v → wrap w v ≡ v
+wrap_value w v f = sym (wrap_only w v v f (same_modulo_refl (bits w) v))
+
+pub zero_fits : (w : Width) → FitsSigned w (pos 0)
+zero_fits w = record { sfits = pow_pos (hbits w) }
+
 pub wrap_from_same : (w : Width) (m n : ℤ) → IsSameModulo (bits w) m n → wrap w m ≡ wrap w n
 wrap_from_same w m n h = wrap_only w n (wrap w m) (wrap_fits w m) (same_modulo_trans (bits w) (wrap w m) m n (wrap_is_same w m) h)

@@ -1,10 +1,12 @@
 //! Laws of the places of a block: their order, padding and the reversible transform.
 
-ghost use Rattle.std.specs.Prelude.{◌≡◌, ℕ, ◌^◌, ◌<◌, ◌≤◌, ℤ, true, List, length, slice_index_or, ◌==◌, All, IsPermutation};
+ghost use Rattle.std.specs.Prelude.{◌≡◌, ℕ, ◌^◌, ◌<◌, ◌≤◌, ℤ, true, List, length, slice_index_or, ◌==◌, FitsSigned, All, IsPermutation};
 ghost use Rattle.std.specs.List.{position_or_len};
+ghost use Rattle.std.specs.Int.{Width};
 ghost use Rattle.zf_spec.specs.Grid.{product, coordinates, raster, is_inside, places};
 ghost use Rattle.zf_spec.specs.Padding.{pad};
 ghost use Rattle.zf_spec.specs.Codes.{existing};
+ghost use Rattle.zf_spec.specs.Lorenzo.{lorenzo, unlorenzo};
 ghost use Rattle.zf_spec.specs.Ranks.{order, Rises, ranked, unranked};
 
 /// A position in a box and its raster number, below the number of positions, determine one another.
@@ -19,6 +21,7 @@ pub fn positions_and_raster_numbers()
 pub fn padded_blocks()
     ensures whole { (es : List ℕ) (block : List ℤ) → length (pad es block) ≡ 4 ^ length es }
     ensures kept { (es : List ℕ) (block : List ℤ) → All (λ e. (1 ≤ e) × (e ≤ 4)) es → existing es (pad es block) ≡ existing es block }
+    ensures fit { (w : Width) (es : List ℕ) (block : List ℤ) → All (λ v. FitsSigned w v) block → All (λ v. FitsSigned w v) (pad es block) }
     ensures only { (es : List ℕ) (a b : List ℤ) → All (λ e. (1 ≤ e) × (e ≤ 4)) es → existing es a ≡ existing es b → pad es a ≡ pad es b }
 {}
 
@@ -35,4 +38,12 @@ pub fn ranks_and_places()
     ensures rank { (d p : ℕ) → p < 4 ^ d → slice_index_or (order d) (position_or_len (λ q. q == p) (order d)) 0 ≡ p }
     ensures by_place { (d : ℕ) (block : List ℤ) → length block ≡ 4 ^ d → unranked d (ranked d block) ≡ block }
     ensures by_rank { (d : ℕ) (values : List ℤ) → length values ≡ 4 ^ d → ranked d (unranked d values) ≡ values }
+{}
+
+/// The reversible transform and its inverse undo each other, at each block of values of the type.
+pub fn reversible_transform()
+    ensures back { (w : Width) (d : ℕ) (block : List ℤ) → length block ≡ 4 ^ d → All (λ v. FitsSigned w v) block → unlorenzo w d (lorenzo w d block) ≡ block }
+    ensures forth { (w : Width) (d : ℕ) (block : List ℤ) → length block ≡ 4 ^ d → All (λ v. FitsSigned w v) block → lorenzo w d (unlorenzo w d block) ≡ block }
+    ensures whole { (w : Width) (d : ℕ) (block : List ℤ) → length (lorenzo w d block) ≡ 4 ^ d }
+    ensures fit { (w : Width) (d : ℕ) (block : List ℤ) → All (λ v. FitsSigned w v) (lorenzo w d block) }
 {}

@@ -9,6 +9,7 @@ ghost use Rattle.zf_spec.specs.Numbers.{wrap, IsSameModulo, floor_half, digits_s
 pub fn wrapped_numbers()
     ensures fits { (w : Width) (n : ℤ) → FitsSigned w (wrap w n) }
     ensures same { (w : Width) (n : ℤ) → IsSameModulo (bits w) (wrap w n) n }
+    ensures value { (w : Width) (v : ℤ) → FitsSigned w v → wrap w v ≡ v }
     ensures only { (w : Width) (n v : ℤ) → FitsSigned w v → IsSameModulo (bits w) v n → v ≡ wrap w n }
 {}
 

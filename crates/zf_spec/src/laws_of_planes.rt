@@ -1,9 +1,10 @@
 //! Laws of planes, of their code, and of the coefficients that they are the digits of.
 
-ghost use Rattle.std.specs.Prelude.{◌≡◌, ℕ, suc, ◌+◌, ◌-◌, ◌*◌, ◌^◌, ◌≤◌, max, ℤ, Bool, true, false, List, [], ◌∷◌, ◌++◌, length, take, replicate, slice_index_or, FitsSigned, All};
+ghost use Rattle.std.specs.Prelude.{◌≡◌, ℕ, suc, ◌+◌, ◌-◌, ◌*◌, ◌^◌, ◌<◌, ◌≤◌, max, ℤ, Bool, true, false, List, [], ◌∷◌, ◌++◌, length, take, replicate, slice_index_or, FitsSigned, All};
 ghost use Rattle.std.specs.Int.{Width};
 ghost use mir.Val.{bits};
 ghost use Rattle.zf_spec.specs.Planes.{has_one, reach, tail, code, used};
+ghost use Rattle.zf_spec.specs.Kept.{kept_tail};
 ghost use Rattle.zf_spec.specs.Codes.{planes, coefficients_of};
 
 /// The code of the digits from some rank on: of none, of zeros only, and where the first one stands after j zeros, whether something follows it or not.
@@ -12,6 +13,18 @@ pub fn cases_of_a_tail()
     ensures zeros { (n : ℕ) → tail (replicate (suc n) false) ≡ false ∷ [] }
     ensures one { (j : ℕ) (e : Bool) (rest : List Bool) → tail (replicate j false ++ true ∷ e ∷ rest) ≡ true ∷ (replicate j false ++ true ∷ tail (e ∷ rest)) }
     ensures last { (j : ℕ) → tail (replicate j false ++ true ∷ []) ≡ true ∷ replicate j false }
+{}
+
+/// What r bits keep of the digits from some rank on: nothing where r is 0 or there is no one; else the run of the first one, after j zeros, and
+/// what the other bits keep of what follows, where its bits are left; and else a one in the place where the run is cut.
+pub fn cases_of_a_kept_tail()
+    ensures no_bit { (ds : List Bool) → kept_tail 0 ds ≡ replicate (length ds) false }
+    ensures no_one { (r : ℕ) (ds : List Bool) → has_one ds ≡ false → kept_tail r ds ≡ replicate (length ds) false }
+    ensures whole { (r j : ℕ) (e : Bool) (rest : List Bool) → j + 2 ≤ r → kept_tail r (replicate j false ++ true ∷ e ∷ rest) ≡ replicate j false ++ true ∷ kept_tail (r - (j + 2)) (e ∷ rest) }
+    ensures cut { (r j : ℕ) (e : Bool) (rest : List Bool) → 1 ≤ r → r < j + 2
+        → kept_tail r (replicate j false ++ true ∷ e ∷ rest) ≡ replicate (r - 1) false ++ true ∷ replicate (j + 2 - r + length rest) false }
+    ensures last { (r j : ℕ) → j + 1 ≤ r → kept_tail r (replicate j false ++ true ∷ []) ≡ replicate j false ++ true ∷ [] }
+    ensures last_cut { (r j : ℕ) → 1 ≤ r → r < j + 1 → kept_tail r (replicate j false ++ true ∷ []) ≡ replicate (r - 1) false ++ true ∷ replicate (j + 1 - r) false }
 {}
 
 /// The reach of a plane is the only number with a one just before it and no one from it on; it is 0 where there is no one.

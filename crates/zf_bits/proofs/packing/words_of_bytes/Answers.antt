@@ -3,7 +3,7 @@ use Rattle.std.specs.Slice.Iter.{chunks_rest}
 use Rattle.std.proofs.lemmas.List.{append-nil, nil_from_length}
 use Rattle.zf_spec.specs.Numbers.{word_bits}
 use Rattle.zf_bits.specs.Packing.{words_of, word_of}
-use Rattle.zf_bits.proofs.Packed.{words_of-append, word_bits-words_of}
+use Rattle.zf_bits.proofs.Packed.{words_of-append, length-words_of, word_bits-words_of}
 use Rattle.zf_bits.proofs.packing.words_of_bytes.Goals as goal
 
 pub loop-piece-preserved : goal.loop-piece-preserved
@@ -24,3 +24,7 @@ returns-clause-words c =
 
 pub returns-clause-bits : goal.returns-clause-bits
 returns-clause-bits c = ap word_bits (returns-clause-words c) ∙ word_bits-words_of c.args.bytes.now (λ i. (c.type_inv.bytes i).fits)
+
+pub returns-clause-len : goal.returns-clause-len
+returns-clause-len c =
+    c.loop-piece.words.ok.0 ∙ ap length (returns-clause-words c) ∙ length-words_of c.args.bytes.now

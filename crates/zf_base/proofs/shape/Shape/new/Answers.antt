@@ -1,5 +1,5 @@
 -- The tests of the four sizes, of which the unused ones are 1, say the same of the used ones.
-use Rattle.std.proofs.Common.{◌≡◌, ℕ, ◌==◌, false, List, [], ◌∷◌, length, take, refl, ap, sym, ◌∙◌, arith, length-take}
+use Rattle.std.proofs.Common.{◌≡◌, ◌==◌, [], ◌∷◌, length, take, refl, ap, sym, ◌∙◌, arith, length-take}
 use Rattle.zf_spec.specs.Grid.{product}
 use Rattle.zf_base.specs.Positions.{axes}
 use Rattle.zf_base.proofs.Sizes.{list_any-axes, any_above_field, field_fault, product_fields, none_above, product-axes}

@@ -1,5 +1,5 @@
 use Rattle.std.proofs.Common.{arith}
-use Rattle.zf_bits.proofs.Passing.{length-rest, length-reader_of}
+use Rattle.zf_bits.proofs.Reading.{length-rest, length-reader_of}
 use Rattle.zf_bits.proofs.reader.BitReader.left.Goals as goal
 
 pub returns-clause-count : goal.returns-clause-count

@@ -1,5 +1,5 @@
 use Rattle.std.proofs.Common.{arith}
-use Rattle.zf_bits.proofs.Passing.{length-rest, Reads-one}
+use Rattle.zf_bits.proofs.Reading.{length-rest, Reads-one}
 use Rattle.zf_bits.proofs.reader.BitReader.next_bit.Goals as goal
 
 pub returns : goal.returns

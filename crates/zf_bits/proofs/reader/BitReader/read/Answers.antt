@@ -3,7 +3,7 @@ use Rattle.std.proofs.lemmas.List.{length-take-le}
 use Rattle.zf_spec.specs.Numbers.{field}
 use Rattle.zf_bits.specs.Reader.{rest}
 use Rattle.zf_bits.proofs.Fields.{field-number_at}
-use Rattle.zf_bits.proofs.Passing.{take-Reads, Reads-append, Reads-same, number_more}
+use Rattle.zf_bits.proofs.Reading.{take-Reads, Reads-append, Reads-same, number_more}
 use Rattle.zf_bits.proofs.reader.BitReader.read.Goals as goal
 
 pub overflow_add-value : goal.overflow_add-value

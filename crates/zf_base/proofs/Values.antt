@@ -1,0 +1,14 @@
+-- The numbers of a list of values.
+use Rattle.std.proofs.Common.{◌≡◌, ℕ, ◌+◌, ◌<◌, List, ◌++◌, length, get_or, set, map, take, drop, ap, sym, ◌∙◌, arith}
+use Rattle.std.proofs.lemmas.List.{get_or-map, map-set}
+use Rattle.std.proofs.lemmas.List.Edits.{map_over_more}
+
+-- x is the element at i: its number is that at i among the numbers
+pub number_at : {X Y : Type 0} (value : X → Y) (block : List X) (i : ℕ) (x : X) (d : Y) → i < length block → x ≡ get_or block i x → value x ≡ get_or (map value block) i d
+number_at value block i x d lt is = ap value is ∙ sym (get_or-map value block i x d lt)
+
+-- a loop's step: over the value at i it writes one whose number is f of that value's
+pub numbers_more : {X Y : Type 0} (value : X → Y) (f : Y → Y) (numbers : List Y) (block : List X) (i : ℕ) (d y : X) → i < length block → length block ≡ length numbers → map value block ≡ map f (take i numbers) ++ drop i numbers → value y ≡ f (value (get_or block i d)) → map value (set block i y) ≡ map f (take (i + 1) numbers) ++ drop (i + 1) numbers
+numbers_more value f numbers block i d y lt same so_far written =
+    let old = value (get_or block i d) in
+    map-set value block i y ∙ ap (set (map value block) i) written ∙ map_over_more f numbers (map value block) i old (omega arith) so_far (sym (get_or-map value block i d old lt))

@@ -1,0 +1,51 @@
+-- The digits of a block by rank, and a block whose places are filled by rank.
+use Rattle.std.proofs.Common.{◌≡◌, sym, ap, ◌∙◌, ℕ, ◌+◌, ◌^◌, ◌<◌, ◌≢◌, ⊎_elim, ℤ, pos, List, [], length, get_or, set, All, get_or-set_same, get_or-set_other, arith}
+use Rattle.std.proofs.lemmas.Bool.{cases_lt}
+use Rattle.std.proofs.lemmas.List.{length-map, get_or-map}
+use Rattle.std.proofs.lemmas.List.Elements.{All-same, All-from_get_or}
+use Rattle.std.specs.Int.{Width}
+use mir.Val.{bits}
+use Rattle.zf_spec.specs.Numbers.{digits}
+use Rattle.zf_spec.specs.Ranks.{order, ranked, unranked}
+use Rattle.zf_spec.proofs.Counting.{from_places}
+use Rattle.zf_spec.proofs.Ranking.{length-order, order_below, rank_of, rank_of_below, order-rank_of, rank_of-order, length-ranked, get_or-ranked}
+use Rattle.zf_coef.specs.Words.{ranked_digits}
+
+pub order_within : (d : ℕ) (ps : List ℕ) → ps ≡ order d → All (λ p. p < 4 ^ d) ps
+order_within d ps same =
+    All-same (λ p. p < 4 ^ d) ps (order d) same
+    (All-from_get_or (λ p. p < 4 ^ d) (order d) 0 (λ k below. order_below d k (omega (arith, below, length-order d))))
+
+pub length-ranked_digits : (w : Width) (d : ℕ) (block : List ℤ) → length (ranked_digits w d block) ≡ 4 ^ d
+length-ranked_digits w d block = length-map (ranked d block) (digits (bits w)) ∙ length-ranked d block
+
+pub get_or-ranked_digits : (w : Width) (d : ℕ) (block : List ℤ) (k : ℕ) → k < 4 ^ d → get_or (ranked_digits w d block) k [] ≡ digits (bits w) (get_or block (get_or (order d) k 0) (pos 0))
+get_or-ranked_digits w d block k below =
+    get_or-map (digits (bits w)) (ranked d block) k (pos 0) [] (omega (arith, below, length-ranked d block)) ∙ ap (digits (bits w)) (get_or-ranked d block k below)
+
+-- the places of the ranks below r have their values
+abbrev pub HasRanks : ℕ → List ℤ → List ℤ → ℕ → Type 0
+HasRanks d block values r = (k : ℕ) → k < r → get_or block (get_or (order d) k 0) (pos 0) ≡ get_or values k (pos 0)
+
+-- one rank more: its place is no other rank's
+pub ranks_more : (d : ℕ) (block values : List ℤ) (r : ℕ) (v : ℤ) → length block ≡ 4 ^ d → r < 4 ^ d
+    → HasRanks d block values r → v ≡ get_or values r (pos 0) → HasRanks d (set block (get_or (order d) r 0) v) values (r + 1)
+ranks_more d block values r v long below before here k small =
+    let place : get_or (order d) r 0 < length block = omega (arith, order_below d r below) in
+    ⊎_elim
+    (λ earlier.
+    let apart : get_or (order d) k 0 ≢ get_or (order d) r 0 =
+    λ same. let rank : k ≡ r = sym (rank_of-order d k (omega arith)) ∙ ap (rank_of d) same ∙ rank_of-order d r below in omega arith in
+    get_or-set_other block (get_or (order d) r 0) (get_or (order d) k 0) v (pos 0) apart ∙ before k earlier)
+    (λ later.
+    let same : k ≡ r = omega arith in
+    ap (λ j. get_or (set block (get_or (order d) r 0) v) (get_or (order d) j 0) (pos 0)) same
+    ∙ get_or-set_same block (get_or (order d) r 0) v (pos 0) place
+    ∙ here
+    ∙ ap (λ j. get_or values j (pos 0)) (sym same))
+    (cases_lt k r)
+
+pub ranks_all : (d : ℕ) (block values : List ℤ) → length block ≡ 4 ^ d → HasRanks d block values (4 ^ d) → block ≡ unranked d values
+ranks_all d block values long has =
+    sym (from_places (λ p. get_or values (rank_of d p) (pos 0)) (4 ^ d) (pos 0) block long
+    (λ p below. ap (λ q. get_or block q (pos 0)) (sym (order-rank_of d p below)) ∙ has (rank_of d p) (rank_of_below d p below)))

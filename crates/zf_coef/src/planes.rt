@@ -1,0 +1,67 @@
+//! The digits of coefficients as bit planes.
+
+ghost use Rattle.std.specs.Prelude.{◌≡◌, ℕ, ◌^◌, ◌<◌, ◌≤◌, All, length};
+ghost use Rattle.zf_spec.specs.Numbers.{field};
+ghost use Rattle.zf_spec.specs.Planes.{plane, planes_of};
+ghost use Rattle.zf_coef.specs.Words.{digits_in, digits_held, planes_held, IsClearFrom, column, columns};
+
+/// How many words hold a plane.
+const PLANE_WORDS: usize = 4;
+
+/// How many ranks a word of a plane has.
+const WORD_BITS: usize = 64;
+
+/// Plane `k` of coefficients by rank.
+fn plane_of(k: usize, digits: &[u64]) -> [u64; PLANE_WORDS]
+    requires in_word { k < 64 }
+    requires digits { length digits.now ≤ 256 }
+    ensures digits { (n : ℕ) → k < n → digits_held (length digits.now) result ≡ plane k (digits_in n digits.now) }
+    ensures clear { IsClearFrom (length digits.now) result }
+{
+    let mut words = [0; PLANE_WORDS];
+    for (rank, digit) in digits.iter().enumerate() {
+        words[rank / WORD_BITS] |= ((digit >> k) % 2) << (rank % WORD_BITS);
+    }
+    words
+}
+
+/// Writes digit `k` of each coefficient into plane `k`, for each plane. Digits beyond the planes are left out.
+///
+/// The digit of rank r is bit `r % 64` of word `r / 64`; bits past the digits are 0.
+pub fn to_planes(digits: &[u64], planes: &mut [[u64; 4]])
+    requires digits { length digits.now ≤ 256 }
+    requires planes { length planes.old ≤ 64 }
+    ensures digits { planes_held (length digits.now) planes.new ≡ planes_of (length planes.new) (digits_in (length planes.new) digits.now) }
+    ensures clear { All (IsClearFrom (length digits.now)) planes.new }
+{
+    for (k, plane) in planes.iter_mut().enumerate() {
+        *plane = plane_of(k, digits);
+    }
+}
+
+/// The digits of the coefficient of this rank.
+fn digits_of_rank(rank: usize, planes: &[[u64; 4]]) -> u64
+    requires rank { rank < 256 }
+    requires planes { length planes.now ≤ 64 }
+    ensures digits { field (length planes.now) result ≡ column rank planes.now }
+    ensures below { result < 2 ^ length planes.now }
+{
+    let mut digits = 0;
+    for (k, plane) in planes.iter().enumerate() {
+        digits |= ((plane[rank / WORD_BITS] >> (rank % WORD_BITS)) % 2) << k;
+    }
+    digits
+}
+
+/// The way back: writes the digits of each coefficient from the planes. Bits past the digits are not looked at.
+pub fn from_planes(planes: &[[u64; 4]], digits: &mut [u64])
+    requires planes { length planes.now ≤ 64 }
+    requires digits { length digits.old ≤ 256 }
+    ensures digits { digits_in (length planes.now) digits.new
+        ≡ columns (length planes.now) (length digits.new) (planes_held (length digits.new) planes.now) }
+    ensures below { All (λ u. u < 2 ^ length planes.now) digits.new }
+{
+    for (rank, digit) in digits.iter_mut().enumerate() {
+        *digit = digits_of_rank(rank, planes);
+    }
+}

@@ -1,0 +1,74 @@
+-- A list that is written in parts, as far as a budget of bits reaches.
+use Rattle.std.proofs.Common.{◌≡◌, ℕ, suc, zero, ◌+◌, ◌-◌, ◌<◌, ◌≤◌, min, Bool, List, [], ◌∷◌, ◌++◌, length, take, refl, sym, ap, subst, ◌∙◌, arith, append_assoc, length-append}
+use Rattle.std.proofs.lemmas.List.{length-take, append-nil}
+use Rattle.zf_bits.specs.Writer.{Writer, Appends}
+
+pub take_append : {A : Type 0} (k : ℕ) (xs ys : List A) → take k (xs ++ ys) ≡ take k xs ++ take (k - length xs) ys
+take_append {A} zero [] ys = refl
+take_append {A} (suc k) [] ys = let all : suc k - 0 ≡ suc k = omega arith in rw all refl
+take_append {A} zero (x ∷ xs) ys = let none : zero - suc (length xs) ≡ 0 = omega arith in rw none refl
+take_append {A} (suc k) (x ∷ xs) ys =
+    let less : suc k - suc (length xs) ≡ k - length xs = omega arith in
+    rw less (ap (λ (zs : List A). x ∷ zs) (take_append k xs ys))
+
+-- a writer was to get the front of a whole list, as far as a budget reaches: it got so much that, with this many bits left,
+-- the rest is still to come
+pub record Remains (old now : Writer) (budget left : ℕ) (whole rest : List Bool) : Type 0 where
+  pub bits : now.bits ++ take left rest ≡ old.bits ++ take budget whole
+  pub spent : left - length rest ≡ budget - length whole
+  pub fits : min left (length rest) ≤ now.room
+  pub room : old.room + min left (length rest) ≤ now.room + min budget (length whole)
+  pub within : left ≤ budget
+
+pub Remains-start : (w : Writer) (budget : ℕ) (whole : List Bool) → min budget (length whole) ≤ w.room → Remains w w budget budget whole whole
+Remains-start w budget whole fits = record { bits = refl; spent = refl; fits = fits; room = omega arith; within = omega arith }
+
+-- the same rest by another name
+pub Remains-same : {old now : Writer} {budget left : ℕ} {whole : List Bool} {rest rest' : List Bool} → Remains old now budget left whole rest → rest ≡ rest' → Remains old now budget left whole rest'
+Remains-same {old} {now} {budget} {left} {whole} remains same = let P : List Bool → Type 0 = λ xs. Remains old now budget left whole xs in subst P same remains
+
+-- there is room for the next part
+pub Remains-fits : {old now : Writer} {budget left : ℕ} {whole : List Bool} (more rest : List Bool) → Remains old now budget left whole (more ++ rest) → min left (length more) ≤ now.room
+Remains-fits more rest remains = omega (arith, remains.fits, length-append more rest)
+
+-- the next part is written
+pub Remains-more : {old now new : Writer} {budget left : ℕ} {whole : List Bool} (more rest : List Bool) → Remains old now budget left whole (more ++ rest) → Appends now new (take left more)
+    → Remains old new budget (left - length more) whole rest
+Remains-more {old} {now} {new} {budget} {left} {whole} more rest remains appends =
+    let long = length-append more rest in
+    let written = length-take left more in
+    record {
+      bits =
+          ap (λ (xs : List Bool). xs ++ take (left - length more) rest) appends.bits
+          ∙ append_assoc now.bits (take left more) (take (left - length more) rest)
+          ∙ ap (λ (xs : List Bool). now.bits ++ xs) (sym (take_append left more rest))
+          ∙ remains.bits;
+      spent = omega (arith, remains.spent);
+      fits = omega (arith, remains.fits, appends.room);
+      room = omega (arith, remains.room, appends.room);
+      within = omega (arith, remains.within);
+    }
+
+-- the next bit is written
+pub Remains-bit : {old now new : Writer} {budget left : ℕ} {whole : List Bool} (b : Bool) (rest : List Bool) → 0 < left → Remains old now budget left whole (b ∷ rest) → Appends now new (b ∷ [])
+    → Remains old new budget (left - 1) whole rest
+Remains-bit {old} {now} {new} {budget} {left} {whole} b rest some remains appends =
+    let P : List Bool → Type 0 = λ xs. Appends now new xs in
+    Remains-more (b ∷ []) rest remains (subst P (one left some) appends)
+  where
+    one : (left : ℕ) → 0 < left → b ∷ [] ≡ take left (b ∷ [])
+    one zero some = absurd (omega arith)
+    one (suc zero) some = refl
+    one (suc (suc k)) some = refl
+
+-- nothing is left of the budget, or of the list
+nothing_taken : (left : ℕ) (rest : List Bool) → min left (length rest) ≡ 0 → take left rest ≡ []
+nothing_taken zero rest none = refl
+nothing_taken (suc left) [] none = refl
+nothing_taken (suc left) (b ∷ rest) none = absurd (omega arith)
+
+pub Remains-end : {old now : Writer} {budget left : ℕ} {whole rest : List Bool} → Remains old now budget left whole rest → min left (length rest) ≡ 0 → Appends old now (take budget whole)
+Remains-end {old} {now} {budget} {left} {whole} {rest} remains none = record {
+  bits = sym (append-nil now.bits) ∙ ap (λ (xs : List Bool). now.bits ++ xs) (sym (nothing_taken left rest none)) ∙ remains.bits;
+  room = omega (arith, remains.room, length-take budget whole);
+}

@@ -1,0 +1,82 @@
+-- Lists of bits that begin a list continued with zeros.
+use Rattle.std.proofs.Common.{◌≡◌, refl, sym, ap, subst, ◌∙◌, ℕ, zero, suc, ◌-◌, ◌≤◌, Bool, false, List, [], ◌∷◌, ◌++◌, length, take, drop, arith}
+use Rattle.zf_spec.specs.Reading.{Begins, first}
+
+pub length-first : (n : ℕ) (s : List Bool) → length (first n s) ≡ n
+length-first zero s = refl
+length-first (suc n) [] = ap suc (length-first n [])
+length-first (suc n) (b ∷ s) = ap suc (length-first n s)
+
+pub first_begins : (n : ℕ) (s : List Bool) → Begins (first n s) s
+first_begins zero s = tt
+first_begins (suc n) [] = (refl, first_begins n [])
+first_begins (suc n) (b ∷ s) = (refl, first_begins n s)
+
+-- bits that begin s are its first bits
+pub begins_is_first : (bits s : List Bool) → Begins bits s → bits ≡ first (length bits) s
+begins_is_first [] s h = refl
+begins_is_first (b ∷ bits) [] h = ap (λ c. c ∷ bits) h.0 ∙ ap (λ cs. false ∷ cs) (begins_is_first bits [] h.1)
+begins_is_first (b ∷ bits) (c ∷ s) h = ap (λ a. a ∷ bits) h.0 ∙ ap (λ cs. c ∷ cs) (begins_is_first bits s h.1)
+
+pub begins_from_first : (bits s : List Bool) → bits ≡ first (length bits) s → Begins bits s
+begins_from_first bits s e = subst (λ cs. Begins cs s) (sym e) (first_begins (length bits) s)
+
+-- what begins in two parts
+pub begins_append : (a b s : List Bool) → Begins a s → Begins b (drop (length a) s) → Begins (a ++ b) s
+begins_append [] b s f g = g
+begins_append (x ∷ a) b [] f g = (f.0, begins_append a b [] f.1 (subst (λ t. Begins b t) (sym (drop-nil (length a))) g))
+  where
+    drop-nil : (n : ℕ) → drop {A = Bool} n [] ≡ []
+    drop-nil zero = refl
+    drop-nil (suc n) = refl
+begins_append (x ∷ a) b (c ∷ s) f g = (f.0, begins_append a b s f.1 g)
+
+pub begins_front : (a b s : List Bool) → Begins (a ++ b) s → Begins a s
+begins_front [] b s h = tt
+begins_front (x ∷ a) b [] h = (h.0, begins_front a b [] h.1)
+begins_front (x ∷ a) b (c ∷ s) h = (h.0, begins_front a b s h.1)
+
+pub begins_rest : (a b s : List Bool) → Begins (a ++ b) s → Begins b (drop (length a) s)
+begins_rest [] b s h = h
+begins_rest (x ∷ a) b [] h = by (length a) (begins_rest a b [] h.1)
+  where
+    by : (n : ℕ) → Begins b (drop n []) → Begins b []
+    by zero h = h
+    by (suc n) h = h
+begins_rest (x ∷ a) b (c ∷ s) h = begins_rest a b s h.1
+
+-- a list begins each list that goes on with it
+pub begins_itself : (a b : List Bool) → Begins a (a ++ b)
+begins_itself [] b = tt
+begins_itself (x ∷ a) b = (refl, begins_itself a b)
+
+-- the first n bits are the first n of any more
+pub first-first : (m n : ℕ) (s : List Bool) → m ≤ n → first m (first n s) ≡ first m s
+first-first zero n s h = refl
+first-first (suc m) zero s h = absurd (omega arith)
+first-first (suc m) (suc n) [] h = ap (λ bs. false ∷ bs) (first-first m n [] (omega arith))
+first-first (suc m) (suc n) (b ∷ s) h = ap (λ bs. b ∷ bs) (first-first m n s (omega arith))
+
+pub first-append : (a b : List Bool) (n : ℕ) → n ≤ length a → first n (a ++ b) ≡ take n a
+first-append a b zero h = refl
+first-append [] b (suc n) h = absurd (omega arith)
+first-append (x ∷ a) b (suc n) h = ap (λ bs. x ∷ bs) (first-append a b n (omega arith))
+
+-- lists that agree in their first n bits agree past a front of both
+pub first-rest : (a b c : List Bool) (n : ℕ) → length a ≤ n → first n (a ++ b) ≡ first n (a ++ c) → first (n - length a) b ≡ first (n - length a) c
+first-rest [] b c n h e = let z : n - 0 ≡ n = omega arith in rw z e
+first-rest (x ∷ a) b c zero h e = absurd (omega arith)
+first-rest (x ∷ a) b c (suc n) h e =
+    let z : suc n - suc (length a) ≡ n - length a = omega arith in
+    let rest : first n (a ++ b) ≡ first n (a ++ c) = cc in
+    rw z (first-rest a b c n (omega arith) rest)
+
+-- past the first n bits a list does not count
+pub first-front : (a b : List Bool) (n : ℕ) → n ≤ length a → first n (a ++ b) ≡ first n a
+first-front a b zero h = refl
+first-front [] b (suc n) h = absurd (omega arith)
+first-front (x ∷ a) b (suc n) h = ap (λ bs. x ∷ bs) (first-front a b n (omega arith))
+
+pub first-all : (a b : List Bool) → first (length a) (a ++ b) ≡ a
+first-all [] b = refl
+first-all (x ∷ a) b = ap (λ bs. x ∷ bs) (first-all a b)

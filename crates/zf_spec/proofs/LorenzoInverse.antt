@@ -1,0 +1,164 @@
+-- The Lorenzo transform and its inverse undo each other.
+use Rattle.std.proofs.Common.{◌≡◌, refl, sym, ap, ◌∙◌, ℕ, zero, suc, ◌*◌, ◌/◌, ◌%◌, ◌^◌, ◌<◌, ℤ, pos, ◌*ℤ◌, FitsSigned, List, map, length, get_or, All, pow-suc, arith}
+use Rattle.std.proofs.Math.IntN.{*ℤ_comm}
+use Rattle.std.proofs.lemmas.List.Elements.{All-get_or, All-map}
+use Rattle.std.specs.Int.{Width}
+use mir.Val.{bits}
+use Rattle.zf_spec.specs.Numbers.{wrap, IsSameModulo}
+use Rattle.zf_spec.specs.Grid.{upto}
+use Rattle.zf_spec.specs.Lorenzo.{signed_choose, plain_choose, weight, weighted_sum, lorenzo, unlorenzo}
+use Rattle.zf_spec.proofs.Ring.{*ℤ_assoc}
+use Rattle.zf_spec.proofs.Counting.{length-map-upto, get_or-map-upto, map-get_or-upto, from_places}
+use Rattle.zf_spec.proofs.Wrapping.{same_modulo_mul, wrap_is_same, wrap_fits, wrap_only, same_modulo_sym}
+use Rattle.zf_spec.proofs.Sums.{total, total_same, total_same_modulo, total-scale, total-scale_right, total_swap, total_fours, same_number, same_number-fours, one_term, weighted_sum-map}
+
+-- ---- the weights along one axis
+
+-- the weights of two maps along an axis of four, one after the other, are those of no map at all
+abbrev pub Undoes : (ℕ → ℕ → ℤ) → (ℕ → ℕ → ℤ) → Type 0
+Undoes f g = (m k : ℕ) → m < 4 → k < 4 → total (λ i. f m i *ℤ g i k) 0 4 ≡ same_number m k
+
+-- sixteen equations at the numbers below 4
+each_below_four : (P : ℕ → Type 0) → P 0 → P 1 → P 2 → P 3 → (k : ℕ) → k < 4 → P k
+each_below_four P a b c d zero h = a
+each_below_four P a b c d (suc zero) h = b
+each_below_four P a b c d (suc (suc zero)) h = c
+each_below_four P a b c d (suc (suc (suc zero))) h = d
+each_below_four P a b c d (suc (suc (suc (suc k)))) h = absurd (omega arith)
+
+plain_undoes_signed : Undoes plain_choose signed_choose
+plain_undoes_signed m k h l =
+    each_below_four (λ m. total (λ i. plain_choose m i *ℤ signed_choose i k) 0 4 ≡ same_number m k)
+    (each_below_four (λ k. total (λ i. plain_choose 0 i *ℤ signed_choose i k) 0 4 ≡ same_number 0 k) refl refl refl refl k l)
+    (each_below_four (λ k. total (λ i. plain_choose 1 i *ℤ signed_choose i k) 0 4 ≡ same_number 1 k) refl refl refl refl k l)
+    (each_below_four (λ k. total (λ i. plain_choose 2 i *ℤ signed_choose i k) 0 4 ≡ same_number 2 k) refl refl refl refl k l)
+    (each_below_four (λ k. total (λ i. plain_choose 3 i *ℤ signed_choose i k) 0 4 ≡ same_number 3 k) refl refl refl refl k l)
+    m h
+
+signed_undoes_plain : Undoes signed_choose plain_choose
+signed_undoes_plain m k h l =
+    each_below_four (λ m. total (λ i. signed_choose m i *ℤ plain_choose i k) 0 4 ≡ same_number m k)
+    (each_below_four (λ k. total (λ i. signed_choose 0 i *ℤ plain_choose i k) 0 4 ≡ same_number 0 k) refl refl refl refl k l)
+    (each_below_four (λ k. total (λ i. signed_choose 1 i *ℤ plain_choose i k) 0 4 ≡ same_number 1 k) refl refl refl refl k l)
+    (each_below_four (λ k. total (λ i. signed_choose 2 i *ℤ plain_choose i k) 0 4 ≡ same_number 2 k) refl refl refl refl k l)
+    (each_below_four (λ k. total (λ i. signed_choose 3 i *ℤ plain_choose i k) 0 4 ≡ same_number 3 k) refl refl refl refl k l)
+    m h
+
+-- ---- the weights over all axes
+
+-- two products of two, regrouped
+regroup : (a b c d : ℤ) → (a *ℤ b) *ℤ (c *ℤ d) ≡ (a *ℤ c) *ℤ (b *ℤ d)
+regroup a b c d =
+    *ℤ_assoc a b (c *ℤ d)
+    ∙ ap (λ x. a *ℤ x) (sym (*ℤ_assoc b c d) ∙ ap (λ x. x *ℤ d) (*ℤ_comm b c) ∙ *ℤ_assoc c b d)
+    ∙ sym (*ℤ_assoc a c (b *ℤ d))
+
+pub weights_undo : (f g : ℕ → ℕ → ℤ) (d m k : ℕ) → Undoes f g → m < 4 ^ d → k < 4 ^ d → total (λ i. weight f d m i *ℤ weight g d i k) 0 (4 ^ d) ≡ same_number m k
+weights_undo f g zero m k undoes p q =
+    let first : m ≡ 0 = omega arith in
+    let second : k ≡ 0 = omega arith in
+    sym (ap (λ m. same_number m k) first ∙ ap (same_number 0) second)
+weights_undo f g (suc d) m k undoes p q =
+    let power = pow-suc 4 d in
+    let count : 4 ^ suc d ≡ 4 * 4 ^ d = omega arith in
+    let line : ℕ → ℤ = λ r. f (m % 4) r *ℤ g r (k % 4) in
+    let others : ℕ → ℤ = λ a. weight f d (m / 4) a *ℤ weight g d a (k / 4) in
+    let h : ℕ → ℕ → ℤ = λ r a. line r *ℤ others a in
+    total_same (λ i. weight f (suc d) m i *ℤ weight g (suc d) i k) (λ i. h (i % 4) (i / 4)) 0 (4 ^ suc d)
+    (λ i _ _. regroup (f (m % 4) (i % 4)) (weight f d (m / 4) (i / 4)) (g (i % 4) (k % 4)) (weight g d (i / 4) (k / 4)))
+    ∙ ap (total (λ i. h (i % 4) (i / 4)) 0) count
+    ∙ total_fours h 0 (4 ^ d)
+    ∙ total_same (λ a. total (λ r. h r a) 0 4) (λ a. total line 0 4 *ℤ others a) 0 (4 ^ d) (λ a _ _. total-scale_right (others a) line 0 4)
+    ∙ total-scale (total line 0 4) others 0 (4 ^ d)
+    ∙ ap (λ x. x *ℤ total others 0 (4 ^ d)) (undoes (m % 4) (k % 4) (omega arith) (omega arith))
+    ∙ ap (λ x. same_number (m % 4) (k % 4) *ℤ x) (weights_undo f g d (m / 4) (k / 4) undoes (omega arith) (omega arith))
+    ∙ same_number-fours m k
+
+-- ---- blocks
+
+-- a block of wrapped sums with weights
+abbrev transformed : (ℕ → ℕ → ℤ) → Width → ℕ → List ℤ → List ℤ
+transformed f w d block = map (λ m. wrap w (weighted_sum (weight f d m) 0 block)) (upto (4 ^ d))
+
+-- its sums, over the values of the block by place
+sum_by_place : (f : ℕ → ℕ → ℤ) (d m : ℕ) (block : List ℤ) → length block ≡ 4 ^ d
+    → weighted_sum (weight f d m) 0 block ≡ total (λ i. weight f d m i *ℤ get_or block i (pos 0)) 0 (4 ^ d)
+sum_by_place f d m block l =
+    ap (weighted_sum (weight f d m) 0) (sym (map-get_or-upto block (4 ^ d) (pos 0) l))
+    ∙ weighted_sum-map (weight f d m) (λ i. get_or block i (pos 0)) 0 (4 ^ d)
+
+-- the sums of the sums are the values
+sum_of_sums : (f g : ℕ → ℕ → ℤ) (d m : ℕ) (b : ℕ → ℤ) → Undoes f g → m < 4 ^ d
+    → total (λ i. weight f d m i *ℤ total (λ k. weight g d i k *ℤ b k) 0 (4 ^ d)) 0 (4 ^ d) ≡ b m
+sum_of_sums f g d m b undoes h =
+    let n = 4 ^ d in
+    let both : ℕ → ℕ → ℤ = λ i k. weight f d m i *ℤ (weight g d i k *ℤ b k) in
+    total_same (λ i. weight f d m i *ℤ total (λ k. weight g d i k *ℤ b k) 0 n) (λ i. total (both i) 0 n) 0 n (λ i _ _. sym (total-scale (weight f d m i) (λ k. weight g d i k *ℤ b k) 0 n))
+    ∙ total_swap both 0 n 0 n
+    ∙ total_same (λ k. total (λ i. both i k) 0 n) (λ k. same_number m k *ℤ b k) 0 n
+    (λ k _ q.
+    total_same (λ i. both i k) (λ i. (weight f d m i *ℤ weight g d i k) *ℤ b k) 0 n (λ i _ _. sym (*ℤ_assoc (weight f d m i) (weight g d i k) (b k)))
+    ∙ total-scale_right (b k) (λ i. weight f d m i *ℤ weight g d i k) 0 n
+    ∙ ap (λ x. x *ℤ b k) (weights_undo f g d m k undoes h (omega arith)))
+    ∙ one_term m b 0 n (omega arith) (omega arith)
+
+-- what is wrapped on the way changes nothing modulo 2^w
+undone : (f g : ℕ → ℕ → ℤ) (w : Width) (d : ℕ) (block : List ℤ) → Undoes f g → length block ≡ 4 ^ d → All (λ v. FitsSigned w v) block
+    → transformed f w d (transformed g w d block) ≡ block
+undone f g w d block undoes l fits = from_places (λ m. wrap w (weighted_sum (weight f d m) 0 inner)) (4 ^ d) (pos 0) block l value
+  where
+    n : ℕ
+    n = 4 ^ d
+
+    b : ℕ → ℤ
+    b i = get_or block i (pos 0)
+
+    inner : List ℤ
+    inner = transformed g w d block
+
+    length-inner : length inner ≡ 4 ^ d
+    length-inner = length-map-upto (λ m. wrap w (weighted_sum (weight g d m) 0 block)) (4 ^ d)
+
+    -- the sums without wrapping
+    exact : ℕ → ℤ
+    exact i = total (λ k. weight g d i k *ℤ get_or block k (pos 0)) 0 (4 ^ d)
+
+    inner_at : (i : ℕ) → i < 4 ^ d → get_or inner i (pos 0) ≡ wrap w (exact i)
+    inner_at i h = get_or-map-upto (λ m. wrap w (weighted_sum (weight g d m) 0 block)) (4 ^ d) i (pos 0) h ∙ ap (wrap w) (sum_by_place g d i block l)
+
+    same : (m : ℕ) → m < 4 ^ d → IsSameModulo (bits w) (total (λ i. weight f d m i *ℤ wrap w (exact i)) 0 (4 ^ d)) (get_or block m (pos 0))
+    same m h =
+        rw (sum_of_sums f g d m (λ i. get_or block i (pos 0)) undoes h) at
+        (total_same_modulo (bits w) (λ i. weight f d m i *ℤ wrap w (exact i)) (λ i. weight f d m i *ℤ exact i) 0 (4 ^ d)
+        (λ i. same_modulo_mul (bits w) (weight f d m i) (wrap w (exact i)) (exact i) (wrap_is_same w (exact i))))
+
+    value : (m : ℕ) → m < 4 ^ d → get_or block m (pos 0) ≡ wrap w (weighted_sum (weight f d m) 0 inner)
+    value m h =
+        let sums = total (λ i. weight f d m i *ℤ wrap w (exact i)) 0 (4 ^ d) in
+        wrap_only w sums (get_or block m (pos 0)) (All-get_or (λ v. FitsSigned w v) block m (pos 0) (omega (arith, h, l)) fits) (same_modulo_sym (bits w) sums (get_or block m (pos 0)) (same m h))
+        ∙ ap (wrap w) (sym (sum_by_place f d m inner length-inner
+        ∙ total_same (λ i. weight f d m i *ℤ get_or inner i (pos 0)) (λ i. weight f d m i *ℤ wrap w (exact i)) 0 (4 ^ d) (λ i _ q. ap (λ x. weight f d m i *ℤ x) (inner_at i (omega arith)))))
+
+pub unlorenzo-lorenzo : (w : Width) (d : ℕ) (block : List ℤ) → length block ≡ 4 ^ d → All (λ v. FitsSigned w v) block → unlorenzo w d (lorenzo w d block) ≡ block
+unfolding lorenzo unlorenzo
+unlorenzo-lorenzo w d block l fits = undone plain_choose signed_choose w d block plain_undoes_signed l fits
+
+pub lorenzo-unlorenzo : (w : Width) (d : ℕ) (block : List ℤ) → length block ≡ 4 ^ d → All (λ v. FitsSigned w v) block → lorenzo w d (unlorenzo w d block) ≡ block
+unfolding lorenzo unlorenzo
+lorenzo-unlorenzo w d block l fits = undone signed_choose plain_choose w d block signed_undoes_plain l fits
+
+pub length-lorenzo : (w : Width) (d : ℕ) (block : List ℤ) → length (lorenzo w d block) ≡ 4 ^ d
+unfolding lorenzo
+length-lorenzo w d block = length-map-upto (λ m. wrap w (weighted_sum (weight signed_choose d m) 0 block)) (4 ^ d)
+
+pub length-unlorenzo : (w : Width) (d : ℕ) (block : List ℤ) → length (unlorenzo w d block) ≡ 4 ^ d
+unfolding unlorenzo
+length-unlorenzo w d block = length-map-upto (λ m. wrap w (weighted_sum (weight plain_choose d m) 0 block)) (4 ^ d)
+
+pub lorenzo_fits : (w : Width) (d : ℕ) (block : List ℤ) → All (λ v. FitsSigned w v) (lorenzo w d block)
+unfolding lorenzo
+lorenzo_fits w d block = All-map (λ v. FitsSigned w v) (λ m. wrap w (weighted_sum (weight signed_choose d m) 0 block)) (upto (4 ^ d)) (λ k e h. wrap_fits w (weighted_sum (weight signed_choose d (get_or (upto (4 ^ d)) k e)) 0 block))
+
+pub unlorenzo_fits : (w : Width) (d : ℕ) (block : List ℤ) → All (λ v. FitsSigned w v) (unlorenzo w d block)
+unfolding unlorenzo
+unlorenzo_fits w d block = All-map (λ v. FitsSigned w v) (λ m. wrap w (weighted_sum (weight plain_choose d m) 0 block)) (upto (4 ^ d)) (λ k e h. wrap_fits w (weighted_sum (weight plain_choose d (get_or (upto (4 ^ d)) k e)) 0 block))

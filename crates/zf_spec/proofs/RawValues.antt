@@ -1,0 +1,134 @@
+-- Values and their raw bytes, and the length of the header.
+use Rattle.std.proofs.Common.{◌≡◌, refl, sym, ap, ◌∙◌, ℕ, zero, suc, ◌+◌, ◌-◌, ◌*◌, ◌/◌, ◌^◌, ◌<◌, ◌≤◌, cond, le-leb, ℤ, pos, negsuc, FitsSigned, List, [], ◌∷◌, ◌++◌, length, drop, flat_map, All, drop_at, suc-mul, arith}
+use Rattle.std.proofs.lemmas.Int.{of_z-to_z, to_z-of_z}
+use Rattle.std.proofs.lemmas.Bool.{lt-leb}
+use Rattle.std.proofs.lemmas.List.{length-append}
+use Rattle.std.proofs.lemmas.List.Elements.{All-head, All-tail, All-nil, All-cons, All-drop, All-append}
+use Rattle.std.specs.Int.{Width, byte_len, to_le_bytes, from_le_bytes, cast_unsigned, cast_signed}
+use borrow.Author.Differences.{fits_in, read_fits}
+use mir.Val.{bits}
+use Rattle.zf_spec.specs.Numbers.{field}
+use Rattle.zf_spec.specs.Stream.{Mode, reversible, fixed_rate, raw, first_bytes, values_from, magic, codec, type_number, mode_number, long_form, header}
+use Rattle.zf_spec.proofs.Wrapping.{bits_is_half}
+use Rattle.zf_spec.proofs.Fields.{length-field}
+use Rattle.zf_spec.proofs.Bytes.{length-first_bytes, All-first_bytes, first_bytes-append, first_bytes-add, length-to_le_bytes, to_le_bytes_small, from_le_bytes-to_le_bytes, to_le_bytes-from_le_bytes, from_le_bytes_below}
+
+-- ---- one value
+
+unsigned_below : (w : Width) (v : ℤ) → FitsSigned w v → cast_unsigned w v < 2 ^ bits w
+unsigned_below w (pos n) f = omega (arith, f.sfits, bits_is_half w)
+unsigned_below w (negsuc n) f = omega (arith, f.sfits, bits_is_half w)
+
+signed_fits : (w : Width) (n : ℕ) → FitsSigned w (cast_signed w n)
+signed_fits w n = omega (arith, fits_in, read_fits w n)
+
+value_from_bytes : (w : Width) (v : ℤ) → FitsSigned w v → cast_signed w (from_le_bytes w (to_le_bytes w (cast_unsigned w v))) ≡ v
+value_from_bytes w v f = ap (cast_signed w) (from_le_bytes-to_le_bytes w (cast_unsigned w v) (unsigned_below w v f)) ∙ to_z-of_z w v f
+
+bytes_of_value : (w : Width) (bs : List ℕ) → length bs ≡ byte_len w → All (λ b. b < 256) bs → to_le_bytes w (cast_unsigned w (cast_signed w (from_le_bytes w bs))) ≡ bs
+bytes_of_value w bs l all = ap (to_le_bytes w) (of_z-to_z w (from_le_bytes w bs) (from_le_bytes_below w bs l all)) ∙ to_le_bytes-from_le_bytes w bs l all
+
+-- ---- values
+
+pub length-values_from : (w : Width) (n : ℕ) (s : List ℕ) → length (values_from w n s) ≡ n
+length-values_from w zero s = refl
+length-values_from w (suc n) s = ap suc (length-values_from w n (drop (byte_len w) s))
+
+pub values_from_fit : (w : Width) (n : ℕ) (s : List ℕ) → All (λ v. FitsSigned w v) (values_from w n s)
+values_from_fit w zero s = All-nil (λ v. FitsSigned w v)
+values_from_fit w (suc n) s = All-cons (λ v. FitsSigned w v) (cast_signed w (from_le_bytes w (first_bytes (byte_len w) s))) (values_from w n (drop (byte_len w) s))
+    (signed_fits w (from_le_bytes w (first_bytes (byte_len w) s))) (values_from_fit w n (drop (byte_len w) s))
+
+pub length-raw : (w : Width) (values : List ℤ) → length (raw w values) ≡ length values * byte_len w
+length-raw w [] = omega arith
+length-raw w (v ∷ values) =
+    let here = to_le_bytes w (cast_unsigned w v) in
+    length-append here (raw w values) ∙ omega (arith, length-to_le_bytes w (cast_unsigned w v), length-raw w values, suc-mul (length values) (byte_len w))
+
+pub raw_small : (w : Width) (values : List ℤ) → All (λ b. b < 256) (raw w values)
+raw_small w [] = All-nil (λ b. b < 256)
+raw_small w (v ∷ values) = All-append (λ b. b < 256) (to_le_bytes w (cast_unsigned w v)) (raw w values) (to_le_bytes_small w (cast_unsigned w v)) (raw_small w values)
+
+-- values of the type come back from their raw bytes
+pub values_from-raw : (w : Width) (values : List ℤ) → All (λ v. FitsSigned w v) values → values_from w (length values) (raw w values) ≡ values
+values_from-raw w [] all = refl
+values_from-raw w (v ∷ values) all =
+    let bs = to_le_bytes w (cast_unsigned w v) in
+    let l = length-to_le_bytes w (cast_unsigned w v) in
+    let front : first_bytes (byte_len w) (bs ++ raw w values) ≡ bs = ap (λ k. first_bytes k (bs ++ raw w values)) (sym l) ∙ first_bytes-append bs (raw w values) in
+    let rest : drop (byte_len w) (bs ++ raw w values) ≡ raw w values = drop_at bs (raw w values) (byte_len w) l in
+    let value = ap (λ cs. cast_signed w (from_le_bytes w cs)) front ∙ value_from_bytes w v (All-head (λ v. FitsSigned w v) v values all) in
+    ap (λ u. u ∷ values_from w (length values) (drop (byte_len w) (bs ++ raw w values))) value
+    ∙ ap (λ s. v ∷ values_from w (length values) s) rest
+    ∙ ap (λ us. v ∷ us) (values_from-raw w values (All-tail (λ v. FitsSigned w v) v values all))
+
+-- bytes come back from the values whose raw bytes they are, continued with zeros or cut
+pub raw-values_from : (w : Width) (n : ℕ) (s : List ℕ) → All (λ b. b < 256) s → raw w (values_from w n s) ≡ first_bytes (n * byte_len w) s
+raw-values_from w zero s all = let none : 0 ≡ 0 * byte_len w = omega arith in ap (λ k. first_bytes k s) none
+raw-values_from w (suc n) s all =
+    let k = byte_len w in
+    let here = bytes_of_value w (first_bytes k s) (length-first_bytes k s) (All-first_bytes k s all) in
+    let rest = raw-values_from w n (drop k s) (All-drop (λ b. b < 256) k s all) in
+    let more : k + n * k ≡ suc n * k = omega (arith, suc-mul n k) in
+    ap (λ bs. bs ++ raw w (values_from w n (drop k s))) here
+    ∙ ap (λ bs. first_bytes k s ++ bs) rest
+    ∙ sym (first_bytes-add k (n * k) s)
+    ∙ ap (λ m. first_bytes m s) more
+
+-- ---- the header
+
+length-sizes : (k : ℕ) (ns : List ℕ) → length (flat_map (λ n. field k (n - 1)) ns) ≡ length ns * k
+length-sizes k [] = omega arith
+length-sizes k (n ∷ ns) = length-append (field k (n - 1)) (flat_map (λ n. field k (n - 1)) ns) ∙ omega (arith, length-field k (n - 1), length-sizes k ns, suc-mul (length ns) k)
+
+-- the fields of the sizes have 48 bits in all
+share : (d : ℕ) → 1 ≤ d → d ≤ 4 → d * (48 / d) ≡ 48
+share zero f g = absurd (omega arith)
+share (suc zero) f g = refl
+share (suc (suc zero)) f g = refl
+share (suc (suc (suc zero))) f g = refl
+share (suc (suc (suc (suc zero)))) f g = refl
+share (suc (suc (suc (suc (suc d))))) f g = absurd (omega arith)
+
+pub length-header : (w : Width) (ns : List ℕ) (mode : Mode) → 1 ≤ length ns → length ns ≤ 4 → length (header w ns mode) ≡ 96 + length (long_form mode)
+unfolding header
+length-header w ns mode f g =
+    let d = length ns in
+    let k = 48 / d in
+    let sizes = flat_map (λ n. field k (n - 1)) ns in
+    let a = field 24 magic in
+    let b = field 8 (codec d) in
+    let c = field 2 (type_number w - 1) in
+    let e = field 2 (d - 1) in
+    let m = field 12 (mode_number mode) in
+    omega (
+      arith,
+      share d f g,
+      length-sizes k ns,
+      length-field 24 magic,
+      length-field 8 (codec d),
+      length-field 2 (type_number w - 1),
+      length-field 2 (d - 1),
+      length-field 12 (mode_number mode),
+      length-append (a ++ b ++ c ++ e ++ sizes ++ m) (long_form mode),
+      length-append (a ++ b ++ c ++ e ++ sizes) m,
+      length-append (a ++ b ++ c ++ e) sizes,
+      length-append (a ++ b ++ c) e,
+      length-append (a ++ b) c,
+      length-append a b,
+    )
+
+pub length-long_form : (b : ℕ) → 2048 < b → length (long_form (fixed_rate b)) ≡ 52
+length-long_form b h = ap (λ t. length (cond t [] (field 15 (b - 1) ++ field 15 (b - 1) ++ field 7 63 ++ field 15 15421))) (lt-leb b 2048 h)
+
+pub length-short_form : (b : ℕ) → b ≤ 2048 → length (long_form (fixed_rate b)) ≡ 0
+length-short_form b h = ap (λ t. length (cond t [] (field 15 (b - 1) ++ field 15 (b - 1) ++ field 7 63 ++ field 15 15421))) (le-leb b 2048 h)
+
+pub length-header_reversible : (w : Width) (ns : List ℕ) → 1 ≤ length ns → length ns ≤ 4 → length (header w ns reversible) ≡ 96
+length-header_reversible w ns f g = length-header w ns reversible f g
+
+pub length-header_rate : (w : Width) (ns : List ℕ) (b : ℕ) → 1 ≤ length ns → length ns ≤ 4 → b ≤ 2048 → length (header w ns (fixed_rate b)) ≡ 96
+length-header_rate w ns b f g h = omega (arith, length-header w ns (fixed_rate b) f g, length-short_form b h)
+
+pub length-header_long : (w : Width) (ns : List ℕ) (b : ℕ) → 1 ≤ length ns → length ns ≤ 4 → 2048 < b → length (header w ns (fixed_rate b)) ≡ 148
+length-header_long w ns b f g h = omega (arith, length-header w ns (fixed_rate b) f g, length-long_form b h)
