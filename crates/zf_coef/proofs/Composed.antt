@@ -1,5 +1,6 @@
 -- What the calls of this crate make of a block together.
-use Rattle.std.proofs.Common.{◌≡◌, refl, sym, ap, ◌∙◌, ℕ, ◌^◌, Bool, false, ℤ, List, [], ◌∷◌, map, reverse, length, get_or}
+use Rattle.std.proofs.Common.{◌≡◌, sym, ap, ◌∙◌, ℕ, ◌^◌, Bool, false, ℤ, List, [], map, reverse, length, get_or}
+use Rattle.std.proofs.lemmas.Simd.{map-map}
 use Rattle.std.specs.Int.{Width}
 use mir.Val.{bits}
 use Rattle.zf_spec.specs.Numbers.{value_of}
@@ -20,10 +21,6 @@ planes-ranked w d coefficients words planes size count by_rank held =
     ∙ held
     ∙ ap (λ n. planes_of n (digits_in n words)) count
     ∙ ap (planes_of (bits w)) by_rank
-
-map-map : {X Y Z : Type 0} (f : Y → Z) (g : X → Y) (xs : List X) → map f (map g xs) ≡ map (λ x. f (g x)) xs
-map-map f g [] = refl
-map-map f g (x ∷ xs) = ap (λ ys. f (g x) ∷ ys) (map-map f g xs)
 
 -- the values of the columns are the coefficients of the planes
 pub unranked_values-columns : (w : Width) (d : ℕ) (planes : List (List Bool)) → unranked_values w d (columns (bits w) (4 ^ d) planes) ≡ Codes.coefficients_of w d planes

@@ -10,3 +10,6 @@ pub use negabinary::{from_digits, to_digits};
 pub use places::order;
 pub use planes::{from_planes, to_planes};
 pub use ranks::{ranked, unranked};
+
+#[cfg(test)]
+mod tests;

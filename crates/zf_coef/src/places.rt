@@ -35,8 +35,8 @@ static ORDER_4: [u8; 256] = [
 
 /// The place of each rank in a block of `d` dimensions.
 ///
-/// Places with a smaller sum of indices come first, then those with a smaller sum of squares, then those with the greater x, y, z.
-/// In one and two dimensions this is zfp's order; in three and four dimensions the order among equal sums is this project's own.
+/// The place with the smaller sum of indices comes first, then the one with the smaller sum of squares, then the one with the greater x, then y, then z.
+/// In one and two dimensions this is the order of zfp 1.0; in three and four dimensions the choice among equal sums is this project's own.
 pub fn order(d: u8) -> &'static [u8]
     requires some { 1 ≤ d }
     requires four_at_most { d ≤ 4 }

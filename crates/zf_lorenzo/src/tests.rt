@@ -1,3 +1,5 @@
+ghost use Rattle.std.specs.Prelude.{◌≡◌, ◌≤◌, ◌^◌, IsTrue};
+
 use super::*;
 use std::alloc::{AllocError, Global};
 use std::process::Abort;
@@ -5,10 +7,10 @@ use std::test::Fail;
 use zf_base::Lane;
 
 // A block of values that follow no rule, the same each time.
-fn block_of<T: Lane>(alloc: Global, d: u8) -> Result<Vec<T>, AllocError> {
+fn block_of<T: Lane>(alloc: Global, size: usize) -> Result<Vec<T>, AllocError> {
     let mut block = Vec::new(alloc);
     let mut word: u64 = 1;
-    for _ in 0..4u32.pow(u32::from(d.min(4))) {
+    for _ in 0..size {
         word = word
             .wrapping_mul(6_364_136_223_846_793_005)
             .wrapping_add(1_442_695_040_888_963_407);
@@ -17,15 +19,28 @@ fn block_of<T: Lane>(alloc: Global, d: u8) -> Result<Vec<T>, AllocError> {
     Ok(block)
 }
 
+fn is_whole_block(d: u8, len: usize) -> bool
+    ensures { IsTrue result → (1 ≤ d) × (d ≤ 4) × (len ≡ 4 ^ d) }
+{
+    match d {
+        1 => len == 4,
+        2 => len == 16,
+        3 => len == 64,
+        4 => len == 256,
+        _ => false,
+    }
+}
+
 fn coefficients_are<T: Lane>(
     rt: &impl Abort,
     alloc: Global,
     d: u8,
+    size: usize,
     expected: [(usize, i128); 3],
 ) -> Result<(), Fail> {
-    let values: Vec<T> = block_of(alloc, d)?;
-    let mut block: Vec<T> = block_of(alloc, d)?;
-    assert!(rt; d >= 1 && d <= 4 && block.len() == 4usize.pow(u32::from(d)));
+    let values: Vec<T> = block_of(alloc, size)?;
+    let mut block: Vec<T> = block_of(alloc, size)?;
+    assert!(rt; is_whole_block(d, block.len()));
     forward(d, &mut block);
     for (place, value) in expected {
         let coefficient = block.get(place).ok_or("inside")?;
@@ -35,7 +50,7 @@ fn coefficients_are<T: Lane>(
             "at {place} in {d} dimensions"
         );
     }
-    assert!(rt; block.len() == 4usize.pow(u32::from(d)));
+    assert!(rt; is_whole_block(d, block.len()));
     inverse(d, &mut block);
     assert!(rt;
         block.as_slice() == values.as_slice(),
@@ -47,17 +62,18 @@ fn coefficients_are<T: Lane>(
 #[test]
 fn coefficients_of_both_types(rt: HostRuntime) -> Result<(), Fail> {
     let narrow = [
-        (1, [(1, 386351693), (2, 1138644992), (3, -714080593)]),
-        (2, [(1, 386351693), (8, -862626888), (15, 1271876612)]),
-        (3, [(1, 386351693), (32, 1400600175), (63, -428081137)]),
-        (4, [(1, 386351693), (128, 513500364), (255, -107)]),
+        (1, 4, [(1, 386351693), (2, 1138644992), (3, -714080593)]),
+        (2, 16, [(1, 386351693), (8, -862626888), (15, 1271876612)]),
+        (3, 64, [(1, 386351693), (32, 1400600175), (63, -428081137)]),
+        (4, 256, [(1, 386351693), (128, 513500364), (255, -107)]),
     ];
-    for (d, expected) in narrow {
-        coefficients_are::<i32>(&rt, rt.alloc(), d, expected)?;
+    for (d, size, expected) in narrow {
+        coefficients_are::<i32>(&rt, rt.alloc(), d, size, expected)?;
     }
     let wide = [
         (
             1,
+            4,
             [
                 (1, 24262656606797),
                 (2, 14848840587264),
@@ -66,6 +82,7 @@ fn coefficients_of_both_types(rt: HostRuntime) -> Result<(), Fail> {
         ),
         (
             2,
+            16,
             [
                 (1, 24262656606797),
                 (8, -92312594719816),
@@ -74,6 +91,7 @@ fn coefficients_of_both_types(rt: HostRuntime) -> Result<(), Fail> {
         ),
         (
             3,
+            64,
             [
                 (1, 24262656606797),
                 (32, -29582334134673),
@@ -82,6 +100,7 @@ fn coefficients_of_both_types(rt: HostRuntime) -> Result<(), Fail> {
         ),
         (
             4,
+            256,
             [
                 (1, 24262656606797),
                 (128, -207424932059956),
@@ -89,8 +108,8 @@ fn coefficients_of_both_types(rt: HostRuntime) -> Result<(), Fail> {
             ],
         ),
     ];
-    for (d, expected) in wide {
-        coefficients_are::<i64>(&rt, rt.alloc(), d, expected)?;
+    for (d, size, expected) in wide {
+        coefficients_are::<i64>(&rt, rt.alloc(), d, size, expected)?;
     }
     Ok(())
 }

@@ -1,0 +1,63 @@
+//! Values of the format's tables, and of a program that computes the definitions digit by digit.
+
+use super::*;
+
+#[test]
+fn ranks_have_their_places(rt: HostRuntime) {
+    let two = [0, 1, 4, 5, 2, 8, 6, 9, 3, 12, 10, 7, 13, 11, 14, 15];
+    let three = [0, 1, 4, 16, 5, 17, 20, 2, 8, 32, 21, 6, 18, 9, 33, 24];
+    let four = [0, 1, 4, 16, 64, 5, 17, 65, 20, 68, 80, 2, 8, 32, 128, 21];
+    assert_eq!(rt; order(1), [0, 1, 2, 3].as_slice());
+    assert_eq!(rt; order(2), two.as_slice());
+    assert_eq!(rt; &order(3)[..16], three.as_slice());
+    assert_eq!(rt; &order(4)[..16], four.as_slice());
+}
+
+#[test]
+fn values_have_their_digits(rt: HostRuntime) {
+    for (v, digits) in [
+        (1, 1),
+        (-1, 3),
+        (2, 6),
+        (3, 7),
+        (i32::MIN, 0x8000_0000),
+        (-1073741824, 0xc000_0000),
+    ] {
+        assert_eq!(rt; to_digits(v), digits, "the digits of {v}");
+        assert_eq!(rt; from_digits::<i32>(digits), v, "the value of {digits}");
+    }
+    for (v, digits) in [
+        (1, 1),
+        (-1, 3),
+        (i64::MIN, 0x8000_0000_0000_0000),
+        (i64::MAX, 0x8000_0000_0000_0003),
+    ] {
+        assert_eq!(rt; to_digits(v), digits, "the digits of {v}");
+        assert_eq!(rt; from_digits::<i64>(digits), v, "the value of {digits}");
+    }
+}
+
+#[test]
+fn planes_hold_a_block(rt: HostRuntime) {
+    let block = [-8, -7, -6, -5, -4, -3, -2, -1, 0, 1, 2, 3, 4, 5, 6, 7];
+    let mut digits = [0; 16];
+    ranked::<i32>(2, &block, &mut digits);
+    assert_eq!(rt;
+        digits,
+        [8, 9, 12, 13, 14, 0, 2, 1, 15, 4, 6, 3, 5, 7, 26, 27]
+    );
+
+    let mut planes = [[1; 4]; 32];
+    to_planes(&digits, &mut planes);
+    let low = [47498, 60752, 14108, 49439, 49152, 0];
+    for (plane, word) in planes.iter().zip(low) {
+        assert_eq!(rt; *plane, [word, 0, 0, 0]);
+    }
+
+    let mut again = [1; 16];
+    from_planes(&planes, &mut again);
+    assert_eq!(rt; again, digits);
+    let mut restored = [0; 16];
+    unranked::<i32>(2, &again, &mut restored);
+    assert_eq!(rt; restored, block);
+}
