@@ -1,13 +1,14 @@
-// A library with one function.
+//! A map of lines at all lines of a block, along one axis and along all axes.
+//!
+//! A block of `d` dimensions has `4^d` values, x fastest. A line has the four values that differ in one index alone:
+//! along axis `k`, counted from 0 for x, its values lie `4^k` places apart.
 #![tactic(auto)]
 
-ghost use Rattle.std.specs.Prelude.{◌≡◌};
-ghost use Rattle.zf_axes.specs.Echo.{echo_of};
+mod axes;
+mod line;
 
-// The `ensures` clause is the contract: what `echo` returns is `echo_of` of its argument, a definition
-// in `specs/Echo.antt`, which a caller's clause can cite too.
-pub fn echo(x: usize) -> usize
-    ensures { result ≡ echo_of x }
-{
-    x
-}
+pub use axes::{pass, passes, passes_back};
+pub use line::LineMap;
+
+#[cfg(test)]
+mod tests;

@@ -1,13 +1,12 @@
-// A library with one function.
+//! The codes of one block.
 #![tactic(auto)]
 
-ghost use Rattle.std.specs.Prelude.{◌≡◌};
-ghost use Rattle.zf_block.specs.Echo.{echo_of};
+mod coefficients;
+pub mod laws;
+mod rate;
+mod reversible;
+mod scratch;
 
-// The `ensures` clause is the contract: what `echo` returns is `echo_of` of its argument, a definition
-// in `specs/Echo.antt`, which a caller's clause can cite too.
-pub fn echo(x: usize) -> usize
-    ensures { result ≡ echo_of x }
-{
-    x
-}
+pub use rate::{decode_rate, encode_rate};
+pub use reversible::{decode_rev, encode_rev};
+pub use scratch::Scratch;

@@ -1,5 +1,6 @@
 -- What the calls of this crate make of a block together.
-use Rattle.std.proofs.Common.{◌≡◌, sym, ap, ◌∙◌, ℕ, ◌^◌, Bool, false, ℤ, List, [], map, reverse, length, get_or}
+use Rattle.std.proofs.Common.{◌≡◌, sym, ap, ◌∙◌, ℕ, ◌^◌, Bool, false, ℤ, List, [], map, reverse, length, get_or, take}
+use Rattle.std.proofs.lemmas.List.{take-map}
 use Rattle.std.proofs.lemmas.Simd.{map-map}
 use Rattle.std.specs.Int.{Width}
 use mir.Val.{bits}
@@ -8,7 +9,8 @@ use Rattle.zf_spec.specs.Grid.{upto}
 use Rattle.zf_spec.specs.Ranks.{unranked}
 use Rattle.zf_spec.specs.Planes.{planes_of}
 use Rattle.zf_spec.specs.Codes as Codes
-use Rattle.zf_coef.specs.Words.{digits_in, ranked_digits, unranked_values, planes_held, columns}
+use Rattle.zf_spec.specs.Words.{digits_held, planes_held}
+use Rattle.zf_coef.specs.Words.{digits_in, ranked_digits, unranked_values, columns}
 
 -- `ranked` and then `to_planes`: the planes hold those of the block's coefficients
 pub planes-ranked : (w : Width) (d : ℕ) (coefficients : List ℤ) (words : List ℕ) (planes : List (List ℕ))
@@ -39,3 +41,8 @@ unranked-planes w d words planes size count by_rank =
     ∙ ap (λ n. unranked_values w d (columns n (length words) (planes_held (length words) planes))) count
     ∙ ap (λ n. unranked_values w d (columns (bits w) n (planes_held n planes))) size
     ∙ unranked_values-columns w d (planes_held (4 ^ d) planes)
+
+-- the top planes of those that are held
+pub take-planes_held : (prec size : ℕ) (planes : List (List ℕ)) → take prec (planes_held size planes) ≡ map (digits_held size) (take prec (reverse planes))
+unfolding planes_held
+take-planes_held prec size planes = take-map (digits_held size) prec (reverse planes)

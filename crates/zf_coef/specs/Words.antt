@@ -20,22 +20,10 @@ ranked_digits w d block = map (digits (bits w)) (ranked d block)
 abbrev pub unranked_values : Width → ℕ → List (List Bool) → List ℤ
 unranked_values w d coefficients = unranked d (map (value_of w) coefficients)
 
--- the digits of a plane of this size, by rank: digit r is bit r mod 64 of word r / 64
-unfoldable pub digits_held : ℕ → List ℕ → List Bool
-digits_held size words = take size (word_bits words)
-
--- the digits of planes, the greatest first
-unfoldable pub planes_held : ℕ → List (List ℕ) → List (List Bool)
-planes_held size planes = map (digits_held size) (reverse planes)
-
--- a plane has no bit from this rank on
-unfoldable pub IsClearFrom : ℕ → List ℕ → Type 0
-IsClearFrom size words = drop size (word_bits words) ≡ replicate (length (word_bits words) - size) false
-
 -- the digits that planes hold at this rank, the lowest first
 unfoldable pub column : ℕ → List (List ℕ) → List Bool
 column rank planes = map (λ words. slice_index_or (word_bits words) rank false) planes
 
--- the digits of this many coefficients that planes stand for, the greatest plane first: digit k of coefficient r is digit r of plane k
+-- the digits of the coefficients of n planes, the greatest first: digit k of coefficient r is digit r of plane k
 unfoldable pub columns : ℕ → ℕ → List (List Bool) → List (List Bool)
 columns n size planes = map (λ r. map (λ k. slice_index_or (slice_index_or planes k []) r false) (reverse (upto n))) (upto size)

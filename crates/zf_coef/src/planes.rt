@@ -3,7 +3,8 @@
 ghost use Rattle.std.specs.Prelude.{◌≡◌, ℕ, ◌^◌, ◌<◌, ◌≤◌, All, length};
 ghost use Rattle.zf_spec.specs.Numbers.{field};
 ghost use Rattle.zf_spec.specs.Planes.{plane, planes_of};
-ghost use Rattle.zf_coef.specs.Words.{digits_in, digits_held, planes_held, IsClearFrom, column, columns};
+ghost use Rattle.zf_spec.specs.Words.{digits_held, planes_held, IsClearFrom};
+ghost use Rattle.zf_coef.specs.Words.{digits_in, column, columns};
 
 /// How many words hold a plane.
 const PLANE_WORDS: usize = 4;
@@ -25,13 +26,14 @@ fn plane_of(k: usize, digits: &[u64]) -> [u64; PLANE_WORDS]
     words
 }
 
-/// Writes digit `k` of each coefficient into plane `k`, for each plane. Digits beyond the planes are left out.
+/// Writes the digits of coefficients by rank as bit planes: plane `k` has digit `k` of each. Digits that have no plane are left out.
 ///
-/// The digit of rank r is bit `r % 64` of word `r / 64`; bits past the digits are 0.
+/// The digit of rank r is bit `r % 64` of word `r / 64` of a plane; bits past the digits are 0.
 pub fn to_planes(digits: &[u64], planes: &mut [[u64; 4]])
     requires digits { length digits.now ≤ 256 }
     requires planes { length planes.old ≤ 64 }
-    ensures digits { planes_held (length digits.now) planes.new ≡ planes_of (length planes.new) (digits_in (length planes.new) digits.now) }
+    ensures digits { let n = length planes.new in
+        planes_held (length digits.now) planes.new ≡ planes_of n (digits_in n digits.now) }
     ensures clear { All (IsClearFrom (length digits.now)) planes.new }
 {
     for (k, plane) in planes.iter_mut().enumerate() {
@@ -53,12 +55,13 @@ fn digits_of_rank(rank: usize, planes: &[[u64; 4]]) -> u64
     digits
 }
 
-/// The way back: writes the digits of each coefficient from the planes. Bits past the digits are not looked at.
+/// The way back: writes the digits of as many coefficients as `digits` has words. Bits of later ranks are not looked at.
 pub fn from_planes(planes: &[[u64; 4]], digits: &mut [u64])
     requires planes { length planes.now ≤ 64 }
     requires digits { length digits.old ≤ 256 }
-    ensures digits { digits_in (length planes.now) digits.new
-        ≡ columns (length planes.now) (length digits.new) (planes_held (length digits.new) planes.now) }
+    ensures digits { let n = length planes.now in
+        let size = length digits.new in
+        digits_in n digits.new ≡ columns n size (planes_held size planes.now) }
     ensures below { All (λ u. u < 2 ^ length planes.now) digits.new }
 {
     for (rank, digit) in digits.iter_mut().enumerate() {

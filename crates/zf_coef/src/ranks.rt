@@ -8,7 +8,7 @@ use crate::negabinary::{from_digits, to_digits};
 use crate::places::order;
 use zf_base::Lane;
 
-/// Puts the negabinary digits of a block's coefficients in order, those of rank 0 first.
+/// Writes the negabinary digits of a block's coefficients by rank, those of rank 0 first.
 ///
 /// `block` has `4^d` coefficients by place, x fastest.
 pub fn ranked<T: Lane>(d: u8, block: &[T], digits: &mut [u64])
@@ -24,7 +24,7 @@ pub fn ranked<T: Lane>(d: u8, block: &[T], digits: &mut [u64])
     }
 }
 
-/// The way back: puts the coefficient of each rank at its place in the block. Digits from `WIDTH` on are not looked at.
+/// The way back: writes the coefficient of each rank at its place in the block. Bits from `WIDTH` on are not looked at.
 pub fn unranked<T: Lane>(d: u8, digits: &[u64], block: &mut [T])
     requires some { 1 ≤ d }
     requires four_at_most { d ≤ 4 }

@@ -1,13 +1,17 @@
-// A library with one function.
+//! The header of a stream, both ways.
 #![tactic(auto)]
 
-ghost use Rattle.std.specs.Prelude.{◌≡◌};
-ghost use Rattle.zf_header.specs.Echo.{echo_of};
+mod header;
+pub mod laws;
+mod reading;
+mod writing;
 
-// The `ensures` clause is the contract: what `echo` returns is `echo_of` of its argument, a definition
-// in `specs/Echo.antt`, which a caller's clause can cite too.
-pub fn echo(x: usize) -> usize
-    ensures { result ≡ echo_of x }
-{
-    x
-}
+pub use header::{
+    FULL_HEADER_BITS, FULL_HEADER_BYTES, Header, HeaderFault, MAX_RATE, Mode, mode_number,
+    rate_bytes,
+};
+pub use reading::read;
+pub use writing::write;
+
+#[cfg(test)]
+mod tests;

@@ -1,13 +1,10 @@
-// A library with one function.
+//! The lossy transform of a block, zfp's decorrelating transform.
 #![tactic(auto)]
 
-ghost use Rattle.std.specs.Prelude.{◌≡◌};
-ghost use Rattle.zf_lift.specs.Echo.{echo_of};
+mod line;
+mod transform;
 
-// The `ensures` clause is the contract: what `echo` returns is `echo_of` of its argument, a definition
-// in `specs/Echo.antt`, which a caller's clause can cite too.
-pub fn echo(x: usize) -> usize
-    ensures { result ≡ echo_of x }
-{
-    x
-}
+pub use transform::{forward, inverse};
+
+#[cfg(test)]
+mod tests;

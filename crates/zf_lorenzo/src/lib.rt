@@ -2,9 +2,9 @@
 #![tactic(auto)]
 
 mod line;
-mod passes;
+mod transform;
 
-pub use passes::{forward, inverse};
+pub use transform::{forward, inverse};
 
 #[cfg(test)]
 mod tests;

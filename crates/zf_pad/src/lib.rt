@@ -1,13 +1,13 @@
-// A library with one function.
+//! Copies between a list of values and a block, and the padding of partial blocks.
 #![tactic(auto)]
 
-ghost use Rattle.std.specs.Prelude.{◌≡◌};
-ghost use Rattle.zf_pad.specs.Echo.{echo_of};
+mod copies;
+pub mod laws;
+mod layout;
+mod padding;
+#[cfg(test)]
+mod tests;
 
-// The `ensures` clause is the contract: what `echo` returns is `echo_of` of its argument, a definition
-// in `specs/Echo.antt`, which a caller's clause can cite too.
-pub fn echo(x: usize) -> usize
-    ensures { result ≡ echo_of x }
-{
-    x
-}
+pub use copies::{gather, scatter};
+pub use layout::Layout;
+pub use padding::{pad, places};

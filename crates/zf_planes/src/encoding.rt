@@ -3,7 +3,7 @@
 ghost use Rattle.std.specs.Prelude.{◌≡◌, ◌+◌, ◌-◌, ◌*◌, ◌^◌, ◌<◌, ◌≤◌, ◌⊎◌, min, length, take, drop};
 ghost use Rattle.zf_spec.specs.Planes.{plane_code, tail, code};
 ghost use Rattle.zf_bits.specs.Writer.{Appends};
-ghost use Rattle.zf_planes.specs.Words.{top_planes};
+ghost use Rattle.zf_spec.specs.Words.{planes_held};
 
 use crate::plane::{MOST_DIGITS, first_one, reach_of, unpack};
 use zf_bits::BitWriter;
@@ -65,9 +65,9 @@ fn write_planes(
 ) -> u64
     requires size { length digits.old ≤ 256 }
     requires planes { prec ≤ length planes.now }
-    requires fits { min budget (length (code (top_planes prec (length digits.old) planes.now))) ≤ out.old.room }
-    ensures bits { Appends out.old out.new (take budget (code (top_planes prec (length digits.old) planes.now))) }
-    ensures count { result ≡ min budget (length (code (top_planes prec (length digits.old) planes.now))) }
+    requires fits { min budget (length (code (take prec (planes_held (length digits.old) planes.now)))) ≤ out.old.room }
+    ensures bits { Appends out.old out.new (take budget (code (take prec (planes_held (length digits.old) planes.now)))) }
+    ensures count { result ≡ min budget (length (code (take prec (planes_held (length digits.old) planes.now)))) }
 {
     let mut left = budget;
     let mut above = 0;
@@ -87,8 +87,8 @@ pub fn encode(budget: u64, prec: u32, size: usize, planes: &[[u64; 4]], out: &mu
     requires size { (size ≡ 4) ⊎ (size ≡ 16) ⊎ (size ≡ 64) ⊎ (size ≡ 256) }
     requires planes { prec ≤ length planes.now }
     requires fits { min budget (size * prec + size) ≤ out.old.room }
-    ensures bits { Appends out.old out.new (take budget (code (top_planes prec size planes.now))) }
-    ensures count { result ≡ min budget (length (code (top_planes prec size planes.now))) }
+    ensures bits { Appends out.old out.new (take budget (code (take prec (planes_held size planes.now)))) }
+    ensures count { result ≡ min budget (length (code (take prec (planes_held size planes.now)))) }
 {
     let mut digits = [false; MOST_DIGITS];
     write_planes(budget, prec, planes, &mut digits[..size], out)

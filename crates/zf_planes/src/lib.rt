@@ -1,8 +1,15 @@
 //! The embedded code of bit planes.
 #![tactic(auto)]
 
+mod decoding;
 mod encoding;
+mod measuring;
 mod plane;
 
+pub use decoding::decode;
 pub use encoding::encode;
+pub use measuring::code_len;
 pub use plane::used_planes;
+
+#[cfg(test)]
+mod tests;

@@ -2,7 +2,7 @@
 
 ghost use Rattle.std.specs.Prelude.{◌≡◌, ◌+◌, ◌<◌, ◌≤◌, ◌↔◌, ◌⊎◌, IsTrue, true, false, ◌∷◌, ◌++◌, length, take, drop, replicate};
 ghost use Rattle.zf_spec.specs.Planes.{reach, has_one, used};
-ghost use Rattle.zf_planes.specs.Words.{digits_of, top_planes};
+ghost use Rattle.zf_spec.specs.Words.{digits_held, planes_held, IsClearFrom};
 
 /// The most digits of a plane: a block of four dimensions has 256 coefficients.
 pub(crate) const MOST_DIGITS: usize = 256;
@@ -10,10 +10,32 @@ pub(crate) const MOST_DIGITS: usize = 256;
 /// Unpacks as many digits of a plane as there is place for.
 pub(crate) fn unpack(plane: &[u64; 4], digits: &mut [bool])
     requires { length digits.old ≤ 256 }
-    ensures { digits.new ≡ digits_of (length digits.old) plane.now }
+    ensures { digits.new ≡ digits_held (length digits.old) plane.now }
 {
     for r in 0..digits.len() {
         digits[r] = (plane[r / 64] >> (r % 64)) % 2 == 1;
+    }
+}
+
+/// The words of a plane that has these digits, and no other bit.
+pub(crate) fn pack(digits: &[bool]) -> [u64; 4]
+    requires { length digits.now ≤ 256 }
+    ensures digits { digits_held (length digits.now) result ≡ digits.now }
+    ensures clear { IsClearFrom (length digits.now) result }
+{
+    let mut words = [0; 4];
+    for (r, digit) in digits.iter().enumerate() {
+        words[r / 64] |= u64::from(*digit) << (r % 64);
+    }
+    words
+}
+
+/// Makes all planes zero.
+pub(crate) fn clear(planes: &mut [[u64; 4]])
+    ensures { planes.new ≡ replicate (length planes.old) (replicate 4 0) }
+{
+    for plane in planes.iter_mut() {
+        *plane = [0; 4];
     }
 }
 
@@ -51,7 +73,7 @@ pub(crate) fn first_one(digits: &[bool]) -> usize
 pub fn used_planes(size: usize, planes: &[[u64; 4]]) -> u32
     requires size { (size ≡ 4) ⊎ (size ≡ 16) ⊎ (size ≡ 64) ⊎ (size ≡ 256) }
     requires planes { length planes.now ≤ 64 }
-    ensures { result ≡ used (top_planes (length planes.now) size planes.now) }
+    ensures { result ≡ used (planes_held size planes.now) }
 {
     let mut digits = [false; MOST_DIGITS];
     count_used(planes, &mut digits[..size])
@@ -61,7 +83,7 @@ pub fn used_planes(size: usize, planes: &[[u64; 4]]) -> u32
 fn count_used(planes: &[[u64; 4]], digits: &mut [bool]) -> u32
     requires size { length digits.old ≤ 256 }
     requires planes { length planes.now ≤ 64 }
-    ensures { result ≡ used (top_planes (length planes.now) (length digits.old) planes.now) }
+    ensures { result ≡ used (planes_held (length digits.old) planes.now) }
 {
     for (k, plane) in planes.iter().enumerate() {
         unpack(plane, digits);

@@ -1,5 +1,5 @@
 -- The lowest bits of a number, and the number that bits stand for.
-use Rattle.std.proofs.Common.{◌≡◌, refl, sym, ap, ◌∙◌, ℕ, zero, suc, ◌+◌, ◌*◌, ◌/◌, ◌%◌, ◌^◌, ◌<◌, Bool, true, false, List, [], ◌∷◌, ◌++◌, length, replicate, pow-suc, mod-eq_of_lt, pow_pos, arith}
+use Rattle.std.proofs.Common.{◌≡◌, refl, sym, ap, ◌∙◌, ℕ, zero, suc, ◌+◌, ◌*◌, ◌/◌, ◌%◌, ◌^◌, ◌<◌, Bool, true, false, List, [], ◌∷◌, ◌++◌, length, get_or, replicate, pow-suc, mod-eq_of_lt, pow_pos, arith}
 use Rattle.std.proofs.lemmas.Nat.{mod-pow-add, shr-shr}
 use Rattle.std.proofs.Math.Nat.{div-one, mod-one}
 use Rattle.zf_spec.specs.Numbers.{is_odd, digit_value, field, number}
@@ -64,3 +64,11 @@ number-zeros n = ap number (sym (field-zero n)) ∙ number-field n 0 ∙ mod-eq_
 pub number-append : (as' bs : List Bool) → number (as' ++ bs) ≡ number as' + 2 ^ length as' * number bs
 number-append [] bs = omega arith
 number-append (a ∷ as') bs = omega (arith, number-append as' bs, ap (λ p. p * number bs) (pow-suc 2 (length as')))
+
+-- bit k of a field
+pub get_or-field : (n v k : ℕ) (d : Bool) → k < n → get_or (field n v) k d ≡ is_odd (v / 2 ^ k)
+get_or-field zero v k d h = absurd (omega arith)
+get_or-field (suc n) v zero d h = ap is_odd (sym (div-one v))
+get_or-field (suc n) v (suc k) d h =
+    let up : v / 2 / 2 ^ k ≡ v / 2 ^ suc k = shr-shr v 1 k ∙ ap (λ j. v / 2 ^ j) (omega arith) in
+    get_or-field n (v / 2) k d (omega arith) ∙ ap is_odd up

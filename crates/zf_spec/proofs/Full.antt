@@ -11,15 +11,15 @@ use Rattle.zf_spec.proofs.PlaneCode.{tail-zeros}
 
 -- ---- runs and tails
 
-in_run-true : (ds : List Bool) → 1 ≤ length ds → in_run (true ∷ ds) ≡ true ∷ tail ds
+pub in_run-true : (ds : List Bool) → 1 ≤ length ds → in_run (true ∷ ds) ≡ true ∷ tail ds
 in_run-true [] h = absurd (omega arith)
 in_run-true (d ∷ ds) h = refl
 
-in_run-false : (ds : List Bool) → 1 ≤ length ds → in_run (false ∷ ds) ≡ false ∷ in_run ds
+pub in_run-false : (ds : List Bool) → 1 ≤ length ds → in_run (false ∷ ds) ≡ false ∷ in_run ds
 in_run-false [] h = absurd (omega arith)
 in_run-false (d ∷ ds) h = refl
 
-tail-some : (ds : List Bool) → has_one ds ≡ true → tail ds ≡ true ∷ in_run ds
+pub tail-some : (ds : List Bool) → has_one ds ≡ true → tail ds ≡ true ∷ in_run ds
 tail-some [] h = absurd (false≢true h)
 tail-some (d ∷ ds) h = ap (λ t. cond t (true ∷ in_run (d ∷ ds)) (false ∷ [])) h
 
@@ -28,7 +28,7 @@ length-full_group m [] run = length-replicate m false
 length-full_group m (false ∷ s) run = length-replicate m false
 length-full_group m (true ∷ s) run = run s
 
-length-full_run : (m : ℕ) (s : List Bool) → length (full_run m s) ≡ m
+pub length-full_run : (m : ℕ) (s : List Bool) → length (full_run m s) ≡ m
 length-full_run zero s = refl
 length-full_run (suc zero) s = refl
 length-full_run (suc (suc m)) [] = ap suc (length-full_run (suc m) [])
@@ -41,7 +41,7 @@ length-full_tail m s = length-full_group m s (length-full_run m)
 -- ---- the code of these digits begins the bits
 
 -- of a run: it has a one, and its code begins s
-abbrev FullRun : ℕ → List Bool → Type 0
+abbrev pub FullRun : ℕ → List Bool → Type 0
 FullRun m s = (has_one (full_run m s) ≡ true) × Begins (in_run (full_run m s)) s
 
 tail_of_zeros : (m : ℕ) (s : List Bool) → Begins (false ∷ []) s → Begins (tail (replicate m false)) s
@@ -53,7 +53,7 @@ full_group_begins m [] h run = tail_of_zeros m [] (refl, tt)
 full_group_begins m (false ∷ s) h run = tail_of_zeros m (false ∷ s) (refl, tt)
 full_group_begins m (true ∷ s) h run = subst (λ c. Begins c (true ∷ s)) (sym (tail-some (full_run m s) (run s).0)) (refl, (run s).1)
 
-full_run_begins : (m : ℕ) (s : List Bool) → FullRun (suc m) s
+pub full_run_begins : (m : ℕ) (s : List Bool) → FullRun (suc m) s
 full_run_begins zero s = (refl, tt)
 full_run_begins (suc m) [] =
     let rest = full_run_begins m [] in
@@ -132,7 +132,7 @@ full_plane_only n ds s h b =
     ∙ ap (λ c. c ++ drop n ds) front
     ∙ ap (λ c. first n s ++ c) (rest ∙ ap (λ k. full_tail k (drop (length (take n ds)) s)) m ∙ ap (λ k. full_tail (length ds - n) (drop k s)) l)
 
-length-full_from : (p size n : ℕ) (s : List Bool) → length (full_from p size n s) ≡ p
+pub length-full_from : (p size n : ℕ) (s : List Bool) → length (full_from p size n s) ≡ p
 length-full_from zero size n s = refl
 length-full_from (suc p) size n s = let ds = full_plane size n s in ap suc (length-full_from p size (max n (reach ds)) (drop (length (plane_code n ds)) s))
 
@@ -140,7 +140,7 @@ length-full_from (suc p) size n s = let ds = full_plane size n s in ap suc (leng
 wide : (size n : ℕ) (ds : List Bool) → n ≤ size → length ds ≡ size → max n (reach ds) ≤ size
 wide size n ds h l = omega (arith, reach-le ds)
 
-full_from-length : (p size n : ℕ) (s : List Bool) → n ≤ size → All (λ ds. length ds ≡ size) (full_from p size n s)
+pub full_from-length : (p size n : ℕ) (s : List Bool) → n ≤ size → All (λ ds. length ds ≡ size) (full_from p size n s)
 full_from-length zero size n s h = All-nil (λ ds. length ds ≡ size)
 full_from-length (suc p) size n s h =
     let ds = full_plane size n s in

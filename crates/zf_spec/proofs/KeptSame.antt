@@ -119,10 +119,10 @@ cut_same n r a b rest more l h cut_a cut_b e = ap (λ ds. ds ++ zeros (drop q (t
 
 -- ---- planes
 
-kept_whole : (r n : ℕ) (ds : List Bool) → length (plane_code n ds) ≤ r → kept_plane r n ds ≡ ds
+pub kept_whole : (r n : ℕ) (ds : List Bool) → length (plane_code n ds) ≤ r → kept_plane r n ds ≡ ds
 kept_whole r n ds h = ap (λ t. cond t ds (cut_plane r n ds)) (le-leb (length (plane_code n ds)) r h)
 
-kept_cut : (r n : ℕ) (ds : List Bool) → r < length (plane_code n ds) → kept_plane r n ds ≡ cut_plane r n ds
+pub kept_cut : (r n : ℕ) (ds : List Bool) → r < length (plane_code n ds) → kept_plane r n ds ≡ cut_plane r n ds
 kept_cut r n ds h = ap (λ t. cond t ds (cut_plane r n ds)) (lt-leb (length (plane_code n ds)) r h)
 
 -- a plane with a digit has a code

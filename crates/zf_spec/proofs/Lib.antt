@@ -4,6 +4,7 @@
 --     Halves           halves that are rounded down
 --     Negabinary       the digits of a number, and the number of digits
 --     Fields           the lowest bits of a number
+--     WordBits         the bits of words, and a word in which a bit is set
 --     Counting         the numbers from one number on, and lists that a function makes of them
 --     Raster           positions in a box and their raster numbers
 --     Padding          the padded block and the values that exist
@@ -26,6 +27,7 @@ pub mod Wrapping
 pub mod Halves
 pub mod Negabinary
 pub mod Fields
+pub mod WordBits
 pub mod Counting
 pub mod Raster
 pub mod Padding

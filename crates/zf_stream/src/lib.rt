@@ -1,13 +1,13 @@
-// A library with one function.
+//! Streams: from raw values to a stream, and back.
 #![tactic(auto)]
 
-ghost use Rattle.std.specs.Prelude.{◌≡◌};
-ghost use Rattle.zf_stream.specs.Echo.{echo_of};
+mod compressing;
+mod encoding;
+mod fault;
+mod packing;
+mod raw;
+mod values;
 
-// The `ensures` clause is the contract: what `echo` returns is `echo_of` of its argument, a definition
-// in `specs/Echo.antt`, which a caller's clause can cite too.
-pub fn echo(x: usize) -> usize
-    ensures { result ≡ echo_of x }
-{
-    x
-}
+pub use compressing::compress;
+pub use fault::StreamFault;
+

@@ -7,7 +7,7 @@ use Rattle.zf_coef.proofs.Mask.{wrap-unmasked}
 use Rattle.zf_coef.proofs.negabinary.from_digits.Goals as goal
 
 pub returns-clause-value : goal.returns-clause-value
-returns-clause-value g c = c.from_word.ensures.value ∙ wrap-unmasked g.T.Lane.width g.met.T.Lane.sized c.args.u
+returns-clause-value g c = c.from_word.ensures.value ∙ wrap-unmasked g.T.Lane.width g.met.T.Lane.two_widths c.args.u
 
 pub returns-clause-undone : goal.returns-clause-undone
 returns-clause-undone g c =

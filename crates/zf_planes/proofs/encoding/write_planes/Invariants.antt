@@ -1,13 +1,13 @@
 -- The code of the planes from the i-th on remains to be written.
-use Rattle.std.proofs.Common.{length, ◌≤◌, drop}
+use Rattle.std.proofs.Common.{length, ◌≤◌, take, drop}
 use Rattle.zf_spec.specs.Planes.{code, code_from}
-use Rattle.zf_planes.specs.Words.{top_planes}
+use Rattle.zf_spec.specs.Words.{planes_held}
 use Rattle.zf_planes.proofs.Budgets.{Remains}
 use Rattle.zf_planes.proofs.encoding.write_planes.Given as goal
 
 abbrev pub invariant-loop-i : goal.invariant-loop-i
 invariant-loop-i l =
-    let planes = top_planes l.prec (length l.fn.digits) l.planes in
+    let planes = take l.prec (planes_held (length l.fn.digits) l.planes) in
     record {
       remains : Remains l.fn.out l.out l.budget l.left (code planes) (code_from l.above (drop l.i planes));
       above : l.above ≤ length l.digits;

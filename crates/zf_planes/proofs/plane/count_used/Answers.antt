@@ -2,34 +2,34 @@ use Rattle.std.proofs.Common.{◌≡◌, ℕ, ◌-◌, ◌<◌, ◌≤◌, true,
 use Rattle.std.proofs.lemmas.Bool.{cases_lt}
 use Rattle.zf_spec.specs.Planes.{has_one, used}
 use Rattle.zf_spec.proofs.Reach.{used_only}
-use Rattle.zf_planes.specs.Words.{digits_of, top_planes}
+use Rattle.zf_spec.specs.Words.{digits_held, planes_held}
 use Rattle.zf_planes.proofs.Runs.{has_one-drop, has_one-drop_none}
-use Rattle.zf_planes.proofs.Unpacking.{get_or-top_planes, get_or-top_planes_past}
+use Rattle.zf_planes.proofs.Unpacking.{get_or-planes_held, get_or-planes_held_past}
 use Rattle.zf_planes.proofs.plane.count_used.Goals as goal
 
 HasNoneBelow : ℕ → List (List ℕ) → ℕ → Type 0
-HasNoneBelow size planes k = (i : ℕ) → i < k → has_one (digits_of size (get_or planes i [])) ≡ false
+HasNoneBelow size planes k = (i : ℕ) → i < k → has_one (digits_held size (get_or planes i [])) ≡ false
 
 -- from the count of planes less k on, counted from the top, no plane has a one
-none_from : (size : ℕ) (planes : List (List ℕ)) (k : ℕ) → k ≤ length planes → ((i : ℕ) → i < k → has_one (digits_of size (get_or planes i [])) ≡ false)
-    → (j : ℕ) → length planes - k ≤ j → has_one (get_or (top_planes (length planes) size planes) j []) ≡ false
+none_from : (size : ℕ) (planes : List (List ℕ)) (k : ℕ) → k ≤ length planes → ((i : ℕ) → i < k → has_one (digits_held size (get_or planes i [])) ≡ false)
+    → (j : ℕ) → length planes - k ≤ j → has_one (get_or (planes_held size planes) j []) ≡ false
 none_from size planes k within none j past =
     ⊎_elim
-    (λ below. ap has_one (get_or-top_planes size planes j below) ∙ none (length planes - 1 - j) (omega arith))
-    (λ above. ap has_one (get_or-top_planes_past (length planes) size planes j above))
+    (λ below. ap has_one (get_or-planes_held size planes j [] below) ∙ none (length planes - 1 - j) (omega arith))
+    (λ above. ap has_one (get_or-planes_held_past size planes j above))
     (cases_lt j (length planes))
 
-used_at : (size : ℕ) (planes : List (List ℕ)) (k : ℕ) → k < length planes → ((i : ℕ) → i < k → has_one (digits_of size (get_or planes i [])) ≡ false)
-    → has_one (digits_of size (get_or planes k [])) ≡ true → length planes - k ≡ used (top_planes (length planes) size planes)
+used_at : (size : ℕ) (planes : List (List ℕ)) (k : ℕ) → k < length planes → ((i : ℕ) → i < k → has_one (digits_held size (get_or planes i [])) ≡ false)
+    → has_one (digits_held size (get_or planes k [])) ≡ true → length planes - k ≡ used (planes_held size planes)
 used_at size planes k below none one =
-    used_only (top_planes (length planes) size planes) (length planes - k) (none_from size planes k (omega arith) none)
+    used_only (planes_held size planes) (length planes - k) (none_from size planes k (omega arith) none)
     (λ j e.
     let place : length planes - 1 - j ≡ k = omega arith in
-    ap has_one (get_or-top_planes size planes j (omega arith)) ∙ ap (λ i. has_one (digits_of size (get_or planes i []))) place ∙ one)
+    ap has_one (get_or-planes_held size planes j [] (omega arith)) ∙ ap (λ i. has_one (digits_held size (get_or planes i []))) place ∙ one)
 
-used_none : (size : ℕ) (planes : List (List ℕ)) (k : ℕ) → length planes ≤ k → ((i : ℕ) → i < k → has_one (digits_of size (get_or planes i [])) ≡ false) → 0 ≡ used (top_planes (length planes) size planes)
+used_none : (size : ℕ) (planes : List (List ℕ)) (k : ℕ) → length planes ≤ k → ((i : ℕ) → i < k → has_one (digits_held size (get_or planes i [])) ≡ false) → 0 ≡ used (planes_held size planes)
 used_none size planes k all none =
-    used_only (top_planes (length planes) size planes) 0 (λ j past. none_from size planes (length planes) (omega arith) (λ i below. none i (omega arith)) j (omega arith)) (λ j e. absurd (omega arith))
+    used_only (planes_held size planes) 0 (λ j past. none_from size planes (length planes) (omega arith) (λ i below. none i (omega arith)) j (omega arith)) (λ j e. absurd (omega arith))
 
 pub loop-k-init : goal.loop-k-init
 loop-k-init c = λ i below. absurd (omega arith)

@@ -1,0 +1,9 @@
+-- Lemmas on passes along axes.
+--     Writes      four values written to a list
+--     Strides     where a line begins, and which places it has
+--     LineByLine  a pass along one axis, line by line
+--     AxisByAxis  passes along all axes, one after the other
+pub mod Writes
+pub mod Strides
+pub mod LineByLine
+pub mod AxisByAxis

@@ -1,0 +1,53 @@
+//! Passes along the axes of a block.
+
+ghost use Rattle.std.specs.Prelude.{◌≡◌, ◌*◌, ◌%◌, ◌^◌, ◌<◌, map, length};
+ghost use Rattle.zf_spec.specs.Lift.{along};
+ghost use Rattle.zf_axes.specs.Axes.{along_axes, along_axes_back};
+
+use crate::line::{LineMap, map_line};
+use zf_base::Lane;
+
+/// Maps each line along one axis, whose neighbours are `step` places apart.
+///
+/// That is `4^k` for axis `k`, counted from 0 for x.
+pub fn pass<T: Lane, M: LineMap<T>>(line_map: &M, step: usize, block: &mut [T])
+    requires step { 0 < step }
+    requires whole { length block.old % (4 * step) ≡ 0 }
+    ensures { map T.value block.new ≡ along (M.line line_map.now) step (map T.value block.old) }
+{
+    // The block is made of groups of `4 * step` values, and the lines of a group begin at its first `step` places.
+    for group in 0..block.len() / step / 4 {
+        let first = 4 * step * group;
+        for start in first..first + step {
+            map_line(line_map, start, step, block);
+        }
+    }
+}
+
+/// A pass along each axis of a block of `d` dimensions, along x first.
+pub fn passes<T: Lane, M: LineMap<T>>(line_map: &M, d: u8, block: &mut [T])
+    requires { length block.old ≡ 4 ^ d }
+    ensures { map T.value block.new ≡ along_axes (M.line line_map.now) 1 d (map T.value block.old) }
+{
+    for axis in 0..d {
+        pass(line_map, step_along(axis), block);
+    }
+}
+
+/// A pass along each axis of a block of `d` dimensions, along x last.
+pub fn passes_back<T: Lane, M: LineMap<T>>(line_map: &M, d: u8, block: &mut [T])
+    requires { length block.old ≡ 4 ^ d }
+    ensures { map T.value block.new ≡ along_axes_back (M.line line_map.now) 1 d (map T.value block.old) }
+{
+    for axis in (0..d).rev() {
+        pass(line_map, step_along(axis), block);
+    }
+}
+
+/// How many places apart neighbours along an axis are, counted from 0 for x.
+fn step_along(axis: u8) -> usize
+    requires { 4 ^ axis < 2 ^ 64 }
+    ensures { result ≡ 4 ^ axis }
+{
+    4usize.pow(u32::from(axis))
+}

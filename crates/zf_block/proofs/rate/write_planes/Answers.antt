@@ -1,0 +1,22 @@
+use Rattle.std.proofs.Common.{◌≡◌, ◌-◌, false, ◌++◌, length, take, replicate, sym, ap, ◌∙◌, arith}
+use Rattle.std.proofs.lemmas.List.{take_all}
+use Rattle.zf_spec.specs.Planes.{code}
+use Rattle.zf_spec.specs.Reading.{first}
+use Rattle.zf_spec.specs.Words.{planes_held}
+use Rattle.zf_bits.proofs.Appending.{Appends-append, Appends-same}
+use Rattle.zf_planes.proofs.Unpacking.{length-planes_held}
+use Rattle.zf_block.proofs.Zeros.{first-take}
+use Rattle.zf_block.proofs.rate.write_planes.Goals as goal
+
+pub returns : goal.returns
+returns c =
+    let budget = c.from-bits.result in
+    let planes = planes_held c.args.size c.args.planes.now in
+    let bits = code (take (length c.args.planes.now) planes) in
+    let whole : take (length c.args.planes.now) planes ≡ planes = take_all (length c.args.planes.now) planes (omega (arith, length-planes_held c.args.size c.args.planes.now)) in
+    let left : budget - c.encode-written.result ≡ budget - length bits = omega (arith, c.encode-written.ensures.count) in
+    Appends-same (Appends-append c.encode-written.ensures.bits c.write_zeros.ensures)
+    (ap (λ n. take budget bits ++ replicate n false) left
+    ∙ ap (λ ps. take budget (code ps) ++ replicate (budget - length (code ps)) false) whole
+    ∙ sym (first-take budget (code planes))
+    ∙ ap (λ n. first n (code planes)) c.from-bits.ensures)

@@ -1,0 +1,64 @@
+//! The padded values of a block, and the bit planes of its coefficients.
+
+ghost use Rattle.std.specs.Prelude.{◌≡◌, ◌≤◌, ◌^◌, map, length};
+ghost use Rattle.zf_spec.specs.Codes as codes;
+ghost use Rattle.zf_spec.specs.Codes.{coefficients_of};
+ghost use Rattle.zf_spec.specs.Padding.{pad};
+ghost use Rattle.zf_spec.specs.Words.{planes_held};
+ghost use Rattle.zf_base.specs.Positions.{used, IsExtent};
+
+use zf_base::{Extent, Lane};
+
+/// The most places of a block: one of four dimensions has 256.
+pub(crate) const MOST_PLACES: usize = 256;
+
+/// The most planes of a block: one of `i64` has 64.
+pub(crate) const MOST_PLANES: usize = 64;
+
+/// Copies a block, padded.
+pub(crate) fn copy_padded<T: Lane>(d: u8, e: &Extent, block: &[T], values: &mut [T])
+    requires four_at_most { d ≤ 4 }
+    requires extent { IsExtent d e.now }
+    requires block { length block.now ≡ 4 ^ d }
+    requires values { length values.old ≡ 4 ^ d }
+    ensures { map T.value values.new ≡ pad (used d e.now.size) (map T.value block.now) }
+{
+    values.copy_from_slice(block);
+    zf_pad::pad(e, d, values);
+}
+
+/// Makes the planes of coefficients, by way of their digits.
+pub(crate) fn to_planes<T: Lane>(
+    d: u8,
+    coefficients: &[T],
+    digits: &mut [u64],
+    planes: &mut [[u64; 4]],
+)
+    requires some { 1 ≤ d }
+    requires four_at_most { d ≤ 4 }
+    requires coefficients { length coefficients.now ≡ 4 ^ d }
+    requires digits { length digits.old ≡ 4 ^ d }
+    requires planes { length planes.old ≡ T.WIDTH }
+    ensures { planes_held (4 ^ d) planes.new ≡ codes.planes T.width d (map T.value coefficients.now) }
+{
+    zf_coef::ranked(d, coefficients, digits);
+    zf_coef::to_planes(digits, planes);
+}
+
+/// Makes the coefficients of which these are the planes, by way of their digits.
+pub(crate) fn from_planes<T: Lane>(
+    d: u8,
+    planes: &[[u64; 4]],
+    digits: &mut [u64],
+    coefficients: &mut [T],
+)
+    requires some { 1 ≤ d }
+    requires four_at_most { d ≤ 4 }
+    requires planes { length planes.now ≡ T.WIDTH }
+    requires digits { length digits.old ≡ 4 ^ d }
+    requires coefficients { length coefficients.old ≡ 4 ^ d }
+    ensures { map T.value coefficients.new ≡ coefficients_of T.width d (planes_held (4 ^ d) planes.now) }
+{
+    zf_coef::from_planes(planes, digits);
+    zf_coef::unranked(d, digits, coefficients);
+}

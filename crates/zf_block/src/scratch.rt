@@ -1,0 +1,61 @@
+//! Work room for one block.
+
+ghost use Rattle.std.specs.Prelude.{◌≡◌, ◌≤◌, ◌^◌, IfOk};
+
+use std::alloc::{AllocError, Global};
+use std::marker::Model;
+use zf_base::Lane;
+
+/// The number of places of a block of `d` dimensions.
+pub(crate) fn block_len(d: u8) -> usize
+    requires some { 1 ≤ d }
+    requires four_at_most { d ≤ 4 }
+    ensures { result ≡ 4 ^ d }
+{
+    match d {
+        1 => 4,
+        2 => 16,
+        3 => 64,
+        _ => 256,
+    }
+}
+
+/// Work room for one block of a number of dimensions, which is all that contracts see of it.
+#[derive(Drop)]
+pub struct Scratch<T: Lane> {
+    d: u8,
+    pub(crate) values: Vec<T>,
+    pub(crate) digits: Vec<u64>,
+    pub(crate) planes: Vec<[u64; 4]>,
+}
+
+impl<T: Lane> Model for Scratch<T> {
+    ghost use Rattle.std.specs.Prelude.{ℕ, ◌≡◌, ◌^◌};
+    ghost use Rattle.std.specs.Vec.{vec_len};
+
+    ghost Value = { ℕ };
+
+    ghost view = { λ s. s.d };
+
+    ghost invariant = { λ s. (vec_len s.values ≡ 4 ^ s.d) × (vec_len s.digits ≡ 4 ^ s.d) × (vec_len s.planes ≡ T.WIDTH) };
+}
+
+impl<T: Lane> Scratch<T> {
+    /// Takes the memory for blocks of `d` dimensions.
+    pub fn new(alloc: Global, d: u8) -> Result<Self, AllocError>
+        requires some { 1 ≤ d }
+        requires four_at_most { d ≤ 4 }
+        ensures { IfOk result (λ s. s ≡ d) }
+    {
+        let size = block_len(d);
+        let values = vec![in alloc; T::zero(); size]?;
+        let digits = vec![in alloc; 0; size]?;
+        let planes = vec![in alloc; [0; 4]; T::WIDTH as usize]?;
+        Ok(Scratch {
+            d,
+            values,
+            digits,
+            planes,
+        })
+    }
+}

@@ -1,0 +1,43 @@
+-- The number in the bits from a place on, and the bits of bytes one by one.
+use Rattle.std.proofs.Common.{◌≡◌, ℕ, ◌+◌, ◌*◌, ◌/◌, ◌%◌, ◌^◌, ◌<◌, ◌≤◌, Bool, false, List, [], ◌∷◌, ◌++◌, length, get_or, take, drop, sym, ap, ◌∙◌, arith, length-drop, lit<}
+use Rattle.std.proofs.lemmas.List.{take_more, get_or-drop, length-take-le, length-take}
+use Rattle.std.proofs.Math.Nat.{pow-le-pow_right}
+use Rattle.zf_spec.specs.Numbers.{is_odd, number}
+use Rattle.zf_spec.specs.Stream.{to_bits}
+use Rattle.zf_bits.proofs.Fields.{digit_value-is_odd, from_bool-digit_value, number_lt}
+use Rattle.zf_bits.proofs.Words.{length-flat_map-field, get_or-flat_map-field}
+use Rattle.zf_bits.proofs.Reading.{number_more}
+use Rattle.zf_header.specs.HeaderFields.{number_at}
+
+pub length-to_bits : (bytes : List ℕ) → length (to_bits bytes) ≡ 8 * length bytes
+length-to_bits bytes = length-flat_map-field 8 bytes
+
+-- the bit at a place of bytes
+abbrev pub bit_of : List ℕ → ℕ → ℕ
+bit_of bytes place = get_or bytes (place / 8) 0 / 2 ^ (place % 8)
+
+-- one bit more
+take-to_bits_more : (bytes : List ℕ) (at i : ℕ) → at + i < 8 * length bytes → take (i + 1) (drop at (to_bits bytes)) ≡ take i (drop at (to_bits bytes)) ++ is_odd (bit_of bytes (at + i)) ∷ []
+take-to_bits_more bytes at i within =
+    let s = to_bits bytes in
+    let left : i < length (drop at s) = omega (arith, length-drop at s, length-to_bits bytes) in
+    let bit : get_or (drop at s) i false ≡ is_odd (bit_of bytes (at + i)) =
+    get_or-drop at s i false ∙ get_or-flat_map-field 8 bytes (at + i) false (omega arith) within in
+    take_more (drop at s) i false left ∙ ap (λ b. take i (drop at s) ++ b ∷ []) bit
+
+-- the sum that the loop makes, in a word of 64
+pub number_more_at : (bytes : List ℕ) (at i digit : ℕ) → at + i < 8 * length bytes → i < 64 → digit ≡ bit_of bytes (at + i) % 2
+    → (number (take i (drop at (to_bits bytes))) + digit * 2 ^ i % 2 ^ 64 ≡ number (take (i + 1) (drop at (to_bits bytes)))) × (number (take (i + 1) (drop at (to_bits bytes))) < 2 ^ 64)
+number_more_at bytes at i digit within in_word is_digit =
+    let s = to_bits bytes in
+    let so_far = take i (drop at s) in
+    let count : length so_far ≡ i = length-take-le i (drop at s) (omega (arith, length-drop at s, length-to_bits bytes)) in
+    let bit = is_odd (bit_of bytes (at + i)) in
+    let same = is_digit ∙ sym (digit_value-is_odd (bit_of bytes (at + i))) ∙ sym (from_bool-digit_value bit) in
+    rw (take-to_bits_more bytes at i within) (number_more so_far bit i digit count in_word same)
+
+pub number_at_below : (at n : ℕ) (s : List Bool) → number_at at n s < 2 ^ n
+unfolding number_at
+number_at_below at n s =
+    let count : length (take n (drop at s)) ≤ n = omega (arith, length-take n (drop at s)) in
+    omega (arith, number_lt (take n (drop at s)), pow-le-pow_right {n = 2} (lit< tt) count)

@@ -1,0 +1,99 @@
+-- The first fault of lists of lines, and the faults of sizes that were read from their fields.
+use Rattle.std.proofs.Common.{◌≡◌, ℕ, zero, suc, ◌+◌, ◌*◌, ◌/◌, ◌^◌, ◌≤◌, ◌==◌, Bool, true, false, cond, nat_lt, List, [], ◌∷◌, ◌++◌, length, map, take, Some, None, Result, Ok, Err, refl, ap, ◌∙◌, arith}
+use Rattle.std.specs.List.{list_any}
+use Rattle.std.proofs.lemmas.Nat.{pow_pos}
+use Rattle.std.proofs.lemmas.Bool.{le-ltb}
+use Rattle.std.proofs.lemmas.Bool.Decides.{nat_tests}
+use Rattle.std.specs.Result.{MatchResult, IsErrAnd, result_err}
+use Rattle.std.proofs.lemmas.Result.{err_from_is_err_and}
+use Rattle.zf_base.specs.declared.shape.ShapeFault.{ShapeFault}
+use Rattle.zf_header.specs.declared.header.HeaderFault.TheVariants.{TooLarge}
+use Rattle.zf_spec.specs.Grid.{upto, product, max_values}
+use Rattle.zf_spec.proofs.Counting.{length-map-upto}
+use Rattle.zf_base.specs.declared.shape.ShapeFault.TheVariants as shape
+use Rattle.zf_base.specs.Shapes.{shape_fault}
+use Rattle.zf_header.specs.declared.header.HeaderFault.{HeaderFault}
+use Rattle.zf_header.specs.HeaderFields.{number_at, size_in, dims_in, sizes_in}
+use Rattle.zf_header.specs.HeaderFaults.{first_fault, front_faults, size_faults, mode_faults, header_fault}
+use Rattle.zf_header.proofs.Bits.{number_at_below}
+
+-- ---- the first of several
+
+first_fault-some : (a b : List (Bool × HeaderFault)) (f : HeaderFault) → Some f ≡ first_fault a → Some f ≡ first_fault (a ++ b)
+first_fault-some [] b f e = absurd cc
+first_fault-some (line ∷ a) b f e =
+    elim line.0 as (λ t. Some f ≡ cond t (Some line.1) (first_fault a) → Some f ≡ cond t (Some line.1) (first_fault (a ++ b))) [
+      | true ↦ λ h. h
+      | false ↦ λ h. first_fault-some a b f h
+    ] e
+
+first_fault-none : (a b : List (Bool × HeaderFault)) → None ≡ first_fault a → first_fault b ≡ first_fault (a ++ b)
+first_fault-none [] b e = refl
+first_fault-none (line ∷ a) b e =
+    elim line.0 as (λ t. None ≡ cond t (Some line.1) (first_fault a) → first_fault b ≡ cond t (Some line.1) (first_fault (a ++ b))) [
+      | true ↦ λ h. absurd cc
+      | false ↦ λ h. first_fault-none a b h
+    ] e
+
+pub front_fault : (bytes : List ℕ) (f : HeaderFault) → Some f ≡ first_fault (front_faults bytes) → Some f ≡ header_fault bytes
+unfolding header_fault
+front_fault bytes f e =
+    first_fault-some (front_faults bytes ++ size_faults bytes) (mode_faults bytes) f (first_fault-some (front_faults bytes) (size_faults bytes) f e)
+
+pub size_fault : (bytes : List ℕ) (f : HeaderFault) → None ≡ first_fault (front_faults bytes) → Some f ≡ first_fault (size_faults bytes) → Some f ≡ header_fault bytes
+unfolding header_fault
+size_fault bytes f front e =
+    first_fault-some (front_faults bytes ++ size_faults bytes) (mode_faults bytes) f (e ∙ first_fault-none (front_faults bytes) (size_faults bytes) front)
+
+-- where the front and the size are good, the mode decides
+pub mode_fault : (bytes : List ℕ) → None ≡ first_fault (front_faults bytes) → None ≡ first_fault (size_faults bytes) → first_fault (mode_faults bytes) ≡ header_fault bytes
+unfolding header_fault
+mode_fault bytes front size =
+    first_fault-none (front_faults bytes ++ size_faults bytes) (mode_faults bytes) (size ∙ first_fault-none (front_faults bytes) (size_faults bytes) front)
+
+-- ---- sizes from fields
+
+-- a size is never zero, nor more than its field holds
+pub size_bounds : (d axis : ℕ) (s : List Bool) → (1 ≤ size_in d axis s) × (size_in d axis s ≤ 2 ^ (48 / d))
+size_bounds d axis s =
+    let width = 48 / d in
+    let n = number_at (36 + axis * width) width s in
+    let below = number_at_below (36 + axis * width) width s in
+    let some = pow_pos width in
+    elim (nat_lt axis d) as (λ t. (1 ≤ cond t (n + 1) 1) × (cond t (n + 1) 1 ≤ 2 ^ width)) [ true ↦ (omega arith, omega arith) | false ↦ (omega arith, omega arith) ]
+
+-- the sizes along four axes, and those along the first d
+pub take-sizes : (d : ℕ) (size : ℕ → ℕ) → d ≤ 4 → take d (size 0 ∷ size 1 ∷ size 2 ∷ size 3 ∷ []) ≡ map size (upto d)
+take-sizes zero size four = refl
+take-sizes (suc zero) size four = refl
+take-sizes (suc (suc zero)) size four = refl
+take-sizes (suc (suc (suc zero))) size four = refl
+take-sizes (suc (suc (suc (suc zero)))) size four = refl
+take-sizes (suc (suc (suc (suc (suc d))))) size four = absurd (omega arith)
+
+list_any-none : (p : ℕ → Bool) (f : ℕ → ℕ) (ks : List ℕ) → ((k : ℕ) → p (f k) ≡ false) → list_any p (map f ks) ≡ false
+list_any-none p f [] none = refl
+list_any-none p f (k ∷ ks) none = rw (none k, list_any-none p f ks none) refl
+
+not_zero : (n : ℕ) → 1 ≤ n → (n == 0) ≡ false
+not_zero zero some = absurd (omega arith)
+not_zero (suc n) some = grind (arith, nat_tests)
+
+-- so they can only be too many values
+pub shape_fault-sizes_in : (s : List Bool) → shape_fault (sizes_in s) ≡ cond (nat_lt max_values (product (sizes_in s))) (Some shape.TooLarge) None
+shape_fault-sizes_in s =
+    let d = dims_in s in
+    let size : ℕ → ℕ = λ axis. size_in d axis s in
+    let count : length (sizes_in s) ≡ d = length-map-upto size d in
+    let zero = list_any-none (λ n. n == 0) size (upto d) (λ k. not_zero (size_in d k s) (size_bounds d k s).0) in
+    let field = list_any-none (λ n. nat_lt (2 ^ (48 / length (sizes_in s))) n) size (upto d) (λ k. rw count (le-ltb _ _ (size_bounds d k s).1)) in
+    rw (zero, field) refl
+
+-- the fault that each fault of the sizes becomes
+pub too_large : {X : Type 0} (made : Result X ShapeFault) (result : Result X HeaderFault) (Becomes : ShapeFault → HeaderFault → Type 0) (large : Bool) → ((e : ShapeFault) (f : HeaderFault) → Becomes e f → f ≡ TooLarge)
+    → MatchResult made (λ x. result ≡ Ok x) (λ e. IsErrAnd result (Becomes e)) → result_err made ≡ cond large (Some shape.TooLarge) None → result_err result ≡ cond large (Some TooLarge) None
+too_large (Ok x) result Becomes true only cases fault = absurd cc
+too_large (Ok x) result Becomes false only cases fault = ap result_err cases
+too_large (Err e) result Becomes true only cases fault =
+    let p = err_from_is_err_and result cases in ap result_err p.1 ∙ ap (λ f. Some f) (only e p.0 p.2)
+too_large (Err e) result Becomes false only cases fault = absurd cc

@@ -1,0 +1,119 @@
+-- What bytes without a fault are.
+use Rattle.std.proofs.Common.{◌≡◌, ℕ, ◌^◌, ◌<◌, ◌≤◌, ◌==◌, Bool, true, false, not, ◌&&◌, ◌||◌, cond, nat_lt, nat_le, List, [], ◌∷◌, ◌++◌, length, Some, None, refl, ap, ◌∙◌, inl, inr, arith}
+use Rattle.std.specs.List.{AllByRecursion}
+use Rattle.std.proofs.lemmas.Bool.{ltb-false, leb-false, le-leb, cases_lt, cases_eq, eq-eqb, ne_eqb, le-ltb, lt-leb, and_left, and_right, not_from_true}
+use Rattle.std.proofs.lemmas.Bool.Decides.{nat_tests}
+use Rattle.zf_spec.specs.Grid.{product, max_values}
+use Rattle.zf_spec.specs.Stream.{magic, codec, to_bits}
+use Rattle.zf_header.specs.declared.header.HeaderFault.{HeaderFault}
+use Rattle.zf_header.specs.HeaderFields.{magic_in, codec_in, type_in, dims_in, sizes_in, mode_in, is_long_rate}
+use Rattle.zf_header.specs.HeaderFaults.{first_fault, front_faults, size_faults, mode_faults, header_fault}
+use Rattle.zf_header.proofs.Bits.{number_at_below}
+
+-- no line holds
+abbrev AllFalse : List (Bool × HeaderFault) → Type 0
+AllFalse lines = AllByRecursion (λ line. line.0 ≡ false) lines
+
+all_false : (lines : List (Bool × HeaderFault)) → None ≡ first_fault lines → AllFalse lines
+all_false [] e = tt
+all_false (line ∷ lines) e =
+    elim line.0 as (λ t. None ≡ cond t (Some line.1) (first_fault lines) → (t ≡ false) × AllFalse lines) [ true ↦ λ h. absurd cc | false ↦ λ h. (refl, all_false lines h) ] e
+
+no_fault : (lines : List (Bool × HeaderFault)) → AllFalse lines → None ≡ first_fault lines
+no_fault [] e = refl
+no_fault (line ∷ lines) e = rw e.0 (no_fault lines e.1)
+
+-- the mode of bytes without a fault: a short rate, the reversible mode, or the long form of a rate
+pub data GoodMode (bytes : List ℕ) : Type 0 where
+  short : mode_in (to_bits bytes) ≤ 2047 → GoodMode bytes
+  without_loss : mode_in (to_bits bytes) ≡ 2176 → GoodMode bytes
+  long : mode_in (to_bits bytes) ≡ 4095 → 19 ≤ length bytes → is_long_rate (to_bits bytes) ≡ true → GoodMode bytes
+
+pub record Good (bytes : List ℕ) : Type 0 where
+  pub enough : 12 ≤ length bytes
+  pub is_magic : magic_in (to_bits bytes) ≡ magic
+  pub is_codec : codec_in (to_bits bytes) ≡ codec (dims_in (to_bits bytes))
+  pub is_type : type_in (to_bits bytes) ≤ 1
+  pub is_size : product (sizes_in (to_bits bytes)) ≤ max_values
+  pub is_mode : GoodMode bytes
+
+not_false : (a b : ℕ) → not (a == b) ≡ false → a ≡ b
+not_false a b e = grind (arith, nat_tests)
+
+true_false : {X : Type 0} → true ≡ false → X
+true_false e = absurd cc
+
+-- a test that holds only beside another
+beside : (t x : Bool) → (t && x) ≡ false → t ≡ true → x ≡ false
+beside true x e h = e
+beside false x e h = absurd cc
+
+not_long : (x : Bool) → not x ≡ false → x ≡ true
+not_long true e = refl
+not_long false e = true_false e
+
+outside : (a m b : ℕ) → (nat_le a m && nat_le m b) ≡ false → a ≤ m → b < m
+outside a m b e above = leb-false m b (beside (nat_le a m) (nat_le m b) e (le-leb a m above))
+
+good_mode : (bytes : List ℕ) → AllFalse (mode_faults bytes) → mode_in (to_bits bytes) < 2 ^ 12 → GoodMode bytes
+good_mode bytes none small =
+    let m = mode_in (to_bits bytes) in
+    elim (cases_lt m 2048) [
+      | inl lt ↦ short (omega arith)
+      | inr le ↦ elim (cases_eq m 2176) [
+        | inl e ↦ without_loss e
+        | inr ne ↦
+            let above_precision = outside 2048 m 2175 none.0 le in
+            let above_accuracy = outside 2177 m 4094 none.1.0 (omega arith) in
+            let begun : m ≡ 4095 = omega arith in
+            let test = eq-eqb m 4095 begun in
+            long begun (ltb-false _ _ (beside (m == 4095) (nat_lt (length bytes) 19) none.1.1.0 test)) (not_long _ (beside (m == 4095) (not (is_long_rate (to_bits bytes))) none.1.1.1.0 test))
+      ]
+    ]
+
+pub good : (bytes : List ℕ) → None ≡ header_fault bytes → Good bytes
+unfolding header_fault
+good bytes none =
+    let lines = all_false (front_faults bytes ++ size_faults bytes ++ mode_faults bytes) none in
+    record {
+      enough = ltb-false _ _ lines.0;
+      is_magic = not_false _ _ lines.1.0;
+      is_codec = not_false _ _ lines.1.1.1.1.0;
+      is_type = ltb-false _ _ lines.1.1.1.0;
+      is_size = ltb-false _ _ lines.1.1.1.1.1.0;
+      is_mode = good_mode bytes lines.1.1.1.1.1.1 (number_at_below 84 12 (to_bits bytes));
+    }
+
+-- ---- and the other way round
+
+equal : (a b : ℕ) → a ≡ b → not (a == b) ≡ false
+equal a b e = not_from_true _ (eq-eqb a b e)
+
+below_range : (a m b : ℕ) → m < a → (nat_le a m && nat_le m b) ≡ false
+below_range a m b lt = and_left _ _ (lt-leb a m lt)
+
+above_range : (a m b : ℕ) → b < m → (nat_le a m && nat_le m b) ≡ false
+above_range a m b lt = and_right _ _ (lt-leb m b lt)
+
+mode_lines : (bytes : List ℕ) → GoodMode bytes → AllFalse (mode_faults bytes)
+mode_lines bytes (short few) =
+    let m = mode_in (to_bits bytes) in
+    let other = ne_eqb m 4095 (λ e. omega arith) in
+    (below_range 2048 m 2175 (omega arith), (below_range 2177 m 4094 (omega arith), (and_left _ _ other, (and_left _ _ other, tt))))
+mode_lines bytes (without_loss is) =
+    let m = mode_in (to_bits bytes) in
+    let other = ne_eqb m 4095 (λ e. omega arith) in
+    (above_range 2048 m 2175 (omega arith), (below_range 2177 m 4094 (omega arith), (and_left _ _ other, (and_left _ _ other, tt))))
+mode_lines bytes (long begun enough is_rate) =
+    let m = mode_in (to_bits bytes) in
+    (above_range 2048 m 2175 (omega arith), (above_range 2177 m 4094 (omega arith), (and_right _ _ (le-ltb _ _ enough), (and_right _ _ (not_from_true _ is_rate), tt))))
+
+codec_known : (d : ℕ) → (codec d == 5 || codec d == 69) ≡ true
+codec_known d = elim (nat_le d 2) as (λ t. (cond t 5 69 == 5 || cond t 5 69 == 69) ≡ true) [ true ↦ refl | false ↦ refl ]
+
+pub no_fault_of_good : (bytes : List ℕ) → Good bytes → None ≡ header_fault bytes
+unfolding header_fault
+no_fault_of_good bytes g =
+    let known = ap (λ c. c == 5 || c == 69) g.is_codec ∙ codec_known (dims_in (to_bits bytes)) in
+    no_fault (front_faults bytes ++ size_faults bytes ++ mode_faults bytes)
+    (le-ltb _ _ g.enough, (equal _ _ g.is_magic, (not_from_true _ known, (le-ltb _ _ g.is_type, (equal _ _ g.is_codec, (le-ltb _ _ g.is_size, mode_lines bytes g.is_mode))))))

@@ -1,0 +1,32 @@
+//! The transform of a block: a pass along each axis.
+
+ghost use Rattle.std.specs.Prelude.{◌≡◌, ◌≤◌, ◌^◌, map, length};
+ghost use Rattle.zf_spec.specs.Lift.{lift, unlift};
+
+use crate::line::{Lift, Unlift};
+use zf_axes::{passes, passes_back};
+use zf_base::Lane;
+
+/// Makes the coefficients of a block: halved sums and differences along x, then along y, z and w.
+///
+/// `block` has `4^d` values, x fastest, each of which has been given a value (a partial block is padded first). Halves
+/// are rounded down and sums wrap, so [`inverse`] does not undo this.
+/// The decorrelating transform of Lindstrom 2014, section 4.2, and of the zfp 1.0 documentation, algorithm.
+pub fn forward<T: Lane>(d: u8, block: &mut [T])
+    requires some { 1 ≤ d }
+    requires four_at_most { d ≤ 4 }
+    requires size { length block.old ≡ 4 ^ d }
+    ensures { map T.value block.new ≡ lift T.width d (map T.value block.old) }
+{
+    passes(&Lift, d, block);
+}
+
+/// Makes values of the coefficients of a block: the steps of [`forward`] turned round, along the last axis first.
+pub fn inverse<T: Lane>(d: u8, block: &mut [T])
+    requires some { 1 ≤ d }
+    requires four_at_most { d ≤ 4 }
+    requires size { length block.old ≡ 4 ^ d }
+    ensures { map T.value block.new ≡ unlift T.width d (map T.value block.old) }
+{
+    passes_back(&Unlift, d, block);
+}

@@ -1,0 +1,32 @@
+//! The transform of a block: a pass along each axis.
+
+ghost use Rattle.std.specs.Prelude.{◌≡◌, ◌≤◌, ◌^◌, map, length};
+ghost use Rattle.zf_spec.specs.Lorenzo.{lorenzo, unlorenzo};
+
+use crate::line::{Differences, Sums};
+use zf_axes::passes;
+use zf_base::Lane;
+
+/// Makes the coefficients of a block: the block becomes its signed binomial sums, wrapped.
+///
+/// `block` has `4^d` values, x fastest, each of which has been given a value (a partial block is padded first).
+/// The reversible transform of the zfp 1.0 documentation, algorithm.
+pub fn forward<T: Lane>(d: u8, block: &mut [T])
+    requires some { 1 ≤ d }
+    requires four_at_most { d ≤ 4 }
+    requires size { length block.old ≡ 4 ^ d }
+    ensures { map T.value block.new ≡ lorenzo T.width d (map T.value block.old) }
+{
+    passes(&Differences, d, block);
+}
+
+/// Undoes [`forward`]: the coefficients become the block again.
+pub fn inverse<T: Lane>(d: u8, block: &mut [T])
+    requires some { 1 ≤ d }
+    requires four_at_most { d ≤ 4 }
+    requires size { length block.old ≡ 4 ^ d }
+    ensures { map T.value block.new ≡ unlorenzo T.width d (map T.value block.old) }
+{
+    // Passes of binomial sums may come in any order of axes, so this way too begins with x.
+    passes(&Sums, d, block);
+}

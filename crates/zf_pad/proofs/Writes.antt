@@ -1,0 +1,33 @@
+-- A loop over places, each of which writes one element of a list, or none.
+use Rattle.std.proofs.Common.{◌≡◌, ◌≢◌, ℕ, ◌+◌, ◌<◌, Bool, true, false, ℤ, pos, List, length, get_or, set, refl, sym, ap, ◌∙◌, ⊎_elim, arith, get_or-set_same, get_or-set_other}
+use Rattle.std.proofs.lemmas.Bool.{cases_lt, false≢true}
+
+-- after the places below n: a place that is to write wrote its value at its index, and all other elements are as they were
+pub record IsWritten (writes : ℕ → Bool) (index : ℕ → ℕ) (value : ℕ → ℤ) (old now : List ℤ) (n : ℕ) : Type 0 where
+  pub written : (p : ℕ) → p < n → writes p ≡ true → get_or now (index p) (pos 0) ≡ value p
+  pub others : (i : ℕ) → ((p : ℕ) → p < n → writes p ≡ true → index p ≢ i) → get_or now i (pos 0) ≡ get_or old i (pos 0)
+
+module _ (writes : ℕ → Bool) (index : ℕ → ℕ) (value : ℕ → ℤ) (old : List ℤ) where
+  pub written_none : IsWritten writes index value old old 0
+  written_none = record { written = λ p lt w. absurd (omega arith); others = λ i free. refl }
+
+  -- a place below n + 1 is below n, or n
+  before_or_at : (n p : ℕ) (P : Type 0) → p < n + 1 → (p < n → P) → (p ≡ n → P) → P
+  before_or_at n p P lt f g = ⊎_elim f (λ ge. g (omega arith)) (cases_lt p n)
+
+  -- place n writes, at an index at which no place before it did
+  pub written_more : (now : List ℤ) (n : ℕ) (v : ℤ) → writes n ≡ true → index n < length now → ((p : ℕ) → p < n → writes p ≡ true → index p ≢ index n) → v ≡ value n → IsWritten writes index value old now n → IsWritten writes index value old (set now (index n) v) (n + 1)
+  written_more now n v w inside new is h = record {
+    written = λ p lt wp. before_or_at n p _ lt
+        (λ before. get_or-set_other now (index n) (index p) v (pos 0) (new p before wp) ∙ h.written p before wp)
+        (λ at. ap (λ q. get_or (set now (index n) v) (index q) (pos 0)) at ∙ get_or-set_same now (index n) v (pos 0) inside ∙ is ∙ ap value (sym at));
+    others = λ i free.
+        get_or-set_other now (index n) i v (pos 0) (λ e. free n (omega arith) w (sym e)) ∙ h.others i (λ p lt wp. free p (omega arith) wp);
+  }
+
+  -- place n does not write
+  pub written_skip : (now : List ℤ) (n : ℕ) → writes n ≡ false → IsWritten writes index value old now n → IsWritten writes index value old now (n + 1)
+  written_skip now n w h = record {
+    written = λ p lt wp. before_or_at n p _ lt (λ before. h.written p before wp) (λ at. absurd (false≢true (sym w ∙ ap writes (sym at) ∙ wp)));
+    others = λ i free. h.others i (λ p lt wp. free p (omega arith) wp);
+  }

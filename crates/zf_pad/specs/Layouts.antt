@@ -1,0 +1,36 @@
+-- Where a layout puts the positions of an array, and the places of a block of which an extent exists.
+use Rattle.std.specs.Prelude.{ℕ, ◌≡◌, ◌+◌, ◌*◌, ◌^◌, ◌<◌, true}
+use Rattle.zf_spec.specs.Grid.{is_inside, indices}
+use Rattle.zf_base.specs.declared.position.Pos.{Pos}
+use Rattle.zf_base.specs.declared.position.Extent.{Extent}
+use Rattle.zf_base.specs.Positions.{axes, with_unused}
+use Rattle.zf_pad.specs.declared.layout.Layout.{Layout}
+
+-- the index of a position
+unfoldable pub index_of : Layout → Pos → ℕ
+index_of layout p = layout.start + p.x * layout.step.x + p.y * layout.step.y + p.z * layout.step.z + p.w * layout.step.w
+
+-- a position moved by another
+unfoldable pub moved : Pos → Pos → Pos
+moved p by = record { x = p.x + by.x; y = p.y + by.y; z = p.z + by.z; w = p.w + by.w }
+
+-- the indices of a place of a block, along four axes
+unfoldable pub place_indices : ℕ → Pos
+place_indices p = with_unused 0 (indices 4 p)
+
+-- an extent has a place of the block: the place's indices are below the extent's sizes
+pub record HasPlace (e : Extent) (p : ℕ) : Type 0 where
+  pub in_block : p < 4 ^ 4
+  pub inside : is_inside (axes e.size) (axes (place_indices p)) ≡ true
+
+-- the index of a place: that of its position, which is the extent's first, moved by the place's indices
+abbrev pub index_at : Layout → Extent → ℕ → ℕ
+index_at layout e p = index_of layout (moved e.origin (place_indices p))
+
+-- each place of the extent lies in a list of n values
+abbrev pub LiesWithin : Layout → Extent → ℕ → Type 0
+LiesWithin layout e n = (p : ℕ) → HasPlace e p → index_at layout e p < n
+
+-- different places of the extent have different indices
+abbrev pub IsOneToOne : Layout → Extent → Type 0
+IsOneToOne layout e = (p q : ℕ) → HasPlace e p → HasPlace e q → index_at layout e p ≡ index_at layout e q → p ≡ q

@@ -1,0 +1,73 @@
+//! Copies between a list of values and a block.
+
+ghost use Rattle.std.specs.Prelude.{◌≡◌, ◌<◌, ◌≤◌, ◌^◌, length, map};
+ghost use Rattle.zf_spec.specs.Grid.{is_inside};
+ghost use Rattle.zf_base.specs.Positions.{axes, IsExtent};
+ghost use Rattle.zf_pad.specs.Layouts.{place_indices, LiesWithin, IsOneToOne};
+ghost use Rattle.zf_pad.specs.Copies.{IsGathered, IsScattered};
+
+use crate::layout::Layout;
+use crate::padding::places;
+use zf_base::{Extent, Lane, Pos};
+
+/// Copies the values at the positions of the extent `e`, which stand where `layout` puts them, into a block of `d` dimensions.
+///
+/// `block` has `4^d` values, x fastest; those at places that do not exist stay.
+pub fn gather<T: Lane>(layout: &Layout, e: &Extent, d: u8, values: &[T], block: &mut [T])
+    requires four_at_most { d ≤ 4 }
+    requires extent { IsExtent d e.now }
+    requires whole { length block.old ≡ 4 ^ d }
+    requires within { LiesWithin layout.now e.now (length values.now) }
+    ensures { IsGathered layout.now e.now
+        (map T.value values.now) (map T.value block.old) (map T.value block.new) }
+{
+    let from_origin = layout.counted_from(&e.origin);
+    for place in 0..places(d) {
+        let at = indices(place);
+        if is_inside(&e.size, &at) {
+            block[place] = values[from_origin.index(&at) as usize];
+        }
+    }
+}
+
+/// Copies the values of a block of `d` dimensions to where `layout` puts the positions of the extent `e`.
+///
+/// `block` has `4^d` values, x fastest; those at places that do not exist are not looked at.
+pub fn scatter<T: Lane>(layout: &Layout, e: &Extent, d: u8, block: &[T], values: &mut [T])
+    requires four_at_most { d ≤ 4 }
+    requires extent { IsExtent d e.now }
+    requires whole { length block.now ≡ 4 ^ d }
+    requires within { LiesWithin layout.now e.now (length values.old) }
+    requires one_to_one { IsOneToOne layout.now e.now }
+    ensures { IsScattered layout.now e.now
+        (map T.value block.now) (map T.value values.old) (map T.value values.new) }
+{
+    let from_origin = layout.counted_from(&e.origin);
+    for place in 0..places(d) {
+        let at = indices(place);
+        if is_inside(&e.size, &at) {
+            values[from_origin.index(&at) as usize] = block[place];
+        }
+    }
+}
+
+// The indices of a place along the axes.
+#[tactic(auto, unfolding(crate::specs::Layouts::place_indices))]
+fn indices(place: usize) -> Pos
+    ensures { result ≡ place_indices place }
+{
+    let place = place as u64;
+    Pos {
+        x: place % 4,
+        y: place / 4 % 4,
+        z: place / 16 % 4,
+        w: place / 64 % 4,
+    }
+}
+
+// Whether a position lies in a box of these sizes.
+fn is_inside(size: &Pos, at: &Pos) -> bool
+    ensures { result ≡ is_inside (axes size.now) (axes at.now) }
+{
+    at.x < size.x && at.y < size.y && at.z < size.z && at.w < size.w
+}

@@ -1,0 +1,118 @@
+-- A reader that passes the bits of a code in parts, within a budget.
+use Rattle.std.proofs.Common.{◌≡◌, ℕ, suc, ◌+◌, ◌-◌, ◌<◌, ◌≤◌, Bool, List, [], ◌∷◌, ◌++◌, length, take, drop, refl, sym, ap, ◌∙◌, arith, length-drop, length-take, take-append-drop}
+use Rattle.std.proofs.lemmas.List.{drop-drop}
+use Rattle.std.specs.Prelude.{Option, None, Some, IfNone, IfSome, OnSome}
+use Rattle.zf_bits.specs.Reader.{Reader, rest, Reads}
+use Rattle.zf_planes.specs.Decoding.{Takes, Lacks}
+
+-- of the bits that are needed, more are to come
+pub record Passes (old now : Reader) (budget left more needed : ℕ) : Type 0 where
+  pub enough : budget - left ≤ length (rest old)
+  pub place : now.at ≡ old.at + (budget - left)
+  pub all : now.all ≡ old.all
+  pub within : left ≤ budget
+  pub sum : budget - left + more ≡ needed
+
+pub Passes-start : (r : Reader) (budget needed : ℕ) → Passes r r budget budget needed needed
+Passes-start r budget needed = record { enough = omega arith; place = omega arith; all = refl; within = omega arith; sum = omega arith }
+
+-- the length of what is left
+long : (r : Reader) → length (rest r) ≡ length r.all - r.at
+long r = length-drop r.at r.all
+
+pub Passes-bit : {old now new : Reader} {budget left more needed : ℕ} {bit : Bool} (less : ℕ) → Passes old now budget left more needed → more ≡ suc less → 0 < left → Reads now new (bit ∷ [])
+    → Passes old new budget (left - 1) less needed
+Passes-bit {old} {now} {new} {budget} {left} {more} {needed} {bit} less passes e some reads =
+    let same = ap length passes.all in
+    let one = ap length reads.next in
+    record {
+      enough = omega (arith, passes.enough, passes.place, passes.within, long old, long now);
+      place = omega (arith, passes.place, passes.within, reads.place);
+      all = reads.all ∙ passes.all;
+      within = omega (arith, passes.within);
+      sum = omega (arith, passes.sum, passes.within);
+    }
+
+pub Passes-part : {old now new : Reader} {budget left after count more needed : ℕ} (less : ℕ) → Passes old now budget left more needed → more ≡ count + less → Takes now new left after count
+    → Passes old new budget after less needed
+Passes-part {old} {now} {new} {budget} {left} {after} {count} {more} {needed} less passes e takes =
+    let same = ap length passes.all in
+    record {
+      enough = omega (arith, passes.enough, passes.place, passes.within, takes.enough, takes.spent, long old, long now);
+      place = omega (arith, passes.place, passes.within, takes.place, takes.spent);
+      all = takes.all ∙ passes.all;
+      within = omega (arith, passes.within, takes.spent);
+      sum = omega (arith, passes.sum, passes.within, takes.spent);
+    }
+
+pub Passes-end : {old now : Reader} {budget left more needed : ℕ} → Passes old now budget left more needed → more ≡ 0 → Takes old now budget left needed
+Passes-end passes none = record {
+  enough = omega (arith, passes.enough, passes.sum);
+  place = omega (arith, passes.place, passes.sum);
+  all = passes.all;
+  spent = omega (arith, passes.within, passes.sum);
+}
+
+-- what is needed of a part is not there
+pub Passes-lacks : {old now new : Reader} {budget left count more needed : ℕ} → Passes old now budget left more needed → Lacks now new count → count ≤ more → Lacks old new needed
+Passes-lacks {old} {now} passes lacks part =
+    let same = ap length passes.all in
+    record {
+      few = omega (arith, passes.enough, passes.place, passes.sum, lacks.few, long old, long now);
+      all = lacks.all ∙ passes.all;
+    }
+
+-- the end is here, and a bit is needed
+pub Lacks-bit : {now new : Reader} → new ≡ now → rest now ≡ [] → Lacks now new 1
+Lacks-bit {now} {new} same none =
+    let empty = ap length none in
+    record { few = omega arith; all = ap (λ (r : Reader). r.all) same }
+
+pub Takes-bit : {now new : Reader} {left : ℕ} {bit : Bool} → 0 < left → Reads now new (bit ∷ []) → Takes now new left (left - 1) 1
+Takes-bit {now} {new} {left} {bit} some reads =
+    let one = ap length reads.next in
+    record { enough = omega arith; place = reads.place; all = reads.all; spent = omega arith }
+
+-- the bits that are left are those behind what was passed
+pub Passes-rest : {old now : Reader} {budget left more needed : ℕ} → Passes old now budget left more needed → rest now ≡ drop (budget - left) (rest old)
+Passes-rest {old} {now} {budget} {left} passes =
+    ap (λ n. drop n now.all) passes.place ∙ ap (drop (old.at + (budget - left))) passes.all ∙ sym (drop-drop (budget - left) old.at old.all)
+
+-- ---- what is said of an answer by its variant
+
+pub if_none : {A : Type 0} {P : Type 0} (answer : Option A) → P → IfNone answer P
+if_none None p = p
+if_none (Some x) p = tt
+
+-- what follows of an answer with a value
+pub on_some : {A : Type 0} (answer : Option A) {P Q : Type 0} → OnSome answer P → (P → Q) → OnSome answer Q
+on_some None p next = tt
+on_some (Some x) p next = next p
+
+-- ---- two parts, of which the second gives the answer
+
+pub Takes-rest : {old now : Reader} {before after count : ℕ} → Takes old now before after count → rest now ≡ drop count (rest old)
+Takes-rest {old} {now} {before} {after} {count} takes =
+    ap (λ n. drop n now.all) takes.place ∙ ap (drop (old.at + count)) takes.all ∙ sym (drop-drop count old.at old.all)
+
+pub Takes-both : {old mid : Reader} {before between first : ℕ} (new : Reader) (second needed : ℕ) (answer : Option ℕ) → Takes old mid before between first → needed ≡ first + second
+    → IfSome answer (λ after. Takes mid new between after second) → IfSome answer (λ after. Takes old new before after needed)
+Takes-both {old} {mid} {before} new second needed None takes sum rest = tt
+Takes-both {old} {mid} {before} new second needed (Some after) takes sum rest =
+    let one = Passes-part second (Passes-start old before needed) sum takes in
+    Passes-end (Passes-part 0 one (omega arith) rest) refl
+
+pub Lacks-second : {old mid : Reader} {before between first : ℕ} (new : Reader) (second needed : ℕ) (answer : Option ℕ) → Takes old mid before between first → needed ≡ first + second
+    → IfNone answer (Lacks mid new second) → IfNone answer (Lacks old new needed)
+Lacks-second {old} {mid} {before} new second needed None takes sum rest = Passes-lacks (Passes-part second (Passes-start old before needed) sum takes) rest (omega arith)
+Lacks-second {old} {mid} {before} new second needed (Some after) takes sum rest = tt
+
+-- ---- at the end
+
+-- what was passed is what came next
+pub Takes-reads : {old new : Reader} {before after count : ℕ} → Takes old new before after count → Reads old new (take count (rest old))
+Takes-reads {old} {new} {before} {after} {count} takes = record {
+  next = sym (take-append-drop count (rest old)) ∙ ap (λ (bs : List Bool). take count (rest old) ++ bs) (sym (Takes-rest takes));
+  place = omega (arith, takes.place, takes.enough, length-take count (rest old));
+  all = takes.all;
+}

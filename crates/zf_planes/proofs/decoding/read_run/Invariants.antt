@@ -1,0 +1,12 @@
+-- So many zeros are read, and what reading makes of the rest is what it makes of the run behind them.
+use Rattle.std.proofs.Common.{◌≡◌, ◌-◌, ◌++◌, false, replicate}
+use Rattle.zf_bits.specs.Reader.{rest}
+use Rattle.zf_planes.specs.Decoding.{run_ahead, run_bits}
+use Rattle.zf_planes.proofs.Passing.{Passes}
+use Rattle.zf_planes.proofs.decoding.read_run.Given as goal
+
+abbrev pub invariant-loop-zeros : goal.invariant-loop-zeros
+invariant-loop-zeros l = record {
+  passes : Passes l.fn.src l.src l.fn.left l.left (run_bits l.left (l.most - l.zeros) (rest l.src)) (run_bits l.fn.left l.most (rest l.fn.src));
+  digits : run_ahead l.fn.left l.most (rest l.fn.src) ≡ replicate l.zeros false ++ run_ahead l.left (l.most - l.zeros) (rest l.src);
+}

@@ -1,0 +1,58 @@
+-- What the decoder makes of the bits that are left, of which only as many count as the budget has.
+use Rattle.std.specs.Prelude.{ℕ, ◌≡◌, ◌+◌, ◌<◌, ◌≤◌, min, Bool, List, length, take}
+use Rattle.zf_spec.specs.Planes.{tail, in_run, plane_code, code, code_from}
+use Rattle.zf_spec.specs.Kept.{kept_tail, kept_run, kept_plane, kept_from}
+use Rattle.zf_spec.specs.Reading.{full_tail, full_run, full_plane, full_from, full}
+use Rattle.zf_bits.specs.Reader.{Reader, rest}
+
+-- the planes whose code begins these bits
+abbrev pub coded : ℕ → ℕ → ℕ → List Bool → List (List Bool)
+coded budget prec size bits = full prec size (take budget bits)
+
+-- how many bits of their code the budget has
+abbrev pub coded_bits : ℕ → ℕ → ℕ → List Bool → ℕ
+coded_bits budget prec size bits = min budget (length (code (coded budget prec size bits)))
+
+-- ---- the parts of the decoder: with r bits of budget, the digits that the bits s stand for, and how many bits they take
+
+-- m digits behind those that had a one above
+unfoldable pub tail_ahead : ℕ → ℕ → List Bool → List Bool
+tail_ahead r m s = kept_tail r (full_tail m (take r s))
+
+unfoldable pub tail_bits : ℕ → ℕ → List Bool → ℕ
+tail_bits r m s = min r (length (tail (full_tail m (take r s))))
+
+-- m digits of which the first one is to come
+unfoldable pub run_ahead : ℕ → ℕ → List Bool → List Bool
+run_ahead r m s = kept_run r (full_run m (take r s))
+
+unfoldable pub run_bits : ℕ → ℕ → List Bool → ℕ
+run_bits r m s = min r (length (in_run (full_run m (take r s))))
+
+-- a plane in which the ranks below n have had a one above
+unfoldable pub plane_ahead : ℕ → ℕ → ℕ → List Bool → List Bool
+plane_ahead r size n s = kept_plane r n (full_plane size n (take r s))
+
+unfoldable pub plane_bits : ℕ → ℕ → ℕ → List Bool → ℕ
+plane_bits r size n s = min r (length (plane_code n (full_plane size n (take r s))))
+
+-- p planes
+unfoldable pub planes_ahead : ℕ → ℕ → ℕ → ℕ → List Bool → List (List Bool)
+planes_ahead r p size n s = kept_from r n (full_from p size n (take r s))
+
+unfoldable pub planes_bits : ℕ → ℕ → ℕ → ℕ → List Bool → ℕ
+planes_bits r p size n s = min r (length (code_from n (full_from p size n (take r s))))
+
+-- ---- the reader
+
+-- so many bits were passed, and the budget fell by as many
+pub record Takes (old new : Reader) (before after count : ℕ) : Type 0 where
+  pub enough : count ≤ length (rest old)
+  pub place : new.at ≡ old.at + count
+  pub all : new.all ≡ old.all
+  pub spent : after + count ≡ before
+
+-- there are not so many bits
+pub record Lacks (old new : Reader) (count : ℕ) : Type 0 where
+  pub few : length (rest old) < count
+  pub all : new.all ≡ old.all

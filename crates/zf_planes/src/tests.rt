@@ -1,0 +1,181 @@
+//! Values of the format's table of plane codes, and of a program that computes the definitions digit by digit.
+
+ghost use Rattle.std.specs.Prelude.{◌≡◌, ◌⊎◌};
+
+use super::*;
+use std::alloc::Global;
+use std::process::Abort;
+use std::test::Fail;
+use zf_bits::{BitReader, BitWriter};
+
+// Three planes of a size, each one by plane and rank; where the ones of their code are; and the ones that each budget keeps.
+#[derive(Clone, Copy)]
+struct Case {
+    ones: &'static [(usize, usize)],
+    used: u32,
+    code_len: u64,
+    code: &'static [u64],
+    kept: &'static [(u64, &'static [(usize, usize)])],
+}
+
+const SIZE_4: Case = Case {
+    ones: &[(2, 2), (1, 0), (0, 1), (0, 3)],
+    used: 3,
+    code_len: 13,
+    code: &[0, 3, 5, 10, 12],
+    kept: &[
+        (0, &[]),
+        (1, &[(2, 0)]),
+        (2, &[(2, 1)]),
+        (3, &[(2, 2)]),
+        (4, &[(2, 2)]),
+        (5, &[(2, 2)]),
+        (6, &[(2, 2), (1, 0)]),
+        (7, &[(2, 2), (1, 0)]),
+        (8, &[(2, 2), (1, 0)]),
+        (9, &[(2, 2), (1, 0)]),
+        (10, &[(2, 2), (1, 0)]),
+        (11, &[(2, 2), (1, 0), (0, 1)]),
+        (12, &[(2, 2), (1, 0), (0, 1)]),
+        (13, &[(2, 2), (1, 0), (0, 1), (0, 3)]),
+    ],
+};
+
+const SIZE_16: Case = Case {
+    ones: &[(2, 9), (1, 0), (1, 15), (0, 1), (0, 2), (0, 10)],
+    used: 3,
+    code_len: 44,
+    code: &[0, 10, 12, 22, 29, 30, 38],
+    kept: &[
+        (10, &[(2, 9)]),
+        (13, &[(2, 9), (1, 0)]),
+        (26, &[(2, 9), (1, 0), (1, 13)]),
+        (31, &[(2, 9), (1, 0), (1, 15), (0, 1), (0, 2)]),
+        (44, &[(2, 9), (1, 0), (1, 15), (0, 1), (0, 2), (0, 10)]),
+    ],
+};
+
+const SIZE_64: Case = Case {
+    ones: &[(1, 40), (0, 0), (0, 1), (0, 2)],
+    used: 3,
+    code_len: 86,
+    code: &[1, 42, 44, 45, 46],
+    kept: &[
+        (1, &[]),
+        (41, &[(1, 39)]),
+        (46, &[(1, 40), (0, 0), (0, 1)]),
+        (90, &[(1, 40), (0, 0), (0, 1), (0, 2)]),
+    ],
+};
+
+const SIZE_256: Case = Case {
+    ones: &[(2, 130), (0, 0), (0, 200)],
+    used: 3,
+    code_len: 468,
+    code: &[0, 131, 265, 396, 466],
+    kept: &[
+        (100, &[(2, 99)]),
+        (265, &[(2, 130)]),
+        (398, &[(2, 130), (0, 0), (0, 132)]),
+        (468, &[(2, 130), (0, 0), (0, 200)]),
+    ],
+};
+
+fn planes_with(rt: &impl Abort, ones: &[(usize, usize)]) -> [[u64; 4]; 3] {
+    let mut planes = [[0; 4]; 3];
+    for (k, rank) in ones {
+        assert!(rt; *k < 3);
+        assert!(rt; *rank < 256);
+        planes[*k][*rank / 64] |= 1 << (*rank % 64);
+    }
+    planes
+}
+
+fn words_of(writer: &BitWriter) -> [u64; 16] {
+    let mut words = [0; 16];
+    for at in 0..writer.len().min(1024) {
+        if writer.bit(at) {
+            words[at as usize / 64] |= 1 << (at % 64);
+        }
+    }
+    words
+}
+
+// Writes the planes and reads them again at each budget, once from a bit too few.
+fn check(rt: &impl Abort, alloc: Global, size: usize, case: Case) -> Result<(), Fail>
+    requires { (size ≡ 4) ⊎ (size ≡ 16) ⊎ (size ≡ 64) ⊎ (size ≡ 256) }
+{
+    let planes = planes_with(rt, case.ones);
+    assert_eq!(rt; used_planes(size, &planes), case.used);
+    assert_eq!(rt; code_len(3, size, &planes), case.code_len);
+    for (budget, ones) in case.kept {
+        let mut writer = BitWriter::new(alloc);
+        writer.reserve(1024)?;
+        let count = encode(*budget, 3, size, &planes, &mut writer);
+        assert_eq!(rt; count, case.code_len.min(*budget), "{budget} bits");
+        assert_eq!(rt; writer.len(), count, "{budget} bits");
+        for at in 0..writer.len() {
+            assert_eq!(rt; writer.bit(at), case.code.contains(&at), "bit {at}");
+        }
+        let words = words_of(&writer);
+        assert!(rt; count <= 1024);
+
+        let mut again = [[u64::MAX; 4]; 4];
+        let mut reader = BitReader::new(&words, count);
+        assert_eq!(rt;
+            decode(*budget, 3, size, &mut reader, &mut again),
+            Some(count),
+            "{budget} bits"
+        );
+        assert_eq!(rt; reader.at(), count, "{budget} bits");
+        assert_eq!(rt; again[0], [0; 4], "{budget} bits");
+        assert_eq!(rt;
+            &again[1..],
+            planes_with(rt, ones).as_slice(),
+            "{budget} bits"
+        );
+
+        if count > 0 {
+            let mut short = BitReader::new(&words, count - 1);
+            assert_eq!(rt;
+                decode(*budget, 3, size, &mut short, &mut again),
+                None,
+                "{budget} bits"
+            );
+            assert_eq!(rt; short.at(), 0, "{budget} bits");
+        }
+    }
+    Ok(())
+}
+
+#[test]
+fn budgets_keep_what_they_reach(rt: HostRuntime) -> Result<(), Fail> {
+    check(&rt, rt.alloc(), 4, SIZE_4)?;
+    check(&rt, rt.alloc(), 16, SIZE_16)?;
+    check(&rt, rt.alloc(), 64, SIZE_64)?;
+    check(&rt, rt.alloc(), 256, SIZE_256)
+}
+
+#[test]
+fn planes_have_their_codes(rt: HostRuntime) -> Result<(), Fail> {
+    for (digits, code) in [
+        (0, "0"),
+        (1, "110"),
+        (4, "10010"),
+        (8, "1000"),
+        (9, "11100"),
+    ] {
+        let mut writer = BitWriter::new(rt.alloc());
+        writer.reserve(64)?;
+        assert_eq!(rt;
+            encode(64, 1, 4, &[[digits, 0, 0, 0]], &mut writer),
+            code.len() as u64,
+            "{digits}"
+        );
+        for (at, bit) in code.bytes().enumerate() {
+            assert!(rt; (at as u64) < writer.len());
+            assert_eq!(rt; writer.bit(at as u64), bit == b'1', "bit {at} of {digits}");
+        }
+    }
+    Ok(())
+}

@@ -1,0 +1,8 @@
+use Rattle.zf_dev.proofs.Taking.{Takes-append}
+use Rattle.zf_stream.proofs.raw.fill_whole.Goals as goal
+
+pub returns-in-Ok-clause-taken : goal.returns-in-Ok-clause-taken
+returns-in-Ok-clause-taken g c = let more = c.read_into-2.ensures.some in (_, Takes-append _ _ _ _ _ c.in_ok-count.ensures.taken more.1)
+
+pub returns-in-Err-clause-taken : goal.returns-in-Err-clause-taken
+returns-in-Err-clause-taken g c = let more = c.read_into-2.ensures.some in (_, Takes-append _ _ _ _ _ c.in_ok-count.ensures.taken more.1)

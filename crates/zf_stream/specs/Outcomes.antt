@@ -1,0 +1,66 @@
+-- How a call that reads from a source and writes to a sink ends. What a device tells of its bytes is `Some`, else `None`.
+use Rattle.std.specs.Prelude.{ℕ, ◌≡◌, ◌≤◌, ◌⊎◌, List, length, take, Option, Some, None, Result, Ok, Err, IsErrAnd, OnErr}
+use Rattle.zf_dev.specs.Faults.{Rose}
+use Rattle.zf_dev.specs.Source.{Takes, IsAtEnd}
+use Rattle.zf_dev.specs.Sink.{Appends, AppendsFront}
+use Rattle.zf_stream.specs.declared.fault.StreamFault.{StreamFault}
+use Rattle.zf_stream.specs.declared.fault.StreamFault.TheVariants.{Read, Write, Memory}
+
+-- a fault of a device, or want of memory: what no input determines
+abbrev pub IsFromOutside : StreamFault → Type 0
+IsFromOutside e = (e ≡ Read) ⊎ (e ≡ Write) ⊎ (e ≡ Memory)
+
+-- the answer is the one that is stated for the input, unless it comes from outside
+abbrev pub Answers : {T : Type 0} → Result T StreamFault → Option (List ℕ) → (List ℕ → Result T StreamFault) → Type 0
+Answers result None answer = Unit {0}
+Answers result (Some input) answer = (result ≡ answer input) ⊎ IsErrAnd result IsFromOutside
+
+-- a refusal is the one that is stated for the input, unless it comes from outside
+abbrev pub IsRefusal : Option (List ℕ) → (List ℕ → Result (Unit {0}) StreamFault) → StreamFault → Type 0
+IsRefusal None answer e = Unit {0}
+IsRefusal (Some input) answer e = (answer input ≡ Err e) ⊎ IsFromOutside e
+
+-- the whole source was read, and these bytes are a good input
+pub record ReadsWhole (answer : List ℕ → Result (Unit {0}) StreamFault) (before now : Option (List ℕ)) (bytes : List ℕ) : Type 0 where
+  pub taken : Takes before now bytes
+  pub ended : IsAtEnd now
+  pub good : answer bytes ≡ Ok tt
+
+-- the whole source was read and is a good input, and this is its text
+pub record ReadsText (answer : List ℕ → Result (Unit {0}) StreamFault) (text : List ℕ → List ℕ) (before now : Option (List ℕ)) (said : List ℕ) : Type 0 where
+  pub bytes : List ℕ
+  pub whole : ReadsWhole answer before now bytes
+  pub said_is : said ≡ text bytes
+
+-- some bytes were taken
+abbrev pub TakesSome : Option (List ℕ) → Option (List ℕ) → Type 0
+TakesSome before now = (bytes : List ℕ) × Takes before now bytes
+
+-- the input was read to its end and is a good one, and its text was written
+pub record Finishes (answer : List ℕ → Result (Unit {0}) StreamFault) (text : List ℕ → List ℕ) (src_before src_now out_before out_now : Option (List ℕ)) : Type 0 where
+  pub bytes : List ℕ
+  pub taken : Takes src_before src_now bytes
+  pub ended : IsAtEnd src_now
+  pub good : answer bytes ≡ Ok tt
+  pub written : Appends out_before out_now (text bytes)
+
+-- some bytes were read, and a front of their text was written, maybe nothing
+pub record LeavesFront (text : List ℕ → List ℕ) (src_before src_now out_before out_now : Option (List ℕ)) : Type 0 where
+  pub bytes : List ℕ
+  pub taken : Takes src_before src_now bytes
+  pub written : AppendsFront out_before out_now (text bytes)
+
+-- these are the first n bytes of what a device tells, or all where there are fewer
+abbrev pub IsFront : ℕ → Option (List ℕ) → List ℕ → Type 0
+IsFront n None bytes = Unit {0}
+IsFront n (Some all) bytes = bytes ≡ take n all
+
+-- these bytes are the first n of the source, or all where there are fewer, and no more were taken
+pub record TakesFirst (n : ℕ) (before now : Option (List ℕ)) (bytes : List ℕ) : Type 0 where
+  pub taken : Takes before now bytes
+  pub first : IsFront n before bytes
+  pub within : length bytes ≤ n
+
+-- a count of faults has not fallen, and this answer comes only where it rose
+abbrev pub IsCausedBy : {T : Type 0} → Result T StreamFault → StreamFault → ℕ → ℕ → Type 0
+IsCausedBy result e before now = (before ≤ now) × (IsErrAnd result (λ f. f ≡ e) → Rose before now)
