@@ -10,3 +10,6 @@ mod scratch;
 pub use rate::{decode_rate, encode_rate};
 pub use reversible::{decode_rev, encode_rev};
 pub use scratch::Scratch;
+
+#[cfg(test)]
+mod tests;

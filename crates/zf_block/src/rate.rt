@@ -94,7 +94,7 @@ fn write_zeros(count: u64, out: &mut BitWriter)
 
 /// Reads the code of a block of `bits` bits, whatever they are.
 ///
-/// `block` gets `4^d` values, x fastest. A code does not tell which of them exist.
+/// `block` gets `4^d` values, x fastest. A code does not tell which of them exist; at places that do not, the values mean nothing.
 pub fn decode_rate<T: Lane>(d: u8, bits: u32, src: &mut BitReader<'_>, block: &mut [T])
     requires some { 1 ≤ d }
     requires four_at_most { d ≤ 4 }

@@ -124,7 +124,7 @@ fn count_bits<T: Lane>() -> u32
 /// Reads the reversible code of a block. `None` means that the bits end before the code does; then the reader stands where it stood, and the block holds
 /// anything.
 ///
-/// `block` gets `4^d` values, x fastest. A code does not tell which of them exist: those that do are the block's, and the others are its padding.
+/// `block` gets `4^d` values, x fastest. A code does not tell which of them exist; at places that do not, the values mean nothing.
 pub fn decode_rev<T: Lane>(d: u8, src: &mut BitReader<'_>, block: &mut [T]) -> Option<()>
     requires some { 1 ≤ d }
     requires four_at_most { d ≤ 4 }

@@ -7,6 +7,9 @@ use Rattle.std.specs.List.{flat_map}
 use Rattle.zf_spec.specs.Grid.{count_from, upto}
 use Rattle.zf_spec.specs.Padding.{pad}
 use Rattle.zf_spec.specs.Lorenzo.{lorenzo}
+use Rattle.zf_spec.specs.Lift.{lift}
+use Rattle.zf_spec.specs.Planes.{code}
+use Rattle.zf_spec.specs.Reading.{first}
 use Rattle.zf_spec.specs.Codes.{rev, rev_of_planes, planes, rate}
 
 -- one number more
@@ -30,12 +33,16 @@ joined-more f start n =
     let last : flat_map (λ c. c) (f n ∷ []) ≡ f n = append-nil (f n) in
     append_assoc start (joined (upto n)) (f n)
     ∙ ap (λ (bs : List Bool). start ++ bs)
-      (ap (λ (bs : List Bool). joined (upto n) ++ bs) (sym last)
-      ∙ sym (flat_map-append (λ c. c) (map f (upto n)) (f n ∷ []))
-      ∙ ap (λ (cs : List (List Bool)). flat_map (λ c. c) cs) (sym (map_push f (upto n) n))
-      ∙ ap joined (sym (upto-more n)))
+    (ap (λ (bs : List Bool). joined (upto n) ++ bs) (sym last)
+    ∙ sym (flat_map-append (λ c. c) (map f (upto n)) (f n ∷ []))
+    ∙ ap (λ (cs : List (List Bool)). flat_map (λ c. c) cs) (sym (map_push f (upto n) n))
+    ∙ ap joined (sym (upto-more n)))
 
 -- a code says of a block only what its padded block says
 pub rev_same : (w : Width) (es : List ℕ) (a b : List ℤ) → pad es a ≡ pad es b → rev w es a ≡ rev w es b
 unfolding rev
 rev_same w es a b same = ap (λ (block : List ℤ). rev_of_planes w (planes w (length es) (lorenzo w (length es) block))) same
+
+pub rate_same : (w : Width) (n : ℕ) (es : List ℕ) (a b : List ℤ) → pad es a ≡ pad es b → rate w n es a ≡ rate w n es b
+unfolding rate
+rate_same w n es a b same = ap (λ (block : List ℤ). first n (code (planes w (length es) (lift w (length es) block)))) same

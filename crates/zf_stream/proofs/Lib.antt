@@ -1,5 +1,17 @@
 -- Lemmas on streams.
---     LittleEndian  raw bytes as values, one after another
+--     LittleEndian   raw bytes as values, one after another
+--     WholeBytes     bits as bytes, one after another
+--     Codes          the codes of blocks, one after another; a code says of a block only what its padded block says
+--     TextOfParse    what is restored of a stream is the raw bytes of its values
+--     Joined         the values of an array are joined of its blocks
+--     ParseOfStream  a stream of codes that read back is parsed to what they stand for
+--     BlocksBack     the codes of blocks read back
+--     StreamsBack    what compress writes, restore reads
 pub mod LittleEndian
-mod Codes
 mod WholeBytes
+mod Codes
+pub mod TextOfParse
+pub mod Joined
+pub mod ParseOfStream
+pub mod BlocksBack
+pub mod StreamsBack

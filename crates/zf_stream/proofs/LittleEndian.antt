@@ -27,13 +27,13 @@ narrow_word (a ∷ b ∷ c ∷ d ∷ f ∷ rest) e = absurd (omega arith)
 word_at : (w : Width) (bytes : List ℕ) → (w ≡ w32) ⊎ (w ≡ w64) → length bytes ≡ byte_len w → from_le_bytes w64 (first_bytes 8 bytes) ≡ from_le_bytes w bytes
 word_at w bytes two size =
     ⊎_elim
-      (λ narrow.
-        let e : length bytes ≡ 4 = size ∙ ap byte_len narrow in
-        narrow_word bytes e ∙ ap (λ v. from_le_bytes v bytes) (sym narrow))
-      (λ wide.
-        let e : 8 ≡ length bytes = sym (size ∙ ap byte_len wide) in
-        ap (λ n. from_le_bytes w64 (first_bytes n bytes)) e ∙ ap (from_le_bytes w64) (first_bytes-all bytes) ∙ ap (λ v. from_le_bytes v bytes) (sym wide))
-      two
+    (λ narrow.
+    let e : length bytes ≡ 4 = size ∙ ap byte_len narrow in
+    narrow_word bytes e ∙ ap (λ v. from_le_bytes v bytes) (sym narrow))
+    (λ wide.
+    let e : 8 ≡ length bytes = sym (size ∙ ap byte_len wide) in
+    ap (λ n. from_le_bytes w64 (first_bytes n bytes)) e ∙ ap (from_le_bytes w64) (first_bytes-all bytes) ∙ ap (λ v. from_le_bytes v bytes) (sym wide))
+    two
 
 -- the word's number, wrapped, is the value
 pub value_is : (w : Width) (bytes : List ℕ) → (w ≡ w32) ⊎ (w ≡ w64) → length bytes ≡ byte_len w → All (λ b. b < 256) bytes
@@ -51,7 +51,7 @@ values_from-more w zero s within =
     let start : 0 * byte_len w ≡ 0 = omega arith in
     let none : drop (0 * byte_len w) s ≡ s = ap (λ n. drop n s) start in
     ap (λ (bs : List ℕ). cast_signed w (from_le_bytes w bs) ∷ [])
-      (first_bytes-take (byte_len w) s (omega arith) ∙ ap (take (byte_len w)) (sym none))
+    (first_bytes-take (byte_len w) s (omega arith) ∙ ap (take (byte_len w)) (sym none))
 values_from-more w (suc i) s within =
     let n = byte_len w in
     let next : suc i + 1 ≡ suc (i + 1) = omega arith in
@@ -60,7 +60,7 @@ values_from-more w (suc i) s within =
     let place : drop (i * n) (drop n s) ≡ drop (suc i * n) s = drop-drop (i * n) n s ∙ ap (λ k. drop k s) sum in
     ap (λ k. values_from w k s) next
     ∙ ap (λ (vs : List ℤ). cast_signed w (from_le_bytes w (first_bytes n s)) ∷ vs)
-      (rest ∙ ap (λ (bs : List ℕ). values_from w i (drop n s) ++ cast_signed w (from_le_bytes w (take n bs)) ∷ []) place)
+    (rest ∙ ap (λ (bs : List ℕ). values_from w i (drop n s) ++ cast_signed w (from_le_bytes w (take n bs)) ∷ []) place)
 
 pub length-values_from : (w : Width) (n : ℕ) (s : List ℕ) → length (values_from w n s) ≡ n
 length-values_from w zero s = refl

@@ -17,7 +17,7 @@ number-earlier bs start k b few within at =
     let next : suc j ≡ start + 8 - k = omega arith in
     let here : get_or bs j false ≡ b = sym (unwrap_or-slice_get bs j false) ∙ ap (λ (o : Option Bool). unwrap_or o false) at in
     let cut : drop j bs ≡ b ∷ drop (start + 8 - k) bs =
-      drop-cons bs j false (omega arith) ∙ ap (λ x. x ∷ drop (suc j) bs) here ∙ ap (λ n. b ∷ drop n bs) next in
+    drop-cons bs j false (omega arith) ∙ ap (λ x. x ∷ drop (suc j) bs) here ∙ ap (λ n. b ∷ drop n bs) next in
     ap (λ n. number (take n (drop (start + 8 - (k + 1)) bs))) more ∙ ap (λ n. number (take (suc k) (drop n bs))) place ∙ ap (λ (s : List Bool). number (take (suc k) s)) cut
 
 -- one byte more
@@ -29,4 +29,4 @@ bytes_from-more (suc i) bs =
     let place : drop (8 * i) (drop 8 bs) ≡ drop (8 * suc i) bs = drop-drop (8 * i) 8 bs ∙ ap (λ k. drop k bs) sum in
     ap (λ k. bytes_from k bs) next
     ∙ ap (λ (ns : List ℕ). number (take 8 bs) ∷ ns)
-      (bytes_from-more i (drop 8 bs) ∙ ap (λ (s : List Bool). bytes_from i (drop 8 bs) ++ number (take 8 s) ∷ []) place)
+    (bytes_from-more i (drop 8 bs) ∙ ap (λ (s : List Bool). bytes_from i (drop 8 bs) ++ number (take 8 s) ∷ []) place)

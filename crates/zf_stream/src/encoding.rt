@@ -78,6 +78,10 @@ fn write_code<T: Lane>(
     zf_pad::gather(&Layout::raster(&h.shape), &e, d, values, block);
     match h.mode {
         Mode::Reversible => zf_block::encode_rev(d, &e, block, s, out),
-        Mode::Rate(_) => Err(AllocError),
+        Mode::Rate(bits) => {
+            out.reserve(u64::from(bits))?;
+            zf_block::encode_rate(d, &e, bits, block, s, out);
+            Ok(())
+        }
     }
 }

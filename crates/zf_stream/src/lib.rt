@@ -4,10 +4,12 @@
 mod compressing;
 mod encoding;
 mod fault;
+pub mod laws;
 mod packing;
 mod raw;
+#[cfg(test)]
+mod tests;
 mod values;
 
 pub use compressing::compress;
 pub use fault::StreamFault;
-

@@ -20,7 +20,7 @@ returns g c =
     let h = c.args.h.now in
     let Said : Width → List ℤ → List ℕ = λ w values. stream w h.shape (coding h.mode) values in
     let values : map g.T.Lane.value c.deref.result.now ≡ values_from g.T.Lane.width c.args.count c.args.raw.now =
-      ap (map g.T.Lane.value) c.deref.ensures.value ∙ c.in_ok-values.ensures in
+    ap (map g.T.Lane.value) c.deref.ensures.value ∙ c.in_ok-values.ensures in
     let text = ap (Said g.T.Lane.width) values ∙ ap (λ n. Said g.T.Lane.width (values_from g.T.Lane.width n c.args.raw.now)) c.requires.count
-      ∙ ap (λ w. Said w (values_from w (product h.shape) c.args.raw.now)) c.requires.same_type in
+    ∙ ap (λ w. Said w (values_from w (product h.shape) c.args.raw.now)) c.requires.same_type in
     IfOk-weaker c.stream_of.result _ _ (λ bytes is. is ∙ text) c.stream_of.ensures

@@ -1,0 +1,113 @@
+-- What the stream of an array's values parses to.
+use Rattle.std.proofs.Common.{◌≡◌, refl, sym, ap, subst, ◌∙◌, ℕ, ◌*◌, ◌<◌, Bool, ℤ, FitsSigned, Ok, Some, List, ◌++◌, map, length, All, mul_comm}
+use Rattle.std.specs.Int.{byte_len}
+use Rattle.zf_spec.specs.Grid.{product, blocks, upto, extent_of, block_of}
+use Rattle.zf_spec.specs.Codes.{round}
+use Rattle.zf_spec.specs.Stream.{first_bytes, values_from, block_code, file, stream, stream_of_bytes, filled, to_bytes}
+use Rattle.zf_spec.proofs.Bytes.{first_bytes-all}
+use Rattle.zf_spec.proofs.RawValues.{length-values_from, values_from_fit, raw-values_from}
+use Rattle.zf_base.specs.Widths.{width_of}
+use Rattle.zf_header.specs.declared.header.Header.{Header}
+use Rattle.zf_header.specs.declared.header.Mode.{Mode}
+use Rattle.zf_header.specs.declared.header.Mode.TheVariants.{Reversible, Rate}
+use Rattle.zf_header.specs.HeaderBits.{coding, IsHeader, header_bits}
+use Rattle.zf_stream.specs.Raw.{raw_len, raw_bytes, stream_of, stream_text}
+use Rattle.zf_stream.specs.Parsing.{read_code, joined, header_of, parse, restored_text, restore_answer, without_values}
+use Rattle.zf_stream.proofs.TextOfParse.{text_of_parse}
+use Rattle.zf_stream.proofs.Joined.{joined-blocks}
+use Rattle.zf_stream.proofs.ParseOfStream.{end_to_end, ReadsBack, header_of-file, parse-file}
+use Rattle.zf_stream.proofs.BlocksBack.{reads_reversible, reads_rate}
+
+-- the code of block b
+abbrev code_of : Header → List ℤ → ℕ → List Bool
+code_of h values b = block_code (width_of h.ty) (coding h.mode) (extent_of h.shape b) (block_of h.shape values b)
+
+stream_of-codes : (h : Header) (values : List ℤ) → to_bytes (filled (header_bits h ++ end_to_end (code_of h values) (upto (blocks h.shape)))) ≡ stream_of h values
+unfolding stream_of stream file header_bits
+stream_of-codes h values = refl
+
+-- its header says what it was made with
+pub header_of-stream_of : (h : Header) (values : List ℤ) → IsHeader h → header_of (stream_of h values) ≡ h
+header_of-stream_of h values is_header =
+    ap header_of (sym (stream_of-codes h values)) ∙ header_of-file h (code_of h values) is_header
+
+parse-stream_of : (h : Header) (values : List ℤ) (back : ℕ → List ℤ) → IsHeader h → ((b : ℕ) → b < blocks h.shape → ReadsBack h (code_of h values) back b)
+    → parse (stream_of h values) ≡ Ok (joined h.shape (map back (upto (blocks h.shape))))
+parse-stream_of h values back is_header reads =
+    ap parse (sym (stream_of-codes h values)) ∙ parse-file h (code_of h values) is_header back reads
+
+-- without loss the values come back
+pub parse-reversible : (h : Header) (values : List ℤ) → IsHeader h → h.mode ≡ Reversible → length values ≡ product h.shape → All (λ v. FitsSigned (width_of h.ty) v) values
+    → parse (stream_of h values) ≡ Ok values
+parse-reversible h values is_header mode long fits =
+    parse-stream_of h values (block_of h.shape values) is_header
+    (λ b lt more.
+    let w = width_of h.ty in
+    let es = extent_of h.shape b in
+    let block = block_of h.shape values b in
+    let Read : Mode → Type 0 = λ m. read_code w m es (block_code w (coding m) es block ++ more) ≡ Some (block, length (block_code w (coding m) es block)) in
+    subst Read (sym mode) (reads_reversible h.ty h.shape values b more is_header.shape lt fits))
+    ∙ ap (λ (vs : List ℤ). Ok vs) (joined-blocks h.shape values long)
+
+-- at a fixed rate what the rate makes of each block
+pub parse-rate : (h : Header) (values : List ℤ) (budget : ℕ) → IsHeader h → h.mode ≡ Rate budget
+    → parse (stream_of h values) ≡ Ok (joined h.shape (map (λ b. round (width_of h.ty) budget (extent_of h.shape b) (block_of h.shape values b)) (upto (blocks h.shape))))
+parse-rate h values budget is_header mode =
+    parse-stream_of h values (λ b. round (width_of h.ty) budget (extent_of h.shape b) (block_of h.shape values b)) is_header
+    (λ b lt more.
+    let w = width_of h.ty in
+    let es = extent_of h.shape b in
+    let block = block_of h.shape values b in
+    let Read : Mode → Type 0 = λ m. read_code w m es (block_code w (coding m) es block ++ more) ≡ Some (round w budget es block, length (block_code w (coding m) es block)) in
+    subst Read (sym mode) (reads_rate w budget es block more))
+
+-- ---- raw values
+
+stream_text-values : (h : Header) (bytes : List ℕ) → stream_text h bytes ≡ stream_of h (values_from (width_of h.ty) (product h.shape) bytes)
+unfolding stream_text stream_of stream_of_bytes
+stream_text-values h bytes = refl
+
+-- what a fixed rate makes of an array of values
+abbrev rounded : Header → ℕ → List ℤ → List ℤ
+rounded h budget values = joined h.shape (map (λ b. round (width_of h.ty) budget (extent_of h.shape b) (block_of h.shape values b)) (upto (blocks h.shape)))
+
+module _ (h : Header) (bytes : List ℕ) (is_header : IsHeader h) where
+  parse-reversible_text : h.mode ≡ Reversible → parse (stream_text h bytes) ≡ Ok (values_from (width_of h.ty) (product h.shape) bytes)
+  parse-reversible_text mode =
+      let w = width_of h.ty in
+      let n = product h.shape in
+      ap parse (stream_text-values h bytes)
+      ∙ parse-reversible h (values_from w n bytes) is_header mode (length-values_from w n bytes) (values_from_fit w n bytes)
+
+  parse-rate_text : (budget : ℕ) → h.mode ≡ Rate budget → parse (stream_text h bytes) ≡ Ok (rounded h budget (values_from (width_of h.ty) (product h.shape) bytes))
+  parse-rate_text budget mode =
+      ap parse (stream_text-values h bytes) ∙ parse-rate h (values_from (width_of h.ty) (product h.shape) bytes) budget is_header mode
+
+  -- each stream is good
+  pub answer-stream_text : restore_answer (stream_text h bytes) ≡ Ok tt
+  answer-stream_text = by h.mode refl
+    where
+      by : (m : Mode) → h.mode ≡ m → restore_answer (stream_text h bytes) ≡ Ok tt
+      by Reversible mode = ap without_values (parse-reversible_text mode)
+      by (Rate b) mode = ap without_values (parse-rate_text b mode)
+
+  -- what is restored of it is the raw bytes of the values that it parses to
+  text-parsed : (values : List ℤ) → parse (stream_text h bytes) ≡ Ok values → restored_text (stream_text h bytes) ≡ raw_bytes h values
+  text-parsed values parsed =
+      text_of_parse (stream_text h bytes) values parsed
+      ∙ ap (λ g. raw_bytes g values) (ap header_of (stream_text-values h bytes) ∙ header_of-stream_of h (values_from (width_of h.ty) (product h.shape) bytes) is_header)
+
+  pub text-rate_text : (budget : ℕ) → h.mode ≡ Rate budget
+      → restored_text (stream_text h bytes) ≡ raw_bytes h (rounded h budget (values_from (width_of h.ty) (product h.shape) bytes))
+  text-rate_text budget mode = text-parsed (rounded h budget (values_from (width_of h.ty) (product h.shape) bytes)) (parse-rate_text budget mode)
+
+  -- without loss these are the raw bytes that were given
+  pub text-reversible_text : h.mode ≡ Reversible → length bytes ≡ raw_len h → All (λ b. b < 256) bytes → restored_text (stream_text h bytes) ≡ bytes
+  text-reversible_text mode long small =
+      let w = width_of h.ty in
+      let n = product h.shape in
+      let count : n * byte_len w ≡ length bytes = mul_comm n (byte_len w) ∙ sym long in
+      text-parsed (values_from w n bytes) (parse-reversible_text mode)
+      ∙ raw-values_from w n bytes small
+      ∙ ap (λ k. first_bytes k bytes) count
+      ∙ first_bytes-all bytes

@@ -1,0 +1,44 @@
+//! Laws of streams. Each is a function with no parameters and an empty body, whose contract is the theorem.
+
+ghost use Rattle.std.specs.Prelude.{◌≡◌, ◌<◌, ℕ, ℤ, List, map, length, Ok, FitsSigned, All};
+ghost use Rattle.zf_spec.specs.Grid.{product, blocks, upto, extent_of, block_of, blocks_of};
+ghost use Rattle.zf_spec.specs.Codes.{round};
+ghost use Rattle.zf_spec.specs.Stream.{values_from};
+ghost use Rattle.zf_base.specs.Widths.{width_of};
+ghost use Rattle.zf_header.specs.declared.header.Header.{Header};
+ghost use Rattle.zf_header.specs.declared.header.Mode.TheVariants.{Reversible, Rate};
+ghost use Rattle.zf_header.specs.HeaderBits.{IsHeader};
+ghost use Rattle.zf_stream.specs.Raw.{raw_len, raw_bytes, stream_of, stream_text};
+ghost use Rattle.zf_stream.specs.Parsing.{header_of, joined, parse, restore_answer, restored_text};
+
+/// What is restored of a stream is the raw bytes of its values.
+pub fn text_of_a_stream()
+    ensures { (bytes : List ℕ) (values : List ℤ) → parse bytes ≡ Ok values → restored_text bytes ≡ raw_bytes (header_of bytes) values }
+{}
+
+/// The values of an array are joined of its blocks.
+pub fn joined_blocks()
+    ensures { (ns : List ℕ) (values : List ℤ) → length values ≡ product ns → joined ns (blocks_of ns values) ≡ values }
+{}
+
+/// The stream of an array has its header, and parses to its values, or to what the fixed rate makes of each block.
+pub fn a_stream_is_parsed()
+    ensures header { (h : Header) (values : List ℤ) → IsHeader h → header_of (stream_of h values) ≡ h }
+    ensures reversible { (h : Header) (values : List ℤ) → IsHeader h → h.mode ≡ Reversible
+        → length values ≡ product h.shape → All (λ v. FitsSigned (width_of h.ty) v) values
+        → parse (stream_of h values) ≡ Ok values }
+    ensures rate { (h : Header) (values : List ℤ) (budget : ℕ) → IsHeader h → h.mode ≡ Rate budget
+        → parse (stream_of h values) ≡ Ok (joined h.shape
+        (map (λ b. round (width_of h.ty) budget (extent_of h.shape b) (block_of h.shape values b)) (upto (blocks h.shape)))) }
+{}
+
+/// The stream of raw bytes is a good one. What is restored of it is these bytes, or the bytes of what the fixed rate makes of each block.
+pub fn restore_undoes_compress()
+    ensures answer { (h : Header) (bytes : List ℕ) → IsHeader h → restore_answer (stream_text h bytes) ≡ Ok tt }
+    ensures reversible { (h : Header) (bytes : List ℕ) → IsHeader h → h.mode ≡ Reversible
+        → length bytes ≡ raw_len h → All (λ b. b < 256) bytes → restored_text (stream_text h bytes) ≡ bytes }
+    ensures rate { (h : Header) (bytes : List ℕ) (budget : ℕ) → IsHeader h → h.mode ≡ Rate budget
+        → let values = values_from (width_of h.ty) (product h.shape) bytes in
+        restored_text (stream_text h bytes) ≡ raw_bytes h (joined h.shape
+        (map (λ b. round (width_of h.ty) budget (extent_of h.shape b) (block_of h.shape values b)) (upto (blocks h.shape)))) }
+{}

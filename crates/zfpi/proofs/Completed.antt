@@ -1,0 +1,58 @@
+-- Each stage that is reached can be completed to a command.
+use Rattle.std.proofs.Common.{◌≡◌, ℕ, ◌+◌, ◌*◌, ◌≤◌, ◌^◌, List, [], ◌∷◌, ◌++◌, length, codes, decimal, refl, ap, sym, subst, ◌∙◌, arith, lit≤}
+use Rattle.std.proofs.lemmas.List.{append-nil}
+use Rattle.zf_base.specs.declared.lane.Ty.{Ty}
+use Rattle.zf_base.specs.declared.lane.Ty.TheVariants.{I32}
+use Rattle.zf_base.proofs.Sizes.{blocks_le}
+use Rattle.zf_spec.specs.Grid.{IsShape, blocks, product, max_values}
+use Rattle.zf_header.specs.declared.header.Header.{Header}
+use Rattle.zf_header.specs.declared.header.Mode.{Mode}
+use Rattle.zf_header.specs.declared.header.Mode.TheVariants.{Reversible, Rate}
+use Rattle.zf_header.specs.HeaderBits.{rate_bytes_of, header_bits}
+use Rattle.zf_header.proofs.Parts.{length-header_bits}
+use Rattle.zfpi.specs.declared.command.Command.{Command}
+use Rattle.zfpi.specs.declared.command.Command.TheVariants.{Compress}
+use Rattle.zfpi.specs.declared.words.Stage.{Stage}
+use Rattle.zfpi.specs.declared.words.Stage.TheVariants as stages
+use Rattle.zfpi.specs.Words.{type_word, shape_word, compress_words, IsAskable, IsSpelled, BeginsCommand}
+use Rattle.zfpi.specs.Stages.{LeadsTo}
+
+-- a header by its parts
+abbrev pub header_with : Ty → List ℕ → Mode → Header
+header_with ty ns mode = record { ty = ty; shape = ns; mode = mode }
+
+-- one value is a shape
+one_value : IsShape (1 ∷ [])
+one_value = record {
+  some_dimension = lit≤ tt;
+  four_at_most = lit≤ tt;
+  not_zero = (lit≤ tt, tt);
+  fields = (lit≤ tt, tt);
+  not_too_large = lit≤ tt;
+}
+
+askable_reversible : (ty : Ty) (ns : List ℕ) → IsShape ns → IsAskable (header_with ty ns Reversible)
+askable_reversible ty ns shape = record { header = record { shape = shape; mode = tt }; fits = tt }
+
+-- the rate of one bit fits every shape
+rate_one_fits : (ty : Ty) (ns : List ℕ) → IsShape ns → rate_bytes_of (header_with ty ns (Rate 1)) ≤ 1200000000
+rate_one_fits ty ns shape =
+    omega (arith, length-header_bits (header_with ty ns (Rate 1)) shape, blocks_le ns shape.not_zero, shape.not_too_large)
+
+askable_rate_one : (ty : Ty) (ns : List ℕ) → IsShape ns → IsAskable (header_with ty ns (Rate 1))
+askable_rate_one ty ns shape = record { header = record { shape = shape; mode = (lit≤ tt, lit≤ tt) }; fits = rate_one_fits ty ns shape }
+
+-- the words that lead to a stage begin a command
+pub BeginsCommand-reached : (words : List (List ℕ)) (stage : Stage) → LeadsTo words stage → BeginsCommand words
+BeginsCommand-reached words stages.Start is =
+    let h = header_with I32 (1 ∷ []) Reversible in
+    (Compress h, compress_words h, (askable_reversible I32 (1 ∷ []) one_value, ap (λ front. front ++ compress_words h) is))
+BeginsCommand-reached words stages.Compressing is =
+    (Compress (header_with I32 (1 ∷ []) Reversible), codes "int32" ∷ shape_word (1 ∷ []) ∷ codes "reversible" ∷ [], (askable_reversible I32 (1 ∷ []) one_value, ap (λ front. front ++ codes "int32" ∷ shape_word (1 ∷ []) ∷ codes "reversible" ∷ []) is))
+BeginsCommand-reached words (stages.Typed ty) is =
+    (Compress (header_with ty (1 ∷ []) Reversible), shape_word (1 ∷ []) ∷ codes "reversible" ∷ [], (askable_reversible ty (1 ∷ []) one_value, ap (λ front. front ++ shape_word (1 ∷ []) ∷ codes "reversible" ∷ []) is))
+BeginsCommand-reached words (stages.Shaped ty ns) leads =
+    (Compress (header_with ty ns Reversible), codes "reversible" ∷ [], (askable_reversible ty ns leads.0, ap (λ front. front ++ codes "reversible" ∷ []) leads.1))
+BeginsCommand-reached words (stages.AtRate ty ns) leads =
+    (Compress (header_with ty ns (Rate 1)), decimal 1 ∷ [], (askable_rate_one ty ns leads.0, ap (λ front. front ++ decimal 1 ∷ []) leads.1))
+BeginsCommand-reached words (stages.Whole c) spelled = (c, [], subst (IsSpelled c) (sym (append-nil words)) spelled)

@@ -1,0 +1,7 @@
+mod Decimals
+mod ShapeWords
+mod Completed
+mod Commands
+mod Fronts
+mod Promises
+mod Headers

@@ -1,0 +1,13 @@
+use Rattle.std.proofs.Common.{subst, sym}
+use Rattle.zfpi.specs.Stages.{LeadsTo}
+use Rattle.zfpi.proofs.Commands.{IsRateWord-begun}
+use Rattle.zfpi.proofs.words.Stage.next.Goals as goal
+
+pub returns-in_err-rate_in-in-AtRate-clause-none : goal.returns-in_err-rate_in-in-AtRate-clause-none
+returns-in_err-rate_in-in-AtRate-clause-none c =
+    rw c.from_residual-in_err-rate_in-in-AtRate.ensures (λ words leads begins.
+    let rate = IsRateWord-begun words c.in-AtRate.ty c.in-AtRate.shape c.args.word.now (subst (LeadsTo words) c.in-AtRate.is leads) begins in
+    c.in_err-rate_in-in-AtRate.ensures.none rate.0 rate.1)
+
+pub returns-in-Shaped-clause-none : goal.returns-in-Shaped-clause-none
+returns-in-Shaped-clause-none c = rw c.in-Shaped.is c.behind_shape.ensures.none

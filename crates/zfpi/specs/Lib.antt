@@ -1,0 +1,13 @@
+-- What the contracts of zfpi cite.
+--     Words       which lists of words are commands, and where others stop
+--     Stages      what each stage of reading words knows
+--     Statuses    the exit code of each status, and its line for the error output
+--     Info        the line that `info` writes
+--     Answer      what each command gives for an input: one case for each command
+--     Headline    what the program promises of every command
+pub mod Words
+pub mod Stages
+pub mod Statuses
+pub mod Info
+pub mod Answer
+pub mod Headline

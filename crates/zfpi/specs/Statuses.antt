@@ -1,0 +1,48 @@
+-- The exit code of each status, and its line for the error output.
+use Rattle.std.specs.Prelude.{ℕ, List, [], ◌++◌, codes, decimal}
+use Rattle.zf_header.specs.declared.header.HeaderFault.{HeaderFault}
+use Rattle.zf_header.specs.declared.header.HeaderFault.TheVariants as headers
+use Rattle.zfpi.specs.declared.status.Status.{Status}
+use Rattle.zfpi.specs.declared.status.Status.TheVariants.{Done, Usage, RawShort, RawLong, Header, Truncated, Pad, Trailing, ReadFault, WriteFault, Memory}
+
+-- the exit code of the process
+abbrev pub code_of : Status → ℕ
+code_of Done = 0
+code_of (Usage k) = 2
+code_of (RawShort m) = 3
+code_of RawLong = 3
+code_of (Header fault) = 4
+code_of (Truncated b) = 5
+code_of Pad = 5
+code_of Trailing = 5
+code_of ReadFault = 10
+code_of WriteFault = 11
+code_of Memory = 20
+
+-- what is wrong with a header
+abbrev pub header_message : HeaderFault → List ℕ
+header_message headers.Short = codes "short"
+header_message headers.Magic = codes "magic"
+header_message headers.Codec = codes "codec"
+header_message headers.Scalar = codes "type"
+header_message headers.Order = codes "order"
+header_message headers.TooLarge = codes "too large"
+header_message (headers.Mode m) = codes "mode " ++ decimal m
+
+-- the line with this text
+abbrev pub line : List ℕ → List ℕ
+line text = codes "zfpi: " ++ text ++ codes "\n"
+
+-- the line of a status; none after Done
+abbrev pub error_line : Status → List ℕ
+error_line Done = []
+error_line (Usage k) = line (codes "usage: word " ++ decimal k)
+error_line (RawShort m) = line (codes "input ends after " ++ decimal m ++ codes " bytes")
+error_line RawLong = line (codes "input is longer than the shape")
+error_line (Header fault) = line (codes "header: " ++ header_message fault)
+error_line (Truncated b) = line (codes "stream ends in block " ++ decimal b)
+error_line Pad = line (codes "fill bit is one")
+error_line Trailing = line (codes "bytes after the stream")
+error_line ReadFault = line (codes "read fault")
+error_line WriteFault = line (codes "write fault")
+error_line Memory = line (codes "out of memory")

@@ -1,0 +1,56 @@
+-- The words of the command line: which lists of words are commands.
+use Rattle.std.specs.Prelude.{ℕ, ◌≡◌, ◌<◌, ◌≤◌, List, [], ◌∷◌, ◌++◌, map, length, take, codes, decimal}
+use Rattle.std.specs.List.{join_with_byte}
+use Rattle.zf_base.specs.declared.lane.Ty.{Ty}
+use Rattle.zf_base.specs.declared.lane.Ty.TheVariants.{I32, I64}
+use Rattle.zf_header.specs.declared.header.Header.{Header}
+use Rattle.zf_header.specs.declared.header.Mode.{Mode}
+use Rattle.zf_header.specs.declared.header.Mode.TheVariants.{Reversible, Rate}
+use Rattle.zf_header.specs.HeaderBits.{IsHeader, rate_bytes_of}
+use Rattle.zfpi.specs.declared.command.Command.{Command}
+use Rattle.zfpi.specs.declared.command.Command.TheVariants.{Compress, Info}
+use Rattle.zfpi.specs.declared.words.TheConstants.{MAX_FILE}
+
+-- the word of a type
+abbrev pub type_word : Ty → List ℕ
+type_word I32 = codes "int32"
+type_word I64 = codes "int64"
+
+-- the word of a shape: its sizes in decimal, x first, joined by the letter x
+abbrev pub shape_word : List ℕ → List ℕ
+shape_word ns = join_with_byte 120 (map decimal ns)
+
+-- the words of a mode
+abbrev pub mode_words : Mode → List (List ℕ)
+mode_words Reversible = codes "reversible" ∷ []
+mode_words (Rate b) = codes "rate" ∷ decimal b ∷ []
+
+-- the stream of a fixed rate has no more bytes than a file may have
+abbrev pub FitsFile : Header → Mode → Type 0
+FitsFile h Reversible = Unit {0}
+FitsFile h (Rate b) = rate_bytes_of h ≤ MAX_FILE
+
+-- what can be asked for: a type, a shape, and a mode whose stream is not too long
+pub record IsAskable (h : Header) : Type 0 where
+  pub header : IsHeader h
+  pub fits : FitsFile h h.mode
+
+-- `compress TYPE SHAPE reversible` or `compress TYPE SHAPE rate B`
+abbrev pub compress_words : Header → List (List ℕ)
+compress_words h = codes "compress" ∷ type_word h.ty ∷ shape_word h.shape ∷ mode_words h.mode
+
+-- these words are the command
+abbrev pub IsSpelled : Command → List (List ℕ) → Type 0
+IsSpelled (Compress h) words = IsAskable h × (words ≡ compress_words h)
+IsSpelled Info words = words ≡ codes "info" ∷ []
+
+-- some command begins with these words
+abbrev pub BeginsCommand : List (List ℕ) → Type 0
+BeginsCommand words = (c : Command) × (rest : List (List ℕ)) × IsSpelled c (words ++ rest)
+
+-- the words are no command, and the first k of them are the most that begin one
+pub record IsUsage (words : List (List ℕ)) (k : ℕ) : Type 0 where
+  pub no_command : (c : Command) → IsSpelled c words → ⊥
+  pub within : k ≤ length words
+  pub begins : BeginsCommand (take k words)
+  pub longest : (n : ℕ) → k < n → n ≤ length words → BeginsCommand (take n words) → ⊥

@@ -1,0 +1,10 @@
+use zf_header::Header;
+
+/// What the program is asked to do.
+#[derive(Clone, Copy, Debug, PartialEq, Eq)]
+pub enum Command {
+    /// Raw values from the source; the stream that has this header to the sink.
+    Compress(Header),
+    /// The header of a stream from the source; a line that says it to the sink.
+    Info,
+}

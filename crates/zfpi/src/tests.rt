@@ -1,0 +1,241 @@
+//! The program over devices in memory: the worked rows of its documentation.
+
+ghost use Rattle.std.specs.Prelude.{◌<◌};
+
+use crate::program::zfpi;
+use crate::status::Status;
+use std::alloc::{AllocError, Global};
+use std::test::Fail;
+use zf_dev::{MemSink, MemSource};
+use zf_header::HeaderFault;
+
+// How a call of the program ended, and what its devices hold then.
+#[derive(Drop)]
+struct Ended {
+    status: Status,
+    src: MemSource,
+    out: MemSink,
+    err: MemSink,
+}
+
+// Calls the program. The devices give and take at most `piece` bytes at once, and those of input and output fail at these
+// calls.
+fn call(
+    alloc: Global,
+    words: &str,
+    input: &[u8],
+    piece: usize,
+    read_fails: &[u64],
+    write_fails: &[u64],
+) -> Result<Ended, AllocError>
+    requires { 0 < piece }
+{
+    let mut all = Vec::new(alloc);
+    for word in words.split_whitespace() {
+        all.push(String::from_str(alloc, word)?)?;
+    }
+    let mut src = MemSource::new(
+        Vec::from_slice(alloc, input)?,
+        Vec::from_slice(alloc, read_fails)?,
+        piece,
+    );
+    let mut out = MemSink::new(alloc, Vec::from_slice(alloc, write_fails)?, piece);
+    let mut err = MemSink::new(alloc, Vec::new(alloc), piece);
+    let status = zfpi(alloc, &all, &mut src, &mut out, &mut err);
+    Ok(Ended {
+        status,
+        src,
+        out,
+        err,
+    })
+}
+
+#[test]
+fn values_become_their_stream(rt: HostRuntime) -> Result<(), Fail> {
+    let rows: [(&str, &[u8], &[u8]); 7] = [
+        (
+            "compress int32 1 reversible",
+            &[0, 0, 0, 0],
+            b"zfp\x05\0\0\0\0\0\0\0\x88\0\0\0\0",
+        ),
+        (
+            "compress int32 1 reversible",
+            &[1, 0, 0, 0],
+            b"zfp\x05\0\0\0\0\0\0\0\x88\x1f\0\0\0\x30\0\0\0\0\0\0\0",
+        ),
+        (
+            "compress int32 1 reversible",
+            &[0xff, 0xff, 0xff, 0xff],
+            b"zfp\x05\0\0\0\0\0\0\0\x88\x1f\0\0\0\x58\0\0\0\0\0\0\0",
+        ),
+        (
+            "compress int32 1 reversible",
+            &[0, 0, 0, 0x80],
+            b"zfp\x05\0\0\0\0\0\0\0\x88\x60\0\0\0",
+        ),
+        (
+            "compress int32 2 reversible",
+            &[1, 0, 0, 0, 2, 0, 0, 0],
+            b"zfp\x05\x10\0\0\0\0\0\0\x88\x1f\0\0\0\x48\x07\0\0\0\0\0\0",
+        ),
+        (
+            "compress int32 4 reversible",
+            &[0, 0, 0, 0, 0, 0, 0, 0, 0, 0, 0, 0, 1, 0, 0, 0],
+            b"zfp\x05\x30\0\0\0\0\0\0\x88\x1f\0\0\0\x10\0\0\0\0\0\0\0",
+        ),
+        (
+            "compress int64 5x7 reversible",
+            &[0; 280],
+            b"zfp\x05\x45\0\0\x60\0\0\0\x88\0\0\0\0",
+        ),
+    ];
+    for (words, values, stream) in rows {
+        for piece in [1, 1000] {
+            let ended = call(rt.alloc(), words, values, piece, &[], &[])?;
+            assert_eq!(rt; ended.status, Status::Done, "{words}");
+            assert_eq!(rt; ended.out.bytes(), stream, "{words}");
+            assert_eq!(rt;
+                ended.src.left().len() + ended.err.bytes().len(),
+                0,
+                "{words}"
+            );
+        }
+    }
+    Ok(())
+}
+
+#[test]
+fn other_words_are_no_command(rt: HostRuntime) -> Result<(), Fail> {
+    for (words, first_wrong) in [
+        ("", 0),
+        ("frob", 0),
+        ("compress int32 0 reversible", 2),
+        ("compress int32 4", 3),
+        ("compress int32 4 rate 0", 4),
+        ("compress int32 4 rate 32769", 4),
+        ("compress int32 134217728 rate 2048", 4),
+        ("compress int16 4 reversible", 1),
+        ("compress int32 04 reversible", 2),
+        ("compress int32 +4 reversible", 2),
+        ("compress int32 4x reversible", 2),
+        ("compress int32 1x1x1x1x1 reversible", 2),
+        ("compress int32 4 reversible x", 4),
+        ("info x", 1),
+    ] {
+        let ended = call(rt.alloc(), words, b"", 1000, &[], &[])?;
+        assert_eq!(rt; ended.status, Status::Usage(first_wrong), "{words}");
+        let line = format!(in rt.alloc(); "zfpi: usage: word {first_wrong}\n")?;
+        assert_eq!(rt; ended.err.bytes(), line.as_bytes(), "{words}");
+        assert_eq!(rt; ended.out.bytes().len(), 0, "{words}");
+    }
+    Ok(())
+}
+
+#[test]
+fn a_refusal_has_its_line(rt: HostRuntime) -> Result<(), Fail> {
+    let rows: [(usize, Status, &[u8]); 3] = [
+        (3, Status::RawShort(3), b"zfpi: input ends after 3 bytes\n"),
+        (
+            9,
+            Status::RawLong,
+            b"zfpi: input is longer than the shape\n",
+        ),
+        (0, Status::RawShort(0), b"zfpi: input ends after 0 bytes\n"),
+    ];
+    for (len, status, line) in rows {
+        let ended = call(
+            rt.alloc(),
+            "compress int32 2 reversible",
+            &[0; 9][..len],
+            1000,
+            &[],
+            &[],
+        )?;
+        assert_eq!(rt; ended.status, status);
+        assert_eq!(rt; ended.err.bytes(), line);
+    }
+    Ok(())
+}
+
+#[test]
+fn a_device_that_fails_is_told(rt: HostRuntime) -> Result<(), Fail> {
+    let rows: [(&[u64], &[u64], Status, &[u8]); 2] = [
+        (&[0], &[], Status::ReadFault, b"zfpi: read fault\n"),
+        (&[], &[0], Status::WriteFault, b"zfpi: write fault\n"),
+    ];
+    for (read_fails, write_fails, status, line) in rows {
+        let words = "compress int32 1 reversible";
+        let ended = call(rt.alloc(), words, &[0; 4], 1000, read_fails, write_fails)?;
+        assert_eq!(rt; ended.status, status);
+        assert_eq!(rt; ended.err.bytes(), line);
+        assert_eq!(rt; ended.out.bytes().len(), 0);
+    }
+    Ok(())
+}
+
+// A stream with a short header and one with a long header, and two bytes behind.
+const RATE: &[u8; 18] = b"zfp\x05\x30\0\0\0\0\0\x10\0\x01\0\0\0..";
+
+const LONG: &[u8; 21] = b"zfp\x45\x3c\0\x03\x30\0\x03\xf0\xff\xff\x8f\xff\xc7\xaf\x87\x07..";
+
+#[test]
+fn info_says_the_header(rt: HostRuntime) -> Result<(), Fail> {
+    let rows: [(&[u8], &[u8], usize); 3] = [
+        (RATE, b"int32 4 rate 2 blocks 1 header 96\n", 0),
+        (LONG, b"int32 4x4x4x4 rate 4096 blocks 1 header 148\n", 2),
+        (
+            b"zfp\x05\x45\0\0\x60\0\0\0\x88\0\0\0\0",
+            b"int64 5x7 reversible blocks 4 header 96\n",
+            0,
+        ),
+    ];
+    for (stream, line, left) in rows {
+        for piece in [1, 1000] {
+            let ended = call(rt.alloc(), "info", stream, piece, &[], &[])?;
+            assert_eq!(rt; ended.status, Status::Done);
+            assert_eq!(rt; ended.out.bytes(), line);
+            assert_eq!(rt; ended.src.left().len(), left);
+            assert_eq!(rt; ended.err.bytes().len(), 0);
+        }
+    }
+    Ok(())
+}
+
+#[test]
+fn info_says_the_first_fault(rt: HostRuntime) -> Result<(), Fail> {
+    let stream = b"zfp\x05\0\0\0\0\0\0\0\x88\0\0\0\0";
+    let rows: [(usize, u8, HeaderFault, &[u8]); 6] = [
+        (2, 0x71, HeaderFault::Magic, b"zfpi: header: magic\n"),
+        (3, 0x04, HeaderFault::Codec, b"zfpi: header: codec\n"),
+        (3, 0x45, HeaderFault::Order, b"zfpi: header: order\n"),
+        (4, 0x02, HeaderFault::Scalar, b"zfpi: header: type\n"),
+        (7, 0x80, HeaderFault::TooLarge, b"zfpi: header: too large\n"),
+        (
+            10,
+            0x10,
+            HeaderFault::Mode(2177),
+            b"zfpi: header: mode 2177\n",
+        ),
+    ];
+    for (at, byte, fault, line) in rows {
+        let mut changed = *stream;
+        if at < changed.len() {
+            changed[at] = byte;
+        }
+        let ended = call(rt.alloc(), "info", &changed, 1000, &[], &[])?;
+        assert_eq!(rt; ended.status, Status::Header(fault));
+        assert_eq!(rt; ended.err.bytes(), line);
+        assert_eq!(rt; ended.out.bytes().len(), 0);
+    }
+    // A long form whose rate has a short one.
+    let long: &[u8] = b"zfp\x05\0\0\0\0\0\0\xf0\xff\x3f\x80\x1f\xc0\xaf\x87\x07";
+    for (bytes, fault) in [
+        (&stream[..11], HeaderFault::Short),
+        (long, HeaderFault::Mode(4095)),
+        (&long[..18], HeaderFault::Short),
+    ] {
+        let ended = call(rt.alloc(), "info", bytes, 1000, &[], &[])?;
+        assert_eq!(rt; ended.status, Status::Header(fault));
+    }
+    Ok(())
+}

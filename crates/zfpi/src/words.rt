@@ -1,0 +1,124 @@
+//! The words of the command line.
+
+ghost use Rattle.std.specs.Prelude.{◌≡◌, ◌≢◌, ℕ, List, [], ◌∷◌, ◌++◌, map, IfSome, IfNone, IfOk, IfErr, string_bytes};
+ghost use Rattle.zf_base.specs.declared.lane.Ty.{Ty};
+ghost use Rattle.zfpi.specs.Words.{type_word, IsSpelled, BeginsCommand, IsUsage};
+ghost use Rattle.zfpi.specs.Stages.{LeadsTo, IsRateWord};
+
+use crate::command::Command;
+use crate::numbers::{number_in, shape_in};
+use zf_base::{Shape, Ty};
+use zf_header::{Header, MAX_RATE, Mode, rate_bytes};
+
+/// The most bytes of a stream with a fixed rate.
+const MAX_FILE: u64 = 1_200_000_000;
+
+// How far the words have come.
+#[derive(Clone, Copy, Debug, PartialEq, Eq)]
+enum Stage {
+    Start,
+    Compressing,
+    Typed(Ty),
+    Shaped(Ty, Shape),
+    AtRate(Ty, Shape),
+    Whole(Command),
+}
+
+/// The command that the words are. Else how many of them begin one: the number, from 0, of the first word that fits no
+/// command, or the number of words where more are missing.
+pub fn parse(words: &[String]) -> Result<Command, u64>
+    ensures command { IfOk result (λ c. IsSpelled c (map string_bytes words.now)) }
+    ensures usage { IfErr result (λ k. IsUsage (map string_bytes words.now) k) }
+{
+    let mut stage = Stage::Start;
+    for (number, word) in words.iter().enumerate() {
+        let Some(next) = stage.next(word.as_str()) else {
+            return Err(number as u64);
+        };
+        stage = next;
+    }
+    match stage {
+        Stage::Whole(command) => Ok(command),
+        _ => Err(words.len() as u64),
+    }
+}
+
+impl Stage {
+    // The stage that one more word leads to.
+    fn next(self, word: &str) -> Option<Stage>
+        ensures leads { IfSome result (λ next. (words : List (List ℕ)) → LeadsTo words self
+            → LeadsTo (words ++ word.now ∷ []) next) }
+        ensures none { IfNone result ((words : List (List ℕ)) → LeadsTo words self
+            → BeginsCommand (words ++ word.now ∷ []) → ⊥) }
+    {
+        match self {
+            Stage::Start => first(word),
+            Stage::Compressing => Some(Stage::Typed(type_in(word)?)),
+            Stage::Typed(ty) => Some(Stage::Shaped(ty, shape_in(word)?)),
+            Stage::Shaped(ty, shape) => behind_shape(ty, shape, word),
+            Stage::AtRate(ty, shape) => {
+                let mode = Mode::Rate(rate_in(ty, shape, word)?);
+                Some(Stage::Whole(Command::Compress(Header { ty, shape, mode })))
+            }
+            Stage::Whole(_) => None,
+        }
+    }
+}
+
+// The stage that the first word leads to.
+fn first(word: &str) -> Option<Stage>
+    ensures leads { IfSome result (λ next. LeadsTo (word.now ∷ []) next) }
+    ensures none { IfNone result (BeginsCommand (word.now ∷ []) → ⊥) }
+{
+    match word {
+        "compress" => Some(Stage::Compressing),
+        "info" => Some(Stage::Whole(Command::Info)),
+        _ => None,
+    }
+}
+
+// The type that a word says.
+fn type_in(word: &str) -> Option<Ty>
+    ensures ty { IfSome result (λ ty. word.now ≡ type_word ty) }
+    ensures none { IfNone result ((ty : Ty) → word.now ≢ type_word ty) }
+{
+    match word {
+        "int32" => Some(Ty::I32),
+        "int64" => Some(Ty::I64),
+        _ => None,
+    }
+}
+
+// The stage that the first word of the mode leads to.
+fn behind_shape(ty: Ty, shape: Shape, word: &str) -> Option<Stage>
+    ensures leads { IfSome result (λ next. (words : List (List ℕ)) → LeadsTo words (Stage.Shaped ty shape)
+        → LeadsTo (words ++ word.now ∷ []) next) }
+    ensures none { IfNone result ((words : List (List ℕ)) → LeadsTo words (Stage.Shaped ty shape)
+        → BeginsCommand (words ++ word.now ∷ []) → ⊥) }
+{
+    match word {
+        "reversible" => {
+            let mode = Mode::Reversible;
+            Some(Stage::Whole(Command::Compress(Header { ty, shape, mode })))
+        }
+        "rate" => Some(Stage::AtRate(ty, shape)),
+        _ => None,
+    }
+}
+
+// The bits of a block that a word says, where the stream of such an array is not too long.
+fn rate_in(ty: Ty, shape: Shape, word: &str) -> Option<u32>
+    ensures rate { IfSome result (λ b. IsRateWord ty shape b word.now) }
+    ensures none { IfNone result ((b : ℕ) → IsRateWord ty shape b word.now → ⊥) }
+{
+    let number = number_in(word)?;
+    if number == 0 || number > u64::from(MAX_RATE) {
+        return None;
+    }
+    let bits = number as u32;
+    let mode = Mode::Rate(bits);
+    if rate_bytes(&Header { ty, shape, mode }) > MAX_FILE {
+        return None;
+    }
+    Some(bits)
+}
