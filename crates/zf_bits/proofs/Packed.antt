@@ -8,8 +8,8 @@ use Rattle.std.proofs.lemmas.List.Concat.{flat_map-append}
 use Rattle.zf_spec.specs.Numbers.{field, number, word_bits}
 use Rattle.zf_spec.specs.Stream.{first_bytes, filled, to_bits}
 use Rattle.zf_bits.specs.Packing.{word_of, words_from, words_of}
-use Rattle.zf_bits.proofs.Fields.{length-field, number-field, number-append, field-number_at, field-zero}
-use Rattle.zf_bits.proofs.Words.{length-flat_map-field}
+use Rattle.zf_spec.proofs.Fields.{length-field, number-field, number-append, field-number, field-zero}
+use Rattle.zf_spec.proofs.WordBits.{length-flat_map-field}
 
 -- ---- bytes, continued with zero bytes
 
@@ -80,7 +80,7 @@ field-word_of s bytes =
     let whole = first_bytes 8 s in
     let value = number-to_bits 7 whole (length-first_bytes 8 s) (get_or-first_bytes 8 s bytes) in
     let count : length (to_bits whole) ≡ 64 = omega (arith, length-to_bits whole, length-first_bytes 8 s) in
-    ap (field 64) (sym value) ∙ field-number_at 64 (to_bits whole) count
+    ap (field 64) (sym value) ∙ field-number 64 (to_bits whole) count
 
 flat_map-field-replicate : (w n : ℕ) → flat_map (field w) (replicate n 0) ≡ replicate (w * n) false
 flat_map-field-replicate w zero = let none : w * zero ≡ zero = omega arith in rw none refl

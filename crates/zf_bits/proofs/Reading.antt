@@ -6,8 +6,9 @@ use Rattle.std.proofs.Math.Nat.{mul_comm, pow-le-pow_right}
 use Rattle.std.specs.Int.{from_bool}
 use Rattle.zf_spec.specs.Numbers.{is_odd, digit_value, number, word_bits}
 use Rattle.zf_bits.specs.Reader.{Reader, rest, Reads}
-use Rattle.zf_bits.proofs.Fields.{digit_value_le, from_bool-digit_value, number_lt, number-append}
-use Rattle.zf_bits.proofs.Words.{length-word_bits, get_or-flat_map-field}
+use Rattle.zf_spec.proofs.Fields.{number-lt, number-append}
+use Rattle.zf_bits.proofs.Fields.{digit_value_le, from_bool-digit_value}
+use Rattle.zf_spec.proofs.WordBits.{length-word_bits, get_or-flat_map-field}
 
 -- nothing was read
 pub Reads-nil : (r : Reader) → Reads r r []
@@ -43,7 +44,7 @@ number_more bits bit i digit count within is_digit =
     let sum : number (bits ++ bit ∷ []) ≡ number bits + digit * 2 ^ i =
     number-append bits (bit ∷ []) ∙ rw count (omega (arith, product)) in
     let wide : length (bits ++ bit ∷ []) ≤ 64 = omega (arith, length-append bits (bit ∷ [])) in
-    (omega (arith, whole, sum), omega (arith, number_lt (bits ++ bit ∷ []), pow-le-pow_right {n = 2} (lit< tt) wide))
+    (omega (arith, whole, sum), omega (arith, number-lt (bits ++ bit ∷ []), pow-le-pow_right {n = 2} (lit< tt) wide))
 
 -- ---- over words
 

@@ -2,12 +2,10 @@
 --     Mask         a word whose odd digits are flipped by a mask, and the number that its digits stand for
 --     Filling      a list that is filled from the front
 --     ByRank       the digits of a block by rank, and blocks that are filled by rank
---     WordBits     the bits of words of 64, and words in which a bit is set
 --     Transposed   planes that are made of coefficients, and coefficients that are made of planes
 --     Composed     what the calls of this crate make of a block together
 pub mod Mask
 pub mod Filling
 pub mod ByRank
-pub mod WordBits
 pub mod Transposed
 pub mod Composed

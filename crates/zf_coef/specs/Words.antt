@@ -1,7 +1,7 @@
 -- Coefficients and planes as they are held in words.
 --     A coefficient is a word that has its digits as bits. A plane is four words of 64 bits, one for each rank; planes
 --     are numbered by their digit, the lowest first.
-use Rattle.std.specs.Prelude.{ℕ, ◌≡◌, ◌-◌, ℤ, Bool, false, List, [], map, length, reverse, take, drop, replicate, slice_index_or}
+use Rattle.std.specs.Prelude.{ℕ, ℤ, Bool, false, List, [], map, reverse, slice_index_or}
 use Rattle.std.specs.Int.{Width}
 use mir.Val.{bits}
 use Rattle.zf_spec.specs.Numbers.{digits, value_of, field, word_bits}

@@ -4,8 +4,9 @@ use Rattle.std.proofs.lemmas.List.{take_more, get_or-drop, length-take-le, lengt
 use Rattle.std.proofs.Math.Nat.{pow-le-pow_right}
 use Rattle.zf_spec.specs.Numbers.{is_odd, number}
 use Rattle.zf_spec.specs.Stream.{to_bits}
-use Rattle.zf_bits.proofs.Fields.{digit_value-is_odd, from_bool-digit_value, number_lt}
-use Rattle.zf_bits.proofs.Words.{length-flat_map-field, get_or-flat_map-field}
+use Rattle.zf_spec.proofs.Fields.{number-lt}
+use Rattle.zf_bits.proofs.Fields.{digit_value-is_odd, from_bool-digit_value}
+use Rattle.zf_spec.proofs.WordBits.{length-flat_map-field, get_or-flat_map-field}
 use Rattle.zf_bits.proofs.Reading.{number_more}
 use Rattle.zf_header.specs.HeaderFields.{number_at}
 
@@ -40,4 +41,4 @@ pub number_at_below : (at n : ℕ) (s : List Bool) → number_at at n s < 2 ^ n
 unfolding number_at
 number_at_below at n s =
     let count : length (take n (drop at s)) ≤ n = omega (arith, length-take n (drop at s)) in
-    omega (arith, number_lt (take n (drop at s)), pow-le-pow_right {n = 2} (lit< tt) count)
+    omega (arith, number-lt (take n (drop at s)), pow-le-pow_right {n = 2} (lit< tt) count)

@@ -2,7 +2,8 @@
 use Rattle.std.proofs.Common.{◌≡◌, ℕ, ◌+◌, ◌^◌, ◌<◌, ◌≤◌, Bool, List, ◌++◌, length, take, drop, sym, ap, ◌∙◌, arith, append_assoc, length-drop}
 use Rattle.std.proofs.lemmas.List.{take_at, drop_at, take-append-drop, take-take, drop-take, drop-drop, length-take-le}
 use Rattle.zf_spec.specs.Numbers.{field, number}
-use Rattle.zf_bits.proofs.Fields.{length-field, number-field_whole, field-number_at}
+use Rattle.zf_spec.proofs.Fields.{length-field, field-number}
+use Rattle.zf_bits.proofs.Fields.{number-field_whole}
 use Rattle.zf_header.specs.HeaderFields.{number_at}
 
 -- two pieces, one behind the other
@@ -21,7 +22,7 @@ take-add_at at n m s =
 pub field-number_at_place : (at n : ℕ) (s : List Bool) → at + n ≤ length s → field n (number_at at n s) ≡ take n (drop at s)
 unfolding number_at
 field-number_at_place at n s within =
-    field-number_at n (take n (drop at s)) (length-take-le n (drop at s) (omega (arith, length-drop at s)))
+    field-number n (take n (drop at s)) (length-take-le n (drop at s) (omega (arith, length-drop at s)))
 
 -- a field that stands at a place is read there
 pub number_at-field : (before after : List Bool) (at n v : ℕ) → length before ≡ at → v < 2 ^ n → number_at at n ((before ++ field n v) ++ after) ≡ v

@@ -4,7 +4,7 @@ use Rattle.std.specs.List.{flat_map, AllByRecursion}
 use Rattle.std.proofs.lemmas.List.{drop-drop}
 use Rattle.zf_spec.specs.Numbers.{field}
 use Rattle.zf_spec.specs.Grid.{IsShape, upto}
-use Rattle.zf_bits.proofs.Fields.{length-field}
+use Rattle.zf_spec.proofs.Fields.{length-field}
 use Rattle.zf_header.specs.HeaderFields.{number_at, size_in}
 use Rattle.zf_header.proofs.Parts.{size_bits}
 use Rattle.zf_header.proofs.Pieces.{take-add, field-number_at_place, number_at_piece}

@@ -8,7 +8,7 @@ use Rattle.zf_base.specs.Widths.{width_of}
 use Rattle.zf_spec.specs.Numbers.{field}
 use Rattle.zf_spec.specs.Grid.{upto, product}
 use Rattle.zf_spec.specs.Stream.{magic, codec, type_number, mode_number, long_form, to_bits}
-use Rattle.zf_bits.proofs.Fields.{length-field}
+use Rattle.zf_spec.proofs.Fields.{length-field}
 use Rattle.zf_header.specs.declared.header.Header.{Header}
 use Rattle.zf_header.specs.declared.header.Mode.{Mode}
 use Rattle.zf_header.specs.declared.header.Mode.TheVariants.{Reversible, Rate}

@@ -96,7 +96,7 @@ pub enum HeaderFault {
 }
 
 /// The number of a mode: the rate less 1 up to 2048, 2176 for the reversible mode, and else 4095, which begins the long form
-/// (zfp 1.0 documentation, API: header; the number 2176 for these reversible codes is this project's own).
+/// (zfp 1.0 documentation, API: header; the layout of the reversible codes behind it is this project's own).
 pub fn mode_number(m: &Mode) -> u16
     requires { HasNumber m.now }
     ensures { result ≡ mode_number (coding m.now) }

@@ -1,5 +1,5 @@
 -- The stream of an array: header bits, the codes of its blocks, and the fill (zfp 1.0 documentation, API: header;
--- codec byte 69, the reversible mode number and the profile of the long form are this project's own).
+-- codec byte 69 and the profile of the long form are this project's own).
 use Rattle.std.specs.Prelude.{ℕ, suc, zero, ◌-◌, ◌/◌, ◌%◌, ℤ, Bool, false, nat_lt, nat_le, List, [], ◌∷◌, ◌++◌, map, length, take, drop, replicate, if◌then◌else◌}
 use Rattle.std.specs.List.{flat_map}
 use Rattle.std.specs.Int.{Width, byte_len, to_le_bytes, from_le_bytes, cast_unsigned, cast_signed}

@@ -2,7 +2,7 @@ use Rattle.std.proofs.Common.{◌≡◌, length, take, arith, sym, ap, ◌∙◌
 use Rattle.std.proofs.lemmas.List.{length-take-le}
 use Rattle.zf_spec.specs.Numbers.{field}
 use Rattle.zf_bits.specs.Reader.{rest}
-use Rattle.zf_bits.proofs.Fields.{field-number_at}
+use Rattle.zf_spec.proofs.Fields.{field-number}
 use Rattle.zf_bits.proofs.Reading.{take-Reads, Reads-append, Reads-same, number_more}
 use Rattle.zf_bits.proofs.reader.BitReader.read.Goals as goal
 
@@ -32,5 +32,5 @@ returns-clause-reads c =
     let count = length-take-le c.args.n left (omega arith) in
     let all : take c.loop-i.i left ≡ take c.args.n left = ap (λ i. take i left) (omega arith) in
     let same : field c.args.n c.loop-i.value ≡ take c.args.n left =
-    ap (field c.args.n) c.loop-i.invariant.value ∙ rw all (field-number_at c.args.n (take c.args.n left) count) in
+    ap (field c.args.n) c.loop-i.invariant.value ∙ rw all (field-number c.args.n (take c.args.n left) count) in
     Reads-same c.loop-i.invariant.reads (all ∙ sym same)

@@ -1,5 +1,5 @@
 use Rattle.std.proofs.Common.{◌-◌, ◌%◌, length, arith}
-use Rattle.zf_bits.proofs.Fields.{field-zero}
+use Rattle.zf_spec.proofs.Fields.{field-zero}
 use Rattle.zf_bits.proofs.Appending.{Appends-same, length-Appends, fill_whole, fill_short}
 use Rattle.zf_bits.proofs.writer.BitWriter.pad_to_word.Goals as goal
 

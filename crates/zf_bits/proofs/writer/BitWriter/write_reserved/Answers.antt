@@ -1,5 +1,6 @@
 use Rattle.std.proofs.Common.{◌≡◌, arith, append_assoc}
-use Rattle.zf_bits.proofs.Fields.{field_more, length-field}
+use Rattle.zf_spec.proofs.Fields.{length-field}
+use Rattle.zf_bits.proofs.Fields.{field_more}
 use Rattle.zf_bits.proofs.writer.BitWriter.write_reserved.Goals as goal
 
 pub loop-i-preserved : goal.loop-i-preserved
