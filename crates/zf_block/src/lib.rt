@@ -1,4 +1,4 @@
-//! The codes of one block.
+//! The codes of one block: the reversible code, from which its values come back exactly, and the code at a fixed rate, from which they come back rounded.
 #![tactic(auto)]
 
 mod coefficients;

@@ -20,7 +20,7 @@ count_from-more k (suc n) =
     let place : suc k + n ≡ k + suc n = omega arith in
     ap (count_from k) next ∙ ap (λ (ns : List ℕ). k ∷ ns) (count_from-more (suc k) n ∙ ap (λ m. count_from (suc k) n ++ m ∷ []) place)
 
-upto-more : (n : ℕ) → upto (n + 1) ≡ upto n ++ n ∷ []
+pub upto-more : (n : ℕ) → upto (n + 1) ≡ upto n ++ n ∷ []
 upto-more n =
     let place : 0 + n ≡ n = omega arith in
     count_from-more 0 n ∙ ap (λ m. upto n ++ m ∷ []) place

@@ -2,6 +2,10 @@
 --     LittleEndian   raw bytes as values, one after another
 --     WholeBytes     bits as bytes, one after another
 --     Codes          the codes of blocks, one after another; a code says of a block only what its padded block says
+--     Fill           the fill behind the codes
+--     Joining        the blocks of a stream, read one after another
+--     Parsed         from what was read to what a stream says
+--     OwnFaults      which faults are a call's own
 --     TextOfParse    what is restored of a stream is the raw bytes of its values
 --     Joined         the values of an array are joined of its blocks
 --     ParseOfStream  a stream of codes that read back is parsed to what they stand for
@@ -10,6 +14,10 @@
 pub mod LittleEndian
 mod WholeBytes
 mod Codes
+mod Fill
+mod Joining
+mod Parsed
+mod OwnFaults
 pub mod TextOfParse
 pub mod Joined
 pub mod ParseOfStream

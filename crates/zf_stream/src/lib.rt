@@ -1,15 +1,21 @@
 //! Streams: from raw values to a stream, and back.
 #![tactic(auto)]
 
+mod bytes;
 mod compressing;
+mod decoding;
 mod encoding;
 mod fault;
+mod header;
 pub mod laws;
 mod packing;
 mod raw;
+mod restoring;
 #[cfg(test)]
 mod tests;
 mod values;
 
 pub use compressing::compress;
 pub use fault::StreamFault;
+pub use header::read_header;
+pub use restoring::restore;

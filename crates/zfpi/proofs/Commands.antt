@@ -12,7 +12,7 @@ use Rattle.zf_header.specs.declared.header.Mode.{Mode}
 use Rattle.zf_header.specs.declared.header.Mode.TheVariants.{Reversible, Rate}
 use Rattle.zf_header.specs.HeaderBits.{HasNumber}
 use Rattle.zfpi.specs.declared.command.Command.{Command}
-use Rattle.zfpi.specs.declared.command.Command.TheVariants.{Compress, Info}
+use Rattle.zfpi.specs.declared.command.Command.TheVariants.{Compress, Restore, Info}
 use Rattle.zfpi.specs.declared.words.Stage.{Stage}
 use Rattle.zfpi.specs.declared.words.Stage.TheVariants as stages
 use Rattle.zfpi.specs.Words.{type_word, shape_word, mode_words, compress_words, IsAskable, IsSpelled, BeginsCommand, IsUsage}
@@ -43,6 +43,12 @@ same_header : (g h : Header) → g.ty ≡ h.ty → g.shape ≡ h.shape → g.mod
 same_header g h ty shape mode =
     ap (λ t. header_with t g.shape g.mode) ty ∙ (ap (λ ns. header_with h.ty ns g.mode) shape ∙ ap (λ m. header_with h.ty h.shape m) mode)
 
+heads_same : {x y : List ℕ} {xs ys : List (List ℕ)} → x ∷ xs ≡ y ∷ ys → x ≡ y
+heads_same same = cc
+
+restore_or_info : codes "restore" ∷ [] ≡ codes "info" ∷ [] → ⊥
+restore_or_info same = true≢false (ap (bytes_eq (codes "restore")) (heads_same same))
+
 -- words are those of one command at most
 pub one_command : (words : List (List ℕ)) (c d : Command) → IsSpelled c words → IsSpelled d words → c ≡ d
 one_command words (Compress g) (Compress h) a b =
@@ -54,6 +60,11 @@ one_command words (Compress g) (Compress h) a b =
 one_command words (Compress g) Info a b = absurd (omega (arith, ap length (sym a.1 ∙ b)))
 one_command words Info (Compress h) a b = absurd (omega (arith, ap length (sym a ∙ b.1)))
 one_command words Info Info a b = refl
+one_command words (Compress g) Restore a b = absurd (omega (arith, ap length (sym a.1 ∙ b)))
+one_command words Restore (Compress h) a b = absurd (omega (arith, ap length (sym a ∙ b.1)))
+one_command words Restore Restore a b = refl
+one_command words Restore Info a b = absurd (restore_or_info (sym a ∙ b))
+one_command words Info Restore a b = absurd (restore_or_info (sym b ∙ a))
 
 -- ---- fronts of commands
 pub BeginsCommand-front : (words rest : List (List ℕ)) → BeginsCommand (words ++ rest) → BeginsCommand words
@@ -87,9 +98,6 @@ no_mode : (m : Mode) → [] ≡ mode_words m → ⊥
 no_mode Reversible same = cc
 no_mode (Rate b) same = cc
 
-heads_same : {x y : List ℕ} {xs ys : List (List ℕ)} → x ∷ xs ≡ y ∷ ys → x ≡ y
-heads_same same = cc
-
 -- a whole command leads to its stage alone
 whole_at_end : (words : List (List ℕ)) (stage : Stage) (c : Command) → LeadsTo words stage → IsSpelled c words → (d : Command) × (stage ≡ stages.Whole d)
 whole_at_end words stages.Start (Compress h) leads spelled = let same = sym leads ∙ spelled.1 in absurd (cc)
@@ -110,6 +118,13 @@ whole_at_end words stages.Compressing Info leads spelled =
 whole_at_end words (stages.Typed ty) Info leads spelled = absurd (omega (arith, ap length (sym leads ∙ spelled)))
 whole_at_end words (stages.Shaped ty ns) Info leads spelled = absurd (omega (arith, ap length (sym leads.1 ∙ spelled)))
 whole_at_end words (stages.AtRate ty ns) Info leads spelled = absurd (omega (arith, ap length (sym leads.1 ∙ spelled)))
+whole_at_end words stages.Start Restore leads spelled = absurd (omega (arith, ap length (sym leads ∙ spelled)))
+whole_at_end words stages.Compressing Restore leads spelled =
+    let same : codes "compress" ≡ codes "restore" = heads_same (sym leads ∙ spelled) in
+    absurd (true≢false (ap (bytes_eq (codes "compress")) same))
+whole_at_end words (stages.Typed ty) Restore leads spelled = absurd (omega (arith, ap length (sym leads ∙ spelled)))
+whole_at_end words (stages.Shaped ty ns) Restore leads spelled = absurd (omega (arith, ap length (sym leads.1 ∙ spelled)))
+whole_at_end words (stages.AtRate ty ns) Restore leads spelled = absurd (omega (arith, ap length (sym leads.1 ∙ spelled)))
 whole_at_end words (stages.Whole d) c leads spelled = (d, refl)
 
 pub IsUsage-ended : (words : List (List ℕ)) (n : ℕ) (stage : Stage) → n ≡ length words → LeadsTo words stage → ((d : Command) → stage ≡ stages.Whole d → ⊥) → IsUsage words n
@@ -144,6 +159,8 @@ IsRateWord-begun words ty ns word leads (Compress h, rest, spelled) =
     let shape = shape_word_injective h.shape ns spelled.0.header.shape leads.0 shape_text in
     let found = rate_behind h.ty h.shape h.mode word rest spelled.0 behind in
     (found.0, subst (λ t. IsRateWord t ns found.0 word) (type_word_injective h.ty ty type_text) (subst (λ ms. IsRateWord h.ty ms found.0 word) shape found.1))
+IsRateWord-begun words ty ns word leads (Restore, rest, spelled) =
+    absurd (omega (arith, ap length (ap (λ front. (front ++ word ∷ []) ++ rest) (sym leads.1) ∙ spelled)))
 IsRateWord-begun words ty ns word leads (Info, rest, spelled) =
     absurd (omega (arith, ap length (ap (λ front. (front ++ word ∷ []) ++ rest) (sym leads.1) ∙ spelled)))
 

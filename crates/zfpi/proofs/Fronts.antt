@@ -6,12 +6,13 @@ use Rattle.zf_header.specs.declared.header.Header.{Header}
 use Rattle.zf_stream.specs.declared.fault.StreamFault.{StreamFault}
 use Rattle.zf_stream.specs.declared.fault.StreamFault.TheVariants as faults
 use Rattle.zf_stream.specs.Raw.{stream_text}
+use Rattle.zf_stream.specs.Parsing.{restored_text}
 use Rattle.zf_stream.specs.Outcomes as streams
 use Rattle.zfpi.specs.declared.status.Status.{Status}
 use Rattle.zfpi.specs.declared.status.Status.TheVariants as statuses
 use Rattle.zfpi.specs.declared.command.Command.{Command}
-use Rattle.zfpi.specs.declared.command.Command.TheVariants.{Compress}
-use Rattle.zfpi.specs.Answer.{fault_status, part_for, IsEnough}
+use Rattle.zfpi.specs.declared.command.Command.TheVariants.{Compress, Restore}
+use Rattle.zfpi.specs.Answer.{fault_status, part_of, part_for, IsEnough}
 use Rattle.zfpi.specs.Headline.{LeavesFront}
 
 -- a command reads whatever comes, and writes fronts of this text, but nothing before the first write
@@ -45,16 +46,20 @@ LeavesFront-fault c fault text src_before src_now out_before out_now writes left
   ];
 }
 
+-- a fault is want of memory, or has the whole text
+part_of-fault : (fault : StreamFault) (text : List ℕ) → (fault ≡ faults.Memory) ⊎ (part_of (fault_status fault) text ≡ text)
+part_of-fault (faults.RawShort m) text = inr refl
+part_of-fault faults.RawLong text = inr refl
+part_of-fault (faults.Header f) text = inr refl
+part_of-fault (faults.Truncated b) text = inr refl
+part_of-fault faults.Pad text = inr refl
+part_of-fault faults.Trailing text = inr refl
+part_of-fault faults.Read text = inr refl
+part_of-fault faults.Write text = inr refl
+part_of-fault faults.Memory text = inl refl
+
 pub WritesFronts-compress : (h : Header) → WritesFronts (Compress h) (stream_text h)
-WritesFronts-compress h = record { enough = λ bytes. tt; done = λ bytes. refl; want = λ bytes. refl; others = λ fault bytes. compress_front h fault bytes }
-  where
-    compress_front : (h : Header) (fault : StreamFault) (bytes : List ℕ) → (fault ≡ faults.Memory) ⊎ (part_for (Compress h) (fault_status fault) bytes ≡ stream_text h bytes)
-    compress_front h (faults.RawShort m) bytes = inr refl
-    compress_front h faults.RawLong bytes = inr refl
-    compress_front h (faults.Header f) bytes = inr refl
-    compress_front h (faults.Truncated b) bytes = inr refl
-    compress_front h faults.Pad bytes = inr refl
-    compress_front h faults.Trailing bytes = inr refl
-    compress_front h faults.Read bytes = inr refl
-    compress_front h faults.Write bytes = inr refl
-    compress_front h faults.Memory bytes = inl refl
+WritesFronts-compress h = record { enough = λ bytes. tt; done = λ bytes. refl; want = λ bytes. refl; others = λ fault bytes. part_of-fault fault (stream_text h bytes) }
+
+pub WritesFronts-restore : WritesFronts Restore restored_text
+WritesFronts-restore = record { enough = λ bytes. tt; done = λ bytes. refl; want = λ bytes. refl; others = λ fault bytes. part_of-fault fault (restored_text bytes) }

@@ -5,7 +5,7 @@ use Rattle.zf_dev.proofs.Counts.{IsQuiet-rose}
 use Rattle.zfpi.specs.declared.status.Status.{Status}
 use Rattle.zfpi.specs.declared.status.Status.TheVariants.{Done, Usage, RawShort, RawLong, Header, Truncated, Pad, Trailing, ReadFault, WriteFault, Memory}
 use Rattle.zfpi.specs.declared.command.Command.{Command}
-use Rattle.zfpi.specs.declared.command.Command.TheVariants.{Compress, Info}
+use Rattle.zfpi.specs.declared.command.Command.TheVariants.{Compress, Restore, Info}
 use Rattle.zfpi.specs.Words.{IsSpelled}
 use Rattle.zfpi.specs.Answer.{CanRun, TakesMemory}
 use Rattle.zfpi.specs.Headline.{OfCommand, OnMemory, RefusesWords, IsOfCommand, AnswersStatus, IsCausedBy, IsComplete}
@@ -14,6 +14,7 @@ use Rattle.zfpi.proofs.Commands.{one_command}
 -- what the words say can be run
 pub CanRun-spelled : (c : Command) (words : List (List ℕ)) → IsSpelled c words → CanRun c
 CanRun-spelled (Compress h) words spelled = spelled.0.header.mode
+CanRun-spelled Restore words spelled = tt
 CanRun-spelled Info words spelled = tt
 
 -- what holds of one command that the words are holds of each

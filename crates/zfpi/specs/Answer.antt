@@ -7,10 +7,12 @@ use Rattle.zf_header.specs.HeaderFaults.{header_fault}
 use Rattle.zf_stream.specs.declared.fault.StreamFault.{StreamFault}
 use Rattle.zf_stream.specs.declared.fault.StreamFault.TheVariants as faults
 use Rattle.zf_stream.specs.Raw.{compress_answer, stream_text}
+use Rattle.zf_stream.specs.Parsing.{restore_answer, restored_text}
+use Rattle.zf_stream.specs.Reading.{HasGoodHeader}
 use Rattle.zfpi.specs.declared.status.Status.{Status}
 use Rattle.zfpi.specs.declared.status.Status.TheVariants as statuses
 use Rattle.zfpi.specs.declared.command.Command.{Command}
-use Rattle.zfpi.specs.declared.command.Command.TheVariants.{Compress, Info}
+use Rattle.zfpi.specs.declared.command.Command.TheVariants.{Compress, Restore, Info}
 use Rattle.zfpi.specs.Info.{info_text}
 
 -- the status of a fault of a stream
@@ -38,22 +40,30 @@ status_of (Err fault) = fault_status fault
 -- what a command asks of its caller
 abbrev pub CanRun : Command → Type 0
 CanRun (Compress h) = IsWritable h
+CanRun Restore = Unit {0}
 CanRun Info = Unit {0}
 
 -- the status for an input of these bytes
 abbrev pub status_for : Command → List ℕ → Status
 status_for (Compress h) input = status_of (compress_answer h input)
+status_for Restore input = status_of (restore_answer input)
 status_for Info input = header_status (header_fault (take FULL_HEADER_BYTES input))
 
 -- the text for the bytes that were read: what is written after Done
 abbrev pub text_for : Command → List ℕ → List ℕ
 text_for (Compress h) bytes = stream_text h bytes
+text_for Restore bytes = restored_text bytes
 text_for Info bytes = info_text bytes
+
+-- want of memory comes before the first write
+abbrev pub part_of : Status → List ℕ → List ℕ
+part_of statuses.Memory text = []
+part_of status text = text
 
 -- the text of which a front is written, whatever the status
 abbrev pub part_for : Command → Status → List ℕ → List ℕ
-part_for c statuses.Memory bytes = []
-part_for (Compress h) status bytes = stream_text h bytes
+part_for (Compress h) status bytes = part_of status (stream_text h bytes)
+part_for Restore status bytes = part_of status (restored_text bytes)
 part_for Info statuses.Done bytes = info_text bytes
 part_for Info statuses.WriteFault bytes = info_text bytes
 part_for Info status bytes = []
@@ -62,6 +72,8 @@ part_for Info status bytes = []
 abbrev pub unread_after : Command → Status → List ℕ → Option (List ℕ)
 unread_after (Compress h) statuses.Done input = Some []
 unread_after (Compress h) status input = None
+unread_after Restore statuses.Done input = Some []
+unread_after Restore status input = None
 unread_after Info statuses.Done input = Some (drop FULL_HEADER_BYTES input)
 unread_after Info (statuses.Header fault) input = Some (drop FULL_HEADER_BYTES input)
 unread_after Info status input = None
@@ -69,9 +81,11 @@ unread_after Info status input = None
 -- no more bytes than these are read, whatever the status
 abbrev pub IsEnough : Command → List ℕ → Type 0
 IsEnough (Compress h) bytes = Unit {0}
+IsEnough Restore bytes = Unit {0}
 IsEnough Info bytes = length bytes ≤ FULL_HEADER_BYTES
 
 -- the command takes memory for this input, as far as it is told
 abbrev pub TakesMemory : Command → Option (List ℕ) → Type 0
 TakesMemory (Compress h) input = Unit {0}
+TakesMemory Restore input = HasGoodHeader input
 TakesMemory Info input = ⊥

@@ -8,7 +8,7 @@ use Rattle.zf_header.specs.declared.header.Mode.{Mode}
 use Rattle.zf_header.specs.declared.header.Mode.TheVariants.{Reversible, Rate}
 use Rattle.zf_header.specs.HeaderBits.{IsHeader, rate_bytes_of}
 use Rattle.zfpi.specs.declared.command.Command.{Command}
-use Rattle.zfpi.specs.declared.command.Command.TheVariants.{Compress, Info}
+use Rattle.zfpi.specs.declared.command.Command.TheVariants.{Compress, Restore, Info}
 use Rattle.zfpi.specs.declared.words.TheConstants.{MAX_FILE}
 
 -- the word of a type
@@ -42,6 +42,7 @@ compress_words h = codes "compress" ∷ type_word h.ty ∷ shape_word h.shape �
 -- these words are the command
 abbrev pub IsSpelled : Command → List (List ℕ) → Type 0
 IsSpelled (Compress h) words = IsAskable h × (words ≡ compress_words h)
+IsSpelled Restore words = words ≡ codes "restore" ∷ []
 IsSpelled Info words = words ≡ codes "info" ∷ []
 
 -- some command begins with these words

@@ -5,6 +5,8 @@ use zf_header::Header;
 pub enum Command {
     /// Raw values from the source; the stream that has this header to the sink.
     Compress(Header),
+    /// A stream from the source; its raw values to the sink.
+    Restore,
     /// The header of a stream from the source; a line that says it to the sink.
     Info,
 }

@@ -11,6 +11,7 @@ use crate::command::Command;
 use crate::compress::compress;
 use crate::info::info;
 use crate::line::error_line;
+use crate::restore::restore;
 use crate::status::Status;
 use crate::words::parse;
 use std::alloc::Global;
@@ -83,6 +84,7 @@ fn run<S: Source, O: Sink>(alloc: Global, command: Command, src: &mut S, out: &m
 {
     match command {
         Command::Compress(header) => compress(alloc, header, src, out),
+        Command::Restore => restore(alloc, src, out),
         Command::Info => info(src, out),
     }
 }

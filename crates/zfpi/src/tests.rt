@@ -52,7 +52,7 @@ fn call(
 
 #[test]
 fn values_become_their_stream(rt: HostRuntime) -> Result<(), Fail> {
-    let rows: [(&str, &[u8], &[u8]); 7] = [
+    let rows: [(&str, &[u8], &[u8]); 12] = [
         (
             "compress int32 1 reversible",
             &[0, 0, 0, 0],
@@ -87,6 +87,35 @@ fn values_become_their_stream(rt: HostRuntime) -> Result<(), Fail> {
             "compress int64 5x7 reversible",
             &[0; 280],
             b"zfp\x05\x45\0\0\x60\0\0\0\x88\0\0\0\0",
+        ),
+        (
+            "compress int32 1x1x1 reversible",
+            &[0, 0, 0, 0],
+            b"zfpE\x08\0\0\0\0\0\0\x88\0\0\0\0",
+        ),
+        (
+            "compress int32 4x4 rate 128",
+            &[
+                0x03, 0, 0, 0, 0x03, 0, 0, 0, 0x03, 0, 0, 0, 0x03, 0, 0, 0, 0x03, 0, 0, 0, 0x03, 0,
+                0, 0, 0x03, 0, 0, 0, 0x03, 0, 0, 0, 0x03, 0, 0, 0, 0x03, 0, 0, 0, 0x03, 0, 0, 0,
+                0x03, 0, 0, 0, 0x03, 0, 0, 0, 0x03, 0, 0, 0, 0x03, 0, 0, 0, 0x03, 0, 0, 0,
+            ],
+            b"zfp\x054\0\0\x30\0\0\xf0\x07\0\0\0\x60\x05\0\0\0\0\0\0\0\0\0\0\0\0\0\0\0",
+        ),
+        (
+            "compress int32 4 rate 64",
+            &[0x01, 0, 0, 0, 0, 0, 0, 0, 0, 0, 0, 0, 0, 0, 0, 0],
+            b"zfp\x050\0\0\0\0\0\xf0\x03\0\0\0\0\0\0\0\0\0\0\0\0",
+        ),
+        (
+            "compress int32 4 rate 1",
+            &[0, 0, 0, 0xc0, 0, 0, 0, 0xc0, 0, 0, 0, 0xc0, 0, 0, 0, 0xc0],
+            b"zfp\x050\0\0\0\0\0\0\0\x01\0\0\0",
+        ),
+        (
+            "compress int32 4 rate 2",
+            &[0, 0, 0, 0x30, 0, 0, 0, 0xd0, 0, 0, 0, 0xd0, 0, 0, 0, 0x30],
+            b"zfp\x050\0\0\0\0\0\x10\0\x01\0\0\0",
         ),
     ];
     for (words, values, stream) in rows {
@@ -236,6 +265,113 @@ fn info_says_the_first_fault(rt: HostRuntime) -> Result<(), Fail> {
     ] {
         let ended = call(rt.alloc(), "info", bytes, 1000, &[], &[])?;
         assert_eq!(rt; ended.status, Status::Header(fault));
+    }
+    Ok(())
+}
+
+#[test]
+fn a_stream_becomes_its_values(rt: HostRuntime) -> Result<(), Fail> {
+    let rows: [(&[u8], &[u8]); 7] = [
+        (
+            b"zfp\x05\0\0\0\0\0\0\0\x88\x1f\0\0\0\x30\0\0\0\0\0\0\0",
+            &[1, 0, 0, 0],
+        ),
+        (b"zfp\x05\x45\0\0\x60\0\0\0\x88\0\0\0\0", &[0; 280]),
+        (b"zfpE\x08\0\0\0\0\0\0\x88\0\0\0\0", &[0, 0, 0, 0]),
+        (
+            b"zfp\x054\0\0\x30\0\0\xf0\x07\0\0\0\x60\x05\0\0\0\0\0\0\0\0\0\0\0\0\0\0\0",
+            &[
+                0x03, 0, 0, 0, 0x03, 0, 0, 0, 0x03, 0, 0, 0, 0x03, 0, 0, 0, 0x03, 0, 0, 0, 0x03, 0,
+                0, 0, 0x03, 0, 0, 0, 0x03, 0, 0, 0, 0x03, 0, 0, 0, 0x03, 0, 0, 0, 0x03, 0, 0, 0,
+                0x03, 0, 0, 0, 0x03, 0, 0, 0, 0x03, 0, 0, 0, 0x03, 0, 0, 0, 0x03, 0, 0, 0,
+            ],
+        ),
+        (
+            b"zfp\x050\0\0\0\0\0\xf0\x03\0\0\0\0\0\0\0\0\0\0\0\0",
+            &[0, 0, 0, 0, 0, 0, 0, 0, 0, 0, 0, 0, 0, 0, 0, 0],
+        ),
+        (
+            b"zfp\x050\0\0\0\0\0\0\0\x01\0\0\0",
+            &[0, 0, 0, 0x80, 0, 0, 0, 0x80, 0, 0, 0, 0x80, 0, 0, 0, 0x80],
+        ),
+        (
+            b"zfp\x050\0\0\0\0\0\x10\0\x01\0\0\0",
+            &[0, 0, 0, 0x40, 0, 0, 0, 0xc0, 0, 0, 0, 0x40, 0, 0, 0, 0xc0],
+        ),
+    ];
+    for (stream, values) in rows {
+        for piece in [1, 1000] {
+            let ended = call(rt.alloc(), "restore", stream, piece, &[], &[])?;
+            assert_eq!(rt; ended.status, Status::Done);
+            assert_eq!(rt; ended.out.bytes(), values);
+            assert_eq!(rt; ended.src.left().len() + ended.err.bytes().len(), 0);
+        }
+    }
+    Ok(())
+}
+
+#[test]
+fn restore_says_the_first_fault(rt: HostRuntime) -> Result<(), Fail> {
+    let stream = b"zfp\x05\0\0\0\0\0\0\0\x88\x1f\0\0\0\x30\0\0\0\0\0\0\0\0";
+    // how many bytes of the stream there are, a byte that is changed, and what is said of it
+    let rows: [(usize, usize, u8, Status, &[u8]); 8] = [
+        (
+            11,
+            0,
+            b'z',
+            Status::Header(HeaderFault::Short),
+            b"zfpi: header: short\n",
+        ),
+        (
+            24,
+            2,
+            b'q',
+            Status::Header(HeaderFault::Magic),
+            b"zfpi: header: magic\n",
+        ),
+        (
+            12,
+            0,
+            b'z',
+            Status::Truncated(0),
+            b"zfpi: stream ends in block 0\n",
+        ),
+        (
+            14,
+            0,
+            b'z',
+            Status::Truncated(0),
+            b"zfpi: stream ends in block 0\n",
+        ),
+        (
+            23,
+            0,
+            b'z',
+            Status::Truncated(1),
+            b"zfpi: stream ends in block 1\n",
+        ),
+        (24, 23, 0x80, Status::Pad, b"zfpi: fill bit is one\n"),
+        (
+            25,
+            0,
+            b'z',
+            Status::Trailing,
+            b"zfpi: bytes after the stream\n",
+        ),
+        (25, 23, 0x80, Status::Pad, b"zfpi: fill bit is one\n"),
+    ];
+    for (len, at, byte, status, line) in rows {
+        let mut bytes = *stream;
+        if at < bytes.len() {
+            bytes[at] = byte;
+        }
+        if len > bytes.len() {
+            return Err("a longer stream")?;
+        }
+        let ended = call(rt.alloc(), "restore", &bytes[..len], 1000, &[], &[])?;
+        assert_eq!(rt; ended.status, status);
+        assert_eq!(rt; ended.err.bytes(), line);
+        assert_eq!(rt; ended.out.bytes().len(), 0);
     }
     Ok(())
 }

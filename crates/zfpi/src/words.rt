@@ -1,7 +1,8 @@
 //! The words of the command line.
 
-ghost use Rattle.std.specs.Prelude.{◌≡◌, ◌≢◌, ℕ, List, [], ◌∷◌, ◌++◌, map, IfSome, IfNone, IfOk, IfErr, string_bytes};
+ghost use Rattle.std.specs.Prelude.{◌≡◌, ◌≢◌, ◌↔◌, ℕ, List, [], ◌∷◌, ◌++◌, map, IfSome, IfNone, IfOk, IfErr, IsTrue, string_bytes};
 ghost use Rattle.zf_base.specs.declared.lane.Ty.{Ty};
+ghost use Rattle.zf_header.specs.HeaderBits.{IsRate};
 ghost use Rattle.zfpi.specs.Words.{type_word, IsSpelled, BeginsCommand, IsUsage};
 ghost use Rattle.zfpi.specs.Stages.{LeadsTo, IsRateWord};
 
@@ -72,6 +73,7 @@ fn first(word: &str) -> Option<Stage>
 {
     match word {
         "compress" => Some(Stage::Compressing),
+        "restore" => Some(Stage::Whole(Command::Restore)),
         "info" => Some(Stage::Whole(Command::Info)),
         _ => None,
     }
@@ -112,7 +114,7 @@ fn rate_in(ty: Ty, shape: Shape, word: &str) -> Option<u32>
     ensures none { IfNone result ((b : ℕ) → IsRateWord ty shape b word.now → ⊥) }
 {
     let number = number_in(word)?;
-    if number == 0 || number > u64::from(MAX_RATE) {
+    if !is_rate(number) {
         return None;
     }
     let bits = number as u32;
@@ -121,4 +123,11 @@ fn rate_in(ty: Ty, shape: Shape, word: &str) -> Option<u32>
         return None;
     }
     Some(bits)
+}
+
+// Whether a header can state this rate.
+fn is_rate(bits: u64) -> bool
+    ensures { IsTrue result ↔ IsRate (Mode.Rate bits) }
+{
+    1 <= bits && bits <= u64::from(MAX_RATE)
 }

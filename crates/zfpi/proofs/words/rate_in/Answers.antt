@@ -1,17 +1,14 @@
-use Rattle.std.proofs.Common.{◌≡◌, ◌≤◌, subst, arith}
+use Rattle.std.proofs.Common.{◌≤◌, subst, arith}
+use Rattle.std.proofs.lemmas.Bool.{false≢true}
 use Rattle.zf_header.specs.declared.header.Mode.TheVariants.{Rate}
-use Rattle.zf_header.specs.HeaderBits.{rate_bytes_of}
+use Rattle.zf_header.specs.HeaderBits.{IsRate, rate_bytes_of}
 use Rattle.zfpi.proofs.Commands.{IsRateWord-number}
 use Rattle.zfpi.proofs.words.rate_in.Goals as goal
-use Rattle.zfpi.proofs.words.rate_in.Goals.{then-number-eq0-via-then-number-eq0, then-number-eq0-via-else-number-eq0+then-number-from}
 
-pub returns-then-number-eq0-clause-none : goal.returns-then-number-eq0-clause-none
-returns-then-number-eq0-clause-none c = λ b is.
+pub returns-then-not-is_rate-clause-none : goal.returns-then-not-is_rate-clause-none
+returns-then-not-is_rate-clause-none c = λ b is.
     let same = IsRateWord-number c.args.ty c.args.shape b c.in_ok-number.number c.args.word.now is (omega arith) c.in_ok-number.ensures.number in
-    elim c.then-number-eq0.branch [
-      | then-number-eq0-via-then-number-eq0 w ↦ omega (arith, same, is.rate.0)
-      | then-number-eq0-via-else-number-eq0+then-number-from w ↦ omega (arith, same, is.rate.1)
-    ]
+    false≢true (c.if-not-is_rate.ensures.1 (subst (λ n. IsRate (Rate n)) same is.rate))
 
 pub returns-then-rate_bytes-gt-MAX_FILE-clause-none : goal.returns-then-rate_bytes-gt-MAX_FILE-clause-none
 returns-then-rate_bytes-gt-MAX_FILE-clause-none c = λ b is.

@@ -1,0 +1,96 @@
+-- What the bits of bytes say, for the one who has their header.
+use Rattle.std.proofs.Common.{◌≡◌, ℕ, ◌*◌, ◌+◌, ◌<◌, ◌≤◌, Bool, ℤ, List, [], ◌++◌, length, take, drop, Option, Some, None, Result, Ok, Err, refl, sym, ap, ◌∙◌, subst, inl, inr, ⊎_elim, length-append, arith}
+use Rattle.std.proofs.lemmas.List.{take_at, take-append-le}
+use Rattle.std.proofs.lemmas.Grind.{flat_map-append}
+use Rattle.std.specs.Int.{div_ceil}
+use Rattle.zf_spec.specs.Grid.{blocks}
+use Rattle.zf_spec.specs.Numbers.{field, word_bits}
+use Rattle.zf_spec.specs.Stream.{to_bits, filled}
+use Rattle.zf_spec.proofs.Bytes.{length-to_bits}
+use Rattle.zf_header.specs.declared.header.Header.{Header}
+use Rattle.zf_header.specs.HeaderBits.{header_bits, BeginsWith, IsHeader}
+use Rattle.zf_header.specs.HeaderFaults.{header_fault}
+use Rattle.zf_header.specs.declared.header.HeaderFault.{HeaderFault}
+use Rattle.zf_header.proofs.First.{header_fault-first}
+use Rattle.zf_header.proofs.Good.{good}
+use Rattle.zf_header.proofs.Found.{read_is_spelled, read_is_header}
+use Rattle.zf_header.proofs.Spelled.{spelled_is_read}
+use Rattle.zf_dev.specs.Source.{Takes, IsAtEnd}
+use Rattle.zf_dev.proofs.Taking.{Takes-to_end}
+use Rattle.zf_stream.specs.Outcomes.{IsFront, IsRefusal}
+use Rattle.zf_stream.specs.declared.fault.StreamFault.{StreamFault}
+use Rattle.zf_stream.specs.declared.fault.StreamFault.TheVariants as faults
+use Rattle.zf_stream.specs.Parsing.{parse, header_of, code_bits, header_or, codes_answer, read_codes, restore_answer, without_values}
+use Rattle.zf_stream.specs.Reading.{BeginsWithHeader, HasGoodHeader, IsFaultOf, IsFault}
+
+-- the answer of what stands behind the header
+answer_of : Option HeaderFault → Header → List ℕ → List Bool → Result (List ℤ) StreamFault
+answer_of fault h bytes s = header_or fault (codes_answer h (length (to_bits bytes)) (read_codes h 0 (blocks h.shape) s))
+
+pub parse_is : (bytes : List ℕ) (h : Header) (len : ℕ) → BeginsWithHeader bytes h len
+    → parse bytes ≡ codes_answer h (length (to_bits bytes)) (read_codes h 0 (blocks h.shape) (drop len (to_bits bytes)))
+unfolding parse answer_of
+parse_is bytes h len begun =
+    let s = to_bits bytes in
+    let behind : code_bits bytes ≡ drop len s = ap (λ g. drop (length (header_bits g)) s) (sym begun.header) ∙ ap (λ n. drop n s) (sym begun.bits_is) in
+    ap (λ fault. answer_of fault (header_of bytes) bytes (code_bits bytes)) begun.good
+    ∙ ap (λ g. answer_of None g bytes (code_bits bytes)) (sym begun.header) ∙ ap (answer_of None h bytes) behind
+
+-- the bits of words that hold bytes begin with those of the bytes
+pub all_bits : (bytes words : List ℕ) → word_bits words ≡ filled (to_bits bytes) → take (8 * length bytes) (word_bits words) ≡ to_bits bytes
+all_bits bytes words bits =
+    let s = to_bits bytes in
+    ap (take (8 * length bytes)) bits ∙ take_at s _ (8 * length bytes) (length-to_bits bytes)
+
+-- bytes behind a header change nothing of it
+pub begun_more : (front more : List ℕ) (h : Header) (len : ℕ) → BeginsWithHeader front h len → BeginsWithHeader (front ++ more) h len
+begun_more front more h len begun =
+    let g = good front (sym begun.good) in
+    let n = length (header_bits h) in
+    let begins : BeginsWith front h = subst (BeginsWith front) (sym begun.header) (read_is_spelled front g) in
+    let is : IsHeader h = subst IsHeader (sym begun.header) (read_is_header front g) in
+    let within : n ≤ length (to_bits front) = omega (arith, length-to_bits front, begun.within, begun.bits_is) in
+    let bits : take n (to_bits (front ++ more)) ≡ header_bits h =
+    ap (take n) (flat_map-append (field 8) front more) ∙ take-append-le n (to_bits front) (to_bits more) within ∙ begins.bits in
+    let read = spelled_is_read (front ++ more) h is (record { bits = bits }) in
+    record {
+      good = sym read.0;
+      header = sym read.1;
+      bits_is = begun.bits_is;
+      within = omega (arith, begun.within, length-append front more);
+      writable = begun.writable;
+    }
+
+-- the header of a told source is good where that of its first bytes is
+pub good_of_front : (known : Option (List ℕ)) (front : List ℕ) → IsFront 19 known front → header_fault front ≡ None → HasGoodHeader known
+good_of_front None front is none = tt
+good_of_front (Some all) front is none = sym (header_fault-first all) ∙ ap header_fault (sym is) ∙ none
+
+-- and of its fault
+pub parse_fault : (all front : List ℕ) (f : HeaderFault) → front ≡ take 19 all → header_fault front ≡ Some f → restore_answer all ≡ Err (faults.Header f)
+unfolding parse answer_of
+parse_fault all front f is fault =
+    let known : header_fault all ≡ Some f = sym (header_fault-first all) ∙ ap header_fault (sym is) ∙ fault in
+    ap (λ o. without_values (answer_of o (header_of all) all (code_bits all))) known
+
+pub refusal_of_fault : (known : Option (List ℕ)) (front : List ℕ) (e : StreamFault) → IsFront 19 known front → IsFaultOf front e → IsRefusal known restore_answer e
+refusal_of_fault None front e is fault = tt
+refusal_of_fault (Some all) front (faults.Header f) is fault = inl (parse_fault all front f is fault)
+refusal_of_fault (Some all) front (faults.RawShort n) is fault = absurd fault
+refusal_of_fault (Some all) front faults.RawLong is fault = absurd fault
+refusal_of_fault (Some all) front (faults.Truncated n) is fault = absurd fault
+refusal_of_fault (Some all) front faults.Pad is fault = absurd fault
+refusal_of_fault (Some all) front faults.Trailing is fault = absurd fault
+refusal_of_fault (Some all) front faults.Read is fault = absurd fault
+refusal_of_fault (Some all) front faults.Write is fault = absurd fault
+refusal_of_fault (Some all) front faults.Memory is fault = absurd fault
+
+-- a fault of the bytes is one of the source that they are all of
+pub refusal_of_bytes : (known now : Option (List ℕ)) (bytes : List ℕ) (e : StreamFault) → Takes known now bytes → IsAtEnd now → IsFault (restore_answer bytes) e → IsRefusal known restore_answer e
+refusal_of_bytes None now bytes e taken ended fault = tt
+refusal_of_bytes (Some all) now bytes e taken ended fault =
+    ⊎_elim (λ answer. inl (ap restore_answer (Takes-to_end all now bytes taken ended) ∙ answer)) (λ memory. inr (inr (inr memory))) fault
+
+-- a fault of the values is one of the text
+pub fault_of_values : (bytes : List ℕ) (e : StreamFault) → IsFault (parse bytes) e → IsFault (restore_answer bytes) e
+fault_of_values bytes e fault = ⊎_elim (λ answer. inl (ap without_values answer)) (λ memory. inr memory) fault
