@@ -1,15 +1,12 @@
 -- The blocks of a stream, read one after another.
-use Rattle.std.proofs.Common.{◌≡◌, ◌≢◌, ℕ, zero, suc, ◌+◌, ◌-◌, ◌<◌, ◌≤◌, ◌^◌, Bool, true, cond, ℤ, pos, List, [], ◌∷◌, ◌++◌, length, map, drop, get_or, Option, Some, None, Result, Ok, Err, refl, sym, ap, ◌∙◌, arith, ext_get_or}
+use Rattle.std.proofs.Common.{◌≡◌, ℕ, suc, ◌+◌, ◌-◌, ◌<◌, Bool, ℤ, List, [], ◌∷◌, ◌++◌, map, drop, Some, None, Result, Ok, Err, refl, sym, ap, ◌∙◌, arith}
 use Rattle.std.proofs.lemmas.List.{map_push, drop-drop}
-use Rattle.zf_spec.specs.Grid.{product, grid, blocks, blocks_of, block_of, coordinates, indices, is_inside, extents, extent_of, position_in, raster, value_at, upto}
-use Rattle.zf_spec.proofs.Counting.{map-upto_same, get_or-map-upto, length-map-upto}
+use Rattle.zf_spec.specs.Grid.{blocks, extent_of, upto}
+use Rattle.zf_spec.proofs.Counting.{map-upto_same}
 use Rattle.zf_base.specs.Widths.{width_of}
-use Rattle.zf_base.specs.Places.{IsAt, block_number, place_of}
-use Rattle.zf_base.proofs.Boxes.{raster-coordinates, is_inside-coordinates, length-coordinates}
-use Rattle.zf_base.proofs.Places.{IsAt-position}
 use Rattle.zf_bits.specs.Reader.{Reader, rest, Reads}
 use Rattle.zf_header.specs.declared.header.Header.{Header}
-use Rattle.zf_stream.specs.Parsing.{read_code, read_codes, read_next, with_block, joined}
+use Rattle.zf_stream.specs.Parsing.{read_code, read_codes, read_next, with_block}
 use Rattle.zf_stream.proofs.Codes.{upto-more}
 
 -- ---- one block more

@@ -1,5 +1,5 @@
 -- How a call that reads from a source and writes to a sink ends. What a device tells of its bytes is `Some`, else `None`.
-use Rattle.std.specs.Prelude.{ℕ, ◌≡◌, ◌≤◌, ◌⊎◌, List, length, take, Option, Some, None, Result, Ok, Err, IsErrAnd, OnErr}
+use Rattle.std.specs.Prelude.{ℕ, ◌≡◌, ◌≤◌, ◌⊎◌, List, length, take, Option, Some, None, Result, Ok, Err, IsErrAnd}
 use Rattle.zf_dev.specs.Faults.{Rose}
 use Rattle.zf_dev.specs.Source.{Takes, IsAtEnd}
 use Rattle.zf_dev.specs.Sink.{Appends, AppendsFront}

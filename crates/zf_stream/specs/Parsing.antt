@@ -1,5 +1,5 @@
 -- What a stream says: its header and its values, or why it says nothing. No decoder is in these definitions but the reading of one code.
-use Rattle.std.specs.Prelude.{ℕ, zero, suc, ◌+◌, ◌-◌, ◌*◌, ◌%◌, nat_lt, ℤ, pos, Bool, false, List, [], ◌∷◌, ◌++◌, map, length, take, drop, replicate, slice_index_or, Option, Some, None, is_none, Result, Ok, Err, if◌then◌else◌}
+use Rattle.std.specs.Prelude.{ℕ, zero, suc, ◌-◌, ◌*◌, ◌%◌, nat_lt, ℤ, pos, Bool, false, List, [], ◌∷◌, ◌++◌, map, length, take, drop, replicate, slice_index_or, Option, Some, None, is_none, Result, Ok, Err, if◌then◌else◌}
 use Rattle.std.specs.Int.{Width}
 use mir.Val.{bits}
 use Rattle.zf_spec.specs.Grid.{product, blocks, coordinates, extent_of, upto}

@@ -1,6 +1,6 @@
 -- The raw values of an array, and their stream.
 use Rattle.std.specs.Prelude.{ℕ, ◌*◌, nat_lt, ℤ, List, length, Result, Ok, Err, if◌then◌else◌}
-use Rattle.std.specs.Int.{Width, byte_len}
+use Rattle.std.specs.Int.{byte_len}
 use Rattle.zf_spec.specs.Grid.{product}
 use Rattle.zf_spec.specs.Stream as stream
 use Rattle.zf_base.specs.Widths.{width_of}

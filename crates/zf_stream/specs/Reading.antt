@@ -13,7 +13,7 @@ use Rattle.zf_dev.specs.Source.{Takes, TakesAtMost, IsAtEnd}
 use Rattle.zf_stream.specs.declared.fault.StreamFault.{StreamFault}
 use Rattle.zf_stream.specs.declared.fault.StreamFault.TheVariants as faults
 use Rattle.zf_stream.specs.Outcomes.{TakesFirst}
-use Rattle.zf_stream.specs.Parsing.{header_of, read_code, read_codes, parse, restore_answer, restored_text}
+use Rattle.zf_stream.specs.Parsing.{header_of, read_code, read_codes, restore_answer, restored_text}
 
 -- the bytes that the longest header lies in
 abbrev pub header_room : ℕ

@@ -17,7 +17,7 @@ use Rattle.zfpi.specs.declared.words.Stage.{Stage}
 use Rattle.zfpi.specs.declared.words.Stage.TheVariants as stages
 use Rattle.zfpi.specs.Words.{type_word, shape_word, mode_words, compress_words, IsAskable, IsSpelled, BeginsCommand, IsUsage}
 use Rattle.zfpi.specs.Stages.{LeadsTo, IsRateWord}
-use Rattle.zfpi.proofs.ShapeWords.{parts_of, parts_of-shape, decimals_injective, sizes_small}
+use Rattle.zfpi.proofs.ShapeWords.{parts_of-shape, decimals_injective, sizes_small}
 use Rattle.zfpi.proofs.Completed.{header_with, BeginsCommand-reached}
 
 -- ---- different types, shapes and modes have different words

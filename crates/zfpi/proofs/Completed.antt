@@ -1,20 +1,19 @@
 -- Each stage that is reached can be completed to a command.
-use Rattle.std.proofs.Common.{◌≡◌, ℕ, ◌+◌, ◌*◌, ◌≤◌, ◌^◌, List, [], ◌∷◌, ◌++◌, length, codes, decimal, refl, ap, sym, subst, ◌∙◌, arith, lit≤}
+use Rattle.std.proofs.Common.{ℕ, ◌≤◌, List, [], ◌∷◌, ◌++◌, codes, decimal, ap, sym, subst, arith, lit≤}
 use Rattle.std.proofs.lemmas.List.{append-nil}
 use Rattle.zf_base.specs.declared.lane.Ty.{Ty}
 use Rattle.zf_base.specs.declared.lane.Ty.TheVariants.{I32}
 use Rattle.zf_base.proofs.Sizes.{blocks_le}
-use Rattle.zf_spec.specs.Grid.{IsShape, blocks, product, max_values}
+use Rattle.zf_spec.specs.Grid.{IsShape}
 use Rattle.zf_header.specs.declared.header.Header.{Header}
 use Rattle.zf_header.specs.declared.header.Mode.{Mode}
 use Rattle.zf_header.specs.declared.header.Mode.TheVariants.{Reversible, Rate}
-use Rattle.zf_header.specs.HeaderBits.{rate_bytes_of, header_bits}
+use Rattle.zf_header.specs.HeaderBits.{rate_bytes_of}
 use Rattle.zf_header.proofs.Parts.{length-header_bits}
-use Rattle.zfpi.specs.declared.command.Command.{Command}
 use Rattle.zfpi.specs.declared.command.Command.TheVariants.{Compress}
 use Rattle.zfpi.specs.declared.words.Stage.{Stage}
 use Rattle.zfpi.specs.declared.words.Stage.TheVariants as stages
-use Rattle.zfpi.specs.Words.{type_word, shape_word, compress_words, IsAskable, IsSpelled, BeginsCommand}
+use Rattle.zfpi.specs.Words.{shape_word, compress_words, IsAskable, IsSpelled, BeginsCommand}
 use Rattle.zfpi.specs.Stages.{LeadsTo}
 
 -- a header by its parts

@@ -1,5 +1,5 @@
 -- What is left after a call on a stream, as the program promises it.
-use Rattle.std.proofs.Common.{◌≡◌, ℕ, List, [], Option, Result, Ok, Err, ◌⊎◌, inl, inr, refl, sym, subst}
+use Rattle.std.proofs.Common.{◌≡◌, ℕ, List, [], Option, Result, ◌⊎◌, inl, inr, refl, sym, subst}
 use Rattle.zf_dev.specs.Sink.{AppendsFront}
 use Rattle.zf_dev.proofs.Appending.{AppendsFront-all, AppendsFront-none}
 use Rattle.zf_header.specs.declared.header.Header.{Header}
@@ -8,7 +8,6 @@ use Rattle.zf_stream.specs.declared.fault.StreamFault.TheVariants as faults
 use Rattle.zf_stream.specs.Raw.{stream_text}
 use Rattle.zf_stream.specs.Parsing.{restored_text}
 use Rattle.zf_stream.specs.Outcomes as streams
-use Rattle.zfpi.specs.declared.status.Status.{Status}
 use Rattle.zfpi.specs.declared.status.Status.TheVariants as statuses
 use Rattle.zfpi.specs.declared.command.Command.{Command}
 use Rattle.zfpi.specs.declared.command.Command.TheVariants.{Compress, Restore}

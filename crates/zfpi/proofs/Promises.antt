@@ -1,5 +1,5 @@
 -- From the promises of a command to those of the program.
-use Rattle.std.proofs.Common.{◌≡◌, ℕ, ◌≤◌, ◌⊎◌, inl, inr, List, Option, Some, None, refl, sym, subst}
+use Rattle.std.proofs.Common.{ℕ, inl, inr, List, Option, Some, None, subst}
 use Rattle.zf_dev.specs.Faults.{IsQuiet}
 use Rattle.zf_dev.proofs.Counts.{IsQuiet-rose}
 use Rattle.zfpi.specs.declared.status.Status.{Status}

@@ -1,5 +1,5 @@
 -- Shapes as words: `split` against sizes joined by the letter x.
-use Rattle.std.proofs.Common.{◌≡◌, ◌≢◌, ℕ, zero, suc, ◌+◌, ◌/◌, ◌^◌, ◌<◌, ◌≤◌, Bool, true, false, eqb, List, [], ◌∷◌, map, length, get_or, set, take, ◌++◌, ◌↔◌, Option, Some, None, Result, Ok, Err, IsOk, IfOk, IfSome, IfNone, refl, ap, sym, ◌∙◌, subst, arith, lit<, lit≤, append_assoc, add-one, decimal}
+use Rattle.std.proofs.Common.{◌≡◌, ◌≢◌, ℕ, zero, suc, ◌+◌, ◌/◌, ◌^◌, ◌<◌, ◌≤◌, Bool, true, false, eqb, List, [], ◌∷◌, map, length, get_or, set, take, ◌++◌, ◌↔◌, Option, Result, Ok, Err, IsOk, IfOk, IfSome, IfNone, refl, ap, sym, ◌∙◌, subst, arith, lit<, append_assoc, add-one, decimal}
 use Rattle.std.specs.List.{All, AllByRecursion, slice_split, join_with_byte}
 use Rattle.std.proofs.Math.Nat.{div-le_self}
 use Rattle.std.proofs.Math.Pow.{pow_mono}

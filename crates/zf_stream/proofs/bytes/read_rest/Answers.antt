@@ -1,4 +1,4 @@
-use Rattle.std.proofs.Common.{ℕ, List, Result, Ok, Err}
+use Rattle.std.proofs.Common.{Result, Ok, Err}
 use Rattle.std.specs.Prelude.{OnErr}
 use Rattle.zf_dev.proofs.Taking.{Takes-append}
 use Rattle.zf_stream.proofs.bytes.read_rest.Goals as goal

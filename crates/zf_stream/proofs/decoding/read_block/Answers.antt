@@ -1,5 +1,5 @@
-use Rattle.std.proofs.Common.{◌≡◌, ℕ, ℤ, ◌-◌, List, Option, Some, map, sym, ap, ◌∙◌, arith}
-use Rattle.zf_spec.specs.Grid.{extent_of, block_of}
+use Rattle.std.proofs.Common.{ℤ, ◌-◌, List, Some, map, sym, ap, ◌∙◌, arith}
+use Rattle.zf_spec.specs.Grid.{extent_of}
 use Rattle.zf_bits.specs.Reader.{rest}
 use Rattle.zf_pad.specs.Rasters.{IsRasterBlock}
 use Rattle.zf_pad.proofs.Blocks.{lies_within, one_to_one, scattered_block, other_block, length-extent_of}

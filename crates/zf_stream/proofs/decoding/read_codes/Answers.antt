@@ -1,6 +1,4 @@
-use Rattle.std.proofs.Common.{◌≡◌, ℕ, ◌+◌, ◌-◌, ◌^◌, ◌<◌, Bool, ℤ, List, [], ◌∷◌, ◌++◌, length, map, Option, None, Result, Ok, Err, refl, sym, ap, subst, ◌∙◌, arith, rules}
-use Rattle.std.proofs.lemmas.List.{length-map}
-use Rattle.std.specs.Prelude.{IfErr}
+use Rattle.std.proofs.Common.{◌≡◌, ℕ, ◌+◌, ◌-◌, ◌<◌, Bool, ℤ, List, [], ◌∷◌, ◌++◌, map, None, Ok, Err, sym, ap, subst, ◌∙◌, arith, rules}
 use Rattle.zf_spec.specs.Grid.{blocks, block_of, extent_of, upto}
 use Rattle.zf_bits.specs.Reader.{rest}
 use Rattle.zf_pad.proofs.Blocks.{length-extent_of}
@@ -8,7 +6,7 @@ use Rattle.zf_base.specs.Widths.{width_of}
 use Rattle.zf_header.specs.declared.header.Header.{Header}
 use Rattle.zf_stream.specs.declared.fault.StreamFault.{StreamFault}
 use Rattle.zf_stream.specs.declared.fault.StreamFault.TheVariants.{Truncated}
-use Rattle.zf_stream.specs.Parsing.{read_code, read_codes, with_block}
+use Rattle.zf_stream.specs.Parsing.{read_code, read_codes}
 use Rattle.zf_stream.specs.Reading.{IsCutAt}
 use Rattle.zf_stream.proofs.Joining.{with_blocks, with_blocks-more, with_blocks-end, with_blocks-cut, read_codes-next, read_codes-cut, blocks-more}
 use Rattle.zf_stream.proofs.decoding.read_codes.Goals as goal

@@ -1,8 +1,7 @@
-use Rattle.std.proofs.Common.{◌≡◌, ℕ, ◌-◌, Bool, ℤ, List, length, map, Result, Ok, Err, refl, sym, ap, ◌∙◌}
+use Rattle.std.proofs.Common.{◌≡◌, ◌-◌, Bool, ℤ, List, length, map, Ok, sym, ap, ◌∙◌}
 use Rattle.std.proofs.lemmas.List.{length-map}
-use Rattle.zf_spec.specs.Grid.{blocks, blocks_of}
 use Rattle.zf_bits.specs.Reader.{rest}
-use Rattle.zf_stream.specs.Parsing.{codes_answer, fill_answer, values_or_fault, joined}
+use Rattle.zf_stream.specs.Parsing.{codes_answer, fill_answer, values_or_fault}
 use Rattle.zf_stream.proofs.Joined.{joined-blocks}
 use Rattle.zf_stream.proofs.decoding.read_values.Goals as goal
 

@@ -1,9 +1,7 @@
-use Rattle.std.proofs.Common.{◌≡◌, ℕ, Bool, List, [], ◌++◌, map, refl, sym, ap, ◌∙◌}
-use Rattle.std.proofs.lemmas.List.{append_assoc}
+use Rattle.std.proofs.Common.{◌≡◌, Bool, List, [], ◌++◌, map, sym, ap, ◌∙◌}
 use Rattle.std.proofs.lemmas.Result.{IfOk-weaker}
 use Rattle.std.specs.List.{flat_map}
 use Rattle.zf_spec.specs.Stream.{header, codes, filled, file, stream, to_bytes}
-use Rattle.zf_bits.specs.Writer.{fill}
 use Rattle.zf_header.specs.HeaderBits.{coding, header_bits}
 use Rattle.zf_stream.proofs.encoding.stream_of.Goals as goal
 

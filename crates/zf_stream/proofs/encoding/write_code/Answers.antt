@@ -1,11 +1,9 @@
-use Rattle.std.proofs.Common.{◌≡◌, ℕ, ℤ, ◌≤◌, List, Bool, ◌++◌, map, length, sym, ap, subst, ◌∙◌, arith}
+use Rattle.std.proofs.Common.{◌≡◌, ℕ, List, Bool, ◌++◌, map, sym, ap, ◌∙◌, arith}
 use Rattle.std.proofs.lemmas.Result.{IfOk-weaker}
-use Rattle.std.specs.Prelude.{OnOk}
 use Rattle.zf_spec.specs.Grid.{extent_of, block_of}
 use Rattle.zf_spec.specs.Codes.{rev, rate}
 use Rattle.zf_spec.specs.Stream.{block_code}
 use Rattle.zf_base.specs.Positions.{used}
-use Rattle.zf_bits.specs.Writer.{Appends}
 use Rattle.zf_pad.specs.Rasters.{IsRasterBlock}
 use Rattle.zf_pad.proofs.Blocks.{lies_within, gathered_padded}
 use Rattle.zf_header.specs.HeaderBits.{coding}

@@ -1,5 +1,5 @@
-use Rattle.std.proofs.Common.{◌≡◌, ℕ, ◌+◌, ◌^◌, Bool, List, [], ◌++◌, map, length, refl, sym, ap, subst, ◌∙◌, arith}
-use Rattle.std.proofs.lemmas.List.{append-nil, length-replicate}
+use Rattle.std.proofs.Common.{◌≡◌, ℕ, ◌^◌, Bool, List, ◌++◌, map, sym, ap, ◌∙◌, arith}
+use Rattle.std.proofs.lemmas.List.{append-nil}
 use Rattle.std.specs.List.{flat_map}
 use Rattle.zf_spec.specs.Grid.{blocks, upto, extent_of, block_of}
 use Rattle.zf_spec.specs.Stream.{block_code}

@@ -1,5 +1,5 @@
 -- The codes so far were appended.
-use Rattle.std.proofs.Common.{◌≡◌, ◌++◌, ◌^◌, ℕ, map, length}
+use Rattle.std.proofs.Common.{◌≡◌, ◌++◌, ◌^◌, map, length}
 use Rattle.std.specs.List.{flat_map}
 use Rattle.std.specs.Vec.{vec_len}
 use Rattle.zf_spec.specs.Grid.{upto, extent_of, block_of}

@@ -1,6 +1,5 @@
-use Rattle.std.proofs.Common.{◌≡◌, ℕ, ◌*◌, ◌/◌, List, [], ◌∷◌, ◌++◌, length, take, drop, sym, ap, ◌∙◌, arith}
-use Rattle.zf_spec.specs.Numbers.{number}
-use Rattle.zf_spec.specs.Stream.{bytes_from, to_bytes}
+use Rattle.std.proofs.Common.{◌≡◌, ℕ, ◌/◌, List, [], ◌∷◌, ◌++◌, length, sym, ap, ◌∙◌, arith}
+use Rattle.zf_spec.specs.Stream.{bytes_from}
 use Rattle.zf_stream.proofs.WholeBytes.{bytes_from-more}
 use Rattle.zf_stream.proofs.packing.bytes_of.Goals as goal
 

@@ -1,12 +1,11 @@
-use Rattle.std.proofs.Common.{◌≡◌, ◌≢◌, ℕ, ◌≤◌, List, ◌++◌, take, Result, Ok, Err, refl, sym, ap, subst, ◌∙◌, arith, rules}
+use Rattle.std.proofs.Common.{◌≢◌, ℕ, List, refl, sym, subst, ◌∙◌, arith, rules}
 use Rattle.std.proofs.lemmas.Result.{IfErr-weaker, IfErr-at_err}
 use Rattle.std.specs.Prelude.{IfErr}
 use Rattle.zf_dev.proofs.Taking.{Takes-append}
-use Rattle.zf_stream.specs.declared.fault.StreamFault.{StreamFault}
-use Rattle.zf_stream.specs.declared.fault.StreamFault.TheVariants.{Read, Write, Memory}
+use Rattle.zf_stream.specs.declared.fault.StreamFault.TheVariants.{Read}
 use Rattle.zf_stream.specs.Parsing.{restore_answer}
-use Rattle.zf_stream.specs.Outcomes.{IsRefusal, TakesSome}
-use Rattle.zf_stream.specs.Reading.{BeginsWithHeader, HasGoodHeader}
+use Rattle.zf_stream.specs.Outcomes.{IsRefusal}
+use Rattle.zf_stream.specs.Reading.{BeginsWithHeader}
 use Rattle.zf_stream.proofs.Parsed.{begun_more, good_of_front, refusal_of_fault}
 use Rattle.zf_stream.proofs.OwnFaults.{own_fault, blameless, anyhow}
 use Rattle.zf_stream.proofs.restoring.read_raw.Goals as goal

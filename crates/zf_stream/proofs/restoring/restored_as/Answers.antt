@@ -1,4 +1,4 @@
-use Rattle.std.proofs.Common.{◌≡◌, ℕ, ℤ, List, map, sym, ap, ◌∙◌}
+use Rattle.std.proofs.Common.{map, sym, ap, ◌∙◌}
 use Rattle.zf_spec.specs.Stream.{raw}
 use Rattle.zf_base.specs.Widths.{width_of}
 use Rattle.zf_stream.specs.Parsing.{without_values}

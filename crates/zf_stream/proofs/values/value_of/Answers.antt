@@ -1,4 +1,4 @@
-use Rattle.std.proofs.Common.{ℕ, ◌<◌, ℤ, pos, get_or, ap, ◌∙◌, arith}
+use Rattle.std.proofs.Common.{pos, ap, ◌∙◌, arith}
 use Rattle.std.proofs.lemmas.List.{get_or_default}
 use Rattle.zf_spec.specs.Numbers.{wrap}
 use Rattle.zf_stream.proofs.LittleEndian.{value_is}

@@ -1,6 +1,5 @@
-use Rattle.std.proofs.Common.{Err, refl, ap}
+use Rattle.std.proofs.Common.{Err, ap}
 use Rattle.zfpi.specs.declared.command.Command.TheVariants.{Compress}
-use Rattle.zfpi.specs.Headline.{LeavesFront}
 use Rattle.zf_stream.specs.Raw.{compress_answer, stream_text}
 use Rattle.zfpi.proofs.Fronts.{LeavesFront-done, LeavesFront-fault, WritesFronts-compress}
 use Rattle.zfpi.proofs.compress.compress.Goals as goal

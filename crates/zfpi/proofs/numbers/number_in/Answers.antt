@@ -1,4 +1,4 @@
-use Rattle.std.proofs.Common.{◌≡◌, ◌≢◌, ℕ, get_or, length, lit<}
+use Rattle.std.proofs.Common.{◌≢◌, get_or, lit<}
 use Rattle.std.proofs.lemmas.Str.Pattern.{starts_char}
 use Rattle.zfpi.proofs.Decimals.{decimal_no_plus, decimal_no_zero, parsed_some, parsed_none, zero_alone}
 use Rattle.zfpi.proofs.numbers.number_in.Goals as goal

@@ -1,8 +1,6 @@
-use Rattle.std.proofs.Common.{◌≡◌, ℕ, ◌+◌, ◌<◌, ◌≤◌, ◌^◌, ◌↔◌, List, ◌∷◌, [], length, get_or, take, map, None, IsOk, IfOk, ap, sym, subst, ◌∙◌, arith, length-append, length-set, decimal}
+use Rattle.std.proofs.Common.{◌≡◌, ◌<◌, ◌^◌, ◌↔◌, ◌∷◌, [], length, get_or, take, map, IsOk, IfOk, ap, sym, subst, ◌∙◌, arith, length-append, length-set, decimal}
 use Rattle.std.proofs.lemmas.Iterator.Consumers.{YieldsList-turn, YieldsList-end}
-use Rattle.std.specs.Result.{result_ok}
 use Rattle.zf_spec.specs.Grid.{IsShape}
-use Rattle.zfpi.specs.Words.{shape_word}
 use Rattle.zfpi.proofs.ShapeWords.{parts_of, YieldsList-parts, four_parts, some_part, part_is_number, sizes_more, texts_more, four_elements, shape_some, shape_none}
 use Rattle.zfpi.proofs.numbers.shape_in.Goals as goal
 

@@ -1,6 +1,6 @@
 use Rattle.std.proofs.Common.{map, string_bytes}
 use Rattle.zfpi.specs.Answer.{TakesMemory}
-use Rattle.zfpi.specs.Headline.{OnDone, OnMemory, RefusesWords, AnswersStatus, IsDone, LeavesFront, IsComplete}
+use Rattle.zfpi.specs.Headline.{OnDone, OnMemory, AnswersStatus, IsDone, LeavesFront, IsComplete}
 use Rattle.zfpi.proofs.Promises.{CanRun-spelled, OfCommand-one, RefusesWords-command, IsComplete-quiet}
 use Rattle.zfpi.proofs.program.answer.Goals as goal
 

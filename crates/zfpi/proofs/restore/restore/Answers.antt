@@ -1,6 +1,5 @@
 use Rattle.std.proofs.Common.{◌≡◌, sym, ◌∙◌}
 use Rattle.zfpi.specs.declared.command.Command.TheVariants.{Restore}
-use Rattle.zfpi.specs.Headline.{LeavesFront}
 use Rattle.zf_stream.specs.declared.fault.StreamFault.TheVariants.{Write, Memory}
 use Rattle.zf_stream.specs.Parsing.{restore_answer, restored_text}
 use Rattle.zfpi.proofs.Fronts.{LeavesFront-done, LeavesFront-fault, WritesFronts-restore}

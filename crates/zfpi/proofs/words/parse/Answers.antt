@@ -1,4 +1,4 @@
-use Rattle.std.proofs.Common.{◌≡◌, ◌+◌, ◌++◌, ◌∷◌, [], take, map, length, subst, sym, arith, string_bytes, refl, ap, ◌∙◌}
+use Rattle.std.proofs.Common.{◌≡◌, take, map, length, subst, sym, arith, string_bytes}
 use Rattle.std.proofs.lemmas.List.{length-map, take_all}
 use Rattle.zfpi.specs.Words.{BeginsCommand}
 use Rattle.zfpi.specs.Stages.{LeadsTo}

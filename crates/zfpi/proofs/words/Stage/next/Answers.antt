@@ -1,4 +1,4 @@
-use Rattle.std.proofs.Common.{subst, sym}
+use Rattle.std.proofs.Common.{subst}
 use Rattle.zfpi.specs.Stages.{LeadsTo}
 use Rattle.zfpi.proofs.Commands.{IsRateWord-begun}
 use Rattle.zfpi.proofs.words.Stage.next.Goals as goal
