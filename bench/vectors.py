@@ -3,7 +3,7 @@
 
     python3 bench/vectors.py [PROGRAM]
 
-The gate has those of at most 300 bytes as a test (crates/zfpi/src/vectors.rt); this runs all.
+The gate has those of at most 300 bytes as a test (crates/zfp_vectors/src/tests.rt); this runs all.
 """
 
 import json
