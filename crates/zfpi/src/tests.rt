@@ -52,7 +52,7 @@ fn call(
 
 #[test]
 fn values_become_their_stream(rt: HostRuntime) -> Result<(), Fail> {
-    let rows: [(&str, &[u8], &[u8]); 12] = [
+    let rows: [(&str, &[u8], &[u8]); 14] = [
         (
             "compress int32 1 reversible",
             &[0, 0, 0, 0],
@@ -87,6 +87,16 @@ fn values_become_their_stream(rt: HostRuntime) -> Result<(), Fail> {
             "compress int64 5x7 reversible",
             &[0; 280],
             b"zfp\x05\x45\0\0\x60\0\0\0\x88\0\0\0\0",
+        ),
+        (
+            "compress int32 2x1 reversible",
+            &[1, 0, 0, 0, 2, 0, 0, 0],
+            b"zfp\x05\x14\0\0\0\0\0\0\x88\x1f\0\0\0\x08\x4d\0\0\0\0\0\0",
+        ),
+        (
+            "compress int32 4 rate 64",
+            &[1, 0, 0, 0, 2, 0, 0, 0, 3, 0, 0, 0, 4, 0, 0, 0],
+            b"zfp\x05\x30\0\0\0\0\0\xf0\x03\0\0\0\x60\x27\0\0\0\0\0\0\0",
         ),
         (
             "compress int32 1x1x1 reversible",
@@ -150,6 +160,7 @@ fn other_words_are_no_command(rt: HostRuntime) -> Result<(), Fail> {
         ("compress int32 1x1x1x1x1 reversible", 2),
         ("compress int32 4 reversible x", 4),
         ("info x", 1),
+        ("restore x", 1),
     ] {
         let ended = call(rt.alloc(), words, b"", 1000, &[], &[])?;
         assert_eq!(rt; ended.status, Status::Usage(first_wrong), "{words}");
@@ -271,7 +282,7 @@ fn info_says_the_first_fault(rt: HostRuntime) -> Result<(), Fail> {
 
 #[test]
 fn a_stream_becomes_its_values(rt: HostRuntime) -> Result<(), Fail> {
-    let rows: [(&[u8], &[u8]); 7] = [
+    let rows: [(&[u8], &[u8]); 8] = [
         (
             b"zfp\x05\0\0\0\0\0\0\0\x88\x1f\0\0\0\x30\0\0\0\0\0\0\0",
             &[1, 0, 0, 0],
@@ -297,6 +308,10 @@ fn a_stream_becomes_its_values(rt: HostRuntime) -> Result<(), Fail> {
         (
             b"zfp\x050\0\0\0\0\0\x10\0\x01\0\0\0",
             &[0, 0, 0, 0x40, 0, 0, 0, 0xc0, 0, 0, 0, 0x40, 0, 0, 0, 0xc0],
+        ),
+        (
+            b"zfp\x05\x30\0\0\0\0\0\xf0\x03\0\0\0\x60\x27\0\0\0\0\0\0\0",
+            &[0, 0, 0, 0, 2, 0, 0, 0, 2, 0, 0, 0, 4, 0, 0, 0],
         ),
     ];
     for (stream, values) in rows {
@@ -373,5 +388,19 @@ fn restore_says_the_first_fault(rt: HostRuntime) -> Result<(), Fail> {
         assert_eq!(rt; ended.err.bytes(), line);
         assert_eq!(rt; ended.out.bytes().len(), 0);
     }
+    Ok(())
+}
+
+#[test]
+fn a_long_header_goes_there_and_back(rt: HostRuntime) -> Result<(), Fail> {
+    let words = "compress int32 4x4x4x4 rate 4096";
+    let made = call(rt.alloc(), words, &[0; 1024], 1000, &[], &[])?;
+    assert_eq!(rt; made.status, Status::Done);
+    let mut stream = [0; 536];
+    stream[..19].copy_from_slice(&LONG[..19]);
+    assert_eq!(rt; made.out.bytes(), stream.as_slice());
+    let back = call(rt.alloc(), "restore", made.out.bytes(), 1000, &[], &[])?;
+    assert_eq!(rt; back.status, Status::Done);
+    assert_eq!(rt; back.out.bytes(), [0; 1024].as_slice());
     Ok(())
 }
