@@ -5,7 +5,7 @@ use Rattle.std.proofs.lemmas.List.{length-map}
 use Rattle.std.proofs.lemmas.Bool.{and_parts, ltb-true}
 use Rattle.zf_spec.specs.Grid.{IsShape, grid, blocks, raster, coordinates, is_inside, fours, extents, extent_of}
 use Rattle.zf_base.specs.declared.position.Pos.{Pos}
-use Rattle.zf_base.specs.Positions.{axes, used, with_unused, IsPosition, IsExtent}
+use Rattle.zf_base.specs.Positions.{axes, used_axes, with_unused, IsPosition, IsExtent}
 use Rattle.zf_base.specs.Places.{block_number, place_of, IsAt}
 use Rattle.zf_base.proofs.Boxes.{is_inside-append_ones, raster-append_zeros, coordinates-append_ones, extents-append_ones, is_inside-coordinates, length-coordinates}
 use Rattle.zf_base.proofs.Sizes.{axes-with_unused}
@@ -13,18 +13,18 @@ use Rattle.zf_base.proofs.Places.{is_inside-grid, IsAt-position, length-fours}
 
 -- ---- the used coordinates of a position, and zeros
 
-pub length-used : (d : ℕ) (p : Pos) → d ≤ 4 → length (used d p) ≡ d
-length-used d p four = omega (arith, length-take d (axes p))
+pub length-used_axes : (d : ℕ) (p : Pos) → d ≤ 4 → length (used_axes d p) ≡ d
+length-used_axes d p four = omega (arith, length-take d (axes p))
 
 map-zeros : (f : ℕ → ℕ) (ps : List ℕ) (k : ℕ) → f 0 ≡ 0 → map f (ps ++ replicate k 0) ≡ map f ps ++ replicate k 0
 map-zeros f [] zero e = refl
 map-zeros f [] (suc k) e = rw (e, map-zeros f [] k e)
 map-zeros f (p ∷ ps) k e = rw (map-zeros f ps k e)
 
-position_axes : (ns : List ℕ) (p : Pos) → length ns ≤ 4 → IsPosition ns p → axes p ≡ used (length ns) p ++ replicate (4 - length ns) 0
+position_axes : (ns : List ℕ) (p : Pos) → length ns ≤ 4 → IsPosition ns p → axes p ≡ used_axes (length ns) p ++ replicate (4 - length ns) 0
 position_axes ns p four h =
-    let ps = used (length ns) p in
-    let same = length-used (length ns) p four in
+    let ps = used_axes (length ns) p in
+    let same = length-used_axes (length ns) p four in
     ap axes h.unused ∙ axes-with_unused 0 ps (omega (arith, same)) ∙ ap (λ d. ps ++ replicate (4 - d) 0) same
 
 grid_axes : (ns : List ℕ) (g : Pos) → length ns ≤ 4 → g ≡ with_unused 1 (grid ns) → axes g ≡ grid ns ++ replicate (4 - length ns) 1
@@ -35,21 +35,21 @@ grid_axes ns g four e =
 -- ---- the block and the place of a position
 
 module _ (ns : List ℕ) (p q g : Pos) (shape : IsShape ns) (h : IsPosition ns p) (e : g ≡ with_unused 1 (grid ns)) (is : axes q ≡ map (λ c. c / 4) (axes p)) where
-  block_axes : axes q ≡ map (λ c. c / 4) (used (length ns) p) ++ replicate (4 - length ns) 0
+  block_axes : axes q ≡ map (λ c. c / 4) (used_axes (length ns) p) ++ replicate (4 - length ns) 0
   block_axes =
-      is ∙ ap (map (λ c. c / 4)) (position_axes ns p shape.four_at_most h) ∙ map-zeros (λ c. c / 4) (used (length ns) p) (4 - length ns) refl
+      is ∙ ap (map (λ c. c / 4)) (position_axes ns p shape.four_at_most h) ∙ map-zeros (λ c. c / 4) (used_axes (length ns) p) (4 - length ns) refl
 
-  block_length : length (map (λ c. c / 4) (used (length ns) p)) ≡ length (grid ns)
+  block_length : length (map (λ c. c / 4) (used_axes (length ns) p)) ≡ length (grid ns)
   block_length =
-      length-map (used (length ns) p) (λ c. c / 4) ∙ length-used (length ns) p shape.four_at_most ∙ sym (length-map ns (λ n. (n + 3) / 4))
+      length-map (used_axes (length ns) p) (λ c. c / 4) ∙ length-used_axes (length ns) p shape.four_at_most ∙ sym (length-map ns (λ n. (n + 3) / 4))
 
   pub block_is_inside : is_inside (axes g) (axes q) ≡ true
   block_is_inside =
-      ap (λ s. is_inside s (axes q)) (grid_axes ns g shape.four_at_most e) ∙ ap (is_inside (grid ns ++ replicate (4 - length ns) 1)) block_axes ∙ is_inside-append_ones (grid ns) (map (λ c. c / 4) (used (length ns) p)) (4 - length ns) block_length (is_inside-grid ns (used (length ns) p) h.inside)
+      ap (λ s. is_inside s (axes q)) (grid_axes ns g shape.four_at_most e) ∙ ap (is_inside (grid ns ++ replicate (4 - length ns) 1)) block_axes ∙ is_inside-append_ones (grid ns) (map (λ c. c / 4) (used_axes (length ns) p)) (4 - length ns) block_length (is_inside-grid ns (used_axes (length ns) p) h.inside)
 
-  pub block_number_axes : raster (axes g) (axes q) ≡ block_number ns (used (length ns) p)
+  pub block_number_axes : raster (axes g) (axes q) ≡ block_number ns (used_axes (length ns) p)
   block_number_axes =
-      ap (λ s. raster s (axes q)) (grid_axes ns g shape.four_at_most e) ∙ ap (raster (grid ns ++ replicate (4 - length ns) 1)) block_axes ∙ raster-append_zeros (grid ns) (replicate (4 - length ns) 1) (map (λ c. c / 4) (used (length ns) p)) (4 - length ns) block_length
+      ap (λ s. raster s (axes q)) (grid_axes ns g shape.four_at_most e) ∙ ap (raster (grid ns ++ replicate (4 - length ns) 1)) block_axes ∙ raster-append_zeros (grid ns) (replicate (4 - length ns) 1) (map (λ c. c / 4) (used_axes (length ns) p)) (4 - length ns) block_length
 
 fours_four : (d : ℕ) → d ≤ 4 → fours 4 ≡ fours d ++ fours (4 - d)
 fours_four zero h = refl
@@ -59,36 +59,36 @@ fours_four (suc (suc (suc zero))) h = refl
 fours_four (suc (suc (suc (suc zero)))) h = refl
 fours_four (suc (suc (suc (suc (suc d))))) h = absurd (omega arith)
 
-pub place_axes : (ns : List ℕ) (p q : Pos) → length ns ≤ 4 → IsPosition ns p → axes q ≡ map (λ c. c % 4) (axes p) → raster (fours 4) (axes q) ≡ place_of (used (length ns) p)
+pub place_axes : (ns : List ℕ) (p q : Pos) → length ns ≤ 4 → IsPosition ns p → axes q ≡ map (λ c. c % 4) (axes p) → raster (fours 4) (axes q) ≡ place_of (used_axes (length ns) p)
 place_axes ns p q four h is =
-    let ps = used (length ns) p in
-    let same = length-used (length ns) p four in
+    let ps = used_axes (length ns) p in
+    let same = length-used_axes (length ns) p four in
     let indices = is ∙ ap (map (λ c. c % 4)) (position_axes ns p four h) ∙ map-zeros (λ c. c % 4) ps (4 - length ns) refl in
     let as_long = length-map ps (λ c. c % 4) ∙ sym (length-fours (length ps)) in
     let at = fours_four (length ns) four ∙ ap (λ d. fours d ++ fours (4 - length ns)) (sym same) in
     ap (raster (fours 4)) indices ∙ ap (λ s. raster s (map (λ c. c % 4) ps ++ replicate (4 - length ns) 0)) at ∙ raster-append_zeros (fours (length ps)) (fours (4 - length ns)) (map (λ c. c % 4) ps) (4 - length ns) as_long
 
-pub IsAt-numbers : (ns : List ℕ) (p : Pos) (b k : ℕ) → length ns ≤ 4 → IsPosition ns p → b ≡ block_number ns (used (length ns) p) → k ≡ place_of (used (length ns) p) → IsAt ns (used (length ns) p) b k
+pub IsAt-numbers : (ns : List ℕ) (p : Pos) (b k : ℕ) → length ns ≤ 4 → IsPosition ns p → b ≡ block_number ns (used_axes (length ns) p) → k ≡ place_of (used_axes (length ns) p) → IsAt ns (used_axes (length ns) p) b k
 IsAt-numbers ns p b k four h is_block is_place =
-    rw (is_block, is_place) (IsAt-position ns (used (length ns) p) (length-used (length ns) p four) h.inside)
+    rw (is_block, is_place) (IsAt-position ns (used_axes (length ns) p) (length-used_axes (length ns) p four) h.inside)
 
 -- ---- the extent of a block
 
 pub same_from_axes : (p q : Pos) → axes p ≡ axes q → p ≡ q
 same_from_axes p q e = ap (with_unused 0) e
 
-pub used-with_unused : (n : ℕ) (ns : List ℕ) → length ns ≤ 4 → used (length ns) (with_unused n ns) ≡ ns
-used-with_unused n [] h = refl
-used-with_unused n (a ∷ []) h = refl
-used-with_unused n (a ∷ b ∷ []) h = refl
-used-with_unused n (a ∷ b ∷ c ∷ []) h = refl
-used-with_unused n (a ∷ b ∷ c ∷ d ∷ []) h = refl
-used-with_unused n (a ∷ b ∷ c ∷ d ∷ e ∷ ns) h = absurd (omega arith)
+pub used_axes-with_unused : (n : ℕ) (ns : List ℕ) → length ns ≤ 4 → used_axes (length ns) (with_unused n ns) ≡ ns
+used_axes-with_unused n [] h = refl
+used_axes-with_unused n (a ∷ []) h = refl
+used_axes-with_unused n (a ∷ b ∷ []) h = refl
+used_axes-with_unused n (a ∷ b ∷ c ∷ []) h = refl
+used_axes-with_unused n (a ∷ b ∷ c ∷ d ∷ []) h = refl
+used_axes-with_unused n (a ∷ b ∷ c ∷ d ∷ e ∷ ns) h = absurd (omega arith)
 
 -- a list of coordinates inside an array, as a position of it
 pub IsPosition-with_unused : (ns ps : List ℕ) → length ns ≤ 4 → length ps ≡ length ns → is_inside ns ps ≡ true → IsPosition ns (with_unused 0 ps)
 IsPosition-with_unused ns ps four same h =
-    let known : used (length ns) (with_unused 0 ps) ≡ ps = ap (λ d. used d (with_unused 0 ps)) (sym same) ∙ used-with_unused 0 ps (omega arith) in
+    let known : used_axes (length ns) (with_unused 0 ps) ≡ ps = ap (λ d. used_axes d (with_unused 0 ps)) (sym same) ∙ used_axes-with_unused 0 ps (omega arith) in
     record { inside = ap (is_inside ns) known ∙ h; unused = ap (with_unused 0) (sym known) }
 
 length-extents : (ns cs : List ℕ) → length cs ≡ length ns → length (extents ns cs) ≡ length ns
@@ -115,10 +115,10 @@ module _ (ns : List ℕ) (b : ℕ) (size : Pos) (shape : IsShape ns) (is : size 
   extent_length =
       length-extents ns (coordinates (grid ns) b) (length-coordinates (grid ns) b ∙ length-map ns (λ n. (n + 3) / 4))
 
-  pub used_size : used (length ns) size ≡ extent_of ns b
+  pub used_size : used_axes (length ns) size ≡ extent_of ns b
   used_size =
       let es = extent_of ns b in
-      ap (used (length ns)) is ∙ ap (λ d. used d (with_unused 1 es)) (sym extent_length) ∙ used-with_unused 1 es (omega (arith, extent_length, shape.four_at_most))
+      ap (used_axes (length ns)) is ∙ ap (λ d. used_axes d (with_unused 1 es)) (sym extent_length) ∙ used_axes-with_unused 1 es (omega (arith, extent_length, shape.four_at_most))
 
   pub IsExtent-of_block : (origin : Pos) → b < blocks ns → IsExtent (length ns) (record { origin = origin; size = size })
   IsExtent-of_block origin lt =

@@ -7,7 +7,7 @@ use Rattle.std.proofs.lemmas.Bool.{or_parts, ltb-false, le-ltb}
 use Rattle.std.proofs.lemmas.Nat.{pow_pos}
 use Rattle.zf_spec.specs.Grid.{product, grid, blocks, max_values, IsShape}
 use Rattle.zf_base.specs.declared.position.Pos.{Pos}
-use Rattle.zf_base.specs.Positions.{axes, used, with_unused, IsShapeOf}
+use Rattle.zf_base.specs.Positions.{axes, used_axes, with_unused, IsShapeOf}
 use Rattle.zf_base.specs.declared.shape.ShapeFault.TheVariants.{Field}
 use Rattle.zf_base.specs.Shapes.{shape_fault}
 use Rattle.zf_base.proofs.Boxes.{product-append_ones}
@@ -88,7 +88,7 @@ field_fault ns no_zero above = rw (no_zero, above)
 
 pub sizes_not_zero : (d : ℕ) (s : Pos) → IsShapeOf d s → AllByRecursion (λ n. 1 ≤ n) (axes s)
 sizes_not_zero d s h =
-    subst (λ p. AllByRecursion (λ n. 1 ≤ n) (axes p)) (sym h.unused) (all_axes (λ n. 1 ≤ n) (used d s) h.shape.four_at_most (lit≤ tt) h.shape.not_zero)
+    subst (λ p. AllByRecursion (λ n. 1 ≤ n) (axes p)) (sym h.unused) (all_axes (λ n. 1 ≤ n) (used_axes d s) h.shape.four_at_most (lit≤ tt) h.shape.not_zero)
 
 pub record IsGridOf (ns : List ℕ) (g : Pos) : Type 0 where
   pub not_zero : AllByRecursion (λ n. 1 ≤ n) (axes g)

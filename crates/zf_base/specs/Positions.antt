@@ -10,8 +10,8 @@ abbrev pub axes : Pos → List ℕ
 axes p = p.x ∷ p.y ∷ p.z ∷ p.w ∷ []
 
 -- those along the first d axes
-abbrev pub used : ℕ → Pos → List ℕ
-used d p = take d (axes p)
+abbrev pub used_axes : ℕ → Pos → List ℕ
+used_axes d p = take d (axes p)
 
 -- these along the first axes, and n along the others
 abbrev pub with_unused : ℕ → List ℕ → Pos
@@ -24,17 +24,17 @@ with_unused n ns = record {
 
 -- sizes as a shape keeps them: those along its d axes are a shape's, and the others are 1
 pub record IsShapeOf (d : ℕ) (sizes : Pos) : Type 0 where
-  pub shape : IsShape (used d sizes)
-  pub dimension : d ≡ length (used d sizes)
-  pub unused : sizes ≡ with_unused 1 (used d sizes)
+  pub shape : IsShape (used_axes d sizes)
+  pub dimension : d ≡ length (used_axes d sizes)
+  pub unused : sizes ≡ with_unused 1 (used_axes d sizes)
 
 -- a position of an array of these sizes: each coordinate is below its size
 pub record IsPosition (ns : List ℕ) (p : Pos) : Type 0 where
-  pub inside : is_inside ns (used (length ns) p) ≡ true
-  pub unused : p ≡ with_unused 0 (used (length ns) p)
+  pub inside : is_inside ns (used_axes (length ns) p) ≡ true
+  pub unused : p ≡ with_unused 0 (used_axes (length ns) p)
 
 -- an extent in d dimensions: its sizes are 1 to 4
 pub record IsExtent (d : ℕ) (e : Extent) : Type 0 where
-  pub not_zero : AllByRecursion (λ n. 1 ≤ n) (used d e.size)
-  pub four_at_most : AllByRecursion (λ n. n ≤ 4) (used d e.size)
-  pub unused : e.size ≡ with_unused 1 (used d e.size)
+  pub not_zero : AllByRecursion (λ n. 1 ≤ n) (used_axes d e.size)
+  pub four_at_most : AllByRecursion (λ n. n ≤ 4) (used_axes d e.size)
+  pub unused : e.size ≡ with_unused 1 (used_axes d e.size)

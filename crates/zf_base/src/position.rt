@@ -3,7 +3,7 @@
 ghost use Rattle.std.specs.Prelude.{◌≡◌, ◌≤◌, ◌<◌, ◌^◌, ◌/◌, ◌%◌, true, map, nat_lt, ◌==◌};
 ghost use Rattle.std.specs.List.{AllByRecursion, list_any};
 ghost use Rattle.zf_spec.specs.Grid.{product, raster, coordinates, is_inside};
-ghost use Rattle.zf_base.specs.Positions.{axes, used, with_unused};
+ghost use Rattle.zf_base.specs.Positions.{axes, used_axes, with_unused};
 
 /// A position of an array. Coordinates along unused axes are 0.
 ///
@@ -28,7 +28,7 @@ impl Pos {
     pub(crate) fn first_axes(self, dims: u8) -> Pos
         requires one_at_least { 1 ≤ dims }
         requires four_at_most { dims ≤ 4 }
-        ensures { result ≡ with_unused 1 (used dims self) }
+        ensures { result ≡ with_unused 1 (used_axes dims self) }
     {
         match dims {
             1 => Pos {

@@ -3,7 +3,7 @@
 ghost use Rattle.std.specs.Prelude.{◌≡◌, ℕ, ◌+◌, ◌-◌, ◌*◌, ◌/◌, ◌%◌, ◌^◌, ◌<◌, ◌≤◌, ◌↔◌, min, List, [], ◌∷◌, length, take, map, slice_index_or, IsTrue, IsOk, IfOk};
 ghost use Rattle.std.specs.Result.{result_err};
 ghost use Rattle.zf_spec.specs.Grid.{IsShape, max_values, product, grid, blocks, coordinates, extent_of};
-ghost use Rattle.zf_base.specs.Positions.{used, with_unused, IsPosition, IsExtent};
+ghost use Rattle.zf_base.specs.Positions.{used_axes, with_unused, IsPosition, IsExtent};
 ghost use Rattle.zf_base.specs.Shapes.{shape_fault};
 ghost use Rattle.zf_base.specs.Places.{block_number, place_of, IsAt};
 
@@ -42,12 +42,12 @@ pub struct Shape {
 
 impl Model for Shape {
     ghost use Rattle.std.specs.Prelude.{ℕ, List, length};
-    ghost use Rattle.zf_base.specs.Positions.{used, with_unused, IsShapeOf};
+    ghost use Rattle.zf_base.specs.Positions.{used_axes, with_unused, IsShapeOf};
     ghost use Rattle.zf_base.specs.Lemmas.{same_from_parts};
 
     ghost Value = { List ℕ };
 
-    ghost view = { λ s. used s.dims s.sizes };
+    ghost view = { λ s. used_axes s.dims s.sizes };
 
     ghost invariant = { λ s. IsShapeOf s.dims s.sizes };
 
@@ -135,9 +135,9 @@ impl Shape {
     /// Blocks are numbered x fastest, and so are the `4^d` places of a block (Lindstrom 2014, section 3).
     pub fn place(&self, p: Pos) -> (u64, usize)
         requires { IsPosition self.now p }
-        ensures block { result.0 ≡ block_number self.now (used (length self.now) p) }
-        ensures place { result.1 ≡ place_of (used (length self.now) p) }
-        ensures at { IsAt self.now (used (length self.now) p) result.0 result.1 }
+        ensures block { result.0 ≡ block_number self.now (used_axes (length self.now) p) }
+        ensures place { result.1 ≡ place_of (used_axes (length self.now) p) }
+        ensures at { IsAt self.now (used_axes (length self.now) p) result.0 result.1 }
     {
         let block = self.grid().raster(&p.block());
         let place = BLOCK.raster(&p.indices());
@@ -151,7 +151,7 @@ impl Shape {
             ≡ with_unused 0 (map (λ c. 4 * c) (coordinates (grid self.now) b)) }
         ensures size { result.size ≡ with_unused 1 (extent_of self.now b) }
         ensures extent { IsExtent (length self.now) result }
-        ensures used_size { used (length self.now) result.size ≡ extent_of self.now b }
+        ensures used_size { used_axes (length self.now) result.size ≡ extent_of self.now b }
     {
         let block = self.grid().coordinates(b);
         let origin = Pos {

@@ -6,7 +6,7 @@ use Rattle.std.proofs.Math.Nat.{pow-suc, mul-suc, mod-eq_of_lt}
 use Rattle.std.proofs.lemmas.List.{append-nil, take_at, drop_all, drop_at, get_or-drop, replicate-append-replicate}
 use Rattle.std.proofs.lemmas.List.Concat.{flat_map-append}
 use Rattle.zf_spec.specs.Numbers.{field, number, word_bits}
-use Rattle.zf_spec.specs.Stream.{first_bytes, filled, to_bits}
+use Rattle.zf_spec.specs.Stream.{first_bytes, with_fill, to_bits}
 use Rattle.zf_bits.specs.Packing.{word_of, words_from, words_of}
 use Rattle.zf_spec.proofs.Fields.{length-field, number-field, number-append, field-number, field-zero}
 use Rattle.zf_spec.proofs.WordBits.{length-flat_map-field}
@@ -106,7 +106,7 @@ word_bits-words_from (suc n) s fits bytes =
     let count : 8 * (8 - length s) + (64 * n - 8 * length rest) ≡ 64 * suc n - 8 * length s = omega arith in
     ap (λ bs. bs ++ word_bits (words_from n rest)) (field-word_of s bytes) ∙ ap (λ bs. to_bits (first_bytes 8 s) ++ bs) others ∙ sym (append_assoc (to_bits (first_bytes 8 s)) (to_bits rest) zeros) ∙ ap (λ bs. bs ++ zeros) (sym bits ∙ ap to_bits (first_bytes-append-drop 8 s)) ∙ to_bits-append-zeros s (8 - length s) (64 * n - 8 * length rest) ∙ ap (λ k. to_bits s ++ replicate k false) count
 
-pub word_bits-words_of : (s : List ℕ) → ((i : ℕ) → get_or s i 0 < 256) → word_bits (words_of s) ≡ filled (to_bits s)
+pub word_bits-words_of : (s : List ℕ) → ((i : ℕ) → get_or s i 0 < 256) → word_bits (words_of s) ≡ with_fill (to_bits s)
 word_bits-words_of s bytes =
     let n = div_ceil (length s) 8 in
     let zeros : 64 * n - 8 * length s ≡ (64 - length (to_bits s) % 64) % 64 = omega (arith, length-to_bits s) in

@@ -2,7 +2,7 @@
 ghost use Rattle.std.specs.Prelude.{◌≡◌, ◌≤◌, length, vec_len, IfOk};
 ghost use Rattle.std.specs.Int.{div_ceil};
 ghost use Rattle.zf_spec.specs.Numbers.{word_bits};
-ghost use Rattle.zf_spec.specs.Stream.{filled, to_bits};
+ghost use Rattle.zf_spec.specs.Stream.{with_fill, to_bits};
 ghost use Rattle.zf_bits.specs.Packing.{word_of, words_of};
 
 use std::alloc::{AllocError, Global};
@@ -13,7 +13,7 @@ use std::alloc::{AllocError, Global};
 pub fn words_of_bytes(alloc: Global, bytes: &[u8]) -> Result<Vec<u64>, AllocError>
     ensures len { IfOk result (λ words. vec_len words ≡ div_ceil (length bytes.now) 8) }
     ensures words { IfOk result (λ words. words.items ≡ words_of bytes.now) }
-    ensures bits { IfOk result (λ words. word_bits words.items ≡ filled (to_bits bytes.now)) }
+    ensures bits { IfOk result (λ words. word_bits words.items ≡ with_fill (to_bits bytes.now)) }
 {
     let mut words = Vec::with_capacity(alloc, bytes.len().div_ceil(8))?;
     for piece in bytes.chunks(8) {

@@ -4,9 +4,9 @@ use Rattle.std.proofs.lemmas.List.{length-append}
 use Rattle.std.specs.Int.{Width}
 use mir.Val.{bits}
 use Rattle.zf_spec.specs.Numbers.{value_of}
-use Rattle.zf_spec.specs.Ranks.{unranked}
+use Rattle.zf_spec.specs.Ranks.{by_place}
 use Rattle.zf_spec.specs.Planes.{reach, plane_code, code, code_from}
-use Rattle.zf_spec.specs.Kept.{kept_from, kept}
+use Rattle.zf_spec.specs.Kept.{kept_planes_from, kept_planes}
 use Rattle.zf_spec.specs.Codes.{coefficients_of}
 use Rattle.zf_spec.proofs.Counting.{map-upto_same}
 use Rattle.zf_spec.proofs.KeptSame.{kept_whole}
@@ -14,17 +14,17 @@ use Rattle.zf_spec.proofs.PlaneDigits.{digits_at, length-digits_at, get_or-digit
 
 -- ---- a budget that is no less than the code
 
-kept_from-whole : (r n : ℕ) (ps : List (List Bool)) → length (code_from n ps) ≤ r → kept_from r n ps ≡ ps
-kept_from-whole r n [] fits = refl
-kept_from-whole r n (ds ∷ ps) fits =
+kept_planes_from-whole : (r n : ℕ) (ps : List (List Bool)) → length (code_from n ps) ≤ r → kept_planes_from r n ps ≡ ps
+kept_planes_from-whole r n [] fits = refl
+kept_planes_from-whole r n (ds ∷ ps) fits =
     let c = plane_code n ds in
     let above = max n (reach ds) in
     let long = length-append c (code_from above ps) in
-    ap (λ k. k ∷ kept_from (r - length c) above ps) (kept_whole r n ds (omega (arith, long)))
-    ∙ ap (λ ks. ds ∷ ks) (kept_from-whole (r - length c) above ps (omega (arith, long)))
+    ap (λ k. k ∷ kept_planes_from (r - length c) above ps) (kept_whole r n ds (omega (arith, long)))
+    ∙ ap (λ ks. ds ∷ ks) (kept_planes_from-whole (r - length c) above ps (omega (arith, long)))
 
-pub kept-whole : (r : ℕ) (ps : List (List Bool)) → length (code ps) ≤ r → kept r ps ≡ ps
-kept-whole r ps fits = kept_from-whole r 0 ps fits
+pub kept_planes-whole : (r : ℕ) (ps : List (List Bool)) → length (code ps) ≤ r → kept_planes r ps ≡ ps
+kept_planes-whole r ps fits = kept_planes_from-whole r 0 ps fits
 
 -- ---- planes of zeros below
 
@@ -56,4 +56,4 @@ digits_at-zeros w ps n size r =
 pub coefficients_of-zeros : (w : Width) (d : ℕ) (ps : List (List Bool)) (n size : ℕ) → coefficients_of w d (ps ++ replicate n (replicate size false)) ≡ coefficients_of w d ps
 coefficients_of-zeros w d ps n size =
     let more = ps ++ replicate n (replicate size false) in
-    ap (unranked d) (map-upto_same (λ r. value_of w (digits_at (bits w) more r)) (λ r. value_of w (digits_at (bits w) ps r)) (4 ^ d) (λ r h. ap (value_of w) (digits_at-zeros (bits w) ps n size r)))
+    ap (by_place d) (map-upto_same (λ r. value_of w (digits_at (bits w) more r)) (λ r. value_of w (digits_at (bits w) ps r)) (4 ^ d) (λ r h. ap (value_of w) (digits_at-zeros (bits w) ps n size r)))

@@ -4,27 +4,27 @@ use Rattle.std.proofs.lemmas.Bool.{and_from}
 use Rattle.std.proofs.lemmas.Option.{none-some, some_pair_parts}
 use Rattle.std.specs.Int.{Width}
 use Rattle.zf_spec.specs.Grid.{fours, indices, is_inside}
-use Rattle.zf_spec.specs.Codes.{rev, rate, round, existing, read_rev, read_rate}
+use Rattle.zf_spec.specs.Codes.{rev, rate, round, existing_values, read_rev, read_rate}
 use Rattle.zf_spec.proofs.BlockReading.{read_rev-rev, read_rate-rate, length-rate}
-use Rattle.zf_spec.proofs.Padding.{length-existing, get_or-existing_inside}
+use Rattle.zf_spec.proofs.Padding.{length-existing_values, get_or-existing_inside}
 use Rattle.zf_bits.specs.Reader.{Reader, rest, Reads}
 use Rattle.zf_bits.proofs.Reading.{Reads-same}
 use Rattle.zf_block.specs.Block.{IsBlock}
-use Rattle.zf_block.specs.Reading.{ReadsRev, LacksRev, ReadsRate}
+use Rattle.zf_block.specs.ReadBlocks.{ReadsRev, LacksRev, ReadsRate}
 
 -- ---- a reversible code
 
 module _ (w : Width) (es : List ℕ) (block : List ℤ) (more : List Bool) (old : Reader) (ok : IsBlock w es block) (front : rest old ≡ rev w es block ++ more) where
-  read : read_rev w es (rest old) ≡ Some (existing es block, length (rev w es block))
+  read : read_rev w es (rest old) ≡ Some (existing_values es block, length (rev w es block))
   read = ap (read_rev w es) front ∙ read_rev-rev w es block more ok.narrow ok.extent ok.values
 
   pub rev_there : ¬ LacksRev w (length es) old
   rev_there lacks = none-some _ (sym (lacks.code es refl) ∙ read)
 
-  parts : (new : Reader) (b : List ℤ) → ReadsRev w (length es) old new b → (existing es b ≡ existing es block) × (new.at - old.at ≡ length (rev w es block))
-  parts new b reads = some_pair_parts (existing es b) (existing es block) (new.at - old.at) (length (rev w es block)) (sym (reads.code es refl) ∙ read)
+  parts : (new : Reader) (b : List ℤ) → ReadsRev w (length es) old new b → (existing_values es b ≡ existing_values es block) × (new.at - old.at ≡ length (rev w es block))
+  parts new b reads = some_pair_parts (existing_values es b) (existing_values es block) (new.at - old.at) (length (rev w es block)) (sym (reads.code es refl) ∙ read)
 
-  pub rev_values : (new : Reader) (b : List ℤ) → ReadsRev w (length es) old new b → existing es b ≡ existing es block
+  pub rev_values : (new : Reader) (b : List ℤ) → ReadsRev w (length es) old new b → existing_values es b ≡ existing_values es block
   rev_values new b reads = (parts new b reads).0
 
   pub rev_passed : (new : Reader) (b : List ℤ) → ReadsRev w (length es) old new b → Reads old new (rev w es block)
@@ -38,7 +38,7 @@ module _ (w : Width) (budget : ℕ) (es : List ℕ) (block : List ℤ) (more : L
   code : take budget (rest old) ≡ rate w budget es block
   code = ap (take budget) front ∙ take_at (rate w budget es block) more budget (length-rate w budget es block)
 
-  pub rate_values : (new : Reader) (b : List ℤ) → ReadsRate w (length es) budget old new b → existing es b ≡ round w budget es block
+  pub rate_values : (new : Reader) (b : List ℤ) → ReadsRate w (length es) budget old new b → existing_values es b ≡ round w budget es block
   rate_values new b reads = sym (reads.code es refl) ∙ ap (read_rate w es) code ∙ read_rate-rate w budget es block
 
   pub rate_passed : (new : Reader) (b : List ℤ) → ReadsRate w (length es) budget old new b → Reads old new (rate w budget es block)
@@ -56,13 +56,13 @@ length-fours : (d : ℕ) → length (fours d) ≡ d
 length-fours zero = refl
 length-fours (suc d) = ap suc (length-fours d)
 
-pub existing-fours : (d : ℕ) (block : List ℤ) → length block ≡ 4 ^ d → existing (fours d) block ≡ block
-existing-fours d block long =
+pub existing_values-fours : (d : ℕ) (block : List ℤ) → length block ≡ 4 ^ d → existing_values (fours d) block ≡ block
+existing_values-fours d block long =
     let axes = length-fours d in
-    let count : length (existing (fours d) block) ≡ 4 ^ d = length-existing (fours d) block ∙ ap (λ k. 4 ^ k) axes in
-    ext_get_or (pos 0) (existing (fours d) block) block (count ∙ sym long)
+    let count : length (existing_values (fours d) block) ≡ 4 ^ d = length-existing_values (fours d) block ∙ ap (λ k. 4 ^ k) axes in
+    ext_get_or (pos 0) (existing_values (fours d) block) block (count ∙ sym long)
     (λ p h.
-    let below : p < 4 ^ length (fours d) = omega (arith, h, length-existing (fours d) block) in
+    let below : p < 4 ^ length (fours d) = omega (arith, h, length-existing_values (fours d) block) in
     get_or-existing_inside (fours d) block p below (ap (λ k. is_inside (fours d) (indices k p)) axes ∙ is_inside-fours d p))
 
 pub one_answer : (w : Width) (d : ℕ) (old new : Reader) (b : List ℤ) → ReadsRev w d old new b → ¬ LacksRev w d old

@@ -9,17 +9,17 @@ use Rattle.zf_spec.specs.Numbers.{field, number}
 use Rattle.zf_spec.specs.Lorenzo.{unlorenzo}
 use Rattle.zf_spec.specs.Lift.{unlift}
 use Rattle.zf_spec.specs.Planes.{code}
-use Rattle.zf_spec.specs.Reading.{full}
-use Rattle.zf_spec.specs.Codes.{count_bits, coefficients_of, existing, read_rev, read_rate}
-use Rattle.zf_spec.specs.Kept.{kept}
+use Rattle.zf_spec.specs.ReadPlanes.{planes_in}
+use Rattle.zf_spec.specs.Codes.{count_bits, coefficients_of, existing_values, read_rev, read_rate}
+use Rattle.zf_spec.specs.Kept.{kept_planes}
 use Rattle.zf_spec.proofs.Fields.{length-field, number-lt}
-use Rattle.zf_spec.proofs.Full.{length-full, full-length}
+use Rattle.zf_spec.proofs.Full.{length-planes_in, planes_in-length}
 use Rattle.zf_spec.proofs.PlaneCode.{length-code-le}
 use Rattle.zf_bits.specs.Reader.{Reader, rest, Reads}
 use Rattle.zf_bits.proofs.Reading.{Reads-append, Reads-same}
 use Rattle.zf_planes.specs.Decoding.{coded, coded_bits}
-use Rattle.zf_block.specs.Reading.{ReadsRev, LacksRev, ReadsRate, rev_planes, rev_len}
-use Rattle.zf_block.proofs.Kept.{kept-whole}
+use Rattle.zf_block.specs.ReadBlocks.{ReadsRev, LacksRev, ReadsRate, rev_planes, rev_len}
+use Rattle.zf_block.proofs.Kept.{kept_planes-whole}
 
 -- ---- a reader that moves
 
@@ -69,17 +69,17 @@ abbrev pub rev_block : Width → ℕ → List Bool → List ℤ
 rev_block w d s = unlorenzo w d (coefficients_of w d (rev_planes w (4 ^ d) s))
 
 read_rev-enough : (w : Width) (es : List ℕ) (s : List Bool) → rev_len w (4 ^ length es) s ≤ length s
-    → read_rev w es s ≡ Some (existing es (rev_block w (length es) s), rev_len w (4 ^ length es) s)
+    → read_rev w es s ≡ Some (existing_values es (rev_block w (length es) s), rev_len w (4 ^ length es) s)
 unfolding read_rev rev_len rev_planes
 read_rev-enough w es s enough =
     let n = rev_len w (4 ^ length es) s in
-    ap (λ t. cond t None (Some (existing es (rev_block w (length es) s), n))) (le-ltb (length s) n enough)
+    ap (λ t. cond t None (Some (existing_values es (rev_block w (length es) s), n))) (le-ltb (length s) n enough)
 
 read_rev-short : (w : Width) (es : List ℕ) (s : List Bool) → length s < rev_len w (4 ^ length es) s → read_rev w es s ≡ None
 unfolding read_rev rev_len rev_planes
 read_rev-short w es s short =
     let n = rev_len w (4 ^ length es) s in
-    ap (λ t. cond t None (Some (existing es (rev_block w (length es) s), n))) (lt-ltb (length s) n short)
+    ap (λ t. cond t None (Some (existing_values es (rev_block w (length es) s), n))) (lt-ltb (length s) n short)
 
 -- the code was read
 pub ReadsRev-planes : (w : Width) (d : ℕ) (old new : Reader) → rev_len w (4 ^ d) (rest old) ≤ length (rest old) → Reads old new (take (rev_len w (4 ^ d) (rest old)) (rest old))
@@ -90,8 +90,8 @@ ReadsRev-planes w d old new enough reads =
     let Passed : ℕ → Type 0 = λ k. Reads old new (take k s) in
     record {
       code = λ es same.
-          let Read : ℕ → Type 0 = λ k. rev_len w (4 ^ k) s ≤ length s → read_rev w es s ≡ Some (existing es (rev_block w k s), rev_len w (4 ^ k) s) in
-          let Answer : ℕ → Type 0 = λ n. read_rev w es s ≡ Some (existing es (rev_block w d s), n) in
+          let Read : ℕ → Type 0 = λ k. rev_len w (4 ^ k) s ≤ length s → read_rev w es s ≡ Some (existing_values es (rev_block w k s), rev_len w (4 ^ k) s) in
+          let Answer : ℕ → Type 0 = λ n. read_rev w es s ≡ Some (existing_values es (rev_block w d s), n) in
           subst Answer count (subst Read same (read_rev-enough w es s) enough);
       passed = subst Passed count reads;
     }
@@ -119,10 +119,10 @@ Reads-part {a} {b} {c} front k first second =
     Reads-same (Reads-append first second) (sym (ap (take (length front + k)) first.next ∙ take-append-add front (rest b) k))
 
 -- the code of as many planes as there can be is short
-length-code-full : (prec size : ℕ) (s : List Bool) → size ≤ 256 → prec ≤ 64 → length (code (full prec size s)) ≤ 16640
-length-code-full prec size s small few =
-    let bound = length-code-le size (full prec size s) (full-length prec size s) in
-    let count = length-full prec size s in
+length-code-planes_in : (prec size : ℕ) (s : List Bool) → size ≤ 256 → prec ≤ 64 → length (code (planes_in prec size s)) ≤ 16640
+length-code-planes_in prec size s small few =
+    let bound = length-code-le size (planes_in prec size s) (planes_in-length prec size s) in
+    let count = length-planes_in prec size s in
     let digits = mul-le-mul_right 64 small in
     let planes = mul-le-mul_left size few in
     omega (arith, rw count at bound)
@@ -156,21 +156,21 @@ CountRead-field w size n v old new small narrow width value reads short =
 pub coded-rev : (w : Width) (size prec : ℕ) (old new : Reader) → CountRead w size prec old new → coded 18446744073709551615 prec size (rest new) ≡ rev_planes w size (rest old)
 unfolding rev_planes
 coded-rev w size prec old new h =
-    ap (full prec size) (take_all 18446744073709551615 (rest new) h.short ∙ h.behind)
-    ∙ ap (λ p. full p size (drop (count_bits w) (rest old))) h.count
+    ap (planes_in prec size) (take_all 18446744073709551615 (rest new) h.short ∙ h.behind)
+    ∙ ap (λ p. planes_in p size (drop (count_bits w) (rest old))) h.count
 
 length-code-coded : (w : Width) (size prec : ℕ) (old new : Reader) → CountRead w size prec old new → length (code (coded 18446744073709551615 prec size (rest new))) ≤ 16640
-length-code-coded w size prec old new h = length-code-full prec size (take 18446744073709551615 (rest new)) h.small h.few
+length-code-coded w size prec old new h = length-code-planes_in prec size (take 18446744073709551615 (rest new)) h.small h.few
 
 -- so they are kept whole, with zeros below
-pub kept-rev : (w : Width) (size prec : ℕ) (old new : Reader) → CountRead w size prec old new → kept 18446744073709551615 (coded 18446744073709551615 prec size (rest new)) ≡ rev_planes w size (rest old)
-kept-rev w size prec old new h =
+pub kept_planes-rev : (w : Width) (size prec : ℕ) (old new : Reader) → CountRead w size prec old new → kept_planes 18446744073709551615 (coded 18446744073709551615 prec size (rest new)) ≡ rev_planes w size (rest old)
+kept_planes-rev w size prec old new h =
     let short = length-code-coded w size prec old new h in
-    kept-whole 18446744073709551615 (coded 18446744073709551615 prec size (rest new)) (omega arith) ∙ coded-rev w size prec old new h
+    kept_planes-whole 18446744073709551615 (coded 18446744073709551615 prec size (rest new)) (omega arith) ∙ coded-rev w size prec old new h
 
 pub length-rev_planes : (w : Width) (size prec : ℕ) (old new : Reader) → CountRead w size prec old new → length (rev_planes w size (rest old)) ≡ prec
 unfolding rev_planes
-length-rev_planes w size prec old new h = length-full (number (take (count_bits w) (rest old)) + 1) size (drop (count_bits w) (rest old)) ∙ sym h.count
+length-rev_planes w size prec old new h = length-planes_in (number (take (count_bits w) (rest old)) + 1) size (drop (count_bits w) (rest old)) ∙ sym h.count
 
 -- and all bits of the code count
 pub coded_bits-rev : (w : Width) (size prec : ℕ) (old new : Reader) → CountRead w size prec old new → count_bits w + coded_bits 18446744073709551615 prec size (rest new) ≡ rev_len w size (rest old)
@@ -198,22 +198,22 @@ Reads-rev w size n v old middle new h width count_read reads =
 
 -- the block at all places that the planes of a code stand for
 abbrev rate_block : Width → ℕ → List Bool → List ℤ
-rate_block w d s = unlift w d (coefficients_of w d (kept (length s) (full (bits w) (4 ^ d) s)))
+rate_block w d s = unlift w d (coefficients_of w d (kept_planes (length s) (planes_in (bits w) (4 ^ d) s)))
 
-read_rate-block : (w : Width) (es : List ℕ) (s : List Bool) → read_rate w es s ≡ existing es (rate_block w (length es) s)
+read_rate-block : (w : Width) (es : List ℕ) (s : List Bool) → read_rate w es s ≡ existing_values es (rate_block w (length es) s)
 unfolding read_rate
 read_rate-block w es s = refl
 
 -- the code was read
 pub ReadsRate-planes : (w : Width) (d budget : ℕ) (old new : Reader) → budget ≤ length (rest old) → Reads old new (take budget (rest old))
-    → ReadsRate w d budget old new (unlift w d (coefficients_of w d (kept budget (full (bits w) (4 ^ d) (take budget (rest old))))))
+    → ReadsRate w d budget old new (unlift w d (coefficients_of w d (kept_planes budget (planes_in (bits w) (4 ^ d) (take budget (rest old))))))
 ReadsRate-planes w d budget old new enough reads =
     let s = take budget (rest old) in
     let long : length s ≡ budget = length-take-le budget (rest old) enough in
     record {
       code = λ es same.
-          let Read : ℕ → Type 0 = λ k. read_rate w es s ≡ existing es (rate_block w k s) in
-          let Kept : ℕ → Type 0 = λ n. read_rate w es s ≡ existing es (unlift w d (coefficients_of w d (kept n (full (bits w) (4 ^ d) s)))) in
+          let Read : ℕ → Type 0 = λ k. read_rate w es s ≡ existing_values es (rate_block w k s) in
+          let Kept : ℕ → Type 0 = λ n. read_rate w es s ≡ existing_values es (unlift w d (coefficients_of w d (kept_planes n (planes_in (bits w) (4 ^ d) s)))) in
           subst Kept long (subst Read same (read_rate-block w es s));
       passed = reads;
     }

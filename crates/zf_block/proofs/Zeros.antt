@@ -2,7 +2,7 @@
 use Rattle.std.proofs.Common.{◌≡◌, refl, ap, ◌∙◌, ℕ, zero, suc, ◌+◌, ◌-◌, ◌≤◌, Bool, false, List, [], ◌∷◌, ◌++◌, length, take, replicate, arith}
 use Rattle.std.proofs.lemmas.List.{replicate-append-replicate}
 use Rattle.zf_spec.specs.Numbers.{field}
-use Rattle.zf_spec.specs.Reading.{first}
+use Rattle.zf_spec.specs.ReadPlanes.{first_bits}
 use Rattle.zf_spec.proofs.Fields.{field-zero}
 use Rattle.zf_bits.specs.Writer.{Writer, Appends}
 use Rattle.zf_bits.proofs.Appending.{Appends-nil, Appends-append, Appends-same}
@@ -38,17 +38,17 @@ WritesZeros-end {old} {now} {new} {count} {left} writes more =
     Appends-same (zeros_more (count - left) left writes.bits more) (ap (λ n. replicate n false) sum)
 
 -- the first bits of a list that is continued with zeros
-pub first-take : (n : ℕ) (s : List Bool) → first n s ≡ take n s ++ replicate (n - length s) false
-first-take zero [] = refl
-first-take zero (b ∷ s) = let none : zero - suc (length s) ≡ 0 = omega arith in rw none refl
-first-take (suc n) [] =
+pub first_bits-take : (n : ℕ) (s : List Bool) → first_bits n s ≡ take n s ++ replicate (n - length s) false
+first_bits-take zero [] = refl
+first_bits-take zero (b ∷ s) = let none : zero - suc (length s) ≡ 0 = omega arith in rw none refl
+first_bits-take (suc n) [] =
     let all : n - 0 ≡ n = omega arith in
     let more : suc n - 0 ≡ suc n = omega arith in
     rw more (ap (λ bs. false ∷ bs) (first_of_none n))
   where
-    first_of_none : (n : ℕ) → first n [] ≡ replicate n false
+    first_of_none : (n : ℕ) → first_bits n [] ≡ replicate n false
     first_of_none zero = refl
     first_of_none (suc n) = ap (λ bs. false ∷ bs) (first_of_none n)
-first-take (suc n) (b ∷ s) =
+first_bits-take (suc n) (b ∷ s) =
     let less : suc n - suc (length s) ≡ n - length s = omega arith in
-    rw less (ap (λ bs. b ∷ bs) (first-take n s))
+    rw less (ap (λ bs. b ∷ bs) (first_bits-take n s))

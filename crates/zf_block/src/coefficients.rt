@@ -4,8 +4,8 @@ ghost use Rattle.std.specs.Prelude.{◌≡◌, ◌≤◌, ◌^◌, map, length};
 ghost use Rattle.zf_spec.specs.Codes as codes;
 ghost use Rattle.zf_spec.specs.Codes.{coefficients_of};
 ghost use Rattle.zf_spec.specs.Padding.{pad};
-ghost use Rattle.zf_spec.specs.Words.{planes_held};
-ghost use Rattle.zf_base.specs.Positions.{used, IsExtent};
+ghost use Rattle.zf_spec.specs.HeldPlanes.{planes_held};
+ghost use Rattle.zf_base.specs.Positions.{used_axes, IsExtent};
 
 use zf_base::{Extent, Lane};
 
@@ -21,7 +21,7 @@ pub(crate) fn copy_padded<T: Lane>(d: u8, e: &Extent, block: &[T], values: &mut 
     requires extent { IsExtent d e.now }
     requires block { length block.now ≡ 4 ^ d }
     requires values { length values.old ≡ 4 ^ d }
-    ensures { map T.value values.new ≡ pad (used d e.now.size) (map T.value block.now) }
+    ensures { map T.value values.new ≡ pad (used_axes d e.now.size) (map T.value block.now) }
 {
     values.copy_from_slice(block);
     zf_pad::pad(e, d, values);

@@ -3,10 +3,10 @@
 ghost use Rattle.std.specs.Prelude.{◌≡◌, ℕ, ◌^◌, ℤ, Bool, List, ◌++◌, length};
 ghost use Rattle.std.specs.Int.{Width};
 ghost use Rattle.zf_spec.specs.Grid.{fours};
-ghost use Rattle.zf_spec.specs.Codes.{rev, rate, round, existing};
+ghost use Rattle.zf_spec.specs.Codes.{rev, rate, round, existing_values};
 ghost use Rattle.zf_bits.specs.Reader.{Reader, rest, Reads};
 ghost use Rattle.zf_block.specs.Block.{IsBlock};
-ghost use Rattle.zf_block.specs.Reading.{ReadsRev, LacksRev, ReadsRate};
+ghost use Rattle.zf_block.specs.ReadBlocks.{ReadsRev, LacksRev, ReadsRate};
 
 /// Where the bits begin with the reversible code of a block, that code is not too short, its block comes back at the places that exist, and the code is
 /// passed and nothing more.
@@ -15,7 +15,7 @@ pub fn reversible_code_reads_back()
         → IsBlock w es block → rest old ≡ rev w es block ++ more → ¬ LacksRev w (length es) old }
     ensures values { (w : Width) (es : List ℕ) (block read : List ℤ) (more : List Bool) (old new : Reader)
         → IsBlock w es block → rest old ≡ rev w es block ++ more → ReadsRev w (length es) old new read
-        → existing es read ≡ existing es block }
+        → existing_values es read ≡ existing_values es block }
     ensures passed { (w : Width) (es : List ℕ) (block read : List ℤ) (more : List Bool) (old new : Reader)
         → IsBlock w es block → rest old ≡ rev w es block ++ more → ReadsRev w (length es) old new read
         → Reads old new (rev w es block) }
@@ -26,7 +26,7 @@ pub fn reversible_code_reads_back()
 pub fn rate_code_reads_back()
     ensures values { (w : Width) (budget : ℕ) (es : List ℕ) (block read : List ℤ) (more : List Bool) (old new : Reader)
         → rest old ≡ rate w budget es block ++ more → ReadsRate w (length es) budget old new read
-        → existing es read ≡ round w budget es block }
+        → existing_values es read ≡ round w budget es block }
     ensures passed { (w : Width) (budget : ℕ) (es : List ℕ) (block read : List ℤ) (more : List Bool) (old new : Reader)
         → rest old ≡ rate w budget es block ++ more → ReadsRate w (length es) budget old new read
         → Reads old new (rate w budget es block) }
@@ -34,6 +34,6 @@ pub fn rate_code_reads_back()
 
 /// What is read is one block: at the extent of which all places exist it is the values that exist, and bits that have a code do not lack one.
 pub fn one_block_is_read()
-    ensures whole { (d : ℕ) (block : List ℤ) → length block ≡ 4 ^ d → existing (fours d) block ≡ block }
+    ensures whole { (d : ℕ) (block : List ℤ) → length block ≡ 4 ^ d → existing_values (fours d) block ≡ block }
     ensures one_answer { (w : Width) (d : ℕ) (old new : Reader) (read : List ℤ) → ReadsRev w d old new read → ¬ LacksRev w d old }
 {}

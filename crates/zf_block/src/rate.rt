@@ -6,13 +6,13 @@ ghost use Rattle.zf_spec.specs.Codes.{rate};
 ghost use Rattle.zf_spec.specs.Padding.{pad};
 ghost use Rattle.zf_spec.specs.Lift.{lift};
 ghost use Rattle.zf_spec.specs.Planes.{code};
-ghost use Rattle.zf_spec.specs.Kept.{kept};
-ghost use Rattle.zf_spec.specs.Reading.{first, full};
-ghost use Rattle.zf_spec.specs.Words.{planes_held};
-ghost use Rattle.zf_base.specs.Positions.{used, IsExtent};
+ghost use Rattle.zf_spec.specs.Kept.{kept_planes};
+ghost use Rattle.zf_spec.specs.ReadPlanes.{first_bits, planes_in};
+ghost use Rattle.zf_spec.specs.HeldPlanes.{planes_held};
+ghost use Rattle.zf_base.specs.Positions.{used_axes, IsExtent};
 ghost use Rattle.zf_bits.specs.Writer.{Appends};
 ghost use Rattle.zf_bits.specs.Reader.{rest, Reads};
-ghost use Rattle.zf_block.specs.Reading.{ReadsRate};
+ghost use Rattle.zf_block.specs.ReadBlocks.{ReadsRate};
 
 use crate::Scratch;
 use crate::coefficients::{MOST_PLACES, MOST_PLANES, copy_padded, from_planes, to_planes};
@@ -37,7 +37,7 @@ pub fn encode_rate<T: Lane>(
     requires block { length block.now ≡ 4 ^ d }
     requires scratch { s.old ≡ d }
     requires fits { bits ≤ out.old.room }
-    ensures code { Appends out.old out.new (rate T.width bits (used d e.now.size) (map T.value block.now)) }
+    ensures code { Appends out.old out.new (rate T.width bits (used_axes d e.now.size) (map T.value block.now)) }
     ensures scratch { s.new ≡ d }
 {
     make_planes(d, e, block, &mut s.values, &mut s.digits, &mut s.planes);
@@ -60,7 +60,7 @@ fn make_planes<T: Lane>(
     requires values { length values.old ≡ 4 ^ d }
     requires digits { length digits.old ≡ 4 ^ d }
     requires planes { length planes.old ≡ T.WIDTH }
-    ensures { planes_held (4 ^ d) planes.new ≡ codes.planes T.width d (lift T.width d (pad (used d e.now.size) (map T.value block.now))) }
+    ensures { planes_held (4 ^ d) planes.new ≡ codes.planes T.width d (lift T.width d (pad (used_axes d e.now.size) (map T.value block.now))) }
 {
     copy_padded(d, e, block, values);
     zf_lift::forward(d, values);
@@ -72,7 +72,7 @@ fn write_planes(bits: u32, size: usize, planes: &[[u64; 4]], out: &mut BitWriter
     requires size { (size ≡ 4) ⊎ (size ≡ 16) ⊎ (size ≡ 64) ⊎ (size ≡ 256) }
     requires planes { length planes.now ≤ 64 }
     requires fits { bits ≤ out.old.room }
-    ensures { Appends out.old out.new (first bits (code (planes_held size planes.now))) }
+    ensures { Appends out.old out.new (first_bits bits (code (planes_held size planes.now))) }
 {
     let bits = u64::from(bits);
     let written = zf_planes::encode(bits, planes.len() as u32, size, planes, out);
@@ -95,12 +95,12 @@ fn write_zeros(count: u64, out: &mut BitWriter)
 /// Reads the code of a block of `bits` bits, whatever they are.
 ///
 /// `block` gets `4^d` values, x fastest. A code does not tell which of them exist; at places that do not, the values mean nothing.
-pub fn decode_rate<T: Lane>(d: u8, bits: u32, src: &mut BitReader<'_>, block: &mut [T])
+pub fn decode_rate<T: Lane>(d: u8, bits: u32, reader: &mut BitReader<'_>, block: &mut [T])
     requires some { 1 ≤ d }
     requires four_at_most { d ≤ 4 }
     requires block { length block.old ≡ 4 ^ d }
-    requires enough { bits ≤ length (rest src.old) }
-    ensures { ReadsRate T.width d bits src.old src.new (map T.value block.new) }
+    requires enough { bits ≤ length (rest reader.old) }
+    ensures { ReadsRate T.width d bits reader.old reader.new (map T.value block.new) }
 {
     let mut digits = [0; MOST_PLACES];
     let mut planes = [[0; 4]; MOST_PLANES];
@@ -108,7 +108,7 @@ pub fn decode_rate<T: Lane>(d: u8, bits: u32, src: &mut BitReader<'_>, block: &m
     read_rate(
         d,
         bits,
-        src,
+        reader,
         block,
         &mut digits[..size],
         &mut planes[..T::WIDTH as usize],
@@ -119,7 +119,7 @@ pub fn decode_rate<T: Lane>(d: u8, bits: u32, src: &mut BitReader<'_>, block: &m
 fn read_rate<T: Lane>(
     d: u8,
     bits: u32,
-    src: &mut BitReader<'_>,
+    reader: &mut BitReader<'_>,
     block: &mut [T],
     digits: &mut [u64],
     planes: &mut [[u64; 4]],
@@ -129,36 +129,36 @@ fn read_rate<T: Lane>(
     requires block { length block.old ≡ 4 ^ d }
     requires digits { length digits.old ≡ 4 ^ d }
     requires planes { length planes.old ≡ T.WIDTH }
-    requires enough { bits ≤ length (rest src.old) }
-    ensures { ReadsRate T.width d bits src.old src.new (map T.value block.new) }
+    requires enough { bits ≤ length (rest reader.old) }
+    ensures { ReadsRate T.width d bits reader.old reader.new (map T.value block.new) }
 {
-    read_planes(bits, block.len(), src, planes);
+    read_planes(bits, block.len(), reader, planes);
     from_planes(d, planes, digits, block);
     zf_lift::inverse(d, block);
 }
 
 /// Reads all planes from `bits` bits of their code. Bits that their code leaves are passed too.
-fn read_planes(bits: u32, size: usize, src: &mut BitReader<'_>, planes: &mut [[u64; 4]])
+fn read_planes(bits: u32, size: usize, reader: &mut BitReader<'_>, planes: &mut [[u64; 4]])
     requires size { (size ≡ 4) ⊎ (size ≡ 16) ⊎ (size ≡ 64) ⊎ (size ≡ 256) }
     requires planes { length planes.old ≤ 64 }
-    requires enough { bits ≤ length (rest src.old) }
-    ensures planes { planes_held size planes.new ≡ kept bits (full (length planes.new) size (take bits (rest src.old))) }
-    ensures passed { Reads src.old src.new (take bits (rest src.old)) }
+    requires enough { bits ≤ length (rest reader.old) }
+    ensures planes { planes_held size planes.new ≡ kept_planes bits (planes_in (length planes.new) size (take bits (rest reader.old))) }
+    ensures passed { Reads reader.old reader.new (take bits (rest reader.old)) }
 {
     let bits = u64::from(bits);
-    let used = zf_planes::decode(bits, planes.len() as u32, size, src, planes).unwrap();
-    skip(bits - used, src);
+    let used = zf_planes::decode(bits, planes.len() as u32, size, reader, planes).unwrap();
+    skip(bits - used, reader);
 }
 
 /// Passes bits, a word at a time.
-fn skip(count: u64, src: &mut BitReader<'_>)
-    requires { count ≤ length (rest src.old) }
-    ensures { Reads src.old src.new (take count (rest src.old)) }
+fn skip(count: u64, reader: &mut BitReader<'_>)
+    requires { count ≤ length (rest reader.old) }
+    ensures { Reads reader.old reader.new (take count (rest reader.old)) }
 {
     let mut left = count;
     while left > 64 {
-        let _word = src.read(64).unwrap();
+        let _word = reader.read(64).unwrap();
         left -= 64;
     }
-    let _word = src.read(left as u32).unwrap();
+    let _word = reader.read(left as u32).unwrap();
 }

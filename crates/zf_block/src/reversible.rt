@@ -6,12 +6,12 @@ ghost use Rattle.zf_spec.specs.Codes as codes;
 ghost use Rattle.zf_spec.specs.Codes.{count_bits, rev_of_planes, rev};
 ghost use Rattle.zf_spec.specs.Padding.{pad};
 ghost use Rattle.zf_spec.specs.Lorenzo.{lorenzo};
-ghost use Rattle.zf_base.specs.Positions.{used, IsExtent};
+ghost use Rattle.zf_base.specs.Positions.{used_axes, IsExtent};
 ghost use Rattle.zf_bits.specs.Writer.{Appends};
 ghost use Rattle.zf_bits.specs.Reader.{rest, Reads};
-ghost use Rattle.zf_spec.specs.Words.{planes_held};
+ghost use Rattle.zf_spec.specs.HeldPlanes.{planes_held};
 ghost use Rattle.zf_block.specs.Room.{longest_rev};
-ghost use Rattle.zf_block.specs.Reading.{ReadsRev, LacksRev, rev_planes, rev_len};
+ghost use Rattle.zf_block.specs.ReadBlocks.{ReadsRev, LacksRev, rev_planes, rev_len};
 
 use crate::Scratch;
 use crate::coefficients::{MOST_PLACES, MOST_PLANES, copy_padded, from_planes, to_planes};
@@ -35,7 +35,7 @@ pub fn encode_rev<T: Lane>(
     requires extent { IsExtent d e.now }
     requires block { length block.now ≡ 4 ^ d }
     requires scratch { s.old ≡ d }
-    ensures ok { OnOk result (Appends out.old out.new (rev T.width (used d e.now.size) (map T.value block.now))) }
+    ensures ok { OnOk result (Appends out.old out.new (rev T.width (used_axes d e.now.size) (map T.value block.now))) }
     ensures err { OnErr result (out.new ≡ out.old) }
     ensures full { OnErr result (out.old.room < longest_rev T.WIDTH d) }
     ensures scratch { s.new ≡ d }
@@ -72,7 +72,7 @@ fn write_rev<T: Lane>(
     requires digits { length digits.old ≡ 4 ^ d }
     requires planes { length planes.old ≡ T.WIDTH }
     requires fits { longest_rev T.WIDTH d ≤ out.old.room }
-    ensures { Appends out.old out.new (rev T.width (used d e.now.size) (map T.value block.now)) }
+    ensures { Appends out.old out.new (rev T.width (used_axes d e.now.size) (map T.value block.now)) }
 {
     make_planes(d, e, block, values, digits, planes);
     write_planes::<T>(block.len(), planes, out);
@@ -94,7 +94,7 @@ fn make_planes<T: Lane>(
     requires values { length values.old ≡ 4 ^ d }
     requires digits { length digits.old ≡ 4 ^ d }
     requires planes { length planes.old ≡ T.WIDTH }
-    ensures { planes_held (4 ^ d) planes.new ≡ codes.planes T.width d (lorenzo T.width d (pad (used d e.now.size) (map T.value block.now))) }
+    ensures { planes_held (4 ^ d) planes.new ≡ codes.planes T.width d (lorenzo T.width d (pad (used_axes d e.now.size) (map T.value block.now))) }
 {
     copy_padded(d, e, block, values);
     zf_lorenzo::forward(d, values);
@@ -125,20 +125,20 @@ fn count_bits<T: Lane>() -> u32
 /// anything.
 ///
 /// `block` gets `4^d` values, x fastest. A code does not tell which of them exist; at places that do not, the values mean nothing.
-pub fn decode_rev<T: Lane>(d: u8, src: &mut BitReader<'_>, block: &mut [T]) -> Option<()>
+pub fn decode_rev<T: Lane>(d: u8, reader: &mut BitReader<'_>, block: &mut [T]) -> Option<()>
     requires some { 1 ≤ d }
     requires four_at_most { d ≤ 4 }
     requires block { length block.old ≡ 4 ^ d }
-    ensures short { IfNone result (LacksRev T.width d src.old) }
-    ensures unread { IfNone result (src.new ≡ src.old) }
-    ensures reads { OnSome result (ReadsRev T.width d src.old src.new (map T.value block.new)) }
+    ensures short { IfNone result (LacksRev T.width d reader.old) }
+    ensures unread { IfNone result (reader.new ≡ reader.old) }
+    ensures reads { OnSome result (ReadsRev T.width d reader.old reader.new (map T.value block.new)) }
 {
     let mut digits = [0; MOST_PLACES];
     let mut planes = [[0; 4]; MOST_PLANES];
     let size = block.len();
     read_rev(
         d,
-        src,
+        reader,
         block,
         &mut digits[..size],
         &mut planes[..T::WIDTH as usize],
@@ -148,7 +148,7 @@ pub fn decode_rev<T: Lane>(d: u8, src: &mut BitReader<'_>, block: &mut [T]) -> O
 /// Reads the code by way of these digits and planes.
 fn read_rev<T: Lane>(
     d: u8,
-    src: &mut BitReader<'_>,
+    reader: &mut BitReader<'_>,
     block: &mut [T],
     digits: &mut [u64],
     planes: &mut [[u64; 4]],
@@ -158,35 +158,35 @@ fn read_rev<T: Lane>(
     requires block { length block.old ≡ 4 ^ d }
     requires digits { length digits.old ≡ 4 ^ d }
     requires planes { length planes.old ≡ T.WIDTH }
-    ensures short { IfNone result (LacksRev T.width d src.old) }
-    ensures unread { IfNone result (src.new ≡ src.old) }
-    ensures reads { OnSome result (ReadsRev T.width d src.old src.new (map T.value block.new)) }
+    ensures short { IfNone result (LacksRev T.width d reader.old) }
+    ensures unread { IfNone result (reader.new ≡ reader.old) }
+    ensures reads { OnSome result (ReadsRev T.width d reader.old reader.new (map T.value block.new)) }
 {
-    read_planes::<T>(block.len(), src, planes)?;
+    read_planes::<T>(block.len(), reader, planes)?;
     from_planes(d, planes, digits, block);
     zf_lorenzo::inverse(d, block);
     Some(())
 }
 
 /// Reads the count of planes and their code. The planes below are zero.
-fn read_planes<T: Lane>(size: usize, src: &mut BitReader<'_>, planes: &mut [[u64; 4]]) -> Option<()>
+fn read_planes<T: Lane>(size: usize, reader: &mut BitReader<'_>, planes: &mut [[u64; 4]]) -> Option<()>
     requires size { (size ≡ 4) ⊎ (size ≡ 16) ⊎ (size ≡ 64) ⊎ (size ≡ 256) }
     requires planes { length planes.old ≡ T.WIDTH }
-    ensures short { IfNone result (length (rest src.old) < rev_len T.width size (rest src.old)) }
-    ensures unread { IfNone result (src.new ≡ src.old) }
-    ensures enough { OnSome result (rev_len T.width size (rest src.old) ≤ length (rest src.old)) }
-    ensures reads { OnSome result (Reads src.old src.new (take (rev_len T.width size (rest src.old)) (rest src.old))) }
-    ensures planes { OnSome result (let read = rev_planes T.width size (rest src.old) in
+    ensures short { IfNone result (length (rest reader.old) < rev_len T.width size (rest reader.old)) }
+    ensures unread { IfNone result (reader.new ≡ reader.old) }
+    ensures enough { OnSome result (rev_len T.width size (rest reader.old) ≤ length (rest reader.old)) }
+    ensures reads { OnSome result (Reads reader.old reader.new (take (rev_len T.width size (rest reader.old)) (rest reader.old))) }
+    ensures planes { OnSome result (let read = rev_planes T.width size (rest reader.old) in
         planes_held size planes.new ≡ read ++ replicate (length planes.new - length read) (replicate size false)) }
 {
-    let start = src.at();
-    let prec = src.read(count_bits::<T>())? as u32 + 1;
+    let start = reader.at();
+    let prec = reader.read(count_bits::<T>())? as u32 + 1;
     // Known by this call: the start is within the bits, so that the reader can go back, and the greatest budget is more than what is left.
-    let _left = src.left();
-    match zf_planes::decode(u64::MAX, prec, size, src, planes) {
+    let _left = reader.left();
+    match zf_planes::decode(u64::MAX, prec, size, reader, planes) {
         Some(_) => Some(()),
         None => {
-            src.seek(start);
+            reader.seek(start);
             None
         }
     }

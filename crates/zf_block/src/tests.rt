@@ -57,10 +57,10 @@ fn reversible_both_ways<T: Lane>(
     assert!(rt; out.len() <= 32768);
     let mut words = [0; 512];
     pack(&out, &mut words);
-    let mut src = BitReader::new(&words, out.len());
+    let mut reader = BitReader::new(&words, out.len());
     clear(block);
-    decode_rev(d, &mut src, block).ok_or("a code")?;
-    assert_eq!(rt; src.left(), 0);
+    decode_rev(d, &mut reader, block).ok_or("a code")?;
+    assert_eq!(rt; reader.left(), 0);
     Ok((out.len(), digest(&words)))
 }
 
@@ -85,11 +85,11 @@ fn rate_both_ways<T: Lane>(
     assert!(rt; bits <= 32768);
     let mut words = [0; 512];
     pack(&out, &mut words);
-    let mut src = BitReader::new(&words, out.len());
-    assert!(rt; src.left() >= u64::from(bits));
+    let mut reader = BitReader::new(&words, out.len());
+    assert!(rt; reader.left() >= u64::from(bits));
     clear(block);
-    decode_rate(d, bits, &mut src, block);
-    assert_eq!(rt; src.left(), 0);
+    decode_rate(d, bits, &mut reader, block);
+    assert_eq!(rt; reader.left(), 0);
     Ok(digest(&words))
 }
 

@@ -6,10 +6,10 @@ use Rattle.std.proofs.lemmas.List.Elements.{All-same, All-from_get_or}
 use Rattle.std.specs.Int.{Width}
 use mir.Val.{bits}
 use Rattle.zf_spec.specs.Numbers.{digits}
-use Rattle.zf_spec.specs.Ranks.{order, ranked, unranked}
+use Rattle.zf_spec.specs.Ranks.{order, by_rank, by_place}
 use Rattle.zf_spec.proofs.Counting.{from_places}
-use Rattle.zf_spec.proofs.Ranking.{length-order, order_below, rank_of, rank_of_below, order-rank_of, rank_of-order, length-ranked, get_or-ranked}
-use Rattle.zf_coef.specs.Words.{ranked_digits}
+use Rattle.zf_spec.proofs.Ranking.{length-order, order_below, rank_of, rank_of_below, order-rank_of, rank_of-order, length-by_rank, get_or-by_rank}
+use Rattle.zf_coef.specs.HeldDigits.{ranked_digits}
 
 pub order_within : (d : ℕ) (ps : List ℕ) → ps ≡ order d → All (λ p. p < 4 ^ d) ps
 order_within d ps same =
@@ -17,11 +17,11 @@ order_within d ps same =
     (All-from_get_or (λ p. p < 4 ^ d) (order d) 0 (λ k below. order_below d k (omega (arith, below, length-order d))))
 
 pub length-ranked_digits : (w : Width) (d : ℕ) (block : List ℤ) → length (ranked_digits w d block) ≡ 4 ^ d
-length-ranked_digits w d block = length-map (ranked d block) (digits (bits w)) ∙ length-ranked d block
+length-ranked_digits w d block = length-map (by_rank d block) (digits (bits w)) ∙ length-by_rank d block
 
 pub get_or-ranked_digits : (w : Width) (d : ℕ) (block : List ℤ) (k : ℕ) → k < 4 ^ d → get_or (ranked_digits w d block) k [] ≡ digits (bits w) (get_or block (get_or (order d) k 0) (pos 0))
 get_or-ranked_digits w d block k below =
-    get_or-map (digits (bits w)) (ranked d block) k (pos 0) [] (omega (arith, below, length-ranked d block)) ∙ ap (digits (bits w)) (get_or-ranked d block k below)
+    get_or-map (digits (bits w)) (by_rank d block) k (pos 0) [] (omega (arith, below, length-by_rank d block)) ∙ ap (digits (bits w)) (get_or-by_rank d block k below)
 
 -- the places of the ranks below r have their values
 abbrev pub HasRanks : ℕ → List ℤ → List ℤ → ℕ → Type 0
@@ -45,7 +45,7 @@ ranks_more d block values r v long below before here k small =
     ∙ ap (λ j. get_or values j (pos 0)) (sym same))
     (cases_lt k r)
 
-pub ranks_all : (d : ℕ) (block values : List ℤ) → length block ≡ 4 ^ d → HasRanks d block values (4 ^ d) → block ≡ unranked d values
+pub ranks_all : (d : ℕ) (block values : List ℤ) → length block ≡ 4 ^ d → HasRanks d block values (4 ^ d) → block ≡ by_place d values
 ranks_all d block values long has =
     sym (from_places (λ p. get_or values (rank_of d p) (pos 0)) (4 ^ d) (pos 0) block long
     (λ p below. ap (λ q. get_or block q (pos 0)) (sym (order-rank_of d p below)) ∙ has (rank_of d p) (rank_of_below d p below)))

@@ -6,11 +6,11 @@ use Rattle.std.specs.Int.{Width}
 use mir.Val.{bits}
 use Rattle.zf_spec.specs.Numbers.{value_of}
 use Rattle.zf_spec.specs.Grid.{upto}
-use Rattle.zf_spec.specs.Ranks.{unranked}
+use Rattle.zf_spec.specs.Ranks.{by_place}
 use Rattle.zf_spec.specs.Planes.{planes_of}
 use Rattle.zf_spec.specs.Codes as Codes
-use Rattle.zf_spec.specs.Words.{digits_held, planes_held}
-use Rattle.zf_coef.specs.Words.{digits_in, ranked_digits, unranked_values, columns}
+use Rattle.zf_spec.specs.HeldPlanes.{digits_held, planes_held}
+use Rattle.zf_coef.specs.HeldDigits.{digits_in, ranked_digits, unranked_values, columns}
 
 -- `ranked` and then `to_planes`: the planes hold those of the block's coefficients
 pub planes-ranked : (w : Width) (d : ℕ) (coefficients : List ℤ) (words : List ℕ) (planes : List (List ℕ))
@@ -28,14 +28,14 @@ planes-ranked w d coefficients words planes size count by_rank held =
 pub unranked_values-columns : (w : Width) (d : ℕ) (planes : List (List Bool)) → unranked_values w d (columns (bits w) (4 ^ d) planes) ≡ Codes.coefficients_of w d planes
 unfolding columns
 unranked_values-columns w d planes =
-    ap (unranked d) (map-map (value_of w) (λ r. map (λ k. get_or (get_or planes k []) r false) (reverse (upto (bits w)))) (upto (4 ^ d)))
+    ap (by_place d) (map-map (value_of w) (λ r. map (λ k. get_or (get_or planes k []) r false) (reverse (upto (bits w)))) (upto (4 ^ d)))
 
 -- `from_planes` and then `unranked`: the block has the coefficients that the planes stand for
-pub unranked-planes : (w : Width) (d : ℕ) (words : List ℕ) (planes : List (List ℕ))
+pub by_place-planes : (w : Width) (d : ℕ) (words : List ℕ) (planes : List (List ℕ))
     → length words ≡ 4 ^ d → length planes ≡ bits w
     → digits_in (length planes) words ≡ columns (length planes) (length words) (planes_held (length words) planes)
     → unranked_values w d (digits_in (bits w) words) ≡ Codes.coefficients_of w d (planes_held (4 ^ d) planes)
-unranked-planes w d words planes size count by_rank =
+by_place-planes w d words planes size count by_rank =
     ap (λ n. unranked_values w d (digits_in n words)) (sym count)
     ∙ ap (unranked_values w d) by_rank
     ∙ ap (λ n. unranked_values w d (columns n (length words) (planes_held (length words) planes))) count

@@ -12,8 +12,8 @@ use Rattle.zf_spec.proofs.Halves.{digit_value-is_odd}
 use Rattle.zf_spec.proofs.Fields.{number-append, number-lt}
 use Rattle.zf_spec.proofs.Counting.{length-map-upto, get_or-map-upto}
 use Rattle.zf_spec.proofs.PlaneDigits.{get_or-plane, length-map-reverse-upto, get_or-map-reverse-upto}
-use Rattle.zf_spec.specs.Words.{digits_held, planes_held, IsClearFrom}
-use Rattle.zf_coef.specs.Words.{digits_in, column, columns}
+use Rattle.zf_spec.specs.HeldPlanes.{digits_held, planes_held, IsClearFrom}
+use Rattle.zf_coef.specs.HeldDigits.{digits_in, column, columns}
 use Rattle.zf_spec.proofs.Fields.{get_or-field}
 use Rattle.zf_spec.proofs.WordBits.{length-word_bits, get_or-word_bits, words_with_bit, length-words_with_bit, bit_kept, bit_written}
 

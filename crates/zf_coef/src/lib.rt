@@ -2,12 +2,12 @@
 #![tactic(auto)]
 
 mod negabinary;
-mod places;
+mod coefficient_order;
 mod planes;
 mod ranks;
 
 pub use negabinary::{from_digits, to_digits};
-pub use places::order;
+pub use coefficient_order::order;
 pub use planes::{from_planes, to_planes};
 pub use ranks::{ranked, unranked};
 

@@ -3,8 +3,8 @@
 ghost use Rattle.std.specs.Prelude.{◌≡◌, ℕ, ◌^◌, ◌<◌, ◌≤◌, All, length};
 ghost use Rattle.zf_spec.specs.Numbers.{field};
 ghost use Rattle.zf_spec.specs.Planes.{plane, planes_of};
-ghost use Rattle.zf_spec.specs.Words.{digits_held, planes_held, IsClearFrom};
-ghost use Rattle.zf_coef.specs.Words.{digits_in, column, columns};
+ghost use Rattle.zf_spec.specs.HeldPlanes.{digits_held, planes_held, IsClearFrom};
+ghost use Rattle.zf_coef.specs.HeldDigits.{digits_in, column, columns};
 
 /// How many words hold a plane.
 const PLANE_WORDS: usize = 4;

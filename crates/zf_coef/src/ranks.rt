@@ -2,10 +2,10 @@
 
 ghost use Rattle.std.specs.Prelude.{◌≡◌, ◌^◌, ◌<◌, ◌≤◌, All, length, map};
 ghost use mir.Val.{bits};
-ghost use Rattle.zf_coef.specs.Words.{digits_in, ranked_digits, unranked_values};
+ghost use Rattle.zf_coef.specs.HeldDigits.{digits_in, ranked_digits, unranked_values};
 
 use crate::negabinary::{from_digits, to_digits};
-use crate::places::order;
+use crate::coefficient_order::order;
 use zf_base::Lane;
 
 /// Writes the negabinary digits of a block's coefficients by rank, those of rank 0 first.

@@ -6,7 +6,7 @@ use Rattle.std.proofs.lemmas.List.{length-replicate}
 use Rattle.zf_base.specs.Widths.{width_of}
 use Rattle.zf_spec.specs.Codes.{rate}
 use Rattle.zf_spec.specs.Grid.{upto, blocks, extent_of, block_of}
-use Rattle.zf_spec.specs.Stream.{fixed_rate, header, codes, filled, file, stream}
+use Rattle.zf_spec.specs.Stream.{fixed_rate, header, codes, with_fill, file, stream}
 use Rattle.zf_spec.proofs.BlockReading.{length-rate}
 use Rattle.zf_spec.proofs.Bytes.{length-to_bytes}
 use Rattle.zf_spec.proofs.Counting.{length-upto}
@@ -22,7 +22,7 @@ length-codes code b (k ∷ ks) each =
     length-append (code k) (flat_map (λ c. c) (map code ks)) ∙ omega (arith, each k, length-codes code b ks each, suc-mul (length ks) b)
 
 -- the bytes of whole words of 64
-length-filled_bytes : (bs : List Bool) → length (filled bs) / 8 ≡ 8 * div_ceil (length bs) 64
+length-filled_bytes : (bs : List Bool) → length (with_fill bs) / 8 ≡ 8 * div_ceil (length bs) 64
 length-filled_bytes bs =
     let fill = (64 - length bs % 64) % 64 in
     omega (arith, length-append bs (replicate fill false), length-replicate fill false)
@@ -36,7 +36,7 @@ length-stream_rate w ns b values =
     let count : length behind ≡ blocks ns * b =
     length-codes code b (upto (blocks ns)) (λ k. length-rate w b (extent_of ns k) (block_of ns values k)) ∙ ap (λ n. n * b) (length-upto (blocks ns)) in
     let bits : length (front ++ behind) ≡ length front + blocks ns * b = length-append front behind ∙ ap (λ n. length front + n) count in
-    length-to_bytes (filled (front ++ behind)) ∙ length-filled_bytes (front ++ behind) ∙ ap (λ n. 8 * div_ceil n 64) bits
+    length-to_bytes (with_fill (front ++ behind)) ∙ length-filled_bytes (front ++ behind) ∙ ap (λ n. 8 * div_ceil n 64) bits
 
 rate_length : (w : Width) (ns : List ℕ) (mode : Mode) (values : List ℤ) → IsRate mode → length (stream w ns (coding mode) values) ≡ 8 * div_ceil (length (header w ns (coding mode)) + blocks ns * block_bits mode) 64
 rate_length w ns Reversible values is = absurd is

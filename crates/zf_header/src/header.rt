@@ -23,7 +23,7 @@ ghost use Rattle.zf_header.specs.HeaderBits.{coding, HasNumber, IsRate, IsWritab
 use zf_base::{Shape, Ty};
 
 /// The length of a header with the long form, in bits. Any other has 96 bits.
-pub const FULL_HEADER_BITS: u32 = 148;
+pub const LONG_HEADER_BITS: u32 = 148;
 
 /// The bytes that the longest header lies in.
 pub const FULL_HEADER_BYTES: usize = 19;
@@ -139,7 +139,7 @@ pub(crate) fn header_len(h: &Header) -> u32
     // there are one to four sizes
     let _dims = h.shape.dims();
     if mode_number(&h.mode) == LONG_FORM {
-        FULL_HEADER_BITS
+        LONG_HEADER_BITS
     } else {
         SHORT_HEADER_BITS
     }

@@ -7,7 +7,7 @@ mod reading;
 mod writing;
 
 pub use header::{
-    FULL_HEADER_BITS, FULL_HEADER_BYTES, Header, HeaderFault, MAX_RATE, Mode, mode_number,
+    LONG_HEADER_BITS, FULL_HEADER_BYTES, Header, HeaderFault, MAX_RATE, Mode, mode_number,
     rate_bytes,
 };
 pub use reading::read;

@@ -9,7 +9,7 @@ ghost use Rattle.zf_header.specs.HeaderFields.{number_at, dims_in, size_in, size
 ghost use Rattle.zf_header.specs.HeaderFaults.{first_fault, front_faults, size_faults, mode_faults, header_fault};
 
 use crate::header::{
-    CODEC, FULL_HEADER_BITS, FULL_HEADER_BYTES, Header, HeaderFault, LONG_FORM, LONG_FORM_EXPONENT,
+    CODEC, LONG_HEADER_BITS, FULL_HEADER_BYTES, Header, HeaderFault, LONG_FORM, LONG_FORM_EXPONENT,
     LONG_FORM_PLANES, MAGIC, MAX_SHORT_RATE, Mode, OWN_CODEC, REVERSIBLE, SHORT_HEADER_BYTES,
     codec, header_len,
 };
@@ -148,7 +148,7 @@ fn long_rate(bytes: &[u8]) -> Result<Mode, HeaderFault>
 // The number in the `n` bits from bit `at` on, the least significant first.
 fn number_at(bytes: &[u8], at: u32, n: u32) -> u64
     requires width { n ≤ 64 }
-    requires near { at ≤ FULL_HEADER_BITS }
+    requires near { at ≤ LONG_HEADER_BITS }
     requires within { at + n ≤ 8 * length bytes.now }
     ensures value { result ≡ number_at at n (to_bits bytes.now) }
     ensures bound { result < 2 ^ n }

@@ -105,7 +105,7 @@ fn headers_are_written_and_read(rt: HostRuntime) -> Result<(), Fail> {
             assert_eq!(rt; rate_bytes(&header), stream);
         }
         out.clear();
-        out.reserve(u64::from(FULL_HEADER_BITS))?;
+        out.reserve(u64::from(LONG_HEADER_BITS))?;
         write(&header, &mut out);
         let bits = if bytes.len() == FULL_HEADER_BYTES {
             148

@@ -8,7 +8,7 @@ ghost use Rattle.zf_bits.specs.Writer.{Appends};
 ghost use Rattle.zf_header.specs.HeaderBits.{coding, HasNumber, IsWritable, header_bits};
 
 use crate::header::{
-    FULL_HEADER_BITS, Header, LONG_FORM_EXPONENT, LONG_FORM_PLANES, MAGIC, MAX_SHORT_RATE, Mode,
+    LONG_HEADER_BITS, Header, LONG_FORM_EXPONENT, LONG_FORM_PLANES, MAGIC, MAX_SHORT_RATE, Mode,
     codec, mode_number, type_number,
 };
 use zf_base::Shape;
@@ -20,10 +20,10 @@ use zf_bits::BitWriter;
 /// long form of a rate above 2048 (zfp 1.0 documentation, API: header).
 pub fn write(h: &Header, out: &mut BitWriter)
     requires writable { IsWritable h.now }
-    requires fits { FULL_HEADER_BITS ≤ out.old.room }
+    requires fits { LONG_HEADER_BITS ≤ out.old.room }
     ensures bits { Appends out.old out.new (header_bits h.now) }
     ensures room { out.new.room + length (header_bits h.now) ≡ out.old.room }
-    ensures longest { length (header_bits h.now) ≤ FULL_HEADER_BITS }
+    ensures longest { length (header_bits h.now) ≤ LONG_HEADER_BITS }
 {
     let dims = h.shape.dims();
     out.write_reserved(MAGIC, 24);

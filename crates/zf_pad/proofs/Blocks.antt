@@ -3,14 +3,14 @@ use Rattle.std.proofs.Common.{◌≡◌, ◌≢◌, ℕ, zero, suc, ◌+◌, ◌
 use Rattle.std.proofs.lemmas.List.{length-map}
 use Rattle.zf_spec.specs.Grid.{product, grid, blocks, places, coordinates, raster, is_inside, indices, extents, extent_of, position_in, value_at, block_of}
 use Rattle.zf_spec.specs.Padding.{pad}
-use Rattle.zf_spec.specs.Codes.{existing}
+use Rattle.zf_spec.specs.Codes.{existing_values}
 use Rattle.zf_spec.proofs.Counting.{map-upto_same, get_or-map-upto}
-use Rattle.zf_spec.proofs.Padding.{IsExtent as IsSize, existing-existing, pad_same}
+use Rattle.zf_spec.proofs.Padding.{IsExtent as IsSize, existing_values-existing_values, pad_same}
 use Rattle.zf_base.specs.declared.position.Extent.{Extent}
-use Rattle.zf_base.specs.Positions.{axes, used, with_unused, IsExtent}
+use Rattle.zf_base.specs.Positions.{axes, used_axes, with_unused, IsExtent}
 use Rattle.zf_base.specs.Places.{IsAt, block_number, place_of}
 use Rattle.zf_base.proofs.Boxes.{raster-lt, raster-coordinates, coordinates-raster, is_inside-coordinates, length-coordinates}
-use Rattle.zf_base.proofs.Extents.{IsExtent-of_block, IsPosition-with_unused, used_size, used-with_unused, same_from_axes}
+use Rattle.zf_base.proofs.Extents.{IsExtent-of_block, IsPosition-with_unused, used_size, used_axes-with_unused, same_from_axes}
 use Rattle.zf_base.proofs.Places.{IsAt-position, IsAt-inside, IsAt-length, IsAt-block, IsAt-place}
 use Rattle.zf_pad.specs.declared.layout.Layout.{Layout}
 use Rattle.zf_pad.specs.Layouts.{HasPlace, place_indices, moved, index_of, index_at, LiesWithin, IsOneToOne}
@@ -63,9 +63,9 @@ cond_same true u v h = h refl
 cond_same false u v h = refl
 
 -- the values that exist, by the number of dimensions
-existing_by : (es : List ℕ) (d : ℕ) (block : List ℤ) → length es ≡ d → existing es block ≡ map (λ p. cond (is_inside es (indices d p)) (get_or block p (pos 0)) (pos 0)) (places d)
-unfolding existing
-existing_by es d block e = subst (λ k. existing es block ≡ map (λ p. cond (is_inside es (indices k p)) (get_or block p (pos 0)) (pos 0)) (places k)) e refl
+existing_by : (es : List ℕ) (d : ℕ) (block : List ℤ) → length es ≡ d → existing_values es block ≡ map (λ p. cond (is_inside es (indices d p)) (get_or block p (pos 0)) (pos 0)) (places d)
+unfolding existing_values
+existing_by es d block e = subst (λ k. existing_values es block ≡ map (λ p. cond (is_inside es (indices k p)) (get_or block p (pos 0)) (pos 0)) (places k)) e refl
 
 -- ---- the places of a block, in the layout of raw values
 
@@ -98,7 +98,7 @@ module _ (ns : List ℕ) (b : ℕ) (layout : Layout) (e : Extent) (h : IsRasterB
       let lt = here.place_in_block in
       let here_is = ap (λ o. moved o (place_indices p)) h.origin ∙ moved_position (coordinates (grid ns) b) p (omega (arith, long, h.shape.four_at_most)) (subst (λ k. p < 4 ^ k) (sym long) lt) ∙ ap (λ k. with_unused 0 (position_in (coordinates (grid ns) b) (indices k p))) long in
       let same = IsAt-length ns ps b p here in
-      let known = ap (λ k. used k (with_unused 0 ps)) (sym same) ∙ used-with_unused 0 ps (omega (arith, same, h.shape.four_at_most)) in
+      let known = ap (λ k. used_axes k (with_unused 0 ps)) (sym same) ∙ used_axes-with_unused 0 ps (omega (arith, same, h.shape.four_at_most)) in
       let is_position = IsPosition-with_unused ns ps h.shape.four_at_most same (IsAt-inside ns ps b p here) in
       ap (index_of layout) here_is ∙ h.raster_layout (with_unused 0 ps) is_position ∙ ap (raster ns) known
 
@@ -117,7 +117,7 @@ module _ (ns : List ℕ) (b : ℕ) (layout : Layout) (e : Extent) (h : IsRasterB
       IsAt-place ns (position_of p) b p here ∙ ap place_of one ∙ sym (IsAt-place ns (position_of q) b q there)
 
   -- a block that has the values at the places that exist is the block of the array
-  pub block_is : (values block : List ℤ) → ((p : ℕ) → HasPlace e p → get_or block p (pos 0) ≡ get_or values (index_at layout e p) (pos 0)) → existing (extent_of ns b) block ≡ block_of ns values b
+  pub block_is : (values block : List ℤ) → ((p : ℕ) → HasPlace e p → get_or block p (pos 0) ≡ get_or values (index_at layout e p) (pos 0)) → existing_values (extent_of ns b) block ≡ block_of ns values b
   unfolding position_of
   block_is values block same =
       let d = length ns in
@@ -142,7 +142,7 @@ module _ (ns : List ℕ) (b : ℕ) (layout : Layout) (e : Extent) (h : IsRasterB
       at_place p lt inside = record { in_block = omega (arith, small (length ns) h.shape.four_at_most); inside = inside_by p lt ∙ inside }
 
   -- what is gathered is the block of the array
-  pub gathered_block : (values old new : List ℤ) → IsGathered layout e values old new → existing (extent_of ns b) new ≡ block_of ns values b
+  pub gathered_block : (values old new : List ℤ) → IsGathered layout e values old new → existing_values (extent_of ns b) new ≡ block_of ns values b
   gathered_block values old new g = block_is values new g.existing
 
   -- and padded it is the padded block
@@ -150,10 +150,10 @@ module _ (ns : List ℕ) (b : ℕ) (layout : Layout) (e : Extent) (h : IsRasterB
   gathered_padded values old new g =
       let es = extent_of ns b in
       let sizes = subst (λ s. All IsSize s) (used_size ns b e.size h.shape h.size) (used_sizes (length ns) e h.shape.four_at_most is_extent) in
-      pad_same es new (block_of ns values b) sizes (sym (existing-existing es new) ∙ ap (existing es) (gathered_block values old new g))
+      pad_same es new (block_of ns values b) sizes (sym (existing_values-existing_values es new) ∙ ap (existing_values es) (gathered_block values old new g))
 
   -- what is scattered becomes the block of the array
-  pub scattered_block : (block old new : List ℤ) → IsScattered layout e block old new → block_of ns new b ≡ existing (extent_of ns b) block
+  pub scattered_block : (block old new : List ℤ) → IsScattered layout e block old new → block_of ns new b ≡ existing_values (extent_of ns b) block
   scattered_block block old new s = sym (block_is new block (λ p at. sym (s.existing p at)))
 
   -- and every other block stays

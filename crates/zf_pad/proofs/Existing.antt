@@ -3,7 +3,7 @@ use Rattle.std.proofs.Common.{◌≡◌, ℕ, zero, suc, ◌-◌, ◌/◌, ◌%�
 use Rattle.std.proofs.lemmas.Bool.{and_parts, and_from}
 use Rattle.zf_spec.specs.Grid.{is_inside, indices}
 use Rattle.zf_base.specs.declared.position.Extent.{Extent}
-use Rattle.zf_base.specs.Positions.{axes, used, IsExtent}
+use Rattle.zf_base.specs.Positions.{axes, used_axes, IsExtent}
 use Rattle.zf_pad.specs.declared.layout.Layout.{Layout}
 use Rattle.zf_pad.specs.Layouts.{HasPlace, place_indices, moved, index_of, index_at}
 use Rattle.zf_pad.proofs.Sizes.{used_length, size_axes, sizes_not_zero}
@@ -44,17 +44,17 @@ module _ (d : ℕ) (e : Extent) (dims : d ≤ 4) (h : IsExtent d e) where
   pub place_below : (p : ℕ) → HasPlace e p → p < 4 ^ d
   unfolding place_indices
   place_below p at =
-      let es = used d e.size in
+      let es = used_axes d e.size in
       let four = size_axes d e dims h in
       let small = subst (λ zs. p < 4 ^ length zs) four at.in_block in
       let inside = subst (λ zs. is_inside zs (indices (length zs) p) ≡ true) four at.inside in
       subst (λ k. p < 4 ^ k) (used_length d e dims h) (inside_below es (4 - d) p small inside)
 
   -- it exists by four axes where it does by the used ones
-  pub has_place : (p : ℕ) → p < 4 ^ d → is_inside (axes e.size) (axes (place_indices p)) ≡ is_inside (used d e.size) (indices d p)
+  pub has_place : (p : ℕ) → p < 4 ^ d → is_inside (axes e.size) (axes (place_indices p)) ≡ is_inside (used_axes d e.size) (indices d p)
   unfolding place_indices
   has_place p lt =
-      let es = used d e.size in
+      let es = used_axes d e.size in
       let same = used_length d e dims h in
       ap (λ zs. is_inside zs (indices (length zs) p)) (size_axes d e dims h) ∙ inside-append_ones es (4 - d) p (subst (λ k. p < 4 ^ k) (sym same) lt) ∙ ap (λ k. is_inside es (indices k p)) same
 

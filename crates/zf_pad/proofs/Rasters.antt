@@ -3,10 +3,10 @@ use Rattle.std.proofs.Common.{◌≡◌, ℕ, ◌-◌, ◌*◌, ◌≤◌, List,
 use Rattle.std.proofs.Math.Nat.{le-mul_of_pos_right, mul-pos}
 use Rattle.zf_spec.specs.Grid.{IsShape, raster, max_values}
 use Rattle.zf_base.specs.declared.position.Pos.{Pos}
-use Rattle.zf_base.specs.Positions.{axes, used, with_unused, IsPosition}
+use Rattle.zf_base.specs.Positions.{axes, used_axes, with_unused, IsPosition}
 use Rattle.zf_base.proofs.Boxes.{raster-append_zeros}
 use Rattle.zf_base.proofs.Sizes.{axes-with_unused, all_axes, product-axes}
-use Rattle.zf_base.proofs.Extents.{length-used}
+use Rattle.zf_base.proofs.Extents.{length-used_axes}
 use Rattle.zf_pad.specs.declared.layout.Layout.{Layout}
 use Rattle.zf_pad.specs.Layouts.{index_of}
 use Rattle.zf_pad.specs.Rasters.{IsRaster}
@@ -23,15 +23,15 @@ steps_fit ns shape =
     (omega (arith, all, two, shape.not_too_large), omega (arith, all, three, shape.not_too_large))
 
 -- four coordinates of a position against the used ones
-pub position_axes : (ns : List ℕ) (p : Pos) → length ns ≤ 4 → IsPosition ns p → axes p ≡ used (length ns) p ++ replicate (4 - length ns) 0
+pub position_axes : (ns : List ℕ) (p : Pos) → length ns ≤ 4 → IsPosition ns p → axes p ≡ used_axes (length ns) p ++ replicate (4 - length ns) 0
 position_axes ns p four h =
-    let ps = used (length ns) p in
-    let same = length-used (length ns) p four in
+    let ps = used_axes (length ns) p in
+    let same = length-used_axes (length ns) p four in
     ap axes h.unused ∙ axes-with_unused 0 ps (omega (arith, same)) ∙ ap (λ d. ps ++ replicate (4 - d) 0) same
 
-raster_axes : (ns : List ℕ) (p : Pos) → length ns ≤ 4 → IsPosition ns p → raster (axes (with_unused 1 ns)) (axes p) ≡ raster ns (used (length ns) p)
+raster_axes : (ns : List ℕ) (p : Pos) → length ns ≤ 4 → IsPosition ns p → raster (axes (with_unused 1 ns)) (axes p) ≡ raster ns (used_axes (length ns) p)
 raster_axes ns p four h =
-    ap (λ zs. raster zs (axes p)) (axes-with_unused 1 ns four) ∙ ap (raster (ns ++ replicate (4 - length ns) 1)) (position_axes ns p four h) ∙ raster-append_zeros ns (replicate (4 - length ns) 1) (used (length ns) p) (4 - length ns) (length-used (length ns) p four)
+    ap (λ zs. raster zs (axes p)) (axes-with_unused 1 ns four) ∙ ap (raster (ns ++ replicate (4 - length ns) 1)) (position_axes ns p four h) ∙ raster-append_zeros ns (replicate (4 - length ns) 1) (used_axes (length ns) p) (4 - length ns) (length-used_axes (length ns) p four)
 
 -- a layout with the steps of four sizes
 by_steps : (layout : Layout) (s p : Pos) → layout.start ≡ 0 → layout.step.x ≡ 1 → layout.step.y ≡ s.x → layout.step.z ≡ s.x * s.y → layout.step.w ≡ s.x * s.y * s.z → index_of layout p ≡ raster (axes s) (axes p)

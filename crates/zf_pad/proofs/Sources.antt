@@ -4,7 +4,7 @@ use Rattle.std.proofs.lemmas.Bool.{cases_lt}
 use Rattle.zf_spec.specs.Padding.{sources, source_place, pad}
 use Rattle.zf_spec.proofs.Padding.{IsExtent as IsSize, source_place_below, source_place_inside, source_place_existing, length-pad, get_or-pad}
 use Rattle.zf_base.specs.declared.position.Extent.{Extent}
-use Rattle.zf_base.specs.Positions.{axes, used, IsExtent}
+use Rattle.zf_base.specs.Positions.{axes, used_axes, IsExtent}
 use Rattle.zf_pad.proofs.Writes.{IsWritten, written_none, written_more}
 use Rattle.zf_pad.proofs.Sizes.{used_length, used_sizes, size_axes}
 
@@ -24,16 +24,16 @@ source_place-ones [] (suc k) p = omega (arith, first (p % 4), source_place-ones 
 source_place-ones (e ∷ es) k p = ap (λ q. get_or (sources e) (p % 4) 0 + 4 * q) (source_place-ones es k (p / 4))
 
 -- so four axes tell it
-source_place-axes : (d : ℕ) (e : Extent) (p : ℕ) → d ≤ 4 → IsExtent d e → source_place (axes e.size) p ≡ source_place (used d e.size) p
-source_place-axes d e p dims h = ap (λ es. source_place es p) (size_axes d e dims h) ∙ source_place-ones (used d e.size) (4 - d) p
+source_place-axes : (d : ℕ) (e : Extent) (p : ℕ) → d ≤ 4 → IsExtent d e → source_place (axes e.size) p ≡ source_place (used_axes d e.size) p
+source_place-axes d e p dims h = ap (λ es. source_place es p) (size_axes d e dims h) ∙ source_place-ones (used_axes d e.size) (4 - d) p
 
-pub value_of_source : (d : ℕ) (e : Extent) (block : List ℤ) (p i : ℕ) (v : ℤ) → d ≤ 4 → IsExtent d e → i ≡ source_place (axes e.size) p → v ≡ get_or block i (pos 0) → v ≡ get_or block (source_place (used d e.size) p) (pos 0)
+pub value_of_source : (d : ℕ) (e : Extent) (block : List ℤ) (p i : ℕ) (v : ℤ) → d ≤ 4 → IsExtent d e → i ≡ source_place (axes e.size) p → v ≡ get_or block i (pos 0) → v ≡ get_or block (source_place (used_axes d e.size) p) (pos 0)
 value_of_source d e block p i v dims h is read = read ∙ ap (λ q. get_or block q (pos 0)) (is ∙ source_place-axes d e p dims h)
 
 -- it is a place of the block
 pub source_in_block : (d : ℕ) (e : Extent) (p : ℕ) → d ≤ 4 → IsExtent d e → source_place (axes e.size) p < 4 ^ d
 source_in_block d e p dims h =
-    let below = source_place_below (used d e.size) p (used_sizes d e dims h) in
+    let below = source_place_below (used_axes d e.size) p (used_sizes d e dims h) in
     omega (arith, source_place-axes d e p dims h, below, ap (λ k. 4 ^ k) (used_length d e dims h))
 
 -- a source is its own source

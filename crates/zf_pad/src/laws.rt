@@ -3,7 +3,7 @@
 ghost use Rattle.std.specs.Prelude.{◌≡◌, ◌≢◌, ◌<◌, ◌≤◌, ℕ, ℤ, List, length};
 ghost use Rattle.zf_spec.specs.Grid.{product, blocks, extent_of, block_of};
 ghost use Rattle.zf_spec.specs.Padding.{pad};
-ghost use Rattle.zf_spec.specs.Codes.{existing};
+ghost use Rattle.zf_spec.specs.Codes.{existing_values};
 ghost use Rattle.zf_base.specs.declared.position.Extent.{Extent};
 ghost use Rattle.zf_pad.specs.declared.layout.Layout.{Layout};
 ghost use Rattle.zf_pad.specs.Layouts.{LiesWithin, IsOneToOne};
@@ -22,7 +22,7 @@ pub fn places_of_blocks()
 pub fn gathered_blocks()
     ensures existing { (ns : List ℕ) (b : ℕ) (layout : Layout) (e : Extent) (values old new : List ℤ)
         → IsRasterBlock ns b layout e → IsGathered layout e values old new
-        → existing (extent_of ns b) new ≡ block_of ns values b }
+        → existing_values (extent_of ns b) new ≡ block_of ns values b }
     ensures padded { (ns : List ℕ) (b : ℕ) (layout : Layout) (e : Extent) (values old new : List ℤ)
         → IsRasterBlock ns b layout e → IsGathered layout e values old new
         → pad (extent_of ns b) new ≡ pad (extent_of ns b) (block_of ns values b) }
@@ -32,7 +32,7 @@ pub fn gathered_blocks()
 pub fn scattered_blocks()
     ensures block { (ns : List ℕ) (b : ℕ) (layout : Layout) (e : Extent) (block old new : List ℤ)
         → IsRasterBlock ns b layout e → IsScattered layout e block old new
-        → block_of ns new b ≡ existing (extent_of ns b) block }
+        → block_of ns new b ≡ existing_values (extent_of ns b) block }
     ensures others { (ns : List ℕ) (b other : ℕ) (layout : Layout) (e : Extent) (block old new : List ℤ)
         → IsRasterBlock ns b layout e → IsScattered layout e block old new
         → other < blocks ns → other ≢ b → block_of ns new other ≡ block_of ns old other }

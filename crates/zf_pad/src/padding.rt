@@ -3,7 +3,7 @@
 ghost use Rattle.std.specs.Prelude.{◌≡◌, ◌^◌, ◌<◌, ◌≤◌, length, map, slice_index_or};
 ghost use Rattle.std.specs.List.{AllByRecursion};
 ghost use Rattle.zf_spec.specs.Padding.{sources, source_place, pad};
-ghost use Rattle.zf_base.specs.Positions.{axes, used, IsExtent};
+ghost use Rattle.zf_base.specs.Positions.{axes, used_axes, IsExtent};
 
 use zf_base::{Extent, Lane, Pos};
 
@@ -18,7 +18,7 @@ pub fn pad<T: Lane>(e: &Extent, d: u8, block: &mut [T])
     requires four_at_most { d ≤ 4 }
     requires extent { IsExtent d e.now }
     requires whole { length block.old ≡ 4 ^ d }
-    ensures { map T.value block.new ≡ pad (used d e.now.size) (map T.value block.old) }
+    ensures { map T.value block.new ≡ pad (used_axes d e.now.size) (map T.value block.old) }
 {
     // A source exists, so it is its own source, and its value still stands there.
     for place in 0..places(d) {

@@ -3,7 +3,7 @@
 ghost use Rattle.std.specs.Prelude.{◌≡◌, ◌<◌, ◌^◌, length, map};
 ghost use Rattle.zf_spec.specs.Grid.{product, blocks, extent_of, block_of};
 ghost use Rattle.zf_spec.specs.Padding.{pad};
-ghost use Rattle.zf_spec.specs.Codes.{existing};
+ghost use Rattle.zf_spec.specs.Codes.{existing_values};
 
 use super::*;
 use std::test::Fail;
@@ -28,7 +28,7 @@ fn write_block<T: Lane>(shape: &Shape, b: u64, block: &[T], values: &mut [T])
     requires all { length values.old ≡ product shape.now }
     requires whole { length block.now ≡ 4 ^ length shape.now }
     ensures { block_of shape.now (map T.value values.new) b
-        ≡ existing (extent_of shape.now b) (map T.value block.now) }
+        ≡ existing_values (extent_of shape.now b) (map T.value block.now) }
 {
     let e = shape.extent(b);
     scatter(&Layout::raster(shape), &e, shape.dims(), block, values);

@@ -3,8 +3,8 @@ use Rattle.std.proofs.Common.{◌≡◌, ℕ, suc, ◌+◌, ◌-◌, ◌*◌, �
 use Rattle.std.proofs.lemmas.Bool.{false≢true}
 use Rattle.std.proofs.lemmas.List.{length-take}
 use Rattle.std.proofs.lemmas.List.Sums.{sum_by-cons}
-use Rattle.zf_spec.specs.Planes.{has_one, reach, group, in_run, tail, plane_code, code}
-use Rattle.zf_spec.specs.Words.{planes_held}
+use Rattle.zf_spec.specs.Planes.{has_one, reach, group, code_from_run, tail, plane_code, code}
+use Rattle.zf_spec.specs.HeldPlanes.{planes_held}
 use Rattle.zf_spec.proofs.Reach.{reach_none, reach_some}
 use Rattle.zf_spec.proofs.PlaneCode.{length-code-le}
 use Rattle.zf_planes.proofs.Unpacking.{length-top_held, sizes-top_held}
@@ -28,10 +28,10 @@ ones_none (false ∷ ds) none = omega (arith, ones_zero ds, ones_none ds none)
 abbrev pub HasTailLength : List Bool → ℕ → Type 0
 HasTailLength ds n = (reach ds < length ds → n ≡ ones ds + reach ds + 1) × (length ds ≤ reach ds → n ≡ ones ds + reach ds - 1)
 
-group_length : (d : Bool) (ds : List Bool) → (has_one (d ∷ ds) ≡ true → HasTailLength (d ∷ ds) (suc (length (in_run (d ∷ ds))))) → HasTailLength (d ∷ ds) (length (group (d ∷ ds) (in_run (d ∷ ds))))
+group_length : (d : Bool) (ds : List Bool) → (has_one (d ∷ ds) ≡ true → HasTailLength (d ∷ ds) (suc (length (code_from_run (d ∷ ds))))) → HasTailLength (d ∷ ds) (length (group (d ∷ ds) (code_from_run (d ∷ ds))))
 group_length d ds run = by (has_one (d ∷ ds)) refl
   where
-    by : (t : Bool) → has_one (d ∷ ds) ≡ t → HasTailLength (d ∷ ds) (length (cond t (true ∷ in_run (d ∷ ds)) (false ∷ [])))
+    by : (t : Bool) → has_one (d ∷ ds) ≡ t → HasTailLength (d ∷ ds) (length (cond t (true ∷ code_from_run (d ∷ ds)) (false ∷ [])))
     by true one = run one
     by false none =
         let zero_reach = reach_none (d ∷ ds) none in
@@ -43,13 +43,13 @@ one_more : (d r l o n r' o' n' : ℕ) → 1 ≤ l → (r < l → n ≡ o + r + 1
     → (r' < suc l → n' ≡ o' + r' + 1) × (suc l ≤ r' → n' ≡ o' + r' - 1)
 one_more d r l o n r' o' n' some rest far more long = (λ below. let e = rest.0 (omega arith) in omega arith, λ past. let e = rest.1 (omega arith) in omega arith)
 
-run_length : (d : Bool) (ds : List Bool) → has_one (d ∷ ds) ≡ true → HasTailLength (d ∷ ds) (suc (length (in_run (d ∷ ds))))
+run_length : (d : Bool) (ds : List Bool) → has_one (d ∷ ds) ≡ true → HasTailLength (d ∷ ds) (suc (length (code_from_run (d ∷ ds))))
 run_length true [] one = (λ below. absurd (omega arith), λ past. refl)
 run_length false [] one = absurd (false≢true one)
 run_length true (e ∷ ds) one =
     one_more 1 (reach (e ∷ ds)) (suc (length ds)) (ones (e ∷ ds)) (length (tail (e ∷ ds))) _ _ _ (omega arith) (group_length e ds (run_length e ds)) refl (ones_one (e ∷ ds)) (omega arith)
 run_length false (e ∷ ds) one =
-    one_more 0 (reach (e ∷ ds)) (suc (length ds)) (ones (e ∷ ds)) (suc (length (in_run (e ∷ ds)))) _ _ _ (omega arith) (run_length e ds one) (reach_some false (e ∷ ds) one) (ones_zero (e ∷ ds)) (omega arith)
+    one_more 0 (reach (e ∷ ds)) (suc (length ds)) (ones (e ∷ ds)) (suc (length (code_from_run (e ∷ ds)))) _ _ _ (omega arith) (run_length e ds one) (reach_some false (e ∷ ds) one) (ones_zero (e ∷ ds)) (omega arith)
 
 pub length-tail : (ds : List Bool) → HasTailLength ds (length (tail ds))
 length-tail [] = (λ below. absurd (omega arith), λ past. refl)

@@ -5,7 +5,7 @@ use Rattle.std.proofs.lemmas.List.{length-replicate, get_or-replicate}
 use Rattle.std.proofs.lemmas.Nat.Bits.{bit_at-zero}
 use Rattle.std.specs.Int.{from_bool}
 use Rattle.zf_spec.specs.Numbers.{word_bits, is_odd}
-use Rattle.zf_spec.specs.Words.{digits_held, IsClearFrom}
+use Rattle.zf_spec.specs.HeldPlanes.{digits_held, IsClearFrom}
 use Rattle.zf_spec.proofs.WordBits.{length-word_bits, get_or-word_bits, words_with_bit, length-words_with_bit, bit_kept, bit_written}
 
 -- words hold the first r digits, and no other bit

@@ -2,28 +2,28 @@
 use Rattle.std.proofs.Common.{◌≡◌, ℕ, suc, zero, ◌+◌, ◌-◌, ◌<◌, ◌≤◌, ◌⊎◌, inl, inr, ⊎_elim, min, Bool, true, false, cond, List, [], ◌∷◌, ◌++◌, length, take, drop, replicate, refl, sym, ap, ◌∙◌, arith, take_at, drop_at, append-nil, take-append-drop}
 use Rattle.std.proofs.lemmas.Bool.{false≢true, cases_lt}
 use Rattle.std.proofs.lemmas.List.{length-take, length-drop, drop-take, drop_all, take-append-le}
-use Rattle.zf_spec.specs.Planes.{has_one, in_run, tail, plane_code}
+use Rattle.zf_spec.specs.Planes.{has_one, code_from_run, tail, plane_code}
 use Rattle.zf_spec.specs.Kept.{zeros, kept_run, kept_tail, cut_plane, kept_plane}
-use Rattle.zf_spec.specs.Reading.{first, full_tail, full_plane}
+use Rattle.zf_spec.specs.ReadPlanes.{first_bits, tail_in, plane_in}
 use Rattle.zf_spec.proofs.Reach.{zeros_from_none}
 use Rattle.zf_spec.proofs.KeptCases.{kept_tail-zeros, kept_tail-one}
 use Rattle.zf_spec.proofs.KeptSame.{kept_whole, kept_cut}
-use Rattle.zf_spec.proofs.Beginnings.{length-first}
-use Rattle.zf_spec.proofs.Full.{length-full_plane}
+use Rattle.zf_spec.proofs.Beginnings.{length-first_bits}
+use Rattle.zf_spec.proofs.Full.{length-plane_in}
 use Rattle.zf_planes.specs.Decoding.{tail_ahead, tail_bits, plane_ahead, plane_bits}
 use Rattle.zf_planes.proofs.Lengths.{length-plane_code}
 
 -- ---- a tail that fits is kept whole
 
-kept_group_fits : (r : ℕ) (d : Bool) (ds : List Bool) → ((k : ℕ) → has_one (d ∷ ds) ≡ true → length (in_run (d ∷ ds)) ≤ k → kept_run k (d ∷ ds) ≡ d ∷ ds)
+kept_group_fits : (r : ℕ) (d : Bool) (ds : List Bool) → ((k : ℕ) → has_one (d ∷ ds) ≡ true → length (code_from_run (d ∷ ds)) ≤ k → kept_run k (d ∷ ds) ≡ d ∷ ds)
     → length (tail (d ∷ ds)) ≤ r → kept_tail r (d ∷ ds) ≡ d ∷ ds
 kept_group_fits r d ds run fits = by (has_one (d ∷ ds)) refl fits
   where
-    by : (t : Bool) → has_one (d ∷ ds) ≡ t → length (cond t (true ∷ in_run (d ∷ ds)) (false ∷ [])) ≤ r → kept_tail r (d ∷ ds) ≡ d ∷ ds
+    by : (t : Bool) → has_one (d ∷ ds) ≡ t → length (cond t (true ∷ code_from_run (d ∷ ds)) (false ∷ [])) ≤ r → kept_tail r (d ∷ ds) ≡ d ∷ ds
     by true one fits = kept_tail-one r (d ∷ ds) (omega arith) one ∙ run (r - 1) one (omega arith)
     by false none fits = kept_tail-zeros r (d ∷ ds) none ∙ sym (zeros_from_none (d ∷ ds) none)
 
-kept_run_fits : (d : Bool) (ds : List Bool) (r : ℕ) → has_one (d ∷ ds) ≡ true → length (in_run (d ∷ ds)) ≤ r → kept_run r (d ∷ ds) ≡ d ∷ ds
+kept_run_fits : (d : Bool) (ds : List Bool) (r : ℕ) → has_one (d ∷ ds) ≡ true → length (code_from_run (d ∷ ds)) ≤ r → kept_run r (d ∷ ds) ≡ d ∷ ds
 kept_run_fits true [] zero one fits = refl
 kept_run_fits true [] (suc r) one fits = refl
 kept_run_fits false [] r one fits = absurd (false≢true one)
@@ -54,48 +54,48 @@ kept_as_cut r n ds within = ⊎_elim (λ cut. kept_cut r n ds cut) fits (cases_l
 
 -- ---- the first digits
 
-first-nil : (n : ℕ) → first n [] ≡ replicate n false
-first-nil zero = refl
-first-nil (suc n) = ap (λ ds. false ∷ ds) (first-nil n)
+first_bits-nil : (n : ℕ) → first_bits n [] ≡ replicate n false
+first_bits-nil zero = refl
+first_bits-nil (suc n) = ap (λ ds. false ∷ ds) (first_bits-nil n)
 
 -- the first bits of a list that ends before, and zeros
-first_zeros : (q k : ℕ) (t : List Bool) → length t ≤ q → first (q + k) t ≡ first q t ++ replicate k false
-first_zeros zero k [] short = let n : zero + k ≡ k = omega arith in rw n (first-nil k)
+first_zeros : (q k : ℕ) (t : List Bool) → length t ≤ q → first_bits (q + k) t ≡ first_bits q t ++ replicate k false
+first_zeros zero k [] short = let n : zero + k ≡ k = omega arith in rw n (first_bits-nil k)
 first_zeros zero k (b ∷ t) short = absurd (omega arith)
 first_zeros (suc q) k [] short = let n : suc q + k ≡ suc (q + k) = omega arith in rw n (ap (λ ds. false ∷ ds) (first_zeros q k [] (omega arith)))
 first_zeros (suc q) k (b ∷ t) short = let n : suc q + k ≡ suc (q + k) = omega arith in rw n (ap (λ ds. b ∷ ds) (first_zeros q k t (omega arith)))
 
-take-first : (q n : ℕ) (t : List Bool) → q ≤ n → take q (first n t) ≡ first q t
-take-first zero n t within = refl
-take-first (suc q) zero t within = absurd (omega arith)
-take-first (suc q) (suc n) [] within = ap (λ ds. false ∷ ds) (take-first q n [] (omega arith))
-take-first (suc q) (suc n) (b ∷ t) within = ap (λ ds. b ∷ ds) (take-first q n t (omega arith))
+take-first_bits : (q n : ℕ) (t : List Bool) → q ≤ n → take q (first_bits n t) ≡ first_bits q t
+take-first_bits zero n t within = refl
+take-first_bits (suc q) zero t within = absurd (omega arith)
+take-first_bits (suc q) (suc n) [] within = ap (λ ds. false ∷ ds) (take-first_bits q n [] (omega arith))
+take-first_bits (suc q) (suc n) (b ∷ t) within = ap (λ ds. b ∷ ds) (take-first_bits q n t (omega arith))
 
-first-take : (q r : ℕ) (s : List Bool) → q ≤ r → q ≤ length s → first q (take r s) ≡ take q s
-first-take zero r s low within = refl
-first-take (suc q) zero s low within = absurd (omega arith)
-first-take (suc q) (suc r) [] low within = absurd (omega arith)
-first-take (suc q) (suc r) (b ∷ s) low within = ap (λ ds. b ∷ ds) (first-take q r s (omega arith) (omega arith))
+first_bits-take : (q r : ℕ) (s : List Bool) → q ≤ r → q ≤ length s → first_bits q (take r s) ≡ take q s
+first_bits-take zero r s low within = refl
+first_bits-take (suc q) zero s low within = absurd (omega arith)
+first_bits-take (suc q) (suc r) [] low within = absurd (omega arith)
+first_bits-take (suc q) (suc r) (b ∷ s) low within = ap (λ ds. b ∷ ds) (first_bits-take q r s (omega arith) (omega arith))
 
 -- as many of the first n bits as the budget has, and zeros
-front_padded : (r n : ℕ) (s : List Bool) → first n (take r s) ≡ first (min n r) (take r s) ++ replicate (n - min n r) false
+front_padded : (r n : ℕ) (s : List Bool) → first_bits n (take r s) ≡ first_bits (min n r) (take r s) ++ replicate (n - min n r) false
 front_padded r n s = ⊎_elim
     (λ (low : n ≤ r).
     let q : min n r ≡ n = omega arith in
     let none : n - n ≡ 0 = omega arith in
-    rw (q, none) (sym (append-nil (first n (take r s)))))
+    rw (q, none) (sym (append-nil (first_bits n (take r s)))))
     (λ (cut : r ≤ n).
     let q : min n r ≡ r = omega arith in
     let n' : n ≡ r + (n - r) = omega arith in
-    rw q (ap (λ k. first k (take r s)) n' ∙ first_zeros r (n - r) (take r s) (omega (arith, length-take r s))))
+    rw q (ap (λ k. first_bits k (take r s)) n' ∙ first_zeros r (n - r) (take r s) (omega (arith, length-take r s))))
     (cases_le n r)
   where
     cases_le : (a b : ℕ) → (a ≤ b) ⊎ (b ≤ a)
     cases_le a b = ⊎_elim (λ (h : a < b). inl (omega arith)) (λ h. inr h) (cases_lt a b)
 
 -- where the bits are there
-pub front_read : (r n : ℕ) (s : List Bool) → min n r ≤ length s → first n (take r s) ≡ take (min n r) s ++ replicate (n - min n r) false
-front_read r n s there = front_padded r n s ∙ ap (λ (ds : List Bool). ds ++ replicate (n - min n r) false) (first-take (min n r) r s (omega arith) there)
+pub front_read : (r n : ℕ) (s : List Bool) → min n r ≤ length s → first_bits n (take r s) ≡ take (min n r) s ++ replicate (n - min n r) false
+front_read r n s there = front_padded r n s ∙ ap (λ (ds : List Bool). ds ++ replicate (n - min n r) false) (first_bits-take (min n r) r s (omega arith) there)
 
 -- ---- a plane
 
@@ -113,34 +113,34 @@ behind r n s = ⊎_elim
     (cases_lt r n)
 
 -- the digits behind the first ones
-tail_of_full : (r size n : ℕ) (s : List Bool) → drop n (full_plane size n (take r s)) ≡ full_tail (size - n) (take (r - min n r) (drop (min n r) s))
+tail_of_full : (r size n : ℕ) (s : List Bool) → drop n (plane_in size n (take r s)) ≡ tail_in (size - n) (take (r - min n r) (drop (min n r) s))
 tail_of_full r size n s =
-    drop_at (first n (take r s)) (full_tail (size - n) (drop n (take r s))) n (length-first n (take r s)) ∙ ap (full_tail (size - n)) (behind r n s)
+    drop_at (first_bits n (take r s)) (tail_in (size - n) (drop n (take r s))) n (length-first_bits n (take r s)) ∙ ap (tail_in (size - n)) (behind r n s)
 
 pub plane_ahead-is : (r size n : ℕ) (s : List Bool) → n ≤ size
-    → plane_ahead r size n s ≡ first n (take r s) ++ tail_ahead (r - min n r) (size - n) (drop (min n r) s)
+    → plane_ahead r size n s ≡ first_bits n (take r s) ++ tail_ahead (r - min n r) (size - n) (drop (min n r) s)
 unfolding plane_ahead tail_ahead
 plane_ahead-is r size n s within =
     let t = take r s in
     let q = min n r in
-    let ds = full_plane size n t in
-    let front = take_at (first n t) (full_tail (size - n) (drop n t)) n (length-first n t) in
-    let padding : length (drop q (first n t)) ≡ n - q = omega (arith, length-drop q (first n t), length-first n t) in
-    kept_as_cut r n ds (omega (arith, length-full_plane size n t within))
+    let ds = plane_in size n t in
+    let front = take_at (first_bits n t) (tail_in (size - n) (drop n t)) n (length-first_bits n t) in
+    let padding : length (drop q (first_bits n t)) ≡ n - q = omega (arith, length-drop q (first_bits n t), length-first_bits n t) in
+    kept_as_cut r n ds (omega (arith, length-plane_in size n t within))
     ∙ ap (λ (es : List Bool). take q ds ++ zeros (drop q es) ++ kept_tail (r - q) (drop n ds)) front
-    ∙ ap (λ (es : List Bool). es ++ zeros (drop q (first n t)) ++ kept_tail (r - q) (drop n ds)) (begins q (omega arith))
-    ∙ ap (λ k. first q t ++ replicate k false ++ kept_tail (r - q) (drop n ds)) padding
+    ∙ ap (λ (es : List Bool). es ++ zeros (drop q (first_bits n t)) ++ kept_tail (r - q) (drop n ds)) (begins q (omega arith))
+    ∙ ap (λ k. first_bits q t ++ replicate k false ++ kept_tail (r - q) (drop n ds)) padding
     ∙ ap (λ (es : List Bool). es ++ kept_tail (r - q) (drop n ds)) (sym (front_padded r n s))
-    ∙ ap (λ (es : List Bool). first n t ++ kept_tail (r - q) es) (tail_of_full r size n s)
+    ∙ ap (λ (es : List Bool). first_bits n t ++ kept_tail (r - q) es) (tail_of_full r size n s)
   where
-    begins : (q : ℕ) → q ≤ n → take q (full_plane size n (take r s)) ≡ first q (take r s)
+    begins : (q : ℕ) → q ≤ n → take q (plane_in size n (take r s)) ≡ first_bits q (take r s)
     begins q low =
-        take-append-le q (first n (take r s)) (full_tail (size - n) (drop n (take r s))) (omega (arith, length-first n (take r s))) ∙ take-first q n (take r s) low
+        take-append-le q (first_bits n (take r s)) (tail_in (size - n) (drop n (take r s))) (omega (arith, length-first_bits n (take r s))) ∙ take-first_bits q n (take r s) low
 
 pub plane_bits-is : (r size n : ℕ) (s : List Bool) → n ≤ size → plane_bits r size n s ≡ min n r + tail_bits (r - min n r) (size - n) (drop (min n r) s)
 unfolding plane_bits tail_bits
 plane_bits-is r size n s within =
-    let ds = full_plane size n (take r s) in
-    let long = length-plane_code n ds (omega (arith, length-full_plane size n (take r s) within)) in
+    let ds = plane_in size n (take r s) in
+    let long = length-plane_code n ds (omega (arith, length-plane_in size n (take r s) within)) in
     let rest = ap (λ (es : List Bool). length (tail es)) (tail_of_full r size n s) in
     omega (arith, long, rest)

@@ -3,11 +3,11 @@ use Rattle.std.proofs.Common.{◌≡◌, ℕ, suc, ◌+◌, ◌-◌, ◌<◌, �
 use Rattle.std.proofs.lemmas.Bool.{cases_lt}
 use Rattle.std.proofs.lemmas.List.{length-append, drop-take}
 use Rattle.zf_spec.specs.Planes.{reach, plane_code, code_from}
-use Rattle.zf_spec.specs.Kept.{kept_plane, kept_from}
-use Rattle.zf_spec.specs.Reading.{full_plane, full_from}
+use Rattle.zf_spec.specs.Kept.{kept_plane, kept_planes_from}
+use Rattle.zf_spec.specs.ReadPlanes.{plane_in, planes_in_from}
 use Rattle.zf_spec.proofs.Reach.{reach-le}
-use Rattle.zf_spec.proofs.KeptSame.{kept_whole, kept_from-none}
-use Rattle.zf_spec.proofs.Full.{length-full_plane, length-full_from, full_from-length}
+use Rattle.zf_spec.proofs.KeptSame.{kept_whole, kept_planes_from-none}
+use Rattle.zf_spec.proofs.Full.{length-plane_in, length-planes_in_from, planes_in_from-length}
 use Rattle.zf_planes.specs.Decoding.{plane_ahead, plane_bits, planes_ahead, planes_bits}
 
 pub planes_ahead-none : (r size n : ℕ) (s : List Bool) → planes_ahead r 0 size n s ≡ []
@@ -22,7 +22,7 @@ planes_bits-none r size n s = omega arith
 planes_ahead-spent : (r p size n : ℕ) (s : List Bool) → 1 ≤ size → n ≤ size → r ≡ 0 → planes_ahead r p size n s ≡ replicate p (replicate size false)
 unfolding planes_ahead
 planes_ahead-spent r p size n s some within spent =
-    rw spent (kept_from-none size n (full_from p size n []) some (full_from-length p size n [] within) ∙ ap (λ k. replicate k (replicate size false)) (length-full_from p size n []))
+    rw spent (kept_planes_from-none size n (planes_in_from p size n []) some (planes_in_from-length p size n [] within) ∙ ap (λ k. replicate k (replicate size false)) (length-planes_in_from p size n []))
 
 planes_bits-spent : (r p size n : ℕ) (s : List Bool) → r ≡ 0 → planes_bits r p size n s ≡ 0
 unfolding planes_bits
@@ -36,9 +36,9 @@ wide size n ds within long = omega (arith, reach-le ds)
 pub plane_bits-le : (r p size n : ℕ) (s : List Bool) → plane_bits r size n s ≤ planes_bits r (suc p) size n s
 unfolding plane_bits planes_bits
 plane_bits-le r p size n s =
-    let ds = full_plane size n (take r s) in
+    let ds = plane_in size n (take r s) in
     let above = max n (reach ds) in
-    let below = full_from p size above (drop (length (plane_code n ds)) (take r s)) in
+    let below = planes_in_from p size above (drop (length (plane_code n ds)) (take r s)) in
     omega (arith, length-append (plane_code n ds) (code_from above below))
 
 -- a plane, and the planes below it, which know the ranks that have had a one from what was read
@@ -46,41 +46,41 @@ pub record NextPlane (r p size n : ℕ) (s ds : List Bool) (count : ℕ) : Type 
   pub bits : planes_bits r (suc p) size n s ≡ count + planes_bits (r - count) p size (max n (reach ds)) (drop count s)
   pub digits : planes_ahead r (suc p) size n s ≡ ds ∷ planes_ahead (r - count) p size (max n (reach ds)) (drop count s)
 
-next_whole : (r p size n : ℕ) (s : List Bool) → n ≤ size → length (plane_code n (full_plane size n (take r s))) ≤ r
-    → NextPlane r p size n s (full_plane size n (take r s)) (length (plane_code n (full_plane size n (take r s))))
+next_whole : (r p size n : ℕ) (s : List Bool) → n ≤ size → length (plane_code n (plane_in size n (take r s))) ≤ r
+    → NextPlane r p size n s (plane_in size n (take r s)) (length (plane_code n (plane_in size n (take r s))))
 unfolding planes_bits planes_ahead
 next_whole r p size n s within fits =
-    let ds = full_plane size n (take r s) in
+    let ds = plane_in size n (take r s) in
     let count = length (plane_code n ds) in
     let above = max n (reach ds) in
     let r' : r ≡ count + (r - count) = omega arith in
     let rest : drop count (take r s) ≡ take (r - count) (drop count s) = ap (λ k. drop count (take k s)) r' ∙ drop-take count (r - count) s in
-    let below = full_from p size above (drop count (take r s)) in
+    let below = planes_in_from p size above (drop count (take r s)) in
     let long = length-append (plane_code n ds) (code_from above below) in
-    let same = ap (λ (t : List Bool). length (code_from above (full_from p size above t))) rest in
+    let same = ap (λ (t : List Bool). length (code_from above (planes_in_from p size above t))) rest in
     record {
       bits = omega (arith, long, same);
       digits =
-          ap (λ (es : List Bool). es ∷ kept_from (r - count) above below) (kept_whole r n ds fits)
-          ∙ ap (λ (t : List Bool). ds ∷ kept_from (r - count) above (full_from p size above t)) rest;
+          ap (λ (es : List Bool). es ∷ kept_planes_from (r - count) above below) (kept_whole r n ds fits)
+          ∙ ap (λ (t : List Bool). ds ∷ kept_planes_from (r - count) above (planes_in_from p size above t)) rest;
     }
 
-next_cut : (r p size n : ℕ) (s : List Bool) → 1 ≤ size → n ≤ size → r < length (plane_code n (full_plane size n (take r s))) → length (plane_ahead r size n s) ≡ size
+next_cut : (r p size n : ℕ) (s : List Bool) → 1 ≤ size → n ≤ size → r < length (plane_code n (plane_in size n (take r s))) → length (plane_ahead r size n s) ≡ size
     → NextPlane r p size n s (plane_ahead r size n s) r
 unfolding planes_bits planes_ahead plane_ahead
 next_cut r p size n s some within cut long =
-    let ds = full_plane size n (take r s) in
+    let ds = plane_in size n (take r s) in
     let count = length (plane_code n ds) in
     let kept_digits = kept_plane r n ds in
     let above = max n (reach ds) in
-    let below = full_from p size above (drop count (take r s)) in
+    let below = planes_in_from p size above (drop count (take r s)) in
     let none : r - count ≡ 0 = omega arith in
     let spent : r - r ≡ 0 = omega arith in
-    let wide_above = wide size n ds within (length-full_plane size n (take r s) within) in
+    let wide_above = wide size n ds within (length-plane_in size n (take r s) within) in
     let zeros =
-    ap (λ k. kept_from k above below) none
-    ∙ kept_from-none size above below some (full_from-length p size above (drop count (take r s)) wide_above)
-    ∙ ap (λ k. replicate k (replicate size false)) (length-full_from p size above (drop count (take r s))) in
+    ap (λ k. kept_planes_from k above below) none
+    ∙ kept_planes_from-none size above below some (planes_in_from-length p size above (drop count (take r s)) wide_above)
+    ∙ ap (λ k. replicate k (replicate size false)) (length-planes_in_from p size above (drop count (take r s))) in
     let above' = max n (reach kept_digits) in
     let below_bits = planes_bits-spent (r - r) p size above' (drop r s) spent in
     let code_long = length-append (plane_code n ds) (code_from above below) in
@@ -103,4 +103,4 @@ next_plane r p size n s some within long = ⊎_elim
     (cases_lt r (length (plane_code n ds)))
   where
     ds : List Bool
-    ds = full_plane size n (take r s)
+    ds = plane_in size n (take r s)

@@ -1,7 +1,7 @@
 -- A plane's tail n digits into it, as a group bit and a run.
 use Rattle.std.proofs.Common.{◌≡◌, ℕ, suc, zero, ◌+◌, ◌-◌, ◌<◌, ◌≤◌, min, Bool, true, false, cond, List, [], ◌∷◌, ◌++◌, length, take, drop, replicate, refl, sym, ap, ◌∙◌, arith, length-append}
 use Rattle.std.proofs.lemmas.List.{length-replicate, length-drop, drop-drop, append-nil, take_at, append_assoc}
-use Rattle.zf_spec.specs.Planes.{has_one, reach, in_run, tail}
+use Rattle.zf_spec.specs.Planes.{has_one, reach, code_from_run, tail}
 use Rattle.zf_spec.proofs.Reach.{has_one-append_one, zeros_from_none, reach_none}
 use Rattle.zf_spec.proofs.PlaneCode.{tail-zeros, tail-first, tail-last}
 
@@ -62,7 +62,7 @@ tail_none (d ∷ ds) some none = ap tail (zeros_from_none (d ∷ ds) none) ∙ t
 -- some digits have at least a group bit
 pub tail_some : (ds : List Bool) → 0 < length ds → 0 < length (tail ds)
 tail_some [] some = some
-tail_some (d ∷ ds) some = elim (has_one (d ∷ ds)) as (λ b. 0 < length (cond b (true ∷ in_run (d ∷ ds)) (false ∷ []))) [ true ↦ omega arith | false ↦ omega arith ]
+tail_some (d ∷ ds) some = elim (has_one (d ∷ ds)) as (λ b. 0 < length (cond b (true ∷ code_from_run (d ∷ ds)) (false ∷ []))) [ true ↦ omega arith | false ↦ omega arith ]
 
 -- the digits of a run that are written, those up to and with its one but for that of the last rank, and the tail behind them
 run_digits : (j k : ℕ) (rest : List Bool) → k ≡ min (j + 1) (length (replicate j false ++ true ∷ rest) - 1)

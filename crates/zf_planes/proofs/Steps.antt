@@ -3,11 +3,11 @@ use Rattle.std.proofs.Common.{◌≡◌, ℕ, suc, zero, ◌-◌, ◌<◌, ◌�
 use Rattle.std.proofs.lemmas.List.{length-replicate}
 use Rattle.zf_spec.specs.Planes.{tail}
 use Rattle.zf_spec.specs.Kept.{kept_run, kept_tail}
-use Rattle.zf_spec.specs.Reading.{full_run, full_tail}
+use Rattle.zf_spec.specs.ReadPlanes.{run_in, tail_in}
 use Rattle.zf_spec.proofs.Reach.{has_one-zeros}
 use Rattle.zf_spec.proofs.PlaneCode.{tail-zeros}
 use Rattle.zf_spec.proofs.KeptCases.{kept_tail-zeros, kept_tail-one}
-use Rattle.zf_spec.proofs.Full.{length-full_run, length-full_tail, full_run_begins, in_run-true, in_run-false, tail-some}
+use Rattle.zf_spec.proofs.Full.{length-run_in, length-tail_in, full_run_begins, code_from_run-true, code_from_run-false, tail-some}
 use Rattle.zf_planes.specs.Decoding.{tail_ahead, tail_bits, run_ahead, run_bits}
 
 -- ---- at a group bit
@@ -15,13 +15,13 @@ use Rattle.zf_planes.specs.Decoding.{tail_ahead, tail_bits, run_ahead, run_bits}
 -- no bit or no digit is left
 tail_ahead-spent : (m : ℕ) (s : List Bool) → tail_ahead 0 m s ≡ replicate m false
 unfolding tail_ahead
-tail_ahead-spent m s = ap (λ n. replicate n false) (length-full_tail m [])
+tail_ahead-spent m s = ap (λ n. replicate n false) (length-tail_in m [])
 
 tail_bits-spent : (m : ℕ) (s : List Bool) → tail_bits 0 m s ≡ 0
 unfolding tail_bits
 tail_bits-spent m s = omega arith
 
-none_full : (s : List Bool) → full_tail 0 s ≡ []
+none_full : (s : List Bool) → tail_in 0 s ≡ []
 none_full [] = refl
 none_full (false ∷ s) = refl
 none_full (true ∷ s) = refl
@@ -47,14 +47,14 @@ tail_bits-end r m s = let one = ap length (tail-zeros m) in omega arith
 tail_ahead-run : (r m : ℕ) (s : List Bool) → tail_ahead (suc r) (suc m) (true ∷ s) ≡ run_ahead r (suc m) s
 unfolding tail_ahead run_ahead
 tail_ahead-run r m s =
-    let ds = full_run (suc m) (take r s) in
+    let ds = run_in (suc m) (take r s) in
     let less : suc r - 1 ≡ r = omega arith in
     kept_tail-one (suc r) ds (omega arith) (full_run_begins m (take r s)).0 ∙ ap (λ k. kept_run k ds) less
 
 tail_bits-run : (r m : ℕ) (s : List Bool) → tail_bits (suc r) (suc m) (true ∷ s) ≡ suc (run_bits r (suc m) s)
 unfolding tail_bits run_bits
 tail_bits-run r m s =
-    let ds = full_run (suc m) (take r s) in
+    let ds = run_in (suc m) (take r s) in
     let more = ap length (tail-some ds (full_run_begins m (take r s)).0) in
     omega arith
 
@@ -77,7 +77,7 @@ kept_run-false r (d ∷ ds) some = refl
 run_ahead-spent : (m : ℕ) (s : List Bool) → run_ahead 0 (suc m) s ≡ true ∷ replicate m false
 unfolding run_ahead
 run_ahead-spent zero s = refl
-run_ahead-spent (suc m) s = ap (λ n. true ∷ replicate n false) (length-full_run (suc m) [])
+run_ahead-spent (suc m) s = ap (λ n. true ∷ replicate n false) (length-run_in (suc m) [])
 
 run_bits-spent : (m : ℕ) (s : List Bool) → run_bits 0 m s ≡ 0
 unfolding run_bits
@@ -96,33 +96,33 @@ run_bits-last r s = omega arith
 -- a zero
 run_ahead-zero : (r m : ℕ) (s : List Bool) → run_ahead (suc r) (suc (suc m)) (false ∷ s) ≡ false ∷ run_ahead r (suc m) s
 unfolding run_ahead
-run_ahead-zero r m s = kept_run-false r (full_run (suc m) (take r s)) (omega (arith, length-full_run (suc m) (take r s)))
+run_ahead-zero r m s = kept_run-false r (run_in (suc m) (take r s)) (omega (arith, length-run_in (suc m) (take r s)))
 
 run_bits-zero : (r m : ℕ) (s : List Bool) → run_bits (suc r) (suc (suc m)) (false ∷ s) ≡ suc (run_bits r (suc m) s)
 unfolding run_bits
 run_bits-zero r m s =
-    let ds = full_run (suc m) (take r s) in
-    let more = ap length (in_run-false ds (omega (arith, length-full_run (suc m) (take r s)))) in
+    let ds = run_in (suc m) (take r s) in
+    let more = ap length (code_from_run-false ds (omega (arith, length-run_in (suc m) (take r s)))) in
     omega arith
 
 -- the one
 run_ahead-one : (r m : ℕ) (s : List Bool) → run_ahead (suc r) (suc (suc m)) (true ∷ s) ≡ true ∷ tail_ahead r (suc m) s
 unfolding run_ahead tail_ahead
-run_ahead-one r m s = kept_run-true r (full_tail (suc m) (take r s)) (omega (arith, length-full_tail (suc m) (take r s)))
+run_ahead-one r m s = kept_run-true r (tail_in (suc m) (take r s)) (omega (arith, length-tail_in (suc m) (take r s)))
 
 run_bits-one : (r m : ℕ) (s : List Bool) → run_bits (suc r) (suc (suc m)) (true ∷ s) ≡ suc (tail_bits r (suc m) s)
 unfolding run_bits tail_bits
 run_bits-one r m s =
-    let ds = full_tail (suc m) (take r s) in
-    let more = ap length (in_run-true ds (omega (arith, length-full_tail (suc m) (take r s)))) in
+    let ds = tail_in (suc m) (take r s) in
+    let more = ap length (code_from_run-true ds (omega (arith, length-tail_in (suc m) (take r s)))) in
     omega arith
 
 -- a bit that is not there is needed
 run_bits-short : (r m : ℕ) → 1 ≤ run_bits (suc r) (suc (suc m)) []
 unfolding run_bits
 run_bits-short r m =
-    let ds = full_run (suc m) [] in
-    let more = ap length (in_run-false ds (omega (arith, length-full_run (suc m) []))) in
+    let ds = run_in (suc m) [] in
+    let more = ap length (code_from_run-false ds (omega (arith, length-run_in (suc m) []))) in
     omega arith
 
 -- ---- the same steps with what is left by any name: how many bits, and what they make

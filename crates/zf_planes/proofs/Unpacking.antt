@@ -4,7 +4,7 @@ use Rattle.std.proofs.lemmas.List.{take_more, get_or-map, get_or-take, get_or-re
 use Rattle.std.proofs.lemmas.Bool.{cases_eq}
 use Rattle.std.specs.List.{All}
 use Rattle.zf_spec.specs.Numbers.{is_odd, word_bits}
-use Rattle.zf_spec.specs.Words.{digits_held, planes_held, IsClearFrom}
+use Rattle.zf_spec.specs.HeldPlanes.{digits_held, planes_held, IsClearFrom}
 use Rattle.zf_spec.proofs.WordBits.{length-word_bits, get_or-word_bits}
 
 -- ---- the digits of one plane

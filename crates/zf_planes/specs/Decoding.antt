@@ -1,13 +1,13 @@
 -- What the decoder makes of the bits that are left, of which only as many count as the budget has.
 use Rattle.std.specs.Prelude.{ℕ, ◌≡◌, ◌+◌, ◌<◌, ◌≤◌, min, Bool, List, length, take}
-use Rattle.zf_spec.specs.Planes.{tail, in_run, plane_code, code, code_from}
-use Rattle.zf_spec.specs.Kept.{kept_tail, kept_run, kept_plane, kept_from}
-use Rattle.zf_spec.specs.Reading.{full_tail, full_run, full_plane, full_from, full}
+use Rattle.zf_spec.specs.Planes.{tail, code_from_run, plane_code, code, code_from}
+use Rattle.zf_spec.specs.Kept.{kept_tail, kept_run, kept_plane, kept_planes_from}
+use Rattle.zf_spec.specs.ReadPlanes.{tail_in, run_in, plane_in, planes_in_from, planes_in}
 use Rattle.zf_bits.specs.Reader.{Reader, rest}
 
 -- the planes whose code begins these bits
 abbrev pub coded : ℕ → ℕ → ℕ → List Bool → List (List Bool)
-coded budget prec size bits = full prec size (take budget bits)
+coded budget prec size bits = planes_in prec size (take budget bits)
 
 -- how many bits of their code the budget has
 abbrev pub coded_bits : ℕ → ℕ → ℕ → List Bool → ℕ
@@ -17,31 +17,31 @@ coded_bits budget prec size bits = min budget (length (code (coded budget prec s
 
 -- m digits behind those that had a one above
 unfoldable pub tail_ahead : ℕ → ℕ → List Bool → List Bool
-tail_ahead r m s = kept_tail r (full_tail m (take r s))
+tail_ahead r m s = kept_tail r (tail_in m (take r s))
 
 unfoldable pub tail_bits : ℕ → ℕ → List Bool → ℕ
-tail_bits r m s = min r (length (tail (full_tail m (take r s))))
+tail_bits r m s = min r (length (tail (tail_in m (take r s))))
 
 -- m digits of which the first one is to come
 unfoldable pub run_ahead : ℕ → ℕ → List Bool → List Bool
-run_ahead r m s = kept_run r (full_run m (take r s))
+run_ahead r m s = kept_run r (run_in m (take r s))
 
 unfoldable pub run_bits : ℕ → ℕ → List Bool → ℕ
-run_bits r m s = min r (length (in_run (full_run m (take r s))))
+run_bits r m s = min r (length (code_from_run (run_in m (take r s))))
 
 -- a plane in which the ranks below n have had a one above
 unfoldable pub plane_ahead : ℕ → ℕ → ℕ → List Bool → List Bool
-plane_ahead r size n s = kept_plane r n (full_plane size n (take r s))
+plane_ahead r size n s = kept_plane r n (plane_in size n (take r s))
 
 unfoldable pub plane_bits : ℕ → ℕ → ℕ → List Bool → ℕ
-plane_bits r size n s = min r (length (plane_code n (full_plane size n (take r s))))
+plane_bits r size n s = min r (length (plane_code n (plane_in size n (take r s))))
 
 -- p planes
 unfoldable pub planes_ahead : ℕ → ℕ → ℕ → ℕ → List Bool → List (List Bool)
-planes_ahead r p size n s = kept_from r n (full_from p size n (take r s))
+planes_ahead r p size n s = kept_planes_from r n (planes_in_from p size n (take r s))
 
 unfoldable pub planes_bits : ℕ → ℕ → ℕ → ℕ → List Bool → ℕ
-planes_bits r p size n s = min r (length (code_from n (full_from p size n (take r s))))
+planes_bits r p size n s = min r (length (code_from n (planes_in_from p size n (take r s))))
 
 -- ---- the reader
 

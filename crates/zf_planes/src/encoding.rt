@@ -3,7 +3,7 @@
 ghost use Rattle.std.specs.Prelude.{◌≡◌, ◌+◌, ◌-◌, ◌*◌, ◌^◌, ◌<◌, ◌≤◌, ◌⊎◌, min, length, take, drop};
 ghost use Rattle.zf_spec.specs.Planes.{plane_code, tail, code};
 ghost use Rattle.zf_bits.specs.Writer.{Appends};
-ghost use Rattle.zf_spec.specs.Words.{planes_held};
+ghost use Rattle.zf_spec.specs.HeldPlanes.{planes_held};
 
 use crate::plane::{MOST_DIGITS, first_one, reach_of, unpack};
 use zf_bits::BitWriter;

@@ -2,7 +2,7 @@
 
 ghost use Rattle.std.specs.Prelude.{◌≡◌, ◌+◌, ◌*◌, ◌≤◌, ◌⊎◌, count_by, length, take, drop};
 ghost use Rattle.zf_spec.specs.Planes.{tail, plane_code, code};
-ghost use Rattle.zf_spec.specs.Words.{planes_held};
+ghost use Rattle.zf_spec.specs.HeldPlanes.{planes_held};
 
 use crate::plane::{MOST_DIGITS, reach_of, unpack};
 

@@ -1,8 +1,8 @@
 //! Planes: their digits, and where their ones are.
 
 ghost use Rattle.std.specs.Prelude.{◌≡◌, ◌+◌, ◌<◌, ◌≤◌, ◌↔◌, ◌⊎◌, IsTrue, true, false, ◌∷◌, ◌++◌, length, take, drop, replicate};
-ghost use Rattle.zf_spec.specs.Planes.{reach, has_one, used};
-ghost use Rattle.zf_spec.specs.Words.{digits_held, planes_held, IsClearFrom};
+ghost use Rattle.zf_spec.specs.Planes.{reach, has_one, needed_planes};
+ghost use Rattle.zf_spec.specs.HeldPlanes.{digits_held, planes_held, IsClearFrom};
 
 /// The most digits of a plane: a block of four dimensions has 256 coefficients.
 pub(crate) const MOST_DIGITS: usize = 256;
@@ -73,7 +73,7 @@ pub(crate) fn first_one(digits: &[bool]) -> usize
 pub fn used_planes(size: usize, planes: &[[u64; 4]]) -> u32
     requires size { (size ≡ 4) ⊎ (size ≡ 16) ⊎ (size ≡ 64) ⊎ (size ≡ 256) }
     requires planes { length planes.now ≤ 64 }
-    ensures { result ≡ used (planes_held size planes.now) }
+    ensures { result ≡ needed_planes (planes_held size planes.now) }
 {
     let mut digits = [false; MOST_DIGITS];
     count_used(planes, &mut digits[..size])
@@ -83,7 +83,7 @@ pub fn used_planes(size: usize, planes: &[[u64; 4]]) -> u32
 fn count_used(planes: &[[u64; 4]], digits: &mut [bool]) -> u32
     requires size { length digits.old ≤ 256 }
     requires planes { length planes.now ≤ 64 }
-    ensures { result ≡ used (planes_held (length digits.old) planes.now) }
+    ensures { result ≡ needed_planes (planes_held (length digits.old) planes.now) }
 {
     for (k, plane) in planes.iter().enumerate() {
         unpack(plane, digits);

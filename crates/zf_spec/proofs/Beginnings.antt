@@ -1,24 +1,24 @@
 -- Lists of bits that begin a list continued with zeros.
 use Rattle.std.proofs.Common.{◌≡◌, refl, sym, ap, subst, ◌∙◌, ℕ, zero, suc, ◌-◌, ◌≤◌, Bool, false, List, [], ◌∷◌, ◌++◌, length, take, drop, arith}
-use Rattle.zf_spec.specs.Reading.{Begins, first}
+use Rattle.zf_spec.specs.ReadPlanes.{Begins, first_bits}
 
-pub length-first : (n : ℕ) (s : List Bool) → length (first n s) ≡ n
-length-first zero s = refl
-length-first (suc n) [] = ap suc (length-first n [])
-length-first (suc n) (b ∷ s) = ap suc (length-first n s)
+pub length-first_bits : (n : ℕ) (s : List Bool) → length (first_bits n s) ≡ n
+length-first_bits zero s = refl
+length-first_bits (suc n) [] = ap suc (length-first_bits n [])
+length-first_bits (suc n) (b ∷ s) = ap suc (length-first_bits n s)
 
-pub first_begins : (n : ℕ) (s : List Bool) → Begins (first n s) s
+pub first_begins : (n : ℕ) (s : List Bool) → Begins (first_bits n s) s
 first_begins zero s = tt
 first_begins (suc n) [] = (refl, first_begins n [])
 first_begins (suc n) (b ∷ s) = (refl, first_begins n s)
 
 -- bits that begin s are its first bits
-pub begins_is_first : (bits s : List Bool) → Begins bits s → bits ≡ first (length bits) s
+pub begins_is_first : (bits s : List Bool) → Begins bits s → bits ≡ first_bits (length bits) s
 begins_is_first [] s h = refl
 begins_is_first (b ∷ bits) [] h = ap (λ c. c ∷ bits) h.0 ∙ ap (λ cs. false ∷ cs) (begins_is_first bits [] h.1)
 begins_is_first (b ∷ bits) (c ∷ s) h = ap (λ a. a ∷ bits) h.0 ∙ ap (λ cs. c ∷ cs) (begins_is_first bits s h.1)
 
-pub begins_from_first : (bits s : List Bool) → bits ≡ first (length bits) s → Begins bits s
+pub begins_from_first : (bits s : List Bool) → bits ≡ first_bits (length bits) s → Begins bits s
 begins_from_first bits s e = subst (λ cs. Begins cs s) (sym e) (first_begins (length bits) s)
 
 -- what begins in two parts
@@ -51,32 +51,32 @@ begins_itself [] b = tt
 begins_itself (x ∷ a) b = (refl, begins_itself a b)
 
 -- the first n bits are the first n of any more
-pub first-first : (m n : ℕ) (s : List Bool) → m ≤ n → first m (first n s) ≡ first m s
-first-first zero n s h = refl
-first-first (suc m) zero s h = absurd (omega arith)
-first-first (suc m) (suc n) [] h = ap (λ bs. false ∷ bs) (first-first m n [] (omega arith))
-first-first (suc m) (suc n) (b ∷ s) h = ap (λ bs. b ∷ bs) (first-first m n s (omega arith))
+pub first_bits-first_bits : (m n : ℕ) (s : List Bool) → m ≤ n → first_bits m (first_bits n s) ≡ first_bits m s
+first_bits-first_bits zero n s h = refl
+first_bits-first_bits (suc m) zero s h = absurd (omega arith)
+first_bits-first_bits (suc m) (suc n) [] h = ap (λ bs. false ∷ bs) (first_bits-first_bits m n [] (omega arith))
+first_bits-first_bits (suc m) (suc n) (b ∷ s) h = ap (λ bs. b ∷ bs) (first_bits-first_bits m n s (omega arith))
 
-pub first-append : (a b : List Bool) (n : ℕ) → n ≤ length a → first n (a ++ b) ≡ take n a
-first-append a b zero h = refl
-first-append [] b (suc n) h = absurd (omega arith)
-first-append (x ∷ a) b (suc n) h = ap (λ bs. x ∷ bs) (first-append a b n (omega arith))
+pub first_bits-append : (a b : List Bool) (n : ℕ) → n ≤ length a → first_bits n (a ++ b) ≡ take n a
+first_bits-append a b zero h = refl
+first_bits-append [] b (suc n) h = absurd (omega arith)
+first_bits-append (x ∷ a) b (suc n) h = ap (λ bs. x ∷ bs) (first_bits-append a b n (omega arith))
 
 -- lists that agree in their first n bits agree past a front of both
-pub first-rest : (a b c : List Bool) (n : ℕ) → length a ≤ n → first n (a ++ b) ≡ first n (a ++ c) → first (n - length a) b ≡ first (n - length a) c
-first-rest [] b c n h e = let z : n - 0 ≡ n = omega arith in rw z e
-first-rest (x ∷ a) b c zero h e = absurd (omega arith)
-first-rest (x ∷ a) b c (suc n) h e =
+pub first_bits-rest : (a b c : List Bool) (n : ℕ) → length a ≤ n → first_bits n (a ++ b) ≡ first_bits n (a ++ c) → first_bits (n - length a) b ≡ first_bits (n - length a) c
+first_bits-rest [] b c n h e = let z : n - 0 ≡ n = omega arith in rw z e
+first_bits-rest (x ∷ a) b c zero h e = absurd (omega arith)
+first_bits-rest (x ∷ a) b c (suc n) h e =
     let z : suc n - suc (length a) ≡ n - length a = omega arith in
-    let rest : first n (a ++ b) ≡ first n (a ++ c) = cc in
-    rw z (first-rest a b c n (omega arith) rest)
+    let rest : first_bits n (a ++ b) ≡ first_bits n (a ++ c) = cc in
+    rw z (first_bits-rest a b c n (omega arith) rest)
 
 -- past the first n bits a list does not count
-pub first-front : (a b : List Bool) (n : ℕ) → n ≤ length a → first n (a ++ b) ≡ first n a
-first-front a b zero h = refl
-first-front [] b (suc n) h = absurd (omega arith)
-first-front (x ∷ a) b (suc n) h = ap (λ bs. x ∷ bs) (first-front a b n (omega arith))
+pub first_bits-front : (a b : List Bool) (n : ℕ) → n ≤ length a → first_bits n (a ++ b) ≡ first_bits n a
+first_bits-front a b zero h = refl
+first_bits-front [] b (suc n) h = absurd (omega arith)
+first_bits-front (x ∷ a) b (suc n) h = ap (λ bs. x ∷ bs) (first_bits-front a b n (omega arith))
 
-pub first-all : (a b : List Bool) → first (length a) (a ++ b) ≡ a
-first-all [] b = refl
-first-all (x ∷ a) b = ap (λ bs. x ∷ bs) (first-all a b)
+pub first_bits-all : (a b : List Bool) → first_bits (length a) (a ++ b) ≡ a
+first_bits-all [] b = refl
+first_bits-all (x ∷ a) b = ap (λ bs. x ∷ bs) (first_bits-all a b)

@@ -8,19 +8,19 @@ use mir.Val.{bits}
 use Rattle.zf_spec.specs.Numbers.{field, number}
 use Rattle.zf_spec.specs.Padding.{pad}
 use Rattle.zf_spec.specs.Lorenzo.{lorenzo, unlorenzo}
-use Rattle.zf_spec.specs.Planes.{used, code}
-use Rattle.zf_spec.specs.Reading.{first, full}
-use Rattle.zf_spec.specs.Kept.{kept}
+use Rattle.zf_spec.specs.Planes.{needed_planes, code}
+use Rattle.zf_spec.specs.ReadPlanes.{first_bits, planes_in}
+use Rattle.zf_spec.specs.Kept.{kept_planes}
 use Rattle.zf_spec.specs.Lift.{lift, unlift}
-use Rattle.zf_spec.specs.Codes.{planes, coefficients_of, count_bits, rev_of_planes, rev, existing, read_rev, rate, round, read_rate}
+use Rattle.zf_spec.specs.Codes.{planes, coefficients_of, count_bits, rev_of_planes, rev, existing_values, read_rev, rate, round, read_rate}
 use Rattle.zf_spec.proofs.Fields.{length-field, number-field}
-use Rattle.zf_spec.proofs.Beginnings.{begins_itself, length-first}
-use Rattle.zf_spec.proofs.Reach.{used-le}
+use Rattle.zf_spec.proofs.Beginnings.{begins_itself, length-first_bits}
+use Rattle.zf_spec.proofs.Reach.{needed_planes-le}
 use Rattle.zf_spec.proofs.PlaneCode.{length-code-le}
 use Rattle.zf_spec.proofs.Full.{full_only}
-use Rattle.zf_spec.proofs.KeptSame.{kept-full}
-use Rattle.zf_spec.proofs.PlaneDigits.{length-planes, planes-length, coefficients_of-used}
-use Rattle.zf_spec.proofs.Padding.{IsExtent, length-pad, existing-pad, pad_fits}
+use Rattle.zf_spec.proofs.KeptSame.{kept_planes-planes_in}
+use Rattle.zf_spec.proofs.PlaneDigits.{length-planes, planes-length, coefficients_of-needed_planes}
+use Rattle.zf_spec.proofs.Padding.{IsExtent, length-pad, existing_values-pad, pad_fits}
 use Rattle.zf_spec.proofs.LorenzoInverse.{length-lorenzo, lorenzo_fits, unlorenzo-lorenzo}
 
 -- the count of planes of a type of at most 64 bits has room in its field
@@ -41,7 +41,7 @@ bits_some w128 = omega arith
 -- reading the count of planes and their code, whatever comes after
 read_rev-planes : (w : Width) (es : List ℕ) (qs : List (List Bool)) (more : List Bool) → 1 ≤ length qs → length qs ≤ 2 ^ count_bits w → All (λ ds. length ds ≡ 4 ^ length es) qs
     → read_rev w es (field (count_bits w) (length qs - 1) ++ code qs ++ more)
-    ≡ Some (existing es (unlorenzo w (length es) (coefficients_of w (length es) qs)), count_bits w + length (code qs))
+    ≡ Some (existing_values es (unlorenzo w (length es) (coefficients_of w (length es) qs)), count_bits w + length (code qs))
 unfolding read_rev
 read_rev-planes w es qs more some few all = ap answer same ∙ ap (λ t. cond t None (Some (read qs, n + length (code qs)))) enough
   where
@@ -55,7 +55,7 @@ read_rev-planes w es qs more some few all = ap answer same ∙ ap (λ t. cond t 
     s = front ++ code qs ++ more
 
     read : List (List Bool) → List ℤ
-    read ps = existing es (unlorenzo w (length es) (coefficients_of w (length es) ps))
+    read ps = existing_values es (unlorenzo w (length es) (coefficients_of w (length es) ps))
 
     answer : List (List Bool) → Option (List ℤ × ℕ)
     answer ps = cond (ltb (length s) (n + length (code ps))) None (Some (read ps, n + length (code ps)))
@@ -65,18 +65,18 @@ read_rev-planes w es qs more some few all = ap answer same ∙ ap (λ t. cond t 
 
     count : number (take n s) + 1 ≡ length qs
     count =
-        let first : take n s ≡ front = ap (take n) together ∙ take_at front (code qs ++ more) n (length-field n (length qs - 1)) in
+        let front_is : take n s ≡ front = ap (take n) together ∙ take_at front (code qs ++ more) n (length-field n (length qs - 1)) in
         let small : length qs - 1 < 2 ^ n = omega arith in
         let value : number front ≡ length qs - 1 = number-field n (length qs - 1) ∙ mod-eq_of_lt small in
-        omega (arith, ap number first, value)
+        omega (arith, ap number front_is, value)
 
     rest : drop n s ≡ code qs ++ more
     rest = ap (drop n) together ∙ drop_at front (code qs ++ more) n (length-field n (length qs - 1))
 
-    same : full (number (take n s) + 1) (4 ^ length es) (drop n s) ≡ qs
+    same : planes_in (number (take n s) + 1) (4 ^ length es) (drop n s) ≡ qs
     same =
-        ap (λ p. full p (4 ^ length es) (drop n s)) count
-        ∙ ap (full (length qs) (4 ^ length es)) rest
+        ap (λ p. planes_in p (4 ^ length es) (drop n s)) count
+        ∙ ap (planes_in (length qs) (4 ^ length es)) rest
         ∙ sym (full_only (4 ^ length es) qs (code qs ++ more) all (begins_itself (code qs) more))
 
     enough : ltb (length s) (n + length (code qs)) ≡ false
@@ -84,14 +84,14 @@ read_rev-planes w es qs more some few all = ap answer same ∙ ap (λ t. cond t 
 
 -- the existing values of a block come back from its code, whatever comes after, with the length of the code
 pub read_rev-rev : (w : Width) (es : List ℕ) (block : List ℤ) (more : List Bool) → bits w ≤ 64 → All IsExtent es → All (λ v. FitsSigned w v) block
-    → read_rev w es (rev w es block ++ more) ≡ Some (existing es block, length (rev w es block))
+    → read_rev w es (rev w es block ++ more) ≡ Some (existing_values es block, length (rev w es block))
 unfolding rev rev_of_planes
 read_rev-rev w es block more narrow ok fits =
     ap (λ p. read_rev w es (field n (p - 1) ++ code qs ++ more)) (sym count)
     ∙ read_rev-planes w es qs more (omega (arith, count)) (omega (arith, count, few, count_bits_hold w narrow)) (All-take (λ ds. length ds ≡ 4 ^ length es) p ps (planes-length w d c))
-    ∙ ap (λ b. Some (existing es b, n + length (code qs))) block_back
-    ∙ ap (λ b. Some (b, n + length (code qs))) (existing-pad es block ok)
-    ∙ ap (λ l. Some (existing es block, l)) (sym (length-append (field n (p - 1)) (code qs) ∙ ap (λ k. k + length (code qs)) (length-field n (p - 1))))
+    ∙ ap (λ b. Some (existing_values es b, n + length (code qs))) block_back
+    ∙ ap (λ b. Some (b, n + length (code qs))) (existing_values-pad es block ok)
+    ∙ ap (λ l. Some (existing_values es block, l)) (sym (length-append (field n (p - 1)) (code qs) ∙ ap (λ k. k + length (code qs)) (length-field n (p - 1))))
   where
     d : ℕ
     d = length es
@@ -106,29 +106,29 @@ read_rev-rev w es block more narrow ok fits =
     ps = planes w (length es) (lorenzo w (length es) (pad es block))
 
     p : ℕ
-    p = max 1 (used (planes w (length es) (lorenzo w (length es) (pad es block))))
+    p = max 1 (needed_planes (planes w (length es) (lorenzo w (length es) (pad es block))))
 
     qs : List (List Bool)
     qs = take p ps
 
     few : p ≤ bits w
-    few = omega (arith, used-le ps, length-planes w d c, bits_some w)
+    few = omega (arith, needed_planes-le ps, length-planes w d c, bits_some w)
 
     count : length qs ≡ p
     count = omega (arith, length-take p ps, length-planes w d c, few)
 
     block_back : unlorenzo w d (coefficients_of w d qs) ≡ pad es block
     block_back =
-        ap (unlorenzo w d) (coefficients_of-used w d c (length-lorenzo w d (pad es block)) (lorenzo_fits w d (pad es block)))
+        ap (unlorenzo w d) (coefficients_of-needed_planes w d c (length-lorenzo w d (pad es block)) (lorenzo_fits w d (pad es block)))
         ∙ unlorenzo-lorenzo w d (pad es block) (length-pad es block) (pad_fits w es block fits)
 
 -- reading a rate code gives what the rate makes of the block
 pub read_rate-rate : (w : Width) (budget : ℕ) (es : List ℕ) (block : List ℤ) → read_rate w es (rate w budget es block) ≡ round w budget es block
 unfolding rate round read_rate
 read_rate-rate w budget es block =
-    ap (λ r. back (kept r (full (bits w) size s))) (length-first budget (code ps))
-    ∙ ap (λ p. back (kept budget (full p size s))) (sym (length-planes w d c))
-    ∙ ap back (kept-full size budget ps (one-le-pow d 4 (omega arith)) (planes-length w d c))
+    ap (λ r. back (kept_planes r (planes_in (bits w) size s))) (length-first_bits budget (code ps))
+    ∙ ap (λ p. back (kept_planes budget (planes_in p size s))) (sym (length-planes w d c))
+    ∙ ap back (kept_planes-planes_in size budget ps (one-le-pow d 4 (omega arith)) (planes-length w d c))
   where
     d : ℕ
     d = length es
@@ -143,22 +143,22 @@ read_rate-rate w budget es block =
     ps = planes w (length es) (lift w (length es) (pad es block))
 
     s : List Bool
-    s = first budget (code (planes w (length es) (lift w (length es) (pad es block))))
+    s = first_bits budget (code (planes w (length es) (lift w (length es) (pad es block))))
 
     back : List (List Bool) → List ℤ
-    back ks = existing es (unlift w (length es) (coefficients_of w (length es) ks))
+    back ks = existing_values es (unlift w (length es) (coefficients_of w (length es) ks))
 
 -- ---- how long the codes of a block are
 
 pub length-rate : (w : Width) (budget : ℕ) (es : List ℕ) (block : List ℤ) → length (rate w budget es block) ≡ budget
 unfolding rate
-length-rate w budget es block = length-first budget (code (planes w (length es) (lift w (length es) (pad es block))))
+length-rate w budget es block = length-first_bits budget (code (planes w (length es) (lift w (length es) (pad es block))))
 
 pub length-rev-le : (w : Width) (es : List ℕ) (block : List ℤ) → length (rev w es block) ≤ count_bits w + 4 ^ length es * (bits w + 1)
 unfolding rev rev_of_planes
 length-rev-le w es block =
     let ps = planes w (length es) (lorenzo w (length es) (pad es block)) in
-    let p = max 1 (used ps) in
+    let p = max 1 (needed_planes ps) in
     let qs = take p ps in
     let few : length qs ≤ bits w = omega (arith, length-take p ps, length-planes w (length es) (lorenzo w (length es) (pad es block))) in
     let bound = length-code-le (4 ^ length es) qs (All-take (λ ds. length ds ≡ 4 ^ length es) p ps (planes-length w (length es) (lorenzo w (length es) (pad es block)))) in

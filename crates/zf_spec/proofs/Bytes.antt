@@ -6,7 +6,7 @@ use Rattle.std.proofs.lemmas.List.Elements.{All-head, All-tail, All-nil, All-con
 use Rattle.std.specs.Int.{Width, w8, w16, w32, w64, w128, byte_len, byte_at, byte_worth, bytes_low_first, sum_through, to_le_bytes, from_le_bytes}
 use mir.Val.{bits}
 use Rattle.zf_spec.specs.Numbers.{field, number}
-use Rattle.zf_spec.specs.Stream.{filled, bytes_from, to_bytes, to_bits, first_bytes}
+use Rattle.zf_spec.specs.Stream.{with_fill, bytes_from, to_bytes, to_bits, first_bytes}
 use Rattle.zf_spec.proofs.Fields.{length-field, number-field, field-number}
 
 -- ---- bytes of bits
@@ -54,14 +54,14 @@ to_bytes-to_bits bytes all =
 
 -- ---- the fill
 
-pub length-filled : (bs : List Bool) → length (filled bs) % 64 ≡ 0
-length-filled bs = omega (arith, length-append bs (replicate ((64 - length bs % 64) % 64) false), length-replicate ((64 - length bs % 64) % 64) false)
+pub length-with_fill : (bs : List Bool) → length (with_fill bs) % 64 ≡ 0
+length-with_fill bs = omega (arith, length-append bs (replicate ((64 - length bs % 64) % 64) false), length-replicate ((64 - length bs % 64) % 64) false)
 
-pub filled_zeros : (bs : List Bool) → (n : ℕ) × (n < 64) × (filled bs ≡ bs ++ replicate n false)
+pub filled_zeros : (bs : List Bool) → (n : ℕ) × (n < 64) × (with_fill bs ≡ bs ++ replicate n false)
 filled_zeros bs = ((64 - length bs % 64) % 64, omega arith, refl)
 
 -- the fill is the only one of less than 64 zeros that ends a word
-pub filled_only : (bs : List Bool) (n : ℕ) → n < 64 → (length bs + n) % 64 ≡ 0 → filled bs ≡ bs ++ replicate n false
+pub filled_only : (bs : List Bool) (n : ℕ) → n < 64 → (length bs + n) % 64 ≡ 0 → with_fill bs ≡ bs ++ replicate n false
 filled_only bs n h e =
     let same : (64 - length bs % 64) % 64 ≡ n = omega arith in
     ap (λ k. bs ++ replicate k false) same

@@ -6,7 +6,7 @@ use Rattle.std.proofs.lemmas.List.Elements.{All-head, All-tail, All-get_or, All-
 use Rattle.std.specs.Int.{Width}
 use Rattle.zf_spec.specs.Grid.{indices, is_inside}
 use Rattle.zf_spec.specs.Padding.{sources, source_place, pad}
-use Rattle.zf_spec.specs.Codes.{existing}
+use Rattle.zf_spec.specs.Codes.{existing_values}
 use Rattle.zf_spec.proofs.Wrapping.{zero_fits}
 use Rattle.zf_spec.proofs.Counting.{length-map-upto, get_or-map-upto, map-upto_same}
 
@@ -96,20 +96,20 @@ pub get_or-pad : (es : List ℕ) (block : List ℤ) (p : ℕ) → p < 4 ^ length
 unfolding pad
 get_or-pad es block p h = get_or-map-upto (λ p. get_or block (source_place es p) (pos 0)) (4 ^ length es) p (pos 0) h
 
-pub length-existing : (es : List ℕ) (block : List ℤ) → length (existing es block) ≡ 4 ^ length es
-unfolding existing
-length-existing es block = length-map-upto (λ p. cond (is_inside es (indices (length es) p)) (get_or block p (pos 0)) (pos 0)) (4 ^ length es)
+pub length-existing_values : (es : List ℕ) (block : List ℤ) → length (existing_values es block) ≡ 4 ^ length es
+unfolding existing_values
+length-existing_values es block = length-map-upto (λ p. cond (is_inside es (indices (length es) p)) (get_or block p (pos 0)) (pos 0)) (4 ^ length es)
 
-pub get_or-existing : (es : List ℕ) (block : List ℤ) (p : ℕ) → p < 4 ^ length es → get_or (existing es block) p (pos 0) ≡ cond (is_inside es (indices (length es) p)) (get_or block p (pos 0)) (pos 0)
-unfolding existing
-get_or-existing es block p h = get_or-map-upto (λ p. cond (is_inside es (indices (length es) p)) (get_or block p (pos 0)) (pos 0)) (4 ^ length es) p (pos 0) h
+pub get_or-existing_values : (es : List ℕ) (block : List ℤ) (p : ℕ) → p < 4 ^ length es → get_or (existing_values es block) p (pos 0) ≡ cond (is_inside es (indices (length es) p)) (get_or block p (pos 0)) (pos 0)
+unfolding existing_values
+get_or-existing_values es block p h = get_or-map-upto (λ p. cond (is_inside es (indices (length es) p)) (get_or block p (pos 0)) (pos 0)) (4 ^ length es) p (pos 0) h
 
-pub get_or-existing_inside : (es : List ℕ) (block : List ℤ) (p : ℕ) → p < 4 ^ length es → is_inside es (indices (length es) p) ≡ true → get_or (existing es block) p (pos 0) ≡ get_or block p (pos 0)
-get_or-existing_inside es block p h i = get_or-existing es block p h ∙ ap (λ t. cond t (get_or block p (pos 0)) (pos 0)) i
+pub get_or-existing_inside : (es : List ℕ) (block : List ℤ) (p : ℕ) → p < 4 ^ length es → is_inside es (indices (length es) p) ≡ true → get_or (existing_values es block) p (pos 0) ≡ get_or block p (pos 0)
+get_or-existing_inside es block p h i = get_or-existing_values es block p h ∙ ap (λ t. cond t (get_or block p (pos 0)) (pos 0)) i
 
 -- blocks that agree at the places that exist have the same existing values
-pub existing_same : (es : List ℕ) (a b : List ℤ) → ((p : ℕ) → p < 4 ^ length es → is_inside es (indices (length es) p) ≡ true → get_or a p (pos 0) ≡ get_or b p (pos 0)) → existing es a ≡ existing es b
-unfolding existing
+pub existing_same : (es : List ℕ) (a b : List ℤ) → ((p : ℕ) → p < 4 ^ length es → is_inside es (indices (length es) p) ≡ true → get_or a p (pos 0) ≡ get_or b p (pos 0)) → existing_values es a ≡ existing_values es b
+unfolding existing_values
 existing_same es a b same = map-upto_same
     (λ p. cond (is_inside es (indices (length es) p)) (get_or a p (pos 0)) (pos 0)) (λ p. cond (is_inside es (indices (length es) p)) (get_or b p (pos 0)) (pos 0)) (4 ^ length es)
     (λ p h. by p (is_inside es (indices (length es) p)) (same p h))
@@ -119,21 +119,21 @@ existing_same es a b same = map-upto_same
     by p false f = refl
 
 -- the values that exist are those of the block
-pub existing-pad : (es : List ℕ) (block : List ℤ) → All IsExtent es → existing es (pad es block) ≡ existing es block
-existing-pad es block ok = existing_same es (pad es block) block (λ p h i. get_or-pad es block p h ∙ ap (λ q. get_or block q (pos 0)) (source_place_existing es p ok h i))
+pub existing_values-pad : (es : List ℕ) (block : List ℤ) → All IsExtent es → existing_values es (pad es block) ≡ existing_values es block
+existing_values-pad es block ok = existing_same es (pad es block) block (λ p h i. get_or-pad es block p h ∙ ap (λ q. get_or block q (pos 0)) (source_place_existing es p ok h i))
 
-pub existing-existing : (es : List ℕ) (block : List ℤ) → existing es (existing es block) ≡ existing es block
-existing-existing es block = existing_same es (existing es block) block (λ p h i. get_or-existing_inside es block p h i)
+pub existing_values-existing_values : (es : List ℕ) (block : List ℤ) → existing_values es (existing_values es block) ≡ existing_values es block
+existing_values-existing_values es block = existing_same es (existing_values es block) block (λ p h i. get_or-existing_inside es block p h i)
 
 -- the padded block looks at existing values only
-pub pad-existing : (es : List ℕ) (block : List ℤ) → All IsExtent es → pad es (existing es block) ≡ pad es block
+pub pad-existing_values : (es : List ℕ) (block : List ℤ) → All IsExtent es → pad es (existing_values es block) ≡ pad es block
 unfolding pad
-pad-existing es block ok = map-upto_same
-    (λ p. get_or (existing es block) (source_place es p) (pos 0)) (λ p. get_or block (source_place es p) (pos 0)) (4 ^ length es)
+pad-existing_values es block ok = map-upto_same
+    (λ p. get_or (existing_values es block) (source_place es p) (pos 0)) (λ p. get_or block (source_place es p) (pos 0)) (4 ^ length es)
     (λ p h. get_or-existing_inside es block (source_place es p) (source_place_below es p ok) (source_place_inside es p ok))
 
-pub pad_same : (es : List ℕ) (a b : List ℤ) → All IsExtent es → existing es a ≡ existing es b → pad es a ≡ pad es b
-pad_same es a b ok e = sym (pad-existing es a ok) ∙ ap (pad es) e ∙ pad-existing es b ok
+pub pad_same : (es : List ℕ) (a b : List ℤ) → All IsExtent es → existing_values es a ≡ existing_values es b → pad es a ≡ pad es b
+pad_same es a b ok e = sym (pad-existing_values es a ok) ∙ ap (pad es) e ∙ pad-existing_values es b ok
 
 -- ---- what holds of each value of the block, and of 0
 
@@ -148,12 +148,12 @@ All-pad P es block z all =
     All-from_get_or P (pad es block) (pos 0)
     (λ p s. let h : p < 4 ^ length es = omega (arith, s, length-pad es block) in subst P (sym (get_or-pad es block p h)) (get_or_all P block (source_place es p) z all))
 
-pub All-existing : (P : ℤ → Type 0) (es : List ℕ) (block : List ℤ) → P (pos 0) → All P block → All P (existing es block)
-All-existing P es block z all =
-    All-from_get_or P (existing es block) (pos 0)
+pub All-existing_values : (P : ℤ → Type 0) (es : List ℕ) (block : List ℤ) → P (pos 0) → All P block → All P (existing_values es block)
+All-existing_values P es block z all =
+    All-from_get_or P (existing_values es block) (pos 0)
     (λ p s.
-    let h : p < 4 ^ length es = omega (arith, s, length-existing es block) in
-    subst P (sym (get_or-existing es block p h)) (by p (is_inside es (indices (length es) p))))
+    let h : p < 4 ^ length es = omega (arith, s, length-existing_values es block) in
+    subst P (sym (get_or-existing_values es block p h)) (by p (is_inside es (indices (length es) p))))
   where
     by : (p : ℕ) (t : Bool) → P (cond t (get_or block p (pos 0)) (pos 0))
     by p true = get_or_all P block p z all
@@ -163,5 +163,5 @@ All-existing P es block z all =
 pub pad_fits : (w : Width) (es : List ℕ) (block : List ℤ) → All (λ v. FitsSigned w v) block → All (λ v. FitsSigned w v) (pad es block)
 pad_fits w es block all = All-pad (λ v. FitsSigned w v) es block (zero_fits w) all
 
-pub existing_fits : (w : Width) (es : List ℕ) (block : List ℤ) → All (λ v. FitsSigned w v) block → All (λ v. FitsSigned w v) (existing es block)
-existing_fits w es block all = All-existing (λ v. FitsSigned w v) es block (zero_fits w) all
+pub existing_fits : (w : Width) (es : List ℕ) (block : List ℤ) → All (λ v. FitsSigned w v) block → All (λ v. FitsSigned w v) (existing_values es block)
+existing_fits w es block all = All-existing_values (λ v. FitsSigned w v) es block (zero_fits w) all

@@ -3,39 +3,39 @@ use Rattle.std.proofs.Common.{◌≡◌, refl, sym, ap, ◌∙◌, ℕ, zero, su
 use Rattle.std.proofs.lemmas.Bool.{true≢false}
 use Rattle.std.proofs.lemmas.List.{length-append, length-take, length-drop}
 use Rattle.std.proofs.lemmas.List.Elements.{All-head, All-tail}
-use Rattle.zf_spec.specs.Planes.{has_one, reach, group, in_run, tail, plane_code, code_from, code}
+use Rattle.zf_spec.specs.Planes.{has_one, reach, group, code_from_run, tail, plane_code, code_from, code}
 use Rattle.zf_spec.proofs.Reach.{has_one-zeros, has_one-append_one, reach_none, reach_some, reach-le}
 
 -- ---- the cases of the tail
 
-pub tail_is_group : (d : Bool) (ds : List Bool) → tail (d ∷ ds) ≡ group (d ∷ ds) (in_run (d ∷ ds))
+pub tail_is_group : (d : Bool) (ds : List Bool) → tail (d ∷ ds) ≡ group (d ∷ ds) (code_from_run (d ∷ ds))
 tail_is_group d ds = refl
 
 pub tail-zeros : (n : ℕ) → tail (replicate (suc n) false) ≡ false ∷ []
-tail-zeros n = ap (λ t. cond t (true ∷ in_run (replicate (suc n) false)) (false ∷ [])) (has_one-zeros (suc n))
+tail-zeros n = ap (λ t. cond t (true ∷ code_from_run (replicate (suc n) false)) (false ∷ [])) (has_one-zeros (suc n))
 
-in_run-first : (j : ℕ) (e : Bool) (rest : List Bool) → in_run (replicate j false ++ true ∷ e ∷ rest) ≡ replicate j false ++ true ∷ tail (e ∷ rest)
-in_run-first zero e rest = refl
-in_run-first (suc zero) e rest = refl
-in_run-first (suc (suc j)) e rest = ap (λ ds. false ∷ ds) (in_run-first (suc j) e rest)
+code_from_run-first : (j : ℕ) (e : Bool) (rest : List Bool) → code_from_run (replicate j false ++ true ∷ e ∷ rest) ≡ replicate j false ++ true ∷ tail (e ∷ rest)
+code_from_run-first zero e rest = refl
+code_from_run-first (suc zero) e rest = refl
+code_from_run-first (suc (suc j)) e rest = ap (λ ds. false ∷ ds) (code_from_run-first (suc j) e rest)
 
-in_run-last : (j : ℕ) → in_run (replicate j false ++ true ∷ []) ≡ replicate j false
-in_run-last zero = refl
-in_run-last (suc zero) = refl
-in_run-last (suc (suc j)) = ap (λ ds. false ∷ ds) (in_run-last (suc j))
+code_from_run-last : (j : ℕ) → code_from_run (replicate j false ++ true ∷ []) ≡ replicate j false
+code_from_run-last zero = refl
+code_from_run-last (suc zero) = refl
+code_from_run-last (suc (suc j)) = ap (λ ds. false ∷ ds) (code_from_run-last (suc j))
 
 -- digits that begin with zeros and then a one have a group bit and a run
-tail_some : (j : ℕ) (rest : List Bool) → tail (replicate j false ++ true ∷ rest) ≡ true ∷ in_run (replicate j false ++ true ∷ rest)
+tail_some : (j : ℕ) (rest : List Bool) → tail (replicate j false ++ true ∷ rest) ≡ true ∷ code_from_run (replicate j false ++ true ∷ rest)
 tail_some zero rest = refl
-tail_some (suc j) rest = ap (λ t. cond t (true ∷ in_run (replicate (suc j) false ++ true ∷ rest)) (false ∷ [])) (has_one-append_one (replicate j false) rest)
+tail_some (suc j) rest = ap (λ t. cond t (true ∷ code_from_run (replicate (suc j) false ++ true ∷ rest)) (false ∷ [])) (has_one-append_one (replicate j false) rest)
 
 -- the first one after j zeros, where something follows
 pub tail-first : (j : ℕ) (e : Bool) (rest : List Bool) → tail (replicate j false ++ true ∷ e ∷ rest) ≡ true ∷ (replicate j false ++ true ∷ tail (e ∷ rest))
-tail-first j e rest = tail_some j (e ∷ rest) ∙ ap (λ ds. true ∷ ds) (in_run-first j e rest)
+tail-first j e rest = tail_some j (e ∷ rest) ∙ ap (λ ds. true ∷ ds) (code_from_run-first j e rest)
 
 -- the first one after j zeros at the last rank: it is implied
 pub tail-last : (j : ℕ) → tail (replicate j false ++ true ∷ []) ≡ true ∷ replicate j false
-tail-last j = tail_some j [] ∙ ap (λ ds. true ∷ ds) (in_run-last j)
+tail-last j = tail_some j [] ∙ ap (λ ds. true ∷ ds) (code_from_run-last j)
 
 -- ---- how long codes are at most
 
@@ -46,11 +46,11 @@ group_bound ds run h f = by (has_one ds) refl
     by true e = let bound = f e in omega arith
     by false e = omega arith
 
-in_run_bound : (ds : List Bool) → has_one ds ≡ true → 1 + length (in_run ds) ≤ length ds + reach ds
+in_run_bound : (ds : List Bool) → has_one ds ≡ true → 1 + length (code_from_run ds) ≤ length ds + reach ds
 in_run_bound [] h = absurd (true≢false (sym h))
 in_run_bound (d ∷ []) h = omega (arith, reach_some d [] h)
 in_run_bound (true ∷ e ∷ ds) h =
-    let rest = group_bound (e ∷ ds) (in_run (e ∷ ds)) (omega arith) (in_run_bound (e ∷ ds)) in
+    let rest = group_bound (e ∷ ds) (code_from_run (e ∷ ds)) (omega arith) (in_run_bound (e ∷ ds)) in
     omega (arith, reach_some true (e ∷ ds) h)
 in_run_bound (false ∷ e ∷ ds) h =
     let rest = in_run_bound (e ∷ ds) h in
@@ -58,7 +58,7 @@ in_run_bound (false ∷ e ∷ ds) h =
 
 pub length-tail-le : (ds : List Bool) → length (tail ds) ≤ length ds + reach ds
 length-tail-le [] = omega arith
-length-tail-le (d ∷ ds) = group_bound (d ∷ ds) (in_run (d ∷ ds)) (omega arith) (in_run_bound (d ∷ ds))
+length-tail-le (d ∷ ds) = group_bound (d ∷ ds) (code_from_run (d ∷ ds)) (omega arith) (in_run_bound (d ∷ ds))
 
 -- past the first digit the reach is one less
 reach-rest : (d : Bool) (ds : List Bool) → reach ds ≤ reach (d ∷ ds) - 1

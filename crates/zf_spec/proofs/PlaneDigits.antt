@@ -7,12 +7,12 @@ use Rattle.std.specs.Int.{Width}
 use mir.Val.{bits}
 use Rattle.zf_spec.specs.Numbers.{digits, value_of}
 use Rattle.zf_spec.specs.Grid.{upto}
-use Rattle.zf_spec.specs.Ranks.{order, ranked, unranked}
-use Rattle.zf_spec.specs.Planes.{plane, planes_of, used}
+use Rattle.zf_spec.specs.Ranks.{order, by_rank, by_place}
+use Rattle.zf_spec.specs.Planes.{plane, planes_of, needed_planes}
 use Rattle.zf_spec.specs.Codes.{planes, coefficients_of}
 use Rattle.zf_spec.proofs.Counting.{length-upto, get_or-upto, length-map-upto, get_or-map-upto, from_places, map-upto_same}
 use Rattle.zf_spec.proofs.Negabinary.{length-digits, value_of-digits, digits-value_of, value_of_fits}
-use Rattle.zf_spec.proofs.Ranking.{order_below, length-ranked, length-unranked, get_or-ranked, get_or-unranked, rank_of, rank_of_below, unranked-ranked, ranked-unranked}
+use Rattle.zf_spec.proofs.Ranking.{order_below, length-by_rank, length-by_place, get_or-by_rank, get_or-by_place, rank_of, rank_of_below, by_place-by_rank, by_rank-by_place}
 use Rattle.zf_spec.proofs.Reach.{none_at, none_past_used}
 
 -- ---- the numbers below n, the greatest first
@@ -75,7 +75,7 @@ digits_at-planes_of w coefficients r l =
     ∙ ap (λ j. get_or (get_or coefficients r []) j false) back)
 
 -- planes that have no one may be missing at the end
-pub digits_at-take : (w n : ℕ) (planes : List (List Bool)) (r : ℕ) → used planes ≤ n → digits_at w (take n planes) r ≡ digits_at w planes r
+pub digits_at-take : (w n : ℕ) (planes : List (List Bool)) (r : ℕ) → needed_planes planes ≤ n → digits_at w (take n planes) r ≡ digits_at w planes r
 digits_at-take w n planes r h =
     let e = length-digits_at w (take n planes) r in
     ext_get_or false (digits_at w (take n planes) r) (digits_at w planes r) (e ∙ sym (length-digits_at w planes r))
@@ -92,13 +92,13 @@ digits_at-take w n planes r h =
 -- ---- planes and coefficients of a block
 
 pub length-planes : (w : Width) (d : ℕ) (c : List ℤ) → length (planes w d c) ≡ bits w
-length-planes w d c = length-planes_of (bits w) (map (digits (bits w)) (ranked d c))
+length-planes w d c = length-planes_of (bits w) (map (digits (bits w)) (by_rank d c))
 
 pub planes-length : (w : Width) (d : ℕ) (c : List ℤ) → All (λ ds. length ds ≡ 4 ^ d) (planes w d c)
-planes-length w d c k e h = planes_of-length (bits w) (map (digits (bits w)) (ranked d c)) k e h ∙ length-map (ranked d c) (digits (bits w)) ∙ length-ranked d c
+planes-length w d c k e h = planes_of-length (bits w) (map (digits (bits w)) (by_rank d c)) k e h ∙ length-map (by_rank d c) (digits (bits w)) ∙ length-by_rank d c
 
 pub length-coefficients_of : (w : Width) (d : ℕ) (ps : List (List Bool)) → length (coefficients_of w d ps) ≡ 4 ^ d
-length-coefficients_of w d ps = length-unranked d (map (λ r. value_of w (digits_at (bits w) ps r)) (upto (4 ^ d)))
+length-coefficients_of w d ps = length-by_place d (map (λ r. value_of w (digits_at (bits w) ps r)) (upto (4 ^ d)))
 
 -- the values by rank that planes stand for
 abbrev values_by_rank : Width → ℕ → List (List Bool) → List ℤ
@@ -119,22 +119,22 @@ digits_at-planes w vs r h =
 -- values of the type come back from their planes
 pub coefficients_of-planes : (w : Width) (d : ℕ) (c : List ℤ) → length c ≡ 4 ^ d → All (λ v. FitsSigned w v) c → coefficients_of w d (planes w d c) ≡ c
 coefficients_of-planes w d c l fits =
-    let vs = ranked d c in
+    let vs = by_rank d c in
     let same : values_by_rank w d (planes w d c) ≡ vs =
-    from_places (λ r. value_of w (digits_at (bits w) (planes w d c) r)) (4 ^ d) (pos 0) vs (length-ranked d c)
+    from_places (λ r. value_of w (digits_at (bits w) (planes w d c) r)) (4 ^ d) (pos 0) vs (length-by_rank d c)
     (λ r h.
     let fit = All-get_or (λ v. FitsSigned w v) c (get_or (order d) r 0) (pos 0) (omega (arith, l, order_below d r h)) fits in
-    let at = get_or-ranked d c r h in
-    sym (ap (value_of w) (digits_at-planes w vs r (omega (arith, h, length-ranked d c)) ∙ ap (digits (bits w)) at) ∙ value_of-digits w (get_or c (get_or (order d) r 0) (pos 0)) fit ∙ sym at)) in
-    ap (unranked d) same ∙ unranked-ranked d c l
+    let at = get_or-by_rank d c r h in
+    sym (ap (value_of w) (digits_at-planes w vs r (omega (arith, h, length-by_rank d c)) ∙ ap (digits (bits w)) at) ∙ value_of-digits w (get_or c (get_or (order d) r 0) (pos 0)) fit ∙ sym at)) in
+    ap (by_place d) same ∙ by_place-by_rank d c l
 
 -- planes that have no one may be missing below
-pub coefficients_of-take : (w : Width) (d n : ℕ) (ps : List (List Bool)) → used ps ≤ n → coefficients_of w d (take n ps) ≡ coefficients_of w d ps
+pub coefficients_of-take : (w : Width) (d n : ℕ) (ps : List (List Bool)) → needed_planes ps ≤ n → coefficients_of w d (take n ps) ≡ coefficients_of w d ps
 coefficients_of-take w d n ps h =
-    ap (unranked d) (map-upto_same (λ r. value_of w (digits_at (bits w) (take n ps) r)) (λ r. value_of w (digits_at (bits w) ps r)) (4 ^ d) (λ r k. ap (value_of w) (digits_at-take (bits w) n ps r h)))
+    ap (by_place d) (map-upto_same (λ r. value_of w (digits_at (bits w) (take n ps) r)) (λ r. value_of w (digits_at (bits w) ps r)) (4 ^ d) (λ r k. ap (value_of w) (digits_at-take (bits w) n ps r h)))
 
-pub coefficients_of-used : (w : Width) (d : ℕ) (c : List ℤ) → length c ≡ 4 ^ d → All (λ v. FitsSigned w v) c → coefficients_of w d (take (max 1 (used (planes w d c))) (planes w d c)) ≡ c
-coefficients_of-used w d c l fits = coefficients_of-take w d (max 1 (used (planes w d c))) (planes w d c) (omega arith) ∙ coefficients_of-planes w d c l fits
+pub coefficients_of-needed_planes : (w : Width) (d : ℕ) (c : List ℤ) → length c ≡ 4 ^ d → All (λ v. FitsSigned w v) c → coefficients_of w d (take (max 1 (needed_planes (planes w d c))) (planes w d c)) ≡ c
+coefficients_of-needed_planes w d c l fits = coefficients_of-take w d (max 1 (needed_planes (planes w d c))) (planes w d c) (omega arith) ∙ coefficients_of-planes w d c l fits
 
 -- the values that planes stand for are values of the type
 pub coefficients_of-fit : (w : Width) (d : ℕ) (ps : List (List Bool)) → All (λ v. FitsSigned w v) (coefficients_of w d ps)
@@ -143,14 +143,14 @@ coefficients_of-fit w d ps =
     (λ p s.
     let h : p < 4 ^ d = omega (arith, s, length-coefficients_of w d ps) in
     let at : get_or (coefficients_of w d ps) p (pos 0) ≡ value_of w (digits_at (bits w) ps (rank_of d p)) =
-    get_or-unranked d (values_by_rank w d ps) p h ∙ get_or-values_by_rank w d ps (rank_of d p) (rank_of_below d p h) in
+    get_or-by_place d (values_by_rank w d ps) p h ∙ get_or-values_by_rank w d ps (rank_of d p) (rank_of_below d p h) in
     subst (λ v. FitsSigned w v) (sym at) (value_of_fits w (digits_at (bits w) ps (rank_of d p))))
 
 -- planes of this size come back from their coefficients, with zeros for those that are missing below
 pub planes-coefficients_of : (w : Width) (d : ℕ) (ps : List (List Bool)) → length ps ≤ bits w → All (λ ds. length ds ≡ 4 ^ d) ps
     → planes w d (coefficients_of w d ps) ≡ ps ++ replicate (bits w - length ps) (replicate (4 ^ d) false)
 planes-coefficients_of w d ps few all =
-    ap (λ vs. planes_of (bits w) (map (digits (bits w)) vs)) (ranked-unranked d vs (length-values_by_rank w d ps))
+    ap (λ vs. planes_of (bits w) (map (digits (bits w)) vs)) (by_rank-by_place d vs (length-values_by_rank w d ps))
     ∙ ext_get_or [] (planes_of (bits w) cs) (ps ++ missing) (length-planes_of (bits w) cs ∙ sym whole)
     (λ k s. plane_at k (omega (arith, s, length-planes_of (bits w) cs)))
   where

@@ -6,7 +6,7 @@ use Rattle.std.proofs.lemmas.List.Elements.{Contains-get_or}
 use Rattle.std.proofs.lemmas.List.Sorted.{IsPermutation-sym, Contains-permutation, length_permutation}
 use Rattle.std.specs.List.{position_or_len}
 use Rattle.zf_spec.specs.Grid.{places}
-use Rattle.zf_spec.specs.Ranks.{order, ranked, unranked}
+use Rattle.zf_spec.specs.Ranks.{order, by_rank, by_place}
 use Rattle.zf_spec.proofs.Counting.{count_from_bounds, Contains-count_from, length-upto, from_places, get_or-map-upto, length-map-upto}
 use Rattle.zf_spec.proofs.Rising.{contains_cases, contains_none, same_place, order_moves, order_rises}
 
@@ -74,29 +74,29 @@ rank_of-order d k h =
 
 -- ---- blocks
 
-pub length-ranked : (d : ℕ) (block : List ℤ) → length (ranked d block) ≡ 4 ^ d
-length-ranked d block = length-map (order d) (λ p. get_or block p (pos 0)) ∙ length-order d
+pub length-by_rank : (d : ℕ) (block : List ℤ) → length (by_rank d block) ≡ 4 ^ d
+length-by_rank d block = length-map (order d) (λ p. get_or block p (pos 0)) ∙ length-order d
 
-pub length-unranked : (d : ℕ) (values : List ℤ) → length (unranked d values) ≡ 4 ^ d
-length-unranked d values = length-map-upto (λ p. get_or values (rank_of d p) (pos 0)) (4 ^ d)
+pub length-by_place : (d : ℕ) (values : List ℤ) → length (by_place d values) ≡ 4 ^ d
+length-by_place d values = length-map-upto (λ p. get_or values (rank_of d p) (pos 0)) (4 ^ d)
 
-pub get_or-ranked : (d : ℕ) (block : List ℤ) (k : ℕ) → k < 4 ^ d → get_or (ranked d block) k (pos 0) ≡ get_or block (get_or (order d) k 0) (pos 0)
-get_or-ranked d block k h = get_or-map (λ p. get_or block p (pos 0)) (order d) k 0 (pos 0) (omega (arith, h, length-order d))
+pub get_or-by_rank : (d : ℕ) (block : List ℤ) (k : ℕ) → k < 4 ^ d → get_or (by_rank d block) k (pos 0) ≡ get_or block (get_or (order d) k 0) (pos 0)
+get_or-by_rank d block k h = get_or-map (λ p. get_or block p (pos 0)) (order d) k 0 (pos 0) (omega (arith, h, length-order d))
 
-pub get_or-unranked : (d : ℕ) (values : List ℤ) (p : ℕ) → p < 4 ^ d → get_or (unranked d values) p (pos 0) ≡ get_or values (rank_of d p) (pos 0)
-get_or-unranked d values p h = get_or-map-upto (λ p. get_or values (rank_of d p) (pos 0)) (4 ^ d) p (pos 0) h
+pub get_or-by_place : (d : ℕ) (values : List ℤ) (p : ℕ) → p < 4 ^ d → get_or (by_place d values) p (pos 0) ≡ get_or values (rank_of d p) (pos 0)
+get_or-by_place d values p h = get_or-map-upto (λ p. get_or values (rank_of d p) (pos 0)) (4 ^ d) p (pos 0) h
 
-pub unranked-ranked : (d : ℕ) (block : List ℤ) → length block ≡ 4 ^ d → unranked d (ranked d block) ≡ block
-unranked-ranked d block l =
-    from_places (λ p. get_or (ranked d block) (rank_of d p) (pos 0)) (4 ^ d) (pos 0) block l
-    (λ p h. sym (get_or-ranked d block (rank_of d p) (rank_of_below d p h) ∙ ap (λ q. get_or block q (pos 0)) (order-rank_of d p h)))
+pub by_place-by_rank : (d : ℕ) (block : List ℤ) → length block ≡ 4 ^ d → by_place d (by_rank d block) ≡ block
+by_place-by_rank d block l =
+    from_places (λ p. get_or (by_rank d block) (rank_of d p) (pos 0)) (4 ^ d) (pos 0) block l
+    (λ p h. sym (get_or-by_rank d block (rank_of d p) (rank_of_below d p h) ∙ ap (λ q. get_or block q (pos 0)) (order-rank_of d p h)))
 
-pub ranked-unranked : (d : ℕ) (values : List ℤ) → length values ≡ 4 ^ d → ranked d (unranked d values) ≡ values
-ranked-unranked d values l =
-    let e = length-ranked d (unranked d values) in
-    ext_get_or (pos 0) (ranked d (unranked d values)) values (e ∙ sym l)
+pub by_rank-by_place : (d : ℕ) (values : List ℤ) → length values ≡ 4 ^ d → by_rank d (by_place d values) ≡ values
+by_rank-by_place d values l =
+    let e = length-by_rank d (by_place d values) in
+    ext_get_or (pos 0) (by_rank d (by_place d values)) values (e ∙ sym l)
     (λ k s.
     let h : k < 4 ^ d = omega (arith, s, e) in
-    get_or-ranked d (unranked d values) k h
-    ∙ get_or-unranked d values (get_or (order d) k 0) (order_below d k h)
+    get_or-by_rank d (by_place d values) k h
+    ∙ get_or-by_place d values (get_or (order d) k 0) (order_below d k h)
     ∙ ap (λ r. get_or values r (pos 0)) (rank_of-order d k h))

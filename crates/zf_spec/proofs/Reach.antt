@@ -2,7 +2,7 @@
 use Rattle.std.proofs.Common.{◌≡◌, refl, sym, ap, ◌∙◌, ℕ, zero, suc, ◌<◌, ◌≤◌, Bool, true, false, cond, ◌||◌, List, [], ◌∷◌, ◌++◌, map, length, get_or, replicate, ⊎_elim, arith}
 use Rattle.std.proofs.lemmas.Bool.{true≢false, cases_order}
 use Rattle.std.proofs.lemmas.List.{length-map}
-use Rattle.zf_spec.specs.Planes.{has_one, reach, any_one, used}
+use Rattle.zf_spec.specs.Planes.{has_one, reach, any_one, needed_planes}
 
 -- ---- some digit is one
 
@@ -104,12 +104,12 @@ pub any_one-is : (ps : List (List Bool)) → any_one ps ≡ has_one (map has_one
 any_one-is [] = refl
 any_one-is (ds ∷ ps) = ap (λ b. has_one ds || b) (any_one-is ps)
 
-pub used-is : (ps : List (List Bool)) → used ps ≡ reach (map has_one ps)
-used-is [] = refl
-used-is (ds ∷ ps) = ap (λ t. cond t (suc (used ps)) 0) (any_one-is (ds ∷ ps)) ∙ ap (λ n. cond (has_one (map has_one (ds ∷ ps))) (suc n) 0) (used-is ps)
+pub needed_planes-is : (ps : List (List Bool)) → needed_planes ps ≡ reach (map has_one ps)
+needed_planes-is [] = refl
+needed_planes-is (ds ∷ ps) = ap (λ t. cond t (suc (needed_planes ps)) 0) (any_one-is (ds ∷ ps)) ∙ ap (λ n. cond (has_one (map has_one (ds ∷ ps))) (suc n) 0) (needed_planes-is ps)
 
-pub used-le : (ps : List (List Bool)) → used ps ≤ length ps
-used-le ps = omega (arith, used-is ps, reach-le (map has_one ps), length-map ps has_one)
+pub needed_planes-le : (ps : List (List Bool)) → needed_planes ps ≤ length ps
+needed_planes-le ps = omega (arith, needed_planes-is ps, reach-le (map has_one ps), length-map ps has_one)
 
 has_one_at : (ps : List (List Bool)) (k : ℕ) → get_or (map has_one ps) k false ≡ has_one (get_or ps k [])
 has_one_at [] k = refl
@@ -117,12 +117,12 @@ has_one_at (ds ∷ ps) zero = refl
 has_one_at (ds ∷ ps) (suc k) = has_one_at ps k
 
 -- no plane from there on has a one
-pub none_past_used : (ps : List (List Bool)) (k : ℕ) → used ps ≤ k → has_one (get_or ps k []) ≡ false
-none_past_used ps k h = sym (has_one_at ps k) ∙ none_past_reach (map has_one ps) k (omega (arith, h, used-is ps))
+pub none_past_used : (ps : List (List Bool)) (k : ℕ) → needed_planes ps ≤ k → has_one (get_or ps k []) ≡ false
+none_past_used ps k h = sym (has_one_at ps k) ∙ none_past_reach (map has_one ps) k (omega (arith, h, needed_planes-is ps))
 
 -- the one just before has a one
-pub one_at_used : (ps : List (List Bool)) (k : ℕ) → used ps ≡ suc k → has_one (get_or ps k []) ≡ true
-one_at_used ps k h = sym (has_one_at ps k) ∙ one_at_reach (map has_one ps) k (sym (used-is ps) ∙ h)
+pub one_at_used : (ps : List (List Bool)) (k : ℕ) → needed_planes ps ≡ suc k → has_one (get_or ps k []) ≡ true
+one_at_used ps k h = sym (has_one_at ps k) ∙ one_at_reach (map has_one ps) k (sym (needed_planes-is ps) ∙ h)
 
-pub used_only : (ps : List (List Bool)) (n : ℕ) → ((k : ℕ) → n ≤ k → has_one (get_or ps k []) ≡ false) → ((k : ℕ) → n ≡ suc k → has_one (get_or ps k []) ≡ true) → n ≡ used ps
-used_only ps n none one = reach_only (map has_one ps) n (λ k h. has_one_at ps k ∙ none k h) (λ k h. has_one_at ps k ∙ one k h) ∙ sym (used-is ps)
+pub used_only : (ps : List (List Bool)) (n : ℕ) → ((k : ℕ) → n ≤ k → has_one (get_or ps k []) ≡ false) → ((k : ℕ) → n ≡ suc k → has_one (get_or ps k []) ≡ true) → n ≡ needed_planes ps
+used_only ps n none one = reach_only (map has_one ps) n (λ k h. has_one_at ps k ∙ none k h) (λ k h. has_one_at ps k ∙ one k h) ∙ sym (needed_planes-is ps)

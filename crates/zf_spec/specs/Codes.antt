@@ -10,19 +10,19 @@ use Rattle.zf_spec.specs.Grid.{upto, places, indices, is_inside}
 use Rattle.zf_spec.specs.Padding.{pad}
 use Rattle.zf_spec.specs.Lorenzo.{lorenzo, unlorenzo}
 use Rattle.zf_spec.specs.Lift.{lift, unlift}
-use Rattle.zf_spec.specs.Ranks.{ranked, unranked}
-use Rattle.zf_spec.specs.Planes.{planes_of, used, code}
-use Rattle.zf_spec.specs.Kept.{kept}
-use Rattle.zf_spec.specs.Reading.{full, first}
+use Rattle.zf_spec.specs.Ranks.{by_rank, by_place}
+use Rattle.zf_spec.specs.Planes.{planes_of, needed_planes, code}
+use Rattle.zf_spec.specs.Kept.{kept_planes}
+use Rattle.zf_spec.specs.ReadPlanes.{planes_in, first_bits}
 
 -- the planes of coefficients by place, the greatest first
 abbrev pub planes : Width → ℕ → List ℤ → List (List Bool)
-planes w d coefficients = planes_of (bits w) (map (digits (bits w)) (ranked d coefficients))
+planes w d coefficients = planes_of (bits w) (map (digits (bits w)) (by_rank d coefficients))
 
 -- the coefficients by place that planes stand for; planes that are missing below are zero
 abbrev pub coefficients_of : Width → ℕ → List (List Bool) → List ℤ
 coefficients_of w d planes =
-    unranked d (map (λ r. value_of w (map (λ k. slice_index_or (slice_index_or planes k []) r false) (reverse (upto (bits w))))) (upto (4 ^ d)))
+    by_place d (map (λ r. value_of w (map (λ k. slice_index_or (slice_index_or planes k []) r false) (reverse (upto (bits w))))) (upto (4 ^ d)))
 
 -- how many bits hold the count of planes: 5 for int32, 6 for int64 (this project's own)
 abbrev pub count_bits : Width → ℕ
@@ -31,30 +31,30 @@ count_bits w = if nat_lt 32 (bits w) then 6 else 5
 -- a reversible code (this project's own layout): the count of planes down to the lowest that has a one, at least 1,
 -- less 1; then the code of these planes
 unfoldable pub rev_of_planes : Width → List (List Bool) → List Bool
-rev_of_planes w ps = let p = max 1 (used ps) in field (count_bits w) (p - 1) ++ code (take p ps)
+rev_of_planes w ps = let p = max 1 (needed_planes ps) in field (count_bits w) (p - 1) ++ code (take p ps)
 
 unfoldable pub rev : Width → List ℕ → List ℤ → List Bool
 rev w es block = let d = length es in rev_of_planes w (planes w d (lorenzo w d (pad es block)))
 
 -- a fixed-rate code: the first bits of the code of all planes, filled with zeros (Lindstrom 2014, section 3)
 unfoldable pub rate : Width → ℕ → List ℕ → List ℤ → List Bool
-rate w budget es block = let d = length es in first budget (code (planes w d (lift w d (pad es block))))
+rate w budget es block = let d = length es in first_bits budget (code (planes w d (lift w d (pad es block))))
 
 -- a block's values at the places that exist, 0 at the others
-unfoldable pub existing : List ℕ → List ℤ → List ℤ
-existing es block = map (λ p. if is_inside es (indices (length es) p) then slice_index_or block p (pos 0) else pos 0) (places (length es))
+unfoldable pub existing_values : List ℕ → List ℤ → List ℤ
+existing_values es block = map (λ p. if is_inside es (indices (length es) p) then slice_index_or block p (pos 0) else pos 0) (places (length es))
 
 -- what a fixed rate makes of a block: what the budget keeps of its planes, put through the inverse transform; no code occurs
 unfoldable pub round : Width → ℕ → List ℕ → List ℤ → List ℤ
 round w budget es block =
     let d = length es in
-    existing es (unlift w d (coefficients_of w d (kept budget (planes w d (lift w d (pad es block))))))
+    existing_values es (unlift w d (coefficients_of w d (kept_planes budget (planes w d (lift w d (pad es block))))))
 
 -- what reading a rate code of these bits gives
 unfoldable pub read_rate : Width → List ℕ → List Bool → List ℤ
 read_rate w es s =
     let d = length es in
-    existing es (unlift w d (coefficients_of w d (kept (length s) (full (bits w) (4 ^ d) s))))
+    existing_values es (unlift w d (coefficients_of w d (kept_planes (length s) (planes_in (bits w) (4 ^ d) s))))
 
 -- what reading a reversible code at the front of these bits gives: the block and the number of bits that it takes,
 -- or nothing where a bit past the end is needed
@@ -62,7 +62,7 @@ unfoldable pub read_rev : Width → List ℕ → List Bool → Option (List ℤ 
 read_rev w es s =
     let d = length es in
     let rest = drop (count_bits w) s in
-    let ps = full (number (take (count_bits w) s) + 1) (4 ^ d) rest in
+    let ps = planes_in (number (take (count_bits w) s) + 1) (4 ^ d) rest in
     let len = length (code ps) in
     if nat_lt (length s) (count_bits w + len) then None
-    else Some (existing es (unlorenzo w d (coefficients_of w d ps)), count_bits w + len)
+    else Some (existing_values es (unlorenzo w d (coefficients_of w d ps)), count_bits w + len)

@@ -34,10 +34,10 @@ abbrev pub kept_plane : ℕ → ℕ → List Bool → List Bool
 kept_plane r n ds = if nat_le (length (plane_code n ds)) r then ds else cut_plane r n ds
 
 -- with r bits for the planes, each has what the codes above it leave
-abbrev pub kept_from : ℕ → ℕ → List (List Bool) → List (List Bool)
-kept_from r n [] = []
-kept_from r n (ds ∷ planes) = kept_plane r n ds ∷ kept_from (r - length (plane_code n ds)) (max n (reach ds)) planes
+abbrev pub kept_planes_from : ℕ → ℕ → List (List Bool) → List (List Bool)
+kept_planes_from r n [] = []
+kept_planes_from r n (ds ∷ planes) = kept_plane r n ds ∷ kept_planes_from (r - length (plane_code n ds)) (max n (reach ds)) planes
 
 -- what a budget keeps of the planes of a block
-abbrev pub kept : ℕ → List (List Bool) → List (List Bool)
-kept budget planes = kept_from budget 0 planes
+abbrev pub kept_planes : ℕ → List (List Bool) → List (List Bool)
+kept_planes budget planes = kept_planes_from budget 0 planes

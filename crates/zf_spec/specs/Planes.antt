@@ -26,16 +26,16 @@ abbrev pub group : List Bool → List Bool → List Bool
 group ds run = if has_one ds then true ∷ run else false ∷ []
 
 -- a run: the digits up to and with the first one, of which that of the last rank is implied, and then the next group
-abbrev pub in_run : List Bool → List Bool
-in_run [] = []
-in_run (d ∷ []) = []
-in_run (true ∷ e ∷ ds) = true ∷ group (e ∷ ds) (in_run (e ∷ ds))
-in_run (false ∷ e ∷ ds) = false ∷ in_run (e ∷ ds)
+abbrev pub code_from_run : List Bool → List Bool
+code_from_run [] = []
+code_from_run (d ∷ []) = []
+code_from_run (true ∷ e ∷ ds) = true ∷ group (e ∷ ds) (code_from_run (e ∷ ds))
+code_from_run (false ∷ e ∷ ds) = false ∷ code_from_run (e ∷ ds)
 
 -- the code of the digits from rank n on, where all ranks from n on were zero in the planes above
 abbrev pub tail : List Bool → List Bool
 tail [] = []
-tail (d ∷ ds) = group (d ∷ ds) (in_run (d ∷ ds))
+tail (d ∷ ds) = group (d ∷ ds) (code_from_run (d ∷ ds))
 
 -- the code of a plane: its first n digits as they are, and then the tail
 abbrev pub plane_code : ℕ → List Bool → List Bool
@@ -56,6 +56,6 @@ any_one [] = false
 any_one (ds ∷ planes) = has_one ds || any_one planes
 
 -- how many planes there are from the greatest down to the lowest that has a one
-abbrev pub used : List (List Bool) → ℕ
-used [] = 0
-used (ds ∷ planes) = if any_one (ds ∷ planes) then suc (used planes) else 0
+abbrev pub needed_planes : List (List Bool) → ℕ
+needed_planes [] = 0
+needed_planes (ds ∷ planes) = if any_one (ds ∷ planes) then suc (needed_planes planes) else 0

@@ -34,9 +34,9 @@ Rises d (p ∷ []) = Unit {0}
 Rises d (p ∷ q ∷ qs) = (comes_before (key d p) (key d q) ≡ true) × Rises d (q ∷ qs)
 
 -- the coefficients of a block by rank
-abbrev pub ranked : ℕ → List ℤ → List ℤ
-ranked d block = map (λ p. slice_index_or block p (pos 0)) (order d)
+abbrev pub by_rank : ℕ → List ℤ → List ℤ
+by_rank d block = map (λ p. slice_index_or block p (pos 0)) (order d)
 
 -- the way back: the value at each place is that of its rank
-abbrev pub unranked : ℕ → List ℤ → List ℤ
-unranked d values = map (λ p. slice_index_or values (position_or_len (λ q. q == p) (order d)) (pos 0)) (places d)
+abbrev pub by_place : ℕ → List ℤ → List ℤ
+by_place d values = map (λ p. slice_index_or values (position_or_len (λ q. q == p) (order d)) (pos 0)) (places d)

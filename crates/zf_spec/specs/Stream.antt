@@ -14,8 +14,8 @@ pub data Mode : Type 0 where
   fixed_rate : ℕ → Mode
 
 -- zero bits up to a whole word of 64
-abbrev pub filled : List Bool → List Bool
-filled bs = bs ++ replicate ((64 - length bs % 64) % 64) false
+abbrev pub with_fill : List Bool → List Bool
+with_fill bs = bs ++ replicate ((64 - length bs % 64) % 64) false
 
 -- bit i of a list of bits is bit i mod 8 of byte i / 8: n bytes
 abbrev pub bytes_from : ℕ → List Bool → List ℕ
@@ -84,7 +84,7 @@ codes w ns mode values = map (λ b. block_code w mode (extent_of ns b) (block_of
 
 -- the file with given codes of the blocks
 unfoldable pub file : Width → List ℕ → Mode → List (List Bool) → List ℕ
-file w ns mode cs = to_bytes (filled (header w ns mode ++ flat_map (λ c. c) cs))
+file w ns mode cs = to_bytes (with_fill (header w ns mode ++ flat_map (λ c. c) cs))
 
 -- the stream of an array's values
 unfoldable pub stream : Width → List ℕ → Mode → List ℤ → List ℕ

@@ -5,9 +5,9 @@ ghost use Rattle.std.specs.List.{position_or_len};
 ghost use Rattle.std.specs.Int.{Width};
 ghost use Rattle.zf_spec.specs.Grid.{product, coordinates, raster, is_inside, places};
 ghost use Rattle.zf_spec.specs.Padding.{pad};
-ghost use Rattle.zf_spec.specs.Codes.{existing};
+ghost use Rattle.zf_spec.specs.Codes.{existing_values};
 ghost use Rattle.zf_spec.specs.Lorenzo.{lorenzo, unlorenzo};
-ghost use Rattle.zf_spec.specs.Ranks.{order, Rises, ranked, unranked};
+ghost use Rattle.zf_spec.specs.Ranks.{order, Rises, by_rank, by_place};
 
 /// A position in a box and its raster number, below the number of positions, determine one another.
 pub fn positions_and_raster_numbers()
@@ -20,9 +20,9 @@ pub fn positions_and_raster_numbers()
 /// The padded block is a whole one; it has the values that exist, and is made of them alone.
 pub fn padded_blocks()
     ensures whole { (es : List ℕ) (block : List ℤ) → length (pad es block) ≡ 4 ^ length es }
-    ensures kept { (es : List ℕ) (block : List ℤ) → All (λ e. (1 ≤ e) × (e ≤ 4)) es → existing es (pad es block) ≡ existing es block }
+    ensures kept { (es : List ℕ) (block : List ℤ) → All (λ e. (1 ≤ e) × (e ≤ 4)) es → existing_values es (pad es block) ≡ existing_values es block }
     ensures fit { (w : Width) (es : List ℕ) (block : List ℤ) → All (λ v. FitsSigned w v) block → All (λ v. FitsSigned w v) (pad es block) }
-    ensures only { (es : List ℕ) (a b : List ℤ) → All (λ e. (1 ≤ e) × (e ≤ 4)) es → existing es a ≡ existing es b → pad es a ≡ pad es b }
+    ensures only { (es : List ℕ) (a b : List ℤ) → All (λ e. (1 ≤ e) × (e ≤ 4)) es → existing_values es a ≡ existing_values es b → pad es a ≡ pad es b }
 {}
 
 /// The order of the places is the only arrangement of them in which the key rises.
@@ -36,8 +36,8 @@ pub fn order_of_places()
 pub fn ranks_and_places()
     ensures place { (d k : ℕ) → k < 4 ^ d → slice_index_or (order d) k 0 < 4 ^ d }
     ensures rank { (d p : ℕ) → p < 4 ^ d → slice_index_or (order d) (position_or_len (λ q. q == p) (order d)) 0 ≡ p }
-    ensures by_place { (d : ℕ) (block : List ℤ) → length block ≡ 4 ^ d → unranked d (ranked d block) ≡ block }
-    ensures by_rank { (d : ℕ) (values : List ℤ) → length values ≡ 4 ^ d → ranked d (unranked d values) ≡ values }
+    ensures by_place { (d : ℕ) (block : List ℤ) → length block ≡ 4 ^ d → by_place d (by_rank d block) ≡ block }
+    ensures by_rank { (d : ℕ) (values : List ℤ) → length values ≡ 4 ^ d → by_rank d (by_place d values) ≡ values }
 {}
 
 /// The reversible transform and its inverse undo each other, at each block of values of the type.

@@ -2,7 +2,7 @@
 
 ghost use Rattle.std.specs.Prelude.{◌≡◌, ℕ, ◌+◌, ◌*◌, ◌%◌, ◌<◌, ◌≤◌, ℤ, Bool, false, List, ◌++◌, length, replicate, FitsSigned, All};
 ghost use Rattle.std.specs.Int.{Width, byte_len};
-ghost use Rattle.zf_spec.specs.Stream.{filled, to_bytes, to_bits, first_bytes, values_from, raw, header, reversible, fixed_rate};
+ghost use Rattle.zf_spec.specs.Stream.{with_fill, to_bytes, to_bits, first_bytes, values_from, raw, header, reversible, fixed_rate};
 
 /// Whole bytes of bits and their bytes determine one another.
 pub fn bits_and_bytes()
@@ -12,9 +12,9 @@ pub fn bits_and_bytes()
 
 /// The fill is the only one of less than 64 zero bits that ends a word of 64.
 pub fn fill()
-    ensures zeros { (bs : List Bool) → (n : ℕ) × (n < 64) × (filled bs ≡ bs ++ replicate n false) }
-    ensures whole { (bs : List Bool) → length (filled bs) % 64 ≡ 0 }
-    ensures only { (bs : List Bool) (n : ℕ) → n < 64 → (length bs + n) % 64 ≡ 0 → filled bs ≡ bs ++ replicate n false }
+    ensures zeros { (bs : List Bool) → (n : ℕ) × (n < 64) × (with_fill bs ≡ bs ++ replicate n false) }
+    ensures whole { (bs : List Bool) → length (with_fill bs) % 64 ≡ 0 }
+    ensures only { (bs : List Bool) (n : ℕ) → n < 64 → (length bs + n) % 64 ≡ 0 → with_fill bs ≡ bs ++ replicate n false }
 {}
 
 /// Values of the type and their raw bytes determine one another; bytes that are missing are zeros.

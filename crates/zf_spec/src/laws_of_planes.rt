@@ -3,7 +3,7 @@
 ghost use Rattle.std.specs.Prelude.{◌≡◌, ℕ, suc, ◌+◌, ◌-◌, ◌*◌, ◌^◌, ◌<◌, ◌≤◌, max, ℤ, Bool, true, false, List, [], ◌∷◌, ◌++◌, length, take, replicate, slice_index_or, FitsSigned, All};
 ghost use Rattle.std.specs.Int.{Width};
 ghost use mir.Val.{bits};
-ghost use Rattle.zf_spec.specs.Planes.{has_one, reach, tail, code, used};
+ghost use Rattle.zf_spec.specs.Planes.{has_one, reach, tail, code, needed_planes};
 ghost use Rattle.zf_spec.specs.Kept.{kept_tail};
 ghost use Rattle.zf_spec.specs.Codes.{planes, coefficients_of};
 
@@ -36,9 +36,9 @@ pub fn reach_of_a_plane()
 
 /// The number of used planes is the only one with a plane that has a one just before it and no such plane from it on.
 pub fn used_planes()
-    ensures none { (ps : List (List Bool)) (k : ℕ) → used ps ≤ k → has_one (slice_index_or ps k []) ≡ false }
-    ensures one { (ps : List (List Bool)) (k : ℕ) → used ps ≡ suc k → has_one (slice_index_or ps k []) ≡ true }
-    ensures only { (ps : List (List Bool)) (n : ℕ) → ((k : ℕ) → n ≤ k → has_one (slice_index_or ps k []) ≡ false) → ((k : ℕ) → n ≡ suc k → has_one (slice_index_or ps k []) ≡ true) → n ≡ used ps }
+    ensures none { (ps : List (List Bool)) (k : ℕ) → needed_planes ps ≤ k → has_one (slice_index_or ps k []) ≡ false }
+    ensures one { (ps : List (List Bool)) (k : ℕ) → needed_planes ps ≡ suc k → has_one (slice_index_or ps k []) ≡ true }
+    ensures only { (ps : List (List Bool)) (n : ℕ) → ((k : ℕ) → n ≤ k → has_one (slice_index_or ps k []) ≡ false) → ((k : ℕ) → n ≡ suc k → has_one (slice_index_or ps k []) ≡ true) → n ≡ needed_planes ps }
 {}
 
 /// The code of p planes has at most one bit for each digit, and one more for each rank.
@@ -49,7 +49,7 @@ pub fn length_of_codes()
 /// Coefficients of the type and their planes determine one another; planes with no one may be missing below.
 pub fn planes_and_coefficients()
     ensures coefficients { (w : Width) (d : ℕ) (c : List ℤ) → length c ≡ 4 ^ d → All (λ v. FitsSigned w v) c → coefficients_of w d (planes w d c) ≡ c }
-    ensures used { (w : Width) (d : ℕ) (c : List ℤ) → length c ≡ 4 ^ d → All (λ v. FitsSigned w v) c → coefficients_of w d (take (max 1 (used (planes w d c))) (planes w d c)) ≡ c }
+    ensures used { (w : Width) (d : ℕ) (c : List ℤ) → length c ≡ 4 ^ d → All (λ v. FitsSigned w v) c → coefficients_of w d (take (max 1 (needed_planes (planes w d c))) (planes w d c)) ≡ c }
     ensures planes { (w : Width) (d : ℕ) (ps : List (List Bool)) → length ps ≤ bits w → All (λ ds. length ds ≡ 4 ^ d) ps
         → planes w d (coefficients_of w d ps) ≡ ps ++ replicate (bits w - length ps) (replicate (4 ^ d) false) }
 {}

@@ -4,27 +4,27 @@ ghost use Rattle.std.specs.Prelude.{◌≡◌, ℕ, ◌+◌, ◌*◌, ◌^◌, �
 ghost use Rattle.std.specs.Int.{Width};
 ghost use mir.Val.{bits};
 ghost use Rattle.zf_spec.specs.Planes.{code};
-ghost use Rattle.zf_spec.specs.Kept.{kept};
-ghost use Rattle.zf_spec.specs.Reading.{Begins, first, full};
-ghost use Rattle.zf_spec.specs.Codes.{count_bits, rev, rate, round, existing, read_rev, read_rate};
+ghost use Rattle.zf_spec.specs.Kept.{kept_planes};
+ghost use Rattle.zf_spec.specs.ReadPlanes.{Begins, first_bits, planes_in};
+ghost use Rattle.zf_spec.specs.Codes.{count_bits, rev, rate, round, existing_values, read_rev, read_rate};
 
-/// The full planes of a list of bits are the only planes of their size and number whose code begins that list continued with zeros.
-pub fn full_planes()
-    ensures count { (p size : ℕ) (s : List Bool) → length (full p size s) ≡ p }
-    ensures size { (p size : ℕ) (s : List Bool) → All (λ ds. length ds ≡ size) (full p size s) }
-    ensures begins { (p size : ℕ) (s : List Bool) → Begins (code (full p size s)) s }
-    ensures only { (size : ℕ) (ps : List (List Bool)) (s : List Bool) → All (λ ds. length ds ≡ size) ps → Begins (code ps) s → ps ≡ full (length ps) size s }
+/// The planes in a list of bits are the only planes of their size and number whose code begins that list continued with zeros.
+pub fn planes_in_bits()
+    ensures count { (p size : ℕ) (s : List Bool) → length (planes_in p size s) ≡ p }
+    ensures size { (p size : ℕ) (s : List Bool) → All (λ ds. length ds ≡ size) (planes_in p size s) }
+    ensures begins { (p size : ℕ) (s : List Bool) → Begins (code (planes_in p size s)) s }
+    ensures only { (size : ℕ) (ps : List (List Bool)) (s : List Bool) → All (λ ds. length ds ≡ size) ps → Begins (code ps) s → ps ≡ planes_in (length ps) size s }
 {}
 
 /// What a budget keeps of planes is known from as many bits of their code.
 pub fn kept_planes()
-    ensures { (size budget : ℕ) (ps : List (List Bool)) → 1 ≤ size → All (λ ds. length ds ≡ size) ps → kept budget (full (length ps) size (first budget (code ps))) ≡ kept budget ps }
+    ensures { (size budget : ℕ) (ps : List (List Bool)) → 1 ≤ size → All (λ ds. length ds ≡ size) ps → kept_planes budget (planes_in (length ps) size (first_bits budget (code ps))) ≡ kept_planes budget ps }
 {}
 
 /// The reversible code of a block of a type of at most 64 bits reads back as the values that exist, and takes its length, whatever bits come after.
 pub fn reversible_code()
     ensures read { (w : Width) (es : List ℕ) (block : List ℤ) (more : List Bool) → bits w ≤ 64 → All (λ e. (1 ≤ e) × (e ≤ 4)) es → All (λ v. FitsSigned w v) block
-        → read_rev w es (rev w es block ++ more) ≡ Some (existing es block, length (rev w es block)) }
+        → read_rev w es (rev w es block ++ more) ≡ Some (existing_values es block, length (rev w es block)) }
     ensures length { (w : Width) (es : List ℕ) (block : List ℤ) → length (rev w es block) ≤ count_bits w + 4 ^ length es * (bits w + 1) }
 {}
 

@@ -6,10 +6,10 @@ use Rattle.std.proofs.lemmas.List.Elements.{All-get_or, All-from_get_or}
 use Rattle.std.specs.Int.{Width}
 use mir.Val.{bits}
 use Rattle.zf_spec.specs.Grid.{IsShape, grid, blocks, coordinates, raster, is_inside, indices, extents, extent_of, position_in, value_at, block_of}
-use Rattle.zf_spec.specs.Codes.{existing, rev, rate, round, read_rate}
+use Rattle.zf_spec.specs.Codes.{existing_values, rev, rate, round, read_rate}
 use Rattle.zf_spec.proofs.Wrapping.{zero_fits}
 use Rattle.zf_spec.proofs.Counting.{length-map-upto, get_or-map-upto, from_places}
-use Rattle.zf_spec.proofs.Padding.{IsExtent as IsSize, length-existing, get_or-existing}
+use Rattle.zf_spec.proofs.Padding.{IsExtent as IsSize, length-existing_values, get_or-existing_values}
 use Rattle.zf_spec.proofs.BlockReading.{read_rev-rev, read_rate-rate, length-rate}
 use Rattle.zf_base.specs.declared.lane.Ty.{Ty}
 use Rattle.zf_base.specs.declared.lane.Ty.TheVariants.{I32, I64}
@@ -56,19 +56,19 @@ cond_twice true v = refl
 cond_twice false v = refl
 
 -- it has no value where no place exists
-existing-block_of : (ns : List ℕ) (values : List ℤ) (b : ℕ) → existing (extent_of ns b) (block_of ns values b) ≡ block_of ns values b
-existing-block_of ns values b =
+existing_values-block_of : (ns : List ℕ) (values : List ℤ) (b : ℕ) → existing_values (extent_of ns b) (block_of ns values b) ≡ block_of ns values b
+existing_values-block_of ns values b =
     let cs = coordinates (grid ns) b in
     let es = extent_of ns b in
     let block = block_of ns values b in
     let size = 4 ^ length ns in
     let dims : length es ≡ length ns = length-extent_of ns b in
     let sizes : 4 ^ length es ≡ size = ap (λ d. 4 ^ d) dims in
-    sym (from_places (value_at ns values cs) size (pos 0) (existing es block) (length-existing es block ∙ sizes)
+    sym (from_places (value_at ns values cs) size (pos 0) (existing_values es block) (length-existing_values es block ∙ sizes)
     (λ p lt.
     let small : p < 4 ^ length es = omega (arith, lt, sizes) in
     let t = is_inside es (indices (length ns) p) in
-    get_or-existing es block p small
+    get_or-existing_values es block p small
     ∙ ap (λ d. cond (is_inside es (indices d p)) (get_or block p (pos 0)) (pos 0)) dims
     ∙ ap (λ v. cond t v (pos 0)) (get_or-map-upto (value_at ns values cs) size p (pos 0) lt)
     ∙ cond_twice t (get_or values (raster ns (position_in cs (indices (length ns) p))) (pos 0))))
@@ -88,7 +88,7 @@ reads_reversible ty ns values b more shape lt all =
     let es = extent_of ns b in
     let block = block_of ns values b in
     read_rev-rev w es block more (narrow ty) (all_extents ns b shape lt) (block_fits w ns values b all)
-    ∙ ap (λ (back : List ℤ). Some (back, length (rev w es block))) (existing-block_of ns values b)
+    ∙ ap (λ (back : List ℤ). Some (back, length (rev w es block))) (existing_values-block_of ns values b)
 
 -- at a fixed rate what the rate makes of it
 pub reads_rate : (w : Width) (budget : ℕ) (es : List ℕ) (block : List ℤ) (more : List Bool)

@@ -9,7 +9,7 @@ use Rattle.zf_spec.specs.Padding.{pad}
 use Rattle.zf_spec.specs.Lorenzo.{lorenzo}
 use Rattle.zf_spec.specs.Lift.{lift}
 use Rattle.zf_spec.specs.Planes.{code}
-use Rattle.zf_spec.specs.Reading.{first}
+use Rattle.zf_spec.specs.ReadPlanes.{first_bits}
 use Rattle.zf_spec.specs.Codes.{rev, rev_of_planes, planes, rate}
 
 -- one number more
@@ -45,4 +45,4 @@ rev_same w es a b same = ap (λ (block : List ℤ). rev_of_planes w (planes w (l
 
 pub rate_same : (w : Width) (n : ℕ) (es : List ℕ) (a b : List ℤ) → pad es a ≡ pad es b → rate w n es a ≡ rate w n es b
 unfolding rate
-rate_same w n es a b same = ap (λ (block : List ℤ). first n (code (planes w (length es) (lift w (length es) block)))) same
+rate_same w n es a b same = ap (λ (block : List ℤ). first_bits n (code (planes w (length es) (lift w (length es) block)))) same

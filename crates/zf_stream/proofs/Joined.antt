@@ -5,7 +5,7 @@ use Rattle.zf_spec.proofs.Counting.{get_or-map-upto, from_places}
 use Rattle.zf_base.specs.Places.{block_number, place_of, IsAt}
 use Rattle.zf_base.proofs.Boxes.{raster-coordinates, is_inside-coordinates, length-coordinates}
 use Rattle.zf_base.proofs.Places.{IsAt-position}
-use Rattle.zf_stream.specs.Parsing.{joined}
+use Rattle.zf_stream.specs.Parsing.{values_of_blocks}
 
 -- a value of an array by its block and place
 value_of_block : (ns : List ℕ) (values : List ℤ) (ps : List ℕ) (b p : ℕ) → IsAt ns ps b p → get_or (block_of ns values b) p (pos 0) ≡ get_or values (raster ns ps) (pos 0)
@@ -17,7 +17,7 @@ value_of_block ns values ps b p at =
 
 -- what is joined of the blocks of an array is the array
 pub joined_is : (ns : List ℕ) (values : List ℤ) (found : List (List ℤ)) → length values ≡ product ns
-    → ((b : ℕ) → b < blocks ns → get_or found b [] ≡ block_of ns values b) → joined ns found ≡ values
+    → ((b : ℕ) → b < blocks ns → get_or found b [] ≡ block_of ns values b) → values_of_blocks ns found ≡ values
 joined_is ns values found long same =
     from_places
     (λ k. get_or (get_or found (block_number ns (coordinates ns k)) []) (place_of (coordinates ns k)) (pos 0)) (product ns) (pos 0) values long
@@ -31,5 +31,5 @@ joined_is ns values found long same =
     ∙ value_of_block ns values ps b p at
     ∙ ap (λ i. get_or values i (pos 0)) (raster-coordinates ns k lt)))
 
-pub joined-blocks : (ns : List ℕ) (values : List ℤ) → length values ≡ product ns → joined ns (blocks_of ns values) ≡ values
-joined-blocks ns values long = joined_is ns values (blocks_of ns values) long (λ b lt. get_or-map-upto (block_of ns values) (blocks ns) b [] lt)
+pub values_of_blocks-blocks : (ns : List ℕ) (values : List ℤ) → length values ≡ product ns → values_of_blocks ns (blocks_of ns values) ≡ values
+values_of_blocks-blocks ns values long = joined_is ns values (blocks_of ns values) long (λ b lt. get_or-map-upto (block_of ns values) (blocks ns) b [] lt)

@@ -10,7 +10,7 @@ use Rattle.zf_header.specs.HeaderFaults.{header_fault}
 use Rattle.zf_stream.specs.declared.fault.StreamFault.{StreamFault}
 use Rattle.zf_stream.specs.declared.fault.StreamFault.TheVariants as faults
 use Rattle.zf_stream.specs.Parsing.{parse, header_of, code_bits, header_or, codes_answer, read_codes, values_or_fault, restore_answer, without_values}
-use Rattle.zf_stream.specs.Reading.{IsFault}
+use Rattle.zf_stream.specs.ReadStreams.{IsFault}
 
 -- the faults of devices
 is_device : StreamFault → Bool

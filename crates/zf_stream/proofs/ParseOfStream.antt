@@ -5,9 +5,9 @@ use Rattle.std.proofs.lemmas.List.{length-replicate}
 use Rattle.std.proofs.Math.Seq.{take-append_seam, drop-append_seam, take-length}
 use Rattle.zf_spec.specs.Grid.{count_from, upto, blocks, extent_of}
 use Rattle.zf_spec.specs.Planes.{has_one}
-use Rattle.zf_spec.specs.Stream.{filled, to_bytes, to_bits}
+use Rattle.zf_spec.specs.Stream.{with_fill, to_bytes, to_bits}
 use Rattle.zf_spec.proofs.Reach.{has_one-zeros}
-use Rattle.zf_spec.proofs.Bytes.{to_bits-to_bytes, length-filled}
+use Rattle.zf_spec.proofs.Bytes.{to_bits-to_bytes, length-with_fill}
 use Rattle.zf_base.specs.Widths.{width_of}
 use Rattle.zf_header.specs.declared.header.Header.{Header}
 use Rattle.zf_header.specs.declared.header.HeaderFault.{HeaderFault}
@@ -16,7 +16,7 @@ use Rattle.zf_header.specs.HeaderFaults.{header_fault}
 use Rattle.zf_header.proofs.Spelled.{spelled_is_read}
 use Rattle.zf_stream.specs.declared.fault.StreamFault.{StreamFault}
 use Rattle.zf_stream.specs.declared.fault.StreamFault.TheVariants as faults
-use Rattle.zf_stream.specs.Parsing.{read_code, with_block, read_next, read_codes, joined, fill_answer, values_or_fault, codes_answer, header_of, header_or, parse}
+use Rattle.zf_stream.specs.Parsing.{read_code, with_block, read_next, read_codes, values_of_blocks, fill_answer, values_or_fault, codes_answer, header_of, header_or, parse}
 
 -- ---- the codes of blocks, one after another
 
@@ -79,7 +79,7 @@ module _ (h : Header) (bytes : List ℕ) (codes : List Bool) (n : ℕ) (is_heade
   -- and parse to what the codes say
   parse_bits : (found : List (List ℤ)) → n ≡ (64 - length (header_bits h ++ codes) % 64) % 64
       → read_codes h 0 (blocks h.shape) (codes ++ replicate n false) ≡ Ok (found, replicate n false)
-      → parse bytes ≡ Ok (joined h.shape found)
+      → parse bytes ≡ Ok (values_of_blocks h.shape found)
   unfolding parse
   parse_bits found fill reads =
       let front = header_bits h in
@@ -89,31 +89,31 @@ module _ (h : Header) (bytes : List ℕ) (codes : List Bool) (n : ℕ) (is_heade
       let Answer : Header → Result (List ℤ) StreamFault = λ g.
       codes_answer g all (read_codes g 0 (blocks g.shape) (drop (length (header_bits g)) (to_bits bytes))) in
       let used : all - length zeros ≡ length (front ++ codes) = omega (arith, ap length bits, length-append (front ++ codes) zeros) in
-      let filled : fill_answer h (all - length zeros) zeros ≡ Ok tt = ap (λ k. fill_answer h k zeros) used ∙ fill_good h (length (front ++ codes)) n fill in
+      let fill_is_good : fill_answer h (all - length zeros) zeros ≡ Ok tt = ap (λ k. fill_answer h k zeros) used ∙ fill_good h (length (front ++ codes)) n fill in
       ap (λ (f : Option HeaderFault). header_or f (Answer (header_of bytes))) (sym said.0)
       ∙ ap Answer said.1
       ∙ ap (λ (s : List Bool). codes_answer h all (read_codes h 0 (blocks h.shape) s)) left
       ∙ ap (codes_answer h all) reads
-      ∙ ap (values_or_fault (joined h.shape found)) filled
+      ∙ ap (values_or_fault (values_of_blocks h.shape found)) fill_is_good
 
 -- the file of a header and codes
 module _ (h : Header) (code : ℕ → List Bool) (is_header : IsHeader h) where
-  file_bits : let bs = filled (header_bits h ++ end_to_end code (upto (blocks h.shape))) in to_bits (to_bytes bs) ≡ bs
+  file_bits : let bs = with_fill (header_bits h ++ end_to_end code (upto (blocks h.shape))) in to_bits (to_bytes bs) ≡ bs
   file_bits =
       let bs = header_bits h ++ end_to_end code (upto (blocks h.shape)) in
-      let whole : length (filled bs) % 8 ≡ 0 = omega (arith, length-filled bs) in
-      to_bits-to_bytes (filled bs) whole
+      let whole : length (with_fill bs) % 8 ≡ 0 = omega (arith, length-with_fill bs) in
+      to_bits-to_bytes (with_fill bs) whole
 
-  pub header_of-file : header_of (to_bytes (filled (header_bits h ++ end_to_end code (upto (blocks h.shape))))) ≡ h
+  pub header_of-file : header_of (to_bytes (with_fill (header_bits h ++ end_to_end code (upto (blocks h.shape))))) ≡ h
   header_of-file =
       let codes = end_to_end code (upto (blocks h.shape)) in
       let n = (64 - length (header_bits h ++ codes) % 64) % 64 in
-      (said h (to_bytes (filled (header_bits h ++ codes))) codes n is_header file_bits).1
+      (said h (to_bytes (with_fill (header_bits h ++ codes))) codes n is_header file_bits).1
 
   pub parse-file : (back : ℕ → List ℤ) → ((b : ℕ) → b < blocks h.shape → ReadsBack h code back b)
-      → parse (to_bytes (filled (header_bits h ++ end_to_end code (upto (blocks h.shape))))) ≡ Ok (joined h.shape (map back (upto (blocks h.shape))))
+      → parse (to_bytes (with_fill (header_bits h ++ end_to_end code (upto (blocks h.shape))))) ≡ Ok (values_of_blocks h.shape (map back (upto (blocks h.shape))))
   parse-file back reads =
       let codes = end_to_end code (upto (blocks h.shape)) in
       let n = (64 - length (header_bits h ++ codes) % 64) % 64 in
-      parse_bits h (to_bytes (filled (header_bits h ++ codes))) codes n is_header file_bits (map back (upto (blocks h.shape))) refl
+      parse_bits h (to_bytes (with_fill (header_bits h ++ codes))) codes n is_header file_bits (map back (upto (blocks h.shape))) refl
       (read_codes-codes h code back 0 (blocks h.shape) (replicate n false) (λ k low high. reads k (omega (arith, high))))

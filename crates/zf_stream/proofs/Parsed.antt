@@ -4,7 +4,7 @@ use Rattle.std.proofs.lemmas.List.{take_at, take-append-le}
 use Rattle.std.proofs.lemmas.Grind.{flat_map-append}
 use Rattle.zf_spec.specs.Grid.{blocks}
 use Rattle.zf_spec.specs.Numbers.{field, word_bits}
-use Rattle.zf_spec.specs.Stream.{to_bits, filled}
+use Rattle.zf_spec.specs.Stream.{to_bits, with_fill}
 use Rattle.zf_spec.proofs.Bytes.{length-to_bits}
 use Rattle.zf_header.specs.declared.header.Header.{Header}
 use Rattle.zf_header.specs.HeaderBits.{header_bits, BeginsWith, IsHeader}
@@ -20,7 +20,7 @@ use Rattle.zf_stream.specs.Outcomes.{IsFront, IsRefusal}
 use Rattle.zf_stream.specs.declared.fault.StreamFault.{StreamFault}
 use Rattle.zf_stream.specs.declared.fault.StreamFault.TheVariants as faults
 use Rattle.zf_stream.specs.Parsing.{parse, header_of, code_bits, header_or, codes_answer, read_codes, restore_answer, without_values}
-use Rattle.zf_stream.specs.Reading.{BeginsWithHeader, HasGoodHeader, IsFaultOf, IsFault}
+use Rattle.zf_stream.specs.ReadStreams.{BeginsWithHeader, HasGoodHeader, IsFaultOf, IsFault}
 
 -- the answer of what stands behind the header
 answer_of : Option HeaderFault → Header → List ℕ → List Bool → Result (List ℤ) StreamFault
@@ -36,7 +36,7 @@ parse_is bytes h len begun =
     ∙ ap (λ g. answer_of None g bytes (code_bits bytes)) (sym begun.header) ∙ ap (answer_of None h bytes) behind
 
 -- the bits of words that hold bytes begin with those of the bytes
-pub all_bits : (bytes words : List ℕ) → word_bits words ≡ filled (to_bits bytes) → take (8 * length bytes) (word_bits words) ≡ to_bits bytes
+pub all_bits : (bytes words : List ℕ) → word_bits words ≡ with_fill (to_bits bytes) → take (8 * length bytes) (word_bits words) ≡ to_bits bytes
 all_bits bytes words bits =
     let s = to_bits bytes in
     ap (take (8 * length bytes)) bits ∙ take_at s _ (8 * length bytes) (length-to_bits bytes)

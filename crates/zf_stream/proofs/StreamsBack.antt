@@ -3,7 +3,7 @@ use Rattle.std.proofs.Common.{◌≡◌, refl, sym, ap, subst, ◌∙◌, ℕ, �
 use Rattle.std.specs.Int.{byte_len}
 use Rattle.zf_spec.specs.Grid.{product, blocks, upto, extent_of, block_of}
 use Rattle.zf_spec.specs.Codes.{round}
-use Rattle.zf_spec.specs.Stream.{first_bytes, values_from, block_code, file, stream, stream_of_bytes, filled, to_bytes}
+use Rattle.zf_spec.specs.Stream.{first_bytes, values_from, block_code, file, stream, stream_of_bytes, with_fill, to_bytes}
 use Rattle.zf_spec.proofs.Bytes.{first_bytes-all}
 use Rattle.zf_spec.proofs.RawValues.{length-values_from, values_from_fit, raw-values_from}
 use Rattle.zf_base.specs.Widths.{width_of}
@@ -12,9 +12,9 @@ use Rattle.zf_header.specs.declared.header.Mode.{Mode}
 use Rattle.zf_header.specs.declared.header.Mode.TheVariants.{Reversible, Rate}
 use Rattle.zf_header.specs.HeaderBits.{coding, IsHeader, header_bits}
 use Rattle.zf_stream.specs.Raw.{raw_len, raw_bytes, stream_of, stream_text}
-use Rattle.zf_stream.specs.Parsing.{read_code, joined, header_of, parse, restored_text, restore_answer, without_values}
+use Rattle.zf_stream.specs.Parsing.{read_code, values_of_blocks, header_of, parse, restored_text, restore_answer, without_values}
 use Rattle.zf_stream.proofs.TextOfParse.{text_of_parse}
-use Rattle.zf_stream.proofs.Joined.{joined-blocks}
+use Rattle.zf_stream.proofs.Joined.{values_of_blocks-blocks}
 use Rattle.zf_stream.proofs.ParseOfStream.{end_to_end, ReadsBack, header_of-file, parse-file}
 use Rattle.zf_stream.proofs.BlocksBack.{reads_reversible, reads_rate}
 
@@ -22,7 +22,7 @@ use Rattle.zf_stream.proofs.BlocksBack.{reads_reversible, reads_rate}
 abbrev code_of : Header → List ℤ → ℕ → List Bool
 code_of h values b = block_code (width_of h.ty) (coding h.mode) (extent_of h.shape b) (block_of h.shape values b)
 
-stream_of-codes : (h : Header) (values : List ℤ) → to_bytes (filled (header_bits h ++ end_to_end (code_of h values) (upto (blocks h.shape)))) ≡ stream_of h values
+stream_of-codes : (h : Header) (values : List ℤ) → to_bytes (with_fill (header_bits h ++ end_to_end (code_of h values) (upto (blocks h.shape)))) ≡ stream_of h values
 unfolding stream_of stream file header_bits
 stream_of-codes h values = refl
 
@@ -32,7 +32,7 @@ header_of-stream_of h values is_header =
     ap header_of (sym (stream_of-codes h values)) ∙ header_of-file h (code_of h values) is_header
 
 parse-stream_of : (h : Header) (values : List ℤ) (back : ℕ → List ℤ) → IsHeader h → ((b : ℕ) → b < blocks h.shape → ReadsBack h (code_of h values) back b)
-    → parse (stream_of h values) ≡ Ok (joined h.shape (map back (upto (blocks h.shape))))
+    → parse (stream_of h values) ≡ Ok (values_of_blocks h.shape (map back (upto (blocks h.shape))))
 parse-stream_of h values back is_header reads =
     ap parse (sym (stream_of-codes h values)) ∙ parse-file h (code_of h values) is_header back reads
 
@@ -47,11 +47,11 @@ parse-reversible h values is_header mode long fits =
     let block = block_of h.shape values b in
     let Read : Mode → Type 0 = λ m. read_code w m es (block_code w (coding m) es block ++ more) ≡ Some (block, length (block_code w (coding m) es block)) in
     subst Read (sym mode) (reads_reversible h.ty h.shape values b more is_header.shape lt fits))
-    ∙ ap (λ (vs : List ℤ). Ok vs) (joined-blocks h.shape values long)
+    ∙ ap (λ (vs : List ℤ). Ok vs) (values_of_blocks-blocks h.shape values long)
 
 -- at a fixed rate what the rate makes of each block
 pub parse-rate : (h : Header) (values : List ℤ) (budget : ℕ) → IsHeader h → h.mode ≡ Rate budget
-    → parse (stream_of h values) ≡ Ok (joined h.shape (map (λ b. round (width_of h.ty) budget (extent_of h.shape b) (block_of h.shape values b)) (upto (blocks h.shape))))
+    → parse (stream_of h values) ≡ Ok (values_of_blocks h.shape (map (λ b. round (width_of h.ty) budget (extent_of h.shape b) (block_of h.shape values b)) (upto (blocks h.shape))))
 parse-rate h values budget is_header mode =
     parse-stream_of h values (λ b. round (width_of h.ty) budget (extent_of h.shape b) (block_of h.shape values b)) is_header
     (λ b lt more.
@@ -69,7 +69,7 @@ stream_text-values h bytes = refl
 
 -- what a fixed rate makes of an array of values
 abbrev rounded : Header → ℕ → List ℤ → List ℤ
-rounded h budget values = joined h.shape (map (λ b. round (width_of h.ty) budget (extent_of h.shape b) (block_of h.shape values b)) (upto (blocks h.shape)))
+rounded h budget values = values_of_blocks h.shape (map (λ b. round (width_of h.ty) budget (extent_of h.shape b) (block_of h.shape values b)) (upto (blocks h.shape)))
 
 module _ (h : Header) (bytes : List ℕ) (is_header : IsHeader h) where
   parse-reversible_text : h.mode ≡ Reversible → parse (stream_text h bytes) ≡ Ok (values_from (width_of h.ty) (product h.shape) bytes)

@@ -8,10 +8,10 @@ use Rattle.zf_spec.specs.Numbers.{number}
 use Rattle.zf_spec.specs.Grid.{blocks, extent_of}
 use Rattle.zf_spec.specs.Lorenzo.{unlorenzo}
 use Rattle.zf_spec.specs.Planes.{code}
-use Rattle.zf_spec.specs.Reading.{Begins, full}
-use Rattle.zf_spec.specs.Codes.{count_bits, coefficients_of, existing, read_rev, read_rate}
+use Rattle.zf_spec.specs.ReadPlanes.{Begins, planes_in}
+use Rattle.zf_spec.specs.Codes.{count_bits, coefficients_of, existing_values, read_rev, read_rate}
 use Rattle.zf_spec.specs.Stream.{to_bits}
-use Rattle.zf_spec.proofs.Full.{length-full, full-length, full_begins, full_only}
+use Rattle.zf_spec.proofs.Full.{length-planes_in, planes_in-length, full_begins, full_only}
 use Rattle.zf_base.specs.Widths.{width_of}
 use Rattle.zf_header.specs.declared.header.Header.{Header}
 use Rattle.zf_header.specs.declared.header.Mode.{Mode}
@@ -20,7 +20,7 @@ use Rattle.zf_header.specs.declared.header.HeaderFault.{HeaderFault}
 use Rattle.zf_header.specs.HeaderFaults.{header_fault}
 use Rattle.zf_stream.specs.declared.fault.StreamFault.{StreamFault}
 use Rattle.zf_stream.specs.Raw.{raw_bytes}
-use Rattle.zf_stream.specs.Parsing.{read_code, with_block, read_next, read_codes, joined, fill_answer, values_or_fault, codes_answer, header_of, code_bits, header_or, parse, longest_codes, blocks_text, restored_text}
+use Rattle.zf_stream.specs.Parsing.{read_code, with_block, read_next, read_codes, values_of_blocks, fill_answer, values_or_fault, codes_answer, header_of, code_bits, header_or, parse, longest_codes, blocks_text, restored_text}
 
 -- ---- one code
 
@@ -31,11 +31,11 @@ begins_more (c ∷ front) [] more le b = absurd (omega arith)
 begins_more (c ∷ front) (d ∷ s) more le b = (b.0, begins_more front s more (omega arith) b.1)
 
 -- planes whose whole code is there
-full_more : (p size : ℕ) (s more : List Bool) → length (code (full p size s)) ≤ length s → full p size (s ++ more) ≡ full p size s
+full_more : (p size : ℕ) (s more : List Bool) → length (code (planes_in p size s)) ≤ length s → planes_in p size (s ++ more) ≡ planes_in p size s
 full_more p size s more le =
-    let ps = full p size s in
+    let ps = planes_in p size s in
     let begins = begins_more (code ps) s more le (full_begins p size s) in
-    sym (full_only size ps (s ++ more) (full-length p size s) begins ∙ ap (λ k. full k size (s ++ more)) (length-full p size s))
+    sym (full_only size ps (s ++ more) (planes_in-length p size s) begins ∙ ap (λ k. planes_in k size (s ++ more)) (length-planes_in p size s))
 
 -- an answer that may be nothing, and is something
 cond_some : {X : Type 0} (t : Bool) (x y : X) → cond t None (Some x) ≡ Some y → (t ≡ false) × (x ≡ y)
@@ -44,7 +44,7 @@ cond_some false x y e = (refl, cc)
 
 -- the block of planes, and the length of their code
 rev_of : Width → List ℕ → List (List Bool) → List ℤ × ℕ
-rev_of w es ps = (existing es (unlorenzo w (length es) (coefficients_of w (length es) ps)), count_bits w + length (code ps))
+rev_of w es ps = (existing_values es (unlorenzo w (length es) (coefficients_of w (length es) ps)), count_bits w + length (code ps))
 
 read_rev_more : (w : Width) (es : List ℕ) (s more : List Bool) (found : List ℤ × ℕ) → read_rev w es s ≡ Some found
     → (read_rev w es (s ++ more) ≡ Some found) × (found.1 ≤ length s)
@@ -53,15 +53,15 @@ read_rev_more w es s more found e =
     let n = count_bits w in
     let size = 4 ^ length es in
     let rest = drop n s in
-    let ps = full (number (take n s) + 1) size rest in
+    let ps = planes_in (number (take n s) + 1) size rest in
     let len = n + length (code ps) in
     let parts = cond_some (ltb (length s) len) (rev_of w es ps) found e in
     let within : len ≤ length s = ltb-false (length s) len parts.0 in
     let front : take n (s ++ more) ≡ take n s = take-append-le n s more (omega arith) in
     let behind : drop n (s ++ more) ≡ rest ++ more = drop-append-le n s more (omega arith) in
-    let same : full (number (take n (s ++ more)) + 1) size (drop n (s ++ more)) ≡ ps =
-    ap (λ (b : List Bool). full (number b + 1) size (drop n (s ++ more))) front
-    ∙ ap (full (number (take n s) + 1) size) behind
+    let same : planes_in (number (take n (s ++ more)) + 1) size (drop n (s ++ more)) ≡ ps =
+    ap (λ (b : List Bool). planes_in (number b + 1) size (drop n (s ++ more))) front
+    ∙ ap (planes_in (number (take n s) + 1) size) behind
     ∙ full_more (number (take n s) + 1) size rest more (omega (arith, within, length-drop n s)) in
     let longer : ltb (length (s ++ more)) len ≡ false = le-ltb (length (s ++ more)) len (omega (arith, within, length-append s more)) in
     let bits : len ≡ found.1 = ap (λ (c : List ℤ × ℕ). c.1) parts.1 in (
@@ -134,9 +134,9 @@ values_good found values (Ok good) e = cc
 values_good found values (Err f) e = absurd cc
 
 codes_good : (h : Header) (all : ℕ) (r : Result (List (List ℤ) × List Bool) ℕ) (values : List ℤ) → codes_answer h all r ≡ Ok values
-    → (found : List (List ℤ) × List Bool) × (r ≡ Ok found) × (joined h.shape found.0 ≡ values)
+    → (found : List (List ℤ) × List Bool) × (r ≡ Ok found) × (values_of_blocks h.shape found.0 ≡ values)
 codes_good h all (Err b) values e = absurd cc
-codes_good h all (Ok found) values e = (found, refl, values_good (joined h.shape found.0) values (fill_answer h (all - length found.1) found.1) e)
+codes_good h all (Ok found) values e = (found, refl, values_good (values_of_blocks h.shape found.0) values (fill_answer h (all - length found.1) found.1) e)
 
 -- what is restored of a stream that is good is the raw bytes of its values
 pub text_of_parse : (bytes : List ℕ) (values : List ℤ) → parse bytes ≡ Ok values → restored_text bytes ≡ raw_bytes (header_of bytes) values

@@ -41,8 +41,8 @@ read_codes h b zero s = Ok ([], s)
 read_codes h b (suc n) s = read_next b s (read_code (width_of h.ty) h.mode (extent_of h.shape b) s) (read_codes h (suc b) n)
 
 -- the values of an array, of its blocks: each position has the value at its place in its block
-abbrev pub joined : List ℕ → List (List ℤ) → List ℤ
-joined ns bs = map (λ k. slice_index_or (slice_index_or bs (block_number ns (coordinates ns k)) []) (place_of (coordinates ns k)) (pos 0)) (upto (product ns))
+abbrev pub values_of_blocks : List ℕ → List (List ℤ) → List ℤ
+values_of_blocks ns bs = map (λ k. slice_index_or (slice_index_or bs (block_number ns (coordinates ns k)) []) (place_of (coordinates ns k)) (pos 0)) (upto (product ns))
 
 -- what stands behind the codes: the fill to a whole word of 64, all zero, and nothing more
 abbrev pub fill_answer : Header → ℕ → List Bool → Result (Unit {0}) StreamFault
@@ -60,7 +60,7 @@ values_or_fault values (Err e) = Err e
 -- the codes and the fill of a stream of so many bits that has this header
 abbrev pub codes_answer : Header → ℕ → Result (List (List ℤ) × List Bool) ℕ → Result (List ℤ) StreamFault
 codes_answer h all (Err b) = Err (faults.Truncated b)
-codes_answer h all (Ok found) = values_or_fault (joined h.shape found.0) (fill_answer h (all - length found.1) found.1)
+codes_answer h all (Ok found) = values_or_fault (values_of_blocks h.shape found.0) (fill_answer h (all - length found.1) found.1)
 
 -- the header that bytes begin with, and the bits behind it
 abbrev pub header_of : List ℕ → Header
@@ -102,7 +102,7 @@ longest_codes h = blocks h.shape * longest_code h
 
 -- the raw values of blocks that were read
 abbrev pub blocks_text : Header → Result (List (List ℤ) × List Bool) ℕ → List ℕ
-blocks_text h (Ok found) = raw_bytes h (joined h.shape found.0)
+blocks_text h (Ok found) = raw_bytes h (values_of_blocks h.shape found.0)
 blocks_text h (Err b) = []
 
 -- the raw values that are read from bytes continued with zeros; nothing where they have no good header

@@ -3,7 +3,7 @@
 ghost use Rattle.std.specs.Prelude.{◌≡◌, ◌≢◌, ◌⊎◌, ◌<◌, ◌^◌, ◌≤◌, ◌++◌, map, length, Err, IfOk, IfErr, OnOk, OnErr};
 ghost use Rattle.zf_spec.specs.Stream.{raw};
 ghost use Rattle.zf_stream.specs.Outcomes.{TakesSome, IsCausedBy};
-ghost use Rattle.zf_stream.specs.Reading.{ReadsRest};
+ghost use Rattle.zf_stream.specs.ReadStreams.{ReadsRest};
 ghost use Rattle.zf_stream.specs.declared.fault.StreamFault.TheVariants.{Read, Memory};
 
 use crate::StreamFault;

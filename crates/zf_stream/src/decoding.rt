@@ -4,12 +4,12 @@ ghost use Rattle.std.specs.Prelude.{◌≡◌, ◌-◌, ◌*◌, ◌<◌, ◌≤
 ghost use Rattle.std.specs.Int.{div_ceil};
 ghost use Rattle.zf_spec.specs.Grid.{product, blocks};
 ghost use Rattle.zf_spec.specs.Numbers.{word_bits};
-ghost use Rattle.zf_spec.specs.Stream.{to_bits, filled};
+ghost use Rattle.zf_spec.specs.Stream.{to_bits, with_fill};
 ghost use Rattle.zf_base.specs.Widths.{width_of};
 ghost use Rattle.zf_bits.specs.Reader.{rest};
 ghost use Rattle.zf_header.specs.HeaderBits.{IsWritable};
 ghost use Rattle.zf_stream.specs.Parsing.{fill_answer, codes_answer, read_codes, parse};
-ghost use Rattle.zf_stream.specs.Reading.{BeginsWithHeader, ReadsCode, LacksCode, ReadsBlock, ReadsBlocks, IsCutAt, IsFault};
+ghost use Rattle.zf_stream.specs.ReadStreams.{BeginsWithHeader, ReadsCode, LacksCode, ReadsBlock, ReadsBlocks, IsCutAt, IsFault};
 ghost use Rattle.zf_stream.specs.declared.fault.StreamFault.TheVariants.{Memory, Truncated};
 
 use crate::StreamFault;
@@ -41,7 +41,7 @@ pub(crate) fn values_in<T: Lane>(
 /// The words that hold these bytes.
 fn words_in(alloc: Global, bytes: &[u8]) -> Result<Vec<u64>, StreamFault>
     ensures len { IfOk result (λ words. vec_len words ≡ div_ceil (length bytes.now) 8) }
-    ensures bits { IfOk result (λ words. word_bits words.items ≡ filled (to_bits bytes.now)) }
+    ensures bits { IfOk result (λ words. word_bits words.items ≡ with_fill (to_bits bytes.now)) }
     ensures fault { IfErr result (λ e. e ≡ Memory) }
 {
     match words_of_bytes(alloc, bytes) {

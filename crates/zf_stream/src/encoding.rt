@@ -12,7 +12,7 @@ use std::alloc::{AllocError, Global};
 use zf_base::Lane;
 use zf_bits::BitWriter;
 use zf_block::Scratch;
-use zf_header::{FULL_HEADER_BITS, Header, Mode};
+use zf_header::{LONG_HEADER_BITS, Header, Mode};
 use zf_pad::Layout;
 
 /// The stream of an array's values, x fastest.
@@ -27,7 +27,7 @@ pub(crate) fn stream_of<T: Lane>(
     ensures { IfOk result (λ bytes. bytes.items ≡ stream T.width h.now.shape (coding h.now.mode) (map T.value values.now)) }
 {
     let mut out = BitWriter::new(alloc);
-    out.reserve(u64::from(FULL_HEADER_BITS))?;
+    out.reserve(u64::from(LONG_HEADER_BITS))?;
     zf_header::write(h, &mut out);
     write_codes(alloc, h, values, &mut out)?;
     out.reserve(64)?;

@@ -3,7 +3,7 @@
 ghost use Rattle.std.specs.Prelude.{◌≡◌, ◌≢◌, ◌≤◌, length, take, Err, IfOk, IfErr, OnErr};
 ghost use Rattle.zf_dev.specs.Source.{TakesAtMost};
 ghost use Rattle.zf_stream.specs.Outcomes.{TakesFirst, IsCausedBy};
-ghost use Rattle.zf_stream.specs.Reading.{BeginsWithHeader, ReadsHeader, IsFaultOf, LacksHeader};
+ghost use Rattle.zf_stream.specs.ReadStreams.{BeginsWithHeader, ReadsHeader, IsFaultOf, LacksHeader};
 ghost use Rattle.zf_stream.specs.declared.fault.StreamFault.TheVariants.{Read};
 
 use crate::StreamFault;

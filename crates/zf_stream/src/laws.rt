@@ -9,7 +9,7 @@ ghost use Rattle.zf_header.specs.declared.header.Header.{Header};
 ghost use Rattle.zf_header.specs.declared.header.Mode.TheVariants.{Reversible, Rate};
 ghost use Rattle.zf_header.specs.HeaderBits.{IsHeader};
 ghost use Rattle.zf_stream.specs.Raw.{raw_len, raw_bytes, stream_of, stream_text};
-ghost use Rattle.zf_stream.specs.Parsing.{header_of, joined, parse, restore_answer, restored_text};
+ghost use Rattle.zf_stream.specs.Parsing.{header_of, values_of_blocks, parse, restore_answer, restored_text};
 
 /// What is restored of a stream is the raw bytes of its values.
 pub fn text_of_a_stream()
@@ -18,7 +18,7 @@ pub fn text_of_a_stream()
 
 /// The values of an array are joined of its blocks.
 pub fn joined_blocks()
-    ensures { (ns : List ℕ) (values : List ℤ) → length values ≡ product ns → joined ns (blocks_of ns values) ≡ values }
+    ensures { (ns : List ℕ) (values : List ℤ) → length values ≡ product ns → values_of_blocks ns (blocks_of ns values) ≡ values }
 {}
 
 /// The stream of an array has its header, and parses to its values, or to what the fixed rate makes of each block.
@@ -28,7 +28,7 @@ pub fn a_stream_is_parsed()
         → length values ≡ product h.shape → All (λ v. FitsSigned (width_of h.ty) v) values
         → parse (stream_of h values) ≡ Ok values }
     ensures rate { (h : Header) (values : List ℤ) (budget : ℕ) → IsHeader h → h.mode ≡ Rate budget
-        → parse (stream_of h values) ≡ Ok (joined h.shape
+        → parse (stream_of h values) ≡ Ok (values_of_blocks h.shape
         (map (λ b. round (width_of h.ty) budget (extent_of h.shape b) (block_of h.shape values b)) (upto (blocks h.shape)))) }
 {}
 
@@ -39,6 +39,6 @@ pub fn restore_undoes_compress()
         → length bytes ≡ raw_len h → All (λ b. b < 256) bytes → restored_text (stream_text h bytes) ≡ bytes }
     ensures rate { (h : Header) (bytes : List ℕ) (budget : ℕ) → IsHeader h → h.mode ≡ Rate budget
         → let values = values_from (width_of h.ty) (product h.shape) bytes in
-        restored_text (stream_text h bytes) ≡ raw_bytes h (joined h.shape
+        restored_text (stream_text h bytes) ≡ raw_bytes h (values_of_blocks h.shape
         (map (λ b. round (width_of h.ty) budget (extent_of h.shape b) (block_of h.shape values b)) (upto (blocks h.shape)))) }
 {}

@@ -5,7 +5,7 @@ ghost use Rattle.zf_base.specs.Widths.{width_of};
 ghost use Rattle.zf_header.specs.declared.header.HeaderFault.{HeaderFault};
 ghost use Rattle.zf_stream.specs.Parsing.{restore_answer, restored_text};
 ghost use Rattle.zf_stream.specs.Outcomes.{Answers, Finishes, LeavesFront, IsCausedBy, ReadsText, IsRefusal, TakesSome};
-ghost use Rattle.zf_stream.specs.Reading.{BeginsWithHeader, HasGoodHeader, IsFault, IsTextOf};
+ghost use Rattle.zf_stream.specs.ReadStreams.{BeginsWithHeader, HasGoodHeader, IsFault, IsTextOf};
 ghost use Rattle.zf_stream.specs.declared.fault.StreamFault.TheVariants.{Read, Write, Memory};
 ghost use Rattle.zf_stream.specs.declared.fault.StreamFault.TheVariants as faults;
 

@@ -8,7 +8,7 @@ use Rattle.zf_header.specs.HeaderFields.{header_in}
 use Rattle.zf_header.specs.HeaderFaults.{header_fault}
 use Rattle.zfpi.specs.declared.command.Command.TheVariants.{Info}
 use Rattle.zfpi.specs.Info.{info_line, info_text}
-use Rattle.zf_stream.specs.Reading.{ReadsHeader}
+use Rattle.zf_stream.specs.ReadStreams.{ReadsHeader}
 use Rattle.zfpi.specs.Answer.{header_status}
 use Rattle.zfpi.specs.Headline.{IsDone}
 

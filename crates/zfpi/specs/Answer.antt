@@ -8,7 +8,7 @@ use Rattle.zf_stream.specs.declared.fault.StreamFault.{StreamFault}
 use Rattle.zf_stream.specs.declared.fault.StreamFault.TheVariants as faults
 use Rattle.zf_stream.specs.Raw.{compress_answer, stream_text}
 use Rattle.zf_stream.specs.Parsing.{restore_answer, restored_text}
-use Rattle.zf_stream.specs.Reading.{HasGoodHeader}
+use Rattle.zf_stream.specs.ReadStreams.{HasGoodHeader}
 use Rattle.zfpi.specs.declared.status.Status.{Status}
 use Rattle.zfpi.specs.declared.status.Status.TheVariants as statuses
 use Rattle.zfpi.specs.declared.command.Command.{Command}

@@ -1,8 +1,8 @@
-use Rattle.zf_block.proofs.ReadBack.{existing-fours, one_answer}
+use Rattle.zf_block.proofs.ReadBack.{existing_values-fours, one_answer}
 use Rattle.zf_block.proofs.laws.one_block_is_read.Goals as goal
 
 pub returns-clause-whole : goal.returns-clause-whole
-returns-clause-whole c = existing-fours
+returns-clause-whole c = existing_values-fours
 
 pub returns-clause-one_answer : goal.returns-clause-one_answer
 returns-clause-one_answer c = one_answer

@@ -9,8 +9,8 @@ use Rattle.zf_block.proofs.rate.read_planes.Goals as goal
 
 pub returns-clause-passed : goal.returns-clause-passed
 returns-clause-passed c =
-    let old = c.args.src.now in
-    let middle = c.decode.new.src in
+    let old = c.args.reader.now in
+    let middle = c.decode.new.reader in
     let s = rest old in
     let used = c.unwrap-used.result in
     let budget = c.from-bits.result in
@@ -19,5 +19,5 @@ returns-clause-passed c =
     let count = MatchOption-at_some ⊤ Count used c.unwrap-used.ensures c.decode.ensures.count in
     let reads = MatchOption-at_some ⊤ Read used c.unwrap-used.ensures c.decode.ensures.reads in
     let all : length (take used s) + (budget - used) ≡ c.args.bits = omega (arith, length-take used s, count, c.from-bits.ensures, c.requires.enough) in
-    let Passed : ℕ → Type 0 = λ n. Reads old c.skip.new.src (take n s) in
+    let Passed : ℕ → Type 0 = λ n. Reads old c.skip.new.reader (take n s) in
     subst Passed all (Reads-part (take used s) (budget - used) reads c.skip.ensures)

@@ -10,6 +10,6 @@ pub returns : goal.returns
 returns c =
     let n = c.loop-left.left in
     let v = c.unwrap-word-2.result in
-    let Read : ℕ → Type 0 = λ word. Reads c.loop-left.src c.read-2.new.self (field n word) in
+    let Read : ℕ → Type 0 = λ word. Reads c.loop-left.reader c.read-2.new.self (field n word) in
     let reads = MatchOption-at_some ⊤ Read v c.unwrap-word-2.ensures c.read-2.ensures.reads in
     PassesBits-end c.requires (PassesBits-more n v (omega arith) c.loop-left.invariant reads) (omega arith)

@@ -2,7 +2,7 @@ use Rattle.zf_block.proofs.Reading.{PassesBits}
 use Rattle.zf_block.proofs.rate.skip.Given as goal
 
 abbrev pub invariant-loop-left : goal.invariant-loop-left
-invariant-loop-left l = PassesBits l.initial.src l.src l.fn.count l.left
+invariant-loop-left l = PassesBits l.initial.reader l.reader l.fn.count l.left
 
 abbrev pub decreases-loop-left : goal.decreases-loop-left
 decreases-loop-left l = l.left

@@ -1,11 +1,11 @@
 use Rattle.std.proofs.Common.{◌≡◌, ◌-◌, false, ◌++◌, length, take, replicate, sym, ap, ◌∙◌, arith}
 use Rattle.std.proofs.lemmas.List.{take_all}
 use Rattle.zf_spec.specs.Planes.{code}
-use Rattle.zf_spec.specs.Reading.{first}
-use Rattle.zf_spec.specs.Words.{planes_held}
+use Rattle.zf_spec.specs.ReadPlanes.{first_bits}
+use Rattle.zf_spec.specs.HeldPlanes.{planes_held}
 use Rattle.zf_bits.proofs.Appending.{Appends-append, Appends-same}
 use Rattle.zf_planes.proofs.Unpacking.{length-planes_held}
-use Rattle.zf_block.proofs.Zeros.{first-take}
+use Rattle.zf_block.proofs.Zeros.{first_bits-take}
 use Rattle.zf_block.proofs.rate.write_planes.Goals as goal
 
 pub returns : goal.returns
@@ -18,5 +18,5 @@ returns c =
     Appends-same (Appends-append c.encode-written.ensures.bits c.write_zeros.ensures)
     (ap (λ n. take budget bits ++ replicate n false) left
     ∙ ap (λ ps. take budget (code ps) ++ replicate (budget - length (code ps)) false) whole
-    ∙ sym (first-take budget (code planes))
-    ∙ ap (λ n. first n (code planes)) c.from-bits.ensures)
+    ∙ sym (first_bits-take budget (code planes))
+    ∙ ap (λ n. first_bits n (code planes)) c.from-bits.ensures)

@@ -1,9 +1,9 @@
 use Rattle.std.proofs.Common.{◌≡◌, ℕ, ◌-◌, ◌^◌, ◌<◌, ◌≤◌, ℤ, false, List, ◌++◌, length, take, replicate, sym, ap, subst, ◌∙◌}
 use Rattle.zf_spec.specs.Lorenzo.{unlorenzo}
 use Rattle.zf_spec.specs.Codes.{coefficients_of}
-use Rattle.zf_spec.specs.Words.{planes_held}
+use Rattle.zf_spec.specs.HeldPlanes.{planes_held}
 use Rattle.zf_bits.specs.Reader.{rest, Reads}
-use Rattle.zf_block.specs.Reading.{ReadsRev, rev_planes, rev_len}
+use Rattle.zf_block.specs.ReadBlocks.{ReadsRev, rev_planes, rev_len}
 use Rattle.zf_block.proofs.Sizes.{block_sizes}
 use Rattle.zf_block.proofs.Kept.{coefficients_of-zeros}
 use Rattle.zf_block.proofs.Reading.{ReadsRev-planes, LacksRev-short}
@@ -14,16 +14,16 @@ read_planes-requires-clause-size g c = block_sizes c.args.d (length c.args.block
 
 pub returns-in_err-read_planes-clause-short : goal.returns-in_err-read_planes-clause-short
 returns-in_err-read_planes-clause-short g c =
-    let s = rest c.args.src.now in
+    let s = rest c.args.reader.now in
     let P : ℕ → Type 0 = λ n. length s < rev_len g.T.Lane.width n s in
-    rw c.from_residual.ensures (LacksRev-short g.T.Lane.width c.args.d c.args.src.now (subst P c.requires.block c.in_err-read_planes.ensures.short))
+    rw c.from_residual.ensures (LacksRev-short g.T.Lane.width c.args.d c.args.reader.now (subst P c.requires.block c.in_err-read_planes.ensures.short))
 
 pub returns-clause-reads : goal.returns-clause-reads
 returns-clause-reads g c =
     let w = g.T.Lane.width in
     let d = c.args.d in
-    let old = c.args.src.now in
-    let new = c.read_planes.new.src in
+    let old = c.args.reader.now in
+    let new = c.read_planes.new.reader in
     let planes = c.read_planes.new.planes in
     let s = rest old in
     let Enough : ℕ → Type 0 = λ n. rev_len w n s ≤ length s in

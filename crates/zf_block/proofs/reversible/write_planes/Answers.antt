@@ -2,10 +2,10 @@ use Rattle.std.proofs.Common.{◌≡◌, ℕ, ◌-◌, ◌≤◌, ◌<◌, max, 
 use Rattle.std.proofs.lemmas.List.{take_all}
 use Rattle.std.proofs.Math.Nat.{mul-le-mul_left, mul-le-mul_right}
 use Rattle.zf_spec.specs.Numbers.{field}
-use Rattle.zf_spec.specs.Planes.{used, code}
-use Rattle.zf_spec.specs.Words.{planes_held}
+use Rattle.zf_spec.specs.Planes.{needed_planes, code}
+use Rattle.zf_spec.specs.HeldPlanes.{planes_held}
 use Rattle.zf_spec.specs.Codes.{count_bits, rev_of_planes}
-use Rattle.zf_spec.proofs.Reach.{used-le}
+use Rattle.zf_spec.proofs.Reach.{needed_planes-le}
 use Rattle.zf_spec.proofs.PlaneCode.{length-code-le}
 use Rattle.zf_bits.proofs.Appending.{Appends-append, Appends-same}
 use Rattle.zf_planes.proofs.Unpacking.{length-planes_held, length-top_held, sizes-top_held}
@@ -15,7 +15,7 @@ use Rattle.zf_block.proofs.reversible.write_planes.Goals as goal
 pub encode-requires-clause-planes : goal.encode-requires-clause-planes
 encode-requires-clause-planes g c =
     let bounds = width_bounds g.T.Lane.width g.T.Lane.WIDTH g.met.T.Lane.two_widths g.met.T.Lane.bits_of_width in
-    omega (arith, used-le (planes_held c.args.size c.args.planes.now), length-planes_held c.args.size c.args.planes.now, bounds.0, c.requires.planes)
+    omega (arith, needed_planes-le (planes_held c.args.size c.args.planes.now), length-planes_held c.args.size c.args.planes.now, bounds.0, c.requires.planes)
 
 pub encode-requires-clause-fits : goal.encode-requires-clause-fits
 encode-requires-clause-fits g c =
@@ -38,10 +38,10 @@ returns g c =
     let bounds = width_bounds g.T.Lane.width g.T.Lane.WIDTH g.met.T.Lane.two_widths g.met.T.Lane.bits_of_width in
     let small : c.args.size ≤ 256 = omega (arith, c.requires.size) in
     let top : c.max-prec.result ≤ length c.args.planes.now =
-    omega (arith, used-le (planes_held c.args.size c.args.planes.now), length-planes_held c.args.size c.args.planes.now, bounds.0, c.requires.planes) in
+    omega (arith, needed_planes-le (planes_held c.args.size c.args.planes.now), length-planes_held c.args.size c.args.planes.now, bounds.0, c.requires.planes) in
     let few : length c.args.planes.now ≤ 64 = omega (arith, c.requires.planes, bounds.1) in
     let whole = take_all 18446744073709551615 (code (take c.max-prec.result ps)) (short_code c.args.size c.max-prec.result c.args.planes.now small top few c.told-planes) in
-    let prec : c.max-prec.result ≡ max 1 (used ps) = omega (arith, c.used_planes.ensures) in
+    let prec : c.max-prec.result ≡ max 1 (needed_planes ps) = omega (arith, c.used_planes.ensures) in
     let code_of = λ (n k p : ℕ). field n k ++ code (take p ps) in
     Appends-same (Appends-append c.write_reserved.ensures.bits (Appends-same c.encode.ensures.bits whole))
     (ap (λ n. code_of n c.from.result c.max-prec.result) c.count_bits.ensures.value

@@ -1,7 +1,7 @@
 use Rattle.std.proofs.Common.{length, refl}
 use Rattle.zf_spec.specs.Codes.{rev}
 use Rattle.zf_bits.proofs.Appending.{Appends-same}
-use Rattle.zf_base.proofs.Extents.{length-used}
+use Rattle.zf_base.proofs.Extents.{length-used_axes}
 use Rattle.zf_block.proofs.Sizes.{block_sizes}
 use Rattle.zf_block.proofs.reversible.write_rev.Goals as goal
 
@@ -12,5 +12,5 @@ pub returns : goal.returns
 unfolding rev
 returns g c =
     let w = g.T.Lane.width in
-    let d = length-used c.args.d c.args.e.now.size c.requires.four_at_most in
+    let d = length-used_axes c.args.d c.args.e.now.size c.requires.four_at_most in
     Appends-same c.write_planes.ensures (rw (c.requires.block, c.make_planes.ensures, d) refl)

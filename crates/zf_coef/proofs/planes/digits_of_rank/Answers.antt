@@ -2,7 +2,7 @@ use Rattle.std.proofs.Common.{◌≡◌, ◌^◌, ◌<◌, length, sym, ap, subs
 use Rattle.std.proofs.lemmas.List.{take_all}
 use Rattle.zf_spec.specs.Numbers.{field, number}
 use Rattle.zf_spec.proofs.Fields.{field-number, number-lt}
-use Rattle.zf_coef.specs.Words.{column}
+use Rattle.zf_coef.specs.HeldDigits.{column}
 use Rattle.zf_coef.proofs.Transposed.{column_more, length-column}
 use Rattle.zf_coef.proofs.planes.digits_of_rank.Goals as goal
 use Rattle.zf_coef.proofs.planes.digits_of_rank.Goals.{After-loop-k}

@@ -1,6 +1,6 @@
 use Rattle.std.proofs.Common.{◌≡◌, take}
 use Rattle.zf_spec.specs.Numbers.{number}
-use Rattle.zf_coef.specs.Words.{column}
+use Rattle.zf_coef.specs.HeldDigits.{column}
 use Rattle.zf_coef.proofs.planes.digits_of_rank.Given as goal
 
 abbrev pub invariant-loop-k : goal.invariant-loop-k

@@ -2,8 +2,8 @@ use Rattle.std.proofs.Common.{◌≡◌, ◌^◌, ◌<◌, [], length, sym, ap, 
 use Rattle.std.specs.List.{AllWithin}
 use Rattle.std.proofs.lemmas.List.Elements.{AllWithin-more_set, All-from_all_within}
 use Rattle.zf_spec.specs.Numbers.{field}
-use Rattle.zf_spec.specs.Words.{planes_held}
-use Rattle.zf_coef.specs.Words.{columns}
+use Rattle.zf_spec.specs.HeldPlanes.{planes_held}
+use Rattle.zf_coef.specs.HeldDigits.{columns}
 use Rattle.zf_coef.proofs.Filling.{fill_more, fill_all}
 use Rattle.zf_coef.proofs.Transposed.{length-columns, get_or-columns}
 use Rattle.zf_coef.proofs.planes.from_planes.Goals as goal

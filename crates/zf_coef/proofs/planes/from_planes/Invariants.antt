@@ -1,7 +1,7 @@
 use Rattle.std.proofs.Common.{◌≡◌, ◌^◌, ◌<◌, length, take}
 use Rattle.std.specs.List.{AllWithin}
-use Rattle.zf_spec.specs.Words.{planes_held}
-use Rattle.zf_coef.specs.Words.{digits_in, columns}
+use Rattle.zf_spec.specs.HeldPlanes.{planes_held}
+use Rattle.zf_coef.specs.HeldDigits.{digits_in, columns}
 use Rattle.zf_coef.proofs.planes.from_planes.Given as goal
 
 abbrev pub invariant-loop-rank : goal.invariant-loop-rank

@@ -2,8 +2,8 @@ use Rattle.std.proofs.Common.{◌≡◌, ◌<◌, [], length, sym, ap, subst, �
 use Rattle.std.specs.List.{AllWithin}
 use Rattle.std.proofs.lemmas.List.Elements.{AllWithin-more_set, All-from_all_within}
 use Rattle.zf_spec.specs.Planes.{planes_of}
-use Rattle.zf_spec.specs.Words.{digits_held, IsClearFrom}
-use Rattle.zf_coef.specs.Words.{digits_in}
+use Rattle.zf_spec.specs.HeldPlanes.{digits_held, IsClearFrom}
+use Rattle.zf_coef.specs.HeldDigits.{digits_in}
 use Rattle.zf_coef.proofs.Filling.{fill_more, fill_all}
 use Rattle.zf_coef.proofs.Transposed.{planes_up, length-planes_up, get_or-planes_up, planes_all}
 use Rattle.zf_coef.proofs.planes.to_planes.Goals as goal

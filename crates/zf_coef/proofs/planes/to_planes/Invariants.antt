@@ -1,7 +1,7 @@
 use Rattle.std.proofs.Common.{◌≡◌, length, map, take}
 use Rattle.std.specs.List.{AllWithin}
-use Rattle.zf_spec.specs.Words.{digits_held, IsClearFrom}
-use Rattle.zf_coef.specs.Words.{digits_in}
+use Rattle.zf_spec.specs.HeldPlanes.{digits_held, IsClearFrom}
+use Rattle.zf_coef.specs.HeldDigits.{digits_in}
 use Rattle.zf_coef.proofs.Transposed.{planes_up}
 use Rattle.zf_coef.proofs.planes.to_planes.Given as goal
 

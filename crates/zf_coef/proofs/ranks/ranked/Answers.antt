@@ -4,7 +4,7 @@ use Rattle.std.proofs.lemmas.List.{get_or-map}
 use Rattle.std.proofs.lemmas.List.Elements.{AllWithin-none, AllWithin-more_set, All-from_all_within}
 use mir.Val.{bits}
 use Rattle.zf_spec.specs.Numbers.{digits, field}
-use Rattle.zf_coef.specs.Words.{ranked_digits}
+use Rattle.zf_coef.specs.HeldDigits.{ranked_digits}
 use Rattle.zf_coef.proofs.Filling.{fill_more, fill_all}
 use Rattle.zf_coef.proofs.ByRank.{length-ranked_digits, get_or-ranked_digits}
 use Rattle.zf_coef.proofs.ranks.ranked.Goals as goal

@@ -3,7 +3,7 @@ use Rattle.std.proofs.lemmas.List.{get_or-map, length-map, map-set}
 use mir.Val.{bits}
 use Rattle.zf_spec.specs.Numbers.{field, value_of}
 use Rattle.zf_spec.specs.Ranks.{order}
-use Rattle.zf_coef.specs.Words.{digits_in}
+use Rattle.zf_coef.specs.HeldDigits.{digits_in}
 use Rattle.zf_coef.proofs.ByRank.{HasRanks, ranks_more, ranks_all}
 use Rattle.zf_coef.proofs.ranks.unranked.Goals as goal
 

@@ -1,7 +1,7 @@
 use Rattle.std.proofs.Common.{map}
 use mir.Val.{bits}
 use Rattle.zf_spec.specs.Numbers.{value_of}
-use Rattle.zf_coef.specs.Words.{digits_in}
+use Rattle.zf_coef.specs.HeldDigits.{digits_in}
 use Rattle.zf_coef.proofs.ByRank.{HasRanks}
 use Rattle.zf_coef.proofs.ranks.unranked.Given as goal
 

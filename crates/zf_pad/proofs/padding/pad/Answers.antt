@@ -1,6 +1,6 @@
 use Rattle.std.proofs.Common.{◌+◌, ◌<◌, ◌^◌, pos, length, map, sym, ap, subst, rules, arith}
 use Rattle.std.proofs.lemmas.List.{length-map, map-set}
-use Rattle.zf_base.specs.Positions.{used}
+use Rattle.zf_base.specs.Positions.{used_axes}
 use Rattle.zf_base.proofs.Values.{number_at}
 use Rattle.zf_pad.proofs.Sizes.{used_length, used_sizes}
 use Rattle.zf_pad.proofs.Sources.{IsPadded, padded_none, padded_more, padded_all, value_of_source, source_in_block}
@@ -18,14 +18,14 @@ bounds-block-source_place g c =
     omega (arith, inside)
 
 pub loop-place-init : goal.loop-place-init
-loop-place-init g c = padded_none (used c.args.d c.args.e.now.size) (map g.T.Lane.value c.args.block.now)
+loop-place-init g c = padded_none (used_axes c.args.d c.args.e.now.size) (map g.T.Lane.value c.args.block.now)
 
 pub loop-place-preserved : goal.loop-place-preserved
 loop-place-preserved g c =
     let value = g.T.Lane.value in
     let d = c.args.d in
     let e = c.args.e.now in
-    let es = used d e.size in
+    let es = used_axes d e.size in
     let old = map value c.args.block.now in
     let block = c.loop-place.block in
     let n = c.loop-place.place in
@@ -41,6 +41,6 @@ loop-place-preserved g c =
 pub returns : goal.returns
 returns g c =
     let value = g.T.Lane.value in
-    let es = used c.args.d c.args.e.now.size in
+    let es = used_axes c.args.d c.args.e.now.size in
     let count = ap (λ k. 4 ^ k) (used_length c.args.d c.args.e.now c.requires.four_at_most c.requires.extent) in
     padded_all es (map value c.args.block.now) (map value c.loop-place.block) c.loop-place.place (omega (arith, count)) (omega (arith, length-map c.loop-place.block value)) c.loop-place.invariant

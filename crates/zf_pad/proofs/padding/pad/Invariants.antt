@@ -1,5 +1,5 @@
 use Rattle.std.proofs.Common.{map}
-use Rattle.zf_base.specs.Positions.{used}
+use Rattle.zf_base.specs.Positions.{used_axes}
 use Rattle.zf_pad.proofs.Sources.{IsPadded}
 use Rattle.zf_pad.proofs.padding.pad.Given as goal
 
@@ -7,4 +7,4 @@ use Rattle.zf_pad.proofs.padding.pad.Given as goal
 abbrev pub invariant-loop-place : goal.invariant-loop-place
 invariant-loop-place g l =
     let value = g.T.Lane.value in
-    IsPadded (used l.d l.e.size) (map value l.initial.block) (map value l.block) l.place
+    IsPadded (used_axes l.d l.e.size) (map value l.initial.block) (map value l.block) l.place

@@ -1,6 +1,6 @@
 use Rattle.std.proofs.Common.{◌≡◌, map, ap, subst, ◌∙◌, arith}
 use Rattle.zf_spec.specs.Padding.{pad}
-use Rattle.zf_base.specs.Positions.{used}
+use Rattle.zf_base.specs.Positions.{used_axes}
 use Rattle.zf_pad.specs.Rasters.{IsRasterBlock}
 use Rattle.zf_pad.proofs.Blocks.{lies_within, gathered_padded}
 use Rattle.zf_pad.proofs.tests.read_block.Goals as goal
@@ -26,6 +26,6 @@ returns g c =
       size = c.extent-e.ensures.size;
     } in
     let block = map g.T.Lane.value c.gather.new.block in
-    let sizes = ap (λ d. used d c.extent-e.result.size) c.dims-2.ensures.value ∙ c.extent-e.ensures.used_size in
+    let sizes = ap (λ d. used_axes d c.extent-e.result.size) c.dims-2.ensures.value ∙ c.extent-e.ensures.used_size in
     let padded = subst (λ es. map g.T.Lane.value c.pad.new.block ≡ pad es block) sizes c.pad.ensures in
     padded ∙ gathered_padded _ _ _ _ here _ _ block c.gather.ensures

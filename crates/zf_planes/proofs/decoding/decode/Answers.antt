@@ -1,7 +1,7 @@
 use Rattle.std.proofs.Common.{◌≡◌, ℕ, ◌-◌, ◌<◌, ◌≤◌, Bool, true, false, List, ◌++◌, length, take, replicate, refl, ap, ◌∙◌, subst, arith}
 use Rattle.std.proofs.lemmas.List.{length-take, length-replicate}
-use Rattle.zf_spec.specs.Kept.{kept}
-use Rattle.zf_spec.specs.Words.{planes_held}
+use Rattle.zf_spec.specs.Kept.{kept_planes}
+use Rattle.zf_spec.specs.HeldPlanes.{planes_held}
 use Rattle.zf_bits.specs.Reader.{rest, Reads}
 use Rattle.zf_planes.specs.Decoding.{coded, coded_bits, planes_ahead, planes_bits, Takes}
 use Rattle.zf_planes.proofs.Passing.{Takes-reads}
@@ -15,7 +15,7 @@ bits_are : (budget prec size : ℕ) (s : List Bool) → planes_bits budget prec 
 unfolding planes_bits
 bits_are budget prec size s = refl
 
-planes_are : (budget prec size : ℕ) (s : List Bool) → planes_ahead budget prec size 0 s ≡ kept budget (coded budget prec size s)
+planes_are : (budget prec size : ℕ) (s : List Bool) → planes_ahead budget prec size 0 s ≡ kept_planes budget (coded budget prec size s)
 unfolding planes_ahead
 planes_are budget prec size s = refl
 
@@ -26,11 +26,11 @@ seek-requires c =
 
 -- ---- the bits are there
 
-taken : (c : goal.In-Some) → Takes c.args.src.now c.read_planes.new.src c.args.budget c.in-Some.left (coded_bits c.args.budget c.args.prec c.args.size (rest c.args.src.now))
+taken : (c : goal.In-Some) → Takes c.args.reader.now c.read_planes.new.reader c.args.budget c.in-Some.left (coded_bits c.args.budget c.args.prec c.args.size (rest c.args.reader.now))
 taken c =
-    let s = rest c.args.src.now in
-    let P : ℕ → Type 0 = λ n. Takes c.args.src.now c.read_planes.new.src c.args.budget c.in-Some.left (planes_bits c.args.budget c.args.prec n 0 s) in
-    let Q : ℕ → Type 0 = λ n. Takes c.args.src.now c.read_planes.new.src c.args.budget c.in-Some.left n in
+    let s = rest c.args.reader.now in
+    let P : ℕ → Type 0 = λ n. Takes c.args.reader.now c.read_planes.new.reader c.args.budget c.in-Some.left (planes_bits c.args.budget c.args.prec n 0 s) in
+    let Q : ℕ → Type 0 = λ n. Takes c.args.reader.now c.read_planes.new.reader c.args.budget c.in-Some.left n in
     subst Q (bits_are c.args.budget c.args.prec c.args.size s) (subst P (sized c.args.size (omega (arith, c.requires.size))) c.in-Some.ensures.bits)
 
 pub returns-in-Some-clause-short : goal.returns-in-Some-clause-short
@@ -43,14 +43,14 @@ returns-in-Some-clause-count c = omega (arith, (taken c).spent)
 
 pub returns-in-Some-clause-reads : goal.returns-in-Some-clause-reads
 returns-in-Some-clause-reads c =
-    let s = rest c.args.src.now in
+    let s = rest c.args.reader.now in
     let count : coded_bits c.args.budget c.args.prec c.args.size s ≡ c.args.budget - c.in-Some.left = omega (arith, (taken c).spent) in
-    let P : ℕ → Type 0 = λ n. Reads c.args.src.now c.read_planes.new.src (take n s) in
+    let P : ℕ → Type 0 = λ n. Reads c.args.reader.now c.read_planes.new.reader (take n s) in
     subst P count (Takes-reads (taken c))
 
 pub returns-in-Some-clause-digits : goal.returns-in-Some-clause-digits
 returns-in-Some-clause-digits c =
-    let s = rest c.args.src.now in
+    let s = rest c.args.reader.now in
     let planes = c.read_planes.new.planes in
     let P : ℕ → Type 0 = λ n. planes_held n planes ≡ planes_ahead c.args.budget c.args.prec n 0 s ++ replicate (length planes - c.args.prec) (replicate n false) in
     subst P (sized c.args.size (omega (arith, c.requires.size))) c.in-Some.ensures.digits
@@ -60,7 +60,7 @@ returns-in-Some-clause-digits c =
 
 pub returns-in-None-clause-short : goal.returns-in-None-clause-short
 returns-in-None-clause-short c =
-    let s = rest c.args.src.now in
+    let s = rest c.args.reader.now in
     let P : ℕ → Type 0 = λ n. length s < planes_bits c.args.budget c.args.prec n 0 s in
     let few = subst P (sized c.args.size (omega (arith, c.requires.size))) c.in-None.ensures.short.few in
     (λ no. omega (arith, few, bits_are c.args.budget c.args.prec c.args.size s), λ less. refl)

@@ -10,7 +10,7 @@ use Rattle.zf_planes.proofs.decoding.read_digits.Goals as goal
 pub returns-in_err-digits-clause-short : goal.returns-in_err-digits-clause-short
 returns-in_err-digits-clause-short c =
     let lacks = Passes-lacks c.loop-i.invariant.passes (Lacks-bit c.in_err-digits.ensures.none c.in_err-digits.ensures.at_end) (omega arith) in
-    let P : ℕ → Type 0 = λ n. Lacks c.args.src.now c.read_bit.new.self n in
+    let P : ℕ → Type 0 = λ n. Lacks c.args.reader.now c.read_bit.new.self n in
     if_none _ (subst P (omega (arith, c.min-count.ensures)) lacks)
 
 -- one digit more of those that are read
@@ -27,7 +27,7 @@ loop-i-preserved c =
     let count = c.min-count.result in
     let before = c.loop-i.invariant in
     let reads = c.in_ok-digits.ensures.reads in
-    let P : ℕ → Type 0 = λ n. Passes c.args.src.now c.read_bit.new.self count n (count - (i + 1)) count in
+    let P : ℕ → Type 0 = λ n. Passes c.args.reader.now c.read_bit.new.self count n (count - (i + 1)) count in
     record {
       passes = subst P (omega arith) (Passes-bit (count - (i + 1)) before.passes (omega arith) (omega arith) reads);
       front = front_more c.loop-i.digits i before.passes (omega arith) (omega (arith, c.min-count.ensures)) before.front reads;
@@ -37,7 +37,7 @@ loop-i-preserved c =
 pub returns-clause-digits : goal.returns-clause-digits
 returns-clause-digits c =
     let ds = c.loop-i.digits in
-    let s = rest c.args.src.now in
+    let s = rest c.args.reader.now in
     let n = length c.args.digits.now in
     let before = c.loop-i.invariant in
     let q : c.loop-i.i ≡ min n c.args.left = omega (arith, c.min-count.ensures) in

@@ -6,7 +6,7 @@ use Rattle.zf_planes.proofs.decoding.read_digits.Given as goal
 
 abbrev pub invariant-loop-i : goal.invariant-loop-i
 invariant-loop-i l = record {
-  passes : Passes l.fn.src l.src l.count (l.count - l.i) (l.count - l.i) l.count;
-  front : take l.i l.digits ≡ take l.i (rest l.fn.src);
+  passes : Passes l.fn.reader l.reader l.count (l.count - l.i) (l.count - l.i) l.count;
+  front : take l.i l.digits ≡ take l.i (rest l.fn.reader);
   back : drop l.i l.digits ≡ replicate (length l.digits - l.i) false;
 }

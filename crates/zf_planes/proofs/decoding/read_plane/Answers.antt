@@ -1,7 +1,7 @@
 use Rattle.std.proofs.Common.{◌≡◌, ℕ, ◌+◌, ◌-◌, ◌≤◌, min, Bool, List, [], ◌++◌, length, take, drop, sym, ap, ◌∙◌, arith, take_at, drop_at, append-nil}
 use Rattle.std.proofs.lemmas.List.{length-take, length-drop, take_rest, drop_all}
-use Rattle.zf_spec.specs.Reading.{first}
-use Rattle.zf_spec.proofs.Beginnings.{length-first}
+use Rattle.zf_spec.specs.ReadPlanes.{first_bits}
+use Rattle.zf_spec.proofs.Beginnings.{length-first_bits}
 use Rattle.zf_bits.specs.Reader.{Reader, rest}
 use Rattle.zf_planes.specs.Decoding.{Takes, tail_ahead, tail_bits, plane_ahead, plane_bits}
 use Rattle.zf_planes.proofs.Passing.{Passes-start, Passes-lacks, Takes-rest, Takes-both, Lacks-second, if_none, on_some}
@@ -29,7 +29,7 @@ record FirstRead (old mid : Reader) (left after n m : ℕ) (ds front : List Bool
   long : length front ≡ n
 
 first_read : {old mid : Reader} {left after : ℕ} (n : ℕ) (ds front : List Bool) → n ≤ length ds → Takes old mid left after (min (length (take n ds)) left)
-    → front ≡ first (length (take n ds)) (take left (rest old))
+    → front ≡ first_bits (length (take n ds)) (take left (rest old))
     → FirstRead old mid left after n (length (take (length (front ++ drop n ds) - n) (drop n (front ++ drop n ds)))) ds front
 first_read {old} {mid} {left} {after} n ds front within takes is =
     let s = rest old in
@@ -37,7 +37,7 @@ first_read {old} {mid} {left} {after} n ds front within takes is =
     let read = rw part at takes in
     let spent : after ≡ left - min n left = omega (arith, read.spent) in
     let same = rw part at is in
-    let long : length front ≡ n = ap length same ∙ length-first n (take left s) in
+    let long : length front ≡ n = ap length same ∙ length-first_bits n (take left s) in
     let second = ap length (second_part front ds n long) ∙ length-drop n ds in
     record {
       takes = read;
@@ -50,10 +50,10 @@ pub returns-in_err-left-clause-short : goal.returns-in_err-left-clause-short
 returns-in_err-left-clause-short c =
     let n = c.args.n in
     let ds = c.args.digits.now in
-    let s = rest c.args.src.now in
+    let s = rest c.args.reader.now in
     let part : length (take n ds) ≡ n = omega (arith, length-take n ds, c.requires) in
     let few : min (length (take n ds)) c.args.left ≤ plane_bits c.args.left (length ds) n s = omega (arith, part, plane_bits-is c.args.left (length ds) n s c.requires) in
-    if_none _ (Passes-lacks (Passes-start c.args.src.now c.args.left (plane_bits c.args.left (length ds) n s)) c.in_err-left.ensures.short few)
+    if_none _ (Passes-lacks (Passes-start c.args.reader.now c.args.left (plane_bits c.args.left (length ds) n s)) c.in_err-left.ensures.short few)
 
 pub returns-clause-short : goal.returns-clause-short
 returns-clause-short c =

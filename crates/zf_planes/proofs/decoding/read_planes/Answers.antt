@@ -2,7 +2,7 @@ use Rattle.std.proofs.Common.{◌≡◌, ℕ, suc, ◌+◌, ◌-◌, ◌<◌, �
 use Rattle.std.proofs.lemmas.List.{take_more_set, length-replicate, append_assoc, append-nil, take-append-drop}
 use Rattle.std.proofs.lemmas.List.Elements.{All-set, All-replicate}
 use Rattle.zf_spec.specs.Planes.{reach}
-use Rattle.zf_spec.specs.Words.{digits_held, planes_held, IsClearFrom}
+use Rattle.zf_spec.specs.HeldPlanes.{digits_held, planes_held, IsClearFrom}
 use Rattle.zf_spec.proofs.Reach.{reach-le}
 use Rattle.zf_bits.specs.Reader.{Reader, rest}
 use Rattle.zf_planes.specs.Decoding.{Takes, plane_ahead, plane_bits, planes_ahead, planes_bits}
@@ -18,12 +18,12 @@ pub loop-i-init : goal.loop-i-init
 loop-i-init c =
     let size = length c.args.digits.now in
     let n = length c.args.planes.now in
-    let s = rest c.args.src.now in
+    let s = rest c.args.reader.now in
     let all : c.args.prec ≡ c.args.prec - 0 = omega arith in
     let long : n ≡ length c.clear.new.planes - 0 = omega (arith, ap length c.clear.ensures, length-replicate n blank) in
-    let Passed : ℕ → Type 0 = λ p. Passes c.args.src.now c.args.src.now c.args.budget c.args.budget (planes_bits c.args.budget p size 0 s) (planes_bits c.args.budget c.args.prec size 0 s) in
+    let Passed : ℕ → Type 0 = λ p. Passes c.args.reader.now c.args.reader.now c.args.budget c.args.budget (planes_bits c.args.budget p size 0 s) (planes_bits c.args.budget c.args.prec size 0 s) in
     record {
-      passes = subst Passed all (Passes-start c.args.src.now c.args.budget (planes_bits c.args.budget c.args.prec size 0 s));
+      passes = subst Passed all (Passes-start c.args.reader.now c.args.budget (planes_bits c.args.budget c.args.prec size 0 s));
       digits = ap (λ p. planes_ahead c.args.budget p size 0 s) all;
       back = ap (planes_held size) c.clear.ensures ∙ planes_held-blank size n c.requires.size ∙ ap (λ k. replicate k (replicate size false)) long;
       clear = rw c.clear.ensures (All-replicate (IsClearFrom size) n blank (IsClearFrom-blank size));
@@ -53,7 +53,7 @@ pub returns-in_err-left-clause-short : goal.returns-in_err-left-clause-short
 returns-in_err-left-clause-short c =
     let i = c.loop-i.i in
     let size = length c.args.digits.now in
-    let s = rest c.loop-i.src in
+    let s = rest c.loop-i.reader in
     let planes : c.args.prec - i ≡ suc (c.args.prec - (i + 1)) = omega arith in
     let Part : ℕ → Type 0 = λ p. plane_bits c.loop-i.left size c.loop-i.above s ≤ planes_bits c.loop-i.left p size c.loop-i.above s in
     let part = subst Part (sym planes) (plane_bits-le c.loop-i.left (c.args.prec - (i + 1)) size c.loop-i.above s) in
@@ -90,7 +90,7 @@ loop-i-preserved c =
     let words = c.pack.result in
     let ds = c.read_plane.new.digits in
     let held = planes_held size planes in
-    let behind = rest c.read_plane.new.src in
+    let behind = rest c.read_plane.new.reader in
     let within : i < length planes = omega (arith, c.requires.planes, c.loop-i.auto.planes) in
     let long : length ds ≡ size = omega (arith, c.read_plane.auto.digits, c.loop-i.auto.digits) in
     let takes = rw c.loop-i.auto.digits at c.in_ok-left.ensures.bits in
@@ -118,7 +118,7 @@ pub returns-clause-bits : goal.returns-clause-bits
 returns-clause-bits c =
     let size = length c.args.digits.now in
     let none : c.args.prec - c.loop-i.i ≡ 0 = omega arith in
-    Passes-end c.loop-i.invariant.passes (ap (λ p. planes_bits c.loop-i.left p size c.loop-i.above (rest c.loop-i.src)) none ∙ planes_bits-none c.loop-i.left size c.loop-i.above (rest c.loop-i.src))
+    Passes-end c.loop-i.invariant.passes (ap (λ p. planes_bits c.loop-i.left p size c.loop-i.above (rest c.loop-i.reader)) none ∙ planes_bits-none c.loop-i.left size c.loop-i.above (rest c.loop-i.reader))
 
 pub returns-clause-digits : goal.returns-clause-digits
 returns-clause-digits c =
@@ -130,10 +130,10 @@ returns-clause-digits c =
     let all : i ≡ c.args.prec = omega arith in
     let read =
     c.loop-i.invariant.digits
-    ∙ ap (λ p. take i held ++ planes_ahead c.loop-i.left p size c.loop-i.above (rest c.loop-i.src)) none
-    ∙ ap (λ (ps : List (List Bool)). take i held ++ ps) (planes_ahead-none c.loop-i.left size c.loop-i.above (rest c.loop-i.src))
+    ∙ ap (λ p. take i held ++ planes_ahead c.loop-i.left p size c.loop-i.above (rest c.loop-i.reader)) none
+    ∙ ap (λ (ps : List (List Bool)). take i held ++ ps) (planes_ahead-none c.loop-i.left size c.loop-i.above (rest c.loop-i.reader))
     ∙ append-nil (take i held) in
     sym (take-append-drop i held)
     ∙ ap (λ (ps : List (List Bool)). take i held ++ ps) c.loop-i.invariant.back
     ∙ ap (λ (ps : List (List Bool)). ps ++ replicate (length c.loop-i.planes - i) zeros) (sym read)
-    ∙ ap (λ k. planes_ahead c.args.budget c.args.prec size 0 (rest c.args.src.now) ++ replicate (length c.loop-i.planes - k) zeros) all
+    ∙ ap (λ k. planes_ahead c.args.budget c.args.prec size 0 (rest c.args.reader.now) ++ replicate (length c.loop-i.planes - k) zeros) all

@@ -10,12 +10,12 @@ use Rattle.zf_planes.proofs.decoding.read_run.Goals as goal
 
 pub returns-then-left-eq0-clause-bits : goal.returns-then-left-eq0-clause-bits
 returns-then-left-eq0-clause-bits c =
-    let stands = run_stands c.loop-zeros.left (c.args.most - c.loop-zeros.zeros) (rest c.loop-zeros.src) (omega arith) (inl c.if-left-eq0.true) in
+    let stands = run_stands c.loop-zeros.left (c.args.most - c.loop-zeros.zeros) (rest c.loop-zeros.reader) (omega arith) (inl c.if-left-eq0.true) in
     omega (arith, stands.0, c.loop-zeros.invariant.passes.sum)
 
 pub returns-then-left-eq0-clause-digits : goal.returns-then-left-eq0-clause-digits
 returns-then-left-eq0-clause-digits c =
-    let stands = run_stands c.loop-zeros.left (c.args.most - c.loop-zeros.zeros) (rest c.loop-zeros.src) (omega arith) (inl c.if-left-eq0.true) in
+    let stands = run_stands c.loop-zeros.left (c.args.most - c.loop-zeros.zeros) (rest c.loop-zeros.reader) (omega arith) (inl c.if-left-eq0.true) in
     c.loop-zeros.invariant.digits ∙ ap (λ (ds : List Bool). replicate c.loop-zeros.zeros false ++ ds) stands.1
 
 -- ---- the bits end
@@ -23,7 +23,7 @@ returns-then-left-eq0-clause-digits c =
 pub returns-in_err-read_bit-clause-short : goal.returns-in_err-read_bit-clause-short
 returns-in_err-read_bit-clause-short c =
     let none = c.in_err-read_bit.ensures.at_end in
-    let needed = run_short c.loop-zeros.left (c.args.most - c.loop-zeros.zeros) (rest c.loop-zeros.src) (omega arith) (omega arith) none in
+    let needed = run_short c.loop-zeros.left (c.args.most - c.loop-zeros.zeros) (rest c.loop-zeros.reader) (omega arith) (omega arith) none in
     if_none _ (Passes-lacks c.loop-zeros.invariant.passes (Lacks-bit c.in_err-read_bit.ensures.none none) needed)
 
 -- ---- the one
@@ -32,14 +32,14 @@ pub returns-then-branch-clause-bits : goal.returns-then-branch-clause-bits
 returns-then-branch-clause-bits c =
     let behind = rest c.read_bit.new.self in
     let here = c.in_ok-read_bit.ensures.reads.next ∙ ap (λ b. b ∷ behind) c.if-branch.true in
-    let one = run_one c.loop-zeros.left (c.args.most - c.loop-zeros.zeros) (rest c.loop-zeros.src) behind (omega arith) (omega arith) here in
+    let one = run_one c.loop-zeros.left (c.args.most - c.loop-zeros.zeros) (rest c.loop-zeros.reader) behind (omega arith) (omega arith) here in
     omega (arith, one.0, c.loop-zeros.invariant.passes.sum, c.loop-zeros.invariant.passes.within)
 
 pub returns-then-branch-clause-digits : goal.returns-then-branch-clause-digits
 returns-then-branch-clause-digits c =
     let behind = rest c.read_bit.new.self in
     let here = c.in_ok-read_bit.ensures.reads.next ∙ ap (λ b. b ∷ behind) c.if-branch.true in
-    let one = run_one c.loop-zeros.left (c.args.most - c.loop-zeros.zeros) (rest c.loop-zeros.src) behind (omega arith) (omega arith) here in
+    let one = run_one c.loop-zeros.left (c.args.most - c.loop-zeros.zeros) (rest c.loop-zeros.reader) behind (omega arith) (omega arith) here in
     c.loop-zeros.invariant.digits ∙ ap (λ (ds : List Bool). replicate c.loop-zeros.zeros false ++ ds) one.1
 
 -- ---- a zero
@@ -54,7 +54,7 @@ loop-zeros-preserved c =
     let behind = rest c.read_bit.new.self in
     let before = c.loop-zeros.invariant in
     let here = c.in_ok-read_bit.ensures.reads.next ∙ ap (λ b. b ∷ behind) c.if-branch.false in
-    let zero = run_zero left (c.args.most - z) (rest c.loop-zeros.src) behind (omega arith) (omega arith) here in
+    let zero = run_zero left (c.args.most - z) (rest c.loop-zeros.reader) behind (omega arith) (omega arith) here in
     let fewer : c.args.most - z - 1 ≡ c.args.most - (z + 1) = omega arith in
     record {
       passes = Passes-bit (run_bits (left - 1) (c.args.most - (z + 1)) behind) before.passes (zero.0 ∙ ap (λ m. suc (run_bits (left - 1) m behind)) fewer) (omega arith) c.in_ok-read_bit.ensures.reads;
@@ -69,12 +69,12 @@ loop-zeros-preserved c =
 pub returns-clause-bits : goal.returns-clause-bits
 returns-clause-bits c =
     let z : c.loop-zeros.zeros ≡ c.args.most - 1 = omega arith in
-    let stands = run_stands c.loop-zeros.left (c.args.most - c.loop-zeros.zeros) (rest c.loop-zeros.src) (omega arith) (inr (omega arith)) in
+    let stands = run_stands c.loop-zeros.left (c.args.most - c.loop-zeros.zeros) (rest c.loop-zeros.reader) (omega arith) (inr (omega arith)) in
     let sum = c.loop-zeros.invariant.passes.sum in
     rw (← z) (omega (arith, stands.0, sum))
 
 pub returns-clause-digits : goal.returns-clause-digits
 returns-clause-digits c =
     let z : c.loop-zeros.zeros ≡ c.args.most - 1 = omega arith in
-    let stands = run_stands c.loop-zeros.left (c.args.most - c.loop-zeros.zeros) (rest c.loop-zeros.src) (omega arith) (inr (omega arith)) in
+    let stands = run_stands c.loop-zeros.left (c.args.most - c.loop-zeros.zeros) (rest c.loop-zeros.reader) (omega arith) (inr (omega arith)) in
     rw (← z) (c.loop-zeros.invariant.digits ∙ ap (λ (ds : List Bool). replicate c.loop-zeros.zeros false ++ ds) stands.1)

@@ -7,6 +7,6 @@ use Rattle.zf_planes.proofs.decoding.read_run.Given as goal
 
 abbrev pub invariant-loop-zeros : goal.invariant-loop-zeros
 invariant-loop-zeros l = record {
-  passes : Passes l.fn.src l.src l.fn.left l.left (run_bits l.left (l.most - l.zeros) (rest l.src)) (run_bits l.fn.left l.most (rest l.fn.src));
-  digits : run_ahead l.fn.left l.most (rest l.fn.src) ≡ replicate l.zeros false ++ run_ahead l.left (l.most - l.zeros) (rest l.src);
+  passes : Passes l.fn.reader l.reader l.fn.left l.left (run_bits l.left (l.most - l.zeros) (rest l.reader)) (run_bits l.fn.left l.most (rest l.fn.reader));
+  digits : run_ahead l.fn.left l.most (rest l.fn.reader) ≡ replicate l.zeros false ++ run_ahead l.left (l.most - l.zeros) (rest l.reader);
 }

@@ -12,7 +12,7 @@ use Rattle.zf_planes.proofs.decoding.read_tail.Goals as goal
 pub returns-in_err-read_bit-clause-short : goal.returns-in_err-read_bit-clause-short
 returns-in_err-read_bit-clause-short c =
     let none = c.in_err-read_bit.ensures.at_end in
-    let needed = tail_short c.loop-n.left (length c.loop-n.digits - c.loop-n.n) (rest c.loop-n.src) c.if-left-gt0.true (omega arith) none in
+    let needed = tail_short c.loop-n.left (length c.loop-n.digits - c.loop-n.n) (rest c.loop-n.reader) c.if-left-gt0.true (omega arith) none in
     if_none _ (Passes-lacks c.loop-n.invariant.passes (Lacks-bit c.in_err-read_bit.ensures.none none) needed)
 
 pub returns-in_err-run-clause-short : goal.returns-in_err-run-clause-short
@@ -22,7 +22,7 @@ returns-in_err-run-clause-short c =
     let behind = rest c.read_bit.new.self in
     let reads = c.in_ok-read_bit.ensures.reads in
     let here = reads.next ∙ ap (λ b. b ∷ behind) c.if-not-branch.false in
-    let run = tail_run left m (rest c.loop-n.src) behind c.if-left-gt0.true (omega arith) here in
+    let run = tail_run left m (rest c.loop-n.reader) behind c.if-left-gt0.true (omega arith) here in
     let passes = Passes-bit (run_bits (left - 1) m behind) c.loop-n.invariant.passes run.0 c.if-left-gt0.true reads in
     if_none _ (Passes-lacks passes c.in_err-run.ensures.short (omega arith))
 
@@ -41,15 +41,15 @@ loop-n-preserved c =
     let behind = rest c.read_bit.new.self in
     let reads = c.in_ok-read_bit.ensures.reads in
     let here = reads.next ∙ ap (λ b. b ∷ behind) c.if-not-branch.false in
-    let run = tail_run left m (rest c.loop-n.src) behind c.if-left-gt0.true (omega arith) here in
+    let run = tail_run left m (rest c.loop-n.reader) behind c.if-left-gt0.true (omega arith) here in
     let z = c.in_ok-run.run'.zeros in
     let left' = c.in_ok-run.run'.left in
-    let last = rest c.read_run.new.src in
+    let last = rest c.read_run.new.reader in
     let within : n + z < length ds = omega (arith, c.in_ok-run.ensures.within) in
     let fewer : m - z - 1 ≡ length (set ds (n + z) true) - (n + z + 1) = omega (arith, length-set ds (n + z) true) in
     let bit_passed = Passes-bit (run_bits (left - 1) m behind) before.passes run.0 c.if-left-gt0.true reads in
     let run_passed = Passes-part (tail_bits left' (m - z - 1) last) bit_passed c.in_ok-run.ensures.bits c.in_ok-run.ensures.taken in
-    let P : ℕ → Type 0 = λ k. Passes c.args.src.now c.read_run.new.src c.args.left left' (tail_bits left' k last) (tail_bits c.args.left (length c.args.digits.now) (rest c.args.src.now)) in
+    let P : ℕ → Type 0 = λ k. Passes c.args.reader.now c.read_run.new.reader c.args.left left' (tail_bits left' k last) (tail_bits c.args.left (length c.args.digits.now) (rest c.args.reader.now)) in
     record {
       passes = subst P fewer run_passed;
       digits =
@@ -66,22 +66,22 @@ loop-n-preserved c =
 
 pub returns-else-left-gt0-clause-bits : goal.returns-else-left-gt0-clause-bits
 returns-else-left-gt0-clause-bits c =
-    let over = tail_over c.loop-n.left (length c.loop-n.digits - c.loop-n.n) (rest c.loop-n.src) (inl (omega arith)) in
+    let over = tail_over c.loop-n.left (length c.loop-n.digits - c.loop-n.n) (rest c.loop-n.reader) (inl (omega arith)) in
     Passes-end c.loop-n.invariant.passes over.0
 
 pub returns-else-left-gt0-clause-digits : goal.returns-else-left-gt0-clause-digits
 returns-else-left-gt0-clause-digits c =
-    let over = tail_over c.loop-n.left (length c.loop-n.digits - c.loop-n.n) (rest c.loop-n.src) (inl (omega arith)) in
+    let over = tail_over c.loop-n.left (length c.loop-n.digits - c.loop-n.n) (rest c.loop-n.reader) (inl (omega arith)) in
     whole_from c.loop-n.digits _ false c.loop-n.n c.loop-n.invariant.back over.1 ∙ sym c.loop-n.invariant.digits
 
 pub returns-after-loop-n-clause-bits : goal.returns-after-loop-n-clause-bits
 returns-after-loop-n-clause-bits c =
-    let over = tail_over c.loop-n.left (length c.loop-n.digits - c.loop-n.n) (rest c.loop-n.src) (inr (omega arith)) in
+    let over = tail_over c.loop-n.left (length c.loop-n.digits - c.loop-n.n) (rest c.loop-n.reader) (inr (omega arith)) in
     Passes-end c.loop-n.invariant.passes over.0
 
 pub returns-after-loop-n-clause-digits : goal.returns-after-loop-n-clause-digits
 returns-after-loop-n-clause-digits c =
-    let over = tail_over c.loop-n.left (length c.loop-n.digits - c.loop-n.n) (rest c.loop-n.src) (inr (omega arith)) in
+    let over = tail_over c.loop-n.left (length c.loop-n.digits - c.loop-n.n) (rest c.loop-n.reader) (inr (omega arith)) in
     whole_from c.loop-n.digits _ false c.loop-n.n c.loop-n.invariant.back over.1 ∙ sym c.loop-n.invariant.digits
 
 -- ---- a group bit of zero
@@ -91,12 +91,12 @@ returns-then-not-branch-clause-bits c =
     let behind = rest c.read_bit.new.self in
     let reads = c.in_ok-read_bit.ensures.reads in
     let here = reads.next ∙ ap (λ b. b ∷ behind) c.if-not-branch.true in
-    let end = tail_end c.loop-n.left (length c.loop-n.digits - c.loop-n.n) (rest c.loop-n.src) behind c.if-left-gt0.true (omega arith) here in
+    let end = tail_end c.loop-n.left (length c.loop-n.digits - c.loop-n.n) (rest c.loop-n.reader) behind c.if-left-gt0.true (omega arith) here in
     Passes-end (Passes-bit 0 c.loop-n.invariant.passes end.0 c.if-left-gt0.true reads) refl
 
 pub returns-then-not-branch-clause-digits : goal.returns-then-not-branch-clause-digits
 returns-then-not-branch-clause-digits c =
     let behind = rest c.read_bit.new.self in
     let here = c.in_ok-read_bit.ensures.reads.next ∙ ap (λ b. b ∷ behind) c.if-not-branch.true in
-    let end = tail_end c.loop-n.left (length c.loop-n.digits - c.loop-n.n) (rest c.loop-n.src) behind c.if-left-gt0.true (omega arith) here in
+    let end = tail_end c.loop-n.left (length c.loop-n.digits - c.loop-n.n) (rest c.loop-n.reader) behind c.if-left-gt0.true (omega arith) here in
     whole_from c.loop-n.digits _ false c.loop-n.n c.loop-n.invariant.back end.1 ∙ sym c.loop-n.invariant.digits

@@ -7,8 +7,8 @@ use Rattle.zf_planes.proofs.decoding.read_tail.Given as goal
 
 abbrev pub invariant-loop-n : goal.invariant-loop-n
 invariant-loop-n l = record {
-  passes : Passes l.fn.src l.src l.fn.left l.left (tail_bits l.left (length l.digits - l.n) (rest l.src)) (tail_bits l.fn.left (length l.fn.digits) (rest l.fn.src));
-  digits : tail_ahead l.fn.left (length l.fn.digits) (rest l.fn.src) ≡ take l.n l.digits ++ tail_ahead l.left (length l.digits - l.n) (rest l.src);
+  passes : Passes l.fn.reader l.reader l.fn.left l.left (tail_bits l.left (length l.digits - l.n) (rest l.reader)) (tail_bits l.fn.left (length l.fn.digits) (rest l.fn.reader));
+  digits : tail_ahead l.fn.left (length l.fn.digits) (rest l.fn.reader) ≡ take l.n l.digits ++ tail_ahead l.left (length l.digits - l.n) (rest l.reader);
   back : drop l.n l.digits ≡ replicate (length l.digits - l.n) false;
   within : l.n ≤ length l.digits;
 }

@@ -2,7 +2,7 @@ use Rattle.std.proofs.Common.{◌≡◌, ℕ, ◌+◌, ◌-◌, ◌<◌, ◌≤�
 use Rattle.std.proofs.lemmas.List.{drop_all}
 use Rattle.zf_spec.specs.Planes.{code_from, plane_code, reach}
 use Rattle.zf_bits.specs.Writer.{Writer}
-use Rattle.zf_spec.specs.Words.{planes_held, digits_held}
+use Rattle.zf_spec.specs.HeldPlanes.{planes_held, digits_held}
 use Rattle.zf_planes.proofs.Budgets.{Remains, Remains-start, Remains-same, Remains-fits, Remains-more, Remains-end}
 use Rattle.zf_planes.proofs.Unpacking.{length-top_held, drop-top_held}
 use Rattle.zf_planes.proofs.encoding.write_planes.Goals as goal

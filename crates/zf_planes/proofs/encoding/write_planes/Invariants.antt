@@ -1,7 +1,7 @@
 -- The code of the planes from the i-th on remains to be written.
 use Rattle.std.proofs.Common.{length, ◌≤◌, take, drop}
 use Rattle.zf_spec.specs.Planes.{code, code_from}
-use Rattle.zf_spec.specs.Words.{planes_held}
+use Rattle.zf_spec.specs.HeldPlanes.{planes_held}
 use Rattle.zf_planes.proofs.Budgets.{Remains}
 use Rattle.zf_planes.proofs.encoding.write_planes.Given as goal
 

@@ -1,7 +1,7 @@
 use Rattle.std.proofs.Common.{ℕ, ◌≡◌, ◌≤◌, false, length, take, replicate, subst, arith}
 use Rattle.std.proofs.lemmas.List.{length-take, length-replicate}
 use Rattle.zf_spec.specs.Planes.{code}
-use Rattle.zf_spec.specs.Words.{planes_held}
+use Rattle.zf_spec.specs.HeldPlanes.{planes_held}
 use Rattle.zf_planes.proofs.Lengths.{length-code_held-le}
 use Rattle.zf_planes.proofs.measuring.code_len.Goals as goal
 

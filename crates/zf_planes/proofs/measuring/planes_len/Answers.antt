@@ -1,7 +1,7 @@
 use Rattle.std.proofs.Common.{◌≡◌, ℕ, ◌+◌, ◌-◌, ◌<◌, ◌≤◌, max, Bool, List, [], ◌∷◌, length, take, drop, get_or, ap, sym, ◌∙◌, arith, length-append}
 use Rattle.std.proofs.Math.Nat.{mul-le-mul_right}
 use Rattle.zf_spec.specs.Planes.{code_from, plane_code, reach}
-use Rattle.zf_spec.specs.Words.{planes_held, digits_held}
+use Rattle.zf_spec.specs.HeldPlanes.{planes_held, digits_held}
 use Rattle.zf_planes.proofs.Lengths.{length-code_held-le}
 use Rattle.zf_planes.proofs.Unpacking.{drop-top_held}
 use Rattle.zf_planes.proofs.measuring.planes_len.Goals as goal

@@ -1,8 +1,8 @@
 use Rattle.std.proofs.Common.{◌≡◌, ℕ, ◌-◌, ◌<◌, ◌≤◌, true, false, List, [], length, get_or, sym, ap, ◌∙◌, arith, ⊎_elim, below_more}
 use Rattle.std.proofs.lemmas.Bool.{cases_lt}
-use Rattle.zf_spec.specs.Planes.{has_one, used}
+use Rattle.zf_spec.specs.Planes.{has_one, needed_planes}
 use Rattle.zf_spec.proofs.Reach.{used_only}
-use Rattle.zf_spec.specs.Words.{digits_held, planes_held}
+use Rattle.zf_spec.specs.HeldPlanes.{digits_held, planes_held}
 use Rattle.zf_planes.proofs.Runs.{has_one-drop, has_one-drop_none}
 use Rattle.zf_planes.proofs.Unpacking.{get_or-planes_held, get_or-planes_held_past}
 use Rattle.zf_planes.proofs.plane.count_used.Goals as goal
@@ -20,14 +20,14 @@ none_from size planes k within none j past =
     (cases_lt j (length planes))
 
 used_at : (size : ℕ) (planes : List (List ℕ)) (k : ℕ) → k < length planes → ((i : ℕ) → i < k → has_one (digits_held size (get_or planes i [])) ≡ false)
-    → has_one (digits_held size (get_or planes k [])) ≡ true → length planes - k ≡ used (planes_held size planes)
+    → has_one (digits_held size (get_or planes k [])) ≡ true → length planes - k ≡ needed_planes (planes_held size planes)
 used_at size planes k below none one =
     used_only (planes_held size planes) (length planes - k) (none_from size planes k (omega arith) none)
     (λ j e.
     let place : length planes - 1 - j ≡ k = omega arith in
     ap has_one (get_or-planes_held size planes j [] (omega arith)) ∙ ap (λ i. has_one (digits_held size (get_or planes i []))) place ∙ one)
 
-used_none : (size : ℕ) (planes : List (List ℕ)) (k : ℕ) → length planes ≤ k → ((i : ℕ) → i < k → has_one (digits_held size (get_or planes i [])) ≡ false) → 0 ≡ used (planes_held size planes)
+used_none : (size : ℕ) (planes : List (List ℕ)) (k : ℕ) → length planes ≤ k → ((i : ℕ) → i < k → has_one (digits_held size (get_or planes i [])) ≡ false) → 0 ≡ needed_planes (planes_held size planes)
 used_none size planes k all none =
     used_only (planes_held size planes) 0 (λ j past. none_from size planes (length planes) (omega arith) (λ i below. none i (omega arith)) j (omega arith)) (λ j e. absurd (omega arith))
 

@@ -1,5 +1,5 @@
 use Rattle.std.proofs.Common.{◌≡◌, take}
-use Rattle.zf_spec.specs.Words.{digits_held}
+use Rattle.zf_spec.specs.HeldPlanes.{digits_held}
 use Rattle.zf_planes.proofs.plane.unpack.Given as goal
 
 abbrev pub invariant-loop-r : goal.invariant-loop-r

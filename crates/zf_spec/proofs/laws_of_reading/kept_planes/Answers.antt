@@ -1,5 +1,5 @@
-use Rattle.zf_spec.proofs.KeptSame.{kept-full}
+use Rattle.zf_spec.proofs.KeptSame.{kept_planes-planes_in}
 use Rattle.zf_spec.proofs.laws_of_reading.kept_planes.Goals as goal
 
 pub returns : goal.returns
-returns c = kept-full
+returns c = kept_planes-planes_in

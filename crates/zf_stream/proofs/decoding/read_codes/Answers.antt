@@ -7,7 +7,7 @@ use Rattle.zf_header.specs.declared.header.Header.{Header}
 use Rattle.zf_stream.specs.declared.fault.StreamFault.{StreamFault}
 use Rattle.zf_stream.specs.declared.fault.StreamFault.TheVariants.{Truncated}
 use Rattle.zf_stream.specs.Parsing.{read_code, read_codes}
-use Rattle.zf_stream.specs.Reading.{IsCutAt}
+use Rattle.zf_stream.specs.ReadStreams.{IsCutAt}
 use Rattle.zf_stream.proofs.Joining.{with_blocks, with_blocks-more, with_blocks-end, with_blocks-cut, read_codes-next, read_codes-cut, blocks-more}
 use Rattle.zf_stream.proofs.decoding.read_codes.Goals as goal
 

@@ -1,7 +1,7 @@
 use Rattle.std.proofs.Common.{◌≡◌, Bool, List, [], ◌++◌, map, sym, ap, ◌∙◌}
 use Rattle.std.proofs.lemmas.Result.{IfOk-weaker}
 use Rattle.std.specs.List.{flat_map}
-use Rattle.zf_spec.specs.Stream.{header, codes, filled, file, stream, to_bytes}
+use Rattle.zf_spec.specs.Stream.{header, codes, with_fill, file, stream, to_bytes}
 use Rattle.zf_header.specs.HeaderBits.{coding, header_bits}
 use Rattle.zf_stream.proofs.encoding.stream_of.Goals as goal
 
@@ -16,5 +16,5 @@ returns g c =
     c.write.ensures.bits.bits ∙ ap (λ (bs : List Bool). bs ++ header_bits h) none ∙ ap (λ v. header v h.shape (coding h.mode)) (sym c.requires.same_type) in
     let all : c.reserve-2.new.self.bits ≡ header w h.shape (coding h.mode) ++ cs =
     c.in_ok-reserve-2.ensures.bits ∙ c.in_ok-write_codes.ensures ∙ ap (λ (bs : List Bool). bs ++ cs) head in
-    let whole : c.pad_to_word.new.self.bits ≡ filled (header w h.shape (coding h.mode) ++ cs) = c.pad_to_word.ensures.bits.bits ∙ ap filled all in
+    let whole : c.pad_to_word.new.self.bits ≡ with_fill (header w h.shape (coding h.mode) ++ cs) = c.pad_to_word.ensures.bits.bits ∙ ap with_fill all in
     IfOk-weaker c.bytes_of.result _ _ (λ bytes is. is ∙ ap to_bytes whole) c.bytes_of.ensures

@@ -3,7 +3,7 @@ use Rattle.std.proofs.lemmas.Result.{IfOk-weaker}
 use Rattle.zf_spec.specs.Grid.{extent_of, block_of}
 use Rattle.zf_spec.specs.Codes.{rev, rate}
 use Rattle.zf_spec.specs.Stream.{block_code}
-use Rattle.zf_base.specs.Positions.{used}
+use Rattle.zf_base.specs.Positions.{used_axes}
 use Rattle.zf_pad.specs.Rasters.{IsRasterBlock}
 use Rattle.zf_pad.proofs.Blocks.{lies_within, gathered_padded}
 use Rattle.zf_header.specs.HeaderBits.{coding}
@@ -34,9 +34,9 @@ returns-in-Reversible-clause-code g c =
     let es = extent_of c.args.h.now.shape c.args.b in
     let gathered = map g.T.Lane.value c.gather.new.block in
     let block = block_of c.args.h.now.shape (map g.T.Lane.value c.args.values.now) c.args.b in
-    let sizes = ap (λ d. used d c.extent-e.result.size) c.dims-d.ensures.value ∙ c.extent-e.ensures.used_size in
+    let sizes = ap (λ d. used_axes d c.extent-e.result.size) c.dims-d.ensures.value ∙ c.extent-e.ensures.used_size in
     let same = rev_same w es gathered block (gathered_padded _ _ _ _ here _ _ gathered c.gather.ensures) in
-    let code : rev w (used c.dims-d.result c.extent-e.result.size) gathered ≡ block_code w (coding c.args.h.now.mode) es block =
+    let code : rev w (used_axes c.dims-d.result c.extent-e.result.size) gathered ≡ block_code w (coding c.args.h.now.mode) es block =
     ap (λ (s : List ℕ). rev w s gathered) sizes ∙ same ∙ ap (λ m. block_code w (coding m) es block) (sym c.in-Reversible.is) in
     IfOk-weaker c.encode_rev.result _ _ (λ _ appends. appends.bits ∙ ap (λ (bs : List Bool). c.args.out.now.bits ++ bs) code) c.encode_rev.ensures.ok
 
@@ -54,9 +54,9 @@ returns-in_ok-reserve-in-Rate-clause-code g c =
     let es = extent_of c.args.h.now.shape c.args.b in
     let gathered = map g.T.Lane.value c.gather.new.block in
     let block = block_of c.args.h.now.shape (map g.T.Lane.value c.args.values.now) c.args.b in
-    let sizes = ap (λ d. used d c.extent-e.result.size) c.dims-d.ensures.value ∙ c.extent-e.ensures.used_size in
+    let sizes = ap (λ d. used_axes d c.extent-e.result.size) c.dims-d.ensures.value ∙ c.extent-e.ensures.used_size in
     let same = rate_same w n es gathered block (gathered_padded _ _ _ _ here _ _ gathered c.gather.ensures) in
-    let code : rate w n (used c.dims-d.result c.extent-e.result.size) gathered ≡ block_code w (coding c.args.h.now.mode) es block =
+    let code : rate w n (used_axes c.dims-d.result c.extent-e.result.size) gathered ≡ block_code w (coding c.args.h.now.mode) es block =
     ap (λ (s : List ℕ). rate w n s gathered) sizes ∙ same ∙ ap (λ m. block_code w (coding m) es block) (sym c.in-Rate.is) in
-    c.encode_rate.ensures.code.bits ∙ ap (λ (bs : List Bool). bs ++ rate w n (used c.dims-d.result c.extent-e.result.size) gathered) c.in_ok-reserve-in-Rate.ensures.bits
+    c.encode_rate.ensures.code.bits ∙ ap (λ (bs : List Bool). bs ++ rate w n (used_axes c.dims-d.result c.extent-e.result.size) gathered) c.in_ok-reserve-in-Rate.ensures.bits
     ∙ ap (λ (bs : List Bool). c.args.out.now.bits ++ bs) code

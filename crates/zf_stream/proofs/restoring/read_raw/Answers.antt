@@ -5,7 +5,7 @@ use Rattle.zf_dev.proofs.Taking.{Takes-append}
 use Rattle.zf_stream.specs.declared.fault.StreamFault.TheVariants.{Read}
 use Rattle.zf_stream.specs.Parsing.{restore_answer}
 use Rattle.zf_stream.specs.Outcomes.{IsRefusal}
-use Rattle.zf_stream.specs.Reading.{BeginsWithHeader}
+use Rattle.zf_stream.specs.ReadStreams.{BeginsWithHeader}
 use Rattle.zf_stream.proofs.Parsed.{begun_more, good_of_front, refusal_of_fault}
 use Rattle.zf_stream.proofs.OwnFaults.{own_fault, blameless, anyhow}
 use Rattle.zf_stream.proofs.restoring.read_raw.Goals as goal

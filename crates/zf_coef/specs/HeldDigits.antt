@@ -6,7 +6,7 @@ use Rattle.std.specs.Int.{Width}
 use mir.Val.{bits}
 use Rattle.zf_spec.specs.Numbers.{digits, value_of, field, word_bits}
 use Rattle.zf_spec.specs.Grid.{upto}
-use Rattle.zf_spec.specs.Ranks.{ranked, unranked}
+use Rattle.zf_spec.specs.Ranks.{by_rank, by_place}
 
 -- the n lowest digits of each word
 abbrev pub digits_in : ℕ → List ℕ → List (List Bool)
@@ -14,11 +14,11 @@ digits_in n words = map (field n) words
 
 -- the digits of the coefficients of a block, by rank
 abbrev pub ranked_digits : Width → ℕ → List ℤ → List (List Bool)
-ranked_digits w d block = map (digits (bits w)) (ranked d block)
+ranked_digits w d block = map (digits (bits w)) (by_rank d block)
 
 -- the coefficients by place of which these are the digits by rank
 abbrev pub unranked_values : Width → ℕ → List (List Bool) → List ℤ
-unranked_values w d coefficients = unranked d (map (value_of w) coefficients)
+unranked_values w d coefficients = by_place d (map (value_of w) coefficients)
 
 -- the digits that planes hold at this rank, the lowest first
 unfoldable pub column : ℕ → List (List ℕ) → List Bool

@@ -2,7 +2,7 @@
 use Rattle.std.proofs.Common.{◌≡◌, sym, ap, arith}
 use Rattle.zf_spec.specs.Ranks.{order}
 use Rattle.zf_coef.proofs.ByRank.{order_within}
-use Rattle.zf_coef.proofs.places.order.Goals as goal
+use Rattle.zf_coef.proofs.coefficient_order.order.Goals as goal
 
 pub returns-in-2-clause-places : goal.returns-in-2-clause-places
 returns-in-2-clause-places c = ap order (sym c.in-2.is)

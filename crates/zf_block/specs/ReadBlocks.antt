@@ -4,13 +4,13 @@ use Rattle.std.specs.Prelude.{ℕ, ◌≡◌, ◌+◌, ◌-◌, ℤ, Bool, List,
 use Rattle.std.specs.Int.{Width}
 use Rattle.zf_spec.specs.Numbers.{number}
 use Rattle.zf_spec.specs.Planes.{code}
-use Rattle.zf_spec.specs.Reading.{full}
-use Rattle.zf_spec.specs.Codes.{count_bits, existing, read_rev, read_rate}
+use Rattle.zf_spec.specs.ReadPlanes.{planes_in}
+use Rattle.zf_spec.specs.Codes.{count_bits, existing_values, read_rev, read_rate}
 use Rattle.zf_bits.specs.Reader.{Reader, rest, Reads}
 
 -- a reversible code of this block was read, and just its bits were passed
 pub record ReadsRev (w : Width) (d : ℕ) (old new : Reader) (block : List ℤ) : Type 0 where
-  pub code : (es : List ℕ) → length es ≡ d → read_rev w es (rest old) ≡ Some (existing es block, new.at - old.at)
+  pub code : (es : List ℕ) → length es ≡ d → read_rev w es (rest old) ≡ Some (existing_values es block, new.at - old.at)
   pub passed : Reads old new (take (new.at - old.at) (rest old))
 
 -- the bits end before the reversible code does
@@ -19,14 +19,14 @@ pub record LacksRev (w : Width) (d : ℕ) (old : Reader) : Type 0 where
 
 -- a code of so many bits was read, which stands for this block, and just its bits were passed
 pub record ReadsRate (w : Width) (d budget : ℕ) (old new : Reader) (block : List ℤ) : Type 0 where
-  pub code : (es : List ℕ) → length es ≡ d → read_rate w es (take budget (rest old)) ≡ existing es block
+  pub code : (es : List ℕ) → length es ≡ d → read_rate w es (take budget (rest old)) ≡ existing_values es block
   pub passed : Reads old new (take budget (rest old))
 
 -- ---- the parts of a reversible code at the front of bits that are continued with zeros, with planes of this size
 
 -- its planes
 unfoldable pub rev_planes : Width → ℕ → List Bool → List (List Bool)
-rev_planes w size s = full (number (take (count_bits w) s) + 1) size (drop (count_bits w) s)
+rev_planes w size s = planes_in (number (take (count_bits w) s) + 1) size (drop (count_bits w) s)
 
 -- how many bits it has
 unfoldable pub rev_len : Width → ℕ → List Bool → ℕ

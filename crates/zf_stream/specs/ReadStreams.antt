@@ -2,7 +2,7 @@
 use Rattle.std.specs.Prelude.{ℕ, ◌≡◌, ◌≢◌, ◌-◌, ◌*◌, ◌<◌, ◌≤◌, ◌⊎◌, ℤ, Bool, List, ◌++◌, length, drop, take, Option, Some, None, Result, Ok, Err}
 use Rattle.std.specs.Int.{Width}
 use Rattle.zf_spec.specs.Grid.{blocks, blocks_of, block_of, extent_of}
-use Rattle.zf_spec.specs.Codes.{existing}
+use Rattle.zf_spec.specs.Codes.{existing_values}
 use Rattle.zf_base.specs.Widths.{width_of}
 use Rattle.zf_bits.specs.Reader.{Reader, rest, Reads}
 use Rattle.zf_header.specs.declared.header.Header.{Header}
@@ -58,7 +58,7 @@ pub record ReadsRest (front : List ℕ) (before now : Option (List ℕ)) (bytes 
 
 -- a code of d dimensions was read, which stands for this block, and just its bits were passed
 pub record ReadsCode (w : Width) (mode : Mode) (d : ℕ) (old new : Reader) (block : List ℤ) : Type 0 where
-  pub code : (es : List ℕ) → length es ≡ d → read_code w mode es (rest old) ≡ Some (existing es block, new.at - old.at)
+  pub code : (es : List ℕ) → length es ≡ d → read_code w mode es (rest old) ≡ Some (existing_values es block, new.at - old.at)
   pub passed : Reads old new (take (new.at - old.at) (rest old))
 
 -- the bits end before the code does
