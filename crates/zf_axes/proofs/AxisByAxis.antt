@@ -1,7 +1,7 @@
 -- Passes along all axes, one after the other, and how long the block is after them.
 use Rattle.std.proofs.Common.{◌≡◌, ℕ, zero, suc, ◌+◌, ◌-◌, ◌*◌, ◌^◌, ◌<◌, ◌≤◌, ℤ, List, length, refl, ap, ◌∙◌, arith}
 use Rattle.zf_spec.specs.Lift.{along}
-use Rattle.zf_axes.specs.Axes.{along_axes, along_axes_back}
+use Rattle.zf_spec.specs.Lift.{along_axes, along_axes_back}
 use Rattle.zf_axes.proofs.Strides.{step_next}
 use Rattle.zf_axes.proofs.LineByLine.{length-along}
 

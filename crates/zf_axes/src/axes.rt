@@ -1,8 +1,7 @@
 //! Passes along the axes of a block.
 
 ghost use Rattle.std.specs.Prelude.{◌≡◌, ◌*◌, ◌%◌, ◌^◌, ◌<◌, map, length};
-ghost use Rattle.zf_spec.specs.Lift.{along};
-ghost use Rattle.zf_axes.specs.Axes.{along_axes, along_axes_back};
+ghost use Rattle.zf_spec.specs.Lift.{along, along_axes, along_axes_back};
 
 use crate::line::{LineMap, map_line};
 use zf_base::Lane;

@@ -10,7 +10,8 @@ use Rattle.zf_spec.specs.Ranks.{by_place}
 use Rattle.zf_spec.specs.Planes.{planes_of}
 use Rattle.zf_spec.specs.Codes as Codes
 use Rattle.zf_spec.specs.HeldPlanes.{digits_held, planes_held}
-use Rattle.zf_coef.specs.HeldDigits.{digits_in, ranked_digits, unranked_values, columns}
+use Rattle.zf_coef.specs.HeldDigits.{digits_in, ranked_digits, unranked_values}
+use Rattle.zf_spec.specs.Planes.{digits_in_planes}
 
 -- `ranked` and then `to_planes`: the planes hold those of the block's coefficients
 pub planes-ranked : (w : Width) (d : ℕ) (coefficients : List ℤ) (words : List ℕ) (planes : List (List ℕ))
@@ -24,23 +25,23 @@ planes-ranked w d coefficients words planes size count by_rank held =
     ∙ ap (λ n. planes_of n (digits_in n words)) count
     ∙ ap (planes_of (bits w)) by_rank
 
--- the values of the columns are the coefficients of the planes
-pub unranked_values-columns : (w : Width) (d : ℕ) (planes : List (List Bool)) → unranked_values w d (columns (bits w) (4 ^ d) planes) ≡ Codes.coefficients_of w d planes
-unfolding columns
-unranked_values-columns w d planes =
+-- the values of the digits in planes are the coefficients of the planes
+pub unranked_values-digits_in_planes : (w : Width) (d : ℕ) (planes : List (List Bool)) → unranked_values w d (digits_in_planes (bits w) (4 ^ d) planes) ≡ Codes.coefficients_of w d planes
+unfolding digits_in_planes
+unranked_values-digits_in_planes w d planes =
     ap (by_place d) (map-map (value_of w) (λ r. map (λ k. get_or (get_or planes k []) r false) (reverse (upto (bits w)))) (upto (4 ^ d)))
 
 -- `from_planes` and then `unranked`: the block has the coefficients that the planes stand for
 pub by_place-planes : (w : Width) (d : ℕ) (words : List ℕ) (planes : List (List ℕ))
     → length words ≡ 4 ^ d → length planes ≡ bits w
-    → digits_in (length planes) words ≡ columns (length planes) (length words) (planes_held (length words) planes)
+    → digits_in (length planes) words ≡ digits_in_planes (length planes) (length words) (planes_held (length words) planes)
     → unranked_values w d (digits_in (bits w) words) ≡ Codes.coefficients_of w d (planes_held (4 ^ d) planes)
 by_place-planes w d words planes size count by_rank =
     ap (λ n. unranked_values w d (digits_in n words)) (sym count)
     ∙ ap (unranked_values w d) by_rank
-    ∙ ap (λ n. unranked_values w d (columns n (length words) (planes_held (length words) planes))) count
-    ∙ ap (λ n. unranked_values w d (columns (bits w) n (planes_held n planes))) size
-    ∙ unranked_values-columns w d (planes_held (4 ^ d) planes)
+    ∙ ap (λ n. unranked_values w d (digits_in_planes n (length words) (planes_held (length words) planes))) count
+    ∙ ap (λ n. unranked_values w d (digits_in_planes (bits w) n (planes_held n planes))) size
+    ∙ unranked_values-digits_in_planes w d (planes_held (4 ^ d) planes)
 
 -- the top planes of those that are held
 pub take-planes_held : (prec size : ℕ) (planes : List (List ℕ)) → take prec (planes_held size planes) ≡ map (digits_held size) (take prec (reverse planes))

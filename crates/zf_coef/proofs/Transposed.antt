@@ -13,7 +13,8 @@ use Rattle.zf_spec.proofs.Fields.{number-append, number-lt}
 use Rattle.zf_spec.proofs.Counting.{length-map-upto, get_or-map-upto}
 use Rattle.zf_spec.proofs.PlaneDigits.{get_or-plane, length-map-reverse-upto, get_or-map-reverse-upto}
 use Rattle.zf_spec.specs.HeldPlanes.{digits_held, planes_held, IsClearFrom}
-use Rattle.zf_coef.specs.HeldDigits.{digits_in, column, columns}
+use Rattle.zf_coef.specs.HeldDigits.{digits_in, column}
+use Rattle.zf_spec.specs.Planes.{digits_in_planes}
 use Rattle.zf_spec.proofs.Fields.{get_or-field}
 use Rattle.zf_spec.proofs.WordBits.{length-word_bits, get_or-word_bits, words_with_bit, length-words_with_bit, bit_kept, bit_written}
 
@@ -141,9 +142,9 @@ planes_all size n coefficients planes same =
 
 -- ---- all coefficients
 
-pub length-columns : (n size : ℕ) (planes : List (List Bool)) → length (columns n size planes) ≡ size
-unfolding columns
-length-columns n size planes = length-map-upto (λ r. map (λ k. get_or (get_or planes k []) r false) (reverse (upto n))) size
+pub length-digits_in_planes : (n size : ℕ) (planes : List (List Bool)) → length (digits_in_planes n size planes) ≡ size
+unfolding digits_in_planes
+length-digits_in_planes n size planes = length-map-upto (λ r. map (λ k. get_or (get_or planes k []) r false) (reverse (upto n))) size
 
 length-planes_held : (size : ℕ) (planes : List (List ℕ)) → length (planes_held size planes) ≡ length planes
 unfolding planes_held
@@ -159,9 +160,9 @@ unfolding digits_held
 get_or-digits_held size words r below = get_or-take size (word_bits words) r false below
 
 -- the coefficient of a rank, of planes as they are held
-pub get_or-columns : (size : ℕ) (planes : List (List ℕ)) (r : ℕ) → r < size → get_or (columns (length planes) size (planes_held size planes)) r [] ≡ column r planes
-unfolding columns column
-get_or-columns size planes r below =
+pub get_or-digits_in_planes : (size : ℕ) (planes : List (List ℕ)) (r : ℕ) → r < size → get_or (digits_in_planes (length planes) size (planes_held size planes)) r [] ≡ column r planes
+unfolding digits_in_planes column
+get_or-digits_in_planes size planes r below =
     let n = length planes in
     let held = planes_held size planes in
     let digit : ℕ → Bool = λ k. get_or (get_or held k []) r false in

@@ -1,11 +1,10 @@
 -- Coefficients and planes as they are held in words.
 --     A coefficient is a word that has its digits as bits. A plane is four words of 64 bits, one for each rank; planes
 --     are numbered by their digit, the lowest first.
-use Rattle.std.specs.Prelude.{ℕ, ℤ, Bool, false, List, [], map, reverse, slice_index_or}
+use Rattle.std.specs.Prelude.{ℕ, ℤ, Bool, false, List, map, slice_index_or}
 use Rattle.std.specs.Int.{Width}
 use mir.Val.{bits}
 use Rattle.zf_spec.specs.Numbers.{digits, value_of, field, word_bits}
-use Rattle.zf_spec.specs.Grid.{upto}
 use Rattle.zf_spec.specs.Ranks.{by_rank, by_place}
 
 -- the n lowest digits of each word
@@ -23,7 +22,3 @@ unranked_values w d coefficients = by_place d (map (value_of w) coefficients)
 -- the digits that planes hold at this rank, the lowest first
 unfoldable pub column : ℕ → List (List ℕ) → List Bool
 column rank planes = map (λ words. slice_index_or (word_bits words) rank false) planes
-
--- the digits of the coefficients of n planes, the greatest first: digit k of coefficient r is digit r of plane k
-unfoldable pub columns : ℕ → ℕ → List (List Bool) → List (List Bool)
-columns n size planes = map (λ r. map (λ k. slice_index_or (slice_index_or planes k []) r false) (reverse (upto n))) (upto size)

@@ -4,7 +4,8 @@ ghost use Rattle.std.specs.Prelude.{◌≡◌, ℕ, ◌^◌, ◌<◌, ◌≤◌,
 ghost use Rattle.zf_spec.specs.Numbers.{field};
 ghost use Rattle.zf_spec.specs.Planes.{plane, planes_of};
 ghost use Rattle.zf_spec.specs.HeldPlanes.{digits_held, planes_held, IsClearFrom};
-ghost use Rattle.zf_coef.specs.HeldDigits.{digits_in, column, columns};
+ghost use Rattle.zf_coef.specs.HeldDigits.{digits_in, column};
+ghost use Rattle.zf_spec.specs.Planes.{digits_in_planes};
 
 /// How many words hold a plane.
 const PLANE_WORDS: usize = 4;
@@ -61,7 +62,7 @@ pub fn from_planes(planes: &[[u64; 4]], digits: &mut [u64])
     requires digits { length digits.old ≤ 256 }
     ensures digits { let n = length planes.now in
         let size = length digits.new in
-        digits_in n digits.new ≡ columns n size (planes_held size planes.now) }
+        digits_in n digits.new ≡ digits_in_planes n size (planes_held size planes.now) }
     ensures below { All (λ u. u < 2 ^ length planes.now) digits.new }
 {
     for (rank, digit) in digits.iter_mut().enumerate() {

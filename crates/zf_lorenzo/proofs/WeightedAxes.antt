@@ -16,7 +16,7 @@ use Rattle.zf_spec.proofs.Ring.{*ℤ_assoc}
 use Rattle.zf_spec.proofs.Sums.{total, total_same, total_same_modulo, total-scale, total_fours, weighted_sum-map}
 use Rattle.zf_spec.proofs.Wrapping.{same_modulo_refl, same_modulo_mul, same_modulo_trans, wrap_is_same, wrap_fits, wrap_only}
 use Rattle.zf_spec.proofs.Counting.{length-map-upto, get_or-map-upto, map-get_or-upto}
-use Rattle.zf_axes.specs.Axes.{along_axes}
+use Rattle.zf_spec.specs.Lift.{along_axes}
 use Rattle.zf_axes.proofs.LineByLine.{length-along, get_or-along}
 use Rattle.zf_axes.proofs.AxisByAxis.{length-along_axes}
 use Rattle.zf_lorenzo.specs.Lines.{line_sums}

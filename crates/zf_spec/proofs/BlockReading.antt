@@ -1,5 +1,5 @@
 -- What reading the code of a block gives.
-use Rattle.std.proofs.Common.{◌≡◌, sym, ap, ◌∙◌, ℕ, ◌+◌, ◌-◌, ◌*◌, ◌^◌, ◌<◌, ◌≤◌, max, Bool, false, cond, ltb, le-ltb, ℤ, FitsSigned, Some, None, Option, List, ◌++◌, length, take, drop, All, append_assoc, take_at, drop_at, mod-eq_of_lt, mul-le-mul_left, arith}
+use Rattle.std.proofs.Common.{◌≡◌, sym, ap, ◌∙◌, ℕ, ◌+◌, ◌-◌, ◌*◌, ◌^◌, ◌<◌, ◌≤◌, min, max, Bool, false, cond, ltb, le-ltb, ℤ, FitsSigned, Some, None, Option, List, ◌++◌, length, take, drop, All, append_assoc, take_at, drop_at, mod-eq_of_lt, mul-le-mul_left, arith}
 use Rattle.std.proofs.lemmas.List.{length-append, length-take}
 use Rattle.std.proofs.lemmas.List.Elements.{All-take}
 use Rattle.std.specs.Int.{Width, w8, w16, w32, w64, w128}
@@ -12,7 +12,7 @@ use Rattle.zf_spec.specs.Planes.{needed_planes, code}
 use Rattle.zf_spec.specs.ReadPlanes.{first_bits, planes_in}
 use Rattle.zf_spec.specs.Kept.{kept_planes}
 use Rattle.zf_spec.specs.Lift.{lift, unlift}
-use Rattle.zf_spec.specs.Codes.{planes, coefficients_of, count_bits, rev_of_planes, rev, existing_values, read_rev, rate, round, read_rate}
+use Rattle.zf_spec.specs.Codes.{planes, coefficients_of, count_bits, rev_of_planes, rev, existing_values, read_rev, rate, round, read_rate, prec, round_prec, read_prec}
 use Rattle.zf_spec.proofs.Fields.{length-field, number-field}
 use Rattle.zf_spec.proofs.Beginnings.{begins_itself, length-first_bits}
 use Rattle.zf_spec.proofs.Reach.{needed_planes-le}
@@ -148,7 +148,50 @@ read_rate-rate w budget es block =
     back : List (List Bool) → List ℤ
     back ks = existing_values es (unlift w (length es) (coefficients_of w (length es) ks))
 
+-- reading a precision code gives what the precision makes of the block, whatever comes after, with the length of the code
+pub read_prec-prec : (w : Width) (p : ℕ) (es : List ℕ) (block : List ℤ) (more : List Bool) → read_prec w p es (prec w p es block ++ more) ≡ Some (round_prec w p es block, length (prec w p es block))
+unfolding prec round_prec read_prec
+read_prec-prec w p es block more = ap answer same ∙ ap (λ t. cond t None (Some (back qs, length (code qs)))) enough
+  where
+    size : ℕ
+    size = 4 ^ length es
+
+    c : List ℤ
+    c = lift w (length es) (pad es block)
+
+    qs : List (List Bool)
+    qs = take (min p (bits w)) (planes w (length es) (lift w (length es) (pad es block)))
+
+    s : List Bool
+    s = code (take (min p (bits w)) (planes w (length es) (lift w (length es) (pad es block)))) ++ more
+
+    back : List (List Bool) → List ℤ
+    back ks = existing_values es (unlift w (length es) (coefficients_of w (length es) ks))
+
+    answer : List (List Bool) → Option (List ℤ × ℕ)
+    answer ks = cond (ltb (length s) (length (code ks))) None (Some (back ks, length (code ks)))
+
+    count : length qs ≡ min p (bits w)
+    count = omega (arith, length-take (min p (bits w)) (planes w (length es) c), length-planes w (length es) c)
+
+    same : planes_in (min p (bits w)) size s ≡ qs
+    same =
+        ap (λ n. planes_in n size s) (sym count)
+        ∙ sym (full_only size qs s (All-take (λ ds. length ds ≡ 4 ^ length es) (min p (bits w)) (planes w (length es) c) (planes-length w (length es) c)) (begins_itself (code qs) more))
+
+    enough : ltb (length s) (length (code qs)) ≡ false
+    enough = le-ltb (length s) (length (code qs)) (omega (arith, length-append (code qs) more))
+
 -- ---- how long the codes of a block are
+
+pub length-prec-le : (w : Width) (p : ℕ) (es : List ℕ) (block : List ℤ) → length (prec w p es block) ≤ 4 ^ length es * (bits w + 1)
+unfolding prec
+length-prec-le w p es block =
+    let ps = planes w (length es) (lift w (length es) (pad es block)) in
+    let qs = take (min p (bits w)) ps in
+    let few : length qs ≤ bits w = omega (arith, length-take (min p (bits w)) ps, length-planes w (length es) (lift w (length es) (pad es block))) in
+    let bound = length-code-le (4 ^ length es) qs (All-take (λ ds. length ds ≡ 4 ^ length es) (min p (bits w)) ps (planes-length w (length es) (lift w (length es) (pad es block)))) in
+    omega (arith, bound, mul-le-mul_left (4 ^ length es) few)
 
 pub length-rate : (w : Width) (budget : ℕ) (es : List ℕ) (block : List ℤ) → length (rate w budget es block) ≡ budget
 unfolding rate

@@ -13,6 +13,7 @@
 --     Ranking          the place of each rank, and blocks by rank and by place
 --     Reach            how far ones reach, in a plane and over planes
 --     PlaneCode        the cases of a plane code, and how long codes are at most
+--     Apart            the code of planes, and what is kept of them, plane by plane
 --     PlaneDigits      planes and the coefficients that they are the digits of
 --     Beginnings       bits that begin a list continued with zeros
 --     Full             the only planes whose code begins a list of bits
@@ -37,6 +38,7 @@ pub mod Rising
 pub mod Ranking
 pub mod Reach
 pub mod PlaneCode
+pub mod Apart
 pub mod PlaneDigits
 pub mod Beginnings
 pub mod Full

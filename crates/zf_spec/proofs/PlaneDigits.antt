@@ -2,13 +2,14 @@
 use Rattle.std.proofs.Common.{◌≡◌, refl, sym, ap, subst, ◌∙◌, ℕ, zero, suc, ◌-◌, ◌^◌, ◌<◌, ◌≤◌, max, Bool, false, ℤ, pos, FitsSigned, List, [], ◌∷◌, ◌++◌, map, reverse, length, get_or, take, replicate, All, ext_get_or, ⊎_elim, get_or-take, arith}
 use Rattle.std.proofs.lemmas.Bool.{cases_lt}
 use Rattle.std.proofs.lemmas.List.{length-map, get_or-map, get_or_past, length-reverse, get_or-reverse, length-append, length-replicate, get_or-replicate, get_or_append_left, get_or-append_right, length-take}
+use Rattle.std.proofs.lemmas.Simd.{map-map}
 use Rattle.std.proofs.lemmas.List.Elements.{All-get_or, All-from_get_or, All-append, All-replicate}
 use Rattle.std.specs.Int.{Width}
 use mir.Val.{bits}
 use Rattle.zf_spec.specs.Numbers.{digits, value_of}
 use Rattle.zf_spec.specs.Grid.{upto}
 use Rattle.zf_spec.specs.Ranks.{order, by_rank, by_place}
-use Rattle.zf_spec.specs.Planes.{plane, planes_of, needed_planes}
+use Rattle.zf_spec.specs.Planes.{plane, planes_of, digits_in_planes, needed_planes}
 use Rattle.zf_spec.specs.Codes.{planes, coefficients_of}
 use Rattle.zf_spec.proofs.Counting.{length-upto, get_or-upto, length-map-upto, get_or-map-upto, from_places, map-upto_same}
 use Rattle.zf_spec.proofs.Negabinary.{length-digits, value_of-digits, digits-value_of, value_of_fits}
@@ -98,11 +99,15 @@ pub planes-length : (w : Width) (d : ℕ) (c : List ℤ) → All (λ ds. length 
 planes-length w d c k e h = planes_of-length (bits w) (map (digits (bits w)) (by_rank d c)) k e h ∙ length-map (by_rank d c) (digits (bits w)) ∙ length-by_rank d c
 
 pub length-coefficients_of : (w : Width) (d : ℕ) (ps : List (List Bool)) → length (coefficients_of w d ps) ≡ 4 ^ d
-length-coefficients_of w d ps = length-by_place d (map (λ r. value_of w (digits_at (bits w) ps r)) (upto (4 ^ d)))
+length-coefficients_of w d ps = length-by_place d (map (value_of w) (digits_in_planes (bits w) (4 ^ d) ps))
 
 -- the values by rank that planes stand for
 abbrev values_by_rank : Width → ℕ → List (List Bool) → List ℤ
 values_by_rank w d ps = map (λ r. value_of w (digits_at (bits w) ps r)) (upto (4 ^ d))
+
+coefficients_of-is : (w : Width) (d : ℕ) (ps : List (List Bool)) → coefficients_of w d ps ≡ by_place d (values_by_rank w d ps)
+unfolding digits_in_planes
+coefficients_of-is w d ps = ap (by_place d) (map-map (value_of w) (digits_at (bits w) ps) (upto (4 ^ d)))
 
 length-values_by_rank : (w : Width) (d : ℕ) (ps : List (List Bool)) → length (values_by_rank w d ps) ≡ 4 ^ d
 length-values_by_rank w d ps = length-map-upto (λ r. value_of w (digits_at (bits w) ps r)) (4 ^ d)
@@ -126,12 +131,14 @@ coefficients_of-planes w d c l fits =
     let fit = All-get_or (λ v. FitsSigned w v) c (get_or (order d) r 0) (pos 0) (omega (arith, l, order_below d r h)) fits in
     let at = get_or-by_rank d c r h in
     sym (ap (value_of w) (digits_at-planes w vs r (omega (arith, h, length-by_rank d c)) ∙ ap (digits (bits w)) at) ∙ value_of-digits w (get_or c (get_or (order d) r 0) (pos 0)) fit ∙ sym at)) in
-    ap (by_place d) same ∙ by_place-by_rank d c l
+    coefficients_of-is w d (planes w d c) ∙ ap (by_place d) same ∙ by_place-by_rank d c l
 
 -- planes that have no one may be missing below
 pub coefficients_of-take : (w : Width) (d n : ℕ) (ps : List (List Bool)) → needed_planes ps ≤ n → coefficients_of w d (take n ps) ≡ coefficients_of w d ps
 coefficients_of-take w d n ps h =
-    ap (by_place d) (map-upto_same (λ r. value_of w (digits_at (bits w) (take n ps) r)) (λ r. value_of w (digits_at (bits w) ps r)) (4 ^ d) (λ r k. ap (value_of w) (digits_at-take (bits w) n ps r h)))
+    coefficients_of-is w d (take n ps)
+    ∙ ap (by_place d) (map-upto_same (λ r. value_of w (digits_at (bits w) (take n ps) r)) (λ r. value_of w (digits_at (bits w) ps r)) (4 ^ d) (λ r k. ap (value_of w) (digits_at-take (bits w) n ps r h)))
+    ∙ sym (coefficients_of-is w d ps)
 
 pub coefficients_of-needed_planes : (w : Width) (d : ℕ) (c : List ℤ) → length c ≡ 4 ^ d → All (λ v. FitsSigned w v) c → coefficients_of w d (take (max 1 (needed_planes (planes w d c))) (planes w d c)) ≡ c
 coefficients_of-needed_planes w d c l fits = coefficients_of-take w d (max 1 (needed_planes (planes w d c))) (planes w d c) (omega arith) ∙ coefficients_of-planes w d c l fits
@@ -143,14 +150,15 @@ coefficients_of-fit w d ps =
     (λ p s.
     let h : p < 4 ^ d = omega (arith, s, length-coefficients_of w d ps) in
     let at : get_or (coefficients_of w d ps) p (pos 0) ≡ value_of w (digits_at (bits w) ps (rank_of d p)) =
-    get_or-by_place d (values_by_rank w d ps) p h ∙ get_or-values_by_rank w d ps (rank_of d p) (rank_of_below d p h) in
+    ap (λ vs. get_or vs p (pos 0)) (coefficients_of-is w d ps) ∙ get_or-by_place d (values_by_rank w d ps) p h ∙ get_or-values_by_rank w d ps (rank_of d p) (rank_of_below d p h) in
     subst (λ v. FitsSigned w v) (sym at) (value_of_fits w (digits_at (bits w) ps (rank_of d p))))
 
 -- planes of this size come back from their coefficients, with zeros for those that are missing below
 pub planes-coefficients_of : (w : Width) (d : ℕ) (ps : List (List Bool)) → length ps ≤ bits w → All (λ ds. length ds ≡ 4 ^ d) ps
     → planes w d (coefficients_of w d ps) ≡ ps ++ replicate (bits w - length ps) (replicate (4 ^ d) false)
 planes-coefficients_of w d ps few all =
-    ap (λ vs. planes_of (bits w) (map (digits (bits w)) vs)) (by_rank-by_place d vs (length-values_by_rank w d ps))
+    ap (λ vs. planes w d vs) (coefficients_of-is w d ps)
+    ∙ ap (λ vs. planes_of (bits w) (map (digits (bits w)) vs)) (by_rank-by_place d vs (length-values_by_rank w d ps))
     ∙ ext_get_or [] (planes_of (bits w) cs) (ps ++ missing) (length-planes_of (bits w) cs ∙ sym whole)
     (λ k s. plane_at k (omega (arith, s, length-planes_of (bits w) cs)))
   where

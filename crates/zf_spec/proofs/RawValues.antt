@@ -8,7 +8,7 @@ use Rattle.std.specs.Int.{Width, byte_len, to_le_bytes, from_le_bytes, cast_unsi
 use borrow.Author.Differences.{fits_in, read_fits}
 use mir.Val.{bits}
 use Rattle.zf_spec.specs.Numbers.{field}
-use Rattle.zf_spec.specs.Stream.{Mode, reversible, fixed_rate, raw, first_bytes, values_from, magic, codec, type_number, mode_number, long_form, header}
+use Rattle.zf_spec.specs.Stream.{Mode, reversible, fixed_rate, fixed_precision, raw, first_bytes, values_from, magic, codec, type_number, mode_number, long_form, header}
 use Rattle.zf_spec.proofs.Wrapping.{bits_is_half}
 use Rattle.zf_spec.proofs.Fields.{length-field}
 use Rattle.zf_spec.proofs.Bytes.{length-first_bytes, All-first_bytes, first_bytes-append, first_bytes-add, length-to_le_bytes, to_le_bytes_small, from_le_bytes-to_le_bytes, to_le_bytes-from_le_bytes, from_le_bytes_below}
@@ -129,6 +129,9 @@ length-header_reversible w ns f g = length-header w ns reversible f g
 
 pub length-header_rate : (w : Width) (ns : List ℕ) (b : ℕ) → 1 ≤ length ns → length ns ≤ 4 → b ≤ 2048 → length (header w ns (fixed_rate b)) ≡ 96
 length-header_rate w ns b f g h = omega (arith, length-header w ns (fixed_rate b) f g, length-short_form b h)
+
+pub length-header_precision : (w : Width) (ns : List ℕ) (p : ℕ) → 1 ≤ length ns → length ns ≤ 4 → length (header w ns (fixed_precision p)) ≡ 96
+length-header_precision w ns p f g = length-header w ns (fixed_precision p) f g
 
 pub length-header_long : (w : Width) (ns : List ℕ) (b : ℕ) → 1 ≤ length ns → length ns ≤ 4 → 2048 < b → length (header w ns (fixed_rate b)) ≡ 148
 length-header_long w ns b f g h = omega (arith, length-header w ns (fixed_rate b) f g, length-long_form b h)

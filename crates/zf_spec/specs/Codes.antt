@@ -1,17 +1,17 @@
 -- The codes of one block, and what reading them gives.
 --     A block has 4^d values by place; its extents are a list of d numbers from 1 to 4.
-use Rattle.std.specs.Prelude.{ℕ, ◌+◌, ◌-◌, ◌^◌, max, ℤ, pos, Bool, false, nat_lt, List, [], ◌++◌, map, reverse, length, take, drop, slice_index_or, if◌then◌else◌}
+use Rattle.std.specs.Prelude.{ℕ, ◌+◌, ◌-◌, ◌^◌, min, max, ℤ, pos, Bool, nat_lt, List, ◌++◌, map, length, take, drop, slice_index_or, if◌then◌else◌}
 use Rattle.std.specs.declared.option.Option.{Option}
 use Rattle.std.specs.Prelude.{Some, None}
 use Rattle.std.specs.Int.{Width}
 use mir.Val.{bits}
 use Rattle.zf_spec.specs.Numbers.{digits, value_of, field, number}
-use Rattle.zf_spec.specs.Grid.{upto, places, indices, is_inside}
+use Rattle.zf_spec.specs.Grid.{places, indices, is_inside}
 use Rattle.zf_spec.specs.Padding.{pad}
 use Rattle.zf_spec.specs.Lorenzo.{lorenzo, unlorenzo}
 use Rattle.zf_spec.specs.Lift.{lift, unlift}
 use Rattle.zf_spec.specs.Ranks.{by_rank, by_place}
-use Rattle.zf_spec.specs.Planes.{planes_of, needed_planes, code}
+use Rattle.zf_spec.specs.Planes.{planes_of, digits_in_planes, needed_planes, code}
 use Rattle.zf_spec.specs.Kept.{kept_planes}
 use Rattle.zf_spec.specs.ReadPlanes.{planes_in, first_bits}
 
@@ -21,8 +21,7 @@ planes w d coefficients = planes_of (bits w) (map (digits (bits w)) (by_rank d c
 
 -- the coefficients by place that planes stand for; planes that are missing below are zero
 abbrev pub coefficients_of : Width → ℕ → List (List Bool) → List ℤ
-coefficients_of w d planes =
-    by_place d (map (λ r. value_of w (map (λ k. slice_index_or (slice_index_or planes k []) r false) (reverse (upto (bits w))))) (upto (4 ^ d)))
+coefficients_of w d planes = by_place d (map (value_of w) (digits_in_planes (bits w) (4 ^ d) planes))
 
 -- how many bits hold the count of planes: 5 for int32, 6 for int64 (this project's own)
 abbrev pub count_bits : Width → ℕ
@@ -36,9 +35,13 @@ rev_of_planes w ps = let p = max 1 (needed_planes ps) in field (count_bits w) (p
 unfoldable pub rev : Width → List ℕ → List ℤ → List Bool
 rev w es block = let d = length es in rev_of_planes w (planes w d (lorenzo w d (pad es block)))
 
--- a fixed-rate code: the first bits of the code of all planes, filled with zeros (Lindstrom 2014, section 3)
+-- a fixed-rate code: the first bits of the code of all planes, filled with zeros (Lindstrom 2014)
 unfoldable pub rate : Width → ℕ → List ℕ → List ℤ → List Bool
 rate w budget es block = let d = length es in first_bits budget (code (planes w d (lift w d (pad es block))))
+
+-- a fixed-precision code: the code of so many planes from the top, of all where the precision is more (zfp 1.0 documentation)
+unfoldable pub prec : Width → ℕ → List ℕ → List ℤ → List Bool
+prec w p es block = let d = length es in code (take (min p (bits w)) (planes w d (lift w d (pad es block))))
 
 -- a block's values at the places that exist, 0 at the others
 unfoldable pub existing_values : List ℕ → List ℤ → List ℤ
@@ -49,6 +52,12 @@ unfoldable pub round : Width → ℕ → List ℕ → List ℤ → List ℤ
 round w budget es block =
     let d = length es in
     existing_values es (unlift w d (coefficients_of w d (kept_planes budget (planes w d (lift w d (pad es block))))))
+
+-- what a fixed precision makes of a block: its top planes kept whole and all others zero, put through the inverse transform
+unfoldable pub round_prec : Width → ℕ → List ℕ → List ℤ → List ℤ
+round_prec w p es block =
+    let d = length es in
+    existing_values es (unlift w d (coefficients_of w d (take (min p (bits w)) (planes w d (lift w d (pad es block))))))
 
 -- what reading a rate code of these bits gives
 unfoldable pub read_rate : Width → List ℕ → List Bool → List ℤ
@@ -66,3 +75,12 @@ read_rev w es s =
     let len = length (code ps) in
     if nat_lt (length s) (count_bits w + len) then None
     else Some (existing_values es (unlorenzo w d (coefficients_of w d ps)), count_bits w + len)
+
+-- what reading a fixed-precision code at the front of these bits gives, or nothing where a bit past the end is needed
+unfoldable pub read_prec : Width → ℕ → List ℕ → List Bool → Option (List ℤ × ℕ)
+read_prec w p es s =
+    let d = length es in
+    let ps = planes_in (min p (bits w)) (4 ^ d) s in
+    let len = length (code ps) in
+    if nat_lt (length s) len then None
+    else Some (existing_values es (unlift w d (coefficients_of w d ps)), len)

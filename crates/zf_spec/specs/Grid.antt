@@ -1,4 +1,4 @@
--- An array cut into blocks of four values along each axis (Lindstrom 2014, section 3).
+-- An array cut into blocks of four values along each axis (Lindstrom 2014).
 --     An array has its sizes as a list, x first, and its dimension d is the length of that list. Positions, extents and
 --     the coordinates of a block are lists of that length too. A block is the list of its 4^d values by place, x fastest.
 use Rattle.std.specs.List.{AllByRecursion}

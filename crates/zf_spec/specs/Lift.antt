@@ -1,4 +1,4 @@
--- The lossy transform of a block (Lindstrom 2014, section 4.2; zfp 1.0 documentation, algorithm: decorrelating transform).
+-- The lossy transform of a block (zfp 1.0 documentation, chapter Algorithm).
 --     Each sum, difference and doubling is wrapped, which is this project's own choice. The inverse does not undo the forward.
 use Rattle.std.specs.Prelude.{ℕ, suc, zero, ◌+◌, ◌-◌, ◌*◌, ◌/◌, ◌%◌, ℤ, pos, ◌+ℤ◌, ◌-ℤ◌, ◌*ℤ◌, List, [], ◌∷◌, map, length, slice_index_or}
 use Rattle.std.specs.Int.{Width}
@@ -46,20 +46,20 @@ line_value f step block p =
 unfoldable pub along : (ℤ → ℤ → ℤ → ℤ → List ℤ) → ℕ → List ℤ → List ℤ
 along f step block = map (line_value f step block) (upto (length block))
 
--- along d axes, the first of this step, in order
-abbrev pub lift_from : Width → ℕ → ℕ → List ℤ → List ℤ
-lift_from n step zero block = block
-lift_from n step (suc d) block = lift_from n (4 * step) d (along (lift_line n) step block)
+-- along d axes, the first of this step and each of four times the step before
+abbrev pub along_axes : (ℤ → ℤ → ℤ → ℤ → List ℤ) → ℕ → ℕ → List ℤ → List ℤ
+along_axes f step zero block = block
+along_axes f step (suc d) block = along_axes f (4 * step) d (along f step block)
 
--- the inverse, the last axis first
-abbrev pub unlift_from : Width → ℕ → ℕ → List ℤ → List ℤ
-unlift_from n step zero block = block
-unlift_from n step (suc d) block = along (unlift_line n) step (unlift_from n (4 * step) d block)
+-- the same axes, the last one first
+abbrev pub along_axes_back : (ℤ → ℤ → ℤ → ℤ → List ℤ) → ℕ → ℕ → List ℤ → List ℤ
+along_axes_back f step zero block = block
+along_axes_back f step (suc d) block = along f step (along_axes_back f (4 * step) d block)
 
--- along x, then y, z and w of the used axes
+-- along x, then y, z and w of the axes in use
 abbrev pub lift : Width → ℕ → List ℤ → List ℤ
-lift n d block = lift_from n 1 d block
+lift n d block = along_axes (lift_line n) 1 d block
 
 -- back, in reverse order of axes
 abbrev pub unlift : Width → ℕ → List ℤ → List ℤ
-unlift n d block = unlift_from n 1 d block
+unlift n d block = along_axes_back (unlift_line n) 1 d block

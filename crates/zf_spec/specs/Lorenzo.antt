@@ -1,4 +1,4 @@
--- The reversible transform of a block, the high-order Lorenzo transform (zfp 1.0 documentation, algorithm: reversible transform).
+-- The reversible transform of a block, the high-order Lorenzo transform (zfp 1.0 documentation, chapter Algorithm).
 use Rattle.std.specs.Prelude.{ℕ, suc, zero, ◌+◌, ◌-◌, ◌/◌, ◌%◌, ℤ, pos, ◌+ℤ◌, ◌*ℤ◌, neg_ℤ, List, [], ◌∷◌, map, if◌then◌else◌}
 use Rattle.std.specs.Int.{Width}
 use Rattle.zf_spec.specs.Numbers.{wrap, is_odd}

@@ -39,7 +39,8 @@ digits_sum [] = pos 0
 digits_sum (d ∷ ds) = pos (digit_value d) +ℤ negsuc 1 *ℤ digits_sum ds
 
 -- the k lowest negabinary digits of v, the lowest first: the only k digits whose sum is v modulo 2^k
--- (zfp 1.0 documentation, algorithm: two's complement to negabinary)
+-- (zfp 1.0 documentation, chapter Algorithm). Behind the lowest digit d stand those of the negated half,
+-- since v = d + (-2) * (-floor(v / 2))
 abbrev pub digits : ℕ → ℤ → List Bool
 digits zero v = []
 digits (suc k) v = is_odd_int v ∷ digits k (neg_ℤ (floor_half v))

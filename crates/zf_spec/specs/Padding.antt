@@ -1,4 +1,4 @@
--- A partial block is padded to a whole one (zfp 1.0 documentation, algorithm: partial blocks).
+-- A partial block is padded to a whole one (zfp 1.0 documentation, chapter Algorithm).
 use Rattle.std.specs.Prelude.{ℕ, ◌+◌, ◌-◌, ◌*◌, ◌/◌, ◌%◌, ℤ, pos, List, [], ◌∷◌, map, length, slice_index_or}
 use Rattle.zf_spec.specs.Grid.{places}
 

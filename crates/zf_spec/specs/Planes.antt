@@ -1,4 +1,4 @@
--- Bit planes and their code (Lindstrom 2014, section 4.3; zfp 1.0 documentation, algorithm: embedded coding).
+-- Bit planes and their code (zfp 1.0 documentation, chapter Algorithm).
 --     A plane is a list of digits by rank. Planes are a list of planes, the greatest first.
 use Rattle.std.specs.Prelude.{ℕ, suc, max, Bool, true, false, ◌||◌, List, [], ◌∷◌, ◌++◌, map, reverse, slice_index_or, take, drop, if◌then◌else◌}
 use Rattle.zf_spec.specs.Grid.{upto}
@@ -11,6 +11,10 @@ plane k coefficients = map (λ ds. slice_index_or ds k false) coefficients
 abbrev pub planes_of : ℕ → List (List Bool) → List (List Bool)
 planes_of w coefficients = map (λ k. plane k coefficients) (reverse (upto w))
 
+-- back: the digits of the coefficients by rank, the lowest first, of which w planes hold one each; planes that are missing below are zero
+unfoldable pub digits_in_planes : ℕ → ℕ → List (List Bool) → List (List Bool)
+digits_in_planes w size planes = map (λ r. map (λ i. slice_index_or (slice_index_or planes i []) r false) (reverse (upto w))) (upto size)
+
 -- some digit is one
 abbrev pub has_one : List Bool → Bool
 has_one [] = false
@@ -21,11 +25,16 @@ abbrev pub reach : List Bool → ℕ
 reach [] = 0
 reach (d ∷ ds) = if has_one (d ∷ ds) then suc (reach ds) else 0
 
+-- one more than the greatest rank that has a one in any of these planes, or 0 where there is none
+abbrev pub reach_of_all : List (List Bool) → ℕ
+reach_of_all [] = 0
+reach_of_all (ds ∷ planes) = max (reach ds) (reach_of_all planes)
+
 -- a group bit says whether a one follows; if so, its run of digits comes
 abbrev pub group : List Bool → List Bool → List Bool
 group ds run = if has_one ds then true ∷ run else false ∷ []
 
--- a run: the digits up to and with the first one, of which that of the last rank is implied, and then the next group
+-- the code from a run on: the digits up to and with the first one, of which that of the last rank is implied, and all behind it
 abbrev pub code_from_run : List Bool → List Bool
 code_from_run [] = []
 code_from_run (d ∷ []) = []
@@ -49,6 +58,10 @@ code_from n (ds ∷ planes) = plane_code n ds ++ code_from (max n (reach ds)) pl
 -- the code of the top planes of a block
 abbrev pub code : List (List Bool) → List Bool
 code planes = code_from 0 planes
+
+-- the code of plane k among planes, counted from the greatest: ranks below the reach of all planes above have had a one
+abbrev pub code_at : List (List Bool) → ℕ → List Bool
+code_at planes k = plane_code (reach_of_all (take k planes)) (slice_index_or planes k [])
 
 -- some plane has a one
 abbrev pub any_one : List (List Bool) → Bool

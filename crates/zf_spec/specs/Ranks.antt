@@ -1,4 +1,4 @@
--- The order in which the coefficients of a block are coded (zfp 1.0 documentation, algorithm: coefficient order;
+-- The order in which the coefficients of a block are coded (zfp 1.0 documentation, chapter Algorithm;
 -- which of two coefficients with equal sums comes first in three and four dimensions is this project's own choice).
 use Rattle.std.specs.Prelude.{ℕ, ◌≡◌, ◌-◌, ◌*◌, Bool, true, false, ◌&&◌, ◌||◌, ◌==◌, nat_lt, ℤ, pos, List, [], ◌∷◌, map, slice_index_or, if◌then◌else◌}
 use Rattle.std.specs.List.{sum, sum_by, position_or_len}

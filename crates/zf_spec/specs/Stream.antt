@@ -1,21 +1,29 @@
--- The stream of an array: header bits, the codes of its blocks, and the fill (zfp 1.0 documentation, API: header;
+-- The stream of an array: header bits, the codes of its blocks, and the fill (zfp 1.0 documentation;
 -- codec byte 69 and the profile of the long form are this project's own).
-use Rattle.std.specs.Prelude.{ℕ, suc, zero, ◌-◌, ◌/◌, ◌%◌, ℤ, Bool, false, nat_lt, nat_le, List, [], ◌∷◌, ◌++◌, map, length, take, drop, replicate, if◌then◌else◌}
+use Rattle.std.specs.Prelude.{ℕ, suc, zero, ◌+◌, ◌-◌, ◌/◌, ◌%◌, ℤ, Bool, false, nat_lt, nat_le, List, [], ◌∷◌, ◌++◌, map, length, take, drop, replicate, if◌then◌else◌}
 use Rattle.std.specs.List.{flat_map}
 use Rattle.std.specs.Int.{Width, byte_len, to_le_bytes, from_le_bytes, cast_unsigned, cast_signed}
 use mir.Val.{bits}
 use Rattle.zf_spec.specs.Numbers.{field, number}
 use Rattle.zf_spec.specs.Grid.{upto, product, blocks, extent_of, block_of}
-use Rattle.zf_spec.specs.Codes.{rev, rate}
+use Rattle.zf_spec.specs.Codes.{rev, rate, prec}
 
--- how the blocks of a stream are coded: without loss, or each in this many bits
+-- how the blocks of a stream are coded: without loss, each in this many bits, or each to this many planes
 pub data Mode : Type 0 where
   reversible : Mode
   fixed_rate : ℕ → Mode
+  fixed_precision : ℕ → Mode
 
--- zero bits up to a whole word of 64
+-- how many bits lead from n bits to a whole word of 64
+abbrev pub fill_len : ℕ → ℕ
+fill_len n = (64 - n % 64) % 64
+
+-- the fill: zero bits up to a whole word of 64
+abbrev pub fill : List Bool → List Bool
+fill bs = replicate (fill_len (length bs)) false
+
 abbrev pub with_fill : List Bool → List Bool
-with_fill bs = bs ++ replicate ((64 - length bs % 64) % 64) false
+with_fill bs = bs ++ fill bs
 
 -- bit i of a list of bits is bit i mod 8 of byte i / 8: n bytes
 abbrev pub bytes_from : ℕ → List Bool → List ℕ
@@ -44,11 +52,11 @@ abbrev pub values_from : Width → ℕ → List ℕ → List ℤ
 values_from w zero s = []
 values_from w (suc n) s = cast_signed w (from_le_bytes w (first_bytes (byte_len w) s)) ∷ values_from w n (drop (byte_len w) s)
 
--- the first byte values of a stream, "zfp", in its bit order; then the codec's
+-- the letters "zfp" in front of a stream: the bytes 7a 66 70
 abbrev pub magic : ℕ
-magic = 7366266
+magic = 0x70667a
 
--- 5 in one and two dimensions, as zfp 1.0 writes; 69 in three and four (this project's own)
+-- the codec's number: 5 in one and two dimensions, as zfp 1.0 writes; 69 in three and four (this project's own)
 abbrev pub codec : ℕ → ℕ
 codec d = if nat_le d 2 then 5 else 69
 
@@ -56,15 +64,24 @@ codec d = if nat_le d 2 then 5 else 69
 abbrev pub type_number : Width → ℕ
 type_number w = if nat_lt 32 (bits w) then 2 else 1
 
--- the mode's number: the rate less 1 up to 2048, 2176 for reversible, and else 4095, which begins the long form
+-- the mode's number: the rate less 1 up to 2048, the precision plus 2047, 2176 for reversible; and else 4095, which begins the long form
 abbrev pub mode_number : Mode → ℕ
 mode_number reversible = 2176
 mode_number (fixed_rate b) = if nat_le b 2048 then b - 1 else 4095
+mode_number (fixed_precision p) = p + 2047
+
+-- in the long form of a rate, the most planes (zfp's maxprec) of all 64, less 1, and the least exponent, which is no limit
+abbrev pub all_planes : ℕ
+all_planes = 63
+
+abbrev pub no_exponent : ℕ
+no_exponent = 15421
 
 -- the long form of a rate above 2048: the least and the most bits, the most planes, the least exponent
 abbrev pub long_form : Mode → List Bool
 long_form reversible = []
-long_form (fixed_rate b) = if nat_le b 2048 then [] else field 15 (b - 1) ++ field 15 (b - 1) ++ field 7 63 ++ field 15 15421
+long_form (fixed_rate b) = if nat_le b 2048 then [] else field 15 (b - 1) ++ field 15 (b - 1) ++ field 7 all_planes ++ field 15 no_exponent
+long_form (fixed_precision p) = []
 
 -- the header bits of an array of these sizes
 unfoldable pub header : Width → List ℕ → Mode → List Bool
@@ -77,6 +94,7 @@ header w ns mode =
 abbrev pub block_code : Width → Mode → List ℕ → List ℤ → List Bool
 block_code w reversible es block = rev w es block
 block_code w (fixed_rate b) es block = rate w b es block
+block_code w (fixed_precision p) es block = prec w p es block
 
 -- the codes of the blocks of an array, in order
 abbrev pub codes : Width → List ℕ → Mode → List ℤ → List (List Bool)

@@ -1,13 +1,24 @@
-//! Laws of bytes: of bits, of raw values, and of the header.
+//! Laws of bytes: of bits and words, of raw values, and of the header.
 
-ghost use Rattle.std.specs.Prelude.{◌≡◌, ℕ, ◌+◌, ◌*◌, ◌%◌, ◌<◌, ◌≤◌, ℤ, Bool, false, List, ◌++◌, length, replicate, FitsSigned, All};
+ghost use Rattle.std.specs.Prelude.{◌≡◌, ℕ, ◌+◌, ◌*◌, ◌/◌, ◌%◌, ◌^◌, ◌<◌, ◌≤◌, ℤ, Bool, false, List, ◌++◌, length, replicate, slice_index_or, FitsSigned, All};
 ghost use Rattle.std.specs.Int.{Width, byte_len};
-ghost use Rattle.zf_spec.specs.Stream.{with_fill, to_bytes, to_bits, first_bytes, values_from, raw, header, reversible, fixed_rate};
+ghost use Rattle.zf_spec.specs.Numbers.{is_odd, word_bits};
+ghost use Rattle.zf_spec.specs.Stream.{with_fill, to_bytes, to_bits, first_bytes, values_from, raw, header, reversible, fixed_rate, fixed_precision};
 
 /// Whole bytes of bits and their bytes determine one another.
 pub fn bits_and_bytes()
     ensures bits { (bs : List Bool) → length bs % 8 ≡ 0 → to_bits (to_bytes bs) ≡ bs }
     ensures bytes { (bytes : List ℕ) → All (λ b. b < 256) bytes → to_bytes (to_bits bytes) ≡ bytes }
+{}
+
+/// Bit i of a list of bits is bit i mod 64 of word i / 64, and bit i mod 8 of byte i / 8, the least significant bit of each first.
+pub fn places_of_bits()
+    ensures word { (words : List ℕ) (i : ℕ) → i < 64 * length words
+        → slice_index_or (word_bits words) i false ≡ is_odd (slice_index_or words (i / 64) 0 / 2 ^ (i % 64)) }
+    ensures byte { (bytes : List ℕ) (i : ℕ) → i < 8 * length bytes
+        → slice_index_or (to_bits bytes) i false ≡ is_odd (slice_index_or bytes (i / 8) 0 / 2 ^ (i % 8)) }
+    ensures written { (bs : List Bool) (i : ℕ) → length bs % 8 ≡ 0 → i < length bs
+        → slice_index_or bs i false ≡ is_odd (slice_index_or (to_bytes bs) (i / 8) 0 / 2 ^ (i % 8)) }
 {}
 
 /// The fill is the only one of less than 64 zero bits that ends a word of 64.
@@ -29,5 +40,6 @@ pub fn values_and_raw_bytes()
 pub fn length_of_the_header()
     ensures reversible { (w : Width) (ns : List ℕ) → 1 ≤ length ns → length ns ≤ 4 → length (header w ns reversible) ≡ 96 }
     ensures rate { (w : Width) (ns : List ℕ) (b : ℕ) → 1 ≤ length ns → length ns ≤ 4 → b ≤ 2048 → length (header w ns (fixed_rate b)) ≡ 96 }
+    ensures precision { (w : Width) (ns : List ℕ) (p : ℕ) → 1 ≤ length ns → length ns ≤ 4 → length (header w ns (fixed_precision p)) ≡ 96 }
     ensures long { (w : Width) (ns : List ℕ) (b : ℕ) → 1 ≤ length ns → length ns ≤ 4 → 2048 < b → length (header w ns (fixed_rate b)) ≡ 148 }
 {}

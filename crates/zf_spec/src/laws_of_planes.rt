@@ -1,10 +1,12 @@
-//! Laws of planes, of their code, and of the coefficients that they are the digits of.
+//! Laws of planes, of their code and what a budget keeps of it, and of the coefficients that they are the digits of.
 
-ghost use Rattle.std.specs.Prelude.{◌≡◌, ℕ, suc, ◌+◌, ◌-◌, ◌*◌, ◌^◌, ◌<◌, ◌≤◌, max, ℤ, Bool, true, false, List, [], ◌∷◌, ◌++◌, length, take, replicate, slice_index_or, FitsSigned, All};
+ghost use Rattle.std.specs.Prelude.{◌≡◌, ℕ, suc, ◌+◌, ◌-◌, ◌*◌, ◌^◌, ◌<◌, ◌≤◌, max, ℤ, Bool, true, false, List, [], ◌∷◌, ◌++◌, map, length, take, replicate, slice_index_or, FitsSigned, All};
+ghost use Rattle.std.specs.List.{flat_map};
 ghost use Rattle.std.specs.Int.{Width};
 ghost use mir.Val.{bits};
-ghost use Rattle.zf_spec.specs.Planes.{has_one, reach, tail, code, needed_planes};
-ghost use Rattle.zf_spec.specs.Kept.{kept_tail};
+ghost use Rattle.zf_spec.specs.Grid.{upto};
+ghost use Rattle.zf_spec.specs.Planes.{has_one, reach, reach_of_all, tail, code, code_at, needed_planes};
+ghost use Rattle.zf_spec.specs.Kept.{kept_tail, kept_planes, kept_at};
 ghost use Rattle.zf_spec.specs.Codes.{planes, coefficients_of};
 
 /// The code of the digits from some rank on: of none, of zeros only, and where the first one stands after j zeros, whether something follows it or not.
@@ -34,8 +36,26 @@ pub fn reach_of_a_plane()
     ensures only { (ds : List Bool) (n : ℕ) → ((k : ℕ) → n ≤ k → slice_index_or ds k false ≡ false) → ((k : ℕ) → n ≡ suc k → slice_index_or ds k false ≡ true) → n ≡ reach ds }
 {}
 
-/// The number of used planes is the only one with a plane that has a one just before it and no such plane from it on.
-pub fn used_planes()
+/// The reach of several planes is the only number with a one just before it in some plane, and no one from it on in any; it is 0 where there is no one.
+pub fn reach_of_several_planes()
+    ensures none { (ps : List (List Bool)) (j k : ℕ) → reach_of_all ps ≤ k → slice_index_or (slice_index_or ps j []) k false ≡ false }
+    ensures one { (ps : List (List Bool)) (k : ℕ) → reach_of_all ps ≡ suc k → (j : ℕ) × (slice_index_or (slice_index_or ps j []) k false ≡ true) }
+    ensures only { (ps : List (List Bool)) (n : ℕ) → ((j k : ℕ) → n ≤ k → slice_index_or (slice_index_or ps j []) k false ≡ false)
+        → ((k : ℕ) → n ≡ suc k → (j : ℕ) × (slice_index_or (slice_index_or ps j []) k false ≡ true)) → n ≡ reach_of_all ps }
+{}
+
+/// The code of planes is the codes of its planes, the greatest first, each by the reach of all planes above.
+pub fn code_plane_by_plane()
+    ensures { (ps : List (List Bool)) → code ps ≡ flat_map (code_at ps) (upto (length ps)) }
+{}
+
+/// What a budget keeps of each plane is known from the bits that the codes of all planes above leave, and from their reach.
+pub fn kept_plane_by_plane()
+    ensures { (budget : ℕ) (ps : List (List Bool)) → kept_planes budget ps ≡ map (kept_at budget ps) (upto (length ps)) }
+{}
+
+/// The number of planes that are needed is the only one with a plane that has a one just before it and no such plane from it on.
+pub fn needed_planes_of_a_block()
     ensures none { (ps : List (List Bool)) (k : ℕ) → needed_planes ps ≤ k → has_one (slice_index_or ps k []) ≡ false }
     ensures one { (ps : List (List Bool)) (k : ℕ) → needed_planes ps ≡ suc k → has_one (slice_index_or ps k []) ≡ true }
     ensures only { (ps : List (List Bool)) (n : ℕ) → ((k : ℕ) → n ≤ k → has_one (slice_index_or ps k []) ≡ false) → ((k : ℕ) → n ≡ suc k → has_one (slice_index_or ps k []) ≡ true) → n ≡ needed_planes ps }
@@ -49,7 +69,7 @@ pub fn length_of_codes()
 /// Coefficients of the type and their planes determine one another; planes with no one may be missing below.
 pub fn planes_and_coefficients()
     ensures coefficients { (w : Width) (d : ℕ) (c : List ℤ) → length c ≡ 4 ^ d → All (λ v. FitsSigned w v) c → coefficients_of w d (planes w d c) ≡ c }
-    ensures used { (w : Width) (d : ℕ) (c : List ℤ) → length c ≡ 4 ^ d → All (λ v. FitsSigned w v) c → coefficients_of w d (take (max 1 (needed_planes (planes w d c))) (planes w d c)) ≡ c }
+    ensures needed { (w : Width) (d : ℕ) (c : List ℤ) → length c ≡ 4 ^ d → All (λ v. FitsSigned w v) c → coefficients_of w d (take (max 1 (needed_planes (planes w d c))) (planes w d c)) ≡ c }
     ensures planes { (w : Width) (d : ℕ) (ps : List (List Bool)) → length ps ≤ bits w → All (λ ds. length ds ≡ 4 ^ d) ps
         → planes w d (coefficients_of w d ps) ≡ ps ++ replicate (bits w - length ps) (replicate (4 ^ d) false) }
 {}

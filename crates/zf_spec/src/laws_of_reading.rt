@@ -6,7 +6,7 @@ ghost use mir.Val.{bits};
 ghost use Rattle.zf_spec.specs.Planes.{code};
 ghost use Rattle.zf_spec.specs.Kept.{kept_planes};
 ghost use Rattle.zf_spec.specs.ReadPlanes.{Begins, first_bits, planes_in};
-ghost use Rattle.zf_spec.specs.Codes.{count_bits, rev, rate, round, existing_values, read_rev, read_rate};
+ghost use Rattle.zf_spec.specs.Codes.{count_bits, rev, rate, round, prec, round_prec, existing_values, read_rev, read_rate, read_prec};
 
 /// The planes in a list of bits are the only planes of their size and number whose code begins that list continued with zeros.
 pub fn planes_in_bits()
@@ -32,4 +32,11 @@ pub fn reversible_code()
 pub fn rate_code()
     ensures read { (w : Width) (budget : ℕ) (es : List ℕ) (block : List ℤ) → read_rate w es (rate w budget es block) ≡ round w budget es block }
     ensures length { (w : Width) (budget : ℕ) (es : List ℕ) (block : List ℤ) → length (rate w budget es block) ≡ budget }
+{}
+
+/// The code of a block at a fixed precision reads back as what the precision makes of the block, and takes its length, whatever bits come after.
+pub fn precision_code()
+    ensures read { (w : Width) (p : ℕ) (es : List ℕ) (block : List ℤ) (more : List Bool)
+        → read_prec w p es (prec w p es block ++ more) ≡ Some (round_prec w p es block, length (prec w p es block)) }
+    ensures length { (w : Width) (p : ℕ) (es : List ℕ) (block : List ℤ) → length (prec w p es block) ≤ 4 ^ length es * (bits w + 1) }
 {}

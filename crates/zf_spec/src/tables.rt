@@ -1,6 +1,6 @@
 //! The tables of the format, computed by the definitions.
 
-ghost use Rattle.std.specs.Prelude.{◌≡◌, ℕ, pos, negsuc, [], ◌∷◌, ◌++◌, take, true, false, replicate};
+ghost use Rattle.std.specs.Prelude.{◌≡◌, ℕ, pos, negsuc, [], ◌∷◌, ◌++◌, take, true, false, replicate, Some};
 ghost use Rattle.std.specs.Int.{w32, w64};
 ghost use Rattle.zf_spec.specs.Padding.{pad};
 ghost use Rattle.zf_spec.specs.Lift.{lift, unlift};
@@ -8,8 +8,8 @@ ghost use Rattle.zf_spec.specs.Lorenzo.{lorenzo, unlorenzo};
 ghost use Rattle.zf_spec.specs.Ranks.{order};
 ghost use Rattle.zf_spec.specs.Numbers.{digits, number};
 ghost use Rattle.zf_spec.specs.Planes.{plane_code, reach};
-ghost use Rattle.zf_spec.specs.Codes.{rev, round, read_rate};
-ghost use Rattle.zf_spec.specs.Stream.{stream_of_bytes, reversible, fixed_rate};
+ghost use Rattle.zf_spec.specs.Codes.{rev, round, read_rate, round_prec, read_prec};
+ghost use Rattle.zf_spec.specs.Stream.{stream_of_bytes, mode_number, reversible, fixed_rate, fixed_precision};
 
 /// A line of one to four values is padded to four.
 #[tactic(auto, unfolding(crate::specs::Padding::pad))]
@@ -107,4 +107,29 @@ pub fn roundings()
     ensures cut_run { round w32 2 (4 ∷ []) (pos 805306368 ∷ negsuc 805306367 ∷ negsuc 805306367 ∷ pos 805306368 ∷ [])
         ≡ pos 1073741824 ∷ negsuc 1073741823 ∷ pos 1073741824 ∷ negsuc 1073741823 ∷ [] }
     ensures read_back { read_rate w32 (4 ∷ []) (true ∷ false ∷ []) ≡ pos 1073741824 ∷ negsuc 1073741823 ∷ pos 1073741824 ∷ negsuc 1073741823 ∷ [] }
+{}
+
+/// The numbers of the modes.
+pub fn mode_numbers()
+    ensures rates { (mode_number (fixed_rate 1) ≡ 0) × (mode_number (fixed_rate 2048) ≡ 2047) × (mode_number (fixed_rate 2049) ≡ 4095) }
+    ensures precisions { (mode_number (fixed_precision 1) ≡ 2048) × (mode_number (fixed_precision 128) ≡ 2175) }
+    ensures reversible { mode_number reversible ≡ 2176 }
+{}
+
+/// Streams of a fixed precision: all planes of four values, and one plane alone.
+pub fn precision_streams()
+    ensures all_planes { stream_of_bytes w32 (4 ∷ []) (fixed_precision 32) (1 ∷ 0 ∷ 0 ∷ 0 ∷ 2 ∷ 0 ∷ 0 ∷ 0 ∷ 3 ∷ 0 ∷ 0 ∷ 0 ∷ 4 ∷ [])
+        ≡ 0x7a ∷ 0x66 ∷ 0x70 ∷ 0x05 ∷ 0x30 ∷ 0 ∷ 0 ∷ 0 ∷ 0 ∷ 0 ∷ 0xf0 ∷ 0x81 ∷ 0 ∷ 0 ∷ 0 ∷ 0x60 ∷ 0x27 ∷ 0 ∷ 0 ∷ 0 ∷ 0 ∷ 0 ∷ 0 ∷ 0 ∷ [] }
+    ensures one_plane { stream_of_bytes w32 (4 ∷ []) (fixed_precision 1) (0 ∷ 0 ∷ 0 ∷ 0xc0 ∷ 0 ∷ 0 ∷ 0 ∷ 0xc0 ∷ 0 ∷ 0 ∷ 0 ∷ 0xc0 ∷ 0 ∷ 0 ∷ 0 ∷ 0xc0 ∷ [])
+        ≡ 0x7a ∷ 0x66 ∷ 0x70 ∷ 0x05 ∷ 0x30 ∷ 0 ∷ 0 ∷ 0 ∷ 0 ∷ 0 ∷ 0 ∷ 0x80 ∷ 3 ∷ 0 ∷ 0 ∷ 0 ∷ [] }
+{}
+
+/// What a fixed precision makes of a block of four values: with all planes, with more than there are, and with one.
+pub fn precision_roundings()
+    ensures all_planes { round_prec w32 32 (4 ∷ []) (pos 1 ∷ pos 2 ∷ pos 3 ∷ pos 4 ∷ []) ≡ pos 0 ∷ pos 2 ∷ pos 2 ∷ pos 4 ∷ [] }
+    ensures more { round_prec w32 64 (4 ∷ []) (pos 1 ∷ pos 2 ∷ pos 3 ∷ pos 4 ∷ []) ≡ pos 0 ∷ pos 2 ∷ pos 2 ∷ pos 4 ∷ [] }
+    ensures one_plane { round_prec w32 1 (4 ∷ []) (negsuc 1073741823 ∷ negsuc 1073741823 ∷ negsuc 1073741823 ∷ negsuc 1073741823 ∷ [])
+        ≡ negsuc 2147483647 ∷ negsuc 2147483647 ∷ negsuc 2147483647 ∷ negsuc 2147483647 ∷ [] }
+    ensures read_back { read_prec w32 1 (4 ∷ []) (true ∷ true ∷ false ∷ [])
+        ≡ Some (negsuc 2147483647 ∷ negsuc 2147483647 ∷ negsuc 2147483647 ∷ negsuc 2147483647 ∷ [], 3) }
 {}

@@ -1,5 +1,5 @@
-use Rattle.zf_spec.proofs.RawValues.{length-header_reversible, length-header_rate, length-header_long}
+use Rattle.zf_spec.proofs.RawValues.{length-header_reversible, length-header_rate, length-header_precision, length-header_long}
 use Rattle.zf_spec.proofs.laws_of_bytes.length_of_the_header.Goals as goal
 
 pub returns : goal.returns
-returns c = record { reversible = length-header_reversible; rate = length-header_rate; long = length-header_long }
+returns c = record { reversible = length-header_reversible; rate = length-header_rate; precision = length-header_precision; long = length-header_long }
