@@ -47,29 +47,6 @@ is_inside-coordinates (n ∷ ns) k h =
     let n_pos = factor_not_zero n (product ns) k h in
     and_from (nat_lt (k % n) n) (is_inside ns (coordinates ns (k / n))) (lt-ltb (k % n) n (mod_below k n n_pos)) (is_inside-coordinates ns (k / n) (div_below k n (product ns) n_pos (omega arith)))
 
-pub raster-coordinates : (ns : List ℕ) (k : ℕ) → k < product ns → raster ns (coordinates ns k) ≡ k
-raster-coordinates [] k h = omega arith
-raster-coordinates (n ∷ ns) k h =
-    let n_pos = factor_not_zero n (product ns) k h in
-    let rest : raster ns (coordinates ns (k / n)) ≡ k / n = raster-coordinates ns (k / n) (div_below k n (product ns) n_pos (omega arith)) in
-    rw rest (omega arith)
-
-pub coordinates-raster : (ns ps : List ℕ) → length ps ≡ length ns → is_inside ns ps ≡ true → coordinates ns (raster ns ps) ≡ ps
-coordinates-raster [] [] e h = refl
-coordinates-raster [] (p ∷ ps) e h = absurd (omega arith)
-coordinates-raster (n ∷ ns) [] e h = absurd (false≢true h)
-coordinates-raster (n ∷ ns) (p ∷ ps) e h =
-    let parts = and_parts (nat_lt p n) (is_inside ns ps) h in
-    let turned : p + n * raster ns ps ≡ raster ns ps * n + p = omega arith in
-    let first = mod-mul-add (raster ns ps) n p (ltb-true p n parts.0) in
-    let others = div-mul-add (raster ns ps) n p (ltb-true p n parts.0) in
-    let rest = coordinates-raster ns ps (omega arith) parts.1 in
-    rw (turned, first, others, rest)
-
-pub length-coordinates : (ns : List ℕ) (k : ℕ) → length (coordinates ns k) ≡ length ns
-length-coordinates [] k = refl
-length-coordinates (n ∷ ns) k = ap suc (length-coordinates ns (k / n))
-
 -- ---- more axes, along which there is one position only
 
 pub product-append_ones : (ns : List ℕ) (k : ℕ) → product (ns ++ replicate k 1) ≡ product ns

@@ -7,9 +7,10 @@ use Rattle.zf_spec.specs.Grid.{IsShape, grid, blocks, raster, coordinates, is_in
 use Rattle.zf_base.specs.declared.position.Pos.{Pos}
 use Rattle.zf_base.specs.Positions.{axes, used_axes, with_unused, IsPosition, IsExtent}
 use Rattle.zf_base.specs.Places.{block_number, place_of, IsAt}
-use Rattle.zf_base.proofs.Boxes.{is_inside-append_ones, raster-append_zeros, coordinates-append_ones, extents-append_ones, is_inside-coordinates, length-coordinates}
+use Rattle.zf_base.proofs.Boxes.{is_inside-append_ones, raster-append_zeros, coordinates-append_ones, extents-append_ones, is_inside-coordinates}
 use Rattle.zf_base.proofs.Sizes.{axes-with_unused}
-use Rattle.zf_base.proofs.Places.{is_inside-grid, IsAt-position, length-fours}
+use Rattle.zf_base.proofs.Places.{is_inside-grid, IsAt-position}
+use Rattle.zf_spec.proofs.Raster.{length-coordinates, length-fours, length-extents}
 
 -- ---- the used coordinates of a position, and zeros
 
@@ -21,7 +22,7 @@ map-zeros f [] zero e = refl
 map-zeros f [] (suc k) e = rw (e, map-zeros f [] k e)
 map-zeros f (p ∷ ps) k e = rw (map-zeros f ps k e)
 
-position_axes : (ns : List ℕ) (p : Pos) → length ns ≤ 4 → IsPosition ns p → axes p ≡ used_axes (length ns) p ++ replicate (4 - length ns) 0
+pub position_axes : (ns : List ℕ) (p : Pos) → length ns ≤ 4 → IsPosition ns p → axes p ≡ used_axes (length ns) p ++ replicate (4 - length ns) 0
 position_axes ns p four h =
     let ps = used_axes (length ns) p in
     let same = length-used_axes (length ns) p four in
@@ -90,11 +91,6 @@ pub IsPosition-with_unused : (ns ps : List ℕ) → length ns ≤ 4 → length p
 IsPosition-with_unused ns ps four same h =
     let known : used_axes (length ns) (with_unused 0 ps) ≡ ps = ap (λ d. used_axes d (with_unused 0 ps)) (sym same) ∙ used_axes-with_unused 0 ps (omega arith) in
     record { inside = ap (is_inside ns) known ∙ h; unused = ap (with_unused 0) (sym known) }
-
-length-extents : (ns cs : List ℕ) → length cs ≡ length ns → length (extents ns cs) ≡ length ns
-length-extents [] cs e = refl
-length-extents (n ∷ ns) [] e = absurd (omega arith)
-length-extents (n ∷ ns) (c ∷ cs) e = ap suc (length-extents ns cs (omega arith))
 
 extents_not_zero : (ns cs : List ℕ) → is_inside (grid ns) cs ≡ true → AllByRecursion (λ n. 1 ≤ n) (extents ns cs)
 extents_not_zero [] cs h = tt

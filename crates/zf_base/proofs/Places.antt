@@ -4,15 +4,8 @@ use Rattle.std.proofs.lemmas.List.{length-map}
 use Rattle.std.proofs.lemmas.Bool.{and_parts, and_from, ltb-true, lt-ltb, false≢true}
 use Rattle.zf_spec.specs.Grid.{product, grid, raster, coordinates, is_inside, fours, indices, extents, position_in}
 use Rattle.zf_base.specs.Places.{block_number, place_of, IsAt}
-use Rattle.zf_base.proofs.Boxes.{raster-lt, raster-coordinates, coordinates-raster, length-coordinates}
-
-pub product-fours : (d : ℕ) → product (fours d) ≡ 4 ^ d
-product-fours zero = refl
-product-fours (suc d) = rw (product-fours d) (omega arith)
-
-pub length-fours : (d : ℕ) → length (fours d) ≡ d
-length-fours zero = refl
-length-fours (suc d) = ap suc (length-fours d)
+use Rattle.zf_base.proofs.Boxes.{raster-lt}
+use Rattle.zf_spec.proofs.Raster.{raster-coordinates, coordinates-raster, length-coordinates, product-fours, length-fours}
 
 -- ---- from a position to its block and its indices there
 

@@ -1,7 +1,8 @@
--- One append after another, and the zero bits that fill a word.
+-- One append after another.
 use Rattle.std.proofs.Common.{◌≡◌, ◌+◌, ◌-◌, ◌%◌, ◌<◌, Bool, List, [], ◌++◌, length, refl, sym, ap, subst, ◌∙◌, arith, append_assoc, length-append}
 use Rattle.std.proofs.lemmas.List.{append-nil, length-replicate}
-use Rattle.zf_bits.specs.Writer.{Writer, Appends, fill}
+use Rattle.zf_bits.specs.Writer.{Writer, Appends}
+use Rattle.zf_spec.proofs.Bytes.{length-fill}
 
 -- nothing was appended
 pub Appends-nil : (w : Writer) → Appends w w []
@@ -19,17 +20,3 @@ Appends-same {a} {b} appends e = let P : List Bool → Type 0 = λ bs. Appends a
 -- how long the list has become
 pub length-Appends : {a b : Writer} {xs : List Bool} → Appends a b xs → length b.bits ≡ length a.bits + length xs
 length-Appends {a} {b} {xs} appends = ap length appends.bits ∙ length-append a.bits xs
-
--- ---- the fill
-
-pub length-fill : (bs : List Bool) → length (fill bs) ≡ (64 - length bs % 64) % 64
-length-fill bs = length-replicate _ _
-
-pub fill_whole : (bs : List Bool) → (length bs + length (fill bs)) % 64 ≡ 0
-fill_whole bs = omega (arith, length-fill bs)
-
-pub fill_short : (bs : List Bool) → length (fill bs) < 64
-fill_short bs = omega (arith, length-fill bs)
-
-pub fill_none : (bs : List Bool) → length bs % 64 ≡ 0 → fill bs ≡ []
-fill_none bs h = let none : (64 - length bs % 64) % 64 ≡ 0 = omega arith in rw none refl

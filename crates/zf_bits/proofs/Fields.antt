@@ -10,17 +10,6 @@ use Rattle.zf_spec.proofs.Fields.{length-field, number-field, field-number, fiel
 
 -- ---- one bit
 
-pub digit_value-is_odd : (v : ℕ) → digit_value (is_odd v) ≡ v % 2
-digit_value-is_odd v = grind (arith, nat_tests)
-
-pub is_odd-digit_value : (b : Bool) (n : ℕ) → is_odd (digit_value b + 2 * n) ≡ b
-is_odd-digit_value true n = grind (arith, nat_tests)
-is_odd-digit_value false n = grind (arith, nat_tests)
-
-pub half-digit_value : (b : Bool) (n : ℕ) → (digit_value b + 2 * n) / 2 ≡ n
-half-digit_value true n = omega arith
-half-digit_value false n = omega arith
-
 pub digit_value_le : (b : Bool) → digit_value b ≤ 1
 digit_value_le true = omega arith
 digit_value_le false = omega arith

@@ -10,6 +10,7 @@ use Rattle.zf_spec.specs.Stream.{first_bytes, with_fill, to_bits}
 use Rattle.zf_bits.specs.Packing.{word_of, words_from, words_of}
 use Rattle.zf_spec.proofs.Fields.{length-field, number-field, number-append, field-number, field-zero}
 use Rattle.zf_spec.proofs.WordBits.{length-flat_map-field}
+use Rattle.zf_spec.proofs.Bytes.{length-first_bytes, length-to_bits}
 
 -- ---- bytes, continued with zero bytes
 
@@ -26,11 +27,6 @@ first_bytes-append-drop (suc n) (b ∷ s) =
 pub first_bytes-short : (n : ℕ) (s : List ℕ) → length s ≤ n → first_bytes n s ≡ s ++ replicate (n - length s) 0
 first_bytes-short n s short =
     sym (append-nil (first_bytes n s)) ∙ ap (λ bs. first_bytes n s ++ bs) (sym (drop_all n s short)) ∙ first_bytes-append-drop n s
-
-pub length-first_bytes : (n : ℕ) (s : List ℕ) → length (first_bytes n s) ≡ n
-length-first_bytes zero s = refl
-length-first_bytes (suc n) [] = ap suc (length-first_bytes n [])
-length-first_bytes (suc n) (b ∷ s) = ap suc (length-first_bytes n s)
 
 -- ---- the number of bytes
 
@@ -62,9 +58,6 @@ number-to_bits (suc k) (b ∷ bs) count bytes =
     number-flat_map-field 8 b bs ∙ rw (first, others) (sym (sum_through-cons k b bs))
 
 -- ---- words
-
-length-to_bits : (bytes : List ℕ) → length (to_bits bytes) ≡ 8 * length bytes
-length-to_bits bytes = length-flat_map-field 8 bytes
 
 get_or-first_bytes : (n : ℕ) (s : List ℕ) → ((i : ℕ) → get_or s i 0 < 256) → (i : ℕ) → get_or (first_bytes n s) i 0 < 256
 get_or-first_bytes zero s bytes i = lit< tt

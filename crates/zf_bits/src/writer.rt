@@ -1,7 +1,8 @@
 //! A list of bits that grows at its end.
 ghost use Rattle.std.specs.Prelude.{◌≡◌, ◌+◌, ◌%◌, ◌^◌, ◌<◌, ◌≤◌, ◌↔◌, IsTrue, Some, [], ◌∷◌, length, slice_get, OnOk, OnErr};
 ghost use Rattle.zf_spec.specs.Numbers.{field};
-ghost use Rattle.zf_bits.specs.Writer.{Appends, fill};
+ghost use Rattle.zf_spec.specs.Stream.{fill};
+ghost use Rattle.zf_bits.specs.Writer.{Appends};
 
 use std::alloc::{AllocError, Global};
 use std::marker::Model;

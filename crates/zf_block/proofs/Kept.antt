@@ -10,7 +10,7 @@ use Rattle.zf_spec.specs.Kept.{kept_planes_from, kept_planes}
 use Rattle.zf_spec.specs.Codes.{coefficients_of}
 use Rattle.zf_spec.proofs.Counting.{map-upto_same}
 use Rattle.zf_spec.proofs.KeptSame.{kept_whole}
-use Rattle.zf_spec.proofs.PlaneDigits.{digits_at, length-digits_at, get_or-digits_at}
+use Rattle.zf_spec.proofs.PlaneDigits.{digits_at, length-digits_at, get_or-digits_at, coefficients_of-is}
 
 -- ---- a budget that is no less than the code
 
@@ -56,4 +56,6 @@ digits_at-zeros w ps n size r =
 pub coefficients_of-zeros : (w : Width) (d : ℕ) (ps : List (List Bool)) (n size : ℕ) → coefficients_of w d (ps ++ replicate n (replicate size false)) ≡ coefficients_of w d ps
 coefficients_of-zeros w d ps n size =
     let more = ps ++ replicate n (replicate size false) in
-    ap (by_place d) (map-upto_same (λ r. value_of w (digits_at (bits w) more r)) (λ r. value_of w (digits_at (bits w) ps r)) (4 ^ d) (λ r h. ap (value_of w) (digits_at-zeros (bits w) ps n size r)))
+    coefficients_of-is w d more
+    ∙ ap (by_place d) (map-upto_same (λ r. value_of w (digits_at (bits w) more r)) (λ r. value_of w (digits_at (bits w) ps r)) (4 ^ d) (λ r h. ap (value_of w) (digits_at-zeros (bits w) ps n size r)))
+    ∙ sym (coefficients_of-is w d ps)

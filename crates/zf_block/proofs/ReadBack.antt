@@ -11,6 +11,7 @@ use Rattle.zf_bits.specs.Reader.{Reader, rest, Reads}
 use Rattle.zf_bits.proofs.Reading.{Reads-same}
 use Rattle.zf_block.specs.Block.{IsBlock}
 use Rattle.zf_block.specs.ReadBlocks.{ReadsRev, LacksRev, ReadsRate}
+use Rattle.zf_spec.proofs.Raster.{length-fours}
 
 -- ---- a reversible code
 
@@ -51,10 +52,6 @@ is_inside-fours zero p = refl
 is_inside-fours (suc d) p =
     let below : p % 4 < 4 = omega arith in
     and_from (ltb (p % 4) 4) (is_inside (fours d) (indices d (p / 4))) (lt-ltb (p % 4) 4 below) (is_inside-fours d (p / 4))
-
-length-fours : (d : ℕ) → length (fours d) ≡ d
-length-fours zero = refl
-length-fours (suc d) = ap suc (length-fours d)
 
 pub existing_values-fours : (d : ℕ) (block : List ℤ) → length block ≡ 4 ^ d → existing_values (fours d) block ≡ block
 existing_values-fours d block long =

@@ -25,12 +25,6 @@ planes-ranked w d coefficients words planes size count by_rank held =
     ∙ ap (λ n. planes_of n (digits_in n words)) count
     ∙ ap (planes_of (bits w)) by_rank
 
--- the values of the digits in planes are the coefficients of the planes
-pub unranked_values-digits_in_planes : (w : Width) (d : ℕ) (planes : List (List Bool)) → unranked_values w d (digits_in_planes (bits w) (4 ^ d) planes) ≡ Codes.coefficients_of w d planes
-unfolding digits_in_planes
-unranked_values-digits_in_planes w d planes =
-    ap (by_place d) (map-map (value_of w) (λ r. map (λ k. get_or (get_or planes k []) r false) (reverse (upto (bits w)))) (upto (4 ^ d)))
-
 -- `from_planes` and then `unranked`: the block has the coefficients that the planes stand for
 pub by_place-planes : (w : Width) (d : ℕ) (words : List ℕ) (planes : List (List ℕ))
     → length words ≡ 4 ^ d → length planes ≡ bits w
@@ -41,7 +35,6 @@ by_place-planes w d words planes size count by_rank =
     ∙ ap (unranked_values w d) by_rank
     ∙ ap (λ n. unranked_values w d (digits_in_planes n (length words) (planes_held (length words) planes))) count
     ∙ ap (λ n. unranked_values w d (digits_in_planes (bits w) n (planes_held n planes))) size
-    ∙ unranked_values-digits_in_planes w d (planes_held (4 ^ d) planes)
 
 -- the top planes of those that are held
 pub take-planes_held : (prec size : ℕ) (planes : List (List ℕ)) → take prec (planes_held size planes) ≡ map (digits_held size) (take prec (reverse planes))

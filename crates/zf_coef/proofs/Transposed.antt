@@ -17,6 +17,7 @@ use Rattle.zf_coef.specs.HeldDigits.{digits_in, column}
 use Rattle.zf_spec.specs.Planes.{digits_in_planes}
 use Rattle.zf_spec.proofs.Fields.{get_or-field}
 use Rattle.zf_spec.proofs.WordBits.{length-word_bits, get_or-word_bits, words_with_bit, length-words_with_bit, bit_kept, bit_written}
+use Rattle.zf_spec.proofs.HeldPlanes.{get_or-planes_held}
 
 -- ---- one plane
 
@@ -146,15 +147,6 @@ pub length-digits_in_planes : (n size : ℕ) (planes : List (List Bool)) → len
 unfolding digits_in_planes
 length-digits_in_planes n size planes = length-map-upto (λ r. map (λ k. get_or (get_or planes k []) r false) (reverse (upto n))) size
 
-length-planes_held : (size : ℕ) (planes : List (List ℕ)) → length (planes_held size planes) ≡ length planes
-unfolding planes_held
-length-planes_held size planes = length-map (reverse planes) (digits_held size) ∙ length-reverse planes
-
-get_or-planes_held : (size : ℕ) (planes : List (List ℕ)) (k : ℕ) → k < length planes → get_or (planes_held size planes) k [] ≡ digits_held size (get_or planes (length planes - 1 - k) [])
-unfolding planes_held
-get_or-planes_held size planes k below =
-    get_or-map (digits_held size) (reverse planes) k [] [] (omega (arith, below, length-reverse planes)) ∙ ap (digits_held size) (get_or-reverse planes k [] below)
-
 get_or-digits_held : (size : ℕ) (words : List ℕ) (r : ℕ) → r < size → get_or (digits_held size words) r false ≡ get_or (word_bits words) r false
 unfolding digits_held
 get_or-digits_held size words r below = get_or-take size (word_bits words) r false below
@@ -174,7 +166,7 @@ get_or-digits_in_planes size planes r below =
     let small : i < n = omega arith in
     let turned : n - 1 - (n - 1 - i) ≡ i = omega arith in
     get_or-map-reverse-upto digit n i false small
-    ∙ ap (λ ds. get_or ds r false) (get_or-planes_held size planes (n - 1 - i) (omega arith))
+    ∙ ap (λ ds. get_or ds r false) (get_or-planes_held size planes (n - 1 - i) [] (omega arith))
     ∙ get_or-digits_held size (get_or planes (n - 1 - (n - 1 - i)) []) r below
     ∙ ap (λ j. bit_at_rank (get_or planes j [])) turned
     ∙ sym (get_or-map bit_at_rank planes i [] false small))

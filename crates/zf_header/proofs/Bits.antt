@@ -5,13 +5,12 @@ use Rattle.std.proofs.Math.Nat.{pow-le-pow_right}
 use Rattle.zf_spec.specs.Numbers.{is_odd, number}
 use Rattle.zf_spec.specs.Stream.{to_bits}
 use Rattle.zf_spec.proofs.Fields.{number-lt}
-use Rattle.zf_bits.proofs.Fields.{digit_value-is_odd, from_bool-digit_value}
+use Rattle.zf_bits.proofs.Fields.{from_bool-digit_value}
 use Rattle.zf_spec.proofs.WordBits.{length-flat_map-field, get_or-flat_map-field}
 use Rattle.zf_bits.proofs.Reading.{number_more}
 use Rattle.zf_header.specs.HeaderFields.{number_at}
-
-pub length-to_bits : (bytes : List ℕ) → length (to_bits bytes) ≡ 8 * length bytes
-length-to_bits bytes = length-flat_map-field 8 bytes
+use Rattle.zf_spec.proofs.Halves.{digit_value-is_odd}
+use Rattle.zf_spec.proofs.Bytes.{length-to_bits}
 
 -- the bit at a place of bytes
 abbrev pub bit_of : List ℕ → ℕ → ℕ

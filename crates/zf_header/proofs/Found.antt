@@ -7,20 +7,21 @@ use Rattle.zf_base.specs.declared.lane.Ty.TheVariants.{I32, I64}
 use Rattle.zf_base.specs.Widths.{width_of}
 use Rattle.zf_spec.specs.Numbers.{field}
 use Rattle.zf_spec.specs.Grid.{upto}
-use Rattle.zf_spec.specs.Stream.{codec, type_number, mode_number, long_form, fixed_rate, to_bits}
+use Rattle.zf_spec.specs.Stream.{codec, type_number, mode_number, all_planes, no_exponent, long_form, fixed_rate, to_bits}
 use Rattle.zf_spec.proofs.Counting.{length-map-upto}
 use Rattle.zf_header.specs.declared.header.Header.{Header}
 use Rattle.zf_header.specs.declared.header.Mode.{Mode}
 use Rattle.zf_header.specs.declared.header.Mode.TheVariants.{Reversible, Rate}
-use Rattle.zf_header.specs.HeaderBits.{coding, IsHeader, header_bits, BeginsWith}
+use Rattle.zf_header.specs.HeaderBits.{coding, IsTaken, IsHeader, header_bits, BeginsWith}
 use Rattle.zf_header.specs.HeaderFields.{number_at, magic_in, codec_in, type_in, dims_in, size_in, sizes_in, mode_in, long_rate_in, is_long_rate, header_in}
 use Rattle.zf_header.proofs.Parts.{long_fields, header_bits-parts, short_number, long_number, long_form_short, long_form_long}
-use Rattle.zf_header.proofs.Bits.{length-to_bits, number_at_below}
+use Rattle.zf_header.proofs.Bits.{number_at_below}
 use Rattle.zf_header.proofs.Pieces.{take-add, take-add_at, field-number_at_place}
 use Rattle.zf_header.proofs.Sizes.{size_bits-sizes}
 use Rattle.zf_header.proofs.Faults.{size_bounds}
 use Rattle.zf_header.proofs.Good.{GoodMode, short, without_loss, long, Good}
-use Rattle.zf_header.proofs.Modes.{mode_of-short, mode_of-reversible, mode_of-long, header_in-writable}
+use Rattle.zf_header.proofs.Modes.{mode_said-short, mode_said-reversible, mode_said-long, header_in-mode}
+use Rattle.zf_spec.proofs.Bytes.{length-to_bits}
 
 -- the type's number that was read is that of the type
 type_back : (t : ℕ) → t ≤ 1 → t ≡ type_number (width_of (cond (t == 0) I32 I64)) - 1
@@ -53,8 +54,8 @@ long_fields_back s within is =
     let above : 2048 < b = ltb-true 2048 b r.0 in
     let f1 : field 15 (b - 1) ≡ take 15 (drop 96 s) = ap (field 15) (omega arith) ∙ field-number_at_place 96 15 s (omega arith) in
     let f2 : field 15 (b - 1) ≡ take 15 (drop 111 s) = ap (field 15) (omega (arith, eqb-true _ _ r.1)) ∙ field-number_at_place 111 15 s (omega arith) in
-    let f3 : field 7 63 ≡ take 7 (drop 126 s) = ap (field 7) (sym (eqb-true _ _ q.1)) ∙ field-number_at_place 126 7 s (omega arith) in
-    let f4 : field 15 15421 ≡ take 15 (drop 133 s) = ap (field 15) (sym (eqb-true _ _ p.1)) ∙ field-number_at_place 133 15 s within in
+    let f3 : field 7 all_planes ≡ take 7 (drop 126 s) = ap (field 7) (sym (eqb-true _ _ q.1)) ∙ field-number_at_place 126 7 s (omega arith) in
+    let f4 : field 15 no_exponent ≡ take 15 (drop 133 s) = ap (field 15) (sym (eqb-true _ _ p.1)) ∙ field-number_at_place 133 15 s within in
     let fields : long_fields b ≡ take 15 (drop 96 s) ++ take 15 (drop 111 s) ++ take 7 (drop 126 s) ++ take 15 (drop 133 s) = four_pieces f1 f2 f3 f4 in
     (above, long_form_long b above ∙ fields ∙ rw (take-add_at 96 15 15 s, take-add_at 96 30 7 s, take-add_at 96 37 15 s) refl)
 
@@ -69,17 +70,17 @@ mode_back bytes enough (short few) =
       within = omega (arith, length-to_bits bytes);
       bits = long_form_short (m + 1) rate;
     } in
-    subst (ModeBack s) (sym (mode_of-short m (long_rate_in s) few)) back
+    subst (ModeBack s) (sym (mode_said-short m (long_rate_in s) few)) back
 mode_back bytes enough (without_loss is) =
     let s = to_bits bytes in
     let back : ModeBack s Reversible = record { number = is; more = 0; within = omega (arith, length-to_bits bytes); bits = refl } in
-    subst (ModeBack s) (sym (mode_of-reversible (mode_in s) (long_rate_in s) is)) back
+    subst (ModeBack s) (sym (mode_said-reversible (mode_in s) (long_rate_in s) is)) back
 mode_back bytes enough (long begun more is_rate) =
     let s = to_bits bytes in
     let within : 148 ≤ length s = omega (arith, length-to_bits bytes) in
     let fields = long_fields_back s within is_rate in
     let back : ModeBack s (Rate (long_rate_in s)) = record { number = begun ∙ sym (long_number (long_rate_in s) fields.0); more = 52; within = within; bits = fields.1 } in
-    subst (ModeBack s) (sym (mode_of-long (mode_in s) (long_rate_in s) begun)) back
+    subst (ModeBack s) (sym (mode_said-long (mode_in s) (long_rate_in s) begun)) back
 
 -- the fields up to the mode's number are the first 96 bits
 joined : (s more : List Bool) → take 24 s ++ take 8 (drop 24 s) ++ take 2 (drop 32 s) ++ take 2 (drop 34 s) ++ take 48 (drop 36 s) ++ take 12 (drop 84 s) ++ more ≡ take 96 s ++ more
@@ -130,8 +131,20 @@ read_is_header bytes g =
         fields = all_of_map (λ n. n ≤ 2 ^ (48 / length (sizes_in s))) size (upto d) (λ k. rw count (size_bounds d k s).1);
         not_too_large = g.is_size;
       };
-      mode = header_in-writable s;
+      mode = header_in-mode s;
     }
+
+-- and its mode is taken
+pub read_is_taken : (bytes : List ℕ) → Good bytes → IsTaken (header_in (to_bits bytes)).mode
+read_is_taken bytes g = taken g.is_mode
+  where
+    s : List Bool
+    s = to_bits bytes
+
+    taken : GoodMode bytes → IsTaken (header_in (to_bits bytes)).mode
+    taken (short few) = subst IsTaken (sym (mode_said-short (mode_in s) (long_rate_in s) few)) (omega arith, omega arith)
+    taken (without_loss is) = subst IsTaken (sym (mode_said-reversible (mode_in s) (long_rate_in s) is)) tt
+    taken (long begun more is_rate) = subst IsTaken (sym (mode_said-long (mode_in s) (long_rate_in s) begun)) (omega arith, omega (arith, number_at_below 96 15 s))
 
 -- a header lies within the bytes that begin with it
 pub begins_within : (bytes : List ℕ) (h : Header) → BeginsWith bytes h → length (header_bits h) ≤ 8 * length bytes

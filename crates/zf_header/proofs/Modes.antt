@@ -1,43 +1,56 @@
 -- The mode that fields say.
-use Rattle.std.proofs.Common.{◌≡◌, ℕ, ◌+◌, ◌<◌, ◌≤◌, ◌==◌, Bool, true, false, cond, List, refl, ap, ◌∙◌, arith, inl, inr}
-use Rattle.std.proofs.lemmas.Bool.{cases_lt, ne_eqb}
+use Rattle.std.proofs.Common.{◌≡◌, ℕ, ◌+◌, ◌-◌, ◌<◌, ◌≤◌, ◌^◌, ◌==◌, Bool, true, false, ◌&&◌, cond, nat_le, List, refl, ap, ◌∙◌, le-leb, arith, inl, inr}
+use Rattle.std.proofs.lemmas.Bool.{cases_lt, ne_eqb, lt-leb, and_from, and_left, and_right, and_parts, leb-true}
 use Rattle.zf_spec.specs.Stream.{mode_number}
 use Rattle.zf_header.specs.declared.header.Mode.{Mode}
-use Rattle.zf_header.specs.declared.header.Mode.TheVariants.{Reversible, Rate}
-use Rattle.zf_header.specs.HeaderBits.{coding, HasNumber, IsRate}
-use Rattle.zf_header.specs.HeaderFields.{mode_in, long_rate_in, is_long_rate, header_in}
+use Rattle.zf_header.specs.declared.header.Mode.TheVariants.{Reversible, Rate, Precision}
+use Rattle.zf_header.specs.HeaderBits.{coding, IsMode, IsRate}
+use Rattle.zf_header.specs.HeaderFields.{mode_in, long_rate_in, is_long_rate, mode_said, header_in}
 use Rattle.zf_header.proofs.Parts.{short_number, long_number}
 use Rattle.zf_header.proofs.Bits.{number_at_below}
 
--- the mode that a number and the rate of the long form say
-abbrev pub mode_of : ℕ → ℕ → Mode
-mode_of m l = cond (m == 2176) Reversible (Rate (cond (m == 4095) l (m + 1)))
+-- the test for the numbers of fixed precisions
+abbrev pub is_precision : ℕ → Bool
+is_precision m = nat_le 2048 m && nat_le m 2175
 
-pub mode_of-short : (m l : ℕ) → m ≤ 2047 → mode_of m l ≡ Rate (m + 1)
-mode_of-short m l few = rw (ne_eqb m 2176 (λ e. omega arith), ne_eqb m 4095 (λ e. omega arith)) refl
+below_precisions : (m : ℕ) → m < 2048 → is_precision m ≡ false
+below_precisions m lt = and_left _ _ (lt-leb 2048 m lt)
 
-pub mode_of-reversible : (m l : ℕ) → m ≡ 2176 → mode_of m l ≡ Reversible
-mode_of-reversible m l is = rw is refl
+above_precisions : (m : ℕ) → 2175 < m → is_precision m ≡ false
+above_precisions m lt = and_right _ _ (lt-leb m 2175 lt)
 
-pub mode_of-long : (m l : ℕ) → m ≡ 4095 → mode_of m l ≡ Rate l
-mode_of-long m l is = rw is refl
+pub mode_said-short : (m l : ℕ) → m ≤ 2047 → mode_said m l ≡ Rate (m + 1)
+mode_said-short m l few = rw (ne_eqb m 2176 (λ e. omega arith), below_precisions m (omega arith), ne_eqb m 4095 (λ e. omega arith)) refl
 
--- a rate that was read can be written
-pub header_in-writable : (s : List Bool) → HasNumber (header_in s).mode
-header_in-writable s =
-    let m = mode_in s in
-    let long_rate = long_rate_in s in
-    let small = number_at_below 84 12 s in
-    let long_small = number_at_below 96 15 s in
-    elim (m == 2176) as (λ t. HasNumber (cond t Reversible (Rate (cond (m == 4095) long_rate (m + 1))))) [
+pub mode_said-precision : (m l : ℕ) → 2048 ≤ m → m ≤ 2175 → mode_said m l ≡ Precision (m - 2047)
+mode_said-precision m l low high = rw (ne_eqb m 2176 (λ e. omega arith), and_from _ _ (le-leb 2048 m low) (le-leb m 2175 high)) refl
+
+pub mode_said-reversible : (m l : ℕ) → m ≡ 2176 → mode_said m l ≡ Reversible
+mode_said-reversible m l is = rw is refl
+
+pub mode_said-long : (m l : ℕ) → m ≡ 4095 → mode_said m l ≡ Rate l
+mode_said-long m l is = rw is refl
+
+-- a mode that was read can be stated
+said_is_mode : (m l : ℕ) → m < 2 ^ 12 → 1 ≤ l → l ≤ 32768 → IsMode (mode_said m l)
+said_is_mode m l small some most =
+    elim (m == 2176) as (λ t. IsMode (cond t Reversible (cond (is_precision m) (Precision (m - 2047)) (Rate (cond (m == 4095) l (m + 1)))))) [
       | true ↦ tt
-      | false ↦ elim (m == 4095) as (λ t. IsRate (Rate (cond t long_rate (m + 1)))) [ true ↦ (omega arith, omega arith) | false ↦ (omega arith, omega arith) ]
+      | false ↦ precise (is_precision m) refl
     ]
+  where
+    precise : (t : Bool) → is_precision m ≡ t → IsMode (cond t (Precision (m - 2047)) (Rate (cond (m == 4095) l (m + 1))))
+    precise true e = let both = and_parts (nat_le 2048 m) (nat_le m 2175) e in (omega (arith, leb-true 2048 m both.0), omega (arith, leb-true m 2175 both.1))
+    precise false e = elim (m == 4095) as (λ t. IsRate (Rate (cond t l (m + 1)))) [ true ↦ (some, most) | false ↦ (omega arith, omega arith) ]
+
+pub header_in-mode : (s : List Bool) → IsMode (header_in s).mode
+header_in-mode s = said_is_mode (mode_in s) (long_rate_in s) (number_at_below 84 12 s) (omega arith) (omega (arith, number_at_below 96 15 s))
 
 -- the mode that a header says is read again
-pub mode_again : (s : List Bool) (mode : Mode) → HasNumber mode → mode_in s ≡ mode_number (coding mode) → ((b : ℕ) → mode ≡ Rate b → 2048 < b → (long_rate_in s ≡ b) × (is_long_rate s ≡ true)) → mode_of (mode_in s) (long_rate_in s) ≡ mode
-mode_again s Reversible has is long_is = mode_of-reversible (mode_in s) (long_rate_in s) is
+pub mode_again : (s : List Bool) (mode : Mode) → IsMode mode → mode_in s ≡ mode_number (coding mode) → ((b : ℕ) → mode ≡ Rate b → 2048 < b → (long_rate_in s ≡ b) × (is_long_rate s ≡ true)) → mode_said (mode_in s) (long_rate_in s) ≡ mode
+mode_again s Reversible has is long_is = mode_said-reversible (mode_in s) (long_rate_in s) is
+mode_again s (Precision p) has is long_is = mode_said-precision (mode_in s) (long_rate_in s) (omega arith) (omega arith) ∙ ap Precision (omega arith)
 mode_again s (Rate b) has is long_is = elim (cases_lt 2048 b) [
-  | inl lt ↦ mode_of-long (mode_in s) (long_rate_in s) (is ∙ long_number b lt) ∙ ap Rate (long_is b refl lt).0
-  | inr le ↦ let number = is ∙ short_number b le in mode_of-short (mode_in s) (long_rate_in s) (omega arith) ∙ ap Rate (omega (arith, number, has.0))
+  | inl lt ↦ mode_said-long (mode_in s) (long_rate_in s) (is ∙ long_number b lt) ∙ ap Rate (long_is b refl lt).0
+  | inr le ↦ let number = is ∙ short_number b le in mode_said-short (mode_in s) (long_rate_in s) (omega arith) ∙ ap Rate (omega (arith, number, has.0))
 ]

@@ -5,12 +5,12 @@ use Rattle.std.specs.List.{flat_map}
 use Rattle.zf_base.specs.Widths.{width_of}
 use Rattle.zf_spec.specs.Numbers.{field}
 use Rattle.zf_spec.specs.Grid.{IsShape}
-use Rattle.zf_spec.specs.Stream.{magic, codec, type_number, mode_number, long_form, header, fixed_rate}
+use Rattle.zf_spec.specs.Stream.{magic, codec, type_number, mode_number, all_planes, no_exponent, long_form, header, fixed_rate}
 use Rattle.zf_spec.proofs.RawValues.{length-header, length-long_form, length-short_form}
 use Rattle.zf_header.specs.declared.header.Header.{Header}
 use Rattle.zf_header.specs.declared.header.Mode.{Mode}
-use Rattle.zf_header.specs.declared.header.Mode.TheVariants.{Reversible, Rate}
-use Rattle.zf_header.specs.HeaderBits.{coding, header_bits}
+use Rattle.zf_header.specs.declared.header.Mode.TheVariants.{Reversible, Rate, Precision}
+use Rattle.zf_header.specs.HeaderBits.{coding, IsMode, header_bits}
 
 -- the fields of the sizes
 abbrev pub size_bits : List ℕ → List Bool
@@ -31,7 +31,7 @@ length-header_bits h shape = length-header (width_of h.ty) h.shape (coding h.mod
 
 -- the fields of the long form
 abbrev pub long_fields : ℕ → List Bool
-long_fields b = field 15 (b - 1) ++ field 15 (b - 1) ++ field 7 63 ++ field 15 15421
+long_fields b = field 15 (b - 1) ++ field 15 (b - 1) ++ field 7 all_planes ++ field 15 no_exponent
 
 pub short_number : (b : ℕ) → b ≤ 2048 → mode_number (fixed_rate b) ≡ b - 1
 short_number b le = ap (λ t. cond t (b - 1) 4095) (le-leb b 2048 le)
@@ -46,25 +46,30 @@ pub long_form_long : (b : ℕ) → 2048 < b → long_form (fixed_rate b) ≡ lon
 long_form_long b lt = ap (λ t. cond t [] (long_fields b)) (lt-leb b 2048 lt)
 
 -- the number 4095 begins the long form, and no other does
-pub length-long_form_begun : (m : Mode) → mode_number (coding m) ≡ 4095 → length (long_form (coding m)) ≡ 52
-length-long_form_begun Reversible is = absurd (omega arith)
-length-long_form_begun (Rate b) is = elim (cases_lt 2048 b) [
+pub length-long_form_begun : (m : Mode) → IsMode m → mode_number (coding m) ≡ 4095 → length (long_form (coding m)) ≡ 52
+length-long_form_begun Reversible has is = absurd (omega arith)
+length-long_form_begun (Precision p) has is = absurd (omega arith)
+length-long_form_begun (Rate b) has is = elim (cases_lt 2048 b) [
   | inl lt ↦ length-long_form b lt
   | inr le ↦ absurd (omega (arith, short_number b le))
 ]
 
 pub length-long_form_none : (m : Mode) → mode_number (coding m) ≢ 4095 → length (long_form (coding m)) ≡ 0
 length-long_form_none Reversible is_not = refl
+length-long_form_none (Precision p) is_not = refl
 length-long_form_none (Rate b) is_not = elim (cases_lt 2048 b) [
   | inl lt ↦ absurd (is_not (long_number b lt))
   | inr le ↦ length-short_form b le
 ]
 
 -- no header is longer than one with the long form
+length-long_form-le : (m : Mode) → length (long_form (coding m)) ≤ 52
+length-long_form-le Reversible = omega arith
+length-long_form-le (Precision p) = omega arith
+length-long_form-le (Rate b) = elim (cases_lt 2048 b) [
+  | inl lt ↦ omega (arith, length-long_form b lt)
+  | inr le ↦ omega (arith, length-short_form b le)
+]
+
 pub length-header_bits_le : (h : Header) → IsShape h.shape → length (header_bits h) ≤ 148
-length-header_bits_le h shape =
-    let whole = length-header_bits h shape in
-    elim (cases_eq (mode_number (coding h.mode)) 4095) [
-      | inl begun ↦ omega (arith, length-long_form_begun h.mode begun)
-      | inr none ↦ omega (arith, length-long_form_none h.mode none)
-    ]
+length-header_bits_le h shape = omega (arith, length-header_bits h shape, length-long_form-le h.mode)

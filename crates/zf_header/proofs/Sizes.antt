@@ -8,6 +8,7 @@ use Rattle.zf_spec.proofs.Fields.{length-field}
 use Rattle.zf_header.specs.HeaderFields.{number_at, size_in}
 use Rattle.zf_header.proofs.Parts.{size_bits}
 use Rattle.zf_header.proofs.Pieces.{take-add, field-number_at_place, number_at_piece}
+use Rattle.zf_spec.proofs.RawValues.{share}
 
 -- sizes, each less 1 in a field of w bits
 abbrev fields : ℕ → List ℕ → List Bool
@@ -47,13 +48,6 @@ sizes_at-fields w (n ∷ ns) at s before after some fit is count =
     ap (λ k. k ∷ sizes_at w (at + w) (length ns) s) size ∙ ap (λ ks. n ∷ ks) (sizes_at-fields w ns (at + w) s (before ++ this) after some.1 fit.1 behind place)
 
 -- in one to four dimensions the sizes share 48 bits
-share : (d : ℕ) → 1 ≤ d → d ≤ 4 → d * (48 / d) ≡ 48
-share zero some four = absurd (omega arith)
-share (suc zero) some four = refl
-share (suc (suc zero)) some four = refl
-share (suc (suc (suc zero))) some four = refl
-share (suc (suc (suc (suc zero)))) some four = refl
-share (suc (suc (suc (suc (suc d))))) some four = absurd (omega arith)
 
 -- the sizes by axis are those of the fields from bit 36 on
 sizes-by_axis : (d : ℕ) (s : List Bool) → 1 ≤ d → d ≤ 4 → map (λ axis. size_in d axis s) (upto d) ≡ sizes_at (48 / d) 36 d s

@@ -7,20 +7,20 @@ use Rattle.zf_base.specs.declared.lane.Ty.TheVariants.{I32, I64}
 use Rattle.zf_base.specs.Widths.{width_of}
 use Rattle.zf_spec.specs.Numbers.{field}
 use Rattle.zf_spec.specs.Grid.{upto, product}
-use Rattle.zf_spec.specs.Stream.{magic, codec, type_number, mode_number, long_form, to_bits}
+use Rattle.zf_spec.specs.Stream.{magic, codec, type_number, mode_number, all_planes, no_exponent, long_form, to_bits}
 use Rattle.zf_spec.proofs.Fields.{length-field}
 use Rattle.zf_header.specs.declared.header.Header.{Header}
 use Rattle.zf_header.specs.declared.header.Mode.{Mode}
-use Rattle.zf_header.specs.declared.header.Mode.TheVariants.{Reversible, Rate}
-use Rattle.zf_header.specs.HeaderBits.{coding, HasNumber, IsRate, IsHeader, header_bits, BeginsWith}
+use Rattle.zf_header.specs.declared.header.Mode.TheVariants.{Reversible, Rate, Precision}
+use Rattle.zf_header.specs.HeaderBits.{coding, IsMode, IsRate, IsTaken, IsHeader, header_bits, BeginsWith}
 use Rattle.zf_header.specs.HeaderFields.{number_at, magic_in, codec_in, type_in, dims_in, size_in, sizes_in, mode_in, long_rate_in, is_long_rate, header_in}
 use Rattle.zf_header.specs.HeaderFaults.{header_fault}
 use Rattle.zf_header.proofs.Parts.{size_bits, long_fields, header_bits-parts, length-header_bits, short_number, long_number, long_form_long, length-long_form_begun}
-use Rattle.zf_header.proofs.Bits.{length-to_bits}
 use Rattle.zf_header.proofs.Pieces.{number_at_piece}
 use Rattle.zf_header.proofs.Sizes.{length-size_bits, sizes-size_bits}
 use Rattle.zf_header.proofs.Good.{GoodMode, short, without_loss, long, Good, no_fault_of_good}
 use Rattle.zf_header.proofs.Modes.{mode_again}
+use Rattle.zf_spec.proofs.Bytes.{length-to_bits}
 
 abbrev header_of : Ty → List ℕ → Mode → Header
 header_of ty ns mode = record { ty = ty; shape = ns; mode = mode }
@@ -50,9 +50,10 @@ type_small : (ty : Ty) → type_number (width_of ty) - 1 < 2 ^ 2
 type_small I32 = lit< tt
 type_small I64 = lit< tt
 
-mode_small : (mode : Mode) → mode_number (coding mode) < 2 ^ 12
-mode_small Reversible = lit< tt
-mode_small (Rate b) = elim (cases_lt 2048 b) [
+mode_small : (mode : Mode) → IsMode mode → mode_number (coding mode) < 2 ^ 12
+mode_small Reversible has = lit< tt
+mode_small (Precision p) has = omega arith
+mode_small (Rate b) has = elim (cases_lt 2048 b) [
   | inl lt ↦ omega (arith, long_number b lt)
   | inr le ↦ omega (arith, short_number b le)
 ]
@@ -64,27 +65,27 @@ regroup4 x a b c d y = simp append_assoc
 long_fields_read : (s before after : List Bool) (b : ℕ) → s ≡ (before ++ long_fields b) ++ after → length before ≡ 96 → 2048 < b → b ≤ 32768 → (long_rate_in s ≡ b) × (is_long_rate s ≡ true)
 long_fields_read s before after b is count above most =
     let f = field 15 (b - 1) in
-    let p = field 7 63 in
-    let e = field 15 15421 in
+    let p = field 7 all_planes in
+    let e = field 15 no_exponent in
     let at_1 : s ≡ (before ++ f) ++ (f ++ (p ++ (e ++ after))) = is ∙ regroup4 before f f p e after in
     let at_2 : s ≡ ((before ++ f) ++ f) ++ (p ++ (e ++ after)) = at_1 ∙ sym (append_assoc (before ++ f) f (p ++ (e ++ after))) in
     let at_3 : s ≡ (((before ++ f) ++ f) ++ p) ++ (e ++ after) = at_2 ∙ sym (append_assoc ((before ++ f) ++ f) p (e ++ after)) in
     let at_4 : s ≡ ((((before ++ f) ++ f) ++ p) ++ e) ++ after = at_3 ∙ sym (append_assoc (((before ++ f) ++ f) ++ p) e after) in
     let c_2 : length (before ++ f) ≡ 111 = omega (arith, length-append before f, length-field 15 (b - 1)) in
     let c_3 : length ((before ++ f) ++ f) ≡ 126 = omega (arith, length-append (before ++ f) f, length-field 15 (b - 1)) in
-    let c_4 : length (((before ++ f) ++ f) ++ p) ≡ 133 = omega (arith, length-append ((before ++ f) ++ f) p, length-field 7 63) in
+    let c_4 : length (((before ++ f) ++ f) ++ p) ≡ 133 = omega (arith, length-append ((before ++ f) ++ f) p, length-field 7 all_planes) in
     let small : b - 1 < 2 ^ 15 = omega arith in
     let least = number_at_piece s before (f ++ (p ++ (e ++ after))) 96 15 (b - 1) at_1 count small in
     let most = number_at_piece s (before ++ f) (p ++ (e ++ after)) 111 15 (b - 1) at_2 c_2 small in
-    let planes = number_at_piece s ((before ++ f) ++ f) (e ++ after) 126 7 63 at_3 c_3 (lit< tt) in
-    let exponent = number_at_piece s (((before ++ f) ++ f) ++ p) after 133 15 15421 at_4 c_4 (lit< tt) in
+    let planes = number_at_piece s ((before ++ f) ++ f) (e ++ after) 126 7 all_planes at_3 c_3 (lit< tt) in
+    let exponent = number_at_piece s (((before ++ f) ++ f) ++ p) after 133 15 no_exponent at_4 c_4 (lit< tt) in
     let rate : long_rate_in s ≡ b = omega (arith, least) in
     (rate, and_from _ _ (and_from _ _ (and_from _ _ (lt-ltb 2048 (long_rate_in s) (omega arith)) (eq-eqb (number_at 111 15 s + 1) (long_rate_in s) (omega (arith, least, most)))) (eq-eqb _ _ planes)) (eq-eqb _ _ exponent))
 
 -- the long form at its place
-long_form_read : (s before after : List Bool) (mode : Mode) (b : ℕ) → s ≡ (before ++ long_form (coding mode)) ++ after → length before ≡ 96 → HasNumber mode → mode ≡ Rate b → 2048 < b → (long_rate_in s ≡ b) × (is_long_rate s ≡ true)
+long_form_read : (s before after : List Bool) (mode : Mode) (b : ℕ) → s ≡ (before ++ long_form (coding mode)) ++ after → length before ≡ 96 → IsMode mode → mode ≡ Rate b → 2048 < b → (long_rate_in s ≡ b) × (is_long_rate s ≡ true)
 long_form_read s before after mode b is count has e above =
-    let rate : IsRate (Rate b) = subst HasNumber e has in
+    let rate : IsRate (Rate b) = subst IsMode e has in
     let fields : long_form (coding mode) ≡ long_fields b = ap (λ m. long_form (coding m)) e ∙ long_form_long b above in
     long_fields_read s before after b (is ∙ ap (λ bs. (before ++ bs) ++ after) fields) count above rate.1
 
@@ -123,7 +124,7 @@ spelled_says h y is =
       type_is = number_at_piece s (a ++ b) (e ++ (z ++ (m ++ (l ++ y)))) 32 2 t at_c c_b (type_small h.ty);
       dims_is = omega (arith, number_at_piece s ((a ++ b) ++ c) (z ++ (m ++ (l ++ y))) 34 2 (d - 1) at_e c_c (omega arith));
       sizes_are = sizes-size_bits h.shape s (((a ++ b) ++ c) ++ e) (m ++ (l ++ y)) is.shape at_z c_e;
-      mode_is = number_at_piece s ((((a ++ b) ++ c) ++ e) ++ z) (l ++ y) 84 12 k at_m c_z (mode_small h.mode);
+      mode_is = number_at_piece s ((((a ++ b) ++ c) ++ e) ++ z) (l ++ y) 84 12 k at_m c_z (mode_small h.mode is.mode);
       long_is = λ r mode above. long_form_read s (((((a ++ b) ++ c) ++ e) ++ z) ++ m) y h.mode r whole c_m is.mode mode above;
     }
 
@@ -145,16 +146,17 @@ one_header g h x y is_g is_h e =
     sym (says_header (header_bits g ++ x) g is_g (spelled_says g x is_g)) ∙ ap header_in e ∙ says_header (header_bits h ++ y) h is_h (spelled_says h y is_h)
 
 -- and the bytes have no fault
-good_mode_said : (bytes : List ℕ) (mode : Mode) → HasNumber mode → mode_in (to_bits bytes) ≡ mode_number (coding mode) → (mode_number (coding mode) ≡ 4095 → 19 ≤ length bytes)
+good_mode_said : (bytes : List ℕ) (mode : Mode) → IsTaken mode → mode_in (to_bits bytes) ≡ mode_number (coding mode) → (mode_number (coding mode) ≡ 4095 → 19 ≤ length bytes)
     → ((b : ℕ) → mode ≡ Rate b → 2048 < b → (long_rate_in (to_bits bytes) ≡ b) × (is_long_rate (to_bits bytes) ≡ true)) → GoodMode bytes
 good_mode_said bytes Reversible has is enough long_is = without_loss is
+good_mode_said bytes (Precision p) has is enough long_is = absurd has
 good_mode_said bytes (Rate b) has is enough long_is = elim (cases_lt 2048 b) [
   | inl lt ↦ long (is ∙ long_number b lt) (enough (long_number b lt)) (long_is b refl lt).1
   | inr le ↦ short (omega (arith, is, short_number b le))
 ]
 
-pub good_of_says : (bytes : List ℕ) (h : Header) → IsHeader h → length (header_bits h) ≤ length (to_bits bytes) → Says (to_bits bytes) h → Good bytes
-good_of_says bytes h is within says =
+pub good_of_says : (bytes : List ℕ) (h : Header) → IsHeader h → IsTaken h.mode → length (header_bits h) ≤ length (to_bits bytes) → Says (to_bits bytes) h → Good bytes
+good_of_says bytes h is taken within says =
     let s = to_bits bytes in
     let whole = length-header_bits h is.shape in
     let shape : sizes_in s ≡ h.shape = rw says.dims_is says.sizes_are in
@@ -164,15 +166,22 @@ good_of_says bytes h is within says =
       is_codec = says.codec_is ∙ ap codec (sym says.dims_is);
       is_type = omega (arith, says.type_is, type_le h.ty);
       is_size = omega (arith, ap product shape, is.shape.not_too_large);
-      is_mode = good_mode_said bytes h.mode is.mode says.mode_is (λ begun. omega (arith, length-to_bits bytes, length-long_form_begun h.mode begun)) says.long_is;
+      is_mode = good_mode_said bytes h.mode taken says.mode_is (λ begun. omega (arith, length-to_bits bytes, length-long_form_begun h.mode is.mode begun)) says.long_is;
     }
 
--- bytes that begin with a header have no fault, and their fields say it
-pub spelled_is_read : (bytes : List ℕ) (h : Header) → IsHeader h → BeginsWith bytes h → (None ≡ header_fault bytes) × (header_in (to_bits bytes) ≡ h)
-spelled_is_read bytes h is begins_with =
-    let s = to_bits bytes in
+-- the fields of bytes that begin with a header say it
+spelled_in : (bytes : List ℕ) (h : Header) → IsHeader h → BeginsWith bytes h → Says (to_bits bytes) h
+spelled_in bytes h is begins_with =
     let n = length (header_bits h) in
-    let parts : s ≡ header_bits h ++ drop n s = sym (take-append-drop n s) ∙ ap (λ bs. bs ++ drop n s) begins_with.bits in
-    let says : Says s h = subst (λ bs. Says bs h) (sym parts) (spelled_says h (drop n s) is) in
-    let within : n ≤ length s = omega (arith, ap length begins_with.bits, length-take n s) in
-    (no_fault_of_good bytes (good_of_says bytes h is within says), says_header s h is says)
+    let parts : to_bits bytes ≡ header_bits h ++ drop n (to_bits bytes) = sym (take-append-drop n (to_bits bytes)) ∙ ap (λ bs. bs ++ drop n (to_bits bytes)) begins_with.bits in
+    subst (λ bs. Says bs h) (sym parts) (spelled_says h (drop n (to_bits bytes)) is)
+
+pub spelled_is_read : (bytes : List ℕ) (h : Header) → IsHeader h → BeginsWith bytes h → header_in (to_bits bytes) ≡ h
+spelled_is_read bytes h is begins_with = says_header (to_bits bytes) h is (spelled_in bytes h is begins_with)
+
+-- and where its mode is taken, the bytes have no fault
+pub spelled_is_good : (bytes : List ℕ) (h : Header) → IsHeader h → IsTaken h.mode → BeginsWith bytes h → None ≡ header_fault bytes
+spelled_is_good bytes h is taken begins_with =
+    let n = length (header_bits h) in
+    let within : n ≤ length (to_bits bytes) = omega (arith, ap length begins_with.bits, length-take n (to_bits bytes)) in
+    no_fault_of_good bytes (good_of_says bytes h is taken within (spelled_in bytes h is begins_with))

@@ -12,7 +12,7 @@ use Rattle.zf_spec.proofs.Bytes.{length-to_bytes}
 use Rattle.zf_spec.proofs.Counting.{length-upto}
 use Rattle.zf_header.specs.declared.header.Header.{Header}
 use Rattle.zf_header.specs.declared.header.Mode.{Mode}
-use Rattle.zf_header.specs.declared.header.Mode.TheVariants.{Reversible, Rate}
+use Rattle.zf_header.specs.declared.header.Mode.TheVariants.{Reversible, Rate, Precision}
 use Rattle.zf_header.specs.HeaderBits.{coding, block_bits, IsRate, header_bits, rate_bytes_of}
 
 -- codes of one length, end to end
@@ -40,6 +40,7 @@ length-stream_rate w ns b values =
 
 rate_length : (w : Width) (ns : List ℕ) (mode : Mode) (values : List ℤ) → IsRate mode → length (stream w ns (coding mode) values) ≡ 8 * div_ceil (length (header w ns (coding mode)) + blocks ns * block_bits mode) 64
 rate_length w ns Reversible values is = absurd is
+rate_length w ns (Precision p) values is = elim is [ ]
 rate_length w ns (Rate b) values is = length-stream_rate w ns b values
 
 pub length-stream : (h : Header) (values : List ℤ) → IsRate h.mode → length (stream (width_of h.ty) h.shape (coding h.mode) values) ≡ rate_bytes_of h

@@ -1,42 +1,48 @@
--- The bits of a header, and which headers have them (zfp 1.0 documentation, API: header).
+-- The bits of a header, and which headers have them (zfp 1.0 documentation).
 use Rattle.std.specs.Prelude.{ℕ, ◌+◌, ◌*◌, ◌≡◌, ◌≤◌, Bool, List, length, take}
 use Rattle.std.specs.Int.{div_ceil}
 use Rattle.zf_base.specs.Widths.{width_of}
 use Rattle.zf_spec.specs.Grid.{IsShape, blocks}
 use Rattle.zf_spec.specs.Stream as stream
-use Rattle.zf_spec.specs.Stream.{header, to_bits, reversible, fixed_rate}
+use Rattle.zf_spec.specs.Stream.{header, to_bits, reversible, fixed_rate, fixed_precision}
 use Rattle.zf_header.specs.declared.header.Header.{Header}
 use Rattle.zf_header.specs.declared.header.Mode.{Mode}
-use Rattle.zf_header.specs.declared.header.Mode.TheVariants.{Reversible, Rate}
+use Rattle.zf_header.specs.declared.header.Mode.TheVariants.{Reversible, Rate, Precision}
 
 -- the mode as the definitions of streams have it
 abbrev pub coding : Mode → stream.Mode
 coding Reversible = reversible
 coding (Rate b) = fixed_rate b
+coding (Precision p) = fixed_precision p
 
--- the bits of each block; none are fixed where the code is reversible
+-- the bits of each block, which only a fixed rate states
 abbrev pub block_bits : Mode → ℕ
 block_bits Reversible = 0
 block_bits (Rate b) = b
+block_bits (Precision p) = 0
 
 -- a fixed rate that a header can state
 abbrev pub IsRate : Mode → Type 0
 IsRate Reversible = ⊥
 IsRate (Rate b) = (1 ≤ b) × (b ≤ 32768)
+IsRate (Precision p) = ⊥
 
--- a mode that a header can state
-abbrev pub HasNumber : Mode → Type 0
-HasNumber Reversible = Unit {0}
-HasNumber (Rate b) = IsRate (Rate b)
+-- a mode that a header can state: a rate is 1 to 32768, a precision 1 to 128
+abbrev pub IsMode : Mode → Type 0
+IsMode Reversible = Unit {0}
+IsMode (Rate b) = IsRate (Rate b)
+IsMode (Precision p) = (1 ≤ p) × (p ≤ 128)
 
--- what can be written: a rate is 1 to 32768
-abbrev pub IsWritable : Header → Type 0
-IsWritable h = HasNumber h.mode
+-- such a mode in which streams are read and made: for now all but fixed precision
+abbrev pub IsTaken : Mode → Type 0
+IsTaken Reversible = Unit {0}
+IsTaken (Rate b) = IsRate (Rate b)
+IsTaken (Precision p) = ⊥
 
 -- what a header can say: the sizes are a shape's, and the mode has a number
 pub record IsHeader (h : Header) : Type 0 where
   pub shape : IsShape h.shape
-  pub mode : IsWritable h
+  pub mode : IsMode h.mode
 
 -- the bits of a header
 unfoldable pub header_bits : Header → List Bool

@@ -27,7 +27,7 @@ front_faults bytes =
 abbrev pub size_faults : List ℕ → List (Bool × HeaderFault)
 size_faults bytes = (nat_lt max_values (product (sizes_in (to_bits bytes))), TooLarge) ∷ []
 
--- the lines of the mode: fixed precision (2048 to 2175); fixed accuracy (2177 to 4094); the long form (4095) in fewer
+-- the lines of the mode: fixed precision, for now (2048 to 2175); fixed accuracy (2177 to 4094); the long form (4095) in fewer
 --     than 19 bytes; a long form that is not that of a rate
 abbrev pub mode_faults : List ℕ → List (Bool × HeaderFault)
 mode_faults bytes =

@@ -1,10 +1,12 @@
--- What the fields of a header say, at their places in a list of bits (zfp 1.0 documentation, API: header).
-use Rattle.std.specs.Prelude.{ℕ, ◌+◌, ◌*◌, ◌/◌, ◌==◌, Bool, ◌&&◌, nat_lt, List, map, take, drop, if◌then◌else◌}
+-- What the fields of a header say, at their places in a list of bits (zfp 1.0 documentation).
+use Rattle.std.specs.Prelude.{ℕ, ◌+◌, ◌-◌, ◌*◌, ◌/◌, ◌==◌, Bool, ◌&&◌, nat_lt, nat_le, List, map, take, drop, if◌then◌else◌}
 use Rattle.zf_base.specs.declared.lane.Ty.TheVariants.{I32, I64}
 use Rattle.zf_spec.specs.Numbers.{number}
 use Rattle.zf_spec.specs.Grid.{upto}
+use Rattle.zf_spec.specs.Stream.{all_planes, no_exponent}
 use Rattle.zf_header.specs.declared.header.Header.{Header}
-use Rattle.zf_header.specs.declared.header.Mode.TheVariants.{Reversible, Rate}
+use Rattle.zf_header.specs.declared.header.Mode.{Mode}
+use Rattle.zf_header.specs.declared.header.Mode.TheVariants.{Reversible, Rate, Precision}
 
 -- the number in the n bits from bit `at` on
 unfoldable pub number_at : ℕ → ℕ → List Bool → ℕ
@@ -43,12 +45,18 @@ long_rate_in s = number_at 96 15 s + 1
 -- the long form is that of a fixed rate above 2048: as many bits at least as at most, all planes, the least exponent
 abbrev pub is_long_rate : List Bool → Bool
 is_long_rate s =
-    nat_lt 2048 (long_rate_in s) && number_at 111 15 s + 1 == long_rate_in s && number_at 126 7 s == 63 && number_at 133 15 s == 15421
+    nat_lt 2048 (long_rate_in s) && number_at 111 15 s + 1 == long_rate_in s && number_at 126 7 s == all_planes && number_at 133 15 s == no_exponent
+
+-- the mode that a number says, and the rate of the long form
+abbrev pub mode_said : ℕ → ℕ → Mode
+mode_said m rate =
+    if m == 2176 then Reversible
+    else (if nat_le 2048 m && nat_le m 2175 then Precision (m - 2047) else Rate (if m == 4095 then rate else m + 1))
 
 -- the header that the fields say
 abbrev pub header_in : List Bool → Header
 header_in s = record {
   ty = if type_in s == 0 then I32 else I64;
   shape = sizes_in s;
-  mode = if mode_in s == 2176 then Reversible else Rate (if mode_in s == 4095 then long_rate_in s else mode_in s + 1);
+  mode = mode_said (mode_in s) (long_rate_in s);
 }

@@ -1,6 +1,6 @@
 //! What a header says, and why bytes have none.
 //!
-//! Its fields, least significant bit first (zfp 1.0 documentation, API: header):
+//! Its fields, least significant bit first (zfp 1.0 documentation):
 //!
 //! | Bits | Field |
 //! |---|---|
@@ -18,7 +18,7 @@
 ghost use Rattle.std.specs.Prelude.{◌≡◌, length};
 ghost use Rattle.zf_spec.specs.Stream.{mode_number, codec, type_number};
 ghost use Rattle.zf_base.specs.Widths.{width_of};
-ghost use Rattle.zf_header.specs.HeaderBits.{coding, HasNumber, IsRate, IsWritable, header_bits, rate_bytes_of};
+ghost use Rattle.zf_header.specs.HeaderBits.{coding, IsMode, IsRate, header_bits, rate_bytes_of};
 
 use zf_base::{Shape, Ty};
 
@@ -33,6 +33,9 @@ pub(crate) const SHORT_HEADER_BYTES: usize = 12;
 
 /// The greatest rate, in bits of a block.
 pub const MAX_RATE: u32 = 32768;
+
+/// The greatest precision, in bit planes.
+pub const MAX_PRECISION: u32 = 128;
 
 /// The letters "zfp" as a number, the first letter lowest.
 pub(crate) const MAGIC: u64 = 0x70667a;
@@ -53,6 +56,9 @@ const SHORT_HEADER_BITS: u32 = 96;
 /// The greatest rate that the mode's number holds.
 pub(crate) const MAX_SHORT_RATE: u32 = 2048;
 
+/// What the number of a precision is more than the precision.
+pub(crate) const BEFORE_PRECISIONS: u32 = 2047;
+
 /// The number of the reversible mode, and the one that begins the long form.
 pub(crate) const REVERSIBLE: u16 = 2176;
 
@@ -65,6 +71,9 @@ pub enum Mode {
     Reversible,
     /// Each block in this many bits, 1 to 32768.
     Rate(u32),
+    /// Each block to this many bit planes from the top, 1 to 128: to all of them where its values have fewer.
+    /// zfp's fixed precision.
+    Precision(u32),
 }
 
 /// What the header of a stream says: the type and the shape of the array, and how its blocks are coded.
@@ -90,20 +99,21 @@ pub enum HeaderFault {
     Order,
     /// The array has more than 2^27 values.
     TooLarge,
-    /// The mode with this number is not read: fixed precision, fixed accuracy, or a long form (4095) other than that of a
+    /// The mode with this number is not read: fixed precision (for now), fixed accuracy, or a long form (4095) other than that of a
     /// fixed rate above 2048.
     Mode(u16),
 }
 
-/// The number of a mode: the rate less 1 up to 2048, 2176 for the reversible mode, and else 4095, which begins the long form
-/// (zfp 1.0 documentation, API: header; the layout of the reversible codes behind it is this project's own).
+/// The number of a mode: the rate less 1 up to 2048, the precision plus 2047, 2176 for the reversible mode, and else 4095,
+/// which begins the long form (zfp 1.0 documentation; the layout of the reversible codes behind it is this project's own).
 pub fn mode_number(m: &Mode) -> u16
-    requires { HasNumber m.now }
+    requires { IsMode m.now }
     ensures { result ≡ mode_number (coding m.now) }
 {
     match *m {
         Mode::Reversible => REVERSIBLE,
         Mode::Rate(rate) => rate_number(rate),
+        Mode::Precision(precision) => (precision + BEFORE_PRECISIONS) as u16,
     }
 }
 
@@ -133,7 +143,7 @@ pub fn rate_bytes(h: &Header) -> u64
 
 /// The length of a header, in bits.
 pub(crate) fn header_len(h: &Header) -> u32
-    requires { IsWritable h.now }
+    requires { IsMode h.now.mode }
     ensures { result ≡ length (header_bits h.now) }
 {
     // there are one to four sizes

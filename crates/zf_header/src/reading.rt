@@ -4,7 +4,7 @@ ghost use Rattle.std.specs.Prelude.{◌≡◌, ◌+◌, ◌*◌, ◌^◌, ◌<�
 ghost use Rattle.std.specs.Result.{result_err};
 ghost use Rattle.zf_spec.specs.Stream.{to_bits};
 ghost use Rattle.zf_header.specs.declared.header.Header.{Header};
-ghost use Rattle.zf_header.specs.HeaderBits.{IsHeader, IsWritable, BeginsWith, header_bits};
+ghost use Rattle.zf_header.specs.HeaderBits.{IsHeader, IsTaken, BeginsWith, header_bits};
 ghost use Rattle.zf_header.specs.HeaderFields.{number_at, dims_in, size_in, sizes_in, mode_in, header_in};
 ghost use Rattle.zf_header.specs.HeaderFaults.{first_fault, front_faults, size_faults, mode_faults, header_fault};
 
@@ -23,9 +23,9 @@ pub fn read(bytes: &[u8]) -> Result<(Header, u32), HeaderFault>
     ensures found { IfOk result (λ found. BeginsWith bytes.now found.0) }
     ensures len { IfOk result (λ found. found.1 ≡ length (header_bits found.0)) }
     ensures within { IfOk result (λ found. found.1 ≤ 8 * length bytes.now) }
-    ensures writable { IfOk result (λ found. IsWritable found.0) }
+    ensures taken { IfOk result (λ found. IsTaken found.0.mode) }
     // What stands there is read.
-    ensures only { (h : Header) → IsHeader h → BeginsWith bytes.now h
+    ensures only { (h : Header) → IsHeader h → IsTaken h.mode → BeginsWith bytes.now h
         → result ≡ Ok (h, length (header_bits h)) }
     // Which fault it is.
     ensures fault { result_err result ≡ header_fault bytes.now }

@@ -1,7 +1,7 @@
 //! Headers and faults from a program that was written from the definitions alone.
 
 ghost use Rattle.std.specs.Prelude.{IsTrue};
-ghost use Rattle.zf_header.specs.HeaderBits.{HasNumber, IsRate};
+ghost use Rattle.zf_header.specs.HeaderBits.{IsMode, IsRate};
 
 use super::*;
 use std::test::Fail;
@@ -9,7 +9,7 @@ use zf_base::{Shape, Ty};
 use zf_bits::BitWriter;
 
 fn has_number(m: &Mode) -> bool
-    ensures { IsTrue result → HasNumber m.now }
+    ensures { IsTrue result → IsMode m.now }
 {
     match *m {
         Mode::Reversible => true,

@@ -5,7 +5,7 @@ ghost use Rattle.std.specs.List.{flat_map};
 ghost use Rattle.zf_spec.specs.Numbers.{field};
 ghost use Rattle.zf_spec.specs.Stream.{long_form};
 ghost use Rattle.zf_bits.specs.Writer.{Appends};
-ghost use Rattle.zf_header.specs.HeaderBits.{coding, HasNumber, IsWritable, header_bits};
+ghost use Rattle.zf_header.specs.HeaderBits.{coding, IsMode, header_bits};
 
 use crate::header::{
     LONG_HEADER_BITS, Header, LONG_FORM_EXPONENT, LONG_FORM_PLANES, MAGIC, MAX_SHORT_RATE, Mode,
@@ -17,9 +17,9 @@ use zf_bits::BitWriter;
 /// Appends the bits of a header, 96 or 148, in room that is there already.
 ///
 /// In order: the letters "zfp", the codec's number, the type, the number of dimensions, the sizes, x first, the mode, and the
-/// long form of a rate above 2048 (zfp 1.0 documentation, API: header).
+/// long form of a rate above 2048 (zfp 1.0 documentation).
 pub fn write(h: &Header, out: &mut BitWriter)
-    requires writable { IsWritable h.now }
+    requires writable { IsMode h.now.mode }
     requires fits { LONG_HEADER_BITS ≤ out.old.room }
     ensures bits { Appends out.old out.new (header_bits h.now) }
     ensures room { out.new.room + length (header_bits h.now) ≡ out.old.room }
@@ -51,7 +51,7 @@ fn write_sizes(shape: &Shape, out: &mut BitWriter)
 
 // Appends the long form, where the mode has one.
 fn write_long_form(m: &Mode, out: &mut BitWriter)
-    requires writable { HasNumber m.now }
+    requires writable { IsMode m.now }
     requires fits { length (long_form (coding m.now)) ≤ out.old.room }
     ensures bits { Appends out.old out.new (long_form (coding m.now)) }
     ensures room { out.new.room + length (long_form (coding m.now)) ≡ out.old.room }

@@ -9,7 +9,7 @@ use Rattle.zf_spec.proofs.Padding.{IsExtent as IsSize, existing_values-existing_
 use Rattle.zf_base.specs.declared.position.Extent.{Extent}
 use Rattle.zf_base.specs.Positions.{axes, used_axes, with_unused, IsExtent}
 use Rattle.zf_base.specs.Places.{IsAt, block_number, place_of}
-use Rattle.zf_base.proofs.Boxes.{raster-lt, raster-coordinates, coordinates-raster, is_inside-coordinates, length-coordinates}
+use Rattle.zf_base.proofs.Boxes.{raster-lt, is_inside-coordinates}
 use Rattle.zf_base.proofs.Extents.{IsExtent-of_block, IsPosition-with_unused, used_size, used_axes-with_unused, same_from_axes}
 use Rattle.zf_base.proofs.Places.{IsAt-position, IsAt-inside, IsAt-length, IsAt-block, IsAt-place}
 use Rattle.zf_pad.specs.declared.layout.Layout.{Layout}
@@ -18,13 +18,9 @@ use Rattle.zf_pad.specs.Rasters.{IsRasterBlock}
 use Rattle.zf_pad.specs.Copies.{IsGathered, IsScattered}
 use Rattle.zf_pad.proofs.Sizes.{used_sizes}
 use Rattle.zf_pad.proofs.Existing.{place_below, has_place}
+use Rattle.zf_spec.proofs.Raster.{raster-coordinates, coordinates-raster, length-coordinates, length-extents}
 
 -- ---- the coordinates of a block, and its positions
-
-length-extents : (ns cs : List ℕ) → length cs ≡ length ns → length (extents ns cs) ≡ length ns
-length-extents [] cs e = refl
-length-extents (n ∷ ns) [] e = absurd (omega arith)
-length-extents (n ∷ ns) (c ∷ cs) e = ap suc (length-extents ns cs (omega arith))
 
 length-block : (ns : List ℕ) (b : ℕ) → length (coordinates (grid ns) b) ≡ length ns
 length-block ns b = length-coordinates (grid ns) b ∙ length-map ns (λ n. (n + 3) / 4)
@@ -176,7 +172,7 @@ module _ (ns : List ℕ) (b : ℕ) (layout : Layout) (e : Extent) (h : IsRasterB
 -- ---- an array is what its blocks are
 
 -- a value of an array by its block and place
-value_of_block : (ns : List ℕ) (values : List ℤ) (ps : List ℕ) (b p : ℕ) → IsAt ns ps b p → get_or (block_of ns values b) p (pos 0) ≡ get_or values (raster ns ps) (pos 0)
+pub value_of_block : (ns : List ℕ) (values : List ℤ) (ps : List ℕ) (b p : ℕ) → IsAt ns ps b p → get_or (block_of ns values b) p (pos 0) ≡ get_or values (raster ns ps) (pos 0)
 value_of_block ns values ps b p at =
     let cs = coordinates (grid ns) b in
     get_or-map-upto (value_at ns values cs) (4 ^ length ns) p (pos 0) at.place_in_block

@@ -6,7 +6,7 @@ use Rattle.zf_base.specs.declared.position.Pos.{Pos}
 use Rattle.zf_base.specs.Positions.{axes, used_axes, with_unused, IsPosition}
 use Rattle.zf_base.proofs.Boxes.{raster-append_zeros}
 use Rattle.zf_base.proofs.Sizes.{axes-with_unused, all_axes, product-axes}
-use Rattle.zf_base.proofs.Extents.{length-used_axes}
+use Rattle.zf_base.proofs.Extents.{length-used_axes, position_axes}
 use Rattle.zf_pad.specs.declared.layout.Layout.{Layout}
 use Rattle.zf_pad.specs.Layouts.{index_of}
 use Rattle.zf_pad.specs.Rasters.{IsRaster}
@@ -23,11 +23,6 @@ steps_fit ns shape =
     (omega (arith, all, two, shape.not_too_large), omega (arith, all, three, shape.not_too_large))
 
 -- four coordinates of a position against the used ones
-pub position_axes : (ns : List ℕ) (p : Pos) → length ns ≤ 4 → IsPosition ns p → axes p ≡ used_axes (length ns) p ++ replicate (4 - length ns) 0
-position_axes ns p four h =
-    let ps = used_axes (length ns) p in
-    let same = length-used_axes (length ns) p four in
-    ap axes h.unused ∙ axes-with_unused 0 ps (omega (arith, same)) ∙ ap (λ d. ps ++ replicate (4 - d) 0) same
 
 raster_axes : (ns : List ℕ) (p : Pos) → length ns ≤ 4 → IsPosition ns p → raster (axes (with_unused 1 ns)) (axes p) ≡ raster ns (used_axes (length ns) p)
 raster_axes ns p four h =

@@ -5,7 +5,7 @@ use Rattle.std.proofs.lemmas.List.{length-append, drop-take}
 use Rattle.zf_spec.specs.Planes.{reach, plane_code, code_from}
 use Rattle.zf_spec.specs.Kept.{kept_plane, kept_planes_from}
 use Rattle.zf_spec.specs.ReadPlanes.{plane_in, planes_in_from}
-use Rattle.zf_spec.proofs.Reach.{reach-le}
+use Rattle.zf_spec.proofs.Reach.{reach-le, reach_within}
 use Rattle.zf_spec.proofs.KeptSame.{kept_whole, kept_planes_from-none}
 use Rattle.zf_spec.proofs.Full.{length-plane_in, length-planes_in_from, planes_in_from-length}
 use Rattle.zf_planes.specs.Decoding.{plane_ahead, plane_bits, planes_ahead, planes_bits}
@@ -29,8 +29,6 @@ unfolding planes_bits
 planes_bits-spent r p size n s spent = omega arith
 
 -- the ranks with a one so far are ranks of the plane
-wide : (size n : ℕ) (ds : List Bool) → n ≤ size → length ds ≡ size → max n (reach ds) ≤ size
-wide size n ds within long = omega (arith, reach-le ds)
 
 -- a plane takes no more than it takes with those below
 pub plane_bits-le : (r p size n : ℕ) (s : List Bool) → plane_bits r size n s ≤ planes_bits r (suc p) size n s
@@ -76,7 +74,7 @@ next_cut r p size n s some within cut long =
     let below = planes_in_from p size above (drop count (take r s)) in
     let none : r - count ≡ 0 = omega arith in
     let spent : r - r ≡ 0 = omega arith in
-    let wide_above = wide size n ds within (length-plane_in size n (take r s) within) in
+    let wide_above = reach_within size n ds within (length-plane_in size n (take r s) within) in
     let zeros =
     ap (λ k. kept_planes_from k above below) none
     ∙ kept_planes_from-none size above below some (planes_in_from-length p size above (drop count (take r s)) wide_above)
@@ -86,7 +84,7 @@ next_cut r p size n s some within cut long =
     let code_long = length-append (plane_code n ds) (code_from above below) in
     record {
       bits = omega (arith, code_long, below_bits);
-      digits = ap (λ (ps : List (List Bool)). kept_digits ∷ ps) (zeros ∙ sym (planes_ahead-spent (r - r) p size above' (drop r s) some (wide size n kept_digits within long) spent));
+      digits = ap (λ (ps : List (List Bool)). kept_digits ∷ ps) (zeros ∙ sym (planes_ahead-spent (r - r) p size above' (drop r s) some (reach_within size n kept_digits within long) spent));
     }
 
 pub next_plane : (r p size n : ℕ) (s : List Bool) → 1 ≤ size → n ≤ size → length (plane_ahead r size n s) ≡ size

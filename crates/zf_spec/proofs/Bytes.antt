@@ -6,7 +6,7 @@ use Rattle.std.proofs.lemmas.List.Elements.{All-head, All-tail, All-nil, All-con
 use Rattle.std.specs.Int.{Width, w8, w16, w32, w64, w128, byte_len, byte_at, byte_worth, bytes_low_first, sum_through, to_le_bytes, from_le_bytes}
 use mir.Val.{bits}
 use Rattle.zf_spec.specs.Numbers.{field, number}
-use Rattle.zf_spec.specs.Stream.{with_fill, bytes_from, to_bytes, to_bits, first_bytes}
+use Rattle.zf_spec.specs.Stream.{fill, with_fill, bytes_from, to_bytes, to_bits, first_bytes}
 use Rattle.zf_spec.proofs.Fields.{length-field, number-field, field-number}
 
 -- ---- bytes of bits
@@ -53,6 +53,18 @@ to_bytes-to_bits bytes all =
     ap (λ n. bytes_from n (to_bits bytes)) n ∙ bytes_from-to_bits bytes all
 
 -- ---- the fill
+
+pub length-fill : (bs : List Bool) → length (fill bs) ≡ (64 - length bs % 64) % 64
+length-fill bs = length-replicate _ _
+
+pub fill_whole : (bs : List Bool) → (length bs + length (fill bs)) % 64 ≡ 0
+fill_whole bs = omega (arith, length-fill bs)
+
+pub fill_short : (bs : List Bool) → length (fill bs) < 64
+fill_short bs = omega (arith, length-fill bs)
+
+pub fill_none : (bs : List Bool) → length bs % 64 ≡ 0 → fill bs ≡ []
+fill_none bs h = let none : (64 - length bs % 64) % 64 ≡ 0 = omega arith in rw none refl
 
 pub length-with_fill : (bs : List Bool) → length (with_fill bs) % 64 ≡ 0
 length-with_fill bs = omega (arith, length-append bs (replicate ((64 - length bs % 64) % 64) false), length-replicate ((64 - length bs % 64) % 64) false)

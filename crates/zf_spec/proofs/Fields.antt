@@ -19,13 +19,13 @@ number-field (suc n) v =
     let here : number (field (suc n) v) ≡ v % 2 ^ (n + 1) = omega (arith, split, digit_value-is_odd v, number-field n (v / 2)) in
     here ∙ ap (λ k. v % 2 ^ k) (sym e)
 
-is_odd-digit : (b : Bool) (n : ℕ) → is_odd (digit_value b + 2 * n) ≡ b
-is_odd-digit true n = let e : (1 + 2 * n) % 2 ≡ 1 = omega arith in rw e refl
-is_odd-digit false n = let e : (0 + 2 * n) % 2 ≡ 0 = omega arith in rw e refl
+pub is_odd-digit_value : (b : Bool) (n : ℕ) → is_odd (digit_value b + 2 * n) ≡ b
+is_odd-digit_value true n = let e : (1 + 2 * n) % 2 ≡ 1 = omega arith in rw e refl
+is_odd-digit_value false n = let e : (0 + 2 * n) % 2 ≡ 0 = omega arith in rw e refl
 
-half-digit : (b : Bool) (n : ℕ) → (digit_value b + 2 * n) / 2 ≡ n
-half-digit true n = omega arith
-half-digit false n = omega arith
+pub half-digit_value : (b : Bool) (n : ℕ) → (digit_value b + 2 * n) / 2 ≡ n
+half-digit_value true n = omega arith
+half-digit_value false n = omega arith
 
 -- bits are the field of their number
 pub field-number : (n : ℕ) (bs : List Bool) → length bs ≡ n → field n (number bs) ≡ bs
@@ -33,8 +33,8 @@ field-number zero [] l = refl
 field-number zero (b ∷ bs) l = cc
 field-number (suc n) [] l = cc
 field-number (suc n) (b ∷ bs) l =
-    ap (λ c. c ∷ field n (number (b ∷ bs) / 2)) (is_odd-digit b (number bs))
-    ∙ ap (λ m. b ∷ field n m) (half-digit b (number bs))
+    ap (λ c. c ∷ field n (number (b ∷ bs) / 2)) (is_odd-digit_value b (number bs))
+    ∙ ap (λ m. b ∷ field n m) (half-digit_value b (number bs))
     ∙ ap (λ cs. b ∷ cs) (field-number n bs (omega arith))
 
 pub number-lt : (bs : List Bool) → number bs < 2 ^ length bs

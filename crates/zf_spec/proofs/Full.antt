@@ -6,7 +6,7 @@ use Rattle.std.proofs.lemmas.List.Elements.{All-nil, All-cons, All-head, All-tai
 use Rattle.zf_spec.specs.Planes.{has_one, reach, group, code_from_run, tail, plane_code, code_from, code}
 use Rattle.zf_spec.specs.ReadPlanes.{Begins, first_bits, group_in, run_in, tail_in, plane_in, planes_in_from, planes_in}
 use Rattle.zf_spec.proofs.Beginnings.{length-first_bits, first_begins, begins_is_first, begins_append, begins_front, begins_rest}
-use Rattle.zf_spec.proofs.Reach.{zeros_from_none, reach-le}
+use Rattle.zf_spec.proofs.Reach.{zeros_from_none, reach-le, reach_within}
 use Rattle.zf_spec.proofs.PlaneCode.{tail-zeros}
 
 -- ---- runs and tails
@@ -137,15 +137,13 @@ length-planes_in_from zero size n s = refl
 length-planes_in_from (suc p) size n s = let ds = plane_in size n s in ap suc (length-planes_in_from p size (max n (reach ds)) (drop (length (plane_code n ds)) s))
 
 -- the ranks with a one so far are ranks of the plane
-wide : (size n : ℕ) (ds : List Bool) → n ≤ size → length ds ≡ size → max n (reach ds) ≤ size
-wide size n ds h l = omega (arith, reach-le ds)
 
 pub planes_in_from-length : (p size n : ℕ) (s : List Bool) → n ≤ size → All (λ ds. length ds ≡ size) (planes_in_from p size n s)
 planes_in_from-length zero size n s h = All-nil (λ ds. length ds ≡ size)
 planes_in_from-length (suc p) size n s h =
     let ds = plane_in size n s in
     let l = length-plane_in size n s h in
-    All-cons (λ ds. length ds ≡ size) ds (planes_in_from p size (max n (reach ds)) (drop (length (plane_code n ds)) s)) l (planes_in_from-length p size (max n (reach ds)) (drop (length (plane_code n ds)) s) (wide size n ds h l))
+    All-cons (λ ds. length ds ≡ size) ds (planes_in_from p size (max n (reach ds)) (drop (length (plane_code n ds)) s)) l (planes_in_from-length p size (max n (reach ds)) (drop (length (plane_code n ds)) s) (reach_within size n ds h l))
 
 full_from_begins : (p size n : ℕ) (s : List Bool) → Begins (code_from n (planes_in_from p size n s)) s
 full_from_begins zero size n s = tt
@@ -161,7 +159,7 @@ full_from_only size n (ds ∷ ps) s h all b =
     let c = plane_code n ds in
     let others = code_from (max n (reach ds)) ps in
     let plane : ds ≡ plane_in size n s = full_plane_only n ds s (omega arith) (begins_front c others s b) ∙ ap (λ k. plane_in k n s) l in
-    let rest = full_from_only size (max n (reach ds)) ps (drop (length c) s) (wide size n ds h l) (All-tail (λ ds. length ds ≡ size) ds ps all) (begins_rest c others s b) in
+    let rest = full_from_only size (max n (reach ds)) ps (drop (length c) s) (reach_within size n ds h l) (All-tail (λ ds. length ds ≡ size) ds ps all) (begins_rest c others s b) in
     ap (λ qs. ds ∷ qs) rest ∙ ap (λ es. es ∷ planes_in_from (length ps) size (max n (reach es)) (drop (length (plane_code n es)) s)) plane
 
 pub length-planes_in : (p size : ℕ) (s : List Bool) → length (planes_in p size s) ≡ p

@@ -15,6 +15,7 @@
 --     PlaneCode        the cases of a plane code, and how long codes are at most
 --     Apart            the code of planes, and what is kept of them, plane by plane
 --     PlaneDigits      planes and the coefficients that they are the digits of
+--     HeldPlanes       the digits that planes hold in words
 --     Beginnings       bits that begin a list continued with zeros
 --     Full             the only planes whose code begins a list of bits
 --     KeptCases        what a budget keeps of digits, by cases
@@ -40,6 +41,7 @@ pub mod Reach
 pub mod PlaneCode
 pub mod Apart
 pub mod PlaneDigits
+pub mod HeldPlanes
 pub mod Beginnings
 pub mod Full
 pub mod KeptCases

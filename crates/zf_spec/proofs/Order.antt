@@ -4,6 +4,7 @@ use Rattle.std.proofs.lemmas.Bool.{or_cases, and_parts, or_left, or_right, and_f
 use Rattle.std.proofs.lemmas.List.{length-map}
 use Rattle.zf_spec.specs.Grid.{coordinates, fours, indices}
 use Rattle.zf_spec.specs.Ranks.{key, comes_before}
+use Rattle.zf_spec.proofs.Raster.{length-indices}
 
 -- what it is that one key comes before another
 comes_before_cases : (a b : ℕ) (as' bs : List ℕ) → comes_before (a ∷ as') (b ∷ bs) ≡ true → (a < b) ⊎ ((a ≡ b) × (comes_before as' bs ≡ true))
@@ -48,17 +49,6 @@ comes_before_total (a ∷ as') (b ∷ bs) l = ⊎_elim
     (cases_order a b)
 
 -- ---- the keys of places
-
-length-fours : (d : ℕ) → length (fours d) ≡ d
-length-fours zero = refl
-length-fours (suc d) = ap suc (length-fours d)
-
-pub length-coordinates : (ns : List ℕ) (k : ℕ) → length (coordinates ns k) ≡ length ns
-length-coordinates [] k = refl
-length-coordinates (n ∷ ns) k = ap suc (length-coordinates ns (k / n))
-
-pub length-indices : (d p : ℕ) → length (indices d p) ≡ d
-length-indices d p = length-coordinates (fours d) p ∙ length-fours d
 
 length-key : (d p : ℕ) → length (key d p) ≡ suc (suc d)
 length-key d p = ap (λ n. suc (suc n)) (length-map (indices d p) (λ i. 3 - i) ∙ length-indices d p)

@@ -137,7 +137,7 @@ pad_same es a b ok e = sym (pad-existing_values es a ok) ∙ ap (pad es) e ∙ p
 
 -- ---- what holds of each value of the block, and of 0
 
-get_or_all : (P : ℤ → Type 0) (vs : List ℤ) (k : ℕ) → P (pos 0) → All P vs → P (get_or vs k (pos 0))
+pub get_or_all : (P : ℤ → Type 0) (vs : List ℤ) (k : ℕ) → P (pos 0) → All P vs → P (get_or vs k (pos 0))
 get_or_all P vs k z all = ⊎_elim
     (λ l. All-get_or P vs k (pos 0) l all)
     (λ l. subst P (sym (get_or_past vs k (pos 0) l)) z)

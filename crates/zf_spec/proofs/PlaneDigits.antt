@@ -102,10 +102,10 @@ pub length-coefficients_of : (w : Width) (d : ℕ) (ps : List (List Bool)) → l
 length-coefficients_of w d ps = length-by_place d (map (value_of w) (digits_in_planes (bits w) (4 ^ d) ps))
 
 -- the values by rank that planes stand for
-abbrev values_by_rank : Width → ℕ → List (List Bool) → List ℤ
+abbrev pub values_by_rank : Width → ℕ → List (List Bool) → List ℤ
 values_by_rank w d ps = map (λ r. value_of w (digits_at (bits w) ps r)) (upto (4 ^ d))
 
-coefficients_of-is : (w : Width) (d : ℕ) (ps : List (List Bool)) → coefficients_of w d ps ≡ by_place d (values_by_rank w d ps)
+pub coefficients_of-is : (w : Width) (d : ℕ) (ps : List (List Bool)) → coefficients_of w d ps ≡ by_place d (values_by_rank w d ps)
 unfolding digits_in_planes
 coefficients_of-is w d ps = ap (by_place d) (map-map (value_of w) (digits_at (bits w) ps) (upto (4 ^ d)))
 

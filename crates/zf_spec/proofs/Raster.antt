@@ -4,11 +4,30 @@ use Rattle.std.proofs.Math.Nat.{add-mul-mod_self_left, add-mul-div_left, div-eq_
 use Rattle.std.proofs.lemmas.Bool.{and_from, and_parts}
 use Rattle.std.proofs.lemmas.Nat.{div_below}
 use Rattle.std.proofs.lemmas.List.Elements.{All-head, All-tail, All-nil, All-cons}
-use Rattle.zf_spec.specs.Grid.{product, coordinates, raster, is_inside, fours, indices}
+use Rattle.zf_spec.specs.Grid.{product, coordinates, raster, is_inside, extents, fours, indices}
 
 pub product-fours : (d : ℕ) → product (fours d) ≡ 4 ^ d
 product-fours zero = refl
 product-fours (suc d) = omega (arith, product-fours d, pow-suc 4 d)
+
+-- ---- how long lists of coordinates are
+
+pub length-fours : (d : ℕ) → length (fours d) ≡ d
+length-fours zero = refl
+length-fours (suc d) = ap suc (length-fours d)
+pub length-coordinates : (ns : List ℕ) (k : ℕ) → length (coordinates ns k) ≡ length ns
+length-coordinates [] k = refl
+length-coordinates (n ∷ ns) k = ap suc (length-coordinates ns (k / n))
+
+pub length-indices : (d p : ℕ) → length (indices d p) ≡ d
+length-indices d p = length-coordinates (fours d) p ∙ length-fours d
+
+pub length-extents : (ns cs : List ℕ) → length cs ≡ length ns → length (extents ns cs) ≡ length ns
+length-extents [] cs e = refl
+length-extents (n ∷ ns) [] e = absurd (omega arith)
+length-extents (n ∷ ns) (c ∷ cs) e = ap suc (length-extents ns cs (omega arith))
+
+-- ---- positions
 
 -- the coordinates of a raster number are inside the box
 pub is_inside-coordinates : (ns : List ℕ) (k : ℕ) → All (λ n. 1 ≤ n) ns → is_inside ns (coordinates ns k) ≡ true

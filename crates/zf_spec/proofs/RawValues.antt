@@ -82,7 +82,7 @@ length-sizes k [] = omega arith
 length-sizes k (n ∷ ns) = length-append (field k (n - 1)) (flat_map (λ n. field k (n - 1)) ns) ∙ omega (arith, length-field k (n - 1), length-sizes k ns, suc-mul (length ns) k)
 
 -- the fields of the sizes have 48 bits in all
-share : (d : ℕ) → 1 ≤ d → d ≤ 4 → d * (48 / d) ≡ 48
+pub share : (d : ℕ) → 1 ≤ d → d ≤ 4 → d * (48 / d) ≡ 48
 share zero f g = absurd (omega arith)
 share (suc zero) f g = refl
 share (suc (suc zero)) f g = refl

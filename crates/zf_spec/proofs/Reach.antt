@@ -1,5 +1,5 @@
 -- How far the ones of a plane reach, and how many planes there are down to the last that has a one.
-use Rattle.std.proofs.Common.{◌≡◌, refl, sym, ap, ◌∙◌, ℕ, zero, suc, ◌<◌, ◌≤◌, Bool, true, false, cond, ◌||◌, List, [], ◌∷◌, ◌++◌, map, length, get_or, replicate, ⊎_elim, arith}
+use Rattle.std.proofs.Common.{◌≡◌, refl, sym, ap, ◌∙◌, ℕ, zero, suc, ◌<◌, ◌≤◌, max, Bool, true, false, cond, ◌||◌, List, [], ◌∷◌, ◌++◌, map, length, get_or, replicate, ⊎_elim, arith}
 use Rattle.std.proofs.lemmas.Bool.{true≢false, cases_order}
 use Rattle.std.proofs.lemmas.List.{length-map}
 use Rattle.zf_spec.specs.Planes.{has_one, reach, any_one, needed_planes}
@@ -47,6 +47,10 @@ reach-le (d ∷ ds) = by (has_one (d ∷ ds)) (reach-le ds)
     by : (t : Bool) → reach ds ≤ length ds → cond t (suc (reach ds)) 0 ≤ length (d ∷ ds)
     by true h = omega arith
     by false h = omega arith
+
+-- ranks with a one above are ranks of the plane
+pub reach_within : (size n : ℕ) (ds : List Bool) → n ≤ size → length ds ≡ size → max n (reach ds) ≤ size
+reach_within size n ds h l = omega (arith, reach-le ds)
 
 pub reach_none : (ds : List Bool) → has_one ds ≡ false → reach ds ≡ 0
 reach_none [] h = refl

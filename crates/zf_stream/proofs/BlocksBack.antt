@@ -9,7 +9,7 @@ use Rattle.zf_spec.specs.Grid.{IsShape, grid, blocks, coordinates, raster, is_in
 use Rattle.zf_spec.specs.Codes.{existing_values, rev, rate, round, read_rate}
 use Rattle.zf_spec.proofs.Wrapping.{zero_fits}
 use Rattle.zf_spec.proofs.Counting.{length-map-upto, get_or-map-upto, from_places}
-use Rattle.zf_spec.proofs.Padding.{IsExtent as IsSize, length-existing_values, get_or-existing_values}
+use Rattle.zf_spec.proofs.Padding.{IsExtent as IsSize, length-existing_values, get_or-existing_values, get_or_all}
 use Rattle.zf_spec.proofs.BlockReading.{read_rev-rev, read_rate-rate, length-rate}
 use Rattle.zf_base.specs.declared.lane.Ty.{Ty}
 use Rattle.zf_base.specs.declared.lane.Ty.TheVariants.{I32, I64}
@@ -31,12 +31,6 @@ all_extents ns b shape lt =
     let is_extent = IsExtent-of_block ns b size shape refl origin lt in
     subst (λ s. All IsSize s) (used_size ns b size shape refl) (used_sizes (length ns) (record { origin = origin; size = size }) shape.four_at_most is_extent)
 
-value_fits : (P : ℤ → Type 0) (vs : List ℤ) (k : ℕ) → P (pos 0) → All P vs → P (get_or vs k (pos 0))
-value_fits P vs k zero_is all = ⊎_elim
-    (λ l. All-get_or P vs k (pos 0) l all)
-    (λ l. subst P (sym (get_or_past vs k (pos 0) l)) zero_is)
-    (cases_lt k (length vs))
-
 -- its values are of the type
 block_fits : (w : Width) (ns : List ℕ) (values : List ℤ) (b : ℕ) → All (λ v. FitsSigned w v) values → All (λ v. FitsSigned w v) (block_of ns values b)
 block_fits w ns values b all =
@@ -48,7 +42,7 @@ block_fits w ns values b all =
     subst (λ v. FitsSigned w v) (sym (get_or-map-upto (value_at ns values cs) size p (pos 0) small)) (by p (is_inside (extents ns cs) (indices (length ns) p))))
   where
     by : (p : ℕ) (t : Bool) → FitsSigned w (cond t (get_or values (raster ns (position_in (coordinates (grid ns) b) (indices (length ns) p))) (pos 0)) (pos 0))
-    by p true = value_fits (λ v. FitsSigned w v) values (raster ns (position_in (coordinates (grid ns) b) (indices (length ns) p))) (zero_fits w) all
+    by p true = get_or_all (λ v. FitsSigned w v) values (raster ns (position_in (coordinates (grid ns) b) (indices (length ns) p))) (zero_fits w) all
     by p false = zero_fits w
 
 cond_twice : (t : Bool) (v : ℤ) → cond t (cond t v (pos 0)) (pos 0) ≡ cond t v (pos 0)

@@ -3,17 +3,13 @@ use Rattle.std.proofs.Common.{◌≡◌, sym, ap, ◌∙◌, ℕ, ◌^◌, ◌<�
 use Rattle.zf_spec.specs.Grid.{product, grid, blocks, coordinates, raster, indices, position_in, value_at, block_of, blocks_of}
 use Rattle.zf_spec.proofs.Counting.{get_or-map-upto, from_places}
 use Rattle.zf_base.specs.Places.{block_number, place_of, IsAt}
-use Rattle.zf_base.proofs.Boxes.{raster-coordinates, is_inside-coordinates, length-coordinates}
+use Rattle.zf_base.proofs.Boxes.{is_inside-coordinates}
 use Rattle.zf_base.proofs.Places.{IsAt-position}
 use Rattle.zf_stream.specs.Parsing.{values_of_blocks}
+use Rattle.zf_spec.proofs.Raster.{raster-coordinates, length-coordinates}
+use Rattle.zf_pad.proofs.Blocks.{value_of_block}
 
 -- a value of an array by its block and place
-value_of_block : (ns : List ℕ) (values : List ℤ) (ps : List ℕ) (b p : ℕ) → IsAt ns ps b p → get_or (block_of ns values b) p (pos 0) ≡ get_or values (raster ns ps) (pos 0)
-value_of_block ns values ps b p at =
-    let cs = coordinates (grid ns) b in
-    get_or-map-upto (value_at ns values cs) (4 ^ length ns) p (pos 0) at.place_in_block
-    ∙ ap (λ t. cond t (get_or values (raster ns (position_in cs (indices (length ns) p))) (pos 0)) (pos 0)) at.exists
-    ∙ ap (λ (qs : List ℕ). get_or values (raster ns qs) (pos 0)) at.position
 
 -- what is joined of the blocks of an array is the array
 pub joined_is : (ns : List ℕ) (values : List ℤ) (found : List (List ℤ)) → length values ≡ product ns

@@ -7,6 +7,7 @@
 --     Parsed         from what was read to what a stream says
 --     OwnFaults      which faults are a call's own
 --     TextOfParse    what is restored of a stream is the raw bytes of its values
+--     Enough         as many bits as the longest codes have are enough for any codes
 --     Joined         the values of an array are joined of its blocks
 --     ParseOfStream  a stream of codes that read back is parsed to what they stand for
 --     BlocksBack     the codes of blocks read back
@@ -19,6 +20,7 @@ mod Joining
 mod Parsed
 mod OwnFaults
 pub mod TextOfParse
+mod Enough
 pub mod Joined
 pub mod ParseOfStream
 pub mod BlocksBack

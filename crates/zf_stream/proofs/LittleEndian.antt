@@ -62,6 +62,3 @@ values_from-more w (suc i) s within =
     ∙ ap (λ (vs : List ℤ). cast_signed w (from_le_bytes w (first_bytes n s)) ∷ vs)
     (rest ∙ ap (λ (bs : List ℕ). values_from w i (drop n s) ++ cast_signed w (from_le_bytes w (take n bs)) ∷ []) place)
 
-pub length-values_from : (w : Width) (n : ℕ) (s : List ℕ) → length (values_from w n s) ≡ n
-length-values_from w zero s = refl
-length-values_from w (suc n) s = ap suc (length-values_from w n (drop (byte_len w) s))

@@ -9,7 +9,7 @@ use Rattle.zf_header.specs.declared.header.HeaderFault.{HeaderFault}
 use Rattle.zf_header.specs.HeaderFaults.{header_fault}
 use Rattle.zf_stream.specs.declared.fault.StreamFault.{StreamFault}
 use Rattle.zf_stream.specs.declared.fault.StreamFault.TheVariants as faults
-use Rattle.zf_stream.specs.Parsing.{parse, header_of, code_bits, header_or, codes_answer, read_codes, values_or_fault, restore_answer, without_values}
+use Rattle.zf_stream.specs.Parsing.{values_said, header_of, code_bits, header_or, codes_answer, read_codes, values_or_fault, restore_answer, without_values}
 use Rattle.zf_stream.specs.ReadStreams.{IsFault}
 
 -- the faults of devices
@@ -51,11 +51,11 @@ own_text (Ok vs) own = refl
 own_text (Err e) own = own
 
 own_answer : (bytes : List ℕ) → blames_device (restore_answer bytes) ≡ false
-unfolding parse
+unfolding values_said
 own_answer bytes =
     let h = header_of bytes in
     let found = read_codes h 0 (blocks h.shape) (code_bits bytes) in
-    own_text (parse bytes) (own_header (header_fault bytes) (codes_answer h (length (to_bits bytes)) found) (own_codes h (length (to_bits bytes)) found))
+    own_text (values_said bytes) (own_header (header_fault bytes) (codes_answer h (length (to_bits bytes)) found) (own_codes h (length (to_bits bytes)) found))
 
 not_device : (e : StreamFault) → is_device e ≡ false → (e ≢ faults.Read) × (e ≢ faults.Write)
 unfolding is_device

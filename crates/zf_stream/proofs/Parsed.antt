@@ -13,13 +13,13 @@ use Rattle.zf_header.specs.declared.header.HeaderFault.{HeaderFault}
 use Rattle.zf_header.proofs.First.{header_fault-first}
 use Rattle.zf_header.proofs.Good.{good}
 use Rattle.zf_header.proofs.Found.{read_is_spelled, read_is_header}
-use Rattle.zf_header.proofs.Spelled.{spelled_is_read}
+use Rattle.zf_header.proofs.Spelled.{spelled_is_read, spelled_is_good}
 use Rattle.zf_dev.specs.Source.{Takes, IsAtEnd}
 use Rattle.zf_dev.proofs.Taking.{Takes-to_end}
 use Rattle.zf_stream.specs.Outcomes.{IsFront, IsRefusal}
 use Rattle.zf_stream.specs.declared.fault.StreamFault.{StreamFault}
 use Rattle.zf_stream.specs.declared.fault.StreamFault.TheVariants as faults
-use Rattle.zf_stream.specs.Parsing.{parse, header_of, code_bits, header_or, codes_answer, read_codes, restore_answer, without_values}
+use Rattle.zf_stream.specs.Parsing.{values_said, header_of, code_bits, header_or, codes_answer, read_codes, restore_answer, without_values}
 use Rattle.zf_stream.specs.ReadStreams.{BeginsWithHeader, HasGoodHeader, IsFaultOf, IsFault}
 
 -- the answer of what stands behind the header
@@ -27,8 +27,8 @@ answer_of : Option HeaderFault → Header → List ℕ → List Bool → Result 
 answer_of fault h bytes s = header_or fault (codes_answer h (length (to_bits bytes)) (read_codes h 0 (blocks h.shape) s))
 
 pub parse_is : (bytes : List ℕ) (h : Header) (len : ℕ) → BeginsWithHeader bytes h len
-    → parse bytes ≡ codes_answer h (length (to_bits bytes)) (read_codes h 0 (blocks h.shape) (drop len (to_bits bytes)))
-unfolding parse answer_of
+    → values_said bytes ≡ codes_answer h (length (to_bits bytes)) (read_codes h 0 (blocks h.shape) (drop len (to_bits bytes)))
+unfolding values_said answer_of
 parse_is bytes h len begun =
     let s = to_bits bytes in
     let behind : code_bits bytes ≡ drop len s = ap (λ g. drop (length (header_bits g)) s) (sym begun.header) ∙ ap (λ n. drop n s) (sym begun.bits_is) in
@@ -51,13 +51,13 @@ begun_more front more h len begun =
     let within : n ≤ length (to_bits front) = omega (arith, length-to_bits front, begun.within, begun.bits_is) in
     let bits : take n (to_bits (front ++ more)) ≡ header_bits h =
     ap (take n) (flat_map-append (field 8) front more) ∙ take-append-le n (to_bits front) (to_bits more) within ∙ begins.bits in
-    let read = spelled_is_read (front ++ more) h is (record { bits = bits }) in
+    let more_begins : BeginsWith (front ++ more) h = record { bits = bits } in
     record {
-      good = sym read.0;
-      header = sym read.1;
+      good = sym (spelled_is_good (front ++ more) h is begun.taken more_begins);
+      header = sym (spelled_is_read (front ++ more) h is more_begins);
       bits_is = begun.bits_is;
       within = omega (arith, begun.within, length-append front more);
-      writable = begun.writable;
+      taken = begun.taken;
     }
 
 -- the header of a told source is good where that of its first bytes is
@@ -67,7 +67,7 @@ good_of_front (Some all) front is none = sym (header_fault-first all) ∙ ap hea
 
 -- and of its fault
 pub parse_fault : (all front : List ℕ) (f : HeaderFault) → front ≡ take 19 all → header_fault front ≡ Some f → restore_answer all ≡ Err (faults.Header f)
-unfolding parse answer_of
+unfolding values_said answer_of
 parse_fault all front f is fault =
     let known : header_fault all ≡ Some f = sym (header_fault-first all) ∙ ap header_fault (sym is) ∙ fault in
     ap (λ o. without_values (answer_of o (header_of all) all (code_bits all))) known
@@ -91,5 +91,5 @@ refusal_of_bytes (Some all) now bytes e taken ended fault =
     ⊎_elim (λ answer. inl (ap restore_answer (Takes-to_end all now bytes taken ended) ∙ answer)) (λ memory. inr (inr (inr memory))) fault
 
 -- a fault of the values is one of the text
-pub fault_of_values : (bytes : List ℕ) (e : StreamFault) → IsFault (parse bytes) e → IsFault (restore_answer bytes) e
+pub fault_of_values : (bytes : List ℕ) (e : StreamFault) → IsFault (values_said bytes) e → IsFault (restore_answer bytes) e
 fault_of_values bytes e fault = ⊎_elim (λ answer. inl (ap without_values answer)) (λ memory. inr memory) fault

@@ -9,10 +9,10 @@ use Rattle.zf_spec.proofs.RawValues.{length-values_from, values_from_fit, raw-va
 use Rattle.zf_base.specs.Widths.{width_of}
 use Rattle.zf_header.specs.declared.header.Header.{Header}
 use Rattle.zf_header.specs.declared.header.Mode.{Mode}
-use Rattle.zf_header.specs.declared.header.Mode.TheVariants.{Reversible, Rate}
-use Rattle.zf_header.specs.HeaderBits.{coding, IsHeader, header_bits}
+use Rattle.zf_header.specs.declared.header.Mode.TheVariants.{Reversible, Rate, Precision}
+use Rattle.zf_header.specs.HeaderBits.{coding, IsMode, IsTaken, IsHeader, header_bits}
 use Rattle.zf_stream.specs.Raw.{raw_len, raw_bytes, stream_of, stream_text}
-use Rattle.zf_stream.specs.Parsing.{read_code, values_of_blocks, header_of, parse, restored_text, restore_answer, without_values}
+use Rattle.zf_stream.specs.Parsing.{read_code, values_of_blocks, header_of, values_said, said_of, parse, restored_text, restore_answer, without_values}
 use Rattle.zf_stream.proofs.TextOfParse.{text_of_parse}
 use Rattle.zf_stream.proofs.Joined.{values_of_blocks-blocks}
 use Rattle.zf_stream.proofs.ParseOfStream.{end_to_end, ReadsBack, header_of-file, parse-file}
@@ -31,35 +31,44 @@ pub header_of-stream_of : (h : Header) (values : List ℤ) → IsHeader h → he
 header_of-stream_of h values is_header =
     ap header_of (sym (stream_of-codes h values)) ∙ header_of-file h (code_of h values) is_header
 
-parse-stream_of : (h : Header) (values : List ℤ) (back : ℕ → List ℤ) → IsHeader h → ((b : ℕ) → b < blocks h.shape → ReadsBack h (code_of h values) back b)
-    → parse (stream_of h values) ≡ Ok (values_of_blocks h.shape (map back (upto (blocks h.shape))))
-parse-stream_of h values back is_header reads =
-    ap parse (sym (stream_of-codes h values)) ∙ parse-file h (code_of h values) is_header back reads
+-- what a fixed rate makes of an array of values
+abbrev rounded : Header → ℕ → List ℤ → List ℤ
+rounded h budget values = values_of_blocks h.shape (map (λ b. round (width_of h.ty) budget (extent_of h.shape b) (block_of h.shape values b)) (upto (blocks h.shape)))
 
--- without loss the values come back
-pub parse-reversible : (h : Header) (values : List ℤ) → IsHeader h → h.mode ≡ Reversible → length values ≡ product h.shape → All (λ v. FitsSigned (width_of h.ty) v) values
-    → parse (stream_of h values) ≡ Ok values
-parse-reversible h values is_header mode long fits =
-    parse-stream_of h values (block_of h.shape values) is_header
-    (λ b lt more.
-    let w = width_of h.ty in
-    let es = extent_of h.shape b in
-    let block = block_of h.shape values b in
-    let Read : Mode → Type 0 = λ m. read_code w m es (block_code w (coding m) es block ++ more) ≡ Some (block, length (block_code w (coding m) es block)) in
-    subst Read (sym mode) (reads_reversible h.ty h.shape values b more is_header.shape lt fits))
-    ∙ ap (λ (vs : List ℤ). Ok vs) (values_of_blocks-blocks h.shape values long)
+-- what the stream of values says: the codes of its blocks, and what they stand for
+module _ (h : Header) (values : List ℤ) (is_header : IsHeader h) where
+  said-stream_of : IsTaken h.mode → (back : ℕ → List ℤ) → ((b : ℕ) → b < blocks h.shape → ReadsBack h (code_of h values) back b)
+      → let found = values_of_blocks h.shape (map back (upto (blocks h.shape))) in
+      (values_said (stream_of h values) ≡ Ok found) × (parse (stream_of h values) ≡ Ok (said_of h values found))
+  said-stream_of taken back reads =
+      let said = parse-file h (code_of h values) is_header taken back reads in
+      (ap values_said (sym (stream_of-codes h values)) ∙ said.0, ap parse (sym (stream_of-codes h values)) ∙ said.1)
 
--- at a fixed rate what the rate makes of each block
-pub parse-rate : (h : Header) (values : List ℤ) (budget : ℕ) → IsHeader h → h.mode ≡ Rate budget
-    → parse (stream_of h values) ≡ Ok (values_of_blocks h.shape (map (λ b. round (width_of h.ty) budget (extent_of h.shape b) (block_of h.shape values b)) (upto (blocks h.shape))))
-parse-rate h values budget is_header mode =
-    parse-stream_of h values (λ b. round (width_of h.ty) budget (extent_of h.shape b) (block_of h.shape values b)) is_header
-    (λ b lt more.
-    let w = width_of h.ty in
-    let es = extent_of h.shape b in
-    let block = block_of h.shape values b in
-    let Read : Mode → Type 0 = λ m. read_code w m es (block_code w (coding m) es block ++ more) ≡ Some (round w budget es block, length (block_code w (coding m) es block)) in
-    subst Read (sym mode) (reads_rate w budget es block more))
+  -- without loss the values come back
+  pub said-reversible : h.mode ≡ Reversible → length values ≡ product h.shape → All (λ v. FitsSigned (width_of h.ty) v) values
+      → (values_said (stream_of h values) ≡ Ok values) × (parse (stream_of h values) ≡ Ok (said_of h values values))
+  said-reversible mode long fits =
+      let said = said-stream_of (subst IsTaken (sym mode) tt) (block_of h.shape values)
+      (λ b lt more.
+      let w = width_of h.ty in
+      let es = extent_of h.shape b in
+      let block = block_of h.shape values b in
+      let Read : Mode → Type 0 = λ m. read_code w m es (block_code w (coding m) es block ++ more) ≡ Some (block, length (block_code w (coding m) es block)) in
+      subst Read (sym mode) (reads_reversible h.ty h.shape values b more is_header.shape lt fits)) in
+      let back = values_of_blocks-blocks h.shape values long in
+      (said.0 ∙ ap (λ (vs : List ℤ). Ok vs) back, said.1 ∙ ap (λ (vs : List ℤ). Ok (said_of h values vs)) back)
+
+  -- at a fixed rate what the rate makes of each block
+  pub said-rate : (budget : ℕ) → h.mode ≡ Rate budget
+      → (values_said (stream_of h values) ≡ Ok (rounded h budget values)) × (parse (stream_of h values) ≡ Ok (said_of h values (rounded h budget values)))
+  said-rate budget mode =
+      said-stream_of (subst IsTaken (sym mode) (subst IsMode mode is_header.mode)) (λ b. round (width_of h.ty) budget (extent_of h.shape b) (block_of h.shape values b))
+      (λ b lt more.
+      let w = width_of h.ty in
+      let es = extent_of h.shape b in
+      let block = block_of h.shape values b in
+      let Read : Mode → Type 0 = λ m. read_code w m es (block_code w (coding m) es block ++ more) ≡ Some (round w budget es block, length (block_code w (coding m) es block)) in
+      subst Read (sym mode) (reads_rate w budget es block more))
 
 -- ---- raw values
 
@@ -67,39 +76,36 @@ stream_text-values : (h : Header) (bytes : List ℕ) → stream_text h bytes ≡
 unfolding stream_text stream_of stream_of_bytes
 stream_text-values h bytes = refl
 
--- what a fixed rate makes of an array of values
-abbrev rounded : Header → ℕ → List ℤ → List ℤ
-rounded h budget values = values_of_blocks h.shape (map (λ b. round (width_of h.ty) budget (extent_of h.shape b) (block_of h.shape values b)) (upto (blocks h.shape)))
-
 module _ (h : Header) (bytes : List ℕ) (is_header : IsHeader h) where
-  parse-reversible_text : h.mode ≡ Reversible → parse (stream_text h bytes) ≡ Ok (values_from (width_of h.ty) (product h.shape) bytes)
-  parse-reversible_text mode =
+  said-reversible_text : h.mode ≡ Reversible → values_said (stream_text h bytes) ≡ Ok (values_from (width_of h.ty) (product h.shape) bytes)
+  said-reversible_text mode =
       let w = width_of h.ty in
       let n = product h.shape in
-      ap parse (stream_text-values h bytes)
-      ∙ parse-reversible h (values_from w n bytes) is_header mode (length-values_from w n bytes) (values_from_fit w n bytes)
+      ap values_said (stream_text-values h bytes)
+      ∙ (said-reversible h (values_from w n bytes) is_header mode (length-values_from w n bytes) (values_from_fit w n bytes)).0
 
-  parse-rate_text : (budget : ℕ) → h.mode ≡ Rate budget → parse (stream_text h bytes) ≡ Ok (rounded h budget (values_from (width_of h.ty) (product h.shape) bytes))
-  parse-rate_text budget mode =
-      ap parse (stream_text-values h bytes) ∙ parse-rate h (values_from (width_of h.ty) (product h.shape) bytes) budget is_header mode
+  said-rate_text : (budget : ℕ) → h.mode ≡ Rate budget → values_said (stream_text h bytes) ≡ Ok (rounded h budget (values_from (width_of h.ty) (product h.shape) bytes))
+  said-rate_text budget mode =
+      ap values_said (stream_text-values h bytes) ∙ (said-rate h (values_from (width_of h.ty) (product h.shape) bytes) is_header budget mode).0
 
   -- each stream is good
-  pub answer-stream_text : restore_answer (stream_text h bytes) ≡ Ok tt
-  answer-stream_text = by h.mode refl
+  pub answer-stream_text : IsTaken h.mode → restore_answer (stream_text h bytes) ≡ Ok tt
+  answer-stream_text taken = by h.mode refl
     where
       by : (m : Mode) → h.mode ≡ m → restore_answer (stream_text h bytes) ≡ Ok tt
-      by Reversible mode = ap without_values (parse-reversible_text mode)
-      by (Rate b) mode = ap without_values (parse-rate_text b mode)
+      by Reversible mode = ap without_values (said-reversible_text mode)
+      by (Rate b) mode = ap without_values (said-rate_text b mode)
+      by (Precision p) mode = absurd (subst IsTaken mode taken)
 
   -- what is restored of it is the raw bytes of the values that it parses to
-  text-parsed : (values : List ℤ) → parse (stream_text h bytes) ≡ Ok values → restored_text (stream_text h bytes) ≡ raw_bytes h values
+  text-parsed : (values : List ℤ) → values_said (stream_text h bytes) ≡ Ok values → restored_text (stream_text h bytes) ≡ raw_bytes h values
   text-parsed values parsed =
       text_of_parse (stream_text h bytes) values parsed
       ∙ ap (λ g. raw_bytes g values) (ap header_of (stream_text-values h bytes) ∙ header_of-stream_of h (values_from (width_of h.ty) (product h.shape) bytes) is_header)
 
   pub text-rate_text : (budget : ℕ) → h.mode ≡ Rate budget
       → restored_text (stream_text h bytes) ≡ raw_bytes h (rounded h budget (values_from (width_of h.ty) (product h.shape) bytes))
-  text-rate_text budget mode = text-parsed (rounded h budget (values_from (width_of h.ty) (product h.shape) bytes)) (parse-rate_text budget mode)
+  text-rate_text budget mode = text-parsed (rounded h budget (values_from (width_of h.ty) (product h.shape) bytes)) (said-rate_text budget mode)
 
   -- without loss these are the raw bytes that were given
   pub text-reversible_text : h.mode ≡ Reversible → length bytes ≡ raw_len h → All (λ b. b < 256) bytes → restored_text (stream_text h bytes) ≡ bytes
@@ -107,7 +113,7 @@ module _ (h : Header) (bytes : List ℕ) (is_header : IsHeader h) where
       let w = width_of h.ty in
       let n = product h.shape in
       let count : n * byte_len w ≡ length bytes = mul_comm n (byte_len w) ∙ sym long in
-      text-parsed (values_from w n bytes) (parse-reversible_text mode)
+      text-parsed (values_from w n bytes) (said-reversible_text mode)
       ∙ raw-values_from w n bytes small
       ∙ ap (λ k. first_bytes k bytes) count
       ∙ first_bytes-all bytes

@@ -1,26 +1,28 @@
 -- Bits that go on with more bits say the same, where their codes are whole.
-use Rattle.std.proofs.Common.{◌≡◌, refl, sym, ap, ◌∙◌, ℕ, zero, suc, ◌+◌, ◌-◌, ◌^◌, ◌≤◌, Bool, true, false, cond, ltb, le-ltb, ℤ, Option, Some, None, Result, Ok, Err, List, [], ◌∷◌, ◌++◌, length, take, drop, replicate, length-drop, length-append, arith}
+use Rattle.std.proofs.Common.{◌≡◌, refl, sym, ap, ◌∙◌, ℕ, zero, suc, ◌+◌, ◌-◌, ◌^◌, ◌≤◌, min, Bool, true, false, cond, ltb, le-ltb, ℤ, Option, Some, None, Result, Ok, Err, List, [], ◌∷◌, ◌++◌, length, take, drop, replicate, length-drop, length-append, arith}
 use Rattle.std.proofs.lemmas.Bool.{ltb-false}
 use Rattle.std.proofs.lemmas.List.{take-append-le, drop-append-le}
 use Rattle.std.specs.Prelude.{is_none}
 use Rattle.std.specs.Int.{Width}
+use mir.Val.{bits}
 use Rattle.zf_spec.specs.Numbers.{number}
 use Rattle.zf_spec.specs.Grid.{blocks, extent_of}
 use Rattle.zf_spec.specs.Lorenzo.{unlorenzo}
+use Rattle.zf_spec.specs.Lift.{unlift}
 use Rattle.zf_spec.specs.Planes.{code}
 use Rattle.zf_spec.specs.ReadPlanes.{Begins, planes_in}
-use Rattle.zf_spec.specs.Codes.{count_bits, coefficients_of, existing_values, read_rev, read_rate}
+use Rattle.zf_spec.specs.Codes.{count_bits, coefficients_of, existing_values, read_rev, read_rate, read_prec}
 use Rattle.zf_spec.specs.Stream.{to_bits}
 use Rattle.zf_spec.proofs.Full.{length-planes_in, planes_in-length, full_begins, full_only}
 use Rattle.zf_base.specs.Widths.{width_of}
 use Rattle.zf_header.specs.declared.header.Header.{Header}
 use Rattle.zf_header.specs.declared.header.Mode.{Mode}
-use Rattle.zf_header.specs.declared.header.Mode.TheVariants.{Reversible, Rate}
+use Rattle.zf_header.specs.declared.header.Mode.TheVariants.{Reversible, Rate, Precision}
 use Rattle.zf_header.specs.declared.header.HeaderFault.{HeaderFault}
 use Rattle.zf_header.specs.HeaderFaults.{header_fault}
 use Rattle.zf_stream.specs.declared.fault.StreamFault.{StreamFault}
 use Rattle.zf_stream.specs.Raw.{raw_bytes}
-use Rattle.zf_stream.specs.Parsing.{read_code, with_block, read_next, read_codes, values_of_blocks, fill_answer, values_or_fault, codes_answer, header_of, code_bits, header_or, parse, longest_codes, blocks_text, restored_text}
+use Rattle.zf_stream.specs.Parsing.{read_code, with_block, read_next, read_codes, values_of_blocks, fill_answer, values_or_fault, codes_answer, header_of, code_bits, header_or, values_said, longest_codes, blocks_text, restored_text}
 
 -- ---- one code
 
@@ -71,9 +73,32 @@ read_rev_more w es s more found e =
       omega (arith, within, bits),
     )
 
+-- the same of planes alone
+prec_of : Width → List ℕ → List (List Bool) → List ℤ × ℕ
+prec_of w es ps = (existing_values es (unlift w (length es) (coefficients_of w (length es) ps)), length (code ps))
+
+read_prec_more : (w : Width) (p : ℕ) (es : List ℕ) (s more : List Bool) (found : List ℤ × ℕ) → read_prec w p es s ≡ Some found
+    → (read_prec w p es (s ++ more) ≡ Some found) × (found.1 ≤ length s)
+unfolding read_prec prec_of
+read_prec_more w p es s more found e =
+    let size = 4 ^ length es in
+    let ps = planes_in (min p (bits w)) size s in
+    let len = length (code ps) in
+    let parts = cond_some (ltb (length s) len) (prec_of w es ps) found e in
+    let within : len ≤ length s = ltb-false (length s) len parts.0 in
+    let same : planes_in (min p (bits w)) size (s ++ more) ≡ ps = full_more (min p (bits w)) size s more within in
+    let longer : ltb (length (s ++ more)) len ≡ false = le-ltb (length (s ++ more)) len (omega (arith, within, length-append s more)) in
+    let count : len ≡ found.1 = ap (λ (c : List ℤ × ℕ). c.1) parts.1 in (
+      ap (λ (qs : List (List Bool)). cond (ltb (length (s ++ more)) (length (code qs))) None (Some (prec_of w es qs))) same
+          ∙ ap (λ t. cond t None (Some (prec_of w es ps))) longer
+          ∙ ap Some parts.1,
+      omega (arith, within, count),
+    )
+
 read_code_more : (w : Width) (mode : Mode) (es : List ℕ) (s more : List Bool) (found : List ℤ × ℕ) → read_code w mode es s ≡ Some found
     → (read_code w mode es (s ++ more) ≡ Some found) × (found.1 ≤ length s)
 read_code_more w Reversible es s more found e = read_rev_more w es s more found e
+read_code_more w (Precision p) es s more found e = read_prec_more w p es s more found e
 read_code_more w (Rate b) es s more found e =
     let answer : List Bool → List ℤ × ℕ = λ t. (read_rate w es t, b) in
     let parts = cond_some (ltb (length s) b) (answer (take b s)) found e in
@@ -139,8 +164,8 @@ codes_good h all (Err b) values e = absurd cc
 codes_good h all (Ok found) values e = (found, refl, values_good (values_of_blocks h.shape found.0) values (fill_answer h (all - length found.1) found.1) e)
 
 -- what is restored of a stream that is good is the raw bytes of its values
-pub text_of_parse : (bytes : List ℕ) (values : List ℤ) → parse bytes ≡ Ok values → restored_text bytes ≡ raw_bytes (header_of bytes) values
-unfolding parse restored_text
+pub text_of_parse : (bytes : List ℕ) (values : List ℤ) → values_said bytes ≡ Ok values → restored_text bytes ≡ raw_bytes (header_of bytes) values
+unfolding values_said restored_text
 text_of_parse bytes values e =
     let h = header_of bytes in
     let all = length (to_bits bytes) in

@@ -7,8 +7,8 @@ ghost use Rattle.zf_spec.specs.Numbers.{word_bits};
 ghost use Rattle.zf_spec.specs.Stream.{to_bits, with_fill};
 ghost use Rattle.zf_base.specs.Widths.{width_of};
 ghost use Rattle.zf_bits.specs.Reader.{rest};
-ghost use Rattle.zf_header.specs.HeaderBits.{IsWritable};
-ghost use Rattle.zf_stream.specs.Parsing.{fill_answer, codes_answer, read_codes, parse};
+ghost use Rattle.zf_header.specs.HeaderBits.{IsTaken};
+ghost use Rattle.zf_stream.specs.Parsing.{fill_answer, codes_answer, read_codes, values_said};
 ghost use Rattle.zf_stream.specs.ReadStreams.{BeginsWithHeader, ReadsCode, LacksCode, ReadsBlock, ReadsBlocks, IsCutAt, IsFault};
 ghost use Rattle.zf_stream.specs.declared.fault.StreamFault.TheVariants.{Memory, Truncated};
 
@@ -29,8 +29,8 @@ pub(crate) fn values_in<T: Lane>(
     requires begun { BeginsWithHeader bytes.now h.now header_len }
     requires same_type { T.width ≡ width_of h.now.ty }
     requires small { length bytes.now < 2 ^ 61 }
-    ensures ok { IfOk result (λ values. parse bytes.now ≡ Ok (map T.value values.items)) }
-    ensures err { IfErr result (IsFault (parse bytes.now)) }
+    ensures ok { IfOk result (λ values. values_said bytes.now ≡ Ok (map T.value values.items)) }
+    ensures err { IfErr result (IsFault (values_said bytes.now)) }
 {
     let words = words_in(alloc, bytes)?;
     let mut reader = BitReader::new(&words, 8 * bytes.len() as u64);
@@ -56,7 +56,7 @@ fn read_values<T: Lane>(
     h: &Header,
     reader: &mut BitReader<'_>,
 ) -> Result<Vec<T>, StreamFault>
-    requires writable { IsWritable h.now }
+    requires taken { IsTaken h.now.mode }
     requires same_type { T.width ≡ width_of h.now.ty }
     ensures ok { IfOk result (λ values.
         codes_answer h.now (length reader.old.all) (read_codes h.now 0 (blocks h.now.shape) (rest reader.old)) ≡ Ok (map T.value values.items)) }
@@ -92,7 +92,7 @@ fn read_blocks<T: Lane>(
     h: &Header,
     reader: &mut BitReader<'_>,
 ) -> Result<Vec<T>, StreamFault>
-    requires writable { IsWritable h.now }
+    requires taken { IsTaken h.now.mode }
     requires same_type { T.width ≡ width_of h.now.ty }
     ensures ok { IfOk result (λ values. ReadsBlocks h.now reader.old reader.new (map T.value values.items)) }
     ensures len { IfOk result (λ values. length values.items ≡ product h.now.shape) }
@@ -113,7 +113,7 @@ fn read_codes<T: Lane>(
     block: &mut [T],
     values: &mut [T],
 ) -> Result<(), StreamFault>
-    requires writable { IsWritable h.now }
+    requires taken { IsTaken h.now.mode }
     requires same_type { T.width ≡ width_of h.now.ty }
     requires all { length values.old ≡ product h.now.shape }
     requires whole { length block.old ≡ 4 ^ length h.now.shape }
@@ -134,7 +134,7 @@ fn read_block<T: Lane>(
     block: &mut [T],
     values: &mut [T],
 ) -> Result<(), StreamFault>
-    requires writable { IsWritable h.now }
+    requires taken { IsTaken h.now.mode }
     requires same_type { T.width ≡ width_of h.now.ty }
     requires in_array { b < blocks h.now.shape }
     requires all { length values.old ≡ product h.now.shape }
@@ -153,7 +153,7 @@ fn read_block<T: Lane>(
 
 /// Reads the code of a block, or answers `None` where the bits end too early.
 fn read_code<T: Lane>(h: &Header, reader: &mut BitReader<'_>, block: &mut [T]) -> Option<()>
-    requires writable { IsWritable h.now }
+    requires taken { IsTaken h.now.mode }
     requires whole { length block.old ≡ 4 ^ length h.now.shape }
     ensures some { OnSome result (ReadsCode T.width h.now.mode (length h.now.shape) reader.old reader.new (map T.value block.new)) }
     ensures none { IfNone result (LacksCode T.width h.now.mode (length h.now.shape) reader.old) }
@@ -162,6 +162,7 @@ fn read_code<T: Lane>(h: &Header, reader: &mut BitReader<'_>, block: &mut [T]) -
     match h.mode {
         Mode::Reversible => zf_block::decode_rev(d, reader, block),
         Mode::Rate(bits) => read_rate(d, bits, reader, block),
+        Mode::Precision(_) => unreachable!(),
     }
 }
 

@@ -4,9 +4,9 @@ use Rattle.zf_spec.specs.Planes.{code}
 use Rattle.zf_spec.specs.ReadPlanes.{first_bits}
 use Rattle.zf_spec.specs.HeldPlanes.{planes_held}
 use Rattle.zf_bits.proofs.Appending.{Appends-append, Appends-same}
-use Rattle.zf_planes.proofs.Unpacking.{length-planes_held}
 use Rattle.zf_block.proofs.Zeros.{first_bits-take}
 use Rattle.zf_block.proofs.rate.write_planes.Goals as goal
+use Rattle.zf_spec.proofs.HeldPlanes.{length-planes_held}
 
 pub returns : goal.returns
 returns c =

@@ -8,9 +8,10 @@ use Rattle.zf_spec.specs.Codes.{count_bits, rev_of_planes}
 use Rattle.zf_spec.proofs.Reach.{needed_planes-le}
 use Rattle.zf_spec.proofs.PlaneCode.{length-code-le}
 use Rattle.zf_bits.proofs.Appending.{Appends-append, Appends-same}
-use Rattle.zf_planes.proofs.Unpacking.{length-planes_held, length-top_held, sizes-top_held}
+use Rattle.zf_planes.proofs.Unpacking.{length-top_held, sizes-top_held}
 use Rattle.zf_block.proofs.Widths.{width_bounds}
 use Rattle.zf_block.proofs.reversible.write_planes.Goals as goal
+use Rattle.zf_spec.proofs.HeldPlanes.{length-planes_held}
 
 pub encode-requires-clause-planes : goal.encode-requires-clause-planes
 encode-requires-clause-planes g c =

@@ -2,9 +2,9 @@
 use Rattle.std.proofs.Common.{sym, subst, ◌∙◌}
 use Rattle.std.proofs.lemmas.Result.{err_from_is_err_and}
 use Rattle.zf_spec.specs.Stream.{to_bits}
-use Rattle.zf_header.specs.HeaderBits.{HasNumber}
+use Rattle.zf_header.specs.HeaderBits.{IsMode}
 use Rattle.zf_header.proofs.Faults.{front_fault, size_fault, mode_fault}
-use Rattle.zf_header.proofs.Modes.{header_in-writable}
+use Rattle.zf_header.proofs.Modes.{header_in-mode}
 use Rattle.zf_header.proofs.reading.fields.Goals as goal
 
 pub returns-in_err-ty-clause-fault : goal.returns-in_err-ty-clause-fault
@@ -23,7 +23,7 @@ returns-in_err-mode-clause-fault c =
     rw (p.1, p.2) (c.in_err-mode.ensures.fault ∙ mode_fault c.args.bytes.now c.in_ok-ty.ensures.fault c.in_ok-shape.ensures.fault)
 
 pub header_len-requires : goal.header_len-requires
-header_len-requires c = subst HasNumber (sym c.in_ok-mode.ensures.mode) (header_in-writable (to_bits c.args.bytes.now))
+header_len-requires c = subst IsMode (sym c.in_ok-mode.ensures.mode) (header_in-mode (to_bits c.args.bytes.now))
 
 pub returns-clause-fault : goal.returns-clause-fault
 returns-clause-fault c =

@@ -4,13 +4,12 @@ use Rattle.std.specs.Result.{IfOk, result_err}
 use Rattle.zf_spec.specs.Stream.{to_bits}
 use Rattle.zf_header.specs.declared.header.Header.{Header}
 use Rattle.zf_header.specs.declared.header.HeaderFault.{HeaderFault}
-use Rattle.zf_header.specs.HeaderBits.{IsWritable, BeginsWith, header_bits}
+use Rattle.zf_header.specs.HeaderBits.{IsTaken, BeginsWith, header_bits}
 use Rattle.zf_header.specs.HeaderFields.{header_in}
 use Rattle.zf_header.specs.HeaderFaults.{header_fault}
 use Rattle.zf_header.proofs.Good.{good}
-use Rattle.zf_header.proofs.Modes.{header_in-writable}
-use Rattle.zf_header.proofs.Found.{read_is_spelled, begins_within}
-use Rattle.zf_header.proofs.Spelled.{spelled_is_read}
+use Rattle.zf_header.proofs.Found.{read_is_spelled, read_is_taken, begins_within}
+use Rattle.zf_header.proofs.Spelled.{spelled_is_read, spelled_is_good}
 use Rattle.zf_header.proofs.reading.read.Goals as goal
 
 found : (bytes : List ℕ) (r : Result (Header × ℕ) HeaderFault) → result_err r ≡ header_fault bytes → IfOk r (λ f. f.0 ≡ header_in (to_bits bytes)) → IfOk r (λ f. BeginsWith bytes f.0)
@@ -21,9 +20,9 @@ within : (bytes : List ℕ) (r : Result (Header × ℕ) HeaderFault) → IfOk r 
 within bytes (Ok f) begins len = omega (arith, len, begins_within bytes f.0 begins)
 within bytes (Err e) begins len = tt
 
-writable : (bytes : List ℕ) (r : Result (Header × ℕ) HeaderFault) → IfOk r (λ f. f.0 ≡ header_in (to_bits bytes)) → IfOk r (λ f. IsWritable f.0)
-writable bytes (Ok f) header = subst IsWritable (sym header) (header_in-writable (to_bits bytes))
-writable bytes (Err e) header = tt
+taken : (bytes : List ℕ) (r : Result (Header × ℕ) HeaderFault) → result_err r ≡ header_fault bytes → IfOk r (λ f. f.0 ≡ header_in (to_bits bytes)) → IfOk r (λ f. IsTaken f.0.mode)
+taken bytes (Ok f) fault header = subst (λ h. IsTaken h.mode) (sym header) (read_is_taken bytes (good bytes fault))
+taken bytes (Err e) fault header = tt
 
 only : (bytes : List ℕ) (r : Result (Header × ℕ) HeaderFault) (h : Header) → result_err r ≡ header_fault bytes → IfOk r (λ f. f.0 ≡ header_in (to_bits bytes)) → IfOk r (λ f. f.1 ≡ length (header_bits f.0)) → (None ≡ header_fault bytes) × (header_in (to_bits bytes) ≡ h) → r ≡ Ok (h, length (header_bits h))
 only bytes (Ok f) h fault header len read = let e : f.0 ≡ h = header ∙ read.1 in ap (λ n. Ok (f.0, n)) len ∙ ap (λ g. Ok (g, length (header_bits g))) e
@@ -36,9 +35,9 @@ pub returns-clause-within : goal.returns-clause-within
 returns-clause-within c =
     within c.args.bytes.now c.fields.result (found c.args.bytes.now c.fields.result c.fields.ensures.fault c.fields.ensures.header) c.fields.ensures.len
 
-pub returns-clause-writable : goal.returns-clause-writable
-returns-clause-writable c = writable c.args.bytes.now c.fields.result c.fields.ensures.header
+pub returns-clause-taken : goal.returns-clause-taken
+returns-clause-taken c = taken c.args.bytes.now c.fields.result c.fields.ensures.fault c.fields.ensures.header
 
 pub returns-clause-only : goal.returns-clause-only
-returns-clause-only c h is begins =
-    only c.args.bytes.now c.fields.result h c.fields.ensures.fault c.fields.ensures.header c.fields.ensures.len (spelled_is_read c.args.bytes.now h is begins)
+returns-clause-only c h is taken_mode begins =
+    only c.args.bytes.now c.fields.result h c.fields.ensures.fault c.fields.ensures.header c.fields.ensures.len (spelled_is_good c.args.bytes.now h is taken_mode begins, spelled_is_read c.args.bytes.now h is begins)

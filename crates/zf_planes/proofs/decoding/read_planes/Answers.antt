@@ -9,8 +9,9 @@ use Rattle.zf_planes.specs.Decoding.{Takes, plane_ahead, plane_bits, planes_ahea
 use Rattle.zf_planes.proofs.Filling.{behind_next}
 use Rattle.zf_planes.proofs.Passing.{Passes, Passes-start, Passes-part, Passes-end, Passes-lacks, Takes-rest, if_none}
 use Rattle.zf_planes.proofs.PlanesAhead.{next_plane, plane_bits-le, planes_ahead-none, planes_bits-none}
-use Rattle.zf_planes.proofs.Unpacking.{length-planes_held, planes_held-set, blank, planes_held-blank, IsClearFrom-blank}
+use Rattle.zf_planes.proofs.Unpacking.{planes_held-set, blank, planes_held-blank, IsClearFrom-blank}
 use Rattle.zf_planes.proofs.decoding.read_planes.Goals as goal
+use Rattle.zf_spec.proofs.HeldPlanes.{length-planes_held}
 
 -- ---- no plane is read
 

@@ -4,8 +4,8 @@ use Rattle.zf_spec.specs.Planes.{has_one, needed_planes}
 use Rattle.zf_spec.proofs.Reach.{used_only}
 use Rattle.zf_spec.specs.HeldPlanes.{digits_held, planes_held}
 use Rattle.zf_planes.proofs.Runs.{has_one-drop, has_one-drop_none}
-use Rattle.zf_planes.proofs.Unpacking.{get_or-planes_held, get_or-planes_held_past}
 use Rattle.zf_planes.proofs.plane.count_used.Goals as goal
+use Rattle.zf_spec.proofs.HeldPlanes.{get_or-planes_held, get_or-planes_held_past}
 
 HasNoneBelow : ℕ → List (List ℕ) → ℕ → Type 0
 HasNoneBelow size planes k = (i : ℕ) → i < k → has_one (digits_held size (get_or planes i [])) ≡ false

@@ -1,7 +1,7 @@
 use Rattle.std.proofs.Common.{sym, ◌∙◌, arith}
 use Rattle.std.proofs.lemmas.List.{take_more_set}
-use Rattle.zf_planes.proofs.Unpacking.{digits_held-none, digits_held-more}
 use Rattle.zf_planes.proofs.plane.unpack.Goals as goal
+use Rattle.zf_spec.proofs.HeldPlanes.{digits_held-none, digits_held-more}
 
 pub loop-r-init : goal.loop-r-init
 loop-r-init c = sym (digits_held-none c.args.plane.now)

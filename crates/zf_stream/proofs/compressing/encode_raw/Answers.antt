@@ -6,8 +6,8 @@ use Rattle.zf_spec.specs.Grid.{product}
 use Rattle.zf_spec.specs.Stream.{values_from, stream, stream_of_bytes}
 use Rattle.zf_header.specs.HeaderBits.{coding}
 use Rattle.zf_stream.specs.Raw.{stream_text}
-use Rattle.zf_stream.proofs.LittleEndian.{length-values_from}
 use Rattle.zf_stream.proofs.compressing.encode_raw.Goals as goal
+use Rattle.zf_spec.proofs.RawValues.{length-values_from}
 
 pub stream_of-requires-clause-all : goal.stream_of-requires-clause-all
 stream_of-requires-clause-all g c =

@@ -1,11 +1,11 @@
-use Rattle.zf_stream.proofs.StreamsBack.{header_of-stream_of, parse-reversible, parse-rate}
+use Rattle.zf_stream.proofs.StreamsBack.{header_of-stream_of, said-reversible, said-rate}
 use Rattle.zf_stream.proofs.laws.a_stream_is_parsed.Goals as goal
 
 pub returns-clause-header : goal.returns-clause-header
 returns-clause-header c h values is_header = header_of-stream_of h values is_header
 
 pub returns-clause-reversible : goal.returns-clause-reversible
-returns-clause-reversible c h values is_header mode long fits = parse-reversible h values is_header mode long fits
+returns-clause-reversible c h values is_header mode long fits = (said-reversible h values is_header mode long fits).1
 
 pub returns-clause-rate : goal.returns-clause-rate
-returns-clause-rate c h values budget is_header mode = parse-rate h values budget is_header mode
+returns-clause-rate c h values budget is_header mode = (said-rate h values is_header budget mode).1

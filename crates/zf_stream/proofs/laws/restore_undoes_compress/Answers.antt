@@ -2,7 +2,7 @@ use Rattle.zf_stream.proofs.StreamsBack.{answer-stream_text, text-reversible_tex
 use Rattle.zf_stream.proofs.laws.restore_undoes_compress.Goals as goal
 
 pub returns-clause-answer : goal.returns-clause-answer
-returns-clause-answer c h bytes is_header = answer-stream_text h bytes is_header
+returns-clause-answer c h bytes is_header taken = answer-stream_text h bytes is_header taken
 
 pub returns-clause-reversible : goal.returns-clause-reversible
 returns-clause-reversible c h bytes is_header mode long small = text-reversible_text h bytes is_header mode long small

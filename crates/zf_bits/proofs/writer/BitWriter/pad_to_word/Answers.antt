@@ -1,7 +1,8 @@
 use Rattle.std.proofs.Common.{◌-◌, ◌%◌, length, arith}
 use Rattle.zf_spec.proofs.Fields.{field-zero}
-use Rattle.zf_bits.proofs.Appending.{Appends-same, length-Appends, fill_whole, fill_short}
+use Rattle.zf_bits.proofs.Appending.{Appends-same, length-Appends}
 use Rattle.zf_bits.proofs.writer.BitWriter.pad_to_word.Goals as goal
+use Rattle.zf_spec.proofs.Bytes.{fill_whole, fill_short}
 
 pub returns-clause-bits : goal.returns-clause-bits
 returns-clause-bits c =

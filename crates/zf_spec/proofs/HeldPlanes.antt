@@ -1,0 +1,39 @@
+-- The digits that planes hold in words.
+use Rattle.std.proofs.Common.{◌≡◌, ℕ, ◌+◌, ◌-◌, ◌*◌, ◌/◌, ◌%◌, ◌^◌, ◌<◌, ◌≤◌, Bool, false, List, [], ◌∷◌, ◌++◌, length, take, get_or, reverse, refl, ap, ◌∙◌, arith}
+use Rattle.std.proofs.lemmas.List.{take_more, get_or-map, get_or-reverse, length-take, length-map, length-reverse, get_or_past}
+use Rattle.zf_spec.specs.Numbers.{is_odd, word_bits}
+use Rattle.zf_spec.specs.HeldPlanes.{digits_held, planes_held}
+use Rattle.zf_spec.proofs.WordBits.{length-word_bits, get_or-word_bits}
+
+-- ---- the digits of one plane
+
+pub digits_held-none : (vs : List ℕ) → digits_held 0 vs ≡ []
+unfolding digits_held
+digits_held-none vs = refl
+
+pub digits_held-more : (r : ℕ) (vs : List ℕ) → r < 64 * length vs → digits_held (r + 1) vs ≡ digits_held r vs ++ is_odd (get_or vs (r / 64) 0 / 2 ^ (r % 64)) ∷ []
+unfolding digits_held
+digits_held-more r vs below =
+    take_more (word_bits vs) r false (omega (arith, length-word_bits vs))
+    ∙ ap (λ b. take r (word_bits vs) ++ b ∷ []) (get_or-word_bits vs r below)
+
+pub length-digits_held : (n : ℕ) (vs : List ℕ) → n ≤ 64 * length vs → length (digits_held n vs) ≡ n
+unfolding digits_held
+length-digits_held n vs within = omega (arith, length-take n (word_bits vs), length-word_bits vs)
+
+-- ---- planes, the greatest first
+
+pub length-planes_held : (size : ℕ) (planes : List (List ℕ)) → length (planes_held size planes) ≡ length planes
+unfolding planes_held
+length-planes_held size planes = length-map (reverse planes) (digits_held size) ∙ length-reverse planes
+
+-- the i-th plane from the top
+pub get_or-planes_held : (size : ℕ) (planes : List (List ℕ)) (i : ℕ) (d : List Bool) → i < length planes
+    → get_or (planes_held size planes) i d ≡ digits_held size (get_or planes (length planes - 1 - i) [])
+unfolding planes_held
+get_or-planes_held size planes i d below =
+    get_or-map (digits_held size) (reverse planes) i [] d (omega (arith, length-reverse planes))
+    ∙ ap (digits_held size) (get_or-reverse planes i [] below)
+
+pub get_or-planes_held_past : (size : ℕ) (planes : List (List ℕ)) (i : ℕ) → length planes ≤ i → get_or (planes_held size planes) i [] ≡ []
+get_or-planes_held_past size planes i past = get_or_past (planes_held size planes) i [] (omega (arith, length-planes_held size planes))
