@@ -1,6 +1,7 @@
 //! The types of values, positions, and the shape of an array with its blocks.
 #![tactic(auto)]
 
+mod block;
 mod lane;
 pub mod laws;
 mod position;
@@ -8,6 +9,7 @@ mod shape;
 #[cfg(test)]
 mod tests;
 
+pub use block::block_len;
 pub use lane::{Lane, Ty};
 pub use position::{Extent, Pos};
 pub use shape::{Shape, ShapeFault};

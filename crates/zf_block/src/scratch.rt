@@ -4,21 +4,7 @@ ghost use Rattle.std.specs.Prelude.{◌≡◌, ◌≤◌, ◌^◌, IfOk};
 
 use std::alloc::{AllocError, Global};
 use std::marker::Model;
-use zf_base::Lane;
-
-/// The number of places of a block of `d` dimensions.
-pub(crate) fn block_len(d: u8) -> usize
-    requires some { 1 ≤ d }
-    requires four_at_most { d ≤ 4 }
-    ensures { result ≡ 4 ^ d }
-{
-    match d {
-        1 => 4,
-        2 => 16,
-        3 => 64,
-        _ => 256,
-    }
-}
+use zf_base::{Lane, block_len};
 
 /// Work room for one block of a number of dimensions, which is all that contracts see of it.
 #[derive(Drop)]

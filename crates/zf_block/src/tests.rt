@@ -253,7 +253,7 @@ fn is_as_in<T: Lane>(rt: &impl Abort, alloc: Global, row: &Row) -> Result<(), Fa
     assert!(rt; 1 <= row.dims && row.dims <= 4);
     let [x, y, z, w] = row.sizes;
     let shape = Shape::new(row.dims, x, y, z, w).ok().ok_or("a shape")?;
-    let size = scratch::block_len(shape.dims());
+    let size = zf_base::block_len(shape.dims());
     let mut block = vec![in alloc; T::zero(); size]?;
     codes_are(rt, alloc, &shape, row, &mut block)
 }

@@ -23,6 +23,7 @@ pub fn read(bytes: &[u8]) -> Result<(Header, u32), HeaderFault>
     ensures found { IfOk result (λ found. BeginsWith bytes.now found.0) }
     ensures len { IfOk result (λ found. found.1 ≡ length (header_bits found.0)) }
     ensures within { IfOk result (λ found. found.1 ≤ 8 * length bytes.now) }
+    ensures header { IfOk result (λ found. IsHeader found.0) }
     ensures taken { IfOk result (λ found. IsTaken found.0.mode) }
     // What stands there is read.
     ensures only { (h : Header) → IsHeader h → IsTaken h.mode → BeginsWith bytes.now h

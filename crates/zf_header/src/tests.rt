@@ -14,6 +14,7 @@ fn has_number(m: &Mode) -> bool
     match *m {
         Mode::Reversible => true,
         Mode::Rate(rate) => 1 <= rate && rate <= MAX_RATE,
+        Mode::Precision(precision) => 1 <= precision && precision <= MAX_PRECISION,
     }
 }
 
@@ -21,7 +22,7 @@ fn is_rate(m: &Mode) -> bool
     ensures { IsTrue result → IsRate m.now }
 {
     match *m {
-        Mode::Reversible => false,
+        Mode::Reversible | Mode::Precision(_) => false,
         Mode::Rate(rate) => 1 <= rate && rate <= MAX_RATE,
     }
 }
@@ -118,6 +119,35 @@ fn headers_are_written_and_read(rt: HostRuntime) -> Result<(), Fail> {
             assert_eq!(rt; out.bit(at), (byte >> (at % 8)) % 2 == 1, "bit {at}");
         }
         assert_eq!(rt; read(bytes), Ok((header, bits)));
+    }
+    Ok(())
+}
+
+#[test]
+fn precisions_are_written_and_not_read_yet(rt: HostRuntime) -> Result<(), Fail> {
+    // an array of four values of int32, its precision, the mode's number, and the last two of the twelve bytes
+    let rows = [(1, 2048, 0x00, 0x80), (32, 2079, 0xf0, 0x81), (128, 2175, 0xf0, 0x87)];
+    let mut out = BitWriter::new(rt.alloc());
+    for (precision, number, tenth, eleventh) in rows {
+        let shape = Shape::new(1, 4, 0, 0, 0).ok().ok_or("a shape")?;
+        let mode = Mode::Precision(precision);
+        let header = Header {
+            ty: Ty::I32,
+            shape,
+            mode,
+        };
+        assert!(rt; has_number(&mode));
+        assert_eq!(rt; mode_number(&mode), number);
+        out.clear();
+        out.reserve(u64::from(LONG_HEADER_BITS))?;
+        write(&header, &mut out);
+        assert_eq!(rt; out.len(), 96);
+        let bytes = [0x7a, 0x66, 0x70, 0x05, 0x30, 0, 0, 0, 0, 0, tenth, eleventh];
+        for at in 0..out.len() {
+            let byte = bytes.get(at as usize / 8).copied().ok_or("a byte")?;
+            assert_eq!(rt; out.bit(at), (byte >> (at % 8)) % 2 == 1, "bit {at}");
+        }
+        assert_eq!(rt; read(&bytes).err(), Some(HeaderFault::Mode(number)));
     }
     Ok(())
 }

@@ -1,6 +1,6 @@
 //! The transform of a block: a pass along each axis.
 
-ghost use Rattle.std.specs.Prelude.{◌≡◌, ◌≤◌, ◌^◌, map, length};
+ghost use Rattle.std.specs.Prelude.{◌≡◌, ◌≤◌, ◌^◌, map, length, FitsSigned, All};
 ghost use Rattle.zf_spec.specs.Lorenzo.{lorenzo, unlorenzo};
 
 use crate::line::{Differences, Sums};
@@ -10,12 +10,14 @@ use zf_base::Lane;
 /// Makes the coefficients of a block: the block becomes its signed binomial sums, wrapped.
 ///
 /// `block` has `4^d` values, x fastest, each of which has been given a value (a partial block is padded first).
-/// The reversible transform of the zfp 1.0 documentation, algorithm.
+/// The reversible transform of the zfp 1.0 documentation, chapter Algorithm.
 pub fn forward<T: Lane>(d: u8, block: &mut [T])
     requires some { 1 ≤ d }
     requires four_at_most { d ≤ 4 }
     requires size { length block.old ≡ 4 ^ d }
-    ensures { map T.value block.new ≡ lorenzo T.width d (map T.value block.old) }
+    ensures sums { map T.value block.new ≡ lorenzo T.width d (map T.value block.old) }
+    ensures undone { All (λ v. FitsSigned T.width v) (map T.value block.old)
+        → unlorenzo T.width d (map T.value block.new) ≡ map T.value block.old }
 {
     passes(&Differences, d, block);
 }

@@ -1,11 +1,11 @@
 -- The blocks of an array of raw values: what a gather takes, and what a scatter leaves.
 use Rattle.std.proofs.Common.{◌≡◌, ◌≢◌, ℕ, zero, suc, ◌+◌, ◌*◌, ◌/◌, ◌^◌, ◌<◌, ◌≤◌, Bool, true, false, cond, ℤ, pos, List, [], ◌∷◌, length, get_or, map, All, refl, ap, sym, subst, ◌∙◌, arith, ext_get_or}
 use Rattle.std.proofs.lemmas.List.{length-map}
-use Rattle.zf_spec.specs.Grid.{product, grid, blocks, places, coordinates, raster, is_inside, indices, extents, extent_of, position_in, value_at, block_of}
+use Rattle.zf_spec.specs.Grid.{IsShape, product, grid, blocks, places, coordinates, raster, is_inside, indices, extents, extent_of, position_in, value_at, block_of}
 use Rattle.zf_spec.specs.Padding.{pad}
 use Rattle.zf_spec.specs.Codes.{existing_values}
 use Rattle.zf_spec.proofs.Counting.{map-upto_same, get_or-map-upto}
-use Rattle.zf_spec.proofs.Padding.{IsExtent as IsSize, existing_values-existing_values, pad_same}
+use Rattle.zf_spec.proofs.Padding.{IsExtent as IsSize, existing_values-existing_values, pad-existing_values, pad_same}
 use Rattle.zf_base.specs.declared.position.Extent.{Extent}
 use Rattle.zf_base.specs.Positions.{axes, used_axes, with_unused, IsExtent}
 use Rattle.zf_base.specs.Places.{IsAt, block_number, place_of}
@@ -190,3 +190,18 @@ values_from_blocks ns u v long as_long same =
     let at = IsAt-position ns ps (length-coordinates ns i) (is_inside-coordinates ns i small) in
     let number = raster-coordinates ns i small in
     ap (λ k. get_or u k (pos 0)) (sym number) ∙ sym (value_of_block ns u ps b p at) ∙ ap (λ block. get_or block p (pos 0)) (same b at.block_in_array) ∙ value_of_block ns v ps b p at ∙ ap (λ k. get_or v k (pos 0)) number)
+
+-- ---- the extents of a block are 1 to 4
+
+pub all_extents : (ns : List ℕ) (b : ℕ) → IsShape ns → b < blocks ns → All IsSize (extent_of ns b)
+all_extents ns b shape lt =
+    let size = with_unused 1 (extent_of ns b) in
+    let origin = with_unused 0 [] in
+    let is_extent = IsExtent-of_block ns b size shape refl origin lt in
+    subst (λ s. All IsSize s) (used_size ns b size shape refl) (used_sizes (length ns) (record { origin = origin; size = size }) shape.four_at_most is_extent)
+
+-- so a block that has the values that exist is padded alike
+pub padded_same : (ns : List ℕ) (b : ℕ) (gathered block : List ℤ) → IsShape ns → b < blocks ns → existing_values (extent_of ns b) gathered ≡ block → pad (extent_of ns b) gathered ≡ pad (extent_of ns b) block
+padded_same ns b gathered block shape lt e =
+    let es = extent_of ns b in
+    sym (pad-existing_values es gathered (all_extents ns b shape lt)) ∙ ap (pad es) e

@@ -8,15 +8,6 @@ use Rattle.zf_base.specs.Positions.{axes, used_axes, IsExtent}
 use Rattle.zf_base.proofs.Sizes.{all_axes, axes-with_unused}
 use Rattle.zf_base.proofs.Extents.{length-used_axes}
 
--- how many places a block has
-pub places_count : (d : ℕ) → d ≤ 4 → 1 * 2 ^ (2 * d) % 18446744073709551616 ≡ 4 ^ d
-places_count zero h = refl
-places_count (suc zero) h = refl
-places_count (suc (suc zero)) h = refl
-places_count (suc (suc (suc zero))) h = refl
-places_count (suc (suc (suc (suc zero)))) h = refl
-places_count (suc (suc (suc (suc (suc d))))) h = absurd (omega arith)
-
 all_sizes : (ns : List ℕ) → AllByRecursion (λ n. 1 ≤ n) ns → AllByRecursion (λ n. n ≤ 4) ns → All IsSize ns
 all_sizes [] some four = All-nil IsSize
 all_sizes (n ∷ ns) some four = All-cons IsSize n ns (some.0, four.0) (all_sizes ns some.1 four.1)

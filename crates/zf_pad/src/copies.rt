@@ -7,8 +7,7 @@ ghost use Rattle.zf_pad.specs.Layouts.{place_indices, LiesWithin, IsOneToOne};
 ghost use Rattle.zf_pad.specs.Copies.{IsGathered, IsScattered};
 
 use crate::layout::Layout;
-use crate::padding::places;
-use zf_base::{Extent, Lane, Pos};
+use zf_base::{Extent, Lane, Pos, block_len};
 
 /// Copies the values at the positions of the extent `e`, which stand where `layout` puts them, into a block of `d` dimensions.
 ///
@@ -22,7 +21,7 @@ pub fn gather<T: Lane>(layout: &Layout, e: &Extent, d: u8, values: &[T], block: 
         (map T.value values.now) (map T.value block.old) (map T.value block.new) }
 {
     let from_origin = layout.counted_from(&e.origin);
-    for place in 0..places(d) {
+    for place in 0..block_len(d) {
         let at = indices(place);
         if is_inside(&e.size, &at) {
             block[place] = values[from_origin.index(&at) as usize];
@@ -43,7 +42,7 @@ pub fn scatter<T: Lane>(layout: &Layout, e: &Extent, d: u8, block: &[T], values:
         (map T.value block.now) (map T.value values.old) (map T.value values.new) }
 {
     let from_origin = layout.counted_from(&e.origin);
-    for place in 0..places(d) {
+    for place in 0..block_len(d) {
         let at = indices(place);
         if is_inside(&e.size, &at) {
             values[from_origin.index(&at) as usize] = block[place];

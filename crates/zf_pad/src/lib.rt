@@ -1,6 +1,7 @@
-//! Copies between a list of values and a block, and the padding of partial blocks.
+//! Copies between the values of an array and a block, and the padding of partial blocks.
 #![tactic(auto)]
 
+mod array_block;
 mod copies;
 pub mod laws;
 mod layout;
@@ -8,6 +9,7 @@ mod padding;
 #[cfg(test)]
 mod tests;
 
+pub use array_block::{gather_block, scatter_block};
 pub use copies::{gather, scatter};
 pub use layout::Layout;
-pub use padding::{pad, places};
+pub use padding::pad;

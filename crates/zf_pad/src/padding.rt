@@ -1,11 +1,11 @@
-//! Padding: a partial block becomes a whole one (zfp 1.0 documentation, algorithm: partial blocks).
+//! Padding: a partial block becomes a whole one (zfp 1.0 documentation, chapter Algorithm).
 
 ghost use Rattle.std.specs.Prelude.{◌≡◌, ◌^◌, ◌<◌, ◌≤◌, length, map, slice_index_or};
 ghost use Rattle.std.specs.List.{AllByRecursion};
 ghost use Rattle.zf_spec.specs.Padding.{sources, source_place, pad};
 ghost use Rattle.zf_base.specs.Positions.{axes, used_axes, IsExtent};
 
-use zf_base::{Extent, Lane, Pos};
+use zf_base::{Extent, Lane, Pos, block_len};
 
 // Which of its n values each of the four values of a line is, for n from 1 to 4: a a a a, a b b a, a b c a, a b c d.
 const SOURCES: [[usize; 4]; 4] = [[0, 0, 0, 0], [0, 1, 1, 0], [0, 1, 2, 0], [0, 1, 2, 3]];
@@ -21,18 +21,9 @@ pub fn pad<T: Lane>(e: &Extent, d: u8, block: &mut [T])
     ensures { map T.value block.new ≡ pad (used_axes d e.now.size) (map T.value block.old) }
 {
     // A source exists, so it is its own source, and its value still stands there.
-    for place in 0..places(d) {
+    for place in 0..block_len(d) {
         block[place] = block[source_place(&e.size, place)];
     }
-}
-
-/// The number of places of a block of `d` dimensions, `4^d`.
-pub fn places(d: u8) -> usize
-    requires { d ≤ 4 }
-    ensures value { result ≡ 4 ^ d }
-    ensures bound { result ≤ 256 }
-{
-    1 << (2 * d)
 }
 
 // The place that a padded place is taken from, along each axis by the line's rule.

@@ -1,9 +1,7 @@
 //! Values from a program that was written from the definitions alone.
 
-ghost use Rattle.std.specs.Prelude.{◌≡◌, ◌<◌, ◌^◌, length, map};
-ghost use Rattle.zf_spec.specs.Grid.{product, blocks, extent_of, block_of};
-ghost use Rattle.zf_spec.specs.Padding.{pad};
-ghost use Rattle.zf_spec.specs.Codes.{existing_values};
+ghost use Rattle.std.specs.Prelude.{◌≡◌, ◌<◌, ◌^◌, length};
+ghost use Rattle.zf_spec.specs.Grid.{product, blocks};
 
 use super::*;
 use std::test::Fail;
@@ -14,24 +12,9 @@ fn read_block<T: Lane>(shape: &Shape, b: u64, values: &[T], block: &mut [T])
     requires in_array { b < blocks shape.now }
     requires all { length values.now ≡ product shape.now }
     requires whole { length block.old ≡ 4 ^ length shape.now }
-    ensures { map T.value block.new
-        ≡ pad (extent_of shape.now b) (block_of shape.now (map T.value values.now) b) }
 {
-    let e = shape.extent(b);
-    gather(&Layout::raster(shape), &e, shape.dims(), values, block);
+    let e = gather_block(shape, b, values, block);
     pad(&e, shape.dims(), block);
-}
-
-// Writes block `b` of the values of an array.
-fn write_block<T: Lane>(shape: &Shape, b: u64, block: &[T], values: &mut [T])
-    requires in_array { b < blocks shape.now }
-    requires all { length values.old ≡ product shape.now }
-    requires whole { length block.now ≡ 4 ^ length shape.now }
-    ensures { block_of shape.now (map T.value values.new) b
-        ≡ existing_values (extent_of shape.now b) (map T.value block.now) }
-{
-    let e = shape.extent(b);
-    scatter(&Layout::raster(shape), &e, shape.dims(), block, values);
 }
 
 // A number that tells lists of values apart.
@@ -58,7 +41,7 @@ fn read_and_write<T: Lane>(shape: &Shape, b: u64, values: &mut [T], block: &mut 
     for value in values.iter_mut() {
         *value = T::zero();
     }
-    write_block(shape, b, block, values);
+    scatter_block(shape, b, block, values);
     (fingerprint(block), fingerprint(values))
 }
 

@@ -9,27 +9,16 @@ use Rattle.zf_spec.specs.Grid.{IsShape, grid, blocks, coordinates, raster, is_in
 use Rattle.zf_spec.specs.Codes.{existing_values, rev, rate, round, read_rate}
 use Rattle.zf_spec.proofs.Wrapping.{zero_fits}
 use Rattle.zf_spec.proofs.Counting.{length-map-upto, get_or-map-upto, from_places}
-use Rattle.zf_spec.proofs.Padding.{IsExtent as IsSize, length-existing_values, get_or-existing_values, get_or_all}
+use Rattle.zf_spec.proofs.Padding.{length-existing_values, get_or-existing_values, get_or_all}
 use Rattle.zf_spec.proofs.BlockReading.{read_rev-rev, read_rate-rate, length-rate}
 use Rattle.zf_base.specs.declared.lane.Ty.{Ty}
 use Rattle.zf_base.specs.declared.lane.Ty.TheVariants.{I32, I64}
 use Rattle.zf_base.specs.Widths.{width_of}
-use Rattle.zf_base.specs.Positions.{with_unused}
-use Rattle.zf_base.proofs.Extents.{IsExtent-of_block, used_size}
-use Rattle.zf_pad.proofs.Sizes.{used_sizes}
-use Rattle.zf_pad.proofs.Blocks.{length-extent_of}
+use Rattle.zf_pad.proofs.Blocks.{length-extent_of, all_extents}
 use Rattle.zf_header.specs.declared.header.Mode.TheVariants.{Reversible, Rate}
 use Rattle.zf_stream.specs.Parsing.{read_code}
 
 -- ---- a block of an array
-
--- its extents are 1 to 4
-all_extents : (ns : List ℕ) (b : ℕ) → IsShape ns → b < blocks ns → All IsSize (extent_of ns b)
-all_extents ns b shape lt =
-    let size = with_unused 1 (extent_of ns b) in
-    let origin = with_unused 0 [] in
-    let is_extent = IsExtent-of_block ns b size shape refl origin lt in
-    subst (λ s. All IsSize s) (used_size ns b size shape refl) (used_sizes (length ns) (record { origin = origin; size = size }) shape.four_at_most is_extent)
 
 -- its values are of the type
 block_fits : (w : Width) (ns : List ℕ) (values : List ℤ) (b : ℕ) → All (λ v. FitsSigned w v) values → All (λ v. FitsSigned w v) (block_of ns values b)

@@ -14,10 +14,9 @@ ghost use Rattle.zf_stream.specs.declared.fault.StreamFault.TheVariants.{Memory,
 
 use crate::StreamFault;
 use std::alloc::Global;
-use zf_base::Lane;
+use zf_base::{Lane, block_len};
 use zf_bits::{BitReader, words_of_bytes};
 use zf_header::{Header, Mode};
-use zf_pad::Layout;
 
 /// The values of the stream that these bytes are.
 pub(crate) fn values_in<T: Lane>(
@@ -98,7 +97,7 @@ fn read_blocks<T: Lane>(
     ensures len { IfOk result (λ values. length values.items ≡ product h.now.shape) }
     ensures err { IfErr result (λ e. IsCutAt h.now (rest reader.old) e ⊎ (e ≡ Memory)) }
 {
-    let places = zf_pad::places(h.shape.dims());
+    let places = block_len(h.shape.dims());
     let mut block = vec![in alloc; T::zero(); places].map_err(|_| StreamFault::Memory)?;
     let count = h.shape.values() as usize;
     let mut values = vec![in alloc; T::zero(); count].map_err(|_| StreamFault::Memory)?;
@@ -146,8 +145,7 @@ fn read_block<T: Lane>(
     let Some(()) = read_code(h, reader, block) else {
         return Err(StreamFault::Truncated(b));
     };
-    let e = h.shape.extent(b);
-    zf_pad::scatter(&Layout::raster(&h.shape), &e, h.shape.dims(), block, values);
+    zf_pad::scatter_block(&h.shape, b, block, values);
     Ok(())
 }
 

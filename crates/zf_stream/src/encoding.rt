@@ -9,11 +9,10 @@ ghost use Rattle.zf_header.specs.HeaderBits.{IsTaken, coding};
 
 use crate::packing::bytes_of;
 use std::alloc::{AllocError, Global};
-use zf_base::Lane;
+use zf_base::{Lane, block_len};
 use zf_bits::BitWriter;
 use zf_block::Scratch;
-use zf_header::{LONG_HEADER_BITS, Header, Mode};
-use zf_pad::Layout;
+use zf_header::{Header, LONG_HEADER_BITS, Mode};
 
 /// The stream of an array's values, x fastest.
 pub(crate) fn stream_of<T: Lane>(
@@ -48,7 +47,7 @@ fn write_codes<T: Lane>(
         ≡ out.old.bits ++ flat_map (λ c. c) (codes T.width h.now.shape (coding h.now.mode) (map T.value values.now))) }
 {
     let mut s = Scratch::new(alloc, h.shape.dims())?;
-    let mut block = vec![in alloc; T::zero(); zf_pad::places(h.shape.dims())]?;
+    let mut block = vec![in alloc; T::zero(); block_len(h.shape.dims())]?;
     for b in 0..h.shape.blocks() {
         write_code(h, values, b, &mut block, &mut s, out)?;
     }
@@ -74,8 +73,7 @@ fn write_code<T: Lane>(
     ensures scratch { s.new ≡ length h.now.shape }
 {
     let d = h.shape.dims();
-    let e = h.shape.extent(b);
-    zf_pad::gather(&Layout::raster(&h.shape), &e, d, values, block);
+    let e = zf_pad::gather_block(&h.shape, b, values, block);
     match h.mode {
         Mode::Reversible => zf_block::encode_rev(d, &e, block, s, out),
         Mode::Rate(bits) => {

@@ -4,11 +4,11 @@ use Rattle.std.specs.Result.{IfOk, result_err}
 use Rattle.zf_spec.specs.Stream.{to_bits}
 use Rattle.zf_header.specs.declared.header.Header.{Header}
 use Rattle.zf_header.specs.declared.header.HeaderFault.{HeaderFault}
-use Rattle.zf_header.specs.HeaderBits.{IsTaken, BeginsWith, header_bits}
+use Rattle.zf_header.specs.HeaderBits.{IsTaken, IsHeader, BeginsWith, header_bits}
 use Rattle.zf_header.specs.HeaderFields.{header_in}
 use Rattle.zf_header.specs.HeaderFaults.{header_fault}
 use Rattle.zf_header.proofs.Good.{good}
-use Rattle.zf_header.proofs.Found.{read_is_spelled, read_is_taken, begins_within}
+use Rattle.zf_header.proofs.Found.{read_is_spelled, read_is_header, read_is_taken, begins_within}
 use Rattle.zf_header.proofs.Spelled.{spelled_is_read, spelled_is_good}
 use Rattle.zf_header.proofs.reading.read.Goals as goal
 
@@ -24,6 +24,10 @@ taken : (bytes : List ℕ) (r : Result (Header × ℕ) HeaderFault) → result_e
 taken bytes (Ok f) fault header = subst (λ h. IsTaken h.mode) (sym header) (read_is_taken bytes (good bytes fault))
 taken bytes (Err e) fault header = tt
 
+is_header : (bytes : List ℕ) (r : Result (Header × ℕ) HeaderFault) → result_err r ≡ header_fault bytes → IfOk r (λ f. f.0 ≡ header_in (to_bits bytes)) → IfOk r (λ f. IsHeader f.0)
+is_header bytes (Ok f) fault header = subst IsHeader (sym header) (read_is_header bytes (good bytes fault))
+is_header bytes (Err e) fault header = tt
+
 only : (bytes : List ℕ) (r : Result (Header × ℕ) HeaderFault) (h : Header) → result_err r ≡ header_fault bytes → IfOk r (λ f. f.0 ≡ header_in (to_bits bytes)) → IfOk r (λ f. f.1 ≡ length (header_bits f.0)) → (None ≡ header_fault bytes) × (header_in (to_bits bytes) ≡ h) → r ≡ Ok (h, length (header_bits h))
 only bytes (Ok f) h fault header len read = let e : f.0 ≡ h = header ∙ read.1 in ap (λ n. Ok (f.0, n)) len ∙ ap (λ g. Ok (g, length (header_bits g))) e
 only bytes (Err e) h fault header len read = absurd cc
@@ -34,6 +38,9 @@ returns-clause-found c = found c.args.bytes.now c.fields.result c.fields.ensures
 pub returns-clause-within : goal.returns-clause-within
 returns-clause-within c =
     within c.args.bytes.now c.fields.result (found c.args.bytes.now c.fields.result c.fields.ensures.fault c.fields.ensures.header) c.fields.ensures.len
+
+pub returns-clause-header : goal.returns-clause-header
+returns-clause-header c = is_header c.args.bytes.now c.fields.result c.fields.ensures.fault c.fields.ensures.header
 
 pub returns-clause-taken : goal.returns-clause-taken
 returns-clause-taken c = taken c.args.bytes.now c.fields.result c.fields.ensures.fault c.fields.ensures.header

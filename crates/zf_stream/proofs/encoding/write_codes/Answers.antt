@@ -12,7 +12,7 @@ loop-b-init g c =
     record {
       codes = sym (append-nil c.args.out.now.bits);
       scratch = c.in_ok-s.ensures ∙ c.dims.ensures.value;
-      whole = c.in_ok-block.ensures.len ∙ c.places.ensures.value ∙ ap (λ d. 4 ^ d) c.dims-2.ensures.value;
+      whole = c.in_ok-block.ensures.len ∙ c.block_len.ensures.value ∙ ap (λ d. 4 ^ d) c.dims-2.ensures.value;
     }
 
 pub write_code-requires : goal.write_code-requires

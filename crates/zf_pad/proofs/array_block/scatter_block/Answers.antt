@@ -1,7 +1,7 @@
 use Rattle.std.proofs.Common.{arith}
 use Rattle.zf_pad.specs.Rasters.{IsRasterBlock}
-use Rattle.zf_pad.proofs.Blocks.{lies_within, one_to_one, scattered_block}
-use Rattle.zf_pad.proofs.tests.write_block.Goals as goal
+use Rattle.zf_pad.proofs.Blocks.{lies_within, one_to_one, scattered_block, other_block}
+use Rattle.zf_pad.proofs.array_block.scatter_block.Goals as goal
 
 pub scatter-requires-clause-within : goal.scatter-requires-clause-within
 scatter-requires-clause-within g c =
@@ -34,4 +34,7 @@ returns g c =
       origin = c.extent-e.ensures.origin;
       size = c.extent-e.ensures.size;
     } in
-    scattered_block _ _ _ _ here _ _ _ c.scatter.ensures
+    record {
+      written = scattered_block _ _ _ _ here _ _ _ c.scatter.ensures;
+      others = λ a lt other. other_block _ _ _ _ here _ _ _ a c.scatter.ensures lt other;
+    }
