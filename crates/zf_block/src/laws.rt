@@ -34,6 +34,8 @@ pub fn rate_code_reads_back()
 
 /// What is read is one block: at the extent of which all places exist it is the values that exist, and bits that have a code do not lack one.
 pub fn one_block_is_read()
-    ensures whole { (d : ℕ) (block : List ℤ) → length block ≡ 4 ^ d → existing_values (fours d) block ≡ block }
-    ensures one_answer { (w : Width) (d : ℕ) (old new : Reader) (read : List ℤ) → ReadsRev w d old new read → ¬ LacksRev w d old }
+    ensures whole { (d : ℕ) (block : List ℤ) → length block ≡ 4 ^ d → existing_values (fours d) block
+        ≡ block }
+    ensures one_answer { (w : Width) (d : ℕ) (old new : Reader) (read : List ℤ) → ReadsRev w d old new read
+        → ¬ LacksRev w d old }
 {}

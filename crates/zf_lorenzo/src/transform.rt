@@ -1,6 +1,7 @@
 //! The transform of a block: a pass along each axis.
 
-ghost use Rattle.std.specs.Prelude.{◌≡◌, ◌≤◌, ◌^◌, map, length, FitsSigned, All};
+ghost use Rattle.std.specs.Prelude.{◌≡◌, ◌≤◌, ◌^◌, map, length};
+ghost use Rattle.zf_spec.specs.Numbers.{AreValues};
 ghost use Rattle.zf_spec.specs.Lorenzo.{lorenzo, unlorenzo};
 
 use crate::line::{Differences, Sums};
@@ -16,7 +17,7 @@ pub fn forward<T: Lane>(d: u8, block: &mut [T])
     requires four_at_most { d ≤ 4 }
     requires size { length block.old ≡ 4 ^ d }
     ensures sums { map T.value block.new ≡ lorenzo T.width d (map T.value block.old) }
-    ensures undone { All (λ v. FitsSigned T.width v) (map T.value block.old)
+    ensures undone { AreValues T.width (map T.value block.old)
         → unlorenzo T.width d (map T.value block.new) ≡ map T.value block.old }
 {
     passes(&Differences, d, block);

@@ -1,13 +1,17 @@
 -- Wrapped numbers and their halves, negabinary digits, and the bits of a word.
 --     A value of a type is a whole number ℤ with `FitsSigned w`, for w = w32 (int32) or w64 (int64); a word is a ℕ.
 --     A bit or a digit is a Bool, and a list of bits has its first bit first.
-use Rattle.std.specs.Prelude.{ℕ, suc, zero, ◌+◌, ◌*◌, ◌/◌, ◌%◌, ◌^◌, ◌≡◌, ◌==◌, ℤ, pos, negsuc, ◌+ℤ◌, ◌*ℤ◌, neg_ℤ, Bool, not, List, [], ◌∷◌, if◌then◌else◌}
+use Rattle.std.specs.Prelude.{ℕ, suc, zero, ◌+◌, ◌*◌, ◌/◌, ◌%◌, ◌^◌, ◌≡◌, ◌==◌, ℤ, pos, negsuc, ◌+ℤ◌, ◌*ℤ◌, neg_ℤ, Bool, not, List, [], ◌∷◌, if◌then◌else◌, All, FitsSigned}
 use Rattle.std.specs.List.{flat_map}
 use Rattle.std.specs.Int.{Width, int_wrap}
 
 -- the only value of the type that differs from n by a multiple of 2^w (two's complement)
 abbrev pub wrap : Width → ℤ → ℤ
 wrap w n = int_wrap w n
+
+-- values of a type of this width
+abbrev pub AreValues : Width → List ℤ → Type 0
+AreValues w values = All (λ v. FitsSigned w v) values
 
 -- m and n differ by a multiple of 2^k
 abbrev pub IsSameModulo : ℕ → ℤ → ℤ → Type 0

@@ -1,6 +1,10 @@
 -- A partial block is padded to a whole one (zfp 1.0 documentation, chapter Algorithm).
-use Rattle.std.specs.Prelude.{ℕ, ◌+◌, ◌-◌, ◌*◌, ◌/◌, ◌%◌, ℤ, pos, List, [], ◌∷◌, map, length, slice_index_or}
+use Rattle.std.specs.Prelude.{ℕ, ◌+◌, ◌-◌, ◌*◌, ◌/◌, ◌%◌, ◌≤◌, All, ℤ, pos, List, [], ◌∷◌, map, length, slice_index_or}
 use Rattle.zf_spec.specs.Grid.{places}
+
+-- extents of a block: 1 to 4 along each axis
+abbrev pub AreExtents : List ℕ → Type 0
+AreExtents es = All (λ e. (1 ≤ e) × (e ≤ 4)) es
 
 -- a line of one to four values a, b, c, d becomes a a a a, or a b b a, or a b c a, or a b c d:
 -- which of the n values each of the four is

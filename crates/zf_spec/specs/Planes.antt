@@ -1,6 +1,6 @@
 -- Bit planes and their code (zfp 1.0 documentation, chapter Algorithm).
 --     A plane is a list of digits by rank. Planes are a list of planes, the greatest first.
-use Rattle.std.specs.Prelude.{ℕ, suc, max, Bool, true, false, ◌||◌, List, [], ◌∷◌, ◌++◌, map, reverse, slice_index_or, take, drop, if◌then◌else◌}
+use Rattle.std.specs.Prelude.{ℕ, suc, ◌≡◌, max, All, Bool, true, false, ◌||◌, List, [], ◌∷◌, ◌++◌, length, map, reverse, slice_index_or, take, drop, if◌then◌else◌}
 use Rattle.zf_spec.specs.Grid.{upto}
 
 -- plane k of coefficients that are given by their digits, the lowest first
@@ -14,6 +14,10 @@ planes_of w coefficients = map (λ k. plane k coefficients) (reverse (upto w))
 -- back: the digits of the coefficients by rank, the lowest first, of which w planes hold one each; planes that are missing below are zero
 unfoldable pub digits_in_planes : ℕ → ℕ → List (List Bool) → List (List Bool)
 digits_in_planes w size planes = map (λ r. map (λ i. slice_index_or (slice_index_or planes i []) r false) (reverse (upto w))) (upto size)
+
+-- planes of this size
+abbrev pub AreOfSize : ℕ → List (List Bool) → Type 0
+AreOfSize size planes = All (λ ds. length ds ≡ size) planes
 
 -- some digit is one
 abbrev pub has_one : List Bool → Bool

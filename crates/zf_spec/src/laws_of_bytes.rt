@@ -1,8 +1,8 @@
 //! Laws of bytes: of bits and words, of raw values, and of the header.
 
-ghost use Rattle.std.specs.Prelude.{◌≡◌, ℕ, ◌+◌, ◌*◌, ◌/◌, ◌%◌, ◌^◌, ◌<◌, ◌≤◌, ℤ, Bool, false, List, ◌++◌, length, replicate, slice_index_or, FitsSigned, All};
+ghost use Rattle.std.specs.Prelude.{◌≡◌, ℕ, ◌+◌, ◌*◌, ◌/◌, ◌%◌, ◌^◌, ◌<◌, ◌≤◌, ℤ, Bool, false, List, ◌++◌, length, replicate, slice_index_or, All};
 ghost use Rattle.std.specs.Int.{Width, byte_len};
-ghost use Rattle.zf_spec.specs.Numbers.{is_odd, word_bits};
+ghost use Rattle.zf_spec.specs.Numbers.{AreValues, is_odd, word_bits};
 ghost use Rattle.zf_spec.specs.Stream.{with_fill, to_bytes, to_bits, first_bytes, values_from, raw, header, reversible, fixed_rate, fixed_precision};
 
 /// Whole bytes of bits and their bytes determine one another.
@@ -25,21 +25,28 @@ pub fn places_of_bits()
 pub fn fill()
     ensures zeros { (bs : List Bool) → (n : ℕ) × (n < 64) × (with_fill bs ≡ bs ++ replicate n false) }
     ensures whole { (bs : List Bool) → length (with_fill bs) % 64 ≡ 0 }
-    ensures only { (bs : List Bool) (n : ℕ) → n < 64 → (length bs + n) % 64 ≡ 0 → with_fill bs ≡ bs ++ replicate n false }
+    ensures only { (bs : List Bool) (n : ℕ) → n < 64 → (length bs + n) % 64 ≡ 0 → with_fill bs
+        ≡ bs ++ replicate n false }
 {}
 
 /// Values of the type and their raw bytes determine one another; bytes that are missing are zeros.
 pub fn values_and_raw_bytes()
-    ensures values { (w : Width) (values : List ℤ) → All (λ v. FitsSigned w v) values → values_from w (length values) (raw w values) ≡ values }
-    ensures bytes { (w : Width) (n : ℕ) (s : List ℕ) → All (λ b. b < 256) s → raw w (values_from w n s) ≡ first_bytes (n * byte_len w) s }
-    ensures fit { (w : Width) (n : ℕ) (s : List ℕ) → All (λ v. FitsSigned w v) (values_from w n s) }
+    ensures values { (w : Width) (values : List ℤ) → AreValues w values
+        → values_from w (length values) (raw w values) ≡ values }
+    ensures bytes { (w : Width) (n : ℕ) (s : List ℕ) → All (λ b. b < 256) s → raw w (values_from w n s)
+        ≡ first_bytes (n * byte_len w) s }
+    ensures fit { (w : Width) (n : ℕ) (s : List ℕ) → AreValues w (values_from w n s) }
     ensures length { (w : Width) (n : ℕ) (s : List ℕ) → length (values_from w n s) ≡ n }
 {}
 
 /// The header of an array of one to four dimensions has 96 bits, or 148 where the rate is above 2048.
 pub fn length_of_the_header()
-    ensures reversible { (w : Width) (ns : List ℕ) → 1 ≤ length ns → length ns ≤ 4 → length (header w ns reversible) ≡ 96 }
-    ensures rate { (w : Width) (ns : List ℕ) (b : ℕ) → 1 ≤ length ns → length ns ≤ 4 → b ≤ 2048 → length (header w ns (fixed_rate b)) ≡ 96 }
-    ensures precision { (w : Width) (ns : List ℕ) (p : ℕ) → 1 ≤ length ns → length ns ≤ 4 → length (header w ns (fixed_precision p)) ≡ 96 }
-    ensures long { (w : Width) (ns : List ℕ) (b : ℕ) → 1 ≤ length ns → length ns ≤ 4 → 2048 < b → length (header w ns (fixed_rate b)) ≡ 148 }
+    ensures reversible { (w : Width) (ns : List ℕ) → 1 ≤ length ns → length ns ≤ 4
+        → length (header w ns reversible) ≡ 96 }
+    ensures rate { (w : Width) (ns : List ℕ) (b : ℕ) → 1 ≤ length ns → length ns ≤ 4 → b ≤ 2048
+        → length (header w ns (fixed_rate b)) ≡ 96 }
+    ensures precision { (w : Width) (ns : List ℕ) (p : ℕ) → 1 ≤ length ns → length ns ≤ 4
+        → length (header w ns (fixed_precision p)) ≡ 96 }
+    ensures long { (w : Width) (ns : List ℕ) (b : ℕ) → 1 ≤ length ns → length ns ≤ 4 → 2048 < b
+        → length (header w ns (fixed_rate b)) ≡ 148 }
 {}

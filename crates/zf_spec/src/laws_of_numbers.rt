@@ -24,13 +24,15 @@ pub fn halves()
 pub fn negabinary_digits()
     ensures length { (k : ℕ) (v : ℤ) → length (digits k v) ≡ k }
     ensures sum { (k : ℕ) (v : ℤ) → IsSameModulo k (digits_sum (digits k v)) v }
-    ensures only { (k : ℕ) (ds : List Bool) (v : ℤ) → length ds ≡ k → IsSameModulo k (digits_sum ds) v → ds ≡ digits k v }
+    ensures only { (k : ℕ) (ds : List Bool) (v : ℤ) → length ds ≡ k → IsSameModulo k (digits_sum ds) v → ds
+        ≡ digits k v }
 {}
 
 /// A value of the type and its digits determine one another.
 pub fn values_and_digits()
     ensures value { (w : Width) (v : ℤ) → FitsSigned w v → value_of w (digits (bits w) v) ≡ v }
-    ensures digits { (w : Width) (ds : List Bool) → length ds ≡ bits w → digits (bits w) (value_of w ds) ≡ ds }
+    ensures digits { (w : Width) (ds : List Bool) → length ds ≡ bits w → digits (bits w) (value_of w ds)
+        ≡ ds }
     ensures fits { (w : Width) (ds : List Bool) → FitsSigned w (value_of w ds) }
 {}
 

@@ -1,6 +1,6 @@
 //! Laws of streams. Each is a function with no parameters and an empty body, whose contract is the theorem.
 
-ghost use Rattle.std.specs.Prelude.{◌≡◌, ◌<◌, ℕ, ℤ, List, map, length, None, Ok, FitsSigned, All};
+ghost use Rattle.std.specs.Prelude.{◌≡◌, ◌<◌, ℕ, ℤ, List, map, length, None, Ok, All};
 ghost use Rattle.zf_spec.specs.Grid.{product, blocks, upto, extent_of, block_of, blocks_of};
 ghost use Rattle.zf_spec.specs.Codes.{round};
 ghost use Rattle.zf_spec.specs.Stream.{values_from};
@@ -11,20 +11,24 @@ ghost use Rattle.zf_header.specs.HeaderBits.{IsTaken, IsHeader};
 ghost use Rattle.zf_header.specs.HeaderFaults.{header_fault};
 ghost use Rattle.zf_stream.specs.Raw.{raw_len, raw_bytes, stream_of, stream_text};
 ghost use Rattle.zf_stream.specs.Parsing.{header_of, values_of_blocks, values_said, said_of, without_said, parse, restore_answer, restored_text};
+ghost use Rattle.zf_spec.specs.Numbers.{AreValues};
 
 /// What is restored of a stream is the raw bytes of its values.
 pub fn text_of_a_stream()
-    ensures { (bytes : List ℕ) (values : List ℤ) → values_said bytes ≡ Ok values → restored_text bytes ≡ raw_bytes (header_of bytes) values }
+    ensures { (bytes : List ℕ) (values : List ℤ) → values_said bytes ≡ Ok values → restored_text bytes
+        ≡ raw_bytes (header_of bytes) values }
 {}
 
 /// The values of an array are joined of its blocks.
 pub fn joined_blocks()
-    ensures { (ns : List ℕ) (values : List ℤ) → length values ≡ product ns → values_of_blocks ns (blocks_of ns values) ≡ values }
+    ensures { (ns : List ℕ) (values : List ℤ) → length values ≡ product ns
+        → values_of_blocks ns (blocks_of ns values) ≡ values }
 {}
 
 /// What is restored of bytes with a good header has exactly the length of the raw values, whatever comes behind the header.
 pub fn length_of_what_is_restored()
-    ensures { (bytes : List ℕ) → header_fault bytes ≡ None → length (restored_text bytes) ≡ raw_len (header_of bytes) }
+    ensures { (bytes : List ℕ) → header_fault bytes ≡ None → length (restored_text bytes)
+        ≡ raw_len (header_of bytes) }
 {}
 
 /// A stream is good exactly where it is parsed, and bad for the same fault.
@@ -36,7 +40,7 @@ pub fn restore_answers_as_parse_does()
 pub fn a_stream_is_parsed()
     ensures header { (h : Header) (values : List ℤ) → IsHeader h → header_of (stream_of h values) ≡ h }
     ensures reversible { (h : Header) (values : List ℤ) → IsHeader h → h.mode ≡ Reversible
-        → length values ≡ product h.shape → All (λ v. FitsSigned (width_of h.ty) v) values
+        → length values ≡ product h.shape → AreValues (width_of h.ty) values
         → parse (stream_of h values) ≡ Ok (said_of h values values) }
     ensures rate { (h : Header) (values : List ℤ) (budget : ℕ) → IsHeader h → h.mode ≡ Rate budget
         → parse (stream_of h values) ≡ Ok (said_of h values (values_of_blocks h.shape
@@ -45,7 +49,8 @@ pub fn a_stream_is_parsed()
 
 /// The stream of raw bytes is a good one. What is restored of it is these bytes, or the bytes of what the fixed rate makes of each block.
 pub fn restore_undoes_compress()
-    ensures answer { (h : Header) (bytes : List ℕ) → IsHeader h → IsTaken h.mode → restore_answer (stream_text h bytes) ≡ Ok tt }
+    ensures answer { (h : Header) (bytes : List ℕ) → IsHeader h → IsTaken h.mode
+        → restore_answer (stream_text h bytes) ≡ Ok tt }
     ensures reversible { (h : Header) (bytes : List ℕ) → IsHeader h → h.mode ≡ Reversible
         → length bytes ≡ raw_len h → All (λ b. b < 256) bytes → restored_text (stream_text h bytes) ≡ bytes }
     ensures rate { (h : Header) (bytes : List ℕ) (budget : ℕ) → IsHeader h → h.mode ≡ Rate budget
