@@ -1,4 +1,4 @@
--- The block of a position, and its place there (Lindstrom 2014, section 3).
+-- The block of a position, and its place there (Lindstrom 2014).
 use Rattle.std.specs.Prelude.{ℕ, ◌≡◌, ◌/◌, ◌%◌, ◌^◌, ◌<◌, true, List, map, length}
 use Rattle.zf_spec.specs.Grid.{grid, blocks, coordinates, raster, is_inside, fours, indices, extent_of, position_in}
 

@@ -132,7 +132,7 @@ impl Shape {
 
     /// The number of the block that a position lies in, and its place there.
     ///
-    /// Blocks are numbered x fastest, and so are the `4^d` places of a block (Lindstrom 2014, section 3).
+    /// Blocks are numbered x fastest, and so are the `4^d` places of a block (Lindstrom 2014).
     pub fn place(&self, p: Pos) -> (u64, usize)
         requires { IsPosition self.now p }
         ensures block { result.0 ≡ block_number self.now (used_axes (length self.now) p) }

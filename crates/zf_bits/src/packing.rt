@@ -9,7 +9,7 @@ use std::alloc::{AllocError, Global};
 
 /// The words that hold these bytes, the least significant byte of each word first. The last word is filled with zeros.
 ///
-/// Bit i of the words is then bit `i % 8` of byte `i / 8` (zfp 1.0 documentation, bit stream).
+/// Bit i of the words is then bit `i % 8` of byte `i / 8` (zfp 1.0 documentation).
 pub fn words_of_bytes(alloc: Global, bytes: &[u8]) -> Result<Vec<u64>, AllocError>
     ensures len { IfOk result (λ words. vec_len words ≡ div_ceil (length bytes.now) 8) }
     ensures words { IfOk result (λ words. words.items ≡ words_of bytes.now) }

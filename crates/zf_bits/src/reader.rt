@@ -7,7 +7,7 @@ use std::marker::Model;
 
 /// Reads the bits of words from a place on. Contracts see all the bits and the place.
 ///
-/// Bit i of words is bit `i % 64` of word `i / 64`, least significant first (zfp 1.0 documentation, bit stream).
+/// Bit i of words is bit `i % 64` of word `i / 64`, least significant first (zfp 1.0 documentation).
 #[derive(Debug, Drop)]
 pub struct BitReader<'a> {
     words: &'a [u64],

@@ -9,7 +9,7 @@ use std::marker::Model;
 
 /// Bits, appended at the end. Contracts see the bits written and the spare room, both counted in bits.
 ///
-/// A field is appended least significant bit first (zfp 1.0 documentation, bit stream). Only
+/// A field is appended least significant bit first (zfp 1.0 documentation). Only
 /// [`BitWriter::reserve`] and [`BitWriter::write`] ask for memory; where there is none they answer
 /// `AllocError`, and the writer may be used on. Reserve first, and the other calls cannot fail.
 #[derive(Debug, Drop)]

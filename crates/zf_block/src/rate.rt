@@ -22,7 +22,7 @@ use zf_bits::{BitReader, BitWriter};
 /// Appends the first `bits` bits of the block's code, filled with zeros, so that each block takes the same room.
 ///
 /// `block` has `4^d` values, x fastest; those outside `e` are not looked at. `s` is work room for `d` dimensions. The rates of the format are 1 to 32768.
-/// Fixed rate as in Lindstrom 2014, section 3.
+/// Fixed rate as in Lindstrom 2014.
 pub fn encode_rate<T: Lane>(
     d: u8,
     e: &Extent,

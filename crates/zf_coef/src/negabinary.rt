@@ -9,7 +9,7 @@ use zf_base::Lane;
 /// The digits that stand for a negative power of two, which are the odd ones.
 const NEGATIVE: u64 = 0xaaaa_aaaa_aaaa_aaaa;
 
-/// The negabinary digits of a value, digit i as bit i (zfp 1.0 documentation, algorithm: two's complement to negabinary).
+/// The negabinary digits of a value, digit i as bit i (zfp 1.0 documentation, chapter Algorithm).
 pub fn to_digits<T: Lane>(v: T) -> u64
     ensures digits { field (bits T.width) result ≡ digits (bits T.width) (T.value v) }
     ensures below { result < 2 ^ T.WIDTH }

@@ -11,7 +11,7 @@ use zf_base::Lane;
 ///
 /// `block` has `4^d` values, x fastest, each of which has been given a value (a partial block is padded first). Halves
 /// are rounded down and sums wrap, so [`inverse`] does not undo this.
-/// The decorrelating transform of Lindstrom 2014, section 4.2, and of the zfp 1.0 documentation, algorithm.
+/// The decorrelating transform of the zfp 1.0 documentation, chapter Algorithm.
 pub fn forward<T: Lane>(d: u8, block: &mut [T])
     requires some { 1 ≤ d }
     requires four_at_most { d ≤ 4 }

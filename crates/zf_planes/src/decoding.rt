@@ -125,7 +125,7 @@ fn read_planes(
 /// `None` means that the bits end before the budget and the code do; then the reader stands where it stood, and the planes hold anything.
 ///
 /// `planes[k]` holds digit k of each coefficient by rank: rank r is bit `r % 64` of word `r / 64`.
-/// Embedded coding as in Lindstrom 2014, section 4.3, and the zfp 1.0 documentation, algorithm.
+/// Embedded coding as in the zfp 1.0 documentation, chapter Algorithm.
 pub fn decode(
     budget: u64,
     prec: u32,

@@ -82,7 +82,7 @@ fn write_planes(
 /// Appends the code of the top `prec` planes, or its first `budget` bits where it is longer. The answer is the number of bits appended.
 ///
 /// `planes[k]` holds digit k of each coefficient by rank: rank r is bit `r % 64` of word `r / 64`, and bits from rank `size` on are not looked at.
-/// Embedded coding as in Lindstrom 2014, section 4.3, and the zfp 1.0 documentation, algorithm.
+/// Embedded coding as in the zfp 1.0 documentation, chapter Algorithm.
 pub fn encode(budget: u64, prec: u32, size: usize, planes: &[[u64; 4]], out: &mut BitWriter) -> u64
     requires size { (size ≡ 4) ⊎ (size ≡ 16) ⊎ (size ≡ 64) ⊎ (size ≡ 256) }
     requires planes { prec ≤ length planes.now }
