@@ -1,12 +1,12 @@
 -- Texts that are cut at a byte, and numbers between such bytes.
-use Rattle.std.proofs.Common.{◌≡◌, ◌≢◌, ℕ, ◌≤◌, List, [], ◌∷◌, length, map, true, false, ◌==◌, refl, ap, sym, ◌∙◌, arith, decimal}
-use Rattle.std.specs.List.{AllByRecursion, join_with_byte, list_all}
+use Rattle.std.proofs.Common.{◌≡◌, ◌≢◌, ℕ, ◌≤◌, List, [], ◌∷◌, length, map, true, false, ◌==◌, refl, ap, sym, ◌∙◌, arith, decimal, suc, ◌+◌, ltb, not, take, drop, Option, Some, None, position}
+use Rattle.std.specs.List.{AllByRecursion, join_with_byte, list_all, position_or_len, onto_first}
 use Rattle.std.specs.Str.Parse.{digits_value}
-use Rattle.std.proofs.lemmas.Bool.{eq-eqb, ne_eqb, ltb-true, and_parts}
+use Rattle.std.proofs.lemmas.Bool.{eq-eqb, ne_eqb, ltb-true, and_parts, not-true, ltb-false, cond_both}
 use Rattle.std.proofs.lemmas.List.Elements.{All-append, All-cons, All-nil}
-use Rattle.std.proofs.lemmas.List.Splits.{slice_split_none, slice_split_at, join_with_byte-slice_split}
-use Rattle.zf_cached.specs.Grammar.{numbers_text, is_number, cut_at, numbers_in}
-use Rattle.zf_cached.proofs.Numerals.{HasNo, IsNoDigit, HasNo-decimal, number-decimal}
+use Rattle.std.proofs.lemmas.List.Splits.{slice_split_none, slice_split_at, slice_split_first, slice_split-cons_no, join_with_byte-slice_split}
+use Rattle.zf_cached.specs.Grammar.{IsNoDigit, numbers_text, is_number, cut_at, numbers_in}
+use Rattle.zf_cached.proofs.Numerals.{HasNo, HasNo-decimal, number-decimal}
 
 -- a text without the byte is the one part
 pub cut_at-one : (byte : ℕ) (word : List ℕ) → HasNo byte word → cut_at byte word ≡ word ∷ []
@@ -64,3 +64,32 @@ numbers_back (n ∷ ns) small =
 pub numbers_in-numbers_text : (byte : ℕ) (ns : List ℕ) → 1 ≤ length ns → list_all is_number ns ≡ true → IsNoDigit byte → numbers_in byte (numbers_text byte ns) ≡ ns
 numbers_in-numbers_text byte ns some small no_digit =
     ap (map (digits_value 10)) (cut_at-numbers byte ns some small no_digit) ∙ numbers_back ns small
+
+-- ---- where the first such byte stands
+no_place : (byte : ℕ) (bs : List ℕ) → length bs ≤ position_or_len (λ b. b == byte) bs → cut_at byte bs ≡ bs ∷ []
+no_place byte [] far = refl
+no_place byte (b ∷ bs) far =
+    let rest : ℕ = position_or_len (λ a. a == byte) bs in
+    let P : ℕ → Type 0 = λ n. suc (length bs) ≤ n → cut_at byte (b ∷ bs) ≡ (b ∷ bs) ∷ [] in
+    cond_both (not (b == byte)) (1 + rest) 0 P
+    (λ other above. slice_split-cons_no (λ a. a == byte) b bs (not-true (b == byte) other) ∙ ap (onto_first b) (no_place byte bs (omega arith)))
+    (λ same above. absurd (omega arith)) far
+
+-- where no such byte stands, the text is the one part
+pub cut_at-nowhere : (byte : ℕ) (bs : List ℕ) → position (λ b. b == byte) bs ≡ None → cut_at byte bs ≡ bs ∷ []
+cut_at-nowhere byte bs nowhere =
+    let place : ℕ = position_or_len (λ b. b == byte) bs in
+    let P : Option ℕ → Type 0 = λ o. o ≡ None → cut_at byte bs ≡ bs ∷ [] in
+    cond_both (ltb place (length bs)) (Some place) None P
+    (λ within none. absurd (cc))
+    (λ outside none. no_place byte bs (ltb-false place (length bs) outside)) nowhere
+
+-- else the first part ends there
+pub cut_at-place : (byte : ℕ) (bs : List ℕ) (end : ℕ) → position (λ b. b == byte) bs ≡ Some end → cut_at byte bs ≡ take end bs ∷ cut_at byte (drop (end + 1) bs)
+cut_at-place byte bs end at =
+    let place : ℕ = position_or_len (λ b. b == byte) bs in
+    let P : Option ℕ → Type 0 = λ o. o ≡ Some end → cut_at byte bs ≡ take end bs ∷ cut_at byte (drop (end + 1) bs) in
+    cond_both (ltb place (length bs)) (Some place) None P
+    (λ within some. let same : place ≡ end = cc in
+        slice_split_first (λ b. b == byte) bs 0 (ltb-true place (length bs) within) ∙ ap (λ i. take i bs ∷ cut_at byte (drop (i + 1) bs)) same)
+    (λ outside some. absurd (cc)) at

@@ -1,13 +1,12 @@
 -- Numbers and values as digits.
 use Rattle.std.proofs.Common.{◌≡◌, ◌≢◌, ℕ, suc, ◌<◌, ◌^◌, ℤ, pos, negsuc, List, length, get_or, true, false, ◌==◌, All, ap, sym, refl, arith, decimal}
-use Rattle.std.specs.Int.{IsInRange}
 use Rattle.std.specs.Fmt.{signed_decimal}
 use Rattle.std.specs.Str.Parse.{AllDigits, digits_value, signed_digits_value}
 use Rattle.std.proofs.lemmas.Bool.{ne_eqb, ltb-true}
 use Rattle.std.proofs.lemmas.Str.Parse.{IsNumeralModel, numerals_by_value, tells_digits, not_in_digits}
 use Rattle.std.proofs.lemmas.Fmt.{digits_decimal, digits_value-decimal, decimal_nonempty}
 use Rattle.std.proofs.lemmas.List.Elements.{All-from_get_or, All-cons}
-use Rattle.zf_cached.specs.Grammar.{is_value}
+use Rattle.zf_cached.specs.Grammar.{IsNoDigit, is_value}
 
 pub own : IsNumeralModel (AllDigits 10) (digits_value 10)
 own = numerals_by_value (AllDigits 10) tells_digits
@@ -15,10 +14,6 @@ own = numerals_by_value (AllDigits 10) tells_digits
 -- no byte of a text is this one
 abbrev pub HasNo : ℕ → List ℕ → Type 0
 HasNo byte bs = All (λ b. (b == byte) ≡ false) bs
-
--- a byte that is no digit
-abbrev pub IsNoDigit : ℕ → Type 0
-IsNoDigit byte = ¬ IsInRange 48 57 byte
 
 digit_is_not : (n byte i : ℕ) → n < 2 ^ 64 → IsNoDigit byte → i < length (decimal n) → get_or (decimal n) i 0 ≢ byte
 digit_is_not n byte i small no_digit lt = not_in_digits own (decimal n) byte (digits_decimal own n small) no_digit i lt

@@ -7,8 +7,8 @@ use Rattle.std.proofs.lemmas.Bool.{eqb-true, ltb-true, leb-true, not-true, and_p
 use Rattle.std.proofs.lemmas.Slice.Eq.{bytes_eq-Decides}
 use Rattle.std.proofs.lemmas.List.Elements.{All-nil, All-cons}
 use Rattle.zf_cached.specs.Commands.{Command}
-use Rattle.zf_cached.specs.Grammar.{space, comma, letter_x, numbers_text, words_of, line_of, is_number, is_value, has_axes, has_sizes, is_writable, cut_at, numbers_in, candidates, is_line, read_line}
-use Rattle.zf_cached.proofs.Numerals.{HasNo, IsNoDigit, HasNo-decimal, HasNo-signed, number-decimal, value-signed}
+use Rattle.zf_cached.specs.Grammar.{IsNoDigit, space, comma, letter_x, numbers_text, words_of, line_of, is_number, is_value, has_axes, has_sizes, is_writable, cut_at, numbers_in, candidates, is_line, read_line}
+use Rattle.zf_cached.proofs.Numerals.{HasNo, HasNo-decimal, HasNo-signed, number-decimal, value-signed}
 use Rattle.zf_cached.proofs.Cutting.{cut_at-joined, HasNo-numbers, numbers_in-numbers_text}
 
 -- ---- the separators are no digits

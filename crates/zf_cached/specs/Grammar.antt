@@ -2,6 +2,7 @@
 --     Each command has one text: its words, with exactly one space between two of them. A line is read as the command whose text it is.
 use Rattle.std.specs.Prelude.{ℕ, ℤ, ◌^◌, ◌==◌, nat_lt, nat_le, unsigned_abs, Bool, true, ◌&&◌, List, [], ◌∷◌, length, map, find, slice_index_or, Option, bytes_eq, codes, decimal}
 use Rattle.std.specs.Fmt.{signed_decimal}
+use Rattle.std.specs.Int.{IsInRange}
 use Rattle.std.specs.List.{join_with_byte, slice_split, list_all}
 use Rattle.std.specs.Str.Parse.{digits_value, signed_digits_value}
 use Rattle.zf_cached.specs.Commands.{Command}
@@ -15,6 +16,10 @@ comma = 44
 
 abbrev pub letter_x : ℕ
 letter_x = 120
+
+-- a byte that is no digit
+abbrev pub IsNoDigit : ℕ → Type 0
+IsNoDigit byte = ¬ IsInRange 48 57 byte
 
 -- numbers in decimal, with the byte between two of them
 abbrev pub numbers_text : ℕ → List ℕ → List ℕ

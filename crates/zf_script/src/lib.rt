@@ -2,7 +2,10 @@
 #![tactic(auto)]
 
 mod command;
+mod numbers;
 mod reply;
+mod verb;
+mod words;
 
 pub use command::Cmd;
 pub use reply::{Refusal, Reply, Stats};
