@@ -36,16 +36,16 @@ sizes-parts ns ok =
     (leb-true 1 (length ns) ends.0, leb-true (length ns) 4 ends.1, parts.1)
 
 -- ---- no word of a command has a space
-position_no_space : (d : ℕ) (ns : List ℕ) → has_axes d ns ≡ true → HasNo space (numbers_text comma ns)
+pub position_no_space : (d : ℕ) (ns : List ℕ) → has_axes d ns ≡ true → HasNo space (numbers_text comma ns)
 position_no_space d ns ok = HasNo-numbers space comma ns (axes-parts d ns ok).1 no_space (λ e. omega arith)
 
-sizes_no_space : (ns : List ℕ) → list_all is_number ns ≡ true → HasNo space (numbers_text letter_x ns)
+pub sizes_no_space : (ns : List ℕ) → list_all is_number ns ≡ true → HasNo space (numbers_text letter_x ns)
 sizes_no_space ns small = HasNo-numbers space letter_x ns small no_space (λ e. omega arith)
 
-value_no_space : (v : ℤ) → is_value v ≡ true → HasNo space (signed_decimal v)
+pub value_no_space : (v : ℤ) → is_value v ≡ true → HasNo space (signed_decimal v)
 value_no_space v small = HasNo-signed space v small no_space (λ e. omega arith)
 
-number_no_space : (n : ℕ) → is_number n ≡ true → HasNo space (decimal n)
+pub number_no_space : (n : ℕ) → is_number n ≡ true → HasNo space (decimal n)
 number_no_space n small = HasNo-decimal space n (ltb-true n _ small) no_space
 
 -- each byte of a word of letters is looked at

@@ -1,3 +1,7 @@
 -- Lemmas on the words of lines.
 --     Digits     digits one by one, and numbers as words
+--     Values     values as words
+--     Joined     numbers with a byte between two of them, part by part
 pub mod Digits
+pub mod Values
+pub mod Joined

@@ -8,6 +8,7 @@ ghost use Rattle.std.specs.Str.Parse.{digits_value};
 ghost use Rattle.zf_cached.specs.Grammar.{numbers_text, is_value, has_axes, has_sizes, IsNoDigit};
 ghost use Rattle.zf_script.specs.NumberWords.{IsAxesWord, IsSizesWord, IsShortNumeral, IsDigitMore};
 
+use crate::words::cut;
 use zf_base::Pos;
 
 /// The number that a word is.
@@ -15,11 +16,11 @@ pub(crate) fn number_in(word: &[u8]) -> Option<u64>
     ensures number { IfSome result (λ n. word.now ≡ decimal n) }
     ensures none { IfNone result ((n : ℕ) → n < 2 ^ 64 → word.now ≢ decimal n) }
 {
-    match word {
-        [] => None,
-        [b'0', _, ..] => None,
-        _ => digits_in(word),
+    let first = *word.first()?;
+    if word.len() > 1 && first == b'0' {
+        return None;
     }
+    digits_in(word)
 }
 
 // The number that digits say.
@@ -70,16 +71,17 @@ pub(crate) fn sizes_in(byte: u8, unused: u64, word: &[u8]) -> Option<(u8, Pos)>
     ensures none { IfNone result ((ns : List ℕ) → IsTrue (has_sizes ns) → word.now ≢ numbers_text byte ns) }
 {
     let mut numbers = [unused; 4];
-    let mut count = 0;
-    for part in word.split(|b| *b == byte) {
-        if count == numbers.len() {
-            return None;
-        }
-        numbers[count] = number_in(part)?;
-        count += 1;
+    let mut rest = word;
+    for count in 0..4 {
+        let Some((first, more)) = cut(rest, byte) else {
+            numbers[count] = number_in(rest)?;
+            let [x, y, z, w] = numbers;
+            return Some((count as u8 + 1, Pos { x, y, z, w }));
+        };
+        numbers[count] = number_in(first)?;
+        rest = more;
     }
-    let [x, y, z, w] = numbers;
-    Some((count as u8, Pos { x, y, z, w }))
+    None
 }
 
 /// One number for each axis, with this byte between two of them, and `unused` along the other axes.
