@@ -91,5 +91,5 @@ cut_at-place byte bs end at =
     let P : Option ℕ → Type 0 = λ o. o ≡ Some end → cut_at byte bs ≡ take end bs ∷ cut_at byte (drop (end + 1) bs) in
     cond_both (ltb place (length bs)) (Some place) None P
     (λ within some. let same : place ≡ end = cc in
-        slice_split_first (λ b. b == byte) bs 0 (ltb-true place (length bs) within) ∙ ap (λ i. take i bs ∷ cut_at byte (drop (i + 1) bs)) same)
+    slice_split_first (λ b. b == byte) bs 0 (ltb-true place (length bs) within) ∙ ap (λ i. take i bs ∷ cut_at byte (drop (i + 1) bs)) same)
     (λ outside some. absurd (cc)) at

@@ -1,5 +1,4 @@
-use Rattle.std.proofs.Common.{arith}
-use Rattle.zf_script.proofs.Joined.{sizes_from_axes, count_same, axes_word}
+use Rattle.zf_script.proofs.Joined.{count_same}
 use Rattle.zf_script.proofs.numbers.axes_in.Goals as goal
 
 pub returns-then-count-dims-clause-none : goal.returns-then-count-dims-clause-none

@@ -1,4 +1,4 @@
-use Rattle.std.proofs.Common.{◌≡◌, ◌∙◌, ap, decimal}
+use Rattle.std.proofs.Common.{◌∙◌, ap, decimal}
 use Rattle.zf_script.proofs.Values.{minus_none, zero_only}
 use Rattle.zf_script.proofs.numbers.negative_in.Goals as goal
 

@@ -1,4 +1,4 @@
-use Rattle.std.proofs.Common.{◌≡◌, ◌≢◌, ◌++◌, ◌∷◌, [], ℕ, ◌+◌, ◌<◌, ◌≤◌, length, map, take, set, get_or, decimal, ap, ◌∙◌, arith, length-set, length-take}
+use Rattle.std.proofs.Common.{◌≡◌, ◌++◌, [], ◌+◌, ◌<◌, length, map, take, set, decimal, ap, ◌∙◌, arith, length-set, length-take}
 use Rattle.std.proofs.lemmas.List.{length-map}
 use Rattle.zf_cached.specs.Grammar.{cut_at}
 use Rattle.zf_script.proofs.Joined.{part_is_number, numbers_more, texts_whole, others_more, sizes_word, some_part, fifth_part}
