@@ -13,3 +13,6 @@ pub use command::Cmd;
 pub use parse::parse_line;
 pub use reply::{Refusal, Reply, Stats};
 pub use text::reply_text;
+
+#[cfg(test)]
+mod tests;
