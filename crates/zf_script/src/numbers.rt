@@ -11,13 +11,16 @@ ghost use Rattle.zf_script.specs.NumberWords.{IsAxesWord, IsSizesWord, IsShortNu
 use crate::words::cut;
 use zf_base::Pos;
 
+// No other digit stands behind it where it stands first.
+const ZERO: u8 = b'0';
+
 /// The number that a word is.
 pub(crate) fn number_in(word: &[u8]) -> Option<u64>
     ensures number { IfSome result (λ n. word.now ≡ decimal n) }
     ensures none { IfNone result ((n : ℕ) → n < 2 ^ 64 → word.now ≢ decimal n) }
 {
     let first = *word.first()?;
-    if word.len() > 1 && first == b'0' {
+    if word.len() > 1 && first == ZERO {
         return None;
     }
     digits_in(word)

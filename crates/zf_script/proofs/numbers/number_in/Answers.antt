@@ -7,11 +7,11 @@ pub returns-in_err-first-clause-none : goal.returns-in_err-first-clause-none
 returns-in_err-first-clause-none c =
     rw c.from_residual.ensures (λ n small is. empty_none c.args.word.now n (no_first c.args.word.now (sym c.in_err-first.ensures.value)) small is)
 
-pub returns-then-first-eq48-clause-none : goal.returns-then-first-eq48-clause-none
-returns-then-first-eq48-clause-none c =
+pub returns-then-first-eq-ZERO-clause-none : goal.returns-then-first-eq-ZERO-clause-none
+returns-then-first-eq-ZERO-clause-none c =
     let word = c.args.word.now in
     let first = get_or_from_slice_get word 0 c.in_ok-first.field-0.now 0 (sym c.in_ok-first.ensures.value) in
-    λ n small is. zero_none word n (first ∙ c.if-first-eq48.true) c.if-word-gt1.true small is
+    λ n small is. zero_none word n (first ∙ c.if-first-eq-ZERO.true) c.if-word-gt1.true small is
 
 pub returns-clause-number : goal.returns-clause-number
 returns-clause-number c =
