@@ -14,14 +14,16 @@ pub record IsPositionAndValue (d : ℕ) (words : List (List ℕ)) (p : Pos) (v :
 
 abbrev pub NoPositionAndValue : ℕ → List (List ℕ) → Type 0
 NoPositionAndValue d words =
-    (p : List ℕ) (v : ℤ) → IsTrue (has_axes d p) → IsTrue (is_value v) → words ≡ numbers_text comma p ∷ signed_decimal v ∷ [] → ⊥
+    (p : List ℕ) (v : ℤ) → IsTrue (has_axes d p) → IsTrue (is_value v)
+    → words ≡ numbers_text comma p ∷ signed_decimal v ∷ [] → ⊥
 
 -- the words are an origin, sizes and steps
 pub record IsWindow (d : ℕ) (words : List (List ℕ)) (p s t : Pos) : Type 0 where
   pub origin : IsTrue (has_axes d (used d p))
   pub sizes : IsTrue (has_axes d (used d s))
   pub steps : IsTrue (has_axes d (used d t))
-  pub text : words ≡ numbers_text comma (used d p) ∷ numbers_text letter_x (used d s) ∷ numbers_text comma (used d t) ∷ []
+  pub text : words
+      ≡ numbers_text comma (used d p) ∷ numbers_text letter_x (used d s) ∷ numbers_text comma (used d t) ∷ []
   pub other_origins : p ≡ with_unused 0 (used d p)
   pub other_sizes : s ≡ with_unused 1 (used d s)
   pub other_steps : t ≡ with_unused 1 (used d t)

@@ -1,6 +1,6 @@
 //! Words that are numbers.
 
-ghost use Rattle.std.specs.Prelude.{◌≡◌, ◌≢◌, ℕ, ℤ, ◌+◌, ◌*◌, ◌^◌, ◌<◌, ◌≤◌, List, ◌∷◌, IfSome, IfNone, IsTrue, decimal};
+ghost use Rattle.std.specs.Prelude.{◌≡◌, ◌≢◌, ℕ, ℤ, ◌+◌, ◌*◌, ◌^◌, ◌<◌, ◌≤◌, List, ◌++◌, IfSome, IfNone, IsTrue, codes, decimal};
 ghost use Rattle.std.specs.Fmt.{signed_decimal};
 ghost use Rattle.std.specs.Char.{digit_value};
 ghost use Rattle.std.specs.Option.{SomeIff};
@@ -58,8 +58,8 @@ pub(crate) fn value_in(word: &[u8]) -> Option<i128>
 
 // The value that digits behind a minus are.
 fn negative_in(digits: &[u8]) -> Option<i128>
-    ensures value { IfSome result (λ v. IsTrue (is_value v) × (45 ∷ digits.now ≡ signed_decimal v)) }
-    ensures none { IfNone result ((v : ℤ) → IsTrue (is_value v) → 45 ∷ digits.now ≢ signed_decimal v) }
+    ensures value { IfSome result (λ v. IsTrue (is_value v) × (codes "-" ++ digits.now ≡ signed_decimal v)) }
+    ensures none { IfNone result ((v : ℤ) → IsTrue (is_value v) → codes "-" ++ digits.now ≢ signed_decimal v) }
 {
     match number_in(digits)? {
         0 => None,
@@ -67,7 +67,8 @@ fn negative_in(digits: &[u8]) -> Option<i128>
     }
 }
 
-/// One to four numbers with this byte between two of them: how many, and the numbers, with `unused` along the other axes.
+/// One to four numbers with this byte between two of them: how many they are, and the numbers, with `unused` along the
+/// other axes.
 pub(crate) fn sizes_in(byte: u8, unused: u64, word: &[u8]) -> Option<(u8, Pos)>
     requires { IsNoDigit byte }
     ensures sizes { IfSome result (λ r. IsSizesWord byte unused word.now r.0 r.1) }

@@ -1,16 +1,13 @@
 //! The texts of replies.
 
 ghost use Rattle.std.specs.Prelude.{◌≡◌, ◌+◌, ◌≤◌, ◌++◌, length, take, codes, decimal};
-ghost use Rattle.zf_cached.specs.Replies.{refusal_word, reply_text};
+ghost use Rattle.zf_cached.specs.Replies.{counts_text, refusal_word, reply_text};
 ghost use Rattle.zf_script.specs.Seen.{refusal_of, reply_of};
 
 use crate::reply::{Refusal, Reply, Stats};
 use itoa::Buffer;
 
-/// The most bytes of a reply.
-const REPLY: usize = 128;
-
-/// The line of a reply, with its line feed.
+/// The line of a reply, with its line feed. None is longer than 128 bytes.
 pub fn reply_text<'a>(r: &Reply, buf: &'a mut [u8; 128]) -> &'a [u8]
     ensures { result.now ≡ reply_text (reply_of r.now) }
 {
@@ -25,7 +22,7 @@ pub fn reply_text<'a>(r: &Reply, buf: &'a mut [u8; 128]) -> &'a [u8]
 
 // Writes the text of counts from the first byte on, and says where it ends.
 fn push_counts(buf: &mut [u8; 128], counts: &Stats) -> usize
-    ensures text { take result buf.new ≡ codes "hits " ++ decimal counts.now.hits ++ codes " misses " ++ decimal counts.now.misses ++ codes " writes " ++ decimal counts.now.writes }
+    ensures text { take result buf.new ≡ counts_text counts.now.hits counts.now.misses counts.now.writes }
     ensures end { result ≤ 100 }
 {
     let end = push(buf, 0, b"hits ");
