@@ -1,7 +1,7 @@
 -- What never changes about the codes of an array's blocks, and what follows from it.
 --     A code is of any type: for an array of a fixed rate it is a list of bits. A block is the list of its values by place,
 --     and its value is 0 at a place that does not exist.
-use Rattle.std.specs.Prelude.{ℕ, ◌==◌, ℤ, pos, Bool, List, map, slice_index_or, if◌then◌else◌}
+use Rattle.std.specs.Prelude.{ℕ, ◌==◌, ℤ, pos, Bool, true, false, List, map, slice_index_or, if◌then◌else◌}
 use Rattle.zf_spec.specs.Grid.{upto}
 
 -- how many blocks there are, and how many places each has; which places of a block exist; the values that a code means in a
@@ -30,5 +30,5 @@ unfoldable pub rounded : {Code : Type 0} → Format Code → ℕ → List ℤ �
 rounded format b values = meant format b (encoded format b values)
 
 -- a function changed at one number
-abbrev pub with_at : {A : Type 0} → (ℕ → A) → ℕ → A → ℕ → A
-with_at f k a n = if n == k then a else f n
+unfoldable pub with_at : {A : Type 0} → (ℕ → A) → ℕ → A → ℕ → A
+with_at f k a n = elim (n == k) [ true ↦ a | false ↦ f n ]
