@@ -37,8 +37,8 @@ abbrev pub risen : ℕ → ℕ
 risen n = min (n + 1) most_counted
 
 -- the line of a block: blocks share a line exactly where their numbers agree modulo the number of lines (this project's own)
-abbrev pub line_of : {Code : Type 0} → State Code → ℕ → ℕ
-line_of s b = b % s.lines
+abbrev pub own_line : {Code : Type 0} → State Code → ℕ → ℕ
+own_line s b = b % s.lines
 
 abbrev pub is_block : Option ℕ → ℕ → Bool
 is_block None b = false
@@ -46,4 +46,4 @@ is_block (Some a) b = a == b
 
 -- block b is here: it is in its line
 abbrev pub is_here : {Code : Type 0} → State Code → ℕ → Bool
-is_here s b = is_block (s.held (line_of s b)) b
+is_here s b = is_block (s.held (own_line s b)) b

@@ -1,7 +1,7 @@
 -- What a touch of a block does, and what writes a block back.
 use Rattle.std.specs.Prelude.{ℕ, ℤ, true, false, List, Some, None}
 use Rattle.zf_base.specs.Formats.{Format, meant, encoded, with_at}
-use Rattle.zf_cached.specs.State.{State, risen, line_of, is_here}
+use Rattle.zf_cached.specs.State.{State, risen, own_line, is_here}
 
 -- write-back: the code of block b is made of its values, its values become what this code means, and it is not dirty any more
 unfoldable pub write_back : {Code : Type 0} → Format Code → State Code → ℕ → State Code
@@ -33,7 +33,7 @@ miss format s l b =
 
 -- a touch of block b: where it is not here, it is put into its line
 unfoldable pub touch : {Code : Type 0} → Format Code → State Code → ℕ → State Code
-touch format s b = elim (is_here s b) [ true ↦ hit s | false ↦ miss format s (line_of s b) b ]
+touch format s b = elim (is_here s b) [ true ↦ hit s | false ↦ miss format s (own_line s b) b ]
 
 -- block b is dirty
 unfoldable pub soiled : {Code : Type 0} → State Code → ℕ → State Code
