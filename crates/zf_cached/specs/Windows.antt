@@ -1,6 +1,6 @@
 -- Windows: parts of an array that are seen as an array of their own (steps are this project's own).
 --     Origins, sizes, steps and positions are lists of one number for each axis, x first.
-use Rattle.std.specs.Prelude.{ℕ, ◌+◌, ◌-◌, ◌*◌, Bool, ◌&&◌, nat_lt, nat_le, not, List, [], ◌∷◌, map, length, slice_index_or, slice_set}
+use Rattle.std.specs.Prelude.{ℕ, ◌+◌, ◌-◌, ◌*◌, Bool, ◌&&◌, nat_lt, nat_le, List, [], ◌∷◌, map, length, slice_index_or, slice_set}
 use Rattle.std.specs.List.{list_all}
 use Rattle.zf_spec.specs.Grid.{upto, product, coordinates, is_inside}
 
