@@ -2,6 +2,7 @@
 --     State        the state of a cached array, and the line of a block
 --     Touch        a touch of a block, a touch for writing, and write-back
 --     Changes      flush, discard, a new number of lines, resize, and an array as it is opened
+--     Consistency  what holds of every state that is reached
 --     Arrays       the codes of an array of whole numbers, and its file
 --     Windows      windows of an array and their positions
 --     Commands     what a line of a script asks for
@@ -12,6 +13,7 @@
 pub mod State
 pub mod Touch
 pub mod Changes
+pub mod Consistency
 pub mod Arrays
 pub mod Windows
 pub mod Commands
