@@ -5,3 +5,6 @@
 pub mod States
 pub mod Caching
 pub mod Flushing
+pub mod CodeOfZeros
+pub mod Arrays
+pub mod Windows
