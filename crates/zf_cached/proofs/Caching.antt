@@ -1,11 +1,12 @@
 -- Touches and write-backs keep what holds of every state, and say what becomes of each block.
 use Rattle.std.proofs.Common.{◌≡◌, ◌≢◌, refl, sym, ap, subst, ◌∙◌, ℕ, ◌%◌, ℤ, Bool, true, false, eqb, eqb-true, eq-eqb, List, Option, Some, None, ◌⊎◌, inl, inr}
 use Rattle.std.proofs.lemmas.Bool.{cases_eq}
-use Rattle.zf_base.specs.Formats.{Format, existing_of, meant, encoded, with_at}
+use Rattle.zf_base.specs.Formats.{Format, existing_of, meant, encoded, rounded, with_at}
 use Rattle.zf_base.proofs.Formats.{with_at-same, with_at-other, existing_of-meant}
 use Rattle.zf_cached.specs.State.{State, own_line, is_block, is_here}
 use Rattle.zf_cached.specs.Touch.{write_back, write_back_dirty, write_back_line, hit, miss, touch, soiled, touch_for_writing, with_values}
 use Rattle.zf_cached.specs.Consistency.{IsConsistent}
+use Rattle.zf_cached.specs.Fates.{IsLeft, IsRounded}
 
 pub true_is_not_false : {P : Type 0} (b : Bool) → b ≡ true → b ≡ false → P
 true_is_not_false b t f = absurd (cc)
@@ -218,3 +219,43 @@ with_values-consistent format s b values dirty whole h = record {
   clean_is_coded = λ n. at_change (λ m vs. s.dirty m ≡ false → vs ≡ meant format m (s.codes m)) s.values b values n (λ clean. true_is_not_false (s.dirty b) dirty clean) (λ ne. h.clean_is_coded n);
   whole = λ n. at_change (λ m vs. existing_of format m vs ≡ vs) s.values b values n whole (λ ne. h.whole n);
 }
+
+-- ---- what becomes of a block, as the laws say it
+
+pub touch-is_here : {Code : Type 0} (format : Format Code) (s : State Code) (b : ℕ) → is_here (touch format s b) b ≡ true
+touch-is_here format s b =
+    ap (λ o. is_block o b) (ap (λ n. (touch format s b).held (b % n)) (touch-lines format s b) ∙ touch-here format s b) ∙ eq-eqb b b refl
+
+pub touch-hit : {Code : Type 0} (format : Format Code) (s : State Code) (b : ℕ) → is_here s b ≡ true → touch format s b ≡ hit s
+touch-hit format s b here = touch_by format s b (λ t. t ≡ hit s) (λ yes. refl) (λ no. true_is_not_false (is_here s b) here no)
+
+pub touch-left : {Code : Type 0} (format : Format Code) (s : State Code) (b : ℕ) → IsLeft s (touch format s b) b
+touch-left format s b = let h = touch-same format s b in record { dirty = h.0; values = h.1; code = h.2 }
+
+pub touch-left_clean : {Code : Type 0} (format : Format Code) (s : State Code) (a b : ℕ) → s.dirty b ≡ false → IsLeft s (touch format s a) b
+touch-left_clean format s a b clean = let h = touch-keeps_clean format s a b clean in record { dirty = h.0 ∙ sym clean; values = h.1; code = h.2 }
+
+pub touch-left_away : {Code : Type 0} (format : Format Code) (s : State Code) (a b : ℕ) → (s.held (own_line s a) ≡ Some b → ⊥) → IsLeft s (touch format s a) b
+unfolding hit miss
+touch-left_away format s a b away = touch_by format s a (λ t. IsLeft s t b) (λ here. record { dirty = refl; values = refl; code = refl })
+    (λ gone. let h = write_back_line-other format s (own_line s a) b away in record { dirty = h.0; values = h.1; code = h.2 })
+
+-- the block in a line that is written back, where it is dirty
+pub write_back_line-rounded : {Code : Type 0} (format : Format Code) (s : State Code) (l b : ℕ) → s.held l ≡ Some b → s.dirty b ≡ true → IsRounded format s (write_back_line format s l) b
+unfolding write_back rounded
+write_back_line-rounded format s l b held dirty = write_back_line_by format s l (λ t. IsRounded format s t b)
+    (λ a here soiled. subst (λ n. IsRounded format s (write_back format s n) b) (let same : b ≡ a = cc in same) (record {
+      clean = with_at-same s.dirty b false;
+      values = with_at-same s.values b _;
+      code = with_at-same s.codes b _;
+    }))
+    (λ a here clean. let same : b ≡ a = cc in true_is_not_false (s.dirty b) dirty (ap s.dirty same ∙ clean)) (λ nothing. absurd (cc))
+
+pub touch-evicts : {Code : Type 0} (format : Format Code) (s : State Code) (a b : ℕ) → is_here s a ≡ false → s.held (own_line s a) ≡ Some b → s.dirty b ≡ true → IsRounded format s (touch format s a) b
+unfolding miss
+touch-evicts format s a b away held dirty = touch_by format s a (λ t. IsRounded format s t b) (λ here. true_is_not_false (is_here s a) here away)
+    (λ gone. let h = write_back_line-rounded format s (own_line s a) b held dirty in record { clean = h.clean; values = h.values; code = h.code })
+
+pub touch_for_writing-dirty : {Code : Type 0} (format : Format Code) (s : State Code) (b : ℕ) → (touch_for_writing format s b).dirty b ≡ true
+unfolding touch_for_writing soiled
+touch_for_writing-dirty format s b = with_at-same (touch format s b).dirty b true

@@ -150,7 +150,7 @@ unfolding along zeros
 along-zeros w step n =
     let block = zeros (upto n) in
     let same : line_value (unlift_line w) step block ≡ (λ (p : ℕ). pos 0) =
-        fun_ext (λ p. at_line (unlift_line w) _ _ _ _ (p / step % 4) (get_or-zeros (upto n) _) (get_or-zeros (upto n) _) (get_or-zeros (upto n) _) (get_or-zeros (upto n) _) (unlift_line-zeros w)) in
+    fun_ext (λ p. at_line (unlift_line w) _ _ _ _ (p / step % 4) (get_or-zeros (upto n) _) (get_or-zeros (upto n) _) (get_or-zeros (upto n) _) (get_or-zeros (upto n) _) (unlift_line-zeros w)) in
     ap (λ m. map (line_value (unlift_line w) step block) (upto m)) (length-map-upto (λ p. pos 0) n) ∙ ap (λ f. map f (upto n)) same
 
 unlift-zeros : (w : Width) (step d n : ℕ) → unlift_from w step d (zeros (upto n)) ≡ zeros (upto n)
@@ -161,7 +161,7 @@ existing-zeros : (es : List ℕ) (n : ℕ) → existing es (zeros (upto n)) ≡ 
 unfolding existing zeros
 existing-zeros es n =
     let same : (λ (p : ℕ). cond (is_inside es (indices (length es) p)) (get_or (zeros (upto n)) p (pos 0)) (pos 0)) ≡ (λ (p : ℕ). pos 0) =
-        fun_ext (λ p. ap (λ v. cond (is_inside es (indices (length es) p)) v (pos 0)) (get_or-zeros (upto n) p) ∙ either (is_inside es (indices (length es) p))) in
+    fun_ext (λ p. ap (λ v. cond (is_inside es (indices (length es) p)) v (pos 0)) (get_or-zeros (upto n) p) ∙ either (is_inside es (indices (length es) p))) in
     ap (λ f. map f (places (length es))) same
   where
     either : (t : Bool) → cond t (pos 0) (pos 0) ≡ pos 0

@@ -7,6 +7,7 @@ use Rattle.zf_cached.specs.State.{State}
 use Rattle.zf_cached.specs.Touch.{write_back, write_back_line}
 use Rattle.zf_cached.specs.Changes.{write_back_lines, emptied, flush, discard, relined, opened, zeros, resized}
 use Rattle.zf_cached.specs.Consistency.{IsConsistent, IsEmpty}
+use Rattle.zf_cached.specs.Fates.{IsLeft, IsRounded}
 use Rattle.zf_cached.proofs.Caching.{true_is_not_false, write_back_line_by, write_back_line-consistent, write_back_line-lines, write_back_line-held, write_back_line-clean, write_back_line-keeps_clean}
 
 -- ---- the lines of a cache, one after the other
@@ -207,3 +208,37 @@ resized-consistent format new code s means h = record {
   clean_is_coded = λ b e. sym (means b);
   whole = λ b. subst (λ vs. existing_of new b vs ≡ vs) (means b) (existing_of-meant new b code);
 }
+
+-- ---- what becomes of a block, as the laws say it
+
+pub flush-rounded : {Code : Type 0} (format : Format Code) (s : State Code) (b : ℕ) → IsConsistent format s → s.dirty b ≡ true → IsRounded format s (flush format s) b
+flush-rounded format s b h dirty =
+    let k = flush-dirty format s b h dirty in
+    record { clean = (flush-empty format s h).none_dirty b; values = k.1; code = k.0 }
+
+pub flush-left : {Code : Type 0} (format : Format Code) (s : State Code) (b : ℕ) → IsConsistent format s → s.dirty b ≡ false → IsLeft s (flush format s) b
+flush-left format s b h clean =
+    let k = flush-clean format s b clean in
+    record { dirty = (flush-empty format s h).none_dirty b ∙ sym clean; values = k.1; code = k.0 }
+
+-- the hits and misses are not changed by write-backs
+write_back_lines-touches : {Code : Type 0} (format : Format Code) (s : State Code) (n : ℕ) →
+    ((write_back_lines format s n).counts.hits ≡ s.counts.hits) × ((write_back_lines format s n).counts.misses ≡ s.counts.misses)
+unfolding write_back_lines write_back
+write_back_lines-touches format s zero = (refl, refl)
+write_back_lines-touches {Code} format s (suc n) =
+    let before = write_back_lines-touches format s n in
+    let t = write_back_lines format s n in
+    write_back_line_by format t n (λ u. (u.counts.hits ≡ s.counts.hits) × (u.counts.misses ≡ s.counts.misses)) (λ b held dirty. before) (λ b held clean. before) (λ nothing. before)
+
+pub flush-touches : {Code : Type 0} (format : Format Code) (s : State Code) → ((flush format s).counts.hits ≡ s.counts.hits) × ((flush format s).counts.misses ≡ s.counts.misses)
+unfolding flush emptied
+flush-touches format s = write_back_lines-touches format s s.lines
+
+pub discard-discard : {Code : Type 0} (format : Format Code) (s : State Code) → discard format (discard format s) ≡ discard format s
+unfolding discard
+discard-discard format s = refl
+
+pub discard-keeps : {Code : Type 0} (format : Format Code) (s : State Code) → ((discard format s).codes ≡ s.codes) × ((discard format s).counts ≡ s.counts) × ((discard format s).lines ≡ s.lines)
+unfolding discard
+discard-keeps format s = (refl, refl, refl)

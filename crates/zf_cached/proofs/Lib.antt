@@ -8,3 +8,4 @@ pub mod Flushing
 pub mod CodeOfZeros
 pub mod Arrays
 pub mod Windows
+pub mod Powers

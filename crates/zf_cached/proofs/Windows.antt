@@ -5,7 +5,7 @@ use Rattle.std.proofs.lemmas.Bool.{and_from, and_parts}
 use Rattle.std.proofs.lemmas.List.{length-map, length-set}
 use Rattle.std.specs.List.{AllByRecursion}
 use Rattle.zf_spec.specs.Grid.{is_inside}
-use Rattle.zf_cached.specs.Windows.{Window, LiesIn, stepped, mapped, whole, sliced, has_place, none_zero, lies_in, is_window}
+use Rattle.zf_cached.specs.Windows.{Window, LiesIn, stepped, mapped, whole, sliced, has_place, none_zero, lies_in}
 
 -- each position lies in the array where the last one does
 stepped_inside : (ns os sizes ts ps : List ℕ) → is_inside ns (stepped os ts (map (λ n. n - 1) sizes)) ≡ true → is_inside sizes ps ≡ true → length ps ≡ length sizes
