@@ -9,3 +9,4 @@ pub mod CodeOfZeros
 pub mod Arrays
 pub mod Windows
 pub mod Powers
+pub mod Sessions
