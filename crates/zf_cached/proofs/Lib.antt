@@ -10,3 +10,4 @@ pub mod Arrays
 pub mod Windows
 pub mod Powers
 pub mod Sessions
+pub mod Runs

@@ -1,19 +1,19 @@
 -- The steps of a script keep the array in a state that is reached, and the window in the array.
-use Rattle.std.proofs.Common.{◌≡◌, ◌≢◌, refl, sym, ap, subst, ◌∙◌, ℕ, zero, suc, ◌^◌, ◌%◌, ◌<◌, ◌≤◌, ℤ, pos, Bool, true, false, not, ◌&&◌, eqb, eqb-true, List, [], ◌∷◌, map, length, get_or, set, replicate, Option, Some, None, is_none, ◌⊎◌, inl, inr, arith}
+use Rattle.std.proofs.Common.{◌≡◌, refl, sym, ap, subst, ◌∙◌, ℕ, ◌%◌, ℤ, Bool, true, false, not, ◌&&◌, eqb, eqb-true, List, [], ◌∷◌, length, replicate, Option, Some, None, is_none, arith}
 use Rattle.std.proofs.lemmas.Bool.{and_parts}
-use Rattle.std.specs.List.{AllByRecursion, list_all}
+use Rattle.std.specs.List.{list_all}
 use Rattle.zf_spec.specs.Grid.{IsShape, upto, is_inside}
-use Rattle.zf_base.specs.Places.{IsAt, block_number, place_of}
+use Rattle.zf_base.specs.Places.{block_number, place_of}
 use Rattle.zf_base.specs.Shapes.{shape_fault}
-use Rattle.zf_base.specs.Formats.{Format, existing_of, meant}
+use Rattle.zf_base.specs.Formats.{Format, existing_of}
 use Rattle.zf_base.proofs.Formats.{with_at-same, existing_of-existing_of, existing_of-set}
 use Rattle.zf_base.proofs.Places.{IsAt-position}
 use Rattle.zf_base.proofs.Sizes.{shape_from_no_fault}
 use Rattle.zf_cached.specs.State.{State, own_line}
-use Rattle.zf_cached.specs.Touch.{touch, soiled, with_values}
-use Rattle.zf_cached.specs.Changes.{flush, discard, relined, raised, resized, zeros}
-use Rattle.zf_cached.specs.Arrays.{Coding, array_format}
-use Rattle.zf_cached.specs.Windows.{Window, LiesIn, mapped, whole, sliced, has_place, is_window}
+use Rattle.zf_cached.specs.Touch.{touch, soiled}
+use Rattle.zf_cached.specs.Changes.{raised}
+use Rattle.zf_cached.specs.Arrays.{array_format}
+use Rattle.zf_cached.specs.Windows.{mapped, whole, has_place, is_window}
 use Rattle.zf_cached.specs.Commands.{Command}
 use Rattle.zf_cached.specs.Replies.{Refusal, Reply}
 use Rattle.zf_cached.specs.Grammar.{is_writable, has_axes, is_number, is_value}
@@ -109,12 +109,16 @@ done-sound setting s Command.sum t cached h = summed-sound setting _ _ (upto (fo
 done-sound setting s (Command.view origin size step) t cached h =
     let axes = and_parts (has_axes (length s.shape) origin) (has_axes (length s.shape) size && has_axes (length s.shape) step) t.writable in
     let more = and_parts (has_axes (length s.shape) size) (has_axes (length s.shape) step) axes.1 in
-    record { shape = h.shape; state = h.state; window = record {
-      origins = as_many (length s.shape) origin axes.0;
-      sizes = as_many (length s.shape) size more.0;
-      steps = as_many (length s.shape) step more.1;
-      inside = not_refused (is_window s.shape (record { origin = origin; size = size; step = step })) t.size;
-    } }
+    record {
+      shape = h.shape;
+      state = h.state;
+      window = record {
+        origins = as_many (length s.shape) origin axes.0;
+        sizes = as_many (length s.shape) size more.0;
+        steps = as_many (length s.shape) step more.1;
+        inside = not_refused (is_window s.shape (record { origin = origin; size = size; step = step })) t.size;
+      };
+    }
 done-sound setting s (Command.slice axis at) t cached h =
     record { shape = h.shape; state = h.state; window = LiesIn-sliced s.shape s.window axis at h.window (not_refused (has_place s.window axis at) t.range) }
 done-sound setting s (Command.vget ps) t cached h = touched-sound setting s (block_number s.shape (mapped s.window ps)) cached h

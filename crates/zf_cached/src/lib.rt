@@ -7,6 +7,7 @@
 pub mod coded;
 pub mod laws_of_arrays;
 pub mod laws_of_changes;
+pub mod laws_of_runs;
 pub mod laws_of_touches;
 pub mod laws_of_windows;
 pub mod tables;
