@@ -7,7 +7,9 @@
 pub mod coded;
 pub mod laws_of_arrays;
 pub mod laws_of_changes;
+pub mod laws_of_lines;
 pub mod laws_of_runs;
 pub mod laws_of_touches;
 pub mod laws_of_windows;
 pub mod tables;
+pub mod tables_of_lines;
