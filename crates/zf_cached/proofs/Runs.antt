@@ -1,7 +1,5 @@
 -- Runs of scripts: what each line keeps, and lines one after the other.
-use Rattle.std.proofs.Common.{◌≡◌, refl, sym, ap, ◌∙◌, ℕ, suc, ◌+◌, Bool, true, false, cond, ◌&&◌, eqb, List, [], ◌∷◌, ◌++◌, length, bytes_eq, Option, Some, None, append_assoc, arith}
-use Rattle.std.proofs.lemmas.Bool.{and_parts}
-use Rattle.std.specs.Prelude.{find}
+use Rattle.std.proofs.Common.{◌≡◌, refl, sym, ap, ◌∙◌, ℕ, suc, ◌+◌, Bool, true, false, ◌&&◌, eqb, List, [], ◌∷◌, ◌++◌, length, Option, Some, None, append_assoc, arith}
 use Rattle.std.specs.List.{list_any}
 use Rattle.std.specs.Option.{option_to_list}
 use Rattle.std.specs.Int.{Width}
@@ -10,28 +8,15 @@ use Rattle.zf_cached.specs.State.{State}
 use Rattle.zf_cached.specs.Arrays.{array_format}
 use Rattle.zf_cached.specs.Commands.{Command}
 use Rattle.zf_cached.specs.Replies.{Refusal, Reply}
-use Rattle.zf_cached.specs.Grammar.{candidates, cut_at, is_line, is_writable, line_of, read_line, space}
+use Rattle.zf_cached.specs.Grammar.{read_line}
 use Rattle.zf_cached.specs.Steps.{Setting, Session, format_of, refuses_size, refuses_range, refuses_value, takes_memory, refusal, step}
 use Rattle.zf_cached.specs.Consistency.{IsConsistent, IsCached, IsEmpty, IsSound}
 use Rattle.zf_cached.specs.Runs.{lines_of, read_step, line_step, run_lines, run_script, run, array_setting}
 use Rattle.zf_cached.proofs.Flushing.{flush-consistent, flush-empty}
 use Rattle.zf_cached.proofs.Windows.{LiesIn-whole}
 use Rattle.zf_cached.proofs.Arrays.{meant-zeros}
+use Rattle.zf_cached.proofs.Reading.{read_line-Some}
 use Rattle.zf_cached.proofs.Sessions.{step_by, step-sound}
-
--- ---- what is read is a command of the grammar
-
-find_holds : {X : Type 0} (p : X → Bool) (xs : List X) (x : X) → find p xs ≡ Some x → p x ≡ true
-find_holds p [] x e = absurd (cc)
-find_holds {X} p (y ∷ ys) x e = by (p y) refl (find_holds p ys x) e
-  where
-    by : (t : Bool) → p y ≡ t → (find p ys ≡ Some x → p x ≡ true) → cond t (Some y) (find p ys) ≡ Some x → p x ≡ true
-    by true is rest e = let same : y ≡ x = cc in sym (ap p same) ∙ is
-    by false is rest e = rest e
-
-read_line-writable : (d : ℕ) (line : List ℕ) (c : Command) → read_line d line ≡ Some c → is_writable d c ≡ true
-unfolding read_line
-read_line-writable d line c e = (and_parts (bytes_eq (line_of c) line) (is_writable d c) (find_holds (is_line d line) (candidates (cut_at space line)) c e)).1
 
 -- ---- lines
 
@@ -45,7 +30,7 @@ line_step-sound {Code} setting s (b ∷ bs) wanting cached h = by (read_line (le
     by (Some c) e = allowed (setting.allows c)
       where
         allowed : (t : Bool) → IsSound setting (elim t as (λ x. Session Code × Option Reply) [ true ↦ step setting s c wanting | false ↦ (s, Some (Reply.refused Refusal.word)) ]).0
-        allowed true = step-sound setting s c wanting (read_line-writable (length s.shape) (b ∷ bs) c e) cached h
+        allowed true = step-sound setting s c wanting (read_line-Some (length s.shape) (b ∷ bs) c e).0 cached h
         allowed false = h
 
 pub run_lines-sound : {Code : Type 0} (setting : Setting Code) (wants : List ℕ) (k : ℕ) (lines : List (List ℕ)) (s : Session Code) → IsCached setting → IsSound setting s → IsSound setting (run_lines setting wants k lines s).0
