@@ -1,21 +1,25 @@
 -- The codes of arrays: what they mean, how values are rounded, and the code of zeros.
-use Rattle.std.proofs.Common.{◌≡◌, sym, ap, ◌∙◌, ℕ, ◌^◌, ◌<◌, ℤ, pos, cond, Bool, false, List, [], map, length, get_or, replicate, All}
+use Rattle.std.proofs.Common.{◌≡◌, sym, ap, ◌∙◌, ℕ, ◌^◌, ◌<◌, ℤ, pos, cond, Bool, false, List, [], map, length, get_or, replicate, All, ◌+◌, ◌-◌, ◌*◌, ◌/◌, ◌%◌, ◌∷◌, ◌++◌, arith, length-append, suc-mul}
 use Rattle.std.proofs.lemmas.List.Elements.{All-from_recursion}
-use Rattle.std.specs.Int.{Width}
+use Rattle.std.specs.Int.{Width, div_ceil}
+use Rattle.std.specs.List.{flat_map}
+use Rattle.std.proofs.lemmas.List.{length-replicate}
 use Rattle.zf_spec.specs.Grid.{upto, blocks, indices, is_inside, extent_of}
 use Rattle.zf_spec.specs.Lift.{lift}
 use Rattle.zf_spec.specs.Planes.{code}
 use Rattle.zf_spec.specs.Reading.{first}
 use Rattle.zf_spec.specs.Codes.{planes, existing, rate, round, read_rate}
-use Rattle.zf_spec.specs.Stream.{file, fixed_rate}
-use Rattle.zf_spec.proofs.Counting.{map-get_or-upto}
+use Rattle.zf_spec.specs.Stream.{header, filled, file, fixed_rate}
+use Rattle.zf_spec.proofs.Counting.{length-upto, map-get_or-upto}
+use Rattle.zf_spec.proofs.Bytes.{length-to_bytes}
 use Rattle.zf_spec.proofs.Padding.{IsExtent, pad-existing, existing-existing}
 use Rattle.zf_spec.proofs.BlockReading.{read_rate-rate}
 use Rattle.zf_base.specs.Formats.{existing_of, meant, encoded, rounded}
 use Rattle.zf_base.proofs.Formats.{existing_of-existing_of}
 use Rattle.zf_base.proofs.Extents.{length-extent_of, extent_of_bounds}
+use Rattle.zf_cached.specs.State.{State}
 use Rattle.zf_cached.specs.Changes.{opened, zeros}
-use Rattle.zf_cached.specs.Arrays.{Coding, plain_coding, rate_coding, array_format, open_array, codes_of, saved_file}
+use Rattle.zf_cached.specs.Arrays.{Coding, plain_coding, rate_coding, array_format, open_array, codes_of, saved_file, file_bytes}
 use Rattle.zf_cached.proofs.CodeOfZeros.{read_rate-zeros}
 
 -- the places that exist are those of the block's extents
@@ -71,3 +75,25 @@ pub saved_file-open : (w : Width) (budget : ℕ) (ns : List ℕ) (codes : List (
     → saved_file w budget ns (open_array w budget ns codes lines) ≡ file w ns (fixed_rate budget) codes
 unfolding saved_file
 saved_file-open w budget ns codes lines same = ap (file w ns (fixed_rate budget)) (codes_of-open w budget ns codes lines same)
+
+-- codes of one length, end to end
+length-codes : {X : Type 0} (code : X → List Bool) (n : ℕ) (xs : List X) → ((x : X) → length (code x) ≡ n) → length (flat_map (λ c. c) (map code xs)) ≡ length xs * n
+length-codes code n [] each = omega arith
+length-codes code n (x ∷ xs) each =
+    length-append (code x) (flat_map (λ c. c) (map code xs)) ∙ omega (arith, each x, length-codes code n xs each, suc-mul (length xs) n)
+
+-- the bytes of whole words of 64
+length-filled_bytes : (bs : List Bool) → length (filled bs) / 8 ≡ 8 * div_ceil (length bs) 64
+length-filled_bytes bs =
+    let fill = (64 - length bs % 64) % 64 in
+    omega (arith, length-append bs (replicate fill false), length-replicate fill false)
+
+-- how long a saved file is
+pub length-saved_file : (w : Width) (budget : ℕ) (ns : List ℕ) (s : State (List Bool)) → ((b : ℕ) → length (s.codes b) ≡ budget) → length (saved_file w budget ns s) ≡ file_bytes w budget ns
+unfolding saved_file codes_of file file_bytes
+length-saved_file w budget ns s each =
+    let front = header w ns (fixed_rate budget) in
+    let behind = flat_map (λ c. c) (map s.codes (upto (blocks ns))) in
+    let count : length behind ≡ blocks ns * budget = length-codes s.codes budget (upto (blocks ns)) each ∙ ap (λ n. n * budget) (length-upto (blocks ns)) in
+    let bits : length (front ++ behind) ≡ length front + blocks ns * budget = length-append front behind ∙ ap (λ n. length front + n) count in
+    length-to_bytes (filled (front ++ behind)) ∙ length-filled_bytes (front ++ behind) ∙ ap (λ n. 8 * div_ceil n 64) bits

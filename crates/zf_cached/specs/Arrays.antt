@@ -1,7 +1,7 @@
 -- Arrays of whole numbers: how the values of a block are coded, and the format of the codes of an array.
 --     An array has its sizes as a list, x first. A block has its extents, the number of values that exist along each axis.
 use Rattle.std.specs.Prelude.{ℕ, ◌+◌, ◌*◌, ◌/◌, ◌^◌, ℤ, Bool, false, List, [], map, length, replicate, slice_index_or, Option, Some, None}
-use Rattle.std.specs.Int.{Width}
+use Rattle.std.specs.Int.{Width, div_ceil}
 use Rattle.zf_spec.specs.Grid.{upto, blocks, indices, is_inside, extent_of}
 use Rattle.zf_spec.specs.Codes.{rev, rate, read_rev, read_rate}
 use Rattle.zf_spec.specs.Stream.{Mode, header, file}
@@ -81,4 +81,4 @@ max_file = 1200000000
 
 -- how long the stream of an array is: header and codes, filled to a whole word
 unfoldable pub file_bytes : Width → ℕ → List ℕ → ℕ
-file_bytes w budget ns = 8 * ((length (header w ns (Mode.fixed_rate budget)) + blocks ns * budget + 63) / 64)
+file_bytes w budget ns = 8 * div_ceil (length (header w ns (Mode.fixed_rate budget)) + blocks ns * budget) 64
