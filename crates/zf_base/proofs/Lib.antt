@@ -4,3 +4,5 @@ pub mod Sizes
 pub mod Places
 pub mod Extents
 pub mod Values
+pub mod Formats
+pub mod RoundedDown

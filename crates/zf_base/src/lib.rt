@@ -1,7 +1,9 @@
-//! The types of values, positions, and the shape of an array with its blocks.
+//! The types of values, positions, the shape of an array with its blocks, and what a cache of blocks stands on.
 #![tactic(auto)]
 
+mod backing;
 mod block;
+mod evens;
 mod lane;
 pub mod laws;
 mod position;
@@ -9,7 +11,9 @@ mod shape;
 #[cfg(test)]
 mod tests;
 
+pub use backing::{Backing, Reading};
 pub use block::block_len;
+pub use evens::Evens;
 pub use lane::{Lane, Ty};
 pub use position::{Extent, Pos};
 pub use shape::{Shape, ShapeFault};

@@ -10,7 +10,7 @@ use Rattle.zf_base.specs.declared.position.Extent.{Extent}
 use Rattle.zf_base.specs.Positions.{axes, used_axes, with_unused, IsExtent}
 use Rattle.zf_base.specs.Places.{IsAt, block_number, place_of}
 use Rattle.zf_base.proofs.Boxes.{raster-lt, is_inside-coordinates}
-use Rattle.zf_base.proofs.Extents.{IsExtent-of_block, IsPosition-with_unused, used_size, used_axes-with_unused, same_from_axes}
+use Rattle.zf_base.proofs.Extents.{IsExtent-of_block, IsPosition-with_unused, used_size, used_axes-with_unused, same_from_axes, length-extent_of}
 use Rattle.zf_base.proofs.Places.{IsAt-position, IsAt-inside, IsAt-length, IsAt-block, IsAt-place}
 use Rattle.zf_pad.specs.declared.layout.Layout.{Layout}
 use Rattle.zf_pad.specs.Layouts.{HasPlace, place_indices, moved, index_of, index_at, LiesWithin, IsOneToOne}
@@ -24,9 +24,6 @@ use Rattle.zf_spec.proofs.Raster.{raster-coordinates, coordinates-raster, length
 
 length-block : (ns : List ℕ) (b : ℕ) → length (coordinates (grid ns) b) ≡ length ns
 length-block ns b = length-coordinates (grid ns) b ∙ length-map ns (λ n. (n + 3) / 4)
-
-pub length-extent_of : (ns : List ℕ) (b : ℕ) → length (extent_of ns b) ≡ length ns
-length-extent_of ns b = length-extents ns (coordinates (grid ns) b) (length-block ns b)
 
 -- lists of four equal elements are equal
 four_same : (a b c d a' b' c' d' : ℕ) → a ≡ a' → b ≡ b' → c ≡ c' → d ≡ d' → a ∷ b ∷ c ∷ d ∷ [] ≡ a' ∷ b' ∷ c' ∷ d' ∷ []

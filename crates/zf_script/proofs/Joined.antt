@@ -6,7 +6,7 @@ use Rattle.std.proofs.lemmas.List.{length-map, map-append, take_more_set}
 use Rattle.std.proofs.lemmas.List.Folds.{list_all-append}
 use Rattle.std.proofs.lemmas.List.Splits.{length-slice_split}
 use Rattle.zf_base.specs.declared.position.Pos.{Pos}
-use Rattle.zf_base.specs.Positions.{used, with_unused}
+use Rattle.zf_base.specs.Positions.{used_axes, with_unused}
 use Rattle.zf_cached.specs.Grammar.{IsNoDigit, numbers_text, is_number, has_axes, has_sizes, cut_at}
 use Rattle.zf_cached.proofs.Cutting.{cut_at-numbers, joined-cut_at}
 use Rattle.zf_cached.proofs.Reading.{axes-parts, sizes-parts}
@@ -88,7 +88,7 @@ same_pos : (xs ys : List ℕ) → get_or xs 0 0 ≡ get_or ys 0 0 → get_or xs 
 same_pos xs ys x y z w = cc
 
 -- the others are as they were
-others_are : (numbers : List ℕ) (count unused : ℕ) → length numbers ≡ 4 → count ≤ 4 → ((k : ℕ) → count ≤ k → k < 4 → get_or numbers k 0 ≡ unused) → pos_of numbers ≡ with_unused unused (used count (pos_of numbers))
+others_are : (numbers : List ℕ) (count unused : ℕ) → length numbers ≡ 4 → count ≤ 4 → ((k : ℕ) → count ≤ k → k < 4 → get_or numbers k 0 ≡ unused) → pos_of numbers ≡ with_unused unused (used_axes count (pos_of numbers))
 others_are numbers zero u four most others =
     same_pos numbers (u ∷ u ∷ u ∷ u ∷ []) (others 0 (omega arith) (lit< tt)) (others 1 (omega arith) (lit< tt)) (others 2 (omega arith) (lit< tt)) (others 3 (omega arith) (lit< tt))
 others_are numbers (suc zero) u four most others =
@@ -103,7 +103,7 @@ others_are numbers (suc (suc (suc (suc (suc n))))) u four most others = absurd (
 -- a word whose parts are these numbers
 pub sizes_word : (byte unused : ℕ) (word numbers : List ℕ) (count : ℕ) → length numbers ≡ 4 → 1 ≤ count → count ≤ 4 → list_all is_number (take count numbers) ≡ true → cut_at byte word ≡ map decimal (take count numbers) → ((k : ℕ) → count ≤ k → k < 4 → get_or numbers k 0 ≡ unused) → IsSizesWord byte unused word count (pos_of numbers)
 sizes_word byte unused word numbers count four some most small cut others =
-    let same : used count (pos_of numbers) ≡ take count numbers = ap (take count) (four_elements numbers four) in
+    let same : used_axes count (pos_of numbers) ≡ take count numbers = ap (take count) (four_elements numbers four) in
     let long : length (take count numbers) ≡ count = omega (arith, length-take count numbers) in
     let sized : has_sizes (take count numbers) ≡ true = and_from _ (list_all is_number (take count numbers)) (and_from _ _ (le-leb 1 (length (take count numbers)) (omega arith)) (le-leb (length (take count numbers)) 4 (omega arith))) small in
     record {
@@ -123,16 +123,16 @@ sizes_from_axes d ns some most ok =
 pub count_same : (d byte unused : ℕ) (word : List ℕ) (count : ℕ) (p : Pos) (ns : List ℕ) → IsNoDigit byte → 1 ≤ d → d ≤ 4 → IsSizesWord byte unused word count p → has_axes d ns ≡ true → word ≡ numbers_text byte ns → count ≡ d
 count_same d byte unused word count p ns no_digit some most sizes ok is =
     let sized = sizes_from_axes d ns some most ok in
-    let one = parts_are byte word (used count p) no_digit sizes.numbers sizes.text in
+    let one = parts_are byte word (used_axes count p) no_digit sizes.numbers sizes.text in
     let two = parts_are byte word ns no_digit sized is in
-    omega (arith, ap length one, ap length two, length-map ns decimal, length-map (used count p) decimal, sizes.count_is, (axes-parts d ns ok).0)
+    omega (arith, ap length one, ap length two, length-map ns decimal, length-map (used_axes count p) decimal, sizes.count_is, (axes-parts d ns ok).0)
 
 -- where they are as many as the axes they are one for each
 pub axes_word : (d byte unused : ℕ) (word : List ℕ) (count : ℕ) (p : Pos) → count ≡ d → IsSizesWord byte unused word count p → IsAxesWord d byte unused word p
 axes_word d byte unused word count p same sizes =
     let is : IsSizesWord byte unused word d p = subst (λ k. IsSizesWord byte unused word k p) same sizes in
     record {
-      numbers = and_from (length (used d p) == d) (list_all is_number (used d p)) (eq-eqb (length (used d p)) d is.count_is) (sizes-parts (used d p) is.numbers).2;
+      numbers = and_from (length (used_axes d p) == d) (list_all is_number (used_axes d p)) (eq-eqb (length (used_axes d p)) d is.count_is) (sizes-parts (used_axes d p) is.numbers).2;
       text = is.text;
       others = is.others;
     }

@@ -8,7 +8,7 @@ use Rattle.std.proofs.lemmas.Bool.{lt-ltb, ltb-true, false≢true}
 use Rattle.std.proofs.lemmas.Int.{ints}
 use Rattle.std.proofs.lemmas.Slice.Eq.{bytes_eq-Decides}
 use Rattle.zf_base.specs.declared.position.Pos.{Pos}
-use Rattle.zf_base.specs.Positions.{used}
+use Rattle.zf_base.specs.Positions.{used_axes}
 use Rattle.zf_cached.specs.Commands.{Command}
 use Rattle.zf_cached.specs.Grammar.{space, comma, letter_x, numbers_text, words_of, line_of, is_value, has_axes, has_sizes, cut_at, read_line}
 use Rattle.zf_cached.proofs.Numerals.{HasNo}
@@ -51,7 +51,7 @@ pub window_some : (d : ℕ) (words first rest second third : List ℕ) (p s t : 
 window_some d words first rest second third p s t cut again origin sizes steps =
     let one = origin.text in
     let two = sizes.text in
-    let last = last_word third (numbers_text comma (used d t)) steps.text (position_no_space d (used d t) steps.numbers) in
+    let last = last_word third (numbers_text comma (used_axes d t)) steps.text (position_no_space d (used_axes d t) steps.numbers) in
     record {
       origin = origin.numbers;
       sizes = sizes.numbers;
@@ -81,14 +81,14 @@ two_numbers_none words first second cut none a i small_a small_i same =
 pub get_command : (d : ℕ) (rest : List ℕ) (p : Pos) → IsAxesWord d comma 0 rest p → IsCommand d (codes "get" ∷ cut_at space rest) (cmds.Get p)
 get_command d rest p axes = record {
   writable = axes.numbers;
-  text = ap (λ last. codes "get" ∷ last) (last_word rest (numbers_text comma (used d p)) axes.text (position_no_space d (used d p) axes.numbers));
+  text = ap (λ last. codes "get" ∷ last) (last_word rest (numbers_text comma (used_axes d p)) axes.text (position_no_space d (used_axes d p) axes.numbers));
   others = ap cmds.Get axes.others;
 }
 
 pub vget_command : (d : ℕ) (rest : List ℕ) (p : Pos) → IsAxesWord d comma 0 rest p → IsCommand d (codes "vget" ∷ cut_at space rest) (cmds.VGet p)
 vget_command d rest p axes = record {
   writable = axes.numbers;
-  text = ap (λ last. codes "vget" ∷ last) (last_word rest (numbers_text comma (used d p)) axes.text (position_no_space d (used d p) axes.numbers));
+  text = ap (λ last. codes "vget" ∷ last) (last_word rest (numbers_text comma (used_axes d p)) axes.text (position_no_space d (used_axes d p) axes.numbers));
   others = ap cmds.VGet axes.others;
 }
 
@@ -112,7 +112,7 @@ resize_command d rest count s sizes =
     let other = sizes.others in
     record {
       writable = sizes.numbers;
-      text = ap (λ last. codes "resize" ∷ last) (last_word rest (numbers_text letter_x (used count s)) sizes.text (sizes_no_space (used count s) (sizes-parts (used count s) sizes.numbers).2));
+      text = ap (λ last. codes "resize" ∷ last) (last_word rest (numbers_text letter_x (used_axes count s)) sizes.text (sizes_no_space (used_axes count s) (sizes-parts (used_axes count s) sizes.numbers).2));
       others = cc;
     }
 

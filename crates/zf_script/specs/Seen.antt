@@ -1,6 +1,6 @@
 -- How commands, replies and refusals are seen as those of the language.
 use Rattle.std.specs.Prelude.{ℕ, ◌≡◌, List, length, IsTrue}
-use Rattle.zf_base.specs.Positions.{used, with_unused}
+use Rattle.zf_base.specs.Positions.{used_axes, with_unused}
 use Rattle.zf_cached.specs.Commands.{Command}
 use Rattle.zf_cached.specs.Grammar.{words_of, is_writable}
 use Rattle.zf_cached.specs.Replies as script
@@ -13,20 +13,20 @@ use Rattle.zf_script.specs.declared.reply.Reply.TheVariants as replies
 
 -- the command that this is in d dimensions: its numbers along the used axes
 abbrev pub command_of : ℕ → Cmd → Command
-command_of d (cmds.Get p) = Command.get (used d p)
-command_of d (cmds.Set p v) = Command.set (used d p) v
-command_of d (cmds.Add p v) = Command.add (used d p) v
+command_of d (cmds.Get p) = Command.get (used_axes d p)
+command_of d (cmds.Set p v) = Command.set (used_axes d p) v
+command_of d (cmds.Add p v) = Command.add (used_axes d p) v
 command_of d (cmds.Fill v) = Command.fill v
 command_of d cmds.Sum = Command.sum
-command_of d (cmds.View p s t) = Command.view (used d p) (used d s) (used d t)
+command_of d (cmds.View p s t) = Command.view (used_axes d p) (used_axes d s) (used_axes d t)
 command_of d (cmds.Slice a i) = Command.slice a i
-command_of d (cmds.VGet p) = Command.vget (used d p)
-command_of d (cmds.VSet p v) = Command.vset (used d p) v
+command_of d (cmds.VGet p) = Command.vget (used_axes d p)
+command_of d (cmds.VSet p v) = Command.vset (used_axes d p) v
 command_of d cmds.VSum = Command.vsum
 command_of d cmds.Flush = Command.flush
 command_of d cmds.Discard = Command.discard
 command_of d (cmds.Lines l) = Command.lines l
-command_of d (cmds.Resize count s) = Command.resize (used count s)
+command_of d (cmds.Resize count s) = Command.resize (used_axes count s)
 command_of d cmds.Stats = Command.stats
 
 -- a command in this form: coordinates along unused axes are 0, sizes and steps are 1

@@ -14,9 +14,10 @@ use Rattle.zf_spec.proofs.BlockReading.{read_rev-rev, read_rate-rate, length-rat
 use Rattle.zf_base.specs.declared.lane.Ty.{Ty}
 use Rattle.zf_base.specs.declared.lane.Ty.TheVariants.{I32, I64}
 use Rattle.zf_base.specs.Widths.{width_of}
-use Rattle.zf_pad.proofs.Blocks.{length-extent_of, all_extents}
+use Rattle.zf_pad.proofs.Blocks.{all_extents}
 use Rattle.zf_header.specs.declared.header.Mode.TheVariants.{Reversible, Rate}
 use Rattle.zf_stream.specs.Parsing.{read_code}
+use Rattle.zf_base.proofs.Extents.{length-extent_of}
 
 -- ---- a block of an array
 

@@ -19,7 +19,6 @@ use Rattle.zf_spec.proofs.RawValues.{length-raw}
 use Rattle.zf_base.specs.declared.lane.Ty.{Ty}
 use Rattle.zf_base.specs.declared.lane.Ty.TheVariants.{I32, I64}
 use Rattle.zf_base.specs.Widths.{width_of}
-use Rattle.zf_pad.proofs.Blocks.{length-extent_of}
 use Rattle.zf_header.specs.declared.header.Header.{Header}
 use Rattle.zf_header.specs.declared.header.HeaderFault.{HeaderFault}
 use Rattle.zf_header.specs.declared.header.Mode.{Mode}
@@ -28,6 +27,7 @@ use Rattle.zf_header.specs.HeaderFaults.{header_fault}
 use Rattle.zf_block.specs.Room.{longest_rev, longest_prec}
 use Rattle.zf_stream.specs.Raw.{raw_len, raw_bytes}
 use Rattle.zf_stream.specs.Parsing.{read_code, with_block, read_next, read_codes, values_of_blocks, header_of, code_bits, longest_code, longest_codes, blocks_text, restored_text}
+use Rattle.zf_base.proofs.Extents.{length-extent_of}
 
 -- ---- one code
 

@@ -1,10 +1,10 @@
 use Rattle.std.proofs.Common.{ℤ, ◌-◌, List, Some, map, sym, ap, ◌∙◌}
 use Rattle.zf_spec.specs.Grid.{extent_of}
 use Rattle.zf_bits.specs.Reader.{rest}
-use Rattle.zf_pad.proofs.Blocks.{length-extent_of}
 use Rattle.zf_stream.specs.Parsing.{read_code}
 use Rattle.zf_stream.proofs.Joining.{rest_behind}
 use Rattle.zf_stream.proofs.decoding.read_block.Goals as goal
+use Rattle.zf_base.proofs.Extents.{length-extent_of}
 
 pub returns-clause-ok : goal.returns-clause-ok
 returns-clause-ok g c =

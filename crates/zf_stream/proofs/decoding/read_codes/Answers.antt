@@ -1,7 +1,6 @@
 use Rattle.std.proofs.Common.{◌≡◌, ℕ, ◌+◌, ◌-◌, ◌<◌, Bool, ℤ, List, [], ◌∷◌, ◌++◌, map, None, Ok, Err, sym, ap, subst, ◌∙◌, arith, rules}
 use Rattle.zf_spec.specs.Grid.{blocks, block_of, extent_of, upto}
 use Rattle.zf_bits.specs.Reader.{rest}
-use Rattle.zf_pad.proofs.Blocks.{length-extent_of}
 use Rattle.zf_base.specs.Widths.{width_of}
 use Rattle.zf_header.specs.declared.header.Header.{Header}
 use Rattle.zf_stream.specs.declared.fault.StreamFault.{StreamFault}
@@ -10,6 +9,7 @@ use Rattle.zf_stream.specs.Parsing.{read_code, read_codes}
 use Rattle.zf_stream.specs.ReadStreams.{IsCutAt}
 use Rattle.zf_stream.proofs.Joining.{with_blocks, with_blocks-more, with_blocks-end, with_blocks-cut, read_codes-next, read_codes-cut, blocks-more}
 use Rattle.zf_stream.proofs.decoding.read_codes.Goals as goal
+use Rattle.zf_base.proofs.Extents.{length-extent_of}
 
 -- the answer of the first code that ends too early
 cut_at : (h : Header) (s : List Bool) (b : ℕ) (e : StreamFault) → e ≡ Truncated b → read_codes h 0 (blocks h.shape) s ≡ Err b → IsCutAt h s e
