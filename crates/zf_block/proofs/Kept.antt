@@ -10,7 +10,7 @@ use Rattle.zf_spec.specs.Kept.{kept_planes_from, kept_planes}
 use Rattle.zf_spec.specs.Codes.{coefficients_of}
 use Rattle.zf_spec.proofs.Counting.{map-upto_same}
 use Rattle.zf_spec.proofs.KeptSame.{kept_whole}
-use Rattle.zf_spec.proofs.PlaneDigits.{digits_at, length-digits_at, get_or-digits_at, coefficients_of-is}
+use Rattle.zf_spec.proofs.PlaneDigits.{digits_at, length-digits_at, get_or-digits_at, coefficients_of-is, get_or-blanks}
 
 -- ---- a budget that is no less than the code
 
@@ -28,19 +28,9 @@ kept_planes-whole r ps fits = kept_planes_from-whole r 0 ps fits
 
 -- ---- planes of zeros below
 
-zero_at : (size r : ℕ) → get_or (replicate size false) r false ≡ false
-zero_at zero r = refl
-zero_at (suc size) zero = refl
-zero_at (suc size) (suc r) = zero_at size r
-
-zeros_at : (n size k r : ℕ) → get_or (get_or (replicate n (replicate size false)) k []) r false ≡ false
-zeros_at zero size k r = refl
-zeros_at (suc n) size zero r = zero_at size r
-zeros_at (suc n) size (suc k) r = zeros_at n size k r
-
 -- they have the digits that planes which are missing have
 same_at : (ps : List (List Bool)) (n size k r : ℕ) → get_or (get_or (ps ++ replicate n (replicate size false)) k []) r false ≡ get_or (get_or ps k []) r false
-same_at [] n size k r = zeros_at n size k r
+same_at [] n size k r = get_or-blanks n size k r
 same_at (p ∷ ps) n size zero r = refl
 same_at (p ∷ ps) n size (suc k) r = same_at ps n size k r
 

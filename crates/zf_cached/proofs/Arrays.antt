@@ -11,7 +11,7 @@ use Rattle.zf_spec.specs.ReadPlanes.{first_bits}
 use Rattle.zf_spec.specs.Codes.{planes, existing_values, rate, round, read_rate}
 use Rattle.zf_spec.specs.Stream.{header, with_fill, file, fixed_rate}
 use Rattle.zf_spec.proofs.Counting.{length-upto, map-get_or-upto}
-use Rattle.zf_spec.proofs.Bytes.{length-to_bytes}
+use Rattle.zf_spec.proofs.Bytes.{length-to_bytes, length-filled_bytes}
 use Rattle.zf_spec.proofs.Padding.{IsExtent, pad-existing_values, existing_values-existing_values}
 use Rattle.zf_spec.proofs.BlockReading.{read_rate-rate}
 use Rattle.zf_base.specs.Formats.{existing_of, meant, encoded, rounded}
@@ -83,10 +83,6 @@ length-codes code n (x ∷ xs) each =
     length-append (code x) (flat_map (λ c. c) (map code xs)) ∙ omega (arith, each x, length-codes code n xs each, suc-mul (length xs) n)
 
 -- the bytes of whole words of 64
-length-filled_bytes : (bs : List Bool) → length (with_fill bs) / 8 ≡ 8 * div_ceil (length bs) 64
-length-filled_bytes bs =
-    let fill = (64 - length bs % 64) % 64 in
-    omega (arith, length-append bs (replicate fill false), length-replicate fill false)
 
 -- how long a saved file is
 pub length-saved_file : (w : Width) (budget : ℕ) (ns : List ℕ) (s : State (List Bool)) → ((b : ℕ) → length (s.codes b) ≡ budget) → length (saved_file w budget ns s) ≡ file_bytes w budget ns

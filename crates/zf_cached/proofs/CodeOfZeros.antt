@@ -20,6 +20,7 @@ use Rattle.zf_spec.proofs.Reach.{has_one-zeros, reach_none}
 use Rattle.zf_spec.proofs.PlaneCode.{tail-zeros}
 use Rattle.zf_spec.proofs.KeptCases.{kept_tail-zeros}
 use Rattle.zf_spec.proofs.Full.{full_only}
+use Rattle.zf_spec.proofs.PlaneDigits.{get_or-blanks}
 
 -- ---- lists of zeros
 
@@ -101,16 +102,6 @@ kept_planes-blanks r (suc p) k =
 digits_sum-zeros : {X : Type 0} (xs : List X) → digits_sum (map (λ x. false) xs) ≡ pos 0
 digits_sum-zeros [] = refl
 digits_sum-zeros (x ∷ xs) = ap (λ v. pos 0 +ℤ negsuc 1 *ℤ v) (digits_sum-zeros xs)
-
-get_or-blank : (size r : ℕ) → get_or (replicate size false) r false ≡ false
-get_or-blank zero r = refl
-get_or-blank (suc size) zero = refl
-get_or-blank (suc size) (suc r) = get_or-blank size r
-
-get_or-blanks : (p size k r : ℕ) → get_or (get_or (replicate p (replicate size false)) k []) r false ≡ false
-get_or-blanks zero size k r = refl
-get_or-blanks (suc p) size zero r = get_or-blank size r
-get_or-blanks (suc p) size (suc k) r = get_or-blanks p size k r
 
 value-blanks : (w : Width) (p size r : ℕ) (ks : List ℕ) → value_of w (map (λ k. get_or (get_or (replicate p (replicate size false)) k []) r false) ks) ≡ pos 0
 value-blanks w p size r ks =

@@ -1,6 +1,6 @@
 -- The steps of a script keep the array in a state that is reached, and the window in the array.
 use Rattle.std.proofs.Common.{◌≡◌, refl, sym, ap, subst, ◌∙◌, ℕ, ◌%◌, ℤ, Bool, true, false, not, ◌&&◌, eqb, eqb-true, List, [], ◌∷◌, length, replicate, Option, Some, None, is_none, arith}
-use Rattle.std.proofs.lemmas.Bool.{and_parts}
+use Rattle.std.proofs.lemmas.Bool.{and_parts, not-false}
 use Rattle.std.specs.List.{list_all}
 use Rattle.zf_spec.specs.Grid.{IsShape, upto, is_inside}
 use Rattle.zf_base.specs.Places.{block_number, place_of}
@@ -82,10 +82,6 @@ summed-sound setting block found (x ∷ xs) s cached h = summed-sound setting bl
 
 -- ---- commands
 
-not_refused : (b : Bool) → not b ≡ false → b ≡ true
-not_refused true e = refl
-not_refused false e = absurd (cc)
-
 as_many : (d : ℕ) (ns : List ℕ) → has_axes d ns ≡ true → length ns ≡ d
 as_many d ns h = eqb-true (length ns) d (and_parts (eqb (length ns) d) (list_all is_number ns) h).0
 
@@ -100,10 +96,10 @@ unfolding done
 done-sound setting s (Command.get ps) t cached h = touched-sound setting s (block_number s.shape ps) cached h
 done-sound setting s (Command.set ps v) t cached h =
     let axes = and_parts (has_axes (length s.shape) ps) (is_value v) t.writable in
-    changed_at-sound setting s ps (λ old. v) (as_many (length s.shape) ps axes.0) (not_refused (is_inside s.shape ps) t.range) cached h
+    changed_at-sound setting s ps (λ old. v) (as_many (length s.shape) ps axes.0) (not-false (is_inside s.shape ps) t.range) cached h
 done-sound setting s (Command.add ps v) t cached h =
     let axes = and_parts (has_axes (length s.shape) ps) (is_value v) t.writable in
-    changed_at-sound setting s ps _ (as_many (length s.shape) ps axes.0) (not_refused (is_inside s.shape ps) t.range) cached h
+    changed_at-sound setting s ps _ (as_many (length s.shape) ps axes.0) (not-false (is_inside s.shape ps) t.range) cached h
 done-sound setting s (Command.fill v) t cached h = filled-sound setting s v (upto (format_of setting s).blocks) cached h
 done-sound setting s Command.sum t cached h = summed-sound setting _ _ (upto (format_of setting s).blocks) s cached h
 done-sound setting s (Command.view origin size step) t cached h =
@@ -116,23 +112,23 @@ done-sound setting s (Command.view origin size step) t cached h =
         origins = as_many (length s.shape) origin axes.0;
         sizes = as_many (length s.shape) size more.0;
         steps = as_many (length s.shape) step more.1;
-        inside = not_refused (is_window s.shape (record { origin = origin; size = size; step = step })) t.size;
+        inside = not-false (is_window s.shape (record { origin = origin; size = size; step = step })) t.size;
       };
     }
 done-sound setting s (Command.slice axis at) t cached h =
-    record { shape = h.shape; state = h.state; window = LiesIn-sliced s.shape s.window axis at h.window (not_refused (has_place s.window axis at) t.range) }
+    record { shape = h.shape; state = h.state; window = LiesIn-sliced s.shape s.window axis at h.window (not-false (has_place s.window axis at) t.range) }
 done-sound setting s (Command.vget ps) t cached h = touched-sound setting s (block_number s.shape (mapped s.window ps)) cached h
 done-sound setting s (Command.vset ps v) t cached h =
     let axes = and_parts (has_axes (length s.shape) ps) (is_value v) t.writable in
     let same : length ps ≡ length s.window.size = as_many (length s.shape) ps axes.0 ∙ sym h.window.sizes in
     changed_at-sound setting s (mapped s.window ps) (λ old. v) (length-mapped s.shape s.window ps h.window same)
-    (mapped_inside s.shape s.window h.window ps (not_refused (is_inside s.window.size ps) t.range) same) cached h
+    (mapped_inside s.shape s.window h.window ps (not-false (is_inside s.window.size ps) t.range) same) cached h
 done-sound setting s Command.vsum t cached h = summed-sound setting _ _ _ s cached h
 done-sound setting s Command.flush t cached h = with_state setting s _ h (flush-consistent (format_of setting s) s.state h.state)
 done-sound setting s Command.discard t cached h = with_state setting s _ h (discard-consistent (format_of setting s) s.state h.state)
 done-sound setting s (Command.lines l) t cached h = with_state setting s _ h (relined-consistent (format_of setting s) s.state (raised l) (raised-some l) h.state)
 done-sound setting s (Command.resize ns) t cached h =
-    let new = not_refused (is_new_shape setting s ns) t.size in
+    let new = not-false (is_new_shape setting s ns) t.size in
     let parts = and_parts (eqb (length ns) (length s.shape)) (is_none (shape_fault ns) && setting.has_room ns) new in
     let none = (and_parts (is_none (shape_fault ns)) (setting.has_room ns) parts.1).0 in
     let as_before : length ns ≡ length s.shape = eqb-true (length ns) (length s.shape) parts.0 in

@@ -1,7 +1,7 @@
 -- What bytes without a fault are.
 use Rattle.std.proofs.Common.{◌≡◌, ℕ, ◌^◌, ◌<◌, ◌≤◌, ◌==◌, Bool, true, false, not, ◌&&◌, ◌||◌, cond, nat_lt, nat_le, List, [], ◌∷◌, ◌++◌, length, Some, None, refl, ap, ◌∙◌, inl, inr, arith}
 use Rattle.std.specs.List.{AllByRecursion}
-use Rattle.std.proofs.lemmas.Bool.{ltb-false, leb-false, le-leb, cases_lt, cases_eq, eq-eqb, ne_eqb, le-ltb, lt-leb, and_left, and_right, not_from_true}
+use Rattle.std.proofs.lemmas.Bool.{ltb-false, leb-false, le-leb, cases_lt, cases_eq, eq-eqb, ne_eqb, le-ltb, lt-leb, and_left, and_right, not_from_true, not-false}
 use Rattle.std.proofs.lemmas.Bool.Decides.{nat_tests}
 use Rattle.zf_spec.specs.Grid.{product, max_values}
 use Rattle.zf_spec.specs.Stream.{magic, codec, to_bits}
@@ -48,10 +48,6 @@ beside : (t x : Bool) → (t && x) ≡ false → t ≡ true → x ≡ false
 beside true x e h = e
 beside false x e h = absurd cc
 
-not_long : (x : Bool) → not x ≡ false → x ≡ true
-not_long true e = refl
-not_long false e = true_false e
-
 outside : (a m b : ℕ) → (nat_le a m && nat_le m b) ≡ false → a ≤ m → b < m
 outside a m b e above = leb-false m b (beside (nat_le a m) (nat_le m b) e (le-leb a m above))
 
@@ -67,7 +63,7 @@ good_mode bytes none small =
             let above_accuracy = outside 2177 m 4094 none.1.0 (omega arith) in
             let begun : m ≡ 4095 = omega arith in
             let test = eq-eqb m 4095 begun in
-            long begun (ltb-false _ _ (beside (m == 4095) (nat_lt (length bytes) 19) none.1.1.0 test)) (not_long _ (beside (m == 4095) (not (is_long_rate (to_bits bytes))) none.1.1.1.0 test))
+            long begun (ltb-false _ _ (beside (m == 4095) (nat_lt (length bytes) 19) none.1.1.0 test)) (not-false _ (beside (m == 4095) (not (is_long_rate (to_bits bytes))) none.1.1.1.0 test))
       ]
     ]
 

@@ -8,7 +8,7 @@ use Rattle.zf_spec.specs.Codes.{rate}
 use Rattle.zf_spec.specs.Grid.{upto, blocks, extent_of, block_of}
 use Rattle.zf_spec.specs.Stream.{fixed_rate, header, codes, with_fill, file, stream}
 use Rattle.zf_spec.proofs.BlockReading.{length-rate}
-use Rattle.zf_spec.proofs.Bytes.{length-to_bytes}
+use Rattle.zf_spec.proofs.Bytes.{length-to_bytes, length-filled_bytes}
 use Rattle.zf_spec.proofs.Counting.{length-upto}
 use Rattle.zf_header.specs.declared.header.Header.{Header}
 use Rattle.zf_header.specs.declared.header.Mode.{Mode}
@@ -22,10 +22,6 @@ length-codes code b (k ∷ ks) each =
     length-append (code k) (flat_map (λ c. c) (map code ks)) ∙ omega (arith, each k, length-codes code b ks each, suc-mul (length ks) b)
 
 -- the bytes of whole words of 64
-length-filled_bytes : (bs : List Bool) → length (with_fill bs) / 8 ≡ 8 * div_ceil (length bs) 64
-length-filled_bytes bs =
-    let fill = (64 - length bs % 64) % 64 in
-    omega (arith, length-append bs (replicate fill false), length-replicate fill false)
 
 length-stream_rate : (w : Width) (ns : List ℕ) (b : ℕ) (values : List ℤ) → length (stream w ns (fixed_rate b) values) ≡ 8 * div_ceil (length (header w ns (fixed_rate b)) + blocks ns * b) 64
 unfolding stream file

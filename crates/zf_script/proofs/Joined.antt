@@ -11,6 +11,7 @@ use Rattle.zf_cached.specs.Grammar.{IsNoDigit, numbers_text, is_number, has_axes
 use Rattle.zf_cached.proofs.Cutting.{cut_at-numbers, joined-cut_at}
 use Rattle.zf_cached.proofs.Reading.{axes-parts, sizes-parts}
 use Rattle.zf_script.specs.NumberWords.{IsAxesWord, IsSizesWord}
+use Rattle.zf_base.proofs.Values.{four_elements}
 
 -- ---- a word of numbers and its parts
 pub parts_are : (byte : ℕ) (word ns : List ℕ) → IsNoDigit byte → has_sizes ns ≡ true → word ≡ numbers_text byte ns → cut_at byte word ≡ map decimal ns
@@ -72,13 +73,6 @@ others_more numbers count n unused others k above below =
     rw get_or-set_other (others k (omega arith) below)
 
 -- ---- the numbers as a `Pos`
-pub four_elements : (xs : List ℕ) → length xs ≡ 4 → get_or xs 0 0 ∷ get_or xs 1 0 ∷ get_or xs 2 0 ∷ get_or xs 3 0 ∷ [] ≡ xs
-four_elements [] four = absurd (omega arith)
-four_elements (a ∷ []) four = absurd (omega arith)
-four_elements (a ∷ b ∷ []) four = absurd (omega arith)
-four_elements (a ∷ b ∷ c ∷ []) four = absurd (omega arith)
-four_elements (a ∷ b ∷ c ∷ d ∷ []) four = refl
-four_elements (a ∷ b ∷ c ∷ d ∷ e ∷ xs) four = absurd (omega arith)
 
 -- four numbers as a `Pos`
 abbrev pub pos_of : List ℕ → Pos

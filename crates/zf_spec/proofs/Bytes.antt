@@ -3,7 +3,7 @@ use Rattle.std.proofs.Common.{◌≡◌, refl, sym, ap, subst, ◌∙◌, ℕ, z
 use Rattle.std.proofs.Math.Nat.{div-one, div-div-eq-div-mul}
 use Rattle.std.proofs.lemmas.List.{length-append, length-take, length-drop, length-replicate}
 use Rattle.std.proofs.lemmas.List.Elements.{All-head, All-tail, All-nil, All-cons}
-use Rattle.std.specs.Int.{Width, w8, w16, w32, w64, w128, byte_len, byte_at, byte_worth, bytes_low_first, sum_through, to_le_bytes, from_le_bytes}
+use Rattle.std.specs.Int.{Width, w8, w16, w32, w64, w128, div_ceil, byte_len, byte_at, byte_worth, bytes_low_first, sum_through, to_le_bytes, from_le_bytes}
 use mir.Val.{bits}
 use Rattle.zf_spec.specs.Numbers.{field, number}
 use Rattle.zf_spec.specs.Stream.{fill, with_fill, bytes_from, to_bytes, to_bits, first_bytes}
@@ -68,6 +68,10 @@ fill_none bs h = let none : (64 - length bs % 64) % 64 ≡ 0 = omega arith in rw
 
 pub length-with_fill : (bs : List Bool) → length (with_fill bs) % 64 ≡ 0
 length-with_fill bs = omega (arith, length-append bs (replicate ((64 - length bs % 64) % 64) false), length-replicate ((64 - length bs % 64) % 64) false)
+
+-- so many whole words of bytes
+pub length-filled_bytes : (bs : List Bool) → length (with_fill bs) / 8 ≡ 8 * div_ceil (length bs) 64
+length-filled_bytes bs = omega (arith, length-append bs (fill bs), length-fill bs)
 
 pub filled_zeros : (bs : List Bool) → (n : ℕ) × (n < 64) × (with_fill bs ≡ bs ++ replicate n false)
 filled_zeros bs = ((64 - length bs % 64) % 64, omega arith, refl)

@@ -32,6 +32,18 @@ length-map-reverse-upto f n = length-map (reverse (upto n)) f ∙ length-reverse
 pub get_or-map-reverse-upto : {X : Type 0} (f : ℕ → X) (n k : ℕ) (d : X) → k < n → get_or (map f (reverse (upto n))) k d ≡ f (n - 1 - k)
 get_or-map-reverse-upto f n k d h = get_or-map f (reverse (upto n)) k 0 d (omega (arith, h, length-reverse-upto n)) ∙ ap f (get_or-reverse-upto n k 0 h)
 
+-- ---- planes of zeros
+
+pub get_or-blank : (size r : ℕ) → get_or (replicate size false) r false ≡ false
+get_or-blank zero r = refl
+get_or-blank (suc size) zero = refl
+get_or-blank (suc size) (suc r) = get_or-blank size r
+
+pub get_or-blanks : (p size k r : ℕ) → get_or (get_or (replicate p (replicate size false)) k []) r false ≡ false
+get_or-blanks zero size k r = refl
+get_or-blanks (suc p) size zero r = get_or-blank size r
+get_or-blanks (suc p) size (suc k) r = get_or-blanks p size k r
+
 -- ---- planes of lists of digits
 
 pub length-planes_of : (w : ℕ) (coefficients : List (List Bool)) → length (planes_of w coefficients) ≡ w
