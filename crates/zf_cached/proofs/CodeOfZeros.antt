@@ -8,7 +8,7 @@ use Rattle.std.specs.List.{position_or_len}
 use mir.Val.{bits}
 use Rattle.zf_spec.specs.Numbers.{digits_sum, value_of, wrap}
 use Rattle.zf_spec.specs.Grid.{upto, places, indices, is_inside}
-use Rattle.zf_spec.specs.Lift.{unlift_line, line_value, along, unlift_from, unlift}
+use Rattle.zf_spec.specs.Lift.{unlift_line, line_value, along, along_axes_back, unlift}
 use Rattle.zf_spec.specs.Planes.{reach, plane_code, code_from}
 use Rattle.zf_spec.specs.Kept.{kept_plane, cut_plane, kept_tail, kept_planes_from, kept_planes}
 use Rattle.zf_spec.specs.ReadPlanes.{Begins, planes_in}
@@ -20,7 +20,7 @@ use Rattle.zf_spec.proofs.Reach.{has_one-zeros, reach_none}
 use Rattle.zf_spec.proofs.PlaneCode.{tail-zeros}
 use Rattle.zf_spec.proofs.KeptCases.{kept_tail-zeros}
 use Rattle.zf_spec.proofs.Full.{full_only}
-use Rattle.zf_spec.proofs.PlaneDigits.{get_or-blanks}
+use Rattle.zf_spec.proofs.PlaneDigits.{get_or-blanks, coefficients_of-is}
 
 -- ---- lists of zeros
 
@@ -119,7 +119,7 @@ unfolding zeros
 coefficients-blanks w d p size =
     let ks = reverse (upto (bits w)) in
     let same : (λ (r : ℕ). value_of w (map (λ k. get_or (get_or (replicate p (replicate size false)) k []) r false) ks)) ≡ (λ (r : ℕ). pos 0) = fun_ext (λ r. value-blanks w p size r ks) in
-    ap (λ f. by_place d (map f (upto (4 ^ d)))) same ∙ by_place-zeros d (upto (4 ^ d))
+    coefficients_of-is w d (replicate p (replicate size false)) ∙ ap (λ f. by_place d (map f (upto (4 ^ d)))) same ∙ by_place-zeros d (upto (4 ^ d))
 
 -- ---- the inverse transform of zeros
 
@@ -144,7 +144,7 @@ along-zeros w step n =
     fun_ext (λ p. at_line (unlift_line w) _ _ _ _ (p / step % 4) (get_or-zeros (upto n) _) (get_or-zeros (upto n) _) (get_or-zeros (upto n) _) (get_or-zeros (upto n) _) (unlift_line-zeros w)) in
     ap (λ m. map (line_value (unlift_line w) step block) (upto m)) (length-map-upto (λ p. pos 0) n) ∙ ap (λ f. map f (upto n)) same
 
-unlift-zeros : (w : Width) (step d n : ℕ) → unlift_from w step d (zeros (upto n)) ≡ zeros (upto n)
+unlift-zeros : (w : Width) (step d n : ℕ) → along_axes_back (unlift_line w) step d (zeros (upto n)) ≡ zeros (upto n)
 unlift-zeros w step zero n = refl
 unlift-zeros w step (suc d) n = ap (along (unlift_line w) step) (unlift-zeros w (4 * step) d n) ∙ along-zeros w step n
 
