@@ -6,6 +6,7 @@
 --     Joining        the blocks of a stream, read one after another
 --     Parsed         from what was read to what a stream says
 --     OwnFaults      which faults are a call's own
+--     Refusals       each refusal is that of some input, or comes from outside
 --     TextOfParse    what is restored of a stream is the raw bytes of its values
 --     Joined         the values of an array are joined of its blocks
 --     ParseOfStream  a stream of codes that read back is parsed to what they stand for
@@ -17,7 +18,8 @@ mod Codes
 mod Fill
 mod Joining
 mod Parsed
-mod OwnFaults
+pub mod OwnFaults
+mod Refusals
 pub mod TextOfParse
 pub mod Joined
 pub mod ParseOfStream
