@@ -14,7 +14,7 @@ use Rattle.zf_stream.specs.Parsing.{parse, header_of, code_bits, header_or, code
 use Rattle.zf_stream.specs.Reading.{IsFault}
 
 -- the faults of devices, and those of raw values
-pub is_foreign : StreamFault → Bool
+unfoldable pub is_foreign : StreamFault → Bool
 is_foreign faults.Read = true
 is_foreign faults.Write = true
 is_foreign (faults.Header f) = false
@@ -26,7 +26,7 @@ is_foreign faults.Trailing = false
 is_foreign faults.Memory = false
 
 -- the answer is such a fault
-pub blames_foreign : {T : Type 0} → Result T StreamFault → Bool
+unfoldable pub blames_foreign : {T : Type 0} → Result T StreamFault → Bool
 blames_foreign (Ok x) = false
 blames_foreign (Err e) = is_foreign e
 
