@@ -6,11 +6,10 @@ ghost use Rattle.zf_dev.specs.Real.{shelf_faults};
 use crate::faults::raise;
 use crate::{Failed, LoadError, Shelf};
 use std::alloc::Global;
-use std::fs;
 use std::fs::{File, Files, OpenFile};
-use std::io;
 use std::io::{ErrorKind, Read, Write};
 use std::rt::LibcRuntime;
+use std::{fs, io};
 
 /// The files of the current folder as a shelf.
 ///

@@ -9,9 +9,11 @@ returns-then-count-left-clause-long g c = λ long.
     let piece = c.read.new.buf in
     let count = c.in-Ok.count in
     let came = take count piece in
-    let in_piece : count ≤ length piece = omega (arith, c.in-Ok.ensures.bound) in
-    (_, omega (arith, length-append before came, length-take-le count piece in_piece, c.loop-count.invariant.within, c.if-count-left.true),
-        Takes-append _ _ _ before came c.loop-count.invariant.taken c.in-Ok.ensures.taken)
+    let in_piece : count ≤ length piece = omega (arith, c.in-Ok.ensures.bound) in (
+      _,
+      omega (arith, length-append before came, length-take-le count piece in_piece, c.loop-count.invariant.within, c.if-count-left.true),
+      Takes-append _ _ _ before came c.loop-count.invariant.taken c.in-Ok.ensures.taken,
+    )
 
 pub returns-then-count-left-clause-taken : goal.returns-then-count-left-clause-taken
 returns-then-count-left-clause-taken g c = (_, Takes-append _ _ _ _ _ c.loop-count.invariant.taken c.in-Ok.ensures.taken)
