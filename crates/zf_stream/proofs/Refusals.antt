@@ -1,12 +1,12 @@
 -- Each refusal is that of some input, or comes from outside.
-use Rattle.std.proofs.Common.{◌≡◌, ℕ, ◌+◌, ◌<◌, ◌≤◌, cond, ltb, lt-ltb, le-ltb, List, length, take, replicate, Some, Result, Ok, Err, sym, ap, ◌∙◌, inl, inr, ⊎_elim, arith}
+use Rattle.std.proofs.Common.{◌≡◌, ℕ, ◌+◌, ◌<◌, ◌≤◌, cond, ltb, lt-ltb, le-ltb, List, length, replicate, Some, Ok, Err, sym, ap, ◌∙◌, inl, inr, ⊎_elim, arith}
 use Rattle.std.proofs.lemmas.List.{take_all, length-replicate}
 use Rattle.zf_stream.specs.declared.fault.StreamFault.{StreamFault}
 use Rattle.zf_stream.specs.declared.fault.StreamFault.TheVariants as faults
 use Rattle.zf_stream.specs.Raw.{length_answer}
 use Rattle.zf_stream.specs.Parsing.{restore_answer}
 use Rattle.zf_stream.specs.Reading.{IsFaultOf, IsFault}
-use Rattle.zf_stream.specs.Outcomes.{IsRefusal, CanRefuse}
+use Rattle.zf_stream.specs.Outcomes.{CanRefuse}
 use Rattle.zf_stream.proofs.Parsed.{refusal_of_fault}
 
 -- what is answered for so many zero bytes
@@ -20,8 +20,11 @@ CanRefuse-short wanted n short =
 pub CanRefuse-long : (wanted : ℕ) → CanRefuse (length_answer wanted) faults.RawLong
 CanRefuse-long wanted =
     let n = wanted + 1 in
-    inl (replicate n 0, zeros_answer wanted n ∙ ap (λ b. cond b (Err (faults.RawShort n)) (cond (ltb wanted n) (Err faults.RawLong) (Ok tt))) (le-ltb n wanted (omega arith))
-    ∙ ap (λ b. cond b (Err faults.RawLong) (Ok tt)) (lt-ltb wanted n (omega arith)))
+    inl (
+      replicate n 0,
+      zeros_answer wanted n ∙ ap (λ b. cond b (Err (faults.RawShort n)) (cond (ltb wanted n) (Err faults.RawLong) (Ok tt))) (le-ltb n wanted (omega arith))
+          ∙ ap (λ b. cond b (Err faults.RawLong) (Ok tt)) (lt-ltb wanted n (omega arith)),
+    )
 
 -- the fault of a header is that of its bytes
 pub CanRefuse-header : (front : List ℕ) (e : StreamFault) → length front ≤ 19 → IsFaultOf front e → CanRefuse restore_answer e

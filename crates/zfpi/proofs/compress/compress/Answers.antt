@@ -15,4 +15,4 @@ returns-in-Err-clause-behaves g c = λ files.
     let e = c.in-Err.fault in
     let done = c.in-Err.ensures in
     rw c.from.ensures (Behaves-fault (Compress h) (compress_answer h) (stream_text h) e _ _ _ _ files (IsStreaming-compress h) done.answer done.possible (λ input told memory. tt) done.err
-        (λ w. compress_front e (stream_text h done.err.bytes) _ _ done.err.written (λ want. done.unwritten (ap Err want))))
+    (λ w. compress_front e (stream_text h done.err.bytes) _ _ done.err.written (λ want. done.unwritten (ap Err want))))

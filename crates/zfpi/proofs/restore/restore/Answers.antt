@@ -14,5 +14,5 @@ returns-in-Err-clause-behaves g c = λ files.
     let e = c.in-Err.fault in
     let done = c.in-Err.ensures in
     rw c.from.ensures (Behaves-fault Restore restore_answer restored_text e _ _ _ _ files IsStreaming-restore done.answer done.possible
-        (λ input told memory. subst HasGoodHeader told (done.memory (ap Err memory))) done.err
-        (λ w. restore_front e (restored_text done.err.bytes) _ _ done.err.written done.unwritten))
+    (λ input told memory. subst HasGoodHeader told (done.memory (ap Err memory))) done.err
+    (λ w. restore_front e (restored_text done.err.bytes) _ _ done.err.written done.unwritten))
