@@ -232,24 +232,39 @@ fn a_device_that_fails_is_told(rt: HostRuntime) -> Result<(), Fail> {
     Ok(())
 }
 
+// What the error output holds where one write to it fails and the words are none.
+fn line_cut_at(alloc: Global, piece: usize, fail: u64) -> Result<(Status, MemSink), AllocError>
+    requires { 0 < piece }
+{
+    let mut src = MemSource::new(Vec::new(alloc), Vec::new(alloc), 1);
+    let mut out = MemSink::new(alloc, Vec::new(alloc), 1);
+    let mut err = MemSink::new(alloc, [fail].to_vec(alloc)?, piece);
+    let mut shelf = MemShelf::new(alloc, Vec::new(alloc));
+    let status = zfpi(alloc, &[], &mut src, &mut out, &mut err, &mut shelf);
+    Ok((status, err))
+}
+
 #[test]
 fn a_fault_of_the_error_output_changes_no_status(rt: HostRuntime) -> Result<(), Fail> {
-    let alloc = rt.alloc();
-    // which write to the error output fails, and what it then holds of `zfpi: usage: word 0`
-    for (piece, fail, held) in [(1000, 0, b"".as_slice()), (4, 2, b"zfpi: us".as_slice())] {
-        let mut src = MemSource::new(Vec::new(alloc), Vec::new(alloc), 1);
-        let mut out = MemSink::new(alloc, Vec::new(alloc), 1);
-        let mut err = MemSink::new(alloc, [fail].to_vec(alloc)?, piece);
-        let mut shelf = MemShelf::new(alloc, Vec::new(alloc));
-        let status = zfpi(alloc, &[], &mut src, &mut out, &mut err, &mut shelf);
-        assert_eq!(rt; status, Status::Usage(0));
-        assert_eq!(rt; err.bytes(), held);
-        assert_eq!(rt; err.faults(), 1);
-    }
+    let (status, err) = line_cut_at(rt.alloc(), 1000, 0)?;
+    assert_eq!(rt; (status, err.faults()), (Status::Usage(0), 1));
+    assert_eq!(rt; err.bytes().len(), 0);
+    let (status, err) = line_cut_at(rt.alloc(), 4, 2)?;
+    assert_eq!(rt; (status, err.faults()), (Status::Usage(0), 1));
+    assert_eq!(rt; err.bytes(), b"zfpi: us".as_slice());
     Ok(())
 }
 
 // A program that always said that there is no memory would meet the clauses.
+fn there_and_back(alloc: Global, words: &str, raw: &[u8]) -> Result<(usize, Ended), AllocError> {
+    let made = call(alloc, words, raw, 5000, &[], &[])?;
+    let stream = made.out.bytes();
+    Ok((
+        stream.len(),
+        call(alloc, "restore", stream, 5000, &[], &[])?,
+    ))
+}
+
 #[test]
 fn where_there_is_memory_large_work_is_done(rt: HostRuntime) -> Result<(), Fail> {
     let alloc = rt.alloc();
@@ -257,21 +272,17 @@ fn where_there_is_memory_large_work_is_done(rt: HostRuntime) -> Result<(), Fail>
     for k in 0..1155i64 {
         raw.extend_from_slice(&k.wrapping_mul(k).to_le_bytes())?;
     }
-    for (words, len) in [
-        ("compress int64 3x5x7x11 reversible", 2552),
-        ("compress int64 3x5x7x11 rate 4096", 6168),
-        ("compress int64 33x35 reversible", 1816),
-        ("compress int32 2310 rate 256", 18512),
+    for (words, len, exact) in [
+        ("compress int64 3x5x7x11 reversible", 2552, true),
+        ("compress int64 3x5x7x11 rate 4096", 6168, false),
+        ("compress int64 33x35 reversible", 1816, true),
+        ("compress int32 2310 rate 256", 18512, false),
     ] {
-        let made = call(alloc, words, &raw, 5000, &[], &[])?;
-        assert_eq!(rt; made.status, Status::Done, "{words}");
-        assert_eq!(rt; made.out.bytes().len(), len, "{words}");
-        let back = call(alloc, "restore", made.out.bytes(), 5000, &[], &[])?;
+        let (made, back) = there_and_back(alloc, words, &raw)?;
+        assert_eq!(rt; made, len, "{words}");
         assert_eq!(rt; back.status, Status::Done, "{words}");
-        assert_eq!(rt; back.out.bytes().len(), 9240, "{words}");
-        if words.ends_with("reversible") {
-            assert_eq!(rt; back.out.bytes(), raw.as_slice(), "{words}");
-        }
+        assert_eq!(rt; back.out.bytes().len(), raw.len(), "{words}");
+        assert!(rt; !exact || back.out.bytes() == raw.as_slice(), "{words}");
     }
     Ok(())
 }
