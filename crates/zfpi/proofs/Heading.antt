@@ -17,9 +17,9 @@ use Rattle.zfpi.specs.declared.status.Status.TheVariants as statuses
 use Rattle.zfpi.specs.declared.command.Command.TheVariants.{Info}
 use Rattle.zfpi.specs.Info.{info_line, info_text}
 use Rattle.zfpi.specs.World.{World, TellsInput, seen}
-use Rattle.zfpi.specs.Answer.{fault_status, header_status, status_for, MayFail, TakesHeader, info_draft}
+use Rattle.zfpi.specs.Answer.{fault_status, header_status, MayFail, TakesHeader, info_draft}
 use Rattle.zfpi.specs.Headline.{IsOfCommand, Writes, Behaves}
-use Rattle.zfpi.proofs.Told.{files_of, world_of, TellsFiles-same, KeepsFiles-none}
+use Rattle.zfpi.proofs.Told.{world_of, TellsFiles-same, KeepsFiles-none}
 
 -- the line of a header that was read is the text of the bytes that were read
 pub info_text-read : (bytes : List ℕ) (h : Header) → header_fault bytes ≡ None → h ≡ header_in (to_bits bytes) → info_text bytes ≡ info_line h

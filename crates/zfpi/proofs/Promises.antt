@@ -1,7 +1,6 @@
 -- From the promises of a command to those of the program.
 use Rattle.std.proofs.Common.{◌≡◌, ◌≢◌, ℕ, ◌<◌, Bool, true, false, cond, ltb, length, take, inl, inr, List, Option, Some, None, Result, Ok, Err, refl, ap, sym, subst, ◌∙◌}
 use Rattle.std.proofs.lemmas.Bool.{ltb-true}
-use Rattle.zf_dev.specs.Faults.{HasCause}
 use Rattle.zf_dev.specs.Sink.{Appends}
 use Rattle.zf_dev.proofs.Counts.{HasCause-quiet}
 use Rattle.zf_header.specs.declared.header.HeaderFault.{HeaderFault}

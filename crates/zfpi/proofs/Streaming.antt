@@ -1,6 +1,5 @@
 -- From what a call on a stream promises to what a command promises that hands it on.
-use Rattle.std.proofs.Common.{◌≡◌, ◌≢◌, ℕ, ℤ, List, [], ◌∷◌, length, Option, Some, None, Result, Ok, Err, true, ◌⊎◌, inl, inr, refl, ap, sym, subst, ◌∙◌, IsTrue}
-use Rattle.zf_dev.specs.Faults.{HasCause}
+use Rattle.std.proofs.Common.{◌≡◌, ◌≢◌, ℕ, ℤ, List, [], ◌∷◌, Option, Some, None, Result, Ok, Err, ◌⊎◌, inl, inr, refl, ap, sym, subst, ◌∙◌}
 use Rattle.zf_dev.specs.Shelf.{Files}
 use Rattle.zf_dev.specs.Sink.{Appends, AppendsFront}
 use Rattle.zf_dev.proofs.Appending.{AppendsFront-none}
@@ -15,7 +14,6 @@ use Rattle.zf_stream.specs.Raw.{stream_text, compress_answer}
 use Rattle.zf_stream.specs.Parsing.{parse, header_or, without_values, restore_answer, restored_text}
 use Rattle.zf_stream.proofs.StreamsBack.{answer-stream_text}
 use Rattle.zf_stream.specs.Outcomes as streams
-use Rattle.zfpi.specs.declared.status.Status.{Status}
 use Rattle.zfpi.specs.declared.status.Status.TheVariants as statuses
 use Rattle.zfpi.specs.declared.command.Command.{Command}
 use Rattle.zfpi.specs.declared.command.Command.TheVariants.{Compress, Restore}

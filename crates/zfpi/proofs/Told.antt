@@ -1,5 +1,5 @@
 -- A world that explains what devices tell.
-use Rattle.std.proofs.Common.{◌≡◌, ℕ, List, Option, Some, None, refl}
+use Rattle.std.proofs.Common.{ℕ, List, Option, Some, None, refl}
 use Rattle.zf_dev.specs.Shelf.{Files, KeepsFiles}
 use Rattle.zf_dev.specs.Source.{Takes, IsAtEnd}
 use Rattle.zf_dev.proofs.Taking.{Takes-to_end}

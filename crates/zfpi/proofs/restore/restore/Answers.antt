@@ -1,4 +1,4 @@
-use Rattle.std.proofs.Common.{List, ℕ, Option, Some, Err, ◌≡◌, ap, subst}
+use Rattle.std.proofs.Common.{Err, ap, subst}
 use Rattle.zf_stream.specs.Parsing.{restore_answer, restored_text}
 use Rattle.zf_stream.specs.Reading.{HasGoodHeader}
 use Rattle.zfpi.specs.declared.command.Command.TheVariants.{Restore}
