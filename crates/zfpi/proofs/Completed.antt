@@ -21,7 +21,7 @@ abbrev pub header_with : Ty → List ℕ → Mode → Header
 header_with ty ns mode = record { ty = ty; shape = ns; mode = mode }
 
 -- one value is a shape
-one_value : IsShape (1 ∷ [])
+pub one_value : IsShape (1 ∷ [])
 one_value = record {
   some_dimension = lit≤ tt;
   four_at_most = lit≤ tt;

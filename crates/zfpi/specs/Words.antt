@@ -9,7 +9,6 @@ use Rattle.zf_header.specs.declared.header.Mode.TheVariants.{Reversible, Rate}
 use Rattle.zf_header.specs.HeaderBits.{IsHeader, rate_bytes_of}
 use Rattle.zfpi.specs.declared.command.Command.{Command}
 use Rattle.zfpi.specs.declared.command.Command.TheVariants.{Compress, Restore, Info}
-use Rattle.zfpi.specs.declared.words.TheConstants.{MAX_FILE}
 
 -- the word of a type
 abbrev pub type_word : Ty → List ℕ
@@ -25,10 +24,14 @@ abbrev pub mode_words : Mode → List (List ℕ)
 mode_words Reversible = codes "reversible" ∷ []
 mode_words (Rate b) = codes "rate" ∷ decimal b ∷ []
 
+-- the most bytes of a file
+abbrev pub max_file : ℕ
+max_file = 1200000000
+
 -- the stream of a fixed rate has no more bytes than a file may have
 abbrev pub FitsFile : Header → Mode → Type 0
 FitsFile h Reversible = Unit {0}
-FitsFile h (Rate b) = rate_bytes_of h ≤ MAX_FILE
+FitsFile h (Rate b) = rate_bytes_of h ≤ max_file
 
 -- what can be asked for: a type, a shape, and a mode whose stream is not too long
 pub record IsAskable (h : Header) : Type 0 where
