@@ -11,7 +11,7 @@ use Rattle.zf_base.specs.declared.lane.Ty.TheVariants.{I32}
 use Rattle.zf_stream.specs.declared.fault.StreamFault.{StreamFault}
 use Rattle.zf_stream.specs.declared.fault.StreamFault.TheVariants as faults
 use Rattle.zf_stream.specs.Raw.{stream_text, compress_answer}
-use Rattle.zf_stream.specs.Parsing.{parse, header_or, without_values, restore_answer, restored_text}
+use Rattle.zf_stream.specs.Parsing.{values_said, header_or, without_values, restore_answer, restored_text}
 use Rattle.zf_stream.proofs.StreamsBack.{answer-stream_text}
 use Rattle.zf_stream.specs.Outcomes as streams
 use Rattle.zfpi.specs.declared.status.Status.TheVariants as statuses
@@ -68,7 +68,7 @@ one_header = record { ty = I32; shape = 1 ∷ []; mode = Reversible }
 
 -- where an input is a good stream, its header is one
 good_header : (bytes : List ℕ) → restore_answer bytes ≡ Ok tt → header_fault bytes ≡ None
-unfolding parse
+unfolding values_said
 good_header bytes good = by (header_fault bytes) _ good
   where
     by : (fault : Option HeaderFault) (rest : Result (List ℤ) StreamFault) → without_values (header_or fault rest) ≡ Ok tt → fault ≡ None
@@ -87,7 +87,7 @@ IsStreaming-restore = record {
   to_end = λ input. refl;
   fault_extent = (IsStreaming-compress one_header).fault_extent;
   memory_input = stream_text one_header [];
-  takes_memory = λ files. good_header (stream_text one_header []) (answer-stream_text one_header [] (record { shape = one_value; mode = tt }));
+  takes_memory = λ files. good_header (stream_text one_header []) (answer-stream_text one_header [] (record { shape = one_value; mode = tt }) tt);
 }
 
 -- ---- after Ok
