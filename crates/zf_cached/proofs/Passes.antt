@@ -98,11 +98,14 @@ pub pass-misses : {Code : Type 0} (format : Format Code) (s : State Code) (n : �
     → ((touched_below format s n).counts.hits ≡ s.counts.hits) × ((touched_below format s n).counts.misses ≡ s.counts.misses + n) × HasLastBlocks n (touched_below format s n)
 pass-misses {Code} format s n c h room =
     let start : IsUnderway n 0 s.lines s.held = record { enough = h.two_for_a_line; some = c.some_line; blocks = λ l b e. (sym (c.in_own_line l b e), inr (omega arith, h.last l b e)) } in
-    let p = passed format s n n (omega arith) room start in
-    (p.hits, p.misses, record {
-      two_for_a_line = subst (λ m. 2 * m ≤ n) (sym p.lines) h.two_for_a_line;
-      last = λ l b e. subst (λ m. n ≤ b + m) (sym p.lines) (ends l b (p.underway.blocks l b e).1);
-    })
+    let p = passed format s n n (omega arith) room start in (
+      p.hits,
+      p.misses,
+      record {
+        two_for_a_line = subst (λ m. 2 * m ≤ n) (sym p.lines) h.two_for_a_line;
+        last = λ l b e. subst (λ m. n ≤ b + m) (sym p.lines) (ends l b (p.underway.blocks l b e).1);
+      },
+    )
   where
     ends : (l b : ℕ) → ((b < n) × (n ≤ b + s.lines)) ⊎ ((n ≤ l) × (n ≤ b + s.lines)) → n ≤ b + s.lines
     ends l b (inl x) = x.1
