@@ -9,6 +9,7 @@
 --     Numerals     numbers and values as digits
 --     Cutting      texts that are cut at a byte, and numbers between such bytes
 --     Reading      the words of a command, and the only command that a line is read as
+--     Passes       passes over all blocks
 --     Sessions     what the step of a command keeps
 --     Runs         what the lines of a script keep, and lines one after the other
 pub mod States
@@ -22,4 +23,5 @@ pub mod Numerals
 pub mod Cutting
 pub mod Reading
 pub mod Sessions
+pub mod Passes
 pub mod Runs
