@@ -3,7 +3,7 @@ use Rattle.std.specs.Bool.{⊤}
 use Rattle.std.proofs.lemmas.Option.{MatchOption-at_some}
 use Rattle.zf_spec.specs.Numbers.{field}
 use Rattle.zf_bits.specs.Reader.{Reads}
-use Rattle.zf_block.proofs.Reading.{PassesBits-more, PassesBits-end}
+use Rattle.zf_block.proofs.ReadCodes.{PassesBits-more, PassesBits-end}
 use Rattle.zf_block.proofs.rate.skip.Goals as goal
 
 pub returns : goal.returns

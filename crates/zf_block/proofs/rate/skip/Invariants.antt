@@ -1,4 +1,4 @@
-use Rattle.zf_block.proofs.Reading.{PassesBits}
+use Rattle.zf_block.proofs.ReadCodes.{PassesBits}
 use Rattle.zf_block.proofs.rate.skip.Given as goal
 
 abbrev pub invariant-loop-left : goal.invariant-loop-left
