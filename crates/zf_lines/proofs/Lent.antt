@@ -1,11 +1,11 @@
 -- What `Lines` are once a run of their values was lent.
-use Rattle.std.proofs.Common.{◌≡◌, ℕ, zero, ◌+◌, ◌-◌, ◌*◌, ◌<◌, ◌≤◌, List, [], ◌∷◌, ◌++◌, map, length, take, drop, get_or, slice_set, Option, Some, refl, sym, ap, subst, ◌∙◌, arith, length-take, length-drop, drop-drop, append-nil}
+use Rattle.std.proofs.Common.{◌≡◌, ℕ, ◌+◌, ◌-◌, ◌*◌, ◌<◌, ◌≤◌, List, [], ◌++◌, map, length, take, drop, slice_set, Some, sym, ap, ◌∙◌, arith, length-take, length-drop, drop-drop, append-nil}
 use Rattle.std.proofs.lemmas.List.{length-map, drop_all, drop-take, take-take}
 use Rattle.std.specs.List.{refill, length_refill}
 use Rattle.std.specs.declared.alloc.Global.{Global}
 use Rattle.zf_lines.specs.Places.{somes, IsRun}
 use Rattle.zf_lines.specs.Lends.{with_slots, spliced}
-use Rattle.zf_lines.specs.Rows.{rows, line_at, part, over, over_part, with_line, with_part}
+use Rattle.zf_lines.specs.Rows.{rows, line_at, part, with_line, with_part}
 use Rattle.zf_lines.specs.Filled.{IsFilled}
 use Rattle.zf_lines.specs.declared.cells.Base.{Base}
 use Rattle.zf_lines.specs.declared.cells.Cells.{Cells}

@@ -1,7 +1,7 @@
 -- Blocks keep their number and their length, whatever is written through a loan.
-use Rattle.std.proofs.Common.{◌≡◌, ◌≢◌, ℕ, zero, suc, ◌+◌, ◌-◌, ◌<◌, ◌≤◌, List, [], ◌∷◌, ◌++◌, length, take, drop, get_or, slice_set, replicate, refl, sym, ap, subst, ◌∙◌, arith, length-append, length-take, length-drop, length-set, get_or-set_same, get_or-set_other, append-nil}
+use Rattle.std.proofs.Common.{◌≡◌, ◌≢◌, ℕ, zero, suc, ◌+◌, ◌<◌, ◌≤◌, List, [], ◌∷◌, ◌++◌, length, take, drop, slice_set, replicate, refl, sym, ap, ◌∙◌, arith, length-append, length-take, length-drop, length-set, get_or-set_same, get_or-set_other, append-nil}
 use Rattle.std.proofs.lemmas.List.{length-replicate, get_or-replicate, drop_all, take_all}
-use Rattle.std.specs.List.{refill, length_refill}
+use Rattle.std.specs.List.{length_refill}
 use Rattle.zf_lines.specs.Rows.{line_at, HasSize, part, over, over_part, with_line, with_part}
 
 module _ {X : Type 0} where

@@ -37,7 +37,6 @@ use Rattle.std_alloc.proofs.RcSteps.{word, word-Good}
 use types.Kit.{flt_l}
 use types.Run.{bin}
 use denote.Builtin.{usize}
-use Rattle.std.specs.Prelude.{None}
 use Rattle.core.proofs.mem.Param.{El, R, elτ}
 use Rattle.std_alloc.proofs.RawLayout.{as_raw}
 use Rattle.zf_lines.specs.Ownership.{cells_own}
