@@ -4,3 +4,4 @@ pub mod Sizes
 pub mod Places
 pub mod Extents
 pub mod Values
+pub mod Formats

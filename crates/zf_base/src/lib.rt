@@ -1,6 +1,7 @@
-//! The types of values, positions, and the shape of an array with its blocks.
+//! The types of values, positions, the shape of an array with its blocks, and what a cache of blocks stands on.
 #![tactic(auto)]
 
+mod backing;
 mod lane;
 pub mod laws;
 mod position;
@@ -8,6 +9,7 @@ mod shape;
 #[cfg(test)]
 mod tests;
 
+pub use backing::{Backing, Reading};
 pub use lane::{Lane, Ty};
 pub use position::{Extent, Pos};
 pub use shape::{Shape, ShapeFault};

@@ -1,3 +1,21 @@
 -- The definitions of cached arrays and scripts, that every crate above the codec cites. One file for each subject:
+--     State        the state of a cached array, and the line of a block
+--     Touch        a touch of a block, a touch for writing, and write-back
+--     Changes      flush, discard, a new number of lines, resize, and an array as it is opened
+--     Arrays       the codes of an array of whole numbers, and its file
+--     Windows      windows of an array and their positions
 --     Commands     what a line of a script asks for
+--     Grammar      which lines are which command
+--     Replies      what a line answers, and the text of it
+--     Steps        what a command does and answers, and when it is refused
+--     Runs         the run of a script, and the look at an array that is only read
+pub mod State
+pub mod Touch
+pub mod Changes
+pub mod Arrays
+pub mod Windows
 pub mod Commands
+pub mod Grammar
+pub mod Replies
+pub mod Steps
+pub mod Runs

@@ -1,0 +1,20 @@
+-- States whose parts are equal.
+use Rattle.std.proofs.Common.{◌≡◌, ℕ}
+use Rattle.std.proofs.Math.Path.{fun_ext}
+use Rattle.zf_cached.specs.State.{Counts, State}
+
+-- two states are equal where they have the same number of lines, the same in each line, and the same of each block
+pub same_state : {Code : Type 0} (s t : State Code) → s.lines ≡ t.lines → ((l : ℕ) → s.held l ≡ t.held l) → ((b : ℕ) → s.dirty b ≡ t.dirty b)
+    → ((b : ℕ) → s.values b ≡ t.values b) → ((b : ℕ) → s.codes b ≡ t.codes b) → s.counts ≡ t.counts → s ≡ t
+same_state s t lines held dirty values codes counts = λ i. record {
+  lines = lines i;
+  held = fun_ext held i;
+  dirty = fun_ext dirty i;
+  values = fun_ext values i;
+  codes = fun_ext codes i;
+  counts = counts i;
+}
+
+-- two counts are equal where their numbers are
+pub same_counts : (c d : Counts) → c.hits ≡ d.hits → c.misses ≡ d.misses → c.writes ≡ d.writes → c ≡ d
+same_counts c d hits misses writes = λ i. record { hits = hits i; misses = misses i; writes = writes i }

@@ -1,0 +1,62 @@
+-- Arrays of whole numbers: how the values of a block are coded, and the format of the codes of an array.
+--     An array has its sizes as a list, x first. A block has its extents, the number of values that exist along each axis.
+use Rattle.std.specs.Prelude.{ℕ, ◌+◌, ◌*◌, ◌/◌, ◌^◌, nat_le, ℤ, Bool, false, List, [], map, length, replicate, slice_index_or}
+use Rattle.std.specs.Int.{Width}
+use Rattle.zf_spec.specs.Grid.{upto, blocks, indices, is_inside, extent_of}
+use Rattle.zf_spec.specs.Codes.{rate, read_rate}
+use Rattle.zf_spec.specs.Stream.{Mode, header, file}
+use Rattle.zf_base.specs.Formats.{Format}
+use Rattle.zf_cached.specs.State.{State}
+use Rattle.zf_cached.specs.Changes.{opened, raised}
+
+-- the values that a code means in a block with these extents; the code of a block's values; the code of zeros
+pub record Coding (Code : Type 0) : Type 0 where
+  pub meaning : List ℕ → Code → List ℤ
+  pub encoding : List ℕ → List ℤ → Code
+  pub zero : Code
+
+-- so many bits a block
+unfoldable pub rate_coding : Width → ℕ → Coding (List Bool)
+rate_coding w budget = record {
+  meaning = read_rate w;
+  encoding = rate w budget;
+  zero = replicate budget false;
+}
+
+-- the codes of an array of these sizes
+unfoldable pub array_format : {Code : Type 0} → Coding Code → List ℕ → Format Code
+array_format coding ns = record {
+  blocks = blocks ns;
+  block_len = 4 ^ length ns;
+  exists = λ b p. is_inside (extent_of ns b) (indices (length ns) p);
+  meaning = λ b code. coding.meaning (extent_of ns b) code;
+  encoding = λ b values. coding.encoding (extent_of ns b) values;
+}
+
+-- the codes of a file, in the order of blocks, are those of the array that is opened; the number of lines is raised
+unfoldable pub open_array : Width → ℕ → List ℕ → List (List Bool) → ℕ → State (List Bool)
+open_array w budget ns codes lines = opened (array_format (rate_coding w budget) ns) (λ b. slice_index_or codes b []) (raised lines)
+
+-- the codes of an array of zeros
+abbrev pub zero_codes : ℕ → List ℕ → List (List Bool)
+zero_codes budget ns = replicate (blocks ns) (replicate budget false)
+
+-- an array of zeros
+unfoldable pub new_array : Width → ℕ → List ℕ → ℕ → State (List Bool)
+new_array w budget ns lines = open_array w budget ns (zero_codes budget ns) lines
+
+-- the codes of the blocks of an array, in order
+unfoldable pub codes_of : {Code : Type 0} → List ℕ → State Code → List Code
+codes_of ns s = map s.codes (upto (blocks ns))
+
+-- what is saved: the stream of these codes, those of the last write-backs and, where a block never was written back, the file's own
+unfoldable pub saved_file : Width → ℕ → List ℕ → State (List Bool) → List ℕ
+saved_file w budget ns s = file w ns (Mode.fixed_rate budget) (codes_of ns s)
+
+-- the most bytes of a file
+abbrev pub max_file : ℕ
+max_file = 1200000000
+
+-- how long the stream of an array is: header and codes, filled to a whole word
+unfoldable pub file_bytes : Width → ℕ → List ℕ → ℕ
+file_bytes w budget ns = 8 * ((length (header w ns (Mode.fixed_rate budget)) + blocks ns * budget + 63) / 64)

@@ -1,0 +1,105 @@
+-- The run of a script over a cached array, and the look at an array that is only read.
+use Rattle.std.specs.Prelude.{ℕ, suc, ◌==◌, nat_le, Bool, true, false, List, [], ◌∷◌, ◌++◌, length, slice_index_or, flat_map, Option, Some, None}
+use Rattle.std.specs.Int.{Width}
+use Rattle.std.specs.List.{slice_split, list_any}
+use Rattle.std.specs.Option.{option_to_list}
+use Rattle.zf_cached.specs.State.{State}
+use Rattle.zf_cached.specs.Touch.{touch}
+use Rattle.zf_cached.specs.Changes.{flush, opened, raised}
+use Rattle.zf_cached.specs.Arrays.{Coding, rate_coding, array_format, open_array, saved_file, max_file, file_bytes}
+use Rattle.zf_cached.specs.Windows.{whole}
+use Rattle.zf_cached.specs.Commands.{Command}
+use Rattle.zf_cached.specs.Replies.{Refusal, Reply, reply_text}
+use Rattle.zf_cached.specs.Grammar.{read_line}
+use Rattle.zf_cached.specs.Steps.{Setting, Session, format_of, step}
+
+-- the lines of a script end with a line feed, which the last one may lack
+abbrev pub lines_of : List ℕ → List (List ℕ)
+lines_of script = slice_split (λ b. b == 10) script
+
+-- the step of a line as it is read: one that is no command, or none of these commands, is refused
+unfoldable pub read_step : {Code : Type 0} → Setting Code → Session Code → Option Command → Bool → Session Code × Option Reply
+read_step setting s None wanting = (s, Some (Reply.refused Refusal.word))
+read_step setting s (Some c) wanting = elim (setting.allows c) [ true ↦ step setting s c wanting | false ↦ (s, Some (Reply.refused Refusal.word)) ]
+
+-- the step of a line; an empty one is skipped
+unfoldable pub line_step : {Code : Type 0} → Setting Code → Session Code → List ℕ → Bool → Session Code × Option Reply
+line_step setting s [] wanting = (s, None)
+line_step setting s (c ∷ cs) wanting = read_step setting s (read_line (length s.shape) (c ∷ cs)) wanting
+
+-- the steps of lines one after the other, the first of them number k of the script, counted from 0, and their replies;
+-- memory is wanting at the lines with these numbers
+unfoldable pub run_lines : {Code : Type 0} → Setting Code → List ℕ → ℕ → List (List ℕ) → Session Code → Session Code × List Reply
+run_lines setting wants k [] s = (s, [])
+run_lines setting wants k (line ∷ lines) s =
+    let one = line_step setting s line (list_any (λ n. n == k) wants) in
+    let rest = run_lines setting wants (suc k) lines one.0 in
+    (rest.0, option_to_list one.1 ++ rest.1)
+
+-- a script from the whole window on
+unfoldable pub run_script : {Code : Type 0} → Setting Code → List ℕ → List ℕ → State Code → List ℕ → Session Code × List Reply
+run_script setting wants shape s script = run_lines setting wants 0 (lines_of script) (record { shape = shape; state = s; window = whole shape })
+
+-- a run flushes at the end
+unfoldable pub run : {Code : Type 0} → Setting Code → List ℕ → List ℕ → State Code → List ℕ → Session Code × List Reply
+run setting wants shape s script =
+    let r = run_script setting wants shape s script in
+    (record r.0 { state = flush (format_of setting r.0) r.0.state }, r.1)
+
+-- a look does not
+unfoldable pub look : {Code : Type 0} → Setting Code → List ℕ → List ℕ → State Code → List ℕ → Session Code × List Reply
+look setting wants shape s script = run_script setting wants shape s script
+
+-- the text of replies
+abbrev pub replies_text : List Reply → List ℕ
+replies_text replies = flat_map reply_text replies
+
+-- ---- the settings
+
+-- a cached array of so many bits a block: every command
+unfoldable pub array_setting : Width → ℕ → Setting (List Bool)
+array_setting w budget = record {
+  width = w;
+  coding = rate_coding w budget;
+  has_room = λ ns. nat_le (file_bytes w budget ns) max_file;
+  touch = touch;
+  allows = λ c. true;
+}
+
+-- the commands that only read
+abbrev pub only_reads : Command → Bool
+only_reads (Command.get ps) = true
+only_reads Command.sum = true
+only_reads (Command.view origin size step) = true
+only_reads (Command.slice axis at) = true
+only_reads (Command.vget ps) = true
+only_reads Command.vsum = true
+only_reads (Command.lines l) = true
+only_reads Command.stats = true
+only_reads _ = false
+
+-- an array that is only read, in any coding
+unfoldable pub look_setting : {Code : Type 0} → Width → Coding Code → Setting Code
+look_setting w coding = record {
+  width = w;
+  coding = coding;
+  has_room = λ ns. false;
+  touch = touch;
+  allows = only_reads;
+}
+
+-- ---- what a program writes
+
+-- the text of the run of a script over an array with these codes, and the file that is saved
+unfoldable pub run_text : Width → ℕ → List ℕ → List (List Bool) → ℕ → List ℕ → List ℕ → List ℕ
+run_text w budget ns cs lines wants script = replies_text (run (array_setting w budget) wants ns (open_array w budget ns cs lines) script).1
+
+unfoldable pub run_saved : Width → ℕ → List ℕ → List (List Bool) → ℕ → List ℕ → List ℕ → List ℕ
+run_saved w budget ns cs lines wants script =
+    let after = (run (array_setting w budget) wants ns (open_array w budget ns cs lines) script).0 in
+    saved_file w budget after.shape after.state
+
+-- the text of the look of a script at an array with these codes
+unfoldable pub look_text : {Code : Type 0} → Width → Coding Code → List ℕ → List Code → ℕ → List ℕ → List ℕ → List ℕ
+look_text w coding ns cs lines wants script =
+    replies_text (look (look_setting w coding) wants ns (opened (array_format coding ns) (λ b. slice_index_or cs b coding.zero) (raised lines)) script).1

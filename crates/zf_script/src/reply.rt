@@ -1,0 +1,38 @@
+//! What is answered to a line of a script.
+
+/// Why a line is refused.
+#[derive(Clone, Copy, Debug, PartialEq, Eq)]
+pub enum Refusal {
+    /// It is no line of the language.
+    Word,
+    /// A size, a step or a number of lines that cannot be.
+    Size,
+    /// A position, an axis or a place outside.
+    Range,
+    /// A value that the type does not have.
+    Value,
+    /// Memory was wanted.
+    Memory,
+}
+
+/// The counts of a cache. One that has come to 2^64 - 1 stays there.
+#[derive(Clone, Copy, Debug, Default, PartialEq, Eq)]
+pub struct Stats {
+    /// Touches of a block that was in its line.
+    pub hits: u64,
+    /// Touches of a block that was not.
+    pub misses: u64,
+    /// Write-backs.
+    pub writes: u64,
+}
+
+/// What a line answers.
+#[derive(Clone, Copy, Debug, PartialEq, Eq)]
+pub enum Reply {
+    /// A value or a sum.
+    Number(i128),
+    /// The counts of the cache.
+    Counts(Stats),
+    /// The line is refused, and has changed nothing.
+    Refused(Refusal),
+}
