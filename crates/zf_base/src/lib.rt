@@ -2,6 +2,7 @@
 #![tactic(auto)]
 
 mod backing;
+mod evens;
 mod lane;
 pub mod laws;
 mod position;
@@ -10,6 +11,7 @@ mod shape;
 mod tests;
 
 pub use backing::{Backing, Reading};
+pub use evens::Evens;
 pub use lane::{Lane, Ty};
 pub use position::{Extent, Pos};
 pub use shape::{Shape, ShapeFault};

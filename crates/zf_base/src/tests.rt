@@ -1,9 +1,11 @@
 //! Values from a program that was written from the definitions alone, and generic callers of `Lane`.
 
-ghost use Rattle.std.specs.Prelude.{◌≡◌, pos, ◌+ℤ◌, ◌*ℤ◌, map};
+ghost use Rattle.std.specs.Prelude.{◌≡◌, ◌<◌, pos, ◌+ℤ◌, ◌*ℤ◌, length, map};
 ghost use Rattle.zf_spec.specs.Numbers.{wrap};
+ghost use Rattle.zf_base.specs.Formats.{existing_of, rounded};
 
 use super::*;
+use std::alloc::AllocError;
 use std::test::Fail;
 
 #[tactic(auto, using(std::proofs::lemmas::Int::wraps))]
@@ -152,5 +154,29 @@ fn positions_have_their_places(rt: HostRuntime) -> Result<(), Fail> {
         assert!(rt; place.0 < shape.blocks());
         assert_eq!(rt; shape.extent(place.0), Extent { origin, size });
     }
+    Ok(())
+}
+
+// Stores a block and loads it again.
+fn rounded<T: Lane, B: Backing<T>>(back: &mut B, b: u64, line: &mut [T])
+    requires block { b < (B.format back.old).blocks }
+    requires whole { length line.old ≡ (B.format back.old).block_len }
+    ensures value { existing_of (B.format back.old) b (map T.value line.new)
+        ≡ rounded (B.format back.old) b (map T.value line.old) }
+    ensures format { B.format back.new ≡ B.format back.old }
+{
+    back.store(b, line);
+    back.load(b, line);
+}
+
+#[test]
+fn a_backing_rounds_what_it_stores(rt: HostRuntime) -> Result<(), AllocError> {
+    let mut back = Evens::new(rt.alloc(), 2)?;
+    assert_eq!(rt; (back.blocks(), back.block_len()), (2, 4));
+    let mut line = [3, -3, 4, i32::MIN];
+    rounded(&mut back, 1, &mut line);
+    assert_eq!(rt; line, [2, -4, 4, i32::MIN]);
+    back.load(0, &mut line);
+    assert_eq!(rt; line, [0, 0, 0, 0]);
     Ok(())
 }
