@@ -1,0 +1,7 @@
+pub mod Doubled
+pub mod Lent
+pub mod Puts
+pub mod Sound
+pub mod Stands
+pub mod Tags
+pub mod Touches
