@@ -91,7 +91,7 @@ IsPosition-with_unused ns ps four same h =
     let known : used (length ns) (with_unused 0 ps) ≡ ps = ap (λ d. used d (with_unused 0 ps)) (sym same) ∙ used-with_unused 0 ps (omega arith) in
     record { inside = ap (is_inside ns) known ∙ h; unused = ap (with_unused 0) (sym known) }
 
-length-extents : (ns cs : List ℕ) → length cs ≡ length ns → length (extents ns cs) ≡ length ns
+pub length-extents : (ns cs : List ℕ) → length cs ≡ length ns → length (extents ns cs) ≡ length ns
 length-extents [] cs e = refl
 length-extents (n ∷ ns) [] e = absurd (omega arith)
 length-extents (n ∷ ns) (c ∷ cs) e = ap suc (length-extents ns cs (omega arith))
@@ -109,16 +109,27 @@ extents_four_at_most [] cs = tt
 extents_four_at_most (n ∷ ns) [] = tt
 extents_four_at_most (n ∷ ns) (c ∷ cs) = (omega arith, extents_four_at_most ns cs)
 
+-- a block has an extent along each axis
+pub length-extent_of : (ns : List ℕ) (b : ℕ) → length (extent_of ns b) ≡ length ns
+length-extent_of ns b = length-extents ns (coordinates (grid ns) b) (length-coordinates (grid ns) b ∙ length-map ns (λ n. (n + 3) / 4))
+
+-- from 1 to 4
+pub extent_of_bounds : (ns : List ℕ) (b : ℕ) → b < blocks ns → AllByRecursion (λ n. (1 ≤ n) × (n ≤ 4)) (extent_of ns b)
+extent_of_bounds ns b below = both (extents ns cs) (extents_not_zero ns cs (is_inside-coordinates (grid ns) b below)) (extents_four_at_most ns cs)
+  where
+    cs : List ℕ
+    cs = coordinates (grid ns) b
+
+    both : (es : List ℕ) → AllByRecursion (λ n. 1 ≤ n) es → AllByRecursion (λ n. n ≤ 4) es → AllByRecursion (λ n. (1 ≤ n) × (n ≤ 4)) es
+    both [] some few = tt
+    both (e ∷ es) some few = ((some.0, few.0), both es some.1 few.1)
+
 -- the sizes of the part of a block that exists
 module _ (ns : List ℕ) (b : ℕ) (size : Pos) (shape : IsShape ns) (is : size ≡ with_unused 1 (extent_of ns b)) where
-  extent_length : length (extent_of ns b) ≡ length ns
-  extent_length =
-      length-extents ns (coordinates (grid ns) b) (length-coordinates (grid ns) b ∙ length-map ns (λ n. (n + 3) / 4))
-
   pub used_size : used (length ns) size ≡ extent_of ns b
   used_size =
       let es = extent_of ns b in
-      ap (used (length ns)) is ∙ ap (λ d. used d (with_unused 1 es)) (sym extent_length) ∙ used-with_unused 1 es (omega (arith, extent_length, shape.four_at_most))
+      ap (used (length ns)) is ∙ ap (λ d. used d (with_unused 1 es)) (sym (length-extent_of ns b)) ∙ used-with_unused 1 es (omega (arith, length-extent_of ns b, shape.four_at_most))
 
   pub IsExtent-of_block : (origin : Pos) → b < blocks ns → IsExtent (length ns) (record { origin = origin; size = size })
   IsExtent-of_block origin lt =

@@ -1,6 +1,7 @@
 -- The codes of blocks, whatever their format.
-use Rattle.std.proofs.Common.{◌≡◌, ◌≢◌, refl, ap, ◌∙◌, ℕ, ◌<◌, ℤ, pos, cond, Bool, true, false, eq-eqb, List, length, get_or}
-use Rattle.std.proofs.lemmas.Bool.{ne_eqb}
+use Rattle.std.proofs.Common.{◌≡◌, ◌≢◌, refl, sym, ap, ◌∙◌, ℕ, ◌<◌, ℤ, pos, cond, Bool, true, false, eqb, eq-eqb, List, map, length, get_or, set, ext_get_or, ◌⊎◌, inl, inr, arith}
+use Rattle.std.proofs.lemmas.Bool.{cases_eq, ne_eqb}
+use Rattle.std.proofs.lemmas.List.{length-set, get_or-set_other}
 use Rattle.zf_spec.proofs.Counting.{length-map-upto, get_or-map-upto, map-upto_same}
 use Rattle.zf_base.specs.Formats.{Format, existing_of, meant, encoded, with_at}
 
@@ -57,3 +58,18 @@ length-meant format b code = length-existing_of format b (format.meaning b code)
 pub encoded-existing_of : {Code : Type 0} (format : Format Code) (b : ℕ) (values : List ℤ) → encoded format b (existing_of format b values) ≡ encoded format b values
 unfolding encoded
 encoded-existing_of format b values = ap (format.encoding b) (existing_of-existing_of format b values)
+
+-- a value may be written where a place exists
+pub existing_of-set : {Code : Type 0} (format : Format Code) (b : ℕ) (values : List ℤ) (p : ℕ) (v : ℤ) → format.exists b p ≡ true → existing_of format b values ≡ values
+    → existing_of format b (set values p v) ≡ set values p v
+existing_of-set format b values p v exists whole =
+    let long : length values ≡ format.block_len = sym (ap length whole) ∙ length-existing_of format b values in
+    let same : length (set values p v) ≡ format.block_len = length-set values p v ∙ long in
+    ext_get_or (pos 0) (existing_of format b (set values p v)) (set values p v) (length-existing_of format b (set values p v) ∙ sym same)
+    (λ k h. let below : k < format.block_len = omega (arith, h, length-existing_of format b (set values p v)) in
+    get_or-existing_of format b (set values p v) k below ∙ by k below (format.exists b k) refl (cases_eq k p))
+  where
+    by : (k : ℕ) → k < format.block_len → (t : Bool) → format.exists b k ≡ t → (k ≡ p) ⊎ (k ≡ p → ⊥) → cond t (get_or (set values p v) k (pos 0)) (pos 0) ≡ get_or (set values p v) k (pos 0)
+    by k below true e c = refl
+    by k below false e (inl same) = absurd (let f : format.exists b p ≡ false = sym (ap (format.exists b) same) ∙ e in cc)
+    by k below false e (inr ne) = sym (get_or-set_other values p k v (pos 0) ne ∙ sym (ap (λ vs. get_or vs k (pos 0)) whole) ∙ get_or-existing_of format b values k below ∙ ap (λ t. cond t (get_or values k (pos 0)) (pos 0)) e)

@@ -1,14 +1,14 @@
 -- Sizes along four axes, of which the unused ones are 1, against the list of the used ones.
-use Rattle.std.proofs.Common.{◌≡◌, ℕ, zero, suc, ◌+◌, ◌-◌, ◌/◌, ◌^◌, ◌≤◌, Bool, true, false, Some, nat_lt, ◌==◌, List, [], ◌∷◌, ◌++◌, length, replicate, refl, ap, sym, subst, ◌∙◌, arith, lit≤}
+use Rattle.std.proofs.Common.{◌≡◌, ℕ, zero, suc, ◌+◌, ◌-◌, ◌/◌, ◌^◌, ◌≤◌, Bool, true, false, cond, Some, None, is_none, nat_lt, ◌==◌, List, [], ◌∷◌, ◌++◌, length, replicate, refl, ap, sym, subst, ◌∙◌, arith, lit≤}
 use Rattle.std.specs.List.{AllByRecursion, list_any}
 use Rattle.std.proofs.Math.Nat.{mul-le-mul, one-le-mul}
 use Rattle.std.proofs.lemmas.List.{length-map}
-use Rattle.std.proofs.lemmas.Bool.{or_parts, ltb-false, le-ltb}
+use Rattle.std.proofs.lemmas.Bool.{or_parts, eqb-false, ltb-false, le-ltb}
 use Rattle.std.proofs.lemmas.Nat.{pow_pos}
 use Rattle.zf_spec.specs.Grid.{product, grid, blocks, max_values, IsShape}
 use Rattle.zf_base.specs.declared.position.Pos.{Pos}
 use Rattle.zf_base.specs.Positions.{axes, used, with_unused, IsShapeOf}
-use Rattle.zf_base.specs.declared.shape.ShapeFault.TheVariants.{Field}
+use Rattle.zf_base.specs.declared.shape.ShapeFault.TheVariants.{Zero, Field, TooLarge}
 use Rattle.zf_base.specs.Shapes.{shape_fault}
 use Rattle.zf_base.proofs.Boxes.{product-append_ones}
 
@@ -83,6 +83,31 @@ any_above_field s d most ns four same e is_most =
 
 pub field_fault : (ns : List ℕ) → list_any (λ n. n == 0) ns ≡ false → list_any (λ n. nat_lt (2 ^ (48 / length ns)) n) ns ≡ true → Some Field ≡ shape_fault ns
 field_fault ns no_zero above = rw (no_zero, above)
+
+none_zero : (ns : List ℕ) → list_any (λ n. n == 0) ns ≡ false → AllByRecursion (λ n. 1 ≤ n) ns
+none_zero [] h = tt
+none_zero (n ∷ ns) h =
+    let parts = or_parts (n == 0) (list_any (λ n. n == 0) ns) h in
+    let ne = eqb-false n 0 parts.0 in
+    (omega arith, none_zero ns parts.1)
+
+no_fault : (z f l : Bool) → is_none (cond z (Some Zero) (cond f (Some Field) (cond l (Some TooLarge) None))) ≡ true → (z ≡ false) × (f ≡ false) × (l ≡ false)
+no_fault false false false h = (refl, refl, refl)
+no_fault false false true h = absurd (cc)
+no_fault false true l h = absurd (cc)
+no_fault true f l h = absurd (cc)
+
+-- sizes with no fault are a shape's
+pub shape_from_no_fault : (ns : List ℕ) → 1 ≤ length ns → length ns ≤ 4 → is_none (shape_fault ns) ≡ true → IsShape ns
+shape_from_no_fault ns some few none =
+    let h = no_fault (list_any (λ n. n == 0) ns) (list_any (λ n. nat_lt (2 ^ (48 / length ns)) n) ns) (nat_lt max_values (product ns)) none in
+    record {
+      some_dimension = some;
+      four_at_most = few;
+      not_zero = none_zero ns h.0;
+      fields = none_above (2 ^ (48 / length ns)) ns h.1;
+      not_too_large = ltb-false max_values (product ns) h.2;
+    }
 
 -- ---- what the four sizes of a shape and of its grid are
 

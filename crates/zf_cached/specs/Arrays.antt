@@ -1,9 +1,9 @@
 -- Arrays of whole numbers: how the values of a block are coded, and the format of the codes of an array.
 --     An array has its sizes as a list, x first. A block has its extents, the number of values that exist along each axis.
-use Rattle.std.specs.Prelude.{ℕ, ◌+◌, ◌*◌, ◌/◌, ◌^◌, nat_le, ℤ, Bool, false, List, [], map, length, replicate, slice_index_or}
+use Rattle.std.specs.Prelude.{ℕ, ◌+◌, ◌*◌, ◌/◌, ◌^◌, ℤ, Bool, false, List, [], map, length, replicate, slice_index_or, Option, Some, None}
 use Rattle.std.specs.Int.{Width}
 use Rattle.zf_spec.specs.Grid.{upto, blocks, indices, is_inside, extent_of}
-use Rattle.zf_spec.specs.Codes.{rate, read_rate}
+use Rattle.zf_spec.specs.Codes.{rev, rate, read_rev, read_rate}
 use Rattle.zf_spec.specs.Stream.{Mode, header, file}
 use Rattle.zf_base.specs.Formats.{Format}
 use Rattle.zf_cached.specs.State.{State}
@@ -22,6 +22,28 @@ rate_coding w budget = record {
   encoding = rate w budget;
   zero = replicate budget false;
 }
+
+-- each block is its own code: nothing is lost
+unfoldable pub plain_coding : Coding (List ℤ)
+plain_coding = record {
+  meaning = λ es code. code;
+  encoding = λ es values. values;
+  zero = [];
+}
+
+-- the values that were read, or none
+abbrev pub read_values : Option (List ℤ × ℕ) → List ℤ
+read_values None = []
+read_values (Some code) = code.0
+
+-- the codes of a stream in any mode
+unfoldable pub mode_coding : Width → Mode → Coding (List Bool)
+mode_coding w Mode.reversible = record {
+  meaning = λ es s. read_values (read_rev w es s);
+  encoding = rev w;
+  zero = [];
+}
+mode_coding w (Mode.fixed_rate budget) = rate_coding w budget
 
 -- the codes of an array of these sizes
 unfoldable pub array_format : {Code : Type 0} → Coding Code → List ℕ → Format Code

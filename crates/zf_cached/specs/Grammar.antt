@@ -1,12 +1,14 @@
 -- The language of scripts: which lines are which command in an array of d dimensions.
---     Each command has one text: its words, with exactly one space between two of them. A line is read as the command whose text it is.
+--     Each command has one text: its words, with exactly one space between two of them.
+--     A line is read as the command whose text it is.
 use Rattle.std.specs.Prelude.{ℕ, ℤ, ◌^◌, ◌==◌, nat_lt, nat_le, unsigned_abs, Bool, true, ◌&&◌, List, [], ◌∷◌, length, map, find, slice_index_or, Option, bytes_eq, codes, decimal}
 use Rattle.std.specs.Fmt.{signed_decimal}
+use Rattle.std.specs.Int.{IsInRange}
 use Rattle.std.specs.List.{join_with_byte, slice_split, list_all}
 use Rattle.std.specs.Str.Parse.{digits_value, signed_digits_value}
 use Rattle.zf_cached.specs.Commands.{Command}
 
--- the bytes that separate words, numbers of a position or of steps, and sizes: ` `, `,` and `x`
+-- what stands between words, between the numbers of a position or of steps, and between sizes: ` `, `,` and `x`
 abbrev pub space : ℕ
 space = 32
 
@@ -15,6 +17,10 @@ comma = 44
 
 abbrev pub letter_x : ℕ
 letter_x = 120
+
+-- a byte that is no digit
+abbrev pub IsNoDigit : ℕ → Type 0
+IsNoDigit byte = ¬ IsInRange 48 57 byte
 
 -- numbers in decimal, with the byte between two of them
 abbrev pub numbers_text : ℕ → List ℕ → List ℕ
@@ -27,7 +33,8 @@ words_of (Command.set p v) = codes "set" ∷ numbers_text comma p ∷ signed_dec
 words_of (Command.add p v) = codes "add" ∷ numbers_text comma p ∷ signed_decimal v ∷ []
 words_of (Command.fill v) = codes "fill" ∷ signed_decimal v ∷ []
 words_of Command.sum = codes "sum" ∷ []
-words_of (Command.view p s t) = codes "view" ∷ numbers_text comma p ∷ numbers_text letter_x s ∷ numbers_text comma t ∷ []
+words_of (Command.view p s t) =
+    codes "view" ∷ numbers_text comma p ∷ numbers_text letter_x s ∷ numbers_text comma t ∷ []
 words_of (Command.slice a i) = codes "slice" ∷ decimal a ∷ decimal i ∷ []
 words_of (Command.vget p) = codes "vget" ∷ numbers_text comma p ∷ []
 words_of (Command.vset p v) = codes "vset" ∷ numbers_text comma p ∷ signed_decimal v ∷ []
@@ -75,14 +82,14 @@ is_writable d (Command.lines l) = is_number l
 is_writable d (Command.resize s) = has_sizes s
 is_writable d Command.stats = true
 
--- what words could say: the numbers of a word between two such bytes, and its value
+-- the parts of bytes between such a byte, and what numbers the parts of a word could be
 abbrev pub cut_at : ℕ → List ℕ → List (List ℕ)
 cut_at byte bs = slice_split (λ b. b == byte) bs
 
 abbrev pub numbers_in : ℕ → List ℕ → List ℕ
 numbers_in byte word = map (digits_value 10) (cut_at byte word)
 
--- the commands that words could be: one of each kind
+-- the commands that words could be: one of each kind, with what its words could say. Whether they do is not asked here
 unfoldable pub candidates : List (List ℕ) → List Command
 candidates words =
     let first = slice_index_or words 1 [] in

@@ -8,6 +8,8 @@
 --     Grammar      which lines are which command
 --     Replies      what a line answers, and the text of it
 --     Steps        what a command does and answers, and when it is refused
+--     Consistency  what holds of every state that is reached
+--     Fates        what becomes of a block
 --     Runs         the run of a script, and the look at an array that is only read
 pub mod State
 pub mod Touch
@@ -18,4 +20,6 @@ pub mod Commands
 pub mod Grammar
 pub mod Replies
 pub mod Steps
+pub mod Consistency
+pub mod Fates
 pub mod Runs

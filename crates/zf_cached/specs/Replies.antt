@@ -24,9 +24,13 @@ refusal_word Refusal.range = codes "range"
 refusal_word Refusal.value = codes "value"
 refusal_word Refusal.memory = codes "memory"
 
+-- the text of counts
+abbrev pub counts_text : ℕ → ℕ → ℕ → List ℕ
+counts_text hits misses writes =
+    codes "hits " ++ decimal hits ++ codes " misses " ++ decimal misses ++ codes " writes " ++ decimal writes
+
 -- the text of a reply: one line with its line feed
 abbrev pub reply_text : Reply → List ℕ
 reply_text (Reply.number n) = signed_decimal n ++ codes "\n"
-reply_text (Reply.counts hits misses writes) =
-    codes "hits " ++ decimal hits ++ codes " misses " ++ decimal misses ++ codes " writes " ++ decimal writes ++ codes "\n"
+reply_text (Reply.counts hits misses writes) = counts_text hits misses writes ++ codes "\n"
 reply_text (Reply.refused why) = codes "! " ++ refusal_word why ++ codes "\n"

@@ -1,12 +1,12 @@
 -- The run of a script over a cached array, and the look at an array that is only read.
-use Rattle.std.specs.Prelude.{ℕ, suc, ◌==◌, nat_le, Bool, true, false, List, [], ◌∷◌, ◌++◌, length, slice_index_or, flat_map, Option, Some, None}
+use Rattle.std.specs.Prelude.{ℕ, suc, ◌==◌, nat_le, ℤ, Bool, true, false, List, [], ◌∷◌, ◌++◌, length, slice_index_or, flat_map, Option, Some, None}
 use Rattle.std.specs.Int.{Width}
 use Rattle.std.specs.List.{slice_split, list_any}
 use Rattle.std.specs.Option.{option_to_list}
 use Rattle.zf_cached.specs.State.{State}
 use Rattle.zf_cached.specs.Touch.{touch}
 use Rattle.zf_cached.specs.Changes.{flush, opened, raised}
-use Rattle.zf_cached.specs.Arrays.{Coding, rate_coding, array_format, open_array, saved_file, max_file, file_bytes}
+use Rattle.zf_cached.specs.Arrays.{Coding, plain_coding, rate_coding, array_format, zero_codes, open_array, saved_file, max_file, file_bytes}
 use Rattle.zf_cached.specs.Windows.{whole}
 use Rattle.zf_cached.specs.Commands.{Command}
 use Rattle.zf_cached.specs.Replies.{Refusal, Reply, reply_text}
@@ -66,6 +66,16 @@ array_setting w budget = record {
   allows = λ c. true;
 }
 
+-- an array whose values are kept as they are, of any size
+unfoldable pub plain_setting : Width → Setting (List ℤ)
+plain_setting w = record {
+  width = w;
+  coding = plain_coding;
+  has_room = λ ns. true;
+  touch = touch;
+  allows = λ c. true;
+}
+
 -- the commands that only read
 abbrev pub only_reads : Command → Bool
 only_reads (Command.get ps) = true
@@ -103,3 +113,14 @@ run_saved w budget ns cs lines wants script =
 unfoldable pub look_text : {Code : Type 0} → Width → Coding Code → List ℕ → List Code → ℕ → List ℕ → List ℕ → List ℕ
 look_text w coding ns cs lines wants script =
     replies_text (look (look_setting w coding) wants ns (opened (array_format coding ns) (λ b. slice_index_or cs b coding.zero) (raised lines)) script).1
+
+-- over an array of zeros, where memory is never wanting
+abbrev pub zeros_text : Width → ℕ → List ℕ → ℕ → List ℕ → List ℕ
+zeros_text w budget ns lines script = run_text w budget ns (zero_codes budget ns) lines [] script
+
+abbrev pub zeros_saved : Width → ℕ → List ℕ → ℕ → List ℕ → List ℕ
+zeros_saved w budget ns lines script = run_saved w budget ns (zero_codes budget ns) lines [] script
+
+-- over a plain array of zeros
+abbrev pub plain_text : Width → List ℕ → ℕ → List ℕ → List ℕ
+plain_text w ns lines script = replies_text (run (plain_setting w) [] ns (opened (array_format plain_coding ns) (λ b. []) (raised lines)) script).1

@@ -1,5 +1,5 @@
 -- What a command of a script does and answers.
-use Rattle.std.specs.Prelude.{ℕ, ◌-◌, ◌^◌, ◌==◌, nat_lt, ℤ, pos, neg_ℤ, ◌+ℤ◌, int_lt, int_le, Bool, true, false, not, ◌&&◌, ◌||◌, List, [], ◌∷◌, length, replicate, slice_index_or, slice_set, Option, Some, None, is_none}
+use Rattle.std.specs.Prelude.{ℕ, ◌-◌, ◌^◌, ◌==◌, nat_lt, ℤ, pos, neg_ℤ, ◌+ℤ◌, int_lt, int_le, Bool, true, false, not, ◌&&◌, List, [], ◌∷◌, length, replicate, slice_index_or, slice_set, Option, Some, None, is_none}
 use Rattle.std.specs.Int.{Width}
 use mir.Val.{bits}
 use Rattle.zf_spec.specs.Numbers.{wrap}
@@ -118,10 +118,19 @@ takes_memory _ = false
 -- the first of these tests that a command does not pass; whether memory is wanting is told
 unfoldable pub refusal : {Code : Type 0} → Setting Code → Session Code → Command → Bool → Option Refusal
 refusal setting s c wanting =
-    elim (refuses_size setting s c) [ true ↦ Some Refusal.size | false ↦
-    elim (refuses_range s c) [ true ↦ Some Refusal.range | false ↦
-    elim (refuses_value setting.width c) [ true ↦ Some Refusal.value | false ↦
-    elim (takes_memory c && wanting) [ true ↦ Some Refusal.memory | false ↦ None ] ] ] ]
+    elim (refuses_size setting s c) [
+      | true ↦ Some Refusal.size
+      | false ↦
+          elim (refuses_range s c) [
+            | true ↦ Some Refusal.range
+            | false ↦
+                elim (refuses_value setting.width c) [
+                  | true ↦ Some Refusal.value
+                  | false ↦
+                      elim (takes_memory c && wanting) [ true ↦ Some Refusal.memory | false ↦ None ]
+                ]
+          ]
+    ]
 
 -- ---- commands
 

@@ -1,6 +1,6 @@
 -- Windows: parts of an array that are seen as an array of their own (steps are this project's own).
 --     Origins, sizes, steps and positions are lists of one number for each axis, x first.
-use Rattle.std.specs.Prelude.{ℕ, ◌+◌, ◌-◌, ◌*◌, Bool, ◌&&◌, nat_lt, nat_le, not, List, [], ◌∷◌, map, length, slice_index_or, slice_set}
+use Rattle.std.specs.Prelude.{ℕ, ◌≡◌, ◌+◌, ◌-◌, ◌*◌, Bool, true, ◌&&◌, nat_lt, nat_le, List, [], ◌∷◌, map, length, slice_index_or, slice_set}
 use Rattle.std.specs.List.{list_all}
 use Rattle.zf_spec.specs.Grid.{upto, product, coordinates, is_inside}
 
@@ -45,6 +45,13 @@ lies_in ns w = is_inside ns (mapped w (map (λ n. n - 1) w.size))
 -- a window of an array: no size and no step is zero, and it lies in the array
 abbrev pub is_window : List ℕ → Window → Bool
 is_window ns w = none_zero w.size && (none_zero w.step && lies_in ns w)
+
+-- a window of an array, with as many axes
+pub record LiesIn (ns : List ℕ) (w : Window) : Type 0 where
+  pub origins : length w.origin ≡ length ns
+  pub sizes : length w.size ≡ length ns
+  pub steps : length w.step ≡ length ns
+  pub inside : is_window ns w ≡ true
 
 -- the positions of a window in raster order, as positions of the array
 abbrev pub positions : Window → List (List ℕ)

@@ -1,11 +1,94 @@
-//! Runs of scripts, computed by the definitions.
+//! Runs of scripts, computed by the definitions: the text that each writes, and the file that it saves.
 
-ghost use Rattle.std.specs.Prelude.{◌≡◌, ℕ, List, [], ◌∷◌, codes};
-ghost use Rattle.std.specs.Int.{w32, w64};
-ghost use Rattle.zf_cached.specs.Arrays.{zero_codes};
-ghost use Rattle.zf_cached.specs.Runs.{run_text, run_saved};
+ghost use Rattle.std.specs.Prelude.{◌≡◌, ℕ, true, false, [], ◌∷◌, ◌++◌, pos, replicate, codes};
+ghost use Rattle.std.specs.Int.{w32};
+ghost use Rattle.zf_spec.specs.Stream.{reversible};
+ghost use Rattle.zf_spec.specs.Codes.{rev};
+ghost use Rattle.zf_cached.specs.Arrays.{mode_coding};
+ghost use Rattle.zf_cached.specs.Runs.{zeros_text, zeros_saved, run_text, run_saved, look_text, plain_text};
 
-/// A value is kept as it was set until its block is written back.
-pub fn flush_rounds()
-    ensures { run_text w32 64 (8 ∷ []) (zero_codes 64 (8 ∷ [])) 1 [] (codes "set 0 1\nget 0\nflush\nget 0\nstats\n") ≡ codes "1\n0\nhits 1 misses 2 writes 1\n" }
+/// A value stays as it was set until its block is written back: by a flush, or by a block that takes its line.
+pub fn write_back()
+    ensures flushed { zeros_text w32 64 (8 ∷ []) 1 (codes "set 0 1\nget 0\nflush\nget 0\nstats\n")
+        ≡ codes "1\n0\nhits 1 misses 2 writes 1\n" }
+    ensures evicted { zeros_text w32 64 (8 ∷ []) 1 (codes "set 0 1\nget 4\nget 0\n") ≡ codes "0\n0\n" }
+    ensures two_lines { zeros_text w32 64 (8 ∷ []) 2 (codes "set 0 1\nget 4\nget 0\n") ≡ codes "0\n1\n" }
+    ensures whole_block { zeros_text w32 64 (8 ∷ []) 2
+        (codes "set 0 1\nset 1 2\nset 2 3\nset 3 4\nget 0\nflush\nget 0\nget 1\nget 2\nget 3\n")
+        ≡ codes "1\n0\n2\n2\n4\n" }
+    ensures new_lines { zeros_text w32 64 (8 ∷ []) 2
+        (codes "set 0 1\nset 1 2\nset 2 3\nset 3 4\nlines 1\nget 3\nstats\n")
+        ≡ codes "4\nhits 3 misses 2 writes 1\n" }
+{}
+
+/// What is saved: the codes as last written back; those of blocks that were never written back are the file's, bit for bit.
+pub fn saved_files()
+    ensures written { zeros_saved w32 64 (8 ∷ []) 2 (codes "set 0 1\nset 1 2\nset 2 3\nset 3 4\n")
+        ≡ 0x7a ∷ 0x66 ∷ 0x70 ∷ 0x05 ∷ 0x70 ∷ 0 ∷ 0 ∷ 0 ∷ 0 ∷ 0 ∷ 0xf0 ∷ 3 ∷ 0 ∷ 0 ∷ 0 ∷ 0x60 ∷ 0x27 ∷ replicate 15 0 }
+    ensures discarded { zeros_saved w32 64 (8 ∷ []) 2 (codes "set 0 7\ndiscard\nget 0\n")
+        ≡ 0x7a ∷ 0x66 ∷ 0x70 ∷ 0x05 ∷ 0x70 ∷ 0 ∷ 0 ∷ 0 ∷ 0 ∷ 0 ∷ 0xf0 ∷ 3 ∷ replicate 20 0 }
+    ensures unused_bits { run_saved w32 64 (8 ∷ [])
+        ((replicate 32 false ++ replicate 32 true) ∷ replicate 64 false ∷ []) 1 [] (codes "get 0\nget 4\n")
+        ≡ 0x7a ∷ 0x66 ∷ 0x70 ∷ 0x05 ∷ 0x70 ∷ 0 ∷ 0 ∷ 0 ∷ 0 ∷ 0 ∷ 0xf0 ∷ 3 ∷ 0 ∷ 0 ∷ 0 ∷ 0 ∷ 0xff ∷ 0xff ∷ 0xff ∷ 0xff
+        ∷ replicate 12 0 }
+    ensures resized { zeros_saved w32 64 (8 ∷ []) 2 (codes "set 0 100\nresize 4\nget 0\nget 4\nlines 3\n")
+        ≡ 0x7a ∷ 0x66 ∷ 0x70 ∷ 0x05 ∷ 0x30 ∷ 0 ∷ 0 ∷ 0 ∷ 0 ∷ 0 ∷ 0xf0 ∷ 3 ∷ replicate 12 0 }
+    ensures one_bit { zeros_saved w32 1 (8 ∷ []) 2
+        (codes "set 4 -1073741824\nset 5 -1073741824\nset 6 -1073741824\nset 7 -1073741824\n")
+        ≡ 0x7a ∷ 0x66 ∷ 0x70 ∷ 0x05 ∷ 0x70 ∷ replicate 7 0 ++ 2 ∷ 0 ∷ 0 ∷ 0 ∷ [] }
+    ensures three_bits { zeros_saved w32 3 (8 ∷ []) 2 (codes "fill -1073741824\n")
+        ≡ 0x7a ∷ 0x66 ∷ 0x70 ∷ 0x05 ∷ 0x70 ∷ 0 ∷ 0 ∷ 0 ∷ 0 ∷ 0 ∷ 0x20 ∷ 0 ∷ 0x1b ∷ 0 ∷ 0 ∷ 0 ∷ [] }
+{}
+
+/// Discard, resize, and what codes of other lengths make of values.
+pub fn whole_array()
+    ensures discarded { zeros_text w32 64 (8 ∷ []) 2 (codes "set 0 7\ndiscard\nget 0\n") ≡ codes "0\n" }
+    ensures unused_bits { run_text w32 64 (8 ∷ [])
+        ((replicate 32 false ++ replicate 32 true) ∷ replicate 64 false ∷ []) 1 [] (codes "get 0\nget 4\n")
+        ≡ codes "0\n0\n" }
+    ensures resized { zeros_text w32 64 (8 ∷ []) 2 (codes "set 0 100\nresize 4\nget 0\nget 4\nlines 3\n")
+        ≡ codes "0\n! range\n" }
+    ensures one_bit { zeros_text w32 1 (8 ∷ []) 2
+        (codes "set 4 -1073741824\nset 5 -1073741824\nset 6 -1073741824\nset 7 -1073741824\nflush\nget 4\nget 0\n")
+        ≡ codes "-2147483648\n0\n" }
+    ensures three_bits { zeros_text w32 3 (8 ∷ []) 2 (codes "fill -1073741824\nflush\nsum\n")
+        ≡ codes "-17179869184\n" }
+{}
+
+/// Windows, with steps too, share the array's blocks.
+pub fn windows()
+    ensures line { zeros_text w32 64 (8 ∷ []) 2
+        (codes "view 4 4 1\nvset 0 5\nget 4\nview 6 4 1\nvget 0\nslice 0 1\nvset 0 9\nget 5\nvsum\n")
+        ≡ codes "5\n! size\n5\n9\n9\n" }
+    ensures plane { zeros_text w32 128 (4 ∷ 4 ∷ []) 1
+        (codes "set 1,1 5\nview 1,1 2x2 2,2\nvget 0,0\nvset 1,1 9\nget 3,3\nvsum\nslice 1 1\nvget 1,0\nvget 0,1\n")
+        ≡ codes "5\n9\n14\n9\n! range\n" }
+{}
+
+/// Refusals, in their order; a refused line changes nothing, counts and window included.
+pub fn refusals()
+    ensures each { zeros_text w32 64 (8 ∷ []) 2
+        (codes "get 8\nset 0 2147483648\nset 0\nlines 0\nresize 4x4\n\nadd 0 -1\nget 0\n")
+        ≡ codes "! range\n! value\n! word\n! size\n! size\n-1\n" }
+    ensures range_first { zeros_text w32 64 (8 ∷ []) 2 (codes "set 8 2147483648\nadd 0 -2147483649\nset 0 -2147483648\nstats")
+        ≡ codes "! range\n! value\nhits 0 misses 1 writes 0\n" }
+    ensures sizes { zeros_text w32 64 (8 ∷ []) 2
+        (codes "view 0 0 1\nview 0 1 0\nview 0 8 1\nview 0 9 1\nview 1 4 2\nview 7 1 9\nlines 65536\nlines 65537\nslice 1 0\n")
+        ≡ codes "! size\n! size\n! size\n! size\n! range\n" }
+    ensures memory { run_text w32 64 (8 ∷ []) (replicate 64 false ∷ replicate 64 false ∷ []) 2 (0 ∷ 1 ∷ 2 ∷ 3 ∷ [])
+        (codes "get 0\n\nlines 0\nresize 4\nget 4\n")
+        ≡ codes "0\n! size\n! memory\n0\n" }
+{}
+
+/// A look at a reversible stream of the values 1 and 2: only the lines that read are commands.
+pub fn looks()
+    ensures { look_text w32 (mode_coding w32 reversible) (2 ∷ []) (rev w32 (2 ∷ []) (pos 1 ∷ pos 2 ∷ pos 0 ∷ pos 0 ∷ []) ∷ []) 1 []
+        (codes "get 1\nsum\nset 0 1\nlines 2\nview 1 1 1\nvget 0\n")
+        ≡ codes "2\n3\n! word\n2\n" }
+{}
+
+/// An array of more blocks than lines, filled and summed: each block is missed twice, and each is written back once. Blocks are kept as they are.
+pub fn more_blocks_than_lines()
+    ensures { plain_text w32 (64 ∷ 64 ∷ []) 16 (codes "fill 3\nsum\nstats\nset 63,63 -5\nget 63,63\nstats\n")
+        ≡ codes "12288\nhits 0 misses 512 writes 256\n-5\nhits 2 misses 512 writes 256\n" }
 {}

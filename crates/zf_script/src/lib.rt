@@ -2,7 +2,17 @@
 #![tactic(auto)]
 
 mod command;
+mod numbers;
+mod parse;
 mod reply;
+mod text;
+mod verb;
+mod words;
 
 pub use command::Cmd;
+pub use parse::parse_line;
 pub use reply::{Refusal, Reply, Stats};
+pub use text::reply_text;
+
+#[cfg(test)]
+mod tests;

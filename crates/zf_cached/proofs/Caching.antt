@@ -1,0 +1,261 @@
+-- Touches and write-backs keep what holds of every state, and say what becomes of each block.
+use Rattle.std.proofs.Common.{◌≡◌, ◌≢◌, refl, sym, ap, subst, ◌∙◌, ℕ, ◌%◌, ℤ, Bool, true, false, eqb, eqb-true, eq-eqb, List, Option, Some, None, ◌⊎◌, inl, inr}
+use Rattle.std.proofs.lemmas.Bool.{cases_eq}
+use Rattle.zf_base.specs.Formats.{Format, existing_of, meant, encoded, rounded, with_at}
+use Rattle.zf_base.proofs.Formats.{with_at-same, with_at-other, existing_of-meant}
+use Rattle.zf_cached.specs.State.{State, own_line, is_block, is_here}
+use Rattle.zf_cached.specs.Touch.{write_back, write_back_dirty, write_back_line, hit, miss, touch, soiled, touch_for_writing, with_values}
+use Rattle.zf_cached.specs.Consistency.{IsConsistent}
+use Rattle.zf_cached.specs.Fates.{IsLeft, IsRounded}
+
+pub true_is_not_false : {P : Type 0} (b : Bool) → b ≡ true → b ≡ false → P
+true_is_not_false b t f = absurd (cc)
+
+-- what holds at k and at every other number holds of a function that is changed at k
+pub at_change : {A : Type 0} (P : ℕ → A → Type 0) (f : ℕ → A) (k : ℕ) (a : A) (n : ℕ) → P k a → (n ≢ k → P n (f n)) → P n (with_at f k a n)
+at_change P f k a n here other = by (cases_eq n k)
+  where
+    by : (n ≡ k) ⊎ (n ≡ k → ⊥) → P n (with_at f k a n)
+    by (inl e) = subst (λ m. P m (with_at f k a m)) (sym e) (subst (P k) (sym (with_at-same f k a)) here)
+    by (inr ne) = subst (P n) (sym (with_at-other f k a n ne)) (other ne)
+
+-- ---- write-back
+
+pub write_back-consistent : {Code : Type 0} (format : Format Code) (s : State Code) (b : ℕ) → IsConsistent format s → IsConsistent format (write_back format s b)
+unfolding write_back
+write_back-consistent {Code} format s b h = record {
+  some_line = h.some_line;
+  in_own_line = h.in_own_line;
+  dirty_is_here = λ n. at_change (λ m d. d ≡ true → s.held (own_line s m) ≡ Some m) s.dirty b false n (λ e. absurd (cc)) (λ ne. h.dirty_is_here n);
+  clean_is_coded = λ n. by n (cases_eq n b);
+  whole = λ n. at_change (λ m values. existing_of format m values ≡ values) s.values b (meant format b code) n (existing_of-meant format b code) (λ ne. h.whole n);
+}
+  where
+    code : Code
+    code = encoded format b (s.values b)
+
+    by : (n : ℕ) → (n ≡ b) ⊎ (n ≡ b → ⊥) → with_at s.dirty b false n ≡ false → with_at s.values b (meant format b code) n ≡ meant format n (with_at s.codes b code n)
+    by n (inl e) clean =
+        subst (λ m. with_at s.values b (meant format b code) m ≡ meant format m (with_at s.codes b code m)) (sym e)
+        (with_at-same s.values b (meant format b code) ∙ ap (meant format b) (sym (with_at-same s.codes b code)))
+    by n (inr ne) clean =
+        with_at-other s.values b (meant format b code) n ne ∙ h.clean_is_coded n (sym (with_at-other s.dirty b false n ne) ∙ clean) ∙ ap (meant format n) (sym (with_at-other s.codes b code n ne))
+
+-- what is written back only where it is dirty
+pub write_back_dirty_by : {Code : Type 0} (format : Format Code) (s : State Code) (b : ℕ) (P : State Code → Type 0) → (s.dirty b ≡ true → P (write_back format s b)) → (s.dirty b ≡ false → P s) → P (write_back_dirty format s b)
+unfolding write_back_dirty
+write_back_dirty_by format s b P dirty clean = by (s.dirty b) dirty clean
+  where
+    by : (d : Bool) → (d ≡ true → P (write_back format s b)) → (d ≡ false → P s) → P (elim d [ true ↦ write_back format s b | false ↦ s ])
+    by true dirty clean = dirty refl
+    by false dirty clean = clean refl
+
+pub write_back_line_by : {Code : Type 0} (format : Format Code) (s : State Code) (l : ℕ) (P : State Code → Type 0)
+    → ((b : ℕ) → s.held l ≡ Some b → s.dirty b ≡ true → P (write_back format s b)) → ((b : ℕ) → s.held l ≡ Some b → s.dirty b ≡ false → P s) → (s.held l ≡ None → P s) → P (write_back_line format s l)
+unfolding write_back_line
+write_back_line_by format s l P dirty clean nothing = by (s.held l) refl
+  where
+    by : (o : Option ℕ) → s.held l ≡ o → P (elim o [ None ↦ s | Some b ↦ write_back_dirty format s b ])
+    by None e = nothing e
+    by (Some b) e = write_back_dirty_by format s b P (dirty b e) (clean b e)
+
+pub write_back_line-consistent : {Code : Type 0} (format : Format Code) (s : State Code) (l : ℕ) → IsConsistent format s → IsConsistent format (write_back_line format s l)
+write_back_line-consistent format s l h =
+    write_back_line_by format s l (IsConsistent format) (λ b here dirty. write_back-consistent format s b h) (λ b here clean. h) (λ nothing. h)
+
+-- what a write-back leaves
+pub write_back_line-lines : {Code : Type 0} (format : Format Code) (s : State Code) (l : ℕ) → (write_back_line format s l).lines ≡ s.lines
+unfolding write_back
+write_back_line-lines format s l = write_back_line_by format s l (λ t. t.lines ≡ s.lines) (λ b here dirty. refl) (λ b here clean. refl) (λ nothing. refl)
+
+pub write_back_line-held : {Code : Type 0} (format : Format Code) (s : State Code) (l : ℕ) → (write_back_line format s l).held ≡ s.held
+unfolding write_back
+write_back_line-held format s l = write_back_line_by format s l (λ t. t.held ≡ s.held) (λ b here dirty. refl) (λ b here clean. refl) (λ nothing. refl)
+
+-- the block that was in the line is not dirty any more
+pub write_back_line-clean : {Code : Type 0} (format : Format Code) (s : State Code) (l b : ℕ) → s.held l ≡ Some b → (write_back_line format s l).dirty b ≡ false
+unfolding write_back
+write_back_line-clean format s l b here = write_back_line_by format s l (λ t. t.dirty b ≡ false)
+    (λ a held dirty. let same : b ≡ a = cc in subst (λ n. with_at s.dirty a false n ≡ false) (sym same) (with_at-same s.dirty a false))
+    (λ a held clean. let same : b ≡ a = cc in ap s.dirty same ∙ clean) (λ nothing. absurd (cc))
+
+-- and no other block is touched by it: what was clean stays as it was
+pub write_back_line-other : {Code : Type 0} (format : Format Code) (s : State Code) (l b : ℕ) → (s.held l ≡ Some b → ⊥) →
+    ((write_back_line format s l).dirty b ≡ s.dirty b) × ((write_back_line format s l).values b ≡ s.values b) × ((write_back_line format s l).codes b ≡ s.codes b)
+unfolding write_back
+write_back_line-other {Code} format s l b away = write_back_line_by format s l P
+    (λ a held dirty. let ne : b ≢ a = λ e. away (held ∙ ap Some (sym e)) in
+    (with_at-other s.dirty a false b ne, with_at-other s.values a _ b ne, with_at-other s.codes a _ b ne))
+    (λ a held clean. (refl, refl, refl)) (λ nothing. (refl, refl, refl))
+  where
+    P : State Code → Type 0
+    P t = (t.dirty b ≡ s.dirty b) × (t.values b ≡ s.values b) × (t.codes b ≡ s.codes b)
+
+-- ---- touches
+
+pub is_block-true : (o : Option ℕ) (b : ℕ) → is_block o b ≡ true → o ≡ Some b
+is_block-true None b h = absurd (cc)
+is_block-true (Some a) b h = ap Some (eqb-true a b h)
+
+pub is_block-false : (o : Option ℕ) (b : ℕ) → is_block o b ≡ false → o ≡ Some b → ⊥
+is_block-false None b h e = cc
+is_block-false (Some a) b h e = let same : a ≡ b = cc in let t = eq-eqb a b same in true_is_not_false (eqb a b) t h
+
+pub hit-consistent : {Code : Type 0} (format : Format Code) (s : State Code) → IsConsistent format s → IsConsistent format (hit s)
+unfolding hit
+hit-consistent format s h = record {
+  some_line = h.some_line;
+  in_own_line = h.in_own_line;
+  dirty_is_here = h.dirty_is_here;
+  clean_is_coded = h.clean_is_coded;
+  whole = h.whole;
+}
+
+-- a block that comes into a line: nothing that is dirty is lost
+pub miss-consistent : {Code : Type 0} (format : Format Code) (s : State Code) (b : ℕ) → IsConsistent format s → IsConsistent format (miss format s (own_line s b) b)
+unfolding miss
+miss-consistent {Code} format s b h = record {
+  some_line = k.some_line;
+  in_own_line = λ m n. at_change (λ j o. o ≡ Some n → j ≡ own_line t n) t.held l (Some b) m (λ e. let same : b ≡ n = cc in here n same) (λ ne. k.in_own_line m n);
+  dirty_is_here = λ n dirty. stays n dirty (cases_eq (own_line t n) l);
+  clean_is_coded = k.clean_is_coded;
+  whole = k.whole;
+}
+  where
+    l : ℕ
+    l = own_line s b
+
+    t : State Code
+    t = write_back_line format s (own_line s b)
+
+    k : IsConsistent format (write_back_line format s (own_line s b))
+    k = write_back_line-consistent format s (own_line s b) h
+
+    same_lines : t.lines ≡ s.lines
+    same_lines = write_back_line-lines format s (own_line s b)
+
+    here : (n : ℕ) → b ≡ n → own_line s b ≡ own_line (write_back_line format s (own_line s b)) n
+    here n same = ap (λ m. m % s.lines) same ∙ ap (λ m. n % m) (sym same_lines)
+
+    stays : (n : ℕ) → t.dirty n ≡ true → (own_line t n ≡ l) ⊎ (own_line t n ≡ l → ⊥) → with_at t.held l (Some b) (own_line t n) ≡ Some n
+    stays n dirty (inl e) =
+        let was : s.held l ≡ Some n = sym (ap (λ f. f l) (write_back_line-held format s l)) ∙ ap t.held (sym e) ∙ k.dirty_is_here n dirty in
+        true_is_not_false (t.dirty n) dirty (write_back_line-clean format s l n was)
+    stays n dirty (inr ne) = with_at-other t.held l (Some b) (own_line t n) ne ∙ k.dirty_is_here n dirty
+
+pub touch_by : {Code : Type 0} (format : Format Code) (s : State Code) (b : ℕ) (P : State Code → Type 0) → (is_here s b ≡ true → P (hit s)) → (is_here s b ≡ false → P (miss format s (own_line s b) b)) → P (touch format s b)
+unfolding touch
+touch_by format s b P here away = by (is_here s b) here away
+  where
+    by : (t : Bool) → (t ≡ true → P (hit s)) → (t ≡ false → P (miss format s (own_line s b) b)) → P (elim t [ true ↦ hit s | false ↦ miss format s (own_line s b) b ])
+    by true here away = here refl
+    by false here away = away refl
+
+pub touch-consistent : {Code : Type 0} (format : Format Code) (s : State Code) (b : ℕ) → IsConsistent format s → IsConsistent format (touch format s b)
+touch-consistent format s b h = touch_by format s b (IsConsistent format) (λ here. hit-consistent format s h) (λ away. miss-consistent format s b h)
+
+pub touch-lines : {Code : Type 0} (format : Format Code) (s : State Code) (b : ℕ) → (touch format s b).lines ≡ s.lines
+unfolding hit miss
+touch-lines format s b = touch_by format s b (λ t. t.lines ≡ s.lines) (λ here. refl) (λ away. write_back_line-lines format s (own_line s b))
+
+-- the block is here then
+pub touch-here : {Code : Type 0} (format : Format Code) (s : State Code) (b : ℕ) → (touch format s b).held (own_line s b) ≡ Some b
+unfolding hit miss
+touch-here format s b = touch_by format s b (λ t. t.held (own_line s b) ≡ Some b)
+    (λ here. is_block-true (s.held (own_line s b)) b here) (λ away. with_at-same (write_back_line format s (own_line s b)).held (own_line s b) (Some b))
+
+-- its values and its code are not changed by the touch, nor is it made clean or dirty
+pub touch-same : {Code : Type 0} (format : Format Code) (s : State Code) (b : ℕ) →
+    ((touch format s b).dirty b ≡ s.dirty b) × ((touch format s b).values b ≡ s.values b) × ((touch format s b).codes b ≡ s.codes b)
+unfolding hit miss
+touch-same {Code} format s b = touch_by format s b P (λ here. (refl, refl, refl)) (λ away. write_back_line-other format s (own_line s b) b (is_block-false (s.held (own_line s b)) b away))
+  where
+    P : State Code → Type 0
+    P t = (t.dirty b ≡ s.dirty b) × (t.values b ≡ s.values b) × (t.codes b ≡ s.codes b)
+
+-- a clean block keeps its values and its code in every touch
+pub write_back_line-keeps_clean : {Code : Type 0} (format : Format Code) (s : State Code) (l b : ℕ) → s.dirty b ≡ false →
+    ((write_back_line format s l).dirty b ≡ false) × ((write_back_line format s l).values b ≡ s.values b) × ((write_back_line format s l).codes b ≡ s.codes b)
+unfolding write_back
+write_back_line-keeps_clean {Code} format s l b clean = write_back_line_by format s l P
+    (λ a held dirty. let ne : b ≢ a = λ e. true_is_not_false (s.dirty a) dirty (sym (ap s.dirty e) ∙ clean) in
+    (with_at-other s.dirty a false b ne ∙ clean, with_at-other s.values a _ b ne, with_at-other s.codes a _ b ne))
+    (λ a held clean_too. (clean, refl, refl)) (λ nothing. (clean, refl, refl))
+  where
+    P : State Code → Type 0
+    P t = (t.dirty b ≡ false) × (t.values b ≡ s.values b) × (t.codes b ≡ s.codes b)
+
+pub touch-keeps_clean : {Code : Type 0} (format : Format Code) (s : State Code) (a b : ℕ) → s.dirty b ≡ false →
+    ((touch format s a).dirty b ≡ false) × ((touch format s a).values b ≡ s.values b) × ((touch format s a).codes b ≡ s.codes b)
+unfolding hit miss
+touch-keeps_clean {Code} format s a b clean = touch_by format s a P (λ here. (clean, refl, refl)) (λ away. write_back_line-keeps_clean format s (own_line s a) b clean)
+  where
+    P : State Code → Type 0
+    P t = (t.dirty b ≡ false) × (t.values b ≡ s.values b) × (t.codes b ≡ s.codes b)
+
+-- ---- writing
+
+pub soiled-consistent : {Code : Type 0} (format : Format Code) (s : State Code) (b : ℕ) → s.held (own_line s b) ≡ Some b → IsConsistent format s → IsConsistent format (soiled s b)
+unfolding soiled
+soiled-consistent format s b here h = record {
+  some_line = h.some_line;
+  in_own_line = h.in_own_line;
+  dirty_is_here = λ n. at_change (λ m d. d ≡ true → s.held (own_line s m) ≡ Some m) s.dirty b true n (λ e. here) (λ ne. h.dirty_is_here n);
+  clean_is_coded = λ n. at_change (λ m d. d ≡ false → s.values m ≡ meant format m (s.codes m)) s.dirty b true n (λ e. absurd (cc)) (λ ne. h.clean_is_coded n);
+  whole = h.whole;
+}
+
+pub touch_for_writing-consistent : {Code : Type 0} (format : Format Code) (s : State Code) (b : ℕ) → IsConsistent format s → IsConsistent format (touch_for_writing format s b)
+unfolding touch_for_writing
+touch_for_writing-consistent format s b h =
+    soiled-consistent format (touch format s b) b (ap (λ n. (touch format s b).held (b % n)) (touch-lines format s b) ∙ touch-here format s b) (touch-consistent format s b h)
+
+pub with_values-consistent : {Code : Type 0} (format : Format Code) (s : State Code) (b : ℕ) (values : List ℤ) → s.dirty b ≡ true → existing_of format b values ≡ values → IsConsistent format s → IsConsistent format (with_values s b values)
+unfolding with_values
+with_values-consistent format s b values dirty whole h = record {
+  some_line = h.some_line;
+  in_own_line = h.in_own_line;
+  dirty_is_here = h.dirty_is_here;
+  clean_is_coded = λ n. at_change (λ m vs. s.dirty m ≡ false → vs ≡ meant format m (s.codes m)) s.values b values n (λ clean. true_is_not_false (s.dirty b) dirty clean) (λ ne. h.clean_is_coded n);
+  whole = λ n. at_change (λ m vs. existing_of format m vs ≡ vs) s.values b values n whole (λ ne. h.whole n);
+}
+
+-- ---- what becomes of a block, as the laws say it
+
+pub touch-is_here : {Code : Type 0} (format : Format Code) (s : State Code) (b : ℕ) → is_here (touch format s b) b ≡ true
+touch-is_here format s b =
+    ap (λ o. is_block o b) (ap (λ n. (touch format s b).held (b % n)) (touch-lines format s b) ∙ touch-here format s b) ∙ eq-eqb b b refl
+
+pub touch-hit : {Code : Type 0} (format : Format Code) (s : State Code) (b : ℕ) → is_here s b ≡ true → touch format s b ≡ hit s
+touch-hit format s b here = touch_by format s b (λ t. t ≡ hit s) (λ yes. refl) (λ no. true_is_not_false (is_here s b) here no)
+
+pub touch-left : {Code : Type 0} (format : Format Code) (s : State Code) (b : ℕ) → IsLeft s (touch format s b) b
+touch-left format s b = let h = touch-same format s b in record { dirty = h.0; values = h.1; code = h.2 }
+
+pub touch-left_clean : {Code : Type 0} (format : Format Code) (s : State Code) (a b : ℕ) → s.dirty b ≡ false → IsLeft s (touch format s a) b
+touch-left_clean format s a b clean = let h = touch-keeps_clean format s a b clean in record { dirty = h.0 ∙ sym clean; values = h.1; code = h.2 }
+
+pub touch-left_away : {Code : Type 0} (format : Format Code) (s : State Code) (a b : ℕ) → (s.held (own_line s a) ≡ Some b → ⊥) → IsLeft s (touch format s a) b
+unfolding hit miss
+touch-left_away format s a b away = touch_by format s a (λ t. IsLeft s t b) (λ here. record { dirty = refl; values = refl; code = refl })
+    (λ gone. let h = write_back_line-other format s (own_line s a) b away in record { dirty = h.0; values = h.1; code = h.2 })
+
+-- the block in a line that is written back, where it is dirty
+pub write_back_line-rounded : {Code : Type 0} (format : Format Code) (s : State Code) (l b : ℕ) → s.held l ≡ Some b → s.dirty b ≡ true → IsRounded format s (write_back_line format s l) b
+unfolding write_back rounded
+write_back_line-rounded format s l b held dirty = write_back_line_by format s l (λ t. IsRounded format s t b)
+    (λ a here soiled. subst (λ n. IsRounded format s (write_back format s n) b) (let same : b ≡ a = cc in same) (record {
+      clean = with_at-same s.dirty b false;
+      values = with_at-same s.values b _;
+      code = with_at-same s.codes b _;
+    }))
+    (λ a here clean. let same : b ≡ a = cc in true_is_not_false (s.dirty b) dirty (ap s.dirty same ∙ clean)) (λ nothing. absurd (cc))
+
+pub touch-evicts : {Code : Type 0} (format : Format Code) (s : State Code) (a b : ℕ) → is_here s a ≡ false → s.held (own_line s a) ≡ Some b → s.dirty b ≡ true → IsRounded format s (touch format s a) b
+unfolding miss
+touch-evicts format s a b away held dirty = touch_by format s a (λ t. IsRounded format s t b) (λ here. true_is_not_false (is_here s a) here away)
+    (λ gone. let h = write_back_line-rounded format s (own_line s a) b held dirty in record { clean = h.clean; values = h.values; code = h.code })
+
+pub touch_for_writing-dirty : {Code : Type 0} (format : Format Code) (s : State Code) (b : ℕ) → (touch_for_writing format s b).dirty b ≡ true
+unfolding touch_for_writing soiled
+touch_for_writing-dirty format s b = with_at-same (touch format s b).dirty b true

@@ -1,0 +1,198 @@
+-- The code of zeros: bits that are all 0 read as a block of zeros.
+use Rattle.std.proofs.Common.{◌≡◌, refl, sym, ap, subst, ◌∙◌, ℕ, zero, suc, ◌-◌, ◌*◌, ◌/◌, ◌%◌, ◌^◌, ◌≤◌, min, max, Bool, true, false, ◌==◌, cond, leb, ℤ, pos, negsuc, ◌+ℤ◌, ◌*ℤ◌, List, [], ◌∷◌, ◌++◌, map, length, get_or, take, drop, replicate, reverse, All, arith}
+use Rattle.std.proofs.Math.Path.{fun_ext}
+use Rattle.std.proofs.Math.Nat.{one-le-pow}
+use Rattle.std.proofs.lemmas.List.{length-replicate, get_or-replicate}
+use Rattle.std.specs.Int.{Width, w8, w16, w32, w64, w128, int_wrap}
+use Rattle.std.specs.List.{position_or_len}
+use mir.Val.{bits}
+use Rattle.zf_spec.specs.Numbers.{digits_sum, value_of, wrap}
+use Rattle.zf_spec.specs.Grid.{upto, places, indices, is_inside}
+use Rattle.zf_spec.specs.Lift.{unlift_line, line_value, along, unlift_from, unlift}
+use Rattle.zf_spec.specs.Planes.{reach, plane_code, code_from}
+use Rattle.zf_spec.specs.Kept.{kept_plane, cut_plane, kept_tail, kept_from, kept}
+use Rattle.zf_spec.specs.Reading.{Begins, full}
+use Rattle.zf_spec.specs.Codes.{coefficients_of, existing, read_rate}
+use Rattle.zf_spec.specs.Ranks.{order, unranked}
+use Rattle.zf_spec.proofs.Wrapping.{wrap_value, zero_fits}
+use Rattle.zf_spec.proofs.Counting.{length-upto, length-map-upto}
+use Rattle.zf_spec.proofs.Reach.{has_one-zeros, reach_none}
+use Rattle.zf_spec.proofs.PlaneCode.{tail-zeros}
+use Rattle.zf_spec.proofs.KeptCases.{kept_tail-zeros}
+use Rattle.zf_spec.proofs.Full.{full_only}
+
+-- ---- lists of zeros
+
+-- as many zeros as a list is long
+zeros : {X : Type 0} → List X → List ℤ
+zeros xs = map (λ x. pos 0) xs
+
+get_or-zeros : {X : Type 0} (xs : List X) (k : ℕ) → get_or (zeros xs) k (pos 0) ≡ pos 0
+unfolding zeros
+get_or-zeros [] k = refl
+get_or-zeros (x ∷ xs) zero = refl
+get_or-zeros (x ∷ xs) (suc k) = get_or-zeros xs k
+
+-- ---- planes of zeros
+
+-- a plane of no one, and p of them
+blank : ℕ → List Bool
+blank size = replicate size false
+
+blanks : ℕ → ℕ → List (List Bool)
+blanks p size = replicate p (replicate size false)
+
+plane_code-blank : (k : ℕ) → plane_code 0 (replicate (suc k) false) ≡ false ∷ []
+plane_code-blank k = tail-zeros k
+
+reach-blank : (size : ℕ) → reach (replicate size false) ≡ 0
+reach-blank size = reach_none (replicate size false) (has_one-zeros size)
+
+code-blanks : (p k : ℕ) → code_from 0 (replicate p (replicate (suc k) false)) ≡ replicate p false
+code-blanks zero k = refl
+code-blanks (suc p) k =
+    let n : max 0 (reach (replicate (suc k) false)) ≡ 0 = omega (arith, reach-blank (suc k)) in
+    ap (λ bs. bs ++ code_from (max 0 (reach (replicate (suc k) false))) (replicate p (replicate (suc k) false))) (plane_code-blank k)
+    ∙ ap (λ m. (false ∷ []) ++ code_from m (replicate p (replicate (suc k) false))) n
+    ∙ ap (λ bs. false ∷ bs) (code-blanks p k)
+
+begins-blank : (m n : ℕ) → Begins (replicate m false) (replicate n false)
+begins-blank zero n = tt
+begins-blank (suc m) zero = (refl, begins-blank m zero)
+begins-blank (suc m) (suc n) = (refl, begins-blank m n)
+
+All-blanks : (p size : ℕ) → All (λ ds. length ds ≡ size) (replicate p (replicate size false))
+All-blanks p size = λ i d h. ap length (get_or-replicate p i (replicate size false) d (omega (arith, h, length-replicate p (replicate size false)))) ∙ length-replicate size false
+
+full-blank : (p k n : ℕ) → full p (suc k) (replicate n false) ≡ replicate p (replicate (suc k) false)
+full-blank p k n =
+    let ps = replicate p (replicate (suc k) false) in
+    let s = replicate n false in
+    ap (λ m. full m (suc k) s) (sym (length-replicate p (replicate (suc k) false)))
+    ∙ sym (full_only (suc k) ps s (All-blanks p (suc k)) (subst (λ bs. Begins bs s) (sym (code-blanks p k)) (begins-blank p n)))
+
+kept_plane-blank : (r k : ℕ) → kept_plane r 0 (replicate (suc k) false) ≡ replicate (suc k) false
+kept_plane-blank r k = by (leb (length (plane_code 0 (replicate (suc k) false))) r)
+  where
+    ds : List Bool
+    ds = replicate (suc k) false
+
+    with_first : ℕ → List Bool
+    with_first q = take q ds ++ replicate (length (drop q (take 0 ds))) false ++ kept_tail (r - q) (drop 0 ds)
+
+    none : min 0 r ≡ 0
+    none = omega arith
+
+    by : (t : Bool) → cond t (replicate (suc k) false) (cut_plane r 0 (replicate (suc k) false)) ≡ replicate (suc k) false
+    by true = refl
+    by false = ap with_first none ∙ kept_tail-zeros (r - 0) ds (has_one-zeros (suc k)) ∙ ap (λ n. replicate n false) (length-replicate (suc k) false)
+
+kept-blanks : (r p k : ℕ) → kept_from r 0 (replicate p (replicate (suc k) false)) ≡ replicate p (replicate (suc k) false)
+kept-blanks r zero k = refl
+kept-blanks r (suc p) k =
+    let ds = replicate (suc k) false in
+    let planes = replicate p (replicate (suc k) false) in
+    let left = r - length (plane_code 0 ds) in
+    let n : max 0 (reach ds) ≡ 0 = omega (arith, reach-blank (suc k)) in
+    ap (λ d. d ∷ kept_from left (max 0 (reach ds)) planes) (kept_plane-blank r k) ∙ ap (λ m. ds ∷ kept_from left m planes) n ∙ ap (λ ps. ds ∷ ps) (kept-blanks left p k)
+
+-- ---- coefficients and values of zeros
+
+digits_sum-zeros : {X : Type 0} (xs : List X) → digits_sum (map (λ x. false) xs) ≡ pos 0
+digits_sum-zeros [] = refl
+digits_sum-zeros (x ∷ xs) = ap (λ v. pos 0 +ℤ negsuc 1 *ℤ v) (digits_sum-zeros xs)
+
+get_or-blank : (size r : ℕ) → get_or (replicate size false) r false ≡ false
+get_or-blank zero r = refl
+get_or-blank (suc size) zero = refl
+get_or-blank (suc size) (suc r) = get_or-blank size r
+
+get_or-blanks : (p size k r : ℕ) → get_or (get_or (replicate p (replicate size false)) k []) r false ≡ false
+get_or-blanks zero size k r = refl
+get_or-blanks (suc p) size zero r = get_or-blank size r
+get_or-blanks (suc p) size (suc k) r = get_or-blanks p size k r
+
+value-blanks : (w : Width) (p size r : ℕ) (ks : List ℕ) → value_of w (map (λ k. get_or (get_or (replicate p (replicate size false)) k []) r false) ks) ≡ pos 0
+value-blanks w p size r ks =
+    let none : (λ (k : ℕ). get_or (get_or (replicate p (replicate size false)) k []) r false) ≡ (λ (k : ℕ). false) = fun_ext (λ k. get_or-blanks p size k r) in
+    ap (λ f. value_of w (map f ks)) none ∙ ap (wrap w) (digits_sum-zeros ks) ∙ wrap_value w (pos 0) (zero_fits w)
+
+unranked-zeros : {X : Type 0} (d : ℕ) (xs : List X) → unranked d (zeros xs) ≡ zeros (places d)
+unfolding zeros
+unranked-zeros d xs =
+    let same : (λ (p : ℕ). get_or (zeros xs) (position_or_len (λ q. q == p) (order d)) (pos 0)) ≡ (λ (p : ℕ). pos 0) = fun_ext (λ p. get_or-zeros xs (position_or_len (λ q. q == p) (order d))) in
+    ap (λ f. map f (places d)) same
+
+coefficients-blanks : (w : Width) (d p size : ℕ) → coefficients_of w d (replicate p (replicate size false)) ≡ zeros (places d)
+unfolding zeros
+coefficients-blanks w d p size =
+    let ks = reverse (upto (bits w)) in
+    let same : (λ (r : ℕ). value_of w (map (λ k. get_or (get_or (replicate p (replicate size false)) k []) r false) ks)) ≡ (λ (r : ℕ). pos 0) = fun_ext (λ r. value-blanks w p size r ks) in
+    ap (λ f. unranked d (map f (upto (4 ^ d)))) same ∙ unranked-zeros d (upto (4 ^ d))
+
+-- ---- the inverse transform of zeros
+
+unlift_line-zeros : (w : Width) → unlift_line w (pos 0) (pos 0) (pos 0) (pos 0) ≡ pos 0 ∷ pos 0 ∷ pos 0 ∷ pos 0 ∷ []
+unfolding int_wrap
+unlift_line-zeros w8 = refl
+unlift_line-zeros w16 = refl
+unlift_line-zeros w32 = refl
+unlift_line-zeros w64 = refl
+unlift_line-zeros w128 = refl
+
+at_line : (f : ℤ → ℤ → ℤ → ℤ → List ℤ) (a b c d : ℤ) (i : ℕ) → a ≡ pos 0 → b ≡ pos 0 → c ≡ pos 0 → d ≡ pos 0 → f (pos 0) (pos 0) (pos 0) (pos 0) ≡ pos 0 ∷ pos 0 ∷ pos 0 ∷ pos 0 ∷ []
+    → get_or (f a b c d) i (pos 0) ≡ pos 0
+unfolding zeros
+at_line f a b c d i p q r s zero_line = let same : f a b c d ≡ f (pos 0) (pos 0) (pos 0) (pos 0) = cc in ap (λ l. get_or l i (pos 0)) (same ∙ zero_line) ∙ get_or-zeros (upto 4) i
+
+along-zeros : (w : Width) (step n : ℕ) → along (unlift_line w) step (zeros (upto n)) ≡ zeros (upto n)
+unfolding along zeros
+along-zeros w step n =
+    let block = zeros (upto n) in
+    let same : line_value (unlift_line w) step block ≡ (λ (p : ℕ). pos 0) =
+    fun_ext (λ p. at_line (unlift_line w) _ _ _ _ (p / step % 4) (get_or-zeros (upto n) _) (get_or-zeros (upto n) _) (get_or-zeros (upto n) _) (get_or-zeros (upto n) _) (unlift_line-zeros w)) in
+    ap (λ m. map (line_value (unlift_line w) step block) (upto m)) (length-map-upto (λ p. pos 0) n) ∙ ap (λ f. map f (upto n)) same
+
+unlift-zeros : (w : Width) (step d n : ℕ) → unlift_from w step d (zeros (upto n)) ≡ zeros (upto n)
+unlift-zeros w step zero n = refl
+unlift-zeros w step (suc d) n = ap (along (unlift_line w) step) (unlift-zeros w (4 * step) d n) ∙ along-zeros w step n
+
+existing-zeros : (es : List ℕ) (n : ℕ) → existing es (zeros (upto n)) ≡ zeros (places (length es))
+unfolding existing zeros
+existing-zeros es n =
+    let same : (λ (p : ℕ). cond (is_inside es (indices (length es) p)) (get_or (zeros (upto n)) p (pos 0)) (pos 0)) ≡ (λ (p : ℕ). pos 0) =
+    fun_ext (λ p. ap (λ v. cond (is_inside es (indices (length es) p)) v (pos 0)) (get_or-zeros (upto n) p) ∙ either (is_inside es (indices (length es) p))) in
+    ap (λ f. map f (places (length es))) same
+  where
+    either : (t : Bool) → cond t (pos 0) (pos 0) ≡ pos 0
+    either true = refl
+    either false = refl
+
+zeros-replicate : {X : Type 0} (xs : List X) → zeros xs ≡ replicate (length xs) (pos 0)
+unfolding zeros
+zeros-replicate [] = refl
+zeros-replicate (x ∷ xs) = ap (λ vs. pos 0 ∷ vs) (zeros-replicate xs)
+
+-- n bits that are all 0 read as a block of zeros
+pub read_rate-zeros : (w : Width) (es : List ℕ) (n : ℕ) → read_rate w es (replicate n false) ≡ replicate (4 ^ length es) (pos 0)
+unfolding read_rate
+read_rate-zeros w es n =
+    let d = length es in
+    let p = bits w in
+    from_size (4 ^ d) refl (one-le-pow d 4 (omega arith))
+  where
+    from_size : (size : ℕ) → 4 ^ length es ≡ size → 1 ≤ size
+        → existing es (unlift w (length es) (coefficients_of w (length es) (kept (length (replicate n false)) (full (bits w) (4 ^ length es) (replicate n false))))) ≡ replicate (4 ^ length es) (pos 0)
+    from_size zero e some = absurd (omega arith)
+    from_size (suc k) e some =
+        let d = length es in
+        let back = λ (ps : List (List Bool)). existing es (unlift w (length es) (coefficients_of w (length es) ps)) in
+        let budget = length (replicate n false) in
+        ap (λ s. back (kept budget (full (bits w) s (replicate n false)))) e
+        ∙ ap (λ ps. back (kept budget ps)) (full-blank (bits w) k n)
+        ∙ ap back (kept-blanks budget (bits w) k)
+        ∙ ap (λ c. existing es (unlift w d c)) (coefficients-blanks w d (bits w) (suc k))
+        ∙ ap (existing es) (unlift-zeros w 1 d (4 ^ d))
+        ∙ existing-zeros es (4 ^ d)
+        ∙ zeros-replicate (places d)
+        ∙ ap (λ m. replicate m (pos 0)) (length-upto (4 ^ d))

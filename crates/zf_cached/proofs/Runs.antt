@@ -1,0 +1,108 @@
+-- Runs of scripts: what each line keeps, and lines one after the other.
+use Rattle.std.proofs.Common.{◌≡◌, refl, sym, ap, ◌∙◌, ℕ, suc, ◌+◌, Bool, true, false, ◌&&◌, eqb, List, [], ◌∷◌, ◌++◌, length, Option, Some, None, append_assoc, arith}
+use Rattle.std.specs.List.{list_any}
+use Rattle.std.specs.Option.{option_to_list}
+use Rattle.std.specs.Int.{Width}
+use Rattle.zf_spec.specs.Grid.{IsShape}
+use Rattle.zf_cached.specs.State.{State}
+use Rattle.zf_cached.specs.Arrays.{array_format}
+use Rattle.zf_cached.specs.Commands.{Command}
+use Rattle.zf_cached.specs.Replies.{Refusal, Reply}
+use Rattle.zf_cached.specs.Grammar.{read_line}
+use Rattle.zf_cached.specs.Steps.{Setting, Session, format_of, refuses_size, refuses_range, refuses_value, takes_memory, refusal, step}
+use Rattle.zf_cached.specs.Consistency.{IsConsistent, IsCached, IsEmpty, IsSound}
+use Rattle.zf_cached.specs.Runs.{lines_of, read_step, line_step, run_lines, run_script, run, array_setting}
+use Rattle.zf_cached.proofs.Flushing.{flush-consistent, flush-empty}
+use Rattle.zf_cached.proofs.Windows.{LiesIn-whole}
+use Rattle.zf_cached.proofs.Arrays.{meant-zeros}
+use Rattle.zf_cached.proofs.Reading.{read_line-Some}
+use Rattle.zf_cached.proofs.Sessions.{step_by, step-sound}
+
+-- ---- lines
+
+line_step-sound : {Code : Type 0} (setting : Setting Code) (s : Session Code) (line : List ℕ) (wanting : Bool) → IsCached setting → IsSound setting s → IsSound setting (line_step setting s line wanting).0
+unfolding line_step read_step
+line_step-sound setting s [] wanting cached h = h
+line_step-sound {Code} setting s (b ∷ bs) wanting cached h = by (read_line (length s.shape) (b ∷ bs)) refl
+  where
+    by : (o : Option Command) → read_line (length s.shape) (b ∷ bs) ≡ o → IsSound setting (read_step setting s o wanting).0
+    by None e = h
+    by (Some c) e = allowed (setting.allows c)
+      where
+        allowed : (t : Bool) → IsSound setting (elim t as (λ x. Session Code × Option Reply) [ true ↦ step setting s c wanting | false ↦ (s, Some (Reply.refused Refusal.word)) ]).0
+        allowed true = step-sound setting s c wanting (read_line-Some (length s.shape) (b ∷ bs) c e).0 cached h
+        allowed false = h
+
+pub run_lines-sound : {Code : Type 0} (setting : Setting Code) (wants : List ℕ) (k : ℕ) (lines : List (List ℕ)) (s : Session Code) → IsCached setting → IsSound setting s → IsSound setting (run_lines setting wants k lines s).0
+unfolding run_lines
+run_lines-sound setting wants k [] s cached h = h
+run_lines-sound setting wants k (line ∷ lines) s cached h =
+    run_lines-sound setting wants (suc k) lines _ cached (line_step-sound setting s line (list_any (λ n. eqb n k) wants) cached h)
+
+-- lines, and then more lines
+pub run_lines-append : {Code : Type 0} (setting : Setting Code) (wants : List ℕ) (k : ℕ) (lines more : List (List ℕ)) (s : Session Code)
+    → run_lines setting wants k (lines ++ more) s ≡ ((run_lines setting wants (k + length lines) more (run_lines setting wants k lines s).0).0, (run_lines setting wants k lines s).1 ++ (run_lines setting wants (k + length lines) more (run_lines setting wants k lines s).0).1)
+unfolding run_lines
+run_lines-append setting wants k [] more s = let e : k ≡ k + 0 = omega arith in ap (λ n. run_lines setting wants n more s) e
+run_lines-append {Code} setting wants k (line ∷ lines) more s =
+    let one = line_step setting s line (list_any (λ n. eqb n k) wants) in
+    let e : suc k + length lines ≡ k + suc (length lines) = omega arith in
+    let first = run_lines setting wants (suc k) lines one.0 in
+    let o = option_to_list one.1 in
+    let then_more = λ (n : ℕ). run_lines setting wants n more first.0 in
+    ap (λ (r : Session Code × List Reply). (r.0, o ++ r.1)) (run_lines-append setting wants (suc k) lines more one.0)
+    ∙ ap (λ (rs : List Reply). ((then_more (suc k + length lines)).0, rs)) (sym (append_assoc o first.1 (then_more (suc k + length lines)).1))
+    ∙ ap (λ (n : ℕ). ((then_more n).0, (o ++ first.1) ++ (then_more n).1)) e
+
+-- ---- runs
+
+pub run_script-sound : {Code : Type 0} (setting : Setting Code) (wants shape : List ℕ) (s : State Code) (script : List ℕ) → IsCached setting → IsShape shape → IsConsistent (array_format setting.coding shape) s → IsSound setting (run_script setting wants shape s script).0
+unfolding run_script
+run_script-sound setting wants shape s script cached is h =
+    run_lines-sound setting wants 0 (lines_of script) _ cached (record { shape = is; state = h; window = LiesIn-whole shape is.not_zero })
+
+pub run-sound : {Code : Type 0} (setting : Setting Code) (wants shape : List ℕ) (s : State Code) (script : List ℕ) → IsCached setting → IsShape shape → IsConsistent (array_format setting.coding shape) s → IsSound setting (run setting wants shape s script).0
+unfolding run
+run-sound setting wants shape s script cached is h =
+    let k = run_script-sound setting wants shape s script cached is h in
+    record { shape = k.shape; state = flush-consistent (format_of setting (run_script setting wants shape s script).0) (run_script setting wants shape s script).0.state k.state; window = k.window }
+
+-- nothing is dirty after a run
+pub run-empty : {Code : Type 0} (setting : Setting Code) (wants shape : List ℕ) (s : State Code) (script : List ℕ) → IsCached setting → IsShape shape → IsConsistent (array_format setting.coding shape) s → IsEmpty (run setting wants shape s script).0.state
+unfolding run
+run-empty setting wants shape s script cached is h =
+    flush-empty (format_of setting (run_script setting wants shape s script).0) (run_script setting wants shape s script).0.state (run_script-sound setting wants shape s script cached is h).state
+
+-- ---- refusals
+
+pub step-refused : {Code : Type 0} (setting : Setting Code) (s : Session Code) (c : Command) (wanting : Bool) (why : Refusal) → refusal setting s c wanting ≡ Some why → step setting s c wanting ≡ (s, Some (Reply.refused why))
+step-refused setting s c wanting why e = step_by setting s c wanting (λ r. r ≡ (s, Some (Reply.refused why))) (λ y is. let same : y ≡ why = cc in ap (λ x. (s, Some (Reply.refused x))) same) (λ none. absurd (cc))
+
+pub array_setting-cached : (w : Width) (budget : ℕ) → IsCached (array_setting w budget)
+unfolding array_setting
+array_setting-cached w budget = record { touches = refl; zero = meant-zeros w budget }
+
+refusal_memory : (a b v t m : Bool) → elim a as (λ x. Option Refusal) [ true ↦ Some Refusal.size | false ↦ elim b [ true ↦ Some Refusal.range | false ↦ elim v [ true ↦ Some Refusal.value | false ↦ elim (t && m) [ true ↦ Some Refusal.memory | false ↦ None ] ] ] ] ≡ Some Refusal.memory
+    → (t ≡ true) × (m ≡ true) × (elim a as (λ x. Option Refusal) [ true ↦ Some Refusal.size | false ↦ elim b [ true ↦ Some Refusal.range | false ↦ elim v [ true ↦ Some Refusal.value | false ↦ elim (t && false) [ true ↦ Some Refusal.memory | false ↦ None ] ] ] ] ≡ None)
+refusal_memory false false false true true e = (refl, refl, refl)
+refusal_memory false false false true false e = absurd (cc)
+refusal_memory false false false false true e = absurd (cc)
+refusal_memory false false false false false e = absurd (cc)
+refusal_memory false false true t m e = absurd (cc)
+refusal_memory false true v t m e = absurd (cc)
+refusal_memory true b v t m e = absurd (cc)
+
+pub refusal-memory : {Code : Type 0} (setting : Setting Code) (s : Session Code) (c : Command) (wanting : Bool) → refusal setting s c wanting ≡ Some Refusal.memory → (takes_memory c ≡ true) × (wanting ≡ true) × (refusal setting s c false ≡ None)
+unfolding refusal
+refusal-memory setting s c wanting e = refusal_memory (refuses_size setting s c) (refuses_range s c) (refuses_value setting.width c) (takes_memory c) wanting e
+
+refusal_word : (a b v m : Bool) → elim a as (λ x. Option Refusal) [ true ↦ Some Refusal.size | false ↦ elim b [ true ↦ Some Refusal.range | false ↦ elim v [ true ↦ Some Refusal.value | false ↦ elim m [ true ↦ Some Refusal.memory | false ↦ None ] ] ] ] ≡ Some Refusal.word → ⊥
+refusal_word false false false true e = cc
+refusal_word false false false false e = cc
+refusal_word false false true m e = cc
+refusal_word false true v m e = cc
+refusal_word true b v m e = cc
+
+pub refusal-word : {Code : Type 0} (setting : Setting Code) (s : Session Code) (c : Command) (wanting : Bool) → refusal setting s c wanting ≡ Some Refusal.word → ⊥
+unfolding refusal
+refusal-word setting s c wanting e = refusal_word (refuses_size setting s c) (refuses_range s c) (refuses_value setting.width c) (takes_memory c && wanting) e

@@ -1,0 +1,7 @@
+use Rattle.std.proofs.Common.{refl}
+use Rattle.std.specs.Fmt.{digits}
+use Rattle.zf_cached.proofs.tables_of_lines.texts_of_replies.Goals as goal
+
+pub returns : goal.returns
+unfolding digits
+returns c = record { zero = refl; negative = refl; great = refl; counts = refl; word = refl; size = refl; range = refl; value = refl; memory = refl }

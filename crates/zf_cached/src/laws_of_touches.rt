@@ -1,0 +1,51 @@
+//! Laws of touches, of write-back and of the counts.
+
+ghost use Rattle.std.specs.Prelude.{◌≡◌, ℕ, ◌+◌, ◌<◌, ◌≤◌, ◌≢◌, true, false, List, ℤ, Some};
+ghost use Rattle.zf_base.specs.Formats.{Format, existing_of, encoded, rounded};
+ghost use Rattle.zf_cached.specs.State.{State, most_counted, risen, own_line, is_here};
+ghost use Rattle.zf_cached.specs.Touch.{hit, touch, touch_for_writing, write_back, with_values};
+ghost use Rattle.zf_cached.specs.Consistency.{IsConsistent};
+ghost use Rattle.zf_cached.specs.Fates.{IsLeft, IsRounded};
+
+use crate::coded::Coded;
+
+/// What holds of every state that is reached is kept by a touch, by a touch for writing, by what is then written, and by a write-back.
+pub fn touches_keep_states_consistent<C: Coded>()
+    ensures touch { (format : Format C.Code) (s : State C.Code) (b : ℕ)
+        → IsConsistent format s → IsConsistent format (touch format s b) }
+    ensures for_writing { (format : Format C.Code) (s : State C.Code) (b : ℕ)
+        → IsConsistent format s → IsConsistent format (touch_for_writing format s b) }
+    ensures written { (format : Format C.Code) (s : State C.Code) (b : ℕ) (values : List ℤ)
+        → s.dirty b ≡ true → existing_of format b values ≡ values
+        → IsConsistent format s → IsConsistent format (with_values s b values) }
+    ensures write_back { (format : Format C.Code) (s : State C.Code) (b : ℕ)
+        → IsConsistent format s → IsConsistent format (write_back format s b) }
+{}
+
+/// A touched block is here, with the values, the code and the mark that it had: where it was here, only the hits rise, and touching it again is a hit.
+pub fn touched_blocks<C: Coded>()
+    ensures here { (format : Format C.Code) (s : State C.Code) (b : ℕ) → is_here (touch format s b) b ≡ true }
+    ensures same { (format : Format C.Code) (s : State C.Code) (b : ℕ) → IsLeft s (touch format s b) b }
+    ensures hit { (format : Format C.Code) (s : State C.Code) (b : ℕ) → is_here s b ≡ true → touch format s b ≡ hit s }
+    ensures again { (format : Format C.Code) (s : State C.Code) (b : ℕ)
+        → touch format (touch format s b) b ≡ hit (touch format s b) }
+    ensures dirty { (format : Format C.Code) (s : State C.Code) (b : ℕ) → (touch_for_writing format s b).dirty b ≡ true }
+{}
+
+/// What a touch of one block makes of another: a clean block is never written back; a dirty one is, exactly where its line is taken.
+pub fn other_blocks<C: Coded>()
+    ensures clean { (format : Format C.Code) (s : State C.Code) (a b : ℕ)
+        → s.dirty b ≡ false → IsLeft s (touch format s a) b }
+    ensures evicted { (format : Format C.Code) (s : State C.Code) (a b : ℕ)
+        → is_here s a ≡ false → s.held (own_line s a) ≡ Some b → s.dirty b ≡ true
+        → IsRounded format s (touch format s a) b }
+    ensures away { (format : Format C.Code) (s : State C.Code) (a b : ℕ)
+        → (s.held (own_line s a) ≡ Some b → ⊥) → IsLeft s (touch format s a) b }
+{}
+
+/// A count rises by one, and stays at its most.
+pub fn counts()
+    ensures rises { (n : ℕ) → n < most_counted → risen n ≡ n + 1 }
+    ensures stays { risen most_counted ≡ most_counted }
+    ensures bound { (n : ℕ) → risen n ≤ most_counted }
+{}

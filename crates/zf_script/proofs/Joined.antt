@@ -1,0 +1,143 @@
+-- Numbers with a byte between two of them, part by part.
+use Rattle.std.proofs.Common.{◌≡◌, ◌≢◌, ℕ, zero, suc, ◌+◌, ◌<◌, ◌≤◌, ◌^◌, true, ◌==◌, List, [], ◌∷◌, ◌++◌, map, length, get_or, set, take, IsTrue, refl, ap, sym, ◌∙◌, subst, arith, lit<, decimal, get_or-set_other, length-take, append_assoc, append-nil, length-append}
+use Rattle.std.specs.List.{join_with_byte, list_all}
+use Rattle.std.proofs.lemmas.Bool.{ltb-true, lt-ltb, le-leb, eq-eqb, and_from, and_parts}
+use Rattle.std.proofs.lemmas.List.{length-map, map-append, take_more_set}
+use Rattle.std.proofs.lemmas.List.Folds.{list_all-append}
+use Rattle.std.proofs.lemmas.List.Splits.{length-slice_split}
+use Rattle.zf_base.specs.declared.position.Pos.{Pos}
+use Rattle.zf_base.specs.Positions.{used, with_unused}
+use Rattle.zf_cached.specs.Grammar.{IsNoDigit, numbers_text, is_number, has_axes, has_sizes, cut_at}
+use Rattle.zf_cached.proofs.Cutting.{cut_at-numbers, joined-cut_at}
+use Rattle.zf_cached.proofs.Reading.{axes-parts, sizes-parts}
+use Rattle.zf_script.specs.NumberWords.{IsAxesWord, IsSizesWord}
+
+-- ---- a word of numbers and its parts
+pub parts_are : (byte : ℕ) (word ns : List ℕ) → IsNoDigit byte → has_sizes ns ≡ true → word ≡ numbers_text byte ns → cut_at byte word ≡ map decimal ns
+parts_are byte word ns no_digit ok is =
+    let parts = sizes-parts ns ok in
+    ap (cut_at byte) is ∙ cut_at-numbers byte ns parts.0 parts.2 no_digit
+
+-- there are at most four
+pub four_parts : (byte : ℕ) (word ns : List ℕ) → IsNoDigit byte → has_sizes ns ≡ true → word ≡ numbers_text byte ns → length (cut_at byte word) ≤ 4
+four_parts byte word ns no_digit ok is =
+    omega (arith, ap length (parts_are byte word ns no_digit ok is), length-map ns decimal, (sizes-parts ns ok).1)
+
+-- and one at least of any word
+pub some_part : (byte : ℕ) (word : List ℕ) → 1 ≤ length (cut_at byte word)
+some_part byte word = omega (arith, length-slice_split (λ b. b == byte) word)
+
+part_of_texts : (ns : List ℕ) (front : List (List ℕ)) (part : List ℕ) (more : List (List ℕ)) → list_all is_number ns ≡ true → map decimal ns ≡ front ++ part ∷ more → (n : ℕ) × (n < 2 ^ 64) × (part ≡ decimal n)
+part_of_texts [] [] part more small same = absurd (cc)
+part_of_texts [] (text ∷ front) part more small same = absurd (cc)
+part_of_texts (n ∷ ns) [] part more small same =
+    let head : part ≡ decimal n = cc in
+    (n, ltb-true n _ (and_parts (is_number n) (list_all is_number ns) small).0, head)
+part_of_texts (n ∷ ns) (text ∷ front) part more small same =
+    let rest : map decimal ns ≡ front ++ part ∷ more = cc in
+    part_of_texts ns front part more (and_parts (is_number n) (list_all is_number ns) small).1 rest
+
+-- each part is a number
+pub part_is_number : (byte : ℕ) (word ns : List ℕ) (front : List (List ℕ)) (part : List ℕ) (more : List (List ℕ)) → IsNoDigit byte → cut_at byte word ≡ front ++ part ∷ more → has_sizes ns ≡ true → word ≡ numbers_text byte ns → (n : ℕ) × (n < 2 ^ 64) × (part ≡ decimal n)
+part_is_number byte word ns front part more no_digit cut ok is =
+    part_of_texts ns front part more (sizes-parts ns ok).2 (sym (parts_are byte word ns no_digit ok is) ∙ cut)
+
+-- parts that are numbers make a word of them
+pub joined_parts : (byte : ℕ) (word ns : List ℕ) → cut_at byte word ≡ map decimal ns → word ≡ numbers_text byte ns
+joined_parts byte word ns cut = sym (joined-cut_at byte word) ∙ ap (join_with_byte byte) cut
+
+-- ---- one number more
+pub numbers_more : (numbers : List ℕ) (count n : ℕ) → count < length numbers → list_all is_number (take count numbers) ≡ true → n < 2 ^ 64 → list_all is_number (take (count + 1) (set numbers count n)) ≡ true
+numbers_more numbers count n lt all small =
+    ap (list_all is_number) (take_more_set numbers count n lt)
+    ∙ (list_all-append is_number (take count numbers) (n ∷ [])
+    ∙ and_from (list_all is_number (take count numbers)) (list_all is_number (n ∷ [])) all (and_from (is_number n) true (lt-ltb n _ small) refl))
+
+pub texts_more : (texts : List (List ℕ)) (part : List ℕ) (rest : List (List ℕ)) (numbers : List ℕ) (count n : ℕ) → count < length numbers → part ≡ decimal n → texts ≡ map decimal (take count numbers) ++ part ∷ rest → texts ≡ map decimal (take (count + 1) (set numbers count n)) ++ rest
+texts_more texts part rest numbers count n lt this so_far =
+    so_far
+    ∙ (ap (λ text. map decimal (take count numbers) ++ text ∷ rest) this
+    ∙ (sym (append_assoc (map decimal (take count numbers)) (decimal n ∷ []) rest)
+    ∙ ap (λ front. front ++ rest) (sym (map-append decimal (take count numbers) (n ∷ [])) ∙ ap (map decimal) (sym (take_more_set numbers count n lt)))))
+
+-- the last number
+pub texts_whole : (texts : List (List ℕ)) (part : List ℕ) (numbers : List ℕ) (count n : ℕ) → count < length numbers → part ≡ decimal n → texts ≡ map decimal (take count numbers) ++ part ∷ [] → texts ≡ map decimal (take (count + 1) (set numbers count n))
+texts_whole texts part numbers count n lt this so_far =
+    texts_more texts part [] numbers count n lt this so_far ∙ append-nil (map decimal (take (count + 1) (set numbers count n)))
+
+-- the numbers behind the first ones stay
+pub others_more : (numbers : List ℕ) (count n unused : ℕ) → ((k : ℕ) → count ≤ k → k < 4 → get_or numbers k 0 ≡ unused) → (k : ℕ) → count + 1 ≤ k → k < 4 → get_or (set numbers count n) k 0 ≡ unused
+others_more numbers count n unused others k above below =
+    let other : k ≢ count = omega arith in
+    rw get_or-set_other (others k (omega arith) below)
+
+-- ---- the numbers as a `Pos`
+pub four_elements : (xs : List ℕ) → length xs ≡ 4 → get_or xs 0 0 ∷ get_or xs 1 0 ∷ get_or xs 2 0 ∷ get_or xs 3 0 ∷ [] ≡ xs
+four_elements [] four = absurd (omega arith)
+four_elements (a ∷ []) four = absurd (omega arith)
+four_elements (a ∷ b ∷ []) four = absurd (omega arith)
+four_elements (a ∷ b ∷ c ∷ []) four = absurd (omega arith)
+four_elements (a ∷ b ∷ c ∷ d ∷ []) four = refl
+four_elements (a ∷ b ∷ c ∷ d ∷ e ∷ xs) four = absurd (omega arith)
+
+-- four numbers as a `Pos`
+abbrev pub pos_of : List ℕ → Pos
+pos_of xs = record { x = get_or xs 0 0; y = get_or xs 1 0; z = get_or xs 2 0; w = get_or xs 3 0 }
+
+same_pos : (xs ys : List ℕ) → get_or xs 0 0 ≡ get_or ys 0 0 → get_or xs 1 0 ≡ get_or ys 1 0 → get_or xs 2 0 ≡ get_or ys 2 0 → get_or xs 3 0 ≡ get_or ys 3 0 → pos_of xs ≡ pos_of ys
+same_pos xs ys x y z w = cc
+
+-- the others are as they were
+others_are : (numbers : List ℕ) (count unused : ℕ) → length numbers ≡ 4 → count ≤ 4 → ((k : ℕ) → count ≤ k → k < 4 → get_or numbers k 0 ≡ unused) → pos_of numbers ≡ with_unused unused (used count (pos_of numbers))
+others_are numbers zero u four most others =
+    same_pos numbers (u ∷ u ∷ u ∷ u ∷ []) (others 0 (omega arith) (lit< tt)) (others 1 (omega arith) (lit< tt)) (others 2 (omega arith) (lit< tt)) (others 3 (omega arith) (lit< tt))
+others_are numbers (suc zero) u four most others =
+    same_pos numbers (get_or numbers 0 0 ∷ u ∷ u ∷ u ∷ []) refl (others 1 (omega arith) (lit< tt)) (others 2 (omega arith) (lit< tt)) (others 3 (omega arith) (lit< tt))
+others_are numbers (suc (suc zero)) u four most others =
+    same_pos numbers (get_or numbers 0 0 ∷ get_or numbers 1 0 ∷ u ∷ u ∷ []) refl refl (others 2 (omega arith) (lit< tt)) (others 3 (omega arith) (lit< tt))
+others_are numbers (suc (suc (suc zero))) u four most others =
+    same_pos numbers (get_or numbers 0 0 ∷ get_or numbers 1 0 ∷ get_or numbers 2 0 ∷ u ∷ []) refl refl refl (others 3 (omega arith) (lit< tt))
+others_are numbers (suc (suc (suc (suc zero)))) u four most others = refl
+others_are numbers (suc (suc (suc (suc (suc n))))) u four most others = absurd (omega arith)
+
+-- a word whose parts are these numbers
+pub sizes_word : (byte unused : ℕ) (word numbers : List ℕ) (count : ℕ) → length numbers ≡ 4 → 1 ≤ count → count ≤ 4 → list_all is_number (take count numbers) ≡ true → cut_at byte word ≡ map decimal (take count numbers) → ((k : ℕ) → count ≤ k → k < 4 → get_or numbers k 0 ≡ unused) → IsSizesWord byte unused word count (pos_of numbers)
+sizes_word byte unused word numbers count four some most small cut others =
+    let same : used count (pos_of numbers) ≡ take count numbers = ap (take count) (four_elements numbers four) in
+    let long : length (take count numbers) ≡ count = omega (arith, length-take count numbers) in
+    let sized : has_sizes (take count numbers) ≡ true = and_from _ (list_all is_number (take count numbers)) (and_from _ _ (le-leb 1 (length (take count numbers)) (omega arith)) (le-leb (length (take count numbers)) 4 (omega arith))) small in
+    record {
+      numbers = subst (λ ns. IsTrue (has_sizes ns)) (sym same) sized;
+      count_is = ap length same ∙ long;
+      text = joined_parts byte word (take count numbers) cut ∙ ap (numbers_text byte) (sym same);
+      others = others_are numbers count unused four most others;
+    }
+
+-- ---- one number for each axis
+pub sizes_from_axes : (d : ℕ) (ns : List ℕ) → 1 ≤ d → d ≤ 4 → has_axes d ns ≡ true → has_sizes ns ≡ true
+sizes_from_axes d ns some most ok =
+    let parts = axes-parts d ns ok in
+    and_from _ (list_all is_number ns) (and_from _ _ (le-leb 1 (length ns) (omega arith)) (le-leb (length ns) 4 (omega arith))) parts.1
+
+-- a word of so many numbers is none of another number of them
+pub count_same : (d byte unused : ℕ) (word : List ℕ) (count : ℕ) (p : Pos) (ns : List ℕ) → IsNoDigit byte → 1 ≤ d → d ≤ 4 → IsSizesWord byte unused word count p → has_axes d ns ≡ true → word ≡ numbers_text byte ns → count ≡ d
+count_same d byte unused word count p ns no_digit some most sizes ok is =
+    let sized = sizes_from_axes d ns some most ok in
+    let one = parts_are byte word (used count p) no_digit sizes.numbers sizes.text in
+    let two = parts_are byte word ns no_digit sized is in
+    omega (arith, ap length one, ap length two, length-map ns decimal, length-map (used count p) decimal, sizes.count_is, (axes-parts d ns ok).0)
+
+-- where they are as many as the axes they are one for each
+pub axes_word : (d byte unused : ℕ) (word : List ℕ) (count : ℕ) (p : Pos) → count ≡ d → IsSizesWord byte unused word count p → IsAxesWord d byte unused word p
+axes_word d byte unused word count p same sizes =
+    let is : IsSizesWord byte unused word d p = subst (λ k. IsSizesWord byte unused word k p) same sizes in
+    record {
+      numbers = and_from (length (used d p) == d) (list_all is_number (used d p)) (eq-eqb (length (used d p)) d is.count_is) (sizes-parts (used d p) is.numbers).2;
+      text = is.text;
+      others = is.others;
+    }
+
+-- a fifth part is one too many
+pub fifth_part : (byte : ℕ) (word ns : List ℕ) (front rest : List (List ℕ)) → IsNoDigit byte → cut_at byte word ≡ front ++ rest → length front ≡ 4 → 1 ≤ length rest → has_sizes ns ≡ true → word ≡ numbers_text byte ns → ⊥
+fifth_part byte word ns front rest no_digit cut four some ok is =
+    omega (arith, four_parts byte word ns no_digit ok is, ap length cut, length-append front rest)

@@ -1,0 +1,247 @@
+-- Words of lines and the commands that they are.
+use Rattle.std.proofs.Common.{◌≡◌, ◌≢◌, ℕ, suc, ◌+◌, ◌<◌, ◌≤◌, ◌^◌, ℤ, pos, negsuc, List, [], ◌∷◌, length, get_or, false, bytes_eq, Option, Some, None, Result, IsTrue, IfSome, IfNone, IfOk, IfErr, FitsSigned, refl, ap, sym, ◌∙◌, arith, codes, decimal}
+use Rattle.std.specs.Int.{w128}
+use Rattle.std.specs.Fmt.{signed_decimal}
+use Rattle.std.specs.List.{join_with_byte}
+use Rattle.std.specs.Option.{ok_or}
+use Rattle.std.proofs.lemmas.Bool.{lt-ltb, ltb-true, false≢true}
+use Rattle.std.proofs.lemmas.Int.{ints}
+use Rattle.std.proofs.lemmas.Slice.Eq.{bytes_eq-Decides}
+use Rattle.zf_base.specs.declared.position.Pos.{Pos}
+use Rattle.zf_base.specs.Positions.{used}
+use Rattle.zf_cached.specs.Commands.{Command}
+use Rattle.zf_cached.specs.Grammar.{space, comma, letter_x, numbers_text, words_of, line_of, is_value, has_axes, has_sizes, cut_at, read_line}
+use Rattle.zf_cached.proofs.Numerals.{HasNo}
+use Rattle.zf_cached.proofs.Cutting.{cut_at-one, joined-cut_at, one_word}
+use Rattle.zf_cached.proofs.Reading.{sizes-parts, position_no_space, sizes_no_space, value_no_space, number_no_space, cut_at-line_of, read_line_iff, read_line-None}
+use Rattle.zf_script.specs.declared.command.Cmd.{Cmd}
+use Rattle.zf_script.specs.declared.command.Cmd.TheVariants as cmds
+use Rattle.zf_script.specs.declared.reply.Refusal.{Refusal}
+use Rattle.zf_script.specs.declared.reply.Refusal.TheVariants as refusals
+use Rattle.zf_script.specs.declared.verb.Verb.{Verb}
+use Rattle.zf_script.specs.declared.verb.Verb.TheVariants as verbs
+use Rattle.zf_script.specs.NumberWords.{IsAxesWord, IsSizesWord}
+use Rattle.zf_script.specs.Arguments.{IsPositionAndValue, NoPositionAndValue, IsWindow, NoWindow, IsTwoNumbers, NoTwoNumbers}
+use Rattle.zf_script.specs.Verbs.{verb_word}
+use Rattle.zf_script.specs.Seen.{command_of, IsCommand, IsNoCommand}
+use Rattle.zf_script.proofs.Joined.{some_part}
+
+-- ---- the last word
+pub last_word : (word text : List ℕ) → word ≡ text → HasNo space text → cut_at space word ≡ text ∷ []
+last_word word text is none = ap (cut_at space) is ∙ cut_at-one space text none
+
+-- a value is one of 128 bits
+pub value_fits : (v : ℤ) → IsTrue (is_value v) → FitsSigned w128 v
+value_fits (pos n) small = let lt : n < 2 ^ 64 = ltb-true n _ small in record { sfits = omega (arith, ints) }
+value_fits (negsuc n) small = let lt : n + 1 < 2 ^ 64 = omega (arith, ltb-true (suc n) _ small) in record { sfits = omega (arith, ints) }
+
+-- ---- more words than one
+pub position_and_value_some : (d : ℕ) (words first second : List ℕ) (p : Pos) (v : ℤ) → cut_at space words ≡ first ∷ cut_at space second → IsAxesWord d comma 0 first p → IsTrue (is_value v) → second ≡ signed_decimal v → IsPositionAndValue d (cut_at space words) p v
+position_and_value_some d words first second p v cut axes small text =
+    let one = axes.text in
+    let last = last_word second (signed_decimal v) text (value_no_space v small) in
+    record { axes = axes.numbers; value = small; text = cut ∙ cc; others = axes.others }
+
+pub position_and_value_none : (d : ℕ) (words first second : List ℕ) → cut_at space words ≡ first ∷ cut_at space second → ((v : ℤ) → IsTrue (is_value v) → second ≢ signed_decimal v) → NoPositionAndValue d (cut_at space words)
+position_and_value_none d words first second cut none p v ok small same =
+    let tail : cut_at space second ≡ signed_decimal v ∷ [] = cc in
+    none v small (one_word space second (signed_decimal v) tail)
+
+pub window_some : (d : ℕ) (words first rest second third : List ℕ) (p s t : Pos) → cut_at space words ≡ first ∷ cut_at space rest → cut_at space rest ≡ second ∷ cut_at space third → IsAxesWord d comma 0 first p → IsAxesWord d letter_x 1 second s → IsAxesWord d comma 1 third t → IsWindow d (cut_at space words) p s t
+window_some d words first rest second third p s t cut again origin sizes steps =
+    let one = origin.text in
+    let two = sizes.text in
+    let last = last_word third (numbers_text comma (used d t)) steps.text (position_no_space d (used d t) steps.numbers) in
+    record {
+      origin = origin.numbers;
+      sizes = sizes.numbers;
+      steps = steps.numbers;
+      text = cut ∙ cc;
+      other_origins = origin.others;
+      other_sizes = sizes.others;
+      other_steps = steps.others;
+    }
+
+pub window_none : (d : ℕ) (words first rest second third : List ℕ) → cut_at space words ≡ first ∷ cut_at space rest → cut_at space rest ≡ second ∷ cut_at space third → ((ns : List ℕ) → IsTrue (has_axes d ns) → third ≢ numbers_text comma ns) → NoWindow d (cut_at space words)
+window_none d words first rest second third cut again none p s t ok_p ok_s ok_t same =
+    let tail : cut_at space third ≡ numbers_text comma t ∷ [] = cc in
+    none t ok_t (one_word space third (numbers_text comma t) tail)
+
+pub two_numbers_some : (words first second : List ℕ) (a i : ℕ) → cut_at space words ≡ first ∷ cut_at space second → first ≡ decimal a → second ≡ decimal i → i < 2 ^ 64 → IsTwoNumbers (cut_at space words) a i
+two_numbers_some words first second a i cut one two small =
+    let last = last_word second (decimal i) two (number_no_space i (lt-ltb i _ small)) in
+    cut ∙ cc
+
+pub two_numbers_none : (words first second : List ℕ) → cut_at space words ≡ first ∷ cut_at space second → ((n : ℕ) → n < 2 ^ 64 → second ≢ decimal n) → NoTwoNumbers (cut_at space words)
+two_numbers_none words first second cut none a i small_a small_i same =
+    let tail : cut_at space second ≡ decimal i ∷ [] = cc in
+    none i small_i (one_word space second (decimal i) tail)
+
+-- ---- a verb and one word
+pub get_command : (d : ℕ) (rest : List ℕ) (p : Pos) → IsAxesWord d comma 0 rest p → IsCommand d (codes "get" ∷ cut_at space rest) (cmds.Get p)
+get_command d rest p axes = record {
+  writable = axes.numbers;
+  text = ap (λ last. codes "get" ∷ last) (last_word rest (numbers_text comma (used d p)) axes.text (position_no_space d (used d p) axes.numbers));
+  others = ap cmds.Get axes.others;
+}
+
+pub vget_command : (d : ℕ) (rest : List ℕ) (p : Pos) → IsAxesWord d comma 0 rest p → IsCommand d (codes "vget" ∷ cut_at space rest) (cmds.VGet p)
+vget_command d rest p axes = record {
+  writable = axes.numbers;
+  text = ap (λ last. codes "vget" ∷ last) (last_word rest (numbers_text comma (used d p)) axes.text (position_no_space d (used d p) axes.numbers));
+  others = ap cmds.VGet axes.others;
+}
+
+pub fill_command : (d : ℕ) (rest : List ℕ) (v : ℤ) → IsTrue (is_value v) → rest ≡ signed_decimal v → IsCommand d (codes "fill" ∷ cut_at space rest) (cmds.Fill v)
+fill_command d rest v small text = record {
+  writable = small;
+  text = ap (λ last. codes "fill" ∷ last) (last_word rest (signed_decimal v) text (value_no_space v small));
+  others = refl;
+}
+
+pub lines_command : (d : ℕ) (rest : List ℕ) (l : ℕ) → l < 2 ^ 64 → rest ≡ decimal l → IsCommand d (codes "lines" ∷ cut_at space rest) (cmds.Lines l)
+lines_command d rest l small text = record {
+  writable = lt-ltb l _ small;
+  text = ap (λ last. codes "lines" ∷ last) (last_word rest (decimal l) text (number_no_space l (lt-ltb l _ small)));
+  others = refl;
+}
+
+pub resize_command : (d : ℕ) (rest : List ℕ) (count : ℕ) (s : Pos) → IsSizesWord letter_x 1 rest count s → IsCommand d (codes "resize" ∷ cut_at space rest) (cmds.Resize count s)
+resize_command d rest count s sizes =
+    let long = sizes.count_is in
+    let other = sizes.others in
+    record {
+      writable = sizes.numbers;
+      text = ap (λ last. codes "resize" ∷ last) (last_word rest (numbers_text letter_x (used count s)) sizes.text (sizes_no_space (used count s) (sizes-parts (used count s) sizes.numbers).2));
+      others = cc;
+    }
+
+-- ---- words that are no command
+-- the first word is another
+other_verb : (verb : List ℕ) (c : Command) (rest : List (List ℕ)) → bytes_eq verb (get_or (words_of c) 0 []) ≡ false → verb ∷ rest ≡ words_of c → ⊥
+other_verb verb c rest differ same =
+    false≢true (sym differ ∙ (bytes_eq-Decides verb (get_or (words_of c) 0 [])).1 (ap (λ words. get_or words 0 []) same))
+
+-- the only word behind the first one
+tail_word : (verb rest text : List ℕ) → verb ∷ cut_at space rest ≡ verb ∷ text ∷ [] → rest ≡ text
+tail_word verb rest text same = let tail : cut_at space rest ≡ text ∷ [] = cc in one_word space rest text tail
+
+-- there is a word behind a space
+word_behind : (verb rest : List ℕ) → verb ∷ cut_at space rest ≡ verb ∷ [] → ⊥
+word_behind verb rest same = omega (arith, some_part space rest, ap length same)
+
+pub no_get : (d : ℕ) (rest : List ℕ) → ((ns : List ℕ) → IsTrue (has_axes d ns) → rest ≢ numbers_text comma ns) → IsNoCommand d (codes "get" ∷ cut_at space rest)
+no_get d rest none (Command.get p) ok same = none p ok (tail_word (codes "get") rest (numbers_text comma p) same)
+no_get d rest none c ok same = other_verb (codes "get") c (cut_at space rest) refl same
+
+pub no_vget : (d : ℕ) (rest : List ℕ) → ((ns : List ℕ) → IsTrue (has_axes d ns) → rest ≢ numbers_text comma ns) → IsNoCommand d (codes "vget" ∷ cut_at space rest)
+no_vget d rest none (Command.vget p) ok same = none p ok (tail_word (codes "vget") rest (numbers_text comma p) same)
+no_vget d rest none c ok same = other_verb (codes "vget") c (cut_at space rest) refl same
+
+pub no_fill : (d : ℕ) (rest : List ℕ) → ((v : ℤ) → IsTrue (is_value v) → rest ≢ signed_decimal v) → IsNoCommand d (codes "fill" ∷ cut_at space rest)
+no_fill d rest none (Command.fill v) ok same = none v ok (tail_word (codes "fill") rest (signed_decimal v) same)
+no_fill d rest none c ok same = other_verb (codes "fill") c (cut_at space rest) refl same
+
+pub no_lines : (d : ℕ) (rest : List ℕ) → ((n : ℕ) → n < 2 ^ 64 → rest ≢ decimal n) → IsNoCommand d (codes "lines" ∷ cut_at space rest)
+no_lines d rest none (Command.lines l) ok same = none l (ltb-true l _ ok) (tail_word (codes "lines") rest (decimal l) same)
+no_lines d rest none c ok same = other_verb (codes "lines") c (cut_at space rest) refl same
+
+pub no_resize : (d : ℕ) (rest : List ℕ) → ((ns : List ℕ) → IsTrue (has_sizes ns) → rest ≢ numbers_text letter_x ns) → IsNoCommand d (codes "resize" ∷ cut_at space rest)
+no_resize d rest none (Command.resize s) ok same = none s ok (tail_word (codes "resize") rest (numbers_text letter_x s) same)
+no_resize d rest none c ok same = other_verb (codes "resize") c (cut_at space rest) refl same
+
+no_sum : (d : ℕ) (rest : List ℕ) → IsNoCommand d (codes "sum" ∷ cut_at space rest)
+no_sum d rest Command.sum ok same = word_behind (codes "sum") rest same
+no_sum d rest c ok same = other_verb (codes "sum") c (cut_at space rest) refl same
+
+no_vsum : (d : ℕ) (rest : List ℕ) → IsNoCommand d (codes "vsum" ∷ cut_at space rest)
+no_vsum d rest Command.vsum ok same = word_behind (codes "vsum") rest same
+no_vsum d rest c ok same = other_verb (codes "vsum") c (cut_at space rest) refl same
+
+no_flush : (d : ℕ) (rest : List ℕ) → IsNoCommand d (codes "flush" ∷ cut_at space rest)
+no_flush d rest Command.flush ok same = word_behind (codes "flush") rest same
+no_flush d rest c ok same = other_verb (codes "flush") c (cut_at space rest) refl same
+
+no_discard : (d : ℕ) (rest : List ℕ) → IsNoCommand d (codes "discard" ∷ cut_at space rest)
+no_discard d rest Command.discard ok same = word_behind (codes "discard") rest same
+no_discard d rest c ok same = other_verb (codes "discard") c (cut_at space rest) refl same
+
+no_stats : (d : ℕ) (rest : List ℕ) → IsNoCommand d (codes "stats" ∷ cut_at space rest)
+no_stats d rest Command.stats ok same = word_behind (codes "stats") rest same
+no_stats d rest c ok same = other_verb (codes "stats") c (cut_at space rest) refl same
+
+-- a verb that stands alone has no words behind it
+pub no_words : (d : ℕ) (verb : Verb) (rest : List ℕ) → verb ≢ verbs.Get → verb ≢ verbs.Set → verb ≢ verbs.Add → verb ≢ verbs.Fill → verb ≢ verbs.View → verb ≢ verbs.Slice → verb ≢ verbs.VGet → verb ≢ verbs.VSet → verb ≢ verbs.Lines → verb ≢ verbs.Resize → IsNoCommand d (verb_word verb ∷ cut_at space rest)
+no_words d verbs.Get rest get set add fill view slice vget vset lines resize = absurd (get refl)
+no_words d verbs.Set rest get set add fill view slice vget vset lines resize = absurd (set refl)
+no_words d verbs.Add rest get set add fill view slice vget vset lines resize = absurd (add refl)
+no_words d verbs.Fill rest get set add fill view slice vget vset lines resize = absurd (fill refl)
+no_words d verbs.View rest get set add fill view slice vget vset lines resize = absurd (view refl)
+no_words d verbs.Slice rest get set add fill view slice vget vset lines resize = absurd (slice refl)
+no_words d verbs.VGet rest get set add fill view slice vget vset lines resize = absurd (vget refl)
+no_words d verbs.VSet rest get set add fill view slice vget vset lines resize = absurd (vset refl)
+no_words d verbs.Lines rest get set add fill view slice vget vset lines resize = absurd (lines refl)
+no_words d verbs.Resize rest get set add fill view slice vget vset lines resize = absurd (resize refl)
+no_words d verbs.Sum rest get set add fill view slice vget vset lines resize = no_sum d rest
+no_words d verbs.VSum rest get set add fill view slice vget vset lines resize = no_vsum d rest
+no_words d verbs.Flush rest get set add fill view slice vget vset lines resize = no_flush d rest
+no_words d verbs.Discard rest get set add fill view slice vget vset lines resize = no_discard d rest
+no_words d verbs.Stats rest get set add fill view slice vget vset lines resize = no_stats d rest
+
+-- the verb of a command
+verb_of : Command → Verb
+verb_of (Command.get p) = verbs.Get
+verb_of (Command.set p v) = verbs.Set
+verb_of (Command.add p v) = verbs.Add
+verb_of (Command.fill v) = verbs.Fill
+verb_of Command.sum = verbs.Sum
+verb_of (Command.view p s t) = verbs.View
+verb_of (Command.slice a i) = verbs.Slice
+verb_of (Command.vget p) = verbs.VGet
+verb_of (Command.vset p v) = verbs.VSet
+verb_of Command.vsum = verbs.VSum
+verb_of Command.flush = verbs.Flush
+verb_of Command.discard = verbs.Discard
+verb_of (Command.lines l) = verbs.Lines
+verb_of (Command.resize s) = verbs.Resize
+verb_of Command.stats = verbs.Stats
+
+first_word : (c : Command) → get_or (words_of c) 0 [] ≡ verb_word (verb_of c)
+unfolding verb_of
+first_word (Command.get p) = refl
+first_word (Command.set p v) = refl
+first_word (Command.add p v) = refl
+first_word (Command.fill v) = refl
+first_word Command.sum = refl
+first_word (Command.view p s t) = refl
+first_word (Command.slice a i) = refl
+first_word (Command.vget p) = refl
+first_word (Command.vset p v) = refl
+first_word Command.vsum = refl
+first_word Command.flush = refl
+first_word Command.discard = refl
+first_word (Command.lines l) = refl
+first_word (Command.resize s) = refl
+first_word Command.stats = refl
+
+-- words whose first one is no verb are no command
+pub no_verb : (d : ℕ) (word : List ℕ) (words rest : List (List ℕ)) → words ≡ word ∷ rest → ((verb : Verb) → word ≢ verb_word verb) → IsNoCommand d words
+no_verb d word words rest is none c ok same =
+    none (verb_of c) (ap (λ ws. get_or ws 0 []) (sym is ∙ same) ∙ first_word c)
+
+-- ---- the words of a line
+pub read_some : (d : ℕ) (line : List ℕ) (cmd : Cmd) → 1 ≤ d → IsCommand d (cut_at space line) cmd → read_line d line ≡ Some (command_of d cmd)
+read_some d line cmd some is =
+    let line_is : line ≡ line_of (command_of d cmd) = sym (joined-cut_at space line) ∙ ap (join_with_byte space) is.text in
+    (read_line_iff d line (command_of d cmd) some).1 (is.writable, line_is)
+
+pub read_none : (d : ℕ) (line : List ℕ) → IsNoCommand d (cut_at space line) → read_line d line ≡ None
+read_none d line none = read_line-None d line (λ c ok same. none c ok (ap (cut_at space) same ∙ cut_at-line_of d c ok))
+
+pub parsed_ok : (d : ℕ) (line : List ℕ) (o : Option Cmd) (r : Result Cmd Refusal) → 1 ≤ d → r ≡ ok_or o refusals.Word → IfSome o (λ cmd. IsCommand d (cut_at space line) cmd) → IfOk r (λ cmd. read_line d line ≡ Some (command_of d cmd))
+parsed_ok d line None r some is command = rw is tt
+parsed_ok d line (Some cmd) r some is command = rw is (read_some d line cmd some command)
+
+pub parsed_err : (d : ℕ) (line : List ℕ) (o : Option Cmd) (r : Result Cmd Refusal) → r ≡ ok_or o refusals.Word → IfNone o (IsNoCommand d (cut_at space line)) → IfErr r (λ why. (why ≡ refusals.Word) × (read_line d line ≡ None))
+parsed_err d line None r is none = rw is (refl, read_none d line none)
+parsed_err d line (Some cmd) r is none = rw is tt

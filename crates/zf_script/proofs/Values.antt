@@ -1,0 +1,27 @@
+-- Values as words.
+use Rattle.std.proofs.Common.{◌≡◌, ◌≢◌, ℕ, suc, ◌<◌, ◌^◌, ℤ, pos, negsuc, List, ◌∷◌, get_or, IsTrue, ap, sym, ◌∙◌, arith, decimal}
+use Rattle.std.specs.Fmt.{signed_decimal}
+use Rattle.std.proofs.lemmas.Bool.{ltb-true}
+use Rattle.std.proofs.lemmas.Fmt.{digits_decimal, decimal_nonempty, decimal_injective}
+use Rattle.std.proofs.lemmas.Str.Parse.{not_in_digits}
+use Rattle.zf_cached.specs.Grammar.{is_value}
+use Rattle.zf_cached.proofs.Numerals.{own}
+
+no_minus_first : (n : ℕ) → n < 2 ^ 64 → get_or (decimal n) 0 0 ≢ 45
+no_minus_first n small = not_in_digits own (decimal n) 45 (digits_decimal own n small) (λ r. omega arith) 0 (decimal_nonempty n small)
+
+-- digits behind a minus are no value where they are no number but zero
+pub minus_none : (digits : List ℕ) (v : ℤ) → IsTrue (is_value v) → ((n : ℕ) → 0 < n → n < 2 ^ 64 → digits ≢ decimal n) → 45 ∷ digits ≡ signed_decimal v → ⊥
+minus_none digits (pos n) small none same = no_minus_first n (ltb-true n _ small) (ap (λ bs. get_or bs 0 0) (sym same))
+minus_none digits (negsuc n) small none same =
+    let tail : digits ≡ decimal (suc n) = cc in
+    none (suc n) (omega arith) (ltb-true (suc n) _ small) tail
+
+-- zero is no other number
+pub zero_only : (digits : List ℕ) (n : ℕ) → digits ≡ decimal 0 → 0 < n → n < 2 ^ 64 → digits ≢ decimal n
+zero_only digits n zero_is some small is = omega (arith, decimal_injective 0 n (omega arith) small (sym zero_is ∙ is))
+
+-- a word without a minus is no value where it is no number
+pub plain_none : (word : List ℕ) (v : ℤ) → IsTrue (is_value v) → get_or word 0 0 ≢ 45 → ((n : ℕ) → n < 2 ^ 64 → word ≢ decimal n) → word ≡ signed_decimal v → ⊥
+plain_none word (pos n) small no_minus none same = none n (ltb-true n _ small) same
+plain_none word (negsuc n) small no_minus none same = no_minus (ap (λ bs. get_or bs 0 0) same)

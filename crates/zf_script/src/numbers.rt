@@ -1,0 +1,104 @@
+//! Words that are numbers.
+
+ghost use Rattle.std.specs.Prelude.{◌≡◌, ◌≢◌, ℕ, ℤ, ◌+◌, ◌*◌, ◌^◌, ◌<◌, ◌≤◌, List, ◌++◌, IfSome, IfNone, IsTrue, codes, decimal};
+ghost use Rattle.std.specs.Fmt.{signed_decimal};
+ghost use Rattle.std.specs.Char.{digit_value};
+ghost use Rattle.std.specs.Option.{SomeIff};
+ghost use Rattle.std.specs.Str.Parse.{digits_value};
+ghost use Rattle.zf_cached.specs.Grammar.{numbers_text, is_value, has_axes, has_sizes, IsNoDigit};
+ghost use Rattle.zf_script.specs.NumberWords.{IsAxesWord, IsSizesWord, IsShortNumeral, IsDigitMore};
+
+use crate::words::cut;
+use zf_base::Pos;
+
+// No other digit stands behind it where it stands first.
+const ZERO: u8 = b'0';
+
+/// The number that a word is.
+pub(crate) fn number_in(word: &[u8]) -> Option<u64>
+    ensures number { IfSome result (λ n. word.now ≡ decimal n) }
+    ensures none { IfNone result ((n : ℕ) → n < 2 ^ 64 → word.now ≢ decimal n) }
+{
+    let first = *word.first()?;
+    if word.len() > 1 && first == ZERO {
+        return None;
+    }
+    digits_in(word)
+}
+
+// The number that digits say.
+fn digits_in(word: &[u8]) -> Option<u64>
+    ensures { SomeIff result (IsShortNumeral word.now) (digits_value 10 word.now) }
+{
+    let mut number = 0;
+    for byte in word {
+        number = one_digit_more(number, *byte)?;
+    }
+    Some(number)
+}
+
+// The number with one more digit behind it.
+fn one_digit_more(number: u64, byte: u8) -> Option<u64>
+    ensures { SomeIff result (IsDigitMore number byte) (number * 10 + digit_value byte) }
+{
+    let digit = char::from(byte).to_digit(10)?;
+    number.checked_mul(10)?.checked_add(u64::from(digit))
+}
+
+/// The value that a word is: a number, or a minus and a number other than zero.
+pub(crate) fn value_in(word: &[u8]) -> Option<i128>
+    ensures value { IfSome result (λ v. IsTrue (is_value v) × (word.now ≡ signed_decimal v)) }
+    ensures none { IfNone result ((v : ℤ) → IsTrue (is_value v) → word.now ≢ signed_decimal v) }
+{
+    match word {
+        [b'-', digits @ ..] => negative_in(digits),
+        _ => Some(i128::from(number_in(word)?)),
+    }
+}
+
+// The value that digits behind a minus are.
+fn negative_in(digits: &[u8]) -> Option<i128>
+    ensures value { IfSome result (λ v. IsTrue (is_value v) × (codes "-" ++ digits.now ≡ signed_decimal v)) }
+    ensures none { IfNone result ((v : ℤ) → IsTrue (is_value v) → codes "-" ++ digits.now ≢ signed_decimal v) }
+{
+    match number_in(digits)? {
+        0 => None,
+        number => Some(-i128::from(number)),
+    }
+}
+
+/// One to four numbers with this byte between two of them: how many they are, and the numbers, with `unused` along the
+/// other axes.
+pub(crate) fn sizes_in(byte: u8, unused: u64, word: &[u8]) -> Option<(u8, Pos)>
+    requires { IsNoDigit byte }
+    ensures sizes { IfSome result (λ r. IsSizesWord byte unused word.now r.0 r.1) }
+    ensures none { IfNone result ((ns : List ℕ) → IsTrue (has_sizes ns) → word.now ≢ numbers_text byte ns) }
+{
+    let mut numbers = [unused; 4];
+    let mut rest = word;
+    for count in 0..4 {
+        let Some((first, more)) = cut(rest, byte) else {
+            numbers[count] = number_in(rest)?;
+            let [x, y, z, w] = numbers;
+            return Some((count as u8 + 1, Pos { x, y, z, w }));
+        };
+        numbers[count] = number_in(first)?;
+        rest = more;
+    }
+    None
+}
+
+/// One number for each axis, with this byte between two of them, and `unused` along the other axes.
+pub(crate) fn axes_in(dims: u8, byte: u8, unused: u64, word: &[u8]) -> Option<Pos>
+    requires no_digit { IsNoDigit byte }
+    requires one_at_least { 1 ≤ dims }
+    requires four_at_most { dims ≤ 4 }
+    ensures axes { IfSome result (IsAxesWord dims byte unused word.now) }
+    ensures none { IfNone result ((ns : List ℕ) → IsTrue (has_axes dims ns) → word.now ≢ numbers_text byte ns) }
+{
+    let (count, numbers) = sizes_in(byte, unused, word)?;
+    if count != dims {
+        return None;
+    }
+    Some(numbers)
+}

@@ -1,0 +1,132 @@
+//! Lines as commands.
+
+ghost use Rattle.std.specs.Prelude.{◌≡◌, ℕ, ◌≤◌, [], ◌∷◌, Some, None, IfSome, IfNone, IfOk, IfErr};
+ghost use Rattle.zf_cached.specs.Grammar.{space, cut_at, read_line};
+ghost use Rattle.zf_script.specs.Seen.{command_of, cmd_of, IsCommand, IsNoCommand};
+ghost use Rattle.zf_script.specs.Verbs.{verb_word};
+ghost use Rattle.zf_script.specs.Arguments.{IsPositionAndValue, NoPositionAndValue, IsWindow, NoWindow, IsTwoNumbers, NoTwoNumbers};
+
+use crate::command::Cmd;
+use crate::numbers::{axes_in, number_in, sizes_in, value_in};
+use crate::reply::Refusal;
+use crate::verb::{Verb, verb_in};
+use crate::words::cut;
+use zf_base::Pos;
+
+/// The command of a line for an array of so many dimensions; `Word` where the line is none.
+pub fn parse_line(dims: u8, line: &[u8]) -> Result<Cmd, Refusal>
+    requires one_at_least { 1 ≤ dims }
+    requires four_at_most { dims ≤ 4 }
+    ensures ok { IfOk result (λ cmd. read_line dims line.now ≡ Some (command_of dims cmd)) }
+    ensures others { IfOk result (λ cmd. cmd ≡ cmd_of (command_of dims cmd)) }
+    ensures err { IfErr result (λ why. (why ≡ Refusal.Word) × (read_line dims line.now ≡ None)) }
+{
+    command_in(dims, line).ok_or(Refusal::Word)
+}
+
+// The command whose words a line has.
+fn command_in(dims: u8, line: &[u8]) -> Option<Cmd>
+    requires one_at_least { 1 ≤ dims }
+    requires four_at_most { dims ≤ 4 }
+    ensures command { IfSome result (λ cmd. IsCommand dims (cut_at space line.now) cmd) }
+    ensures none { IfNone result (IsNoCommand dims (cut_at space line.now)) }
+{
+    match cut(line, b' ') {
+        None => alone(verb_in(line)?),
+        Some((verb, rest)) => with_words(dims, verb_in(verb)?, rest),
+    }
+}
+
+// The command that a verb is with no words behind it.
+fn alone(verb: Verb) -> Option<Cmd>
+    ensures command { IfSome result (λ cmd. (d : ℕ) → IsCommand d (verb_word verb ∷ []) cmd) }
+    ensures none { IfNone result ((d : ℕ) → IsNoCommand d (verb_word verb ∷ [])) }
+{
+    match verb {
+        Verb::Sum => Some(Cmd::Sum),
+        Verb::VSum => Some(Cmd::VSum),
+        Verb::Flush => Some(Cmd::Flush),
+        Verb::Discard => Some(Cmd::Discard),
+        Verb::Stats => Some(Cmd::Stats),
+        _ => None,
+    }
+}
+
+// The command that a verb is with the words behind its space.
+fn with_words(dims: u8, verb: Verb, rest: &[u8]) -> Option<Cmd>
+    requires one_at_least { 1 ≤ dims }
+    requires four_at_most { dims ≤ 4 }
+    ensures command { IfSome result (λ cmd. IsCommand dims (verb_word verb ∷ cut_at space rest.now) cmd) }
+    ensures none { IfNone result (IsNoCommand dims (verb_word verb ∷ cut_at space rest.now)) }
+{
+    match verb {
+        Verb::Get => Some(Cmd::Get(axes_in(dims, b',', 0, rest)?)),
+        Verb::VGet => Some(Cmd::VGet(axes_in(dims, b',', 0, rest)?)),
+        Verb::Set => {
+            let (p, value) = position_and_value_in(dims, rest)?;
+            Some(Cmd::Set(p, value))
+        }
+        Verb::Add => {
+            let (p, value) = position_and_value_in(dims, rest)?;
+            Some(Cmd::Add(p, value))
+        }
+        Verb::VSet => {
+            let (p, value) = position_and_value_in(dims, rest)?;
+            Some(Cmd::VSet(p, value))
+        }
+        Verb::Fill => Some(Cmd::Fill(value_in(rest)?)),
+        Verb::View => {
+            let (origin, sizes, steps) = window_in(dims, rest)?;
+            Some(Cmd::View(origin, sizes, steps))
+        }
+        Verb::Slice => {
+            let (axis, place) = two_numbers_in(rest)?;
+            Some(Cmd::Slice(axis, place))
+        }
+        Verb::Lines => Some(Cmd::Lines(number_in(rest)?)),
+        Verb::Resize => {
+            let (count, sizes) = sizes_in(b'x', 1, rest)?;
+            Some(Cmd::Resize(count, sizes))
+        }
+        _ => None,
+    }
+}
+
+// A position and a value.
+fn position_and_value_in(dims: u8, words: &[u8]) -> Option<(Pos, i128)>
+    requires one_at_least { 1 ≤ dims }
+    requires four_at_most { dims ≤ 4 }
+    ensures both { IfSome result (λ r. IsPositionAndValue dims (cut_at space words.now) r.0 r.1) }
+    ensures none { IfNone result (NoPositionAndValue dims (cut_at space words.now)) }
+{
+    let (first, second) = cut(words, b' ')?;
+    let position = axes_in(dims, b',', 0, first)?;
+    let value = value_in(second)?;
+    Some((position, value))
+}
+
+// An origin, sizes and steps.
+fn window_in(dims: u8, words: &[u8]) -> Option<(Pos, Pos, Pos)>
+    requires one_at_least { 1 ≤ dims }
+    requires four_at_most { dims ≤ 4 }
+    ensures window { IfSome result (λ r. IsWindow dims (cut_at space words.now) r.0 r.1 r.2) }
+    ensures none { IfNone result (NoWindow dims (cut_at space words.now)) }
+{
+    let (first, rest) = cut(words, b' ')?;
+    let (second, third) = cut(rest, b' ')?;
+    let origin = axes_in(dims, b',', 0, first)?;
+    let sizes = axes_in(dims, b'x', 1, second)?;
+    let steps = axes_in(dims, b',', 1, third)?;
+    Some((origin, sizes, steps))
+}
+
+// Two numbers.
+fn two_numbers_in(words: &[u8]) -> Option<(u64, u64)>
+    ensures both { IfSome result (λ r. IsTwoNumbers (cut_at space words.now) r.0 r.1) }
+    ensures none { IfNone result (NoTwoNumbers (cut_at space words.now)) }
+{
+    let (first, second) = cut(words, b' ')?;
+    let axis = number_in(first)?;
+    let place = number_in(second)?;
+    Some((axis, place))
+}
