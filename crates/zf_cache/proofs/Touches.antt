@@ -137,7 +137,7 @@ module _ {X Code : Type 0} (value : X → ℤ) (f : Format Code) (n : ℕ) (line
   none_dirty_there : (l b : ℕ) → (tag_at (replicate n 0) l == dirty_tag b) ≡ false
   none_dirty_there l b = ap (λ t. t == dirty_tag b) (no_tag n l) ∙ ne_eqb 0 (dirty_tag b) (λ e. omega (arith, e))
 
-  all_meant : (b : ℕ) → (standing value f n lines (replicate n 0) counts k).values b ≡ meant f b (k b)
+  pub all_meant : (b : ℕ) → (standing value f n lines (replicate n 0) counts k).values b ≡ meant f b (k b)
   all_meant b = vals-out value f n lines (replicate n 0) k b (λ e. let both : None ≡ Some b = sym (none_held (b % n)) ∙ e in cc)
 
   -- an empty cache fits every backing

@@ -6,7 +6,7 @@ ghost use Rattle.zf_base.specs.Formats.{existing_of};
 ghost use Rattle.zf_cached.specs.State.{no_counts};
 ghost use Rattle.zf_cached.specs.Touch.{touch, touch_for_writing};
 ghost use Rattle.zf_cached.specs.Changes.{flush, relined};
-ghost use Rattle.zf_lines.specs.Rows.{line_at, part};
+ghost use Rattle.zf_lines.specs.Rows.{line_at, part, HasSize};
 ghost use Rattle.zf_cache.specs.Kept.{IsLineCount, IsClean, IsDirty, IsEmpty, HasBlocks, line_of, is_dirty};
 ghost use Rattle.zf_cache.specs.Standing.{state_of, values_of, Fits};
 ghost use Rattle.zf_cache.specs.Steps.{put};
@@ -114,6 +114,7 @@ impl<T: Lane, const D: usize> Cache<T, D> {
         requires within { a + n ≤ 4 ^ D }
         ensures* writes_back { sem 𝓛 (EndsWithPart T.row D.row self.entry b a n result) }
         ensures value { result.now ≡ part (line_at self.old.lines (line_of self.old b)) a n }
+        ensures size { HasSize self.old.lines (length self.old.tags) (4 ^ D) }
     {
         let l = self.body.line_of(b);
         self.body.lines.part_mut(l, a, n)

@@ -4,6 +4,9 @@
 mod body;
 mod cache;
 mod counts;
+pub mod laws;
+#[cfg(test)]
+mod tests;
 
 // A crate names `Cache` in a contract only where the types of its fields are exported.
 #[doc(hidden)]
