@@ -79,7 +79,7 @@ module _ {X Code : Type 0} (value : X → ℤ) (f h : Format Code) (j : ℕ → 
     pub lends : (w : List X) → kept_of (ended w) ≡ lent_block value f k c b row w
     lends w = λ i. record {
       lines = (ap (λ ls. set ls l (over (line_at t.lines l) w)) others.lines ∙ set-set c.lines l (line_at t.lines l) (over (line_at t.lines l) w)
-        ∙ (λ m. set c.lines (at m) (over (sym is m) w))) i;
+          ∙ (λ m. set c.lines (at m) (over (sym is m) w))) i;
       tags = (others.tags ∙ (λ m. set c.tags (at m) (dirty m))) i;
       counts = counted i;
     }
@@ -92,13 +92,13 @@ module _ {X Code : Type 0} (value : X → ℤ) (f h : Format Code) (j : ℕ → 
     loans = record {
       held = shows half_of (touch_for_writing f s b) row state is;
       written = λ w.
-        let new = over (line_at t.lines l) w in
-        let wrote = writes_row value t (ended w) h h j j refl sound l lt b own new (length-over (line_at t.lines l) w ∙ whole) dirty refl refl refl refl in
-        let stood : StandsFor value (kept_of (ended w)) f j (with_values (touch_for_writing f s b) b (existing_of f b (map value (over row w)))) = record {
-          state = ap (λ q. state_of value (kept_of (ended w)) q j) (sym same) ∙ wrote.1 ∙ (λ i. with_values (state i) b (existing_of (same i) b (map value (over (sym is i) w))));
-          fits = subst (λ q. Fits value (kept_of (ended w)) q j) same wrote.0.fits;
-        } in
-        subst (λ d. StandsFor value d f j (with_values (touch_for_writing f s b) b (existing_of f b (map value (over row w))))) (lends w) stood;
+          let new = over (line_at t.lines l) w in
+          let wrote = writes_row value t (ended w) h h j j refl sound l lt b own new (length-over (line_at t.lines l) w ∙ whole) dirty refl refl refl refl in
+          let stood : StandsFor value (kept_of (ended w)) f j (with_values (touch_for_writing f s b) b (existing_of f b (map value (over row w)))) = record {
+            state = ap (λ q. state_of value (kept_of (ended w)) q j) (sym same) ∙ wrote.1 ∙ (λ i. with_values (state i) b (existing_of (same i) b (map value (over (sym is i) w))));
+            fits = subst (λ q. Fits value (kept_of (ended w)) q j) same wrote.0.fits;
+          } in
+          subst (λ d. StandsFor value d f j (with_values (touch_for_writing f s b) b (existing_of f b (map value (over row w))))) (lends w) stood;
     }
 
 -- ---- new lines in the place of those that a flush has emptied

@@ -26,9 +26,9 @@ module _ {X Code : Type 0} (value : X → ℤ) (t d : Body X) (h f : Format Code
       let row_is : row ≡ set old p v = ap (λ r. over old (set r p v)) is ∙ over_same old (set old p v) (length-set old p v) in
       let here = values_here value h (kept_of t) j b l own (named (tag_at t.tags.items l) b (ap block_in dirty ∙ names-dirty b)) in
       let values : existing_of h b (map value row) ≡ existing_of h b (set ((state_of value (kept_of t) h j).values b) p (value v)) =
-        ap (λ r. existing_of h b (map value r)) row_is ∙ ap (existing_of h b) (map-set value old p v)
-        ∙ existing_of-set h b (map value old) p (value v) (length-map old value ∙ whole) at
-        ∙ ap (λ xs. existing_of h b (set xs p (value v))) (sym here) in
+      ap (λ r. existing_of h b (map value r)) row_is ∙ ap (existing_of h b) (map-set value old p v)
+      ∙ existing_of-set h b (map value old) p (value v) (length-map old value ∙ whole) at
+      ∙ ap (λ xs. existing_of h b (set xs p (value v))) (sym here) in
       (writes_row value t d h h j j refl sound l lt b own row (length-over old (set line p v) ∙ whole) dirty lines tags (ap counts_of counts) refl).1
       ∙ ap (with_values (state_of value (kept_of t) h j) b) values
       ∙ (λ i. with_values (state i) b (existing_of (same i) b (set ((state i).values b) p (value v))))

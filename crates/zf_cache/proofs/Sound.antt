@@ -53,10 +53,9 @@ module _ {X Code : Type 0} (value : X → ℤ) (c d : Body X) (f g : Format Code
       → length tags ≡ n → HasSize lines n f.block_len → Fit value f n lines tags codes → (t : State Code) → standing value f n lines tags counts codes ≡ t
       → IsSound value d g k' × (state_of value (kept_of d) g k' ≡ t)
   became lines tags counts codes el et ec ek long size fits t is =
-      let tags_are : length d.tags.items ≡ n = ap length et ∙ long in
-      (
+      let tags_are : length d.tags.items ≡ n = ap length et ∙ long in (
         sound_as value c d f g k' same s.whole tags_are (subst (λ ls. HasSize ls n f.block_len) (sym el) size)
-        (subst (λ ls. Fit value f n ls d.tags.items k') (sym el) (subst (λ ts. Fit value f n lines ts k') (sym et) (subst (Fit value f n lines tags) (sym ek) fits))),
+            (subst (λ ls. Fit value f n ls d.tags.items k') (sym el) (subst (λ ts. Fit value f n lines ts k') (sym et) (subst (Fit value f n lines tags) (sym ek) fits))),
         ap (λ h. state_of value (kept_of d) h k') same ∙ state_is value f (kept_of d) k' n tags_are ∙ (λ i. standing value f n (el i) (et i) (ec i) (ek i)) ∙ is,
       )
 
@@ -161,16 +160,16 @@ pub existing_of-set : {Code : Type 0} (f : Format Code) (b : ℕ) (xs : List ℤ
 existing_of-set f b xs p v long lt =
     existing_of_same f b (set xs p v) (set (existing_of f b xs) p v) (λ q h e. elim (same_or_not q p) [
       | inl same ↦ ap (λ j. get_or (set xs p v) j (pos 0)) same ∙ get_or-set_same xs p v (pos 0) (omega arith)
-        ∙ sym (get_or-set_same (existing_of f b xs) p v (pos 0) (omega (arith, length-existing_of f b xs))) ∙ ap (λ j. get_or (set (existing_of f b xs) p v) j (pos 0)) (sym same)
+          ∙ sym (get_or-set_same (existing_of f b xs) p v (pos 0) (omega (arith, length-existing_of f b xs))) ∙ ap (λ j. get_or (set (existing_of f b xs) p v) j (pos 0)) (sym same)
       | inr ne ↦ get_or-set_other xs p q v (pos 0) ne ∙ sym (get_or-existing_of_exists f b xs q h e) ∙ sym (get_or-set_other (existing_of f b xs) p q v (pos 0) ne)
     ])
 
 -- nothing is dirty where a clean block comes into a line
 pub stays_clean : {X : Type 0} (c d : Kept X) (l b : ℕ) → l < length c.tags → IsClean c → d.tags ≡ set c.tags l (clean_tag b) → IsClean d
 stays_clean c d l b lt clean tags m = ap (λ ts. tag_at ts m % 2) tags ∙ elim (same_or_not m l) [
-    | inl same ↦ ap (λ j. tag_at (set c.tags l (clean_tag b)) j % 2) same ∙ ap (λ t. t % 2) (tag-set_same c.tags l (clean_tag b) lt) ∙ even b
-    | inr ne ↦ ap (λ t. t % 2) (tag-set_other c.tags l (clean_tag b) m ne) ∙ clean m
-  ]
+  | inl same ↦ ap (λ j. tag_at (set c.tags l (clean_tag b)) j % 2) same ∙ ap (λ t. t % 2) (tag-set_same c.tags l (clean_tag b) lt) ∙ even b
+  | inr ne ↦ ap (λ t. t % 2) (tag-set_other c.tags l (clean_tag b) m ne) ∙ clean m
+]
   where
     even : (b : ℕ) → (2 * b + 2) % 2 ≡ 0
     even b = omega arith

@@ -74,8 +74,8 @@ module _ {X Code : Type 0} (value : X → ℤ) (f : Format Code) (n : ℕ) where
         by None e = vals-out lines tags k b (λ e'. let both : None ≡ Some b = sym e ∙ e' in cc)
         by (Some a) e = elim (same_or_not a b) [
           | inl same ↦
-            let there = e ∙ ap Some same in
-            vals-in lines tags k b there ∙ fit.clean (b % n) b (even (tag_at tags (b % n)) b (named (tag_at tags (b % n)) b there) away)
+              let there = e ∙ ap Some same in
+              vals-in lines tags k b there ∙ fit.clean (b % n) b (even (tag_at tags (b % n)) b (named (tag_at tags (b % n)) b there) away)
           | inr ne ↦ vals-out lines tags k b (λ e'. let both : Some a ≡ Some b = sym e ∙ e' in let same : a ≡ b = cc in ne same)
         ]
 
@@ -137,10 +137,10 @@ module _ {X Code : Type 0} (value : X → ℤ) (f : Format Code) (n : ℕ) where
     fits_emptied k' same = record {
       own = λ m b e. fit.own m b (sym (ap block_in (tag-set_other tags l 0 m (off m b (named (tag_at emptied m) b e)))) ∙ e);
       clean = λ m b e.
-        let ne = off m b (ap (λ t. t / 2) e ∙ half b) in
-        let was = sym (tag-set_other tags l 0 m ne) ∙ e in
-        let own = fit.own m b (ap block_in was ∙ names-clean b) in
-        fit.clean m b was ∙ ap (meant f b) (sym (same b (λ at. ne (sym own.0 ∙ at))));
+          let ne = off m b (ap (λ t. t / 2) e ∙ half b) in
+          let was = sym (tag-set_other tags l 0 m ne) ∙ e in
+          let own = fit.own m b (ap block_in was ∙ names-clean b) in
+          fit.clean m b was ∙ ap (meant f b) (sym (same b (λ at. ne (sym own.0 ∙ at))));
     }
       where
         half : (b : ℕ) → (2 * b + 2) / 2 ≡ b + 1
@@ -185,7 +185,7 @@ module _ {X Code : Type 0} (value : X → ℤ) (f : Format Code) (n : ℕ) where
         | inl e ↦ ap (λ j. tag_at emptied (j % n) == dirty_tag j) e ∙ ap (λ j. tag_at emptied j == dirty_tag b) own ∙ zero-dirty b ∙ sym (with_at-same s.dirty b false) ∙ ap (with_at s.dirty b false) (sym e)
         | inr ne ↦ elim (same_or_not (a % n) l) [
           | inl at ↦ ap (λ j. tag_at emptied j == dirty_tag a) at ∙ zero-dirty a
-            ∙ sym (ne_eqb (tag_at tags (a % n)) (dirty_tag a) (λ e. not_other a at ne (ap block_in e ∙ names-dirty a))) ∙ sym (with_at-other s.dirty b false a ne)
+              ∙ sym (ne_eqb (tag_at tags (a % n)) (dirty_tag a) (λ e. not_other a at ne (ap block_in e ∙ names-dirty a))) ∙ sym (with_at-other s.dirty b false a ne)
           | inr off ↦ ap (λ t. t == dirty_tag a) (tag-set_other tags l 0 (a % n) off) ∙ sym (with_at-other s.dirty b false a ne)
         ]
       ]
@@ -193,7 +193,7 @@ module _ {X Code : Type 0} (value : X → ℤ) (f : Format Code) (n : ℕ) where
       soiled-values : (a : ℕ) → vals lines emptied k' a ≡ with_at s.values b (meant f b (encoded f b (s.values b))) a
       soiled-values a = elim (same_or_not a b) [
         | inl e ↦ ap (vals lines emptied k') e ∙ emptied-out b own k' ∙ ap (meant f b) (with_at-same k b code ∙ sym same-code)
-          ∙ sym (with_at-same s.values b (meant f b (encoded f b (s.values b)))) ∙ ap (with_at s.values b (meant f b (encoded f b (s.values b)))) (sym e)
+            ∙ sym (with_at-same s.values b (meant f b (encoded f b (s.values b)))) ∙ ap (with_at s.values b (meant f b (encoded f b (s.values b)))) (sym e)
         | inr ne ↦ elim (same_or_not (a % n) l) [
           | inl at ↦ emptied-out a at k' ∙ ap (meant f a) (with_at-other k b code a ne) ∙ sym (vals-out lines tags k a (not_other a at ne)) ∙ sym (with_at-other s.values b _ a ne)
           | inr off ↦ vals-same lines lines emptied tags k' k a (ap block_in (tag-set_other tags l 0 (a % n) off)) refl (with_at-other k b code a ne) ∙ sym (with_at-other s.values b _ a ne)
@@ -273,13 +273,13 @@ module _ {X Code : Type 0} (value : X → ℤ) (f : Format Code) (n : ℕ) where
             ])
             (λ a. elim (same_or_not (a % n) l) [
               | inl at ↦ ap (λ j. tag_at tags' j == dirty_tag a) at ∙ ap (λ t. t == dirty_tag a) tag-same ∙ ne_eqb (clean_tag b) (dirty_tag a) (λ e. omega (arith, e))
-                ∙ sym (ap (λ j. tag_at tags j == dirty_tag a) at ∙ ap (λ t. t == dirty_tag a) zero_there ∙ ne_eqb 0 (dirty_tag a) (λ e. omega (arith, e)))
+                  ∙ sym (ap (λ j. tag_at tags j == dirty_tag a) at ∙ ap (λ t. t == dirty_tag a) zero_there ∙ ne_eqb 0 (dirty_tag a) (λ e. omega (arith, e)))
               | inr off ↦ ap (λ t. t == dirty_tag a) (tag-other (a % n) off)
             ])
             (λ a. elim (same_or_not (a % n) l) [
               | inl at ↦ elim (same_or_not b a) [
                 | inl e ↦ ap (vals rows tags' k) (sym e) ∙ vals-in rows tags' k b (ap (λ j. block_in (tag_at tags' j)) own ∙ ap block_in tag-same ∙ names-clean b)
-                  ∙ ap (λ j. in_line rows j b) own ∙ in-after ∙ sym (out-before b own) ∙ ap (vals lines tags k) e
+                    ∙ ap (λ j. in_line rows j b) own ∙ in-after ∙ sym (out-before b own) ∙ ap (vals lines tags k) e
                 | inr ne ↦ vals-out rows tags' k a (λ e. ne (names-own a (ap (λ j. block_in (tag_at tags' j)) (sym at) ∙ e))) ∙ sym (out-before a at)
               ]
               | inr off ↦ vals-same rows lines tags' tags k k a (ap block_in (tag-other (a % n) off)) (row-other (a % n) off) refl
@@ -294,7 +294,7 @@ module _ {X Code : Type 0} (value : X → ℤ) (f : Format Code) (n : ℕ) where
           ];
           clean = λ m a e. elim (same_or_not m l) [
             | inl at ↦ let tag : clean_tag b ≡ clean_tag a = sym tag-same ∙ ap (tag_at tags') (sym at) ∙ e in let is : b ≡ a = omega (arith, tag) in
-              ap (λ j. in_line rows j a) at ∙ subst (λ j. in_line rows l j ≡ meant f j (k j)) is in-after
+                ap (λ j. in_line rows j a) at ∙ subst (λ j. in_line rows l j ≡ meant f j (k j)) is in-after
             | inr off ↦ ap (λ r. existing_of f a (map value r)) (row-other m off) ∙ fit.clean m a (sym (tag-other m off) ∙ e)
           ];
         }
@@ -315,7 +315,7 @@ module _ {X Code : Type 0} (value : X → ℤ) (f : Format Code) (n : ℕ) where
             same_state (standing rows tags counts k) (record s { values = with_at s.values b v }) refl (λ m. refl) (λ a. refl)
             (λ a. elim (same_or_not a b) [
               | inl e ↦ ap (vals rows tags k) e ∙ vals-in rows tags k b (names-it b own) ∙ ap (λ j. in_line rows j b) own ∙ ap (λ r. existing_of f b (map value r)) row-same
-                ∙ sym (with_at-same s.values b v) ∙ ap (with_at s.values b v) (sym e)
+                  ∙ sym (with_at-same s.values b v) ∙ ap (with_at s.values b v) (sym e)
               | inr ne ↦ elim (same_or_not (a % n) l) [
                 | inl at ↦ vals-out rows tags k a (apart a ne at) ∙ sym (vals-out lines tags k a (apart a ne at)) ∙ sym (with_at-other s.values b v a ne)
                 | inr off ↦ vals-same rows lines tags tags k k a refl (row-other (a % n) off) refl ∙ sym (with_at-other s.values b v a ne)
@@ -356,12 +356,12 @@ module _ {X Code : Type 0} (value : X → ℤ) (f : Format Code) (n : ℕ) where
           same_state (standing lines marked counts k) (record s { dirty = with_at s.dirty b true }) refl same-block
           (λ a. elim (same_or_not a b) [
             | inl e ↦ ap (λ j. tag_at marked (j % n) == dirty_tag j) e ∙ eq-eqb (tag_at marked (b % n)) (dirty_tag b) (ap (tag_at marked) own ∙ mark-same)
-              ∙ sym (with_at-same s.dirty b true) ∙ ap (with_at s.dirty b true) (sym e)
+                ∙ sym (with_at-same s.dirty b true) ∙ ap (with_at s.dirty b true) (sym e)
             | inr ne ↦ elim (same_or_not (a % n) l) [
               | inl at ↦ ap (λ j. tag_at marked j == dirty_tag a) at ∙ ap (λ t. t == dirty_tag a) mark-same
-                ∙ ne_eqb (dirty_tag b) (dirty_tag a) (λ e. let same : a ≡ b = omega (arith, e) in ne same)
-                ∙ sym (ap (λ j. tag_at tags j == dirty_tag a) at
-                ∙ ne_eqb (tag_at tags l) (dirty_tag a) (λ e. let same : a ≡ b = omega (arith, half, e) in ne same)) ∙ sym (with_at-other s.dirty b true a ne)
+                  ∙ ne_eqb (dirty_tag b) (dirty_tag a) (λ e. let same : a ≡ b = omega (arith, e) in ne same)
+                  ∙ sym (ap (λ j. tag_at tags j == dirty_tag a) at
+                  ∙ ne_eqb (tag_at tags l) (dirty_tag a) (λ e. let same : a ≡ b = omega (arith, half, e) in ne same)) ∙ sym (with_at-other s.dirty b true a ne)
               | inr off ↦ ap (λ t. t == dirty_tag a) (mark-other (a % n) off) ∙ sym (with_at-other s.dirty b true a ne)
             ]
           ])

@@ -57,16 +57,16 @@ module _ {X Code : Type 0} (value : X → ℤ) (f : Format Code) (k : ℕ → Co
       state_is value f d k n (empty_count d n e)
       ∙ (λ i. standing value f n d.lines (e i) (counts i) k)
       ∙ same_state (standing value f n d.lines (replicate n 0) c.counts k) (record (emptied s) { lines = n }) refl
-        (λ l. ap block_in (no_tag n l))
-        (λ b. ap (λ t. t == dirty_tag b) (no_tag n (b % n)) ∙ ne_eqb 0 (dirty_tag b) (λ is. omega (arith, is)) ∙ sym (undirty b))
-        (λ b. all_meant value f n d.lines c.counts k b ∙ sym (undirty_values value f m c.lines c.tags k (fit_of value f c k m refl fits) b (λ is. let even = clean (b % m) in omega (arith, is, even))))
-        (λ b. refl) refl
+      (λ l. ap block_in (no_tag n l))
+      (λ b. ap (λ t. t == dirty_tag b) (no_tag n (b % n)) ∙ ne_eqb 0 (dirty_tag b) (λ is. omega (arith, is)) ∙ sym (undirty b))
+      (λ b. all_meant value f n d.lines c.counts k b ∙ sym (undirty_values value f m c.lines c.tags k (fit_of value f c k m refl fits) b (λ is. let even = clean (b % m) in omega (arith, is, even))))
+      (λ b. refl) refl
       ∙ ap (λ (t : State Code). record t { lines = n }) (sym (flush_clean s undirty) ∙ ap (flush f) (sym (state_is value f c k m refl)))
 
   -- what is written through a loan of a part of the dirty block b
   pub part_written : (c : Kept X) (b a n : ℕ) (ws : List X) → Fits value c f k → IsDirty c b → length c.lines ≡ length c.tags
       → StandsFor value (record c { lines = with_part c.lines (line_of c b) a n ws }) f k
-        (with_values (state_of value c f k) b (existing_of f b (map value (over_part (line_at c.lines (line_of c b)) a n ws))))
+      (with_values (state_of value c f k) b (existing_of f b (map value (over_part (line_at c.lines (line_of c b)) a n ws))))
   part_written c b a n ws fits dirty long =
       let m = length c.tags in let l = line_of c b in let row = over_part (line_at c.lines l) a n ws in
       let d : Kept X = record c { lines = with_part c.lines l a n ws } in
@@ -75,7 +75,7 @@ module _ {X Code : Type 0} (value : X → ℤ) (f : Format Code) (k : ℕ → Co
       let here : l < length c.lines = subst (λ j. l < j) (sym long) lt in
       record {
         state = state_is value f d k m refl ∙ writes value f m c.lines c.tags c.counts k fit l lt b refl here row dirty
-          ∙ ap (λ (s : State Code). with_values s b (existing_of f b (map value row))) (sym (state_is value f c k m refl));
+            ∙ ap (λ (s : State Code). with_values s b (existing_of f b (map value row))) (sym (state_is value f c k m refl));
         fits = fits_of value f d k m refl (fits_written value f m c.lines c.tags c.counts k fit l lt b refl here row dirty);
       }
     where

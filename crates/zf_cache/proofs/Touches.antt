@@ -99,11 +99,11 @@ module _ {Code : Type 0} (f : Format Code) where
       let here : h m ≡ t.held m = ap (λ t. cond t None (s.held m)) (lt-false m m (omega arith)) ∙ sym (ap (λ (g : ℕ → Option ℕ). g m) (held-write_back_lines s m)) in
       ap (λ (u : State Code). record u { held = with_at u.held m None }) (write_back_line-held t h m here)
       ∙ same_state (record (write_back_line f t m) { held = with_at h m None }) (flushing s (suc m)) refl
-        (λ j. elim (same_or_not j m) [
-          | inl e ↦ ap (with_at h m None) e ∙ with_at-same h m None ∙ ap (λ t. cond t None (s.held j)) (sym (lt-true j (suc m) (omega (arith, e))))
-          | inr ne ↦ with_at-other h m None j ne ∙ below j ne
-        ])
-        (λ a. refl) (λ a. refl) (λ a. refl) refl
+      (λ j. elim (same_or_not j m) [
+        | inl e ↦ ap (with_at h m None) e ∙ with_at-same h m None ∙ ap (λ t. cond t None (s.held j)) (sym (lt-true j (suc m) (omega (arith, e))))
+        | inr ne ↦ with_at-other h m None j ne ∙ below j ne
+      ])
+      (λ a. refl) (λ a. refl) (λ a. refl) refl
     where
       below : (j : ℕ) → j ≢ m → held_from s.held m j ≡ held_from s.held (suc m) j
       below j ne = elim (cases_lt j m) [

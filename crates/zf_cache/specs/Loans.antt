@@ -23,7 +23,7 @@ lent_block value format codes c b row ws = written c b (over row ws) (touch form
 pub record LendsBlock {X Code : Type 0} (value : X → ℤ) (format : Format Code) (codes now : ℕ → Code) (c : Kept X) (b : ℕ) (row : List X) : Type 0 where
   pub held : existing_of format b (map value row) ≡ (touch format (state_of value c format codes) b).values b
   pub written : (ws : List X) → StandsFor value (lent_block value format codes c b row ws) format now
-    (with_values (touch_for_writing format (state_of value c format codes) b) b (existing_of format b (map value (over row ws))))
+      (with_values (touch_for_writing format (state_of value c format codes) b) b (existing_of format b (map value (over row ws))))
 
 module _ (R D : RattleType) (c : MutBor (Kept R.Denot)) where
   -- the block in its line is the last list written through r
@@ -37,9 +37,9 @@ module _ (R D : RattleType) (c : MutBor (Kept R.Denot)) where
   -- a loan for reading has left the touch alone
   abbrev pub EndsTouched : {Code : Type 0} → (R.Denot → ℤ) → Format Code → (ℕ → Code) → (ℕ → Code) → ℕ → Fml
   EndsTouched value format codes now b = follows_so (the_row R D) (the_row R D) c.ghost_name none (λ _ _. ⊤)
-    (λ d. StandsFor value d format now (touch format (state_of value c.now format codes) b))
+      (λ d. StandsFor value d format now (touch format (state_of value c.now format codes) b))
 
   -- the same where nothing is dirty, before and after
   abbrev pub EndsRead : {Code : Type 0} → (R.Denot → ℤ) → Format Code → (ℕ → Code) → (ℕ → Code) → ℕ → Fml
   EndsRead value format codes now b = follows_so (the_row R D) (the_row R D) c.ghost_name none (λ _ _. ⊤)
-    (λ d. StandsFor value d format now (touch format (state_of value c.now format codes) b) × IsClean d)
+      (λ d. StandsFor value d format now (touch format (state_of value c.now format codes) b) × IsClean d)

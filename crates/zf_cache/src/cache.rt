@@ -160,7 +160,7 @@ impl<T: Lane, const D: usize> Cache<T, D> {
         ensures format { B.format back.new ≡ B.format back.old }
         ensures kept { B.kept back.new ≡ B.kept back.old }
     {
-        self.body.flush(back);
+        self.body.flush(back)
     }
 
     /// Empties the cache; nothing is written.
@@ -184,9 +184,9 @@ impl<T: Lane, const D: usize> Cache<T, D> {
         ensures format { B.format back.new ≡ B.format back.old }
         ensures kept { B.kept back.new ≡ B.kept back.old }
     {
-        let body = Body::new(self.alloc, lines, block_len(D))?;
+        let taken = Body::new(self.alloc, lines, block_len(D))?;
         self.body.flush(back);
-        self.body.replace(body);
+        self.body.replace(taken);
         Ok(())
     }
 

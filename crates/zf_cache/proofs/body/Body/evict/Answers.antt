@@ -23,15 +23,15 @@ returns-clause-sound g c =
     let d : Body g.row.T.Denot = record { lines = c.match-dirty_block.self.lines; tags = with_item c.match-dirty_block.self.tags c.args.l 0; counts = c.match-dirty_block.self.counts } in
     elim c.match-dirty_block.branch [
       | in-Some w ↦
-        (evicts g.T.Lane.value a d f (g.B.Reading.format c.match-dirty_block.back) k (g.B.Reading.codes c.match-dirty_block.back)
-        (ap g.B.Reading.format w.back-is ∙ w.store.ensures.format) c.requires.sound c.args.l c.requires.line (Some w.in-Some.b) (ap dirty_of tag ∙ sym c.dirty_block.ensures ∙ w.in-Some.is)
-        (ap (λ b. b.lines) w.self-is) (ap (λ b. set b.tags.items c.args.l 0) w.self-is)
-        (ap (λ b. counts_of b.counts) w.self-is ∙ ap (λ n. record { hits = a.counts.hits; misses = a.counts.misses; writes = n }) w.saturating_add-self.ensures)
-        (ap g.B.Reading.codes w.back-is ∙ w.store.ensures.codes ∙ ap (λ r. with_at k w.in-Some.b (encoded f w.in-Some.b (map g.T.Lane.value r))) w.line.ensures)).0
+          (evicts g.T.Lane.value a d f (g.B.Reading.format c.match-dirty_block.back) k (g.B.Reading.codes c.match-dirty_block.back)
+          (ap g.B.Reading.format w.back-is ∙ w.store.ensures.format) c.requires.sound c.args.l c.requires.line (Some w.in-Some.b) (ap dirty_of tag ∙ sym c.dirty_block.ensures ∙ w.in-Some.is)
+          (ap (λ b. b.lines) w.self-is) (ap (λ b. set b.tags.items c.args.l 0) w.self-is)
+          (ap (λ b. counts_of b.counts) w.self-is ∙ ap (λ n. record { hits = a.counts.hits; misses = a.counts.misses; writes = n }) w.saturating_add-self.ensures)
+          (ap g.B.Reading.codes w.back-is ∙ w.store.ensures.codes ∙ ap (λ r. with_at k w.in-Some.b (encoded f w.in-Some.b (map g.T.Lane.value r))) w.line.ensures)).0
       | in_default w ↦
-        (evicts g.T.Lane.value a d f (g.B.Reading.format c.match-dirty_block.back) k (g.B.Reading.codes c.match-dirty_block.back)
-        (ap g.B.Reading.format w.back-is) c.requires.sound c.args.l c.requires.line None (ap dirty_of tag ∙ sym c.dirty_block.ensures ∙ w.in_default.is)
-        (ap (λ b. b.lines) w.self-is) (ap (λ b. set b.tags.items c.args.l 0) w.self-is) (ap (λ b. counts_of b.counts) w.self-is) (ap g.B.Reading.codes w.back-is)).0
+          (evicts g.T.Lane.value a d f (g.B.Reading.format c.match-dirty_block.back) k (g.B.Reading.codes c.match-dirty_block.back)
+          (ap g.B.Reading.format w.back-is) c.requires.sound c.args.l c.requires.line None (ap dirty_of tag ∙ sym c.dirty_block.ensures ∙ w.in_default.is)
+          (ap (λ b. b.lines) w.self-is) (ap (λ b. set b.tags.items c.args.l 0) w.self-is) (ap (λ b. counts_of b.counts) w.self-is) (ap g.B.Reading.codes w.back-is)).0
     ]
 
 pub returns-clause-state : goal.returns-clause-state
@@ -41,13 +41,13 @@ returns-clause-state g c =
     let d : Body g.row.T.Denot = record { lines = c.match-dirty_block.self.lines; tags = with_item c.match-dirty_block.self.tags c.args.l 0; counts = c.match-dirty_block.self.counts } in
     elim c.match-dirty_block.branch [
       | in-Some w ↦
-        (evicts g.T.Lane.value a d f (g.B.Reading.format c.match-dirty_block.back) k (g.B.Reading.codes c.match-dirty_block.back)
-        (ap g.B.Reading.format w.back-is ∙ w.store.ensures.format) c.requires.sound c.args.l c.requires.line (Some w.in-Some.b) (ap dirty_of tag ∙ sym c.dirty_block.ensures ∙ w.in-Some.is)
-        (ap (λ b. b.lines) w.self-is) (ap (λ b. set b.tags.items c.args.l 0) w.self-is)
-        (ap (λ b. counts_of b.counts) w.self-is ∙ ap (λ n. record { hits = a.counts.hits; misses = a.counts.misses; writes = n }) w.saturating_add-self.ensures)
-        (ap g.B.Reading.codes w.back-is ∙ w.store.ensures.codes ∙ ap (λ r. with_at k w.in-Some.b (encoded f w.in-Some.b (map g.T.Lane.value r))) w.line.ensures)).1
+          (evicts g.T.Lane.value a d f (g.B.Reading.format c.match-dirty_block.back) k (g.B.Reading.codes c.match-dirty_block.back)
+          (ap g.B.Reading.format w.back-is ∙ w.store.ensures.format) c.requires.sound c.args.l c.requires.line (Some w.in-Some.b) (ap dirty_of tag ∙ sym c.dirty_block.ensures ∙ w.in-Some.is)
+          (ap (λ b. b.lines) w.self-is) (ap (λ b. set b.tags.items c.args.l 0) w.self-is)
+          (ap (λ b. counts_of b.counts) w.self-is ∙ ap (λ n. record { hits = a.counts.hits; misses = a.counts.misses; writes = n }) w.saturating_add-self.ensures)
+          (ap g.B.Reading.codes w.back-is ∙ w.store.ensures.codes ∙ ap (λ r. with_at k w.in-Some.b (encoded f w.in-Some.b (map g.T.Lane.value r))) w.line.ensures)).1
       | in_default w ↦
-        (evicts g.T.Lane.value a d f (g.B.Reading.format c.match-dirty_block.back) k (g.B.Reading.codes c.match-dirty_block.back)
-        (ap g.B.Reading.format w.back-is) c.requires.sound c.args.l c.requires.line None (ap dirty_of tag ∙ sym c.dirty_block.ensures ∙ w.in_default.is)
-        (ap (λ b. b.lines) w.self-is) (ap (λ b. set b.tags.items c.args.l 0) w.self-is) (ap (λ b. counts_of b.counts) w.self-is) (ap g.B.Reading.codes w.back-is)).1
+          (evicts g.T.Lane.value a d f (g.B.Reading.format c.match-dirty_block.back) k (g.B.Reading.codes c.match-dirty_block.back)
+          (ap g.B.Reading.format w.back-is) c.requires.sound c.args.l c.requires.line None (ap dirty_of tag ∙ sym c.dirty_block.ensures ∙ w.in_default.is)
+          (ap (λ b. b.lines) w.self-is) (ap (λ b. set b.tags.items c.args.l 0) w.self-is) (ap (λ b. counts_of b.counts) w.self-is) (ap g.B.Reading.codes w.back-is)).1
     ]

@@ -20,8 +20,7 @@ loop-l-preserved g c =
     let l = c.loop-l.l in let inv = c.loop-l.invariant in let e = c.evict.ensures in let s = state_of g.T.Lane.value (kept_of a) f k in
     let on : suc l ≡ l + 1 = omega arith in
     let was = c.loop-l.self.tags.items in
-    let count : c.len-l-end.result ≡ length a.tags.items = search (c.len-l-end.ensures, rules) in
-    (
+    let count : c.len-l-end.result ≡ length a.tags.items = search (c.len-l-end.ensures, rules) in (
       e.format ∙ inv.0,
       e.kept ∙ inv.1,
       e.sound,

@@ -40,4 +40,3 @@ returns-clause-state g c =
     let loaded = ap (λ r. existing_of f b (map g.T.Lane.value r)) same ∙ c.load.ensures.value in
     (takes g.T.Lane.value a d f (g.B.Reading.format c.load.new.self) k (g.B.Reading.codes c.load.new.self) c.load.ensures.format sound l lt b (sym c.requires.line) row long
     c.requires.empty loaded c.requires.block.0 refl refl (ap (λ n. record { hits = a.counts.hits; misses = n; writes = a.counts.writes }) c.saturating_add-self.ensures) c.load.ensures.codes).1
-

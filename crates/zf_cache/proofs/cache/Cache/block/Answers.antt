@@ -13,8 +13,7 @@ returns g c =
     let t = c.touch-l.new.self in let l = c.touch-l.result in let e = c.touch-l.ensures in
     let h = g.B.Reading.format c.touch-l.new.back in let j = g.B.Reading.codes c.touch-l.new.back in
     let state = e.state ∙ ap (λ (q : Kept g.row.T.Denot). touch f (state_of value q f k) b) is in
-    let s = touch f (state_of value c.args.self.now f k) b in
-    (
+    let s = touch f (state_of value c.args.self.now f k) b in (
       (refl, λ _. tt, stands value f h j (kept_of o) t b l e.format e.sound e.line e.others s state),
       record {
         touched = tt;

@@ -13,8 +13,7 @@ returns g c =
     let o = c.self.inside.body in let is = c.self.view_is in
     let t = c.touch_for_writing-l.new.self in let l = c.touch_for_writing-l.result in let e = c.touch_for_writing-l.ensures in
     let h = g.B.Reading.format c.touch_for_writing-l.new.back in let j = g.B.Reading.codes c.touch_for_writing-l.new.back in
-    let row = c.line_mut.result.now in let row_is = c.line_mut.ensures.value in
-    (
+    let row = c.line_mut.result.now in let row_is = c.line_mut.ensures.value in (
       (refl, λ w. lends value f h j (kept_of o) t b l e.format e.sound e.line e.others k e.dirty e.state row row_is w ∙ ap (λ (q : Kept g.row.T.Denot). lent_block value f k q b row w) is),
       record {
         writes_back = tt;
