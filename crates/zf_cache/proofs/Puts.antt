@@ -1,5 +1,5 @@
 -- A value put into the line of a dirty block.
-use Rattle.std.proofs.Common.{◌≡◌, refl, sym, ap, subst, ◌∙◌, ℕ, ◌%◌, ◌<◌, ℤ, List, map, length, set}
+use Rattle.std.proofs.Common.{◌≡◌, refl, sym, ap, ◌∙◌, ℕ, ◌%◌, ◌<◌, ℤ, List, map, length, set}
 use Rattle.std.proofs.lemmas.List.{length-set, length-map, map-set}
 use Rattle.zf_base.specs.Formats.{Format, existing_of}
 use Rattle.zf_cached.specs.State.{State}

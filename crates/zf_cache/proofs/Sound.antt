@@ -1,5 +1,5 @@
 -- The fields of a cache are whole, and fit the backing.
-use Rattle.std.proofs.Common.{◌≡◌, ◌≢◌, refl, sym, ap, subst, ◌∙◌, ℕ, ◌+◌, ◌*◌, ◌-◌, ◌/◌, ◌%◌, ◌^◌, ◌<◌, ◌≤◌, ℤ, pos, inl, inr, Option, Some, List, map, length, get_or, set, arith}
+use Rattle.std.proofs.Common.{◌≡◌, ◌≢◌, refl, sym, ap, subst, ◌∙◌, ℕ, ◌+◌, ◌*◌, ◌/◌, ◌%◌, ◌<◌, ℤ, pos, inl, inr, Option, Some, List, map, length, get_or, set, arith}
 use Rattle.std.proofs.lemmas.List.{length-set, set-set, get_or-set_same, get_or-set_other}
 use Rattle.std.proofs.lemmas.Nat.{mod_below}
 use Rattle.zf_base.specs.Formats.{Format, existing_of, meant}
@@ -11,7 +11,7 @@ use Rattle.zf_lines.proofs.Sizes.{HasSize-set}
 use Rattle.zf_cache.specs.declared.body.Body.{Body}
 use Rattle.zf_cache.specs.Kept.{Kept, IsClean, OnlyLine, tag_at, block_in, clean_tag, dirty_tag, dirty_of}
 use Rattle.zf_cache.specs.Bodies.{IsMask, IsWhole, IsSound, kept_of, counts_of}
-use Rattle.zf_cache.specs.Standing.{Fits, state_of, evicted}
+use Rattle.zf_cache.specs.Standing.{state_of, evicted}
 use Rattle.zf_cache.specs.Steps.{taken_in}
 use Rattle.zf_cache.proofs.Tags.{same_or_not, names, named, tag-set_same, tag-set_other}
 use Rattle.zf_cache.proofs.Stands.{standing, Fit, codes_after, counts_after, empties, fits_after, dirty_below, takes_in, fits_taken, writes, fits_written, soils, fits_soiled, vals-in}

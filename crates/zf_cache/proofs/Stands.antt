@@ -1,15 +1,15 @@
 -- What becomes of the state that a cache and its backing stand for, when a line changes. The number of lines is n.
-use Rattle.std.proofs.Common.{◌≡◌, ◌≢◌, ◌⊎◌, inl, inr, refl, sym, ap, subst, ◌∙◌, ℕ, zero, suc, ◌+◌, ◌*◌, ◌/◌, ◌%◌, ◌<◌, ◌==◌, ℤ, Bool, true, false, Option, Some, None, List, [], map, length, get_or, set, eq-eqb, arith, replicate}
+use Rattle.std.proofs.Common.{◌≡◌, ◌≢◌, inl, inr, refl, sym, ap, subst, ◌∙◌, ℕ, ◌+◌, ◌*◌, ◌/◌, ◌%◌, ◌<◌, ◌==◌, ℤ, Bool, true, false, Option, Some, None, List, [], map, length, set, eq-eqb, arith}
 use Rattle.std.proofs.lemmas.Bool.{ne_eqb}
-use Rattle.std.proofs.lemmas.List.{length-set, get_or-set_same, get_or-set_other}
+use Rattle.std.proofs.lemmas.List.{get_or-set_same, get_or-set_other}
 use Rattle.zf_base.specs.Formats.{Format, existing_of, meant, encoded, with_at}
-use Rattle.zf_base.proofs.Formats.{with_at-same, with_at-other, encoded-existing_of, existing_of-existing_of}
+use Rattle.zf_base.proofs.Formats.{with_at-same, with_at-other, encoded-existing_of}
 use Rattle.zf_cached.specs.State.{Counts, State, is_block, risen}
-use Rattle.zf_cached.specs.Touch.{write_back, write_back_dirty, write_back_line, hit, miss, touch, soiled, with_values}
+use Rattle.zf_cached.specs.Touch.{write_back, write_back_dirty, write_back_line, soiled, with_values}
 use Rattle.zf_cached.proofs.States.{same_state}
 use Rattle.zf_lines.specs.Rows.{line_at}
-use Rattle.zf_cache.specs.Kept.{Kept, tag_at, block_in, clean_tag, dirty_tag, dirty_of}
-use Rattle.zf_cache.specs.Standing.{state_of, values_of, Fits, evicted}
+use Rattle.zf_cache.specs.Kept.{tag_at, block_in, clean_tag, dirty_tag, dirty_of}
+use Rattle.zf_cache.specs.Standing.{evicted}
 use Rattle.zf_cache.specs.Steps.{taken_in}
 use Rattle.zf_cache.proofs.Tags.{even, same_or_not, names, named, names-clean, names-dirty, is_block-same, is_block-other, dirty_of-some, dirty_of-none, tag-set_same, tag-set_other}
 

@@ -3,7 +3,7 @@ use Rattle.std.specs.Prelude.{◌≡◌, ℕ, zero, suc, ◌+◌, ◌*◌, ◌/�
 use Rattle.std.specs.Coded.{Coded, code_by, coded×, coded_list, coded_ℕ}
 use Rattle.zf_base.specs.Formats.{Format}
 use Rattle.zf_cached.specs.State.{Counts}
-use Rattle.zf_lines.specs.Rows.{line_at, over, with_part}
+use Rattle.zf_lines.specs.Rows.{line_at}
 
 pub record Kept (X : Type 0) : Type 0 where
   pub lines : List (List X)

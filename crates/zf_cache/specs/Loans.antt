@@ -5,7 +5,7 @@ use mathlib.Core.Option.{none}
 use Rattle.zf_base.specs.Formats.{Format, existing_of}
 use Rattle.zf_cached.specs.State.{State}
 use Rattle.zf_cached.specs.Touch.{touch, touch_for_writing, with_values}
-use Rattle.zf_lines.specs.Rows.{line_at, over, with_part}
+use Rattle.zf_lines.specs.Rows.{over, with_part}
 use Rattle.zf_cache.specs.Kept.{Kept, IsClean, written, line_of}
 use Rattle.zf_cache.specs.Standing.{state_of, Fits}
 use Rattle.zf_cache.specs.contracts.cache.Cache.{the_row}

@@ -1,5 +1,5 @@
 -- The parts of a touch, and a value that is put into a block.
-use Rattle.std.specs.Prelude.{◌≡◌, ℕ, ℤ, slice_set, Some}
+use Rattle.std.specs.Prelude.{ℕ, ℤ, slice_set, Some}
 use Rattle.zf_base.specs.Formats.{Format, existing_of, with_at}
 use Rattle.zf_cached.specs.State.{State, risen}
 use Rattle.zf_cached.specs.Touch.{touch_for_writing, with_values}

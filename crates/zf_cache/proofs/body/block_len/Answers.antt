@@ -1,4 +1,4 @@
-use Rattle.std.proofs.Common.{◌^◌, ◌≤◌, sym, ◌∙◌, arith}
+use Rattle.std.proofs.Common.{arith}
 use Rattle.zf_cache.proofs.Tags.{at_most_256}
 use Rattle.zf_cache.proofs.body.block_len.Goals as goal
 

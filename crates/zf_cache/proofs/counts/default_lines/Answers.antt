@@ -1,7 +1,7 @@
-use Rattle.std.proofs.Common.{◌≡◌, ◌*◌, ◌<◌, ◌≤◌, sym, ap, subst, ◌∙◌, nat_le}
+use Rattle.std.proofs.Common.{◌*◌, ◌<◌, ◌≤◌, sym, ap, subst, ◌∙◌, nat_le}
 use Rattle.std.proofs.lemmas.Bool.{le-leb, lt-leb}
 use Rattle.zf_cached.specs.Changes.{default_lines}
-use Rattle.zf_cache.proofs.Doubled.{passes, ends, tried_more}
+use Rattle.zf_cache.proofs.Doubled.{passes, tried_more}
 use Rattle.zf_cache.proofs.counts.default_lines.Goals as goal
 
 pub returns-then-from-blocks-clause-value : goal.returns-then-from-blocks-clause-value

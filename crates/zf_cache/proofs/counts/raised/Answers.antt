@@ -1,4 +1,4 @@
-use Rattle.std.proofs.Common.{◌≡◌, ◌<◌, ◌≤◌, sym, nat_le, arith}
+use Rattle.std.proofs.Common.{sym, nat_le}
 use Rattle.std.proofs.lemmas.Bool.{le-leb, lt-leb}
 use Rattle.zf_cached.specs.Changes.{raised}
 use Rattle.zf_cache.proofs.Doubled.{passes, ends, tried_more}

@@ -1,7 +1,6 @@
-use Rattle.std.proofs.Common.{◌≡◌, refl, sym, ap, ◌∙◌, ℕ, map, set, Some, None}
+use Rattle.std.proofs.Common.{refl, sym, ap, ◌∙◌, map, set, Some, None}
 use Rattle.std.proofs.lemmas.List.{get_or_default}
 use Rattle.zf_base.specs.Formats.{with_at, encoded}
-use Rattle.zf_lines.specs.Rows.{line_at}
 use Rattle.std.specs.Vec.{with_item}
 use Rattle.zf_cache.specs.declared.body.Body.{Body}
 use Rattle.zf_cache.specs.Bodies.{counts_of}

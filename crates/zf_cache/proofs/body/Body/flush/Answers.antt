@@ -1,8 +1,7 @@
-use Rattle.std.proofs.Common.{◌≡◌, ◌≢◌, refl, sym, ap, subst, ◌∙◌, ℕ, suc, ◌+◌, ◌<◌, ◌≤◌, length, set, None, inl, inr, rules, arith}
+use Rattle.std.proofs.Common.{◌≡◌, ◌≢◌, refl, sym, ap, ◌∙◌, ℕ, suc, ◌+◌, ◌<◌, length, set, inl, inr, rules, arith}
 use Rattle.std.proofs.lemmas.Bool.{cases_lt}
 use Rattle.std.proofs.lemmas.List.{length-set}
-use Rattle.zf_cached.specs.Changes.{flush}
-use Rattle.zf_cache.specs.Kept.{tag_at, block_in}
+use Rattle.zf_cache.specs.Kept.{tag_at}
 use Rattle.zf_cache.specs.Bodies.{kept_of}
 use Rattle.zf_cache.specs.Standing.{state_of, evicted}
 use Rattle.zf_cache.proofs.Tags.{same_or_not, tag-set_same, tag-set_other, zeros_of}

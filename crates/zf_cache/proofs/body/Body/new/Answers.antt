@@ -1,5 +1,4 @@
-use Rattle.std.proofs.Common.{◌≡◌, ◌^◌, ◌<◌, ◌≤◌, refl, sym, ap, subst, ◌∙◌, ℕ, length, replicate, rules, arith}
-use Rattle.std.proofs.lemmas.List.{length-replicate}
+use Rattle.std.proofs.Common.{◌≡◌, sym, subst, length, rules, arith}
 use Rattle.zf_lines.specs.Rows.{HasSize}
 use Rattle.zf_lines.proofs.Sizes.{HasSize-replicate}
 use Rattle.zf_cache.specs.Bodies.{IsMask}

@@ -1,4 +1,4 @@
-use Rattle.std.proofs.Common.{◌≡◌, refl, sym, ap, subst, ◌∙◌, ◌+◌, ◌*◌, ◌%◌, ◌<◌, length, map}
+use Rattle.std.proofs.Common.{refl, sym, ap, subst, ◌∙◌, ◌+◌, ◌*◌, ◌<◌, length, map}
 use Rattle.std.specs.Vec.{with_item}
 use Rattle.zf_base.specs.Formats.{existing_of}
 use Rattle.zf_lines.specs.Rows.{line_at, over, with_line}

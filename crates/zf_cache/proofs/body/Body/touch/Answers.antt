@@ -1,12 +1,10 @@
-use Rattle.std.proofs.Common.{◌≡◌, refl, sym, ap, subst, ◌∙◌, ℕ, ◌+◌, ◌*◌, ◌/◌, ◌%◌, ◌<◌, length, map, set, None, arith}
+use Rattle.std.proofs.Common.{refl, sym, ap, subst, ◌∙◌, ◌/◌, ◌<◌, length}
 use Rattle.std.proofs.lemmas.List.{get_or_default}
-use Rattle.std.specs.Vec.{with_item}
 use Rattle.zf_cache.specs.declared.body.Body.{Body}
-use Rattle.zf_cache.specs.Kept.{tag_at, dirty_of}
+use Rattle.zf_cache.specs.Kept.{tag_at}
 use Rattle.zf_cache.specs.Bodies.{kept_of}
 use Rattle.zf_cache.specs.Standing.{state_of}
-use Rattle.zf_cache.proofs.Tags.{undirty}
-use Rattle.zf_cache.proofs.Sound.{line_in, evicts, hits_block, misses_block}
+use Rattle.zf_cache.proofs.Sound.{line_in, hits_block, misses_block}
 use Rattle.zf_cache.proofs.body.Body.touch.Goals as goal
 
 pub returns-then-index-b-clause-state : goal.returns-then-index-b-clause-state

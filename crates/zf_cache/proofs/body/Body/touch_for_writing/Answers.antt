@@ -1,10 +1,7 @@
-use Rattle.std.proofs.Common.{◌≡◌, refl, sym, ap, subst, ◌∙◌, ℕ, ◌+◌, ◌*◌, ◌/◌, ◌%◌, ◌<◌, length, map, set, None, arith}
-use Rattle.std.proofs.lemmas.List.{get_or_default}
+use Rattle.std.proofs.Common.{◌≡◌, refl, sym, ap, subst, ◌∙◌, ◌+◌, ◌*◌, ◌%◌, ◌<◌, length}
 use Rattle.std.specs.Vec.{with_item}
 use Rattle.zf_cache.specs.declared.body.Body.{Body}
-use Rattle.zf_cache.specs.Kept.{tag_at, dirty_of}
 use Rattle.zf_cache.specs.Bodies.{kept_of}
-use Rattle.zf_cache.specs.Standing.{state_of}
 use Rattle.zf_cached.specs.Touch.{soiled, touch_for_writing}
 use Rattle.zf_cache.proofs.Sound.{line_in, same_length, soils_line, only_line_again}
 use Rattle.zf_cache.proofs.body.Body.touch_for_writing.Goals as goal

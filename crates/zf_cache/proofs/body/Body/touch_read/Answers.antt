@@ -1,8 +1,8 @@
-use Rattle.std.proofs.Common.{◌≡◌, refl, sym, ap, subst, ◌∙◌, ℕ, ◌+◌, ◌*◌, ◌/◌, ◌%◌, ◌<◌, length, map, set, None, arith}
+use Rattle.std.proofs.Common.{refl, sym, ap, subst, ◌∙◌, ◌/◌, ◌<◌, length, None}
 use Rattle.std.proofs.lemmas.List.{get_or_default, set-set}
 use Rattle.std.specs.Vec.{with_item}
 use Rattle.zf_cache.specs.declared.body.Body.{Body}
-use Rattle.zf_cache.specs.Kept.{tag_at, clean_tag, dirty_of}
+use Rattle.zf_cache.specs.Kept.{tag_at, clean_tag}
 use Rattle.zf_cache.specs.Bodies.{kept_of}
 use Rattle.zf_cache.specs.Standing.{state_of}
 use Rattle.zf_cache.proofs.Tags.{undirty}

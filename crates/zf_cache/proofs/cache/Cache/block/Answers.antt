@@ -1,5 +1,5 @@
-use Rattle.std.proofs.Common.{◌≡◌, ◌<◌, refl, sym, ap, subst, ◌∙◌}
-use Rattle.zf_cached.specs.Touch.{touch, touch_for_writing}
+use Rattle.std.proofs.Common.{refl, ap, ◌∙◌}
+use Rattle.zf_cached.specs.Touch.{touch}
 use Rattle.zf_cache.specs.Bodies.{kept_of}
 use Rattle.zf_cache.specs.Standing.{state_of}
 use Rattle.zf_cache.specs.Kept.{Kept}

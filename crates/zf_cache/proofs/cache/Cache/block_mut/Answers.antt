@@ -1,7 +1,5 @@
-use Rattle.std.proofs.Common.{◌≡◌, ◌<◌, refl, sym, ap, subst, ◌∙◌}
-use Rattle.zf_cached.specs.Touch.{touch, touch_for_writing}
+use Rattle.std.proofs.Common.{refl, ap, subst, ◌∙◌}
 use Rattle.zf_cache.specs.Bodies.{kept_of}
-use Rattle.zf_cache.specs.Standing.{state_of}
 use Rattle.zf_cache.specs.Kept.{Kept}
 use Rattle.zf_cache.specs.Loans.{LendsBlock, lent_block}
 use Rattle.zf_cache.proofs.Lent.{lends, loans}

@@ -1,4 +1,4 @@
-use Rattle.std.proofs.Common.{◌≡◌, refl, sym, ap, ◌∙◌, length}
+use Rattle.std.proofs.Common.{ap, ◌∙◌, length}
 use Rattle.zf_cached.specs.Changes.{relined}
 use Rattle.zf_cache.specs.Kept.{Kept}
 use Rattle.zf_cache.specs.Bodies.{kept_of, counts_of}
