@@ -103,6 +103,7 @@ impl<T: Lane> Body<T> {
     }
 
     /// The line of block `b`.
+    #[inline]
     pub(crate) fn line_of(&self, b: u64) -> u32
         requires count { (0 < length self.now.tags.items) × (length self.now.tags.items ≤ 2 ^ 16) }
         requires mask { IsMask (length self.now.tags.items) }
@@ -112,6 +113,8 @@ impl<T: Lane> Body<T> {
     }
 
     /// Writes the block of line `l` back where it is dirty, and empties the line.
+    #[cold]
+    #[inline(never)]
     pub(crate) fn evict<B: Backing<T>>(&mut self, back: &mut B, l: u32)
         requires sound { IsSound T.value self.old (B.format back.old) (B.codes back.old) }
         requires line { l < length self.old.tags.items }
@@ -131,6 +134,8 @@ impl<T: Lane> Body<T> {
     }
 
     /// Puts block `b` into its line `l`, which is empty.
+    #[cold]
+    #[inline(never)]
     pub(crate) fn take_in<B: Reading<T>>(&mut self, back: &mut B, l: u32, b: u64)
         requires sound { IsSound T.value self.old (B.format back.old) (B.codes back.old) }
         requires line { l ≡ b % length self.old.tags.items }
@@ -150,6 +155,7 @@ impl<T: Lane> Body<T> {
     }
 
     /// Touches block `b`, and gives its line.
+    #[inline]
     pub(crate) fn touch<B: Backing<T>>(&mut self, back: &mut B, b: u64) -> u32
         requires sound { IsSound T.value self.old (B.format back.old) (B.codes back.old) }
         requires block { (b < (B.format back.old).blocks) × ((B.format back.old).blocks ≤ 2 ^ 32) }
@@ -173,6 +179,7 @@ impl<T: Lane> Body<T> {
     }
 
     /// Touches block `b` for writing, and gives its line.
+    #[inline]
     pub(crate) fn touch_for_writing<B: Backing<T>>(&mut self, back: &mut B, b: u64) -> u32
         requires sound { IsSound T.value self.old (B.format back.old) (B.codes back.old) }
         requires block { (b < (B.format back.old).blocks) × ((B.format back.old).blocks ≤ 2 ^ 32) }
@@ -191,6 +198,7 @@ impl<T: Lane> Body<T> {
     }
 
     /// Touches block `b` where nothing is dirty, so that the backing is only read, and gives its line.
+    #[inline]
     pub(crate) fn touch_read<B: Reading<T>>(&mut self, back: &mut B, b: u64) -> u32
         requires sound { IsSound T.value self.old (B.format back.old) (B.codes back.old) }
         requires block { (b < (B.format back.old).blocks) × ((B.format back.old).blocks ≤ 2 ^ 32) }

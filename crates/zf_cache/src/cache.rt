@@ -61,6 +61,7 @@ impl<T: Lane, const D: usize> Cache<T, D> {
     }
 
     /// Touches block `b`; the value at its place `p`.
+    #[inline]
     pub fn get<B: Backing<T>>(&mut self, back: &mut B, b: u64, p: usize) -> T
         requires fits { Fits T.value self.old (B.format back.old) (B.codes back.old) }
         requires blocks { HasBlocks (B.format back.old) D }
@@ -79,6 +80,7 @@ impl<T: Lane, const D: usize> Cache<T, D> {
     }
 
     /// Touches block `b` for writing, and makes the value at its place `p` be `v`; the others stay.
+    #[inline]
     pub fn set<B: Backing<T>>(&mut self, back: &mut B, b: u64, p: usize, v: T)
         requires fits { Fits T.value self.old (B.format back.old) (B.codes back.old) }
         requires blocks { HasBlocks (B.format back.old) D }
@@ -94,6 +96,7 @@ impl<T: Lane, const D: usize> Cache<T, D> {
     }
 
     /// Touches block `b` for writing, so that `part_mut` can lend parts of it.
+    #[inline]
     pub fn touch_mut<B: Backing<T>>(&mut self, back: &mut B, b: u64)
         requires fits { Fits T.value self.old (B.format back.old) (B.codes back.old) }
         requires blocks { HasBlocks (B.format back.old) D }
@@ -109,6 +112,7 @@ impl<T: Lane, const D: usize> Cache<T, D> {
     }
 
     /// The `n` values of block `b` from its place `a` on, for writing. The block is in its line and dirty.
+    #[inline]
     pub fn part_mut(&mut self, b: u64, a: usize, n: usize) -> &mut [T]
         requires dirty { IsDirty self.old b }
         requires within { a + n ≤ 4 ^ D }
@@ -121,6 +125,7 @@ impl<T: Lane, const D: usize> Cache<T, D> {
     }
 
     /// Touches block `b`; its `4^D` values.
+    #[inline]
     pub fn block<B: Backing<T>>(&mut self, back: &mut B, b: u64) -> &[T]
         requires fits { Fits T.value self.old (B.format back.old) (B.codes back.old) }
         requires blocks { HasBlocks (B.format back.old) D }
@@ -136,6 +141,7 @@ impl<T: Lane, const D: usize> Cache<T, D> {
     }
 
     /// Touches block `b` for writing; its `4^D` values. What is written to them is the block's value afterwards.
+    #[inline]
     pub fn block_mut<B: Backing<T>>(&mut self, back: &mut B, b: u64) -> &mut [T]
         requires fits { Fits T.value self.old (B.format back.old) (B.codes back.old) }
         requires blocks { HasBlocks (B.format back.old) D }
@@ -191,6 +197,7 @@ impl<T: Lane, const D: usize> Cache<T, D> {
     }
 
     /// As `get`, over a backing that is only read. Nothing is dirty.
+    #[inline]
     pub fn get_read<B: Reading<T>>(&mut self, back: &mut B, b: u64, p: usize) -> T
         requires fits { Fits T.value self.old (B.format back.old) (B.codes back.old) }
         requires blocks { HasBlocks (B.format back.old) D }
@@ -211,6 +218,7 @@ impl<T: Lane, const D: usize> Cache<T, D> {
     }
 
     /// As `block`, over a backing that is only read. Nothing is dirty.
+    #[inline]
     pub fn block_read<B: Reading<T>>(&mut self, back: &mut B, b: u64) -> &[T]
         requires fits { Fits T.value self.old (B.format back.old) (B.codes back.old) }
         requires blocks { HasBlocks (B.format back.old) D }

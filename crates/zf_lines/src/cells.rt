@@ -108,6 +108,7 @@ impl<T> Cells<T> {
     }
 
     /// The `len` values from `from` on.
+    #[inline]
     pub(crate) fn slice(&self, base: Base<T>, from: usize, len: usize) -> &[T]
         requires { (base.ptr ≡ self.now.at) × IsRun self.now.slots from len }
         ensures { take len (drop from self.now.slots) ≡ map Some result.now }
@@ -116,6 +117,7 @@ impl<T> Cells<T> {
     }
 
     /// The `len` values from `from` on, for writing.
+    #[inline]
     pub(crate) fn slice_mut(&mut self, base: Base<T>, from: usize, len: usize) -> &mut [T]
         requires { (base.ptr ≡ self.old.at) × IsRun self.old.slots from len }
         ensures* writes_back { sem 𝓛 (lends_run T.row self.entry from len result) }

@@ -73,6 +73,7 @@ impl<T: Copy> Lines<T> {
     }
 
     /// Block `i`.
+    #[inline]
     pub fn line(&self, i: u32) -> &[T]
         requires { i < length self.now }
         ensures { result.now ≡ line_at self.now i }
@@ -81,6 +82,7 @@ impl<T: Copy> Lines<T> {
     }
 
     /// Block `i` for writing; all others stay.
+    #[inline]
     pub fn line_mut(&mut self, i: u32) -> &mut [T]
         requires { i < length self.old }
         ensures* writes_back { sem 𝓛 (LendsLine T.row self.entry i result) }
@@ -91,6 +93,7 @@ impl<T: Copy> Lines<T> {
     }
 
     /// The `n` values of block `i` from its place `a` on, for writing; all others stay.
+    #[inline]
     pub fn part_mut(&mut self, i: u32, a: usize, n: usize) -> &mut [T]
         requires line { i < length self.old }
         requires within { a + n ≤ length (line_at self.old i) }
