@@ -1,11 +1,10 @@
 -- The digits of a plane as bits of its words, and its ones by the zeros of a word.
-use Rattle.std.proofs.Common.{◌≡◌, ℕ, zero, suc, ◌+◌, ◌-◌, ◌*◌, ◌/◌, ◌%◌, ◌^◌, ◌<◌, ◌≤◌, ◌≢◌, ⊎_elim, Bool, true, false, eqb, List, [], ◌∷◌, ◌++◌, length, take, drop, replicate, get_or, get_or-take, get_or-drop, ext_get_or, length-take, length-drop, pow_pos, pow-suc, refl, sym, ap, ◌∙◌, arith}
+use Rattle.std.proofs.Common.{◌≡◌, ℕ, zero, suc, ◌+◌, ◌-◌, ◌*◌, ◌/◌, ◌%◌, ◌^◌, ◌<◌, ◌≤◌, ⊎_elim, Bool, true, false, eqb, List, [], ◌∷◌, ◌++◌, length, take, drop, replicate, get_or, get_or-take, get_or-drop, ext_get_or, length-take, length-drop, pow_pos, pow-suc, sym, ap, ◌∙◌, arith}
 use Rattle.std.specs.Int.{bit_at, w64, trailing_zeros, leading_zeros}
-use Rattle.std.proofs.Math.Nat.{div-one}
 use Rattle.std.proofs.lemmas.Bool.{cases_lt, false≢true}
 use Rattle.std.proofs.lemmas.Nat.{shr-shr, shr_le, leading_top, div-add-mod'}
 use Rattle.std.proofs.lemmas.Nat.Bits.{bit_at-zero, bit_at-trailing_zeros, bit_at_above, bit_at_cat_low, bit_at_cat_high}
-use Rattle.std.proofs.lemmas.List.{get_or_past}
+use Rattle.std.proofs.lemmas.List.{get_or_past, take-take, drop-take}
 use Rattle.zf_spec.specs.Numbers.{is_odd, field, word_bits}
 use Rattle.zf_spec.specs.Planes.{has_one, reach}
 use Rattle.zf_spec.specs.HeldPlanes.{digits_held}
@@ -47,6 +46,18 @@ field_in_word size at n w ws is long same within =
     ∙ sym (digit_in_word size at j w ws is long (omega arith) (omega arith))
     ∙ sym (get_or-drop at ds j false)
     ∙ sym (get_or-take n (drop at ds) j false below))
+
+-- the digits of a part of a plane
+pub held_part : (size n m : ℕ) (ws : List ℕ) → n ≤ m → m ≤ size → drop n (digits_held m ws) ≡ take (m - n) (drop n (digits_held size ws))
+unfolding digits_held
+held_part size n m ws order within =
+    let ds = take size (word_bits ws) in
+    let place : n + (m - n) ≡ m = omega arith in
+    ap (drop n) (sym (take-take m size (word_bits ws) within) ∙ ap (λ k. take k ds) (sym place)) ∙ drop-take n (m - n) ds
+
+pub held_front : (size n : ℕ) (ws : List ℕ) → n ≤ size → drop 0 (digits_held n ws) ≡ take n (digits_held size ws)
+unfolding digits_held
+held_front size n ws within = sym (take-take n size (word_bits ws) within)
 
 pub past_size : (size r : ℕ) (ws : List ℕ) → size ≤ 64 * length ws → size ≤ r → get_or (digits_held size ws) r false ≡ false
 past_size size r ws long past = get_or_past (digits_held size ws) r false (omega (arith, length-digits_held size ws long))

@@ -1,4 +1,4 @@
-use Rattle.std.proofs.Common.{◌≡◌, ℕ, ◌+◌, ◌-◌, ◌/◌, ◌%◌, ◌^◌, ◌<◌, ◌*◌, ◌≤◌, length, drop, arith}
+use Rattle.std.proofs.Common.{◌+◌, ◌-◌, ◌/◌, ◌%◌, ◌^◌, ◌*◌, ◌≤◌, length, arith}
 use Rattle.std.specs.Int.{w64, trailing_zeros}
 use Rattle.zf_spec.specs.HeldPlanes.{digits_held}
 use Rattle.zf_spec.proofs.HeldPlanes.{length-digits_held}
