@@ -100,7 +100,7 @@ within_plane ds n k one zeros =
     absurd (false≢true (sym none ∙ one)))
     (cases_lt k (length ds))
 
-split_front : (xs : List Bool) (m : ℕ) → m < length xs → ((i : ℕ) → i < m → get_or xs i false ≡ false) → get_or xs m false ≡ true → xs ≡ replicate m false ++ true ∷ drop (m + 1) xs
+pub split_front : (xs : List Bool) (m : ℕ) → m < length xs → ((i : ℕ) → i < m → get_or xs i false ≡ false) → get_or xs m false ≡ true → xs ≡ replicate m false ++ true ∷ drop (m + 1) xs
 split_front [] m within zeros one = absurd (omega arith)
 split_front (x ∷ xs) zero within zeros one = ap (λ b. b ∷ xs) one
 split_front (x ∷ xs) (suc m) within zeros one =

@@ -10,6 +10,7 @@
 --     PlaneAhead   what the decoder makes of one plane
 --     PlanesAhead  what the decoder makes of planes
 --     Passing      a reader that passes the bits of a code in parts
+--     Peeking      zeros that are counted in bits which were looked at
 pub mod Runs
 pub mod Lengths
 pub mod Budgets
@@ -21,3 +22,4 @@ pub mod Steps
 pub mod PlaneAhead
 pub mod PlanesAhead
 pub mod Passing
+pub mod Peeking
