@@ -1,12 +1,13 @@
 -- One read after another.
-use Rattle.std.proofs.Common.{◌≡◌, ℕ, ◌+◌, ◌-◌, ◌*◌, ◌/◌, ◌%◌, ◌^◌, ◌<◌, ◌≤◌, Bool, false, List, [], ◌∷◌, ◌++◌, length, get_or, take, drop, sym, ap, ◌∙◌, subst, arith, append_assoc, length-append, length-drop, refl, lit<}
-use Rattle.std.proofs.lemmas.List.{length-take-le, get_or-take, take_at, drop_more}
+use Rattle.std.proofs.Common.{◌≡◌, min, ⊎_elim, ℕ, ◌+◌, ◌-◌, ◌*◌, ◌/◌, ◌%◌, ◌^◌, ◌<◌, ◌≤◌, Bool, false, List, [], ◌∷◌, ◌++◌, length, get_or, take, drop, sym, ap, ◌∙◌, subst, arith, append_assoc, length-append, length-drop, refl, lit<}
+use Rattle.std.proofs.lemmas.List.{length-take-le, get_or-take, take_at, drop_more, drop-drop, take-append-drop, length-take, take_all}
+use Rattle.std.proofs.lemmas.Bool.{cases_lt}
 use Rattle.std.proofs.lemmas.Nat.{shl_whole}
 use Rattle.std.proofs.Math.Nat.{mul_comm, pow-le-pow_right}
 use Rattle.std.specs.Int.{from_bool}
-use Rattle.zf_spec.specs.Numbers.{is_odd, digit_value, number, word_bits}
+use Rattle.zf_spec.specs.Numbers.{is_odd, digit_value, field, number, word_bits}
 use Rattle.zf_bits.specs.Reader.{Reader, rest, Reads}
-use Rattle.zf_spec.proofs.Fields.{number-lt, number-append}
+use Rattle.zf_spec.proofs.Fields.{number-lt, number-append, field-add, field-number, length-field}
 use Rattle.zf_bits.proofs.Fields.{digit_value_le, from_bool-digit_value}
 use Rattle.zf_spec.proofs.WordBits.{length-word_bits, get_or-flat_map-field}
 
@@ -23,6 +24,33 @@ Reads-append {a} {b} {c} {xs} {ys} first second = record {
 
 pub Reads-same : {a b : Reader} {xs ys : List Bool} → Reads a b xs → xs ≡ ys → Reads a b ys
 Reads-same {a} {b} reads e = let P : List Bool → Type 0 = λ bs. Reads a b bs in subst P e reads
+
+-- the next n bits
+pub Reads-take : (r : Reader) (n : ℕ) → n ≤ length (rest r) → Reads r (record r { at = r.at + n }) (take n (rest r))
+Reads-take r n fits = record {
+  next = sym (take-append-drop n (rest r)) ∙ ap (λ (bs : List Bool). take n (rest r) ++ bs) (drop-drop n r.at r.all);
+  place = omega (arith, length-take-le n (rest r) fits);
+  all = refl;
+}
+
+-- a number whose lowest bits are the next ones, as far as there are some
+pub take-peeked : (s : List Bool) (n v : ℕ) → n ≡ min (length s) 64 → v ≡ number (take n s) → take (length (take 64 s)) (field 64 v) ≡ take 64 s
+take-peeked s n v count is =
+    let few : length (take 64 s) ≡ n = omega (arith, length-take 64 s) in
+    let all : 64 ≡ n + (64 - n) = omega arith in
+    let split = ap (λ k. field k v) all ∙ field-add n (64 - n) v in
+    ap (λ k. take k (field 64 v)) few
+    ∙ ap (take n) split
+    ∙ take_at (field n v) (field (64 - n) (v / 2 ^ n)) n (length-field n v)
+    ∙ ap (field n) is
+    ∙ field-number n (take n s) (omega (arith, length-take n s))
+    ∙ same
+  where
+    same : take n s ≡ take 64 s
+    same = ⊎_elim
+        (λ (short : length s < 64). let e : n ≡ length s = omega arith in ap (λ k. take k s) e ∙ take_all (length s) s (omega arith) ∙ sym (take_all 64 s (omega arith)))
+        (λ (long : 64 ≤ length s). let e : n ≡ 64 = omega arith in ap (λ k. take k s) e)
+        (cases_lt (length s) 64)
 
 -- ---- a number, bit by bit
 

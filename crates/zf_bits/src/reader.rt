@@ -89,6 +89,27 @@ impl<'a> BitReader<'a> {
         Some(value)
     }
 
+    /// The next 64 bits as a number, the first one lowest. Where fewer are left, the others are anything.
+    pub fn peek(&self) -> u64
+        ensures { take (length (take 64 (rest self.now))) (field 64 result) ≡ take 64 (rest self.now) }
+    {
+        let n = self.left().min(64) as u32;
+        let mut ahead = BitReader {
+            words: self.words,
+            bits: self.bits,
+            at: self.at,
+        };
+        ahead.read(n).unwrap()
+    }
+
+    /// Goes on behind the next `n` bits.
+    pub fn skip(&mut self, n: u64)
+        requires { n ≤ length (rest self.old) }
+        ensures { Reads self.old self.new (take n (rest self.old)) }
+    {
+        self.at += n;
+    }
+
     // The bit at the place, which is not the end.
     fn next_bit(&mut self) -> bool
         requires { 0 < length (rest self.old) }

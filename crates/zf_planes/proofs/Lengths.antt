@@ -7,7 +7,7 @@ use Rattle.zf_spec.specs.Planes.{has_one, reach, group, code_from_run, tail, pla
 use Rattle.zf_spec.specs.HeldPlanes.{planes_held}
 use Rattle.zf_spec.proofs.Reach.{reach_none, reach_some}
 use Rattle.zf_spec.proofs.PlaneCode.{length-code-le}
-use Rattle.zf_planes.proofs.Unpacking.{length-top_held, sizes-top_held}
+use Rattle.zf_planes.proofs.Unpacking.{length-top_held, sizes-top_words}
 
 -- how many ones there are
 abbrev pub ones : List Bool → ℕ
@@ -59,7 +59,11 @@ pub length-plane_code : (n : ℕ) (ds : List Bool) → n ≤ length ds → lengt
 length-plane_code n ds within = length-append (take n ds) (tail (drop n ds)) ∙ omega (arith, length-take n ds)
 
 -- the code of planes that are held has at most as many bits as they have digits, and a group bit for each rank
+pub length-code_words-le : (prec size : ℕ) (planes : List (List ℕ)) → prec ≤ length planes → ((i : ℕ) → i < length planes → size ≤ 64 * length (get_or planes i []))
+    → length (code (take prec (planes_held size planes))) ≤ size * prec + size
+length-code_words-le prec size planes within enough =
+    rw (length-top_held prec size planes within) at (length-code-le size (take prec (planes_held size planes)) (sizes-top_words prec size planes enough))
+
 pub length-code_held-le : (prec size : ℕ) (planes : List (List ℕ)) → size ≤ 256 → prec ≤ length planes → ((i : ℕ) → i < length planes → length (get_or planes i []) ≡ 4)
     → length (code (take prec (planes_held size planes))) ≤ size * prec + size
-length-code_held-le prec size planes small within four =
-    rw (length-top_held prec size planes within) at (length-code-le size (take prec (planes_held size planes)) (sizes-top_held prec size planes small four))
+length-code_held-le prec size planes small within four = length-code_words-le prec size planes within (λ i below. omega (arith, four i below))

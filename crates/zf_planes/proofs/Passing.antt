@@ -53,6 +53,10 @@ Passes-end passes none = record {
   spent = omega (arith, passes.within, passes.sum);
 }
 
+-- so far
+pub Passes-taken : {old now : Reader} {budget left more needed : ℕ} → Passes old now budget left more needed → Takes old now budget left (budget - left)
+Passes-taken passes = record { enough = passes.enough; place = passes.place; all = passes.all; spent = omega (arith, passes.within) }
+
 -- what is needed of a part is not there
 pub Passes-lacks : {old now new : Reader} {budget left count more needed : ℕ} → Passes old now budget left more needed → Lacks now new count → count ≤ more → Lacks old new needed
 Passes-lacks {old} {now} passes lacks part =

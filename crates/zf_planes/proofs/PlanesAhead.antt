@@ -5,7 +5,7 @@ use Rattle.std.proofs.lemmas.List.{length-append, drop-take}
 use Rattle.zf_spec.specs.Planes.{reach, plane_code, code_from}
 use Rattle.zf_spec.specs.Kept.{kept_plane, kept_planes_from}
 use Rattle.zf_spec.specs.ReadPlanes.{plane_in, planes_in_from}
-use Rattle.zf_spec.proofs.Reach.{reach-le, reach_within}
+use Rattle.zf_spec.proofs.Reach.{reach_within}
 use Rattle.zf_spec.proofs.KeptSame.{kept_whole, kept_planes_from-none}
 use Rattle.zf_spec.proofs.Full.{length-plane_in, length-planes_in_from, planes_in_from-length}
 use Rattle.zf_planes.specs.Decoding.{plane_ahead, plane_bits, planes_ahead, planes_bits}

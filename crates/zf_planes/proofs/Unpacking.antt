@@ -1,11 +1,10 @@
 -- The digits that planes hold in words.
-use Rattle.std.proofs.Common.{◌≡◌, ℕ, ◌+◌, ◌-◌, ◌*◌, ◌/◌, ◌%◌, ◌^◌, ◌<◌, ◌≤◌, ◌≢◌, ⊎_elim, Bool, false, List, [], ◌∷◌, ◌++◌, length, take, drop, get_or, set, replicate, reverse, refl, sym, ap, subst, ◌∙◌, arith, ext_get_or, length-set, get_or-set_same, get_or-set_other}
-use Rattle.std.proofs.lemmas.List.{take_more, get_or-map, get_or-take, get_or-reverse, length-take, length-map, length-reverse, drop_more, get_or_past, take-replicate, drop-replicate, length-replicate, get_or-replicate}
+use Rattle.std.proofs.Common.{◌≡◌, ℕ, zero, suc, map, ◌+◌, ◌-◌, ◌*◌, ◌<◌, ◌≤◌, ◌≢◌, ⊎_elim, Bool, false, List, [], ◌∷◌, length, take, drop, get_or, set, replicate, refl, sym, ap, subst, ◌∙◌, arith, ext_get_or, length-set, get_or-set_same, get_or-set_other}
+use Rattle.std.proofs.lemmas.List.{get_or-take, length-take, drop_more, take-replicate, drop-replicate, length-replicate, get_or-replicate}
 use Rattle.std.proofs.lemmas.Bool.{cases_eq}
 use Rattle.std.specs.List.{All}
-use Rattle.zf_spec.specs.Numbers.{is_odd, word_bits}
+use Rattle.zf_spec.specs.Numbers.{word_bits}
 use Rattle.zf_spec.specs.HeldPlanes.{digits_held, planes_held, IsClearFrom}
-use Rattle.zf_spec.proofs.WordBits.{length-word_bits, get_or-word_bits}
 use Rattle.zf_spec.proofs.HeldPlanes.{length-digits_held, get_or-planes_held, length-planes_held}
 
 -- ---- the top planes
@@ -21,14 +20,41 @@ drop-top_held prec size planes i below within =
     ∙ ap (λ (ds : List Bool). ds ∷ drop (i + 1) top) (get_or-take prec (planes_held size planes) i [] below ∙ get_or-planes_held size planes i [] (omega arith))
 
 -- each of them has this size
-pub sizes-top_held : (prec size : ℕ) (planes : List (List ℕ)) → size ≤ 256 → ((i : ℕ) → i < length planes → length (get_or planes i []) ≡ 4) → All (λ ds. length ds ≡ size) (take prec (planes_held size planes))
-sizes-top_held prec size planes small four =
+pub sizes-top_words : (prec size : ℕ) (planes : List (List ℕ)) → ((i : ℕ) → i < length planes → size ≤ 64 * length (get_or planes i [])) → All (λ ds. length ds ≡ size) (take prec (planes_held size planes))
+sizes-top_words prec size planes enough =
     let long = length-take prec (planes_held size planes) in
     let same = length-planes_held size planes in
     λ k d high.
     let P : List Bool → Type 0 = λ ds. length ds ≡ size in
     subst P (sym (get_or-take prec (planes_held size planes) k d (omega arith) ∙ get_or-planes_held size planes k d (omega arith)))
-    (length-digits_held size _ (let has = four (length planes - 1 - k) (omega arith) in omega arith))
+    (length-digits_held size _ (enough (length planes - 1 - k) (omega arith)))
+
+pub sizes-top_held : (prec size : ℕ) (planes : List (List ℕ)) → size ≤ 256 → ((i : ℕ) → i < length planes → length (get_or planes i []) ≡ 4) → All (λ ds. length ds ≡ size) (take prec (planes_held size planes))
+sizes-top_held prec size planes small four = sizes-top_words prec size planes (λ i below. omega (arith, four i below))
+
+-- ---- planes of any type that has words
+
+-- each has as many words as the type says
+pub each_long : {A : Type 0} (words : A → List ℕ) (n : ℕ) → ((plane : A) → length (words plane) ≡ n) → (planes : List A) (i : ℕ) → i < length planes → length (get_or (map words planes) i []) ≡ n
+each_long words n long [] i below = absurd (omega arith)
+each_long words n long (plane ∷ planes) zero below = long plane
+each_long words n long (plane ∷ planes) (suc i) below = each_long words n long planes i (omega arith)
+
+-- the four words of an array
+whole_array : (words : List ℕ) → length words ≡ 4 → get_or words 0 0 ∷ get_or words 1 0 ∷ get_or words 2 0 ∷ get_or words 3 0 ∷ [] ≡ words
+whole_array [] four = absurd (omega arith)
+whole_array (a ∷ []) four = absurd (omega arith)
+whole_array (a ∷ b ∷ []) four = absurd (omega arith)
+whole_array (a ∷ b ∷ c ∷ []) four = absurd (omega arith)
+whole_array (a ∷ b ∷ c ∷ d ∷ []) four = refl
+whole_array (a ∷ b ∷ c ∷ d ∷ e ∷ words) four = absurd (omega arith)
+
+pub arrays_as_words : (planes : List (List ℕ)) → ((i : ℕ) → i < length planes → length (get_or planes i []) ≡ 4)
+    → map (λ words. get_or words 0 0 ∷ get_or words 1 0 ∷ get_or words 2 0 ∷ get_or words 3 0 ∷ []) planes ≡ planes
+arrays_as_words [] four = refl
+arrays_as_words (words ∷ planes) four =
+    ap (λ (ws : List ℕ). ws ∷ map (λ ws. get_or ws 0 0 ∷ get_or ws 1 0 ∷ get_or ws 2 0 ∷ get_or ws 3 0 ∷ []) planes) (whole_array words (four 0 (omega arith)))
+    ∙ ap (λ (ps : List (List ℕ)). words ∷ ps) (arrays_as_words planes (λ i below. four (suc i) (omega arith)))
 
 -- ---- planes that are written
 

@@ -43,19 +43,30 @@ fn read_run(left: u64, most: usize, reader: &mut BitReader<'_>) -> Option<Run>
     ensures digits { IfSome result (λ run. run_ahead left most (rest reader.old) ≡ replicate run.zeros false ++ true ∷ tail_ahead run.left (most - run.zeros - 1) (rest reader.new)) }
 {
     let mut left = left;
-    for zeros in 0..most - 1 {
-        if left == 0 {
-            return Some(Run { zeros, left });
+    let mut zeros = 0;
+    while zeros < most - 1 && left > 0 {
+        // The bits that the run may take of those that are looked at.
+        let ahead = reader
+            .left()
+            .min(left)
+            .min((most - 1 - zeros) as u64)
+            .min(64);
+        if ahead == 0 {
+            return None;
         }
-        left -= 1;
-        if reader.read_bit()? {
-            return Some(Run { zeros, left });
+        let count = u64::from(reader.peek().trailing_zeros()).min(ahead);
+        if count < ahead {
+            reader.skip(count + 1);
+            return Some(Run {
+                zeros: zeros + count as usize,
+                left: left - count - 1,
+            });
         }
+        reader.skip(count);
+        zeros += count as usize;
+        left -= count;
     }
-    Some(Run {
-        zeros: most - 1,
-        left,
-    })
+    Some(Run { zeros, left })
 }
 
 /// Reads the tail of a plane: behind each group bit that is one a run, until a group bit is zero or no rank is left.

@@ -1,80 +1,113 @@
 //! Writing the code of planes.
 
-ghost use Rattle.std.specs.Prelude.{◌≡◌, ◌+◌, ◌-◌, ◌*◌, ◌^◌, ◌<◌, ◌≤◌, ◌⊎◌, min, length, take, drop};
-ghost use Rattle.zf_spec.specs.Planes.{plane_code, tail, code};
+ghost use Rattle.std.specs.Prelude.{◌≡◌, ◌+◌, ◌-◌, ◌*◌, ◌^◌, ◌<◌, ◌≤◌, ◌⊎◌, min, length, map, take, drop};
+ghost use Rattle.zf_spec.specs.Planes.{plane_code, tail, code, reach};
 ghost use Rattle.zf_bits.specs.Writer.{Appends};
-ghost use Rattle.zf_spec.specs.HeldPlanes.{planes_held};
+ghost use Rattle.zf_spec.specs.HeldPlanes.{digits_held, planes_held};
 
-use crate::plane::{MOST_DIGITS, first_one, reach_of, unpack};
+use crate::words::{Plane, reach_in, zeros_from};
 use zf_bits::BitWriter;
 
-/// Appends digits as they are, as far as `left` bits reach. The answer is the bits that are left.
-fn write_digits(left: u64, digits: &[bool], out: &mut BitWriter) -> u64
-    requires { min left (length digits.now) ≤ out.old.room }
-    ensures bits { Appends out.old out.new (take left digits.now) }
-    ensures left { result ≡ left - length digits.now }
+/// Appends the digits of the ranks from `from` on and below `to` as they are, as far as `left` bits reach. The answer is the bits that are left.
+fn write_part<P: Plane>(left: u64, from: usize, to: usize, plane: &P, out: &mut BitWriter) -> u64
+    requires order { from ≤ to }
+    requires size { to ≤ 256 }
+    requires words { to ≤ 64 * P.word_count }
+    requires fits { min left (to - from) ≤ out.old.room }
+    ensures bits { Appends out.old out.new (take left (drop from (digits_held to (P.words plane.now)))) }
+    ensures left { result ≡ left - (to - from) }
 {
-    let count = left.min(digits.len() as u64);
-    for digit in &digits[..count as usize] {
-        out.write_bit_reserved(*digit);
+    let count = left.min((to - from) as u64);
+    let end = from + count as usize;
+    let mut at = from;
+    while at < end {
+        // As many as one word has.
+        let n = (64 - at % 64).min(end - at);
+        out.write_reserved(plane.word(at / 64) >> (at % 64), n as u32);
+        at += n;
     }
     left - count
 }
 
-/// Appends the tail of a plane: for each one a group bit and the run that leads to it, and a group bit that says that no one follows.
-fn write_tail(left: u64, digits: &[bool], out: &mut BitWriter) -> u64
-    requires { min left (length (tail digits.now)) ≤ out.old.room }
-    ensures bits { Appends out.old out.new (take left (tail digits.now)) }
-    ensures left { result ≡ left - length (tail digits.now) }
+/// Appends the tail of a plane from rank `from` on: for each one a group bit and the run that leads to it, and a group bit that says that no one follows.
+fn write_tail<P: Plane>(
+    left: u64,
+    from: usize,
+    size: usize,
+    end: usize,
+    plane: &P,
+    out: &mut BitWriter,
+) -> u64
+    requires size { size ≤ 256 }
+    requires words { size ≤ 64 * P.word_count }
+    requires in_plane { from ≤ size }
+    requires end { end ≡ reach (digits_held size (P.words plane.now)) }
+    requires fits { min left (length (tail (drop from (digits_held size (P.words plane.now))))) ≤ out.old.room }
+    ensures bits { Appends out.old out.new (take left (tail (drop from (digits_held size (P.words plane.now))))) }
+    ensures left { result ≡ left - length (tail (drop from (digits_held size (P.words plane.now)))) }
 {
     let mut left = left;
-    let end = reach_of(digits);
-    let mut n = 0;
-    while n < digits.len() && left > 0 {
+    let mut n = from;
+    while n < size && left > 0 {
         out.write_bit_reserved(n < end);
         left -= 1;
         if n >= end {
             break;
         }
         // The one of the last rank is implied: its run stops before it.
-        let next = n + first_one(&digits[n..]) + 1;
-        left = write_digits(left, &digits[n..next.min(digits.len() - 1)], out);
+        let next = n + zeros_from(plane, n, size) + 1;
+        left = write_part(left, n, next.min(size - 1), plane, out);
         n = next;
     }
     left
 }
 
-/// Appends the code of a plane in which the ranks below `n` have had a one above.
-fn write_plane(left: u64, n: usize, digits: &[bool], out: &mut BitWriter) -> u64
-    requires in_plane { n ≤ length digits.now }
-    requires fits { min left (length (plane_code n digits.now)) ≤ out.old.room }
-    ensures bits { Appends out.old out.new (take left (plane_code n digits.now)) }
-    ensures left { result ≡ left - length (plane_code n digits.now) }
-{
-    let left = write_digits(left, &digits[..n], out);
-    write_tail(left, &digits[n..], out)
-}
-
-/// Appends the code of the top `prec` planes, unpacking each into `digits`, whose length is the size of a plane.
-fn write_planes(
-    budget: u64,
-    prec: u32,
-    planes: &[[u64; 4]],
-    digits: &mut [bool],
+/// Appends the code of a plane in which the ranks below `n` have had a one above, and whose own ones end before rank `end`.
+fn write_plane<P: Plane>(
+    left: u64,
+    n: usize,
+    size: usize,
+    end: usize,
+    plane: &P,
     out: &mut BitWriter,
 ) -> u64
-    requires size { length digits.old ≤ 256 }
+    requires size { size ≤ 256 }
+    requires words { size ≤ 64 * P.word_count }
+    requires in_plane { n ≤ size }
+    requires end { end ≡ reach (digits_held size (P.words plane.now)) }
+    requires fits { min left (length (plane_code n (digits_held size (P.words plane.now)))) ≤ out.old.room }
+    ensures bits { Appends out.old out.new (take left (plane_code n (digits_held size (P.words plane.now)))) }
+    ensures left { result ≡ left - length (plane_code n (digits_held size (P.words plane.now))) }
+{
+    let left = write_part(left, 0, n, plane, out);
+    write_tail(left, n, size, end, plane, out)
+}
+
+/// Appends the code of the top `prec` planes, or its first `budget` bits where it is longer. The answer is the number of bits appended.
+///
+/// `planes[k]` holds digit k of each coefficient by rank, and bits from rank `size` on are not looked at.
+/// Embedded coding as in the zfp 1.0 documentation, chapter Algorithm.
+pub fn write_planes<P: Plane>(
+    budget: u64,
+    prec: u32,
+    size: usize,
+    planes: &[P],
+    out: &mut BitWriter,
+) -> u64
+    requires size { size ≤ 256 }
+    requires words { size ≤ 64 * P.word_count }
     requires planes { prec ≤ length planes.now }
-    requires fits { min budget (length (code (take prec (planes_held (length digits.old) planes.now)))) ≤ out.old.room }
-    ensures bits { Appends out.old out.new (take budget (code (take prec (planes_held (length digits.old) planes.now)))) }
-    ensures count { result ≡ min budget (length (code (take prec (planes_held (length digits.old) planes.now)))) }
+    requires fits { min budget (size * prec + size) ≤ out.old.room }
+    ensures bits { Appends out.old out.new (take budget (code (take prec (planes_held size (map P.words planes.now))))) }
+    ensures count { result ≡ min budget (length (code (take prec (planes_held size (map P.words planes.now))))) }
 {
     let mut left = budget;
     let mut above = 0;
     for i in 0..prec as usize {
-        unpack(&planes[planes.len() - 1 - i], digits);
-        left = write_plane(left, above, digits, out);
-        above = above.max(reach_of(digits));
+        let plane = &planes[planes.len() - 1 - i];
+        let end = reach_in(plane, size);
+        left = write_plane(left, above, size, end, plane, out);
+        above = above.max(end);
     }
     budget - left
 }
@@ -90,6 +123,5 @@ pub fn encode(budget: u64, prec: u32, size: usize, planes: &[[u64; 4]], out: &mu
     ensures bits { Appends out.old out.new (take budget (code (take prec (planes_held size planes.now)))) }
     ensures count { result ≡ min budget (length (code (take prec (planes_held size planes.now)))) }
 {
-    let mut digits = [false; MOST_DIGITS];
-    write_planes(budget, prec, planes, &mut digits[..size], out)
+    write_planes(budget, prec, size, planes, out)
 }

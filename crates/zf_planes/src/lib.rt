@@ -5,11 +5,13 @@ mod decoding;
 mod encoding;
 mod measuring;
 mod plane;
+mod words;
 
 pub use decoding::decode;
-pub use encoding::encode;
+pub use encoding::{encode, write_planes};
 pub use measuring::code_len;
 pub use plane::used_planes;
+pub use words::Plane;
 
 #[cfg(test)]
 mod tests;

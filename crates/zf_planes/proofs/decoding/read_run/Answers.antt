@@ -1,80 +1,117 @@
-use Rattle.std.proofs.Common.{◌≡◌, ℕ, suc, ◌+◌, ◌-◌, inl, inr, Bool, false, List, [], ◌∷◌, ◌++◌, replicate, sym, ap, ◌∙◌, arith}
-use Rattle.std.proofs.lemmas.List.{replicate_more, append_assoc}
+use Rattle.std.proofs.Common.{◌≡◌, ℕ, suc, ◌+◌, ◌-◌, ◌<◌, ◌≤◌, inl, inr, Bool, true, false, List, [], ◌∷◌, ◌++◌, length, drop, replicate, refl, sym, ap, ◌∙◌, arith}
+use Rattle.std.specs.Int.{w64, trailing_zeros}
 use Rattle.zf_bits.specs.Reader.{rest}
-use Rattle.zf_planes.specs.Decoding.{run_ahead, run_bits}
-use Rattle.zf_planes.proofs.Passing.{Passes-bit, Passes-lacks, Lacks-bit, if_none}
-use Rattle.zf_planes.proofs.Steps.{run_stands, run_one, run_zero, run_short}
+use Rattle.zf_planes.specs.Decoding.{run_ahead, run_bits, tail_ahead, tail_bits}
+use Rattle.zf_planes.proofs.Passing.{Passes-part, Passes-lacks, Takes-rest}
+use Rattle.zf_planes.proofs.Peeking.{zeros_ahead, one_ahead, run_zeros, replicate_both, Takes-skip}
+use Rattle.zf_planes.proofs.Steps.{run_stands, run_one, run_short}
 use Rattle.zf_planes.proofs.decoding.read_run.Goals as goal
-
--- ---- the budget ends
-
-pub returns-then-left-eq0-clause-bits : goal.returns-then-left-eq0-clause-bits
-returns-then-left-eq0-clause-bits c =
-    let stands = run_stands c.loop-zeros.left (c.args.most - c.loop-zeros.zeros) (rest c.loop-zeros.reader) (omega arith) (inl c.if-left-eq0.true) in
-    omega (arith, stands.0, c.loop-zeros.invariant.passes.sum)
-
-pub returns-then-left-eq0-clause-digits : goal.returns-then-left-eq0-clause-digits
-returns-then-left-eq0-clause-digits c =
-    let stands = run_stands c.loop-zeros.left (c.args.most - c.loop-zeros.zeros) (rest c.loop-zeros.reader) (omega arith) (inl c.if-left-eq0.true) in
-    c.loop-zeros.invariant.digits ∙ ap (λ (ds : List Bool). replicate c.loop-zeros.zeros false ++ ds) stands.1
 
 -- ---- the bits end
 
-pub returns-in_err-read_bit-clause-short : goal.returns-in_err-read_bit-clause-short
-returns-in_err-read_bit-clause-short c =
-    let none = c.in_err-read_bit.ensures.at_end in
-    let needed = run_short c.loop-zeros.left (c.args.most - c.loop-zeros.zeros) (rest c.loop-zeros.reader) (omega arith) (omega arith) none in
-    if_none _ (Passes-lacks c.loop-zeros.invariant.passes (Lacks-bit c.in_err-read_bit.ensures.none none) needed)
+empty : (s : List Bool) → length s ≡ 0 → s ≡ []
+empty [] none = refl
+empty (b ∷ s) none = absurd (omega arith)
+
+pub returns-then-ahead-eq0-clause-short : goal.returns-then-ahead-eq0-clause-short
+returns-then-ahead-eq0-clause-short c =
+    let s = rest c.loop-zeros.reader in
+    let none : length s ≡ 0 = omega (arith, c.if-ahead-eq0.true, c.min-ahead.ensures, c.min-in-loop-zeros.ensures, c.min.ensures, c.left.ensures.count, c.if-left-gt0.true, c.loop-zeros-test.true) in
+    let needed = run_short c.loop-zeros.left (c.args.most - c.loop-zeros.zeros) s c.if-left-gt0.true (omega (arith, c.loop-zeros-test.true)) (empty s none) in
+    Passes-lacks c.loop-zeros.invariant.passes (record { few = omega arith; all = refl }) needed
 
 -- ---- the one
 
-pub returns-then-branch-clause-bits : goal.returns-then-branch-clause-bits
-returns-then-branch-clause-bits c =
-    let behind = rest c.read_bit.new.self in
-    let here = c.in_ok-read_bit.ensures.reads.next ∙ ap (λ b. b ∷ behind) c.if-branch.true in
-    let one = run_one c.loop-zeros.left (c.args.most - c.loop-zeros.zeros) (rest c.loop-zeros.reader) behind (omega arith) (omega arith) here in
-    omega (arith, one.0, c.loop-zeros.invariant.passes.sum, c.loop-zeros.invariant.passes.within)
+-- what a run makes of so many zeros and a one
+zeros_and_one : (k left m : ℕ) (s : List Bool) → k < left → k + 1 < m → s ≡ replicate k false ++ true ∷ drop (k + 1) s
+    → (run_bits left m s ≡ k + 1 + tail_bits (left - k - 1) (m - k - 1) (drop (k + 1) s)) × (run_ahead left m s ≡ replicate k false ++ true ∷ tail_ahead (left - k - 1) (m - k - 1) (drop (k + 1) s))
+zeros_and_one k left m s within below split =
+    let t = drop (k + 1) s in
+    let zeros = run_zeros k left m s (true ∷ t) (omega arith) (omega arith) split in
+    let one = run_one (left - k) (m - k) (true ∷ t) t (omega arith) (omega arith) refl in
+    (omega (arith, zeros.0, one.0), zeros.1 ∙ ap (λ (ds : List Bool). replicate k false ++ ds) one.1)
 
-pub returns-then-branch-clause-digits : goal.returns-then-branch-clause-digits
-returns-then-branch-clause-digits c =
-    let behind = rest c.read_bit.new.self in
-    let here = c.in_ok-read_bit.ensures.reads.next ∙ ap (λ b. b ∷ behind) c.if-branch.true in
-    let one = run_one c.loop-zeros.left (c.args.most - c.loop-zeros.zeros) (rest c.loop-zeros.reader) behind (omega arith) (omega arith) here in
-    c.loop-zeros.invariant.digits ∙ ap (λ (ds : List Bool). replicate c.loop-zeros.zeros false ++ ds) one.1
+pub returns-then-count-ahead-clause-bits : goal.returns-then-count-ahead-clause-bits
+returns-then-count-ahead-clause-bits c =
+    let z = c.loop-zeros.zeros in
+    let left = c.loop-zeros.left in
+    let k = c.min-count.result in
+    let s = rest c.loop-zeros.reader in
+    let split = one_ahead s c.peek.result k c.peek.ensures c.peek.type_inv (omega (arith, c.min-count.ensures, c.from.ensures, c.if-count-ahead.true))
+    (omega (arith, c.if-count-ahead.true, c.min-ahead.ensures)) (omega (arith, c.if-count-ahead.true, c.min-ahead.ensures, c.min-in-loop-zeros.ensures, c.min.ensures, c.left.ensures.count)) in
+    let both = zeros_and_one k left (c.args.most - z) s (omega (arith, c.if-count-ahead.true, c.min-ahead.ensures, c.min-in-loop-zeros.ensures, c.min.ensures))
+    (omega (arith, c.if-count-ahead.true, c.min-ahead.ensures, c.min-in-loop-zeros.ensures)) split in
+    let passed = Takes-skip left (k + 1) (omega (arith, c.if-count-ahead.true, c.min-ahead.ensures, c.min-in-loop-zeros.ensures, c.min.ensures))
+    (omega (arith, c.if-count-ahead.true, c.min-ahead.ensures, c.min-in-loop-zeros.ensures, c.min.ensures, c.left.ensures.count)) c.skip.ensures in
+    let place : c.args.most - z - k - 1 ≡ c.args.most - (z + k) - 1 = omega arith in
+    let same = ap (λ n. tail_bits (left - k - 1) n (drop (k + 1) s)) place ∙ ap (tail_bits (left - k - 1) (c.args.most - (z + k) - 1)) (sym (Takes-rest passed)) in
+    omega (arith, both.0, same, c.loop-zeros.invariant.passes.sum, c.loop-zeros.invariant.passes.within, passed.spent)
 
--- ---- a zero
+pub returns-then-count-ahead-clause-digits : goal.returns-then-count-ahead-clause-digits
+returns-then-count-ahead-clause-digits c =
+    let z = c.loop-zeros.zeros in
+    let left = c.loop-zeros.left in
+    let k = c.min-count.result in
+    let s = rest c.loop-zeros.reader in
+    let split = one_ahead s c.peek.result k c.peek.ensures c.peek.type_inv (omega (arith, c.min-count.ensures, c.from.ensures, c.if-count-ahead.true))
+    (omega (arith, c.if-count-ahead.true, c.min-ahead.ensures)) (omega (arith, c.if-count-ahead.true, c.min-ahead.ensures, c.min-in-loop-zeros.ensures, c.min.ensures, c.left.ensures.count)) in
+    let both = zeros_and_one k left (c.args.most - z) s (omega (arith, c.if-count-ahead.true, c.min-ahead.ensures, c.min-in-loop-zeros.ensures, c.min.ensures))
+    (omega (arith, c.if-count-ahead.true, c.min-ahead.ensures, c.min-in-loop-zeros.ensures)) split in
+    let passed = Takes-skip left (k + 1) (omega (arith, c.if-count-ahead.true, c.min-ahead.ensures, c.min-in-loop-zeros.ensures, c.min.ensures))
+    (omega (arith, c.if-count-ahead.true, c.min-ahead.ensures, c.min-in-loop-zeros.ensures, c.min.ensures, c.left.ensures.count)) c.skip.ensures in
+    let place : c.args.most - z - k - 1 ≡ c.args.most - (z + k) - 1 = omega arith in
+    let same = ap (λ n. tail_ahead (left - k - 1) n (drop (k + 1) s)) place ∙ ap (tail_ahead (left - k - 1) (c.args.most - (z + k) - 1)) (sym (Takes-rest passed)) in
+    c.loop-zeros.invariant.digits
+    ∙ ap (λ (ds : List Bool). replicate z false ++ ds) (both.1 ∙ ap (λ (ds : List Bool). replicate k false ++ true ∷ ds) same)
+    ∙ replicate_both z k (true ∷ tail_ahead (left - k - 1) (c.args.most - (z + k) - 1) (rest c.skip.new.self))
 
-zero_more : (z : ℕ) (ds : List Bool) → replicate z false ++ (false ∷ ds) ≡ replicate (z + 1) false ++ ds
-zero_more z ds = sym (append_assoc (replicate z false) (false ∷ []) ds) ∙ ap (λ (es : List Bool). es ++ ds) (replicate_more z false)
+-- ---- only zeros
 
 pub loop-zeros-preserved : goal.loop-zeros-preserved
 loop-zeros-preserved c =
     let z = c.loop-zeros.zeros in
     let left = c.loop-zeros.left in
-    let behind = rest c.read_bit.new.self in
+    let k = c.min-count.result in
+    let m = c.args.most - z in
+    let s = rest c.loop-zeros.reader in
     let before = c.loop-zeros.invariant in
-    let here = c.in_ok-read_bit.ensures.reads.next ∙ ap (λ b. b ∷ behind) c.if-branch.false in
-    let zero = run_zero left (c.args.most - z) (rest c.loop-zeros.reader) behind (omega arith) (omega arith) here in
-    let fewer : c.args.most - z - 1 ≡ c.args.most - (z + 1) = omega arith in
+    let in_budget : k ≤ left = omega (arith, c.min-count.ensures, c.min-ahead.ensures, c.min-in-loop-zeros.ensures, c.min.ensures) in
+    let there : k ≤ length s = omega (arith, c.min-count.ensures, c.min-ahead.ensures, c.min-in-loop-zeros.ensures, c.min.ensures, c.left.ensures.count) in
+    let below : k < m = omega (arith, c.min-count.ensures, c.min-ahead.ensures, c.min-in-loop-zeros.ensures, c.loop-zeros-test.true) in
+    let split = zeros_ahead s c.peek.result k c.peek.ensures c.peek.type_inv (omega (arith, c.min-count.ensures, c.from.ensures)) (omega (arith, c.min-count.ensures, c.min-ahead.ensures)) there in
+    let zeros = run_zeros k left m s (drop k s) in_budget below split in
+    let passed = Takes-skip left k in_budget there c.skip-in-loop-zeros.ensures in
+    let behind = rest c.skip-in-loop-zeros.new.self in
+    let fewer : m - k ≡ c.args.most - (z + k) = omega arith in
+    let bits = ap (λ n. run_bits (left - k) n (drop k s)) fewer ∙ ap (run_bits (left - k) (c.args.most - (z + k))) (sym (Takes-rest passed)) in
+    let digits = ap (λ n. run_ahead (left - k) n (drop k s)) fewer ∙ ap (run_ahead (left - k) (c.args.most - (z + k))) (sym (Takes-rest passed)) in
     record {
-      passes = Passes-bit (run_bits (left - 1) (c.args.most - (z + 1)) behind) before.passes (zero.0 ∙ ap (λ m. suc (run_bits (left - 1) m behind)) fewer) (omega arith) c.in_ok-read_bit.ensures.reads;
+      passes = Passes-part (run_bits (left - k) (c.args.most - (z + k)) behind) before.passes (omega (arith, zeros.0, bits)) passed;
       digits =
           before.digits
-          ∙ ap (λ (ds : List Bool). replicate z false ++ ds) (zero.1 ∙ ap (λ m. false ∷ run_ahead (left - 1) m behind) fewer)
-          ∙ zero_more z (run_ahead (left - 1) (c.args.most - (z + 1)) behind);
+          ∙ ap (λ (ds : List Bool). replicate z false ++ ds) (zeros.1 ∙ ap (λ (ds : List Bool). replicate k false ++ ds) digits)
+          ∙ replicate_both z k (run_ahead (left - k) (c.args.most - (z + k)) behind);
+      within = omega (arith, below);
     }
 
--- ---- the last rank
+-- ---- the one has no bit
 
-pub returns-clause-bits : goal.returns-clause-bits
-returns-clause-bits c =
-    let z : c.loop-zeros.zeros ≡ c.args.most - 1 = omega arith in
-    let stands = run_stands c.loop-zeros.left (c.args.most - c.loop-zeros.zeros) (rest c.loop-zeros.reader) (omega arith) (inr (omega arith)) in
-    let sum = c.loop-zeros.invariant.passes.sum in
-    rw (← z) (omega (arith, stands.0, sum))
+pub returns-else-left-gt0-clause-bits : goal.returns-else-left-gt0-clause-bits
+returns-else-left-gt0-clause-bits c =
+    let stands = run_stands c.loop-zeros.left (c.args.most - c.loop-zeros.zeros) (rest c.loop-zeros.reader) (omega (arith, c.loop-zeros.invariant.within)) (inl (omega (arith, c.if-left-gt0.false))) in
+    omega (arith, stands.0, c.loop-zeros.invariant.passes.sum)
 
-pub returns-clause-digits : goal.returns-clause-digits
-returns-clause-digits c =
-    let z : c.loop-zeros.zeros ≡ c.args.most - 1 = omega arith in
-    let stands = run_stands c.loop-zeros.left (c.args.most - c.loop-zeros.zeros) (rest c.loop-zeros.reader) (omega arith) (inr (omega arith)) in
-    rw (← z) (c.loop-zeros.invariant.digits ∙ ap (λ (ds : List Bool). replicate c.loop-zeros.zeros false ++ ds) stands.1)
+pub returns-else-left-gt0-clause-digits : goal.returns-else-left-gt0-clause-digits
+returns-else-left-gt0-clause-digits c =
+    let stands = run_stands c.loop-zeros.left (c.args.most - c.loop-zeros.zeros) (rest c.loop-zeros.reader) (omega (arith, c.loop-zeros.invariant.within)) (inl (omega (arith, c.if-left-gt0.false))) in
+    c.loop-zeros.invariant.digits ∙ ap (λ (ds : List Bool). replicate c.loop-zeros.zeros false ++ ds) stands.1
+
+pub returns-after-loop-zeros-clause-bits : goal.returns-after-loop-zeros-clause-bits
+returns-after-loop-zeros-clause-bits c =
+    let stands = run_stands c.loop-zeros.left (c.args.most - c.loop-zeros.zeros) (rest c.loop-zeros.reader) (omega (arith, c.loop-zeros.invariant.within)) (inr (omega (arith, c.loop-zeros-test.false, c.loop-zeros.invariant.within))) in
+    omega (arith, stands.0, c.loop-zeros.invariant.passes.sum)
+
+pub returns-after-loop-zeros-clause-digits : goal.returns-after-loop-zeros-clause-digits
+returns-after-loop-zeros-clause-digits c =
+    let stands = run_stands c.loop-zeros.left (c.args.most - c.loop-zeros.zeros) (rest c.loop-zeros.reader) (omega (arith, c.loop-zeros.invariant.within)) (inr (omega (arith, c.loop-zeros-test.false, c.loop-zeros.invariant.within))) in
+    c.loop-zeros.invariant.digits ∙ ap (λ (ds : List Bool). replicate c.loop-zeros.zeros false ++ ds) stands.1

@@ -1,13 +1,47 @@
-use Rattle.std.proofs.Common.{take, drop, sym}
-use Rattle.std.proofs.lemmas.List.{take_rest}
+use Rattle.std.proofs.Common.{◌≡◌, ℕ, List, ◌-◌, ◌*◌, ◌≤◌, ap, length, take, drop, sym, arith, length-append, length-take}
 use Rattle.zf_spec.specs.Planes.{tail}
+use Rattle.zf_spec.specs.HeldPlanes.{digits_held}
+use Rattle.zf_spec.proofs.HeldPlanes.{length-digits_held}
 use Rattle.zf_planes.proofs.Budgets.{take_append}
+use Rattle.zf_planes.proofs.Digits.{held_front}
 use Rattle.zf_bits.proofs.Appending.{Appends-append, Appends-same}
 use Rattle.zf_planes.proofs.encoding.write_plane.Goals as goal
 
-pub returns-clause-bits : goal.returns-clause-bits
-returns-clause-bits c =
+-- the digits that were written are the first n of the plane
+front_long : (size n k : ℕ) (ws : List ℕ) → size ≤ 64 * k → length ws ≡ k → n ≤ size → length (take n (digits_held size ws)) ≡ n
+front_long size n k ws words long within = omega (arith, length-take n (digits_held size ws), length-digits_held size ws (omega arith))
+
+pub write_part-left-requires-clause-fits : goal.write_part-left-requires-clause-fits
+write_part-left-requires-clause-fits g c =
     let n = c.args.n in
-    let ds = c.args.digits.now in
-    let second = rw (take_rest ds n, c.write_digits-left.ensures.left) at c.write_tail.ensures.bits in
-    Appends-same (Appends-append c.write_digits-left.ensures.bits second) (sym (take_append c.args.left (take n ds) (tail (drop n ds))))
+    let ws = g.P.Plane.words c.args.plane.now in
+    let ds = digits_held c.args.size ws in
+    omega (arith, c.requires.fits, length-append (take n ds) (tail (drop n ds)), front_long c.args.size n _ ws c.requires.words (g.met.P.Plane.long c.args.plane.now) c.requires.in_plane)
+
+pub write_tail-requires-clause-fits : goal.write_tail-requires-clause-fits
+write_tail-requires-clause-fits g c =
+    let n = c.args.n in
+    let ws = g.P.Plane.words c.args.plane.now in
+    let ds = digits_held c.args.size ws in
+    let first = Appends-same c.write_part-left.ensures.bits (ap (take c.args.left) (held_front c.args.size n ws c.requires.in_plane)) in
+    omega (arith, c.requires.fits, length-append (take n ds) (tail (drop n ds)), front_long c.args.size n _ ws c.requires.words (g.met.P.Plane.long c.args.plane.now) c.requires.in_plane,
+    first.room, length-take c.args.left (take n ds), c.write_part-left.ensures.left)
+
+pub returns-clause-bits : goal.returns-clause-bits
+returns-clause-bits g c =
+    let n = c.args.n in
+    let ws = g.P.Plane.words c.args.plane.now in
+    let ds = digits_held c.args.size ws in
+    let first = Appends-same c.write_part-left.ensures.bits (ap (take c.args.left) (held_front c.args.size n ws c.requires.in_plane)) in
+    let spent : c.write_part-left.result ≡ c.args.left - length (take n ds) =
+    omega (arith, c.write_part-left.ensures.left, front_long c.args.size n _ ws c.requires.words (g.met.P.Plane.long c.args.plane.now) c.requires.in_plane) in
+    let second = rw spent at c.write_tail.ensures.bits in
+    Appends-same (Appends-append first second) (sym (take_append c.args.left (take n ds) (tail (drop n ds))))
+
+pub returns-clause-left : goal.returns-clause-left
+returns-clause-left g c =
+    let n = c.args.n in
+    let ws = g.P.Plane.words c.args.plane.now in
+    let ds = digits_held c.args.size ws in
+    omega (arith, c.write_part-left.ensures.left, c.write_tail.ensures.left, length-append (take n ds) (tail (drop n ds)),
+    front_long c.args.size n _ ws c.requires.words (g.met.P.Plane.long c.args.plane.now) c.requires.in_plane)

@@ -1,14 +1,14 @@
 -- The code of the planes from the i-th on remains to be written.
-use Rattle.std.proofs.Common.{length, ◌≤◌, take, drop}
+use Rattle.std.proofs.Common.{map, ◌≤◌, take, drop}
 use Rattle.zf_spec.specs.Planes.{code, code_from}
 use Rattle.zf_spec.specs.HeldPlanes.{planes_held}
 use Rattle.zf_planes.proofs.Budgets.{Remains}
 use Rattle.zf_planes.proofs.encoding.write_planes.Given as goal
 
 abbrev pub invariant-loop-i : goal.invariant-loop-i
-invariant-loop-i l =
-    let planes = take l.prec (planes_held (length l.fn.digits) l.planes) in
+invariant-loop-i g l =
+    let planes = take l.prec (planes_held l.size (map g.P.Plane.words l.planes)) in
     record {
       remains : Remains l.fn.out l.out l.budget l.left (code planes) (code_from l.above (drop l.i planes));
-      above : l.above ≤ length l.digits;
+      above : l.above ≤ l.size;
     }
