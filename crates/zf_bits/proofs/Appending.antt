@@ -1,8 +1,7 @@
 -- One append after another.
-use Rattle.std.proofs.Common.{◌≡◌, ◌+◌, ◌-◌, ◌%◌, ◌<◌, Bool, List, [], ◌++◌, length, refl, sym, ap, subst, ◌∙◌, arith, append_assoc, length-append}
-use Rattle.std.proofs.lemmas.List.{append-nil, length-replicate}
+use Rattle.std.proofs.Common.{◌≡◌, ◌+◌, Bool, List, [], ◌++◌, length, sym, ap, subst, ◌∙◌, arith, append_assoc, length-append}
+use Rattle.std.proofs.lemmas.List.{append-nil}
 use Rattle.zf_bits.specs.Writer.{Writer, Appends}
-use Rattle.zf_spec.proofs.Bytes.{length-fill}
 
 -- nothing was appended
 pub Appends-nil : (w : Writer) → Appends w w []

@@ -1,12 +1,11 @@
 -- One bit as a digit; what is short, cut or one longer of the bits of a number.
-use Rattle.std.proofs.Common.{◌≡◌, ℕ, ◌+◌, ◌*◌, ◌/◌, ◌%◌, ◌^◌, ◌<◌, ◌≤◌, Bool, true, false, List, [], ◌∷◌, ◌++◌, length, take, drop, refl, ap, sym, ◌∙◌, arith}
-use Rattle.std.proofs.Math.Nat.{mod-eq_of_lt}
-use Rattle.std.proofs.lemmas.Bool.Decides.{nat_tests}
-use Rattle.std.proofs.lemmas.Nat.{mod-pow-add, mod_low, mod_below, pow_pos}
+use Rattle.std.proofs.Common.{◌≡◌, ℕ, ◌+◌, ◌*◌, ◌/◌, ◌%◌, ◌^◌, ◌<◌, ◌≤◌, Bool, true, false, List, [], ◌∷◌, ◌++◌, length, take, drop, refl, ap, sym, ◌∙◌, arith, length-append, lit<}
+use Rattle.std.proofs.Math.Nat.{mod-eq_of_lt, mul_comm, pow-le-pow_right}
+use Rattle.std.proofs.lemmas.Nat.{mod-pow-add, mod_low, mod_below, pow_pos, shl_whole}
 use Rattle.std.proofs.lemmas.List.{take_at, drop_at}
 use Rattle.std.specs.Int.{from_bool}
 use Rattle.zf_spec.specs.Numbers.{is_odd, digit_value, field, number}
-use Rattle.zf_spec.proofs.Fields.{length-field, number-field, field-number, field-add}
+use Rattle.zf_spec.proofs.Fields.{length-field, number-field, number-lt, number-append, field-number, field-add}
 
 -- ---- one bit
 
@@ -30,6 +29,17 @@ same_from_field n u v h k e = sym (number-field_whole n u h) ∙ ap number e ∙
 pub same_from_number : (xs ys : List Bool) → length xs ≡ length ys → number xs ≡ number ys → xs ≡ ys
 same_from_number xs ys l e =
     sym (field-number (length xs) xs refl) ∙ ap (field (length xs)) e ∙ field-number (length xs) ys (sym l)
+
+-- the sum that a loop makes, in a word of 64
+pub number_more : (bits : List Bool) (bit : Bool) (i digit : ℕ) → length bits ≡ i → i < 64 → digit ≡ from_bool bit → (number bits + digit * 2 ^ i % 2 ^ 64 ≡ number (bits ++ bit ∷ [])) × (number (bits ++ bit ∷ []) < 2 ^ 64)
+number_more bits bit i digit count within is_digit =
+    let same : digit ≡ digit_value bit = is_digit ∙ from_bool-digit_value bit in
+    let whole = shl_whole digit 1 i 64 (omega (arith, digit_value_le bit)) (omega arith) in
+    let product : 2 ^ i * digit_value bit ≡ digit * 2 ^ i = mul_comm (2 ^ i) (digit_value bit) ∙ ap (λ d. d * 2 ^ i) (sym same) in
+    let sum : number (bits ++ bit ∷ []) ≡ number bits + digit * 2 ^ i =
+    number-append bits (bit ∷ []) ∙ rw count (omega (arith, product)) in
+    let wide : length (bits ++ bit ∷ []) ≤ 64 = omega (arith, length-append bits (bit ∷ [])) in
+    (omega (arith, whole, sum), omega (arith, number-lt (bits ++ bit ∷ []), pow-le-pow_right {n = 2} (lit< tt) wide))
 
 -- ---- fields end to end
 

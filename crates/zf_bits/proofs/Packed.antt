@@ -1,16 +1,16 @@
 -- The bits of bytes are the bits of their words, and then zeros.
-use Rattle.std.proofs.Common.{◌≡◌, ℕ, zero, suc, ◌+◌, ◌-◌, ◌*◌, ◌%◌, ◌^◌, ◌<◌, ◌≤◌, false, List, [], ◌∷◌, ◌++◌, length, get_or, take, drop, replicate, min, refl, sym, ap, ◌∙◌, arith, append_assoc, length-append, length-drop, lit<}
+use Rattle.std.proofs.Common.{◌≡◌, ℕ, zero, suc, ◌+◌, ◌-◌, ◌*◌, ◌%◌, ◌^◌, ◌<◌, ◌≤◌, false, List, [], ◌∷◌, ◌++◌, length, get_or, take, drop, replicate, All, min, refl, sym, ap, ◌∙◌, arith, append_assoc, length-append, length-drop, lit<}
 use Rattle.std.specs.List.{flat_map}
-use Rattle.std.specs.Int.{w64, byte_worth, sum_through, div_ceil, from_le_bytes}
+use Rattle.std.specs.Int.{w64, byte_worth, sum_through, div_ceil, from_le_bytes, to_le_bytes}
 use Rattle.std.proofs.Math.Nat.{pow-suc, mul-suc, mod-eq_of_lt}
 use Rattle.std.proofs.lemmas.List.{append-nil, take_at, drop_all, drop_at, get_or-drop, replicate-append-replicate}
+use Rattle.std.proofs.lemmas.List.Elements.{All-head, All-tail, All-nil, All-append}
 use Rattle.std.proofs.lemmas.List.Concat.{flat_map-append}
 use Rattle.zf_spec.specs.Numbers.{field, number, word_bits}
-use Rattle.zf_spec.specs.Stream.{first_bytes, with_fill, to_bits}
+use Rattle.zf_spec.specs.Stream.{first_bytes, with_fill, to_bits, to_bytes}
 use Rattle.zf_bits.specs.Packing.{word_of, words_from, words_of}
 use Rattle.zf_spec.proofs.Fields.{length-field, number-field, number-append, field-number, field-zero}
-use Rattle.zf_spec.proofs.WordBits.{length-flat_map-field}
-use Rattle.zf_spec.proofs.Bytes.{length-first_bytes, length-to_bits}
+use Rattle.zf_spec.proofs.Bytes.{length-first_bytes, length-to_bits, first_bytes-all, length-to_le_bytes, to_le_bytes_small, from_le_bytes-to_le_bytes, to_bytes-to_bits}
 
 -- ---- bytes, continued with zero bytes
 
@@ -75,7 +75,7 @@ field-word_of s bytes =
     let count : length (to_bits whole) ≡ 64 = omega (arith, length-to_bits whole, length-first_bytes 8 s) in
     ap (field 64) (sym value) ∙ field-number 64 (to_bits whole) count
 
-flat_map-field-replicate : (w n : ℕ) → flat_map (field w) (replicate n 0) ≡ replicate (w * n) false
+pub flat_map-field-replicate : (w n : ℕ) → flat_map (field w) (replicate n 0) ≡ replicate (w * n) false
 flat_map-field-replicate w zero = let none : w * zero ≡ zero = omega arith in rw none refl
 flat_map-field-replicate w (suc n) =
     let more : w * suc n ≡ w + w * n = omega (arith, mul-suc w n) in
@@ -144,3 +144,38 @@ words_of-append piece [] count some =
     rw (append-nil piece) (words_of-last piece (omega (arith, length-append piece [])) (omega arith))
 words_of-append piece (b ∷ rest) count some =
     words_of-whole piece (b ∷ rest) (omega (arith, length-append piece (b ∷ rest)))
+
+-- ---- the bytes of words
+
+pub flat_map-push : (f : ℕ → List ℕ) (xs : List ℕ) (x : ℕ) → flat_map f (xs ++ x ∷ []) ≡ flat_map f xs ++ f x
+flat_map-push f xs x = flat_map-append f xs (x ∷ []) ∙ ap (λ bs. flat_map f xs ++ bs) (append-nil (f x))
+
+-- the bits of a word's bytes are the word's
+to_bits-to_le_bytes : (v : ℕ) → v < 2 ^ 64 → to_bits (to_le_bytes w64 v) ≡ field 64 v
+unfolding word_of
+to_bits-to_le_bytes v small =
+    let bytes = to_le_bytes w64 v in
+    let long : 8 ≡ length bytes = sym (length-to_le_bytes w64 v) in
+    let whole : first_bytes 8 bytes ≡ bytes = ap (λ n. first_bytes n bytes) long ∙ first_bytes-all bytes in
+    let value : word_of bytes ≡ v = ap (from_le_bytes w64) whole ∙ from_le_bytes-to_le_bytes w64 v small in
+    sym (ap (field 64) (sym value) ∙ field-word_of bytes (λ i. below_all i bytes (to_le_bytes_small w64 v)) ∙ ap to_bits whole)
+  where
+    below_all : (i : ℕ) (bs : List ℕ) → All (λ b. b < 256) bs → get_or bs i 0 < 256
+    below_all i [] all = lit< tt
+    below_all zero (b ∷ bs) all = All-head (λ b. b < 256) b bs all
+    below_all (suc i) (b ∷ bs) all = below_all i bs (All-tail (λ b. b < 256) b bs all)
+
+-- the bytes of words, one word after another, are those of all their bits
+pub bytes-words : (words : List ℕ) → All (λ v. v < 2 ^ 64) words → flat_map (to_le_bytes w64) words ≡ to_bytes (word_bits words)
+bytes-words words small = sym (to_bytes-to_bits (flat_map (to_le_bytes w64) words) (small_bytes words)) ∙ ap to_bytes (same_bits words small)
+  where
+    small_bytes : (ws : List ℕ) → All (λ b. b < 256) (flat_map (to_le_bytes w64) ws)
+    small_bytes [] = All-nil (λ b. b < 256)
+    small_bytes (v ∷ ws) = All-append (λ b. b < 256) (to_le_bytes w64 v) (flat_map (to_le_bytes w64) ws) (to_le_bytes_small w64 v) (small_bytes ws)
+
+    same_bits : (ws : List ℕ) → All (λ v. v < 2 ^ 64) ws → to_bits (flat_map (to_le_bytes w64) ws) ≡ word_bits ws
+    same_bits [] all = refl
+    same_bits (v ∷ ws) all =
+        flat_map-append (field 8) (to_le_bytes w64 v) (flat_map (to_le_bytes w64) ws)
+        ∙ ap (λ bs. bs ++ to_bits (flat_map (to_le_bytes w64) ws)) (to_bits-to_le_bytes v (All-head (λ v. v < 2 ^ 64) v ws all))
+        ∙ ap (λ bs. field 64 v ++ bs) (same_bits ws (All-tail (λ v. v < 2 ^ 64) v ws all))

@@ -3,8 +3,10 @@
 
 mod packing;
 mod reader;
+mod slots;
 mod writer;
 
-pub use packing::words_of_bytes;
+pub use packing::{bytes_of_words, words_of_bytes};
 pub use reader::BitReader;
+pub use slots::{get_bits, put_bits};
 pub use writer::BitWriter;

@@ -1,8 +1,8 @@
-//! Bytes as words of 64.
+//! Bytes as words of 64, and words as bytes.
 ghost use Rattle.std.specs.Prelude.{◌≡◌, ◌≤◌, length, vec_len, IfOk};
 ghost use Rattle.std.specs.Int.{div_ceil};
 ghost use Rattle.zf_spec.specs.Numbers.{word_bits};
-ghost use Rattle.zf_spec.specs.Stream.{with_fill, to_bits};
+ghost use Rattle.zf_spec.specs.Stream.{with_fill, to_bits, to_bytes};
 ghost use Rattle.zf_bits.specs.Packing.{word_of, words_of};
 
 use std::alloc::{AllocError, Global};
@@ -32,6 +32,17 @@ fn word(bytes: &[u8]) -> u64
     u64::from_le_bytes(whole)
 }
 
+/// The bytes of words, the least significant byte of each word first.
+pub fn bytes_of_words(alloc: Global, words: &[u64]) -> Result<Vec<u8>, AllocError>
+    ensures { IfOk result (λ bytes. bytes.items ≡ to_bytes (word_bits words.now)) }
+{
+    let mut bytes = Vec::with_capacity(alloc, 8 * words.len())?;
+    for word in words {
+        bytes.extend_from_slice(&word.to_le_bytes())?;
+    }
+    Ok(bytes)
+}
+
 #[cfg(test)]
 mod tests {
     use super::*;
@@ -46,6 +57,9 @@ mod tests {
         assert_eq!(rt; words.as_slice(), [0x0570667a, 0x1f_8800_0000].as_slice());
         let none = words_of_bytes(rt.alloc(), &[])?;
         assert!(rt; none.is_empty());
+        let back = bytes_of_words(rt.alloc(), &words)?;
+        assert_eq!(rt; &back[..13], bytes.as_slice());
+        assert_eq!(rt; &back[13..], [0, 0, 0].as_slice());
         Ok(())
     }
 }

@@ -1,8 +1,9 @@
 //! A place in the bits of words.
-ghost use Rattle.std.specs.Prelude.{◌≡◌, ◌+◌, ◌*◌, ◌<◌, ◌≤◌, [], ◌∷◌, length, take, IfSome, IfNone};
+ghost use Rattle.std.specs.Prelude.{◌≡◌, ◌+◌, ◌*◌, ◌^◌, ◌<◌, ◌≤◌, [], ◌∷◌, length, take, IfSome, IfNone};
 ghost use Rattle.zf_spec.specs.Numbers.{field, number, word_bits};
 ghost use Rattle.zf_bits.specs.Reader.{rest, Reads};
 
+use crate::slots::{bits_from, get_bits};
 use std::marker::Model;
 
 /// Reads the bits of words from a place on. Contracts see all the bits and the place.
@@ -44,9 +45,11 @@ impl<'a> BitReader<'a> {
     }
 
     /// The number of bits that are left.
+    #[inline]
     pub fn left(&self) -> u64
         ensures count { result ≡ length (rest self.now) }
         ensures within { self.now.at + result ≡ length self.now.all }
+        ensures fits { length self.now.all < 2 ^ 64 }
     {
         self.bits - self.at
     }
@@ -60,6 +63,7 @@ impl<'a> BitReader<'a> {
     }
 
     /// The next bit, or `None` at the end.
+    #[inline]
     pub fn read_bit(&mut self) -> Option<bool>
         ensures reads { IfSome result (λ bit. Reads self.old self.new (bit ∷ [])) }
         ensures none { IfNone result (self.new ≡ self.old) }
@@ -72,6 +76,7 @@ impl<'a> BitReader<'a> {
     }
 
     /// The next `n` bits as a number, the least significant first, or `None` where fewer are left.
+    #[inline]
     pub fn read(&mut self, n: u32) -> Option<u64>
         requires { n ≤ 64 }
         ensures reads { IfSome result (λ v. Reads self.old self.new (field n v)) }
@@ -79,30 +84,24 @@ impl<'a> BitReader<'a> {
         ensures none { IfNone result (self.new ≡ self.old) }
         ensures short { IfNone result (length (rest self.old) < n) }
     {
-        if self.left() < n as u64 {
+        if self.left() < u64::from(n) {
             return None;
         }
-        let mut value = 0;
-        for i in 0..n {
-            value += u64::from(self.next_bit()) << i;
-        }
+        let value = get_bits(self.words, self.at, n);
+        self.at += u64::from(n);
         Some(value)
     }
 
     /// The next 64 bits as a number, the first one lowest. Where fewer are left, the others are anything.
+    #[inline]
     pub fn peek(&self) -> u64
         ensures { take (length (take 64 (rest self.now))) (field 64 result) ≡ take 64 (rest self.now) }
     {
-        let n = self.left().min(64) as u32;
-        let mut ahead = BitReader {
-            words: self.words,
-            bits: self.bits,
-            at: self.at,
-        };
-        ahead.read(n).unwrap()
+        bits_from(self.words, self.at)
     }
 
     /// Goes on behind the next `n` bits.
+    #[inline]
     pub fn skip(&mut self, n: u64)
         requires { n ≤ length (rest self.old) }
         ensures { Reads self.old self.new (take n (rest self.old)) }
@@ -111,6 +110,7 @@ impl<'a> BitReader<'a> {
     }
 
     // The bit at the place, which is not the end.
+    #[inline]
     fn next_bit(&mut self) -> bool
         requires { 0 < length (rest self.old) }
         ensures { Reads self.old self.new (result ∷ []) }
@@ -151,6 +151,10 @@ mod tests {
         assert_eq!(rt; reader.read_bit(), Some(false));
         assert_eq!(rt; reader.read_bit(), None);
         reader.seek(32);
+        assert_eq!(rt; reader.peek(), 0x8800_0000_0000_0000);
         assert_eq!(rt; reader.read(64), Some(0x8800_0000_0000_0000));
+        reader.seek(0);
+        reader.skip(95);
+        assert_eq!(rt; reader.peek() % 128, 0x3f);
     }
 }

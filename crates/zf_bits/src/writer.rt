@@ -1,9 +1,11 @@
 //! A list of bits that grows at its end.
-ghost use Rattle.std.specs.Prelude.{◌≡◌, ◌+◌, ◌%◌, ◌^◌, ◌<◌, ◌≤◌, ◌↔◌, IsTrue, Some, [], ◌∷◌, length, slice_get, OnOk, OnErr};
-ghost use Rattle.zf_spec.specs.Numbers.{field};
-ghost use Rattle.zf_spec.specs.Stream.{fill};
+ghost use Rattle.std.specs.Prelude.{◌≡◌, ◌+◌, ◌%◌, ◌^◌, ◌<◌, ◌≤◌, ◌↔◌, IsTrue, [], ◌∷◌, ◌++◌, length, OnOk, OnErr};
+ghost use Rattle.std.specs.Int.{div_ceil};
+ghost use Rattle.zf_spec.specs.Numbers.{field, word_bits};
+ghost use Rattle.zf_spec.specs.Stream.{fill, with_fill};
 ghost use Rattle.zf_bits.specs.Writer.{Appends};
 
+use crate::slots::{blank, low_bits, word};
 use std::alloc::{AllocError, Global};
 use std::marker::Model;
 
@@ -14,19 +16,25 @@ use std::marker::Model;
 /// `AllocError`, and the writer may be used on. Reserve first, and the other calls cannot fail.
 #[derive(Debug, Drop)]
 pub struct BitWriter {
-    // one element a bit
-    bits: Vec<bool>,
+    // the bits, then zeros; behind the spare room one word more, so that a field always has two
+    words: Vec<u64>,
+    len: u64,
 }
 
 impl Model for BitWriter {
-    ghost use Rattle.std.specs.Prelude.{◌-◌};
-    ghost use Rattle.std.specs.Vec.{vec_len, vec_capacity};
-    ghost use Rattle.zf_bits.specs.Writer.{Writer};
+    ghost use Rattle.std.specs.Prelude.{take};
+    ghost use Rattle.zf_spec.specs.Numbers.{word_bits};
+    ghost use Rattle.zf_bits.specs.Writer.{Writer, room, IsWritten};
 
     ghost Value = { Writer };
 
-    ghost view = { λ w. record { bits = w.bits.items; room = vec_capacity w.bits - vec_len w.bits } };
+    ghost view = { λ w. record { bits = take w.len (word_bits w.words.items); room = room w.words.items w.len } };
+
+    ghost invariant = { λ w. IsWritten w.words.items w.len };
 }
+
+// So many words are never held, so that bits are counted in 63 binary digits.
+const MOST_WORDS: u64 = 1 << 57;
 
 impl BitWriter {
     /// A writer that holds no bits and no memory.
@@ -34,31 +42,33 @@ impl BitWriter {
         ensures { result ≡ record { bits = []; room = 0 } }
     {
         BitWriter {
-            bits: Vec::new(alloc),
+            words: Vec::new(alloc),
+            len: 0,
         }
     }
 
     /// The number of bits written.
+    #[inline]
     pub fn len(&self) -> u64
         ensures count { result ≡ length self.now.bits }
         ensures small { result + self.now.room < 2 ^ 63 }
     {
-        self.bits.len() as u64
+        self.len
     }
 
     /// Whether no bit was written.
     pub fn is_empty(&self) -> bool
         ensures { IsTrue result ↔ (self.now.bits ≡ []) }
     {
-        self.bits.is_empty()
+        self.len == 0
     }
 
-    /// The bit at a place, counted from the first bit written.
-    pub fn bit(&self, at: u64) -> bool
-        requires { at < length self.now.bits }
-        ensures { slice_get self.now.bits at ≡ Some result }
+    /// The bits in words of 64, bit i as bit `i % 64` of word `i / 64`. The last word is filled with zeros.
+    pub fn words(&self) -> &[u64]
+        ensures bits { word_bits result.now ≡ with_fill self.now.bits }
+        ensures len { length result.now ≡ div_ceil (length self.now.bits) 64 }
     {
-        self.bits[at as usize]
+        &self.words[..self.len.div_ceil(64) as usize]
     }
 
     /// Makes room for `n` more bits.
@@ -70,40 +80,76 @@ impl BitWriter {
         ensures err { OnErr result (self.new ≡ self.old) }
         ensures full { OnErr result (self.old.room < n) }
     {
-        self.bits.reserve(n as usize)
+        if n <= self.room() {
+            return Ok(());
+        }
+        let count = (self.len + n).div_ceil(64) + 1;
+        if count >= MOST_WORDS {
+            return Err(AllocError);
+        }
+        self.words.resize(count as usize, 0)?;
+        Ok(())
+    }
+
+    // How many more bits fit.
+    #[inline]
+    fn room(&self) -> u64
+        ensures { result ≡ self.now.room }
+    {
+        (64 * self.words.len() as u64).saturating_sub(64 + self.len)
     }
 
     /// Appends the `n` lowest bits of `v`, the least significant first.
+    #[inline]
     pub fn write(&mut self, v: u64, n: u32) -> Result<(), AllocError>
         requires { n ≤ 64 }
         ensures ok { OnOk result (Appends self.old self.new (field n v)) }
         ensures err { OnErr result (self.new ≡ self.old) }
         ensures full { OnErr result (self.old.room < n) }
     {
-        self.reserve(n as u64)?;
+        self.reserve(u64::from(n))?;
         self.write_reserved(v, n);
         Ok(())
     }
 
     /// Appends the `n` lowest bits of `v`, the least significant first, in room that is there already.
+    #[inline]
     pub fn write_reserved(&mut self, v: u64, n: u32)
         requires width { n ≤ 64 }
         requires fits { n ≤ self.old.room }
         ensures bits { Appends self.old self.new (field n v) }
         ensures room { self.new.room + n ≡ self.old.room }
     {
-        for i in 0..n {
-            self.write_bit_reserved((v >> i) % 2 == 1);
+        if n > 0 {
+            self.put(low_bits(v, n), n);
         }
     }
 
+    // Appends a number in as many bits, which lie in at most two words.
+    #[inline]
+    fn put(&mut self, v: u64, n: u32)
+        requires some { 0 < n }
+        requires width { n ≤ 64 }
+        requires in_bits { v < 2 ^ n }
+        requires fits { n ≤ self.old.room }
+        ensures bits { self.new.bits ≡ self.old.bits ++ field n v }
+        ensures room { self.new.room + n ≡ self.old.room }
+    {
+        let place = (self.len / 64) as usize;
+        let shift = self.len % 64;
+        self.words[place] = word(&self.words, place) | v << shift;
+        self.words[place + 1] = v >> (63 - shift) >> 1;
+        self.len += u64::from(n);
+    }
+
     /// Appends one bit in room that is there already.
+    #[inline]
     pub fn write_bit_reserved(&mut self, bit: bool)
         requires { 0 < self.old.room }
         ensures bits { Appends self.old self.new (bit ∷ []) }
         ensures room { self.new.room + 1 ≡ self.old.room }
     {
-        self.bits.push_reserved(bit);
+        self.write_reserved(u64::from(bit), 1);
     }
 
     /// Appends zero bits up to the next multiple of 64, and none where the length is a multiple already.
@@ -123,7 +169,9 @@ impl BitWriter {
         ensures bits { self.new.bits ≡ [] }
         ensures room { length self.old.bits + self.old.room ≤ self.new.room }
     {
-        self.bits.clear();
+        let used = self.len.div_ceil(64) as usize;
+        blank(&mut self.words, used);
+        self.len = 0;
     }
 }
 
@@ -143,15 +191,29 @@ mod tests {
         writer.write_reserved(5, 8);
         writer.write_bit_reserved(true);
         assert_eq!(rt; writer.len(), 33);
+        assert_eq!(rt; writer.words(), [0x1_0570_667a].as_slice());
         writer.pad_to_word();
         assert_eq!(rt; writer.len(), 64);
-        let bytes: [u8; 8] = [0x7a, 0x66, 0x70, 0x05, 0x01, 0x00, 0x00, 0x00];
-        for at in 0..64u64 {
-            let expected = (bytes[at as usize / 8] >> (at % 8)) % 2 == 1;
-            assert_eq!(rt; writer.bit(at), expected, "bit {at}");
-        }
+        assert_eq!(rt; writer.words(), [0x1_0570_667a].as_slice());
         writer.clear();
         assert!(rt; writer.is_empty());
+        assert!(rt; writer.words().is_empty());
+        writer.write(2, 2)?;
+        assert_eq!(rt; writer.words(), [2].as_slice());
+        Ok(())
+    }
+
+    // A field over the end of a word: its lowest bit is the last of the first word.
+    #[test]
+    fn writes_a_field_over_two_words(rt: HostRuntime) -> Result<(), Fail> {
+        let mut writer = BitWriter::new(rt.alloc());
+        writer.write(0, 63)?;
+        writer.write(0x8000_0000_0000_0001, 64)?;
+        assert_eq!(rt; writer.len(), 127);
+        assert_eq!(rt;
+            writer.words(),
+            [0x8000_0000_0000_0000, 0x4000_0000_0000_0000].as_slice()
+        );
         Ok(())
     }
 }

@@ -1,9 +1,9 @@
 -- What reading a code is, from what was read of it.
-use Rattle.std.proofs.Common.{◌≡◌, sym, ap, subst, ◌∙◌, ℕ, ◌+◌, ◌-◌, ◌^◌, ◌<◌, ◌≤◌, cond, le-ltb, lt-ltb, ℤ, Bool, Some, None, List, ◌++◌, length, take, drop, drop_at, refl, length-drop, lit<, arith}
+use Rattle.std.proofs.Common.{◌≡◌, sym, ap, subst, ◌∙◌, ℕ, ◌+◌, ◌-◌, ◌^◌, ◌<◌, ◌≤◌, cond, le-ltb, lt-ltb, ℤ, Bool, Some, None, List, length, take, drop, drop_at, refl, lit<, arith}
 use Rattle.std.specs.Int.{Width}
 use Rattle.std.proofs.Math.Nat.{mul-le-mul_left, mul-le-mul_right, pow-le-pow_right}
 use Rattle.std.proofs.Math.Seq.{take-append-add}
-use Rattle.std.proofs.lemmas.List.{length-take, length-take-le, length-append, take_all, take-append-drop, drop-drop}
+use Rattle.std.proofs.lemmas.List.{length-take, length-take-le, length-append, take_all}
 use mir.Val.{bits}
 use Rattle.zf_spec.specs.Numbers.{field, number}
 use Rattle.zf_spec.specs.Lorenzo.{unlorenzo}
@@ -26,41 +26,6 @@ use Rattle.zf_block.proofs.Kept.{kept_planes-whole}
 -- what is left behind a read
 pub rest-Reads : {a b : Reader} (n : ℕ) (bits : List Bool) → length bits ≡ n → Reads a b bits → rest b ≡ drop n (rest a)
 rest-Reads {a} {b} n bits long reads = sym (ap (drop n) reads.next ∙ drop_at bits (rest b) n long)
-
--- so many bits were passed
-pub Reads-place : (old new : Reader) (n : ℕ) → n ≤ length (rest old) → new.at ≡ old.at + n → new.all ≡ old.all → Reads old new (take n (rest old))
-Reads-place old new n enough place all =
-    let behind : rest new ≡ drop n (rest old) = ap (λ at. drop at new.all) place ∙ ap (drop (old.at + n)) all ∙ sym (drop-drop n old.at old.all) in
-    record {
-      next = sym (take-append-drop n (rest old)) ∙ ap (λ bs. take n (rest old) ++ bs) (sym behind);
-      place = omega (arith, length-take n (rest old));
-      all = all;
-    }
-
--- of so many bits, some are left to pass
-pub record PassesBits (old now : Reader) (count left : ℕ) : Type 0 where
-  pub place : now.at + left ≡ old.at + count
-  pub all : now.all ≡ old.all
-  pub within : left ≤ count
-
-pub PassesBits-start : (r : Reader) (count : ℕ) → PassesBits r r count count
-PassesBits-start r count = record { place = refl; all = refl; within = omega arith }
-
-pub PassesBits-more : {old now new : Reader} {count left : ℕ} (k v : ℕ) → k ≤ left → PassesBits old now count left → Reads now new (field k v) → PassesBits old new count (left - k)
-PassesBits-more {old} {now} {new} {count} {left} k v some passes reads = record {
-  place = omega (arith, passes.place, reads.place, length-field k v);
-  all = reads.all ∙ passes.all;
-  within = omega (arith, passes.within);
-}
-
--- they are there
-pub PassesBits-enough : {old now : Reader} {count left : ℕ} → count ≤ length (rest old) → PassesBits old now count left → left ≤ length (rest now)
-PassesBits-enough {old} {now} {count} {left} enough passes =
-    omega (arith, length-drop old.at old.all, length-drop now.at now.all, ap length passes.all, passes.place)
-
-pub PassesBits-end : {old now : Reader} {count left : ℕ} → count ≤ length (rest old) → PassesBits old now count left → left ≡ 0 → Reads old now (take count (rest old))
-PassesBits-end {old} {now} {count} {left} enough passes none =
-    Reads-place old now count enough (omega (arith, passes.place)) passes.all
 
 -- ---- a reversible code
 

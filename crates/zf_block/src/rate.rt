@@ -144,18 +144,5 @@ fn read_planes(bits: u32, size: usize, reader: &mut BitReader<'_>, planes: &mut 
 {
     let bits = u64::from(bits);
     let used = zf_planes::decode(bits, planes.len() as u32, size, reader, planes).unwrap();
-    skip(bits - used, reader);
-}
-
-/// Passes bits, a word at a time.
-fn skip(count: u64, reader: &mut BitReader<'_>)
-    requires { count ≤ length (rest reader.old) }
-    ensures { Reads reader.old reader.new (take count (rest reader.old)) }
-{
-    let mut left = count;
-    while left > 64 {
-        let _word = reader.read(64).unwrap();
-        left -= 64;
-    }
-    let _word = reader.read(left as u32).unwrap();
+    reader.skip(bits - used);
 }

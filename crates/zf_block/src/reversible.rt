@@ -165,7 +165,11 @@ fn read_rev<T: Lane>(
 }
 
 /// Reads the count of planes and their code. The planes below are zero.
-fn read_planes<T: Lane>(size: usize, reader: &mut BitReader<'_>, planes: &mut [[u64; 4]]) -> Option<()>
+fn read_planes<T: Lane>(
+    size: usize,
+    reader: &mut BitReader<'_>,
+    planes: &mut [[u64; 4]],
+) -> Option<()>
     requires size { IsBlockSize size }
     requires planes { length planes.old ≡ T.WIDTH }
     ensures short { IfNone result (length (rest reader.old) < rev_len T.width size (rest reader.old)) }

@@ -24,15 +24,6 @@ fn digest_of<T: Lane>(block: &[T]) -> u64 {
     })
 }
 
-/// The bits of a writer as words.
-fn pack(out: &BitWriter, words: &mut [u64])
-    requires { length out.now.bits ≤ 64 * length words.old }
-{
-    for at in 0..out.len() {
-        words[at as usize / 64] |= u64::from(out.bit(at)) << (at % 64);
-    }
-}
-
 fn clear<T: Lane>(block: &mut [T]) {
     for value in block.iter_mut() {
         *value = T::zero();
@@ -54,14 +45,11 @@ fn reversible_both_ways<T: Lane>(
     let mut s = Scratch::new(alloc, d)?;
     let mut out = BitWriter::new(alloc);
     encode_rev(d, &e, block, &mut s, &mut out)?;
-    assert!(rt; out.len() <= 32768);
-    let mut words = [0; 512];
-    pack(&out, &mut words);
-    let mut reader = BitReader::new(&words, out.len());
+    let mut reader = BitReader::new(out.words(), out.len());
     clear(block);
     decode_rev(d, &mut reader, block).ok_or("a code")?;
     assert_eq!(rt; reader.left(), 0);
-    Ok((out.len(), digest(&words)))
+    Ok((out.len(), digest(out.words())))
 }
 
 /// The same at a rate. The answer is the digest of the code.
@@ -82,15 +70,12 @@ fn rate_both_ways<T: Lane>(
     out.reserve(u64::from(bits))?;
     encode_rate(d, &e, bits, block, &mut s, &mut out);
     assert_eq!(rt; out.len(), u64::from(bits));
-    assert!(rt; bits <= 32768);
-    let mut words = [0; 512];
-    pack(&out, &mut words);
-    let mut reader = BitReader::new(&words, out.len());
+    let mut reader = BitReader::new(out.words(), out.len());
     assert!(rt; reader.left() >= u64::from(bits));
     clear(block);
     decode_rate(d, bits, &mut reader, block);
     assert_eq!(rt; reader.left(), 0);
-    Ok(digest(&words))
+    Ok(digest(out.words()))
 }
 
 /// Of blocks of one dimension: how many values exist, the block, the padded block, and the length and the bits of its code.

@@ -6,7 +6,7 @@ ghost use Rattle.zf_header.specs.HeaderBits.{IsMode, IsRate};
 use super::*;
 use std::test::Fail;
 use zf_base::{Shape, Ty};
-use zf_bits::BitWriter;
+use zf_bits::{BitWriter, bytes_of_words};
 
 fn has_number(m: &Mode) -> bool
     ensures { IsTrue result → IsMode m.now }
@@ -114,10 +114,8 @@ fn headers_are_written_and_read(rt: HostRuntime) -> Result<(), Fail> {
             96
         };
         assert_eq!(rt; out.len(), u64::from(bits));
-        for at in 0..out.len() {
-            let byte = bytes.get(at as usize / 8).copied().ok_or("a byte")?;
-            assert_eq!(rt; out.bit(at), (byte >> (at % 8)) % 2 == 1, "bit {at}");
-        }
+        let written = bytes_of_words(rt.alloc(), out.words())?;
+        assert!(rt; written.starts_with(bytes), "{written:?}");
         assert_eq!(rt; read(bytes), Ok((header, bits)));
     }
     Ok(())
@@ -126,7 +124,11 @@ fn headers_are_written_and_read(rt: HostRuntime) -> Result<(), Fail> {
 #[test]
 fn precisions_are_written_and_not_read_yet(rt: HostRuntime) -> Result<(), Fail> {
     // an array of four values of int32, its precision, the mode's number, and the last two of the twelve bytes
-    let rows = [(1, 2048, 0x00, 0x80), (32, 2079, 0xf0, 0x81), (128, 2175, 0xf0, 0x87)];
+    let rows = [
+        (1, 2048, 0x00, 0x80),
+        (32, 2079, 0xf0, 0x81),
+        (128, 2175, 0xf0, 0x87),
+    ];
     let mut out = BitWriter::new(rt.alloc());
     for (precision, number, tenth, eleventh) in rows {
         let shape = Shape::new(1, 4, 0, 0, 0).ok().ok_or("a shape")?;
@@ -143,10 +145,8 @@ fn precisions_are_written_and_not_read_yet(rt: HostRuntime) -> Result<(), Fail> 
         write(&header, &mut out);
         assert_eq!(rt; out.len(), 96);
         let bytes = [0x7a, 0x66, 0x70, 0x05, 0x30, 0, 0, 0, 0, 0, tenth, eleventh];
-        for at in 0..out.len() {
-            let byte = bytes.get(at as usize / 8).copied().ok_or("a byte")?;
-            assert_eq!(rt; out.bit(at), (byte >> (at % 8)) % 2 == 1, "bit {at}");
-        }
+        let written = bytes_of_words(rt.alloc(), out.words())?;
+        assert!(rt; written.starts_with(&bytes), "{written:?}");
         assert_eq!(rt; read(&bytes).err(), Some(HeaderFault::Mode(number)));
     }
     Ok(())

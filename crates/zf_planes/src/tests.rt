@@ -91,16 +91,6 @@ fn planes_with(rt: &impl Abort, ones: &[(usize, usize)]) -> [[u64; 4]; 3] {
     planes
 }
 
-fn words_of(writer: &BitWriter) -> [u64; 16] {
-    let mut words = [0; 16];
-    for at in 0..writer.len().min(1024) {
-        if writer.bit(at) {
-            words[at as usize / 64] |= 1 << (at % 64);
-        }
-    }
-    words
-}
-
 // Writes the planes and reads them again at each budget, once from a bit too few.
 fn check(rt: &impl Abort, alloc: Global, size: usize, case: Case) -> Result<(), Fail>
     requires { (size ≡ 4) ⊎ (size ≡ 16) ⊎ (size ≡ 64) ⊎ (size ≡ 256) }
@@ -114,14 +104,18 @@ fn check(rt: &impl Abort, alloc: Global, size: usize, case: Case) -> Result<(), 
         let count = encode(*budget, 3, size, &planes, &mut writer);
         assert_eq!(rt; count, case.code_len.min(*budget), "{budget} bits");
         assert_eq!(rt; writer.len(), count, "{budget} bits");
-        for at in 0..writer.len() {
-            assert_eq!(rt; writer.bit(at), case.code.contains(&at), "bit {at}");
+        let words = writer.words();
+        let mut reader = BitReader::new(words, writer.len());
+        for at in 0..count {
+            assert_eq!(rt;
+                reader.read_bit(),
+                Some(case.code.contains(&at)),
+                "bit {at}"
+            );
         }
-        let words = words_of(&writer);
-        assert!(rt; count <= 1024);
+        reader.seek(0);
 
         let mut again = [[u64::MAX; 4]; 4];
-        let mut reader = BitReader::new(&words, count);
         assert_eq!(rt;
             decode(*budget, 3, size, &mut reader, &mut again),
             Some(count),
@@ -135,8 +129,8 @@ fn check(rt: &impl Abort, alloc: Global, size: usize, case: Case) -> Result<(), 
             "{budget} bits"
         );
 
-        if count > 0 {
-            let mut short = BitReader::new(&words, count - 1);
+        if !writer.is_empty() {
+            let mut short = BitReader::new(words, writer.len() - 1);
             assert_eq!(rt;
                 decode(*budget, 3, size, &mut short, &mut again),
                 None,
@@ -172,9 +166,13 @@ fn planes_have_their_codes(rt: HostRuntime) -> Result<(), Fail> {
             code.len() as u64,
             "{digits}"
         );
+        let mut reader = BitReader::new(writer.words(), writer.len());
         for (at, bit) in code.bytes().enumerate() {
-            assert!(rt; (at as u64) < writer.len());
-            assert_eq!(rt; writer.bit(at as u64), bit == b'1', "bit {at} of {digits}");
+            assert_eq!(rt;
+                reader.read_bit(),
+                Some(bit == b'1'),
+                "bit {at} of {digits}"
+            );
         }
     }
     Ok(())

@@ -1,6 +1,5 @@
 -- Lemmas on streams.
 --     LittleEndian   raw bytes as values, one after another
---     WholeBytes     bits as bytes, one after another
 --     Codes          the codes of blocks, one after another; a code says of a block only what its padded block says
 --     Fill           the fill behind the codes
 --     Joining        the blocks of a stream, read one after another
@@ -14,7 +13,6 @@
 --     BlocksBack     the codes of blocks read back
 --     StreamsBack    what compress writes, restore reads
 pub mod LittleEndian
-mod WholeBytes
 mod Codes
 mod Fill
 mod Joining

@@ -61,4 +61,3 @@ values_from-more w (suc i) s within =
     ap (λ k. values_from w k s) next
     ∙ ap (λ (vs : List ℤ). cast_signed w (from_le_bytes w (first_bytes n s)) ∷ vs)
     (rest ∙ ap (λ (bs : List ℕ). values_from w i (drop n s) ++ cast_signed w (from_le_bytes w (take n bs)) ∷ []) place)
-

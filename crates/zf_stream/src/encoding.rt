@@ -7,10 +7,9 @@ ghost use Rattle.zf_spec.specs.Stream.{block_code, codes, stream};
 ghost use Rattle.zf_base.specs.Widths.{width_of};
 ghost use Rattle.zf_header.specs.HeaderBits.{IsTaken, coding};
 
-use crate::packing::bytes_of;
 use std::alloc::{AllocError, Global};
 use zf_base::{Lane, block_len};
-use zf_bits::BitWriter;
+use zf_bits::{BitWriter, bytes_of_words};
 use zf_block::Scratch;
 use zf_header::{Header, LONG_HEADER_BITS, Mode};
 
@@ -29,9 +28,7 @@ pub(crate) fn stream_of<T: Lane>(
     out.reserve(u64::from(LONG_HEADER_BITS))?;
     zf_header::write(h, &mut out);
     write_codes(alloc, h, values, &mut out)?;
-    out.reserve(64)?;
-    out.pad_to_word();
-    bytes_of(alloc, &out)
+    bytes_of_words(alloc, out.words())
 }
 
 /// Appends the codes of all blocks, in order.

@@ -8,7 +8,6 @@ mod encoding;
 mod fault;
 mod header;
 pub mod laws;
-mod packing;
 mod raw;
 mod restoring;
 #[cfg(test)]

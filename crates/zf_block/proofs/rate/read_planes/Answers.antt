@@ -19,5 +19,5 @@ returns-clause-passed c =
     let count = MatchOption-at_some ⊤ Count used c.unwrap-used.ensures c.decode.ensures.count in
     let reads = MatchOption-at_some ⊤ Read used c.unwrap-used.ensures c.decode.ensures.reads in
     let all : length (take used s) + (budget - used) ≡ c.args.bits = omega (arith, length-take used s, count, c.from-bits.ensures, c.requires.enough) in
-    let Passed : ℕ → Type 0 = λ n. Reads old c.skip.new.reader (take n s) in
+    let Passed : ℕ → Type 0 = λ n. Reads old c.skip.new.self (take n s) in
     subst Passed all (Reads-part (take used s) (budget - used) reads c.skip.ensures)

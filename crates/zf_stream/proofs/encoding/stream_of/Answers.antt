@@ -14,7 +14,7 @@ returns g c =
     let none : c.reserve.new.self.bits ≡ [] = c.in_ok-reserve.ensures.bits ∙ ap (λ o. o.bits) c.new-out.ensures in
     let head : c.write.new.out.bits ≡ header w h.shape (coding h.mode) =
     c.write.ensures.bits.bits ∙ ap (λ (bs : List Bool). bs ++ header_bits h) none ∙ ap (λ v. header v h.shape (coding h.mode)) (sym c.requires.same_type) in
-    let all : c.reserve-2.new.self.bits ≡ header w h.shape (coding h.mode) ++ cs =
-    c.in_ok-reserve-2.ensures.bits ∙ c.in_ok-write_codes.ensures ∙ ap (λ (bs : List Bool). bs ++ cs) head in
-    let whole : c.pad_to_word.new.self.bits ≡ with_fill (header w h.shape (coding h.mode) ++ cs) = c.pad_to_word.ensures.bits.bits ∙ ap with_fill all in
-    IfOk-weaker c.bytes_of.result _ _ (λ bytes is. is ∙ ap to_bytes whole) c.bytes_of.ensures
+    let all : c.write_codes.new.out.bits ≡ header w h.shape (coding h.mode) ++ cs =
+    c.in_ok-write_codes.ensures ∙ ap (λ (bs : List Bool). bs ++ cs) head in
+    let whole = c.words.ensures.bits ∙ ap with_fill all in
+    IfOk-weaker c.bytes_of_words.result _ _ (λ bytes is. is ∙ ap to_bytes whole) c.bytes_of_words.ensures

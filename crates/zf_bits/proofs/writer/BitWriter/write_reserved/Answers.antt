@@ -1,14 +1,12 @@
-use Rattle.std.proofs.Common.{◌≡◌, arith, append_assoc}
-use Rattle.zf_spec.proofs.Fields.{length-field}
-use Rattle.zf_bits.proofs.Fields.{field_more}
+use Rattle.std.proofs.Common.{Bool, List, ◌++◌, ap, ◌∙◌, arith}
+use Rattle.zf_spec.specs.Numbers.{field}
+use Rattle.zf_spec.proofs.Fields.{length-field, field-mod}
 use Rattle.zf_bits.proofs.writer.BitWriter.write_reserved.Goals as goal
 
-pub loop-i-preserved : goal.loop-i-preserved
-loop-i-preserved c =
-    let more = field_more c.loop-i.i c.args.v in
-    record { bits = grind (arith, append_assoc); room = omega arith }
-
-pub returns-clause-bits : goal.returns-clause-bits
-returns-clause-bits c =
-    let all : c.loop-i.i ≡ c.args.n = omega arith in
-    record { bits = grind arith; room = omega (arith, length-field c.args.n c.args.v) }
+pub returns-then-n-gt0-clause-bits : goal.returns-then-n-gt0-clause-bits
+returns-then-n-gt0-clause-bits c =
+    let same = ap (field c.args.n) c.low_bits.ensures ∙ field-mod c.args.n c.args.v in
+    record {
+      bits = c.put.ensures.bits ∙ ap (λ (bs : List Bool). c.args.self.now.bits ++ bs) same;
+      room = omega (arith, length-field c.args.n c.args.v);
+    }
