@@ -9,8 +9,8 @@ ghost use Rattle.zf_header.specs.HeaderFields.{number_at, dims_in, size_in, size
 ghost use Rattle.zf_header.specs.HeaderFaults.{first_fault, front_faults, size_faults, mode_faults, header_fault};
 
 use crate::header::{
-    CODEC, LONG_HEADER_BITS, FULL_HEADER_BYTES, Header, HeaderFault, LONG_FORM, LONG_FORM_EXPONENT,
-    LONG_FORM_PLANES, MAGIC, MAX_SHORT_RATE, Mode, OWN_CODEC, REVERSIBLE, SHORT_HEADER_BYTES,
+    CODEC, FULL_HEADER_BYTES, Header, HeaderFault, LONG_FORM, LONG_FORM_EXPONENT, LONG_FORM_PLANES,
+    LONG_HEADER_BITS, MAGIC, MAX_SHORT_RATE, Mode, OWN_CODEC, REVERSIBLE, SHORT_HEADER_BYTES,
     codec, header_len,
 };
 use zf_base::{Shape, Ty};

@@ -126,7 +126,11 @@ fn headers_are_written_and_read(rt: HostRuntime) -> Result<(), Fail> {
 #[test]
 fn precisions_are_written_and_not_read_yet(rt: HostRuntime) -> Result<(), Fail> {
     // an array of four values of int32, its precision, the mode's number, and the last two of the twelve bytes
-    let rows = [(1, 2048, 0x00, 0x80), (32, 2079, 0xf0, 0x81), (128, 2175, 0xf0, 0x87)];
+    let rows = [
+        (1, 2048, 0x00, 0x80),
+        (32, 2079, 0xf0, 0x81),
+        (128, 2175, 0xf0, 0x87),
+    ];
     let mut out = BitWriter::new(rt.alloc());
     for (precision, number, tenth, eleventh) in rows {
         let shape = Shape::new(1, 4, 0, 0, 0).ok().ok_or("a shape")?;

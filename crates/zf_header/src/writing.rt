@@ -8,7 +8,7 @@ ghost use Rattle.zf_bits.specs.Writer.{Appends};
 ghost use Rattle.zf_header.specs.HeaderBits.{coding, IsMode, header_bits};
 
 use crate::header::{
-    LONG_HEADER_BITS, Header, LONG_FORM_EXPONENT, LONG_FORM_PLANES, MAGIC, MAX_SHORT_RATE, Mode,
+    Header, LONG_FORM_EXPONENT, LONG_FORM_PLANES, LONG_HEADER_BITS, MAGIC, MAX_SHORT_RATE, Mode,
     codec, mode_number, type_number,
 };
 use zf_base::Shape;
