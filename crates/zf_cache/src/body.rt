@@ -23,15 +23,6 @@ pub struct Body<T> {
     pub(crate) counts: Stats,
 }
 
-/// How many values a block of `d` dimensions has.
-pub(crate) fn block_len(d: usize) -> usize
-    requires { d ≤ 4 }
-    ensures len { result ≡ 4 ^ d }
-    ensures bound { result ≤ 2 ^ 8 }
-{
-    4usize.pow(d as u32)
-}
-
 /// The dirty block that a tag names.
 fn dirty_block(tag: u64) -> Option<u64>
     ensures { result ≡ dirty_of tag }
@@ -185,7 +176,8 @@ impl<T: Lane> Body<T> {
         requires block { (b < (B.format back.old).blocks) × ((B.format back.old).blocks ≤ 2 ^ 32) }
         ensures sound { IsSound T.value self.new (B.format back.new) (B.codes back.new) }
         ensures state { state_of T.value (kept_of self.new) (B.format back.new) (B.codes back.new)
-            ≡ touch_for_writing (B.format back.old) (state_of T.value (kept_of self.old) (B.format back.old) (B.codes back.old)) b }
+            ≡ touch_for_writing (B.format back.old)
+            (state_of T.value (kept_of self.old) (B.format back.old) (B.codes back.old)) b }
         ensures line { result ≡ b % length self.old.tags.items }
         ensures dirty { tag_at self.new.tags.items result ≡ dirty_tag b }
         ensures others { OnlyLine (kept_of self.old) (kept_of self.new) result }
@@ -230,7 +222,8 @@ impl<T: Lane> Body<T> {
         requires place { p < (B.format back.old).block_len }
         ensures sound { IsSound T.value self.new (B.format back.new) (B.codes back.new) }
         ensures state { state_of T.value (kept_of self.new) (B.format back.new) (B.codes back.new)
-            ≡ put (B.format back.old) (state_of T.value (kept_of self.old) (B.format back.old) (B.codes back.old)) b p (T.value v) }
+            ≡ put (B.format back.old)
+            (state_of T.value (kept_of self.old) (B.format back.old) (B.codes back.old)) b p (T.value v) }
         ensures format { B.format back.new ≡ B.format back.old }
         ensures kept { B.kept back.new ≡ B.kept back.old }
     {

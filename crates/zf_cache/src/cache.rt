@@ -11,10 +11,10 @@ ghost use Rattle.zf_cache.specs.Kept.{IsLineCount, IsClean, IsDirty, IsEmpty, Ha
 ghost use Rattle.zf_cache.specs.Standing.{state_of, values_of, Fits};
 ghost use Rattle.zf_cache.specs.Steps.{put};
 
-use crate::body::{Body, block_len};
+use crate::body::Body;
 use std::alloc::{AllocError, Global};
 use std::marker::Model;
-use zf_base::{Backing, Lane, Reading};
+use zf_base::{Backing, Lane, Reading, block_len};
 use zf_lines::Lines;
 use zf_script::Stats;
 
@@ -56,7 +56,7 @@ impl<T: Lane, const D: usize> Cache<T, D> {
         ensures empty { IfOk result (λ c. IsEmpty c lines) }
         ensures counts { IfOk result (λ c. c.counts ≡ no_counts) }
     {
-        let body = Body::new(alloc, lines, block_len(D))?;
+        let body = Body::new(alloc, lines, block_len(D as u8))?;
         Ok(Cache { alloc, body })
     }
 
@@ -130,7 +130,8 @@ impl<T: Lane, const D: usize> Cache<T, D> {
         requires fits { Fits T.value self.old (B.format back.old) (B.codes back.old) }
         requires blocks { HasBlocks (B.format back.old) D }
         requires block { b < (B.format back.old).blocks }
-        ensures* touched { sem 𝓛 (EndsTouched T.row D.row self.entry T.value (B.format back.old) (B.codes back.old) (B.codes back.new) b) }
+        ensures* touched { sem 𝓛 (EndsTouched T.row D.row self.entry T.value (B.format back.old)
+            (B.codes back.old) (B.codes back.new) b) }
         ensures value { existing_of (B.format back.old) b (map T.value result.now) ≡ (touch (B.format back.old)
             (state_of T.value self.old (B.format back.old) (B.codes back.old)) b).values b }
         ensures format { B.format back.new ≡ B.format back.old }
@@ -146,7 +147,8 @@ impl<T: Lane, const D: usize> Cache<T, D> {
         requires fits { Fits T.value self.old (B.format back.old) (B.codes back.old) }
         requires blocks { HasBlocks (B.format back.old) D }
         requires block { b < (B.format back.old).blocks }
-        ensures* writes_back { sem 𝓛 (EndsWithBlock T.row D.row self.entry T.value (B.format back.old) (B.codes back.old) b result) }
+        ensures* writes_back { sem 𝓛 (EndsWithBlock T.row D.row self.entry T.value (B.format back.old)
+            (B.codes back.old) b result) }
         ensures loan { LendsBlock T.value (B.format back.old) (B.codes back.old) (B.codes back.new) self.old b result.now }
         ensures format { B.format back.new ≡ B.format back.old }
         ensures kept { B.kept back.new ≡ B.kept back.old }
@@ -190,7 +192,7 @@ impl<T: Lane, const D: usize> Cache<T, D> {
         ensures format { B.format back.new ≡ B.format back.old }
         ensures kept { B.kept back.new ≡ B.kept back.old }
     {
-        let taken = Body::new(self.alloc, lines, block_len(D))?;
+        let taken = Body::new(self.alloc, lines, block_len(D as u8))?;
         self.body.flush(back);
         self.body.replace(taken);
         Ok(())
@@ -224,7 +226,8 @@ impl<T: Lane, const D: usize> Cache<T, D> {
         requires blocks { HasBlocks (B.format back.old) D }
         requires block { b < (B.format back.old).blocks }
         requires clean { IsClean self.old }
-        ensures* touched { sem 𝓛 (EndsRead T.row D.row self.entry T.value (B.format back.old) (B.codes back.old) (B.codes back.new) b) }
+        ensures* touched { sem 𝓛 (EndsRead T.row D.row self.entry T.value (B.format back.old)
+            (B.codes back.old) (B.codes back.new) b) }
         ensures value { existing_of (B.format back.old) b (map T.value result.now) ≡ (touch (B.format back.old)
             (state_of T.value self.old (B.format back.old) (B.codes back.old)) b).values b }
         ensures format { B.format back.new ≡ B.format back.old }
@@ -241,7 +244,7 @@ impl<T: Lane, const D: usize> Cache<T, D> {
         ensures ok { OnOk result (IsEmpty self.new lines × (self.new.counts ≡ self.old.counts)) }
         ensures err { OnErr result (self.new ≡ self.old) }
     {
-        let body = Body::new(self.alloc, lines, block_len(D))?;
+        let body = Body::new(self.alloc, lines, block_len(D as u8))?;
         self.body.replace(body);
         Ok(())
     }

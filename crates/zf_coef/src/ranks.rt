@@ -5,8 +5,8 @@ ghost use mir.Val.{bits};
 ghost use Rattle.zf_spec.specs.Grid.{IsDimension};
 ghost use Rattle.zf_coef.specs.HeldDigits.{digits_in, ranked_digits, unranked_values};
 
-use crate::negabinary::{from_digits, to_digits};
 use crate::coefficient_order::order;
+use crate::negabinary::{from_digits, to_digits};
 use zf_base::Lane;
 
 /// Writes the negabinary digits of a block's coefficients by rank, those of rank 0 first.
