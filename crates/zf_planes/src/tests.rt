@@ -177,3 +177,23 @@ fn planes_have_their_codes(rt: HostRuntime) -> Result<(), Fail> {
     }
     Ok(())
 }
+
+#[test]
+fn one_word_a_plane_writes_the_same(rt: HostRuntime) -> Result<(), Fail> {
+    for (size, case) in [(4, SIZE_4), (16, SIZE_16), (64, SIZE_64)] {
+        assert!(rt; size <= 64);
+        let planes = planes_with(&rt, case.ones);
+        let words = [planes[0][0], planes[1][0], planes[2][0]];
+        for (budget, _) in case.kept {
+            let mut writer = BitWriter::new(rt.alloc());
+            writer.reserve(256)?;
+            let count = write_planes(*budget, 3, size, &words, &mut writer);
+            assert_eq!(rt; count, case.code_len.min(*budget), "{budget} bits");
+            assert_eq!(rt; writer.len(), count, "{budget} bits");
+            for at in 0..writer.len() {
+                assert_eq!(rt; writer.bit(at), case.code.contains(&at), "bit {at}");
+            }
+        }
+    }
+    Ok(())
+}
