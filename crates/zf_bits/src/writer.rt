@@ -182,7 +182,7 @@ mod tests {
 
     // The first bytes of a stream are 7a 66 70 05: three fields of a header, then a one and the fill.
     #[test]
-    #[tactic(auto, using(crate::proofs::Appending::fill_short))]
+    #[tactic(auto, using(zf_spec::proofs::Bytes::fill_short))]
     fn writes_a_header_and_fills_the_word(rt: HostRuntime) -> Result<(), Fail> {
         let mut writer = BitWriter::new(rt.alloc());
         assert!(rt; writer.is_empty());
