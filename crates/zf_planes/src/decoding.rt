@@ -1,6 +1,7 @@
 //! Reading planes from their code.
 
 ghost use Rattle.std.specs.Prelude.{◌≡◌, ◌+◌, ◌-◌, ◌<◌, ◌≤◌, ◌↔◌, ◌⊎◌, min, true, false, ◌∷◌, ◌++◌, length, take, replicate, All, IsNone, IfNone, IfSome, OnSome};
+ghost use Rattle.zf_spec.specs.Grid.{IsBlockSize};
 ghost use Rattle.zf_spec.specs.Kept.{kept_planes};
 ghost use Rattle.zf_spec.specs.ReadPlanes.{first_bits};
 ghost use Rattle.zf_spec.specs.HeldPlanes.{planes_held, IsClearFrom};
@@ -144,7 +145,7 @@ pub fn decode(
     reader: &mut BitReader<'_>,
     planes: &mut [[u64; 4]],
 ) -> Option<u64>
-    requires size { (size ≡ 4) ⊎ (size ≡ 16) ⊎ (size ≡ 64) ⊎ (size ≡ 256) }
+    requires size { IsBlockSize size }
     requires planes { prec ≤ length planes.old }
 
     ensures short { IsNone result ↔ (length (rest reader.old) < coded_bits budget prec size (rest reader.old)) }

@@ -1,6 +1,7 @@
 //! Writing the code of planes.
 
 ghost use Rattle.std.specs.Prelude.{◌≡◌, ◌+◌, ◌-◌, ◌*◌, ◌^◌, ◌<◌, ◌≤◌, ◌⊎◌, min, length, map, take, drop};
+ghost use Rattle.zf_spec.specs.Grid.{IsBlockSize};
 ghost use Rattle.zf_spec.specs.Planes.{plane_code, tail, code, reach};
 ghost use Rattle.zf_bits.specs.Writer.{Appends};
 ghost use Rattle.zf_spec.specs.HeldPlanes.{digits_held, planes_held};
@@ -117,7 +118,7 @@ pub fn write_planes<P: Plane>(
 /// `planes[k]` holds digit k of each coefficient by rank: rank r is bit `r % 64` of word `r / 64`, and bits from rank `size` on are not looked at.
 /// Embedded coding as in the zfp 1.0 documentation, chapter Algorithm.
 pub fn encode(budget: u64, prec: u32, size: usize, planes: &[[u64; 4]], out: &mut BitWriter) -> u64
-    requires size { (size ≡ 4) ⊎ (size ≡ 16) ⊎ (size ≡ 64) ⊎ (size ≡ 256) }
+    requires size { IsBlockSize size }
     requires planes { prec ≤ length planes.now }
     requires fits { min budget (size * prec + size) ≤ out.old.room }
     ensures bits { Appends out.old out.new (take budget (code (take prec (planes_held size planes.now)))) }

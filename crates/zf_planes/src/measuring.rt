@@ -1,6 +1,7 @@
 //! How long the code of planes is.
 
 ghost use Rattle.std.specs.Prelude.{◌≡◌, ◌+◌, ◌*◌, ◌≤◌, ◌⊎◌, count_by, length, take, drop};
+ghost use Rattle.zf_spec.specs.Grid.{IsBlockSize};
 ghost use Rattle.zf_spec.specs.Planes.{tail, plane_code, code};
 ghost use Rattle.zf_spec.specs.HeldPlanes.{planes_held};
 
@@ -59,7 +60,7 @@ fn planes_len(prec: u32, planes: &[[u64; 4]], digits: &mut [bool]) -> u64
 ///
 /// `planes[k]` holds digit k of each coefficient by rank: rank r is bit `r % 64` of word `r / 64`, and bits from rank `size` on are not looked at.
 pub fn code_len(prec: u32, size: usize, planes: &[[u64; 4]]) -> u64
-    requires size { (size ≡ 4) ⊎ (size ≡ 16) ⊎ (size ≡ 64) ⊎ (size ≡ 256) }
+    requires size { IsBlockSize size }
     requires planes { prec ≤ length planes.now }
     ensures count { result ≡ length (code (take prec (planes_held size planes.now))) }
     ensures most { result ≤ size * prec + size }

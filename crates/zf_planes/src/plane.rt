@@ -1,6 +1,7 @@
 //! Planes: their digits, and where their ones are.
 
 ghost use Rattle.std.specs.Prelude.{◌≡◌, ◌+◌, ◌<◌, ◌≤◌, ◌↔◌, ◌⊎◌, IsTrue, true, false, ◌∷◌, ◌++◌, length, take, drop, replicate};
+ghost use Rattle.zf_spec.specs.Grid.{IsBlockSize};
 ghost use Rattle.zf_spec.specs.Planes.{reach, has_one, needed_planes};
 ghost use Rattle.zf_spec.specs.HeldPlanes.{digits_held, planes_held, IsClearFrom};
 
@@ -71,7 +72,7 @@ pub(crate) fn first_one(digits: &[bool]) -> usize
 ///
 /// `planes[k]` holds digit k of each coefficient by rank, and bits from rank `size` on are not looked at.
 pub fn used_planes(size: usize, planes: &[[u64; 4]]) -> u32
-    requires size { (size ≡ 4) ⊎ (size ≡ 16) ⊎ (size ≡ 64) ⊎ (size ≡ 256) }
+    requires size { IsBlockSize size }
     requires planes { length planes.now ≤ 64 }
     ensures { result ≡ needed_planes (planes_held size planes.now) }
 {
