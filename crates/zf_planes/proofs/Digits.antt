@@ -95,8 +95,8 @@ within_plane ds n k one zeros =
     (λ (below : k < length ds). below)
     (λ (past : length ds ≤ k).
     let none : has_one (drop n ds) ≡ false = none_from_each (drop n ds) (λ i.
-        get_or-drop n ds i false
-        ∙ ⊎_elim (λ (early : n + i < k). zeros (n + i) (omega arith) early) (λ (late : k ≤ n + i). get_or_past ds (n + i) false (omega arith)) (cases_lt (n + i) k)) in
+    get_or-drop n ds i false
+    ∙ ⊎_elim (λ (early : n + i < k). zeros (n + i) (omega arith) early) (λ (late : k ≤ n + i). get_or_past ds (n + i) false (omega arith)) (cases_lt (n + i) k)) in
     absurd (false≢true (sym none ∙ one)))
     (cases_lt k (length ds))
 
@@ -214,20 +214,20 @@ reach_in_word size end w ws some within is long zeros one fits =
     let j = top.0 in
     let sum : c + suc j ≡ 64 = top.1 in
     let set : bit_at a j ≡ 1 = highest a j top.2 top.3 in
-    let high : s ≤ j = ⊎_elim (λ (low : j < s). let none = shl_low w s j low (omega arith) in absurd (omega arith)) (λ (high : s ≤ j). high) (cases_lt j s) in
-    ( omega arith
-    , reach_only (digits_held size ws) (end - c)
-      (λ k from. ⊎_elim
+    let high : s ≤ j = ⊎_elim (λ (low : j < s). let none = shl_low w s j low (omega arith) in absurd (omega arith)) (λ (high : s ≤ j). high) (cases_lt j s) in (
+      omega arith,
+      reach_only (digits_held size ws) (end - c)
+          (λ k from. ⊎_elim
           (λ (below : k < end).
           digit_shifted size (end - 1) k w ws is long (omega arith) (omega arith) (omega arith)
           ∙ ap (λ b. eqb b 1) (bit_at_above a (suc j) (k % 64 + s) top.3 (omega arith)))
           (λ (above : end ≤ k). zeros k above)
           (cases_lt k end))
-      (λ k last.
-      let place : k % 64 + s ≡ j = omega arith in
-      digit_shifted size (end - 1) k w ws is long (omega arith) (omega arith) (omega arith)
-      ∙ ap (λ i. eqb (bit_at a i) 1) place
-      ∙ ap (λ b. eqb b 1) set)
+          (λ k last.
+          let place : k % 64 + s ≡ j = omega arith in
+          digit_shifted size (end - 1) k w ws is long (omega arith) (omega arith) (omega arith)
+          ∙ ap (λ i. eqb (bit_at a i) 1) place
+          ∙ ap (λ b. eqb b 1) set),
     )
 
 pub reach_none_from : (ds : List Bool) → IsZeroFrom ds 0 → 0 ≡ reach ds

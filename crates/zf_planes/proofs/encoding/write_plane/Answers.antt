@@ -24,8 +24,15 @@ write_tail-requires-clause-fits g c =
     let ws = g.P.Plane.words c.args.plane.now in
     let ds = digits_held c.args.size ws in
     let first = Appends-same c.write_part-left.ensures.bits (ap (take c.args.left) (held_front c.args.size n ws c.requires.in_plane)) in
-    omega (arith, c.requires.fits, length-append (take n ds) (tail (drop n ds)), front_long c.args.size n _ ws c.requires.words (g.met.P.Plane.long c.args.plane.now) c.requires.in_plane,
-    first.room, length-take c.args.left (take n ds), c.write_part-left.ensures.left)
+    omega (
+      arith,
+      c.requires.fits,
+      length-append (take n ds) (tail (drop n ds)),
+      front_long c.args.size n _ ws c.requires.words (g.met.P.Plane.long c.args.plane.now) c.requires.in_plane,
+      first.room,
+      length-take c.args.left (take n ds),
+      c.write_part-left.ensures.left,
+    )
 
 pub returns-clause-bits : goal.returns-clause-bits
 returns-clause-bits g c =
@@ -43,5 +50,10 @@ returns-clause-left g c =
     let n = c.args.n in
     let ws = g.P.Plane.words c.args.plane.now in
     let ds = digits_held c.args.size ws in
-    omega (arith, c.write_part-left.ensures.left, c.write_tail.ensures.left, length-append (take n ds) (tail (drop n ds)),
-    front_long c.args.size n _ ws c.requires.words (g.met.P.Plane.long c.args.plane.now) c.requires.in_plane)
+    omega (
+      arith,
+      c.write_part-left.ensures.left,
+      c.write_tail.ensures.left,
+      length-append (take n ds) (tail (drop n ds)),
+      front_long c.args.size n _ ws c.requires.words (g.met.P.Plane.long c.args.plane.now) c.requires.in_plane,
+    )

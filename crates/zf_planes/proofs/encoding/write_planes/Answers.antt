@@ -27,7 +27,7 @@ loop-i-init g c =
     let planes = map g.P.Plane.words c.args.planes.now in
     let long = length-map c.args.planes.now g.P.Plane.words in
     let most = length-code_words-le c.args.prec c.args.size planes (omega (arith, c.requires.planes)) (λ i below.
-        let has = each_long g.P.Plane.words _ g.met.P.Plane.long c.args.planes.now i (omega arith) in omega (arith, c.requires.words)) in
+    let has = each_long g.P.Plane.words _ g.met.P.Plane.long c.args.planes.now i (omega arith) in omega (arith, c.requires.words)) in
     record { remains = Remains-start c.args.out.now c.args.budget _ (omega (arith, c.requires.fits, most)); above = omega arith }
 
 pub write_plane-left-requires-clause-fits : goal.write_plane-left-requires-clause-fits
