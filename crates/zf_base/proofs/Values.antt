@@ -1,4 +1,4 @@
--- The numbers of a list of values, and lists of four.
+-- The numbers of a list of values.
 use Rattle.std.proofs.Common.{◌≡◌, ℕ, ◌+◌, ◌<◌, List, [], ◌∷◌, ◌++◌, refl, length, get_or, set, map, take, drop, ap, sym, ◌∙◌, arith}
 use Rattle.std.proofs.lemmas.List.{get_or-map, map-set}
 use Rattle.std.proofs.lemmas.List.Edits.{map_over_more}
@@ -12,12 +12,3 @@ pub numbers_more : {X Y : Type 0} (value : X → Y) (f : Y → Y) (numbers : Lis
 numbers_more value f numbers block i d y lt same so_far written =
     let old = value (get_or block i d) in
     map-set value block i y ∙ ap (set (map value block) i) written ∙ map_over_more f numbers (map value block) i old (omega arith) so_far (sym (get_or-map value block i d old lt))
-
--- a list of four is that of its elements
-pub four_elements : (xs : List ℕ) → length xs ≡ 4 → get_or xs 0 0 ∷ get_or xs 1 0 ∷ get_or xs 2 0 ∷ get_or xs 3 0 ∷ [] ≡ xs
-four_elements [] four = absurd (omega arith)
-four_elements (a ∷ []) four = absurd (omega arith)
-four_elements (a ∷ b ∷ []) four = absurd (omega arith)
-four_elements (a ∷ b ∷ c ∷ []) four = absurd (omega arith)
-four_elements (a ∷ b ∷ c ∷ d ∷ []) four = refl
-four_elements (a ∷ b ∷ c ∷ d ∷ e ∷ xs) four = absurd (omega arith)

@@ -3,6 +3,7 @@ use Rattle.std.proofs.Common.{◌≡◌, ℕ, zero, suc, map, ◌+◌, ◌-◌, 
 use Rattle.std.proofs.lemmas.List.{get_or-take, length-take, drop_more, take-replicate, drop-replicate, length-replicate, get_or-replicate}
 use Rattle.std.proofs.lemmas.Bool.{cases_eq}
 use Rattle.std.specs.List.{All}
+use Rattle.zf_spec.proofs.Counting.{four_elements}
 use Rattle.zf_spec.specs.Numbers.{word_bits}
 use Rattle.zf_spec.specs.HeldPlanes.{digits_held, planes_held, IsClearFrom}
 use Rattle.zf_spec.proofs.HeldPlanes.{length-digits_held, get_or-planes_held, length-planes_held}
@@ -40,20 +41,12 @@ each_long words n long [] i below = absurd (omega arith)
 each_long words n long (plane ∷ planes) zero below = long plane
 each_long words n long (plane ∷ planes) (suc i) below = each_long words n long planes i (omega arith)
 
--- the four words of an array
-whole_array : (words : List ℕ) → length words ≡ 4 → get_or words 0 0 ∷ get_or words 1 0 ∷ get_or words 2 0 ∷ get_or words 3 0 ∷ [] ≡ words
-whole_array [] four = absurd (omega arith)
-whole_array (a ∷ []) four = absurd (omega arith)
-whole_array (a ∷ b ∷ []) four = absurd (omega arith)
-whole_array (a ∷ b ∷ c ∷ []) four = absurd (omega arith)
-whole_array (a ∷ b ∷ c ∷ d ∷ []) four = refl
-whole_array (a ∷ b ∷ c ∷ d ∷ e ∷ words) four = absurd (omega arith)
-
+-- planes of four words are those of their words by number
 pub arrays_as_words : (planes : List (List ℕ)) → ((i : ℕ) → i < length planes → length (get_or planes i []) ≡ 4)
     → map (λ words. get_or words 0 0 ∷ get_or words 1 0 ∷ get_or words 2 0 ∷ get_or words 3 0 ∷ []) planes ≡ planes
 arrays_as_words [] four = refl
 arrays_as_words (words ∷ planes) four =
-    ap (λ (ws : List ℕ). ws ∷ map (λ ws. get_or ws 0 0 ∷ get_or ws 1 0 ∷ get_or ws 2 0 ∷ get_or ws 3 0 ∷ []) planes) (whole_array words (four 0 (omega arith)))
+    ap (λ (ws : List ℕ). ws ∷ map (λ ws. get_or ws 0 0 ∷ get_or ws 1 0 ∷ get_or ws 2 0 ∷ get_or ws 3 0 ∷ []) planes) (four_elements words (four 0 (omega arith)))
     ∙ ap (λ (ps : List (List ℕ)). words ∷ ps) (arrays_as_words planes (λ i below. four (suc i) (omega arith)))
 
 -- ---- planes that are written

@@ -11,7 +11,7 @@ use Rattle.zf_cached.specs.Grammar.{IsNoDigit, numbers_text, is_number, has_axes
 use Rattle.zf_cached.proofs.Cutting.{cut_at-numbers, joined-cut_at}
 use Rattle.zf_cached.proofs.ReadLines.{axes-parts, sizes-parts}
 use Rattle.zf_script.specs.NumberWords.{IsAxesWord, IsSizesWord}
-use Rattle.zf_base.proofs.Values.{four_elements}
+use Rattle.zf_spec.proofs.Counting.{four_elements}
 
 -- ---- a word of numbers and its parts
 pub parts_are : (byte : ℕ) (word ns : List ℕ) → IsNoDigit byte → has_sizes ns ≡ true → word ≡ numbers_text byte ns → cut_at byte word ≡ map decimal ns

@@ -1,5 +1,5 @@
--- The numbers from one number on, and lists that a function makes of them.
-use Rattle.std.proofs.Common.{◌≡◌, refl, sym, ap, ◌∙◌, ℕ, zero, suc, ◌+◌, ◌-◌, ◌<◌, ◌≤◌, List, ◌∷◌, ◌++◌, map, length, get_or, Contains, ext_get_or, arith}
+-- The numbers from one number on, lists that a function makes of them, and lists of four.
+use Rattle.std.proofs.Common.{◌≡◌, refl, sym, ap, ◌∙◌, ℕ, zero, suc, ◌+◌, ◌-◌, ◌<◌, ◌≤◌, List, [], ◌∷◌, ◌++◌, map, length, get_or, Contains, ext_get_or, arith}
 use Rattle.std.proofs.lemmas.List.{length-map, get_or-map}
 use Rattle.std.proofs.lemmas.List.FromFn.{length-range_with_len, get_or-range_with_len}
 use Rattle.std.specs.List.{range_with_len}
@@ -65,3 +65,12 @@ map-upto_same {X} f g n h = from 0 n (λ k p q. h k (omega arith))
     from : (j m : ℕ) → ((k : ℕ) → j ≤ k → k < j + m → f k ≡ g k) → map f (count_from j m) ≡ map g (count_from j m)
     from j zero h = refl
     from j (suc m) h = ap (λ x. x ∷ map f (count_from (suc j) m)) (h j (omega arith) (omega arith)) ∙ ap (λ xs. g j ∷ xs) (from (suc j) m (λ k p q. h k (omega arith) (omega arith)))
+
+-- a list of four is that of its elements
+pub four_elements : (xs : List ℕ) → length xs ≡ 4 → get_or xs 0 0 ∷ get_or xs 1 0 ∷ get_or xs 2 0 ∷ get_or xs 3 0 ∷ [] ≡ xs
+four_elements [] four = absurd (omega arith)
+four_elements (a ∷ []) four = absurd (omega arith)
+four_elements (a ∷ b ∷ []) four = absurd (omega arith)
+four_elements (a ∷ b ∷ c ∷ []) four = absurd (omega arith)
+four_elements (a ∷ b ∷ c ∷ d ∷ []) four = refl
+four_elements (a ∷ b ∷ c ∷ d ∷ e ∷ xs) four = absurd (omega arith)
