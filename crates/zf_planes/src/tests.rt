@@ -190,8 +190,13 @@ fn one_word_a_plane_writes_the_same(rt: HostRuntime) -> Result<(), Fail> {
             let count = write_planes(*budget, 3, size, &words, &mut writer);
             assert_eq!(rt; count, case.code_len.min(*budget), "{budget} bits");
             assert_eq!(rt; writer.len(), count, "{budget} bits");
-            for at in 0..writer.len() {
-                assert_eq!(rt; writer.bit(at), case.code.contains(&at), "bit {at}");
+            let mut reader = BitReader::new(writer.words(), writer.len());
+            for at in 0..count {
+                assert_eq!(rt;
+                    reader.read_bit(),
+                    Some(case.code.contains(&at)),
+                    "bit {at}"
+                );
             }
         }
     }

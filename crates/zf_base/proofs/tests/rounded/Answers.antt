@@ -1,5 +1,5 @@
-use Rattle.std.proofs.Common.{◌≡◌, sym, ap, ◌∙◌, map}
-use Rattle.zf_base.specs.Formats.{existing_of, meant, encoded, rounded, with_at}
+use Rattle.std.proofs.Common.{sym, ap, ◌∙◌, map}
+use Rattle.zf_base.specs.Formats.{existing_of, meant, encoded, rounded}
 use Rattle.zf_base.proofs.Formats.{with_at-same}
 use Rattle.zf_base.proofs.tests.rounded.Goals as goal
 

@@ -1,5 +1,4 @@
-use Rattle.std.proofs.Common.{◌≡◌, ℕ, suc, ◌+◌, ◌-◌, ◌<◌, ◌≤◌, inl, inr, Bool, true, false, List, [], ◌∷◌, ◌++◌, length, drop, replicate, refl, sym, ap, ◌∙◌, arith}
-use Rattle.std.specs.Int.{w64, trailing_zeros}
+use Rattle.std.proofs.Common.{◌≡◌, ℕ, ◌+◌, ◌-◌, ◌<◌, ◌≤◌, inl, inr, Bool, true, false, List, [], ◌∷◌, ◌++◌, length, drop, replicate, refl, sym, ap, ◌∙◌, arith}
 use Rattle.zf_bits.specs.Reader.{rest}
 use Rattle.zf_planes.specs.Decoding.{run_ahead, run_bits, tail_ahead, tail_bits}
 use Rattle.zf_planes.proofs.Passing.{Passes-part, Passes-lacks, Takes-rest}
