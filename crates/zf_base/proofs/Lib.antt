@@ -6,3 +6,4 @@ pub mod Extents
 pub mod Values
 pub mod Formats
 pub mod RoundedDown
+pub mod Decimals

@@ -1,6 +1,7 @@
 //! The padded values of a block, and the bit planes of its coefficients.
 
 ghost use Rattle.std.specs.Prelude.{◌≡◌, ◌≤◌, ◌^◌, map, length};
+ghost use Rattle.zf_spec.specs.Grid.{IsDimension};
 ghost use Rattle.zf_spec.specs.Codes as codes;
 ghost use Rattle.zf_spec.specs.Codes.{coefficients_of};
 ghost use Rattle.zf_spec.specs.Padding.{pad};
@@ -34,8 +35,7 @@ pub(crate) fn to_planes<T: Lane>(
     digits: &mut [u64],
     planes: &mut [[u64; 4]],
 )
-    requires some { 1 ≤ d }
-    requires four_at_most { d ≤ 4 }
+    requires dimension { IsDimension d }
     requires coefficients { length coefficients.now ≡ 4 ^ d }
     requires digits { length digits.old ≡ 4 ^ d }
     requires planes { length planes.old ≡ T.WIDTH }
@@ -52,8 +52,7 @@ pub(crate) fn from_planes<T: Lane>(
     digits: &mut [u64],
     coefficients: &mut [T],
 )
-    requires some { 1 ≤ d }
-    requires four_at_most { d ≤ 4 }
+    requires dimension { IsDimension d }
     requires planes { length planes.now ≡ T.WIDTH }
     requires digits { length digits.old ≡ 4 ^ d }
     requires coefficients { length coefficients.old ≡ 4 ^ d }

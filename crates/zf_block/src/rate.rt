@@ -1,6 +1,7 @@
 //! The code of a block at a fixed rate: each block has as many bits, and its values come back rounded.
 
 ghost use Rattle.std.specs.Prelude.{◌≡◌, ◌⊎◌, ◌≤◌, ◌^◌, false, map, length, take, replicate};
+ghost use Rattle.zf_spec.specs.Grid.{IsDimension, IsBlockSize};
 ghost use Rattle.zf_spec.specs.Codes as codes;
 ghost use Rattle.zf_spec.specs.Codes.{rate};
 ghost use Rattle.zf_spec.specs.Padding.{pad};
@@ -31,8 +32,7 @@ pub fn encode_rate<T: Lane>(
     s: &mut Scratch<T>,
     out: &mut BitWriter,
 )
-    requires some { 1 ≤ d }
-    requires four_at_most { d ≤ 4 }
+    requires dimension { IsDimension d }
     requires extent { IsExtent d e.now }
     requires block { length block.now ≡ 4 ^ d }
     requires scratch { s.old ≡ d }
@@ -53,8 +53,7 @@ fn make_planes<T: Lane>(
     digits: &mut [u64],
     planes: &mut [[u64; 4]],
 )
-    requires some { 1 ≤ d }
-    requires four_at_most { d ≤ 4 }
+    requires dimension { IsDimension d }
     requires extent { IsExtent d e.now }
     requires block { length block.now ≡ 4 ^ d }
     requires values { length values.old ≡ 4 ^ d }
@@ -69,7 +68,7 @@ fn make_planes<T: Lane>(
 
 /// Appends the first `bits` bits of the code of all planes, filled with zeros.
 fn write_planes(bits: u32, size: usize, planes: &[[u64; 4]], out: &mut BitWriter)
-    requires size { (size ≡ 4) ⊎ (size ≡ 16) ⊎ (size ≡ 64) ⊎ (size ≡ 256) }
+    requires size { IsBlockSize size }
     requires planes { length planes.now ≤ 64 }
     requires fits { bits ≤ out.old.room }
     ensures { Appends out.old out.new (first_bits bits (code (planes_held size planes.now))) }
@@ -96,8 +95,7 @@ fn write_zeros(count: u64, out: &mut BitWriter)
 ///
 /// `block` gets `4^d` values, x fastest. A code does not tell which of them exist; at places that do not, the values mean nothing.
 pub fn decode_rate<T: Lane>(d: u8, bits: u32, reader: &mut BitReader<'_>, block: &mut [T])
-    requires some { 1 ≤ d }
-    requires four_at_most { d ≤ 4 }
+    requires dimension { IsDimension d }
     requires block { length block.old ≡ 4 ^ d }
     requires enough { bits ≤ length (rest reader.old) }
     ensures { ReadsRate T.width d bits reader.old reader.new (map T.value block.new) }
@@ -124,8 +122,7 @@ fn read_rate<T: Lane>(
     digits: &mut [u64],
     planes: &mut [[u64; 4]],
 )
-    requires some { 1 ≤ d }
-    requires four_at_most { d ≤ 4 }
+    requires dimension { IsDimension d }
     requires block { length block.old ≡ 4 ^ d }
     requires digits { length digits.old ≡ 4 ^ d }
     requires planes { length planes.old ≡ T.WIDTH }
@@ -139,7 +136,7 @@ fn read_rate<T: Lane>(
 
 /// Reads all planes from `bits` bits of their code. Bits that their code leaves are passed too.
 fn read_planes(bits: u32, size: usize, reader: &mut BitReader<'_>, planes: &mut [[u64; 4]])
-    requires size { (size ≡ 4) ⊎ (size ≡ 16) ⊎ (size ≡ 64) ⊎ (size ≡ 256) }
+    requires size { IsBlockSize size }
     requires planes { length planes.old ≤ 64 }
     requires enough { bits ≤ length (rest reader.old) }
     ensures planes { planes_held size planes.new ≡ kept_planes bits (planes_in (length planes.new) size (take bits (rest reader.old))) }

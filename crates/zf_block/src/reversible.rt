@@ -2,6 +2,7 @@
 
 ghost use Rattle.std.specs.Prelude.{◌≡◌, ◌⊎◌, ◌≤◌, ◌<◌, ◌+◌, ◌*◌, ◌^◌, ◌-◌, ◌++◌, false, map, length, take, replicate, OnOk, OnErr, IfNone, OnSome};
 ghost use mir.Val.{bits};
+ghost use Rattle.zf_spec.specs.Grid.{IsDimension, IsBlockSize};
 ghost use Rattle.zf_spec.specs.Codes as codes;
 ghost use Rattle.zf_spec.specs.Codes.{count_bits, rev_of_planes, rev};
 ghost use Rattle.zf_spec.specs.Padding.{pad};
@@ -30,8 +31,7 @@ pub fn encode_rev<T: Lane>(
     s: &mut Scratch<T>,
     out: &mut BitWriter,
 ) -> Result<(), AllocError>
-    requires some { 1 ≤ d }
-    requires four_at_most { d ≤ 4 }
+    requires dimension { IsDimension d }
     requires extent { IsExtent d e.now }
     requires block { length block.now ≡ 4 ^ d }
     requires scratch { s.old ≡ d }
@@ -64,8 +64,7 @@ fn write_rev<T: Lane>(
     planes: &mut [[u64; 4]],
     out: &mut BitWriter,
 )
-    requires some { 1 ≤ d }
-    requires four_at_most { d ≤ 4 }
+    requires dimension { IsDimension d }
     requires extent { IsExtent d e.now }
     requires block { length block.now ≡ 4 ^ d }
     requires values { length values.old ≡ 4 ^ d }
@@ -87,8 +86,7 @@ fn make_planes<T: Lane>(
     digits: &mut [u64],
     planes: &mut [[u64; 4]],
 )
-    requires some { 1 ≤ d }
-    requires four_at_most { d ≤ 4 }
+    requires dimension { IsDimension d }
     requires extent { IsExtent d e.now }
     requires block { length block.now ≡ 4 ^ d }
     requires values { length values.old ≡ 4 ^ d }
@@ -103,7 +101,7 @@ fn make_planes<T: Lane>(
 
 /// Appends the count of planes, down to the lowest that has a one, and their code.
 fn write_planes<T: Lane>(size: usize, planes: &[[u64; 4]], out: &mut BitWriter)
-    requires size { (size ≡ 4) ⊎ (size ≡ 16) ⊎ (size ≡ 64) ⊎ (size ≡ 256) }
+    requires size { IsBlockSize size }
     requires planes { length planes.now ≡ T.WIDTH }
     requires fits { 6 + size * (T.WIDTH + 1) ≤ out.old.room }
     ensures { Appends out.old out.new (rev_of_planes T.width (planes_held size planes.now)) }
@@ -126,8 +124,7 @@ fn count_bits<T: Lane>() -> u32
 ///
 /// `block` gets `4^d` values, x fastest. A code does not tell which of them exist; at places that do not, the values mean nothing.
 pub fn decode_rev<T: Lane>(d: u8, reader: &mut BitReader<'_>, block: &mut [T]) -> Option<()>
-    requires some { 1 ≤ d }
-    requires four_at_most { d ≤ 4 }
+    requires dimension { IsDimension d }
     requires block { length block.old ≡ 4 ^ d }
     ensures short { IfNone result (LacksRev T.width d reader.old) }
     ensures unread { IfNone result (reader.new ≡ reader.old) }
@@ -153,8 +150,7 @@ fn read_rev<T: Lane>(
     digits: &mut [u64],
     planes: &mut [[u64; 4]],
 ) -> Option<()>
-    requires some { 1 ≤ d }
-    requires four_at_most { d ≤ 4 }
+    requires dimension { IsDimension d }
     requires block { length block.old ≡ 4 ^ d }
     requires digits { length digits.old ≡ 4 ^ d }
     requires planes { length planes.old ≡ T.WIDTH }
@@ -169,12 +165,8 @@ fn read_rev<T: Lane>(
 }
 
 /// Reads the count of planes and their code. The planes below are zero.
-fn read_planes<T: Lane>(
-    size: usize,
-    reader: &mut BitReader<'_>,
-    planes: &mut [[u64; 4]],
-) -> Option<()>
-    requires size { (size ≡ 4) ⊎ (size ≡ 16) ⊎ (size ≡ 64) ⊎ (size ≡ 256) }
+fn read_planes<T: Lane>(size: usize, reader: &mut BitReader<'_>, planes: &mut [[u64; 4]]) -> Option<()>
+    requires size { IsBlockSize size }
     requires planes { length planes.old ≡ T.WIDTH }
     ensures short { IfNone result (length (rest reader.old) < rev_len T.width size (rest reader.old)) }
     ensures unread { IfNone result (reader.new ≡ reader.old) }

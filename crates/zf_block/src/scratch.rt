@@ -1,6 +1,7 @@
 //! Work room for one block.
 
 ghost use Rattle.std.specs.Prelude.{◌≡◌, ◌≤◌, ◌^◌, IfOk};
+ghost use Rattle.zf_spec.specs.Grid.{IsDimension};
 
 use std::alloc::{AllocError, Global};
 use std::marker::Model;
@@ -29,8 +30,7 @@ impl<T: Lane> Model for Scratch<T> {
 impl<T: Lane> Scratch<T> {
     /// Takes the memory for blocks of `d` dimensions.
     pub fn new(alloc: Global, d: u8) -> Result<Self, AllocError>
-        requires some { 1 ≤ d }
-        requires four_at_most { d ≤ 4 }
+        requires dimension { IsDimension d }
         ensures { IfOk result (λ s. s ≡ d) }
     {
         let size = block_len(d);

@@ -11,7 +11,7 @@ use Rattle.zf_spec.specs.ReadPlanes.{first_bits}
 use Rattle.zf_spec.specs.Codes.{planes, existing_values, rate, round, read_rate}
 use Rattle.zf_spec.specs.Stream.{header, with_fill, file, fixed_rate}
 use Rattle.zf_spec.proofs.Counting.{length-upto, map-get_or-upto}
-use Rattle.zf_spec.proofs.Bytes.{length-to_bytes, length-filled_bytes}
+use Rattle.zf_spec.proofs.Files.{length-file}
 use Rattle.zf_spec.proofs.Padding.{IsExtent, pad-existing_values, existing_values-existing_values}
 use Rattle.zf_spec.proofs.BlockReading.{read_rate-rate}
 use Rattle.zf_base.specs.Formats.{existing_of, meant, encoded, rounded}
@@ -76,20 +76,9 @@ pub saved_file-open : (w : Width) (budget : ℕ) (ns : List ℕ) (codes : List (
 unfolding saved_file
 saved_file-open w budget ns codes lines same = ap (file w ns (fixed_rate budget)) (codes_of-open w budget ns codes lines same)
 
--- codes of one length, end to end
-length-codes : {X : Type 0} (code : X → List Bool) (n : ℕ) (xs : List X) → ((x : X) → length (code x) ≡ n) → length (flat_map (λ c. c) (map code xs)) ≡ length xs * n
-length-codes code n [] each = omega arith
-length-codes code n (x ∷ xs) each =
-    length-append (code x) (flat_map (λ c. c) (map code xs)) ∙ omega (arith, each x, length-codes code n xs each, suc-mul (length xs) n)
-
--- the bytes of whole words of 64
-
 -- how long a saved file is
 pub length-saved_file : (w : Width) (budget : ℕ) (ns : List ℕ) (s : State (List Bool)) → ((b : ℕ) → length (s.codes b) ≡ budget) → length (saved_file w budget ns s) ≡ file_bytes w budget ns
-unfolding saved_file codes_of file file_bytes
+unfolding saved_file codes_of file_bytes
 length-saved_file w budget ns s each =
-    let front = header w ns (fixed_rate budget) in
-    let behind = flat_map (λ c. c) (map s.codes (upto (blocks ns))) in
-    let count : length behind ≡ blocks ns * budget = length-codes s.codes budget (upto (blocks ns)) each ∙ ap (λ n. n * budget) (length-upto (blocks ns)) in
-    let bits : length (front ++ behind) ≡ length front + blocks ns * budget = length-append front behind ∙ ap (λ n. length front + n) count in
-    length-to_bytes (with_fill (front ++ behind)) ∙ length-filled_bytes (front ++ behind) ∙ ap (λ n. 8 * div_ceil n 64) bits
+    length-file w ns (fixed_rate budget) s.codes budget (upto (blocks ns)) each
+    ∙ ap (λ n. 8 * div_ceil (length (header w ns (fixed_rate budget)) + n * budget) 64) (length-upto (blocks ns))

@@ -8,7 +8,8 @@
 --     Windows      the positions of windows
 --     Numerals     numbers and values as digits
 --     Cutting      texts that are cut at a byte, and numbers between such bytes
---     Reading      the words of a command, and the only command that a line is read as
+--     ReadLines    the words of a command, and the only command that a line is read as
+--     Passes       passes over all blocks
 --     Sessions     what the step of a command keeps
 --     Runs         what the lines of a script keep, and lines one after the other
 pub mod States
@@ -20,6 +21,7 @@ pub mod Arrays
 pub mod Windows
 pub mod Numerals
 pub mod Cutting
-pub mod Reading
+pub mod ReadLines
 pub mod Sessions
+pub mod Passes
 pub mod Runs

@@ -15,7 +15,7 @@ use Rattle.zf_cached.specs.Runs.{lines_of, read_step, line_step, run_lines, run_
 use Rattle.zf_cached.proofs.Flushing.{flush-consistent, flush-empty}
 use Rattle.zf_cached.proofs.Windows.{LiesIn-whole}
 use Rattle.zf_cached.proofs.Arrays.{meant-zeros}
-use Rattle.zf_cached.proofs.Reading.{read_line-Some}
+use Rattle.zf_cached.proofs.ReadLines.{read_line-Some}
 use Rattle.zf_cached.proofs.Sessions.{step_by, step-sound}
 
 -- ---- lines

@@ -1,6 +1,6 @@
 -- Arrays of whole numbers: how the values of a block are coded, and the format of the codes of an array.
 --     An array has its sizes as a list, x first. A block has its extents, the number of values that exist along each axis.
-use Rattle.std.specs.Prelude.{ℕ, ◌+◌, ◌*◌, ◌/◌, ◌^◌, ℤ, Bool, false, List, [], map, length, replicate, slice_index_or, Option, Some, None}
+use Rattle.std.specs.Prelude.{ℕ, ◌+◌, ◌*◌, ◌^◌, ℤ, Bool, false, List, [], map, length, replicate, slice_index_or, Option, Some, None}
 use Rattle.std.specs.Int.{Width, div_ceil}
 use Rattle.zf_spec.specs.Grid.{upto, blocks, indices, is_inside, extent_of}
 use Rattle.zf_spec.specs.Codes.{rev, rate, prec, read_rev, read_rate, read_prec}

@@ -10,6 +10,7 @@
 --     Steps        what a command does and answers, and when it is refused
 --     Consistency  what holds of every state that is reached
 --     Fates        what becomes of a block
+--     Passes       passes over all blocks
 --     Runs         the run of a script, and the look at an array that is only read
 pub mod State
 pub mod Touch
@@ -22,4 +23,5 @@ pub mod Replies
 pub mod Steps
 pub mod Consistency
 pub mod Fates
+pub mod Passes
 pub mod Runs

@@ -43,7 +43,8 @@ touched setting s b = record s { state = setting.touch (format_of setting s) s.s
 unfoldable pub changed : {Code : Type 0} → Setting Code → Session Code → ℕ → (List ℤ → List ℤ) → Session Code
 changed setting s b change =
     let t = soiled (touched setting s b).state b in
-    record s { state = with_values t b (change (t.values b)) }
+    let old = t.values b in
+    record s { state = with_values t b (change old) }
 
 -- the value at position ps is changed, by one touch for writing
 unfoldable pub changed_at : {Code : Type 0} → Setting Code → Session Code → List ℕ → (ℤ → ℤ) → Session Code

@@ -5,6 +5,7 @@ ghost use Rattle.zf_base.specs.Formats.{Format, existing_of, encoded, rounded};
 ghost use Rattle.zf_cached.specs.State.{State, most_counted, risen, own_line, is_here};
 ghost use Rattle.zf_cached.specs.Touch.{hit, touch, touch_for_writing, write_back, with_values};
 ghost use Rattle.zf_cached.specs.Consistency.{IsConsistent};
+ghost use Rattle.zf_cached.specs.Passes.{HasLastBlocks, touched_below};
 ghost use Rattle.zf_cached.specs.Fates.{IsLeft, IsRounded};
 
 use crate::coded::Coded;
@@ -41,6 +42,14 @@ pub fn other_blocks<C: Coded>()
         → IsRounded format s (touch format s a) b }
     ensures away { (format : Format C.Code) (s : State C.Code) (a b : ℕ)
         → (s.held (own_line s a) ≡ Some b → ⊥) → IsLeft s (touch format s a) b }
+{}
+
+/// A pass over n blocks in order, where each line has two or more of them, misses each of them and hits none, and so does the next pass.
+pub fn passes_over_all_blocks<C: Coded>()
+    ensures { (format : Format C.Code) (s : State C.Code) (n : ℕ)
+        → IsConsistent format s → HasLastBlocks n s → s.counts.misses + n ≤ most_counted
+        → let t = touched_below format s n in
+        (t.counts.hits ≡ s.counts.hits) × (t.counts.misses ≡ s.counts.misses + n) × HasLastBlocks n t }
 {}
 
 /// A count rises by one, and stays at its most.

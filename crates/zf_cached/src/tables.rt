@@ -92,3 +92,8 @@ pub fn more_blocks_than_lines()
     ensures { plain_text w32 (64 ∷ 64 ∷ []) 16 (codes "fill 3\nsum\nstats\nset 63,63 -5\nget 63,63\nstats\n")
         ≡ codes "12288\nhits 0 misses 512 writes 256\n-5\nhits 2 misses 512 writes 256\n" }
 {}
+
+/// 4096 blocks over 64 lines, filled: each is missed, and all but the last 64 are written back.
+pub fn large_array()
+    ensures { plain_text w32 (256 ∷ 256 ∷ []) 64 (codes "fill 3\nstats\n") ≡ codes "hits 0 misses 4096 writes 4032\n" }
+{}

@@ -1,6 +1,7 @@
 //! The order of the coefficients of a block.
 
 ghost use Rattle.std.specs.Prelude.{◌≡◌, ◌^◌, ◌<◌, ◌≤◌, All, length};
+ghost use Rattle.zf_spec.specs.Grid.{IsDimension};
 ghost use Rattle.zf_spec.specs.Ranks.{order};
 
 /// The places of a block of one dimension, by rank.
@@ -38,8 +39,7 @@ static ORDER_4: [u8; 256] = [
 /// The place with the smaller sum of indices comes first, then the one with the smaller sum of squares, then the one with the greater x, then y, then z.
 /// In one and two dimensions this is the order of zfp 1.0; in three and four dimensions the choice among equal sums is this project's own.
 pub fn order(d: u8) -> &'static [u8]
-    requires some { 1 ≤ d }
-    requires four_at_most { d ≤ 4 }
+    requires dimension { IsDimension d }
     ensures places { result.now ≡ order d }
     ensures count { length result.now ≡ 4 ^ d }
     ensures within { All (λ p. p < 4 ^ d) result.now }

@@ -11,10 +11,8 @@ Appends-none (Some written) = sym (append-nil written)
 
 -- some bytes were written, and then some more
 pub Appends-append : (old mid new : Option (List ℕ)) (first next : List ℕ) → Appends old mid first → Appends mid new next → Appends old new (first ++ next)
-Appends-append None None None first next a b = tt
+Appends-append None mid new first next a b = tt
 Appends-append (Some xs) (Some ys) (Some zs) first next a b = b ∙ (ap (λ front. front ++ next) a ∙ append_assoc xs first next)
-Appends-append None None (Some zs) first next a b = b
-Appends-append None (Some ys) new first next a b = absurd a
 Appends-append (Some xs) None new first next a b = absurd a
 Appends-append (Some xs) (Some ys) None first next a b = b
 

@@ -1,5 +1,5 @@
 -- How counts of faults rise over several calls.
-use Rattle.std.proofs.Common.{ℕ, ◌≤◌, ◌⊎◌, Result, Ok, Err, IsOk, refl, arith}
+use Rattle.std.proofs.Common.{ℕ, ◌≤◌, ◌⊎◌, Result, Ok, Err, IsOk, IsErr, refl, arith}
 use Rattle.std.proofs.lemmas.Bool.{cases_lt}
 use Rattle.zf_dev.specs.Faults.{next_count, Rose, IsQuiet, HasCause}
 
@@ -31,12 +31,15 @@ IsQuiet-rose before now quiet rose = omega arith
 pub IsQuiet-or_rose : (before now : ℕ) → IsQuiet before now ⊎ Rose before now
 IsQuiet-or_rose before now = cases_lt now (next_count before)
 
+-- where the count was quiet, the fault did not come
+pub HasCause-quiet : {fault : Type 0} (before now : ℕ) → HasCause fault before now → IsQuiet before now → fault → ⊥
+HasCause-quiet before now cause quiet is = IsQuiet-rose before now quiet (cause.1 is)
+
 -- a call in which the count was quiet did not fail
-pub IsOk-quiet : {T E : Type 0} (before now : ℕ) (result : Result T E) → HasCause before now result → IsQuiet before now → IsOk result
+pub IsOk-quiet : {T E : Type 0} (before now : ℕ) (result : Result T E) → HasCause (IsErr result) before now → IsQuiet before now → IsOk result
 IsOk-quiet before now (Ok value) cause quiet = refl
-IsOk-quiet before now (Err fault) cause quiet = absurd (IsQuiet-rose before now quiet cause.1)
+IsOk-quiet before now (Err fault) cause quiet = absurd (IsQuiet-rose before now quiet (cause.1 refl))
 
 -- the cause that the second of two calls shows is one over both
-pub HasCause-next : {T E : Type 0} (before mid now : ℕ) (result : Result T E) → before ≤ mid → HasCause mid now result → HasCause before now result
-HasCause-next before mid now (Ok value) first cause = (omega arith, tt)
-HasCause-next before mid now (Err fault) first cause = (omega arith, Rose-in_next before mid now first cause.1)
+pub HasCause-next : {fault : Type 0} (before mid now : ℕ) → before ≤ mid → HasCause fault mid now → HasCause fault before now
+HasCause-next before mid now first cause = (omega (arith, cause.0), λ is. Rose-in_next before mid now first (cause.1 is))

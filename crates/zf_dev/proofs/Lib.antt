@@ -1,4 +1,5 @@
 pub mod Appending
 pub mod Counts
 mod Pieces
+mod Saving
 pub mod Taking

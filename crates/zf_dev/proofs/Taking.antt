@@ -10,10 +10,8 @@ Takes-none (Some left) = refl
 
 -- some bytes were taken, and then some more
 pub Takes-append : (old mid new : Option (List ℕ)) (first next : List ℕ) → Takes old mid first → Takes mid new next → Takes old new (first ++ next)
-Takes-append None None None first next a b = tt
+Takes-append None mid new first next a b = tt
 Takes-append (Some xs) (Some ys) (Some zs) first next a b = a ∙ (ap (λ rest. first ++ rest) b ∙ sym (append_assoc first next zs))
-Takes-append None None (Some zs) first next a b = b
-Takes-append None (Some ys) new first next a b = absurd a
 Takes-append (Some xs) None new first next a b = absurd a
 Takes-append (Some xs) (Some ys) None first next a b = b
 

@@ -1,5 +1,5 @@
 -- Counts of faults: how a count rises, and what an error has to show.
-use Rattle.std.specs.Prelude.{ℕ, ◌+◌, ◌-◌, ◌^◌, ◌<◌, ◌≤◌, min, Result, OnErr}
+use Rattle.std.specs.Prelude.{ℕ, ◌+◌, ◌-◌, ◌^◌, ◌<◌, ◌≤◌, min}
 
 -- one more, up to the last value of a `u64`, where a count stands still
 abbrev pub next_count : ℕ → ℕ
@@ -13,6 +13,6 @@ Rose before now = next_count before ≤ now
 abbrev pub IsQuiet : ℕ → ℕ → Type 0
 IsQuiet before now = now < next_count before
 
--- the count has not fallen, and an error comes only where it rose
-abbrev pub HasCause : {T E : Type 0} → ℕ → ℕ → Result T E → Type 0
-HasCause before now result = (before ≤ now) × OnErr result (Rose before now)
+-- the count has not fallen, and this fault comes only where it rose
+abbrev pub HasCause : Type 0 → ℕ → ℕ → Type 0
+HasCause fault before now = (before ≤ now) × (fault → Rose before now)

@@ -1,6 +1,10 @@
 -- Devices in memory. Their calls are numbered from 0; the number stands still at the last value of a `u64`, as counts do.
-use Rattle.std.specs.Prelude.{ℕ, min, List, ◌++◌, length, drop}
+use Rattle.std.specs.Prelude.{◌≡◌, ℕ, min, List, ◌++◌, length, drop}
+use Rattle.std.specs.Option.{option_map}
+use Rattle.std.specs.BTreeMap.{get_by_text}
 use Rattle.zf_dev.specs.Faults.{next_count}
+use Rattle.zf_dev.specs.Shelf.{Files}
+use Rattle.zf_dev.specs.declared.mem_shelf.MemShelf.{MemShelf}
 
 -- a source in memory
 pub record SourceState : Type 0 where
@@ -53,3 +57,42 @@ sink_after_fault sink = record sink { call = next_count sink.call; faults = next
 -- the sink after a call that failed for want of memory
 abbrev pub sink_after_want : SinkState → SinkState
 sink_after_want sink = record sink { call = next_count sink.call; faults = next_count sink.faults; starved = next_count sink.starved }
+
+-- what a shelf in memory holds: its files by name
+abbrev pub shelf_files : MemShelf → Files
+shelf_files shelf name = option_map (λ file. file.items) (get_by_text shelf.files name)
+
+-- the numbers of its loads and saves that fail, whatever memory there is
+abbrev pub shelf_fail : MemShelf → List ℕ
+shelf_fail shelf = shelf.fail.items
+
+-- the number of the next load or save
+abbrev pub shelf_call : MemShelf → ℕ
+shelf_call shelf = shelf.call
+
+-- how many loads and saves failed
+abbrev pub shelf_faults : MemShelf → ℕ
+shelf_faults shelf = shelf.faults
+
+-- how many of these, all of them saves, failed for want of memory
+abbrev pub shelf_starved : MemShelf → ℕ
+shelf_starved shelf = shelf.starved
+
+-- one more load or save was counted, and so many faults and wants
+pub record Counts (before now : MemShelf) (faults starved : ℕ) : Type 0 where
+  pub fail : shelf_fail now ≡ shelf_fail before
+  pub call : shelf_call now ≡ next_count (shelf_call before)
+  pub faults_are : shelf_faults now ≡ faults
+  pub starved_are : shelf_starved now ≡ starved
+
+-- a load or save that did not fail
+abbrev pub CountsCall : MemShelf → MemShelf → Type 0
+CountsCall before now = Counts before now (shelf_faults before) (shelf_starved before)
+
+-- one that failed because of its number
+abbrev pub CountsFault : MemShelf → MemShelf → Type 0
+CountsFault before now = Counts before now (next_count (shelf_faults before)) (shelf_starved before)
+
+-- one that failed for want of memory
+abbrev pub CountsWant : MemShelf → MemShelf → Type 0
+CountsWant before now = Counts before now (next_count (shelf_faults before)) (next_count (shelf_starved before))

@@ -3,8 +3,7 @@ use Rattle.std.specs.Prelude.{◌≡◌, ℕ, ◌<◌, ◌≤◌, List, ◌++◌
 
 -- these bytes were written after those from before
 abbrev pub Appends : Option (List ℕ) → Option (List ℕ) → List ℕ → Type 0
-Appends None None bytes = Unit {0}
-Appends None (Some now) bytes = ⊥
+Appends None now bytes = Unit {0}
 Appends (Some before) None bytes = ⊥
 Appends (Some before) (Some now) bytes = now ≡ before ++ bytes
 

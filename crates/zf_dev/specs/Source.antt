@@ -1,10 +1,9 @@
 -- What is taken from a source. The bytes still to come are `Some` where the source tells them, and it then goes on telling them.
-use Rattle.std.specs.Prelude.{◌≡◌, ℕ, ◌≤◌, ◌↔◌, min, List, [], ◌++◌, length, Option, Some, None}
+use Rattle.std.specs.Prelude.{◌≡◌, ℕ, ◌<◌, ◌≤◌, ◌↔◌, min, List, [], ◌++◌, length, Option, Some, None}
 
 -- the bytes to come began with these, which are gone
 abbrev pub Takes : Option (List ℕ) → Option (List ℕ) → List ℕ → Type 0
-Takes None None bytes = Unit {0}
-Takes None (Some now) bytes = ⊥
+Takes None now bytes = Unit {0}
 Takes (Some before) None bytes = ⊥
 Takes (Some before) (Some now) bytes = before ≡ bytes ++ now
 
@@ -12,15 +11,23 @@ Takes (Some before) (Some now) bytes = before ≡ bytes ++ now
 abbrev pub TakesAtMost : Option (List ℕ) → Option (List ℕ) → ℕ → Type 0
 TakesAtMost old new most = (bytes : List ℕ) × (length bytes ≤ most) × Takes old new bytes
 
+-- some bytes were taken, more than this many
+abbrev pub TakesMoreThan : Option (List ℕ) → Option (List ℕ) → ℕ → Type 0
+TakesMoreThan old new most = (bytes : List ℕ) × (most < length bytes) × Takes old new bytes
+
+-- some bytes were taken, maybe none
+abbrev pub TakesSome : Option (List ℕ) → Option (List ℕ) → Type 0
+TakesSome old new = (bytes : List ℕ) × Takes old new bytes
+
 -- no byte is to come
 abbrev pub IsAtEnd : Option (List ℕ) → Type 0
 IsAtEnd None = Unit {0}
 IsAtEnd (Some left) = left ≡ []
 
 -- a read gave no byte exactly where none was to come
-abbrev pub EndsAt : Option (List ℕ) → ℕ → Type 0
-EndsAt None given = Unit {0}
-EndsAt (Some left) given = (given ≡ 0) ↔ (left ≡ [])
+abbrev pub EndsAt : Option (List ℕ) → Option (List ℕ) → ℕ → Type 0
+EndsAt None now given = given ≡ 0 → IsAtEnd now
+EndsAt (Some left) now given = (given ≡ 0) ↔ (left ≡ [])
 
 -- as many bytes were given as there is room for, or all where fewer were to come
 abbrev pub IsFill : Option (List ℕ) → ℕ → ℕ → Type 0

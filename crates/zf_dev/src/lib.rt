@@ -1,17 +1,28 @@
-//! Sources and sinks of bytes: what they do, how they fail, and those in memory and over the standard streams.
+//! Devices, which are the outside of the program: sources and sinks of bytes, shelves of files, what they do and how they
+//! fail; those in memory, and those over the real things.
 #![tactic(auto)]
 
 mod faults;
+mod mem_shelf;
 mod memory;
 mod real;
+mod real_shelf;
+mod shelf;
 mod sink;
 mod source;
+mod whole;
 
-pub use faults::Failed;
+pub use faults::{Failed, LoadError, TakeError};
+pub use mem_shelf::MemShelf;
 pub use memory::{MemSink, MemSource};
 pub use real::{RealSink, RealSource};
+pub use real_shelf::RealShelf;
+pub use shelf::Shelf;
 pub use sink::{Sink, write_all};
 pub use source::{Source, fill};
+pub use whole::take_all;
 
 #[cfg(test)]
 mod tests;
+#[cfg(test)]
+mod tests_of_files;

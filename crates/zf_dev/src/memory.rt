@@ -1,5 +1,5 @@
 // Devices in memory: what a test or a caller with the bytes in hand puts in the place of the streams.
-ghost use Rattle.std.specs.Prelude.{◌≡◌, ℕ, ◌<◌, ◌≤◌, ◌↔◌, min, List, [], ◌++◌, length, take, drop, Some, IsTrue, IsOk, IsErr, IfOk, OnErr, Contains};
+ghost use Rattle.std.specs.Prelude.{◌≡◌, ℕ, ◌<◌, ◌≤◌, ◌↔◌, min, List, [], ◌++◌, length, take, drop, Some, IsTrue, IsOk, IsErr, IfOk, OnOk, OnErr, Contains};
 ghost use Rattle.zf_dev.specs.Faults.{HasCause};
 ghost use Rattle.zf_dev.specs.Memory.{given_count, source_after_read, source_after_fault, sink_after_write, sink_after_fault, sink_after_want};
 ghost use Rattle.zf_dev.specs.Sink.{Appends};
@@ -96,9 +96,10 @@ impl Source for MemSource {
         ensures bound { IfOk result (λ n. n ≤ length buf.old) }
         ensures taken { IfOk result (λ n. Takes (Some self.old.left) (Some self.new.left) (take n buf.new)) }
         ensures rest { IfOk result (λ n. drop n buf.new ≡ drop n buf.old) }
-        ensures end { IfOk result (λ n. EndsAt (Some self.old.left) n) }
-        ensures untaken { OnErr result (Some self.new.left ≡ Some self.old.left) }
-        ensures cause { HasCause self.old.faults self.new.faults result }
+        ensures end { IfOk result (λ n. EndsAt (Some self.old.left) (Some self.new.left) n) }
+        ensures untaken { OnErr result (Takes (Some self.old.left) (Some self.new.left) []) }
+        ensures unchanged { OnOk result (self.new.faults ≡ self.old.faults) }
+        ensures cause { HasCause (IsErr result) self.old.faults self.new.faults }
         ensures sure { self.old.fail ≡ [] → IsOk result × (self.new.fail ≡ []) }
     {
         let call = self.call;
@@ -207,8 +208,9 @@ impl Sink for MemSink {
         ensures some { IfOk result (λ n. 0 < n) }
         ensures bound { IfOk result (λ n. n ≤ length bytes.now) }
         ensures appended { IfOk result (λ n. Appends (Some self.old.written) (Some self.new.written) (take n bytes.now)) }
-        ensures unwritten { OnErr result (Some self.new.written ≡ Some self.old.written) }
-        ensures cause { HasCause self.old.faults self.new.faults result }
+        ensures unwritten { OnErr result (Appends (Some self.old.written) (Some self.new.written) []) }
+        ensures unchanged { OnOk result (self.new.faults ≡ self.old.faults) }
+        ensures cause { HasCause (IsErr result) self.old.faults self.new.faults }
     {
         let call = self.call;
         raise(&mut self.call);
@@ -227,7 +229,7 @@ impl Sink for MemSink {
 }
 
 // Whether the call with this number is to fail.
-fn is_listed(fail: &[u64], call: u64) -> bool
+pub(crate) fn is_listed(fail: &[u64], call: u64) -> bool
     ensures { IsTrue result ↔ Contains fail.now call }
 {
     fail.contains(&call)

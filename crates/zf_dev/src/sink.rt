@@ -1,4 +1,4 @@
-ghost use Rattle.std.specs.Prelude.{◌≡◌, ℕ, ◌<◌, ◌≤◌, List, Option, length, take, IfOk, OnOk, OnErr};
+ghost use Rattle.std.specs.Prelude.{◌≡◌, ℕ, ◌<◌, ◌≤◌, List, [], Option, length, take, IsErr, IfOk, OnOk, OnErr};
 ghost use Rattle.zf_dev.specs.Faults.{HasCause};
 ghost use Rattle.zf_dev.specs.Sink.{Appends, AppendsFront, AppendsPart};
 
@@ -18,8 +18,9 @@ pub trait Sink {
         ensures some { IfOk result (λ n. 0 < n) }
         ensures bound { IfOk result (λ n. n ≤ length bytes.now) }
         ensures appended { IfOk result (λ n. Appends (contents self.old) (contents self.new) (take n bytes.now)) }
-        ensures unwritten { OnErr result (contents self.new ≡ contents self.old) }
-        ensures cause { HasCause (faults self.old) (faults self.new) result };
+        ensures unwritten { OnErr result (Appends (contents self.old) (contents self.new) []) }
+        ensures unchanged { OnOk result (faults self.new ≡ faults self.old) }
+        ensures cause { HasCause (IsErr result) (faults self.old) (faults self.new) };
 }
 
 /// Writes all of `bytes`. After a fault a front of them is written, but not all.
@@ -27,7 +28,8 @@ pub fn write_all<O: Sink>(out: &mut O, bytes: &[u8]) -> Result<(), Failed>
     ensures all { OnOk result (Appends (O.contents out.old) (O.contents out.new) bytes.now) }
     ensures part { OnErr result (AppendsPart (O.contents out.old) (O.contents out.new) bytes.now) }
     ensures front { AppendsFront (O.contents out.old) (O.contents out.new) bytes.now }
-    ensures cause { HasCause (O.faults out.old) (O.faults out.new) result }
+    ensures unchanged { OnOk result (O.faults out.new ≡ O.faults out.old) }
+    ensures cause { HasCause (IsErr result) (O.faults out.old) (O.faults out.new) }
 {
     let mut written = 0;
     while written < bytes.len() {

@@ -1,4 +1,4 @@
-ghost use Rattle.std.specs.Prelude.{◌≡◌, ℕ, ◌<◌, ◌≤◌, List, Option, length, take, drop, IsOk, IfOk, OnErr};
+ghost use Rattle.std.specs.Prelude.{◌≡◌, ℕ, ◌<◌, ◌≤◌, List, [], Option, length, take, drop, IsOk, IsErr, IfOk, OnOk, OnErr};
 ghost use Rattle.zf_dev.specs.Faults.{HasCause};
 ghost use Rattle.zf_dev.specs.Source.{Takes, TakesAtMost, IsAtEnd, EndsAt, IsFill};
 
@@ -21,9 +21,10 @@ pub trait Source {
         ensures bound { IfOk result (λ n. n ≤ length buf.old) }
         ensures taken { IfOk result (λ n. Takes (contents self.old) (contents self.new) (take n buf.new)) }
         ensures rest { IfOk result (λ n. drop n buf.new ≡ drop n buf.old) }
-        ensures end { IfOk result (λ n. EndsAt (contents self.old) n) }
-        ensures untaken { OnErr result (contents self.new ≡ contents self.old) }
-        ensures cause { HasCause (faults self.old) (faults self.new) result }
+        ensures end { IfOk result (λ n. EndsAt (contents self.old) (contents self.new) n) }
+        ensures untaken { OnErr result (Takes (contents self.old) (contents self.new) []) }
+        ensures unchanged { OnOk result (faults self.new ≡ faults self.old) }
+        ensures cause { HasCause (IsErr result) (faults self.old) (faults self.new) }
         ensures sure { never_fails self.old → IsOk result × never_fails self.new };
 }
 
@@ -38,7 +39,8 @@ pub fn fill<S: Source>(src: &mut S, buf: &mut [u8]) -> Result<usize, Failed>
     ensures end { IfOk result (λ n. n < length buf.old → IsAtEnd (S.contents src.new)) }
     // After a fault, some of the next bytes are gone, at most as many as there was room for.
     ensures lost { OnErr result (TakesAtMost (S.contents src.old) (S.contents src.new) (length buf.old)) }
-    ensures cause { HasCause (S.faults src.old) (S.faults src.new) result }
+    ensures unchanged { OnOk result (S.faults src.new ≡ S.faults src.old) }
+    ensures cause { HasCause (IsErr result) (S.faults src.old) (S.faults src.new) }
     ensures sure { S.never_fails src.old → IsOk result × S.never_fails src.new }
 {
     let mut filled = 0;

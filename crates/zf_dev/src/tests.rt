@@ -1,5 +1,6 @@
-ghost use Rattle.std.specs.Prelude.{◌≡◌, ℕ, ◌<◌, ◌≤◌, List, length, IsOk, IfOk, OnErr};
+ghost use Rattle.std.specs.Prelude.{◌≡◌, ℕ, ◌<◌, ◌≤◌, ◌++◌, min, List, length, take, IsOk, IfOk, OnOk};
 ghost use Rattle.zf_dev.specs.Faults.{IsQuiet};
+ghost use Rattle.zf_dev.specs.Real.{sink_stream};
 ghost use Rattle.zf_dev.specs.Sink.{Appends, AppendsFront};
 ghost use Rattle.zf_dev.specs.Source.{Takes, IsAtEnd};
 
@@ -77,6 +78,37 @@ fn a_listed_call_fails_and_the_next_goes_on(rt: HostRuntime) -> Result<(), Fail>
         assert_eq!(rt; out.bytes(), written);
         assert_eq!(rt; (out.faults(), out.starved()), (1, 0));
     }
+    Ok(())
+}
+
+// Over streams that tell their bytes the adapters are exact: a reader in memory, and a writer.
+fn first_bytes(text: &[u8], buf: &mut [u8]) -> Result<usize, Failed>
+    ensures count { IfOk result (λ n. n ≡ min (length buf.old) (length text.now)) }
+    ensures bytes { IfOk result (λ n. (rest : List ℕ) × (text.now ≡ take n buf.new ++ rest)) }
+{
+    fill(&mut RealSource::new(text), buf)
+}
+
+fn send(text: &[u8], out: &mut RealSink<Vec<u8>>) -> Result<(), Failed>
+    ensures { OnOk result ((sink_stream out.new).items ≡ (sink_stream out.old).items ++ text.now) }
+{
+    write_all(out, text)
+}
+
+// More than one call of the system moves at once.
+#[test]
+fn long_texts_go_through(rt: HostRuntime) -> Result<(), Fail> {
+    let alloc = rt.alloc();
+    let text = vec![in alloc; 7; 10_000]?;
+    let mut buf = vec![in alloc; 0; 9_000]?;
+    assert_eq!(rt; first_bytes(&text, &mut buf), Ok(9_000));
+    assert_eq!(rt; buf.iter().filter(|b| **b == 7).count(), 9_000);
+    let mut sink = RealSink::new(Vec::new(alloc));
+    assert_eq!(rt; send(&text, &mut sink), Ok(()));
+    assert_eq!(rt; sink.faults(), 0);
+    let mut sink = MemSink::new(alloc, Vec::new(alloc), 20_000);
+    assert_eq!(rt; sink.write(&text), Ok(10_000));
+    assert_eq!(rt; sink.bytes(), text.as_slice());
     Ok(())
 }
 

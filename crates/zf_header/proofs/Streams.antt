@@ -8,31 +8,18 @@ use Rattle.zf_spec.specs.Codes.{rate}
 use Rattle.zf_spec.specs.Grid.{upto, blocks, extent_of, block_of}
 use Rattle.zf_spec.specs.Stream.{fixed_rate, header, codes, with_fill, file, stream}
 use Rattle.zf_spec.proofs.BlockReading.{length-rate}
-use Rattle.zf_spec.proofs.Bytes.{length-to_bytes, length-filled_bytes}
 use Rattle.zf_spec.proofs.Counting.{length-upto}
+use Rattle.zf_spec.proofs.Files.{length-file}
 use Rattle.zf_header.specs.declared.header.Header.{Header}
 use Rattle.zf_header.specs.declared.header.Mode.{Mode}
 use Rattle.zf_header.specs.declared.header.Mode.TheVariants.{Reversible, Rate, Precision}
 use Rattle.zf_header.specs.HeaderBits.{coding, block_bits, IsRate, header_bits, rate_bytes_of}
 
--- codes of one length, end to end
-length-codes : (code : ℕ → List Bool) (b : ℕ) (ks : List ℕ) → ((k : ℕ) → length (code k) ≡ b) → length (flat_map (λ c. c) (map code ks)) ≡ length ks * b
-length-codes code b [] each = omega arith
-length-codes code b (k ∷ ks) each =
-    length-append (code k) (flat_map (λ c. c) (map code ks)) ∙ omega (arith, each k, length-codes code b ks each, suc-mul (length ks) b)
-
--- the bytes of whole words of 64
-
 length-stream_rate : (w : Width) (ns : List ℕ) (b : ℕ) (values : List ℤ) → length (stream w ns (fixed_rate b) values) ≡ 8 * div_ceil (length (header w ns (fixed_rate b)) + blocks ns * b) 64
-unfolding stream file
+unfolding stream
 length-stream_rate w ns b values =
-    let front = header w ns (fixed_rate b) in
-    let code : ℕ → List Bool = λ k. rate w b (extent_of ns k) (block_of ns values k) in
-    let behind = flat_map (λ c. c) (codes w ns (fixed_rate b) values) in
-    let count : length behind ≡ blocks ns * b =
-    length-codes code b (upto (blocks ns)) (λ k. length-rate w b (extent_of ns k) (block_of ns values k)) ∙ ap (λ n. n * b) (length-upto (blocks ns)) in
-    let bits : length (front ++ behind) ≡ length front + blocks ns * b = length-append front behind ∙ ap (λ n. length front + n) count in
-    length-to_bytes (with_fill (front ++ behind)) ∙ length-filled_bytes (front ++ behind) ∙ ap (λ n. 8 * div_ceil n 64) bits
+    length-file w ns (fixed_rate b) (λ k. rate w b (extent_of ns k) (block_of ns values k)) b (upto (blocks ns)) (λ k. length-rate w b (extent_of ns k) (block_of ns values k))
+    ∙ ap (λ n. 8 * div_ceil (length (header w ns (fixed_rate b)) + n * b) 64) (length-upto (blocks ns))
 
 rate_length : (w : Width) (ns : List ℕ) (mode : Mode) (values : List ℤ) → IsRate mode → length (stream w ns (coding mode) values) ≡ 8 * div_ceil (length (header w ns (coding mode)) + blocks ns * block_bits mode) 64
 rate_length w ns Reversible values is = absurd is

@@ -1,6 +1,7 @@
 //! The transform of a block: a pass along each axis.
 
 ghost use Rattle.std.specs.Prelude.{◌≡◌, ◌≤◌, ◌^◌, map, length};
+ghost use Rattle.zf_spec.specs.Grid.{IsDimension};
 ghost use Rattle.zf_spec.specs.Lift.{lift, unlift};
 
 use crate::line::{Lift, Unlift};
@@ -13,8 +14,7 @@ use zf_base::Lane;
 /// are rounded down and sums wrap, so [`inverse`] does not undo this.
 /// The decorrelating transform of the zfp 1.0 documentation, chapter Algorithm.
 pub fn forward<T: Lane>(d: u8, block: &mut [T])
-    requires some { 1 ≤ d }
-    requires four_at_most { d ≤ 4 }
+    requires dimension { IsDimension d }
     requires size { length block.old ≡ 4 ^ d }
     ensures { map T.value block.new ≡ lift T.width d (map T.value block.old) }
 {
@@ -23,8 +23,7 @@ pub fn forward<T: Lane>(d: u8, block: &mut [T])
 
 /// Makes values of the coefficients of a block: the steps of [`forward`] turned round, along the last axis first.
 pub fn inverse<T: Lane>(d: u8, block: &mut [T])
-    requires some { 1 ≤ d }
-    requires four_at_most { d ≤ 4 }
+    requires dimension { IsDimension d }
     requires size { length block.old ≡ 4 ^ d }
     ensures { map T.value block.new ≡ unlift T.width d (map T.value block.old) }
 {

@@ -1,6 +1,7 @@
 //! The transform of a block: a pass along each axis.
 
 ghost use Rattle.std.specs.Prelude.{◌≡◌, ◌≤◌, ◌^◌, map, length};
+ghost use Rattle.zf_spec.specs.Grid.{IsDimension};
 ghost use Rattle.zf_spec.specs.Numbers.{AreValues};
 ghost use Rattle.zf_spec.specs.Lorenzo.{lorenzo, unlorenzo};
 
@@ -13,8 +14,7 @@ use zf_base::Lane;
 /// `block` has `4^d` values, x fastest, each of which has been given a value (a partial block is padded first).
 /// The reversible transform of the zfp 1.0 documentation, chapter Algorithm.
 pub fn forward<T: Lane>(d: u8, block: &mut [T])
-    requires some { 1 ≤ d }
-    requires four_at_most { d ≤ 4 }
+    requires dimension { IsDimension d }
     requires size { length block.old ≡ 4 ^ d }
     ensures sums { map T.value block.new ≡ lorenzo T.width d (map T.value block.old) }
     ensures undone { AreValues T.width (map T.value block.old)
@@ -25,8 +25,7 @@ pub fn forward<T: Lane>(d: u8, block: &mut [T])
 
 /// Undoes [`forward`]: the coefficients become the block again.
 pub fn inverse<T: Lane>(d: u8, block: &mut [T])
-    requires some { 1 ≤ d }
-    requires four_at_most { d ≤ 4 }
+    requires dimension { IsDimension d }
     requires size { length block.old ≡ 4 ^ d }
     ensures { map T.value block.new ≡ unlorenzo T.width d (map T.value block.old) }
 {

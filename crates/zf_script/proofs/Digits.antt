@@ -8,6 +8,7 @@ use Rattle.std.proofs.lemmas.Str.Parse.{digits_value-take-le}
 use Rattle.std.proofs.lemmas.Fmt.{digits_decimal, decimal-digits_value, decimal_nonempty, decimal_digit, first_decimal}
 use Rattle.zf_cached.proofs.Numerals.{own, number-decimal}
 use Rattle.zf_script.specs.NumberWords.{IsShortNumeral, IsDigitMore}
+use Rattle.zf_base.proofs.Decimals.{one_zero}
 
 -- each byte of digits is a digit
 pub digit_in : (word : List ℕ) (i : ℕ) → AllDigits 10 word → i < length word → digit_value (get_or word i 0) < 10
@@ -48,10 +49,6 @@ no_first (b ∷ bs) none = absurd (cc)
 -- an empty word is no number, and a zero begins no other number
 pub empty_none : (word : List ℕ) (n : ℕ) → length word ≡ 0 → n < 2 ^ 64 → word ≢ decimal n
 empty_none word n empty small is = omega (arith, decimal_nonempty n small, ap length is)
-
-one_zero : (n : ℕ) → n < 2 ^ 64 → get_or (decimal n) 0 0 ≡ 48 → 1 < length (decimal n) → ⊥
-one_zero zero small first long = omega (arith, ap length (decimal_digit 0 (lit< tt)))
-one_zero (suc n) small first long = omega (arith, first_decimal (suc n) (omega arith) small)
 
 pub zero_none : (word : List ℕ) (n : ℕ) → get_or word 0 0 ≡ 48 → 1 < length word → n < 2 ^ 64 → word ≢ decimal n
 zero_none word n first long small is =

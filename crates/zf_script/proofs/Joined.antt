@@ -9,7 +9,7 @@ use Rattle.zf_base.specs.declared.position.Pos.{Pos}
 use Rattle.zf_base.specs.Positions.{used_axes, with_unused}
 use Rattle.zf_cached.specs.Grammar.{IsNoDigit, numbers_text, is_number, has_axes, has_sizes, cut_at}
 use Rattle.zf_cached.proofs.Cutting.{cut_at-numbers, joined-cut_at}
-use Rattle.zf_cached.proofs.Reading.{axes-parts, sizes-parts}
+use Rattle.zf_cached.proofs.ReadLines.{axes-parts, sizes-parts}
 use Rattle.zf_script.specs.NumberWords.{IsAxesWord, IsSizesWord}
 use Rattle.zf_base.proofs.Values.{four_elements}
 

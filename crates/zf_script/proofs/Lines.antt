@@ -13,7 +13,7 @@ use Rattle.zf_cached.specs.Commands.{Command}
 use Rattle.zf_cached.specs.Grammar.{space, comma, letter_x, numbers_text, words_of, line_of, is_value, has_axes, has_sizes, cut_at, read_line}
 use Rattle.zf_cached.proofs.Numerals.{HasNo}
 use Rattle.zf_cached.proofs.Cutting.{cut_at-one, joined-cut_at, one_word}
-use Rattle.zf_cached.proofs.Reading.{sizes-parts, position_no_space, sizes_no_space, value_no_space, number_no_space, cut_at-line_of, read_line_iff, read_line-None}
+use Rattle.zf_cached.proofs.ReadLines.{sizes-parts, position_no_space, sizes_no_space, value_no_space, number_no_space, cut_at-line_of, read_line_iff, read_line-None}
 use Rattle.zf_script.specs.declared.command.Cmd.{Cmd}
 use Rattle.zf_script.specs.declared.command.Cmd.TheVariants as cmds
 use Rattle.zf_script.specs.declared.reply.Refusal.{Refusal}

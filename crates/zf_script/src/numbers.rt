@@ -5,6 +5,7 @@ ghost use Rattle.std.specs.Fmt.{signed_decimal};
 ghost use Rattle.std.specs.Char.{digit_value};
 ghost use Rattle.std.specs.Option.{SomeIff};
 ghost use Rattle.std.specs.Str.Parse.{digits_value};
+ghost use Rattle.zf_spec.specs.Grid.{IsDimension};
 ghost use Rattle.zf_cached.specs.Grammar.{numbers_text, is_value, has_axes, has_sizes, IsNoDigit};
 ghost use Rattle.zf_script.specs.NumberWords.{IsAxesWord, IsSizesWord, IsShortNumeral, IsDigitMore};
 
@@ -91,8 +92,7 @@ pub(crate) fn sizes_in(byte: u8, unused: u64, word: &[u8]) -> Option<(u8, Pos)>
 /// One number for each axis, with this byte between two of them, and `unused` along the other axes.
 pub(crate) fn axes_in(dims: u8, byte: u8, unused: u64, word: &[u8]) -> Option<Pos>
     requires no_digit { IsNoDigit byte }
-    requires one_at_least { 1 ≤ dims }
-    requires four_at_most { dims ≤ 4 }
+    requires dimension { IsDimension dims }
     ensures axes { IfSome result (IsAxesWord dims byte unused word.now) }
     ensures none { IfNone result ((ns : List ℕ) → IsTrue (has_axes dims ns) → word.now ≢ numbers_text byte ns) }
 {

@@ -1,6 +1,7 @@
 //! Lines as commands.
 
 ghost use Rattle.std.specs.Prelude.{◌≡◌, ℕ, ◌≤◌, [], ◌∷◌, Some, None, IfSome, IfNone, IfOk, IfErr};
+ghost use Rattle.zf_spec.specs.Grid.{IsDimension};
 ghost use Rattle.zf_cached.specs.Grammar.{space, cut_at, read_line};
 ghost use Rattle.zf_script.specs.Seen.{command_of, cmd_of, IsCommand, IsNoCommand};
 ghost use Rattle.zf_script.specs.Verbs.{verb_word};
@@ -15,8 +16,7 @@ use zf_base::Pos;
 
 /// The command of a line for an array of so many dimensions; `Word` where the line is none.
 pub fn parse_line(dims: u8, line: &[u8]) -> Result<Cmd, Refusal>
-    requires one_at_least { 1 ≤ dims }
-    requires four_at_most { dims ≤ 4 }
+    requires dimension { IsDimension dims }
     ensures ok { IfOk result (λ cmd. read_line dims line.now ≡ Some (command_of dims cmd)) }
     ensures others { IfOk result (λ cmd. cmd ≡ cmd_of (command_of dims cmd)) }
     ensures err { IfErr result (λ why. (why ≡ Refusal.Word) × (read_line dims line.now ≡ None)) }
@@ -26,8 +26,7 @@ pub fn parse_line(dims: u8, line: &[u8]) -> Result<Cmd, Refusal>
 
 // The command whose words a line has.
 fn command_in(dims: u8, line: &[u8]) -> Option<Cmd>
-    requires one_at_least { 1 ≤ dims }
-    requires four_at_most { dims ≤ 4 }
+    requires dimension { IsDimension dims }
     ensures command { IfSome result (λ cmd. IsCommand dims (cut_at space line.now) cmd) }
     ensures none { IfNone result (IsNoCommand dims (cut_at space line.now)) }
 {
@@ -54,8 +53,7 @@ fn alone(verb: Verb) -> Option<Cmd>
 
 // The command that a verb is with the words behind its space.
 fn with_words(dims: u8, verb: Verb, rest: &[u8]) -> Option<Cmd>
-    requires one_at_least { 1 ≤ dims }
-    requires four_at_most { dims ≤ 4 }
+    requires dimension { IsDimension dims }
     ensures command { IfSome result (λ cmd. IsCommand dims (verb_word verb ∷ cut_at space rest.now) cmd) }
     ensures none { IfNone result (IsNoCommand dims (verb_word verb ∷ cut_at space rest.now)) }
 {
@@ -94,8 +92,7 @@ fn with_words(dims: u8, verb: Verb, rest: &[u8]) -> Option<Cmd>
 
 // A position and a value.
 fn position_and_value_in(dims: u8, words: &[u8]) -> Option<(Pos, i128)>
-    requires one_at_least { 1 ≤ dims }
-    requires four_at_most { dims ≤ 4 }
+    requires dimension { IsDimension dims }
     ensures both { IfSome result (λ r. IsPositionAndValue dims (cut_at space words.now) r.0 r.1) }
     ensures none { IfNone result (NoPositionAndValue dims (cut_at space words.now)) }
 {
@@ -107,8 +104,7 @@ fn position_and_value_in(dims: u8, words: &[u8]) -> Option<(Pos, i128)>
 
 // An origin, sizes and steps.
 fn window_in(dims: u8, words: &[u8]) -> Option<(Pos, Pos, Pos)>
-    requires one_at_least { 1 ≤ dims }
-    requires four_at_most { dims ≤ 4 }
+    requires dimension { IsDimension dims }
     ensures window { IfSome result (λ r. IsWindow dims (cut_at space words.now) r.0 r.1 r.2) }
     ensures none { IfNone result (NoWindow dims (cut_at space words.now)) }
 {

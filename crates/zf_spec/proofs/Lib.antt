@@ -23,6 +23,7 @@
 --     BlockReading     what reading the code of a block gives, and how long it is
 --     Bytes            bytes of bits, and the bytes of numbers
 --     RawValues        values and their raw bytes, and the length of the header
+--     Files            how long a file is whose codes all have one length
 pub mod Ring
 pub mod Sums
 pub mod Wrapping
@@ -49,3 +50,4 @@ pub mod KeptSame
 pub mod BlockReading
 pub mod Bytes
 pub mod RawValues
+pub mod Files

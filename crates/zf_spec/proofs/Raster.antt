@@ -15,6 +15,7 @@ product-fours (suc d) = omega (arith, product-fours d, pow-suc 4 d)
 pub length-fours : (d : ℕ) → length (fours d) ≡ d
 length-fours zero = refl
 length-fours (suc d) = ap suc (length-fours d)
+
 pub length-coordinates : (ns : List ℕ) (k : ℕ) → length (coordinates ns k) ≡ length ns
 length-coordinates [] k = refl
 length-coordinates (n ∷ ns) k = ap suc (length-coordinates ns (k / n))

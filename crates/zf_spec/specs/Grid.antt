@@ -2,7 +2,7 @@
 --     An array has its sizes as a list, x first, and its dimension d is the length of that list. Positions, extents and
 --     the coordinates of a block are lists of that length too. A block is the list of its 4^d values by place, x fastest.
 use Rattle.std.specs.List.{AllByRecursion}
-use Rattle.std.specs.Prelude.{ℕ, suc, zero, ◌+◌, ◌-◌, ◌*◌, ◌/◌, ◌%◌, ◌^◌, ◌≤◌, min, ℤ, pos, Bool, true, false, ◌&&◌, nat_lt, List, [], ◌∷◌, map, length, slice_index_or, if◌then◌else◌}
+use Rattle.std.specs.Prelude.{◌≡◌, ◌⊎◌, ℕ, suc, zero, ◌+◌, ◌-◌, ◌*◌, ◌/◌, ◌%◌, ◌^◌, ◌≤◌, min, ℤ, pos, Bool, true, false, ◌&&◌, nat_lt, List, [], ◌∷◌, map, length, slice_index_or, if◌then◌else◌}
 
 -- the numbers from k on, n of them
 abbrev pub count_from : ℕ → ℕ → List ℕ
@@ -16,6 +16,14 @@ upto n = count_from 0 n
 abbrev pub product : List ℕ → ℕ
 product [] = 1
 product (n ∷ ns) = n * product ns
+
+-- a number of dimensions
+abbrev pub IsDimension : ℕ → Type 0
+IsDimension d = (1 ≤ d) × (d ≤ 4)
+
+-- a number of places of a block, 4^d for a number of dimensions
+abbrev pub IsBlockSize : ℕ → Type 0
+IsBlockSize size = (size ≡ 4) ⊎ (size ≡ 16) ⊎ (size ≡ 64) ⊎ (size ≡ 256)
 
 -- the most values of an array, 1 GiB of int64
 abbrev pub max_values : ℕ

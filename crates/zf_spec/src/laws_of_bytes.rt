@@ -2,6 +2,7 @@
 
 ghost use Rattle.std.specs.Prelude.{◌≡◌, ℕ, ◌+◌, ◌*◌, ◌/◌, ◌%◌, ◌^◌, ◌<◌, ◌≤◌, ℤ, Bool, false, List, ◌++◌, length, replicate, slice_index_or, All};
 ghost use Rattle.std.specs.Int.{Width, byte_len};
+ghost use Rattle.zf_spec.specs.Grid.{IsDimension};
 ghost use Rattle.zf_spec.specs.Numbers.{AreValues, is_odd, word_bits};
 ghost use Rattle.zf_spec.specs.Stream.{with_fill, to_bytes, to_bits, first_bytes, values_from, raw, header, reversible, fixed_rate, fixed_precision};
 
@@ -41,12 +42,12 @@ pub fn values_and_raw_bytes()
 
 /// The header of an array of one to four dimensions has 96 bits, or 148 where the rate is above 2048.
 pub fn length_of_the_header()
-    ensures reversible { (w : Width) (ns : List ℕ) → 1 ≤ length ns → length ns ≤ 4
+    ensures reversible { (w : Width) (ns : List ℕ) → IsDimension (length ns)
         → length (header w ns reversible) ≡ 96 }
-    ensures rate { (w : Width) (ns : List ℕ) (b : ℕ) → 1 ≤ length ns → length ns ≤ 4 → b ≤ 2048
+    ensures rate { (w : Width) (ns : List ℕ) (b : ℕ) → IsDimension (length ns) → b ≤ 2048
         → length (header w ns (fixed_rate b)) ≡ 96 }
-    ensures precision { (w : Width) (ns : List ℕ) (p : ℕ) → 1 ≤ length ns → length ns ≤ 4
+    ensures precision { (w : Width) (ns : List ℕ) (p : ℕ) → IsDimension (length ns)
         → length (header w ns (fixed_precision p)) ≡ 96 }
-    ensures long { (w : Width) (ns : List ℕ) (b : ℕ) → 1 ≤ length ns → length ns ≤ 4 → 2048 < b
+    ensures long { (w : Width) (ns : List ℕ) (b : ℕ) → IsDimension (length ns) → 2048 < b
         → length (header w ns (fixed_rate b)) ≡ 148 }
 {}

@@ -5,6 +5,7 @@
 --     Joining        the blocks of a stream, read one after another
 --     Parsed         from what was read to what a stream says
 --     OwnFaults      which faults are a call's own
+--     Refusals       each refusal is that of some input, or comes from outside
 --     TextOfParse    what is restored of a stream is the raw bytes of its values
 --     Enough         as many bits as the longest codes have are enough for any codes
 --     Joined         the values of an array are joined of its blocks
@@ -16,7 +17,8 @@ mod Codes
 mod Fill
 mod Joining
 mod Parsed
-mod OwnFaults
+pub mod OwnFaults
+mod Refusals
 pub mod TextOfParse
 mod Enough
 pub mod Joined

@@ -1,6 +1,5 @@
 -- How a call that reads from a source and writes to a sink ends. What a device tells of its bytes is `Some`, else `None`.
 use Rattle.std.specs.Prelude.{ℕ, ◌≡◌, ◌≤◌, ◌⊎◌, List, length, take, Option, Some, None, Result, Ok, Err, IsErrAnd}
-use Rattle.zf_dev.specs.Faults.{Rose}
 use Rattle.zf_dev.specs.Source.{Takes, IsAtEnd}
 use Rattle.zf_dev.specs.Sink.{Appends, AppendsFront}
 use Rattle.zf_stream.specs.declared.fault.StreamFault.{StreamFault}
@@ -20,6 +19,10 @@ abbrev pub IsRefusal : Option (List ℕ) → (List ℕ → Result (Unit {0}) Str
 IsRefusal None answer e = Unit {0}
 IsRefusal (Some input) answer e = (answer input ≡ Err e) ⊎ IsFromOutside e
 
+-- some input has this refusal, or it comes from outside
+abbrev pub CanRefuse : (List ℕ → Result (Unit {0}) StreamFault) → StreamFault → Type 0
+CanRefuse answer e = ((input : List ℕ) × (answer input ≡ Err e)) ⊎ IsFromOutside e
+
 -- the whole source was read, and these bytes are a good input
 pub record ReadsWhole (answer : List ℕ → Result (Unit {0}) StreamFault) (before now : Option (List ℕ)) (bytes : List ℕ) : Type 0 where
   pub taken : Takes before now bytes
@@ -31,10 +34,6 @@ pub record ReadsText (answer : List ℕ → Result (Unit {0}) StreamFault) (text
   pub bytes : List ℕ
   pub whole : ReadsWhole answer before now bytes
   pub said_is : said ≡ text bytes
-
--- some bytes were taken
-abbrev pub TakesSome : Option (List ℕ) → Option (List ℕ) → Type 0
-TakesSome before now = (bytes : List ℕ) × Takes before now bytes
 
 -- the input was read to its end and is a good one, and its text was written
 pub record Finishes (answer : List ℕ → Result (Unit {0}) StreamFault) (text : List ℕ → List ℕ) (src_before src_now out_before out_now : Option (List ℕ)) : Type 0 where
@@ -60,7 +59,3 @@ pub record TakesFirst (n : ℕ) (before now : Option (List ℕ)) (bytes : List �
   pub taken : Takes before now bytes
   pub first : IsFront n before bytes
   pub within : length bytes ≤ n
-
--- a count of faults has not fallen, and this answer comes only where it rose
-abbrev pub IsCausedBy : {T : Type 0} → Result T StreamFault → StreamFault → ℕ → ℕ → Type 0
-IsCausedBy result e before now = (before ≤ now) × (IsErrAnd result (λ f. f ≡ e) → Rose before now)

@@ -2,7 +2,8 @@
 
 ghost use Rattle.std.specs.Prelude.{◌≡◌, ◌≢◌, ◌⊎◌, ◌<◌, ◌^◌, ◌≤◌, ◌++◌, map, length, Err, IfOk, IfErr, OnOk, OnErr};
 ghost use Rattle.zf_spec.specs.Stream.{raw};
-ghost use Rattle.zf_stream.specs.Outcomes.{TakesSome, IsCausedBy};
+ghost use Rattle.zf_dev.specs.Faults.{HasCause};
+ghost use Rattle.zf_dev.specs.Source.{TakesSome};
 ghost use Rattle.zf_stream.specs.ReadStreams.{ReadsRest};
 ghost use Rattle.zf_stream.specs.declared.fault.StreamFault.TheVariants.{Read, Memory};
 
@@ -30,7 +31,7 @@ pub(crate) fn read_rest<S: Source>(
     ensures bound { IfOk result (λ bytes. length bytes.items < 2 ^ 61) }
     ensures fault { IfErr result (λ e. (e ≡ Read) ⊎ (e ≡ Memory)) }
     ensures taken { OnErr result (TakesSome (S.contents src.old) (S.contents src.new)) }
-    ensures cause { IsCausedBy result Read (S.faults src.old) (S.faults src.new) }
+    ensures cause { HasCause (result ≡ Err Read) (S.faults src.old) (S.faults src.new) }
     ensures sure { S.never_fails src.old → (result ≢ Err Read) × S.never_fails src.new }
 {
     let mut bytes = Vec::new(alloc);

@@ -6,7 +6,9 @@ ghost use Rattle.zf_spec.specs.Grid.{product};
 ghost use Rattle.zf_base.specs.Widths.{width_of};
 ghost use Rattle.zf_header.specs.HeaderBits.{IsTaken};
 ghost use Rattle.zf_stream.specs.Raw.{compress_answer, stream_text};
-ghost use Rattle.zf_stream.specs.Outcomes.{Answers, Finishes, LeavesFront, IsCausedBy, ReadsText, IsRefusal, TakesSome};
+ghost use Rattle.zf_dev.specs.Faults.{HasCause};
+ghost use Rattle.zf_dev.specs.Source.{TakesSome};
+ghost use Rattle.zf_stream.specs.Outcomes.{CanRefuse, Answers, Finishes, LeavesFront, ReadsText, IsRefusal};
 ghost use Rattle.zf_stream.specs.declared.fault.StreamFault.TheVariants.{Read, Write, Memory};
 
 use crate::StreamFault;
@@ -29,13 +31,14 @@ pub fn compress<S: Source, O: Sink>(
 ) -> Result<(), StreamFault>
     requires { IsTaken h.now.mode }
     ensures answer { Answers result (S.contents src.old) (compress_answer h.now) }
+    ensures possible { IfErr result (CanRefuse (compress_answer h.now)) }
     ensures ok { OnOk result (Finishes (compress_answer h.now) (stream_text h.now)
         (S.contents src.old) (S.contents src.new) (O.contents out.old) (O.contents out.new)) }
     ensures err { OnErr result (LeavesFront (stream_text h.now)
         (S.contents src.old) (S.contents src.new) (O.contents out.old) (O.contents out.new)) }
     ensures unwritten { result ≡ Err Memory → O.contents out.new ≡ O.contents out.old }
-    ensures read_cause { IsCausedBy result Read (S.faults src.old) (S.faults src.new) }
-    ensures write_cause { IsCausedBy result Write (O.faults out.old) (O.faults out.new) }
+    ensures read_cause { HasCause (result ≡ Err Read) (S.faults src.old) (S.faults src.new) }
+    ensures write_cause { HasCause (result ≡ Err Write) (O.faults out.old) (O.faults out.new) }
     ensures sure { S.never_fails src.old → (result ≢ Err Read) × S.never_fails src.new }
 {
     let stream = match h.ty {
@@ -59,9 +62,10 @@ fn read_stream<T: Lane, S: Source>(
     ensures ok { IfOk result (λ stream. ReadsText (compress_answer h.now) (stream_text h.now)
         (S.contents src.old) (S.contents src.new) stream.items) }
     ensures refused { IfErr result (IsRefusal (S.contents src.old) (compress_answer h.now)) }
+    ensures possible { IfErr result (CanRefuse (compress_answer h.now)) }
     ensures taken { OnErr result (TakesSome (S.contents src.old) (S.contents src.new)) }
     ensures unwritten { IfErr result (λ e. e ≢ Write) }
-    ensures cause { IsCausedBy result Read (S.faults src.old) (S.faults src.new) }
+    ensures cause { HasCause (result ≡ Err Read) (S.faults src.old) (S.faults src.new) }
     ensures sure { S.never_fails src.old → (result ≢ Err Read) × S.never_fails src.new }
 {
     let count = h.shape.values() as usize;

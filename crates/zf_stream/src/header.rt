@@ -2,7 +2,8 @@
 
 ghost use Rattle.std.specs.Prelude.{◌≡◌, ◌≢◌, ◌≤◌, length, take, Err, IfOk, IfErr, OnErr};
 ghost use Rattle.zf_dev.specs.Source.{TakesAtMost};
-ghost use Rattle.zf_stream.specs.Outcomes.{TakesFirst, IsCausedBy};
+ghost use Rattle.zf_dev.specs.Faults.{HasCause};
+ghost use Rattle.zf_stream.specs.Outcomes.{TakesFirst};
 ghost use Rattle.zf_stream.specs.ReadStreams.{BeginsWithHeader, ReadsHeader, IsFaultOf, LacksHeader};
 ghost use Rattle.zf_stream.specs.declared.fault.StreamFault.TheVariants.{Read};
 
@@ -16,7 +17,7 @@ use zf_header::{FULL_HEADER_BYTES, Header};
 pub fn read_header<S: Source>(src: &mut S) -> Result<(Header, u32), StreamFault>
     ensures ok { IfOk result (λ found. ReadsHeader (S.contents src.old) (S.contents src.new) found.0 found.1) }
     ensures err { IfErr result (LacksHeader (S.contents src.old) (S.contents src.new)) }
-    ensures cause { IsCausedBy result Read (S.faults src.old) (S.faults src.new) }
+    ensures cause { HasCause (result ≡ Err Read) (S.faults src.old) (S.faults src.new) }
     ensures sure { S.never_fails src.old → (result ≢ Err Read) × S.never_fails src.new }
 {
     let mut bytes = [0; FULL_HEADER_BYTES];
@@ -30,7 +31,7 @@ pub(crate) fn read_front<S: Source>(src: &mut S, buf: &mut [u8]) -> Result<usize
     ensures first { IfOk result (λ n. TakesFirst (length buf.old) (S.contents src.old) (S.contents src.new) (take n buf.new)) }
     ensures lost { OnErr result (TakesAtMost (S.contents src.old) (S.contents src.new) (length buf.old)) }
     ensures fault { IfErr result (λ e. e ≡ Read) }
-    ensures cause { IsCausedBy result Read (S.faults src.old) (S.faults src.new) }
+    ensures cause { HasCause (result ≡ Err Read) (S.faults src.old) (S.faults src.new) }
     ensures sure { S.never_fails src.old → (result ≢ Err Read) × S.never_fails src.new }
 {
     match fill(src, buf) {

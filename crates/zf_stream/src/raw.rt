@@ -3,9 +3,10 @@
 ghost use Rattle.std.specs.Prelude.{◌≡◌, ◌≢◌, ◌≤◌, ◌<◌, ◌*◌, ◌/◌, ◌%◌, ◌^◌, map, length, take, IsOk, Err, IfOk, IfErr, OnOk, OnErr};
 ghost use Rattle.std.specs.Int.{byte_len, from_le_bytes};
 ghost use Rattle.zf_spec.specs.Stream.{values_from};
-ghost use Rattle.zf_dev.specs.Source.{Takes, IsFill, IsAtEnd};
+ghost use Rattle.zf_dev.specs.Source.{TakesSome, Takes, IsFill, IsAtEnd};
 ghost use Rattle.zf_stream.specs.Raw.{length_answer};
-ghost use Rattle.zf_stream.specs.Outcomes.{IsRefusal, ReadsWhole, TakesSome, IsCausedBy};
+ghost use Rattle.zf_dev.specs.Faults.{HasCause};
+ghost use Rattle.zf_stream.specs.Outcomes.{CanRefuse, IsRefusal, ReadsWhole};
 ghost use Rattle.zf_stream.specs.declared.fault.StreamFault.TheVariants.{Read, Write};
 
 use crate::StreamFault;
@@ -21,9 +22,10 @@ pub(crate) fn read_exactly<S: Source>(
 ) -> Result<Vec<u8>, StreamFault>
     ensures ok { IfOk result (λ raw. ReadsWhole (length_answer len) (S.contents src.old) (S.contents src.new) raw.items) }
     ensures refused { IfErr result (IsRefusal (S.contents src.old) (length_answer len)) }
+    ensures possible { IfErr result (CanRefuse (length_answer len)) }
     ensures taken { OnErr result (TakesSome (S.contents src.old) (S.contents src.new)) }
     ensures unwritten { IfErr result (λ e. e ≢ Write) }
-    ensures cause { IsCausedBy result Read (S.faults src.old) (S.faults src.new) }
+    ensures cause { HasCause (result ≡ Err Read) (S.faults src.old) (S.faults src.new) }
     ensures sure { S.never_fails src.old → (result ≢ Err Read) × S.never_fails src.new }
 {
     let mut raw = vec![in alloc; 0; len].map_err(|_| StreamFault::Memory)?;
@@ -35,9 +37,10 @@ pub(crate) fn read_exactly<S: Source>(
 fn fill_whole<S: Source>(src: &mut S, raw: &mut [u8]) -> Result<(), StreamFault>
     ensures ok { OnOk result (ReadsWhole (length_answer (length raw.old)) (S.contents src.old) (S.contents src.new) raw.new) }
     ensures refused { IfErr result (IsRefusal (S.contents src.old) (length_answer (length raw.old))) }
+    ensures possible { IfErr result (CanRefuse (length_answer (length raw.old))) }
     ensures taken { OnErr result (TakesSome (S.contents src.old) (S.contents src.new)) }
     ensures unwritten { IfErr result (λ e. e ≢ Write) }
-    ensures cause { IsCausedBy result Read (S.faults src.old) (S.faults src.new) }
+    ensures cause { HasCause (result ≡ Err Read) (S.faults src.old) (S.faults src.new) }
     ensures sure { S.never_fails src.old → (result ≢ Err Read) × S.never_fails src.new }
 {
     let count = read_into(src, raw)?;
@@ -60,7 +63,7 @@ pub(crate) fn read_into<S: Source>(src: &mut S, buf: &mut [u8]) -> Result<usize,
     ensures end { IfOk result (λ n. n < length buf.old → IsAtEnd (S.contents src.new)) }
     ensures some { TakesSome (S.contents src.old) (S.contents src.new) }
     ensures fault { IfErr result (λ e. e ≡ Read) }
-    ensures cause { IsCausedBy result Read (S.faults src.old) (S.faults src.new) }
+    ensures cause { HasCause (result ≡ Err Read) (S.faults src.old) (S.faults src.new) }
     ensures sure { S.never_fails src.old → IsOk result × S.never_fails src.new }
 {
     match fill(src, buf) {

@@ -4,7 +4,9 @@ ghost use Rattle.std.specs.Prelude.{◌≡◌, ◌≢◌, ◌^◌, ◌<◌, leng
 ghost use Rattle.zf_base.specs.Widths.{width_of};
 ghost use Rattle.zf_header.specs.declared.header.HeaderFault.{HeaderFault};
 ghost use Rattle.zf_stream.specs.Parsing.{restore_answer, restored_text};
-ghost use Rattle.zf_stream.specs.Outcomes.{Answers, Finishes, LeavesFront, IsCausedBy, ReadsText, IsRefusal, TakesSome};
+ghost use Rattle.zf_dev.specs.Faults.{HasCause};
+ghost use Rattle.zf_dev.specs.Source.{TakesSome};
+ghost use Rattle.zf_stream.specs.Outcomes.{CanRefuse, Answers, Finishes, LeavesFront, ReadsText, IsRefusal};
 ghost use Rattle.zf_stream.specs.ReadStreams.{BeginsWithHeader, HasGoodHeader, IsFault, IsTextOf};
 ghost use Rattle.zf_stream.specs.declared.fault.StreamFault.TheVariants.{Read, Write, Memory};
 ghost use Rattle.zf_stream.specs.declared.fault.StreamFault.TheVariants as faults;
@@ -27,14 +29,15 @@ pub fn restore<S: Source, O: Sink>(
     out: &mut O,
 ) -> Result<(), StreamFault>
     ensures answer { Answers result (S.contents src.old) restore_answer }
+    ensures possible { IfErr result (CanRefuse restore_answer) }
     ensures ok { OnOk result (Finishes restore_answer restored_text
         (S.contents src.old) (S.contents src.new) (O.contents out.old) (O.contents out.new)) }
     ensures err { OnErr result (LeavesFront restored_text
         (S.contents src.old) (S.contents src.new) (O.contents out.old) (O.contents out.new)) }
     ensures unwritten { IfErr result (λ e. e ≢ Write → O.contents out.new ≡ O.contents out.old) }
     ensures memory { result ≡ Err Memory → HasGoodHeader (S.contents src.old) }
-    ensures read_cause { IsCausedBy result Read (S.faults src.old) (S.faults src.new) }
-    ensures write_cause { IsCausedBy result Write (O.faults out.old) (O.faults out.new) }
+    ensures read_cause { HasCause (result ≡ Err Read) (S.faults src.old) (S.faults src.new) }
+    ensures write_cause { HasCause (result ≡ Err Write) (O.faults out.old) (O.faults out.new) }
     ensures sure { S.never_fails src.old → (result ≢ Err Read) × S.never_fails src.new }
 {
     let raw = read_raw(alloc, src)?;
@@ -49,10 +52,11 @@ fn read_raw<S: Source>(alloc: Global, src: &mut S) -> Result<Vec<u8>, StreamFaul
     ensures ok { IfOk result (λ raw. ReadsText restore_answer restored_text
         (S.contents src.old) (S.contents src.new) raw.items) }
     ensures refused { IfErr result (IsRefusal (S.contents src.old) restore_answer) }
+    ensures possible { IfErr result (CanRefuse restore_answer) }
     ensures taken { OnErr result (TakesSome (S.contents src.old) (S.contents src.new)) }
     ensures unwritten { IfErr result (λ e. e ≢ Write) }
     ensures memory { IfErr result (λ e. e ≡ Memory → HasGoodHeader (S.contents src.old)) }
-    ensures cause { IsCausedBy result Read (S.faults src.old) (S.faults src.new) }
+    ensures cause { HasCause (result ≡ Err Read) (S.faults src.old) (S.faults src.new) }
     ensures sure { S.never_fails src.old → (result ≢ Err Read) × S.never_fails src.new }
 {
     let mut front = [0; FULL_HEADER_BYTES];

@@ -9,8 +9,8 @@ use Rattle.zf_base.specs.declared.lane.Ty.TheVariants.{I32, I64}
 use Rattle.zf_spec.specs.Grid.{IsShape}
 use Rattle.zf_header.specs.declared.header.Header.{Header}
 use Rattle.zf_header.specs.declared.header.Mode.{Mode}
-use Rattle.zf_header.specs.declared.header.Mode.TheVariants.{Reversible, Rate}
-use Rattle.zf_header.specs.HeaderBits.{HasNumber}
+use Rattle.zf_header.specs.declared.header.Mode.TheVariants.{Reversible, Rate, Precision}
+use Rattle.zf_header.specs.HeaderBits.{IsMode}
 use Rattle.zfpi.specs.declared.command.Command.{Command}
 use Rattle.zfpi.specs.declared.command.Command.TheVariants.{Compress, Restore, Info}
 use Rattle.zfpi.specs.declared.words.Stage.{Stage}
@@ -31,10 +31,20 @@ pub shape_word_injective : (ms ns : List ℕ) → IsShape ms → IsShape ns → 
 shape_word_injective ms ns m n same =
     decimals_injective ms ns (sizes_small ms m) (sizes_small ns n) (sym (parts_of-shape (shape_word ms) ms m refl) ∙ parts_of-shape (shape_word ms) ns n same)
 
-pub mode_words_injective : (l m : Mode) → HasNumber l → HasNumber m → mode_words l ≡ mode_words m → l ≡ m
+heads_same : {x y : List ℕ} {xs ys : List (List ℕ)} → x ∷ xs ≡ y ∷ ys → x ≡ y
+heads_same same = cc
+
+pub mode_words_injective : (l m : Mode) → IsMode l → IsMode m → mode_words l ≡ mode_words m → l ≡ m
 mode_words_injective Reversible Reversible a b same = refl
 mode_words_injective Reversible (Rate n) a b same = absurd (cc)
 mode_words_injective (Rate n) Reversible a b same = absurd (cc)
+mode_words_injective Reversible (Precision q) a b same = absurd (cc)
+mode_words_injective (Precision p) Reversible a b same = absurd (cc)
+mode_words_injective (Rate n) (Precision q) a b same = absurd (true≢false (ap (bytes_eq (codes "rate")) (heads_same same)))
+mode_words_injective (Precision p) (Rate n) a b same = absurd (true≢false (ap (bytes_eq (codes "precision")) (heads_same same)))
+mode_words_injective (Precision p) (Precision q) a b same =
+    let text : decimal p ≡ decimal q = cc in
+    ap Precision (decimal_injective p q (omega (arith, a.1)) (omega (arith, b.1)) text)
 mode_words_injective (Rate m) (Rate n) a b same =
     let text : decimal m ≡ decimal n = cc in
     ap Rate (decimal_injective m n (omega (arith, a.1)) (omega (arith, b.1)) text)
@@ -42,9 +52,6 @@ mode_words_injective (Rate m) (Rate n) a b same =
 same_header : (g h : Header) → g.ty ≡ h.ty → g.shape ≡ h.shape → g.mode ≡ h.mode → g ≡ h
 same_header g h ty shape mode =
     ap (λ t. header_with t g.shape g.mode) ty ∙ (ap (λ ns. header_with h.ty ns g.mode) shape ∙ ap (λ m. header_with h.ty h.shape m) mode)
-
-heads_same : {x y : List ℕ} {xs ys : List (List ℕ)} → x ∷ xs ≡ y ∷ ys → x ≡ y
-heads_same same = cc
 
 restore_or_info : codes "restore" ∷ [] ≡ codes "info" ∷ [] → ⊥
 restore_or_info same = true≢false (ap (bytes_eq (codes "restore")) (heads_same same))
@@ -93,10 +100,12 @@ IsUsage-stopped words k stage lt leads stop = record {
 behind_rate : (m : Mode) → codes "rate" ∷ [] ≡ mode_words m → ⊥
 behind_rate Reversible same = cc
 behind_rate (Rate b) same = cc
+behind_rate (Precision p) same = cc
 
 no_mode : (m : Mode) → [] ≡ mode_words m → ⊥
 no_mode Reversible same = cc
 no_mode (Rate b) same = cc
+no_mode (Precision p) same = cc
 
 -- a whole command leads to its stage alone
 whole_at_end : (words : List (List ℕ)) (stage : Stage) (c : Command) → LeadsTo words stage → IsSpelled c words → (d : Command) × (stage ≡ stages.Whole d)
@@ -144,6 +153,7 @@ word_more text xs i x word lt is same =
 -- ---- rates
 rate_behind : (ty : Ty) (ns : List ℕ) (m : Mode) (word : List ℕ) (rest : List (List ℕ)) → IsAskable (header_with ty ns m) → codes "rate" ∷ word ∷ rest ≡ mode_words m → (b : ℕ) × IsRateWord ty ns b word
 rate_behind ty ns Reversible word rest askable same = absurd (omega (arith, ap length same))
+rate_behind ty ns (Precision p) word rest askable same = absurd askable.taken
 rate_behind ty ns (Rate b) word rest askable same =
     let text : word ≡ decimal b = cc in
     (b, record { rate = askable.header.mode; fits = askable.fits; text = text })

@@ -21,7 +21,7 @@ abbrev pub header_with : Ty → List ℕ → Mode → Header
 header_with ty ns mode = record { ty = ty; shape = ns; mode = mode }
 
 -- one value is a shape
-one_value : IsShape (1 ∷ [])
+pub one_value : IsShape (1 ∷ [])
 one_value = record {
   some_dimension = lit≤ tt;
   four_at_most = lit≤ tt;
@@ -31,7 +31,7 @@ one_value = record {
 }
 
 askable_reversible : (ty : Ty) (ns : List ℕ) → IsShape ns → IsAskable (header_with ty ns Reversible)
-askable_reversible ty ns shape = record { header = record { shape = shape; mode = tt }; fits = tt }
+askable_reversible ty ns shape = record { header = record { shape = shape; mode = tt }; taken = tt; fits = tt }
 
 -- the rate of one bit fits every shape
 rate_one_fits : (ty : Ty) (ns : List ℕ) → IsShape ns → rate_bytes_of (header_with ty ns (Rate 1)) ≤ 1200000000
@@ -39,7 +39,7 @@ rate_one_fits ty ns shape =
     omega (arith, length-header_bits (header_with ty ns (Rate 1)) shape, blocks_le ns shape.not_zero, shape.not_too_large)
 
 askable_rate_one : (ty : Ty) (ns : List ℕ) → IsShape ns → IsAskable (header_with ty ns (Rate 1))
-askable_rate_one ty ns shape = record { header = record { shape = shape; mode = (lit≤ tt, lit≤ tt) }; fits = rate_one_fits ty ns shape }
+askable_rate_one ty ns shape = record { header = record { shape = shape; mode = (lit≤ tt, lit≤ tt) }; taken = (lit≤ tt, lit≤ tt); fits = rate_one_fits ty ns shape }
 
 -- the words that lead to a stage begin a command
 pub BeginsCommand-reached : (words : List (List ℕ)) (stage : Stage) → LeadsTo words stage → BeginsCommand words

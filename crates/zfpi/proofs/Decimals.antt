@@ -5,6 +5,7 @@ use Rattle.std.specs.Result.{result_ok}
 use Rattle.std.specs.Str.Parse.{ParsesUnsigned, AllDigits, digits_value}
 use Rattle.std.proofs.lemmas.Str.Parse.{IsNumeralModel, numerals_by_value, tells_digits, not_in_digits, parse_plain}
 use Rattle.std.proofs.lemmas.Fmt.{digits_decimal, decimal_nonempty, decimal_digit, first_decimal, parse-decimal, decimal-digits_value}
+use Rattle.zf_base.proofs.Decimals.{one_zero}
 
 own : IsNumeralModel (AllDigits 10) (digits_value 10)
 own = numerals_by_value (AllDigits 10) tells_digits
@@ -17,10 +18,6 @@ decimal_has_no n c i small no_digit lt = not_in_digits own (decimal n) c (digits
 pub decimal_no_plus : (word : List ℕ) (n : ℕ) → n < 2 ^ 64 → word ≡ decimal n → get_or word 0 0 ≡ 43 → ⊥
 decimal_no_plus word n small is plus =
     decimal_has_no n 43 0 small (λ r. omega arith) (decimal_nonempty n small) (ap (λ t. get_or t 0 0) (sym is) ∙ plus)
-
-one_zero : (n : ℕ) → n < 2 ^ 64 → get_or (decimal n) 0 0 ≡ 48 → 1 < length (decimal n) → ⊥
-one_zero zero small first long = omega (arith, ap length (decimal_digit 0 (lit< tt)))
-one_zero (suc n) small first long = omega (arith, first_decimal (suc n) (omega arith) small)
 
 -- a number that begins with a zero is zero
 pub decimal_no_zero : (word : List ℕ) (n : ℕ) → n < 2 ^ 64 → word ≡ decimal n → get_or word 0 0 ≡ 48 → 1 < length word → ⊥

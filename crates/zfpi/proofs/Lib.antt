@@ -2,6 +2,8 @@ mod Decimals
 mod ShapeWords
 mod Completed
 mod Commands
-mod Fronts
+mod Told
+mod Streaming
+mod Heading
+mod Causes
 mod Promises
-mod Headers

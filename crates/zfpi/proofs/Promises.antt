@@ -1,19 +1,30 @@
 -- From the promises of a command to those of the program.
-use Rattle.std.proofs.Common.{ℕ, inl, inr, List, Option, Some, None, subst}
-use Rattle.zf_dev.specs.Faults.{IsQuiet}
-use Rattle.zf_dev.proofs.Counts.{IsQuiet-rose}
+use Rattle.std.proofs.Common.{◌≡◌, ◌≢◌, ℕ, ◌<◌, Bool, true, false, cond, ltb, length, take, inl, inr, List, Option, Some, None, Result, Ok, Err, refl, ap, sym, subst, ◌∙◌}
+use Rattle.std.proofs.lemmas.Bool.{ltb-true}
+use Rattle.zf_dev.specs.Sink.{Appends}
+use Rattle.zf_dev.proofs.Counts.{HasCause-quiet}
+use Rattle.zf_header.specs.declared.header.HeaderFault.{HeaderFault}
+use Rattle.zf_header.specs.HeaderBits.{IsTaken}
+use Rattle.zf_header.specs.HeaderFaults.{header_fault}
+use Rattle.zf_stream.specs.declared.fault.StreamFault.{StreamFault}
+use Rattle.zf_stream.specs.declared.fault.StreamFault.TheVariants as faults
+use Rattle.zf_stream.specs.Raw.{raw_len, stream_text}
+use Rattle.zf_stream.specs.Parsing.{restore_answer, restored_text}
+use Rattle.zf_stream.proofs.OwnFaults.{is_foreign, blames_foreign, own_answer}
+use Rattle.zf_stream.proofs.StreamsBack.{answer-stream_text, text-reversible_text}
 use Rattle.zfpi.specs.declared.status.Status.{Status}
 use Rattle.zfpi.specs.declared.status.Status.TheVariants.{Done, Usage, RawShort, RawLong, Header, Truncated, Pad, Trailing, ReadFault, WriteFault, Memory}
 use Rattle.zfpi.specs.declared.command.Command.{Command}
 use Rattle.zfpi.specs.declared.command.Command.TheVariants.{Compress, Restore, Info}
 use Rattle.zfpi.specs.Words.{IsSpelled}
-use Rattle.zfpi.specs.Answer.{CanRun, TakesMemory}
-use Rattle.zfpi.specs.Headline.{OfCommand, OnMemory, RefusesWords, IsOfCommand, AnswersStatus, IsCausedBy, IsComplete}
+use Rattle.zfpi.specs.World.{World, Seen, Counts, TellsInput}
+use Rattle.zfpi.specs.Answer.{CanRun, TakesMemory, MayFail, IsPossible, CompressEnds, RestoreEnds, InfoEnds, status_of, header_status, status_for, restore_draft}
+use Rattle.zfpi.specs.Headline.{OfCommand, RefusesWords, IsOfCommand, Writes, Behaves, HasCauses, AreQuiet, IsComplete, IsFromOutside, GivesBack}
 use Rattle.zfpi.proofs.Commands.{one_command}
 
 -- what the words say can be run
 pub CanRun-spelled : (c : Command) (words : List (List ℕ)) → IsSpelled c words → CanRun c
-CanRun-spelled (Compress h) words spelled = spelled.0.header.mode
+CanRun-spelled (Compress h) words spelled = spelled.0.taken
 CanRun-spelled Restore words spelled = tt
 CanRun-spelled Info words spelled = tt
 
@@ -34,18 +45,125 @@ RefusesWords-command words c ReadFault spelled is = (c, spelled)
 RefusesWords-command words c WriteFault spelled is = (c, spelled)
 RefusesWords-command words c Memory spelled is = (c, spelled)
 
+-- ---- what follows from the two records of a command
+
+-- a status from outside that is no fault of a device is want of memory
+only_memory : (status : Status) (c : Command) (w : World) (wants : List ℕ) → MayFail status c w wants → (status ≢ ReadFault) × (status ≢ WriteFault) → (status ≡ Memory) × TakesMemory c w
+only_memory ReadFault c w wants may none = absurd (none.0 refl)
+only_memory WriteFault c w wants may none = absurd (none.1 refl)
+only_memory Memory c w wants may none = (refl, may)
+only_memory Done c w wants may none = absurd may
+only_memory (Usage k) c w wants may none = absurd may
+only_memory (RawShort m) c w wants may none = absurd may
+only_memory RawLong c w wants may none = absurd may
+only_memory (Header f) c w wants may none = absurd may
+only_memory (Truncated b) c w wants may none = absurd may
+only_memory Pad c w wants may none = absurd may
+only_memory Trailing c w wants may none = absurd may
+
 -- where no count rose, no fault is answered
-pub IsComplete-quiet : (c : Command) (input : Option (List ℕ)) (status : Status) (src_before src_now out_before out_now : ℕ) → AnswersStatus c input status → OnMemory status (TakesMemory c input) → IsCausedBy status ReadFault src_before src_now → IsCausedBy status WriteFault out_before out_now
-    → IsQuiet src_before src_now → IsQuiet out_before out_now → IsComplete c input status
-IsComplete-quiet c None status src_before src_now out_before out_now answer memory read write src_quiet out_quiet =
-    (λ is. IsQuiet-rose src_before src_now src_quiet (read.1 is), λ is. IsQuiet-rose out_before out_now out_quiet (write.1 is))
-IsComplete-quiet c (Some input) status src_before src_now out_before out_now answer memory read write src_quiet out_quiet = elim answer [
-  | inl same ↦ inl same
-  | inr outside ↦ elim outside [
-    | inl is ↦ absurd (IsQuiet-rose src_before src_now src_quiet (read.1 is))
-    | inr others ↦ elim others [
-      | inl is ↦ absurd (IsQuiet-rose out_before out_now out_quiet (write.1 is))
-      | inr want ↦ inr (want, subst (λ s. OnMemory s (TakesMemory c (Some input))) want memory)
-    ]
-  ]
+pub IsComplete-quiet : (c : Command) (status : Status) (before now : Seen) (old new : Counts) (Loading Saving Sure Still : Type 0) → Behaves c status before now → HasCauses c status old new Loading Saving Sure Still → AreQuiet old new → IsComplete c status before
+IsComplete-quiet c status before now old new Loading Saving Sure Still behaves causes quiet =
+    let none : (status ≢ ReadFault) × (status ≢ WriteFault) = (HasCause-quiet old.src new.src causes.reading quiet.src, HasCause-quiet old.out new.out causes.writing quiet.out) in
+    record {
+      world = behaves.world;
+      told = behaves.told;
+      wants = behaves.wants;
+      wanted = behaves.wanted;
+      stated = elim behaves.stated [
+        | inl same ↦ inl same
+        | inr may ↦ inr (only_memory status c behaves.world behaves.wants may none)
+      ];
+      no_fault = none;
+    }
+
+-- the statuses from outside that a command may end with are among those that it can end with
+possible_fault : (status : Status) (c : Command) (w : World) (wants : List ℕ) → MayFail status c w wants → IsPossible c status
+possible_fault ReadFault (Compress h) w wants may = tt
+possible_fault ReadFault Restore w wants may = tt
+possible_fault ReadFault Info w wants may = tt
+possible_fault WriteFault (Compress h) w wants may = tt
+possible_fault WriteFault Restore w wants may = tt
+possible_fault WriteFault Info w wants may = tt
+possible_fault Memory (Compress h) w wants may = tt
+possible_fault Memory Restore w wants may = tt
+possible_fault Memory Info w wants may = absurd may
+possible_fault Done c w wants may = absurd may
+possible_fault (Usage k) c w wants may = absurd may
+possible_fault (RawShort m) c w wants may = absurd may
+possible_fault RawLong c w wants may = absurd may
+possible_fault (Header f) c w wants may = absurd may
+possible_fault (Truncated b) c w wants may = absurd may
+possible_fault Pad c w wants may = absurd may
+possible_fault Trailing c w wants may = absurd may
+
+-- and so are those that it states for an input
+compress_ends : (wanted n : ℕ) (short long : Bool) → (short ≡ true → n < wanted) → CompressEnds wanted (status_of (cond short (Err (faults.RawShort n)) (cond long (Err faults.RawLong) (Ok tt))))
+compress_ends wanted n true long less = less refl
+compress_ends wanted n false true less = tt
+compress_ends wanted n false false less = tt
+
+restore_ends : (answer : Result (Unit {0}) StreamFault) → blames_foreign answer ≡ false → RestoreEnds (status_of answer)
+unfolding blames_foreign is_foreign
+restore_ends (Ok good) own = tt
+restore_ends (Err (faults.RawShort m)) own = absurd (cc)
+restore_ends (Err faults.RawLong) own = absurd (cc)
+restore_ends (Err (faults.Header f)) own = tt
+restore_ends (Err (faults.Truncated b)) own = tt
+restore_ends (Err faults.Pad) own = tt
+restore_ends (Err faults.Trailing) own = tt
+restore_ends (Err faults.Read) own = absurd (cc)
+restore_ends (Err faults.Write) own = absurd (cc)
+restore_ends (Err faults.Memory) own = tt
+
+info_ends : (fault : Option HeaderFault) → InfoEnds (header_status fault)
+info_ends None = tt
+info_ends (Some f) = tt
+
+possible_status : (c : Command) (w : World) (wants : List ℕ) → IsPossible c (status_for c w wants)
+possible_status (Compress h) w wants =
+    let n = length w.input in
+    compress_ends (raw_len h) n (ltb n (raw_len h)) (ltb (raw_len h) n) (ltb-true n (raw_len h))
+possible_status Restore w wants = restore_ends (restore_answer w.input) (own_answer w.input)
+possible_status Info w wants = info_ends (header_fault (take 19 w.input))
+
+pub IsPossible-behaves : (c : Command) (status : Status) (before now : Seen) → Behaves c status before now → IsPossible c status
+IsPossible-behaves c status before now behaves = elim behaves.stated [
+  | inl same ↦ subst (IsPossible c) (sym same) (possible_status c behaves.world behaves.wants)
+  | inr may ↦ possible_fault status c behaves.world behaves.wants may
 ]
+
+from_outside : (status : Status) (c : Command) (w : World) (wants : List ℕ) → MayFail status c w wants → IsFromOutside status
+from_outside ReadFault c w wants may = inl refl
+from_outside WriteFault c w wants may = inr (inl refl)
+from_outside Memory c w wants may = inr (inr refl)
+from_outside Done c w wants may = absurd may
+from_outside (Usage k) c w wants may = absurd may
+from_outside (RawShort m) c w wants may = absurd may
+from_outside RawLong c w wants may = absurd may
+from_outside (Header f) c w wants may = absurd may
+from_outside (Truncated b) c w wants may = absurd may
+from_outside Pad c w wants may = absurd may
+from_outside Trailing c w wants may = absurd may
+
+-- a source that tells these bytes tells no other
+the_input : (known : Option (List ℕ)) (bytes input : List ℕ) → known ≡ Some bytes → TellsInput known input → input ≡ bytes
+the_input None bytes input is told = absurd (cc)
+the_input (Some all) bytes input is told = let same : all ≡ bytes = cc in sym told ∙ same
+
+-- what `restore` does with a reversible stream
+pub GivesBack-behaves : (words : List (List ℕ)) (status : Status) (before now : Seen) → OfCommand words (λ c. Behaves c status before now) → GivesBack words status before now
+GivesBack-behaves words status before now command = λ h bytes holds.
+    let behaves = command Restore holds.words_are in
+    let w = behaves.world in
+    let input : w.input ≡ stream_text h bytes = the_input before.src (stream_text h bytes) w.input holds.stream behaves.told.input in
+    elim behaves.stated [
+      | inl same ↦
+          let done : status ≡ Done = same ∙ ap (λ xs. status_of (restore_answer xs)) input ∙ ap status_of (answer-stream_text h bytes holds.header (subst IsTaken (sym holds.mode) tt)) in
+          let text : restored_text w.input ≡ bytes = ap restored_text input ∙ text-reversible_text h bytes holds.header holds.mode holds.whole holds.small in
+          inl (record {
+            done = done;
+            written = subst (Appends before.out now.out) text (subst (λ s. Writes s (restored_text w.input) (restore_draft s (restored_text behaves.taken)) before.out now.out) done behaves.written);
+          })
+      | inr may ↦ inr (from_outside status Restore w behaves.wants may)
+    ]

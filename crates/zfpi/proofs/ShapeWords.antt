@@ -18,6 +18,7 @@ use Rattle.zf_base.specs.declared.shape.ShapeFault.{ShapeFault}
 use Rattle.zf_spec.specs.Grid.{IsShape}
 use Rattle.zfpi.specs.Words.{shape_word}
 use Rattle.zfpi.proofs.Decimals.{decimal_has_no}
+use Rattle.zf_base.proofs.Values.{four_elements}
 
 -- the letter at which a shape is cut
 abbrev pub is_x : ℕ → Bool
@@ -102,13 +103,6 @@ same_shape word ms ns small cut shape is =
     subst IsShape (decimals_injective ns ms (sizes_small ns shape) small (sym (parts_of-shape word ns shape is) ∙ cut)) shape
 
 -- a list of four numbers by its elements
-pub four_elements : (xs : List ℕ) → length xs ≡ 4 → get_or xs 0 0 ∷ get_or xs 1 0 ∷ get_or xs 2 0 ∷ get_or xs 3 0 ∷ [] ≡ xs
-four_elements [] four = absurd (omega arith)
-four_elements (a ∷ []) four = absurd (omega arith)
-four_elements (a ∷ b ∷ []) four = absurd (omega arith)
-four_elements (a ∷ b ∷ c ∷ []) four = absurd (omega arith)
-four_elements (a ∷ b ∷ c ∷ d ∷ []) four = refl
-four_elements (a ∷ b ∷ c ∷ d ∷ e ∷ xs) four = absurd (omega arith)
 
 all_push : (P : ℕ → Type 0) (ns : List ℕ) (n : ℕ) → AllByRecursion P ns → P n → AllByRecursion P (ns ++ n ∷ [])
 all_push P [] n all this = (this, tt)

@@ -1,18 +1,17 @@
--- What each command gives, where no device fails and there is memory. Each function of a command has one case for each.
-use Rattle.std.specs.Prelude.{ℕ, ◌≤◌, List, [], length, take, drop, Option, Some, None, Result, Ok, Err}
+-- What each command does, in a world of an input and files. Each function of a command has one case for each, and a new command adds one.
+use Rattle.std.specs.Prelude.{◌≡◌, ℕ, ◌<◌, ◌≤◌, Bool, true, false, List, [], length, take, Option, Some, None, Result, Ok, Err, IsTrue}
 use Rattle.zf_header.specs.declared.header.HeaderFault.{HeaderFault}
-use Rattle.zf_header.specs.declared.header.TheConstants.{FULL_HEADER_BYTES}
-use Rattle.zf_header.specs.HeaderBits.{IsWritable}
+use Rattle.zf_header.specs.HeaderBits.{IsTaken}
 use Rattle.zf_header.specs.HeaderFaults.{header_fault}
 use Rattle.zf_stream.specs.declared.fault.StreamFault.{StreamFault}
 use Rattle.zf_stream.specs.declared.fault.StreamFault.TheVariants as faults
-use Rattle.zf_stream.specs.Raw.{compress_answer, stream_text}
+use Rattle.zf_stream.specs.Raw.{raw_len, compress_answer, stream_text}
 use Rattle.zf_stream.specs.Parsing.{restore_answer, restored_text}
-use Rattle.zf_stream.specs.ReadStreams.{HasGoodHeader}
 use Rattle.zfpi.specs.declared.status.Status.{Status}
 use Rattle.zfpi.specs.declared.status.Status.TheVariants as statuses
 use Rattle.zfpi.specs.declared.command.Command.{Command}
 use Rattle.zfpi.specs.declared.command.Command.TheVariants.{Compress, Restore, Info}
+use Rattle.zfpi.specs.World.{World}
 use Rattle.zfpi.specs.Info.{info_text}
 
 -- the status of a fault of a stream
@@ -39,53 +38,133 @@ status_of (Err fault) = fault_status fault
 
 -- what a command asks of its caller
 abbrev pub CanRun : Command → Type 0
-CanRun (Compress h) = IsWritable h
+CanRun (Compress h) = IsTaken h.mode
 CanRun Restore = Unit {0}
 CanRun Info = Unit {0}
 
--- the status for an input of these bytes
-abbrev pub status_for : Command → List ℕ → Status
-status_for (Compress h) input = status_of (compress_answer h input)
-status_for Restore input = status_of (restore_answer input)
-status_for Info input = header_status (header_fault (take FULL_HEADER_BYTES input))
+-- the bytes that the longest header lies in
+abbrev pub header_bytes : ℕ
+header_bytes = 19
 
--- the text for the bytes that were read: what is written after Done
-abbrev pub text_for : Command → List ℕ → List ℕ
-text_for (Compress h) bytes = stream_text h bytes
-text_for Restore bytes = restored_text bytes
-text_for Info bytes = info_text bytes
+-- the status in this world; the last list has the lines of the script that answered `! memory`
+abbrev pub status_for : Command → World → List ℕ → Status
+status_for (Compress h) w wants = status_of (compress_answer h w.input)
+status_for Restore w wants = status_of (restore_answer w.input)
+status_for Info w wants = header_status (header_fault (take header_bytes w.input))
 
--- want of memory comes before the first write
-abbrev pub part_of : Status → List ℕ → List ℕ
-part_of statuses.Memory text = []
-part_of status text = text
+-- what is written where the whole work was done
+abbrev pub text_for : Command → World → List ℕ → List ℕ
+text_for (Compress h) w wants = stream_text h w.input
+text_for Restore w wants = restored_text w.input
+text_for Info w wants = info_text (take header_bytes w.input)
 
--- the text of which a front is written, whatever the status
-abbrev pub part_for : Command → Status → List ℕ → List ℕ
-part_for (Compress h) status bytes = part_of status (stream_text h bytes)
-part_for Restore status bytes = part_of status (restored_text bytes)
-part_for Info statuses.Done bytes = info_text bytes
-part_for Info statuses.WriteFault bytes = info_text bytes
-part_for Info status bytes = []
+-- nothing after want of memory, which comes before the first write
+abbrev pub compress_draft : Status → List ℕ → List ℕ
+compress_draft statuses.Memory text = []
+compress_draft status text = text
 
--- what is left unread of an input after a status; nothing is said of it after another
-abbrev pub unread_after : Command → Status → List ℕ → Option (List ℕ)
-unread_after (Compress h) statuses.Done input = Some []
-unread_after (Compress h) status input = None
-unread_after Restore statuses.Done input = Some []
-unread_after Restore status input = None
-unread_after Info statuses.Done input = Some (drop FULL_HEADER_BYTES input)
-unread_after Info (statuses.Header fault) input = Some (drop FULL_HEADER_BYTES input)
-unread_after Info status input = None
+-- nor after a fault of the header
+abbrev pub restore_draft : Status → List ℕ → List ℕ
+restore_draft statuses.Memory text = []
+restore_draft (statuses.Header fault) text = []
+restore_draft status text = text
 
--- no more bytes than these are read, whatever the status
-abbrev pub IsEnough : Command → List ℕ → Type 0
-IsEnough (Compress h) bytes = Unit {0}
-IsEnough Restore bytes = Unit {0}
-IsEnough Info bytes = length bytes ≤ FULL_HEADER_BYTES
+-- a line is written once the header is known
+abbrev pub info_draft : Status → List ℕ → List ℕ
+info_draft statuses.WriteFault text = text
+info_draft status text = []
 
--- the command takes memory for this input, as far as it is told
-abbrev pub TakesMemory : Command → Option (List ℕ) → Type 0
-TakesMemory (Compress h) input = Unit {0}
-TakesMemory Restore input = HasGoodHeader input
-TakesMemory Info input = ⊥
+-- after each other status a front of this is written; the last list has the bytes that were taken
+abbrev pub draft_for : Command → Status → World → List ℕ → List ℕ → List ℕ
+draft_for (Compress h) status w wants taken = compress_draft status (stream_text h taken)
+draft_for Restore status w wants taken = restore_draft status (restored_text taken)
+draft_for Info status w wants taken = info_draft status (info_text taken)
+
+-- what is saved, and under which name
+abbrev pub saved_for : Command → World → List ℕ → Option (List ℕ × List ℕ)
+saved_for (Compress h) w wants = None
+saved_for Restore w wants = None
+saved_for Info w wants = None
+
+-- after Done the whole input was taken
+abbrev pub TakesWhole : Status → List ℕ → List ℕ → Type 0
+TakesWhole statuses.Done input taken = taken ≡ input
+TakesWhole status input taken = Unit {0}
+
+-- the first bytes were taken and no more, unless the source failed within them
+abbrev pub TakesHeader : Status → List ℕ → List ℕ → Type 0
+TakesHeader statuses.ReadFault input taken = length taken ≤ header_bytes
+TakesHeader status input taken = taken ≡ take header_bytes input
+
+-- how far the input was taken
+abbrev pub IsExtent : Command → Status → List ℕ → List ℕ → Type 0
+IsExtent (Compress h) status input taken = TakesWhole status input taken
+IsExtent Restore status input taken = TakesWhole status input taken
+IsExtent Info status input taken = TakesHeader status input taken
+
+-- only a script has lines that answer `! memory`
+abbrev pub HasWants : Command → World → List ℕ → Type 0
+HasWants (Compress h) w wants = wants ≡ []
+HasWants Restore w wants = wants ≡ []
+HasWants Info w wants = wants ≡ []
+
+-- which devices a command uses
+pub record Uses : Type 0 where
+  pub reads : Bool
+  pub writes : Bool
+  pub loads : Bool
+  pub saves : Bool
+
+abbrev pub uses : Command → Uses
+uses (Compress h) = record { reads = true; writes = true; loads = false; saves = false }
+uses Restore = record { reads = true; writes = true; loads = false; saves = false }
+uses Info = record { reads = true; writes = true; loads = false; saves = false }
+
+-- the command takes memory in this world
+abbrev pub TakesMemory : Command → World → Type 0
+TakesMemory (Compress h) w = Unit {0}
+TakesMemory Restore w = header_fault w.input ≡ None
+TakesMemory Info w = ⊥
+
+-- the statuses that no world determines: faults of the devices that a command uses, and want of memory where it takes any
+abbrev pub MayFail : Status → Command → World → List ℕ → Type 0
+MayFail statuses.ReadFault c w wants = IsTrue (uses c).reads
+MayFail statuses.WriteFault c w wants = IsTrue (uses c).writes
+MayFail statuses.Memory c w wants = TakesMemory c w
+MayFail status c w wants = ⊥
+
+-- the statuses of `compress` of arrays of so many bytes
+abbrev pub CompressEnds : ℕ → Status → Type 0
+CompressEnds wanted statuses.Done = Unit {0}
+CompressEnds wanted (statuses.RawShort m) = m < wanted
+CompressEnds wanted statuses.RawLong = Unit {0}
+CompressEnds wanted statuses.ReadFault = Unit {0}
+CompressEnds wanted statuses.WriteFault = Unit {0}
+CompressEnds wanted statuses.Memory = Unit {0}
+CompressEnds wanted status = ⊥
+
+-- those of `restore`
+abbrev pub RestoreEnds : Status → Type 0
+RestoreEnds statuses.Done = Unit {0}
+RestoreEnds (statuses.Header fault) = Unit {0}
+RestoreEnds (statuses.Truncated b) = Unit {0}
+RestoreEnds statuses.Pad = Unit {0}
+RestoreEnds statuses.Trailing = Unit {0}
+RestoreEnds statuses.ReadFault = Unit {0}
+RestoreEnds statuses.WriteFault = Unit {0}
+RestoreEnds statuses.Memory = Unit {0}
+RestoreEnds status = ⊥
+
+-- those of `info`
+abbrev pub InfoEnds : Status → Type 0
+InfoEnds statuses.Done = Unit {0}
+InfoEnds (statuses.Header fault) = Unit {0}
+InfoEnds statuses.ReadFault = Unit {0}
+InfoEnds statuses.WriteFault = Unit {0}
+InfoEnds status = ⊥
+
+-- a command can end so at all, whatever its devices tell
+abbrev pub IsPossible : Command → Status → Type 0
+IsPossible (Compress h) status = CompressEnds (raw_len h) status
+IsPossible Restore status = RestoreEnds status
+IsPossible Info status = InfoEnds status

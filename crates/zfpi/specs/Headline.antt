@@ -1,30 +1,28 @@
--- What the program promises of every command: the words of the contract of the top call. No command is named here.
-use Rattle.std.specs.Prelude.{ℕ, ◌≡◌, ◌≤◌, ◌⊎◌, List, Option, Some, None}
-use Rattle.zf_dev.specs.Faults.{Rose, IsQuiet}
+-- What the program promises of every command: the words of the contract of the top call. No command is named here but in `back`.
+use Rattle.std.specs.Prelude.{ℕ, ◌≡◌, ◌≢◌, ◌<◌, ◌≤◌, ◌⊎◌, ◌||◌, Bool, true, false, List, [], ◌∷◌, length, Option, Some, None, codes, All}
+use Rattle.zf_header.specs.declared.header.Header.{Header}
+use Rattle.zf_header.specs.declared.header.Mode.TheVariants.{Reversible}
+use Rattle.zf_header.specs.HeaderBits.{IsHeader}
+use Rattle.zf_stream.specs.Raw.{raw_len, stream_text}
+use Rattle.zf_dev.specs.Faults.{Rose, IsQuiet, HasCause}
+use Rattle.zf_dev.specs.Shelf.{Files, KeepsFiles, SavesFile}
 use Rattle.zf_dev.specs.Source.{Takes}
 use Rattle.zf_dev.specs.Sink.{Appends, AppendsFront}
 use Rattle.zfpi.specs.declared.status.Status.{Status}
 use Rattle.zfpi.specs.declared.status.Status.TheVariants.{Done, Usage, ReadFault, WriteFault, Memory}
 use Rattle.zfpi.specs.declared.command.Command.{Command}
 use Rattle.zfpi.specs.Words.{IsSpelled, IsUsage}
-use Rattle.zfpi.specs.Answer.{status_for, text_for, part_for, unread_after, IsEnough, TakesMemory}
+use Rattle.zfpi.specs.World.{World, Seen, Counts, IsTold}
+use Rattle.zfpi.specs.Answer.{status_for, text_for, draft_for, saved_for, uses, IsExtent, HasWants, TakesMemory, MayFail}
 
 -- this holds of the command that the words are, where they are one
 abbrev pub OfCommand : List (List ℕ) → (Command → Type 0) → Type 0
 OfCommand words P = (c : Command) → IsSpelled c words → P c
 
--- this holds if the status is the one that is named
+-- this holds after `Usage`
 abbrev pub OnUsage : Status → Type 0 → Type 0
 OnUsage (Usage k) P = P
 OnUsage status P = Unit {0}
-
-abbrev pub OnDone : Status → Type 0 → Type 0
-OnDone Done P = P
-OnDone status P = Unit {0}
-
-abbrev pub OnMemory : Status → Type 0 → Type 0
-OnMemory Memory P = P
-OnMemory status P = Unit {0}
 
 -- `Usage` comes exactly where the words are no command, with the number of words that begin one
 abbrev pub RefusesWords : List (List ℕ) → Status → Type 0
@@ -36,52 +34,97 @@ abbrev pub IsOfCommand : Status → Type 0
 IsOfCommand (Usage k) = ⊥
 IsOfCommand status = Unit {0}
 
--- nothing was read, and nothing was written
-pub record IsUntouched (src_before src_now out_before out_now : Option (List ℕ)) : Type 0 where
-  pub unread : src_now ≡ src_before
-  pub unwritten : out_now ≡ out_before
+-- the whole text was written, or after another status than Done a front of the draft
+abbrev pub Writes : Status → List ℕ → List ℕ → Option (List ℕ) → Option (List ℕ) → Type 0
+Writes Done text draft before now = Appends before now text
+Writes status text draft before now = AppendsFront before now draft
+
+-- what is to be saved was saved, or after another status than Done nothing was
+abbrev pub Saves : Option (List ℕ × List ℕ) → Status → Option Files → Option Files → Type 0
+Saves None status before now = KeepsFiles before now
+Saves (Some file) Done before now = SavesFile before now file.0 file.1
+Saves (Some file) status before now = KeepsFiles before now
+
+-- what a command did: its status, what it took, wrote and saved are those of a world that its devices tell
+pub record Behaves (c : Command) (status : Status) (before now : Seen) : Type 0 where
+  pub ends : IsOfCommand status
+  pub world : World
+  pub told : IsTold before world
+  -- the lines of the script that answered `! memory`
+  pub wants : List ℕ
+  pub wanted : HasWants c world wants
+  pub stated : (status ≡ status_for c world wants) ⊎ MayFail status c world wants
+  -- the bytes that were read
+  pub taken : List ℕ
+  pub takes : Takes before.src now.src taken
+  pub extent : IsExtent c status world.input taken
+  pub written : Writes status (text_for c world wants) (draft_for c status world wants taken) before.out now.out
+  pub saved : Saves (saved_for c world wants) status before.shelf now.shelf
+
+-- a count rises only where the device is used
+abbrev pub IsIdle : Bool → ℕ → ℕ → Type 0
+IsIdle true before now = Unit {0}
+IsIdle false before now = now ≡ before
+
+-- a status of a load or of a save comes only with its cause; none is answered yet
+abbrev pub IsCausedOnShelf : Status → Type 0 → Type 0 → Type 0
+IsCausedOnShelf status Loading Saving = Unit {0}
+
+-- no fault without a cause: a count that rose, a load that failed, a save that failed. Where the source was sure never to fail, it still is
+pub record HasCauses (c : Command) (status : Status) (before now : Counts) (Loading Saving Sure Still : Type 0) : Type 0 where
+  pub reading : HasCause (status ≡ ReadFault) before.src now.src
+  pub writing : HasCause (status ≡ WriteFault) before.out now.out
+  pub shelf_kept : before.shelf ≤ now.shelf
+  pub shelving : IsCausedOnShelf status Loading Saving
+  pub no_reading : IsIdle (uses c).reads before.src now.src
+  pub no_writing : IsIdle (uses c).writes before.out now.out
+  pub no_shelving : IsIdle ((uses c).loads || (uses c).saves) before.shelf now.shelf
+  pub sure : Sure → (status ≢ ReadFault) × Still
+
+-- a load from the shelf as it was before failed
+abbrev pub FailedLoad : {F : Type 0} → (F → F → Type 0) → (F → ℕ) → F → Type 0
+FailedLoad {F} loads faults before = (mid : F) × loads before mid × Rose (faults before) (faults mid)
+
+-- a save that led to the shelf as it is now failed
+abbrev pub FailedSave : {F : Type 0} → (F → F → Type 0) → (F → ℕ) → F → F → Type 0
+FailedSave {F} saves faults before now = (mid : F) × (faults before ≤ faults mid) × saves mid now × Rose (faults mid) (faults now)
 
 -- a device failed, or there was no memory
 abbrev pub IsFromOutside : Status → Type 0
 IsFromOutside status = (status ≡ ReadFault) ⊎ (status ≡ WriteFault) ⊎ (status ≡ Memory)
 
--- the status is the one that is stated for the input, unless it comes from outside
-abbrev pub AnswersStatus : Command → Option (List ℕ) → Status → Type 0
-AnswersStatus c None status = Unit {0}
-AnswersStatus c (Some input) status = (status ≡ status_for c input) ⊎ IsFromOutside status
+-- no count rose, and none stands at its last value
+pub record AreQuiet (before now : Counts) : Type 0 where
+  pub src : IsQuiet before.src now.src
+  pub out : IsQuiet before.out now.out
+  pub shelf : IsQuiet before.shelf now.shelf
 
--- the work was done: the bytes that were read are good, and their text was written
-pub record IsDone (c : Command) (src_before src_now out_before out_now : Option (List ℕ)) : Type 0 where
-  pub bytes : List ℕ
-  pub taken : Takes src_before src_now bytes
-  pub good : status_for c bytes ≡ Done
-  pub written : Appends out_before out_now (text_for c bytes)
+-- the status is the one that is stated for what the devices tell, or want of memory where memory is taken; it is no fault
+pub record IsComplete (c : Command) (status : Status) (before : Seen) : Type 0 where
+  pub world : World
+  pub told : IsTold before world
+  pub wants : List ℕ
+  pub wanted : HasWants c world wants
+  pub stated : (status ≡ status_for c world wants) ⊎ ((status ≡ Memory) × TakesMemory c world)
+  pub no_fault : (status ≢ ReadFault) × (status ≢ WriteFault)
 
--- no more bytes were read than are enough, and a front of their text was written, maybe nothing
-pub record LeavesFront (c : Command) (status : Status) (src_before src_now out_before out_now : Option (List ℕ)) : Type 0 where
-  pub bytes : List ℕ
-  pub taken : Takes src_before src_now bytes
-  pub enough : IsEnough c bytes
-  pub written : AppendsFront out_before out_now (part_for c status bytes)
+-- the words are `restore`, and the source holds the reversible stream of these raw bytes
+pub record HoldsReversible (words : List (List ℕ)) (src : Option (List ℕ)) (h : Header) (bytes : List ℕ) : Type 0 where
+  pub words_are : words ≡ codes "restore" ∷ []
+  pub header : IsHeader h
+  pub mode : h.mode ≡ Reversible
+  pub whole : length bytes ≡ raw_len h
+  pub small : All (λ b. b < 256) bytes
+  pub stream : src ≡ Some (stream_text h bytes)
 
--- this is what is left, where it is said
-abbrev pub IsLeft : Option (List ℕ) → Option (List ℕ) → Type 0
-IsLeft None now = Unit {0}
-IsLeft (Some rest) now = now ≡ Some rest
+-- exactly these bytes were written, and the work was done
+pub record IsBack (status : Status) (before now : Option (List ℕ)) (bytes : List ℕ) : Type 0 where
+  pub done : status ≡ Done
+  pub written : Appends before now bytes
 
--- the source holds now what the command leaves unread of its input
-abbrev pub LeavesUnread : Command → Status → Option (List ℕ) → Option (List ℕ) → Type 0
-LeavesUnread c status None now = Unit {0}
-LeavesUnread c status (Some input) now = IsLeft (unread_after c status input) now
-
--- a count of faults has not fallen, and this status comes only where it rose
-abbrev pub IsCausedBy : Status → Status → ℕ → ℕ → Type 0
-IsCausedBy status fault before now = (before ≤ now) × (status ≡ fault → Rose before now)
-
--- the status is the one that is stated for the input, or want of memory where memory is taken; of an input that is not told, it is no fault
-abbrev pub IsComplete : Command → Option (List ℕ) → Status → Type 0
-IsComplete c None status = (status ≡ ReadFault → ⊥) × (status ≡ WriteFault → ⊥)
-IsComplete c (Some input) status = (status ≡ status_for c input) ⊎ ((status ≡ Memory) × TakesMemory c (Some input))
+-- what a reversible stream was made of comes back, unless a device failed or there was no memory
+abbrev pub GivesBack : List (List ℕ) → Status → Seen → Seen → Type 0
+GivesBack words status before now = (h : Header) (bytes : List ℕ) → HoldsReversible words before.src h bytes → IsBack status before.out now.out bytes ⊎ IsFromOutside status
 
 -- the text was sent, whole where the count of faults did not rise, and else a front of it
 pub record Sends (text : List ℕ) (before now : Option (List ℕ)) (faults_before faults_now : ℕ) : Type 0 where

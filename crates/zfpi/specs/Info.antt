@@ -4,16 +4,17 @@ use Rattle.zf_spec.specs.Grid.{blocks}
 use Rattle.zf_spec.specs.Stream.{to_bits}
 use Rattle.zf_header.specs.declared.header.Header.{Header}
 use Rattle.zf_header.specs.declared.header.Mode.{Mode}
-use Rattle.zf_header.specs.declared.header.Mode.TheVariants.{Reversible, Rate}
+use Rattle.zf_header.specs.declared.header.Mode.TheVariants.{Reversible, Rate, Precision}
 use Rattle.zf_header.specs.HeaderBits.{header_bits}
 use Rattle.zf_header.specs.HeaderFields.{header_in}
 use Rattle.zf_header.specs.HeaderFaults.{header_fault}
 use Rattle.zfpi.specs.Words.{type_word, shape_word}
 
--- `reversible` or `rate B`
+-- `reversible`, `rate B` or `precision P`
 abbrev pub mode_text : Mode → List ℕ
 mode_text Reversible = codes "reversible"
 mode_text (Rate b) = codes "rate " ++ decimal b
+mode_text (Precision p) = codes "precision " ++ decimal p
 
 -- `TYPE SHAPE MODE blocks N header H`, with the number of blocks and the length of the header in bits
 abbrev pub info_line : Header → List ℕ

@@ -6,8 +6,7 @@ use Rattle.zf_header.specs.declared.header.Mode.TheVariants.{Rate}
 use Rattle.zf_header.specs.HeaderBits.{IsRate, rate_bytes_of}
 use Rattle.zfpi.specs.declared.words.Stage.{Stage}
 use Rattle.zfpi.specs.declared.words.Stage.TheVariants as stages
-use Rattle.zfpi.specs.declared.words.TheConstants.{MAX_FILE}
-use Rattle.zfpi.specs.Words.{type_word, shape_word, IsSpelled}
+use Rattle.zfpi.specs.Words.{type_word, shape_word, max_file, IsSpelled}
 
 -- these words lead to the stage
 abbrev pub LeadsTo : List (List ℕ) → Stage → Type 0
@@ -21,5 +20,5 @@ LeadsTo words (stages.Whole c) = IsSpelled c words
 -- the word is the bits of a block, and the stream of such an array is not too long
 pub record IsRateWord (ty : Ty) (shape : List ℕ) (b : ℕ) (word : List ℕ) : Type 0 where
   pub rate : IsRate (Rate b)
-  pub fits : rate_bytes_of (record { ty = ty; shape = shape; mode = Rate b }) ≤ MAX_FILE
+  pub fits : rate_bytes_of (record { ty = ty; shape = shape; mode = Rate b }) ≤ max_file
   pub text : word ≡ decimal b

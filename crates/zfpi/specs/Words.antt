@@ -5,11 +5,10 @@ use Rattle.zf_base.specs.declared.lane.Ty.{Ty}
 use Rattle.zf_base.specs.declared.lane.Ty.TheVariants.{I32, I64}
 use Rattle.zf_header.specs.declared.header.Header.{Header}
 use Rattle.zf_header.specs.declared.header.Mode.{Mode}
-use Rattle.zf_header.specs.declared.header.Mode.TheVariants.{Reversible, Rate}
-use Rattle.zf_header.specs.HeaderBits.{IsHeader, rate_bytes_of}
+use Rattle.zf_header.specs.declared.header.Mode.TheVariants.{Reversible, Rate, Precision}
+use Rattle.zf_header.specs.HeaderBits.{IsTaken, IsHeader, rate_bytes_of}
 use Rattle.zfpi.specs.declared.command.Command.{Command}
 use Rattle.zfpi.specs.declared.command.Command.TheVariants.{Compress, Restore, Info}
-use Rattle.zfpi.specs.declared.words.TheConstants.{MAX_FILE}
 
 -- the word of a type
 abbrev pub type_word : Ty → List ℕ
@@ -24,15 +23,22 @@ shape_word ns = join_with_byte 120 (map decimal ns)
 abbrev pub mode_words : Mode → List (List ℕ)
 mode_words Reversible = codes "reversible" ∷ []
 mode_words (Rate b) = codes "rate" ∷ decimal b ∷ []
+mode_words (Precision p) = codes "precision" ∷ decimal p ∷ []
+
+-- the most bytes of a file
+abbrev pub max_file : ℕ
+max_file = 1200000000
 
 -- the stream of a fixed rate has no more bytes than a file may have
 abbrev pub FitsFile : Header → Mode → Type 0
 FitsFile h Reversible = Unit {0}
-FitsFile h (Rate b) = rate_bytes_of h ≤ MAX_FILE
+FitsFile h (Rate b) = rate_bytes_of h ≤ max_file
+FitsFile h (Precision p) = Unit {0}
 
--- what can be asked for: a type, a shape, and a mode whose stream is not too long
+-- what can be asked for: a type, a shape, and a mode that streams are made in, whose stream is not too long
 pub record IsAskable (h : Header) : Type 0 where
   pub header : IsHeader h
+  pub taken : IsTaken h.mode
   pub fits : FitsFile h h.mode
 
 -- `compress TYPE SHAPE reversible` or `compress TYPE SHAPE rate B`

@@ -1,10 +1,10 @@
 //! `info`: the header of a stream as a line.
 
-ghost use Rattle.std.specs.Prelude.{◌≢◌};
+ghost use Rattle.std.specs.Prelude.{ℕ, Option};
+ghost use Rattle.zf_dev.specs.Shelf.{Files};
 ghost use Rattle.zfpi.specs.declared.command.Command.TheVariants.{Info};
-ghost use Rattle.zfpi.specs.declared.status.Status.TheVariants.{ReadFault, WriteFault};
-ghost use Rattle.zfpi.specs.Answer.{TakesMemory};
-ghost use Rattle.zfpi.specs.Headline.{IsOfCommand, OnDone, OnMemory, AnswersStatus, IsDone, LeavesFront, LeavesUnread, IsCausedBy};
+ghost use Rattle.zfpi.specs.World.{seen, counts};
+ghost use Rattle.zfpi.specs.Headline.{Behaves, HasCauses};
 
 use crate::line::info_line;
 use crate::status::Status;
@@ -12,15 +12,11 @@ use zf_dev::{Sink, Source, write_all};
 
 /// Reads the header that the source begins with, and writes a line that says it. The rest of the source is left.
 pub fn info<S: Source, O: Sink>(src: &mut S, out: &mut O) -> Status
-    ensures usage { IsOfCommand result }
-    ensures status { AnswersStatus Info (S.contents src.old) result }
-    ensures text { OnDone result (IsDone Info (S.contents src.old) (S.contents src.new) (O.contents out.old) (O.contents out.new)) }
-    ensures part { LeavesFront Info result (S.contents src.old) (S.contents src.new) (O.contents out.old) (O.contents out.new) }
-    ensures left { LeavesUnread Info result (S.contents src.old) (S.contents src.new) }
-    ensures memory { OnMemory result (TakesMemory Info (S.contents src.old)) }
-    ensures read_cause { IsCausedBy result ReadFault (S.faults src.old) (S.faults src.new) }
-    ensures write_cause { IsCausedBy result WriteFault (O.faults out.old) (O.faults out.new) }
-    ensures sure { S.never_fails src.old → (result ≢ ReadFault) × S.never_fails src.new }
+    ensures behaves { (files : Option Files) → Behaves Info result
+        (seen (S.contents src.old) (O.contents out.old) files) (seen (S.contents src.new) (O.contents out.new) files) }
+    ensures causes { (shelf : ℕ) → HasCauses Info result
+        (counts (S.faults src.old) (O.faults out.old) shelf) (counts (S.faults src.new) (O.faults out.new) shelf)
+        ⊥ ⊥ (S.never_fails src.old) (S.never_fails src.new) }
 {
     match zf_stream::read_header(src) {
         Ok((header, bits)) => {

@@ -86,13 +86,17 @@ fn push_shape(shape: &Shape, line: &mut Line)
 fn push_mode(mode: &Mode, line: &mut Line)
     requires { array_string_len line.old ≤ 190 }
     ensures text { line.new.bytes ≡ line.old.bytes ++ mode_text mode.now }
-    ensures len { array_string_len line.new ≤ array_string_len line.old + 25 }
+    ensures len { array_string_len line.new ≤ array_string_len line.old + 30 }
 {
     match *mode {
         Mode::Reversible => line.push_str("reversible"),
         Mode::Rate(bits) => {
             line.push_str("rate ");
             push_number(u64::from(bits), line);
+        }
+        Mode::Precision(planes) => {
+            line.push_str("precision ");
+            push_number(u64::from(planes), line);
         }
     }
 }

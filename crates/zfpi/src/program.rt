@@ -1,11 +1,10 @@
 //! The program as a whole: its words, its commands and its error line.
 
-ghost use Rattle.std.specs.Prelude.{◌≢◌, map, string_bytes};
-ghost use Rattle.zf_dev.specs.Faults.{IsQuiet};
-ghost use Rattle.zfpi.specs.declared.status.Status.TheVariants.{ReadFault, WriteFault};
+ghost use Rattle.std.specs.Prelude.{◌≡◌, map, string_bytes};
 ghost use Rattle.zfpi.specs.Statuses.{error_line};
-ghost use Rattle.zfpi.specs.Answer.{CanRun, TakesMemory};
-ghost use Rattle.zfpi.specs.Headline.{OfCommand, OnUsage, OnDone, OnMemory, RefusesWords, IsOfCommand, IsUntouched, AnswersStatus, IsDone, LeavesFront, LeavesUnread, IsCausedBy, IsComplete, Sends};
+ghost use Rattle.zfpi.specs.World.{seen, counts};
+ghost use Rattle.zfpi.specs.Answer.{CanRun, IsPossible};
+ghost use Rattle.zfpi.specs.Headline.{OfCommand, OnUsage, RefusesWords, Behaves, HasCauses, FailedLoad, FailedSave, AreQuiet, IsComplete, GivesBack, Sends};
 
 use crate::command::Command;
 use crate::compress::compress;
@@ -15,72 +14,86 @@ use crate::restore::restore;
 use crate::status::Status;
 use crate::words::parse;
 use std::alloc::Global;
-use zf_dev::{Sink, Source, write_all};
+use zf_dev::{Shelf, Sink, Source, write_all};
 
-/// Does what the words after the program's name say, from `src` to `out`; where it is not done, a line on `err` says why.
-pub fn zfpi<S: Source, O: Sink, E: Sink>(
+/// Does what the words after the program's name say, from `src` to `out` and with the files of `shelf`; where it is not done, a
+/// line on `err` says why.
+pub fn zfpi<S: Source, O: Sink, E: Sink, F: Shelf>(
     alloc: Global,
     words: &[String],
     src: &mut S,
     out: &mut O,
     err: &mut E,
+    shelf: &mut F,
 ) -> Status
     ensures usage { RefusesWords (map string_bytes words.now) result }
-    ensures untouched { OnUsage result (IsUntouched (S.contents src.old) (S.contents src.new) (O.contents out.old) (O.contents out.new)) }
-    ensures status { OfCommand (map string_bytes words.now) (λ c. AnswersStatus c (S.contents src.old) result) }
-    ensures text { OfCommand (map string_bytes words.now) (λ c. OnDone result
-        (IsDone c (S.contents src.old) (S.contents src.new) (O.contents out.old) (O.contents out.new))) }
-    ensures part { OfCommand (map string_bytes words.now) (λ c.
-        LeavesFront c result (S.contents src.old) (S.contents src.new) (O.contents out.old) (O.contents out.new)) }
-    ensures left { OfCommand (map string_bytes words.now) (λ c. LeavesUnread c result (S.contents src.old) (S.contents src.new)) }
-    ensures memory { OfCommand (map string_bytes words.now) (λ c. OnMemory result (TakesMemory c (S.contents src.old))) }
-    ensures read_cause { IsCausedBy result ReadFault (S.faults src.old) (S.faults src.new) }
-    ensures write_cause { IsCausedBy result WriteFault (O.faults out.old) (O.faults out.new) }
-    ensures sure { S.never_fails src.old → (result ≢ ReadFault) × S.never_fails src.new }
-    ensures complete { IsQuiet (S.faults src.old) (S.faults src.new) → IsQuiet (O.faults out.old) (O.faults out.new)
-        → OfCommand (map string_bytes words.now) (λ c. IsComplete c (S.contents src.old) result) }
+    ensures untouched { OnUsage result ((src.new ≡ src.old) × (out.new ≡ out.old) × (shelf.new ≡ shelf.old)) }
+    ensures command { OfCommand (map string_bytes words.now) (λ c. Behaves c result
+        (seen (S.contents src.old) (O.contents out.old) (F.files shelf.old))
+        (seen (S.contents src.new) (O.contents out.new) (F.files shelf.new))) }
+    ensures causes { OfCommand (map string_bytes words.now) (λ c. HasCauses c result
+        (counts (S.faults src.old) (O.faults out.old) (F.faults shelf.old))
+        (counts (S.faults src.new) (O.faults out.new) (F.faults shelf.new))
+        (FailedLoad F.loads F.faults shelf.old) (FailedSave F.saves F.faults shelf.old shelf.new)
+        (S.never_fails src.old) (S.never_fails src.new)) }
+    ensures possible { OfCommand (map string_bytes words.now) (λ c. IsPossible c result) }
+    ensures complete { AreQuiet
+        (counts (S.faults src.old) (O.faults out.old) (F.faults shelf.old))
+        (counts (S.faults src.new) (O.faults out.new) (F.faults shelf.new))
+        → OfCommand (map string_bytes words.now) (λ c. IsComplete c result
+        (seen (S.contents src.old) (O.contents out.old) (F.files shelf.old))) }
+    ensures back { GivesBack (map string_bytes words.now) result
+        (seen (S.contents src.old) (O.contents out.old) (F.files shelf.old))
+        (seen (S.contents src.new) (O.contents out.new) (F.files shelf.new)) }
     ensures message { Sends (error_line result) (E.contents err.old) (E.contents err.new) (E.faults err.old) (E.faults err.new) }
 {
-    let status = answer(alloc, words, src, out);
+    let status = answer(alloc, words, src, out, shelf);
     report(&status, err);
     status
 }
 
 // Does what the words say, and says how it ended.
-fn answer<S: Source, O: Sink>(alloc: Global, words: &[String], src: &mut S, out: &mut O) -> Status
+fn answer<S: Source, O: Sink, F: Shelf>(
+    alloc: Global,
+    words: &[String],
+    src: &mut S,
+    out: &mut O,
+    shelf: &mut F,
+) -> Status
     ensures usage { RefusesWords (map string_bytes words.now) result }
-    ensures untouched { OnUsage result (IsUntouched (S.contents src.old) (S.contents src.new) (O.contents out.old) (O.contents out.new)) }
-    ensures status { OfCommand (map string_bytes words.now) (λ c. AnswersStatus c (S.contents src.old) result) }
-    ensures text { OfCommand (map string_bytes words.now) (λ c. OnDone result
-        (IsDone c (S.contents src.old) (S.contents src.new) (O.contents out.old) (O.contents out.new))) }
-    ensures part { OfCommand (map string_bytes words.now) (λ c.
-        LeavesFront c result (S.contents src.old) (S.contents src.new) (O.contents out.old) (O.contents out.new)) }
-    ensures left { OfCommand (map string_bytes words.now) (λ c. LeavesUnread c result (S.contents src.old) (S.contents src.new)) }
-    ensures memory { OfCommand (map string_bytes words.now) (λ c. OnMemory result (TakesMemory c (S.contents src.old))) }
-    ensures read_cause { IsCausedBy result ReadFault (S.faults src.old) (S.faults src.new) }
-    ensures write_cause { IsCausedBy result WriteFault (O.faults out.old) (O.faults out.new) }
-    ensures sure { S.never_fails src.old → (result ≢ ReadFault) × S.never_fails src.new }
-    ensures complete { IsQuiet (S.faults src.old) (S.faults src.new) → IsQuiet (O.faults out.old) (O.faults out.new)
-        → OfCommand (map string_bytes words.now) (λ c. IsComplete c (S.contents src.old) result) }
+    ensures untouched { OnUsage result ((src.new ≡ src.old) × (out.new ≡ out.old) × (shelf.new ≡ shelf.old)) }
+    ensures command { OfCommand (map string_bytes words.now) (λ c. Behaves c result
+        (seen (S.contents src.old) (O.contents out.old) (F.files shelf.old))
+        (seen (S.contents src.new) (O.contents out.new) (F.files shelf.new))) }
+    ensures causes { OfCommand (map string_bytes words.now) (λ c. HasCauses c result
+        (counts (S.faults src.old) (O.faults out.old) (F.faults shelf.old))
+        (counts (S.faults src.new) (O.faults out.new) (F.faults shelf.new))
+        (FailedLoad F.loads F.faults shelf.old) (FailedSave F.saves F.faults shelf.old shelf.new)
+        (S.never_fails src.old) (S.never_fails src.new)) }
 {
     match parse(words) {
-        Ok(command) => run(alloc, command, src, out),
+        Ok(command) => do_command(alloc, command, src, out, shelf),
         Err(word) => Status::Usage(word),
     }
 }
 
 // Does what the command says.
-fn run<S: Source, O: Sink>(alloc: Global, command: Command, src: &mut S, out: &mut O) -> Status
+fn do_command<S: Source, O: Sink, F: Shelf>(
+    alloc: Global,
+    command: Command,
+    src: &mut S,
+    out: &mut O,
+    shelf: &mut F,
+) -> Status
     requires { CanRun command }
-    ensures usage { IsOfCommand result }
-    ensures status { AnswersStatus command (S.contents src.old) result }
-    ensures text { OnDone result (IsDone command (S.contents src.old) (S.contents src.new) (O.contents out.old) (O.contents out.new)) }
-    ensures part { LeavesFront command result (S.contents src.old) (S.contents src.new) (O.contents out.old) (O.contents out.new) }
-    ensures left { LeavesUnread command result (S.contents src.old) (S.contents src.new) }
-    ensures memory { OnMemory result (TakesMemory command (S.contents src.old)) }
-    ensures read_cause { IsCausedBy result ReadFault (S.faults src.old) (S.faults src.new) }
-    ensures write_cause { IsCausedBy result WriteFault (O.faults out.old) (O.faults out.new) }
-    ensures sure { S.never_fails src.old → (result ≢ ReadFault) × S.never_fails src.new }
+    ensures behaves { Behaves command result
+        (seen (S.contents src.old) (O.contents out.old) (F.files shelf.old))
+        (seen (S.contents src.new) (O.contents out.new) (F.files shelf.new)) }
+    ensures causes { HasCauses command result
+        (counts (S.faults src.old) (O.faults out.old) (F.faults shelf.old))
+        (counts (S.faults src.new) (O.faults out.new) (F.faults shelf.new))
+        (FailedLoad F.loads F.faults shelf.old) (FailedSave F.saves F.faults shelf.old shelf.new)
+        (S.never_fails src.old) (S.never_fails src.new) }
 {
     match command {
         Command::Compress(header) => compress(alloc, header, src, out),

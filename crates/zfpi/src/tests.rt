@@ -6,7 +6,7 @@ use crate::program::zfpi;
 use crate::status::Status;
 use std::alloc::{AllocError, Global};
 use std::test::Fail;
-use zf_dev::{MemSink, MemSource};
+use zf_dev::{MemShelf, MemSink, MemSource, Shelf};
 use zf_header::HeaderFault;
 
 // How a call of the program ended, and what its devices hold then.
@@ -16,7 +16,18 @@ struct Ended {
     src: MemSource,
     out: MemSink,
     err: MemSink,
+    shelf: MemShelf,
 }
+
+impl Ended {
+    // Whether the one file of the shelf is as it was, and no load and no save failed.
+    fn keeps_the_shelf(&self) -> bool {
+        self.shelf.file("kept") == Some(FILE.as_slice()) && self.shelf.faults() == 0
+    }
+}
+
+// A file that stands on the shelf, for a command to leave alone.
+const FILE: [u8; 3] = *b"abc";
 
 // Calls the program. The devices give and take at most `piece` bytes at once, and those of input and output fail at these
 // calls.
@@ -41,12 +52,15 @@ fn call(
     );
     let mut out = MemSink::new(alloc, Vec::from_slice(alloc, write_fails)?, piece);
     let mut err = MemSink::new(alloc, Vec::new(alloc), piece);
-    let status = zfpi(alloc, &all, &mut src, &mut out, &mut err);
+    let mut shelf = MemShelf::new(alloc, Vec::new(alloc));
+    let _ = shelf.save("kept", &FILE);
+    let status = zfpi(alloc, &all, &mut src, &mut out, &mut err, &mut shelf);
     Ok(Ended {
         status,
         src,
         out,
         err,
+        shelf,
     })
 }
 
@@ -162,11 +176,15 @@ fn other_words_are_no_command(rt: HostRuntime) -> Result<(), Fail> {
         ("info x", 1),
         ("restore x", 1),
     ] {
-        let ended = call(rt.alloc(), words, b"", 1000, &[], &[])?;
+        // The first read and the first write would fail.
+        let ended = call(rt.alloc(), words, b"input", 1000, &[0], &[0])?;
         assert_eq!(rt; ended.status, Status::Usage(first_wrong), "{words}");
         let line = format!(in rt.alloc(); "zfpi: usage: word {first_wrong}\n")?;
         assert_eq!(rt; ended.err.bytes(), line.as_bytes(), "{words}");
+        assert_eq!(rt; ended.src.left(), b"input".as_slice(), "{words}");
         assert_eq!(rt; ended.out.bytes().len(), 0, "{words}");
+        assert_eq!(rt; (ended.src.faults(), ended.out.faults()), (0, 0), "{words}");
+        assert!(rt; ended.keeps_the_shelf(), "{words}");
     }
     Ok(())
 }
@@ -209,6 +227,62 @@ fn a_device_that_fails_is_told(rt: HostRuntime) -> Result<(), Fail> {
         assert_eq!(rt; ended.status, status);
         assert_eq!(rt; ended.err.bytes(), line);
         assert_eq!(rt; ended.out.bytes().len(), 0);
+        assert!(rt; ended.keeps_the_shelf());
+    }
+    Ok(())
+}
+
+// What the error output holds where one write to it fails and the words are none.
+fn line_cut_at(alloc: Global, piece: usize, fail: u64) -> Result<(Status, MemSink), AllocError>
+    requires { 0 < piece }
+{
+    let mut src = MemSource::new(Vec::new(alloc), Vec::new(alloc), 1);
+    let mut out = MemSink::new(alloc, Vec::new(alloc), 1);
+    let mut err = MemSink::new(alloc, [fail].to_vec(alloc)?, piece);
+    let mut shelf = MemShelf::new(alloc, Vec::new(alloc));
+    let status = zfpi(alloc, &[], &mut src, &mut out, &mut err, &mut shelf);
+    Ok((status, err))
+}
+
+#[test]
+fn a_fault_of_the_error_output_changes_no_status(rt: HostRuntime) -> Result<(), Fail> {
+    let (status, err) = line_cut_at(rt.alloc(), 1000, 0)?;
+    assert_eq!(rt; (status, err.faults()), (Status::Usage(0), 1));
+    assert_eq!(rt; err.bytes().len(), 0);
+    let (status, err) = line_cut_at(rt.alloc(), 4, 2)?;
+    assert_eq!(rt; (status, err.faults()), (Status::Usage(0), 1));
+    assert_eq!(rt; err.bytes(), b"zfpi: us".as_slice());
+    Ok(())
+}
+
+// A program that always said that there is no memory would meet the clauses.
+fn there_and_back(alloc: Global, words: &str, raw: &[u8]) -> Result<(usize, Ended), AllocError> {
+    let made = call(alloc, words, raw, 5000, &[], &[])?;
+    let stream = made.out.bytes();
+    Ok((
+        stream.len(),
+        call(alloc, "restore", stream, 5000, &[], &[])?,
+    ))
+}
+
+#[test]
+fn where_there_is_memory_large_work_is_done(rt: HostRuntime) -> Result<(), Fail> {
+    let alloc = rt.alloc();
+    let mut raw = Vec::new(alloc);
+    for k in 0..1155i64 {
+        raw.extend_from_slice(&k.wrapping_mul(k).to_le_bytes())?;
+    }
+    for (words, len, exact) in [
+        ("compress int64 3x5x7x11 reversible", 2552, true),
+        ("compress int64 3x5x7x11 rate 4096", 6168, false),
+        ("compress int64 33x35 reversible", 1816, true),
+        ("compress int32 2310 rate 256", 18512, false),
+    ] {
+        let (made, back) = there_and_back(alloc, words, &raw)?;
+        assert_eq!(rt; made, len, "{words}");
+        assert_eq!(rt; back.status, Status::Done, "{words}");
+        assert_eq!(rt; back.out.bytes().len(), raw.len(), "{words}");
+        assert!(rt; !exact || back.out.bytes() == raw.as_slice(), "{words}");
     }
     Ok(())
 }

@@ -6,7 +6,7 @@ use Rattle.zf_block.proofs.coefficients.from_planes.Goals as goal
 
 pub from_planes-requires-clause-digits : goal.from_planes-requires-clause-digits
 from_planes-requires-clause-digits g c =
-    block_size_at_most c.args.d (length c.args.digits.now) c.requires.some c.requires.four_at_most c.requires.digits
+    block_size_at_most c.args.d (length c.args.digits.now) c.requires.dimension.0 c.requires.dimension.1 c.requires.digits
 
 pub returns : goal.returns
 returns g c =

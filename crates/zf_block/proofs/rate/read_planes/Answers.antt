@@ -4,7 +4,7 @@ use Rattle.std.proofs.lemmas.List.{length-take}
 use Rattle.std.proofs.lemmas.Option.{MatchOption-at_some}
 use Rattle.zf_bits.specs.Reader.{rest, Reads}
 use Rattle.zf_planes.specs.Decoding.{coded_bits}
-use Rattle.zf_block.proofs.Reading.{Reads-part}
+use Rattle.zf_block.proofs.ReadCodes.{Reads-part}
 use Rattle.zf_block.proofs.rate.read_planes.Goals as goal
 
 pub returns-clause-passed : goal.returns-clause-passed

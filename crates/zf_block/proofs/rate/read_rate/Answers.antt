@@ -8,11 +8,11 @@ use Rattle.zf_spec.specs.HeldPlanes.{planes_held}
 use Rattle.zf_bits.specs.Reader.{rest}
 use Rattle.zf_block.specs.ReadBlocks.{ReadsRate}
 use Rattle.zf_block.proofs.Sizes.{block_sizes}
-use Rattle.zf_block.proofs.Reading.{ReadsRate-planes}
+use Rattle.zf_block.proofs.ReadCodes.{ReadsRate-planes}
 use Rattle.zf_block.proofs.rate.read_rate.Goals as goal
 
 pub read_planes-requires-clause-size : goal.read_planes-requires-clause-size
-read_planes-requires-clause-size g c = block_sizes c.args.d (length c.args.block.now) c.requires.some c.requires.four_at_most c.requires.block
+read_planes-requires-clause-size g c = block_sizes c.args.d (length c.args.block.now) c.requires.dimension.0 c.requires.dimension.1 c.requires.block
 
 pub returns : goal.returns
 returns g c =

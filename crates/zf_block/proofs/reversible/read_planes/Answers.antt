@@ -3,7 +3,7 @@ use Rattle.std.proofs.lemmas.Bool.{cases_lt}
 use Rattle.zf_bits.specs.Reader.{rest, Reads}
 use Rattle.zf_planes.specs.Decoding.{coded_bits}
 use Rattle.zf_block.specs.ReadBlocks.{rev_planes}
-use Rattle.zf_block.proofs.Reading.{Reads-rev, CountRead-field, kept_planes-rev, length-rev_planes, coded_bits-rev, count_bits-le}
+use Rattle.zf_block.proofs.ReadCodes.{Reads-rev, CountRead-field, kept_planes-rev, length-rev_planes, coded_bits-rev, count_bits-le}
 use Rattle.zf_block.proofs.reversible.read_planes.Goals as goal
 
 pub returns-in_err-prec-clause-short : goal.returns-in_err-prec-clause-short

@@ -6,11 +6,11 @@ use Rattle.zf_bits.specs.Reader.{rest, Reads}
 use Rattle.zf_block.specs.ReadBlocks.{ReadsRev, rev_planes, rev_len}
 use Rattle.zf_block.proofs.Sizes.{block_sizes}
 use Rattle.zf_block.proofs.Kept.{coefficients_of-zeros}
-use Rattle.zf_block.proofs.Reading.{ReadsRev-planes, LacksRev-short}
+use Rattle.zf_block.proofs.ReadCodes.{ReadsRev-planes, LacksRev-short}
 use Rattle.zf_block.proofs.reversible.read_rev.Goals as goal
 
 pub read_planes-requires-clause-size : goal.read_planes-requires-clause-size
-read_planes-requires-clause-size g c = block_sizes c.args.d (length c.args.block.now) c.requires.some c.requires.four_at_most c.requires.block
+read_planes-requires-clause-size g c = block_sizes c.args.d (length c.args.block.now) c.requires.dimension.0 c.requires.dimension.1 c.requires.block
 
 pub returns-in_err-read_planes-clause-short : goal.returns-in_err-read_planes-clause-short
 returns-in_err-read_planes-clause-short g c =

@@ -1,4 +1,4 @@
-use Rattle.std.proofs.Common.{arith}
+use Rattle.std.proofs.Common.{◌∙◌}
 use Rattle.std.proofs.Math.Seq.{take-add}
 use Rattle.std.proofs.lemmas.List.{take_rest}
 use Rattle.zf_dev.proofs.Appending.{Appends-append}
@@ -13,5 +13,5 @@ loop-written-preserved g c =
     record {
       in_range = end_in_range bytes at count c.loop-written.invariant.in_range c.in_ok-written.ensures.bound;
       front = rw (take-add at count bytes, ← take_rest bytes at) (Appends-append _ _ _ _ _ c.loop-written.invariant.front c.in_ok-written.ensures.appended);
-      kept = omega (arith, c.in_ok-written.ensures.cause.0);
+      same = c.in_ok-written.ensures.unchanged ∙ c.loop-written.invariant.same;
     }

@@ -1,4 +1,4 @@
-use Rattle.std.proofs.Common.{length, ◌-◌, ◌≤◌, take}
+use Rattle.std.proofs.Common.{◌≡◌, length, ◌-◌, ◌≤◌, take}
 use Rattle.zf_dev.specs.Sink.{Appends}
 use Rattle.zf_dev.proofs.sink.write_all.Given as goal
 
@@ -6,7 +6,7 @@ abbrev pub invariant-loop-written : goal.invariant-loop-written
 invariant-loop-written g l = record {
   in_range : l.written ≤ length l.bytes;
   front : Appends (g.O.Sink.contents l.initial.out) (g.O.Sink.contents l.out) (take l.written l.bytes);
-  kept : g.O.Sink.faults l.initial.out ≤ g.O.Sink.faults l.out;
+  same : g.O.Sink.faults l.out ≡ g.O.Sink.faults l.initial.out;
 }
 
 abbrev pub decreases-loop-written : goal.decreases-loop-written

@@ -1,4 +1,4 @@
-use Rattle.std.proofs.Common.{◌≤◌, length, ◌+◌, ◌-◌, arith}
+use Rattle.std.proofs.Common.{◌≤◌, length, ◌+◌, ◌-◌, ◌∙◌, arith}
 use Rattle.zf_dev.proofs.Pieces.{take-put_mid_part, rest_more, end_in_range}
 use Rattle.zf_dev.proofs.Taking.{Takes-append}
 use Rattle.zf_dev.proofs.source.fill.Goals as goal
@@ -16,6 +16,6 @@ loop-filled-preserved g c =
       in_range = omega arith;
       taken = rw (take-put_mid_part buf part at (length buf - at) count in_buf in_part) (Takes-append _ _ _ _ _ c.loop-filled.invariant.taken c.in_ok-n.ensures.taken);
       rest = rest_more c.args.buf.now buf part at count in_buf in_part c.loop-filled.invariant.rest c.in_ok-n.ensures.rest;
-      kept = omega (arith, c.in_ok-n.ensures.cause.0);
+      same = c.in_ok-n.ensures.unchanged ∙ c.loop-filled.invariant.same;
       sure = λ sure. (c.in_ok-n.ensures.sure (c.loop-filled.invariant.sure sure)).1;
     }

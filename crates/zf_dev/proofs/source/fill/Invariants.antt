@@ -7,7 +7,7 @@ invariant-loop-filled g l = record {
   in_range : l.filled ≤ length l.buf;
   taken : Takes (g.S.Source.contents l.initial.src) (g.S.Source.contents l.src) (take l.filled l.buf);
   rest : drop l.filled l.buf ≡ drop l.filled l.initial.buf;
-  kept : g.S.Source.faults l.initial.src ≤ g.S.Source.faults l.src;
+  same : g.S.Source.faults l.src ≡ g.S.Source.faults l.initial.src;
   sure : g.S.Source.never_fails l.initial.src → g.S.Source.never_fails l.src;
 }
 

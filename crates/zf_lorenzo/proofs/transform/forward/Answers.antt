@@ -7,7 +7,7 @@ use Rattle.zf_lorenzo.proofs.transform.forward.Goals as goal
 
 pub returns-clause-sums : goal.returns-clause-sums
 unfolding lorenzo
-returns-clause-sums g c = c.passes.ensures ∙ along_axes-sums g.T.Lane.width signed_choose c.args.d _ c.requires.some (length-map c.args.block.now g.T.Lane.value ∙ c.requires.size)
+returns-clause-sums g c = c.passes.ensures ∙ along_axes-sums g.T.Lane.width signed_choose c.args.d _ c.requires.dimension.0 (length-map c.args.block.now g.T.Lane.value ∙ c.requires.size)
 
 pub returns-clause-undone : goal.returns-clause-undone
 returns-clause-undone g c fits =

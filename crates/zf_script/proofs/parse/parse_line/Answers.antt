@@ -3,7 +3,7 @@ use Rattle.zf_script.proofs.parse.parse_line.Goals as goal
 
 pub returns-clause-ok : goal.returns-clause-ok
 returns-clause-ok c =
-    parsed_ok c.args.dims c.args.line.now c.command_in.result c.ok_or.result c.requires.one_at_least c.ok_or.ensures.value c.command_in.ensures.command
+    parsed_ok c.args.dims c.args.line.now c.command_in.result c.ok_or.result c.requires.dimension.0 c.ok_or.ensures.value c.command_in.ensures.command
 
 pub returns-clause-err : goal.returns-clause-err
 returns-clause-err c =

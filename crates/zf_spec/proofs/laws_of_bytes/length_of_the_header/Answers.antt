@@ -2,4 +2,9 @@ use Rattle.zf_spec.proofs.RawValues.{length-header_reversible, length-header_rat
 use Rattle.zf_spec.proofs.laws_of_bytes.length_of_the_header.Goals as goal
 
 pub returns : goal.returns
-returns c = record { reversible = length-header_reversible; rate = length-header_rate; precision = length-header_precision; long = length-header_long }
+returns c = record {
+  reversible = λ w ns d. length-header_reversible w ns d.0 d.1;
+  rate = λ w ns b d. length-header_rate w ns b d.0 d.1;
+  precision = λ w ns p d. length-header_precision w ns p d.0 d.1;
+  long = λ w ns b d. length-header_long w ns b d.0 d.1;
+}

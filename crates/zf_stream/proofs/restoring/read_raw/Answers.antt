@@ -4,10 +4,11 @@ use Rattle.std.specs.Prelude.{IfErr}
 use Rattle.zf_dev.proofs.Taking.{Takes-append}
 use Rattle.zf_stream.specs.declared.fault.StreamFault.TheVariants.{Read}
 use Rattle.zf_stream.specs.Parsing.{restore_answer}
-use Rattle.zf_stream.specs.Outcomes.{IsRefusal}
+use Rattle.zf_stream.specs.Outcomes.{IsRefusal, CanRefuse}
 use Rattle.zf_stream.specs.ReadStreams.{BeginsWithHeader}
 use Rattle.zf_stream.proofs.Parsed.{begun_more, good_of_front, refusal_of_fault}
 use Rattle.zf_stream.proofs.OwnFaults.{own_fault, blameless, anyhow}
+use Rattle.zf_stream.proofs.Refusals.{CanRefuse-header, CanRefuse-bytes}
 use Rattle.zf_stream.proofs.restoring.read_raw.Goals as goal
 
 pub returns-in_err-h-clause-refused : goal.returns-in_err-h-clause-refused
@@ -53,3 +54,11 @@ pub returns-clause-sure : goal.returns-clause-sure
 returns-clause-sure g c =
     let own : IfErr c.restored.result (λ e. e ≢ Read) = IfErr-weaker c.restored.result _ _ (λ e fault. (own_fault c.deref.result.now e fault).0) c.restored.ensures.err in
     λ never. (λ is. IfErr-at_err (λ e. e ≢ Read) is own refl, (c.read_rest.ensures.sure (c.read_front.ensures.sure never).1).1)
+
+pub returns-in_err-h-clause-possible : goal.returns-in_err-h-clause-possible
+returns-in_err-h-clause-possible g c =
+    let at : CanRefuse restore_answer c.in_err-h.field-0.0 = CanRefuse-header _ c.in_err-h.field-0.0 c.in_ok-count.ensures.first.within c.in_err-h.ensures.err in
+    search rules
+
+pub returns-clause-possible : goal.returns-clause-possible
+returns-clause-possible g c = IfErr-weaker c.restored.result _ _ (λ e fault. CanRefuse-bytes c.deref.result.now e fault) c.restored.ensures.err

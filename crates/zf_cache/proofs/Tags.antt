@@ -1,0 +1,101 @@
+-- What tags name.
+use Rattle.std.proofs.Common.{◌≡◌, ◌≢◌, ◌⊎◌, inl, inr, refl, sym, ap, ◌∙◌, ℕ, zero, suc, ◌+◌, ◌-◌, ◌*◌, ◌/◌, ◌%◌, ◌^◌, ◌<◌, ◌≤◌, lit≤, ◌==◌, true, false, Option, Some, None, List, [], ◌∷◌, length, set, replicate, eq-eqb, arith}
+use Rattle.std.proofs.lemmas.Bool.{ne_eqb}
+use Rattle.std.proofs.lemmas.Nat.{pow_pos, and_mask}
+use Rattle.std.proofs.Math.Pow.{pow_mono}
+use Rattle.std.specs.Int.Bits.{bit_and}
+use Rattle.std.proofs.lemmas.List.{get_or-set_same, get_or-set_other}
+use Rattle.zf_cached.specs.State.{is_block}
+use Rattle.zf_cache.specs.Kept.{tag_at, one_less, block_in, clean_tag, dirty_tag, dirty_of, IsLineCount}
+
+pub same_or_not : (a b : ℕ) → (a ≡ b) ⊎ (a ≢ b)
+same_or_not zero zero = inl refl
+same_or_not zero (suc b) = inr (λ e. omega (arith, e))
+same_or_not (suc a) zero = inr (λ e. omega (arith, e))
+same_or_not (suc a) (suc b) = elim (same_or_not a b) [ inl e ↦ inl (ap suc e) | inr n ↦ inr (λ e. let same : a ≡ b = omega (arith, e) in n same) ]
+
+one_less-some : (n b : ℕ) → one_less n ≡ Some b → n ≡ suc b
+one_less-some zero b e = cc
+one_less-some (suc a) b e = let same : a ≡ b = cc in ap suc same
+
+-- a tag names block b where its half is b + 1
+pub names : (tag b : ℕ) → tag / 2 ≡ b + 1 → block_in tag ≡ Some b
+names tag b e = let on : tag / 2 ≡ suc b = omega (arith, e) in ap one_less on
+
+pub named : (tag b : ℕ) → block_in tag ≡ Some b → tag / 2 ≡ b + 1
+named tag b e = let on : tag / 2 ≡ suc b = one_less-some (tag / 2) b e in omega (arith, on)
+
+pub names-clean : (b : ℕ) → block_in (clean_tag b) ≡ Some b
+names-clean b = names (clean_tag b) b (omega arith)
+
+pub names-dirty : (b : ℕ) → block_in (dirty_tag b) ≡ Some b
+names-dirty b = names (dirty_tag b) b (omega arith)
+
+pub is_block-same : (o : Option ℕ) (b : ℕ) → o ≡ Some b → is_block o b ≡ true
+is_block-same o b e = ap (λ p. is_block p b) e ∙ eq-eqb b b refl
+
+pub is_block-other : (o : Option ℕ) (b : ℕ) → o ≢ Some b → is_block o b ≡ false
+is_block-other None b ne = refl
+is_block-other (Some a) b ne = ne_eqb a b (λ e. ne (ap Some e))
+
+-- the dirty block that a tag names: the tag is this block's
+pub dirty_of-some : (tag b : ℕ) → dirty_of tag ≡ Some b → tag ≡ dirty_tag b
+dirty_of-some tag b e = by (tag % 2) refl e
+  where
+    by : (r : ℕ) → r ≡ tag % 2 → (elim (r == 1) [ true ↦ block_in tag | false ↦ None ]) ≡ Some b → tag ≡ dirty_tag b
+    by zero at e = cc
+    by (suc zero) at e = let half = named tag b e in omega (arith, at, half)
+    by (suc (suc r)) at e = absurd (omega (arith, at))
+
+-- a tag that names no dirty block is no block's dirty tag
+pub dirty_of-none : (tag b : ℕ) → dirty_of tag ≡ None → tag ≢ dirty_tag b
+dirty_of-none tag b e is =
+    let odd : (2 * b + 3) % 2 ≡ 1 = omega arith in let there = names-dirty b in
+    let some : dirty_of (dirty_tag b) ≡ Some b = ap (λ (r : ℕ). elim (r == 1) [ true ↦ block_in (dirty_tag b) | false ↦ None ]) odd ∙ there in
+    let both : None ≡ Some b = sym e ∙ ap dirty_of is ∙ some in cc
+
+-- what is put into a tag is there, and the others stay
+pub tag-set_same : (tags : List ℕ) (l x : ℕ) → l < length tags → tag_at (set tags l x) l ≡ x
+tag-set_same tags l x lt = get_or-set_same tags l x 0 lt
+
+pub tag-set_other : (tags : List ℕ) (l x m : ℕ) → m ≢ l → tag_at (set tags l x) m ≡ tag_at tags m
+tag-set_other tags l x m ne = get_or-set_other tags l m x 0 ne
+
+-- a tag that names block b and isn't its dirty tag is its clean tag
+pub even : (t b : ℕ) → t / 2 ≡ b + 1 → t ≢ dirty_tag b → t ≡ clean_tag b
+even t b half ne = by (t % 2) refl
+  where
+    by : (r : ℕ) → r ≡ t % 2 → t ≡ clean_tag b
+    by zero at = omega (arith, half, at)
+    by (suc zero) at = let odd : t ≡ dirty_tag b = omega (arith, half, at) in absurd (ne odd)
+    by (suc (suc r)) at = absurd (omega (arith, at))
+
+pub undirty : (tag : ℕ) → tag % 2 ≡ 0 → dirty_of tag ≡ None
+undirty tag e = ap (λ (r : ℕ). elim (r == 1) [ true ↦ block_in tag | false ↦ None ]) e
+
+-- tags that are all 0
+pub zeros_of : (tags : List ℕ) (n : ℕ) → length tags ≡ n → ((m : ℕ) → m < n → tag_at tags m ≡ 0) → tags ≡ replicate n 0
+zeros_of [] zero e zeros = refl
+zeros_of [] (suc n) e zeros = absurd (omega (arith, e))
+zeros_of (t ∷ tags) zero e zeros = absurd (omega (arith, e))
+zeros_of (t ∷ tags) (suc n) e zeros = let more : length tags ≡ n = omega (arith, e) in
+    λ i. zeros zero (omega arith) i ∷ zeros_of tags n more (λ m lt. zeros (suc m) (omega arith)) i
+
+-- a block has at most 256 values
+pub at_most_256 : (d : ℕ) → d ≤ 4 → 4 ^ d ≤ 256
+at_most_256 zero h = lit≤ tt
+at_most_256 (suc zero) h = lit≤ tt
+at_most_256 (suc (suc zero)) h = lit≤ tt
+at_most_256 (suc (suc (suc zero))) h = lit≤ tt
+at_most_256 (suc (suc (suc (suc zero)))) h = lit≤ tt
+at_most_256 (suc (suc (suc (suc (suc d))))) h = absurd (omega (arith, h))
+
+-- a number of lines is one that masks cut to
+pub counts_lines : (n : ℕ) → IsLineCount n → (0 < n) × (n ≤ 2 ^ 16)
+counts_lines n h = by h.0 n h.1 h.2
+  where
+    by : (k n : ℕ) → k ≤ 16 → n ≡ 2 ^ k → (0 < n) × (n ≤ 2 ^ 16)
+    by k n le e = let some = pow_pos k in let most : 2 ^ k ≤ 2 ^ 16 = pow_mono le in (omega (arith, e, some), omega (arith, e, most))
+
+pub masks_lines : (n : ℕ) → IsLineCount n → (b : ℕ) → b < 2 ^ 64 → bit_and b (n - 1) ≡ b % n
+masks_lines n h b lt = ap (λ m. bit_and b (m - 1)) h.2 ∙ and_mask b h.0 ∙ ap (λ m. b % m) (sym h.2)

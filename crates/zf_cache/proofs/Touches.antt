@@ -1,0 +1,199 @@
+-- Touches, flush and discard, from the changes of single lines.
+use Rattle.std.proofs.Common.{◌≡◌, ◌≢◌, inl, inr, refl, sym, ap, ◌∙◌, ℕ, zero, suc, ◌%◌, ◌<◌, ◌≤◌, ◌==◌, ℤ, Bool, true, false, cond, nat_lt, Option, Some, None, List, length, replicate, eq-eqb, arith}
+use Rattle.std.proofs.lemmas.Bool.{ne_eqb, cases_lt, lt-ltb, le-ltb}
+use Rattle.std.proofs.lemmas.List.{length-replicate, get_or-replicate, get_or_past}
+use Rattle.zf_base.specs.Formats.{Format, meant, with_at}
+use Rattle.zf_base.proofs.Formats.{with_at-same, with_at-other}
+use Rattle.zf_cached.specs.State.{Counts, State, own_line}
+use Rattle.zf_cached.specs.Touch.{write_back, write_back_dirty, write_back_line, hit, miss, touch}
+use Rattle.zf_cached.specs.Changes.{write_back_lines, emptied, flush, discard}
+use Rattle.zf_cached.proofs.States.{same_state}
+use Rattle.zf_cache.specs.Kept.{Kept, tag_at, block_in, clean_tag, dirty_tag}
+use Rattle.zf_cache.specs.Standing.{state_of, values_of, Fits, evicted}
+use Rattle.zf_cache.specs.Steps.{taken_in}
+use Rattle.zf_cache.proofs.Tags.{same_or_not, is_block-same, is_block-other}
+use Rattle.zf_cache.proofs.Stands.{standing, Fit, write_back_line-none, write_back_line-some, write_back_dirty-false, write_back_dirty-true, undirty_values, vals-out}
+
+module _ {Code : Type 0} (f : Format Code) (s : State Code) (b : ℕ) where
+  -- a block that is here is hit
+  pub touches_here : s.held (own_line s b) ≡ Some b → hit s ≡ touch f s b
+  unfolding touch
+  touches_here e = sym (ap (λ (t : Bool). elim t [ true ↦ hit s | false ↦ miss f s (own_line s b) b ]) (is_block-same _ b e))
+
+  -- one that is not is missed: its line is emptied, and takes the block in
+  pub touches_away : (l : ℕ) → own_line s b ≡ l → s.held (own_line s b) ≢ Some b → taken_in (evicted f s l) l b ≡ touch f s b
+  unfolding touch miss taken_in evicted
+  touches_away l at ne =
+      let t = write_back_line f s l in
+      same_state (taken_in (evicted f s l) l b) (miss f s l b) refl
+      (λ m. elim (same_or_not m l) [
+        | inl e ↦ ap (with_at (with_at t.held l None) l (Some b)) e ∙ with_at-same (with_at t.held l None) l (Some b) ∙ sym (with_at-same t.held l (Some b)) ∙ ap (with_at t.held l (Some b)) (sym e)
+        | inr off ↦ with_at-other (with_at t.held l None) l (Some b) m off ∙ with_at-other t.held l None m off ∙ sym (with_at-other t.held l (Some b) m off)
+      ])
+      (λ a. refl) (λ a. refl) (λ a. refl) refl
+      ∙ ap (λ j. miss f s j b) (sym at) ∙ sym (ap (λ (t : Bool). elim t [ true ↦ hit s | false ↦ miss f s (own_line s b) b ]) (is_block-other _ b ne))
+
+-- ---- flush
+
+module _ {Code : Type 0} (f : Format Code) where
+  -- a write-back leaves what stands in the lines, and looks at no line but its own
+  write_back_dirty-held : (s : State Code) (h : ℕ → Option ℕ) (b : ℕ) → write_back_dirty f (record s { held = h }) b ≡ record (write_back_dirty f s b) { held = h }
+  unfolding write_back_dirty write_back
+  write_back_dirty-held s h b = by (s.dirty b) refl
+    where
+      by : (t : Bool) → s.dirty b ≡ t → write_back_dirty f (record s { held = h }) b ≡ record (write_back_dirty f s b) { held = h }
+      by true e = write_back_dirty-true f (record s { held = h }) b e ∙ ap (λ (t : State Code). record t { held = h }) (sym (write_back_dirty-true f s b e))
+      by false e = write_back_dirty-false f (record s { held = h }) b e ∙ ap (λ (t : State Code). record t { held = h }) (sym (write_back_dirty-false f s b e))
+
+  write_back_line-held : (s : State Code) (h : ℕ → Option ℕ) (l : ℕ) → h l ≡ s.held l → write_back_line f (record s { held = h }) l ≡ record (write_back_line f s l) { held = h }
+  write_back_line-held s h l same = by (s.held l) refl
+    where
+      by : (o : Option ℕ) → s.held l ≡ o → write_back_line f (record s { held = h }) l ≡ record (write_back_line f s l) { held = h }
+      by None e = write_back_line-none f (record s { held = h }) l (same ∙ e) ∙ ap (λ (t : State Code). record t { held = h }) (sym (write_back_line-none f s l e))
+      by (Some b) e =
+          write_back_line-some f (record s { held = h }) l b (same ∙ e) ∙ write_back_dirty-held s h b ∙ ap (λ (t : State Code). record t { held = h }) (sym (write_back_line-some f s l b e))
+
+  held-write_back_dirty : (s : State Code) (b : ℕ) → (write_back_dirty f s b).held ≡ s.held
+  unfolding write_back
+  held-write_back_dirty s b = by (s.dirty b) refl
+    where
+      by : (t : Bool) → s.dirty b ≡ t → (write_back_dirty f s b).held ≡ s.held
+      by true e = ap (λ (t : State Code). t.held) (write_back_dirty-true f s b e)
+      by false e = ap (λ (t : State Code). t.held) (write_back_dirty-false f s b e)
+
+  held-write_back_line : (s : State Code) (l : ℕ) → (write_back_line f s l).held ≡ s.held
+  held-write_back_line s l = by (s.held l) refl
+    where
+      by : (o : Option ℕ) → s.held l ≡ o → (write_back_line f s l).held ≡ s.held
+      by None e = ap (λ (t : State Code). t.held) (write_back_line-none f s l e)
+      by (Some b) e = ap (λ (t : State Code). t.held) (write_back_line-some f s l b e) ∙ held-write_back_dirty s b
+
+  held-write_back_lines : (s : State Code) (m : ℕ) → (write_back_lines f s m).held ≡ s.held
+  unfolding write_back_lines
+  held-write_back_lines s zero = refl
+  held-write_back_lines s (suc m) = held-write_back_line (write_back_lines f s m) m ∙ held-write_back_lines s m
+
+  -- the lines below m are empty
+  abbrev pub held_from : (ℕ → Option ℕ) → ℕ → ℕ → Option ℕ
+  held_from h m j = cond (nat_lt j m) None (h j)
+
+  -- a flush that has come to line m
+  abbrev pub flushing : State Code → ℕ → State Code
+  flushing s m = record (write_back_lines f s m) { held = held_from s.held m }
+
+  lt-true : (j m : ℕ) → j < m → nat_lt j m ≡ true
+  lt-true j m h = lt-ltb j m h
+
+  lt-false : (j m : ℕ) → m ≤ j → nat_lt j m ≡ false
+  lt-false j m h = le-ltb j m h
+
+  pub flush_begins : (s : State Code) → flushing s 0 ≡ s
+  unfolding write_back_lines
+  flush_begins s = same_state (flushing s 0) s refl (λ j. ap (λ t. cond t None (s.held j)) (lt-false j 0 (omega arith))) (λ a. refl) (λ a. refl) (λ a. refl) refl
+
+  pub flush_goes_on : (s : State Code) (m : ℕ) → evicted f (flushing s m) m ≡ flushing s (suc m)
+  unfolding evicted write_back_lines
+  flush_goes_on s m =
+      let t = write_back_lines f s m in
+      let h = held_from s.held m in
+      let here : h m ≡ t.held m = ap (λ t. cond t None (s.held m)) (lt-false m m (omega arith)) ∙ sym (ap (λ (g : ℕ → Option ℕ). g m) (held-write_back_lines s m)) in
+      ap (λ (u : State Code). record u { held = with_at u.held m None }) (write_back_line-held t h m here)
+      ∙ same_state (record (write_back_line f t m) { held = with_at h m None }) (flushing s (suc m)) refl
+      (λ j. elim (same_or_not j m) [
+        | inl e ↦ ap (with_at h m None) e ∙ with_at-same h m None ∙ ap (λ t. cond t None (s.held j)) (sym (lt-true j (suc m) (omega (arith, e))))
+        | inr ne ↦ with_at-other h m None j ne ∙ below j ne
+      ])
+      (λ a. refl) (λ a. refl) (λ a. refl) refl
+    where
+      below : (j : ℕ) → j ≢ m → held_from s.held m j ≡ held_from s.held (suc m) j
+      below j ne = elim (cases_lt j m) [
+        | inl lt ↦ ap (λ t. cond t None (s.held j)) (lt-true j m lt ∙ sym (lt-true j (suc m) (omega arith)))
+        | inr ge ↦ ap (λ t. cond t None (s.held j)) (lt-false j m ge ∙ sym (lt-false j (suc m) (beyond j m ge ne)))
+      ]
+        where
+          beyond : (j m : ℕ) → m ≤ j → j ≢ m → suc m ≤ j
+          beyond j m ge ne = elim (cases_lt m j) [ inl lt ↦ omega (arith, lt) | inr le ↦ let same : j ≡ m = omega (arith, ge, le) in absurd (ne same) ]
+
+  -- it ends where the lines end
+  pub flush_ends : (s : State Code) → ((j : ℕ) → s.lines ≤ j → s.held j ≡ None) → flushing s s.lines ≡ flush f s
+  unfolding flush emptied
+  flush_ends s past =
+      same_state (flushing s s.lines) (flush f s) refl
+      (λ j. elim (cases_lt j s.lines) [
+        | inl lt ↦ ap (λ t. cond t None (s.held j)) (lt-true j s.lines lt)
+        | inr ge ↦ ap (λ t. cond t None (s.held j)) (lt-false j s.lines ge) ∙ past j ge
+      ])
+      (λ a. refl) (λ a. refl) (λ a. refl) refl
+
+-- ---- lines that are all empty
+
+pub no_tag : (n l : ℕ) → tag_at (replicate n 0) l ≡ 0
+no_tag n l = elim (cases_lt l n) [ inl lt ↦ get_or-replicate n l 0 0 lt | inr ge ↦ get_or_past (replicate n 0) l 0 (let none : ℕ = 0 in let size : length (replicate n none) ≡ n = length-replicate n none in omega (arith, size)) ]
+
+module _ {X Code : Type 0} (value : X → ℤ) (f : Format Code) (n : ℕ) (lines : List (List X)) (counts : Counts) (k : ℕ → Code) where
+  none_held : (l : ℕ) → block_in (tag_at (replicate n 0) l) ≡ None
+  none_held l = ap block_in (no_tag n l)
+
+  none_dirty_there : (l b : ℕ) → (tag_at (replicate n 0) l == dirty_tag b) ≡ false
+  none_dirty_there l b = ap (λ t. t == dirty_tag b) (no_tag n l) ∙ ne_eqb 0 (dirty_tag b) (λ e. omega (arith, e))
+
+  pub all_meant : (b : ℕ) → (standing value f n lines (replicate n 0) counts k).values b ≡ meant f b (k b)
+  all_meant b = vals-out value f n lines (replicate n 0) k b (λ e. let both : None ≡ Some b = sym (none_held (b % n)) ∙ e in cc)
+
+  -- an empty cache fits every backing
+  pub fits_empty : Fit value f n lines (replicate n 0) k
+  fits_empty = record {
+    own = λ l b e. let both : None ≡ Some b = sym (none_held l) ∙ e in absurd (no both);
+    clean = λ l b e. let none : 0 ≡ clean_tag b = sym (no_tag n l) ∙ e in absurd (omega (arith, none));
+  }
+    where
+      no : {b : ℕ} → None ≡ Some b → ⊥
+      no {b} e = cc
+
+  -- empty lines of another number
+  pub relines : (n' : ℕ) (lines' : List (List X)) → standing value f n' lines' (replicate n' 0) counts k ≡ record (standing value f n lines (replicate n 0) counts k) { lines = n' }
+  relines n' lines' =
+      same_state (standing value f n' lines' (replicate n' 0) counts k) (record (standing value f n lines (replicate n 0) counts k) { lines = n' }) refl
+      (λ l. ap block_in (no_tag n' l) ∙ sym (none_held l))
+      (λ b. ap (λ t. t == dirty_tag b) (no_tag n' (b % n') ∙ sym (no_tag n (b % n))))
+      (λ b. vals-out value f n' lines' (replicate n' 0) k b (λ e. let both : None ≡ Some b = sym (ap block_in (no_tag n' (b % n'))) ∙ e in cc) ∙ sym (all_meant b))
+      (λ b. refl) refl
+
+  -- discard, whatever stood in the lines
+  pub discards : (tags : List ℕ) → Fit value f n lines tags k → standing value f n lines (replicate n 0) counts k ≡ discard f (standing value f n lines tags counts k)
+  unfolding discard
+  discards tags fit =
+      let s = standing value f n lines tags counts k in
+      same_state (standing value f n lines (replicate n 0) counts k) (discard f s) refl none_held (λ b. none_dirty_there (b % n) b)
+      (λ b. all_meant b ∙ by b (s.dirty b) refl) (λ b. refl) refl
+    where
+      by : (b : ℕ) (t : Bool) → (tag_at tags (b % n) == dirty_tag b) ≡ t
+          → meant f b (k b) ≡ cond (tag_at tags (b % n) == dirty_tag b) (meant f b (k b)) ((standing value f n lines tags counts k).values b)
+      by b true e = sym (ap (λ t. cond t (meant f b (k b)) ((standing value f n lines tags counts k).values b)) e)
+      by b false e =
+          sym (undirty_values value f n lines tags k fit b (λ is. let both : true ≡ false = sym (eq-eqb (tag_at tags (b % n)) (dirty_tag b) is) ∙ e in cc))
+          ∙ sym (ap (λ t. cond t (meant f b (k b)) ((standing value f n lines tags counts k).values b)) e)
+
+-- ---- caches as they are seen
+
+module _ {X Code : Type 0} (value : X → ℤ) (f : Format Code) (c : Kept X) (k : ℕ → Code) where
+  pub state_is : (n : ℕ) → length c.tags ≡ n → state_of value c f k ≡ standing value f n c.lines c.tags c.counts k
+  unfolding state_of values_of
+  state_is n e = ap (λ m. standing value f m c.lines c.tags c.counts k) e
+
+  pub fit_of : (n : ℕ) → length c.tags ≡ n → Fits value c f k → Fit value f n c.lines c.tags k
+  fit_of n e fits = record {
+    own = λ l b is. let o = fits.own l b is in (ap (λ m. b % m) (sym e) ∙ o.0, o.1);
+    clean = fits.clean;
+  }
+
+  pub fits_of : (n : ℕ) → length c.tags ≡ n → Fit value f n c.lines c.tags k → Fits value c f k
+  fits_of n e fit = record {
+    own = λ l b is. let o = fit.own l b is in (ap (λ m. b % m) e ∙ o.0, o.1);
+    clean = fit.clean;
+  }
+
+  -- nothing is in a line past the last
+  pub past_lines : (l : ℕ) → (state_of value c f k).lines ≤ l → (state_of value c f k).held l ≡ None
+  unfolding state_of
+  past_lines l past = ap block_in (get_or_past c.tags l 0 past)

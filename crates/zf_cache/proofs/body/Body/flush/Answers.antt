@@ -1,0 +1,50 @@
+use Rattle.std.proofs.Common.{◌≡◌, ◌≢◌, refl, sym, ap, ◌∙◌, ℕ, suc, ◌+◌, ◌<◌, length, set, inl, inr, rules, arith}
+use Rattle.std.proofs.lemmas.Bool.{cases_lt}
+use Rattle.std.proofs.lemmas.List.{length-set}
+use Rattle.zf_cache.specs.Kept.{tag_at}
+use Rattle.zf_cache.specs.Bodies.{kept_of}
+use Rattle.zf_cache.specs.Standing.{state_of, evicted}
+use Rattle.zf_cache.proofs.Tags.{same_or_not, tag-set_same, tag-set_other, zeros_of}
+use Rattle.zf_cache.proofs.Touches.{flushing, flush_begins, flush_goes_on, flush_ends, past_lines}
+use Rattle.zf_cache.proofs.body.Body.flush.Goals as goal
+
+pub loop-l-init : goal.loop-l-init
+loop-l-init g c =
+    let a = c.args.self.now in let f = g.B.Reading.format c.args.back.now in let k = g.B.Reading.codes c.args.back.now in
+    (refl, refl, c.requires.sound, sym (flush_begins f (state_of g.T.Lane.value (kept_of a) f k)), refl, λ m lt. absurd (omega arith))
+
+pub loop-l-preserved : goal.loop-l-preserved
+loop-l-preserved g c =
+    let a = c.args.self.now in let f = g.B.Reading.format c.args.back.now in let k = g.B.Reading.codes c.args.back.now in
+    let l = c.loop-l.l in let inv = c.loop-l.invariant in let e = c.evict.ensures in let s = state_of g.T.Lane.value (kept_of a) f k in
+    let on : suc l ≡ l + 1 = omega arith in
+    let was = c.loop-l.self.tags.items in
+    let count : c.len-l-end.result ≡ length a.tags.items = search (c.len-l-end.ensures, rules) in (
+      e.format ∙ inv.0,
+      e.kept ∙ inv.1,
+      e.sound,
+      e.state ∙ (λ i. evicted (inv.0 i) (inv.3 i) l) ∙ flush_goes_on f s l ∙ ap (flushing f s) on,
+      ap length e.tags ∙ length-set was l 0 ∙ inv.4,
+      λ m lt. ap (λ ts. tag_at ts m) e.tags ∙ elim (same_or_not m l) [
+        | inl same ↦ ap (tag_at (set was l 0)) same ∙ tag-set_same was l 0 (omega (arith, c.loop-l-test.true, count, inv.4))
+        | inr ne ↦ tag-set_other was l 0 m ne ∙ inv.5 m (below m l lt ne)
+      ],
+    )
+  where
+    below : (m l : ℕ) → m < l + 1 → m ≢ l → m < l
+    below m l lt ne = elim (cases_lt m l) [ inl less ↦ less | inr more ↦ let same : m ≡ l = omega (arith, lt, more) in absurd (ne same) ]
+
+pub returns-clause-state : goal.returns-clause-state
+unfolding state_of
+returns-clause-state g c =
+    let a = c.args.self.now in let f = g.B.Reading.format c.args.back.now in let k = g.B.Reading.codes c.args.back.now in
+    let inv = c.loop-l.invariant in let s = state_of g.T.Lane.value (kept_of a) f k in
+    let count : c.len-l-end.result ≡ length a.tags.items = search (c.len-l-end.ensures, rules) in
+    let at_end : c.loop-l.l ≡ length a.tags.items = omega (arith, c.loop-l-test.false, c.loop-l.auto.l-end, count) in
+    inv.3 ∙ ap (flushing f s) at_end ∙ flush_ends f s (past_lines g.T.Lane.value f (kept_of a) k)
+
+pub returns-clause-empty : goal.returns-clause-empty
+returns-clause-empty g c =
+    let inv = c.loop-l.invariant in let n = length c.args.self.now.tags.items in
+    let count : c.len-l-end.result ≡ n = search (c.len-l-end.ensures, rules) in
+    zeros_of c.loop-l.self.tags.items n inv.4 (λ m lt. inv.5 m (omega (arith, lt, c.loop-l-test.false, count)))

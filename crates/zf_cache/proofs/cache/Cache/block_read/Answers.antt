@@ -1,0 +1,24 @@
+use Rattle.std.proofs.Common.{refl, ap, ◌∙◌}
+use Rattle.zf_cached.specs.Touch.{touch}
+use Rattle.zf_cache.specs.Bodies.{kept_of}
+use Rattle.zf_cache.specs.Standing.{state_of}
+use Rattle.zf_cache.specs.Kept.{Kept}
+use Rattle.zf_cache.proofs.Lent.{shows, stands}
+use Rattle.zf_cache.proofs.cache.Cache.block_read.Goals as goal
+
+pub returns : goal.returns
+returns g c =
+    let f = g.B.Reading.format c.args.back.now in let k = g.B.Reading.codes c.args.back.now in let b = c.args.b in let value = g.T.Lane.value in
+    let o = c.self.inside.body in let is = c.self.view_is in
+    let t = c.touch_read-l.new.self in let l = c.touch_read-l.result in let e = c.touch_read-l.ensures in
+    let h = g.B.Reading.format c.touch_read-l.new.back in let j = g.B.Reading.codes c.touch_read-l.new.back in
+    let state = e.state ∙ ap (λ (q : Kept g.row.T.Denot). touch f (state_of value q f k) b) is in
+    let s = touch f (state_of value c.args.self.now f k) b in (
+      (refl, λ _. tt, (stands value f h j (kept_of o) t b l e.format e.sound e.line e.others s state, e.clean)),
+      record {
+        touched = tt;
+        value = shows value f h j (kept_of o) t b l e.format e.sound e.line e.others e.here s c.line.result.now state c.line.ensures;
+        format = e.format;
+        kept = e.kept;
+      },
+    )

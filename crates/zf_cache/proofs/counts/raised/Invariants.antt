@@ -1,0 +1,6 @@
+use Rattle.std.proofs.Common.{nat_le}
+use Rattle.zf_cache.proofs.Doubled.{Tried}
+use Rattle.zf_cache.proofs.counts.raised.Given as goal
+
+abbrev pub invariant-loop : goal.invariant-loop
+invariant-loop l = Tried (λ p. nat_le l.lines p) l.counter l.count

@@ -1,0 +1,248 @@
+//! The fields of a cache, and what a touch does to them.
+ghost use Rattle.std.specs.Prelude.{◌≡◌, ◌+◌, ◌*◌, ◌-◌, ◌/◌, ◌%◌, ◌^◌, ◌<◌, ◌≤◌, ℕ, Some, None, length, slice_set, slice_index_or, replicate, IfOk};
+ghost use Rattle.zf_base.specs.Formats.{with_at};
+ghost use Rattle.zf_cached.specs.State.{no_counts};
+ghost use Rattle.zf_cached.specs.Touch.{touch, touch_for_writing};
+ghost use Rattle.zf_cached.specs.Changes.{flush};
+ghost use Rattle.zf_cache.specs.Kept.{tag_at, clean_tag, dirty_tag, dirty_of, IsClean, OnlyLine, IsLineCount, is_dirty};
+ghost use Rattle.zf_lines.specs.Rows.{line_at};
+ghost use Rattle.zf_cache.specs.Standing.{state_of, evicted};
+
+use std::alloc::{AllocError, Global};
+use zf_base::{Backing, Lane, Reading};
+use zf_lines::Lines;
+use zf_script::Stats;
+
+/// The lines, a tag for each of them, and the counts.
+///
+/// A tag is 0 for an empty line, `2 * b + 2` for the clean block `b`, and `2 * b + 3` for the dirty block `b`.
+#[derive(Drop)]
+pub struct Body<T> {
+    pub(crate) lines: Lines<T>,
+    pub(crate) tags: Vec<u64>,
+    pub(crate) counts: Stats,
+}
+
+/// The dirty block that a tag names.
+fn dirty_block(tag: u64) -> Option<u64>
+    ensures { result ≡ dirty_of tag }
+{
+    if tag >= 3 && tag % 2 == 1 {
+        Some(tag / 2 - 1)
+    } else {
+        None
+    }
+}
+
+impl<T: Lane> Body<T> {
+    ghost use Rattle.zf_cache.specs.Bodies.{IsMask, IsWhole, IsSound, kept_of, counts_of};
+    ghost use Rattle.zf_cache.specs.Steps.{taken_in, put};
+
+    /// Empty lines of `len` values each, and counts of 0.
+    pub(crate) fn new(alloc: Global, lines: u32, len: usize) -> Result<Body<T>, AllocError>
+        requires count { IsLineCount lines }
+        requires size { len ≤ 2 ^ 8 }
+        ensures whole { IfOk result (λ c. IsWhole c len) }
+        ensures empty { IfOk result (λ c. c.tags.items ≡ replicate lines 0) }
+        ensures counts { IfOk result (λ c. counts_of c.counts ≡ no_counts) }
+    {
+        let tags = Vec::from_elem(alloc, 0u64, lines as usize)?;
+        let lines = Lines::new(alloc, lines, len, T::zero())?;
+        let counts = Stats {
+            hits: 0,
+            misses: 0,
+            writes: 0,
+        };
+        Ok(Body {
+            lines,
+            tags,
+            counts,
+        })
+    }
+
+    /// The lines and tags of another cache in the place of its own; the counts stay.
+    pub(crate) fn replace(&mut self, other: Body<T>)
+        ensures lines { self.new.lines ≡ other.lines }
+        ensures tags { self.new.tags.items ≡ other.tags.items }
+        ensures counts { self.new.counts ≡ self.old.counts }
+    {
+        let Body {
+            lines,
+            tags,
+            counts: _,
+        } = other;
+        self.lines = lines;
+        self.tags = tags;
+    }
+
+    /// Empties all lines; nothing is written.
+    pub(crate) fn discard(&mut self)
+        ensures lines { self.new.lines ≡ self.old.lines }
+        ensures tags { self.new.tags.items ≡ replicate (length self.old.tags.items) 0 }
+        ensures counts { self.new.counts ≡ self.old.counts }
+    {
+        self.tags.fill(0);
+    }
+
+    /// Whether block `b` is in its line and dirty.
+    pub(crate) fn is_dirty(&self, b: u64) -> bool
+        requires count { (0 < length self.now.tags.items) × (length self.now.tags.items ≤ 2 ^ 16) }
+        requires mask { IsMask (length self.now.tags.items) }
+        ensures { result ≡ is_dirty (kept_of self.now) b }
+    {
+        dirty_block(self.tags[self.line_of(b) as usize]) == Some(b)
+    }
+
+    /// The line of block `b`.
+    #[inline]
+    pub(crate) fn line_of(&self, b: u64) -> u32
+        requires count { (0 < length self.now.tags.items) × (length self.now.tags.items ≤ 2 ^ 16) }
+        requires mask { IsMask (length self.now.tags.items) }
+        ensures { result ≡ b % length self.now.tags.items }
+    {
+        (b & (self.tags.len() as u64 - 1)) as u32
+    }
+
+    /// Writes the block of line `l` back where it is dirty, and empties the line.
+    #[cold]
+    #[inline(never)]
+    pub(crate) fn evict<B: Backing<T>>(&mut self, back: &mut B, l: u32)
+        requires sound { IsSound T.value self.old (B.format back.old) (B.codes back.old) }
+        requires line { l < length self.old.tags.items }
+        ensures sound { IsSound T.value self.new (B.format back.new) (B.codes back.new) }
+        ensures state { state_of T.value (kept_of self.new) (B.format back.new) (B.codes back.new)
+            ≡ evicted (B.format back.old) (state_of T.value (kept_of self.old) (B.format back.old) (B.codes back.old)) l }
+        ensures tags { self.new.tags.items ≡ slice_set self.old.tags.items l 0 }
+        ensures lines { self.new.lines ≡ self.old.lines }
+        ensures format { B.format back.new ≡ B.format back.old }
+        ensures kept { B.kept back.new ≡ B.kept back.old }
+    {
+        if let Some(b) = dirty_block(self.tags[l as usize]) {
+            back.store(b, self.lines.line(l));
+            self.counts.writes = self.counts.writes.saturating_add(1);
+        }
+        self.tags[l as usize] = 0;
+    }
+
+    /// Puts block `b` into its line `l`, which is empty.
+    #[cold]
+    #[inline(never)]
+    pub(crate) fn take_in<B: Reading<T>>(&mut self, back: &mut B, l: u32, b: u64)
+        requires sound { IsSound T.value self.old (B.format back.old) (B.codes back.old) }
+        requires line { l ≡ b % length self.old.tags.items }
+        requires empty { tag_at self.old.tags.items l ≡ 0 }
+        requires block { (b < (B.format back.old).blocks) × ((B.format back.old).blocks ≤ 2 ^ 32) }
+        ensures sound { IsSound T.value self.new (B.format back.new) (B.codes back.new) }
+        ensures state { state_of T.value (kept_of self.new) (B.format back.new) (B.codes back.new)
+            ≡ taken_in (state_of T.value (kept_of self.old) (B.format back.old) (B.codes back.old)) l b }
+        ensures tags { self.new.tags.items ≡ slice_set self.old.tags.items l (clean_tag b) }
+        ensures lines { self.new.lines ≡ slice_set self.old.lines l (line_at self.new.lines l) }
+        ensures format { B.format back.new ≡ B.format back.old }
+        ensures kept { B.kept back.new ≡ B.kept back.old }
+    {
+        back.load(b, self.lines.line_mut(l));
+        self.tags[l as usize] = 2 * b + 2;
+        self.counts.misses = self.counts.misses.saturating_add(1);
+    }
+
+    /// Touches block `b`, and gives its line.
+    #[inline]
+    pub(crate) fn touch<B: Backing<T>>(&mut self, back: &mut B, b: u64) -> u32
+        requires sound { IsSound T.value self.old (B.format back.old) (B.codes back.old) }
+        requires block { (b < (B.format back.old).blocks) × ((B.format back.old).blocks ≤ 2 ^ 32) }
+        ensures sound { IsSound T.value self.new (B.format back.new) (B.codes back.new) }
+        ensures state { state_of T.value (kept_of self.new) (B.format back.new) (B.codes back.new)
+            ≡ touch (B.format back.old) (state_of T.value (kept_of self.old) (B.format back.old) (B.codes back.old)) b }
+        ensures line { result ≡ b % length self.old.tags.items }
+        ensures here { tag_at self.new.tags.items result / 2 ≡ b + 1 }
+        ensures others { OnlyLine (kept_of self.old) (kept_of self.new) result }
+        ensures format { B.format back.new ≡ B.format back.old }
+        ensures kept { B.kept back.new ≡ B.kept back.old }
+    {
+        let l = self.line_of(b);
+        if self.tags[l as usize] / 2 == b + 1 {
+            self.counts.hits = self.counts.hits.saturating_add(1);
+            return l;
+        }
+        self.evict(back, l);
+        self.take_in(back, l, b);
+        l
+    }
+
+    /// Touches block `b` for writing, and gives its line.
+    #[inline]
+    pub(crate) fn touch_for_writing<B: Backing<T>>(&mut self, back: &mut B, b: u64) -> u32
+        requires sound { IsSound T.value self.old (B.format back.old) (B.codes back.old) }
+        requires block { (b < (B.format back.old).blocks) × ((B.format back.old).blocks ≤ 2 ^ 32) }
+        ensures sound { IsSound T.value self.new (B.format back.new) (B.codes back.new) }
+        ensures state { state_of T.value (kept_of self.new) (B.format back.new) (B.codes back.new)
+            ≡ touch_for_writing (B.format back.old)
+            (state_of T.value (kept_of self.old) (B.format back.old) (B.codes back.old)) b }
+        ensures line { result ≡ b % length self.old.tags.items }
+        ensures dirty { tag_at self.new.tags.items result ≡ dirty_tag b }
+        ensures others { OnlyLine (kept_of self.old) (kept_of self.new) result }
+        ensures format { B.format back.new ≡ B.format back.old }
+        ensures kept { B.kept back.new ≡ B.kept back.old }
+    {
+        let l = self.touch(back, b);
+        self.tags[l as usize] = 2 * b + 3;
+        l
+    }
+
+    /// Touches block `b` where nothing is dirty, so that the backing is only read, and gives its line.
+    #[inline]
+    pub(crate) fn touch_read<B: Reading<T>>(&mut self, back: &mut B, b: u64) -> u32
+        requires sound { IsSound T.value self.old (B.format back.old) (B.codes back.old) }
+        requires block { (b < (B.format back.old).blocks) × ((B.format back.old).blocks ≤ 2 ^ 32) }
+        requires clean { IsClean (kept_of self.old) }
+        ensures sound { IsSound T.value self.new (B.format back.new) (B.codes back.new) }
+        ensures state { state_of T.value (kept_of self.new) (B.format back.new) (B.codes back.new)
+            ≡ touch (B.format back.old) (state_of T.value (kept_of self.old) (B.format back.old) (B.codes back.old)) b }
+        ensures clean { IsClean (kept_of self.new) }
+        ensures line { result ≡ b % length self.old.tags.items }
+        ensures here { tag_at self.new.tags.items result / 2 ≡ b + 1 }
+        ensures others { OnlyLine (kept_of self.old) (kept_of self.new) result }
+        ensures format { B.format back.new ≡ B.format back.old }
+        ensures kept { B.kept back.new ≡ B.kept back.old }
+    {
+        let l = self.line_of(b);
+        if self.tags[l as usize] / 2 == b + 1 {
+            self.counts.hits = self.counts.hits.saturating_add(1);
+            return l;
+        }
+        self.tags[l as usize] = 0;
+        self.take_in(back, l, b);
+        l
+    }
+
+    /// Touches block `b` for writing, and puts `v` at its place `p`.
+    pub(crate) fn set<B: Backing<T>>(&mut self, back: &mut B, b: u64, p: usize, v: T)
+        requires sound { IsSound T.value self.old (B.format back.old) (B.codes back.old) }
+        requires block { (b < (B.format back.old).blocks) × ((B.format back.old).blocks ≤ 2 ^ 32) }
+        requires place { p < (B.format back.old).block_len }
+        ensures sound { IsSound T.value self.new (B.format back.new) (B.codes back.new) }
+        ensures state { state_of T.value (kept_of self.new) (B.format back.new) (B.codes back.new)
+            ≡ put (B.format back.old)
+            (state_of T.value (kept_of self.old) (B.format back.old) (B.codes back.old)) b p (T.value v) }
+        ensures format { B.format back.new ≡ B.format back.old }
+        ensures kept { B.kept back.new ≡ B.kept back.old }
+    {
+        let l = self.touch_for_writing(back, b);
+        self.lines.line_mut(l)[p] = v;
+    }
+
+    /// Writes every dirty block back, in the order of lines, and empties all lines.
+    pub(crate) fn flush<B: Backing<T>>(&mut self, back: &mut B)
+        requires sound { IsSound T.value self.old (B.format back.old) (B.codes back.old) }
+        ensures sound { IsSound T.value self.new (B.format back.new) (B.codes back.new) }
+        ensures state { state_of T.value (kept_of self.new) (B.format back.new) (B.codes back.new)
+            ≡ flush (B.format back.old) (state_of T.value (kept_of self.old) (B.format back.old) (B.codes back.old)) }
+        ensures empty { self.new.tags.items ≡ replicate (length self.old.tags.items) 0 }
+        ensures format { B.format back.new ≡ B.format back.old }
+        ensures kept { B.kept back.new ≡ B.kept back.old }
+    {
+        for l in 0..self.tags.len() as u32 {
+            self.evict(back, l);
+        }
+    }
+}

@@ -1,0 +1,273 @@
+//! The cache.
+ghost use Rattle.std.specs.Prelude.{◌≡◌, ℕ, ◌+◌, ◌*◌, ◌^◌, ◌<◌, ◌≤◌, ◌↔◌, pos, length, map, true, slice_index_or, IsTrue, IfOk, OnOk, OnErr};
+ghost use Rattle.std.specs.Bool.{OnTrue};
+ghost use Rattle.std.specs.Borrow.{sem};
+ghost use Rattle.zf_base.specs.Formats.{existing_of};
+ghost use Rattle.zf_cached.specs.State.{no_counts};
+ghost use Rattle.zf_cached.specs.Touch.{touch, touch_for_writing};
+ghost use Rattle.zf_cached.specs.Changes.{flush, relined};
+ghost use Rattle.zf_lines.specs.Rows.{line_at, part, HasSize};
+ghost use Rattle.zf_cache.specs.Kept.{IsLineCount, IsClean, IsDirty, IsEmpty, HasBlocks, line_of, is_dirty};
+ghost use Rattle.zf_cache.specs.Standing.{state_of, values_of, Fits};
+ghost use Rattle.zf_cache.specs.Steps.{put};
+
+use crate::body::Body;
+use std::alloc::{AllocError, Global};
+use std::marker::Model;
+use zf_base::{Backing, Lane, Reading, block_len};
+use zf_lines::Lines;
+use zf_script::Stats;
+
+/// A cache of blocks of `4^D` values, which stands on a backing that is passed to each call.
+///
+/// Block `b` has one line, `b` modulo the number of lines. It is seen as the values in its lines, a tag for each of them and
+/// three counts. A cache and the backing that it is used with fit: each line that is not empty holds a block of its own,
+/// and a clean one has the values that the block's code means. An empty cache fits every backing, and each call leaves
+/// the two fitting. Values are stated at the places that exist.
+#[derive(Drop)]
+pub struct Cache<T, const D: usize> {
+    alloc: Global,
+    body: Body<T>,
+}
+
+impl<T, const D: usize> Model for Cache<T, D> {
+    ghost use Rattle.zf_cache.specs.Kept.{Kept, kept_code};
+
+    ghost Value = { Kept T };
+
+    ghost coded = { kept_code T.code };
+
+    ghost use Rattle.std.specs.Prelude.{◌^◌, ◌≤◌};
+    ghost use Rattle.zf_cache.specs.Bodies.{IsWhole, kept_of};
+
+    ghost view = { λ c. kept_of c.body };
+
+    ghost invariant = { λ c. IsWhole c.body (4 ^ D) × (D ≤ 4) };
+}
+
+impl<T: Lane, const D: usize> Cache<T, D> {
+    ghost use Rattle.zf_cache.specs.Loans.{EndsWithBlock, EndsWithPart, EndsTouched, EndsRead, LendsBlock};
+    ghost use Rattle.zf_cache.specs.Bodies.{counts_of};
+
+    /// An empty cache of so many lines. `AllocError`: there was no memory for them.
+    pub fn new(alloc: Global, lines: u32) -> Result<Cache<T, D>, AllocError>
+        requires dims { D ≤ 4 }
+        requires count { IsLineCount lines }
+        ensures empty { IfOk result (λ c. IsEmpty c lines) }
+        ensures counts { IfOk result (λ c. c.counts ≡ no_counts) }
+    {
+        let body = Body::new(alloc, lines, block_len(D as u8))?;
+        Ok(Cache { alloc, body })
+    }
+
+    /// Touches block `b`; the value at its place `p`.
+    #[inline]
+    pub fn get<B: Backing<T>>(&mut self, back: &mut B, b: u64, p: usize) -> T
+        requires fits { Fits T.value self.old (B.format back.old) (B.codes back.old) }
+        requires blocks { HasBlocks (B.format back.old) D }
+        requires block { b < (B.format back.old).blocks }
+        requires place { p < 4 ^ D }
+        ensures fits { Fits T.value self.new (B.format back.new) (B.codes back.new) }
+        ensures state { state_of T.value self.new (B.format back.new) (B.codes back.new)
+            ≡ touch (B.format back.old) (state_of T.value self.old (B.format back.old) (B.codes back.old)) b }
+        ensures value { OnTrue ((B.format back.old).exists b p)
+            (T.value result ≡ slice_index_or (values_of T.value self.new (B.format back.new) (B.codes back.new) b) p (pos 0)) }
+        ensures format { B.format back.new ≡ B.format back.old }
+        ensures kept { B.kept back.new ≡ B.kept back.old }
+    {
+        let l = self.body.touch(back, b);
+        self.body.lines.line(l)[p]
+    }
+
+    /// Touches block `b` for writing, and makes the value at its place `p` be `v`; the others stay.
+    #[inline]
+    pub fn set<B: Backing<T>>(&mut self, back: &mut B, b: u64, p: usize, v: T)
+        requires fits { Fits T.value self.old (B.format back.old) (B.codes back.old) }
+        requires blocks { HasBlocks (B.format back.old) D }
+        requires block { b < (B.format back.old).blocks }
+        requires place { p < 4 ^ D }
+        ensures fits { Fits T.value self.new (B.format back.new) (B.codes back.new) }
+        ensures state { state_of T.value self.new (B.format back.new) (B.codes back.new)
+            ≡ put (B.format back.old) (state_of T.value self.old (B.format back.old) (B.codes back.old)) b p (T.value v) }
+        ensures format { B.format back.new ≡ B.format back.old }
+        ensures kept { B.kept back.new ≡ B.kept back.old }
+    {
+        self.body.set(back, b, p, v);
+    }
+
+    /// Touches block `b` for writing, so that `part_mut` can lend parts of it.
+    #[inline]
+    pub fn touch_mut<B: Backing<T>>(&mut self, back: &mut B, b: u64)
+        requires fits { Fits T.value self.old (B.format back.old) (B.codes back.old) }
+        requires blocks { HasBlocks (B.format back.old) D }
+        requires block { b < (B.format back.old).blocks }
+        ensures fits { Fits T.value self.new (B.format back.new) (B.codes back.new) }
+        ensures state { state_of T.value self.new (B.format back.new) (B.codes back.new)
+            ≡ touch_for_writing (B.format back.old) (state_of T.value self.old (B.format back.old) (B.codes back.old)) b }
+        ensures dirty { IsDirty self.new b }
+        ensures format { B.format back.new ≡ B.format back.old }
+        ensures kept { B.kept back.new ≡ B.kept back.old }
+    {
+        self.body.touch_for_writing(back, b);
+    }
+
+    /// The `n` values of block `b` from its place `a` on, for writing. The block is in its line and dirty.
+    #[inline]
+    pub fn part_mut(&mut self, b: u64, a: usize, n: usize) -> &mut [T]
+        requires dirty { IsDirty self.old b }
+        requires within { a + n ≤ 4 ^ D }
+        ensures* writes_back { sem 𝓛 (EndsWithPart T.row D.row self.entry b a n result) }
+        ensures value { result.now ≡ part (line_at self.old.lines (line_of self.old b)) a n }
+        ensures size { HasSize self.old.lines (length self.old.tags) (4 ^ D) }
+    {
+        let l = self.body.line_of(b);
+        self.body.lines.part_mut(l, a, n)
+    }
+
+    /// Touches block `b`; its `4^D` values.
+    #[inline]
+    pub fn block<B: Backing<T>>(&mut self, back: &mut B, b: u64) -> &[T]
+        requires fits { Fits T.value self.old (B.format back.old) (B.codes back.old) }
+        requires blocks { HasBlocks (B.format back.old) D }
+        requires block { b < (B.format back.old).blocks }
+        ensures* touched { sem 𝓛 (EndsTouched T.row D.row self.entry T.value (B.format back.old)
+            (B.codes back.old) (B.codes back.new) b) }
+        ensures value { existing_of (B.format back.old) b (map T.value result.now) ≡ (touch (B.format back.old)
+            (state_of T.value self.old (B.format back.old) (B.codes back.old)) b).values b }
+        ensures format { B.format back.new ≡ B.format back.old }
+        ensures kept { B.kept back.new ≡ B.kept back.old }
+    {
+        let l = self.body.touch(back, b);
+        self.body.lines.line(l)
+    }
+
+    /// Touches block `b` for writing; its `4^D` values. What is written to them is the block's value afterwards.
+    #[inline]
+    pub fn block_mut<B: Backing<T>>(&mut self, back: &mut B, b: u64) -> &mut [T]
+        requires fits { Fits T.value self.old (B.format back.old) (B.codes back.old) }
+        requires blocks { HasBlocks (B.format back.old) D }
+        requires block { b < (B.format back.old).blocks }
+        ensures* writes_back { sem 𝓛 (EndsWithBlock T.row D.row self.entry T.value (B.format back.old)
+            (B.codes back.old) b result) }
+        ensures loan { LendsBlock T.value (B.format back.old) (B.codes back.old) (B.codes back.new) self.old b result.now }
+        ensures format { B.format back.new ≡ B.format back.old }
+        ensures kept { B.kept back.new ≡ B.kept back.old }
+    {
+        let l = self.body.touch_for_writing(back, b);
+        self.body.lines.line_mut(l)
+    }
+
+    /// Writes every dirty block back, in the order of lines; then the cache is empty.
+    pub fn flush<B: Backing<T>>(&mut self, back: &mut B)
+        requires fits { Fits T.value self.old (B.format back.old) (B.codes back.old) }
+        requires blocks { HasBlocks (B.format back.old) D }
+        ensures fits { Fits T.value self.new (B.format back.new) (B.codes back.new) }
+        ensures state { state_of T.value self.new (B.format back.new) (B.codes back.new)
+            ≡ flush (B.format back.old) (state_of T.value self.old (B.format back.old) (B.codes back.old)) }
+        ensures empty { IsEmpty self.new (length self.old.tags) }
+        ensures format { B.format back.new ≡ B.format back.old }
+        ensures kept { B.kept back.new ≡ B.kept back.old }
+    {
+        self.body.flush(back)
+    }
+
+    /// Empties the cache; nothing is written.
+    pub fn discard(&mut self)
+        ensures empty { IsEmpty self.new (length self.old.tags) }
+        ensures counts { self.new.counts ≡ self.old.counts }
+    {
+        self.body.discard();
+    }
+
+    /// A flush, and then this number of lines. The memory is taken first: after `AllocError` nothing has changed.
+    pub fn relined<B: Backing<T>>(&mut self, back: &mut B, lines: u32) -> Result<(), AllocError>
+        requires fits { Fits T.value self.old (B.format back.old) (B.codes back.old) }
+        requires blocks { HasBlocks (B.format back.old) D }
+        requires count { IsLineCount lines }
+        ensures fits { Fits T.value self.new (B.format back.new) (B.codes back.new) }
+        ensures ok { OnOk result (state_of T.value self.new (B.format back.new) (B.codes back.new)
+            ≡ relined (B.format back.old) (state_of T.value self.old (B.format back.old) (B.codes back.old)) lines) }
+        ensures empty { OnOk result (IsEmpty self.new lines) }
+        ensures err { OnErr result ((self.new ≡ self.old) × (B.codes back.new ≡ B.codes back.old)) }
+        ensures format { B.format back.new ≡ B.format back.old }
+        ensures kept { B.kept back.new ≡ B.kept back.old }
+    {
+        let taken = Body::new(self.alloc, lines, block_len(D as u8))?;
+        self.body.flush(back);
+        self.body.replace(taken);
+        Ok(())
+    }
+
+    /// As `get`, over a backing that is only read. Nothing is dirty.
+    #[inline]
+    pub fn get_read<B: Reading<T>>(&mut self, back: &mut B, b: u64, p: usize) -> T
+        requires fits { Fits T.value self.old (B.format back.old) (B.codes back.old) }
+        requires blocks { HasBlocks (B.format back.old) D }
+        requires block { b < (B.format back.old).blocks }
+        requires clean { IsClean self.old }
+        requires place { p < 4 ^ D }
+        ensures fits { Fits T.value self.new (B.format back.new) (B.codes back.new) }
+        ensures state { state_of T.value self.new (B.format back.new) (B.codes back.new)
+            ≡ touch (B.format back.old) (state_of T.value self.old (B.format back.old) (B.codes back.old)) b }
+        ensures clean { IsClean self.new }
+        ensures value { OnTrue ((B.format back.old).exists b p)
+            (T.value result ≡ slice_index_or (values_of T.value self.new (B.format back.new) (B.codes back.new) b) p (pos 0)) }
+        ensures format { B.format back.new ≡ B.format back.old }
+        ensures kept { B.kept back.new ≡ B.kept back.old }
+    {
+        let l = self.body.touch_read(back, b);
+        self.body.lines.line(l)[p]
+    }
+
+    /// As `block`, over a backing that is only read. Nothing is dirty.
+    #[inline]
+    pub fn block_read<B: Reading<T>>(&mut self, back: &mut B, b: u64) -> &[T]
+        requires fits { Fits T.value self.old (B.format back.old) (B.codes back.old) }
+        requires blocks { HasBlocks (B.format back.old) D }
+        requires block { b < (B.format back.old).blocks }
+        requires clean { IsClean self.old }
+        ensures* touched { sem 𝓛 (EndsRead T.row D.row self.entry T.value (B.format back.old)
+            (B.codes back.old) (B.codes back.new) b) }
+        ensures value { existing_of (B.format back.old) b (map T.value result.now) ≡ (touch (B.format back.old)
+            (state_of T.value self.old (B.format back.old) (B.codes back.old)) b).values b }
+        ensures format { B.format back.new ≡ B.format back.old }
+        ensures kept { B.kept back.new ≡ B.kept back.old }
+    {
+        let l = self.body.touch_read(back, b);
+        self.body.lines.line(l)
+    }
+
+    /// As `relined`, where nothing is dirty: the cache is empty, and its counts go on.
+    pub fn relined_read(&mut self, lines: u32) -> Result<(), AllocError>
+        requires clean { IsClean self.old }
+        requires count { IsLineCount lines }
+        ensures ok { OnOk result (IsEmpty self.new lines × (self.new.counts ≡ self.old.counts)) }
+        ensures err { OnErr result (self.new ≡ self.old) }
+    {
+        let body = Body::new(self.alloc, lines, block_len(D as u8))?;
+        self.body.replace(body);
+        Ok(())
+    }
+
+    /// The number of lines.
+    pub fn lines(&self) -> u32
+        ensures count { result ≡ length self.now.tags }
+        ensures bound { (0 < result) × (result ≤ 2 ^ 16) }
+    {
+        self.body.tags.len() as u32
+    }
+
+    /// The counts.
+    pub fn stats(&self) -> Stats
+        ensures { counts_of result ≡ self.now.counts }
+    {
+        self.body.counts
+    }
+
+    /// Whether block `b` is in its line and dirty.
+    pub fn is_dirty(&self, b: u64) -> bool
+        ensures { result ≡ is_dirty self.now b }
+    {
+        self.body.is_dirty(b)
+    }
+}

@@ -1,0 +1,15 @@
+//! A write-back cache of blocks over any backing: direct-mapped, a block a line, with the number of lines a power of two.
+#![tactic(auto)]
+
+mod body;
+mod cache;
+mod counts;
+pub mod laws;
+#[cfg(test)]
+mod tests;
+
+// A crate names `Cache` in a contract only where the types of its fields are exported.
+#[doc(hidden)]
+pub use body::Body;
+pub use cache::Cache;
+pub use counts::{default_lines, raised};

@@ -1,0 +1,14 @@
+use Rattle.std.proofs.Common.{◌≡◌, ◌+◌, length}
+use Rattle.zf_dev.specs.Source.{Takes}
+use Rattle.zf_dev.proofs.whole.take_all.Given as goal
+
+abbrev pub invariant-loop-count : goal.invariant-loop-count
+invariant-loop-count g l = record {
+  taken : Takes (g.S.Source.contents l.initial.src) (g.S.Source.contents l.src) l.bytes.items;
+  within : l.left + length l.bytes.items ≡ l.max;
+  same : g.S.Source.faults l.src ≡ g.S.Source.faults l.initial.src;
+  sure : g.S.Source.never_fails l.initial.src → g.S.Source.never_fails l.src;
+}
+
+abbrev pub decreases-loop-count : goal.decreases-loop-count
+decreases-loop-count g l = l.left

@@ -1,0 +1,47 @@
+-- What a shelf holds: files by name, `Some` where the shelf tells them, and it then goes on telling them.
+use Rattle.std.specs.Prelude.{◌≡◌, ◌≢◌, ℕ, ◌<◌, List, length, Option, Some, None}
+use Rattle.zf_dev.specs.declared.faults.LoadError.{LoadError}
+use Rattle.zf_dev.specs.declared.faults.LoadError.TheVariants.{Missing, Long, Failed, Memory}
+
+-- the bytes under each name, none where there is no such file
+abbrev pub Files : Type 0
+Files = List ℕ → Option (List ℕ)
+
+-- the file of this name has these bytes
+abbrev pub HasFile : Option Files → List ℕ → List ℕ → Type 0
+HasFile None name bytes = Unit {0}
+HasFile (Some files) name bytes = files name ≡ Some bytes
+
+-- there is no file of this name
+abbrev pub LacksFile : Option Files → List ℕ → Type 0
+LacksFile None name = Unit {0}
+LacksFile (Some files) name = files name ≡ None
+
+-- the file of this name has more bytes than these
+abbrev pub HasLongFile : Option Files → List ℕ → ℕ → Type 0
+HasLongFile None name max = Unit {0}
+HasLongFile (Some files) name max = (bytes : List ℕ) × (files name ≡ Some bytes) × (max < length bytes)
+
+-- what an error of a load says of the file
+abbrev pub ExplainsLoad : Option Files → List ℕ → ℕ → LoadError → Type 0
+ExplainsLoad known name max Missing = LacksFile known name
+ExplainsLoad known name max Long = HasLongFile known name max
+ExplainsLoad known name max Failed = Unit {0}
+ExplainsLoad known name max Memory = Unit {0}
+
+-- all files are as they were
+abbrev pub KeepsFiles : Option Files → Option Files → Type 0
+KeepsFiles None now = Unit {0}
+KeepsFiles (Some before) None = ⊥
+KeepsFiles (Some before) (Some now) = (name : List ℕ) → now name ≡ before name
+
+-- all files but the one of this name are as they were
+abbrev pub KeepsOthers : Option Files → Option Files → List ℕ → Type 0
+KeepsOthers None now name = Unit {0}
+KeepsOthers (Some before) None name = ⊥
+KeepsOthers (Some before) (Some now) name = (other : List ℕ) → other ≢ name → now other ≡ before other
+
+-- the file of this name has these bytes now, and all others are as they were
+pub record SavesFile (before now : Option Files) (name bytes : List ℕ) : Type 0 where
+  pub saved : HasFile now name bytes
+  pub others : KeepsOthers before now name

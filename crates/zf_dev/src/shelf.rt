@@ -1,0 +1,45 @@
+ghost use Rattle.std.specs.Prelude.{◌≡◌, ◌≢◌, ℕ, ◌≤◌, List, Option, length, Err, IsOk, IsErr, IfOk, IfErr, OnOk, OnErr};
+ghost use Rattle.zf_dev.specs.declared.faults.LoadError.TheVariants as loading;
+ghost use Rattle.zf_dev.specs.Faults.{HasCause};
+ghost use Rattle.zf_dev.specs.Shelf.{Files, HasFile, ExplainsLoad, KeepsFiles, KeepsOthers, SavesFile};
+
+use crate::{Failed, LoadError};
+use std::alloc::Global;
+
+/// Files by name, each loaded and saved as a whole.
+pub trait Shelf {
+    /// The files, where the shelf tells them.
+    ghost files: { Self → Option Files };
+
+    /// How many faults there were. It stands still at the last value of a `u64`.
+    ghost faults: { Self → ℕ };
+
+    /// A load led from the one state to the other.
+    ghost loads: { Self → Self → Type 0 };
+
+    /// A save led from the one state to the other.
+    ghost saves: { Self → Self → Type 0 };
+
+    /// No load fails from here on.
+    ghost never_fails: { Self → Type 0 };
+
+    /// The bytes of the file of this name, where it has at most `max` bytes.
+    fn load(&mut self, alloc: Global, name: &str, max: u64) -> Result<Vec<u8>, LoadError>
+        ensures ok { IfOk result (λ bytes. HasFile (files self.old) name.now bytes.items) }
+        ensures bound { IfOk result (λ bytes. length bytes.items ≤ max) }
+        ensures err { IfErr result (ExplainsLoad (files self.old) name.now max) }
+        ensures files_stay { KeepsFiles (files self.old) (files self.new) }
+        ensures unchanged { result ≢ Err loading.Failed → faults self.new ≡ faults self.old }
+        ensures cause { HasCause (result ≡ Err loading.Failed) (faults self.old) (faults self.new) }
+        ensures step { loads self.old self.new }
+        ensures sure { never_fails self.old → (result ≢ Err loading.Failed) × never_fails self.new };
+
+    /// Makes `bytes` the file of this name, in place of what it held. After a fault nothing is known of that name.
+    fn save(&mut self, name: &str, bytes: &[u8]) -> Result<(), Failed>
+        ensures ok { OnOk result (SavesFile (files self.old) (files self.new) name.now bytes.now) }
+        ensures others { KeepsOthers (files self.old) (files self.new) name.now }
+        ensures unchanged { OnOk result (faults self.new ≡ faults self.old) }
+        ensures cause { HasCause (IsErr result) (faults self.old) (faults self.new) }
+        ensures step { saves self.old self.new }
+        ensures sure { never_fails self.old → never_fails self.new };
+}

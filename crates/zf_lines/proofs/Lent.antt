@@ -1,0 +1,132 @@
+-- What `Lines` are once a run of their values was lent.
+use Rattle.std.proofs.Common.{◌≡◌, ℕ, ◌+◌, ◌-◌, ◌*◌, ◌<◌, ◌≤◌, List, [], ◌++◌, map, length, take, drop, slice_set, Some, sym, ap, ◌∙◌, arith, length-take, length-drop, drop-drop, append-nil}
+use Rattle.std.proofs.lemmas.List.{length-map, drop_all, drop-take, take-take}
+use Rattle.std.specs.List.{refill, length_refill}
+use Rattle.std.specs.declared.alloc.Global.{Global}
+use Rattle.zf_lines.specs.Places.{somes, IsRun}
+use Rattle.zf_lines.specs.Lends.{with_slots, spliced}
+use Rattle.zf_lines.specs.Rows.{rows, line_at, part, with_line, with_part}
+use Rattle.zf_lines.specs.Filled.{IsFilled}
+use Rattle.zf_lines.specs.declared.cells.Base.{Base}
+use Rattle.zf_lines.specs.declared.cells.Cells.{Cells}
+use Rattle.zf_lines.specs.declared.cells.Deed.{Deed}
+use Rattle.zf_lines.proofs.Blocks.{splice, length-splice, length-rows, line_at-rows, rows-splice, line_within}
+use Rattle.zf_lines.proofs.Runs.{somes-map, run_of, same_values, spliced_map}
+
+-- a part of a block, read from the values that the block begins
+part_of_taken : {X : Type 0} (a m n : ℕ) (xs : List X) → a + m ≤ n → take m (drop a (take n xs)) ≡ take m (drop a xs)
+part_of_taken a m n xs le =
+    let on : n ≡ a + (n - a) = omega arith in
+    ap (λ k. take m (drop a (take k xs))) on ∙ ap (take m) (drop-take a (n - a) xs) ∙ take-take m (n - a) (drop a xs) (omega arith)
+
+module _ {X : Type 0} (base : Base X) (lines len : ℕ) (cells : Cells X) (deed : Deed X Global) (alloc : Global) (h : IsFilled base lines len cells deed alloc) where
+  abbrev xs : List X
+  xs = somes cells.slots
+
+  long : length xs ≡ lines * len
+  long = sym (length-map xs Some) ∙ ap length (sym h.full) ∙ h.size
+
+  abbrev blocks : List (List X)
+  blocks = rows lines len xs
+
+  module _ (from n : ℕ) (within : from + n ≤ lines * len) where
+    abbrev pub old : List X
+    old = take n (drop from xs)
+
+    pub run_held : IsRun cells.slots from n
+    run_held = (omega (arith, h.size), (old, run_of cells.slots from n h.full))
+
+    pub run_value : (ys : List X) → take n (drop from cells.slots) ≡ map Some ys → ys ≡ old
+    run_value ys e = same_values ys old (sym e ∙ run_of cells.slots from n h.full)
+
+    count : n ≡ length old
+    count = omega (arith, length-take n (drop from xs), length-drop from xs, long)
+
+    module _ (w : List X) where
+      abbrev ws : List X
+      ws = refill n old w
+
+      pub as_long : length ws ≡ n
+      as_long = sym (length_refill n old w count)
+
+      abbrev pub now : Cells X
+      now = with_slots cells (spliced cells.slots from n (refill n (somes (take n (drop from cells.slots))) w))
+
+      slots_are : now.slots ≡ map Some (splice from n ws xs)
+      slots_are = (λ i. spliced (h.full i) from n (refill n ((ap somes (run_of cells.slots from n h.full) ∙ somes-map old) i) w)) ∙ spliced_map xs ws from n
+
+      pub values_now : somes now.slots ≡ splice from n ws xs
+      values_now = ap somes slots_are ∙ somes-map (splice from n ws xs)
+
+      -- the lines are whole again, whatever was written
+      pub stays_filled : IsFilled base lines len now deed alloc
+      stays_filled =
+          record {
+            own = h.own;
+            full = slots_are ∙ ap (map Some) (sym values_now);
+            size = ap length slots_are ∙ length-map (splice from n ws xs) Some ∙ length-splice from n ws xs (omega (arith, long)) as_long ∙ long;
+            small = h.small;
+          }
+
+  module _ (self : List (List X)) (is : blocks ≡ self) (i : ℕ) (lt : i < length self) where
+    pub line_there : i < lines
+    line_there = omega (arith, ap length is, length-rows lines len xs)
+
+    pub line_ends : i * len + len ≤ lines * len
+    line_ends = line_within lines len i line_there
+
+    line_is : line_at blocks i ≡ take len (drop (i * len) xs)
+    line_is = line_at-rows lines len xs i line_there
+
+    whole : length (line_at blocks i) ≡ len
+    whole = omega (arith, ap length line_is, length-take len (drop (i * len) xs), length-drop (i * len) xs, long, line_ends)
+
+    pub length-line : length (line_at self i) ≡ len
+    length-line = ap (λ ls. length (line_at ls i)) (sym is) ∙ whole
+
+    -- the values that stand for block i
+    pub line_value : take len (drop (i * len) xs) ≡ line_at self i
+    line_value = sym line_is ∙ ap (λ ls. line_at ls i) is
+
+    -- block i written over
+    pub line_now : (w : List X) → rows lines len (somes (now (i * len) len line_ends w).slots) ≡ with_line self i w
+    line_now w =
+        let ws = refill len (take len (drop (i * len) xs)) w in
+        let from : i * len ≡ i * len + 0 = omega arith in
+        let none : drop (0 + len) (line_at blocks i) ≡ [] = drop_all (0 + len) (line_at blocks i) (omega (arith, whole)) in
+        ap (rows lines len) (values_now (i * len) len line_ends w)
+        ∙ ap (λ k. rows lines len (splice k len ws xs)) from
+        ∙ rows-splice lines len xs i 0 len ws long line_there (omega arith) (as_long (i * len) len line_ends w)
+        ∙ ap (slice_set blocks i) (ap (λ l. ws ++ l) none ∙ append-nil ws)
+        ∙ ap (λ ys. slice_set blocks i (refill len ys w)) (sym line_is)
+        ∙ ap (λ n. slice_set blocks i (refill n (line_at blocks i) w)) (sym whole)
+        ∙ ap (λ ls. with_line ls i w) is
+
+    module _ (a m : ℕ) (inside : a + m ≤ length (line_at self i)) where
+      pub part_ends : i * len + a + m ≤ lines * len
+      part_ends = omega (arith, line_ends, length-line)
+
+      abbrev run : List X
+      run = take m (drop (i * len + a) xs)
+
+      part_is : part (line_at blocks i) a m ≡ run
+      part_is =
+          let swap : a + i * len ≡ i * len + a = omega arith in
+          ap (λ l. take m (drop a l)) line_is ∙ part_of_taken a m len (drop (i * len) xs) (omega (arith, length-line))
+          ∙ ap (take m) (drop-drop a (i * len) xs)
+
+      pub part_value : run ≡ part (line_at self i) a m
+      part_value = sym part_is ∙ ap (λ ls. part (line_at ls i) a m) is
+
+      -- a part of block i written over
+      pub part_now : (w : List X) → rows lines len (somes (now (i * len + a) m part_ends w).slots) ≡ with_part self i a m w
+      part_now w =
+          let ws = refill m run w in
+          let row = line_at blocks i in
+          let size : length (part row a m) ≡ m = omega (arith, length-take m (drop a row), length-drop a row, whole, length-line) in
+          ap (rows lines len) (values_now (i * len + a) m part_ends w)
+          ∙ rows-splice lines len xs i a m ws long line_there (omega (arith, length-line)) (as_long (i * len + a) m part_ends w)
+          ∙ ap (λ l. slice_set blocks i (take a row ++ (ws ++ l))) (sym (drop-drop m a row))
+          ∙ ap (λ ys. slice_set blocks i (take a row ++ (refill m ys w ++ drop m (drop a row)))) (sym part_is)
+          ∙ ap (λ n. slice_set blocks i (take a row ++ (refill n (part row a m) w ++ drop m (drop a row)))) (sym size)
+          ∙ ap (λ ls. with_part ls i a m w) is

@@ -1,0 +1,6 @@
+pub mod Blocks
+pub mod Lent
+pub mod Memory
+pub mod Runs
+pub mod Sharing
+pub mod Sizes

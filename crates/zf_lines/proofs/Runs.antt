@@ -1,0 +1,58 @@
+-- Places that all hold values, and a run of them written over.
+use Rattle.std.proofs.Common.{◌≡◌, ℕ, zero, suc, ◌+◌, ◌-◌, ◌<◌, List, [], ◌∷◌, ◌++◌, map, length, take, drop, replicate, get_or, Option, Some, None, slice_set, refl, sym, ap, ◌∙◌, arith, length-append, append-nil}
+use Rattle.std.proofs.lemmas.List.{length-replicate, take-map, drop-map, map-append}
+use Rattle.zf_lines.specs.Places.{somes}
+use Rattle.zf_lines.specs.Lends.{spliced}
+use Rattle.zf_lines.proofs.Blocks.{splice}
+
+module _ {X : Type 0} where
+  pub somes-map : (xs : List X) → somes (map Some xs) ≡ xs
+  somes-map [] = refl
+  somes-map (x ∷ xs) = ap (λ l. x ∷ l) (somes-map xs)
+
+  -- places that hold the values xs hold a run of them where it stands in xs
+  pub run_of : (cs : List (Option X)) (from n : ℕ) → cs ≡ map Some (somes cs) → take n (drop from cs) ≡ map Some (take n (drop from (somes cs)))
+  run_of cs from n full = ap (λ l. take n (drop from l)) full ∙ ap (take n) (drop-map Some from (somes cs)) ∙ take-map Some n (drop from (somes cs))
+
+  pub same_values : (xs ys : List X) → map Some xs ≡ map Some ys → xs ≡ ys
+  same_values xs ys e = sym (somes-map xs) ∙ ap somes e ∙ somes-map ys
+
+  -- a run written over in the places is that run written over in the values
+  pub spliced_map : (xs ws : List X) (from n : ℕ) → spliced (map Some xs) from n ws ≡ map Some (splice from n ws xs)
+  spliced_map xs ws from n =
+      (λ i. take-map Some from xs i ++ (map Some ws ++ drop-map Some (from + n) xs i))
+      ∙ ap (λ l. map Some (take from xs) ++ l) (sym (map-append Some ws (drop (from + n) xs)))
+      ∙ sym (map-append Some (take from xs) (ws ++ drop (from + n) xs))
+
+-- some places from the front are filled, and k more are empty
+abbrev pub filling : {X : Type 0} → ℕ → ℕ → X → List (Option X)
+filling {X} i k x = let none : Option X = None in replicate i (Some x) ++ replicate k none
+
+module _ {X : Type 0} where
+  length-filling : (i k : ℕ) (x : X) → length (filling i k x) ≡ i + k
+  length-filling i k x = let none : Option X = None in length-append (replicate i (Some x)) (replicate k none) ∙ (λ j. length-replicate i (Some x) j + length-replicate k none j)
+
+  next_empty : (i k : ℕ) (x : X) → get_or (filling i k x) i None ≡ None
+  next_empty zero zero x = refl
+  next_empty zero (suc k) x = refl
+  next_empty (suc i) k x = next_empty i k x
+
+  one_more : (i k : ℕ) (x : X) → slice_set (filling i (suc k) x) i (Some x) ≡ filling (suc i) k x
+  one_more zero k x = refl
+  one_more (suc i) k x = ap (λ l. Some x ∷ l) (one_more i k x)
+
+  -- what a step of the loop that fills needs, and what it leaves
+  pub may_fill : (cs : List (Option X)) (i n : ℕ) (x : X) → cs ≡ filling i (n - i) x → i < n → (i < length cs) × (get_or cs i None ≡ None)
+  may_fill cs i n x e lt = (omega (arith, ap length e, length-filling i (n - i) x), ap (λ l. get_or l i None) e ∙ next_empty i (n - i) x)
+
+  pub fills_more : (cs : List (Option X)) (i j n : ℕ) (x : X) → cs ≡ filling i (n - i) x → i < n → j ≡ suc i → slice_set cs i (Some x) ≡ filling j (n - j) x
+  fills_more cs i j n x e lt on =
+      let left : n - i ≡ suc (n - j) = omega arith in
+      ap (λ l. slice_set l i (Some x)) (e ∙ ap (λ k. filling i k x) left) ∙ one_more i (n - j) x ∙ ap (λ k. filling k (n - j) x) (sym on)
+
+  pub all_filled : (cs : List (Option X)) (n : ℕ) (x : X) → cs ≡ filling n (n - n) x → cs ≡ replicate n (Some x)
+  all_filled cs n x e = let none : n - n ≡ 0 = omega arith in e ∙ ap (λ k. filling n k x) none ∙ append-nil (replicate n (Some x))
+
+  pub map-replicate_lem : (n : ℕ) (x : X) → map Some (replicate n x) ≡ replicate n (Some x)
+  map-replicate_lem zero x = refl
+  map-replicate_lem (suc n) x = ap (λ l. Some x ∷ l) (map-replicate_lem n x)

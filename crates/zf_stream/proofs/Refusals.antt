@@ -1,0 +1,36 @@
+-- Each refusal is that of some input, or comes from outside.
+use Rattle.std.proofs.Common.{◌≡◌, ℕ, ◌+◌, ◌<◌, ◌≤◌, cond, ltb, lt-ltb, le-ltb, List, length, replicate, Some, Ok, Err, sym, ap, ◌∙◌, inl, inr, ⊎_elim, arith}
+use Rattle.std.proofs.lemmas.List.{take_all, length-replicate}
+use Rattle.zf_stream.specs.declared.fault.StreamFault.{StreamFault}
+use Rattle.zf_stream.specs.declared.fault.StreamFault.TheVariants as faults
+use Rattle.zf_stream.specs.Raw.{length_answer}
+use Rattle.zf_stream.specs.Parsing.{restore_answer}
+use Rattle.zf_stream.specs.ReadStreams.{IsFaultOf, IsFault}
+use Rattle.zf_stream.specs.Outcomes.{CanRefuse}
+use Rattle.zf_stream.proofs.Parsed.{refusal_of_fault}
+
+-- what is answered for so many zero bytes
+zeros_answer : (wanted n : ℕ) → length_answer wanted (replicate n 0) ≡ cond (ltb n wanted) (Err (faults.RawShort n)) (cond (ltb wanted n) (Err faults.RawLong) (Ok tt))
+zeros_answer wanted n = ap (λ len. cond (ltb len wanted) (Err (faults.RawShort len)) (cond (ltb wanted len) (Err faults.RawLong) (Ok tt))) (length-replicate n 0)
+
+pub CanRefuse-short : (wanted n : ℕ) → n < wanted → CanRefuse (length_answer wanted) (faults.RawShort n)
+CanRefuse-short wanted n short =
+    inl (replicate n 0, zeros_answer wanted n ∙ ap (λ b. cond b (Err (faults.RawShort n)) (cond (ltb wanted n) (Err faults.RawLong) (Ok tt))) (lt-ltb n wanted short))
+
+pub CanRefuse-long : (wanted : ℕ) → CanRefuse (length_answer wanted) faults.RawLong
+CanRefuse-long wanted =
+    let n = wanted + 1 in
+    inl (
+      replicate n 0,
+      zeros_answer wanted n ∙ ap (λ b. cond b (Err (faults.RawShort n)) (cond (ltb wanted n) (Err faults.RawLong) (Ok tt))) (le-ltb n wanted (omega arith))
+          ∙ ap (λ b. cond b (Err faults.RawLong) (Ok tt)) (lt-ltb wanted n (omega arith)),
+    )
+
+-- the fault of a header is that of its bytes
+pub CanRefuse-header : (front : List ℕ) (e : StreamFault) → length front ≤ 19 → IsFaultOf front e → CanRefuse restore_answer e
+CanRefuse-header front e within fault =
+    ⊎_elim (λ same. inl (front, same)) (λ outside. inr outside) (refusal_of_fault (Some front) front e (sym (take_all 19 front within)) fault)
+
+-- a fault of bytes is theirs
+pub CanRefuse-bytes : (bytes : List ℕ) (e : StreamFault) → IsFault (restore_answer bytes) e → CanRefuse restore_answer e
+CanRefuse-bytes bytes e fault = ⊎_elim (λ same. inl (bytes, same)) (λ memory. inr (inr (inr memory))) fault

@@ -1,0 +1,30 @@
+-- A world that explains what devices tell.
+use Rattle.std.proofs.Common.{ℕ, List, Option, Some, None, refl}
+use Rattle.zf_dev.specs.Shelf.{Files, KeepsFiles}
+use Rattle.zf_dev.specs.Source.{Takes, IsAtEnd}
+use Rattle.zf_dev.proofs.Taking.{Takes-to_end}
+use Rattle.zfpi.specs.World.{World, TellsInput, TellsFiles}
+
+-- the files that are told; none where they are not
+pub files_of : Option Files → Files
+files_of None name = None
+files_of (Some files) name = files name
+
+-- an input beside the files that are told
+abbrev pub world_of : List ℕ → Option Files → World
+world_of input known = record { input = input; files = files_of known }
+
+pub TellsFiles-same : (known : Option Files) → TellsFiles known (files_of known)
+unfolding files_of
+TellsFiles-same None = tt
+TellsFiles-same (Some files) = λ name. refl
+
+-- no file changed
+pub KeepsFiles-none : (known : Option Files) → KeepsFiles known known
+KeepsFiles-none None = tt
+KeepsFiles-none (Some files) = λ name. refl
+
+-- what was taken to the end is the input that is told
+pub TellsInput-taken : (known now : Option (List ℕ)) (bytes : List ℕ) → Takes known now bytes → IsAtEnd now → TellsInput known bytes
+TellsInput-taken None now bytes taken ended = tt
+TellsInput-taken (Some all) now bytes taken ended = Takes-to_end all now bytes taken ended

@@ -1,0 +1,20 @@
+use Rattle.zfpi.proofs.Causes.{HasCauses-more}
+use Rattle.zfpi.proofs.program.do_command.Goals as goal
+
+pub returns-in-Compress-clause-behaves : goal.returns-in-Compress-clause-behaves
+returns-in-Compress-clause-behaves g c = rw c.in-Compress.is (c.compress.ensures.behaves _)
+
+pub returns-in-Compress-clause-causes : goal.returns-in-Compress-clause-causes
+returns-in-Compress-clause-causes g c = rw c.in-Compress.is (HasCauses-more _ _ _ _ _ _ _ (c.compress.ensures.causes _))
+
+pub returns-in-Restore-clause-behaves : goal.returns-in-Restore-clause-behaves
+returns-in-Restore-clause-behaves g c = rw c.in-Restore.is (c.restore.ensures.behaves _)
+
+pub returns-in-Restore-clause-causes : goal.returns-in-Restore-clause-causes
+returns-in-Restore-clause-causes g c = rw c.in-Restore.is (HasCauses-more _ _ _ _ _ _ _ (c.restore.ensures.causes _))
+
+pub returns-in-Info-clause-behaves : goal.returns-in-Info-clause-behaves
+returns-in-Info-clause-behaves g c = rw c.in-Info.is (c.info.ensures.behaves _)
+
+pub returns-in-Info-clause-causes : goal.returns-in-Info-clause-causes
+returns-in-Info-clause-causes g c = rw c.in-Info.is (HasCauses-more _ _ _ _ _ _ _ (c.info.ensures.causes _))
