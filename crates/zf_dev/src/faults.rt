@@ -1,3 +1,5 @@
+//! What can go wrong with a device, and how its count of faults rises.
+
 ghost use Rattle.std.specs.Prelude.{◌≡◌, ◌≤◌};
 ghost use Rattle.zf_dev.specs.Faults.{next_count};
 

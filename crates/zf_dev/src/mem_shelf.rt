@@ -1,4 +1,5 @@
-// A shelf in memory: what a test puts in the place of the files of the current folder.
+//! A shelf in memory: what a test puts in the place of the files of the current folder.
+
 ghost use Rattle.std.specs.Prelude.{◌≡◌, ◌≢◌, ℕ, ◌<◌, ◌≤◌, ◌↔◌, List, [], length, None, Some, Err, IsErr, IfOk, IfErr, IfSome, IfNone, OnOk, OnErr, Contains};
 ghost use Rattle.zf_dev.specs.declared.faults.LoadError.TheVariants as loading;
 ghost use Rattle.zf_dev.specs.Faults.{HasCause, next_count};

@@ -1,4 +1,5 @@
-// Devices in memory: what a test or a caller with the bytes in hand puts in the place of the streams.
+//! Devices in memory: what a test or a caller with the bytes in hand puts in the place of the streams.
+
 ghost use Rattle.std.specs.Prelude.{◌≡◌, ℕ, ◌<◌, ◌≤◌, ◌↔◌, min, List, [], ◌++◌, length, take, drop, Some, IsTrue, IsOk, IsErr, IfOk, OnOk, OnErr, Contains};
 ghost use Rattle.zf_dev.specs.Faults.{HasCause};
 ghost use Rattle.zf_dev.specs.Memory.{given_count, source_after_read, source_after_fault, sink_after_write, sink_after_fault, sink_after_want};

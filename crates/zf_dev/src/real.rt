@@ -1,4 +1,5 @@
-// Devices over the streams of the system. Their contents are those of the stream, where it tells them, as one in memory does.
+//! Devices over the streams of the system. Their contents are those of the stream, where it tells them, as one in memory does.
+
 ghost use Rattle.std.specs.Prelude.{◌≡◌, ◌≢◌, ℕ, ◌<◌, ◌≤◌, List, [], length, take, drop, Ok, Err, IsOk, IsErr, IfOk, IfErr, OnOk, OnErr};
 ghost use Rattle.std.specs.IoError.{error_kind};
 ghost use Rattle.zf_dev.specs.Faults.{HasCause, next_count};

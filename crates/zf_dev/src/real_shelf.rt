@@ -1,4 +1,5 @@
-// A shelf over the files of the current folder. What the files hold is outside the program, so nothing is told of it.
+//! A shelf over the files of the current folder. What the files hold is outside the program, so nothing is told of it.
+
 ghost use Rattle.std.specs.Prelude.{◌≡◌, ◌≤◌, ◌⊎◌, length, None, IfOk};
 ghost use Rattle.zf_dev.specs.Faults.{next_count};
 ghost use Rattle.zf_dev.specs.Real.{shelf_faults};

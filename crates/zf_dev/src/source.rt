@@ -1,3 +1,5 @@
+//! Where bytes come from.
+
 ghost use Rattle.std.specs.Prelude.{◌≡◌, ℕ, ◌<◌, ◌≤◌, List, [], Option, length, take, drop, IsOk, IsErr, IfOk, OnOk, OnErr};
 ghost use Rattle.zf_dev.specs.Faults.{HasCause};
 ghost use Rattle.zf_dev.specs.Source.{Takes, TakesAtMost, IsAtEnd, EndsAt, IsFill};

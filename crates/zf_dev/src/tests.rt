@@ -1,3 +1,5 @@
+//! Devices in memory, and the adapters over streams that tell their bytes, break or are interrupted.
+
 ghost use Rattle.std.specs.Prelude.{◌≡◌, ℕ, ◌<◌, ◌≤◌, ◌++◌, min, List, length, take, IsOk, IfOk, OnOk};
 ghost use Rattle.zf_dev.specs.Faults.{IsQuiet};
 ghost use Rattle.zf_dev.specs.Real.{sink_stream};

@@ -1,4 +1,5 @@
-// The shelves: files in memory, and files of the folder that a test runs in.
+//! The shelves: files in memory, and files of the folder that a test runs in.
+
 ghost use Rattle.std.specs.Prelude.{◌<◌};
 
 use super::*;

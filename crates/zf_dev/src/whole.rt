@@ -1,3 +1,5 @@
+//! A source read to its end.
+
 ghost use Rattle.std.specs.Prelude.{◌≡◌, ◌≢◌, ◌≤◌, length, Err, IfOk, OnOk};
 ghost use Rattle.zf_dev.specs.declared.faults.TakeError.TheVariants as taking;
 ghost use Rattle.zf_dev.specs.Faults.{HasCause};

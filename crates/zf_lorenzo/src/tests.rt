@@ -1,3 +1,5 @@
+//! Coefficients that another program computed, and blocks that come back.
+
 ghost use Rattle.std.specs.Prelude.{◌≡◌, ◌≤◌, ◌^◌, IsTrue};
 
 use super::*;

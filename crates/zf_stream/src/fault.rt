@@ -1,3 +1,5 @@
+//! What can be wrong with an input, a stream or a device.
+
 use zf_header::HeaderFault;
 
 /// Why a stream was not made, or not restored.

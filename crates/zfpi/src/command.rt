@@ -1,3 +1,5 @@
+//! The commands.
+
 use zf_header::Header;
 
 /// What the program is asked to do.
