@@ -6,12 +6,17 @@ use Rattle.zf_spec.specs.Numbers.{word_bits}
 use Rattle.zf_spec.specs.Stream.{to_bits, with_fill}
 use Rattle.zf_base.specs.Widths.{width_of}
 use Rattle.zf_bits.specs.Writer.{Writer}
+use Rattle.zf_store.specs.Stored.{Stored}
 use Rattle.zf_header.specs.declared.header.Header.{Header}
 use Rattle.zf_header.specs.HeaderBits.{IsRate, block_bits, header_bits, rate_bytes_of}
 
 -- n codes of so many bits each, one after another from the first bit on
 abbrev pub codes_in : ℕ → ℕ → List Bool → List (List Bool)
 codes_in budget n s = map (λ b. take budget (drop (b * budget) s)) (upto n)
+
+-- a store of the codes that are in these bits
+abbrev pub with_codes : Header → List Bool → Stored
+with_codes h s = record { header = h; codes = codes_in (block_bits h.mode) (blocks h.shape) s }
 
 -- how many bits all codes have
 abbrev pub all_bits : Header → ℕ

@@ -1,7 +1,7 @@
 //! The file of a store: whether one is whole, its codes, and its bytes.
 
 ghost use Rattle.std.specs.Prelude.{◌≡◌, ◌≢◌, ◌+◌, ◌-◌, ◌*◌, ◌<◌, ◌≤◌, ◌^◌, ◌↔◌, ◌++◌, IsTrue, false, length, take, drop, replicate, vec_len, IfOk, IfErr, OnOk};
-ghost use Rattle.std.specs.Int.{div_ceil};
+ghost use Rattle.std.specs.Int.{w64, div_ceil, to_le_bytes};
 ghost use Rattle.zf_spec.specs.Numbers.{field, number, word_bits};
 ghost use Rattle.zf_spec.specs.Stream.{fill_len, to_bits, to_bytes, with_fill};
 ghost use Rattle.zf_header.specs.HeaderBits.{IsRate, block_bits, header_bits, rate_bytes_of};
@@ -131,6 +131,14 @@ pub(crate) fn write_bytes(front: &[u64], front_len: u64, words: &[u64], len: u64
 {
     for i in 0..out.len() / 8 {
         let word = joined_word(front, front_len, words, len, i as u64);
-        out[8 * i..8 * i + 8].copy_from_slice(&word.to_le_bytes());
+        put_word(out, 8 * i, word);
     }
+}
+
+// Writes the 8 bytes of a word at a place, the least significant first.
+fn put_word(out: &mut [u8], at: usize, word: u64)
+    requires { at + 8 ≤ length out.old }
+    ensures { out.new ≡ take at out.old ++ to_le_bytes w64 word ++ drop (at + 8) out.old }
+{
+    out[at..at + 8].copy_from_slice(&word.to_le_bytes());
 }

@@ -1,6 +1,6 @@
 //! The store.
 
-ghost use Rattle.std.specs.Prelude.{◌≡◌, length, ◌++◌, false, IfOk, IfErr};
+ghost use Rattle.std.specs.Prelude.{◌≡◌, ◌-◌, ◌*◌, false, length, drop, replicate, vec_len, IfOk, IfErr};
 ghost use Rattle.std.specs.List.{flat_map};
 ghost use Rattle.std.specs.Int.{div_ceil};
 ghost use Rattle.zf_spec.specs.Numbers.{word_bits};
@@ -11,6 +11,7 @@ ghost use Rattle.zf_stream.specs.Parsing.{parse};
 ghost use Rattle.zf_stream.specs.ReadStreams.{IsFault};
 ghost use Rattle.zf_store.specs.Stored.{IsStore, file_of, zeros};
 ghost use Rattle.zf_store.specs.Files.{HasHeader, IsOpened, stream_fault};
+ghost use Rattle.zf_store.specs.Words.{IsWholeFile, all_bits, with_codes};
 
 use crate::StoreFault;
 use crate::file::{check_file, code_bits, rate, words_of_file, write_bytes};
@@ -93,7 +94,13 @@ impl<T: Lane, const D: usize> Store<T, D> {
     }
 
     // The codes of a whole file.
-    fn of_whole_file(alloc: Global, h: &Header, file: &[u8]) -> Result<Store<T, D>, AllocError> {
+    fn of_whole_file(alloc: Global, h: &Header, file: &[u8]) -> Result<Store<T, D>, AllocError>
+        requires header { HasHeader file.now h.now }
+        requires whole { IsWholeFile file.now h.now }
+        requires same_type { T.width ≡ width_of h.now.ty }
+        requires dims { length h.now.shape ≡ D }
+        ensures { IfOk result (IsOpened file.now h.now) }
+    {
         let words = words_of_file(alloc, h, file)?;
         Store::with_words(alloc, *h, words)
     }
@@ -103,7 +110,14 @@ impl<T: Lane, const D: usize> Store<T, D> {
         alloc: Global,
         header: Header,
         words: Vec<u64>,
-    ) -> Result<Store<T, D>, AllocError> {
+    ) -> Result<Store<T, D>, AllocError>
+        requires same_type { T.width ≡ width_of header.ty }
+        requires dims { length header.shape ≡ D }
+        requires rate { IsRate header.mode }
+        requires count { vec_len words ≡ div_ceil (all_bits header) 64 }
+        requires blank { drop (all_bits header) (word_bits words.items) ≡ replicate (64 * vec_len words - all_bits header) false }
+        ensures { IfOk result (λ s. s ≡ with_codes header (word_bits words.items)) }
+    {
         let room = Scratch::new(alloc, D as u8)?;
         let mut code = BitWriter::new(alloc);
         code.reserve(u64::from(rate(&header)))?;
