@@ -84,10 +84,13 @@ codes_in-put budget n b s t code long below size is = fun_ext (λ k. by k (cases
   where
     old : ℕ → List Bool
     old k = get_or (codes_in budget n s) k []
+
     now : ℕ → List Bool
     now k = get_or (codes_in budget n t) k []
+
     within : b * budget ≤ length s
     within = omega (arith, ends_within budget n b below)
+
     left : (k : ℕ) → code_cut budget t k ≡ code_cut budget s k → now k ≡ old k
     left k same = by_place (cases_lt k n)
       where
@@ -96,6 +99,7 @@ codes_in-put budget n b s t code long below size is = fun_ext (λ k. by k (cases
         by_place (inr h) =
             get_or_past (codes_in budget n t) k [] (omega (arith, length-codes_in budget n t))
             ∙ sym (get_or_past (codes_in budget n s) k [] (omega (arith, length-codes_in budget n s)))
+
     by : (k : ℕ) → (k ≡ b) ⊎ ((k < b) ⊎ (b < k)) → now k ≡ with_at old b code k
     by k (inl e) =
         ap now e ∙ get_or-codes_in budget n t b below

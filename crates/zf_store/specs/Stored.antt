@@ -1,7 +1,7 @@
 -- What a store is seen as: the header of its file, and the code of each block.
 use Rattle.std.specs.Prelude.{ℕ, ◌≡◌, ◌<◌, Bool, List, [], length, slice_index_or}
 use Rattle.std.specs.Int.{Width}
-use Rattle.zf_spec.specs.Grid.{blocks}
+use Rattle.zf_spec.specs.Grid.{IsShape, blocks}
 use Rattle.zf_spec.specs.Stream.{file}
 use Rattle.zf_base.specs.Widths.{width_of}
 use Rattle.zf_base.specs.Formats.{Format}
@@ -35,6 +35,7 @@ file_of s = file (width_of s.header.ty) s.header.shape (coding s.header.mode) s.
 pub record IsStore (w : Width) (d : ℕ) (s : Stored) : Type 0 where
   pub same_type : w ≡ width_of s.header.ty
   pub dims : length s.header.shape ≡ d
+  pub shape : IsShape s.header.shape
   pub rate : IsRate s.header.mode
   pub count : length s.codes ≡ blocks s.header.shape
   pub bits : (b : ℕ) → b < blocks s.header.shape → length (code_at s b) ≡ rate_of s
