@@ -1,5 +1,5 @@
 -- What a store is seen as: the header of its file, and the code of each block.
-use Rattle.std.specs.Prelude.{ℕ, ◌≡◌, ◌<◌, Bool, List, [], length, slice_index_or}
+use Rattle.std.specs.Prelude.{ℕ, ◌≡◌, ◌<◌, Bool, false, List, length, replicate, slice_index_or}
 use Rattle.std.specs.Int.{Width}
 use Rattle.zf_spec.specs.Grid.{IsShape, blocks}
 use Rattle.zf_spec.specs.Stream.{file}
@@ -15,13 +15,13 @@ pub record Stored : Type 0 where
   pub header : Header
   pub codes : List (List Bool)
 
--- the code of block b
-abbrev pub code_at : Stored → ℕ → List Bool
-code_at s b = slice_index_or s.codes b []
-
 -- how many bits each code has
 abbrev pub rate_of : Stored → ℕ
 rate_of s = block_bits s.header.mode
+
+-- the code of block b; that of a number that is no block's is the code of zeros
+abbrev pub code_at : Stored → ℕ → List Bool
+code_at s b = slice_index_or s.codes b (replicate (rate_of s) false)
 
 -- what never changes about the codes
 abbrev pub format_of : Stored → Format (List Bool)

@@ -162,17 +162,18 @@ impl<T: Lane, const D: usize> Store<T, D> {
 
 impl<T: Lane, const D: usize> Reading<T> for Store<T, D> {
     ghost use Rattle.std.specs.Prelude.{List, Bool};
+    ghost use Rattle.zf_header.specs.declared.header.Header.{Header};
     ghost use Rattle.zf_store.specs.Stored.{format_of, code_at};
 
     ghost Code = { List Bool };
 
-    ghost Kept = { Unit {0} };
+    ghost Kept = { Header };
 
     ghost format = { λ s. format_of s };
 
     ghost codes = { λ s b. code_at s b };
 
-    ghost kept = { λ s. tt };
+    ghost kept = { λ s. s.header };
 
     fn blocks(&self) -> u64 {
         self.header.shape.blocks()
@@ -217,8 +218,9 @@ mod tests {
         let shape = Shape::new(1, 64, 1, 1, 1).ok().ok_or("a shape")?;
         assert_eq!(rt; shape.dims(), 1);
         let mut store = Store::<i32, 1>::zeros(rt.alloc(), shape, 64)?;
-        assert_eq!(rt; store.block_len(), 4);
-        for b in 0..store.blocks() {
+        for b in 0..16 {
+            assert_eq!(rt; store.blocks(), 16);
+            assert_eq!(rt; store.block_len(), 4);
             store.store(b, &[1, 2, 3, 4]);
         }
         let Store {

@@ -44,7 +44,7 @@ invariant_of-self g c =
     let count : length fresh ≡ length s.words.items = c.put_run.ensures.count ∙ ap length c.deref_mut.ensures.value in
     let held : length fresh ≡ s.words.len = c.put_run.ensures.count ∙ c.deref_mut.ensures.len in
     let put = put_is w g.row.D h s.words.items s.room s.code s.head c.self.invariant b below c.deref_mut.result.now fresh c.words.result.now c.code_place.result c.from.result c.encode_rate.new.out.bits c.clear.new.self.bits code
-        c.deref_mut.ensures.value c.code_place.ensures.value (c.from.ensures ∙ c.rate-bits.ensures.value) c.words.ensures.bits c.encode_rate.ensures.code.bits c.clear.ensures.bits long c.put_run.ensures.bits in
+    c.deref_mut.ensures.value c.code_place.ensures.value (c.from.ensures ∙ c.rate-bits.ensures.value) c.words.ensures.bits c.encode_rate.ensures.code.bits c.clear.ensures.bits long c.put_run.ensures.bits in
     let size = long_code c.encode_rate.new.out.bits c.clear.new.self.bits code (block_bits h.mode) c.encode_rate.ensures.code.bits c.clear.ensures.bits long in
     let P : List ℕ → Type 0 = λ ws. IsKept w g.row.D h ws c.encode_rate.new.s c.encode_rate.new.out s.head in
     subst P (sym (take_at fresh _ s.words.len held))
@@ -65,7 +65,7 @@ returns-clause-codes g c =
     let count : length fresh ≡ length s.words.items = c.put_run.ensures.count ∙ ap length c.deref_mut.ensures.value in
     let held : length fresh ≡ s.words.len = c.put_run.ensures.count ∙ c.deref_mut.ensures.len in
     let put = put_is w g.row.D h s.words.items s.room s.code s.head c.self.invariant b below c.deref_mut.result.now fresh c.words.result.now c.code_place.result c.from.result c.encode_rate.new.out.bits c.clear.new.self.bits code
-        c.deref_mut.ensures.value c.code_place.ensures.value (c.from.ensures ∙ c.rate-bits.ensures.value) c.words.ensures.bits c.encode_rate.ensures.code.bits c.clear.ensures.bits long c.put_run.ensures.bits in
+    c.deref_mut.ensures.value c.code_place.ensures.value (c.from.ensures ∙ c.rate-bits.ensures.value) c.words.ensures.bits c.encode_rate.ensures.code.bits c.clear.ensures.bits long c.put_run.ensures.bits in
     let at : es ≡ extent_of h.shape b = ap (λ d. used_axes d c.extent-e.result.size) (sym c.self.invariant.dims) ∙ c.extent-e.ensures.used_size in
     let store = with_codes h (word_bits s.words.items) in
     let is : code ≡ encoded (format_of store) b values =

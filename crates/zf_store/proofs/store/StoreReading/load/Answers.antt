@@ -40,7 +40,7 @@ decode_rate-requires-clause-enough g c =
     let budget = block_bits h.mode in
     let below = below_blocks c.args.self.now h _ c.args.b c.self.view_is c.requires.block in
     let left = left_is c.new-reader.result c.seek.new.self c.code_place.result (c.args.b * budget) c.code_bits.result (blocks h.shape * budget) [] c.deref.result.now s.words.items
-        c.new-reader.ensures c.seek.ensures c.deref.ensures.value c.code_place.ensures.value c.code_bits.ensures.value in
+    c.new-reader.ensures c.seek.ensures c.deref.ensures.value c.code_place.ensures.value c.code_bits.ensures.value in
     omega (arith, ap length left, c.rate-bits.ensures.value, code_there g.T.Lane.width g.row.D h s.words.items s.room s.code s.head c.self.invariant c.args.b below)
 
 pub returns-clause-value : goal.returns-clause-value
@@ -52,8 +52,8 @@ returns-clause-value g c =
     let block = map g.T.Lane.value c.decode_rate.new.block in
     let below = below_blocks c.args.self.now h _ b c.self.view_is c.requires.block in
     let left = left_is c.new-reader.result c.seek.new.self c.code_place.result (b * budget) c.code_bits.result (blocks h.shape * budget) [] c.deref.result.now s.words.items
-        c.new-reader.ensures c.seek.ensures c.deref.ensures.value c.code_place.ensures.value c.code_bits.ensures.value in
+    c.new-reader.ensures c.seek.ensures c.deref.ensures.value c.code_place.ensures.value c.code_bits.ensures.value in
     let code = ap (λ k. take k (rest c.seek.new.self)) c.rate-bits.ensures.value ∙ ap (take budget) left
-        ∙ code_read g.T.Lane.width g.row.D h s.words.items s.room s.code s.head c.self.invariant b below in
+    ∙ code_read g.T.Lane.width g.row.D h s.words.items s.room s.code s.head c.self.invariant b below in
     let P : Stored → Type 0 = λ t. existing_of (format_of t) b block ≡ meant (format_of t) b (code_at t b) in
     subst P c.self.view_is (read_is_meant g.T.Lane.width g.row.D h s.words.items s.room s.code s.head c.self.invariant b below (take c.rate-bits.result (rest c.seek.new.self)) block code c.decode_rate.ensures.code)
