@@ -2,6 +2,7 @@
 --     Runs         a plane's tail n digits into it, as a group bit and a run
 --     Lengths      how long the tail of a plane is
 --     Budgets      a list that is written in parts, as far as a budget reaches
+--     Zeros        the code of zeros and of a run as numbers
 --     Unpacking    the digits that planes hold in words
 --     Digits       the digits of a plane as bits of its words, and its ones
 --     Filling      a list that is filled from its front
@@ -14,6 +15,7 @@
 pub mod Runs
 pub mod Lengths
 pub mod Budgets
+pub mod Zeros
 pub mod Unpacking
 pub mod Digits
 pub mod Filling

@@ -93,6 +93,7 @@ fn read_word(n: u64, ahead: &mut Ahead, reader: &mut BitReader<'_>) -> Option<u6
 }
 
 /// Reads the first `n` digits as they are, as far as the budget reaches; the others stay zero.
+#[inline(always)]
 fn read_front<P: Plane>(
     n: usize,
     plane: &mut P,
@@ -130,6 +131,8 @@ struct Run {
 }
 
 /// Reads a run of at most `most` digits. The one of the last of them has no bit, and where the budget ends a one stands.
+#[cold]
+#[inline(never)]
 fn read_run(left: u64, most: usize, reader: &mut BitReader<'_>) -> Option<Run>
     requires { 0 < most }
     ensures short { IfNone result (Lacks reader.old reader.new (run_bits left most (rest reader.old))) }
@@ -207,6 +210,7 @@ fn set_one<P: Plane>(rank: usize, plane: &mut P)
 }
 
 /// Reads the tail of a plane from rank `n` on: behind each group bit that is one a run, until a group bit is zero or no rank is left.
+#[inline(always)]
 fn read_tail<P: Plane>(
     n: usize,
     size: usize,
@@ -247,6 +251,7 @@ fn read_tail<P: Plane>(
 }
 
 /// Reads the code of a plane in which the ranks below `n` have had a one above. The answer is how far the ones of both reach.
+#[inline(always)]
 fn read_plane<P: Plane>(
     n: usize,
     size: usize,
