@@ -1,10 +1,16 @@
 -- Lemmas about coefficients, for the contracts of this crate and for the crates above.
 --     Mask         a word whose odd digits are flipped by a mask, and the number that its digits stand for
+--     Steps        words whose bits are swapped between pairs of them
+--     Lanes        words that are swapped in lanes of two
+--     Turns        steps that together turn the tiles of words
 --     Filling      a list that is filled from the front
 --     ByRank       the digits of a block by rank, and blocks that are filled by rank
 --     Transposed   planes that are made of coefficients, and coefficients that are made of planes
 --     Composed     what the calls of this crate make of a block together
 pub mod Mask
+pub mod Steps
+pub mod Lanes
+pub mod Turns
 pub mod Filling
 pub mod ByRank
 pub mod Transposed

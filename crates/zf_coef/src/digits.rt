@@ -1,6 +1,6 @@
 //! Bit planes become the digits of coefficients.
 
-ghost use Rattle.std.specs.Prelude.{◌≡◌, ℕ, ◌+◌, ◌-◌, ◌*◌, ◌%◌, ◌^◌, ◌<◌, ◌≤◌, ◌⊎◌, ◌×◌, All, length, map};
+ghost use Rattle.std.specs.Prelude.{◌≡◌, ℕ, ◌+◌, ◌-◌, ◌*◌, ◌%◌, ◌^◌, ◌<◌, ◌≤◌, ◌⊎◌, All, length, map};
 ghost use Rattle.zf_spec.specs.Planes.{digits_in_planes};
 ghost use Rattle.zf_spec.specs.HeldPlanes.{planes_held};
 ghost use Rattle.zf_coef.specs.HeldDigits.{digits_in};

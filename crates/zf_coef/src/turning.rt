@@ -4,7 +4,7 @@
 //! the numbers of rows and columns to the base 2, the bits whose row has a zero there and whose column has a one with
 //! those of which it is the other way round.
 
-ghost use Rattle.std.specs.Prelude.{◌≡◌, ◌<◌, ◌≤◌, ◌+◌, length};
+ghost use Rattle.std.specs.Prelude.{◌≡◌, ◌+◌, ◌*◌, ◌%◌, ◌<◌, ◌≤◌, length};
 ghost use Rattle.zf_coef.specs.Turned.{IsSwapped, IsStep, IsMask, IsStepped, IsTurned};
 
 use std::simd::prelude::*;
