@@ -66,7 +66,7 @@ each_lane s m as' bs l long_a long_b h =
 -- two vectors that are stored where they were loaded
 pub lanes_swapped : (low high s m : ℕ) (words : List ℕ) → low + 2 ≤ high → high + 2 ≤ length words
     → IsSwapped 2 low high s m words
-      (put_chunk low (put_chunk high words (high_lanes s m (chunk low 2 words) (chunk high 2 words))) (low_lanes s m (chunk low 2 words) (chunk high 2 words)))
+    (put_chunk low (put_chunk high words (high_lanes s m (chunk low 2 words) (chunk high 2 words))) (low_lanes s m (chunk low 2 words) (chunk high 2 words)))
 lanes_swapped low high s m words apart within =
     let as' = chunk low 2 words in
     let bs = chunk high 2 words in

@@ -4,32 +4,9 @@ use Rattle.std.proofs.lemmas.Bool.{cases_lt, cases_eq}
 use Rattle.std.specs.Int.{bit_at}
 use Rattle.std.specs.Int.RustNames.{bit_xor}
 use lib.Bits.{bit_and}
-use Rattle.std.proofs.Math.Pow.{mod-mod-pow}
-use Rattle.std.proofs.lemmas.Nat.{shr-shr, field_of, pow_pos}
-use Rattle.std.proofs.lemmas.Nat.Bits.{bit_at_and, bit_at_xor, bit_at-lt, bit_at_cat_low, bit_at_cat_high, bit_at-zero}
+use Rattle.zf_coef.proofs.ShiftedBits.{bit_at-shr, bit_at-mod, bit_at-shl_low, bit_at-shl_high}
+use Rattle.std.proofs.lemmas.Nat.Bits.{bit_at_and, bit_at_xor, bit_at-lt}
 use Rattle.zf_coef.specs.Turned.{bit_of, moved, swapped_low, swapped_high, IsSwapped, IsStep, IsMask, with_digit, IsStepped}
-
--- ---- bits of shifted words
-
-pub bit_at-shr : (a s i : ℕ) → bit_at (a / 2 ^ s) i ≡ bit_at a (s + i)
-bit_at-shr a s i = ap (λ n. n % 2) (shr-shr a s i)
-
-pub bit_at-mod : (a i : ℕ) → i < 64 → bit_at (a % 2 ^ 64) i ≡ bit_at a i
-bit_at-mod a i h =
-    let whole : (64 - i) + i ≡ 64 = omega arith in
-    let cut : a % 2 ^ 64 / 2 ^ i ≡ a / 2 ^ i % 2 ^ (64 - i) = subst (λ n. a % 2 ^ n / 2 ^ i ≡ a / 2 ^ i % 2 ^ (64 - i)) whole (field_of a (64 - i) i) in
-    let last : (63 - i) + 1 ≡ 64 - i = omega arith in
-    ap (λ n. n % 2) cut ∙ subst (λ n. a / 2 ^ i % 2 ^ n % 2 ≡ a / 2 ^ i % 2) last (mod-mod-pow (a / 2 ^ i) (63 - i) 1)
-
-pub bit_at-shl_low : (a s i : ℕ) → i < s → bit_at (a * 2 ^ s) i ≡ 0
-bit_at-shl_low a s i h =
-    let whole : a * 2 ^ s ≡ a * 2 ^ s + 0 = omega arith in
-    ap (λ n. bit_at n i) whole ∙ bit_at_cat_low a s 0 i h ∙ bit_at-zero i
-
-pub bit_at-shl_high : (a s i : ℕ) → s ≤ i → bit_at (a * 2 ^ s) i ≡ bit_at a (i - s)
-bit_at-shl_high a s i h =
-    let whole : a * 2 ^ s ≡ a * 2 ^ s + 0 = omega arith in
-    ap (λ n. bit_at n i) whole ∙ bit_at_cat_high a s 0 i (pow_pos s) h
 
 -- ---- bits of swapped words
 
@@ -62,8 +39,17 @@ low_taken : (s m a b i : ℕ) → s ≤ i → i < 64 → bit_at m (i - s) ≡ 1 
 low_taken s m a b i large within one =
     let t = moved s m a b in
     let back : s + (i - s) ≡ i = omega arith in
-    omega (arith, bit_at_xor a (t * 2 ^ s % 2 ^ 64) i, bit_at-mod (t * 2 ^ s) i within, bit_at-shl_high t s i large, bit_at-moved s m a b (i - s),
-      ap (bit_at a) back, one, bit_at-lt a i, bit_at-lt b (i - s))
+    omega (
+      arith,
+      bit_at_xor a (t * 2 ^ s % 2 ^ 64) i,
+      bit_at-mod (t * 2 ^ s) i within,
+      bit_at-shl_high t s i large,
+      bit_at-moved s m a b (i - s),
+      ap (bit_at a) back,
+      one,
+      bit_at-lt a i,
+      bit_at-lt b (i - s),
+    )
 
 -- ---- where the words of a step stand
 
@@ -89,47 +75,87 @@ pub record Paired (lanes s : ℕ) : Type 0 where
 
 pub paired_1 : Paired 1 1
 paired_1 = record {
-  positive = omega arith; small = omega arith;
-  pair_low = λ done l whole h. omega arith; pair_high = λ done l whole h. omega arith;
-  lower_digit = λ done l whole h. omega arith; upper_digit = λ done l whole h. omega arith;
-  place = λ done j whole from to. omega arith; pairs = λ n j whole h. omega arith; in_words = λ n done whole even h. omega arith;
-  word_kept = λ j i h. omega arith; word_up = λ j i a b. omega arith; word_down = λ j i a b. (omega arith, omega arith); digit_less = λ i h. omega arith;
+  positive = omega arith;
+  small = omega arith;
+  pair_low = λ done l whole h. omega arith;
+  pair_high = λ done l whole h. omega arith;
+  lower_digit = λ done l whole h. omega arith;
+  upper_digit = λ done l whole h. omega arith;
+  place = λ done j whole from to. omega arith;
+  pairs = λ n j whole h. omega arith;
+  in_words = λ n done whole even h. omega arith;
+  word_kept = λ j i h. omega arith;
+  word_up = λ j i a b. omega arith;
+  word_down = λ j i a b. (omega arith, omega arith);
+  digit_less = λ i h. omega arith;
 }
 
 pub paired_2 : Paired 2 2
 paired_2 = record {
-  positive = omega arith; small = omega arith;
-  pair_low = λ done l whole h. omega arith; pair_high = λ done l whole h. omega arith;
-  lower_digit = λ done l whole h. omega arith; upper_digit = λ done l whole h. omega arith;
-  place = λ done j whole from to. omega arith; pairs = λ n j whole h. omega arith; in_words = λ n done whole even h. omega arith;
-  word_kept = λ j i h. omega arith; word_up = λ j i a b. omega arith; word_down = λ j i a b. (omega arith, omega arith); digit_less = λ i h. omega arith;
+  positive = omega arith;
+  small = omega arith;
+  pair_low = λ done l whole h. omega arith;
+  pair_high = λ done l whole h. omega arith;
+  lower_digit = λ done l whole h. omega arith;
+  upper_digit = λ done l whole h. omega arith;
+  place = λ done j whole from to. omega arith;
+  pairs = λ n j whole h. omega arith;
+  in_words = λ n done whole even h. omega arith;
+  word_kept = λ j i h. omega arith;
+  word_up = λ j i a b. omega arith;
+  word_down = λ j i a b. (omega arith, omega arith);
+  digit_less = λ i h. omega arith;
 }
 
 pub paired_4 : Paired 2 4
 paired_4 = record {
-  positive = omega arith; small = omega arith;
-  pair_low = λ done l whole h. omega arith; pair_high = λ done l whole h. omega arith;
-  lower_digit = λ done l whole h. omega arith; upper_digit = λ done l whole h. omega arith;
-  place = λ done j whole from to. omega arith; pairs = λ n j whole h. omega arith; in_words = λ n done whole even h. omega arith;
-  word_kept = λ j i h. omega arith; word_up = λ j i a b. omega arith; word_down = λ j i a b. (omega arith, omega arith); digit_less = λ i h. omega arith;
+  positive = omega arith;
+  small = omega arith;
+  pair_low = λ done l whole h. omega arith;
+  pair_high = λ done l whole h. omega arith;
+  lower_digit = λ done l whole h. omega arith;
+  upper_digit = λ done l whole h. omega arith;
+  place = λ done j whole from to. omega arith;
+  pairs = λ n j whole h. omega arith;
+  in_words = λ n done whole even h. omega arith;
+  word_kept = λ j i h. omega arith;
+  word_up = λ j i a b. omega arith;
+  word_down = λ j i a b. (omega arith, omega arith);
+  digit_less = λ i h. omega arith;
 }
 
 pub paired_8 : Paired 2 8
 paired_8 = record {
-  positive = omega arith; small = omega arith;
-  pair_low = λ done l whole h. omega arith; pair_high = λ done l whole h. omega arith;
-  lower_digit = λ done l whole h. omega arith; upper_digit = λ done l whole h. omega arith;
-  place = λ done j whole from to. omega arith; pairs = λ n j whole h. omega arith; in_words = λ n done whole even h. omega arith;
-  word_kept = λ j i h. omega arith; word_up = λ j i a b. omega arith; word_down = λ j i a b. (omega arith, omega arith); digit_less = λ i h. omega arith;
+  positive = omega arith;
+  small = omega arith;
+  pair_low = λ done l whole h. omega arith;
+  pair_high = λ done l whole h. omega arith;
+  lower_digit = λ done l whole h. omega arith;
+  upper_digit = λ done l whole h. omega arith;
+  place = λ done j whole from to. omega arith;
+  pairs = λ n j whole h. omega arith;
+  in_words = λ n done whole even h. omega arith;
+  word_kept = λ j i h. omega arith;
+  word_up = λ j i a b. omega arith;
+  word_down = λ j i a b. (omega arith, omega arith);
+  digit_less = λ i h. omega arith;
 }
 
 pub paired_16 : Paired 2 16
 paired_16 = record {
-  positive = omega arith; small = omega arith;
-  pair_low = λ done l whole h. omega arith; pair_high = λ done l whole h. omega arith;
-  lower_digit = λ done l whole h. omega arith; upper_digit = λ done l whole h. omega arith;
-  place = λ done j whole from to. omega arith; pairs = λ n j whole h. omega arith; in_words = λ n done whole even h. omega arith;
-  word_kept = λ j i h. omega arith; word_up = λ j i a b. omega arith; word_down = λ j i a b. (omega arith, omega arith); digit_less = λ i h. omega arith;
+  positive = omega arith;
+  small = omega arith;
+  pair_low = λ done l whole h. omega arith;
+  pair_high = λ done l whole h. omega arith;
+  lower_digit = λ done l whole h. omega arith;
+  upper_digit = λ done l whole h. omega arith;
+  place = λ done j whole from to. omega arith;
+  pairs = λ n j whole h. omega arith;
+  in_words = λ n done whole even h. omega arith;
+  word_kept = λ j i h. omega arith;
+  word_up = λ j i a b. omega arith;
+  word_down = λ j i a b. (omega arith, omega arith);
+  digit_less = λ i h. omega arith;
 }
 
 pub paired : (s : ℕ) → IsStep s → Paired 2 s
@@ -169,8 +195,8 @@ more_stepped lanes s m done old mid new p whole front swap =
     let high = low + s in
     let kept : (j : ℕ) → ((l : ℕ) → l < lanes → pair_of s j ≢ done + l) → get_or new j 0 ≡ get_or mid j 0 =
     λ j apart. swap.other j
-        (λ l h e. apart l h (ap (pair_of s) e ∙ p.pair_low done l whole h))
-        (λ l h e. apart l h (ap (pair_of s) e ∙ p.pair_high done l whole h)) in
+    (λ l h e. apart l h (ap (pair_of s) e ∙ p.pair_low done l whole h))
+    (λ l h e. apart l h (ap (pair_of s) e ∙ p.pair_high done l whole h)) in
     let fresh_low : (l : ℕ) → l < lanes → get_or mid (low + l) 0 ≡ get_or old (low + l) 0 =
     λ l h. front.rest (low + l) (omega (arith, p.pair_low done l whole h)) in
     let fresh_high : (l : ℕ) → l < lanes → get_or mid (high + l) 0 ≡ get_or old (high + l) 0 =
@@ -218,9 +244,9 @@ all_stepped lanes s m done old new p mask whole all front j i below within =
     ⊎_elim
     (λ (bit : i / s % 2 ≡ 0).
     let same : bit_at (swapped_low s m (get_or old j 0) (get_or old (j + s) 0)) i ≡ bit_of old j i = ⊎_elim
-        (λ first. low_first s m (get_or old j 0) (get_or old (j + s) 0) i first within)
-        (λ far. low_kept s m (get_or old j 0) (get_or old (j + s) 0) i far within (omega (arith, mask (i - s) (omega arith), p.digit_less i far)))
-        (cases_lt i s) in
+    (λ first. low_first s m (get_or old j 0) (get_or old (j + s) 0) i first within)
+    (λ far. low_kept s m (get_or old j 0) (get_or old (j + s) 0) i far within (omega (arith, mask (i - s) (omega arith), p.digit_less i far)))
+    (cases_lt i s) in
     ap (λ x. bit_at x i) is ∙ same ∙ moved_to j i (p.word_kept j i (word ∙ sym bit)) (p.word_kept i j (bit ∙ sym word)))
     (λ (bit : i / s % 2 ≢ 0).
     let one : i / s % 2 ≡ 1 = omega arith in

@@ -1,10 +1,11 @@
 //! Bit planes become the digits of coefficients.
 
-ghost use Rattle.std.specs.Prelude.{◌≡◌, ℕ, ◌+◌, ◌-◌, ◌*◌, ◌%◌, ◌^◌, ◌<◌, ◌≤◌, ◌⊎◌, All, length, map};
+ghost use Rattle.std.specs.Prelude.{◌≡◌, ℕ, ◌+◌, ◌-◌, ◌*◌, ◌%◌, ◌^◌, ◌<◌, ◌≤◌, ◌⊎◌, All, length, map, slice_index_or};
+ghost use Rattle.std.specs.Int.RustNames.{bit_or};
 ghost use Rattle.zf_spec.specs.Planes.{digits_in_planes};
 ghost use Rattle.zf_spec.specs.HeldPlanes.{planes_held};
 ghost use Rattle.zf_coef.specs.HeldDigits.{digits_in};
-ghost use Rattle.zf_coef.specs.Groups.{word_of, IsOfGroup, AddsPart, AreTiles};
+ghost use Rattle.zf_coef.specs.Groups.{word_of, IsOfGroup, AreTiles};
 ghost use Rattle.zf_coef.specs.Turned.{bit_of};
 ghost use Rattle.std.specs.Int.{bit_at};
 
@@ -96,36 +97,56 @@ fn tiles<P: Plane, const N: usize>(planes: &[P], number: usize) -> [u64; N]
     ensures { AreTiles N number (map P.words planes.now) result }
 {
     let mut words = [0; N];
-    let mask = u64::MAX >> (WORD_BITS - N);
     for tile in 0..WORD_BITS / N {
         let from = tile * N;
-        if from + N <= planes.len() {
-            add_part(planes, from, mask, N, number, &mut words);
-        } else if from < planes.len() {
-            add_part(planes, from, mask, planes.len() - from, number, &mut words);
+        if from < planes.len() {
+            add_tile(&mut words, from, &words_from(planes, from, number));
         }
     }
     words
 }
 
-/// Adds the digits that the mask has of so many planes behind `from`, each to its word, from bit `from` on.
+/// Adds the first `N` bits of other words, from bit `from` on.
 #[inline(always)]
-fn add_part<P: Plane, const N: usize>(
-    planes: &[P],
-    from: usize,
-    mask: u64,
-    count: usize,
-    number: usize,
-    words: &mut [u64; N],
-)
-    requires count { count ≤ N }
+fn add_tile<const N: usize>(words: &mut [u64; N], from: usize, tile: &[u64; N])
+    requires size { (N ≡ 4) ⊎ (N ≡ 16) }
     requires from { from < 64 }
-    requires within { from + count ≤ length planes.now }
+    ensures { (j : ℕ) → j < N → slice_index_or words.new j 0
+        ≡ bit_or (slice_index_or words.old j 0) (slice_index_or tile.now j 0 % 2 ^ N * 2 ^ from % 2 ^ 64) }
+{
+    for j in 0..N {
+        words[j] |= (tile[j] & (u64::MAX >> (WORD_BITS - N))) << from;
+    }
+}
+
+/// The words of the planes from `from` on, and zeros past their end.
+#[inline(always)]
+fn words_from<P: Plane, const N: usize>(planes: &[P], from: usize, number: usize) -> [u64; N]
     requires number { number < P.word_count }
-    ensures { AddsPart number from mask count (map P.words planes.now) words.old words.new }
+    requires from { from ≤ length planes.now }
+    ensures { (j : ℕ) → j < N → slice_index_or result j 0 ≡ word_of (map P.words planes.now) number (from + j) }
+{
+    let mut words = [0; N];
+    let count = planes.len() - from;
+    if count < N {
+        copy_words(planes, from, count, number, &mut words);
+    } else {
+        copy_words(planes, from, N, number, &mut words);
+    }
+    words
+}
+
+/// Copies the words of so many planes from `from` on.
+#[inline(always)]
+fn copy_words<P: Plane>(planes: &[P], from: usize, count: usize, number: usize, words: &mut [u64])
+    requires planes { from + count ≤ length planes.now }
+    requires words { count ≤ length words.old }
+    requires number { number < P.word_count }
+    ensures copied { (j : ℕ) → j < count → slice_index_or words.new j 0 ≡ word_of (map P.words planes.now) number (from + j) }
+    ensures others { (j : ℕ) → count ≤ j → slice_index_or words.new j 0 ≡ slice_index_or words.old j 0 }
 {
     for j in 0..count {
-        words[j] |= (planes[from + j].word(number) & mask) << from;
+        words[j] = planes[from + j].word(number);
     }
 }
 
@@ -151,18 +172,16 @@ fn half<P: Plane>(planes: &[P], from: usize, number: usize) -> [u64; 32]
     requires from { (from ≤ length planes.now) × (from ≤ 32) }
     ensures { (j r : ℕ) → j < 32 → r < 64 → bit_of result j r ≡ bit_at (word_of (map P.words planes.now) number (from + r % 32)) (r - r % 32 + j) }
 {
-    let mut words = [0; 32];
-    let count = (planes.len() - from).min(32);
-    for j in 0..count {
-        words[j] = planes[from + j].word(number);
-    }
+    let mut words = words_from(planes, from, number);
     turn_32(&mut words);
     words
 }
 
 /// Each word has 32 digits of a rank below 32, and then those of the rank 32 above it.
 #[inline(always)]
-fn join(low: &[u64; 32], high: &[u64; 32], digits: &mut [u64])
+fn join(low: &[u64], high: &[u64], digits: &mut [u64])
+    requires halves { length low.now ≡ 32 }
+    requires others { length high.now ≡ 32 }
     requires digits { length digits.old ≡ 64 }
     ensures lower { (r k : ℕ) → r < 32 → k < 32 → (bit_of digits.new r k ≡ bit_of low.now r k) × (bit_of digits.new r (32 + k) ≡ bit_of high.now r k) }
     ensures upper { (r k : ℕ) → r < 32 → k < 32

@@ -1,11 +1,11 @@
 //! The digits of coefficients become bit planes.
 
-ghost use Rattle.std.specs.Prelude.{◌≡◌, ℕ, ◌+◌, ◌-◌, ◌*◌, ◌/◌, ◌%◌, ◌^◌, ◌<◌, ◌≤◌, ◌⊎◌, min, All, length, map};
+ghost use Rattle.std.specs.Prelude.{◌≡◌, ℕ, ◌+◌, ◌-◌, ◌*◌, ◌/◌, ◌%◌, ◌^◌, ◌<◌, ◌≤◌, ◌⊎◌, All, length, map, slice_index_or};
 ghost use Rattle.std.specs.Int.{bit_at};
 ghost use Rattle.zf_spec.specs.Planes.{planes_of};
 ghost use Rattle.zf_spec.specs.HeldPlanes.{planes_held, IsClearFrom};
 ghost use Rattle.zf_coef.specs.HeldDigits.{digits_in};
-ghost use Rattle.zf_coef.specs.Groups.{word_of, HoldsGroup, KeepsOthers, HoldsPart, HoldsTiles};
+ghost use Rattle.zf_coef.specs.Groups.{word_of, HoldsGroup, HoldsHalf, KeepsOthers, HoldsFrom, HoldsTiles};
 ghost use Rattle.zf_coef.specs.Turned.{bit_of};
 
 use crate::turning::{turn_4, turn_16, turn_32};
@@ -56,12 +56,20 @@ fn put_group<P: Plane>(digits: &[u64], number: usize, planes: &mut [P])
         4 => put_4(digits, number, planes),
         16 => put_16(digits, number, planes),
         64 => put_64(digits, number, planes),
-        _ => {
-            let mut whole = [0; WORD_BITS];
-            whole[..digits.len()].copy_from_slice(digits);
-            put_64(&whole, number, planes);
-        }
+        _ => put_64(&padded(digits), number, planes),
     }
+}
+
+/// 64 digits, of which those past the given ones are zero.
+fn padded(digits: &[u64]) -> [u64; WORD_BITS]
+    requires { length digits.now ≤ 64 }
+    ensures { (r : ℕ) → slice_index_or result r 0 ≡ slice_index_or digits.now r 0 }
+{
+    let mut whole = [0; WORD_BITS];
+    for r in 0..digits.len() {
+        whole[r] = digits[r];
+    }
+    whole
 }
 
 #[inline(never)]
@@ -101,36 +109,60 @@ fn put_tiles<P: Plane, const N: usize>(words: &[u64; N], number: usize, planes: 
     ensures bits { HoldsTiles N number words.now (map P.words planes.new) }
     ensures others { KeepsOthers number (map P.words planes.old) (map P.words planes.new) }
 {
-    let mask = u64::MAX >> (WORD_BITS - N);
     for tile in 0..WORD_BITS / N {
         let from = tile * N;
-        if from + N <= planes.len() {
-            put_part(words, from, mask, N, number, planes);
-        } else if from < planes.len() {
-            put_part(words, from, mask, planes.len() - from, number, planes);
+        if from < planes.len() {
+            put_from(&tile_of(words, from), from, number, planes);
         }
     }
 }
 
-/// So many planes behind `from`: their words are those that begin at bit `from` of `words`, as far as the mask has ones.
+/// The `N` bits of each word from this one on.
 #[inline(always)]
-fn put_part<P: Plane, const N: usize>(
+fn tile_of<const N: usize>(words: &[u64; N], from: usize) -> [u64; N]
+    requires size { (N ≡ 4) ⊎ (N ≡ 16) }
+    requires from { from < 64 }
+    ensures { (j : ℕ) → j < N → slice_index_or result j 0 ≡ slice_index_or words.now j 0 / 2 ^ from % 2 ^ N }
+{
+    let mut tile = [0; N];
+    for j in 0..N {
+        tile[j] = (words[j] >> from) & (u64::MAX >> (WORD_BITS - N));
+    }
+    tile
+}
+
+/// Puts words into the planes from `from` on, as far as there are any.
+#[inline(always)]
+fn put_from<P: Plane, const N: usize>(
     words: &[u64; N],
     from: usize,
-    mask: u64,
-    count: usize,
     number: usize,
     planes: &mut [P],
 )
-    requires count { count ≤ N }
-    requires from { from < 64 }
-    requires within { from + count ≤ length planes.old }
     requires number { number < P.word_count }
-    ensures words { HoldsPart number from mask count words.now (map P.words planes.old) (map P.words planes.new) }
+    requires from { from ≤ length planes.old }
+    ensures words { HoldsFrom N number from words.now (map P.words planes.old) (map P.words planes.new) }
+    ensures others { KeepsOthers number (map P.words planes.old) (map P.words planes.new) }
+{
+    let count = planes.len() - from;
+    if count < N {
+        put_words(words, count, from, number, planes);
+    } else {
+        put_words(words, N, from, number, planes);
+    }
+}
+
+/// Puts so many words into the planes from `from` on.
+#[inline(always)]
+fn put_words<P: Plane>(words: &[u64], count: usize, from: usize, number: usize, planes: &mut [P])
+    requires words { count ≤ length words.now }
+    requires planes { from + count ≤ length planes.old }
+    requires number { number < P.word_count }
+    ensures words { HoldsFrom count number from words.now (map P.words planes.old) (map P.words planes.new) }
     ensures others { KeepsOthers number (map P.words planes.old) (map P.words planes.new) }
 {
     for j in 0..count {
-        planes[from + j].set_word(number, (words[j] >> from) & mask);
+        planes[from + j].set_word(number, words[j]);
     }
 }
 
@@ -155,18 +187,25 @@ fn put_half<P: Plane>(digits: &[u64], from: usize, number: usize, planes: &mut [
     requires digits { length digits.now ≡ 64 }
     requires from { from ≤ 32 }
     requires planes { from ≤ length planes.old }
-    ensures bits { (k r : ℕ) → from ≤ k → k < from + 32 → k < length planes.new → r < 64
-        → bit_at (word_of (map P.words planes.new) number k) r ≡ bit_of digits.now r k }
-    ensures planes { (k : ℕ) → k < from → word_of (map P.words planes.new) number k ≡ word_of (map P.words planes.old) number k }
+    ensures bits { HoldsHalf number from digits.now (map P.words planes.new) }
+    ensures below { (k : ℕ) → k < from → word_of (map P.words planes.new) number k ≡ word_of (map P.words planes.old) number k }
     ensures others { KeepsOthers number (map P.words planes.old) (map P.words planes.new) }
+{
+    let mut words = half_digits(digits, from);
+    turn_32(&mut words);
+    put_from(&words, from, number, planes);
+}
+
+/// 32 digits from this one on: word r has those of rank r, and then those of the rank 32 above it.
+#[inline(always)]
+fn half_digits(digits: &[u64], from: usize) -> [u64; 32]
+    requires digits { length digits.now ≡ 64 }
+    requires from { from ≤ 32 }
+    ensures { (r i : ℕ) → r < 32 → i < 64 → bit_of result r i ≡ bit_of digits.now (i - i % 32 + r) (from + i % 32) }
 {
     let mut words = [0; 32];
     for r in 0..32 {
         words[r] = ((digits[r] >> from) & 0xffff_ffff) | (digits[r + 32] >> from) << 32;
     }
-    turn_32(&mut words);
-    let count = (planes.len() - from).min(32);
-    for j in 0..count {
-        planes[from + j].set_word(number, words[j]);
-    }
+    words
 }
