@@ -1,5 +1,5 @@
 -- Lists that are written from the front, place by place.
-use Rattle.std.proofs.Common.{◌≡◌, refl, sym, ap, subst, ◌∙◌, ℕ, ◌+◌, ◌<◌, ◌≤◌, ◌≢◌, ⊎_elim, List, length, get_or, set, get_or-set_same, get_or-set_other, arith}
+use Rattle.std.proofs.Common.{◌≡◌, refl, sym, ap, subst, ◌∙◌, ℕ, ◌+◌, ◌<◌, ◌≤◌, ◌≢◌, ⊎_elim, zero, suc, List, [], ◌∷◌, map, length, get_or, set, get_or-set_same, get_or-set_other, arith}
 use Rattle.std.proofs.lemmas.Bool.{cases_lt}
 
 -- the place at the front gets a value
@@ -26,3 +26,9 @@ front_tells P xs d n x within here before j h = ⊎_elim
     let same : n ≡ j = omega arith in
     subst (λ k. P k (get_or (set xs n x) k d)) same (subst (P n) (sym (get_or-set_same xs n x d within)) here))
     (cases_lt j n)
+
+-- lists that are all as long
+pub each_long : {X Y : Type 0} (f : X → List Y) (n : ℕ) → ((x : X) → length (f x) ≡ n) → (xs : List X) (k : ℕ) → k < length (map f xs) → length (get_or (map f xs) k []) ≡ n
+each_long f n long [] k h = absurd (omega arith)
+each_long f n long (x ∷ xs) zero h = long x
+each_long f n long (x ∷ xs) (suc k) h = each_long f n long xs k (omega arith)

@@ -56,11 +56,21 @@ fn take_group<P: Plane>(planes: &[P], number: usize, digits: &mut [u64])
         4 => take_4(planes, number, digits),
         16 => take_16(planes, number, digits),
         64 => take_64(planes, number, digits),
-        size => {
+        _ => {
             let mut whole = [0; WORD_BITS];
             take_64(planes, number, &mut whole);
-            digits.copy_from_slice(&whole[..size]);
+            copy_front(&whole, digits);
         }
+    }
+}
+
+/// Copies as many words as there are digits.
+fn copy_front(words: &[u64], digits: &mut [u64])
+    requires { length digits.old ≤ length words.now }
+    ensures { (r : ℕ) → r < length digits.new → slice_index_or digits.new r 0 ≡ slice_index_or words.now r 0 }
+{
+    for r in 0..digits.len() {
+        digits[r] = words[r];
     }
 }
 

@@ -1,6 +1,6 @@
 //! The digits of coefficients become bit planes.
 
-ghost use Rattle.std.specs.Prelude.{◌≡◌, ℕ, ◌+◌, ◌-◌, ◌*◌, ◌/◌, ◌%◌, ◌^◌, ◌<◌, ◌≤◌, ◌⊎◌, All, length, map, slice_index_or};
+ghost use Rattle.std.specs.Prelude.{◌≡◌, ℕ, ◌+◌, ◌-◌, ◌*◌, ◌/◌, ◌%◌, ◌^◌, ◌<◌, ◌≤◌, ◌⊎◌, All, length, map, slice_index_or, []};
 ghost use Rattle.std.specs.Int.{bit_at};
 ghost use Rattle.zf_spec.specs.Planes.{planes_of};
 ghost use Rattle.zf_spec.specs.HeldPlanes.{planes_held, IsClearFrom};
@@ -25,6 +25,15 @@ pub fn to_planes(digits: &[u64], planes: &mut [[u64; 4]])
     ensures clear { All (IsClearFrom (length digits.now)) planes.new }
 {
     planes_of_digits(digits, planes);
+    have_four_words(planes);
+}
+
+/// Says that each plane has four words, for proofs that know of planes as lists alone.
+#[inline(always)]
+fn have_four_words(planes: &[[u64; 4]])
+    ensures { (k : ℕ) → k < length planes.now → length (slice_index_or planes.now k []) ≡ 4 }
+{
+    let _known = planes.len();
 }
 
 /// The same for planes of any number of words, so that blocks of up to 64 coefficients have one word a plane.
