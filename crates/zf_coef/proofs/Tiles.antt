@@ -149,3 +149,134 @@ pub group_of_same : (number : ℕ) (digits whole : List ℕ) (planes : List (Lis
     → HoldsGroup number whole planes → HoldsGroup number digits planes
 unfolding HoldsGroup
 group_of_same number digits whole planes same group k r within small = group k r within small ∙ ap (λ w. bit_at w k) (same r small)
+
+-- ---- tiles of planes
+
+-- the bits of words below `to` are those of planes, and there is none from there on
+pub record AddsTiles (n number to : ℕ) (planes : List (List ℕ)) (words : List ℕ) : Type 0 where
+  pub inside : (j b : ℕ) → j < n → b < to → b < 64 → bit_of words j b ≡ bit_at (word_of planes number (b - b % n + j)) (b % n)
+  pub outside : (j b : ℕ) → j < n → to ≤ b → b < 64 → bit_of words j b ≡ 0
+
+-- planes past the end have no words
+pub word_of-past : (planes : List (List ℕ)) (number k : ℕ) → length planes ≤ k → word_of planes number k ≡ 0
+word_of-past planes number k past = ap (λ ws. get_or ws number 0) (get_or_past planes k [] past)
+
+-- one tile more
+pub add_more : (n tile number : ℕ) (planes : List (List ℕ)) (part old new : List ℕ) → 0 < n
+    → AddsTiles n number (tile * n) planes old
+    → ((j : ℕ) → j < n → get_or part j 0 ≡ word_of planes number (tile * n + j))
+    → ((j : ℕ) → j < n → get_or new j 0 ≡ bit_or (get_or old j 0) (get_or part j 0 % 2 ^ n * 2 ^ (tile * n) % 2 ^ 64))
+    → AddsTiles n number (tile * n + n) planes new
+add_more n tile number planes part old new positive before from_planes added =
+    let from = tile * n in
+    let bit : (j b : ℕ) → j < n → b < 64 → bit_of new j b ≡ max (bit_of old j b) (bit_at (get_or part j 0 % 2 ^ n * 2 ^ from) b) =
+    λ j b less small. ap (λ w. bit_at w b) (added j less) ∙ bit_at_or (get_or old j 0) (get_or part j 0 % 2 ^ n * 2 ^ from % 2 ^ 64) b
+    ∙ ap (max (bit_of old j b)) (bit_at-mod (get_or part j 0 % 2 ^ n * 2 ^ from) b small) in
+    record {
+      inside = λ j b less h small. ⊎_elim
+          (λ (earlier : b < from).
+          omega (arith, bit j b less small, bit_at-shl_low (get_or part j 0 % 2 ^ n) from b earlier, before.inside j b less earlier small))
+          (λ (later : from ≤ b).
+          let r = b - from in
+          let low : r < n = omega arith in
+          let at : from + r ≡ b = omega arith in
+          let place : b % n ≡ r = ap (λ i. i % n) (sym at) ∙ mod-mul-add tile n r low in
+          let row : b - b % n + j ≡ from + j = omega (arith, place) in
+          let same : bit_at (get_or part j 0) r ≡ bit_at (word_of planes number (b - b % n + j)) (b % n) =
+          ap (λ w. bit_at w r) (from_planes j less) ∙ ap (λ k. bit_at (word_of planes number k) r) (sym row) ∙ ap (bit_at (word_of planes number (b - b % n + j))) (sym place) in
+          omega (arith, bit j b less small, bit_at-shl_high (get_or part j 0 % 2 ^ n) from b later, bit_at-mod_pow (get_or part j 0) n r low, before.outside j b less later small, same))
+          (cases_lt b from);
+      outside = λ j b less h small.
+          omega (arith, bit j b less small, bit_at-shl_high (get_or part j 0 % 2 ^ n) from b (omega arith), bit_at-mod_above (get_or part j 0) n (b - from) (omega arith), before.outside j b less (omega arith) small);
+    }
+
+-- the tile is that of no plane
+pub add_past : (n tile number : ℕ) (planes : List (List ℕ)) (words : List ℕ) → 0 < n → length planes ≤ tile * n
+    → AddsTiles n number (tile * n) planes words → AddsTiles n number (tile * n + n) planes words
+add_past n tile number planes words positive past before = record {
+  inside = λ j b less h small. ⊎_elim
+      (λ (earlier : b < tile * n). before.inside j b less earlier small)
+      (λ (later : tile * n ≤ b).
+      let r = b - tile * n in
+      let low : r < n = omega arith in
+      let at : tile * n + r ≡ b = omega arith in
+      let place : b % n ≡ r = ap (λ i. i % n) (sym at) ∙ mod-mul-add tile n r low in
+      before.outside j b less later small ∙ sym (bit_at-zero (b % n)) ∙ ap (λ w. bit_at w (b % n)) (sym (word_of-past planes number (b - b % n + j) (omega (arith, place)))))
+      (cases_lt b (tile * n));
+  outside = λ j b less h small. before.outside j b less (omega arith) small;
+}
+
+pub add_all : (n number to : ℕ) (planes : List (List ℕ)) (words : List ℕ) → 64 ≤ to → AddsTiles n number to planes words → AreTiles n number planes words
+unfolding AreTiles
+add_all n number to planes words all adds j b less small = adds.inside j b less (omega arith) small
+
+-- turned tiles are the digits
+pub digits_of_tiles : (n number : ℕ) (planes : List (List ℕ)) (words turned digits : List ℕ) → IsSize n → length digits ≡ n → digits ≡ turned
+    → AreTiles n number planes words → IsTurned n words turned → IsOfGroup number planes digits
+unfolding AreTiles IsTurned IsOfGroup
+digits_of_tiles n number planes words turned digits size long same tiles turn r k h small =
+    let inside : r < n = omega arith in
+    let p = k - k % n + r in
+    let place : p < 64 = ⊎_elim (λ is. subst (λ m. r < m → k - k % m + r < 64) (sym is) (λ h. omega arith) inside) (λ is. subst (λ m. r < m → k - k % m + r < 64) (sym is) (λ h. omega arith) inside) size in
+    let column : p % n ≡ r = ⊎_elim (λ is. subst (λ m. r < m → (k - k % m + r) % m ≡ r) (sym is) (λ h. omega arith) inside) (λ is. subst (λ m. r < m → (k - k % m + r) % m ≡ r) (sym is) (λ h. omega arith) inside) size in
+    let row : k % n < n = ⊎_elim (λ is. subst (λ m. k % m < m) (sym is) (omega arith)) (λ is. subst (λ m. k % m < m) (sym is) (omega arith)) size in
+    let within : k % n ≤ k = ⊎_elim (λ is. subst (λ m. k % m ≤ k) (sym is) (omega arith)) (λ is. subst (λ m. k % m ≤ k) (sym is) (omega arith)) size in
+    let plane : p - p % n + k % n ≡ k = omega (arith, column, within) in
+    ap (λ ds. bit_of ds r k) same
+    ∙ turn r k inside small
+    ∙ tiles (k % n) p row place
+    ∙ ap (λ i. bit_at (word_of planes number i) (p % n)) plane
+    ∙ ap (bit_at (word_of planes number k)) column
+
+-- ---- halves of planes
+
+-- turned words of 32 planes: digits of a rank below 32, and then those of the rank 32 above it
+abbrev pub AreHalf : ℕ → ℕ → List (List ℕ) → List ℕ → Type 0
+AreHalf number from planes words = (j r : ℕ) → j < 32 → r < 64 → bit_of words j r ≡ bit_at (word_of planes number (from + r % 32)) (r - r % 32 + j)
+
+pub half_of_planes : (number from : ℕ) (planes : List (List ℕ)) (words turned : List ℕ)
+    → ((j : ℕ) → j < 32 → get_or words j 0 ≡ word_of planes number (from + j)) → IsTurned 32 words turned → AreHalf number from planes turned
+unfolding IsTurned
+half_of_planes number from planes words turned same turn j r less small =
+    turn j r less small ∙ ap (λ w. bit_at w (r - r % 32 + j)) (same (r % 32) (omega arith))
+
+-- no plane has words there
+pub half_past : (number : ℕ) (planes : List (List ℕ)) (words : List ℕ) → length planes ≤ 32 → ((j : ℕ) → get_or words j 0 ≡ 0) → AreHalf number 32 planes words
+half_past number planes words few zeros j r less small =
+    ap (λ w. bit_at w r) (zeros j) ∙ bit_at-zero r ∙ sym (bit_at-zero (r - r % 32 + j))
+    ∙ ap (λ w. bit_at w (r - r % 32 + j)) (sym (word_of-past planes number (32 + r % 32) (omega arith)))
+
+pub digits_of_halves : (number : ℕ) (planes : List (List ℕ)) (low high digits : List ℕ) → length digits ≡ 64
+    → AreHalf number 0 planes low → AreHalf number 32 planes high
+    → ((r k : ℕ) → r < 32 → k < 32 → (bit_of digits r k ≡ bit_of low r k) × (bit_of digits r (32 + k) ≡ bit_of high r k))
+    → ((r k : ℕ) → r < 32 → k < 32 → (bit_of digits (32 + r) k ≡ bit_of low r (32 + k)) × (bit_of digits (32 + r) (32 + k) ≡ bit_of high r (32 + k)))
+    → IsOfGroup number planes digits
+unfolding IsOfGroup
+digits_of_halves number planes low high digits long is_low is_high lower upper r k h small = ⊎_elim
+    (λ (front : r < 32). ⊎_elim
+    (λ (first : k < 32). (lower r k front first).0 ∙ is_low r k front (omega arith) ∙ at 0 k k r r (omega arith) (omega arith))
+    (λ (second : 32 ≤ k).
+    let back : k ≡ 32 + (k - 32) = omega arith in
+    ap (bit_of digits r) back ∙ (lower r (k - 32) front (omega arith)).1 ∙ is_high r (k - 32) front (omega arith) ∙ at 32 (k - 32) k r r (omega arith) (omega arith))
+    (cases_lt k 32))
+    (λ (behind : 32 ≤ r).
+    let row : r ≡ 32 + (r - 32) = omega arith in
+    ap (λ j. bit_of digits j k) row
+    ∙ ⊎_elim
+    (λ (first : k < 32). (upper (r - 32) k (omega arith) first).0 ∙ is_low (r - 32) (32 + k) (omega arith) (omega arith) ∙ at 0 (32 + k) k (r - 32) r (omega arith) (omega arith))
+    (λ (second : 32 ≤ k).
+    let back : k ≡ 32 + (k - 32) = omega arith in
+    ap (bit_of digits (32 + (r - 32))) back ∙ (upper (r - 32) (k - 32) (omega arith) (omega arith)).1
+    ∙ is_high (r - 32) (32 + (k - 32)) (omega arith) (omega arith) ∙ at 32 (32 + (k - 32)) k (r - 32) r (omega arith) (omega arith))
+    (cases_lt k 32))
+    (cases_lt r 32)
+  where
+    at : (from i plane j rank : ℕ) → from + i % 32 ≡ plane → i - i % 32 + j ≡ rank
+        → bit_at (word_of planes number (from + i % 32)) (i - i % 32 + j) ≡ bit_at (word_of planes number plane) rank
+    at from i plane j rank a b = ap (λ p. bit_at (word_of planes number p) (i - i % 32 + j)) a ∙ ap (bit_at (word_of planes number plane)) b
+
+-- the first of more digits
+pub group_of_front : (number : ℕ) (planes : List (List ℕ)) (whole digits : List ℕ) → length digits ≤ length whole
+    → ((r : ℕ) → r < length digits → get_or digits r 0 ≡ get_or whole r 0) → IsOfGroup number planes whole → IsOfGroup number planes digits
+unfolding IsOfGroup
+group_of_front number planes whole digits short same group r k h small = ap (λ w. bit_at w k) (same r h) ∙ group r k (omega arith) small
