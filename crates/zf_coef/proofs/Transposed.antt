@@ -1,7 +1,7 @@
 -- Planes that are made of coefficients, and coefficients that are made of planes.
-use Rattle.std.proofs.Common.{◌≡◌, refl, sym, ap, subst, ◌∙◌, ℕ, suc, ◌+◌, ◌-◌, ◌*◌, ◌/◌, ◌%◌, ◌^◌, ◌<◌, ◌≤◌, ⊎_elim, Bool, false, eqb, min, All, List, [], ◌∷◌, ◌++◌, map, reverse, length, get_or, take, drop, replicate, ext_get_or, get_or-take, get_or-drop, length-take, length-drop, arith}
+use Rattle.std.proofs.Common.{◌≡◌, refl, sym, ap, subst, ◌∙◌, ℕ, suc, ◌+◌, ◌-◌, ◌*◌, ◌/◌, ◌%◌, ◌^◌, ◌<◌, ◌≤◌, ⊎_elim, Bool, false, eqb, min, All, List, [], ◌∷◌, ◌++◌, map, reverse, length, get_or, take, drop, replicate, ext_get_or, get_or-take, get_or-drop, length-take, length-drop, mod-lt, arith}
 use Rattle.std.proofs.lemmas.Bool.{cases_lt}
-use Rattle.std.proofs.lemmas.List.{get_or_past, length-map, get_or-map, map-append, reverse-append, length-reverse, get_or-reverse, length-replicate, get_or-replicate, take_more}
+use Rattle.std.proofs.lemmas.List.{get_or_past, get_or_append_left, get_or-append_right, length-map, get_or-map, map-append, reverse-append, length-reverse, get_or-reverse, length-replicate, get_or-replicate, take_more}
 use Rattle.std.proofs.lemmas.Nat.{or_comm, or_shifted, shl_whole}
 use Rattle.std.proofs.lemmas.Nat.Bits.{bit_at-zero}
 use Rattle.std.specs.Int.Bits.{bit_or}
@@ -14,12 +14,18 @@ use Rattle.zf_spec.proofs.Counting.{length-map-upto, get_or-map-upto}
 use Rattle.zf_spec.proofs.PlaneDigits.{get_or-plane, length-map-reverse-upto, get_or-map-reverse-upto}
 use Rattle.zf_spec.specs.HeldPlanes.{digits_held, planes_held, IsClearFrom}
 use Rattle.std.specs.Int.{bit_at}
-use Rattle.std.proofs.lemmas.List.Elements.{All-from_get_or}
+use borrow.Rule.Slice.PartMut.{put_mid, post_of}
+use Rattle.std.proofs.Math.Nat.{mod-le}
+use Rattle.std.proofs.lemmas.Nat.{pow_pos}
+use Rattle.std.proofs.lemmas.Nat.Bits.{same_from_bits_below}
+use Rattle.std.proofs.lemmas.List.Elements.{All-from_get_or, All-get_or}
+use Rattle.zf_coef.proofs.ShiftedBits.{bit_at-mod_pow, bit_at-mod_above}
+use Rattle.zf_coef.proofs.Tiles.{word_of-past}
 use Rattle.zf_coef.specs.HeldDigits.{digits_in, column}
 use Rattle.zf_coef.specs.Turned.{bit_of}
 use Rattle.zf_coef.specs.Groups.{word_of, HoldsGroup, KeepsOthers, IsOfGroup}
 use Rattle.zf_spec.specs.Planes.{digits_in_planes}
-use Rattle.zf_spec.proofs.Fields.{get_or-field}
+use Rattle.zf_spec.proofs.Fields.{get_or-field, length-field}
 use Rattle.zf_spec.proofs.WordBits.{length-word_bits, get_or-word_bits, words_with_bit, length-words_with_bit, bit_kept, bit_written}
 use Rattle.zf_spec.proofs.HeldPlanes.{get_or-planes_held}
 
@@ -232,3 +238,85 @@ all_four [] long = refl
 all_four (ws ∷ planes) long =
     ap (λ vs. vs ∷ map (λ us. get_or us 0 0 ∷ get_or us 1 0 ∷ get_or us 2 0 ∷ get_or us 3 0 ∷ []) planes) (four ws (long 0 (omega arith)))
     ∙ ap (λ ps. ws ∷ ps) (all_four planes (λ k h. long (suc k) (omega arith)))
+
+-- ---- coefficients of groups
+
+-- the coefficients of so many groups have the digits that planes hold
+pub record IsOfGroups (number : ℕ) (planes : List (List ℕ)) (digits : List ℕ) : Type 0 where
+  pub each : (r k : ℕ) → r < 64 * number → r < length digits → k < 64 → bit_of digits r k ≡ bit_at (word_of planes (r / 64) k) (r % 64)
+
+-- one group more, written where the coefficients before it end
+pub group_written : (number a k : ℕ) (planes : List (List ℕ)) (xs ys : List ℕ) → a ≡ 64 * number → k ≡ min 64 (length xs - a) → length ys ≡ k → a ≤ length xs
+    → length (put_mid a k xs ys) ≡ length xs
+    → IsOfGroups number planes xs → IsOfGroup number planes ys → IsOfGroups (number + 1) planes (put_mid a k xs ys)
+unfolding IsOfGroup
+group_written number a k planes xs ys start count long within same_length before group = record {
+  each = λ r i h inside small. ⊎_elim
+      (λ (earlier : r < a).
+      ap (λ w. bit_at w i)
+      (get_or_append_left (take a xs) (ys ++ post_of a k xs) 0 r (omega (arith, length-take a xs)) ∙ get_or-take a xs r 0 earlier)
+      ∙ before.each r i (omega arith) (omega arith) small)
+      (λ (later : a ≤ r).
+      let front : length (take a xs) ≡ a = omega (arith, length-take a xs) in
+      let in_group : r - a < length ys = omega arith in
+      let word : number ≡ r / 64 = omega arith in
+      let place : r - a ≡ r % 64 = omega arith in
+      ap (λ w. bit_at w i)
+      (get_or-append_right (take a xs) (ys ++ post_of a k xs) a r 0 front later ∙ get_or_append_left ys (post_of a k xs) 0 (r - a) in_group)
+      ∙ group (r - a) i in_group small
+      ∙ ap (λ q. bit_at (word_of planes q i) (r - a)) word
+      ∙ ap (bit_at (word_of planes (r / 64) i)) place)
+      (cases_lt r a);
+}
+
+-- the digits of one coefficient
+digits_of_rank : (number r : ℕ) (planes : List (List ℕ)) (digits : List ℕ) → length planes ≤ 64 → length digits ≤ 64 * number → r < length digits
+    → ((k : ℕ) → k < length planes → r < 64 * length (get_or planes k []))
+    → IsOfGroups number planes digits → field (length planes) (get_or digits r 0) ≡ column r planes
+unfolding column
+digits_of_rank number r planes digits few room within long groups =
+    let n = length planes in
+    let v = get_or digits r 0 in
+    let bit_at_rank : List ℕ → Bool = λ words. get_or (word_bits words) r false in
+    ext_get_or false (field n v) (map bit_at_rank planes) (length-field n v ∙ sym (length-map planes bit_at_rank))
+    (λ k h.
+    let below : k < n = omega (arith, length-field n v) in
+    get_or-field n v k false below
+    ∙ ap (λ b. eqb b 1) (groups.each r k (omega arith) within (omega arith))
+    ∙ sym (get_or-map bit_at_rank planes k [] false below ∙ get_or-word_bits (get_or planes k []) r (long k below)))
+
+pub digits_of_groups : (number : ℕ) (planes : List (List ℕ)) (digits : List ℕ) → length planes ≤ 64 → length digits ≤ 64 * number
+    → ((r k : ℕ) → r < length digits → k < length planes → r < 64 * length (get_or planes k []))
+    → IsOfGroups number planes digits
+    → digits_in (length planes) digits ≡ digits_in_planes (length planes) (length digits) (planes_held (length digits) planes)
+digits_of_groups number planes digits few room long groups =
+    let n = length planes in
+    let size = length digits in
+    let held = planes_held size planes in
+    ext_get_or [] (digits_in n digits) (digits_in_planes n size held) (length-map digits (field n) ∙ sym (length-digits_in_planes n size held))
+    (λ r h.
+    let within : r < size = omega (arith, length-map digits (field n)) in
+    get_or-map (field n) digits r 0 [] within
+    ∙ digits_of_rank number r planes digits few room within (λ k below. long r k within below) groups
+    ∙ sym (get_or-digits_in_planes size planes r within))
+
+-- a coefficient has no digit that has no plane
+pub below_planes : (number : ℕ) (planes : List (List ℕ)) (digits : List ℕ) → length planes ≤ 64 → length digits ≤ 64 * number
+    → All (λ u. u < 2 ^ 64) digits → IsOfGroups number planes digits → All (λ u. u < 2 ^ length planes) digits
+below_planes number planes digits few room words groups =
+    let n = length planes in
+    All-from_get_or (λ u. u < 2 ^ n) digits 0
+    (λ r within.
+    let v = get_or digits r 0 in
+    let word : v < 2 ^ 64 = All-get_or (λ u. u < 2 ^ 64) digits r 0 within words in
+    let cut : v % 2 ^ n < 2 ^ 64 = omega (arith, mod-le v (2 ^ n)) in
+    let same : v ≡ v % 2 ^ n = same_from_bits_below 64 v (v % 2 ^ n) word cut
+    (λ k small. ⊎_elim
+    (λ (low : k < n). sym (bit_at-mod_pow v n k low))
+    (λ (high : n ≤ k).
+    groups.each r k (omega arith) within small
+    ∙ ap (λ w. bit_at w (r % 64)) (word_of-past planes (r / 64) k high)
+    ∙ bit_at-zero (r % 64)
+    ∙ sym (bit_at-mod_above v n k high))
+    (cases_lt k n)) in
+    subst (λ x. x < 2 ^ n) (sym same) (mod-lt v (pow_pos n)))

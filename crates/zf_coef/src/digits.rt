@@ -9,6 +9,7 @@ ghost use Rattle.zf_coef.specs.Groups.{word_of, IsOfGroup, AreTiles};
 ghost use Rattle.zf_coef.specs.Turned.{bit_of};
 ghost use Rattle.std.specs.Int.{bit_at};
 
+use crate::planes::have_four_words;
 use crate::turning::{turn_4, turn_16, turn_32};
 use zf_bits::Plane;
 
@@ -24,6 +25,7 @@ pub fn from_planes(planes: &[[u64; 4]], digits: &mut [u64])
         digits_in n digits.new ≡ digits_in_planes n size (planes_held size planes.now) }
     ensures below { All (λ u. u < 2 ^ length planes.now) digits.new }
 {
+    have_four_words(planes);
     digits_of_planes(planes, digits);
 }
 
@@ -42,6 +44,15 @@ pub fn digits_of_planes<P: Plane>(planes: &[P], digits: &mut [u64])
         let to = (from + WORD_BITS).min(size);
         take_group(planes, number, &mut digits[from..to]);
     }
+    are_words(digits);
+}
+
+/// Says that each of these words is one, for proofs that know of lists of numbers alone.
+#[inline(always)]
+fn are_words(words: &[u64])
+    ensures { All (λ u. u < 2 ^ 64) words.now }
+{
+    let _known = words.len();
 }
 
 /// The digits of which planes have one each in their words of this number.

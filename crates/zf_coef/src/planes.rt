@@ -30,7 +30,7 @@ pub fn to_planes(digits: &[u64], planes: &mut [[u64; 4]])
 
 /// Says that each plane has four words, for proofs that know of planes as lists alone.
 #[inline(always)]
-fn have_four_words(planes: &[[u64; 4]])
+pub(crate) fn have_four_words(planes: &[[u64; 4]])
     ensures { (k : ℕ) → k < length planes.now → length (slice_index_or planes.now k []) ≡ 4 }
 {
     let _known = planes.len();
