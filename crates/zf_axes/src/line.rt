@@ -17,6 +17,7 @@ pub trait LineMap<T: Lane> {
 }
 
 /// Maps the line that begins at `start`, each of whose values is `step` places from the one before.
+#[inline(always)]
 pub(crate) fn map_line<T: Lane, M: LineMap<T>>(
     line_map: &M,
     start: usize,

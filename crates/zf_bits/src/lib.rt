@@ -2,11 +2,13 @@
 #![tactic(auto)]
 
 mod packing;
+mod plane;
 mod reader;
 mod slots;
 mod writer;
 
 pub use packing::{bytes_of_words, words_of_bytes};
+pub use plane::Plane;
 pub use reader::BitReader;
 pub use slots::{get_bits, put_bits};
 pub use writer::BitWriter;

@@ -37,6 +37,9 @@ pub const MAX_RATE: u32 = 32768;
 /// The greatest precision, in bit planes.
 pub const MAX_PRECISION: u32 = 128;
 
+/// The most bytes of a stream with a fixed rate that a command makes, and of a file of an array.
+pub const MAX_FILE: u64 = 1_200_000_000;
+
 /// The letters "zfp" as a number, the first letter lowest.
 pub(crate) const MAGIC: u64 = 0x70667a;
 

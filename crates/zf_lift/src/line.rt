@@ -16,6 +16,7 @@ pub(crate) struct Unlift;
 impl<T: Lane> LineMap<T> for Lift {
     ghost line = { λ _. lift_line T.width };
 
+    #[inline(always)]
     fn apply(&self, x: T, y: T, z: T, w: T) -> (T, T, T, T) {
         let x = x.add(w).halve();
         let w = w.sub(x);
@@ -34,6 +35,7 @@ impl<T: Lane> LineMap<T> for Lift {
 impl<T: Lane> LineMap<T> for Unlift {
     ghost line = { λ _. unlift_line T.width };
 
+    #[inline(always)]
     fn apply(&self, x: T, y: T, z: T, w: T) -> (T, T, T, T) {
         let y = y.add(w.halve());
         let w = w.sub(y.halve());

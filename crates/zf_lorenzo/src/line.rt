@@ -15,6 +15,7 @@ pub(crate) struct Sums;
 impl<T: Lane> LineMap<T> for Differences {
     ghost line = { λ _. line_sums T.width signed_choose };
 
+    #[inline(always)]
     fn apply(&self, x: T, y: T, z: T, w: T) -> (T, T, T, T) {
         let w = w.sub(z);
         let z = z.sub(y);
@@ -29,6 +30,7 @@ impl<T: Lane> LineMap<T> for Differences {
 impl<T: Lane> LineMap<T> for Sums {
     ghost line = { λ _. line_sums T.width plain_choose };
 
+    #[inline(always)]
     fn apply(&self, x: T, y: T, z: T, w: T) -> (T, T, T, T) {
         let w = w.add(z);
         let z = z.add(y);

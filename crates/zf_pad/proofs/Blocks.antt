@@ -18,7 +18,7 @@ use Rattle.zf_pad.specs.Rasters.{IsRasterBlock}
 use Rattle.zf_pad.specs.Copies.{IsGathered, IsScattered}
 use Rattle.zf_pad.proofs.Sizes.{used_sizes}
 use Rattle.zf_pad.proofs.Existing.{place_below, has_place}
-use Rattle.zf_spec.proofs.Raster.{raster-coordinates, coordinates-raster, length-coordinates, length-extents}
+use Rattle.zf_spec.proofs.Raster.{raster-coordinates, coordinates-raster, length-coordinates}
 
 -- ---- the coordinates of a block, and its positions
 

@@ -1,13 +1,13 @@
 -- Gathers and scatters, place by place.
-use Rattle.std.proofs.Common.{◌≡◌, ℕ, ◌+◌, ◌^◌, ◌<◌, ◌≤◌, Bool, true, false, ℤ, pos, List, length, get_or, set, ap, sym, subst, ◌∙◌, arith}
+use Rattle.std.proofs.Common.{◌≡◌, ℕ, zero, suc, ◌+◌, ◌*◌, ◌/◌, ◌%◌, ◌^◌, ◌<◌, ◌≤◌, Bool, true, false, ◌&&◌, lt-ltb, ℤ, pos, List, [], ◌∷◌, length, get_or, set, ap, sym, subst, ◌∙◌, arith, pow-suc}
 use Rattle.zf_spec.specs.Grid.{is_inside}
 use Rattle.zf_base.specs.declared.position.Pos.{Pos}
 use Rattle.zf_base.specs.declared.position.Extent.{Extent}
 use Rattle.zf_base.specs.Positions.{axes, IsExtent}
 use Rattle.zf_pad.specs.declared.layout.Layout.{Layout}
-use Rattle.zf_pad.specs.Layouts.{HasPlace, place_indices, moved, index_of, index_at, IsOneToOne}
+use Rattle.zf_pad.specs.Layouts.{HasPlace, place_indices, moved, index_of, index_at, HasWholeRows, LiesWithin, IsOneToOne}
 use Rattle.zf_pad.specs.Copies.{IsGathered, IsScattered}
-use Rattle.zf_pad.proofs.Writes.{IsWritten, written_none, written_more, written_skip}
+use Rattle.zf_pad.proofs.Writes.{IsWritten, written_none, written_more, written_skip, written_skip_all}
 use Rattle.zf_pad.proofs.Existing.{place_below}
 
 -- whether a place of a block exists
@@ -20,6 +20,63 @@ exists_here e n at b t is test was = ap (λ p. is_inside (axes e.size) (axes p))
 
 pub index_here : (layout from : Layout) (e : Extent) (n : ℕ) (at : Pos) → ((p : Pos) → index_of from p ≡ index_of layout (moved e.origin p)) → at ≡ place_indices n → index_of from at ≡ index_at layout e n
 index_here layout from e n at counted is = counted at ∙ ap (λ p. index_of layout (moved e.origin p)) is
+
+-- ---- a row of four places
+
+-- whether a place exists, by its index along x and its row; and its index in a layout
+exists_at : Extent → ℕ → ℕ → Bool
+exists_at e i r = is_inside (axes e.size) (i ∷ r % 4 ∷ r / 4 % 4 ∷ r / 4 / 4 % 4 ∷ [])
+
+index_in_row : Layout → Extent → ℕ → ℕ → ℕ
+index_in_row layout e i r = index_of layout (moved e.origin (record { x = i; y = r % 4; z = r / 4 % 4; w = r / 4 / 4 % 4 }))
+
+first_of_row : (r k : ℕ) → k < 4 → (4 * r + k) % 4 ≡ k
+first_of_row r k small = omega arith
+
+row_of_place : (r k : ℕ) → k < 4 → (4 * r + k) / 4 ≡ r
+row_of_place r k small = omega arith
+
+exists_by_row : (e : Extent) (r k : ℕ) → k < 4 → exists e (4 * r + k) ≡ exists_at e k r
+unfolding place_indices exists_at
+exists_by_row e r k small = ap (λ i. exists_at e i ((4 * r + k) / 4)) (first_of_row r k small) ∙ ap (exists_at e k) (row_of_place r k small)
+
+index_by_row : (layout : Layout) (e : Extent) (r k : ℕ) → k < 4 → index_at layout e (4 * r + k) ≡ index_in_row layout e k r
+unfolding place_indices index_in_row
+index_by_row layout e r k small = ap (λ i. index_in_row layout e i ((4 * r + k) / 4)) (first_of_row r k small) ∙ ap (index_in_row layout e k) (row_of_place r k small)
+
+-- of a whole row all places exist, or none
+same_in_row : (e : Extent) (r k : ℕ) → k < 4 → e.size.x ≡ 4 → exists_at e k r ≡ exists_at e 0 r
+unfolding exists_at
+same_in_row e r k small four =
+    let rest = is_inside (e.size.y ∷ e.size.z ∷ e.size.w ∷ []) (r % 4 ∷ r / 4 % 4 ∷ r / 4 / 4 % 4 ∷ []) in
+    ap (λ t. t && rest) (lt-ltb k e.size.x (omega arith) ∙ sym (lt-ltb 0 e.size.x (omega arith)))
+
+pub row_exists : (e : Extent) (r k : ℕ) (t : Bool) → k < 4 → e.size.x ≡ 4 → exists e (4 * r) ≡ t → exists e (4 * r + k) ≡ t
+row_exists e r k t small four was =
+    exists_by_row e r k small ∙ same_in_row e r k small four ∙ sym (exists_by_row e r 0 (omega arith)) ∙ ap (exists e) (omega arith) ∙ was
+
+-- and they stand beside one another
+beside : (layout : Layout) (e : Extent) (r k : ℕ) → layout.step.x ≡ 1 → index_in_row layout e k r ≡ index_in_row layout e 0 r + k
+unfolding index_in_row index_of moved
+beside layout e r k one =
+    let by_one : (e.origin.x + k) * layout.step.x ≡ e.origin.x + k = ap (λ s. (e.origin.x + k) * s) one ∙ omega arith in
+    let none : (e.origin.x + 0) * layout.step.x ≡ e.origin.x = ap (λ s. (e.origin.x + 0) * s) one ∙ omega arith in
+    omega arith
+
+pub row_index : (layout : Layout) (e : Extent) (r k : ℕ) → k < 4 → layout.step.x ≡ 1 → index_at layout e (4 * r + k) ≡ index_at layout e (4 * r) + k
+row_index layout e r k small one =
+    index_by_row layout e r k small ∙ beside layout e r k one ∙ ap (λ i. i + k) (sym (index_by_row layout e r 0 (omega arith)) ∙ ap (index_at layout e) (omega arith))
+
+-- so all of them lie within a list where the extent does
+pub row_within : (layout : Layout) (e : Extent) (r k n first : ℕ) → k < 4 → 4 * r + k < 256 → HasWholeRows layout e → LiesWithin layout e n → exists e (4 * r) ≡ true → first ≡ index_at layout e (4 * r) → first + k < n
+row_within layout e r k n first small below rows within here is =
+    let inside = within (4 * r + k) (record { in_block = omega arith; inside = row_exists e r k true small rows.1 here }) in
+    omega (arith, inside, is, row_index layout e r k small rows.0)
+
+-- a block with whole rows has one dimension at least, so its places are its rows of four
+pub whole_rows : (d : ℕ) (e : Extent) → IsExtent d e → e.size.x ≡ 4 → 4 * (4 ^ d / 4) ≡ 4 ^ d
+whole_rows zero e h four = absurd (omega (arith, ap (λ s. s.x) h.unused, four))
+whole_rows (suc d) e h four = omega (arith, pow-suc 4 d)
 
 -- ---- gathering
 
@@ -40,6 +97,11 @@ module _ (layout : Layout) (e : Extent) (values old : List ℤ) where
   pub gathered_skip : (now : List ℤ) (n : ℕ) → exists e n ≡ false → IsGatheredTo now n → IsGatheredTo now (n + 1)
   unfolding IsGatheredTo
   gathered_skip now n none h = written_skip (exists e) (λ p. p) (λ p. get_or values (index_at layout e p) (pos 0)) old now n none h
+
+  pub gathered_skip_row : (now : List ℤ) (r : ℕ) → e.size.x ≡ 4 → exists e (4 * r) ≡ false → IsGatheredTo now (4 * r) → IsGatheredTo now (4 * r + 4)
+  unfolding IsGatheredTo
+  gathered_skip_row now r four none h =
+      written_skip_all (exists e) (λ p. p) (λ p. get_or values (index_at layout e p) (pos 0)) old now (4 * r) 4 (λ k lt. row_exists e r k false lt four none) h
 
   pub gathered_all : (d n : ℕ) (now : List ℤ) → d ≤ 4 → IsExtent d e → n ≡ 4 ^ d → n ≤ 256 → IsGatheredTo now n → IsGathered layout e values old now
   unfolding IsGatheredTo
@@ -69,6 +131,11 @@ module _ (layout : Layout) (e : Extent) (block old : List ℤ) where
   pub scattered_skip : (now : List ℤ) (n : ℕ) → exists e n ≡ false → IsScatteredTo now n → IsScatteredTo now (n + 1)
   unfolding IsScatteredTo
   scattered_skip now n none h = written_skip (exists e) (index_at layout e) (λ p. get_or block p (pos 0)) old now n none h
+
+  pub scattered_skip_row : (now : List ℤ) (r : ℕ) → e.size.x ≡ 4 → exists e (4 * r) ≡ false → IsScatteredTo now (4 * r) → IsScatteredTo now (4 * r + 4)
+  unfolding IsScatteredTo
+  scattered_skip_row now r four none h =
+      written_skip_all (exists e) (index_at layout e) (λ p. get_or block p (pos 0)) old now (4 * r) 4 (λ k lt. row_exists e r k false lt four none) h
 
   pub scattered_all : (d n : ℕ) (now : List ℤ) → d ≤ 4 → IsExtent d e → n ≡ 4 ^ d → n ≤ 256 → IsScatteredTo now n → IsScattered layout e block old now
   unfolding IsScatteredTo

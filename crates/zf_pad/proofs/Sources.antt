@@ -1,8 +1,10 @@
 -- Padding in place: each place takes the value of its source.
-use Rattle.std.proofs.Common.{◌≡◌, ℕ, zero, suc, ◌+◌, ◌-◌, ◌*◌, ◌/◌, ◌%◌, ◌^◌, ◌<◌, ◌≤◌, true, ℤ, pos, List, [], ◌∷◌, ◌++◌, length, get_or, set, replicate, All, refl, ap, sym, ◌∙◌, ⊎_elim, arith, ext_get_or}
+use Rattle.std.proofs.Common.{◌≡◌, ℕ, zero, suc, ◌+◌, ◌-◌, ◌*◌, ◌/◌, ◌%◌, ◌^◌, ◌<◌, ◌≤◌, true, ℤ, pos, List, [], ◌∷◌, ◌++◌, length, get_or, set, replicate, All, refl, ap, sym, ◌∙◌, ⊎_elim, arith, ext_get_or, pow-suc}
 use Rattle.std.proofs.lemmas.Bool.{cases_lt}
+use Rattle.zf_spec.specs.Grid.{fours}
 use Rattle.zf_spec.specs.Padding.{sources, source_place, pad}
 use Rattle.zf_spec.proofs.Padding.{IsExtent as IsSize, source_place_below, source_place_inside, source_place_existing, length-pad, get_or-pad}
+use Rattle.zf_spec.proofs.Raster.{length-fours}
 use Rattle.zf_base.specs.declared.position.Extent.{Extent}
 use Rattle.zf_base.specs.Positions.{axes, used_axes, IsExtent}
 use Rattle.zf_pad.proofs.Writes.{IsWritten, written_none, written_more}
@@ -39,6 +41,30 @@ source_in_block d e p dims h =
 -- a source is its own source
 source_of_source : (es : List ℕ) (p : ℕ) → All IsSize es → source_place es (source_place es p) ≡ source_place es p
 source_of_source es p ok = source_place_existing es (source_place es p) ok (source_place_below es p ok) (source_place_inside es p ok)
+
+-- ---- a whole block
+
+-- each of its places is its own source
+source_place-fours : (d p : ℕ) → p < 4 ^ d → source_place (fours d) p ≡ p
+source_place-fours zero p h = omega arith
+source_place-fours (suc d) p h =
+    let rest = source_place-fours d (p / 4) (omega (arith, pow-suc 4 d)) in
+    omega (arith, same (p % 4) (omega arith), rest)
+  where
+    same : (i : ℕ) → i < 4 → get_or (sources 4) i 0 ≡ i
+    same zero h = refl
+    same (suc zero) h = refl
+    same (suc (suc zero)) h = refl
+    same (suc (suc (suc zero))) h = refl
+    same (suc (suc (suc (suc i)))) h = absurd (omega arith)
+
+-- so it is padded already
+pub pad-whole : (d : ℕ) (es : List ℕ) (block : List ℤ) → es ≡ fours d → length block ≡ 4 ^ d → block ≡ pad es block
+pad-whole d es block whole long =
+    let count = ap (λ n. 4 ^ n) (length-fours d) in
+    ext_get_or (pos 0) block (pad (fours d) block) (long ∙ sym count ∙ sym (length-pad (fours d) block))
+    (λ p lt. sym (get_or-pad (fours d) block p (omega (arith, count)) ∙ ap (λ q. get_or block q (pos 0)) (source_place-fours d p (omega arith))))
+    ∙ ap (λ xs. pad xs block) (sym whole)
 
 -- ---- the block so far
 

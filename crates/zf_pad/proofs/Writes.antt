@@ -1,5 +1,5 @@
 -- A loop over places, each of which writes one element of a list, or none.
-use Rattle.std.proofs.Common.{◌≡◌, ◌≢◌, ℕ, ◌+◌, ◌<◌, Bool, true, false, ℤ, pos, List, length, get_or, set, refl, sym, ap, ◌∙◌, ⊎_elim, arith, get_or-set_same, get_or-set_other}
+use Rattle.std.proofs.Common.{◌≡◌, ◌≢◌, ℕ, zero, suc, ◌+◌, ◌<◌, Bool, true, false, ℤ, pos, List, length, get_or, set, refl, sym, ap, subst, ◌∙◌, ⊎_elim, arith, get_or-set_same, get_or-set_other}
 use Rattle.std.proofs.lemmas.Bool.{cases_lt, false≢true}
 
 -- after the places below n: a place that is to write wrote its value at its index, and all other elements are as they were
@@ -31,3 +31,10 @@ module _ (writes : ℕ → Bool) (index : ℕ → ℕ) (value : ℕ → ℤ) (ol
     written = λ p lt wp. before_or_at n p _ lt (λ before. h.written p before wp) (λ at. absurd (false≢true (sym w ∙ ap writes (sym at) ∙ wp)));
     others = λ i free. h.others i (λ p lt wp. free p (omega arith) wp);
   }
+
+  -- nor does any of the next m places
+  pub written_skip_all : (now : List ℤ) (n m : ℕ) → ((k : ℕ) → k < m → writes (n + k) ≡ false) → IsWritten writes index value old now n → IsWritten writes index value old now (n + m)
+  written_skip_all now n zero none h = subst (IsWritten writes index value old now) (omega arith) h
+  written_skip_all now n (suc m) none h =
+      subst (IsWritten writes index value old now) (omega arith)
+      (written_skip now (n + m) (none m (omega arith)) (written_skip_all now n m (λ k lt. none k (omega arith)) h))

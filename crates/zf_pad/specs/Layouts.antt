@@ -34,3 +34,7 @@ LiesWithin layout e n = (p : ℕ) → HasPlace e p → index_at layout e p < n
 -- different places of the extent have different indices
 abbrev pub IsOneToOne : Layout → Extent → Type 0
 IsOneToOne layout e = (p q : ℕ) → HasPlace e p → HasPlace e q → index_at layout e p ≡ index_at layout e q → p ≡ q
+
+-- all four values of a row of the extent stand beside one another
+abbrev pub HasWholeRows : Layout → Extent → Type 0
+HasWholeRows layout e = (layout.step.x ≡ 1) × (e.size.x ≡ 4)

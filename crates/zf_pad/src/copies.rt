@@ -1,9 +1,9 @@
 //! Copies between a list of values and a block.
 
-ghost use Rattle.std.specs.Prelude.{◌≡◌, ◌<◌, ◌≤◌, ◌^◌, length, map};
+ghost use Rattle.std.specs.Prelude.{◌≡◌, ◌<◌, ◌≤◌, ◌^◌, ◌↔◌, IsTrue, length, map};
 ghost use Rattle.zf_spec.specs.Grid.{is_inside};
 ghost use Rattle.zf_base.specs.Positions.{axes, IsExtent};
-ghost use Rattle.zf_pad.specs.Layouts.{place_indices, LiesWithin, IsOneToOne};
+ghost use Rattle.zf_pad.specs.Layouts.{place_indices, HasWholeRows, LiesWithin, IsOneToOne};
 ghost use Rattle.zf_pad.specs.Copies.{IsGathered, IsScattered};
 
 use crate::layout::Layout;
@@ -13,6 +13,51 @@ use zf_base::{Extent, Lane, Pos, block_len};
 ///
 /// `block` has `4^d` values, x fastest; those at places that do not exist stay.
 pub fn gather<T: Lane>(layout: &Layout, e: &Extent, d: u8, values: &[T], block: &mut [T])
+    requires four_at_most { d ≤ 4 }
+    requires extent { IsExtent d e.now }
+    requires whole { length block.old ≡ 4 ^ d }
+    requires within { LiesWithin layout.now e.now (length values.now) }
+    ensures { IsGathered layout.now e.now
+        (map T.value values.now) (map T.value block.old) (map T.value block.new) }
+{
+    if has_whole_rows(layout, e) {
+        gather_rows(layout, e, d, values, block);
+    } else {
+        gather_places(layout, e, d, values, block);
+    }
+}
+
+// Whether the extent has whole rows, whose values stand beside one another.
+fn has_whole_rows(layout: &Layout, e: &Extent) -> bool
+    ensures { IsTrue result ↔ HasWholeRows layout.now e.now }
+{
+    layout.step.x == 1 && e.size.x == 4
+}
+
+// The same for whole rows, a row of four values at a time.
+fn gather_rows<T: Lane>(layout: &Layout, e: &Extent, d: u8, values: &[T], block: &mut [T])
+    requires four_at_most { d ≤ 4 }
+    requires extent { IsExtent d e.now }
+    requires rows { HasWholeRows layout.now e.now }
+    requires whole { length block.old ≡ 4 ^ d }
+    requires within { LiesWithin layout.now e.now (length values.now) }
+    ensures { IsGathered layout.now e.now
+        (map T.value values.now) (map T.value block.old) (map T.value block.new) }
+{
+    let from_origin = layout.counted_from(&e.origin);
+    for row in 0..block_len(d) / 4 {
+        let at = indices(4 * row);
+        if is_inside(&e.size, &at) {
+            let first = from_origin.index(&at) as usize;
+            for k in 0..4 {
+                block[4 * row + k] = values[first + k];
+            }
+        }
+    }
+}
+
+// The same place by place.
+fn gather_places<T: Lane>(layout: &Layout, e: &Extent, d: u8, values: &[T], block: &mut [T])
     requires four_at_most { d ≤ 4 }
     requires extent { IsExtent d e.now }
     requires whole { length block.old ≡ 4 ^ d }
@@ -33,6 +78,46 @@ pub fn gather<T: Lane>(layout: &Layout, e: &Extent, d: u8, values: &[T], block: 
 ///
 /// `block` has `4^d` values, x fastest; those at places that do not exist are not looked at.
 pub fn scatter<T: Lane>(layout: &Layout, e: &Extent, d: u8, block: &[T], values: &mut [T])
+    requires four_at_most { d ≤ 4 }
+    requires extent { IsExtent d e.now }
+    requires whole { length block.now ≡ 4 ^ d }
+    requires within { LiesWithin layout.now e.now (length values.old) }
+    requires one_to_one { IsOneToOne layout.now e.now }
+    ensures { IsScattered layout.now e.now
+        (map T.value block.now) (map T.value values.old) (map T.value values.new) }
+{
+    if has_whole_rows(layout, e) {
+        scatter_rows(layout, e, d, block, values);
+    } else {
+        scatter_places(layout, e, d, block, values);
+    }
+}
+
+// The same for whole rows, a row of four values at a time.
+fn scatter_rows<T: Lane>(layout: &Layout, e: &Extent, d: u8, block: &[T], values: &mut [T])
+    requires four_at_most { d ≤ 4 }
+    requires extent { IsExtent d e.now }
+    requires rows { HasWholeRows layout.now e.now }
+    requires whole { length block.now ≡ 4 ^ d }
+    requires within { LiesWithin layout.now e.now (length values.old) }
+    requires one_to_one { IsOneToOne layout.now e.now }
+    ensures { IsScattered layout.now e.now
+        (map T.value block.now) (map T.value values.old) (map T.value values.new) }
+{
+    let from_origin = layout.counted_from(&e.origin);
+    for row in 0..block_len(d) / 4 {
+        let at = indices(4 * row);
+        if is_inside(&e.size, &at) {
+            let first = from_origin.index(&at) as usize;
+            for k in 0..4 {
+                values[first + k] = block[4 * row + k];
+            }
+        }
+    }
+}
+
+// The same place by place.
+fn scatter_places<T: Lane>(layout: &Layout, e: &Extent, d: u8, block: &[T], values: &mut [T])
     requires four_at_most { d ≤ 4 }
     requires extent { IsExtent d e.now }
     requires whole { length block.now ≡ 4 ^ d }

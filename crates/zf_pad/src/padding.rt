@@ -1,7 +1,8 @@
 //! Padding: a partial block becomes a whole one (zfp 1.0 documentation, chapter Algorithm).
 
-ghost use Rattle.std.specs.Prelude.{◌≡◌, ◌^◌, ◌<◌, ◌≤◌, length, map, slice_index_or};
+ghost use Rattle.std.specs.Prelude.{◌≡◌, true, ◌^◌, ◌<◌, ◌≤◌, length, map, slice_index_or};
 ghost use Rattle.std.specs.List.{AllByRecursion};
+ghost use Rattle.zf_spec.specs.Grid.{fours};
 ghost use Rattle.zf_spec.specs.Padding.{sources, source_place, pad};
 ghost use Rattle.zf_base.specs.Positions.{axes, used_axes, IsExtent};
 
@@ -20,9 +21,26 @@ pub fn pad<T: Lane>(e: &Extent, d: u8, block: &mut [T])
     requires whole { length block.old ≡ 4 ^ d }
     ensures { map T.value block.new ≡ pad (used_axes d e.now.size) (map T.value block.old) }
 {
+    if is_whole(&e.size, d) {
+        return;
+    }
     // A source exists, so it is its own source, and its value still stands there.
     for place in 0..block_len(d) {
         block[place] = block[source_place(&e.size, place)];
+    }
+}
+
+// Whether all places of a block of `d` dimensions exist.
+fn is_whole(size: &Pos, d: u8) -> bool
+    requires { d ≤ 4 }
+    ensures { result ≡ true → used_axes d size.now ≡ fours d }
+{
+    match d {
+        0 => true,
+        1 => size.x == 4,
+        2 => size.x == 4 && size.y == 4,
+        3 => size.x == 4 && size.y == 4 && size.z == 4,
+        _ => size.x == 4 && size.y == 4 && size.z == 4 && size.w == 4,
     }
 }
 

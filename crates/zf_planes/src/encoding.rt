@@ -6,8 +6,8 @@ ghost use Rattle.zf_spec.specs.Planes.{plane_code, tail, code, reach};
 ghost use Rattle.zf_bits.specs.Writer.{Appends};
 ghost use Rattle.zf_spec.specs.HeldPlanes.{digits_held, planes_held};
 
-use crate::words::{Plane, reach_in, zeros_from};
-use zf_bits::BitWriter;
+use crate::words::{reach_in, zeros_from};
+use zf_bits::{BitWriter, Plane};
 
 /// Appends the digits of the ranks from `from` on and below `to` as they are, as far as `left` bits reach. The answer is the bits that are left.
 fn write_part<P: Plane>(left: u64, from: usize, to: usize, plane: &P, out: &mut BitWriter) -> u64

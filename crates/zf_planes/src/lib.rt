@@ -11,7 +11,6 @@ pub use decoding::decode;
 pub use encoding::{encode, write_planes};
 pub use measuring::code_len;
 pub use plane::used_planes;
-pub use words::Plane;
 
 #[cfg(test)]
 mod tests;

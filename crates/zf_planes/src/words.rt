@@ -1,52 +1,10 @@
-//! Planes as words, and where their ones are.
+//! Where the ones of a plane in words are.
 
-ghost use Rattle.std.specs.Prelude.{◌≡◌, ℕ, ◌+◌, ◌*◌, ◌<◌, ◌≤◌, IsTrue, true, false, List, [], ◌∷◌, ◌++◌, length, drop, replicate, slice_index_or, refl};
+ghost use Rattle.std.specs.Prelude.{◌≡◌, ◌+◌, ◌*◌, ◌<◌, ◌≤◌, IsTrue, true, false, ◌∷◌, ◌++◌, length, drop, replicate};
 ghost use Rattle.zf_spec.specs.Planes.{reach, has_one};
 ghost use Rattle.zf_spec.specs.HeldPlanes.{digits_held};
 
-/// A plane in words: rank r is bit `r % 64` of word `r / 64`.
-///
-/// One word holds the planes of up to 64 coefficients, four words those of up to 256.
-pub trait Plane: Copy {
-    // The words that a plane is.
-    ghost words: { Self → List ℕ };
-
-    // How many words a plane has.
-    ghost word_count: { ℕ };
-
-    /// The word of this number.
-    fn word(&self, number: usize) -> u64
-        requires { number < word_count }
-        ensures { result ≡ slice_index_or (words self.now) number 0 };
-
-    ghost long: { (plane : Self) → length (words plane) ≡ word_count };
-}
-
-impl Plane for u64 {
-    ghost words = { λ plane. plane ∷ [] };
-
-    ghost word_count = { 1 };
-
-    ghost long = { λ plane. refl };
-
-    #[inline]
-    fn word(&self, _number: usize) -> u64 {
-        *self
-    }
-}
-
-impl Plane for [u64; 4] {
-    ghost words = { λ plane. slice_index_or plane 0 0 ∷ slice_index_or plane 1 0 ∷ slice_index_or plane 2 0 ∷ slice_index_or plane 3 0 ∷ [] };
-
-    ghost word_count = { 4 };
-
-    ghost long = { λ plane. refl };
-
-    #[inline]
-    fn word(&self, number: usize) -> u64 {
-        self[number]
-    }
-}
+use zf_bits::Plane;
 
 /// How many zeros follow from rank `n` on before the next one.
 #[inline]

@@ -9,10 +9,7 @@ ghost use Rattle.zfpi.specs.Stages.{LeadsTo, IsRateWord};
 use crate::command::Command;
 use crate::numbers::{number_in, shape_in};
 use zf_base::{Shape, Ty};
-use zf_header::{Header, MAX_RATE, Mode, rate_bytes};
-
-/// The most bytes of a stream with a fixed rate.
-const MAX_FILE: u64 = 1_200_000_000;
+use zf_header::{Header, MAX_FILE, MAX_RATE, Mode, rate_bytes};
 
 // How far the words have come.
 #[derive(Clone, Copy, Debug, PartialEq, Eq)]

@@ -3,7 +3,7 @@ use Rattle.std.proofs.lemmas.List.{length-map, map-set}
 use Rattle.zf_base.specs.Positions.{used_axes}
 use Rattle.zf_base.proofs.Values.{number_at}
 use Rattle.zf_pad.proofs.Sizes.{used_length, used_sizes}
-use Rattle.zf_pad.proofs.Sources.{IsPadded, padded_none, padded_more, padded_all, value_of_source, source_in_block}
+use Rattle.zf_pad.proofs.Sources.{IsPadded, padded_none, padded_more, padded_all, pad-whole, value_of_source, source_in_block}
 use Rattle.zf_pad.proofs.padding.pad.Goals as goal
 
 pub offset_bounds-block-source_place : goal.offset_bounds-block-source_place
@@ -44,3 +44,7 @@ returns g c =
     let es = used_axes c.args.d c.args.e.now.size in
     let count = ap (λ k. 4 ^ k) (used_length c.args.d c.args.e.now c.requires.four_at_most c.requires.extent) in
     padded_all es (map value c.args.block.now) (map value c.loop-place.block) c.loop-place.place (omega (arith, count)) (omega (arith, length-map c.loop-place.block value)) c.loop-place.invariant
+
+pub returns-then-is_whole : goal.returns-then-is_whole
+returns-then-is_whole g c =
+    pad-whole c.args.d (used_axes c.args.d c.args.e.now.size) (map g.T.Lane.value c.args.block.now) (c.is_whole.ensures c.if-is_whole.true) (omega (arith, length-map c.args.block.now g.T.Lane.value))

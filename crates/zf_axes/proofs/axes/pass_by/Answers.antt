@@ -2,7 +2,7 @@ use Rattle.std.proofs.Common.{◌≡◌, ◌*◌, ◌/◌, length, ap, ◌∙◌
 use Rattle.std.proofs.lemmas.List.{length-map}
 use Rattle.zf_axes.proofs.Strides.{line_start-member, line_start-in_group, groups_are_whole, group_inside}
 use Rattle.zf_axes.proofs.LineByLine.{IsMappedBelow-line, IsMappedBelow-skip, IsMappedBelow-end}
-use Rattle.zf_axes.proofs.axes.pass.Goals as goal
+use Rattle.zf_axes.proofs.axes.pass_by.Goals as goal
 
 pub overflow_mul-first-in-loop-group : goal.overflow_mul-first-in-loop-group
 overflow_mul-first-in-loop-group g c =

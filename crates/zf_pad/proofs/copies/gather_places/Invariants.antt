@@ -1,6 +1,6 @@
 use Rattle.std.proofs.Common.{map}
 use Rattle.zf_pad.proofs.Copying.{IsGatheredTo}
-use Rattle.zf_pad.proofs.copies.gather.Given as goal
+use Rattle.zf_pad.proofs.copies.gather_places.Given as goal
 
 -- the places so far are gathered, the others as they were
 abbrev pub invariant-loop-place : goal.invariant-loop-place

@@ -1,6 +1,6 @@
 use Rattle.std.proofs.Common.{map}
 use Rattle.zf_pad.proofs.Copying.{IsScatteredTo}
-use Rattle.zf_pad.proofs.copies.scatter.Given as goal
+use Rattle.zf_pad.proofs.copies.scatter_places.Given as goal
 
 -- the places so far are scattered, all else is as it was
 abbrev pub invariant-loop-place : goal.invariant-loop-place

@@ -1,7 +1,7 @@
 -- The lines that begin before the place are mapped, and no other value has changed.
 use Rattle.std.proofs.Common.{◌*◌, map}
 use Rattle.zf_axes.proofs.LineByLine.{IsMappedBelow}
-use Rattle.zf_axes.proofs.axes.pass.Given as goal
+use Rattle.zf_axes.proofs.axes.pass_by.Given as goal
 
 abbrev pub invariant-loop-group : goal.invariant-loop-group
 invariant-loop-group g l =
