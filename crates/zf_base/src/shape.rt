@@ -9,6 +9,7 @@ ghost use Rattle.zf_base.specs.Places.{block_number, place_of, IsAt};
 
 use crate::position::{Extent, Pos};
 use std::marker::Model;
+use thiserror::Error;
 
 /// The most values of an array, 1 GiB of int64.
 const MAX_VALUES: u64 = 1 << 27;
@@ -22,13 +23,16 @@ const BLOCK: Pos = Pos {
 };
 
 /// Why sizes are no shape.
-#[derive(Clone, Copy, Debug, PartialEq, Eq)]
+#[derive(Clone, Copy, Debug, PartialEq, Eq, Error)]
 pub enum ShapeFault {
     /// A size is zero.
+    #[error("a size is zero")]
     Zero,
     /// A size is more than its field of the header holds: 2^48, 2^24, 2^16 or 2^12 in one to four dimensions.
+    #[error("a size is more than its field of a header holds")]
     Field,
     /// There are more than 2^27 values.
+    #[error("there are more than 2^27 values")]
     TooLarge,
 }
 

@@ -3,11 +3,15 @@
 --     Widths      the widths of the two types
 --     Kept        planes that a budget keeps whole, and planes that are missing below
 --     Zeros       zero bits that fill a code
+--     AfterReserve   room that was asked for before
+--     Answered    what follows of an answer that may be nothing
 --     ReadCodes   what reading a code is, from what was read of it
 --     ReadBack    what is read back from the codes of a block
 pub mod Sizes
 pub mod Widths
 pub mod Kept
 pub mod Zeros
+pub mod AfterReserve
+pub mod Answered
 pub mod ReadCodes
 pub mod ReadBack

@@ -4,13 +4,13 @@ use Rattle.std.proofs.lemmas.Bool.{and_from}
 use Rattle.std.proofs.lemmas.Option.{none-some, some_pair_parts}
 use Rattle.std.specs.Int.{Width}
 use Rattle.zf_spec.specs.Grid.{fours, indices, is_inside}
-use Rattle.zf_spec.specs.Codes.{rev, rate, round, existing_values, read_rev, read_rate}
-use Rattle.zf_spec.proofs.BlockReading.{read_rev-rev, read_rate-rate, length-rate}
+use Rattle.zf_spec.specs.Codes.{rev, rate, prec, round, round_prec, existing_values, read_rev, read_rate, read_prec}
+use Rattle.zf_spec.proofs.BlockReading.{read_rev-rev, read_rate-rate, read_prec-prec, length-rate}
 use Rattle.zf_spec.proofs.Padding.{length-existing_values, get_or-existing_inside}
 use Rattle.zf_bits.specs.Reader.{Reader, rest, Reads}
 use Rattle.zf_bits.proofs.Reading.{Reads-same}
 use Rattle.zf_block.specs.Block.{IsBlock}
-use Rattle.zf_block.specs.ReadBlocks.{ReadsRev, LacksRev, ReadsRate}
+use Rattle.zf_block.specs.ReadBlocks.{ReadsRev, LacksRev, ReadsRate, ReadsPrec, LacksPrec}
 use Rattle.zf_spec.proofs.Raster.{length-fours}
 
 -- ---- a reversible code
@@ -45,6 +45,26 @@ module _ (w : Width) (budget : ℕ) (es : List ℕ) (block : List ℤ) (more : L
   pub rate_passed : (new : Reader) (b : List ℤ) → ReadsRate w (length es) budget old new b → Reads old new (rate w budget es block)
   rate_passed new b reads = Reads-same reads.passed code
 
+-- ---- a code at a fixed precision
+
+module _ (w : Width) (p : ℕ) (es : List ℕ) (block : List ℤ) (more : List Bool) (old : Reader) (front : rest old ≡ prec w p es block ++ more) where
+  prec_read : read_prec w p es (rest old) ≡ Some (round_prec w p es block, length (prec w p es block))
+  prec_read = ap (read_prec w p es) front ∙ read_prec-prec w p es block more
+
+  pub prec_there : ¬ LacksPrec w (length es) p old
+  prec_there lacks = none-some _ (sym (lacks.code es refl) ∙ prec_read)
+
+  prec_parts : (new : Reader) (b : List ℤ) → ReadsPrec w (length es) p old new b → (existing_values es b ≡ round_prec w p es block) × (new.at - old.at ≡ length (prec w p es block))
+  prec_parts new b reads = some_pair_parts (existing_values es b) (round_prec w p es block) (new.at - old.at) (length (prec w p es block)) (sym (reads.code es refl) ∙ prec_read)
+
+  pub prec_values : (new : Reader) (b : List ℤ) → ReadsPrec w (length es) p old new b → existing_values es b ≡ round_prec w p es block
+  prec_values new b reads = (prec_parts new b reads).0
+
+  pub prec_passed : (new : Reader) (b : List ℤ) → ReadsPrec w (length es) p old new b → Reads old new (prec w p es block)
+  prec_passed new b reads =
+      let n = new.at - old.at in
+      Reads-same reads.passed (ap (take n) front ∙ take_at (prec w p es block) more n (sym (prec_parts new b reads).1))
+
 -- ---- whole blocks
 
 is_inside-fours : (d p : ℕ) → is_inside (fours d) (indices d p) ≡ true
@@ -64,3 +84,6 @@ existing_values-fours d block long =
 
 pub one_answer : (w : Width) (d : ℕ) (old new : Reader) (b : List ℤ) → ReadsRev w d old new b → ¬ LacksRev w d old
 one_answer w d old new b reads lacks = none-some _ (sym (lacks.code (fours d) (length-fours d)) ∙ reads.code (fours d) (length-fours d))
+
+pub one_answer_of_planes : (w : Width) (d p : ℕ) (old new : Reader) (b : List ℤ) → ReadsPrec w d p old new b → ¬ LacksPrec w d p old
+one_answer_of_planes w d p old new b reads lacks = none-some _ (sym (lacks.code (fours d) (length-fours d)) ∙ reads.code (fours d) (length-fours d))

@@ -1,7 +1,7 @@
 -- What reading a code is, from what was read of it.
-use Rattle.std.proofs.Common.{◌≡◌, sym, ap, subst, ◌∙◌, ℕ, ◌+◌, ◌-◌, ◌^◌, ◌<◌, ◌≤◌, cond, le-ltb, lt-ltb, ℤ, Bool, Some, None, List, length, take, drop, drop_at, refl, lit<, arith}
+use Rattle.std.proofs.Common.{◌≡◌, sym, ap, subst, ◌∙◌, ℕ, ◌+◌, ◌-◌, ◌^◌, ◌<◌, ◌≤◌, cond, le-ltb, lt-ltb, ℤ, Bool, Some, None, List, length, take, drop, drop_at, refl, arith}
 use Rattle.std.specs.Int.{Width}
-use Rattle.std.proofs.Math.Nat.{mul-le-mul_left, mul-le-mul_right, pow-le-pow_right}
+use Rattle.std.proofs.Math.Nat.{mul-le-mul_left, mul-le-mul_right}
 use Rattle.std.proofs.Math.Seq.{take-append-add}
 use Rattle.std.proofs.lemmas.List.{length-take, length-take-le, length-append, take_all}
 use mir.Val.{bits}
@@ -10,15 +10,15 @@ use Rattle.zf_spec.specs.Lorenzo.{unlorenzo}
 use Rattle.zf_spec.specs.Lift.{unlift}
 use Rattle.zf_spec.specs.Planes.{code}
 use Rattle.zf_spec.specs.ReadPlanes.{planes_in}
-use Rattle.zf_spec.specs.Codes.{count_bits, coefficients_of, existing_values, read_rev, read_rate}
+use Rattle.zf_spec.specs.Codes.{count_bits, coefficients_of, existing_values, read_rev, read_rate, read_prec}
 use Rattle.zf_spec.specs.Kept.{kept_planes}
-use Rattle.zf_spec.proofs.Fields.{length-field, number-lt}
+use Rattle.zf_spec.proofs.Fields.{length-field}
 use Rattle.zf_spec.proofs.Full.{length-planes_in, planes_in-length}
 use Rattle.zf_spec.proofs.PlaneCode.{length-code-le}
 use Rattle.zf_bits.specs.Reader.{Reader, rest, Reads}
 use Rattle.zf_bits.proofs.Reading.{Reads-append, Reads-same}
 use Rattle.zf_planes.specs.Decoding.{coded, coded_bits}
-use Rattle.zf_block.specs.ReadBlocks.{ReadsRev, LacksRev, ReadsRate, rev_planes, rev_len}
+use Rattle.zf_block.specs.ReadBlocks.{ReadsRev, LacksRev, ReadsRate, ReadsPrec, LacksPrec, rev_planes, rev_len, prec_planes, prec_len}
 use Rattle.zf_block.proofs.Kept.{kept_planes-whole}
 
 -- ---- a reader that moves
@@ -76,7 +76,7 @@ rest-ReadsRev {w} {d} {old} {new} read =
     let n = new.at - old.at in
     rest-Reads n (take n (rest old)) (omega (arith, read.passed.place, length-take n (rest old))) read.passed
 
--- ---- a reversible code that is read in parts: the count of planes, and the code behind it
+-- ---- planes without a budget
 
 -- one read, and then another
 pub Reads-part : {a b c : Reader} (front : List Bool) (k : ℕ) → Reads a b front → Reads b c (take k (rest b)) → Reads a c (take (length front + k) (rest a))
@@ -92,72 +92,94 @@ length-code-planes_in prec size s small few =
     let planes = mul-le-mul_left size few in
     omega (arith, rw count at bound)
 
--- the count of planes was read
-pub record CountRead (w : Width) (size prec : ℕ) (old new : Reader) : Type 0 where
-  pub small : size ≤ 256
-  pub few : prec ≤ 64
-  pub count : prec ≡ number (take (count_bits w) (rest old)) + 1
-  pub behind : rest new ≡ drop (count_bits w) (rest old)
-  pub long : length (rest new) + count_bits w ≡ length (rest old)
-  pub short : length (rest new) ≤ 18446744073709551615
+-- with the greatest budget all bits that are left count
+module _ (prec size : ℕ) (s : List Bool) (small : size ≤ 256) (few : prec ≤ 64) (short : length s ≤ 18446744073709551615) where
+  coded-all : coded 18446744073709551615 prec size s ≡ planes_in prec size s
+  coded-all = ap (planes_in prec size) (take_all 18446744073709551615 s short)
 
-pub CountRead-field : (w : Width) (size n v : ℕ) (old new : Reader) → size ≤ 256 → n ≤ 6 → n ≡ count_bits w → v ≡ number (take n (rest old)) → Reads old new (field n v) → length (rest new) ≤ 18446744073709551615
-    → CountRead w size (v + 1) old new
-CountRead-field w size n v old new small narrow width value reads short =
-    let long = length-field n v in
-    let below = number-lt (take n (rest old)) in
-    let bits : length (take n (rest old)) ≤ 6 = omega (arith, length-take n (rest old)) in
-    let most : 2 ^ length (take n (rest old)) ≤ 2 ^ 6 = pow-le-pow_right {n = 2} (lit< tt) bits in
-    record {
-      small = small;
-      few = omega arith;
-      count = ap (λ k. k + 1) (value ∙ ap (λ k. number (take k (rest old))) width);
-      behind = rest-Reads n (field n v) long reads ∙ ap (λ k. drop k (rest old)) width;
-      long = omega (arith, ap length reads.next, length-append (field n v) (rest new), long, width);
-      short = short;
-    }
+  pub coded_bits-all : coded_bits 18446744073709551615 prec size s ≡ length (code (planes_in prec size s))
+  coded_bits-all =
+      let bound = length-code-planes_in prec size s small few in
+      let same = ap (λ ps. length (code ps)) coded-all in
+      omega arith
 
--- with the greatest budget the planes are those of the code
-pub coded-rev : (w : Width) (size prec : ℕ) (old new : Reader) → CountRead w size prec old new → coded 18446744073709551615 prec size (rest new) ≡ rev_planes w size (rest old)
-unfolding rev_planes
-coded-rev w size prec old new h =
-    ap (planes_in prec size) (take_all 18446744073709551615 (rest new) h.short ∙ h.behind)
-    ∙ ap (λ p. planes_in p size (drop (count_bits w) (rest old))) h.count
+  pub kept_planes-all : kept_planes 18446744073709551615 (coded 18446744073709551615 prec size s) ≡ planes_in prec size s
+  kept_planes-all =
+      let bound = length-code-planes_in prec size s small few in
+      ap (kept_planes 18446744073709551615) coded-all ∙ kept_planes-whole 18446744073709551615 (planes_in prec size s) (omega arith)
 
-length-code-coded : (w : Width) (size prec : ℕ) (old new : Reader) → CountRead w size prec old new → length (code (coded 18446744073709551615 prec size (rest new))) ≤ 16640
-length-code-coded w size prec old new h = length-code-planes_in prec size (take 18446744073709551615 (rest new)) h.small h.few
+-- ---- a reversible code that is read in parts: the count of planes, and the code behind it
 
--- so they are kept whole, with zeros below
-pub kept_planes-rev : (w : Width) (size prec : ℕ) (old new : Reader) → CountRead w size prec old new → kept_planes 18446744073709551615 (coded 18446744073709551615 prec size (rest new)) ≡ rev_planes w size (rest old)
-kept_planes-rev w size prec old new h =
-    let short = length-code-coded w size prec old new h in
-    kept_planes-whole 18446744073709551615 (coded 18446744073709551615 prec size (rest new)) (omega arith) ∙ coded-rev w size prec old new h
+module _ (w : Width) (size n v : ℕ) (old middle : Reader) (width : n ≡ count_bits w) (value : v ≡ number (take n (rest old))) (reads : Reads old middle (field n v)) where
+  -- its planes are those of the bits behind the count
+  pub planes-behind_count : planes_in (v + 1) size (rest middle) ≡ rev_planes w size (rest old)
+  unfolding rev_planes
+  planes-behind_count =
+      ap (planes_in (v + 1) size) (rest-Reads n (field n v) (length-field n v) reads ∙ ap (λ k. drop k (rest old)) width)
+      ∙ ap (λ k. planes_in (k + 1) size (drop (count_bits w) (rest old))) (value ∙ ap (λ k. number (take k (rest old))) width)
 
-pub length-rev_planes : (w : Width) (size prec : ℕ) (old new : Reader) → CountRead w size prec old new → length (rev_planes w size (rest old)) ≡ prec
-unfolding rev_planes
-length-rev_planes w size prec old new h = length-planes_in (number (take (count_bits w) (rest old)) + 1) size (drop (count_bits w) (rest old)) ∙ sym h.count
+  pub len-behind_count : n + length (code (planes_in (v + 1) size (rest middle))) ≡ rev_len w size (rest old)
+  unfolding rev_len
+  len-behind_count = omega (arith, ap (λ ps. length (code ps)) planes-behind_count, width)
 
--- and all bits of the code count
-pub coded_bits-rev : (w : Width) (size prec : ℕ) (old new : Reader) → CountRead w size prec old new → count_bits w + coded_bits 18446744073709551615 prec size (rest new) ≡ rev_len w size (rest old)
-unfolding rev_len
-coded_bits-rev w size prec old new h =
-    let short = length-code-coded w size prec old new h in
-    let same = ap (λ ps. length (code ps)) (coded-rev w size prec old new h) in
-    omega arith
+  pub length-behind_count : n + length (rest middle) ≡ length (rest old)
+  length-behind_count = omega (arith, ap length reads.next, length-append (field n v) (rest middle), length-field n v)
+
+  -- the count and the code were passed
+  pub Reads-behind_count : (new : Reader) → Reads middle new (take (length (code (planes_in (v + 1) size (rest middle)))) (rest middle)) → Reads old new (take (rev_len w size (rest old)) (rest old))
+  Reads-behind_count new passed =
+      let k = length (code (planes_in (v + 1) size (rest middle))) in
+      let count : length (field n v) + k ≡ rev_len w size (rest old) = omega (arith, length-field n v, len-behind_count) in
+      let Passed : ℕ → Type 0 = λ j. Reads old new (take j (rest old)) in
+      subst Passed count (Reads-part (field n v) k reads passed)
 
 -- the code is no shorter than its count of planes
 pub count_bits-le : (w : Width) (size : ℕ) (s : List Bool) → count_bits w ≤ rev_len w size s
 unfolding rev_len
 count_bits-le w size s = omega arith
 
--- the count and the code were passed
-pub Reads-rev : (w : Width) (size n v : ℕ) (old middle new : Reader) → CountRead w size (v + 1) old middle → n ≡ count_bits w → Reads old middle (field n v)
-    → Reads middle new (take (coded_bits 18446744073709551615 (v + 1) size (rest middle)) (rest middle)) → Reads old new (take (rev_len w size (rest old)) (rest old))
-Reads-rev w size n v old middle new h width count_read reads =
-    let k = coded_bits 18446744073709551615 (v + 1) size (rest middle) in
-    let count : length (field n v) + k ≡ rev_len w size (rest old) = omega (arith, length-field n v, coded_bits-rev w size (v + 1) old middle h, width) in
-    let Passed : ℕ → Type 0 = λ j. Reads old new (take j (rest old)) in
-    subst Passed count (Reads-part (field n v) k count_read reads)
+-- ---- a code of a fixed precision
+
+-- the block at all places that its planes stand for
+abbrev pub prec_block : Width → ℕ → ℕ → List Bool → List ℤ
+prec_block w p d s = unlift w d (coefficients_of w d (prec_planes w p (4 ^ d) s))
+
+read_prec-enough : (w : Width) (p : ℕ) (es : List ℕ) (s : List Bool) → prec_len w p (4 ^ length es) s ≤ length s
+    → read_prec w p es s ≡ Some (existing_values es (prec_block w p (length es) s), prec_len w p (4 ^ length es) s)
+unfolding read_prec prec_len prec_planes
+read_prec-enough w p es s enough =
+    let n = prec_len w p (4 ^ length es) s in
+    ap (λ t. cond t None (Some (existing_values es (prec_block w p (length es) s), n))) (le-ltb (length s) n enough)
+
+read_prec-short : (w : Width) (p : ℕ) (es : List ℕ) (s : List Bool) → length s < prec_len w p (4 ^ length es) s → read_prec w p es s ≡ None
+unfolding read_prec prec_len prec_planes
+read_prec-short w p es s short =
+    let n = prec_len w p (4 ^ length es) s in
+    ap (λ t. cond t None (Some (existing_values es (prec_block w p (length es) s), n))) (lt-ltb (length s) n short)
+
+-- the code was read
+pub ReadsPrec-planes : (w : Width) (d p : ℕ) (old new : Reader) → prec_len w p (4 ^ d) (rest old) ≤ length (rest old) → Reads old new (take (prec_len w p (4 ^ d) (rest old)) (rest old))
+    → ReadsPrec w d p old new (prec_block w p d (rest old))
+ReadsPrec-planes w d p old new enough reads =
+    let s = rest old in
+    let count : prec_len w p (4 ^ d) s ≡ new.at - old.at = omega (arith, reads.place, length-take (prec_len w p (4 ^ d) s) s) in
+    let Passed : ℕ → Type 0 = λ k. Reads old new (take k s) in
+    record {
+      code = λ es same.
+          let Read : ℕ → Type 0 = λ k. prec_len w p (4 ^ k) s ≤ length s → read_prec w p es s ≡ Some (existing_values es (prec_block w p k s), prec_len w p (4 ^ k) s) in
+          let Answer : ℕ → Type 0 = λ n. read_prec w p es s ≡ Some (existing_values es (prec_block w p d s), n) in
+          subst Answer count (subst Read same (read_prec-enough w p es s) enough);
+      passed = subst Passed count reads;
+    }
+
+-- the bits ended before
+pub LacksPrec-short : (w : Width) (d p : ℕ) (old : Reader) → length (rest old) < prec_len w p (4 ^ d) (rest old) → LacksPrec w d p old
+LacksPrec-short w d p old short = record {
+  code = λ es same.
+      let s = rest old in
+      let Lacks : ℕ → Type 0 = λ k. length s < prec_len w p (4 ^ k) s → read_prec w p es s ≡ None in
+      subst Lacks same (read_prec-short w p es s) short;
+}
 
 -- ---- a code of a fixed rate
 

@@ -10,9 +10,6 @@ ghost use Rattle.zf_base.specs.Positions.{used_axes, IsExtent};
 
 use zf_base::{Extent, Lane};
 
-/// The most places of a block: one of four dimensions has 256.
-pub(crate) const MOST_PLACES: usize = 256;
-
 /// The most planes of a block: one of `i64` has 64.
 pub(crate) const MOST_PLANES: usize = 64;
 

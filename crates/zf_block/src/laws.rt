@@ -3,10 +3,10 @@
 ghost use Rattle.std.specs.Prelude.{◌≡◌, ℕ, ◌^◌, ℤ, Bool, List, ◌++◌, length};
 ghost use Rattle.std.specs.Int.{Width};
 ghost use Rattle.zf_spec.specs.Grid.{fours};
-ghost use Rattle.zf_spec.specs.Codes.{rev, rate, round, existing_values};
+ghost use Rattle.zf_spec.specs.Codes.{rev, rate, prec, round, round_prec, existing_values};
 ghost use Rattle.zf_bits.specs.Reader.{Reader, rest, Reads};
 ghost use Rattle.zf_block.specs.Block.{IsBlock};
-ghost use Rattle.zf_block.specs.ReadBlocks.{ReadsRev, LacksRev, ReadsRate};
+ghost use Rattle.zf_block.specs.ReadBlocks.{ReadsRev, LacksRev, ReadsRate, ReadsPrec, LacksPrec};
 
 /// Where the bits begin with the reversible code of a block, that code is not too short, its block comes back at the places that exist, and the code is
 /// passed and nothing more.
@@ -32,10 +32,25 @@ pub fn rate_code_reads_back()
         → Reads old new (rate w budget es block) }
 {}
 
+/// Where the bits begin with the code of a block at a fixed precision, that code is not too short, what the precision makes of the block comes back at the
+/// places that exist, and the code is passed and nothing more.
+pub fn precision_code_reads_back()
+    ensures there { (w : Width) (p : ℕ) (es : List ℕ) (block : List ℤ) (more : List Bool) (old : Reader)
+        → rest old ≡ prec w p es block ++ more → ¬ LacksPrec w (length es) p old }
+    ensures values { (w : Width) (p : ℕ) (es : List ℕ) (block read : List ℤ) (more : List Bool) (old new : Reader)
+        → rest old ≡ prec w p es block ++ more → ReadsPrec w (length es) p old new read
+        → existing_values es read ≡ round_prec w p es block }
+    ensures passed { (w : Width) (p : ℕ) (es : List ℕ) (block read : List ℤ) (more : List Bool) (old new : Reader)
+        → rest old ≡ prec w p es block ++ more → ReadsPrec w (length es) p old new read
+        → Reads old new (prec w p es block) }
+{}
+
 /// What is read is one block: at the extent of which all places exist it is the values that exist, and bits that have a code do not lack one.
 pub fn one_block_is_read()
     ensures whole { (d : ℕ) (block : List ℤ) → length block ≡ 4 ^ d → existing_values (fours d) block
         ≡ block }
     ensures one_answer { (w : Width) (d : ℕ) (old new : Reader) (read : List ℤ) → ReadsRev w d old new read
         → ¬ LacksRev w d old }
+    ensures one_answer_of_planes { (w : Width) (d p : ℕ) (old new : Reader) (read : List ℤ)
+        → ReadsPrec w d p old new read → ¬ LacksPrec w d p old }
 {}

@@ -1,21 +1,18 @@
 //! The reversible code of a block: its values come back exactly.
 
-ghost use Rattle.std.specs.Prelude.{◌≡◌, ◌⊎◌, ◌≤◌, ◌<◌, ◌+◌, ◌*◌, ◌^◌, ◌-◌, ◌++◌, false, map, length, take, replicate, OnOk, OnErr, IfNone, OnSome};
-ghost use mir.Val.{bits};
-ghost use Rattle.zf_spec.specs.Grid.{IsDimension, IsBlockSize};
-ghost use Rattle.zf_spec.specs.Codes as codes;
+ghost use Rattle.std.specs.Prelude.{◌≡◌, ◌≤◌, ◌<◌, ◌+◌, ◌*◌, ◌^◌, map, length, OnOk, OnErr, IfNone, OnSome};
+ghost use Rattle.zf_spec.specs.Grid.{IsDimension};
 ghost use Rattle.zf_spec.specs.Codes.{count_bits, rev_of_planes, rev};
-ghost use Rattle.zf_spec.specs.Padding.{pad};
-ghost use Rattle.zf_spec.specs.Lorenzo.{lorenzo};
+ghost use Rattle.zf_spec.specs.Lorenzo.{lorenzo, unlorenzo};
 ghost use Rattle.zf_base.specs.Positions.{used_axes, IsExtent};
 ghost use Rattle.zf_bits.specs.Writer.{Appends};
-ghost use Rattle.zf_bits.specs.Reader.{rest, Reads};
-ghost use Rattle.zf_spec.specs.HeldPlanes.{planes_held};
 ghost use Rattle.zf_block.specs.Room.{longest_rev};
 ghost use Rattle.zf_block.specs.ReadBlocks.{ReadsRev, LacksRev, rev_planes, rev_len};
 
 use crate::Scratch;
-use crate::coefficients::{MOST_PLACES, MOST_PLANES, copy_padded, from_planes, to_planes};
+use crate::block_code::BlockCode;
+use crate::codec::{decode, encode};
+use crate::uncut::{read_uncut, write_uncut};
 use std::alloc::AllocError;
 use zf_base::{Extent, Lane};
 use zf_bits::{BitReader, BitWriter};
@@ -42,81 +39,8 @@ pub fn encode_rev<T: Lane>(
 {
     let size = block.len() as u64;
     out.reserve(6 + size * u64::from(T::WIDTH + 1))?;
-    write_rev(
-        d,
-        e,
-        block,
-        &mut s.values,
-        &mut s.digits,
-        &mut s.planes,
-        out,
-    );
+    encode(&Reversible, d, e, block, s, out);
     Ok(())
-}
-
-/// Appends the code in room that is there already, with these parts of the work room.
-fn write_rev<T: Lane>(
-    d: u8,
-    e: &Extent,
-    block: &[T],
-    values: &mut [T],
-    digits: &mut [u64],
-    planes: &mut [[u64; 4]],
-    out: &mut BitWriter,
-)
-    requires dimension { IsDimension d }
-    requires extent { IsExtent d e.now }
-    requires block { length block.now ≡ 4 ^ d }
-    requires values { length values.old ≡ 4 ^ d }
-    requires digits { length digits.old ≡ 4 ^ d }
-    requires planes { length planes.old ≡ T.WIDTH }
-    requires fits { longest_rev T.WIDTH d ≤ out.old.room }
-    ensures { Appends out.old out.new (rev T.width (used_axes d e.now.size) (map T.value block.now)) }
-{
-    make_planes(d, e, block, values, digits, planes);
-    write_planes::<T>(block.len(), planes, out);
-}
-
-/// Makes the bit planes of the coefficients of the padded block.
-fn make_planes<T: Lane>(
-    d: u8,
-    e: &Extent,
-    block: &[T],
-    values: &mut [T],
-    digits: &mut [u64],
-    planes: &mut [[u64; 4]],
-)
-    requires dimension { IsDimension d }
-    requires extent { IsExtent d e.now }
-    requires block { length block.now ≡ 4 ^ d }
-    requires values { length values.old ≡ 4 ^ d }
-    requires digits { length digits.old ≡ 4 ^ d }
-    requires planes { length planes.old ≡ T.WIDTH }
-    ensures { planes_held (4 ^ d) planes.new ≡ codes.planes T.width d (lorenzo T.width d (pad (used_axes d e.now.size) (map T.value block.now))) }
-{
-    copy_padded(d, e, block, values);
-    zf_lorenzo::forward(d, values);
-    to_planes(d, values, digits, planes);
-}
-
-/// Appends the count of planes, down to the lowest that has a one, and their code.
-fn write_planes<T: Lane>(size: usize, planes: &[[u64; 4]], out: &mut BitWriter)
-    requires size { IsBlockSize size }
-    requires planes { length planes.now ≡ T.WIDTH }
-    requires fits { 6 + size * (T.WIDTH + 1) ≤ out.old.room }
-    ensures { Appends out.old out.new (rev_of_planes T.width (planes_held size planes.now)) }
-{
-    let prec = zf_planes::used_planes(size, planes).max(1);
-    out.write_reserved(u64::from(prec - 1), count_bits::<T>());
-    zf_planes::encode(u64::MAX, prec, size, planes, out);
-}
-
-/// How many bits hold the count of planes.
-fn count_bits<T: Lane>() -> u32
-    ensures value { result ≡ count_bits T.width }
-    ensures bound { result ≤ 6 }
-{
-    if T::WIDTH > 32 { 6 } else { 5 }
 }
 
 /// Reads the reversible code of a block. `None` means that the bits end before the code does; then the reader stands where it stood, and the block holds
@@ -130,64 +54,59 @@ pub fn decode_rev<T: Lane>(d: u8, reader: &mut BitReader<'_>, block: &mut [T]) -
     ensures unread { IfNone result (reader.new ≡ reader.old) }
     ensures reads { OnSome result (ReadsRev T.width d reader.old reader.new (map T.value block.new)) }
 {
-    let mut digits = [0; MOST_PLACES];
-    let mut planes = [[0; 4]; MOST_PLANES];
-    let size = block.len();
-    read_rev(
-        d,
-        reader,
-        block,
-        &mut digits[..size],
-        &mut planes[..T::WIDTH as usize],
-    )
+    decode(&Reversible, d, reader, block)
 }
 
-/// Reads the code by way of these digits and planes.
-fn read_rev<T: Lane>(
-    d: u8,
-    reader: &mut BitReader<'_>,
-    block: &mut [T],
-    digits: &mut [u64],
-    planes: &mut [[u64; 4]],
-) -> Option<()>
-    requires dimension { IsDimension d }
-    requires block { length block.old ≡ 4 ^ d }
-    requires digits { length digits.old ≡ 4 ^ d }
-    requires planes { length planes.old ≡ T.WIDTH }
-    ensures short { IfNone result (LacksRev T.width d reader.old) }
-    ensures unread { IfNone result (reader.new ≡ reader.old) }
-    ensures reads { OnSome result (ReadsRev T.width d reader.old reader.new (map T.value block.new)) }
-{
-    read_planes::<T>(block.len(), reader, planes)?;
-    from_planes(d, planes, digits, block);
-    zf_lorenzo::inverse(d, block);
-    Some(())
-}
+/// The planes down to the lowest that has a one, behind their count.
+#[derive(Clone, Copy)]
+struct Reversible;
 
-/// Reads the count of planes and their code. The planes below are zero.
-fn read_planes<T: Lane>(
-    size: usize,
-    reader: &mut BitReader<'_>,
-    planes: &mut [[u64; 4]],
-) -> Option<()>
-    requires size { IsBlockSize size }
-    requires planes { length planes.old ≡ T.WIDTH }
-    ensures short { IfNone result (length (rest reader.old) < rev_len T.width size (rest reader.old)) }
-    ensures unread { IfNone result (reader.new ≡ reader.old) }
-    ensures enough { OnSome result (rev_len T.width size (rest reader.old) ≤ length (rest reader.old)) }
-    ensures reads { OnSome result (Reads reader.old reader.new (take (rev_len T.width size (rest reader.old)) (rest reader.old))) }
-    ensures planes { OnSome result (let read = rev_planes T.width size (rest reader.old) in
-        planes_held size planes.new ≡ read ++ replicate (length planes.new - length read) (replicate size false)) }
-{
-    let start = reader.at();
-    let prec = reader.read(count_bits::<T>())? as u32 + 1;
-    // Known by this call: the start is within the bits, so that the reader can go back, and the greatest budget is more than what is left.
-    let _left = reader.left();
-    match zf_planes::decode(u64::MAX, prec, size, reader, planes) {
-        Some(_) => Some(()),
-        None => {
-            reader.seek(start);
-            None
+impl<T: Lane> BlockCode<T> for Reversible {
+    ghost forth = { λ d block. lorenzo T.width d block };
+
+    ghost back = { λ d block. unlorenzo T.width d block };
+
+    ghost code_of = { λ self planes. rev_of_planes T.width planes };
+
+    ghost longest = { λ self size. 6 + size * (T.WIDTH + 1) };
+
+    ghost planes_at = { λ self size s. rev_planes T.width size s };
+
+    ghost len_at = { λ self size s. rev_len T.width size s };
+
+    fn forward(d: u8, block: &mut [T]) {
+        zf_lorenzo::forward(d, block);
+    }
+
+    fn inverse(d: u8, block: &mut [T]) {
+        zf_lorenzo::inverse(d, block);
+    }
+
+    fn write(&self, size: usize, planes: &[[u64; 4]], out: &mut BitWriter) {
+        let prec = zf_planes::used_planes(size, planes).max(1);
+        out.write_reserved(u64::from(prec - 1), count_bits::<T>());
+        write_uncut(prec, size, planes, out);
+    }
+
+    fn read(&self, size: usize, reader: &mut BitReader<'_>, planes: &mut [[u64; 4]]) -> Option<()> {
+        let start = reader.at();
+        // Known by this call: the start is within the bits, so that the reader can go back.
+        let _left = reader.left();
+        let prec = reader.read(count_bits::<T>())? as u32 + 1;
+        match read_uncut(prec, size, reader, planes) {
+            Some(()) => Some(()),
+            None => {
+                reader.seek(start);
+                None
+            }
         }
     }
+}
+
+/// How many bits hold the count of planes.
+fn count_bits<T: Lane>() -> u32
+    ensures value { result ≡ count_bits T.width }
+    ensures bound { result ≤ 6 }
+{
+    if T::WIDTH > 32 { 6 } else { 5 }
 }

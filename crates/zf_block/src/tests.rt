@@ -78,6 +78,29 @@ fn rate_both_ways<T: Lane>(
     Ok(digest(out.words()))
 }
 
+/// The same at a precision. The answer is the length of the code and its digest.
+fn precision_both_ways<T: Lane>(
+    rt: &impl Abort,
+    alloc: Global,
+    shape: &Shape,
+    prec: u32,
+    block: &mut [T],
+) -> Result<(u64, u64), Fail>
+    requires { length block.old ≡ 4 ^ length shape.now }
+{
+    let d = shape.dims();
+    assert_eq!(rt; shape.blocks(), 1);
+    let e = shape.extent(0);
+    let mut s = Scratch::new(alloc, d)?;
+    let mut out = BitWriter::new(alloc);
+    encode_prec(d, &e, prec, block, &mut s, &mut out)?;
+    let mut reader = BitReader::new(out.words(), out.len());
+    clear(block);
+    decode_prec(d, prec, &mut reader, block).ok_or("a code")?;
+    assert_eq!(rt; reader.left(), 0);
+    Ok((out.len(), digest(out.words())))
+}
+
 /// Of blocks of one dimension: how many values exist, the block, the padded block, and the length and the bits of its code.
 const ROWS: [(u64, [i32; 4], [i32; 4], u64, u64); 6] = [
     (1, [0, 9, 9, 9], [0, 0, 0, 0], 6, 0),
@@ -135,6 +158,8 @@ struct Row {
     reversible: (u64, u64, u64),
     // a rate, and the digests of the code and of the block that comes back
     rate: (u32, u64, u64),
+    // a precision, the length and the digest of the code, and the digest of the block that comes back
+    precision: (u32, u64, u64, u64),
 }
 
 /// Writes values that follow no rule, the same each time, some of them at the ends of `i32` and near those of `i64`.
@@ -158,24 +183,28 @@ const NARROW: [Row; 4] = [
         sizes: [3, 1, 1, 1],
         reversible: (134, 1956684627123463394, 56895915491206),
         rate: (50, 823235889384005, 56880726540288),
+        precision: (11, 44, 13995331340869, 56928006832128),
     },
     Row {
         dims: 2,
         sizes: [2, 4, 1, 1],
         reversible: (526, 8180852763865897717, 1168924164681503008),
         rate: (333, 16062405351034088947, 9245308262622429184),
+        precision: (32, 513, 7952811603220003963, 4576349796101694208),
     },
     Row {
         dims: 3,
         sizes: [4, 1, 3, 1],
         reversible: (1728, 366808261792705798, 2828002446868736084),
         rate: (1000, 11222649400793745473, 3913482336453263360),
+        precision: (1, 42, 1102732859393, 8492031877639569408),
     },
     Row {
         dims: 4,
         sizes: [3, 4, 2, 1],
         reversible: (6779, 5535070232925048690, 12105165861853044184),
         rate: (4000, 11513085565700210130, 3429952307855360000),
+        precision: (20, 5006, 12818770991516045988, 15858529641455157248),
     },
 ];
 
@@ -185,24 +214,28 @@ const WIDE: [Row; 4] = [
         sizes: [3, 1, 1, 1],
         reversible: (263, 7798388890627055335, 13792055133801348998),
         rate: (150, 2868955736345504138, 13792054927964504064),
+        precision: (128, 256, 12456549694190536489, 13792055133801319208),
     },
     Row {
         dims: 2,
         sizes: [2, 4, 1, 1],
         reversible: (1023, 1403586650123146815, 4589244254436856096),
         rate: (700, 14451455868105715484, 17936751867790884864),
+        precision: (33, 524, 3708915322248773883, 7210988131338682368),
     },
     Row {
         dims: 3,
         sizes: [4, 1, 3, 1],
         reversible: (3436, 11565787277790241821, 17932441797335443540),
         rate: (1999, 11042142440065275650, 3143995912703967232),
+        precision: (63, 4025, 4731865045780366094, 6078856052316671248),
     },
     Row {
         dims: 4,
         sizes: [3, 4, 2, 1],
         reversible: (13530, 6635918160429931472, 12719662604011675096),
         rate: (9000, 9621338582435006963, 13582226909105750016),
+        precision: (2, 248, 1151233903701985218, 0),
     },
 ];
 
@@ -228,6 +261,14 @@ fn codes_are<T: Lane>(
     assert_eq!(rt;
         rate_both_ways(rt, alloc, shape, bits, block)?,
         code,
+        "in {dims} dimensions"
+    );
+    assert_eq!(rt; digest_of(block), back, "in {dims} dimensions");
+    let (prec, len, code, back) = row.precision;
+    fill(block);
+    assert_eq!(rt;
+        precision_both_ways(rt, alloc, shape, prec, block)?,
+        (len, code),
         "in {dims} dimensions"
     );
     assert_eq!(rt; digest_of(block), back, "in {dims} dimensions");

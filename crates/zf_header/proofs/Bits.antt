@@ -6,7 +6,7 @@ use Rattle.zf_spec.specs.Numbers.{is_odd, number}
 use Rattle.zf_spec.specs.Stream.{to_bits}
 use Rattle.zf_spec.proofs.Fields.{number-lt}
 use Rattle.zf_bits.proofs.Fields.{from_bool-digit_value, number_more}
-use Rattle.zf_spec.proofs.WordBits.{length-flat_map-field, get_or-flat_map-field}
+use Rattle.zf_spec.proofs.WordBits.{get_or-flat_map-field}
 use Rattle.zf_header.specs.HeaderFields.{number_at}
 use Rattle.zf_spec.proofs.Halves.{digit_value-is_odd}
 use Rattle.zf_spec.proofs.Bytes.{length-to_bits}

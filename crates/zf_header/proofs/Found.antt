@@ -11,16 +11,16 @@ use Rattle.zf_spec.specs.Stream.{codec, type_number, mode_number, all_planes, no
 use Rattle.zf_spec.proofs.Counting.{length-map-upto}
 use Rattle.zf_header.specs.declared.header.Header.{Header}
 use Rattle.zf_header.specs.declared.header.Mode.{Mode}
-use Rattle.zf_header.specs.declared.header.Mode.TheVariants.{Reversible, Rate}
-use Rattle.zf_header.specs.HeaderBits.{coding, IsTaken, IsHeader, header_bits, BeginsWith}
+use Rattle.zf_header.specs.declared.header.Mode.TheVariants.{Reversible, Rate, Precision}
+use Rattle.zf_header.specs.HeaderBits.{coding, IsHeader, header_bits, BeginsWith}
 use Rattle.zf_header.specs.HeaderFields.{number_at, magic_in, codec_in, type_in, dims_in, size_in, sizes_in, mode_in, long_rate_in, is_long_rate, header_in}
 use Rattle.zf_header.proofs.Parts.{long_fields, header_bits-parts, short_number, long_number, long_form_short, long_form_long}
 use Rattle.zf_header.proofs.Bits.{number_at_below}
 use Rattle.zf_header.proofs.Pieces.{take-add, take-add_at, field-number_at_place}
 use Rattle.zf_header.proofs.Sizes.{size_bits-sizes}
 use Rattle.zf_header.proofs.Faults.{size_bounds}
-use Rattle.zf_header.proofs.Good.{GoodMode, short, without_loss, long, Good}
-use Rattle.zf_header.proofs.Modes.{mode_said-short, mode_said-reversible, mode_said-long, header_in-mode}
+use Rattle.zf_header.proofs.Good.{GoodMode, short, precise, without_loss, long, Good}
+use Rattle.zf_header.proofs.Modes.{mode_said-short, mode_said-precision, mode_said-reversible, mode_said-long, header_in-mode}
 use Rattle.zf_spec.proofs.Bytes.{length-to_bits}
 
 -- the type's number that was read is that of the type
@@ -71,6 +71,11 @@ mode_back bytes enough (short few) =
       bits = long_form_short (m + 1) rate;
     } in
     subst (ModeBack s) (sym (mode_said-short m (long_rate_in s) few)) back
+mode_back bytes enough (precise low high) =
+    let s = to_bits bytes in
+    let m = mode_in s in
+    let back : ModeBack s (Precision (m - 2047)) = record { number = omega arith; more = 0; within = omega (arith, length-to_bits bytes); bits = refl } in
+    subst (ModeBack s) (sym (mode_said-precision m (long_rate_in s) low high)) back
 mode_back bytes enough (without_loss is) =
     let s = to_bits bytes in
     let back : ModeBack s Reversible = record { number = is; more = 0; within = omega (arith, length-to_bits bytes); bits = refl } in
@@ -133,18 +138,6 @@ read_is_header bytes g =
       };
       mode = header_in-mode s;
     }
-
--- and its mode is taken
-pub read_is_taken : (bytes : List ℕ) → Good bytes → IsTaken (header_in (to_bits bytes)).mode
-read_is_taken bytes g = taken g.is_mode
-  where
-    s : List Bool
-    s = to_bits bytes
-
-    taken : GoodMode bytes → IsTaken (header_in (to_bits bytes)).mode
-    taken (short few) = subst IsTaken (sym (mode_said-short (mode_in s) (long_rate_in s) few)) (omega arith, omega arith)
-    taken (without_loss is) = subst IsTaken (sym (mode_said-reversible (mode_in s) (long_rate_in s) is)) tt
-    taken (long begun more is_rate) = subst IsTaken (sym (mode_said-long (mode_in s) (long_rate_in s) begun)) (omega arith, omega (arith, number_at_below 96 15 s))
 
 -- a header lies within the bytes that begin with it
 pub begins_within : (bytes : List ℕ) (h : Header) → BeginsWith bytes h → length (header_bits h) ≤ 8 * length bytes

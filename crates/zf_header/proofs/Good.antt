@@ -23,9 +23,10 @@ no_fault : (lines : List (Bool × HeaderFault)) → AllFalse lines → None ≡ 
 no_fault [] e = refl
 no_fault (line ∷ lines) e = rw e.0 (no_fault lines e.1)
 
--- the mode of bytes without a fault: a short rate, the reversible mode, or the long form of a rate
+-- the mode of bytes without a fault: a short rate, a precision, the reversible mode, or the long form of a rate
 pub data GoodMode (bytes : List ℕ) : Type 0 where
   short : mode_in (to_bits bytes) ≤ 2047 → GoodMode bytes
+  precise : 2048 ≤ mode_in (to_bits bytes) → mode_in (to_bits bytes) ≤ 2175 → GoodMode bytes
   without_loss : mode_in (to_bits bytes) ≡ 2176 → GoodMode bytes
   long : mode_in (to_bits bytes) ≡ 4095 → 19 ≤ length bytes → is_long_rate (to_bits bytes) ≡ true → GoodMode bytes
 
@@ -56,14 +57,16 @@ good_mode bytes none small =
     let m = mode_in (to_bits bytes) in
     elim (cases_lt m 2048) [
       | inl lt ↦ short (omega arith)
-      | inr le ↦ elim (cases_eq m 2176) [
-        | inl e ↦ without_loss e
-        | inr ne ↦
-            let above_precision = outside 2048 m 2175 none.0 le in
-            let above_accuracy = outside 2177 m 4094 none.1.0 (omega arith) in
-            let begun : m ≡ 4095 = omega arith in
-            let test = eq-eqb m 4095 begun in
-            long begun (ltb-false _ _ (beside (m == 4095) (nat_lt (length bytes) 19) none.1.1.0 test)) (not-false _ (beside (m == 4095) (not (is_long_rate (to_bits bytes))) none.1.1.1.0 test))
+      | inr le ↦ elim (cases_lt 2175 m) [
+        | inr few ↦ precise le few
+        | inl more ↦ elim (cases_eq m 2176) [
+          | inl e ↦ without_loss e
+          | inr ne ↦
+              let above_accuracy = outside 2177 m 4094 none.0 (omega arith) in
+              let begun : m ≡ 4095 = omega arith in
+              let test = eq-eqb m 4095 begun in
+              long begun (ltb-false _ _ (beside (m == 4095) (nat_lt (length bytes) 19) none.1.0 test)) (not-false _ (beside (m == 4095) (not (is_long_rate (to_bits bytes))) none.1.1.0 test))
+        ]
       ]
     ]
 
@@ -95,14 +98,18 @@ mode_lines : (bytes : List ℕ) → GoodMode bytes → AllFalse (mode_faults byt
 mode_lines bytes (short few) =
     let m = mode_in (to_bits bytes) in
     let other = ne_eqb m 4095 (λ e. omega arith) in
-    (below_range 2048 m 2175 (omega arith), (below_range 2177 m 4094 (omega arith), (and_left _ _ other, (and_left _ _ other, tt))))
+    (below_range 2177 m 4094 (omega arith), (and_left _ _ other, (and_left _ _ other, tt)))
+mode_lines bytes (precise low high) =
+    let m = mode_in (to_bits bytes) in
+    let other = ne_eqb m 4095 (λ e. omega arith) in
+    (below_range 2177 m 4094 (omega arith), (and_left _ _ other, (and_left _ _ other, tt)))
 mode_lines bytes (without_loss is) =
     let m = mode_in (to_bits bytes) in
     let other = ne_eqb m 4095 (λ e. omega arith) in
-    (above_range 2048 m 2175 (omega arith), (below_range 2177 m 4094 (omega arith), (and_left _ _ other, (and_left _ _ other, tt))))
+    (below_range 2177 m 4094 (omega arith), (and_left _ _ other, (and_left _ _ other, tt)))
 mode_lines bytes (long begun enough is_rate) =
     let m = mode_in (to_bits bytes) in
-    (above_range 2048 m 2175 (omega arith), (above_range 2177 m 4094 (omega arith), (and_right _ _ (le-ltb _ _ enough), (and_right _ _ (not_from_true _ is_rate), tt))))
+    (above_range 2177 m 4094 (omega arith), (and_right _ _ (le-ltb _ _ enough), (and_right _ _ (not_from_true _ is_rate), tt)))
 
 codec_known : (d : ℕ) → (codec d == 5 || codec d == 69) ≡ true
 codec_known d = elim (nat_le d 2) as (λ t. (cond t 5 69 == 5 || cond t 5 69 == 69) ≡ true) [ true ↦ refl | false ↦ refl ]

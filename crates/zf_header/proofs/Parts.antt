@@ -1,6 +1,6 @@
 -- A header field by field, and how long it is.
 use Rattle.std.proofs.Common.{◌≡◌, ◌≢◌, ℕ, ◌+◌, ◌-◌, ◌/◌, ◌<◌, ◌≤◌, Bool, cond, List, [], ◌++◌, length, refl, ap, arith, inl, inr, le-leb}
-use Rattle.std.proofs.lemmas.Bool.{lt-leb, cases_lt, cases_eq}
+use Rattle.std.proofs.lemmas.Bool.{lt-leb, cases_lt}
 use Rattle.std.specs.List.{flat_map}
 use Rattle.zf_base.specs.Widths.{width_of}
 use Rattle.zf_spec.specs.Numbers.{field}

@@ -12,13 +12,13 @@ use Rattle.zf_spec.proofs.Fields.{length-field}
 use Rattle.zf_header.specs.declared.header.Header.{Header}
 use Rattle.zf_header.specs.declared.header.Mode.{Mode}
 use Rattle.zf_header.specs.declared.header.Mode.TheVariants.{Reversible, Rate, Precision}
-use Rattle.zf_header.specs.HeaderBits.{coding, IsMode, IsRate, IsTaken, IsHeader, header_bits, BeginsWith}
+use Rattle.zf_header.specs.HeaderBits.{coding, IsMode, IsRate, IsHeader, header_bits, BeginsWith}
 use Rattle.zf_header.specs.HeaderFields.{number_at, magic_in, codec_in, type_in, dims_in, size_in, sizes_in, mode_in, long_rate_in, is_long_rate, header_in}
 use Rattle.zf_header.specs.HeaderFaults.{header_fault}
 use Rattle.zf_header.proofs.Parts.{size_bits, long_fields, header_bits-parts, length-header_bits, short_number, long_number, long_form_long, length-long_form_begun}
 use Rattle.zf_header.proofs.Pieces.{number_at_piece}
 use Rattle.zf_header.proofs.Sizes.{length-size_bits, sizes-size_bits}
-use Rattle.zf_header.proofs.Good.{GoodMode, short, without_loss, long, Good, no_fault_of_good}
+use Rattle.zf_header.proofs.Good.{GoodMode, short, precise, without_loss, long, Good, no_fault_of_good}
 use Rattle.zf_header.proofs.Modes.{mode_again}
 use Rattle.zf_spec.proofs.Bytes.{length-to_bits}
 
@@ -146,17 +146,17 @@ one_header g h x y is_g is_h e =
     sym (says_header (header_bits g ++ x) g is_g (spelled_says g x is_g)) ∙ ap header_in e ∙ says_header (header_bits h ++ y) h is_h (spelled_says h y is_h)
 
 -- and the bytes have no fault
-good_mode_said : (bytes : List ℕ) (mode : Mode) → IsTaken mode → mode_in (to_bits bytes) ≡ mode_number (coding mode) → (mode_number (coding mode) ≡ 4095 → 19 ≤ length bytes)
+good_mode_said : (bytes : List ℕ) (mode : Mode) → IsMode mode → mode_in (to_bits bytes) ≡ mode_number (coding mode) → (mode_number (coding mode) ≡ 4095 → 19 ≤ length bytes)
     → ((b : ℕ) → mode ≡ Rate b → 2048 < b → (long_rate_in (to_bits bytes) ≡ b) × (is_long_rate (to_bits bytes) ≡ true)) → GoodMode bytes
 good_mode_said bytes Reversible has is enough long_is = without_loss is
-good_mode_said bytes (Precision p) has is enough long_is = absurd has
+good_mode_said bytes (Precision p) has is enough long_is = precise (omega arith) (omega arith)
 good_mode_said bytes (Rate b) has is enough long_is = elim (cases_lt 2048 b) [
   | inl lt ↦ long (is ∙ long_number b lt) (enough (long_number b lt)) (long_is b refl lt).1
   | inr le ↦ short (omega (arith, is, short_number b le))
 ]
 
-pub good_of_says : (bytes : List ℕ) (h : Header) → IsHeader h → IsTaken h.mode → length (header_bits h) ≤ length (to_bits bytes) → Says (to_bits bytes) h → Good bytes
-good_of_says bytes h is taken within says =
+pub good_of_says : (bytes : List ℕ) (h : Header) → IsHeader h → length (header_bits h) ≤ length (to_bits bytes) → Says (to_bits bytes) h → Good bytes
+good_of_says bytes h is within says =
     let s = to_bits bytes in
     let whole = length-header_bits h is.shape in
     let shape : sizes_in s ≡ h.shape = rw says.dims_is says.sizes_are in
@@ -166,7 +166,7 @@ good_of_says bytes h is taken within says =
       is_codec = says.codec_is ∙ ap codec (sym says.dims_is);
       is_type = omega (arith, says.type_is, type_le h.ty);
       is_size = omega (arith, ap product shape, is.shape.not_too_large);
-      is_mode = good_mode_said bytes h.mode taken says.mode_is (λ begun. omega (arith, length-to_bits bytes, length-long_form_begun h.mode is.mode begun)) says.long_is;
+      is_mode = good_mode_said bytes h.mode is.mode says.mode_is (λ begun. omega (arith, length-to_bits bytes, length-long_form_begun h.mode is.mode begun)) says.long_is;
     }
 
 -- the fields of bytes that begin with a header say it
@@ -179,9 +179,9 @@ spelled_in bytes h is begins_with =
 pub spelled_is_read : (bytes : List ℕ) (h : Header) → IsHeader h → BeginsWith bytes h → header_in (to_bits bytes) ≡ h
 spelled_is_read bytes h is begins_with = says_header (to_bits bytes) h is (spelled_in bytes h is begins_with)
 
--- and where its mode is taken, the bytes have no fault
-pub spelled_is_good : (bytes : List ℕ) (h : Header) → IsHeader h → IsTaken h.mode → BeginsWith bytes h → None ≡ header_fault bytes
-spelled_is_good bytes h is taken begins_with =
+-- and the bytes have no fault
+pub spelled_is_good : (bytes : List ℕ) (h : Header) → IsHeader h → BeginsWith bytes h → None ≡ header_fault bytes
+spelled_is_good bytes h is begins_with =
     let n = length (header_bits h) in
     let within : n ≤ length (to_bits bytes) = omega (arith, ap length begins_with.bits, length-take n (to_bits bytes)) in
-    no_fault_of_good bytes (good_of_says bytes h is taken within (spelled_in bytes h is begins_with))
+    no_fault_of_good bytes (good_of_says bytes h is within (spelled_in bytes h is begins_with))

@@ -1,12 +1,10 @@
 -- The length of a stream with a fixed rate.
-use Rattle.std.proofs.Common.{◌≡◌, ℕ, ◌+◌, ◌-◌, ◌*◌, ◌/◌, ◌%◌, ℤ, Bool, false, List, [], ◌∷◌, ◌++◌, length, map, replicate, ap, ◌∙◌, arith, length-append, suc-mul}
-use Rattle.std.specs.List.{flat_map}
+use Rattle.std.proofs.Common.{◌≡◌, ℕ, ◌+◌, ◌*◌, ℤ, List, length, ap, ◌∙◌}
 use Rattle.std.specs.Int.{Width, div_ceil}
-use Rattle.std.proofs.lemmas.List.{length-replicate}
 use Rattle.zf_base.specs.Widths.{width_of}
 use Rattle.zf_spec.specs.Codes.{rate}
 use Rattle.zf_spec.specs.Grid.{upto, blocks, extent_of, block_of}
-use Rattle.zf_spec.specs.Stream.{fixed_rate, header, codes, with_fill, file, stream}
+use Rattle.zf_spec.specs.Stream.{fixed_rate, header, stream}
 use Rattle.zf_spec.proofs.BlockReading.{length-rate}
 use Rattle.zf_spec.proofs.Counting.{length-upto}
 use Rattle.zf_spec.proofs.Files.{length-file}

@@ -33,12 +33,6 @@ IsMode Reversible = Unit {0}
 IsMode (Rate b) = IsRate (Rate b)
 IsMode (Precision p) = (1 ≤ p) × (p ≤ 128)
 
--- such a mode in which streams are read and made: for now all but fixed precision
-abbrev pub IsTaken : Mode → Type 0
-IsTaken Reversible = Unit {0}
-IsTaken (Rate b) = IsRate (Rate b)
-IsTaken (Precision p) = ⊥
-
 -- what a header can say: the sizes are a shape's, and the mode has a number
 pub record IsHeader (h : Header) : Type 0 where
   pub shape : IsShape h.shape

@@ -27,14 +27,13 @@ front_faults bytes =
 abbrev pub size_faults : List ℕ → List (Bool × HeaderFault)
 size_faults bytes = (nat_lt max_values (product (sizes_in (to_bits bytes))), TooLarge) ∷ []
 
--- the lines of the mode: fixed precision, for now (2048 to 2175); fixed accuracy (2177 to 4094); the long form (4095) in fewer
---     than 19 bytes; a long form that is not that of a rate
+-- the lines of the mode: fixed accuracy (2177 to 4094); the long form (4095) in fewer than 19 bytes; a long form that is not
+--     that of a rate
 abbrev pub mode_faults : List ℕ → List (Bool × HeaderFault)
 mode_faults bytes =
     let s = to_bits bytes in
     let m = mode_in s in
-    (nat_le 2048 m && nat_le m 2175, Mode m)
-    ∷ (nat_le 2177 m && nat_le m 4094, Mode m)
+    (nat_le 2177 m && nat_le m 4094, Mode m)
     ∷ (m == 4095 && nat_lt (length bytes) 19, Short)
     ∷ (m == 4095 && not (is_long_rate s), Mode m)
     ∷ []

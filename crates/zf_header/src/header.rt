@@ -20,6 +20,7 @@ ghost use Rattle.zf_spec.specs.Stream.{mode_number, codec, type_number};
 ghost use Rattle.zf_base.specs.Widths.{width_of};
 ghost use Rattle.zf_header.specs.HeaderBits.{coding, IsMode, IsRate, header_bits, rate_bytes_of};
 
+use thiserror::Error;
 use zf_base::{Shape, Ty};
 
 /// The length of a header with the long form, in bits. Any other has 96 bits.
@@ -62,6 +63,11 @@ pub(crate) const MAX_SHORT_RATE: u32 = 2048;
 /// What the number of a precision is more than the precision.
 pub(crate) const BEFORE_PRECISIONS: u32 = 2047;
 
+/// The numbers of the least precision and of the greatest.
+pub(crate) const FIRST_PRECISION: u16 = 2048;
+
+pub(crate) const LAST_PRECISION: u16 = 2175;
+
 /// The number of the reversible mode, and the one that begins the long form.
 pub(crate) const REVERSIBLE: u16 = 2176;
 
@@ -88,22 +94,28 @@ pub struct Header {
 }
 
 /// Why bytes begin with no header that this library reads.
-#[derive(Clone, Copy, Debug, PartialEq, Eq)]
+#[derive(Clone, Copy, Debug, PartialEq, Eq, Error)]
 pub enum HeaderFault {
     /// The bytes end before the header does: it has 12 bytes, and 19 with the long form.
+    #[error("header: short")]
     Short,
     /// The bytes do not begin with the letters "zfp".
+    #[error("header: magic")]
     Magic,
     /// The codec's number is neither 5, zfp's own, nor 69, this library's for three and four dimensions.
+    #[error("header: codec")]
     Codec,
     /// The values are floating-point numbers.
+    #[error("header: type")]
     Scalar,
     /// The codec's number is the one for other dimensions: the order of coefficients is another.
+    #[error("header: order")]
     Order,
     /// The array has more than 2^27 values.
+    #[error("header: too large")]
     TooLarge,
-    /// The mode with this number is not read: fixed precision (for now), fixed accuracy, or a long form (4095) other than that of a
-    /// fixed rate above 2048.
+    /// The mode with this number is not read: fixed accuracy, or a long form (4095) other than that of a fixed rate above 2048.
+    #[error("header: mode {0}")]
     Mode(u16),
 }
 

@@ -4,7 +4,7 @@ ghost use Rattle.std.specs.Prelude.{◌≡◌, ℕ, ℤ, Bool, List, ◌++◌, l
 ghost use Rattle.zf_base.specs.Widths.{width_of};
 ghost use Rattle.zf_spec.specs.Stream.{to_bits, stream};
 ghost use Rattle.zf_header.specs.declared.header.Header.{Header};
-ghost use Rattle.zf_header.specs.HeaderBits.{coding, IsRate, IsTaken, IsHeader, BeginsWith, header_bits, rate_bytes_of};
+ghost use Rattle.zf_header.specs.HeaderBits.{coding, IsRate, IsHeader, BeginsWith, header_bits, rate_bytes_of};
 ghost use Rattle.zf_header.specs.HeaderFields.{header_in};
 ghost use Rattle.zf_header.specs.HeaderFaults.{header_fault};
 
@@ -15,15 +15,13 @@ pub fn one_spelling()
         → header_bits g ++ x ≡ header_bits h ++ y → g ≡ h }
 {}
 
-/// Bytes have no fault exactly where they begin with the bits of a header whose mode is taken, and the fields say which.
+/// Bytes have no fault exactly where they begin with the bits of a header, and the fields say which.
 pub fn no_fault_where_a_header_begins()
     ensures begins { (bytes : List ℕ) → header_fault bytes ≡ None
         → BeginsWith bytes (header_in (to_bits bytes)) }
     ensures header { (bytes : List ℕ) → header_fault bytes ≡ None
         → IsHeader (header_in (to_bits bytes)) }
-    ensures taken { (bytes : List ℕ) → header_fault bytes ≡ None
-        → IsTaken (header_in (to_bits bytes)).mode }
-    ensures no_fault { (bytes : List ℕ) (h : Header) → IsHeader h → IsTaken h.mode → BeginsWith bytes h
+    ensures no_fault { (bytes : List ℕ) (h : Header) → IsHeader h → BeginsWith bytes h
         → header_fault bytes ≡ None }
     ensures only { (bytes : List ℕ) (h : Header) → IsHeader h → BeginsWith bytes h
         → header_in (to_bits bytes) ≡ h }

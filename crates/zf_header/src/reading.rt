@@ -4,14 +4,14 @@ ghost use Rattle.std.specs.Prelude.{◌≡◌, ◌+◌, ◌*◌, ◌^◌, ◌<�
 ghost use Rattle.std.specs.Result.{result_err};
 ghost use Rattle.zf_spec.specs.Stream.{to_bits};
 ghost use Rattle.zf_header.specs.declared.header.Header.{Header};
-ghost use Rattle.zf_header.specs.HeaderBits.{IsHeader, IsTaken, BeginsWith, header_bits};
+ghost use Rattle.zf_header.specs.HeaderBits.{IsHeader, BeginsWith, header_bits};
 ghost use Rattle.zf_header.specs.HeaderFields.{number_at, dims_in, size_in, sizes_in, mode_in, header_in};
 ghost use Rattle.zf_header.specs.HeaderFaults.{first_fault, front_faults, size_faults, mode_faults, header_fault};
 
 use crate::header::{
-    CODEC, FULL_HEADER_BYTES, Header, HeaderFault, LONG_FORM, LONG_FORM_EXPONENT, LONG_FORM_PLANES,
-    LONG_HEADER_BITS, MAGIC, MAX_SHORT_RATE, Mode, OWN_CODEC, REVERSIBLE, SHORT_HEADER_BYTES,
-    codec, header_len,
+    BEFORE_PRECISIONS, CODEC, FIRST_PRECISION, FULL_HEADER_BYTES, Header, HeaderFault,
+    LAST_PRECISION, LONG_FORM, LONG_FORM_EXPONENT, LONG_FORM_PLANES, LONG_HEADER_BITS, MAGIC,
+    MAX_SHORT_RATE, Mode, OWN_CODEC, REVERSIBLE, SHORT_HEADER_BYTES, codec, header_len,
 };
 use zf_base::{Shape, Ty};
 
@@ -24,9 +24,8 @@ pub fn read(bytes: &[u8]) -> Result<(Header, u32), HeaderFault>
     ensures len { IfOk result (λ found. found.1 ≡ length (header_bits found.0)) }
     ensures within { IfOk result (λ found. found.1 ≤ 8 * length bytes.now) }
     ensures header { IfOk result (λ found. IsHeader found.0) }
-    ensures taken { IfOk result (λ found. IsTaken found.0.mode) }
     // What stands there is read.
-    ensures only { (h : Header) → IsHeader h → IsTaken h.mode → BeginsWith bytes.now h
+    ensures only { (h : Header) → IsHeader h → BeginsWith bytes.now h
         → result ≡ Ok (h, length (header_bits h)) }
     // Which fault it is.
     ensures fault { result_err result ≡ header_fault bytes.now }
@@ -119,6 +118,9 @@ fn mode(bytes: &[u8]) -> Result<Mode, HeaderFault>
     let number = number_at(bytes, 84, 12) as u16;
     match number {
         0..=2047 => Ok(Mode::Rate(u32::from(number) + 1)),
+        FIRST_PRECISION..=LAST_PRECISION => {
+            Ok(Mode::Precision(u32::from(number) - BEFORE_PRECISIONS))
+        }
         REVERSIBLE => Ok(Mode::Reversible),
         LONG_FORM => long_rate(bytes),
         _ => Err(HeaderFault::Mode(number)),

@@ -5,3 +5,4 @@ pub mod Existing
 pub mod Copying
 pub mod Rasters
 pub mod Blocks
+pub mod Slabs

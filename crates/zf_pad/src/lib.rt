@@ -4,6 +4,7 @@
 mod array_block;
 mod copies;
 pub mod laws;
+pub mod laws_of_slabs;
 mod layout;
 mod padding;
 #[cfg(test)]

@@ -1,21 +1,19 @@
 -- The blocks of an array come back from their codes.
-use Rattle.std.proofs.Common.{◌≡◌, refl, sym, ap, subst, ◌∙◌, ℕ, ◌^◌, ◌<◌, ◌≤◌, Bool, true, false, cond, ltb, le-ltb, ℤ, pos, FitsSigned, Some, None, List, [], ◌++◌, length, take, get_or, All, take_at, length-append, ⊎_elim, arith}
-use Rattle.std.proofs.lemmas.Bool.{cases_lt}
-use Rattle.std.proofs.lemmas.List.{get_or_past}
-use Rattle.std.proofs.lemmas.List.Elements.{All-get_or, All-from_get_or}
+use Rattle.std.proofs.Common.{◌≡◌, refl, sym, ap, subst, ◌∙◌, ℕ, ◌^◌, ◌<◌, ◌≤◌, Bool, true, false, cond, ltb, le-ltb, ℤ, pos, FitsSigned, Some, None, List, ◌++◌, length, take, get_or, All, take_at, length-append, arith}
+use Rattle.std.proofs.lemmas.List.Elements.{All-from_get_or}
 use Rattle.std.specs.Int.{Width}
 use mir.Val.{bits}
 use Rattle.zf_spec.specs.Grid.{IsShape, grid, blocks, coordinates, raster, is_inside, indices, extents, extent_of, position_in, value_at, block_of}
-use Rattle.zf_spec.specs.Codes.{existing_values, rev, rate, round, read_rate}
+use Rattle.zf_spec.specs.Codes.{existing_values, rev, rate, prec, round, round_prec, read_rate}
 use Rattle.zf_spec.proofs.Wrapping.{zero_fits}
 use Rattle.zf_spec.proofs.Counting.{length-map-upto, get_or-map-upto, from_places}
 use Rattle.zf_spec.proofs.Padding.{length-existing_values, get_or-existing_values, get_or_all}
-use Rattle.zf_spec.proofs.BlockReading.{read_rev-rev, read_rate-rate, length-rate}
+use Rattle.zf_spec.proofs.BlockReading.{read_rev-rev, read_rate-rate, read_prec-prec, length-rate}
 use Rattle.zf_base.specs.declared.lane.Ty.{Ty}
 use Rattle.zf_base.specs.declared.lane.Ty.TheVariants.{I32, I64}
 use Rattle.zf_base.specs.Widths.{width_of}
 use Rattle.zf_pad.proofs.Blocks.{all_extents}
-use Rattle.zf_header.specs.declared.header.Mode.TheVariants.{Reversible, Rate}
+use Rattle.zf_header.specs.declared.header.Mode.TheVariants.{Reversible, Rate, Precision}
 use Rattle.zf_stream.specs.Parsing.{read_code}
 use Rattle.zf_base.proofs.Extents.{length-extent_of}
 
@@ -85,3 +83,8 @@ reads_rate w budget es block more =
     ∙ ap (λ (s : List Bool). Some (read_rate w es s, budget)) (take_at code more budget long)
     ∙ ap (λ (back : List ℤ). Some (back, budget)) (read_rate-rate w budget es block)
     ∙ ap (λ n. Some (round w budget es block, n)) (sym long)
+
+-- at a fixed precision what the precision makes of it
+pub reads_prec : (w : Width) (p : ℕ) (es : List ℕ) (block : List ℤ) (more : List Bool)
+    → read_code w (Precision p) es (prec w p es block ++ more) ≡ Some (round_prec w p es block, length (prec w p es block))
+reads_prec w p es block more = read_prec-prec w p es block more

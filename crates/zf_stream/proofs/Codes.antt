@@ -1,8 +1,9 @@
 -- The codes of blocks, one after another.
-use Rattle.std.proofs.Common.{◌≡◌, ℕ, zero, suc, ◌+◌, ℤ, Bool, List, [], ◌∷◌, ◌++◌, map, length, sym, ap, ◌∙◌, arith}
+use Rattle.std.proofs.Common.{◌≡◌, min, take, ℕ, zero, suc, ◌+◌, ℤ, Bool, List, [], ◌∷◌, ◌++◌, map, length, sym, ap, ◌∙◌, arith}
 use Rattle.std.proofs.lemmas.List.{append-nil, append_assoc, map_push}
 use Rattle.std.proofs.lemmas.Grind.{flat_map-append}
 use Rattle.std.specs.Int.{Width}
+use mir.Val.{bits}
 use Rattle.std.specs.List.{flat_map}
 use Rattle.zf_spec.specs.Grid.{count_from, upto}
 use Rattle.zf_spec.specs.Padding.{pad}
@@ -10,7 +11,7 @@ use Rattle.zf_spec.specs.Lorenzo.{lorenzo}
 use Rattle.zf_spec.specs.Lift.{lift}
 use Rattle.zf_spec.specs.Planes.{code}
 use Rattle.zf_spec.specs.ReadPlanes.{first_bits}
-use Rattle.zf_spec.specs.Codes.{rev, rev_of_planes, planes, rate}
+use Rattle.zf_spec.specs.Codes.{rev, rev_of_planes, planes, rate, prec}
 
 -- one number more
 count_from-more : (k n : ℕ) → count_from k (n + 1) ≡ count_from k n ++ (k + n) ∷ []
@@ -46,3 +47,7 @@ rev_same w es a b same = ap (λ (block : List ℤ). rev_of_planes w (planes w (l
 pub rate_same : (w : Width) (n : ℕ) (es : List ℕ) (a b : List ℤ) → pad es a ≡ pad es b → rate w n es a ≡ rate w n es b
 unfolding rate
 rate_same w n es a b same = ap (λ (block : List ℤ). first_bits n (code (planes w (length es) (lift w (length es) block)))) same
+
+pub prec_same : (w : Width) (p : ℕ) (es : List ℕ) (a b : List ℤ) → pad es a ≡ pad es b → prec w p es a ≡ prec w p es b
+unfolding prec
+prec_same w p es a b same = ap (λ (block : List ℤ). code (take (min p (bits w)) (planes w (length es) (lift w (length es) block)))) same

@@ -1,8 +1,8 @@
 -- An array is joined of its blocks.
-use Rattle.std.proofs.Common.{◌≡◌, sym, ap, ◌∙◌, ℕ, ◌^◌, ◌<◌, cond, ℤ, pos, List, [], length, get_or}
-use Rattle.zf_spec.specs.Grid.{product, grid, blocks, coordinates, raster, indices, position_in, value_at, block_of, blocks_of}
+use Rattle.std.proofs.Common.{◌≡◌, sym, ap, ◌∙◌, ℕ, ◌<◌, ℤ, pos, List, [], length, get_or}
+use Rattle.zf_spec.specs.Grid.{product, blocks, coordinates, block_of, blocks_of}
 use Rattle.zf_spec.proofs.Counting.{get_or-map-upto, from_places}
-use Rattle.zf_base.specs.Places.{block_number, place_of, IsAt}
+use Rattle.zf_base.specs.Places.{block_number, place_of}
 use Rattle.zf_base.proofs.Boxes.{is_inside-coordinates}
 use Rattle.zf_base.proofs.Places.{IsAt-position}
 use Rattle.zf_stream.specs.Parsing.{values_of_blocks}

@@ -1,5 +1,5 @@
 -- A stream parses to what its codes say.
-use Rattle.std.proofs.Common.{◌≡◌, refl, sym, ap, ◌∙◌, ℕ, zero, suc, ◌+◌, ◌-◌, ◌%◌, ◌<◌, ◌≤◌, Bool, false, cond, ltb, le-ltb, ℤ, Option, Some, None, Result, Ok, Err, List, ◌∷◌, ◌++◌, map, length, take, drop, replicate, append_assoc, length-append, arith}
+use Rattle.std.proofs.Common.{◌≡◌, refl, sym, ap, ◌∙◌, ℕ, zero, suc, ◌+◌, ◌-◌, ◌%◌, ◌<◌, ◌≤◌, Bool, false, cond, ltb, le-ltb, ℤ, Option, Some, Result, Ok, Err, List, ◌∷◌, ◌++◌, map, length, take, drop, replicate, append_assoc, length-append, arith}
 use Rattle.std.specs.List.{flat_map}
 use Rattle.std.proofs.lemmas.List.{length-replicate}
 use Rattle.std.proofs.Math.Seq.{take-append_seam, drop-append_seam, take-length}
@@ -11,8 +11,7 @@ use Rattle.zf_spec.proofs.Bytes.{to_bits-to_bytes, length-with_fill}
 use Rattle.zf_base.specs.Widths.{width_of}
 use Rattle.zf_header.specs.declared.header.Header.{Header}
 use Rattle.zf_header.specs.declared.header.HeaderFault.{HeaderFault}
-use Rattle.zf_header.specs.HeaderBits.{IsTaken, IsHeader, BeginsWith, header_bits}
-use Rattle.zf_header.specs.HeaderFaults.{header_fault}
+use Rattle.zf_header.specs.HeaderBits.{IsHeader, BeginsWith, header_bits}
 use Rattle.zf_header.proofs.Spelled.{spelled_is_read, spelled_is_good}
 use Rattle.zf_stream.specs.declared.fault.StreamFault.{StreamFault}
 use Rattle.zf_stream.specs.declared.fault.StreamFault.TheVariants as faults
@@ -102,11 +101,11 @@ module _ (h : Header) (bytes : List ℕ) (codes : List Bool) (n : ℕ) (is_heade
   behind_header = ap (drop (length (header_bits h))) together ∙ drop-append_seam (header_bits h) (codes ++ replicate n false)
 
   -- and parse to what the codes say
-  said_bits : IsTaken h.mode → (found : List (List ℤ)) → n ≡ fill_len (length (header_bits h ++ codes))
+  said_bits : (found : List (List ℤ)) → n ≡ fill_len (length (header_bits h ++ codes))
       → read_codes h 0 (blocks h.shape) (codes ++ replicate n false) ≡ Ok (found, replicate n false)
       → values_said bytes ≡ Ok (values_of_blocks h.shape found)
   unfolding values_said
-  said_bits taken found fill reads =
+  said_bits found fill reads =
       let front = header_bits h in
       let zeros : List Bool = replicate n false in
       let all = length (to_bits bytes) in
@@ -114,23 +113,23 @@ module _ (h : Header) (bytes : List ℕ) (codes : List Bool) (n : ℕ) (is_heade
       codes_answer g all (read_codes g 0 (blocks g.shape) (drop (length (header_bits g)) (to_bits bytes))) in
       let used : all - length zeros ≡ length (front ++ codes) = omega (arith, ap length bits, length-append (front ++ codes) zeros) in
       let fill_is_good : fill_answer h (all - length zeros) zeros ≡ Ok tt = ap (λ k. fill_answer h k zeros) used ∙ fill_good h (length (front ++ codes)) n fill in
-      ap (λ (f : Option HeaderFault). header_or f (Answer (header_of bytes))) (sym (spelled_is_good bytes h is_header taken begins))
+      ap (λ (f : Option HeaderFault). header_or f (Answer (header_of bytes))) (sym (spelled_is_good bytes h is_header begins))
       ∙ ap Answer header_is
       ∙ ap (λ (s : List Bool). codes_answer h all (read_codes h 0 (blocks h.shape) s)) behind_header
       ∙ ap (codes_answer h all) reads
       ∙ ap (values_or_fault (values_of_blocks h.shape found)) fill_is_good
 
-  parse_bits : IsTaken h.mode → (found : List (List ℤ)) (cs : List (List Bool)) → n ≡ fill_len (length (header_bits h ++ codes))
+  parse_bits : (found : List (List ℤ)) (cs : List (List Bool)) → n ≡ fill_len (length (header_bits h ++ codes))
       → read_codes h 0 (blocks h.shape) (codes ++ replicate n false) ≡ Ok (found, replicate n false)
       → codes_said h 0 (blocks h.shape) (codes ++ replicate n false) ≡ cs
       → parse bytes ≡ Ok (record { header = h; codes = cs; values = values_of_blocks h.shape found })
   unfolding parse
-  parse_bits taken found cs fill reads said =
+  parse_bits found cs fill reads said =
       let Of : Header → Result Said StreamFault = λ g. said_with g (codes_said g 0 (blocks g.shape) (drop (length (header_bits g)) (to_bits bytes))) (values_said bytes) in
       ap Of header_is
       ∙ ap (λ (s : List Bool). said_with h (codes_said h 0 (blocks h.shape) s) (values_said bytes)) behind_header
       ∙ ap (λ (ds : List (List Bool)). said_with h ds (values_said bytes)) said
-      ∙ ap (said_with h cs) (said_bits taken found fill reads)
+      ∙ ap (said_with h cs) (said_bits found fill reads)
 
 -- the file of a header and codes
 module _ (h : Header) (code : ℕ → List Bool) (is_header : IsHeader h) where
@@ -146,11 +145,11 @@ module _ (h : Header) (code : ℕ → List Bool) (is_header : IsHeader h) where
       let n = fill_len (length (header_bits h ++ codes)) in
       header_is h (to_bytes (with_fill (header_bits h ++ codes))) codes n is_header file_bits
 
-  pub parse-file : IsTaken h.mode → (back : ℕ → List ℤ) → ((b : ℕ) → b < blocks h.shape → ReadsBack h code back b)
+  pub parse-file : (back : ℕ → List ℤ) → ((b : ℕ) → b < blocks h.shape → ReadsBack h code back b)
       → let bytes = to_bytes (with_fill (header_bits h ++ end_to_end code (upto (blocks h.shape)))) in
       let values = values_of_blocks h.shape (map back (upto (blocks h.shape))) in
       (values_said bytes ≡ Ok values) × (parse bytes ≡ Ok (record { header = h; codes = map code (upto (blocks h.shape)); values = values }))
-  parse-file taken back reads =
+  parse-file back reads =
       let codes = end_to_end code (upto (blocks h.shape)) in
       let bytes = to_bytes (with_fill (header_bits h ++ codes)) in
       let n = fill_len (length (header_bits h ++ codes)) in
@@ -158,4 +157,4 @@ module _ (h : Header) (code : ℕ → List Bool) (is_header : IsHeader h) where
       let each = λ (k : ℕ) (low : 0 ≤ k) (high : k < 0 + blocks h.shape). reads k (omega (arith, high)) in
       let read = read_codes-codes h code back 0 (blocks h.shape) (replicate n false) each in
       let said = codes_said-codes h code back 0 (blocks h.shape) (replicate n false) each in
-      (said_bits h bytes codes n is_header file_bits taken found refl read, parse_bits h bytes codes n is_header file_bits taken found (map code (upto (blocks h.shape))) refl read said)
+      (said_bits h bytes codes n is_header file_bits found refl read, parse_bits h bytes codes n is_header file_bits found (map code (upto (blocks h.shape))) refl read said)

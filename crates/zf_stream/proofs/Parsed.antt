@@ -53,11 +53,10 @@ begun_more front more h len begun =
     ap (take n) (flat_map-append (field 8) front more) ∙ take-append-le n (to_bits front) (to_bits more) within ∙ begins.bits in
     let more_begins : BeginsWith (front ++ more) h = record { bits = bits } in
     record {
-      good = sym (spelled_is_good (front ++ more) h is begun.taken more_begins);
+      good = sym (spelled_is_good (front ++ more) h is more_begins);
       header = sym (spelled_is_read (front ++ more) h is more_begins);
       bits_is = begun.bits_is;
       within = omega (arith, begun.within, length-append front more);
-      taken = begun.taken;
     }
 
 -- the header of a told source is good where that of its first bytes is

@@ -7,7 +7,7 @@ use Rattle.zf_base.specs.Widths.{width_of}
 use Rattle.zf_bits.specs.Reader.{Reader, rest, Reads}
 use Rattle.zf_header.specs.declared.header.Header.{Header}
 use Rattle.zf_header.specs.declared.header.Mode.{Mode}
-use Rattle.zf_header.specs.HeaderBits.{IsTaken, header_bits}
+use Rattle.zf_header.specs.HeaderBits.{header_bits}
 use Rattle.zf_header.specs.HeaderFaults.{header_fault}
 use Rattle.zf_dev.specs.Source.{Takes, TakesAtMost, IsAtEnd}
 use Rattle.zf_stream.specs.declared.fault.StreamFault.{StreamFault}
@@ -25,7 +25,6 @@ pub record BeginsWithHeader (bytes : List ℕ) (h : Header) (bits : ℕ) : Type 
   pub header : h ≡ header_of bytes
   pub bits_is : bits ≡ length (header_bits h)
   pub within : bits ≤ 8 * length bytes
-  pub taken : IsTaken h.mode
 
 -- the first bytes of the source were taken, and they begin with this header
 pub record ReadsHeader (before now : Option (List ℕ)) (h : Header) (bits : ℕ) : Type 0 where

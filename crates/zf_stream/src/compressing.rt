@@ -4,7 +4,7 @@ ghost use Rattle.std.specs.Prelude.{◌≡◌, ◌≢◌, ◌*◌, length, IfOk,
 ghost use Rattle.std.specs.Int.{byte_len};
 ghost use Rattle.zf_spec.specs.Grid.{product};
 ghost use Rattle.zf_base.specs.Widths.{width_of};
-ghost use Rattle.zf_header.specs.HeaderBits.{IsTaken};
+ghost use Rattle.zf_header.specs.HeaderBits.{IsMode};
 ghost use Rattle.zf_stream.specs.Raw.{compress_answer, stream_text};
 ghost use Rattle.zf_dev.specs.Faults.{HasCause};
 ghost use Rattle.zf_dev.specs.Source.{TakesSome};
@@ -29,7 +29,7 @@ pub fn compress<S: Source, O: Sink>(
     src: &mut S,
     out: &mut O,
 ) -> Result<(), StreamFault>
-    requires { IsTaken h.now.mode }
+    requires { IsMode h.now.mode }
     ensures answer { Answers result (S.contents src.old) (compress_answer h.now) }
     ensures possible { IfErr result (CanRefuse (compress_answer h.now)) }
     ensures ok { OnOk result (Finishes (compress_answer h.now) (stream_text h.now)
@@ -57,7 +57,7 @@ fn read_stream<T: Lane, S: Source>(
     h: &Header,
     src: &mut S,
 ) -> Result<Vec<u8>, StreamFault>
-    requires taken { IsTaken h.now.mode }
+    requires mode { IsMode h.now.mode }
     requires same_type { T.width ≡ width_of h.now.ty }
     ensures ok { IfOk result (λ stream. ReadsText (compress_answer h.now) (stream_text h.now)
         (S.contents src.old) (S.contents src.new) stream.items) }
@@ -83,7 +83,7 @@ fn encode_raw<T: Lane>(
     count: usize,
     raw: &[u8],
 ) -> Result<Vec<u8>, AllocError>
-    requires taken { IsTaken h.now.mode }
+    requires mode { IsMode h.now.mode }
     requires same_type { T.width ≡ width_of h.now.ty }
     requires count { count ≡ product h.now.shape }
     requires all { length raw.now ≡ count * byte_len T.width }

@@ -7,7 +7,6 @@ ghost use Rattle.zf_spec.specs.Numbers.{word_bits};
 ghost use Rattle.zf_spec.specs.Stream.{to_bits, with_fill};
 ghost use Rattle.zf_base.specs.Widths.{width_of};
 ghost use Rattle.zf_bits.specs.Reader.{rest};
-ghost use Rattle.zf_header.specs.HeaderBits.{IsTaken};
 ghost use Rattle.zf_stream.specs.Parsing.{fill_answer, codes_answer, read_codes, values_said};
 ghost use Rattle.zf_stream.specs.ReadStreams.{BeginsWithHeader, ReadsCode, LacksCode, ReadsBlock, ReadsBlocks, IsCutAt, IsFault};
 ghost use Rattle.zf_stream.specs.declared.fault.StreamFault.TheVariants.{Memory, Truncated};
@@ -55,7 +54,6 @@ fn read_values<T: Lane>(
     h: &Header,
     reader: &mut BitReader<'_>,
 ) -> Result<Vec<T>, StreamFault>
-    requires taken { IsTaken h.now.mode }
     requires same_type { T.width ≡ width_of h.now.ty }
     ensures ok { IfOk result (λ values.
         codes_answer h.now (length reader.old.all) (read_codes h.now 0 (blocks h.now.shape) (rest reader.old)) ≡ Ok (map T.value values.items)) }
@@ -91,7 +89,6 @@ fn read_blocks<T: Lane>(
     h: &Header,
     reader: &mut BitReader<'_>,
 ) -> Result<Vec<T>, StreamFault>
-    requires taken { IsTaken h.now.mode }
     requires same_type { T.width ≡ width_of h.now.ty }
     ensures ok { IfOk result (λ values. ReadsBlocks h.now reader.old reader.new (map T.value values.items)) }
     ensures len { IfOk result (λ values. length values.items ≡ product h.now.shape) }
@@ -112,7 +109,6 @@ fn read_codes<T: Lane>(
     block: &mut [T],
     values: &mut [T],
 ) -> Result<(), StreamFault>
-    requires taken { IsTaken h.now.mode }
     requires same_type { T.width ≡ width_of h.now.ty }
     requires all { length values.old ≡ product h.now.shape }
     requires whole { length block.old ≡ 4 ^ length h.now.shape }
@@ -133,7 +129,6 @@ fn read_block<T: Lane>(
     block: &mut [T],
     values: &mut [T],
 ) -> Result<(), StreamFault>
-    requires taken { IsTaken h.now.mode }
     requires same_type { T.width ≡ width_of h.now.ty }
     requires in_array { b < blocks h.now.shape }
     requires all { length values.old ≡ product h.now.shape }
@@ -151,7 +146,6 @@ fn read_block<T: Lane>(
 
 /// Reads the code of a block, or answers `None` where the bits end too early.
 fn read_code<T: Lane>(h: &Header, reader: &mut BitReader<'_>, block: &mut [T]) -> Option<()>
-    requires taken { IsTaken h.now.mode }
     requires whole { length block.old ≡ 4 ^ length h.now.shape }
     ensures some { OnSome result (ReadsCode T.width h.now.mode (length h.now.shape) reader.old reader.new (map T.value block.new)) }
     ensures none { IfNone result (LacksCode T.width h.now.mode (length h.now.shape) reader.old) }
@@ -160,7 +154,7 @@ fn read_code<T: Lane>(h: &Header, reader: &mut BitReader<'_>, block: &mut [T]) -
     match h.mode {
         Mode::Reversible => zf_block::decode_rev(d, reader, block),
         Mode::Rate(bits) => read_rate(d, bits, reader, block),
-        Mode::Precision(_) => unreachable!(),
+        Mode::Precision(prec) => zf_block::decode_prec(d, prec, reader, block),
     }
 }
 

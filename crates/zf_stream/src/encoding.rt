@@ -5,7 +5,7 @@ ghost use Rattle.std.specs.List.{flat_map};
 ghost use Rattle.zf_spec.specs.Grid.{product, blocks, extent_of, block_of};
 ghost use Rattle.zf_spec.specs.Stream.{block_code, codes, stream};
 ghost use Rattle.zf_base.specs.Widths.{width_of};
-ghost use Rattle.zf_header.specs.HeaderBits.{IsTaken, coding};
+ghost use Rattle.zf_header.specs.HeaderBits.{IsMode, coding};
 
 use std::alloc::{AllocError, Global};
 use zf_base::{Lane, block_len};
@@ -19,7 +19,7 @@ pub(crate) fn stream_of<T: Lane>(
     h: &Header,
     values: &[T],
 ) -> Result<Vec<u8>, AllocError>
-    requires taken { IsTaken h.now.mode }
+    requires mode { IsMode h.now.mode }
     requires same_type { T.width ≡ width_of h.now.ty }
     requires all { length values.now ≡ product h.now.shape }
     ensures { IfOk result (λ bytes. bytes.items ≡ stream T.width h.now.shape (coding h.now.mode) (map T.value values.now)) }
@@ -38,7 +38,6 @@ fn write_codes<T: Lane>(
     values: &[T],
     out: &mut BitWriter,
 ) -> Result<(), AllocError>
-    requires taken { IsTaken h.now.mode }
     requires all { length values.now ≡ product h.now.shape }
     ensures { OnOk result (out.new.bits
         ≡ out.old.bits ++ flat_map (λ c. c) (codes T.width h.now.shape (coding h.now.mode) (map T.value values.now))) }
@@ -60,7 +59,6 @@ fn write_code<T: Lane>(
     s: &mut Scratch<T>,
     out: &mut BitWriter,
 ) -> Result<(), AllocError>
-    requires taken { IsTaken h.now.mode }
     requires all { length values.now ≡ product h.now.shape }
     requires in_array { b < blocks h.now.shape }
     requires whole { length block.old ≡ 4 ^ length h.now.shape }
@@ -78,6 +76,6 @@ fn write_code<T: Lane>(
             zf_block::encode_rate(d, &e, bits, block, s, out);
             Ok(())
         }
-        Mode::Precision(_) => unreachable!(),
+        Mode::Precision(prec) => zf_block::encode_prec(d, &e, prec, block, s, out),
     }
 }

@@ -2,12 +2,12 @@
 
 ghost use Rattle.std.specs.Prelude.{◌≡◌, ◌<◌, ℕ, ℤ, List, map, length, None, Ok, All};
 ghost use Rattle.zf_spec.specs.Grid.{product, blocks, upto, extent_of, block_of, blocks_of};
-ghost use Rattle.zf_spec.specs.Codes.{round};
+ghost use Rattle.zf_spec.specs.Codes.{round, round_prec};
 ghost use Rattle.zf_spec.specs.Stream.{values_from};
 ghost use Rattle.zf_base.specs.Widths.{width_of};
 ghost use Rattle.zf_header.specs.declared.header.Header.{Header};
-ghost use Rattle.zf_header.specs.declared.header.Mode.TheVariants.{Reversible, Rate};
-ghost use Rattle.zf_header.specs.HeaderBits.{IsTaken, IsHeader};
+ghost use Rattle.zf_header.specs.declared.header.Mode.TheVariants.{Reversible, Rate, Precision};
+ghost use Rattle.zf_header.specs.HeaderBits.{IsHeader};
 ghost use Rattle.zf_header.specs.HeaderFaults.{header_fault};
 ghost use Rattle.zf_stream.specs.Raw.{raw_len, raw_bytes, stream_of, stream_text};
 ghost use Rattle.zf_stream.specs.Parsing.{header_of, values_of_blocks, values_said, said_of, without_said, parse, restore_answer, restored_text};
@@ -36,7 +36,8 @@ pub fn restore_answers_as_parse_does()
     ensures { (bytes : List ℕ) → restore_answer bytes ≡ without_said (parse bytes) }
 {}
 
-/// The stream of an array says its header, the codes of its blocks bit for bit, and its values, or what the fixed rate makes of each block.
+/// The stream of an array says its header, the codes of its blocks bit for bit, and its values, or what the fixed rate or the fixed precision
+/// makes of each block.
 pub fn a_stream_is_parsed()
     ensures header { (h : Header) (values : List ℤ) → IsHeader h → header_of (stream_of h values) ≡ h }
     ensures reversible { (h : Header) (values : List ℤ) → IsHeader h → h.mode ≡ Reversible
@@ -45,11 +46,15 @@ pub fn a_stream_is_parsed()
     ensures rate { (h : Header) (values : List ℤ) (budget : ℕ) → IsHeader h → h.mode ≡ Rate budget
         → parse (stream_of h values) ≡ Ok (said_of h values (values_of_blocks h.shape
         (map (λ b. round (width_of h.ty) budget (extent_of h.shape b) (block_of h.shape values b)) (upto (blocks h.shape))))) }
+    ensures precision { (h : Header) (values : List ℤ) (p : ℕ) → IsHeader h → h.mode ≡ Precision p
+        → parse (stream_of h values) ≡ Ok (said_of h values (values_of_blocks h.shape
+        (map (λ b. round_prec (width_of h.ty) p (extent_of h.shape b) (block_of h.shape values b)) (upto (blocks h.shape))))) }
 {}
 
-/// The stream of raw bytes is a good one. What is restored of it is these bytes, or the bytes of what the fixed rate makes of each block.
+/// The stream of raw bytes is a good one. What is restored of it is these bytes, or the bytes of what the fixed rate or the fixed
+/// precision makes of each block.
 pub fn restore_undoes_compress()
-    ensures answer { (h : Header) (bytes : List ℕ) → IsHeader h → IsTaken h.mode
+    ensures answer { (h : Header) (bytes : List ℕ) → IsHeader h
         → restore_answer (stream_text h bytes) ≡ Ok tt }
     ensures reversible { (h : Header) (bytes : List ℕ) → IsHeader h → h.mode ≡ Reversible
         → length bytes ≡ raw_len h → All (λ b. b < 256) bytes → restored_text (stream_text h bytes) ≡ bytes }
@@ -57,4 +62,8 @@ pub fn restore_undoes_compress()
         → let values = values_from (width_of h.ty) (product h.shape) bytes in
         restored_text (stream_text h bytes) ≡ raw_bytes h (values_of_blocks h.shape
         (map (λ b. round (width_of h.ty) budget (extent_of h.shape b) (block_of h.shape values b)) (upto (blocks h.shape)))) }
+    ensures precision { (h : Header) (bytes : List ℕ) (p : ℕ) → IsHeader h → h.mode ≡ Precision p
+        → let values = values_from (width_of h.ty) (product h.shape) bytes in
+        restored_text (stream_text h bytes) ≡ raw_bytes h (values_of_blocks h.shape
+        (map (λ b. round_prec (width_of h.ty) p (extent_of h.shape b) (block_of h.shape values b)) (upto (blocks h.shape)))) }
 {}

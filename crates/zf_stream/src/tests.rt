@@ -1,7 +1,7 @@
 //! Streams from a program that was written from the definitions alone.
 
 ghost use Rattle.std.specs.Prelude.{IsTrue};
-ghost use Rattle.zf_header.specs.HeaderBits.{IsTaken};
+ghost use Rattle.zf_header.specs.HeaderBits.{IsMode};
 
 use super::*;
 use std::test::Fail;
@@ -44,12 +44,12 @@ const CUT_STREAM: [u8; 16] = [
 
 // Whether a header can state the mode.
 fn can_state(mode: &Mode) -> bool
-    ensures { IsTrue result → IsTaken mode.now }
+    ensures { IsTrue result → IsMode mode.now }
 {
     match *mode {
         Mode::Reversible => true,
         Mode::Rate(bits) => 1 <= bits && bits <= 32768,
-        Mode::Precision(_) => false,
+        Mode::Precision(prec) => 1 <= prec && prec <= 128,
     }
 }
 

@@ -1,21 +1,24 @@
-use Rattle.std.proofs.Common.{◌≡◌, ℕ, ◌≤◌, List, length, take, replicate, sym, ◌∙◌, arith}
-use Rattle.std.proofs.lemmas.List.{length-take, length-replicate}
-use Rattle.zf_block.proofs.Sizes.{block_size_at_most}
+use Rattle.std.proofs.Common.{◌^◌, ℤ, List, sym, ap, subst, ◌∙◌, take}
+use Rattle.zf_spec.specs.Lift.{unlift}
+use Rattle.zf_spec.specs.Kept.{kept_planes}
+use Rattle.zf_spec.specs.ReadPlanes.{planes_in}
+use Rattle.zf_spec.specs.Codes.{coefficients_of}
+use Rattle.zf_bits.specs.Reader.{rest}
+use Rattle.zf_block.specs.ReadBlocks.{ReadsRate}
+use Rattle.zf_block.proofs.Answered.{when_some}
+use Rattle.zf_block.proofs.ReadCodes.{ReadsRate-planes}
 use Rattle.zf_block.proofs.rate.decode_rate.Goals as goal
 
--- as many digits as a block can have
-abbrev digits : List ℕ
-digits = replicate 256 0
-
-sized : (size : ℕ) → size ≤ 256 → length (take size digits) ≡ size
-sized size small = omega (arith, length-take size digits, length-replicate {A = ℕ} 256 0)
-
-pub slice_bounds-digits-end : goal.slice_bounds-digits-end
-slice_bounds-digits-end g c = block_size_at_most c.args.d (length c.args.block.now) c.requires.dimension.0 c.requires.dimension.1 c.requires.block
-
-pub slice_bounds-read_rate-end : goal.slice_bounds-read_rate-end
-slice_bounds-read_rate-end g c = sym (sized (length c.args.block.now) (block_size_at_most c.args.d (length c.args.block.now) c.requires.dimension.0 c.requires.dimension.1 c.requires.block))
-
-pub read_rate-requires-clause-digits : goal.read_rate-requires-clause-digits
-read_rate-requires-clause-digits g c =
-    sized (length c.args.block.now) (block_size_at_most c.args.d (length c.args.block.now) c.requires.dimension.0 c.requires.dimension.1 c.requires.block) ∙ c.requires.block
+pub returns : goal.returns
+returns g c =
+    let w = g.T.Lane.width in
+    let d = c.args.d in
+    let budget = c.args.bits in
+    let old = c.args.reader.now in
+    let new = c.decode.new.reader in
+    let Read : List ℤ → Type 0 = λ block. ReadsRate w d budget old new block in
+    let some = c.unwrap.ensures in
+    let block =
+    when_some c.decode.result c.unwrap.result some c.decode.ensures.block
+    ∙ ap (λ n. unlift w d (coefficients_of w d (kept_planes budget (planes_in n (4 ^ d) (take budget (rest old)))))) g.met.T.Lane.bits_of_width in
+    subst Read (sym block) (ReadsRate-planes w d budget old new c.requires.enough (when_some c.decode.result c.unwrap.result some c.decode.ensures.reads))

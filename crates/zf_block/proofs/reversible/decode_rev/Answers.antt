@@ -1,21 +1,14 @@
-use Rattle.std.proofs.Common.{◌≡◌, ℕ, ◌≤◌, List, length, take, replicate, sym, ◌∙◌, arith}
-use Rattle.std.proofs.lemmas.List.{length-take, length-replicate}
-use Rattle.zf_block.proofs.Sizes.{block_size_at_most}
+use Rattle.zf_block.proofs.Answered.{answer_none, answer_some}
+use Rattle.zf_block.proofs.ReadCodes.{ReadsRev-planes, LacksRev-short}
 use Rattle.zf_block.proofs.reversible.decode_rev.Goals as goal
+use Rattle.std.proofs.Common.{ℤ, List, sym, subst}
+use Rattle.zf_block.specs.ReadBlocks.{ReadsRev}
 
--- as many digits as a block can have
-abbrev digits : List ℕ
-digits = replicate 256 0
+pub returns-clause-short : goal.returns-clause-short
+returns-clause-short g c = answer_none c.decode.result c.decode.ensures.short (λ short. LacksRev-short g.T.Lane.width c.args.d c.args.reader.now short)
 
-sized : (size : ℕ) → size ≤ 256 → length (take size digits) ≡ size
-sized size small = omega (arith, length-take size digits, length-replicate {A = ℕ} 256 0)
-
-pub slice_bounds-digits-end : goal.slice_bounds-digits-end
-slice_bounds-digits-end g c = block_size_at_most c.args.d (length c.args.block.now) c.requires.dimension.0 c.requires.dimension.1 c.requires.block
-
-pub slice_bounds-read_rev-end : goal.slice_bounds-read_rev-end
-slice_bounds-read_rev-end g c = sym (sized (length c.args.block.now) (block_size_at_most c.args.d (length c.args.block.now) c.requires.dimension.0 c.requires.dimension.1 c.requires.block))
-
-pub read_rev-requires-clause-digits : goal.read_rev-requires-clause-digits
-read_rev-requires-clause-digits g c =
-    sized (length c.args.block.now) (block_size_at_most c.args.d (length c.args.block.now) c.requires.dimension.0 c.requires.dimension.1 c.requires.block) ∙ c.requires.block
+pub returns-clause-reads : goal.returns-clause-reads
+returns-clause-reads g c =
+    let Read : List ℤ → Type 0 = λ block. ReadsRev g.T.Lane.width c.args.d c.args.reader.now c.decode.new.reader block in
+    answer_some c.decode.result c.decode.ensures.enough c.decode.ensures.reads c.decode.ensures.block
+    (λ enough reads block. subst Read (sym block) (ReadsRev-planes g.T.Lane.width c.args.d c.args.reader.now c.decode.new.reader enough reads))

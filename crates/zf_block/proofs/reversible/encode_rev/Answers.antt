@@ -1,10 +1,12 @@
-use Rattle.std.proofs.Common.{◌≡◌, ◌≤◌, List, Bool, ◌++◌, ap, ◌∙◌, arith}
-use Rattle.zf_bits.specs.Writer.{Writer, Appends}
+use Rattle.std.proofs.Common.{refl}
+use Rattle.zf_spec.specs.Codes.{rev}
+use Rattle.zf_bits.proofs.Appending.{Appends-same}
+use Rattle.zf_base.proofs.Extents.{length-used_axes}
+use Rattle.zf_block.proofs.AfterReserve.{after_reserve}
 use Rattle.zf_block.proofs.reversible.encode_rev.Goals as goal
 
--- memory that was asked for before changes nothing of what is appended
-after_reserve : {old reserved new : Writer} {more : List Bool} → reserved.bits ≡ old.bits → old.room ≤ reserved.room → Appends reserved new more → Appends old new more
-after_reserve {old} {reserved} {new} {more} bits room appends = record { bits = appends.bits ∙ ap (λ (bs : List Bool). bs ++ more) bits; room = omega (arith, appends.room) }
-
 pub returns-clause-ok : goal.returns-clause-ok
-returns-clause-ok g c = after_reserve c.in_ok-reserve.ensures.bits c.in_ok-reserve.ensures.no_less c.write_rev.ensures
+unfolding rev
+returns-clause-ok g c =
+    let d = length-used_axes c.args.d c.args.e.now.size c.requires.dimension.1 in
+    after_reserve c.in_ok-reserve.ensures.bits c.in_ok-reserve.ensures.no_less (Appends-same c.encode.ensures.code (rw d refl))

@@ -4,11 +4,11 @@ use Rattle.std.specs.Result.{IfOk, result_err}
 use Rattle.zf_spec.specs.Stream.{to_bits}
 use Rattle.zf_header.specs.declared.header.Header.{Header}
 use Rattle.zf_header.specs.declared.header.HeaderFault.{HeaderFault}
-use Rattle.zf_header.specs.HeaderBits.{IsTaken, IsHeader, BeginsWith, header_bits}
+use Rattle.zf_header.specs.HeaderBits.{IsHeader, BeginsWith, header_bits}
 use Rattle.zf_header.specs.HeaderFields.{header_in}
 use Rattle.zf_header.specs.HeaderFaults.{header_fault}
 use Rattle.zf_header.proofs.Good.{good}
-use Rattle.zf_header.proofs.Found.{read_is_spelled, read_is_header, read_is_taken, begins_within}
+use Rattle.zf_header.proofs.Found.{read_is_spelled, read_is_header, begins_within}
 use Rattle.zf_header.proofs.Spelled.{spelled_is_read, spelled_is_good}
 use Rattle.zf_header.proofs.reading.read.Goals as goal
 
@@ -19,10 +19,6 @@ found bytes (Err e) fault header = tt
 within : (bytes : List ℕ) (r : Result (Header × ℕ) HeaderFault) → IfOk r (λ f. BeginsWith bytes f.0) → IfOk r (λ f. f.1 ≡ length (header_bits f.0)) → IfOk r (λ f. f.1 ≤ 8 * length bytes)
 within bytes (Ok f) begins len = omega (arith, len, begins_within bytes f.0 begins)
 within bytes (Err e) begins len = tt
-
-taken : (bytes : List ℕ) (r : Result (Header × ℕ) HeaderFault) → result_err r ≡ header_fault bytes → IfOk r (λ f. f.0 ≡ header_in (to_bits bytes)) → IfOk r (λ f. IsTaken f.0.mode)
-taken bytes (Ok f) fault header = subst (λ h. IsTaken h.mode) (sym header) (read_is_taken bytes (good bytes fault))
-taken bytes (Err e) fault header = tt
 
 is_header : (bytes : List ℕ) (r : Result (Header × ℕ) HeaderFault) → result_err r ≡ header_fault bytes → IfOk r (λ f. f.0 ≡ header_in (to_bits bytes)) → IfOk r (λ f. IsHeader f.0)
 is_header bytes (Ok f) fault header = subst IsHeader (sym header) (read_is_header bytes (good bytes fault))
@@ -42,9 +38,6 @@ returns-clause-within c =
 pub returns-clause-header : goal.returns-clause-header
 returns-clause-header c = is_header c.args.bytes.now c.fields.result c.fields.ensures.fault c.fields.ensures.header
 
-pub returns-clause-taken : goal.returns-clause-taken
-returns-clause-taken c = taken c.args.bytes.now c.fields.result c.fields.ensures.fault c.fields.ensures.header
-
 pub returns-clause-only : goal.returns-clause-only
-returns-clause-only c h is taken_mode begins =
-    only c.args.bytes.now c.fields.result h c.fields.ensures.fault c.fields.ensures.header c.fields.ensures.len (spelled_is_good c.args.bytes.now h is taken_mode begins, spelled_is_read c.args.bytes.now h is begins)
+returns-clause-only c h is begins =
+    only c.args.bytes.now c.fields.result h c.fields.ensures.fault c.fields.ensures.header c.fields.ensures.len (spelled_is_good c.args.bytes.now h is begins, spelled_is_read c.args.bytes.now h is begins)

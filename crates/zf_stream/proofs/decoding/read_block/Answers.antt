@@ -1,4 +1,4 @@
-use Rattle.std.proofs.Common.{ℤ, ◌-◌, List, Some, map, sym, ap, ◌∙◌}
+use Rattle.std.proofs.Common.{ℤ, ◌-◌, List, Some, sym, ap, ◌∙◌}
 use Rattle.zf_spec.specs.Grid.{extent_of}
 use Rattle.zf_bits.specs.Reader.{rest}
 use Rattle.zf_stream.specs.Parsing.{read_code}

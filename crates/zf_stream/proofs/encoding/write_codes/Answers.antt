@@ -18,7 +18,6 @@ loop-b-init g c =
 pub write_code-requires : goal.write_code-requires
 write_code-requires g c =
     record {
-      taken = c.requires.taken;
       all = c.requires.all;
       in_array = omega (arith, c.loop-b-test.true, c.blocks-b-end.ensures.value);
       whole = c.deref_mut.ensures.len ∙ c.loop-b.invariant.whole;

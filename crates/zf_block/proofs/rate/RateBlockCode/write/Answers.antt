@@ -5,15 +5,15 @@ use Rattle.zf_spec.specs.ReadPlanes.{first_bits}
 use Rattle.zf_spec.specs.HeldPlanes.{planes_held}
 use Rattle.zf_bits.proofs.Appending.{Appends-append, Appends-same}
 use Rattle.zf_block.proofs.Zeros.{first_bits-take}
-use Rattle.zf_block.proofs.rate.write_planes.Goals as goal
+use Rattle.zf_block.proofs.rate.RateBlockCode.write.Goals as goal
 use Rattle.zf_spec.proofs.HeldPlanes.{length-planes_held}
 
 pub returns : goal.returns
-returns c =
+returns g c =
     let budget = c.from-bits.result in
     let planes = planes_held c.args.size c.args.planes.now in
-    let bits = code (take (length c.args.planes.now) planes) in
-    let whole : take (length c.args.planes.now) planes ≡ planes = take_all (length c.args.planes.now) planes (omega (arith, length-planes_held c.args.size c.args.planes.now)) in
+    let bits = code (take c.WIDTH.result planes) in
+    let whole : take c.WIDTH.result planes ≡ planes = take_all c.WIDTH.result planes (omega (arith, length-planes_held c.args.size c.args.planes.now, c.requires.planes, c.WIDTH.ensures)) in
     let left : budget - c.encode-written.result ≡ budget - length bits = omega (arith, c.encode-written.ensures.count) in
     Appends-same (Appends-append c.encode-written.ensures.bits c.write_zeros.ensures)
     (ap (λ n. take budget bits ++ replicate n false) left

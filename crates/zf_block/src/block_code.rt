@@ -1,0 +1,59 @@
+//! What the codes of a block differ in: the transform of its values, and how the planes of the coefficients are written and read.
+
+ghost use Rattle.std.specs.Prelude.{◌≡◌, ◌≤◌, ◌<◌, ◌^◌, ℕ, ℤ, Bool, List, map, length, take, OnSome, IfNone};
+ghost use Rattle.zf_spec.specs.Grid.{IsDimension, IsBlockSize};
+ghost use Rattle.zf_spec.specs.HeldPlanes.{planes_held};
+ghost use Rattle.zf_bits.specs.Writer.{Appends};
+ghost use Rattle.zf_bits.specs.Reader.{rest, Reads};
+ghost use Rattle.zf_block.specs.Block.{AreAbove};
+
+use zf_base::Lane;
+use zf_bits::{BitReader, BitWriter};
+
+/// One of the codes of a block.
+pub(crate) trait BlockCode<T: Lane> {
+    // The transform of the values in so many dimensions, and its inverse.
+    ghost forth: { ℕ → List ℤ → List ℤ };
+
+    ghost back: { ℕ → List ℤ → List ℤ };
+
+    // The code of planes.
+    ghost code_of: { Self → List (List Bool) → List Bool };
+
+    // As many bits as the longest code has, of planes of this size.
+    ghost longest: { Self → ℕ → ℕ };
+
+    // The planes of this size that a code at the front of bits stands for, and how many bits it has.
+    ghost planes_at: { Self → ℕ → List Bool → List (List Bool) };
+
+    ghost len_at: { Self → ℕ → List Bool → ℕ };
+
+    /// Makes coefficients of the values of a block.
+    fn forward(d: u8, block: &mut [T])
+        requires dimension { IsDimension d }
+        requires size { length block.old ≡ 4 ^ d }
+        ensures { map T.value block.new ≡ forth d (map T.value block.old) };
+
+    /// Makes values of the coefficients of a block.
+    fn inverse(d: u8, block: &mut [T])
+        requires dimension { IsDimension d }
+        requires size { length block.old ≡ 4 ^ d }
+        ensures { map T.value block.new ≡ back d (map T.value block.old) };
+
+    /// Appends the code of planes in room that is there already.
+    fn write(&self, size: usize, planes: &[[u64; 4]], out: &mut BitWriter)
+        requires size { IsBlockSize size }
+        requires planes { length planes.now ≡ T.WIDTH }
+        requires fits { longest self.now size ≤ out.old.room }
+        ensures { Appends out.old out.new (code_of self.now (planes_held size planes.now)) };
+
+    /// Reads the code of planes, or answers `None` where the bits end before it does. The planes below those that it has are zero.
+    fn read(&self, size: usize, reader: &mut BitReader<'_>, planes: &mut [[u64; 4]]) -> Option<()>
+        requires size { IsBlockSize size }
+        requires planes { length planes.old ≡ T.WIDTH }
+        ensures short { IfNone result (length (rest reader.old) < len_at self.now size (rest reader.old)) }
+        ensures unread { IfNone result (reader.new ≡ reader.old) }
+        ensures enough { OnSome result (len_at self.now size (rest reader.old) ≤ length (rest reader.old)) }
+        ensures reads { OnSome result (Reads reader.old reader.new (take (len_at self.now size (rest reader.old)) (rest reader.old))) }
+        ensures planes { OnSome result (AreAbove size (planes_at self.now size (rest reader.old)) (planes_held size planes.new)) };
+}

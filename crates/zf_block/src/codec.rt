@@ -1,0 +1,127 @@
+//! The one way from a block to its code and back, whichever code it is.
+
+ghost use Rattle.std.specs.Prelude.{◌≡◌, ◌≤◌, ◌<◌, ◌^◌, map, length, take, OnSome, IfNone};
+ghost use Rattle.zf_spec.specs.Grid.{IsDimension};
+ghost use Rattle.zf_spec.specs.Codes as codes;
+ghost use Rattle.zf_spec.specs.Codes.{coefficients_of};
+ghost use Rattle.zf_spec.specs.Padding.{pad};
+ghost use Rattle.zf_spec.specs.HeldPlanes.{planes_held};
+ghost use Rattle.zf_base.specs.Positions.{used_axes, IsExtent};
+ghost use Rattle.zf_bits.specs.Writer.{Appends};
+ghost use Rattle.zf_bits.specs.Reader.{rest, Reads};
+
+use crate::Scratch;
+use crate::block_code::BlockCode;
+use crate::coefficients::{MOST_PLANES, copy_padded, from_planes, to_planes};
+use zf_base::{Extent, Lane};
+use zf_bits::{BitReader, BitWriter};
+
+/// Appends the code of a block in room that is there already.
+pub(crate) fn encode<C: BlockCode<T>, T: Lane>(
+    code: &C,
+    d: u8,
+    e: &Extent,
+    block: &[T],
+    s: &mut Scratch<T>,
+    out: &mut BitWriter,
+)
+    requires dimension { IsDimension d }
+    requires extent { IsExtent d e.now }
+    requires block { length block.now ≡ 4 ^ d }
+    requires scratch { s.old ≡ d }
+    requires fits { C.longest code.now (4 ^ d) ≤ out.old.room }
+    ensures code { Appends out.old out.new
+        (C.code_of code.now (codes.planes T.width d (C.forth d (pad (used_axes d e.now.size) (map T.value block.now))))) }
+    ensures scratch { s.new ≡ d }
+{
+    write_block(
+        code,
+        d,
+        e,
+        block,
+        &mut s.values,
+        &mut s.digits,
+        &mut s.planes,
+        out,
+    );
+}
+
+/// Appends the code of a block by way of these values, digits and planes.
+fn write_block<C: BlockCode<T>, T: Lane>(
+    code: &C,
+    d: u8,
+    e: &Extent,
+    block: &[T],
+    values: &mut [T],
+    digits: &mut [u64],
+    planes: &mut [[u64; 4]],
+    out: &mut BitWriter,
+)
+    requires dimension { IsDimension d }
+    requires extent { IsExtent d e.now }
+    requires block { length block.now ≡ 4 ^ d }
+    requires values { length values.old ≡ 4 ^ d }
+    requires digits { length digits.old ≡ 4 ^ d }
+    requires planes { length planes.old ≡ T.WIDTH }
+    requires fits { C.longest code.now (4 ^ d) ≤ out.old.room }
+    ensures { Appends out.old out.new
+        (C.code_of code.now (codes.planes T.width d (C.forth d (pad (used_axes d e.now.size) (map T.value block.now))))) }
+{
+    copy_padded(d, e, block, values);
+    C::forward(d, values);
+    to_planes(d, values, digits, planes);
+    code.write(block.len(), planes, out);
+}
+
+/// Reads the code of a block, or answers `None` where the bits end before it does.
+pub(crate) fn decode<C: BlockCode<T>, T: Lane>(
+    code: &C,
+    d: u8,
+    reader: &mut BitReader<'_>,
+    block: &mut [T],
+) -> Option<()>
+    requires dimension { IsDimension d }
+    requires block { length block.old ≡ 4 ^ d }
+    ensures short { IfNone result (length (rest reader.old) < C.len_at code.now (4 ^ d) (rest reader.old)) }
+    ensures unread { IfNone result (reader.new ≡ reader.old) }
+    ensures enough { OnSome result (C.len_at code.now (4 ^ d) (rest reader.old) ≤ length (rest reader.old)) }
+    ensures reads { OnSome result (Reads reader.old reader.new (take (C.len_at code.now (4 ^ d) (rest reader.old)) (rest reader.old))) }
+    ensures block { OnSome result (map T.value block.new
+        ≡ C.back d (coefficients_of T.width d (C.planes_at code.now (4 ^ d) (rest reader.old)))) }
+{
+    // No more is cleared than a block of these dimensions needs.
+    let mut planes = [[0; 4]; MOST_PLANES];
+    let planes = &mut planes[..T::WIDTH as usize];
+    match d {
+        1 => read_block(code, d, reader, block, &mut [0; 4], planes),
+        2 => read_block(code, d, reader, block, &mut [0; 16], planes),
+        3 => read_block(code, d, reader, block, &mut [0; 64], planes),
+        _ => read_block(code, d, reader, block, &mut [0; 256], planes),
+    }
+}
+
+/// Reads the code of a block by way of these digits and planes.
+fn read_block<C: BlockCode<T>, T: Lane>(
+    code: &C,
+    d: u8,
+    reader: &mut BitReader<'_>,
+    block: &mut [T],
+    digits: &mut [u64],
+    planes: &mut [[u64; 4]],
+) -> Option<()>
+    requires dimension { IsDimension d }
+    requires block { length block.old ≡ 4 ^ d }
+    requires digits { length digits.old ≡ 4 ^ d }
+    requires planes { length planes.old ≡ T.WIDTH }
+    ensures short { IfNone result (length (rest reader.old) < C.len_at code.now (4 ^ d) (rest reader.old)) }
+    ensures unread { IfNone result (reader.new ≡ reader.old) }
+    ensures enough { OnSome result (C.len_at code.now (4 ^ d) (rest reader.old) ≤ length (rest reader.old)) }
+    ensures reads { OnSome result (Reads reader.old reader.new (take (C.len_at code.now (4 ^ d) (rest reader.old)) (rest reader.old))) }
+    ensures block { OnSome result (map T.value block.new
+        ≡ C.back d (coefficients_of T.width d (C.planes_at code.now (4 ^ d) (rest reader.old)))) }
+{
+    code.read(block.len(), reader, planes)?;
+    from_planes(d, planes, digits, block);
+    C::inverse(d, block);
+    Some(())
+}

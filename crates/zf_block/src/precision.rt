@@ -1,0 +1,101 @@
+//! The code of a block at a fixed precision: its top planes are kept whole, and its values come back rounded.
+
+ghost use Rattle.std.specs.Prelude.{◌≡◌, ◌≤◌, ◌<◌, ◌+◌, ◌*◌, ◌^◌, min, map, length, take, OnOk, OnErr, IfNone, OnSome};
+ghost use Rattle.zf_spec.specs.Grid.{IsDimension};
+ghost use Rattle.zf_spec.specs.Codes as codes;
+ghost use Rattle.zf_spec.specs.Lift.{lift, unlift};
+ghost use Rattle.zf_spec.specs.Planes.{code};
+ghost use Rattle.zf_base.specs.Positions.{used_axes, IsExtent};
+ghost use Rattle.zf_bits.specs.Writer.{Appends};
+ghost use Rattle.zf_block.specs.Room.{longest_prec};
+ghost use Rattle.zf_block.specs.ReadBlocks.{ReadsPrec, LacksPrec, prec_planes, prec_len};
+
+use crate::Scratch;
+use crate::block_code::BlockCode;
+use crate::codec::{decode, encode};
+use crate::uncut::{read_uncut, write_uncut};
+use std::alloc::AllocError;
+use zf_base::{Extent, Lane};
+use zf_bits::{BitReader, BitWriter};
+
+/// Appends the code of the block's top `prec` planes, or of all where its type has fewer.
+///
+/// `block` has `4^d` values, x fastest; those outside `e` are not looked at. `s` is work room for `d` dimensions. The precisions of the format are 1 to 128.
+/// `AllocError` means that there was no memory for the longest code; room for it can be reserved before. zfp's fixed precision (zfp 1.0 documentation).
+pub fn encode_prec<T: Lane>(
+    d: u8,
+    e: &Extent,
+    prec: u32,
+    block: &[T],
+    s: &mut Scratch<T>,
+    out: &mut BitWriter,
+) -> Result<(), AllocError>
+    requires dimension { IsDimension d }
+    requires extent { IsExtent d e.now }
+    requires block { length block.now ≡ 4 ^ d }
+    requires scratch { s.old ≡ d }
+    ensures ok { OnOk result (Appends out.old out.new (codes.prec T.width prec (used_axes d e.now.size) (map T.value block.now))) }
+    ensures err { OnErr result (out.new ≡ out.old) }
+    ensures full { OnErr result (out.old.room < longest_prec T.WIDTH d) }
+    ensures scratch { s.new ≡ d }
+{
+    let size = block.len() as u64;
+    out.reserve(size * u64::from(T::WIDTH + 1))?;
+    encode(&Precision { prec }, d, e, block, s, out);
+    Ok(())
+}
+
+/// Reads the code of a block of `prec` planes, or of all where its type has fewer. `None` means that the bits end before the code does; then the reader
+/// stands where it stood, and the block holds anything.
+///
+/// `block` gets `4^d` values, x fastest. A code does not tell which of them exist; at places that do not, the values mean nothing.
+pub fn decode_prec<T: Lane>(
+    d: u8,
+    prec: u32,
+    reader: &mut BitReader<'_>,
+    block: &mut [T],
+) -> Option<()>
+    requires dimension { IsDimension d }
+    requires block { length block.old ≡ 4 ^ d }
+    ensures short { IfNone result (LacksPrec T.width d prec reader.old) }
+    ensures unread { IfNone result (reader.new ≡ reader.old) }
+    ensures reads { OnSome result (ReadsPrec T.width d prec reader.old reader.new (map T.value block.new)) }
+{
+    decode(&Precision { prec }, d, reader, block)
+}
+
+/// So many planes from the top, or all.
+#[derive(Clone, Copy)]
+struct Precision {
+    prec: u32,
+}
+
+impl<T: Lane> BlockCode<T> for Precision {
+    ghost forth = { λ d block. lift T.width d block };
+
+    ghost back = { λ d block. unlift T.width d block };
+
+    ghost code_of = { λ self planes. code (take (min self.prec T.WIDTH) planes) };
+
+    ghost longest = { λ self size. size * (T.WIDTH + 1) };
+
+    ghost planes_at = { λ self size s. prec_planes T.width self.prec size s };
+
+    ghost len_at = { λ self size s. prec_len T.width self.prec size s };
+
+    fn forward(d: u8, block: &mut [T]) {
+        zf_lift::forward(d, block);
+    }
+
+    fn inverse(d: u8, block: &mut [T]) {
+        zf_lift::inverse(d, block);
+    }
+
+    fn write(&self, size: usize, planes: &[[u64; 4]], out: &mut BitWriter) {
+        write_uncut(self.prec.min(T::WIDTH), size, planes, out);
+    }
+
+    fn read(&self, size: usize, reader: &mut BitReader<'_>, planes: &mut [[u64; 4]]) -> Option<()> {
+        read_uncut(self.prec.min(T::WIDTH), size, reader, planes)
+    }
+}
