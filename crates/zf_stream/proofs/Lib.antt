@@ -10,6 +10,7 @@
 --     Enough         as many bits as the longest codes have are enough for any codes
 --     Joined         the values of an array are joined of its blocks
 --     ParseOfStream  a stream of codes that read back is parsed to what they stand for
+--     RateStreams    what a stream of a fixed rate says: its codes are cut by places alone
 --     BlocksBack     the codes of blocks read back
 --     StreamsBack    what compress writes, restore reads
 pub mod LittleEndian
@@ -23,5 +24,6 @@ pub mod TextOfParse
 mod Enough
 pub mod Joined
 pub mod ParseOfStream
+pub mod RateStreams
 pub mod BlocksBack
 pub mod StreamsBack

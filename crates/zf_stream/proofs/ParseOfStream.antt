@@ -28,7 +28,7 @@ end_to_end code bs = flat_map (λ c. c) (map code bs)
 abbrev pub ReadsBack : Header → (ℕ → List Bool) → (ℕ → List ℤ) → ℕ → Type 0
 ReadsBack h code back b = (more : List Bool) → read_code (width_of h.ty) h.mode (extent_of h.shape b) (code b ++ more) ≡ Some (back b, length (code b))
 
-read_codes-codes : (h : Header) (code : ℕ → List Bool) (back : ℕ → List ℤ) (b n : ℕ) (more : List Bool)
+pub read_codes-codes : (h : Header) (code : ℕ → List Bool) (back : ℕ → List ℤ) (b n : ℕ) (more : List Bool)
     → ((k : ℕ) → b ≤ k → k < b + n → ReadsBack h code back k)
     → read_codes h b n (end_to_end code (count_from b n) ++ more) ≡ Ok (map back (count_from b n), more)
 read_codes-codes h code back b zero more reads = refl

@@ -1,0 +1,175 @@
+-- The words of two runs of bits end to end, and their bytes.
+use Rattle.std.proofs.Common.{◌≡◌, refl, sym, ap, ◌∙◌, ◌⊎◌, inl, inr, ℕ, zero, suc, ◌+◌, ◌-◌, ◌*◌, ◌/◌, ◌%◌, ◌^◌, ◌<◌, ◌≤◌, min, Bool, true, false, List, [], ◌∷◌, ◌++◌, length, get_or, take, drop, replicate, append_assoc, append-nil, length-append, length-drop, arith}
+use Rattle.std.specs.List.{flat_map}
+use Rattle.std.specs.Int.{w64, to_le_bytes, from_le_bytes, div_ceil}
+use Rattle.std.proofs.Math.Seq.{take-add, drop-append-add, take-append-add, drop-append_seam}
+use Rattle.std.proofs.lemmas.Bool.{cases_lt}
+use Rattle.std.proofs.lemmas.List.{length-take-le, length-take, length-replicate, take-append-drop, take-take, take_at, take_all, take-append-le, drop-take, drop_at, drop-drop, drop_all, drop-append-le, take-replicate, get_or-take, get_or-drop, get_or_past}
+use Rattle.std.proofs.lemmas.List.Elements.{All-from_get_or}
+use Rattle.zf_spec.specs.Numbers.{field, number, word_bits}
+use Rattle.zf_spec.specs.Stream.{bytes_from, to_bytes, to_bits, with_fill, fill_len, first_bytes}
+use Rattle.zf_spec.proofs.Bytes.{length-to_bits, length-with_fill, first_bytes-all}
+use Rattle.zf_spec.proofs.Fields.{length-field}
+use Rattle.zf_spec.proofs.WordBits.{length-word_bits}
+use Rattle.zf_bits.specs.Packing.{word_of}
+use Rattle.zf_bits.proofs.Fields.{take-field}
+use Rattle.zf_bits.proofs.Packed.{bytes-words, field-word_of}
+use Rattle.zf_bits.proofs.Words.{take-words, drop-words}
+use Rattle.zf_store.proofs.Runs.{field_of_number}
+
+-- ---- bits continued with zeros
+
+-- the first w bits of a list that is continued with k zeros, where there are so many
+take_padded : (w k : ℕ) (bs : List Bool) → w ≤ length bs + k → take w (bs ++ replicate k false) ≡ take (min (length bs) w) bs ++ replicate (w - min (length bs) w) false
+take_padded w k bs enough = by (cases_lt (length bs) w)
+  where
+    by : (length bs < w) ⊎ (w ≤ length bs) → take w (bs ++ replicate k false) ≡ take (min (length bs) w) bs ++ replicate (w - min (length bs) w) false
+    by (inl short) =
+        let m : min (length bs) w ≡ length bs = omega arith in
+        let sum : w ≡ length bs + (w - length bs) = omega arith in
+        ap (λ n. take n (bs ++ replicate k false)) sum ∙ take-append-add bs (replicate k false) (w - length bs)
+        ∙ ap (λ (zs : List Bool). bs ++ zs) (take-replicate (w - length bs) k false (omega arith))
+        ∙ ap (λ (front : List Bool). front ++ replicate (w - length bs) false) (sym (take_all (length bs) bs (omega arith)))
+        ∙ ap (λ n. take n bs ++ replicate (w - n) false) (sym m)
+    by (inr long) =
+        let m : min (length bs) w ≡ w = omega arith in
+        let none : w - w ≡ 0 = omega arith in
+        take-append-le w bs (replicate k false) long
+        ∙ sym (ap (λ n. take n bs ++ replicate (w - n) false) m ∙ ap (λ n. take w bs ++ replicate n false) none ∙ append-nil (take w bs))
+
+-- any count of zeros that is enough will do
+pub padded_same : (w j k : ℕ) (bs : List Bool) → w ≤ length bs + j → w ≤ length bs + k → take w (bs ++ replicate j false) ≡ take w (bs ++ replicate k false)
+padded_same w j k bs f g = take_padded w j bs f ∙ sym (take_padded w k bs g)
+
+-- ---- a word of a run
+
+pub word_of_run : (at len n x : ℕ) (bits : List Bool) → at ≤ len → len ≤ length bits → n ≡ min (len - at) 64 → x ≡ number (take n (drop at bits))
+    → field 64 x ≡ take 64 (drop at (take len bits) ++ replicate 64 false)
+word_of_run at len n x bits before within is_n is_x =
+    let sum : len ≡ at + (len - at) = omega arith in
+    let run = drop at (take len bits) in
+    let same : run ≡ take (len - at) (drop at bits) = ap (λ k. drop at (take k bits)) sum ∙ drop-take at (len - at) bits in
+    let long : length run ≡ len - at = omega (arith, length-drop at (take len bits), length-take-le len bits within) in
+    let piece : take n run ≡ take n (drop at bits) = ap (take n) same ∙ take-take n (len - at) (drop at bits) (omega arith) in
+    let count : n ≡ min (length run) 64 = omega arith in
+    let size : length (take n run) ≡ n = length-take-le n run (omega arith) in
+    ap (field 64) (is_x ∙ ap number (sym piece)) ∙ field_of_number n (take n run) size (omega arith)
+    ∙ ap (λ k. take k run ++ replicate (64 - k) false) count ∙ sym (take_padded 64 64 run (omega arith))
+
+-- ---- a word of two runs
+
+-- one word has its bits
+pub one_word : (words : List ℕ) → length words ≡ 1 → field 64 (get_or words 0 0) ≡ word_bits words
+one_word [] one = absurd (omega arith)
+one_word (x ∷ []) one = sym (append-nil (field 64 x))
+one_word (x ∷ y ∷ words) one = absurd (omega arith)
+
+module _ (front back : List Bool) (at : ℕ) where
+  pub word_behind : (from : ℕ) → length front ≤ at → from ≡ at - length front → take 64 (drop from back ++ replicate 64 false) ≡ take 64 (drop at (front ++ back) ++ replicate 64 false)
+  word_behind from behind is_from =
+      let sum : at ≡ length front + from = omega arith in
+      sym (ap (λ k. take 64 (drop k (front ++ back) ++ replicate 64 false)) sum
+      ∙ ap (λ (bs : List Bool). take 64 (bs ++ replicate 64 false)) (drop-append-add front back from))
+
+  pub word_before : at + 64 ≤ length front → take 64 (drop at front ++ replicate 64 false) ≡ take 64 (drop at (front ++ back) ++ replicate 64 false)
+  word_before before =
+      let long : 64 ≤ length (drop at front) = omega (arith, length-drop at front) in
+      take-append-le 64 (drop at front) (replicate 64 false) long
+      ∙ sym (ap (λ (bs : List Bool). take 64 (bs ++ replicate 64 false)) (drop-append-le at front back (omega arith))
+      ∙ ap (take 64) (append_assoc (drop at front) back (replicate 64 false))
+      ∙ take-append-le 64 (drop at front) (back ++ replicate 64 false) long)
+
+  pub word_between : (held n word v x : ℕ) (now : List Bool) → at ≤ length front → held ≡ length front - at → n ≡ 64 - held → held ≤ 64
+      → field 64 word ≡ take 64 (drop at front ++ replicate 64 false) → field 64 v ≡ take 64 (back ++ replicate 64 false)
+      → now ≡ take held (field 64 word ++ []) ++ field n v ++ drop (held + n) (field 64 word ++ []) → field 64 x ≡ now
+      → field 64 x ≡ take 64 (drop at (front ++ back) ++ replicate 64 false)
+  word_between held n word v x now within is_held is_n narrow is_word is_v is_now is_x =
+      let old = field 64 word ++ [] in
+      let size : length old ≡ 64 = omega (arith, length-append (field 64 word) [], length-field 64 word) in
+      let rest = drop at front in
+      let long : length rest ≡ held = omega (arith, length-drop at front) in
+      let parts : n + held ≡ 64 = omega arith in
+      let sum : 64 ≡ length rest + n = omega arith in
+      let none : drop (held + n) old ≡ [] = drop_all (held + n) old (omega arith) in
+      let low : take held old ≡ rest =
+      ap (take held) (append-nil (field 64 word) ∙ is_word) ∙ take-take held 64 (rest ++ replicate 64 false) narrow ∙ take_at rest (replicate 64 false) held long in
+      let high : field n v ≡ take n (back ++ replicate 64 false) =
+      sym (take-field n held v) ∙ ap (λ k. take n (field k v)) parts ∙ ap (take n) is_v ∙ take-take n 64 (back ++ replicate 64 false) (omega arith) in
+      is_x ∙ is_now ∙ ap (λ (bs : List Bool). take held old ++ field n v ++ bs) none ∙ append-nil (take held old ++ field n v)
+      ∙ ap (λ (bs : List Bool). bs ++ field n v) low ∙ ap (λ (bs : List Bool). rest ++ bs) high
+      ∙ sym (ap (λ (bs : List Bool). take 64 (bs ++ replicate 64 false)) (drop-append-le at front back within)
+      ∙ ap (take 64) (append_assoc rest back (replicate 64 false)) ∙ ap (λ k. take k (rest ++ (back ++ replicate 64 false))) sum
+      ∙ take-append-add rest (back ++ replicate 64 false) n)
+
+-- ---- bytes
+
+pub bytes_from-add : (m n : ℕ) (bs : List Bool) → bytes_from (m + n) bs ≡ bytes_from m bs ++ bytes_from n (drop (8 * m) bs)
+bytes_from-add zero n bs = let e : zero + n ≡ n = omega arith in ap (λ k. bytes_from k bs) e
+bytes_from-add (suc m) n bs =
+    let e : suc m + n ≡ suc (m + n) = omega arith in
+    let f : 8 + 8 * m ≡ 8 * suc m = omega arith in
+    ap (λ k. bytes_from k bs) e ∙ ap (λ (cs : List ℕ). number (take 8 bs) ∷ cs) (bytes_from-add m n (drop 8 bs)
+    ∙ ap (λ (cs : List Bool). bytes_from m (drop 8 bs) ++ bytes_from n cs) (drop-drop (8 * m) 8 bs ∙ ap (λ k. drop k bs) f))
+
+pub bytes_from-front : (n : ℕ) (bs : List Bool) → bytes_from n (take (8 * n) bs) ≡ bytes_from n bs
+bytes_from-front zero bs = refl
+bytes_from-front (suc n) bs =
+    let e : 8 * suc n ≡ 8 + 8 * n = omega arith in
+    ap (λ k. bytes_from (suc n) (take k bs)) e
+    ∙ ap (λ (b : List Bool). number b ∷ bytes_from n (drop 8 (take (8 + 8 * n) bs))) (take-take 8 (8 + 8 * n) bs (omega arith))
+    ∙ ap (λ (cs : List ℕ). number (take 8 bs) ∷ cs) (ap (bytes_from n) (drop-take 8 (8 * n) bs) ∙ bytes_from-front n (drop 8 bs))
+
+-- the bytes of a word
+pub bytes_of_word : (x : ℕ) → x < 2 ^ 64 → to_le_bytes w64 x ≡ bytes_from 8 (field 64 x)
+bytes_of_word x small =
+    let long : length (field 64 x ++ []) / 8 ≡ 8 = omega (arith, length-append (field 64 x) [], length-field 64 x) in
+    sym (append-nil (to_le_bytes w64 x))
+    ∙ bytes-words (x ∷ []) (All-from_get_or (λ v. v < 2 ^ 64) (x ∷ []) 0 (λ i within. by i))
+    ∙ ap (λ k. bytes_from k (field 64 x ++ [])) long ∙ ap (bytes_from 8) (append-nil (field 64 x))
+  where
+    by : (i : ℕ) → get_or (x ∷ []) i 0 < 2 ^ 64
+    by zero = small
+    by (suc i) = omega arith
+
+-- word i of the bytes of filled bits
+pub filled_word : (bs : List Bool) (i x : ℕ) → 64 * i < length bs → field 64 x ≡ take 64 (drop (64 * i) bs ++ replicate 64 false) → field 64 x ≡ take 64 (drop (64 * i) (with_fill bs))
+filled_word bs i x within is =
+    let k = fill_len (length bs) in
+    let left : length (drop (64 * i) bs) ≡ length bs - 64 * i = length-drop (64 * i) bs in
+    is ∙ padded_same 64 64 k (drop (64 * i) bs) (omega arith) (omega arith)
+    ∙ ap (take 64) (sym (drop-append-le (64 * i) bs (replicate k false) (omega arith)))
+
+pub bytes_more : (bs : List Bool) (i j x : ℕ) (now new : List ℕ) → 64 * i < length bs → x < 2 ^ 64 → j ≡ i + 1 → 8 * i ≤ length now
+    → field 64 x ≡ take 64 (drop (64 * i) bs ++ replicate 64 false) → take (8 * i) now ≡ bytes_from (8 * i) (with_fill bs)
+    → new ≡ take (8 * i) now ++ to_le_bytes w64 x ++ drop (8 * i + 8) now → take (8 * j) new ≡ bytes_from (8 * j) (with_fill bs)
+bytes_more bs i j x now new within small is_j held is_x is_now is_new =
+    let filled = with_fill bs in
+    let front = take (8 * i) now ++ to_le_bytes w64 x in
+    let bytes = bytes_of_word x small in
+    let long : length (bytes_from 8 (field 64 x)) ≡ 8 = refl in
+    let size : length front ≡ 8 * j = omega (arith, length-append (take (8 * i) now) (to_le_bytes w64 x), length-take-le (8 * i) now held, ap length bytes, long) in
+    let sum : 8 * j ≡ 8 * i + 8 = omega arith in
+    let eight : 8 * (8 * i) ≡ 64 * i = omega arith in
+    let word : bytes_from 8 (field 64 x) ≡ bytes_from 8 (drop (64 * i) filled) = ap (bytes_from 8) (filled_word bs i x within is_x) ∙ bytes_from-front 8 (drop (64 * i) filled) in
+    ap (take (8 * j)) is_new ∙ take_at front (drop (8 * i + 8) now) (8 * j) size
+    ∙ ap (λ (cs : List ℕ). cs ++ to_le_bytes w64 x) is_now ∙ ap (λ (cs : List ℕ). bytes_from (8 * i) filled ++ cs) (bytes ∙ word)
+    ∙ sym (ap (λ k. bytes_from k filled) sum ∙ bytes_from-add (8 * i) 8 filled ∙ ap (λ k. bytes_from (8 * i) filled ++ bytes_from 8 (drop k filled)) eight)
+
+pub bytes_all : (bs : List Bool) (i : ℕ) (out : List ℕ) → length out ≡ 8 * div_ceil (length bs) 64 → length out ≤ 8 * i → i ≤ length out / 8 → take (8 * i) out ≡ bytes_from (8 * i) (with_fill bs) → out ≡ to_bytes (with_fill bs)
+bytes_all bs i out size all last is =
+    let count : 8 * i ≡ length (with_fill bs) / 8 = omega (arith, length-append bs (replicate (fill_len (length bs)) false), length-replicate (fill_len (length bs)) false) in
+    sym (take_all (8 * i) out all) ∙ is ∙ ap (λ k. bytes_from k (with_fill bs)) count
+
+-- the word of 8 bytes
+pub word_of_bytes : (bytes : List ℕ) (at : ℕ) → at + 8 ≤ length bytes → ((i : ℕ) → get_or bytes i 0 < 256) → field 64 (from_le_bytes w64 (take 8 (drop at bytes))) ≡ take 64 (drop (8 * at) (to_bits bytes))
+unfolding word_of
+word_of_bytes bytes at within small =
+    let piece = take 8 (drop at bytes) in
+    let long : length piece ≡ 8 = length-take-le 8 (drop at bytes) (omega (arith, length-drop at bytes)) in
+    let same : first_bytes 8 piece ≡ piece = ap (λ k. first_bytes k piece) (sym long) ∙ first_bytes-all piece in
+    sym (ap (λ (bs : List ℕ). field 64 (from_le_bytes w64 bs)) same) ∙ field-word_of piece (λ i. by i (cases_lt i 8)) ∙ ap to_bits same
+    ∙ sym (take-words 8 8 (drop at bytes)) ∙ ap (take 64) (sym (drop-words 8 at bytes))
+  where
+    by : (i : ℕ) → (i < 8) ⊎ (8 ≤ i) → get_or (take 8 (drop at bytes)) i 0 < 256
+    by i (inl h) = rw (get_or-take 8 (drop at bytes) i 0 h, get_or-drop at bytes i 0) (small (at + i))
+    by i (inr h) = rw (get_or_past (take 8 (drop at bytes)) i 0 (omega (arith, length-take 8 (drop at bytes)))) (omega arith)

@@ -1,0 +1,179 @@
+-- What a file of a rate says, and why it says nothing.
+use Rattle.std.proofs.Common.{◌≡◌, ◌≢◌, ◌⊎◌, inl, inr, refl, sym, ap, subst, ◌∙◌, ℕ, ◌+◌, ◌-◌, ◌*◌, ◌/◌, ◌%◌, ◌<◌, ◌≤◌, min, Bool, false, ℤ, List, [], ◌∷◌, ◌++◌, map, length, get_or, take, drop, replicate, All, Result, Ok, Err, append_assoc, length-append, length-drop, length-take, arith}
+use Rattle.std.specs.List.{flat_map}
+use Rattle.std.specs.Int.{Width, div_ceil}
+use Rattle.std.proofs.Math.Nat.{div-lt_iff_lt-mul, le-div_iff_mul-le}
+use Rattle.std.proofs.lemmas.Bool.{cases_lt}
+use Rattle.std.proofs.lemmas.List.{length-take-le, take-append-drop, take_at, drop-drop, take_all}
+use Rattle.zf_spec.specs.Grid.{upto, blocks, extent_of}
+use Rattle.zf_spec.specs.Codes.{read_rate}
+use Rattle.zf_spec.specs.Numbers.{field, number}
+use Rattle.zf_spec.specs.Stream.{to_bits, to_bytes, with_fill, fill_len, file}
+use Rattle.zf_spec.proofs.Bytes.{length-to_bits, to_bytes-to_bits}
+use Rattle.zf_spec.proofs.Fields.{field-number, field-zero}
+use Rattle.zf_spec.proofs.Counting.{map-upto_same}
+use Rattle.zf_base.specs.Widths.{width_of}
+use Rattle.zf_base.specs.Formats.{meant}
+use Rattle.zf_header.specs.declared.header.Header.{Header}
+use Rattle.zf_header.specs.declared.header.Mode.{Mode}
+use Rattle.zf_header.specs.declared.header.Mode.TheVariants.{Reversible, Rate, Precision}
+use Rattle.zf_header.specs.HeaderBits.{IsRate, IsTaken, IsHeader, BeginsWith, coding, block_bits, header_bits, rate_bytes_of}
+use Rattle.zf_header.proofs.Good.{good}
+use Rattle.zf_header.proofs.Found.{read_is_spelled, read_is_header, begins_within}
+use Rattle.zf_stream.specs.declared.fault.StreamFault.{StreamFault}
+use Rattle.zf_stream.specs.declared.fault.StreamFault.TheVariants.{Truncated, Pad, Trailing}
+use Rattle.zf_stream.specs.Parsing.{Said, values_of_blocks, parse}
+use Rattle.zf_stream.specs.ReadStreams.{BeginsWithHeader}
+use Rattle.zf_stream.proofs.ParseOfStream.{end_to_end, ReadsBack, parse-file}
+use Rattle.zf_stream.proofs.RateStreams.{code_cut, end_to_end-cut, length-cut, read_code-rate, parse_cut, parse_fill_short, parse_pad, parse_trailing}
+use Rattle.zf_cached.proofs.Arrays.{meant-rate}
+use Rattle.zf_store.specs.Stored.{Stored, code_at, format_of, file_of}
+use Rattle.zf_store.specs.Files.{HasHeader, IsOpened, values_of, said}
+use Rattle.zf_store.specs.Words.{codes_in, with_codes, all_bits, IsWholeFile}
+use Rattle.zf_store.proofs.Cut.{codes_in-front, get_or-codes_in, joined-codes_in}
+
+-- ---- headers with a rate
+
+pub mode_is_rate : (m : Mode) → IsRate m → m ≡ Rate (block_bits m)
+mode_is_rate Reversible is = absurd is
+mode_is_rate (Rate b) is = refl
+mode_is_rate (Precision p) is = absurd is
+
+pub rate_is_some : (m : Mode) → IsRate m → (1 ≤ block_bits m) × (block_bits m ≤ 32768)
+rate_is_some Reversible is = absurd is
+rate_is_some (Rate b) is = is
+rate_is_some (Precision p) is = absurd is
+
+pub rate_is_taken : (m : Mode) → IsRate m → IsTaken m
+rate_is_taken Reversible is = absurd is
+rate_is_taken (Rate b) is = is
+rate_is_taken (Precision p) is = absurd is
+
+module _ (bytes : List ℕ) (h : Header) (has : HasHeader bytes h) where
+  pub is_header : IsHeader h
+  is_header = subst IsHeader (sym has.header) (read_is_header bytes (good bytes (sym has.good)))
+
+  pub begins : BeginsWith bytes h
+  begins = subst (BeginsWith bytes) (sym has.header) (read_is_spelled bytes (good bytes (sym has.good)))
+
+  pub header_within : length (header_bits h) ≤ 8 * length bytes
+  header_within = begins_within bytes h begins
+
+  pub begun : BeginsWithHeader bytes h (length (header_bits h))
+  begun = record { good = has.good; header = has.header; bits_is = refl; within = header_within; taken = rate_is_taken h.mode has.rate }
+
+  length-behind : length (drop (length (header_bits h)) (to_bits bytes)) ≡ 8 * length bytes - length (header_bits h)
+  length-behind = length-drop (length (header_bits h)) (to_bits bytes) ∙ ap (λ k. k - length (header_bits h)) (length-to_bits bytes)
+
+  in_bits : length (header_bits h) ≤ length (to_bits bytes)
+  in_bits = omega (arith, header_within, length-to_bits bytes)
+
+  -- the bits up to the end of the fill
+  whole_bits : rate_bytes_of h * 8 ≡ length (header_bits h) + blocks h.shape * block_bits h.mode + fill_len (length (header_bits h) + blocks h.shape * block_bits h.mode)
+  whole_bits = omega arith
+
+  pub parse_short : (b : ℕ) → length bytes < rate_bytes_of h → b ≡ min ((8 * length bytes - length (header_bits h)) / block_bits h.mode) (blocks h.shape) → parse bytes ≡ Err (Truncated b)
+  parse_short b short is = by (cases_lt (length (drop (length (header_bits h)) (to_bits bytes))) (blocks h.shape * block_bits h.mode))
+    where
+      s : List Bool
+      s = drop (length (header_bits h)) (to_bits bytes)
+      some : 1 ≤ block_bits h.mode
+      some = (rate_is_some h.mode has.rate).0
+      quotient : (8 * length bytes - length (header_bits h)) / block_bits h.mode ≡ length s / block_bits h.mode
+      quotient = ap (λ k. k / block_bits h.mode) (sym length-behind)
+      by : (length s < blocks h.shape * block_bits h.mode) ⊎ (blocks h.shape * block_bits h.mode ≤ length s) → parse bytes ≡ Err (Truncated b)
+      by (inl cut) =
+          let below : length s / block_bits h.mode < blocks h.shape = (div-lt_iff_lt-mul some).1 cut in
+          let same : length s / block_bits h.mode ≡ b = omega (arith, quotient, is, below) in
+          parse_cut bytes h (length (header_bits h)) (block_bits h.mode) begun (mode_is_rate h.mode has.rate) some cut ∙ ap (λ (k : ℕ). Err (Truncated k)) same
+      by (inr long) =
+          let above : blocks h.shape ≤ length s / block_bits h.mode = (le-div_iff_mul-le some).1 long in
+          let all : blocks h.shape ≡ b = omega (arith, quotient, is, above) in
+          parse_fill_short bytes h (length (header_bits h)) (block_bits h.mode) begun (mode_is_rate h.mode has.rate) in_bits long
+          (omega (arith, length-drop (blocks h.shape * block_bits h.mode) s, length-behind, whole_bits, short))
+          ∙ ap (λ (k : ℕ). Err (Truncated k)) all
+
+  -- what stands behind the codes
+  fill_at : drop (blocks h.shape * block_bits h.mode) (drop (length (header_bits h)) (to_bits bytes)) ≡ drop (length (header_bits h) + blocks h.shape * block_bits h.mode) (to_bits bytes)
+  fill_at = drop-drop (blocks h.shape * block_bits h.mode) (length (header_bits h)) (to_bits bytes)
+
+  module _ (fill_number : ℕ) (is : fill_number ≡ number (take (fill_len (length (header_bits h) + blocks h.shape * block_bits h.mode)) (drop (length (header_bits h) + blocks h.shape * block_bits h.mode) (to_bits bytes)))) where
+    same_number : number (take (fill_len (length (header_bits h) + blocks h.shape * block_bits h.mode)) (drop (blocks h.shape * block_bits h.mode) (drop (length (header_bits h)) (to_bits bytes)))) ≡ fill_number
+    same_number = ap (λ (bs : List Bool). number (take (fill_len (length (header_bits h) + blocks h.shape * block_bits h.mode)) bs)) fill_at ∙ sym is
+
+    pub parse_one : rate_bytes_of h ≤ length bytes → fill_number ≢ 0 → parse bytes ≡ Err Pad
+    parse_one enough one =
+        parse_pad bytes h (length (header_bits h)) (block_bits h.mode) begun (mode_is_rate h.mode has.rate) in_bits
+        (omega (arith, length-behind, whole_bits, enough))
+        (omega (arith, length-drop (blocks h.shape * block_bits h.mode) (drop (length (header_bits h)) (to_bits bytes)), length-behind, whole_bits, enough))
+        (λ none. one (sym same_number ∙ none))
+
+    pub parse_more : rate_bytes_of h < length bytes → fill_number ≡ 0 → parse bytes ≡ Err Trailing
+    parse_more more none =
+        parse_trailing bytes h (length (header_bits h)) (block_bits h.mode) begun (mode_is_rate h.mode has.rate) in_bits
+        (omega (arith, length-behind, whole_bits, more))
+        (omega (arith, length-drop (blocks h.shape * block_bits h.mode) (drop (length (header_bits h)) (to_bits bytes)), length-behind, whole_bits, more))
+        (same_number ∙ none)
+
+    pub whole_file : rate_bytes_of h ≡ length bytes → fill_number ≡ 0 → IsWholeFile bytes h
+    whole_file all none =
+        let bits = to_bits bytes in
+        let hb = header_bits h in
+        let s = drop (length hb) bits in
+        let m = blocks h.shape * block_bits h.mode in
+        let cs = take m s in
+        let fill = drop m s in
+        let long_cs : length cs ≡ m = length-take-le m s (omega (arith, length-behind, whole_bits, all)) in
+        let long : length fill ≡ fill_len (length hb + m) = omega (arith, length-drop m s, length-behind, whole_bits, all) in
+        let front_size : length (hb ++ cs) ≡ length hb + m = length-append hb cs ∙ ap (λ k. length hb + k) long_cs in
+        let zero : number fill ≡ 0 = ap number (sym (take_all (fill_len (length hb + m)) fill (omega (arith, long)))) ∙ same_number ∙ none in
+        let zeros : fill ≡ replicate (fill_len (length (hb ++ cs))) false =
+        sym (field-number (length fill) fill refl) ∙ ap (λ k. field (length fill) k) zero ∙ field-zero (length fill)
+        ∙ ap (λ k. replicate k false) (long ∙ ap fill_len (sym front_size)) in
+        record {
+          size = sym all;
+          bits = sym (take-append-drop (length hb) bits) ∙ ap (λ (bs : List Bool). bs ++ s) begins.bits
+              ∙ ap (λ (bs : List Bool). hb ++ bs) (sym (take-append-drop m s)) ∙ sym (append_assoc hb cs fill)
+              ∙ ap (λ (bs : List Bool). hb ++ cs ++ bs) zeros;
+        }
+
+  -- ---- a whole file is opened
+
+  module _ (whole : IsWholeFile bytes h) (small : All (λ b. b < 256) bytes) where
+    file_is : to_bytes (with_fill (header_bits h ++ take (blocks h.shape * block_bits h.mode) (drop (length (header_bits h)) (to_bits bytes)))) ≡ bytes
+    file_is = ap to_bytes (sym whole.bits) ∙ to_bytes-to_bits bytes small
+
+    enough : blocks h.shape * block_bits h.mode ≤ length (drop (length (header_bits h)) (to_bits bytes))
+    enough = omega (arith, length-behind, whole_bits, whole.size)
+
+    opened_bits : IsOpened bytes h (with_codes h (drop (length (header_bits h)) (to_bits bytes)))
+    unfolding file header_bits
+    opened_bits =
+        let hb = header_bits h in
+        let s = drop (length hb) (to_bits bytes) in
+        let m = blocks h.shape * block_bits h.mode in
+        let w = width_of h.ty in
+        let back = λ (b : ℕ). read_rate w (extent_of h.shape b) (code_cut (block_bits h.mode) s b) in
+        let reads : (b : ℕ) → b < blocks h.shape → ReadsBack h (code_cut (block_bits h.mode) s) back b =
+        λ b below more. read_code-rate h (block_bits h.mode) (extent_of h.shape b) (code_cut (block_bits h.mode) s b) more (mode_is_rate h.mode has.rate) (length-cut (block_bits h.mode) (blocks h.shape) b s enough below) in
+        let parsed = parse-file h (code_cut (block_bits h.mode) s) is_header (rate_is_taken h.mode has.rate) back reads in
+        let joined : to_bytes (with_fill (hb ++ end_to_end (code_cut (block_bits h.mode) s) (upto (blocks h.shape)))) ≡ bytes =
+        ap (λ (cs : List Bool). to_bytes (with_fill (hb ++ cs))) (end_to_end-cut (block_bits h.mode) s (blocks h.shape)) ∙ file_is in
+        let store = with_codes h s in
+        let meant_is : (b : ℕ) → b < blocks h.shape → back b ≡ meant (format_of store) b (code_at store b) =
+        λ b below. sym (meant-rate w (block_bits h.mode) h.shape b (code_at store b) ∙ ap (read_rate w (extent_of h.shape b)) (get_or-codes_in (block_bits h.mode) (blocks h.shape) s b below)) in
+        let values : values_of_blocks h.shape (map back (upto (blocks h.shape))) ≡ values_of store =
+        ap (values_of_blocks h.shape) (map-upto_same back (λ b. meant (format_of store) b (code_at store b)) (blocks h.shape) meant_is) in
+        record {
+          header = refl;
+          said_is = sym (ap parse joined) ∙ parsed.1 ∙ ap (λ (vs : List ℤ). Ok (record { header = h; codes = codes_in (block_bits h.mode) (blocks h.shape) s; values = vs })) values;
+          file = ap (λ (cs : List Bool). to_bytes (with_fill (hb ++ cs))) (joined-codes_in (block_bits h.mode) (blocks h.shape) s) ∙ file_is;
+        }
+
+    pub opened : (bits zeros : List Bool) → bits ≡ take (blocks h.shape * block_bits h.mode) (drop (length (header_bits h)) (to_bits bytes)) ++ zeros → IsOpened bytes h (with_codes h bits)
+    opened bits zeros is =
+        let s = drop (length (header_bits h)) (to_bits bytes) in
+        let m = blocks h.shape * block_bits h.mode in
+        let same : codes_in (block_bits h.mode) (blocks h.shape) s ≡ codes_in (block_bits h.mode) (blocks h.shape) bits =
+        codes_in-front (block_bits h.mode) (blocks h.shape) s bits (sym (ap (take m) is ∙ take_at (take m s) zeros m (length-take-le m s enough))) in
+        subst (λ (cs : List (List Bool)). IsOpened bytes h (record { header = h; codes = cs })) same opened_bits

@@ -1,0 +1,109 @@
+-- Runs of bits that move between words, a word at a time.
+use Rattle.std.proofs.Common.{◌≡◌, ◌≢◌, refl, sym, ap, ◌∙◌, ℕ, zero, suc, ◌+◌, ◌-◌, ◌*◌, ◌/◌, ◌%◌, ◌^◌, ◌<◌, ◌≤◌, min, Bool, true, false, List, [], ◌∷◌, ◌++◌, length, get_or, set, take, drop, replicate, append_assoc, append-nil, length-append, length-drop, mod-eq_of_lt, arith}
+use Rattle.std.specs.List.{flat_map}
+use Rattle.std.specs.Int.{div_ceil}
+use Rattle.std.proofs.Math.Nat.{div-eq_of_lt}
+use Rattle.std.proofs.Math.Seq.{take-add, drop-append-add, take-append-add}
+use Rattle.std.proofs.lemmas.List.{length-take-le, length-take, length-replicate, take-append-drop, take-take, take_at, take_all, take-append-le, drop-take, drop_at, drop-drop, drop_all, drop-append-le, take-replicate, replicate-append-replicate}
+use Rattle.zf_spec.specs.Numbers.{field, number, word_bits}
+use Rattle.zf_spec.proofs.Fields.{length-field, number-field, field-number, field-add, field-zero, number-lt}
+use Rattle.zf_spec.proofs.WordBits.{length-word_bits}
+use Rattle.zf_bits.proofs.Fields.{take-field}
+use Rattle.zf_bits.proofs.Words.{words-set, words_here}
+
+-- ---- bits of words
+
+-- the first n bits of word i
+pub bits_of_word : (words : List ℕ) (i n : ℕ) → i < length words → n ≤ 64 → field n (get_or words i 0) ≡ take n (drop (64 * i) (word_bits words))
+bits_of_word words i n within narrow =
+    let v = get_or words i 0 in
+    let rest = drop (64 * (i + 1)) (word_bits words) in
+    let parts : n + (64 - n) ≡ 64 = omega arith in
+    sym (ap (take n) (words_here 64 i words within) ∙ take-append-le n (field 64 v) _ (omega (arith, length-field 64 v))
+    ∙ ap (λ k. take n (field k v)) (sym parts) ∙ take-field n (64 - n) v)
+
+-- a word whose lowest bits are these
+pub field_of_number : (n : ℕ) (bs : List Bool) → length bs ≡ n → n ≤ 64 → field 64 (number bs) ≡ bs ++ replicate (64 - n) false
+field_of_number n bs long narrow =
+    let parts : 64 ≡ n + (64 - n) = omega arith in
+    let small : number bs < 2 ^ n = omega (arith, number-lt bs, ap (λ k. 2 ^ k) long) in
+    ap (λ k. field k (number bs)) parts ∙ field-add n (64 - n) (number bs)
+    ∙ ap (λ (front : List Bool). front ++ field (64 - n) (number bs / 2 ^ n)) (field-number n bs long)
+    ∙ ap (λ k. bs ++ field (64 - n) k) (div-eq_of_lt small)
+    ∙ ap (λ (back : List Bool). bs ++ back) (field-zero (64 - n))
+
+-- ---- a run that is put a word at a time
+
+-- the bits with the first m of the code put from bit `at` on
+abbrev pub with_run : List Bool → ℕ → List Bool → ℕ → List Bool
+with_run old at code m = take at old ++ take m code ++ drop (at + m) old
+
+pub with_run-none : (old : List Bool) (at : ℕ) (code : List Bool) → with_run old at code 0 ≡ old
+with_run-none old at code =
+    let here : at + 0 ≡ at = omega arith in
+    ap (λ (bs : List Bool). bs ++ drop (at + 0) old) (append-nil (take at old)) ∙ ap (λ k. take at old ++ drop k old) here ∙ take-append-drop at old
+
+pub length-with_run : (old : List Bool) (at : ℕ) (code : List Bool) (m : ℕ) → at + m ≤ length old → m ≤ length code → length (with_run old at code m) ≡ length old
+length-with_run old at code m within held =
+    omega (arith, length-append (take at old ++ take m code) (drop (at + m) old), length-append (take at old) (take m code), length-take-le at old (omega arith), length-take-le m code held, length-drop (at + m) old)
+
+pub with_run-more : (old : List Bool) (at : ℕ) (code : List Bool) (m n next : ℕ) (now new bits : List Bool) → at + m + n ≤ length old → m + n ≤ length code → next ≡ m + n
+    → now ≡ with_run old at code m → bits ≡ take n (drop m code) → new ≡ take (at + m) now ++ bits ++ drop (at + m + n) now → new ≡ with_run old at code next
+with_run-more old at code m n next now new bits within held is_next is_now is_bits is_new =
+    let front = take at old ++ take m code in
+    let rest = drop (at + m) old in
+    let size : length front ≡ at + m = omega (arith, length-append (take at old) (take m code), length-take-le at old (omega arith), length-take-le m code (omega arith)) in
+    let long : at + m + n ≡ length front + n = omega arith in
+    let first : take (at + m) now ≡ front = ap (take (at + m)) is_now ∙ take_at front rest (at + m) size in
+    let last : drop (at + m + n) now ≡ drop (at + m + n) old =
+    ap (drop (at + m + n)) is_now ∙ ap (λ k. drop k (front ++ rest)) long ∙ drop-append-add front rest n ∙ drop-drop n (at + m) old in
+    let sum : at + m + n ≡ at + next = omega arith in
+    is_new ∙ ap (λ (bs : List Bool). bs ++ bits ++ drop (at + m + n) now) first
+    ∙ ap (λ (bs : List Bool). front ++ bits ++ bs) last
+    ∙ ap (λ (bs : List Bool). front ++ bs ++ drop (at + m + n) old) is_bits
+    ∙ ap (λ (bs : List Bool). bs ++ drop (at + m + n) old) (append_assoc (take at old) (take m code) (take n (drop m code))
+    ∙ ap (λ (bs : List Bool). take at old ++ bs) (sym (take-add m n code)))
+    ∙ ap (λ k. take at old ++ take (m + n) code ++ drop k old) sum
+    ∙ ap (λ k. take at old ++ take k code ++ drop (at + next) old) (sym is_next)
+
+-- ---- a run that is moved to the front, a word at a time
+
+-- words 0 to i - 1 hold the first m bits of the run, and then zeros; the words behind are those from before
+pub record IsMoved (old : List Bool) (at m i : ℕ) (words : List ℕ) : Type 0 where
+  pub moved : take (64 * i) (word_bits words) ≡ take m (drop at old) ++ replicate (64 * i - m) false
+  pub behind : drop (64 * i) (word_bits words) ≡ drop (64 * i) old
+
+pub IsMoved-none : (at : ℕ) (words : List ℕ) → IsMoved (word_bits words) at 0 0 words
+IsMoved-none at words = record { moved = refl; behind = refl }
+
+pub IsMoved-more : (old : List Bool) (at i n next m j x : ℕ) (words : List ℕ) → IsMoved old at (64 * i) i words → i < length words → 64 ≤ at → n ≤ 64 → at + 64 * i + n ≤ length old → j ≡ i + 1 → next ≡ 64 * i + n
+    → length old ≡ length (word_bits words) → x ≡ number (take n (drop (at + 64 * i) (word_bits words))) → m ≡ next → IsMoved old at m j (set words i x)
+IsMoved-more old at i n next m j x words is within behind narrow enough is_j is_next same is_x is_m =
+    let bits = word_bits words in
+    let front = take (64 * i) bits in
+    let rest = drop (64 * suc i) bits in
+    let now : word_bits (set words i x) ≡ front ++ (field 64 x ++ rest) = words-set 64 i words x within in
+    let size : length front ≡ 64 * i = length-take-le (64 * i) bits (omega (arith, length-word_bits words)) in
+    let whole : length (front ++ field 64 x) ≡ 64 * j = omega (arith, length-append front (field 64 x), length-field 64 x) in
+    let parts : front ++ (field 64 x ++ rest) ≡ front ++ field 64 x ++ rest = sym (append_assoc front (field 64 x) rest) in
+    let zero_more : 64 * i - 64 * i ≡ 0 = omega arith in
+    let first : front ≡ take (64 * i) (drop at old) = is.moved ∙ ap (λ k. take (64 * i) (drop at old) ++ replicate k false) zero_more ∙ append-nil (take (64 * i) (drop at old)) in
+    let source : drop (at + 64 * i) bits ≡ drop (64 * i) (drop at old) =
+    ap (λ k. drop k bits) (let e : at + 64 * i ≡ 64 * i + at = omega arith in e) ∙ sym (drop-drop at (64 * i) bits) ∙ ap (drop at) is.behind ∙ drop-drop at (64 * i) old
+    ∙ ap (λ k. drop k old) (let e : 64 * i + at ≡ at + 64 * i = omega arith in e) ∙ sym (drop-drop (64 * i) at old) in
+    let piece = take n (drop (64 * i) (drop at old)) in
+    let long : length piece ≡ n = length-take-le n (drop (64 * i) (drop at old)) (omega (arith, length-drop (64 * i) (drop at old), length-drop at old)) in
+    let put : field 64 x ≡ piece ++ replicate (64 - n) false = ap (field 64) (is_x ∙ ap (λ (bs : List Bool). number (take n bs)) source) ∙ field_of_number n piece long narrow in
+    let pad : 64 - n ≡ 64 * j - m = omega arith in
+    let count : 64 * i + n ≡ m = omega arith in
+    let next_word : 64 * suc i ≡ 64 * j = omega arith in
+    record {
+      moved = ap (take (64 * j)) (now ∙ parts) ∙ take_at (front ++ field 64 x) rest (64 * j) whole
+          ∙ ap (λ (bs : List Bool). bs ++ field 64 x) first ∙ ap (λ (bs : List Bool). take (64 * i) (drop at old) ++ bs) put
+          ∙ sym (append_assoc (take (64 * i) (drop at old)) piece (replicate (64 - n) false))
+          ∙ ap (λ (bs : List Bool). bs ++ replicate (64 - n) false) (sym (take-add (64 * i) n (drop at old)) ∙ ap (λ k. take k (drop at old)) count)
+          ∙ ap (λ k. take m (drop at old) ++ replicate k false) pad;
+      behind = ap (drop (64 * j)) (now ∙ parts) ∙ drop_at (front ++ field 64 x) rest (64 * j) whole
+          ∙ ap (λ k. drop k bits) (let e : 64 * suc i ≡ 64 * i + 64 = omega arith in e) ∙ sym (drop-drop 64 (64 * i) bits) ∙ ap (drop 64) is.behind ∙ drop-drop 64 (64 * i) old
+          ∙ ap (λ k. drop k old) (let e : 64 * i + 64 ≡ 64 * j = omega arith in e);
+    }

@@ -1,0 +1,7 @@
+-- What the contracts of zf_store cite.
+--     Stored       what a store is seen as: the header of its file, and the code of each block
+--     Files        what a file says, and why it says nothing
+--     Words        what holds of the fields of a store
+pub mod Stored
+pub mod Files
+pub mod Words
