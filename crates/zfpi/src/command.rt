@@ -5,7 +5,7 @@ use zf_base::{Shape, Ty};
 use zf_header::Header;
 
 /// What the program is asked to do.
-#[derive(Clone, Copy, Debug)]
+#[derive(Debug, Drop)]
 pub enum Command {
     /// Raw values from the source; the stream that has this header to the sink.
     Compress(Header),

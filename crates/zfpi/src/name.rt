@@ -1,7 +1,9 @@
 //! Names of files.
 
 ghost use Rattle.std.specs.Prelude.{◌≡◌, ℕ, List, IfSome, IfNone};
-ghost use Rattle.zfpi.specs.Names.{IsName};
+ghost use Rattle.std.specs.List.{list_all};
+ghost use Rattle.std.specs.Char.{is_ascii_alphanumeric};
+ghost use Rattle.zfpi.specs.Names.{IsName, begins_name, is_name_byte};
 
 use arrayvec::ArrayString;
 use std::marker::Model;
@@ -11,7 +13,7 @@ const MOST: usize = 64;
 
 /// The name of a file of the shelf, which contracts see as its bytes: 1 to 64 letters, digits, `_`, `.` and `-`, of which the first is
 /// a letter or a digit.
-#[derive(Clone, Copy, Debug)]
+#[derive(Debug, Drop)]
 pub struct Name {
     text: ArrayString<MOST>,
 }
@@ -30,11 +32,14 @@ impl Name {
         ensures name { IfSome result (λ name. IsName name × (name ≡ word.now)) }
         ensures none { IfNone result (IsName word.now → ⊥) }
     {
-        if !begins_name(word.as_bytes()) || !word.bytes().all(is_name_byte) {
+        let bytes = word.as_bytes();
+        if !begins_name(bytes) || !has_name_bytes(bytes) {
             return None;
         }
-        let text = ArrayString::from(word).ok()?;
-        Some(Name { text })
+        match ArrayString::from(word) {
+            Ok(text) => Some(Name { text }),
+            Err(_) => None,
+        }
     }
 
     /// The name as text.
@@ -55,9 +60,16 @@ fn begins_name(word: &[u8]) -> bool
     }
 }
 
+// Whether all bytes may stand in a name.
+fn has_name_bytes(word: &[u8]) -> bool
+    ensures { result ≡ list_all is_name_byte word.now }
+{
+    word.iter().all(|byte| is_name_byte(*byte))
+}
+
 // Whether a byte is a letter or a digit.
 fn is_first_byte(byte: u8) -> bool
-    ensures { result ≡ is_first_byte byte }
+    ensures { result ≡ is_ascii_alphanumeric byte }
 {
     byte.is_ascii_alphanumeric()
 }

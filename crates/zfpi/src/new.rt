@@ -1,7 +1,7 @@
 //! `new`: an array of zeros as a file.
 
 ghost use Rattle.std.specs.Prelude.{◌≡◌, ℕ, List, Option, length, IfOk};
-ghost use Rattle.zf_spec.specs.Grid.{IsShape};
+ghost use Rattle.zf_header.specs.declared.header.Mode.TheVariants.{Rate};
 ghost use Rattle.zf_header.specs.HeaderBits.{IsRate};
 ghost use Rattle.zf_store.specs.Stored.{file_of, zeros};
 ghost use Rattle.zfpi.specs.declared.command.Command.TheVariants.{New};
@@ -29,9 +29,9 @@ pub fn new<F: Shelf>(
     requires { CanRun (New name.now ty shape bits) }
     ensures behaves { (src out : Option (List ℕ)) → Behaves (New name.now ty shape bits) result
         (seen src out (F.files shelf.old)) (seen src out (F.files shelf.new)) }
-    ensures causes { (src out : ℕ) (Sure : Type 0) → HasCauses (New name.now ty shape bits) result
+    ensures causes { (src out : ℕ) → HasCauses (New name.now ty shape bits) result
         (counts src out (F.faults shelf.old)) (counts src out (F.faults shelf.new))
-        (FailedLoad F.loads F.faults shelf.old) (FailedSave F.saves F.faults shelf.old shelf.new) Sure Sure }
+        (FailedLoad F.loads F.faults shelf.old) (FailedSave F.saves F.faults shelf.old shelf.new) (Unit {0}) (Unit {0}) }
 {
     match file_of_zeros(alloc, ty, shape, bits) {
         Ok(file) => match shelf.save(name.as_str(), &file) {
@@ -44,7 +44,7 @@ pub fn new<F: Shelf>(
 
 // The bytes of the file of zeros.
 fn file_of_zeros(alloc: Global, ty: Ty, shape: Shape, bits: u32) -> Result<Vec<u8>, AllocError>
-    requires { IsRate (Mode.Rate bits) }
+    requires { IsRate (Rate bits) }
     ensures { IfOk result (λ file. file.items ≡ file_of (zeros ty shape bits)) }
 {
     match (ty, shape.dims()) {
@@ -66,7 +66,7 @@ fn file_of_store<T: Lane, const D: usize>(
     bits: u32,
 ) -> Result<Vec<u8>, AllocError>
     requires dims { length shape ≡ D }
-    requires rate { IsRate (Mode.Rate bits) }
+    requires rate { IsRate (Rate bits) }
     ensures { IfOk result (λ file. file.items ≡ file_of (zeros T.TY shape bits)) }
 {
     let store = Store::<T, D>::zeros(alloc, shape, bits)?;

@@ -13,7 +13,7 @@ use zf_base::{Shape, Ty};
 use zf_header::{Header, MAX_FILE, MAX_RATE, Mode, rate_bytes};
 
 // How far the words have come.
-#[derive(Clone, Copy, Debug)]
+#[derive(Debug, Drop)]
 enum Stage {
     Start,
     Compressing,
