@@ -68,7 +68,7 @@ rounded-plain ns b values = existing_of-existing_of (array_format plain_coding n
 -- the codes of an array that is opened are those that it was opened with
 pub codes_of-open : (w : Width) (budget : ℕ) (ns : List ℕ) (codes : List (List Bool)) (lines : ℕ) → length codes ≡ blocks ns → codes_of ns (open_array w budget ns codes lines) ≡ codes
 unfolding codes_of open_array opened
-codes_of-open w budget ns codes lines same = map-get_or-upto codes (blocks ns) [] same
+codes_of-open w budget ns codes lines same = map-get_or-upto codes (blocks ns) (replicate budget false) same
 
 -- the file of an array that nothing was written back to
 pub saved_file-open : (w : Width) (budget : ℕ) (ns : List ℕ) (codes : List (List Bool)) (lines : ℕ) → length codes ≡ blocks ns

@@ -60,9 +60,9 @@ array_format coding ns = record {
   encoding = λ b values. coding.encoding (extent_of ns b) values;
 }
 
--- the codes of a file, in the order of blocks, are those of the array that is opened; the number of lines is raised
+-- the codes of a file, in the order of blocks, are those of the array that is opened (the code of a number that is no block's is that of zeros); the number of lines is raised
 unfoldable pub open_array : Width → ℕ → List ℕ → List (List Bool) → ℕ → State (List Bool)
-open_array w budget ns codes lines = opened (array_format (rate_coding w budget) ns) (λ b. slice_index_or codes b []) (raised lines)
+open_array w budget ns codes lines = opened (array_format (rate_coding w budget) ns) (λ b. slice_index_or codes b (replicate budget false)) (raised lines)
 
 -- the codes of an array of zeros
 abbrev pub zero_codes : ℕ → List ℕ → List (List Bool)

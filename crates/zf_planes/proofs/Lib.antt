@@ -2,22 +2,24 @@
 --     Runs         a plane's tail n digits into it, as a group bit and a run
 --     Lengths      how long the tail of a plane is
 --     Budgets      a list that is written in parts, as far as a budget reaches
+--     Zeros        the code of zeros and of a run as numbers
 --     Unpacking    the digits that planes hold in words
 --     Digits       the digits of a plane as bits of its words, and its ones
---     Packing      a plane that is packed into words
 --     Filling      a list that is filled from its front
+--     Placing      a plane whose digits are put in from its front on
 --     Steps        one step of reading a tail
 --     PlaneAhead   what the decoder makes of one plane
 --     PlanesAhead  what the decoder makes of planes
 --     Passing      a reader that passes the bits of a code in parts
---     Peeking      zeros that are counted in bits which were looked at
+--     Peeking      bits that were looked at and are not yet passed
 pub mod Runs
 pub mod Lengths
 pub mod Budgets
+pub mod Zeros
 pub mod Unpacking
 pub mod Digits
-pub mod Packing
 pub mod Filling
+pub mod Placing
 pub mod Steps
 pub mod PlaneAhead
 pub mod PlanesAhead

@@ -120,3 +120,15 @@ Takes-reads {old} {new} {before} {after} {count} takes = record {
   place = omega (arith, takes.place, takes.enough, length-take count (rest old));
   all = takes.all;
 }
+
+-- ---- what is said of an answer, carried on
+
+pub on_none : {A : Type 0} (answer : Option A) {P Q : Type 0} → IfNone answer P → (P → Q) → IfNone answer Q
+on_none None p next = next p
+on_none (Some x) p next = tt
+
+-- two parts that were both passed
+pub Takes-sum : {old mid new : Reader} {before between after first : ℕ} (second needed : ℕ) → Takes old mid before between first → needed ≡ first + second → Takes mid new between after second → Takes old new before after needed
+Takes-sum {old} {mid} {new} {before} second needed takes sum rest =
+    let one = Passes-part second (Passes-start old before needed) sum takes in
+    Passes-end (Passes-part 0 one (omega arith) rest) refl

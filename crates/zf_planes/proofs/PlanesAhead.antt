@@ -1,13 +1,15 @@
 -- What the decoder makes of planes: one plane, and then those below.
-use Rattle.std.proofs.Common.{◌≡◌, ℕ, suc, ◌+◌, ◌-◌, ◌<◌, ◌≤◌, ⊎_elim, min, max, Bool, false, List, [], ◌∷◌, length, take, drop, replicate, refl, sym, ap, ◌∙◌, arith}
+use Rattle.std.proofs.Common.{◌≡◌, ℕ, zero, suc, ◌⊎◌, ◌++◌, ◌+◌, ◌-◌, ◌<◌, ◌≤◌, ⊎_elim, min, max, Bool, false, List, [], ◌∷◌, length, take, drop, replicate, refl, sym, ap, ◌∙◌, arith}
 use Rattle.std.proofs.lemmas.Bool.{cases_lt}
-use Rattle.std.proofs.lemmas.List.{length-append, drop-take}
+use Rattle.std.proofs.lemmas.List.{length-append, length-replicate, drop-take}
 use Rattle.zf_spec.specs.Planes.{reach, plane_code, code_from}
 use Rattle.zf_spec.specs.Kept.{kept_plane, kept_planes_from}
 use Rattle.zf_spec.specs.ReadPlanes.{plane_in, planes_in_from}
-use Rattle.zf_spec.proofs.Reach.{reach_within}
+use Rattle.zf_spec.proofs.Reach.{reach_within, reach_none, has_one-zeros}
 use Rattle.zf_spec.proofs.KeptSame.{kept_whole, kept_planes_from-none}
 use Rattle.zf_spec.proofs.Full.{length-plane_in, length-planes_in_from, planes_in_from-length}
+use Rattle.zf_planes.proofs.PlaneAhead.{plane_ahead-is, plane_bits-is}
+use Rattle.zf_planes.proofs.Steps.{tail_end}
 use Rattle.zf_planes.specs.Decoding.{plane_ahead, plane_bits, planes_ahead, planes_bits}
 
 pub planes_ahead-none : (r size n : ℕ) (s : List Bool) → planes_ahead r 0 size n s ≡ []
@@ -19,16 +21,20 @@ unfolding planes_bits
 planes_bits-none r size n s = omega arith
 
 -- where no bit is left, all planes are zero, whatever ranks have had a one
-planes_ahead-spent : (r p size n : ℕ) (s : List Bool) → 1 ≤ size → n ≤ size → r ≡ 0 → planes_ahead r p size n s ≡ replicate p (replicate size false)
+pub planes_ahead-spent : (r p size n : ℕ) (s : List Bool) → 1 ≤ size → n ≤ size → r ≡ 0 → planes_ahead r p size n s ≡ replicate p (replicate size false)
 unfolding planes_ahead
 planes_ahead-spent r p size n s some within spent =
     rw spent (kept_planes_from-none size n (planes_in_from p size n []) some (planes_in_from-length p size n [] within) ∙ ap (λ k. replicate k (replicate size false)) (length-planes_in_from p size n []))
 
-planes_bits-spent : (r p size n : ℕ) (s : List Bool) → r ≡ 0 → planes_bits r p size n s ≡ 0
+pub planes_bits-spent : (r p size n : ℕ) (s : List Bool) → r ≡ 0 → planes_bits r p size n s ≡ 0
 unfolding planes_bits
 planes_bits-spent r p size n s spent = omega arith
 
--- the ranks with a one so far are ranks of the plane
+-- so nothing is read where no bit or no plane is left
+pub planes_over : (r p size n : ℕ) (s : List Bool) → 1 ≤ size → n ≤ size → (r ≡ 0) ⊎ (p ≡ 0) → (planes_bits r p size n s ≡ 0) × (planes_ahead r p size n s ≡ replicate p (replicate size false))
+planes_over r p size n s some within = ⊎_elim
+    (λ (spent : r ≡ 0). (planes_bits-spent r p size n s spent, planes_ahead-spent r p size n s some within spent))
+    (λ (none : p ≡ 0). rw none (planes_bits-none r size n s, planes_ahead-none r size n s))
 
 -- a plane takes no more than it takes with those below
 pub plane_bits-le : (r p size n : ℕ) (s : List Bool) → plane_bits r size n s ≤ planes_bits r (suc p) size n s
@@ -102,3 +108,40 @@ next_plane r p size n s some within long = ⊎_elim
   where
     ds : List Bool
     ds = plane_in size n (take r s)
+
+-- ---- planes of zeros at the top
+
+-- one bit each
+zero_plane : (r p size : ℕ) (s t : List Bool) → 1 ≤ size → 0 < r → s ≡ false ∷ t
+    → (planes_bits r (suc p) size 0 s ≡ 1 + planes_bits (r - 1) p size 0 t) × (planes_ahead r (suc p) size 0 s ≡ replicate size false ∷ planes_ahead (r - 1) p size 0 t)
+zero_plane r p size s t some left e =
+    let zeros = replicate size false in
+    let none : min 0 r ≡ 0 = omega arith in
+    let all : r - 0 ≡ r = omega arith in
+    let ranks : size - 0 ≡ size = omega arith in
+    let end = tail_end r size s t left some e in
+    let is : plane_ahead r size 0 s ≡ zeros = rw (none, all, ranks) at (plane_ahead-is r size 0 s (omega arith)) ∙ end.1 in
+    let whole = rw (none, all, ranks) at (plane_bits-is r size 0 s (omega arith)) in
+    let one : plane_bits r size 0 s ≡ 1 = omega (arith, whole, end.0) in
+    let low : max 0 (reach zeros) ≡ 0 = omega (arith, reach_none zeros (has_one-zeros size)) in
+    let next = next_plane r p size 0 s some (omega arith) (ap length is ∙ length-replicate size false) in
+    let bits = rw (is, one, low, e) at next.bits in
+    let digits = rw (is, one, low, e) at next.digits in
+    (rw e bits, rw e digits)
+
+pub zero_planes : (k r p size : ℕ) (s t : List Bool) → 1 ≤ size → k ≤ r → k ≤ p → s ≡ replicate k false ++ t
+    → (planes_bits r p size 0 s ≡ k + planes_bits (r - k) (p - k) size 0 t) × (planes_ahead r p size 0 s ≡ replicate k (replicate size false) ++ planes_ahead (r - k) (p - k) size 0 t)
+zero_planes zero r p size s t some within below e =
+    let all : r - 0 ≡ r = omega arith in
+    let top : p - 0 ≡ p = omega arith in
+    rw (e, all, top) (omega arith, refl)
+zero_planes (suc k) r zero size s t some within below e = absurd (omega arith)
+zero_planes (suc k) r (suc p) size s t some within below e =
+    let zeros = replicate size false in
+    let one = zero_plane r p size s (replicate k false ++ t) some (omega arith) e in
+    let more = zero_planes k (r - 1) p size (replicate k false ++ t) t some (omega arith) (omega arith) refl in
+    let less : r - 1 - k ≡ r - suc k = omega arith in
+    let fewer : suc p - suc k ≡ p - k = omega arith in
+    let bits = rw less at more.0 in
+    let digits = rw less at more.1 in
+    rw fewer (omega (arith, one.0, bits), one.1 ∙ ap (λ (ps : List (List Bool)). zeros ∷ ps) digits)

@@ -6,6 +6,7 @@ use Rattle.std.specs.List.{All}
 use Rattle.zf_spec.proofs.Counting.{four_elements}
 use Rattle.zf_spec.specs.Numbers.{word_bits}
 use Rattle.zf_spec.specs.HeldPlanes.{digits_held, planes_held, IsClearFrom}
+use Rattle.zf_planes.proofs.Placing.{held_zeros}
 use Rattle.zf_spec.proofs.HeldPlanes.{length-digits_held, get_or-planes_held, length-planes_held}
 
 -- ---- the top planes
@@ -84,29 +85,15 @@ planes_held-set size planes i words within =
 
 -- ---- planes with no bit
 
-abbrev pub blank : List ℕ
-blank = replicate 4 0
-
-no_bits : word_bits blank ≡ replicate 256 false
-no_bits = refl
-
-digits_held-blank : (size : ℕ) → size ≤ 256 → digits_held size blank ≡ replicate size false
-unfolding digits_held
-digits_held-blank size small = ap (take size) no_bits ∙ take-replicate size 256 false small
-
-pub planes_held-blank : (size n : ℕ) → size ≤ 256 → planes_held size (replicate n blank) ≡ replicate n (replicate size false)
-planes_held-blank size n small =
-    let long = length-replicate n blank in
-    ext_get_or [] (planes_held size (replicate n blank)) (replicate n (replicate size false))
-    (omega (arith, length-planes_held size (replicate n blank), long, length-replicate n (replicate size false)))
+pub planes_held-zeros : (size n k : ℕ) → size ≤ 64 * k → planes_held size (replicate n (replicate k 0)) ≡ replicate n (replicate size false)
+planes_held-zeros size n k within =
+    let words = replicate k 0 in
+    let long = length-replicate n words in
+    ext_get_or [] (planes_held size (replicate n words)) (replicate n (replicate size false))
+    (omega (arith, length-planes_held size (replicate n words), long, length-replicate n (replicate size false)))
     (λ j low.
-    let within : j < n = omega (arith, length-planes_held size (replicate n blank), long) in
-    get_or-planes_held size (replicate n blank) j [] (omega (arith, long))
-    ∙ ap (digits_held size) (get_or-replicate n (length (replicate n blank) - 1 - j) blank [] (omega (arith, long)))
-    ∙ digits_held-blank size small
-    ∙ sym (get_or-replicate n j (replicate size false) [] within))
-
-pub IsClearFrom-blank : (size : ℕ) → IsClearFrom size blank
-unfolding IsClearFrom
-IsClearFrom-blank size =
-    ap (drop size) no_bits ∙ drop-replicate size 256 false ∙ ap (λ n. replicate (n - size) false) (sym (ap length no_bits ∙ length-replicate 256 false))
+    let below : j < n = omega (arith, length-planes_held size (replicate n words), long) in
+    get_or-planes_held size (replicate n words) j [] (omega (arith, long))
+    ∙ ap (digits_held size) (get_or-replicate n (length (replicate n words) - 1 - j) words [] (omega (arith, long)))
+    ∙ held_zeros size k within
+    ∙ sym (get_or-replicate n j (replicate size false) [] below))

@@ -3,6 +3,7 @@ use Rattle.std.specs.Prelude.{ℕ, ◌≡◌, ◌+◌, ◌<◌, ◌≤◌, min, 
 use Rattle.zf_spec.specs.Planes.{tail, code_from_run, plane_code, code, code_from}
 use Rattle.zf_spec.specs.Kept.{kept_tail, kept_run, kept_plane, kept_planes_from}
 use Rattle.zf_spec.specs.ReadPlanes.{tail_in, run_in, plane_in, planes_in_from, planes_in}
+use Rattle.zf_spec.specs.Numbers.{field}
 use Rattle.zf_bits.specs.Reader.{Reader, rest}
 
 -- the planes whose code begins these bits
@@ -56,3 +57,11 @@ pub record Takes (old new : Reader) (before after count : ℕ) : Type 0 where
 pub record Lacks (old new : Reader) (count : ℕ) : Type 0 where
   pub few : length (rest old) < count
   pub all : new.all ≡ old.all
+
+-- ---- bits that were looked at
+
+-- of the bits s that come next, this number has so many, the first one lowest, and a budget reaches as far
+pub record IsWindow (left number count : ℕ) (s : List Bool) : Type 0 where
+  pub bits : field count number ≡ take count s
+  pub within : count ≤ left
+  pub small : count ≤ 64

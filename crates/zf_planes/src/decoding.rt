@@ -1,28 +1,124 @@
 //! Reading planes from their code.
 
-ghost use Rattle.std.specs.Prelude.{◌≡◌, ◌+◌, ◌-◌, ◌<◌, ◌≤◌, ◌↔◌, ◌⊎◌, min, true, false, ◌∷◌, ◌++◌, length, take, replicate, All, IsNone, IfNone, IfSome, OnSome};
+ghost use Rattle.std.specs.Prelude.{◌≡◌, ◌+◌, ◌-◌, ◌*◌, ◌%◌, ◌<◌, ◌≤◌, ◌↔◌, ◌⊎◌, min, max, slice_set, true, false, ◌∷◌, ◌++◌, length, map, take, replicate, All, IsNone, IfNone, IfSome, OnSome};
 ghost use Rattle.zf_spec.specs.Grid.{IsBlockSize};
 ghost use Rattle.zf_spec.specs.Kept.{kept_planes};
 ghost use Rattle.zf_spec.specs.ReadPlanes.{first_bits};
-ghost use Rattle.zf_spec.specs.HeldPlanes.{planes_held, IsClearFrom};
+ghost use Rattle.zf_spec.specs.HeldPlanes.{digits_held, planes_held, IsClearFrom};
+ghost use Rattle.zf_spec.specs.Numbers.{field, word_bits};
+ghost use Rattle.zf_spec.specs.Planes.{reach};
 ghost use Rattle.zf_bits.specs.Reader.{rest, Reads};
-ghost use Rattle.zf_planes.specs.Decoding.{coded, coded_bits, tail_ahead, tail_bits, run_ahead, run_bits, plane_ahead, plane_bits, planes_ahead, planes_bits, Takes, Lacks};
+ghost use Rattle.zf_planes.specs.Decoding.{IsWindow, coded, coded_bits, tail_ahead, tail_bits, run_ahead, run_bits, plane_ahead, plane_bits, planes_ahead, planes_bits, Takes, Lacks};
 
-use crate::plane::{MOST_DIGITS, clear, pack, reach_of};
-use zf_bits::BitReader;
+use crate::plane::clear;
+use zf_bits::{BitReader, Plane};
 
-/// Reads digits as they are, as far as `left` bits reach; the others become zero. The answer is the bits that are left of the budget.
-fn read_digits(left: u64, digits: &mut [bool], reader: &mut BitReader<'_>) -> Option<u64>
-    ensures short { IfNone result (Lacks reader.old reader.new (min (length digits.old) left)) }
-    ensures bits { IfSome result (λ after. Takes reader.old reader.new left after (min (length digits.old) left)) }
-    ensures digits { OnSome result (digits.new ≡ first_bits (length digits.old) (take left (rest reader.old))) }
+/// What is left of a budget, and the bits that come next, as far as they were looked at.
+#[derive(Clone, Copy)]
+struct Ahead {
+    /// The bits that are left of the budget.
+    left: u64,
+    /// The next bits, the first one lowest.
+    bits: u64,
+    /// How many of them are in the budget and are there.
+    count: u64,
+}
+
+/// Looks at the bits that come next.
+#[inline]
+fn look(left: u64, reader: &BitReader<'_>) -> Ahead
+    ensures left { result.left ≡ left }
+    ensures window { IsWindow result.left result.bits result.count (rest reader.now) }
+    ensures most { result.count ≡ min 64 (min left (length (rest reader.now))) }
 {
-    let count = left.min(digits.len() as u64);
-    digits.fill(false);
-    for i in 0..count as usize {
-        digits[i] = reader.read_bit()?;
+    let count = reader.left().min(left).min(64);
+    Ahead {
+        left,
+        bits: reader.peek(),
+        count,
     }
-    Some(left - count)
+}
+
+/// Passes bits that were looked at.
+#[inline]
+fn pass(n: u64, ahead: &mut Ahead, reader: &mut BitReader<'_>)
+    requires some { 0 < n }
+    requires within { n ≤ ahead.old.count }
+    requires window { IsWindow ahead.old.left ahead.old.bits ahead.old.count (rest reader.old) }
+    ensures window { IsWindow ahead.new.left ahead.new.bits ahead.new.count (rest reader.new) }
+    ensures count { ahead.new.count + n ≡ ahead.old.count }
+    ensures taken { Takes reader.old reader.new ahead.old.left ahead.new.left n }
+{
+    reader.skip(n);
+    ahead.left -= n;
+    // In two steps, since all 64 may be passed.
+    ahead.bits = ahead.bits >> (n - 1) >> 1;
+    ahead.count -= n;
+}
+
+/// Sees that the next `n` bits are among those that were looked at. `None` where there are fewer.
+#[inline]
+fn see(n: u64, ahead: &mut Ahead, reader: &BitReader<'_>) -> Option<()>
+    requires in_word { n ≤ 64 }
+    requires in_budget { n ≤ ahead.old.left }
+    requires window { IsWindow ahead.old.left ahead.old.bits ahead.old.count (rest reader.now) }
+    ensures short { IfNone result (length (rest reader.now) < n) }
+    ensures window { IsWindow ahead.new.left ahead.new.bits ahead.new.count (rest reader.now) }
+    ensures left { ahead.new.left ≡ ahead.old.left }
+    ensures there { OnSome result (n ≤ ahead.new.count) }
+{
+    if n <= ahead.count {
+        return Some(());
+    }
+    *ahead = look(ahead.left, reader);
+    if n <= ahead.count { Some(()) } else { None }
+}
+
+/// Reads digits of one word as they are, the first one lowest.
+#[inline]
+fn read_word(n: u64, ahead: &mut Ahead, reader: &mut BitReader<'_>) -> Option<u64>
+    requires some { 0 < n }
+    requires in_word { n ≤ 64 }
+    requires in_budget { n ≤ ahead.old.left }
+    requires window { IsWindow ahead.old.left ahead.old.bits ahead.old.count (rest reader.old) }
+    ensures short { IfNone result (Lacks reader.old reader.new n) }
+    ensures window { OnSome result (IsWindow ahead.new.left ahead.new.bits ahead.new.count (rest reader.new)) }
+    ensures taken { OnSome result (Takes reader.old reader.new ahead.old.left ahead.new.left n) }
+    ensures digits { IfSome result (λ digits. field 64 digits ≡ take n (rest reader.old) ++ replicate (64 - n) false) }
+{
+    see(n, ahead, reader)?;
+    let digits = ahead.bits & u64::MAX >> (64 - n);
+    pass(n, ahead, reader);
+    Some(digits)
+}
+
+/// Reads the first `n` digits as they are, as far as the budget reaches; the others stay zero.
+#[inline(always)]
+fn read_front<P: Plane>(
+    n: usize,
+    plane: &mut P,
+    ahead: &mut Ahead,
+    reader: &mut BitReader<'_>,
+) -> Option<()>
+    requires size { n ≤ 256 }
+    requires words { n ≤ 64 * P.word_count }
+    requires blank { P.words plane.old ≡ replicate P.word_count 0 }
+    requires window { IsWindow ahead.old.left ahead.old.bits ahead.old.count (rest reader.old) }
+    ensures short { IfNone result (Lacks reader.old reader.new (min n ahead.old.left)) }
+    ensures window { OnSome result (IsWindow ahead.new.left ahead.new.bits ahead.new.count (rest reader.new)) }
+    ensures taken { OnSome result (Takes reader.old reader.new ahead.old.left ahead.new.left (min n ahead.old.left)) }
+    ensures digits { OnSome result (digits_held n (P.words plane.new) ≡ first_bits n (take ahead.old.left (rest reader.old))) }
+    ensures clear { OnSome result (IsClearFrom n (P.words plane.new)) }
+{
+    let count = ahead.left.min(n as u64);
+    let mut at = 0;
+    while at < count {
+        let more = (count - at).min(64);
+        let digits = read_word(more, ahead, reader)?;
+        plane.set_word((at / 64) as usize, digits);
+        at += more;
+    }
+    Some(())
 }
 
 /// A run that was read.
@@ -35,6 +131,8 @@ struct Run {
 }
 
 /// Reads a run of at most `most` digits. The one of the last of them has no bit, and where the budget ends a one stands.
+#[cold]
+#[inline(never)]
 fn read_run(left: u64, most: usize, reader: &mut BitReader<'_>) -> Option<Run>
     requires { 0 < most }
     ensures short { IfNone result (Lacks reader.old reader.new (run_bits left most (rest reader.old))) }
@@ -70,67 +168,201 @@ fn read_run(left: u64, most: usize, reader: &mut BitReader<'_>) -> Option<Run>
     Some(Run { zeros, left })
 }
 
-/// Reads the tail of a plane: behind each group bit that is one a run, until a group bit is zero or no rank is left.
-fn read_tail(left: u64, digits: &mut [bool], reader: &mut BitReader<'_>) -> Option<u64>
-    ensures short { IfNone result (Lacks reader.old reader.new (tail_bits left (length digits.old) (rest reader.old))) }
-    ensures bits { IfSome result (λ after. Takes reader.old reader.new left after (tail_bits left (length digits.old) (rest reader.old))) }
-    ensures digits { OnSome result (digits.new ≡ tail_ahead left (length digits.old) (rest reader.old)) }
+/// Reads a group bit of one, which was looked at, and its run of at most `most` digits. The answer is how many zeros lead to its one.
+#[inline]
+fn read_group(most: usize, ahead: &mut Ahead, reader: &mut BitReader<'_>) -> Option<usize>
+    requires some { 0 < most }
+    requires there { 0 < ahead.old.count }
+    requires one { ahead.old.bits % 2 ≡ 1 }
+    requires window { IsWindow ahead.old.left ahead.old.bits ahead.old.count (rest reader.old) }
+    ensures short { IfNone result (Lacks reader.old reader.new (tail_bits ahead.old.left most (rest reader.old))) }
+    ensures window { OnSome result (IsWindow ahead.new.left ahead.new.bits ahead.new.count (rest reader.new)) }
+    ensures within { IfSome result (λ zeros. zeros < most) }
+    ensures taken { OnSome result (Takes reader.old reader.new ahead.old.left ahead.new.left (ahead.old.left - ahead.new.left)) }
+    ensures bits { IfSome result (λ zeros. tail_bits ahead.old.left most (rest reader.old)
+        ≡ ahead.old.left - ahead.new.left + tail_bits ahead.new.left (most - zeros - 1) (rest reader.new)) }
+    ensures digits { IfSome result (λ zeros. tail_ahead ahead.old.left most (rest reader.old)
+        ≡ replicate zeros false ++ true ∷ tail_ahead ahead.new.left (most - zeros - 1) (rest reader.new)) }
 {
-    digits.fill(false);
-    let mut left = left;
-    let mut n = 0;
-    while n < digits.len() && left > 0 {
-        left -= 1;
-        if !reader.read_bit()? {
+    let zeros = ((ahead.bits >> 1).trailing_zeros() as usize).min(most - 1);
+    // The one of the last digit has no bit.
+    let bits = (zeros + 2).min(most) as u64;
+    if bits <= ahead.count {
+        pass(bits, ahead, reader);
+        return Some(zeros);
+    }
+    pass(1, ahead, reader);
+    let run = read_run(ahead.left, most, reader)?;
+    *ahead = look(run.left, reader);
+    Some(run.zeros)
+}
+
+/// Makes a digit one.
+#[inline]
+fn set_one<P: Plane>(rank: usize, plane: &mut P)
+    requires size { rank < 256 }
+    requires words { rank < 64 * P.word_count }
+    ensures { word_bits (P.words plane.new) ≡ slice_set (word_bits (P.words plane.old)) rank true }
+{
+    let number = rank / 64;
+    let word = plane.word(number);
+    plane.set_word(number, word | 1 << (rank % 64));
+}
+
+/// Reads the tail of a plane from rank `n` on: behind each group bit that is one a run, until a group bit is zero or no rank is left.
+#[inline(always)]
+fn read_tail<P: Plane>(
+    n: usize,
+    size: usize,
+    plane: &mut P,
+    ahead: &mut Ahead,
+    reader: &mut BitReader<'_>,
+) -> Option<usize>
+    requires size { size ≤ 256 }
+    requires words { size ≤ 64 * P.word_count }
+    requires in_plane { n ≤ size }
+    requires clear { IsClearFrom n (P.words plane.old) }
+    requires window { IsWindow ahead.old.left ahead.old.bits ahead.old.count (rest reader.old) }
+    ensures short { IfNone result (Lacks reader.old reader.new (tail_bits ahead.old.left (size - n) (rest reader.old))) }
+    ensures window { OnSome result (IsWindow ahead.new.left ahead.new.bits ahead.new.count (rest reader.new)) }
+    ensures taken { OnSome result (Takes reader.old reader.new ahead.old.left ahead.new.left (tail_bits ahead.old.left (size - n) (rest reader.old))) }
+    ensures digits { OnSome result (digits_held size (P.words plane.new)
+        ≡ digits_held n (P.words plane.old) ++ tail_ahead ahead.old.left (size - n) (rest reader.old)) }
+    ensures clear { OnSome result (IsClearFrom size (P.words plane.new)) }
+    ensures above { IfSome result (λ above. above ≡ max n (reach (digits_held size (P.words plane.new)))) }
+{
+    // Values of their own, which a loop holds in registers.
+    let mut digits = *plane;
+    let mut next = *ahead;
+    let mut n = n;
+    while n < size && next.left > 0 {
+        see(1, &mut next, reader)?;
+        if next.bits % 2 == 0 {
+            pass(1, &mut next, reader);
             break;
         }
-        let run = read_run(left, digits.len() - n, reader)?;
-        n += run.zeros;
-        digits[n] = true;
+        n += read_group(size - n, &mut next, reader)?;
+        set_one(n, &mut digits);
         n += 1;
-        left = run.left;
     }
-    Some(left)
+    *plane = digits;
+    *ahead = next;
+    Some(n)
 }
 
-/// Reads the code of a plane in which the ranks below `n` have had a one above.
-fn read_plane(left: u64, n: usize, digits: &mut [bool], reader: &mut BitReader<'_>) -> Option<u64>
-    requires { n ≤ length digits.old }
-    ensures short { IfNone result (Lacks reader.old reader.new (plane_bits left (length digits.old) n (rest reader.old))) }
-    ensures bits { IfSome result (λ after. Takes reader.old reader.new left after (plane_bits left (length digits.old) n (rest reader.old))) }
-    ensures digits { OnSome result (digits.new ≡ plane_ahead left (length digits.old) n (rest reader.old)) }
+/// Reads the code of a plane in which the ranks below `n` have had a one above. The answer is how far the ones of both reach.
+#[inline(always)]
+fn read_plane<P: Plane>(
+    n: usize,
+    size: usize,
+    plane: &mut P,
+    ahead: &mut Ahead,
+    reader: &mut BitReader<'_>,
+) -> Option<usize>
+    requires size { size ≤ 256 }
+    requires words { size ≤ 64 * P.word_count }
+    requires in_plane { n ≤ size }
+    requires blank { P.words plane.old ≡ replicate P.word_count 0 }
+    requires window { IsWindow ahead.old.left ahead.old.bits ahead.old.count (rest reader.old) }
+    ensures short { IfNone result (Lacks reader.old reader.new (plane_bits ahead.old.left size n (rest reader.old))) }
+    ensures window { OnSome result (IsWindow ahead.new.left ahead.new.bits ahead.new.count (rest reader.new)) }
+    ensures taken { OnSome result (Takes reader.old reader.new ahead.old.left ahead.new.left (plane_bits ahead.old.left size n (rest reader.old))) }
+    ensures digits { OnSome result (digits_held size (P.words plane.new) ≡ plane_ahead ahead.old.left size n (rest reader.old)) }
+    ensures clear { OnSome result (IsClearFrom size (P.words plane.new)) }
+    ensures above { IfSome result (λ above. above ≡ max n (reach (digits_held size (P.words plane.new)))) }
 {
-    let left = read_digits(left, &mut digits[..n], reader)?;
-    read_tail(left, &mut digits[n..], reader)
+    read_front(n, plane, ahead, reader)?;
+    read_tail(n, size, plane, ahead, reader)
 }
 
-/// Reads the code of the top `prec` planes, each by way of `digits`, whose length is the size of a plane. The other planes become zero.
-fn read_planes(
+/// Passes planes of zeros at the top, of which each has one bit.
+#[inline]
+fn pass_zero_planes(prec: u32, ahead: &mut Ahead, reader: &mut BitReader<'_>) -> u64
+    requires window { IsWindow ahead.old.left ahead.old.bits ahead.old.count (rest reader.old) }
+    ensures window { IsWindow ahead.new.left ahead.new.bits ahead.new.count (rest reader.new) }
+    ensures within { result ≤ prec }
+    ensures taken { Takes reader.old reader.new ahead.old.left ahead.new.left result }
+    ensures zeros { rest reader.old ≡ replicate result false ++ rest reader.new }
+{
+    let count = u64::from(ahead.bits.trailing_zeros())
+        .min(ahead.count)
+        .min(u64::from(prec));
+    if count > 0 {
+        pass(count, ahead, reader);
+    }
+    count
+}
+
+/// Reads the code of the top `prec` planes. The other planes become zero.
+fn read_top<P: Plane>(
     budget: u64,
     prec: u32,
+    size: usize,
     reader: &mut BitReader<'_>,
-    planes: &mut [[u64; 4]],
-    digits: &mut [bool],
+    planes: &mut [P],
 ) -> Option<u64>
-    requires some { 0 < length digits.old }
-    requires size { length digits.old ≤ 256 }
+    requires some { 0 < size }
+    requires size { size ≤ 256 }
+    requires words { size ≤ 64 * P.word_count }
     requires planes { prec ≤ length planes.old }
-    ensures short { IfNone result (Lacks reader.old reader.new (planes_bits budget prec (length digits.old) 0 (rest reader.old))) }
-    ensures bits { IfSome result (λ after. Takes reader.old reader.new budget after (planes_bits budget prec (length digits.old) 0 (rest reader.old))) }
-    ensures digits { OnSome result (planes_held (length digits.old) planes.new
-        ≡ planes_ahead budget prec (length digits.old) 0 (rest reader.old) ++ replicate (length planes.new - prec) (replicate (length digits.old) false)) }
-    ensures clear { OnSome result (All (IsClearFrom (length digits.old)) planes.new) }
+    ensures short { IfNone result (Lacks reader.old reader.new (planes_bits budget prec size 0 (rest reader.old))) }
+    ensures bits { IfSome result (λ after. Takes reader.old reader.new budget after (planes_bits budget prec size 0 (rest reader.old))) }
+    ensures digits { OnSome result (planes_held size (map P.words planes.new)
+        ≡ planes_ahead budget prec size 0 (rest reader.old) ++ replicate (length planes.new - prec) (replicate size false)) }
+    ensures clear { OnSome result (All (IsClearFrom size) (map P.words planes.new)) }
 {
     clear(planes);
-    let mut left = budget;
+    let mut ahead = look(budget, reader);
+    let mut i = pass_zero_planes(prec, &mut ahead, reader) as usize;
     let mut above = 0;
-    for i in 0..prec as usize {
-        left = read_plane(left, above, digits, reader)?;
+    while i < prec as usize && ahead.left > 0 {
+        let mut plane = P::zero();
+        above = read_plane(above, size, &mut plane, &mut ahead, reader)?;
         let k = planes.len() - 1 - i;
-        planes[k] = pack(digits);
-        above = above.max(reach_of(digits));
+        planes[k] = plane;
+        i += 1;
     }
-    Some(left)
+    Some(ahead.left)
+}
+
+/// Reads the code of the top `prec` planes, of which `budget` bits were written, or all of it where it is shorter. The answer is the number of its bits.
+/// `None` means that the bits end before the budget and the code do; then the reader stands where it stood, and the planes hold anything.
+///
+/// `planes[k]` holds digit k of each coefficient by rank.
+/// Embedded coding as in the zfp 1.0 documentation, chapter Algorithm.
+pub fn read_planes<P: Plane>(
+    budget: u64,
+    prec: u32,
+    size: usize,
+    reader: &mut BitReader<'_>,
+    planes: &mut [P],
+) -> Option<u64>
+    requires some { 0 < size }
+    requires size { size ≤ 256 }
+    requires words { size ≤ 64 * P.word_count }
+    requires planes { prec ≤ length planes.old }
+
+    ensures short { IsNone result ↔ (length (rest reader.old) < coded_bits budget prec size (rest reader.old)) }
+    ensures unread { IfNone result (reader.new ≡ reader.old) }
+
+    ensures count { IfSome result (λ count. count ≡ coded_bits budget prec size (rest reader.old)) }
+    ensures reads { IfSome result (λ count. Reads reader.old reader.new (take count (rest reader.old))) }
+
+    // The top planes are what the budget keeps; the others, and all bits from rank `size` on, are zero.
+    ensures digits { OnSome result (planes_held size (map P.words planes.new)
+        ≡ kept_planes budget (coded budget prec size (rest reader.old)) ++ replicate (length planes.new - prec) (replicate size false)) }
+    ensures clear { OnSome result (All (IsClearFrom size) (map P.words planes.new)) }
+{
+    let start = reader.at();
+    // Known by this call: the start is within the bits, so that the reader can go back.
+    let _left = reader.left();
+    match read_top(budget, prec, size, reader, planes) {
+        Some(left) => Some(budget - left),
+        None => {
+            reader.seek(start);
+            None
+        }
+    }
 }
 
 /// Reads the code of the top `prec` planes, of which `budget` bits were written, or all of it where it is shorter. The answer is the number of its bits.
@@ -159,15 +391,15 @@ pub fn decode(
         ≡ kept_planes budget (coded budget prec size (rest reader.old)) ++ replicate (length planes.new - prec) (replicate size false)) }
     ensures clear { OnSome result (All (IsClearFrom size) planes.new) }
 {
-    let start = reader.at();
-    // Known by this call: the start is within the bits, so that the reader can go back.
-    let _left = reader.left();
-    let mut digits = [false; MOST_DIGITS];
-    match read_planes(budget, prec, reader, planes, &mut digits[..size]) {
-        Some(left) => Some(budget - left),
-        None => {
-            reader.seek(start);
-            None
-        }
-    }
+    let count = read_planes(budget, prec, size, reader, planes);
+    see_arrays(planes);
+    count
+}
+
+// Does nothing, and says of planes what their type says: each has four words.
+#[inline]
+fn see_arrays(planes: &[[u64; 4]])
+    ensures { All (λ words. length words ≡ 4) planes.now }
+{
+    let _planes = planes;
 }

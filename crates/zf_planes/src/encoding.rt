@@ -1,6 +1,6 @@
 //! Writing the code of planes.
 
-ghost use Rattle.std.specs.Prelude.{◌≡◌, ◌+◌, ◌-◌, ◌*◌, ◌^◌, ◌<◌, ◌≤◌, ◌⊎◌, min, length, map, take, drop};
+ghost use Rattle.std.specs.Prelude.{◌≡◌, ◌+◌, ◌-◌, ◌*◌, ◌^◌, ◌<◌, ◌≤◌, ◌⊎◌, min, true, false, [], ◌∷◌, ◌++◌, length, map, take, drop, replicate};
 ghost use Rattle.zf_spec.specs.Grid.{IsBlockSize};
 ghost use Rattle.zf_spec.specs.Planes.{plane_code, tail, code, reach};
 ghost use Rattle.zf_bits.specs.Writer.{Appends};
@@ -30,6 +30,20 @@ fn write_part<P: Plane>(left: u64, from: usize, to: usize, plane: &P, out: &mut 
     left - count
 }
 
+/// Appends a group bit of one and a run of at most `most` digits, whose one comes behind so many zeros.
+#[inline]
+fn write_group(left: u64, zeros: u32, most: usize, out: &mut BitWriter) -> u64
+    requires in_word { zeros < 63 }
+    requires fits { min left (min (zeros + 2) most) ≤ out.old.room }
+    ensures bits { Appends out.old out.new (take left (take (min (zeros + 2) most) (true ∷ (replicate zeros false ++ true ∷ [])))) }
+    ensures left { result ≡ left - min (zeros + 2) most }
+{
+    // The one of the last digit is implied.
+    let count = left.min((zeros as usize + 2).min(most) as u64);
+    out.write_reserved(1 | 1 << (zeros + 1), count as u32);
+    left - count
+}
+
 /// Appends the tail of a plane from rank `from` on: for each one a group bit and the run that leads to it, and a group bit that says that no one follows.
 fn write_tail<P: Plane>(
     left: u64,
@@ -50,15 +64,21 @@ fn write_tail<P: Plane>(
     let mut left = left;
     let mut n = from;
     while n < size && left > 0 {
-        out.write_bit_reserved(n < end);
-        left -= 1;
         if n >= end {
-            break;
+            out.write_bit_reserved(false);
+            return left - 1;
         }
-        // The one of the last rank is implied: its run stops before it.
-        let next = n + zeros_from(plane, n, size) + 1;
-        left = write_part(left, n, next.min(size - 1), plane, out);
-        n = next;
+        let zeros = (plane.word(n / 64) >> (n % 64)).trailing_zeros();
+        if zeros < 63 {
+            left = write_group(left, zeros, size - n, out);
+            n += zeros as usize + 1;
+        } else {
+            out.write_bit_reserved(true);
+            // The one of the last rank is implied: its run stops before it.
+            let next = n + zeros_from(plane, n, size) + 1;
+            left = write_part(left - 1, n, next.min(size - 1), plane, out);
+            n = next;
+        }
     }
     left
 }
@@ -84,6 +104,28 @@ fn write_plane<P: Plane>(
     write_tail(left, n, size, end, plane, out)
 }
 
+/// How many of the top `prec` planes have no one, down to the first one that has; at most 64.
+fn zero_planes<P: Plane>(prec: u32, size: usize, planes: &[P]) -> u32
+    requires size { size ≤ 256 }
+    requires words { size ≤ 64 * P.word_count }
+    requires planes { prec ≤ length planes.now }
+    ensures within { result ≤ prec }
+    ensures in_word { result ≤ 64 }
+    ensures some { (result ≡ 0) ⊎ (0 < size) }
+    ensures zeros { take result (planes_held size (map P.words planes.now)) ≡ replicate result (replicate size false) }
+{
+    if size == 0 {
+        return 0;
+    }
+    let most = prec.min(64);
+    for i in 0..most {
+        if reach_in(&planes[planes.len() - 1 - i as usize], size) > 0 {
+            return i;
+        }
+    }
+    most
+}
+
 /// Appends the code of the top `prec` planes, or its first `budget` bits where it is longer. The answer is the number of bits appended.
 ///
 /// `planes[k]` holds digit k of each coefficient by rank, and bits from rank `size` on are not looked at.
@@ -102,13 +144,18 @@ pub fn write_planes<P: Plane>(
     ensures bits { Appends out.old out.new (take budget (code (take prec (planes_held size (map P.words planes.now))))) }
     ensures count { result ≡ min budget (length (code (take prec (planes_held size (map P.words planes.now))))) }
 {
-    let mut left = budget;
+    let zeros = zero_planes(prec, size, planes);
+    let count = budget.min(u64::from(zeros));
+    out.write_reserved(0, count as u32);
+    let mut left = budget - count;
     let mut above = 0;
-    for i in 0..prec as usize {
+    let mut i = zeros as usize;
+    while i < prec as usize && left > 0 {
         let plane = &planes[planes.len() - 1 - i];
         let end = reach_in(plane, size);
         left = write_plane(left, above, size, end, plane, out);
         above = above.max(end);
+        i += 1;
     }
     budget - left
 }

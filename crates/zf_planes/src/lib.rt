@@ -7,7 +7,7 @@ mod measuring;
 mod plane;
 mod words;
 
-pub use decoding::decode;
+pub use decoding::{decode, read_planes};
 pub use encoding::{encode, write_planes};
 pub use measuring::code_len;
 pub use plane::used_planes;

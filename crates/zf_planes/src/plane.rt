@@ -1,9 +1,11 @@
 //! Planes: their digits, and where their ones are.
 
-ghost use Rattle.std.specs.Prelude.{◌≡◌, ◌+◌, ◌<◌, ◌≤◌, ◌↔◌, ◌⊎◌, IsTrue, true, false, ◌∷◌, ◌++◌, length, take, drop, replicate};
+ghost use Rattle.std.specs.Prelude.{◌≡◌, ◌+◌, ◌<◌, ◌≤◌, ◌↔◌, ◌⊎◌, IsTrue, true, false, ◌∷◌, ◌++◌, length, map, take, drop, replicate};
 ghost use Rattle.zf_spec.specs.Grid.{IsBlockSize};
 ghost use Rattle.zf_spec.specs.Planes.{reach, has_one, needed_planes};
 ghost use Rattle.zf_spec.specs.HeldPlanes.{digits_held, planes_held, IsClearFrom};
+
+use zf_bits::Plane;
 
 /// The most digits of a plane: a block of four dimensions has 256 coefficients.
 pub(crate) const MOST_DIGITS: usize = 256;
@@ -18,25 +20,12 @@ pub(crate) fn unpack(plane: &[u64; 4], digits: &mut [bool])
     }
 }
 
-/// The words of a plane that has these digits, and no other bit.
-pub(crate) fn pack(digits: &[bool]) -> [u64; 4]
-    requires { length digits.now ≤ 256 }
-    ensures digits { digits_held (length digits.now) result ≡ digits.now }
-    ensures clear { IsClearFrom (length digits.now) result }
-{
-    let mut words = [0; 4];
-    for (r, digit) in digits.iter().enumerate() {
-        words[r / 64] |= u64::from(*digit) << (r % 64);
-    }
-    words
-}
-
 /// Makes all planes zero.
-pub(crate) fn clear(planes: &mut [[u64; 4]])
-    ensures { planes.new ≡ replicate (length planes.old) (replicate 4 0) }
+pub(crate) fn clear<P: Plane>(planes: &mut [P])
+    ensures { map P.words planes.new ≡ replicate (length planes.old) (replicate P.word_count 0) }
 {
     for plane in planes.iter_mut() {
-        *plane = [0; 4];
+        *plane = P::zero();
     }
 }
 
@@ -52,20 +41,6 @@ pub(crate) fn reach_of(digits: &[bool]) -> usize
         }
     }
     reach
-}
-
-/// The rank of the first one.
-pub(crate) fn first_one(digits: &[bool]) -> usize
-    requires { IsTrue (has_one digits.now) }
-    ensures bound { result < length digits.now }
-    ensures split { digits.now ≡ replicate result false ++ true ∷ drop (result + 1) digits.now }
-{
-    for (r, digit) in digits.iter().enumerate() {
-        if *digit {
-            return r;
-        }
-    }
-    unreachable!()
 }
 
 /// How many planes there are from the top one down to the lowest that has a one; 0 where none has.

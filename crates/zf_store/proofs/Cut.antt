@@ -70,8 +70,8 @@ codes_in-front budget n s t same = map-upto_same (code_cut budget s) (code_cut b
 pub length-codes_in : (budget n : ℕ) (s : List Bool) → length (codes_in budget n s) ≡ n
 length-codes_in budget n s = length-map-upto (code_cut budget s) n
 
-pub get_or-codes_in : (budget n : ℕ) (s : List Bool) (b : ℕ) → b < n → get_or (codes_in budget n s) b [] ≡ code_cut budget s b
-get_or-codes_in budget n s b below = get_or-map-upto (code_cut budget s) n b [] below
+pub get_or-codes_in : (budget n : ℕ) (s : List Bool) (b : ℕ) → b < n → get_or (codes_in budget n s) b (replicate budget false) ≡ code_cut budget s b
+get_or-codes_in budget n s b below = get_or-map-upto (code_cut budget s) n b (replicate budget false) below
 
 pub joined-codes_in : (budget n : ℕ) (s : List Bool) → flat_map (λ c. c) (codes_in budget n s) ≡ take (n * budget) s
 joined-codes_in budget n s = end_to_end-cut budget s n
@@ -79,23 +79,27 @@ joined-codes_in budget n s = end_to_end-cut budget s n
 -- one code is put anew
 pub codes_in-put : (budget n b : ℕ) (s t code : List Bool) → n * budget ≤ length s → b < n → length code ≡ budget
     → t ≡ take (b * budget) s ++ code ++ drop (b * budget + budget) s
-    → (λ k. get_or (codes_in budget n t) k []) ≡ with_at (λ k. get_or (codes_in budget n s) k []) b code
+    → (λ k. get_or (codes_in budget n t) k (replicate budget false)) ≡ with_at (λ k. get_or (codes_in budget n s) k (replicate budget false)) b code
 codes_in-put budget n b s t code long below size is = fun_ext (λ k. by k (cases_order k b))
   where
     old : ℕ → List Bool
-    old k = get_or (codes_in budget n s) k []
+    old k = get_or (codes_in budget n s) k (replicate budget false)
+
     now : ℕ → List Bool
-    now k = get_or (codes_in budget n t) k []
+    now k = get_or (codes_in budget n t) k (replicate budget false)
+
     within : b * budget ≤ length s
     within = omega (arith, ends_within budget n b below)
+
     left : (k : ℕ) → code_cut budget t k ≡ code_cut budget s k → now k ≡ old k
     left k same = by_place (cases_lt k n)
       where
         by_place : (k < n) ⊎ (n ≤ k) → now k ≡ old k
         by_place (inl h) = get_or-codes_in budget n t k h ∙ same ∙ sym (get_or-codes_in budget n s k h)
         by_place (inr h) =
-            get_or_past (codes_in budget n t) k [] (omega (arith, length-codes_in budget n t))
-            ∙ sym (get_or_past (codes_in budget n s) k [] (omega (arith, length-codes_in budget n s)))
+            get_or_past (codes_in budget n t) k (replicate budget false) (omega (arith, length-codes_in budget n t))
+            ∙ sym (get_or_past (codes_in budget n s) k (replicate budget false) (omega (arith, length-codes_in budget n s)))
+
     by : (k : ℕ) → (k ≡ b) ⊎ ((k < b) ⊎ (b < k)) → now k ≡ with_at old b code k
     by k (inl e) =
         ap now e ∙ get_or-codes_in budget n t b below

@@ -173,3 +173,19 @@ word_of_bytes bytes at within small =
     by : (i : ℕ) → (i < 8) ⊎ (8 ≤ i) → get_or (take 8 (drop at bytes)) i 0 < 256
     by i (inl h) = rw (get_or-take 8 (drop at bytes) i 0 h, get_or-drop at bytes i 0) (small (at + i))
     by i (inr h) = rw (get_or_past (take 8 (drop at bytes)) i 0 (omega (arith, length-take 8 (drop at bytes)))) (omega arith)
+
+-- the last bits of a word before the end of whole words are the fill
+pub fill_of_word : (bytes : List ℕ) (used whole fill word x : ℕ) → whole ≡ 8 * div_ceil used 64 → 8 ≤ whole → whole ≤ length bytes → fill ≡ 8 * whole - used
+    → field 64 word ≡ take 64 (drop (8 * (whole - 8)) (to_bits bytes)) → x ≡ number (take fill (drop (64 - fill) (field 64 word ++ []))) → x ≡ number (take (fill_len used) (drop used (to_bits bytes)))
+fill_of_word bytes used whole fill word x is_whole some within is_fill is_word is_x =
+    let bits = to_bits bytes in
+    let at = 8 * (whole - 8) in
+    let narrow : fill ≤ 64 = omega arith in
+    let parts : 64 ≡ 64 - fill + fill = omega arith in
+    let place : at + (64 - fill) ≡ used = omega arith in
+    let same : fill ≡ fill_len used = omega arith in
+    let last : drop (64 - fill) (field 64 word ++ []) ≡ take fill (drop used bits) =
+    ap (drop (64 - fill)) (append-nil (field 64 word) ∙ is_word ∙ ap (λ k. take k (drop at bits)) parts) ∙ drop-take (64 - fill) fill (drop at bits)
+    ∙ ap (take fill) (drop-drop (64 - fill) at bits ∙ ap (λ k. drop k bits) place) in
+    is_x ∙ ap (λ (bs : List Bool). number (take fill bs)) last ∙ ap number (take-take fill fill (drop used bits) (omega arith))
+    ∙ ap (λ k. number (take k (drop used bits))) same

@@ -1,24 +1,28 @@
 -- What a file of a rate says, and why it says nothing.
-use Rattle.std.proofs.Common.{◌≡◌, ◌≢◌, ◌⊎◌, inl, inr, refl, sym, ap, subst, ◌∙◌, ℕ, ◌+◌, ◌-◌, ◌*◌, ◌/◌, ◌%◌, ◌<◌, ◌≤◌, min, Bool, false, ℤ, List, [], ◌∷◌, ◌++◌, map, length, get_or, take, drop, replicate, All, Result, Ok, Err, append_assoc, length-append, length-drop, length-take, arith}
+use Rattle.std.proofs.Common.{◌≡◌, ◌≢◌, ◌⊎◌, inl, inr, refl, sym, ap, subst, ◌∙◌, ℕ, ◌+◌, ◌-◌, ◌*◌, ◌/◌, ◌%◌, ◌^◌, ◌<◌, ◌≤◌, min, Bool, false, ℤ, List, [], ◌∷◌, ◌++◌, map, length, get_or, take, drop, replicate, All, Result, Ok, Err, append_assoc, length-append, length-drop, length-take, arith}
 use Rattle.std.specs.List.{flat_map}
 use Rattle.std.specs.Int.{Width, div_ceil}
-use Rattle.std.proofs.Math.Nat.{div-lt_iff_lt-mul, le-div_iff_mul-le}
+use Rattle.std.proofs.Math.Nat.{div-lt_iff_lt-mul, le-div_iff_mul-le, mul-le-mul}
 use Rattle.std.proofs.lemmas.Bool.{cases_lt}
-use Rattle.std.proofs.lemmas.List.{length-take-le, take-append-drop, take_at, drop-drop, take_all}
+use Rattle.std.proofs.lemmas.List.{length-take-le, take-append-drop, take-append-le, take_at, drop-append-le, drop-drop, take_all}
 use Rattle.zf_spec.specs.Grid.{upto, blocks, extent_of}
 use Rattle.zf_spec.specs.Codes.{read_rate}
-use Rattle.zf_spec.specs.Numbers.{field, number}
+use Rattle.zf_spec.specs.Numbers.{field, number, word_bits}
+use Rattle.zf_bits.proofs.Words.{take-words}
 use Rattle.zf_spec.specs.Stream.{to_bits, to_bytes, with_fill, fill_len, file}
 use Rattle.zf_spec.proofs.Bytes.{length-to_bits, to_bytes-to_bits}
 use Rattle.zf_spec.proofs.Fields.{field-number, field-zero}
 use Rattle.zf_spec.proofs.Counting.{map-upto_same}
 use Rattle.zf_base.specs.Widths.{width_of}
+use Rattle.zf_base.proofs.Sizes.{blocks_le}
 use Rattle.zf_base.specs.Formats.{meant}
 use Rattle.zf_header.specs.declared.header.Header.{Header}
 use Rattle.zf_header.specs.declared.header.Mode.{Mode}
 use Rattle.zf_header.specs.declared.header.Mode.TheVariants.{Reversible, Rate, Precision}
 use Rattle.zf_header.specs.HeaderBits.{IsRate, IsTaken, IsHeader, BeginsWith, coding, block_bits, header_bits, rate_bytes_of}
 use Rattle.zf_header.proofs.Good.{good}
+use Rattle.zf_header.proofs.Parts.{length-header_bits, length-header_bits_le}
+use Rattle.zf_spec.specs.Grid.{IsShape}
 use Rattle.zf_header.proofs.Found.{read_is_spelled, read_is_header, begins_within}
 use Rattle.zf_stream.specs.declared.fault.StreamFault.{StreamFault}
 use Rattle.zf_stream.specs.declared.fault.StreamFault.TheVariants.{Truncated, Pad, Trailing}
@@ -49,6 +53,12 @@ rate_is_taken Reversible is = absurd is
 rate_is_taken (Rate b) is = is
 rate_is_taken (Precision p) is = absurd is
 
+-- all codes have at most 2^42 bits
+pub all_bits_most : (h : Header) → IsShape h.shape → IsRate h.mode → all_bits h ≤ 2 ^ 42
+all_bits_most h is rate =
+    let most : blocks h.shape ≤ 2 ^ 27 = omega (arith, blocks_le h.shape is.not_zero, is.not_too_large) in
+    omega (arith, mul-le-mul most (rate_is_some h.mode rate).1)
+
 module _ (bytes : List ℕ) (h : Header) (has : HasHeader bytes h) where
   pub is_header : IsHeader h
   is_header = subst IsHeader (sym has.header) (read_is_header bytes (good bytes (sym has.good)))
@@ -61,6 +71,15 @@ module _ (bytes : List ℕ) (h : Header) (has : HasHeader bytes h) where
 
   pub begun : BeginsWithHeader bytes h (length (header_bits h))
   begun = record { good = has.good; header = has.header; bits_is = refl; within = header_within; taken = rate_is_taken h.mode has.rate }
+
+  pub header_least : 96 ≤ length (header_bits h)
+  header_least = omega (arith, length-header_bits h is_header.shape)
+
+  pub header_most : length (header_bits h) ≤ 148
+  header_most = length-header_bits_le h is_header.shape
+
+  pub rate_bytes_most : rate_bytes_of h < 2 ^ 60
+  rate_bytes_most = omega (arith, header_most, all_bits_most h is_header.shape has.rate)
 
   length-behind : length (drop (length (header_bits h)) (to_bits bytes)) ≡ 8 * length bytes - length (header_bits h)
   length-behind = length-drop (length (header_bits h)) (to_bits bytes) ∙ ap (λ k. k - length (header_bits h)) (length-to_bits bytes)
@@ -77,10 +96,13 @@ module _ (bytes : List ℕ) (h : Header) (has : HasHeader bytes h) where
     where
       s : List Bool
       s = drop (length (header_bits h)) (to_bits bytes)
+
       some : 1 ≤ block_bits h.mode
       some = (rate_is_some h.mode has.rate).0
+
       quotient : (8 * length bytes - length (header_bits h)) / block_bits h.mode ≡ length s / block_bits h.mode
       quotient = ap (λ k. k / block_bits h.mode) (sym length-behind)
+
       by : (length s < blocks h.shape * block_bits h.mode) ⊎ (blocks h.shape * block_bits h.mode ≤ length s) → parse bytes ≡ Err (Truncated b)
       by (inl cut) =
           let below : length s / block_bits h.mode < blocks h.shape = (div-lt_iff_lt-mul some).1 cut in
@@ -90,7 +112,7 @@ module _ (bytes : List ℕ) (h : Header) (has : HasHeader bytes h) where
           let above : blocks h.shape ≤ length s / block_bits h.mode = (le-div_iff_mul-le some).1 long in
           let all : blocks h.shape ≡ b = omega (arith, quotient, is, above) in
           parse_fill_short bytes h (length (header_bits h)) (block_bits h.mode) begun (mode_is_rate h.mode has.rate) in_bits long
-          (omega (arith, length-drop (blocks h.shape * block_bits h.mode) s, length-behind, whole_bits, short))
+          (omega (arith, length-drop (blocks h.shape * block_bits h.mode) s, length-behind, header_within, whole_bits, short))
           ∙ ap (λ (k : ℕ). Err (Truncated k)) all
 
   -- what stands behind the codes
@@ -139,12 +161,34 @@ module _ (bytes : List ℕ) (h : Header) (has : HasHeader bytes h) where
 
   -- ---- a whole file is opened
 
+  pub enough_bits : IsWholeFile bytes h → blocks h.shape * block_bits h.mode ≤ length (drop (length (header_bits h)) (to_bits bytes))
+  enough_bits whole = omega (arith, length-behind, whole_bits, whole.size)
+
+  -- the words of a file, after its codes were moved to the front and the rest was cut off
+  pub moved_codes : IsWholeFile bytes h → (moved : List ℕ) (old : List Bool) (items rest : List ℕ) (held count len all n : ℕ)
+      → items ≡ take count (take held (moved ++ rest)) → length moved ≡ held → count ≡ div_ceil all 64 → len ≡ length (header_bits h) → all ≡ all_bits h
+      → old ≡ with_fill (to_bits bytes) → take (64 * div_ceil all 64) (word_bits moved) ≡ take all (drop len old) ++ replicate (64 * div_ceil all 64 - all) false → n ≡ div_ceil all 64
+      → word_bits items ≡ take (blocks h.shape * block_bits h.mode) (drop (length (header_bits h)) (to_bits bytes)) ++ replicate (64 * n - blocks h.shape * block_bits h.mode) false
+  moved_codes whole moved old items rest held count len all n is_items is_held is_count is_len is_all is_old is_moved is_n =
+      let bits = to_bits bytes in
+      let front : take held (moved ++ rest) ≡ moved = take_at moved rest held is_held in
+      let within : length (header_bits h) + blocks h.shape * block_bits h.mode ≤ length bits = omega (arith, enough_bits whole, length-behind, header_within, length-to_bits bytes) in
+      let run : take all (drop len old) ≡ take (all_bits h) (drop (length (header_bits h)) bits) =
+      ap (λ k. take k (drop len old)) is_all ∙ ap (λ k. take (all_bits h) (drop k old)) is_len
+      ∙ ap (λ (bs : List Bool). take (all_bits h) (drop (length (header_bits h)) bs)) is_old
+      ∙ ap (take (all_bits h)) (drop-append-le (length (header_bits h)) bits _ (omega arith))
+      ∙ take-append-le (all_bits h) (drop (length (header_bits h)) bits) _ (omega (arith, length-drop (length (header_bits h)) bits)) in
+      let pad : 64 * div_ceil all 64 - all ≡ 64 * n - all_bits h = omega arith in
+      ap word_bits (is_items ∙ ap (take count) front) ∙ sym (take-words 64 count moved) ∙ ap (λ k. take (64 * k) (word_bits moved)) is_count ∙ is_moved
+      ∙ ap (λ (bs : List Bool). bs ++ replicate (64 * div_ceil all 64 - all) false) run
+      ∙ ap (λ k. take (all_bits h) (drop (length (header_bits h)) bits) ++ replicate k false) pad
+
   module _ (whole : IsWholeFile bytes h) (small : All (λ b. b < 256) bytes) where
     file_is : to_bytes (with_fill (header_bits h ++ take (blocks h.shape * block_bits h.mode) (drop (length (header_bits h)) (to_bits bytes)))) ≡ bytes
     file_is = ap to_bytes (sym whole.bits) ∙ to_bytes-to_bits bytes small
 
     enough : blocks h.shape * block_bits h.mode ≤ length (drop (length (header_bits h)) (to_bits bytes))
-    enough = omega (arith, length-behind, whole_bits, whole.size)
+    enough = enough_bits whole
 
     opened_bits : IsOpened bytes h (with_codes h (drop (length (header_bits h)) (to_bits bytes)))
     unfolding file header_bits

@@ -1,7 +1,7 @@
 -- What a store is seen as: the header of its file, and the code of each block.
-use Rattle.std.specs.Prelude.{ℕ, ◌≡◌, ◌<◌, Bool, List, [], length, slice_index_or}
+use Rattle.std.specs.Prelude.{ℕ, ◌≡◌, ◌<◌, Bool, false, List, length, replicate, slice_index_or}
 use Rattle.std.specs.Int.{Width}
-use Rattle.zf_spec.specs.Grid.{blocks}
+use Rattle.zf_spec.specs.Grid.{IsShape, blocks}
 use Rattle.zf_spec.specs.Stream.{file}
 use Rattle.zf_base.specs.Widths.{width_of}
 use Rattle.zf_base.specs.Formats.{Format}
@@ -15,13 +15,13 @@ pub record Stored : Type 0 where
   pub header : Header
   pub codes : List (List Bool)
 
--- the code of block b
-abbrev pub code_at : Stored → ℕ → List Bool
-code_at s b = slice_index_or s.codes b []
-
 -- how many bits each code has
 abbrev pub rate_of : Stored → ℕ
 rate_of s = block_bits s.header.mode
+
+-- the code of block b; that of a number that is no block's is the code of zeros
+abbrev pub code_at : Stored → ℕ → List Bool
+code_at s b = slice_index_or s.codes b (replicate (rate_of s) false)
 
 -- what never changes about the codes
 abbrev pub format_of : Stored → Format (List Bool)
@@ -35,6 +35,7 @@ file_of s = file (width_of s.header.ty) s.header.shape (coding s.header.mode) s.
 pub record IsStore (w : Width) (d : ℕ) (s : Stored) : Type 0 where
   pub same_type : w ≡ width_of s.header.ty
   pub dims : length s.header.shape ≡ d
+  pub shape : IsShape s.header.shape
   pub rate : IsRate s.header.mode
   pub count : length s.codes ≡ blocks s.header.shape
   pub bits : (b : ℕ) → b < blocks s.header.shape → length (code_at s b) ≡ rate_of s

@@ -1,7 +1,7 @@
 -- What holds of the fields of a store, and of the bits of a file: the words are as long as the codes, with zeros behind.
 use Rattle.std.specs.Prelude.{ℕ, ◌≡◌, ◌+◌, ◌-◌, ◌*◌, ◌≤◌, Bool, false, List, ◌++◌, map, length, take, drop, replicate}
 use Rattle.std.specs.Int.{Width, div_ceil}
-use Rattle.zf_spec.specs.Grid.{blocks, upto}
+use Rattle.zf_spec.specs.Grid.{IsShape, blocks, upto}
 use Rattle.zf_spec.specs.Numbers.{word_bits}
 use Rattle.zf_spec.specs.Stream.{to_bits, with_fill}
 use Rattle.zf_base.specs.Widths.{width_of}
@@ -25,6 +25,7 @@ all_bits h = blocks h.shape * block_bits h.mode
 pub record IsKept (w : Width) (d : ℕ) (h : Header) (words : List ℕ) (room : ℕ) (code head : Writer) : Type 0 where
   pub same_type : w ≡ width_of h.ty
   pub dims : length h.shape ≡ d
+  pub shape : IsShape h.shape
   pub rate : IsRate h.mode
   pub size : length words ≡ div_ceil (all_bits h) 64
   pub blank : drop (all_bits h) (word_bits words) ≡ replicate (64 * length words - all_bits h) false

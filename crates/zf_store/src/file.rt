@@ -2,6 +2,7 @@
 
 ghost use Rattle.std.specs.Prelude.{◌≡◌, ◌≢◌, ◌+◌, ◌-◌, ◌*◌, ◌<◌, ◌≤◌, ◌^◌, ◌↔◌, ◌++◌, IsTrue, false, length, take, drop, replicate, vec_len, IfOk, IfErr, OnOk};
 ghost use Rattle.std.specs.Int.{w64, div_ceil, to_le_bytes};
+ghost use Rattle.zf_spec.specs.Grid.{blocks};
 ghost use Rattle.zf_spec.specs.Numbers.{field, number, word_bits};
 ghost use Rattle.zf_spec.specs.Stream.{fill_len, to_bits, to_bytes, with_fill};
 ghost use Rattle.zf_header.specs.HeaderBits.{IsRate, block_bits, header_bits, rate_bytes_of};
@@ -37,6 +38,18 @@ pub(crate) fn code_bits(h: &Header) -> u64
     ensures bound { result ≤ 2 ^ 42 }
 {
     h.shape.blocks() * u64::from(rate(h))
+}
+
+/// The bit of the codes at which that of block `b` begins.
+pub(crate) fn code_place(h: &Header, b: u64) -> u64
+    requires rate { IsRate h.now.mode }
+    requires block { b < blocks h.now.shape }
+    ensures value { result ≡ b * block_bits h.now.mode }
+    ensures within { result + block_bits h.now.mode ≤ all_bits h.now }
+    ensures bound { all_bits h.now ≤ 2 ^ 42 }
+{
+    let _all = code_bits(h);
+    b * u64::from(rate(h))
 }
 
 /// Whether the codes and the fill of a file are there, the fill is zero, and nothing follows; or the first that is wrong.

@@ -14,7 +14,7 @@ ghost use Rattle.zf_store.specs.Files.{HasHeader, IsOpened, stream_fault};
 ghost use Rattle.zf_store.specs.Words.{IsWholeFile, all_bits, with_codes};
 
 use crate::StoreFault;
-use crate::file::{check_file, code_bits, rate, words_of_file, write_bytes};
+use crate::file::{check_file, code_bits, code_place, rate, words_of_file, write_bytes};
 use crate::words::put_run;
 use std::alloc::{AllocError, Global};
 use std::marker::Model;
@@ -106,11 +106,7 @@ impl<T: Lane, const D: usize> Store<T, D> {
     }
 
     // The store of these words, with its room and the header's bits.
-    fn with_words(
-        alloc: Global,
-        header: Header,
-        words: Vec<u64>,
-    ) -> Result<Store<T, D>, AllocError>
+    fn with_words(alloc: Global, header: Header, words: Vec<u64>) -> Result<Store<T, D>, AllocError>
         requires same_type { T.width ≡ width_of header.ty }
         requires dims { length header.shape ≡ D }
         requires rate { IsRate header.mode }
@@ -118,7 +114,7 @@ impl<T: Lane, const D: usize> Store<T, D> {
         requires blank { drop (all_bits header) (word_bits words.items) ≡ replicate (64 * vec_len words - all_bits header) false }
         ensures { IfOk result (λ s. s ≡ with_codes header (word_bits words.items)) }
     {
-        let room = Scratch::new(alloc, D as u8)?;
+        let room = Scratch::new(alloc, header.shape.dims())?;
         let mut code = BitWriter::new(alloc);
         code.reserve(u64::from(rate(&header)))?;
         let mut head = BitWriter::new(alloc);
@@ -166,30 +162,31 @@ impl<T: Lane, const D: usize> Store<T, D> {
 
 impl<T: Lane, const D: usize> Reading<T> for Store<T, D> {
     ghost use Rattle.std.specs.Prelude.{List, Bool};
+    ghost use Rattle.zf_header.specs.declared.header.Header.{Header};
     ghost use Rattle.zf_store.specs.Stored.{format_of, code_at};
 
     ghost Code = { List Bool };
 
-    ghost Kept = { Unit {0} };
+    ghost Kept = { Header };
 
     ghost format = { λ s. format_of s };
 
     ghost codes = { λ s b. code_at s b };
 
-    ghost kept = { λ s. tt };
+    ghost kept = { λ s. s.header };
 
     fn blocks(&self) -> u64 {
         self.header.shape.blocks()
     }
 
     fn block_len(&self) -> usize {
-        block_len(D as u8)
+        block_len(self.header.shape.dims())
     }
 
     fn load(&mut self, b: u64, line: &mut [T]) {
         let bits = rate(&self.header);
         let mut reader = BitReader::new(&self.words, code_bits(&self.header));
-        reader.seek(b * u64::from(bits));
+        reader.seek(code_place(&self.header, b));
         zf_block::decode_rate(D as u8, bits, &mut reader, line);
     }
 }
@@ -200,8 +197,12 @@ impl<T: Lane, const D: usize> Backing<T> for Store<T, D> {
         let e = self.header.shape.extent(b);
         self.code.clear();
         zf_block::encode_rate(D as u8, &e, bits, line, &mut self.room, &mut self.code);
-        let len = u64::from(bits);
-        put_run(&mut self.words, b * len, self.code.words(), len);
+        put_run(
+            &mut self.words,
+            code_place(&self.header, b),
+            self.code.words(),
+            u64::from(bits),
+        );
     }
 }
 
@@ -217,8 +218,9 @@ mod tests {
         let shape = Shape::new(1, 64, 1, 1, 1).ok().ok_or("a shape")?;
         assert_eq!(rt; shape.dims(), 1);
         let mut store = Store::<i32, 1>::zeros(rt.alloc(), shape, 64)?;
-        assert_eq!(rt; store.block_len(), 4);
-        for b in 0..store.blocks() {
+        for b in 0..16 {
+            assert_eq!(rt; store.blocks(), 16);
+            assert_eq!(rt; store.block_len(), 4);
             store.store(b, &[1, 2, 3, 4]);
         }
         let Store {

@@ -1,6 +1,6 @@
 //! Runs of bits that move between words, up to 64 bits at a time.
 
-ghost use Rattle.std.specs.Prelude.{◌≡◌, ◌+◌, ◌-◌, ◌*◌, ◌<◌, ◌≤◌, ◌++◌, false, length, take, drop, replicate};
+ghost use Rattle.std.specs.Prelude.{◌≡◌, ◌+◌, ◌-◌, ◌*◌, ◌^◌, ◌<◌, ◌≤◌, ◌++◌, false, length, take, drop, replicate};
 ghost use Rattle.std.specs.Int.{div_ceil};
 ghost use Rattle.zf_spec.specs.Numbers.{field, word_bits};
 
@@ -10,6 +10,7 @@ use zf_bits::{get_bits, put_bits};
 pub(crate) fn put_run(words: &mut [u64], at: u64, code: &[u64], len: u64)
     requires within { at + len ≤ 64 * length words.old }
     requires code { len ≤ 64 * length code.now }
+    requires small { at + len < 2 ^ 63 }
     ensures bits { word_bits words.new ≡ take at (word_bits words.old) ++ take len (word_bits code.now) ++ drop (at + len) (word_bits words.old) }
     ensures count { length words.new ≡ length words.old }
 {
@@ -24,6 +25,7 @@ pub(crate) fn put_run(words: &mut [u64], at: u64, code: &[u64], len: u64)
 pub(crate) fn move_to_front(words: &mut [u64], at: u64, len: u64)
     requires behind { 64 ≤ at }
     requires within { at + len ≤ 64 * length words.old }
+    requires small { at + len < 2 ^ 63 }
     ensures bits { take (64 * div_ceil len 64) (word_bits words.new)
         ≡ take len (drop at (word_bits words.old)) ++ replicate (64 * div_ceil len 64 - len) false }
     ensures count { length words.new ≡ length words.old }
@@ -40,6 +42,7 @@ pub(crate) fn joined_word(front: &[u64], front_len: u64, words: &[u64], len: u64
     requires front { front_len ≤ 64 * length front.now }
     requires words { len ≤ 64 * length words.now }
     requires within { 64 * i ≤ front_len + len }
+    requires small { front_len + len < 2 ^ 63 }
     ensures { field 64 result
         ≡ take 64 (drop (64 * i) (take front_len (word_bits front.now) ++ take len (word_bits words.now)) ++ replicate 64 false) }
 {

@@ -42,7 +42,7 @@ pub length-cut : (budget n b : ℕ) (s : List Bool) → n * budget ≤ length s 
 length-cut budget n b s long below = length-take-le budget (drop (b * budget) s) (omega (arith, length-drop (b * budget) s, suc-mul b budget, mul-le-mul_right budget below))
 
 -- a code of so many bits in front is read
-read_code-rate : (h : Header) (budget : ℕ) (es : List ℕ) (code more : List Bool) → h.mode ≡ Rate budget → length code ≡ budget
+pub read_code-rate : (h : Header) (budget : ℕ) (es : List ℕ) (code more : List Bool) → h.mode ≡ Rate budget → length code ≡ budget
     → read_code (width_of h.ty) h.mode es (code ++ more) ≡ Some (read_rate (width_of h.ty) es code, length code)
 read_code-rate h budget es code more is long =
     let w = width_of h.ty in

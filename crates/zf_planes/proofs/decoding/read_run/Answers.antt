@@ -2,7 +2,7 @@ use Rattle.std.proofs.Common.{◌≡◌, ℕ, ◌+◌, ◌-◌, ◌<◌, ◌≤�
 use Rattle.zf_bits.specs.Reader.{rest}
 use Rattle.zf_planes.specs.Decoding.{run_ahead, run_bits, tail_ahead, tail_bits}
 use Rattle.zf_planes.proofs.Passing.{Passes-part, Passes-lacks, Takes-rest}
-use Rattle.zf_planes.proofs.Peeking.{zeros_ahead, one_ahead, run_zeros, replicate_both, Takes-skip}
+use Rattle.zf_planes.proofs.Peeking.{peeked, zeros_ahead, one_ahead, run_zeros, zeros_and_one, replicate_both, Takes-skip}
 use Rattle.zf_planes.proofs.Steps.{run_stands, run_one, run_short}
 use Rattle.zf_planes.proofs.decoding.read_run.Goals as goal
 
@@ -21,23 +21,14 @@ returns-then-ahead-eq0-clause-short c =
 
 -- ---- the one
 
--- what a run makes of so many zeros and a one
-zeros_and_one : (k left m : ℕ) (s : List Bool) → k < left → k + 1 < m → s ≡ replicate k false ++ true ∷ drop (k + 1) s
-    → (run_bits left m s ≡ k + 1 + tail_bits (left - k - 1) (m - k - 1) (drop (k + 1) s)) × (run_ahead left m s ≡ replicate k false ++ true ∷ tail_ahead (left - k - 1) (m - k - 1) (drop (k + 1) s))
-zeros_and_one k left m s within below split =
-    let t = drop (k + 1) s in
-    let zeros = run_zeros k left m s (true ∷ t) (omega arith) (omega arith) split in
-    let one = run_one (left - k) (m - k) (true ∷ t) t (omega arith) (omega arith) refl in
-    (omega (arith, zeros.0, one.0), zeros.1 ∙ ap (λ (ds : List Bool). replicate k false ++ ds) one.1)
-
 pub returns-then-count-ahead-clause-bits : goal.returns-then-count-ahead-clause-bits
 returns-then-count-ahead-clause-bits c =
     let z = c.loop-zeros.zeros in
     let left = c.loop-zeros.left in
     let k = c.min-count.result in
     let s = rest c.loop-zeros.reader in
-    let split = one_ahead s c.peek.result k c.peek.ensures c.peek.type_inv (omega (arith, c.min-count.ensures, c.from.ensures, c.if-count-ahead.true))
-    (omega (arith, c.if-count-ahead.true, c.min-ahead.ensures)) (omega (arith, c.if-count-ahead.true, c.min-ahead.ensures, c.min-in-loop-zeros.ensures, c.min.ensures, c.left.ensures.count)) in
+    let window = peeked s c.peek.result c.min-ahead.result c.peek.ensures (omega (arith, c.min-ahead.ensures)) (omega (arith, c.min-ahead.ensures, c.min-in-loop-zeros.ensures, c.min.ensures, c.left.ensures.count)) in
+    let split = one_ahead s c.peek.result c.min-ahead.result k window c.peek.type_inv (omega (arith, c.min-count.ensures, c.from.ensures, c.if-count-ahead.true)) c.if-count-ahead.true (omega (arith, c.min-ahead.ensures)) in
     let both = zeros_and_one k left (c.args.most - z) s (omega (arith, c.if-count-ahead.true, c.min-ahead.ensures, c.min-in-loop-zeros.ensures, c.min.ensures))
     (omega (arith, c.if-count-ahead.true, c.min-ahead.ensures, c.min-in-loop-zeros.ensures)) split in
     let passed = Takes-skip left (k + 1) (omega (arith, c.if-count-ahead.true, c.min-ahead.ensures, c.min-in-loop-zeros.ensures, c.min.ensures))
@@ -52,8 +43,8 @@ returns-then-count-ahead-clause-digits c =
     let left = c.loop-zeros.left in
     let k = c.min-count.result in
     let s = rest c.loop-zeros.reader in
-    let split = one_ahead s c.peek.result k c.peek.ensures c.peek.type_inv (omega (arith, c.min-count.ensures, c.from.ensures, c.if-count-ahead.true))
-    (omega (arith, c.if-count-ahead.true, c.min-ahead.ensures)) (omega (arith, c.if-count-ahead.true, c.min-ahead.ensures, c.min-in-loop-zeros.ensures, c.min.ensures, c.left.ensures.count)) in
+    let window = peeked s c.peek.result c.min-ahead.result c.peek.ensures (omega (arith, c.min-ahead.ensures)) (omega (arith, c.min-ahead.ensures, c.min-in-loop-zeros.ensures, c.min.ensures, c.left.ensures.count)) in
+    let split = one_ahead s c.peek.result c.min-ahead.result k window c.peek.type_inv (omega (arith, c.min-count.ensures, c.from.ensures, c.if-count-ahead.true)) c.if-count-ahead.true (omega (arith, c.min-ahead.ensures)) in
     let both = zeros_and_one k left (c.args.most - z) s (omega (arith, c.if-count-ahead.true, c.min-ahead.ensures, c.min-in-loop-zeros.ensures, c.min.ensures))
     (omega (arith, c.if-count-ahead.true, c.min-ahead.ensures, c.min-in-loop-zeros.ensures)) split in
     let passed = Takes-skip left (k + 1) (omega (arith, c.if-count-ahead.true, c.min-ahead.ensures, c.min-in-loop-zeros.ensures, c.min.ensures))
@@ -77,7 +68,8 @@ loop-zeros-preserved c =
     let in_budget : k ≤ left = omega (arith, c.min-count.ensures, c.min-ahead.ensures, c.min-in-loop-zeros.ensures, c.min.ensures) in
     let there : k ≤ length s = omega (arith, c.min-count.ensures, c.min-ahead.ensures, c.min-in-loop-zeros.ensures, c.min.ensures, c.left.ensures.count) in
     let below : k < m = omega (arith, c.min-count.ensures, c.min-ahead.ensures, c.min-in-loop-zeros.ensures, c.loop-zeros-test.true) in
-    let split = zeros_ahead s c.peek.result k c.peek.ensures c.peek.type_inv (omega (arith, c.min-count.ensures, c.from.ensures)) (omega (arith, c.min-count.ensures, c.min-ahead.ensures)) there in
+    let window = peeked s c.peek.result c.min-ahead.result c.peek.ensures (omega (arith, c.min-ahead.ensures)) (omega (arith, c.min-ahead.ensures, c.min-in-loop-zeros.ensures, c.min.ensures, c.left.ensures.count)) in
+    let split = zeros_ahead s c.peek.result c.min-ahead.result k window c.peek.type_inv (omega (arith, c.min-count.ensures, c.from.ensures)) (omega (arith, c.min-count.ensures)) in
     let zeros = run_zeros k left m s (drop k s) in_budget below split in
     let passed = Takes-skip left k in_budget there c.skip-in-loop-zeros.ensures in
     let behind = rest c.skip-in-loop-zeros.new.self in

@@ -1,17 +1,24 @@
--- The first n digits are read, the others are zero, and what reading makes of the rest is what it makes of the tail behind them.
-use Rattle.std.proofs.Common.{◌≡◌, ◌≤◌, ◌-◌, ◌++◌, false, length, take, drop, replicate}
+-- The digits up to rank n are read, the others are zero, and what reading makes of the rest is what it makes of the tail behind them.
+use Rattle.std.proofs.Common.{◌≡◌, ◌-◌, ◌≤◌, max, ◌++◌}
+use Rattle.zf_spec.specs.Planes.{reach}
+use Rattle.zf_spec.specs.HeldPlanes.{digits_held, IsClearFrom}
 use Rattle.zf_bits.specs.Reader.{rest}
-use Rattle.zf_planes.specs.Decoding.{tail_ahead, tail_bits}
+use Rattle.zf_planes.specs.Decoding.{IsWindow, tail_ahead, tail_bits}
 use Rattle.zf_planes.proofs.Passing.{Passes}
 use Rattle.zf_planes.proofs.decoding.read_tail.Given as goal
 
 abbrev pub invariant-loop-n : goal.invariant-loop-n
-invariant-loop-n l = record {
-  passes : Passes l.fn.reader l.reader l.fn.left l.left (tail_bits l.left (length l.digits - l.n) (rest l.reader)) (tail_bits l.fn.left (length l.fn.digits) (rest l.fn.reader));
-  digits : tail_ahead l.fn.left (length l.fn.digits) (rest l.fn.reader) ≡ take l.n l.digits ++ tail_ahead l.left (length l.digits - l.n) (rest l.reader);
-  back : drop l.n l.digits ≡ replicate (length l.digits - l.n) false;
-  within : l.n ≤ length l.digits;
-}
+invariant-loop-n g l =
+    let words = g.P.Plane.words l.digits in
+    record {
+      window : IsWindow l.next.left l.next.bits l.next.count (rest l.reader);
+      passes : Passes l.fn.reader l.reader l.fn.ahead.left l.next.left (tail_bits l.next.left (l.size - l.n) (rest l.reader)) (tail_bits l.fn.ahead.left (l.size - l.fn.n) (rest l.fn.reader));
+      digits : digits_held l.fn.n (g.P.Plane.words l.fn.plane) ++ tail_ahead l.fn.ahead.left (l.size - l.fn.n) (rest l.fn.reader)
+          ≡ digits_held l.n words ++ tail_ahead l.next.left (l.size - l.n) (rest l.reader);
+      clear : IsClearFrom l.n words;
+      within : l.n ≤ l.size;
+      above : l.n ≡ max l.fn.n (reach (digits_held l.n words));
+    }
 
 abbrev pub decreases-loop-n : goal.decreases-loop-n
-decreases-loop-n l = length l.digits - l.n
+decreases-loop-n g l = l.size - l.n

@@ -1,13 +1,17 @@
-use Rattle.std.proofs.Common.{◌≡◌, ℕ, ◌+◌, ◌-◌, ◌<◌, ◌≤◌, max, Bool, List, [], ◌∷◌, ◌++◌, length, map, take, drop, get_or, sym, ap, ◌∙◌, arith}
-use Rattle.std.proofs.lemmas.List.{drop_all, length-map, get_or-map}
-use Rattle.zf_spec.specs.Planes.{code_from, plane_code, reach}
+use Rattle.std.proofs.Common.{◌≡◌, ℕ, ◌+◌, ◌-◌, ◌*◌, ◌<◌, ◌≤◌, ◌⊎◌, ⊎_elim, min, max, Bool, false, List, [], ◌∷◌, ◌++◌, length, map, take, drop, get_or, replicate, refl, sym, ap, ◌∙◌, arith}
+use Rattle.std.proofs.lemmas.List.{drop_all, length-map, get_or-map, take-take, take-append-drop, length-replicate}
+use Rattle.zf_spec.specs.Planes.{code, code_from, plane_code, reach}
 use Rattle.zf_bits.specs.Writer.{Writer}
 use Rattle.zf_spec.specs.HeldPlanes.{planes_held, digits_held}
 use Rattle.zf_planes.proofs.Budgets.{Remains, Remains-start, Remains-same, Remains-fits, Remains-more, Remains-end}
 use Rattle.zf_planes.proofs.Lengths.{length-code_words-le}
+use Rattle.zf_spec.proofs.Fields.{field-zero}
+use Rattle.zf_bits.proofs.Appending.{Appends-same}
+use Rattle.zf_planes.proofs.Zeros.{take_zeros, zero_code}
 use Rattle.zf_planes.proofs.Unpacking.{length-top_held, drop-top_held, each_long}
 use Rattle.zf_planes.proofs.encoding.write_planes.Given.{Over}
 use Rattle.zf_planes.proofs.encoding.write_planes.Goals as goal
+use Rattle.zf_planes.proofs.encoding.write_planes.Goals.{then-loop-i-test+else-left-gt0, else-loop-i-test}
 
 -- what remains begins with the code of the next plane
 next_plane : {A : Type 0} {old now : Writer} {budget left : ℕ} {whole : List Bool} (words : A → List ℕ) (above prec size i : ℕ) (planes : List A) (plane : A)
@@ -22,13 +26,42 @@ next_plane words above prec size i planes plane remains is below within =
     ap (λ k. get_or all k []) place ∙ get_or-map words planes (length planes - 1 - i) plane [] (omega arith) ∙ ap words (sym is) in
     Remains-same remains (ap (code_from above) (drop-top_held prec size all i below (omega arith) ∙ ap (λ (ws : List ℕ). digits_held size ws ∷ drop (i + 1) (take prec (planes_held size all))) same))
 
+-- the code of all planes remains to be written, of which the first k have no one
+remains_all : {A : Type 0} (out : Writer) (words : A → List ℕ) (count budget prec size k : ℕ) (planes : List A) → ((plane : A) → length (words plane) ≡ count) → size ≤ 64 * count → prec ≤ length planes
+    → min budget (size * prec + size) ≤ out.room → (k ≡ 0) ⊎ (0 < size) → k ≤ prec → take k (planes_held size (map words planes)) ≡ replicate k (replicate size false)
+    → Remains out out budget budget (code (take prec (planes_held size (map words planes)))) (replicate k false ++ code_from 0 (drop k (take prec (planes_held size (map words planes)))))
+remains_all out words count budget prec size k planes long enough in_planes room some within zeros =
+    let all = map words planes in
+    let held = planes_held size all in
+    let top = take prec held in
+    let count_all = length-map planes words in
+    let most = length-code_words-le prec size all (omega arith) (λ i below. let has = each_long words count long planes i (omega arith) in omega arith) in
+    let first : take k top ≡ replicate k (replicate size false) = take-take k prec held within ∙ zeros in
+    Remains-same (Remains-start out budget (code top) (omega (arith, room, most)))
+    (ap code (sym (take-append-drop k top) ∙ ap (λ (ps : List (List Bool)). ps ++ drop k top) first) ∙ zeros_first k some)
+  where
+    zeros_first : (k : ℕ) → (k ≡ 0) ⊎ (0 < size) → code (replicate k (replicate size false) ++ drop k (take prec (planes_held size (map words planes)))) ≡ replicate k false ++ code_from 0 (drop k (take prec (planes_held size (map words planes))))
+    zeros_first k = ⊎_elim (λ (none : k ≡ 0). rw none refl) (λ (size_some : 0 < size). zero_code k size (drop k (take prec (planes_held size (map words planes)))) size_some)
+
+pub write_reserved-requires-clause-fits : goal.write_reserved-requires-clause-fits
+write_reserved-requires-clause-fits g c =
+    let k = c.zero_planes-zeros.result in
+    let zeros = c.zero_planes-zeros.ensures in
+    let remains = remains_all c.args.out.now g.P.Plane.words _ c.args.budget c.args.prec c.args.size k c.args.planes.now g.met.P.Plane.long c.requires.words c.requires.planes c.requires.fits zeros.some zeros.within zeros.zeros in
+    omega (arith, Remains-fits (replicate k false) _ remains, length-replicate k false, c.min-count.ensures, c.from.ensures)
+
 pub loop-i-init : goal.loop-i-init
 loop-i-init g c =
-    let planes = map g.P.Plane.words c.args.planes.now in
-    let long = length-map c.args.planes.now g.P.Plane.words in
-    let most = length-code_words-le c.args.prec c.args.size planes (omega (arith, c.requires.planes)) (λ i below.
-    let has = each_long g.P.Plane.words _ g.met.P.Plane.long c.args.planes.now i (omega arith) in omega (arith, c.requires.words)) in
-    record { remains = Remains-start c.args.out.now c.args.budget _ (omega (arith, c.requires.fits, most)); above = omega arith }
+    let k = c.zero_planes-zeros.result in
+    let zeros = c.zero_planes-zeros.ensures in
+    let remains = remains_all c.args.out.now g.P.Plane.words _ c.args.budget c.args.prec c.args.size k c.args.planes.now g.met.P.Plane.long c.requires.words c.requires.planes c.requires.fits zeros.some zeros.within zeros.zeros in
+    let count : c.min-count.result ≡ min c.args.budget k = omega (arith, c.min-count.ensures, c.from.ensures) in
+    let appends = Appends-same c.write_reserved.ensures.bits (field-zero c.min-count.result ∙ ap (λ n. replicate n false) count ∙ sym (take_zeros c.args.budget k)) in
+    let spent : c.args.budget - c.min-count.result ≡ c.args.budget - length (replicate k false) = omega (arith, count, length-replicate k false) in
+    record { remains = rw spent (Remains-more (replicate k false) _ remains appends); above = omega arith }
+
+pub write_plane-left-requires-clause-in_plane : goal.write_plane-left-requires-clause-in_plane
+write_plane-left-requires-clause-in_plane g c = c.loop-i.invariant.above
 
 pub write_plane-left-requires-clause-fits : goal.write_plane-left-requires-clause-fits
 write_plane-left-requires-clause-fits g c =
@@ -47,15 +80,23 @@ loop-i-preserved g c =
       above = omega (arith, c.loop-i.invariant.above, c.reach_in-end.ensures.bound, c.max-above.ensures);
     }
 
--- after the last plane nothing remains
-none_left : (g : Over) (c : goal.After-loop-i g) → code_from c.loop-i.above (drop c.loop-i.i (take c.args.prec (planes_held c.args.size (map g.P.Plane.words c.args.planes.now)))) ≡ []
-none_left g c =
-    let planes = map g.P.Plane.words c.args.planes.now in
-    let long = length-map c.args.planes.now g.P.Plane.words in
-    ap (code_from c.loop-i.above) (drop_all c.loop-i.i (take c.args.prec (planes_held c.args.size planes)) (omega (arith, length-top_held c.args.prec c.args.size planes (omega (arith, c.requires.planes)), c.loop-i-test.false)))
+-- no bit or no plane is left
+none_left : (g : Over) (c : goal.Left-loop-i g) → min c.loop-i.left (length (code_from c.loop-i.above (drop c.loop-i.i (take c.args.prec (planes_held c.args.size (map g.P.Plane.words c.args.planes.now)))))) ≡ 0
+none_left g c = elim c.loop-i-test.branch [
+  | then-loop-i-test+else-left-gt0 w ↦ omega (arith, w.if-left-gt0.false)
+  | else-loop-i-test w ↦
+      let planes = map g.P.Plane.words c.args.planes.now in
+      let long = length-map c.args.planes.now g.P.Plane.words in
+      let top = take c.args.prec (planes_held c.args.size planes) in
+      let none = ap (λ (ps : List (List Bool)). length (code_from c.loop-i.above ps)) (drop_all c.loop-i.i top (omega (arith, length-top_held c.args.prec c.args.size planes (omega (arith, c.requires.planes)), w.loop-i-test.false))) in
+      omega (arith, none)
+]
+
+pub overflow_sub-result : goal.overflow_sub-result
+overflow_sub-result g c = c.loop-i.invariant.remains.within
 
 pub returns-clause-bits : goal.returns-clause-bits
-returns-clause-bits g c = let none = ap length (none_left g c) in Remains-end c.loop-i.invariant.remains (omega arith)
+returns-clause-bits g c = Remains-end c.loop-i.invariant.remains (none_left g c)
 
 pub returns-clause-count : goal.returns-clause-count
-returns-clause-count g c = let none = ap length (none_left g c) in omega (arith, c.loop-i.invariant.remains.spent, c.loop-i.invariant.remains.within)
+returns-clause-count g c = omega (arith, none_left g c, c.loop-i.invariant.remains.spent, c.loop-i.invariant.remains.within)

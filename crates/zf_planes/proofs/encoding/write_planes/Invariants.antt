@@ -1,5 +1,5 @@
 -- The code of the planes from the i-th on remains to be written.
-use Rattle.std.proofs.Common.{map, ◌≤◌, take, drop}
+use Rattle.std.proofs.Common.{map, ◌-◌, ◌≤◌, take, drop}
 use Rattle.zf_spec.specs.Planes.{code, code_from}
 use Rattle.zf_spec.specs.HeldPlanes.{planes_held}
 use Rattle.zf_planes.proofs.Budgets.{Remains}
@@ -12,3 +12,6 @@ invariant-loop-i g l =
       remains : Remains l.fn.out l.out l.budget l.left (code planes) (code_from l.above (drop l.i planes));
       above : l.above ≤ l.size;
     }
+
+abbrev pub decreases-loop-i : goal.decreases-loop-i
+decreases-loop-i g l = l.prec - l.i

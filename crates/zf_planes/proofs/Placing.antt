@@ -1,0 +1,148 @@
+-- A plane in words whose digits are put in from its front on.
+use Rattle.std.proofs.Common.{◌≡◌, ℕ, zero, suc, ◌+◌, ◌-◌, ◌*◌, ◌/◌, ◌%◌, ◌^◌, ◌<◌, ◌≤◌, ◌≢◌, ⊎_elim, max, Bool, true, false, eqb, List, [], ◌∷◌, ◌++◌, length, get_or, set, take, drop, replicate, get_or-set_same, get_or-set_other, ext_get_or, refl, sym, ap, ◌∙◌, arith, length-set, length-append, length-take, length-drop, append_assoc}
+use Rattle.std.specs.Int.{bit_at, w64}
+use Rattle.std.specs.Int.Bits.{bit_or}
+use Rattle.std.proofs.Math.Seq.{take-append-add, drop-append-add, take-add}
+use Rattle.std.proofs.lemmas.Bool.{cases_eq}
+use Rattle.std.proofs.lemmas.List.{take_at, drop_at, take-append-drop, drop-drop, take-replicate, drop-replicate, length-replicate, replicate-append-replicate, append-nil}
+use Rattle.std.proofs.lemmas.Nat.Bits.{bit_at_set_same, bit_at_set_other}
+use Rattle.zf_spec.specs.Numbers.{is_odd, field, word_bits}
+use Rattle.zf_spec.specs.Planes.{reach}
+use Rattle.zf_spec.specs.HeldPlanes.{digits_held, IsClearFrom}
+use Rattle.zf_spec.proofs.Fields.{length-field}
+use Rattle.zf_spec.proofs.WordBits.{length-word_bits, get_or-word_bits}
+use Rattle.zf_spec.proofs.HeldPlanes.{length-digits_held}
+use Rattle.zf_bits.proofs.Words.{words-set}
+use Rattle.zf_bits.proofs.Packed.{flat_map-field-replicate}
+use Rattle.zf_planes.proofs.Filling.{front_set, behind_set}
+use Rattle.zf_planes.proofs.Runs.{reach-push, reach-push_zero}
+
+-- ---- words with no bit from a rank on
+
+pub clear_zeros : (n k : ℕ) → IsClearFrom n (replicate k 0)
+unfolding IsClearFrom
+clear_zeros n k =
+    let zeros = flat_map-field-replicate 64 k in
+    let long : 64 * k ≡ length (word_bits (replicate k 0)) = sym (ap length zeros ∙ length-replicate (64 * k) false) in
+    ap (drop n) zeros ∙ drop-replicate n (64 * k) false ∙ ap (λ m. replicate (m - n) false) long
+
+pub clear_later : (n m : ℕ) (ws : List ℕ) → n ≤ m → IsClearFrom n ws → IsClearFrom m ws
+unfolding IsClearFrom
+clear_later n m ws order clear =
+    let bits = word_bits ws in
+    let place : n + (m - n) ≡ m = omega arith in
+    let count : length bits - n - (m - n) ≡ length bits - m = omega arith in
+    ap (λ k. drop k bits) (sym place)
+    ∙ sym (drop-drop (m - n) n bits)
+    ∙ ap (drop (m - n)) clear
+    ∙ drop-replicate (m - n) (length bits - n) false
+    ∙ ap (λ k. replicate k false) count
+
+pub held_zeros : (size k : ℕ) → size ≤ 64 * k → digits_held size (replicate k 0) ≡ replicate size false
+unfolding digits_held
+held_zeros size k within = ap (take size) (flat_map-field-replicate 64 k) ∙ take-replicate size (64 * k) false within
+
+-- the digits behind those that were put in are zero
+pub held_behind : (n size : ℕ) (ws : List ℕ) → n ≤ size → size ≤ 64 * length ws → IsClearFrom n ws → digits_held size ws ≡ digits_held n ws ++ replicate (size - n) false
+unfolding digits_held IsClearFrom
+held_behind n size ws order within clear =
+    let bits = word_bits ws in
+    let place : size ≡ n + (size - n) = omega arith in
+    ap (λ k. take k bits) place
+    ∙ take-add n (size - n) bits
+    ∙ ap (λ (xs : List Bool). take n bits ++ xs) (ap (take (size - n)) clear ∙ take-replicate (size - n) (length bits - n) false (omega (arith, length-word_bits ws)))
+
+-- ---- a word is put in
+
+regroup : (a b c d : List Bool) → a ++ ((b ++ c) ++ d) ≡ (a ++ b) ++ (c ++ d)
+regroup a b c d = simp append_assoc
+
+pub word_filled : (ws : List ℕ) (at q n x : ℕ) (s : List Bool) → at ≡ 64 * q → n ≤ 64 → q < length ws → field 64 x ≡ s ++ replicate (64 - n) false → length s ≡ n → IsClearFrom at ws
+    → (digits_held (at + n) (set ws q x) ≡ digits_held at ws ++ s) × IsClearFrom (at + n) (set ws q x)
+unfolding digits_held IsClearFrom
+word_filled ws at q n x s place small within word long clear =
+    let bits = word_bits ws in
+    let all = length-word_bits ws in
+    let next : 64 * suc q ≡ at + 64 = omega arith in
+    let behind : drop (64 * suc q) bits ≡ replicate (length bits - at - 64) false =
+    ap (λ k. drop k bits) next ∙ sym (drop-drop 64 at bits) ∙ ap (drop 64) clear ∙ drop-replicate 64 (length bits - at) false in
+    let more = replicate (64 - n) false ++ drop (64 * suc q) bits in
+    let whole : word_bits (set ws q x) ≡ (take at bits ++ s) ++ more =
+    words-set 64 q ws x within
+    ∙ ap (λ k. take k bits ++ (field 64 x ++ drop (64 * suc q) bits)) (sym place)
+    ∙ ap (λ (xs : List Bool). take at bits ++ (xs ++ drop (64 * suc q) bits)) word
+    ∙ regroup (take at bits) s (replicate (64 - n) false) (drop (64 * suc q) bits) in
+    let front : length (take at bits ++ s) ≡ at + n = omega (arith, length-append (take at bits) s, length-take at bits) in
+    let same : 64 - n + (length bits - at - 64) ≡ length (word_bits (set ws q x)) - (at + n) = omega (arith, length-word_bits (set ws q x), length-set ws q x) in (
+      ap (take (at + n)) whole ∙ take_at (take at bits ++ s) more (at + n) front,
+      ap (drop (at + n)) whole
+          ∙ drop_at (take at bits ++ s) more (at + n) front
+          ∙ ap (λ (xs : List Bool). replicate (64 - n) false ++ xs) behind
+          ∙ replicate-append-replicate (64 - n) (length bits - at - 64) false
+          ∙ ap (λ k. replicate k false) same,
+    )
+
+-- ---- a one is put in
+
+pub one_set : (ws : List ℕ) (r : ℕ) → r < 64 * length ws → word_bits (set ws (r / 64) (bit_or (get_or ws (r / 64) 0) (1 * 2 ^ (r % 64) % 2 ^ 64))) ≡ set (word_bits ws) r true
+one_set ws r within =
+    let q = r / 64 in
+    let v = get_or ws q 0 in
+    let x = bit_or v (1 * 2 ^ (r % 64) % 2 ^ 64) in
+    let all = length-word_bits ws in
+    let long = length-word_bits (set ws q x) in
+    let same_long = length-set ws q x in
+    ext_get_or false (word_bits (set ws q x)) (set (word_bits ws) r true) (omega (arith, length-set (word_bits ws) r true))
+    (λ j low.
+    get_or-word_bits (set ws q x) j (omega arith)
+    ∙ ⊎_elim
+    (λ (here : j ≡ r).
+    ap (λ i. is_odd (get_or (set ws q x) (i / 64) 0 / 2 ^ (i % 64))) here
+    ∙ ap (λ u. is_odd (u / 2 ^ (r % 64))) (get_or-set_same ws q x 0 (omega arith))
+    ∙ ap (λ b. eqb b 1) (bit_at_set_same w64 v (r % 64) (omega arith))
+    ∙ sym (ap (λ i. get_or (set (word_bits ws) r true) i false) here ∙ get_or-set_same (word_bits ws) r true false (omega arith)))
+    (λ (apart : j ≢ r).
+    other j apart (omega arith)
+    ∙ sym (get_or-word_bits ws j (omega arith))
+    ∙ sym (get_or-set_other (word_bits ws) r j true false apart))
+    (cases_eq j r))
+  where
+    other : (j : ℕ) → j ≢ r → j < 64 * length ws
+        → is_odd (get_or (set ws (r / 64) (bit_or (get_or ws (r / 64) 0) (1 * 2 ^ (r % 64) % 2 ^ 64))) (j / 64) 0 / 2 ^ (j % 64)) ≡ is_odd (get_or ws (j / 64) 0 / 2 ^ (j % 64))
+    other j apart inside =
+        let q = r / 64 in
+        let v = get_or ws q 0 in
+        let x = bit_or v (1 * 2 ^ (r % 64) % 2 ^ 64) in
+        ⊎_elim
+        (λ (same : j / 64 ≡ q).
+        let bit : j % 64 ≢ r % 64 = λ (e : j % 64 ≡ r % 64). apart (omega arith) in
+        ap (λ i. is_odd (get_or (set ws q x) i 0 / 2 ^ (j % 64))) same
+        ∙ ap (λ u. is_odd (u / 2 ^ (j % 64))) (get_or-set_same ws q x 0 (omega arith))
+        ∙ ap (λ b. eqb b 1) (bit_at_set_other w64 v (r % 64) (omega arith) (j % 64) bit)
+        ∙ ap (λ i. is_odd (get_or ws i 0 / 2 ^ (j % 64))) (sym same))
+        (λ (away : j / 64 ≢ q). ap (λ u. is_odd (u / 2 ^ (j % 64))) (get_or-set_other ws q (j / 64) x 0 away))
+        (cases_eq (j / 64) q)
+
+-- zeros and a one behind the digits that were put in
+pub one_placed : (ws ws' : List ℕ) (n z : ℕ) → n + z < 64 * length ws → IsClearFrom n ws → word_bits ws' ≡ set (word_bits ws) (n + z) true
+    → (digits_held (n + z + 1) ws' ≡ digits_held n ws ++ (replicate z false ++ true ∷ [])) × IsClearFrom (n + z + 1) ws'
+unfolding digits_held IsClearFrom
+one_placed ws ws' n z within clear is =
+    let bits = word_bits ws in
+    let all = length-word_bits ws in (
+      ap (take (n + z + 1)) is ∙ front_set bits true false n z (omega arith) clear,
+      ap (drop (n + z + 1)) is ∙ behind_set bits true false n z clear ∙ ap (λ (xs : List Bool). replicate (length xs - (n + z + 1)) false) (sym is),
+    )
+
+-- ---- how far the ones reach
+
+pub reach_behind : (xs : List Bool) (k : ℕ) → reach (xs ++ replicate k false) ≡ reach xs
+reach_behind xs zero = ap reach (append-nil xs)
+reach_behind xs (suc k) =
+    ap reach (sym (append_assoc xs (false ∷ []) (replicate k false))) ∙ reach_behind (xs ++ false ∷ []) k ∙ reach-push_zero xs
+
+pub reach_one : (xs : List Bool) (z : ℕ) → reach (xs ++ (replicate z false ++ true ∷ [])) ≡ length xs + z + 1
+reach_one xs z =
+    ap reach (sym (append_assoc xs (replicate z false) (true ∷ [])))
+    ∙ reach-push (xs ++ replicate z false)
+    ∙ omega (arith, length-append xs (replicate z false), length-replicate z false)

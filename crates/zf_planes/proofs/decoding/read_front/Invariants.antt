@@ -1,0 +1,22 @@
+-- The first digits are read, and the others are zero.
+use Rattle.std.proofs.Common.{◌≡◌, ◌-◌, ◌%◌, ◌≤◌, ◌⊎◌, take}
+use Rattle.zf_spec.specs.HeldPlanes.{digits_held, IsClearFrom}
+use Rattle.zf_bits.specs.Reader.{rest}
+use Rattle.zf_planes.specs.Decoding.{IsWindow}
+use Rattle.zf_planes.proofs.Passing.{Passes}
+use Rattle.zf_planes.proofs.decoding.read_front.Given as goal
+
+abbrev pub invariant-loop-at : goal.invariant-loop-at
+invariant-loop-at g l =
+    let words = g.P.Plane.words l.plane in
+    record {
+      window : IsWindow l.ahead.left l.ahead.bits l.ahead.count (rest l.reader);
+      passes : Passes l.fn.reader l.reader l.fn.ahead.left l.ahead.left (l.count - l.at) l.count;
+      place : (l.at % 64 ≡ 0) ⊎ (l.at ≡ l.count);
+      within : l.at ≤ l.count;
+      digits : digits_held l.at words ≡ take l.at (rest l.fn.reader);
+      clear : IsClearFrom l.at words;
+    }
+
+abbrev pub decreases-loop-at : goal.decreases-loop-at
+decreases-loop-at g l = l.count - l.at

@@ -1,0 +1,35 @@
+use Rattle.std.proofs.Common.{◌≡◌, ℕ, ◌+◌, ◌-◌, ◌/◌, ◌%◌, ◌^◌, ◌≤◌, ◌<◌, Bool, false, List, ◌++◌, take, replicate, ap, sym, ◌∙◌, arith}
+use Rattle.std.proofs.lemmas.Nat.{and_mask, mod_below, pow_pos}
+use Rattle.std.proofs.lemmas.Nat.Bits.{ones_shr}
+use Rattle.std.proofs.Math.Nat.{div-eq_of_lt}
+use Rattle.std.specs.Int.Bits.{bit_and}
+use Rattle.zf_spec.specs.Numbers.{field}
+use Rattle.zf_spec.proofs.Fields.{field-add, field-mod, field-zero}
+use Rattle.zf_bits.specs.Reader.{rest}
+use Rattle.zf_planes.proofs.Peeking.{window_front}
+use Rattle.zf_planes.proofs.decoding.read_word.Goals as goal
+
+-- a mask leaves the lowest bits
+masked : (v n : ℕ) → n ≤ 64 → bit_and v (18446744073709551615 / 2 ^ (64 - n)) ≡ v % 2 ^ n
+masked v n small =
+    let left : 64 - (64 - n) ≡ n = omega arith in
+    ap (bit_and v) (ones_shr 64 (64 - n) (omega arith) ∙ ap (λ k. 2 ^ k - 1) left) ∙ and_mask v n
+
+-- the lowest bits as a word
+low_field : (v n : ℕ) → n ≤ 64 → field 64 (v % 2 ^ n) ≡ field n v ++ replicate (64 - n) false
+low_field v n small =
+    let parts : 64 ≡ n + (64 - n) = omega arith in
+    let low = v % 2 ^ n in
+    let none : low / 2 ^ n ≡ 0 = div-eq_of_lt (mod_below v (2 ^ n) (pow_pos n)) in
+    ap (λ k. field k low) parts
+    ∙ field-add n (64 - n) low
+    ∙ ap (λ (bs : List Bool). bs ++ field (64 - n) (low / 2 ^ n)) (field-mod n v)
+    ∙ ap (λ u. field n v ++ field (64 - n) u) none
+    ∙ ap (λ (bs : List Bool). field n v ++ bs) (field-zero (64 - n))
+
+pub returns-clause-digits : goal.returns-clause-digits
+returns-clause-digits c =
+    let ahead = c.see.new.ahead in
+    ap (field 64) (masked ahead.bits c.args.n c.requires.in_word)
+    ∙ low_field ahead.bits c.args.n c.requires.in_word
+    ∙ ap (λ (bs : List Bool). bs ++ replicate (64 - c.args.n) false) (window_front (rest c.args.reader.now) ahead.bits ahead.count c.args.n c.in_ok-see.ensures.window.bits c.in_ok-see.ensures.there)
