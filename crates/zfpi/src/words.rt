@@ -7,18 +7,23 @@ ghost use Rattle.zfpi.specs.Words.{type_word, IsSpelled, BeginsCommand, IsUsage}
 ghost use Rattle.zfpi.specs.Stages.{LeadsTo, IsRateWord};
 
 use crate::command::Command;
+use crate::name::Name;
 use crate::numbers::{number_in, shape_in};
 use zf_base::{Shape, Ty};
 use zf_header::{Header, MAX_FILE, MAX_RATE, Mode, rate_bytes};
 
 // How far the words have come.
-#[derive(Clone, Copy, Debug, PartialEq, Eq)]
+#[derive(Debug, Drop)]
 enum Stage {
     Start,
     Compressing,
     Typed(Ty),
     Shaped(Ty, Shape),
     AtRate(Ty, Shape),
+    Making,
+    Named(Name),
+    NamedTyped(Name, Ty),
+    NamedShaped(Name, Ty, Shape),
     Whole(Command),
 }
 
@@ -58,6 +63,18 @@ impl Stage {
                 let mode = Mode::Rate(rate_in(ty, shape, word)?);
                 Some(Stage::Whole(Command::Compress(Header { ty, shape, mode })))
             }
+            Stage::Making => Some(Stage::Named(Name::new(word)?)),
+            Stage::Named(name) => Some(Stage::NamedTyped(name, type_in(word)?)),
+            Stage::NamedTyped(name, ty) => Some(Stage::NamedShaped(name, ty, shape_in(word)?)),
+            Stage::NamedShaped(name, ty, shape) => {
+                let bits = rate_in(ty, shape, word)?;
+                Some(Stage::Whole(Command::New {
+                    name,
+                    ty,
+                    shape,
+                    bits,
+                }))
+            }
             Stage::Whole(_) => None,
         }
     }
@@ -72,6 +89,7 @@ fn first(word: &str) -> Option<Stage>
         "compress" => Some(Stage::Compressing),
         "restore" => Some(Stage::Whole(Command::Restore)),
         "info" => Some(Stage::Whole(Command::Info)),
+        "new" => Some(Stage::Making),
         _ => None,
     }
 }
