@@ -16,7 +16,7 @@ use Rattle.zfpi.specs.declared.command.Command.TheVariants.{Compress, Restore, I
 use Rattle.zfpi.specs.declared.words.Stage.{Stage}
 use Rattle.zfpi.specs.declared.words.Stage.TheVariants as stages
 use Rattle.zfpi.specs.Words.{type_word, shape_word, mode_words, compress_words, IsAskable, IsSpelled, BeginsCommand, IsUsage}
-use Rattle.zfpi.specs.Stages.{LeadsTo, IsRateWord}
+use Rattle.zfpi.specs.Stages.{LeadsTo, IsRateWord, IsPrecisionWord}
 use Rattle.zfpi.proofs.ShapeWords.{parts_of-shape, decimals_injective, sizes_small}
 use Rattle.zfpi.proofs.Completed.{header_with, BeginsCommand-reached}
 
@@ -140,6 +140,11 @@ behind_rate Reversible same = cc
 behind_rate (Rate b) same = cc
 behind_rate (Precision p) same = cc
 
+behind_precision : (m : Mode) → codes "precision" ∷ [] ≡ mode_words m → ⊥
+behind_precision Reversible same = cc
+behind_precision (Rate b) same = cc
+behind_precision (Precision p) same = cc
+
 no_mode : (m : Mode) → [] ≡ mode_words m → ⊥
 no_mode Reversible same = cc
 no_mode (Rate b) same = cc
@@ -182,6 +187,7 @@ whole_at_end words stages.Compressing c leads spelled = absurd (no_shape [] word
 whole_at_end words (stages.Typed ty) c leads spelled = absurd (no_shape (type_word ty ∷ []) words c leads (omega arith) spelled)
 whole_at_end words (stages.Shaped ty ns) c leads spelled = absurd (no_compress ty ns [] words c leads.1 no_mode spelled)
 whole_at_end words (stages.AtRate ty ns) c leads spelled = absurd (no_compress ty ns (codes "rate" ∷ []) words c leads.1 behind_rate spelled)
+whole_at_end words (stages.AtPrecision ty ns) c leads spelled = absurd (no_compress ty ns (codes "precision" ∷ []) words c leads.1 behind_precision spelled)
 whole_at_end words stages.Making c leads spelled = absurd (no_new [] words c leads (omega arith) spelled)
 whole_at_end words (stages.Named name) c leads spelled = absurd (no_new (name ∷ []) words c leads.1 (omega arith) spelled)
 whole_at_end words (stages.NamedTyped name ty) c leads spelled = absurd (no_new (name ∷ type_word ty ∷ []) words c leads.1 (omega arith) spelled)
@@ -205,7 +211,7 @@ word_more text xs i x word lt is same =
 -- ---- rates
 rate_behind : (ty : Ty) (ns : List ℕ) (m : Mode) (word : List ℕ) (rest : List (List ℕ)) → IsAskable (header_with ty ns m) → codes "rate" ∷ word ∷ rest ≡ mode_words m → (b : ℕ) × IsRateWord ty ns b word
 rate_behind ty ns Reversible word rest askable same = absurd (omega (arith, ap length same))
-rate_behind ty ns (Precision p) word rest askable same = absurd askable.taken
+rate_behind ty ns (Precision p) word rest askable same = absurd (true≢false (ap (bytes_eq (codes "precision")) (heads_same (sym same))))
 rate_behind ty ns (Rate b) word rest askable same =
     let text : word ≡ decimal b = cc in
     (b, record { rate = askable.header.mode; fits = askable.fits; text = text })
@@ -252,3 +258,31 @@ IsRateWord-begun_new words name ty ns word leads (New n t s k, rest, spelled) =
 pub IsRateWord-number : (ty : Ty) (ns : List ℕ) (b n : ℕ) (word : List ℕ) → IsRateWord ty ns b word → n < 2 ^ 64 → word ≡ decimal n → b ≡ n
 IsRateWord-number ty ns b n word is small text =
     decimal_injective b n (omega (arith, is.rate.1)) small (sym is.text ∙ text)
+
+-- ---- precisions
+precision_behind : (m : Mode) (word : List ℕ) (rest : List (List ℕ)) → IsMode m → codes "precision" ∷ word ∷ rest ≡ mode_words m → (p : ℕ) × IsPrecisionWord p word
+precision_behind Reversible word rest mode same = absurd (omega (arith, ap length same))
+precision_behind (Rate b) word rest mode same = absurd (true≢false (ap (bytes_eq (codes "rate")) (heads_same (sym same))))
+precision_behind (Precision p) word rest mode same =
+    let text : word ≡ decimal p = cc in
+    (p, record { planes = mode; text = text })
+
+-- a word at the place of a precision, where a command goes on, is one
+pub IsPrecisionWord-begun : (words : List (List ℕ)) (ty : Ty) (ns : List ℕ) (word : List ℕ) → LeadsTo words (stages.AtPrecision ty ns) → BeginsCommand (words ++ word ∷ []) → (p : ℕ) × IsPrecisionWord p word
+unfolding first_word mark
+IsPrecisionWord-begun words ty ns word leads (Compress h, rest, spelled) =
+    let whole : codes "compress" ∷ type_word ty ∷ shape_word ns ∷ codes "precision" ∷ word ∷ rest ≡ compress_words h =
+    ap (λ front. (front ++ word ∷ []) ++ rest) (sym leads.1) ∙ spelled.1 in
+    let behind : codes "precision" ∷ word ∷ rest ≡ mode_words h.mode = cc in
+    precision_behind h.mode word rest spelled.0.header.mode behind
+IsPrecisionWord-begun words ty ns word leads (Restore, rest, spelled) =
+    absurd (omega (arith, ap length (ap (λ front. (front ++ word ∷ []) ++ rest) (sym leads.1) ∙ spelled)))
+IsPrecisionWord-begun words ty ns word leads (Info, rest, spelled) =
+    absurd (omega (arith, ap length (ap (λ front. (front ++ word ∷ []) ++ rest) (sym leads.1) ∙ spelled)))
+IsPrecisionWord-begun words ty ns word leads (New n t s k, rest, spelled) =
+    absurd (omega (arith, ap mark (heads_same (ap (λ front. (front ++ word ∷ []) ++ rest) (sym leads.1) ∙ spelled.words_are))))
+
+-- the number of such a word
+pub IsPrecisionWord-number : (p n : ℕ) (word : List ℕ) → IsPrecisionWord p word → n < 2 ^ 64 → word ≡ decimal n → p ≡ n
+IsPrecisionWord-number p n word is small text =
+    decimal_injective p n (omega (arith, is.planes.1)) small (sym is.text ∙ text)

@@ -7,7 +7,7 @@ use Rattle.zf_base.proofs.Sizes.{blocks_le}
 use Rattle.zf_spec.specs.Grid.{IsShape}
 use Rattle.zf_header.specs.declared.header.Header.{Header}
 use Rattle.zf_header.specs.declared.header.Mode.{Mode}
-use Rattle.zf_header.specs.declared.header.Mode.TheVariants.{Reversible, Rate}
+use Rattle.zf_header.specs.declared.header.Mode.TheVariants.{Reversible, Rate, Precision}
 use Rattle.zf_header.specs.HeaderBits.{rate_bytes_of}
 use Rattle.zf_header.proofs.Parts.{length-header_bits}
 use Rattle.zfpi.specs.Names.{IsName}
@@ -32,7 +32,7 @@ one_value = record {
 }
 
 askable_reversible : (ty : Ty) (ns : List ℕ) → IsShape ns → IsAskable (header_with ty ns Reversible)
-askable_reversible ty ns shape = record { header = record { shape = shape; mode = tt }; taken = tt; fits = tt }
+askable_reversible ty ns shape = record { header = record { shape = shape; mode = tt }; fits = tt }
 
 -- the rate of one bit fits every shape
 rate_one_fits : (ty : Ty) (ns : List ℕ) → IsShape ns → rate_bytes_of (header_with ty ns (Rate 1)) ≤ 1200000000
@@ -40,7 +40,10 @@ rate_one_fits ty ns shape =
     omega (arith, length-header_bits (header_with ty ns (Rate 1)) shape, blocks_le ns shape.not_zero, shape.not_too_large)
 
 askable_rate_one : (ty : Ty) (ns : List ℕ) → IsShape ns → IsAskable (header_with ty ns (Rate 1))
-askable_rate_one ty ns shape = record { header = record { shape = shape; mode = (lit≤ tt, lit≤ tt) }; taken = (lit≤ tt, lit≤ tt); fits = rate_one_fits ty ns shape }
+askable_rate_one ty ns shape = record { header = record { shape = shape; mode = (lit≤ tt, lit≤ tt) }; fits = rate_one_fits ty ns shape }
+
+askable_precision_one : (ty : Ty) (ns : List ℕ) → IsShape ns → IsAskable (header_with ty ns (Precision 1))
+askable_precision_one ty ns shape = record { header = record { shape = shape; mode = (lit≤ tt, lit≤ tt) }; fits = tt }
 
 -- an array of this name, type and shape can be made with one bit a block
 one_letter : IsName (97 ∷ [])
@@ -62,6 +65,8 @@ BeginsCommand-reached words (stages.Shaped ty ns) leads =
     (Compress (header_with ty ns Reversible), codes "reversible" ∷ [], (askable_reversible ty ns leads.0, ap (λ front. front ++ codes "reversible" ∷ []) leads.1))
 BeginsCommand-reached words (stages.AtRate ty ns) leads =
     (Compress (header_with ty ns (Rate 1)), decimal 1 ∷ [], (askable_rate_one ty ns leads.0, ap (λ front. front ++ decimal 1 ∷ []) leads.1))
+BeginsCommand-reached words (stages.AtPrecision ty ns) leads =
+    (Compress (header_with ty ns (Precision 1)), decimal 1 ∷ [], (askable_precision_one ty ns leads.0, ap (λ front. front ++ decimal 1 ∷ []) leads.1))
 BeginsCommand-reached words stages.Making is =
     let rest = (97 ∷ []) ∷ type_word I32 ∷ shape_word (1 ∷ []) ∷ decimal 1 ∷ [] in
     (New (97 ∷ []) I32 (1 ∷ []) 1, rest, made_of_one_bit (97 ∷ []) I32 (1 ∷ []) (words ++ rest) one_letter one_value (ap (λ front. front ++ rest) is))

@@ -5,7 +5,6 @@ use Rattle.zf_dev.specs.Faults.{IsQuiet}
 use Rattle.zf_dev.specs.Sink.{Appends}
 use Rattle.zf_dev.proofs.Counts.{HasCause-quiet}
 use Rattle.zf_header.specs.declared.header.HeaderFault.{HeaderFault}
-use Rattle.zf_header.specs.HeaderBits.{IsTaken}
 use Rattle.zf_header.specs.HeaderFaults.{header_fault}
 use Rattle.zf_stream.specs.declared.fault.StreamFault.{StreamFault}
 use Rattle.zf_stream.specs.declared.fault.StreamFault.TheVariants as faults
@@ -25,7 +24,7 @@ use Rattle.zfpi.proofs.Commands.{one_command}
 
 -- what the words say can be run
 pub CanRun-spelled : (c : Command) (words : List (List ℕ)) → IsSpelled c words → CanRun c
-CanRun-spelled (Compress h) words spelled = spelled.0.taken
+CanRun-spelled (Compress h) words spelled = spelled.0.header.mode
 CanRun-spelled Restore words spelled = tt
 CanRun-spelled Info words spelled = tt
 CanRun-spelled (New name ty ns b) words spelled = (spelled.shape, spelled.rate)
@@ -181,7 +180,7 @@ GivesBack-behaves words status before now command = λ h bytes holds.
     let input : w.input ≡ stream_text h bytes = the_input before.src (stream_text h bytes) w.input holds.stream behaves.told.input in
     elim behaves.stated [
       | inl same ↦
-          let done : status ≡ Done = same ∙ ap (λ xs. status_of (restore_answer xs)) input ∙ ap status_of (answer-stream_text h bytes holds.header (subst IsTaken (sym holds.mode) tt)) in
+          let done : status ≡ Done = same ∙ ap (λ xs. status_of (restore_answer xs)) input ∙ ap status_of (answer-stream_text h bytes holds.header) in
           let text : restored_text w.input ≡ bytes = ap restored_text input ∙ text-reversible_text h bytes holds.header holds.mode holds.whole holds.small in
           inl (record {
             done = done;

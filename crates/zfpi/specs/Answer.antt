@@ -1,7 +1,7 @@
 -- What each command does, in a world of an input and files. Each function of a command has one case for each, and a new command adds one.
 use Rattle.std.specs.Prelude.{◌≡◌, ℕ, ◌<◌, ◌≤◌, Bool, true, false, List, [], length, take, Option, Some, None, Result, Ok, Err, IsTrue}
 use Rattle.zf_header.specs.declared.header.HeaderFault.{HeaderFault}
-use Rattle.zf_header.specs.HeaderBits.{IsTaken}
+use Rattle.zf_header.specs.HeaderBits.{IsMode}
 use Rattle.zf_header.specs.HeaderFaults.{header_fault}
 use Rattle.zf_stream.specs.declared.fault.StreamFault.{StreamFault}
 use Rattle.zf_stream.specs.declared.fault.StreamFault.TheVariants as faults
@@ -42,7 +42,7 @@ status_of (Err fault) = fault_status fault
 
 -- what a command asks of its caller
 abbrev pub CanRun : Command → Type 0
-CanRun (Compress h) = IsTaken h.mode
+CanRun (Compress h) = IsMode h.mode
 CanRun Restore = Unit {0}
 CanRun Info = Unit {0}
 CanRun (New name ty ns b) = IsShape ns × IsRate (Rate b)

@@ -7,7 +7,7 @@ use Rattle.zf_base.specs.declared.lane.Ty.TheVariants.{I32, I64}
 use Rattle.zf_header.specs.declared.header.Header.{Header}
 use Rattle.zf_header.specs.declared.header.Mode.{Mode}
 use Rattle.zf_header.specs.declared.header.Mode.TheVariants.{Reversible, Rate, Precision}
-use Rattle.zf_header.specs.HeaderBits.{IsTaken, IsHeader, IsRate, rate_bytes_of}
+use Rattle.zf_header.specs.HeaderBits.{IsHeader, IsRate, rate_bytes_of}
 use Rattle.zfpi.specs.Names.{IsName}
 use Rattle.zfpi.specs.declared.command.Command.{Command}
 use Rattle.zfpi.specs.declared.command.Command.TheVariants.{Compress, Restore, Info, New}
@@ -37,13 +37,12 @@ FitsFile h Reversible = Unit {0}
 FitsFile h (Rate b) = rate_bytes_of h ≤ max_file
 FitsFile h (Precision p) = Unit {0}
 
--- what can be asked for: a type, a shape, and a mode that streams are made in, whose stream is not too long
+-- what can be asked for: a type, a shape and a mode, at a rate such that the stream is not too long
 pub record IsAskable (h : Header) : Type 0 where
   pub header : IsHeader h
-  pub taken : IsTaken h.mode
   pub fits : FitsFile h h.mode
 
--- `compress TYPE SHAPE reversible` or `compress TYPE SHAPE rate B`
+-- `compress TYPE SHAPE reversible`, `compress TYPE SHAPE rate B` or `compress TYPE SHAPE precision P`
 abbrev pub compress_words : Header → List (List ℕ)
 compress_words h = codes "compress" ∷ type_word h.ty ∷ shape_word h.shape ∷ mode_words h.mode
 
