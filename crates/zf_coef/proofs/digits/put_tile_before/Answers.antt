@@ -1,4 +1,4 @@
-use Rattle.std.proofs.Common.{◌≤◌, ◌≡◌, ℕ, ◌*◌, ◌/◌, ◌%◌, ◌^◌, get_or, length-set, ⊎_elim, ap, ◌∙◌, arith}
+use Rattle.std.proofs.Common.{◌≤◌, ℕ, ◌*◌, ◌%◌, ◌^◌, get_or, length-set, ⊎_elim, ap, ◌∙◌, arith}
 use Rattle.std.specs.Int.RustNames.{bit_or}
 use Rattle.zf_coef.proofs.Fronts.{front_set, rest_set}
 use Rattle.zf_coef.proofs.ShiftedBits.{and_ones}

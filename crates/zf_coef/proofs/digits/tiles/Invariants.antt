@@ -1,4 +1,4 @@
-use Rattle.std.proofs.Common.{◌*◌, ◌-◌, ◌/◌, length, map}
+use Rattle.std.proofs.Common.{◌*◌, ◌-◌, map}
 use Rattle.zf_coef.proofs.Tiles.{HasTilesFrom}
 use Rattle.zf_coef.proofs.digits.tiles.Given as goal
 

@@ -1,4 +1,4 @@
-use Rattle.std.proofs.Common.{◌≡◌, ◌+◌, take, length, get_or, subst, sym, arith}
+use Rattle.std.proofs.Common.{take, get_or, subst, sym, arith}
 use Rattle.std.proofs.lemmas.List.{take_more, take_all}
 use Rattle.std.specs.Int.RustNames.{bit_or}
 use Rattle.zf_coef.proofs.AnyDigits.{IsAny, any_none, any_more}

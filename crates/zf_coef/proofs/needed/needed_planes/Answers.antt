@@ -1,4 +1,4 @@
-use Rattle.std.proofs.Common.{◌∙◌, arith}
+use Rattle.std.proofs.Common.{◌∙◌}
 use Rattle.zf_coef.proofs.AnyDigits.{needed-is}
 use Rattle.zf_coef.proofs.needed.needed_planes.Goals as goal
 

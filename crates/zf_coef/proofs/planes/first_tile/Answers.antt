@@ -1,4 +1,4 @@
-use Rattle.std.proofs.Common.{◌≤◌, ◌≡◌, ℕ, ◌%◌, ◌^◌, get_or, length-set, ⊎_elim, ◌∙◌, arith}
+use Rattle.std.proofs.Common.{◌≤◌, ℕ, ◌%◌, ◌^◌, get_or, length-set, ⊎_elim, ◌∙◌, arith}
 use Rattle.zf_coef.proofs.Fronts.{front_set}
 use Rattle.zf_coef.proofs.ShiftedBits.{and_ones}
 use Rattle.zf_coef.proofs.planes.first_tile.Goals as goal

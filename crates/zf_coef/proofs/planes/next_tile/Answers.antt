@@ -1,4 +1,4 @@
-use Rattle.std.proofs.Common.{◌≡◌, ℕ, ◌/◌, ◌^◌, get_or, length-set, ap, ◌∙◌, arith}
+use Rattle.std.proofs.Common.{ℕ, ◌/◌, ◌^◌, get_or, length-set, ap, ◌∙◌, arith}
 use Rattle.zf_coef.proofs.Fronts.{front_set, rest_set}
 use Rattle.zf_coef.proofs.planes.next_tile.Goals as goal
 

@@ -1,4 +1,4 @@
-use Rattle.std.proofs.Common.{ap, sym, map, ◌+◌, ◌∙◌, arith}
+use Rattle.std.proofs.Common.{ap, map, ◌∙◌, arith}
 use Rattle.std.proofs.lemmas.List.{length-map, get_or-replicate}
 use Rattle.zf_coef.specs.Groups.{word_of}
 use Rattle.zf_coef.proofs.planes.put_none.Goals as goal

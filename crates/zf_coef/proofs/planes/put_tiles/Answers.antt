@@ -1,7 +1,6 @@
-use Rattle.std.proofs.Common.{◌≡◌, ◌+◌, ◌*◌, ◌/◌, ◌%◌, ◌^◌, ◌<◌, ◌≤◌, ℕ, refl, sym, ap, subst, ◌∙◌, map, length, get_or, arith}
+use Rattle.std.proofs.Common.{◌≡◌, ◌+◌, ◌*◌, ◌/◌, ◌%◌, ◌^◌, sym, ap, subst, ◌∙◌, map, length, get_or, arith}
 use Rattle.std.proofs.lemmas.List.{length-map}
 use Rattle.std.proofs.lemmas.Nat.{shr-shr}
-use Rattle.zf_coef.specs.Groups.{KeepsOthers, HoldsFrom}
 use Rattle.zf_coef.proofs.Putting.{none_changed, both_kept}
 use Rattle.zf_coef.proofs.Tiles.{HasTiles, size_positive, tile_next, tiles_end, end_less, tiles_none, tiles_more, tiles_whole, put_to_end}
 use Rattle.zf_coef.proofs.planes.put_tiles.Goals as goal
