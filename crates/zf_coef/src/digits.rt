@@ -9,12 +9,9 @@ ghost use Rattle.zf_coef.specs.Groups.{word_of, IsOfGroup, AreTiles};
 ghost use Rattle.zf_coef.specs.Turned.{bit_of};
 ghost use Rattle.std.specs.Int.{bit_at};
 
-use crate::planes::have_four_words;
+use crate::planes::{WORD_BITS, have_four_words};
 use crate::turning::{turn_4, turn_16, turn_32};
 use zf_bits::Plane;
-
-/// How many ranks a word of a plane has.
-const WORD_BITS: usize = 64;
 
 /// The way back: writes the digits of as many coefficients as `digits` has words. Bits of later ranks are not looked at.
 pub fn from_planes(planes: &[[u64; 4]], digits: &mut [u64])
@@ -85,6 +82,7 @@ fn copy_front(words: &[u64], digits: &mut [u64])
     }
 }
 
+/// The same of four digits.
 #[inline(never)]
 fn take_4<P: Plane>(planes: &[P], number: usize, digits: &mut [u64])
     requires number { number < P.word_count }
@@ -97,6 +95,7 @@ fn take_4<P: Plane>(planes: &[P], number: usize, digits: &mut [u64])
     digits.copy_from_slice(&words);
 }
 
+/// The same of sixteen digits.
 #[inline(never)]
 fn take_16<P: Plane>(planes: &[P], number: usize, digits: &mut [u64])
     requires number { number < P.word_count }
@@ -183,6 +182,7 @@ fn copy_words<P: Plane>(planes: &[P], from: usize, count: usize, number: usize, 
     }
 }
 
+/// The same of 64 digits, 32 planes at a time.
 #[inline(never)]
 fn take_64<P: Plane>(planes: &[P], number: usize, digits: &mut [u64])
     requires number { number < P.word_count }

@@ -12,7 +12,7 @@ use crate::turning::{turn_4, turn_16, turn_32};
 use zf_bits::Plane;
 
 /// How many ranks a word of a plane has.
-const WORD_BITS: usize = 64;
+pub(crate) const WORD_BITS: usize = 64;
 
 /// Writes the digits of coefficients by rank as bit planes: plane `k` has digit `k` of each. Digits that have no plane are left out.
 ///
@@ -92,6 +92,7 @@ fn padded(digits: &[u64]) -> [u64; WORD_BITS]
     whole
 }
 
+/// The same of four digits.
 #[inline(never)]
 fn put_4<P: Plane>(digits: &[u64], number: usize, planes: &mut [P])
     requires number { number < P.word_count }
@@ -106,6 +107,7 @@ fn put_4<P: Plane>(digits: &[u64], number: usize, planes: &mut [P])
     put_tiles(words, number, planes);
 }
 
+/// The same of sixteen digits.
 #[inline(never)]
 fn put_16<P: Plane>(digits: &[u64], number: usize, planes: &mut [P])
     requires number { number < P.word_count }
@@ -203,6 +205,7 @@ fn put_words<P: Plane>(words: &[u64], count: usize, from: usize, number: usize, 
     }
 }
 
+/// The same of 64 digits, 32 planes at a time.
 #[inline(never)]
 fn put_64<P: Plane>(digits: &[u64], number: usize, planes: &mut [P])
     requires number { number < P.word_count }
