@@ -1,0 +1,256 @@
+//! The array.
+
+ghost use Rattle.std.specs.Prelude.{◌≡◌, ◌+◌, ◌<◌, ◌≤◌, ◌^◌, length, map, pos, slice_index_or, slice_set, replicate, false, IfOk, IfErr, OnOk, OnErr, ◌+ℤ◌};
+ghost use Rattle.std.specs.List.{flat_map};
+ghost use Rattle.zf_spec.specs.Grid.{blocks};
+ghost use Rattle.zf_spec.specs.Numbers.{wrap, word_bits};
+ghost use Rattle.zf_spec.specs.Stream.{with_fill};
+ghost use Rattle.zf_base.specs.Positions.{IsPosition};
+ghost use Rattle.zf_base.specs.Widths.{width_of};
+ghost use Rattle.zf_header.specs.HeaderBits.{IsRate, block_bits};
+ghost use Rattle.zf_cache.specs.Bodies.{counts_of};
+ghost use Rattle.zf_cached.specs.Touch.{touch, touch_for_writing, with_values};
+ghost use Rattle.zf_cached.specs.Changes.{flush, discard, relined, resized, raised, opened};
+ghost use Rattle.zf_stream.specs.Parsing.{parse};
+ghost use Rattle.zf_stream.specs.ReadStreams.{IsFault};
+ghost use Rattle.zf_store.specs.Stored.{file_of, zeros, code_at};
+ghost use Rattle.zf_store.specs.Files.{HasHeader, IsOpened, stream_fault};
+ghost use Rattle.zf_array.specs.Standing.{stored, format, state, shape, block_at, place_at};
+
+use std::alloc::{AllocError, Global};
+use std::marker::Model;
+use zf_base::{Lane, Pos, Shape};
+use zf_cache::{Cache, raised};
+use zf_header::{Header, Mode, rate_bytes};
+use zf_script::Stats;
+use zf_store::{Store, StoreFault};
+
+/// An array of `D` dimensions whose blocks are kept as codes of a fixed rate, and are read and written through a write-back cache.
+///
+/// It is seen as one state of a cached array: the block in each line, which blocks are dirty, the values and the code of each
+/// block, and three counts; and as the header of its file. All memory is taken when it is made: no call but `set_lines` and `resize` asks for more.
+#[derive(Drop)]
+pub struct Array<T: Lane, const D: usize> {
+    alloc: Global,
+    store: Store<T, D>,
+    cache: Cache<T, D>,
+    // as long as the file
+    buffer: Vec<u8>,
+}
+
+impl<T: Lane, const D: usize> Model for Array<T, D> {
+    ghost use Rattle.zf_array.specs.Standing.{Held};
+
+    ghost Value = { Held };
+
+    ghost use Rattle.std.specs.Vec.{vec_len};
+    ghost use Rattle.zf_array.specs.Parts.{held_by, IsJoined};
+
+    ghost view = { λ a. held_by T.value a.store a.cache };
+
+    ghost invariant = { λ a. IsJoined T.value T.width D a.store a.cache (vec_len a.buffer) };
+}
+
+impl<T: Lane, const D: usize> Array<T, D> {
+    /// An array of zeros. A block has `bits` bits, 1 to 32768; the number of lines is raised to a power of two.
+    /// `AllocError`: there was no memory.
+    pub fn new(
+        alloc: Global,
+        shape: Shape,
+        bits: u32,
+        lines: u32,
+    ) -> Result<Array<T, D>, AllocError>
+        requires dims { length shape ≡ D }
+        requires rate { IsRate (Mode.Rate bits) }
+        requires lines { (0 < lines) × (lines ≤ 2 ^ 16) }
+        ensures stored { IfOk result (λ a. stored a ≡ zeros T.TY shape bits) }
+        ensures state { IfOk result (λ a. state a ≡ opened (format a) (code_at (stored a)) (raised lines)) }
+    {
+        let store = Store::zeros(alloc, shape, bits)?;
+        let cache = Cache::new(alloc, raised(lines))?;
+        let buffer = vec![in alloc; 0; rate_bytes(&store.header()) as usize]?;
+        Ok(Array {
+            alloc,
+            store,
+            cache,
+            buffer,
+        })
+    }
+
+    /// The array of a file that begins with the header `h`, of values of `T` in `D` dimensions at a rate. The file becomes the
+    /// buffer for saving; on a fault it is dropped. A fault is that of the stream, or there was no memory.
+    pub fn from_file(
+        alloc: Global,
+        h: &Header,
+        file: Vec<u8>,
+        lines: u32,
+    ) -> Result<Array<T, D>, StoreFault>
+        requires header { HasHeader file.items h.now }
+        requires same_type { T.width ≡ width_of h.now.ty }
+        requires dims { length h.now.shape ≡ D }
+        requires lines { (0 < lines) × (lines ≤ 2 ^ 16) }
+        ensures stored { IfOk result (λ a. IsOpened file.items h.now (stored a)) }
+        ensures state { IfOk result (λ a. state a ≡ opened (format a) (code_at (stored a)) (raised lines)) }
+        ensures fault { IfErr result (λ e. IsFault (parse file.items) (stream_fault e)) }
+    {
+        let store = Store::from_file(alloc, h, &file)?;
+        let Ok(cache) = Cache::new(alloc, raised(lines)) else {
+            return Err(StoreFault::Memory);
+        };
+        Ok(Array {
+            alloc,
+            store,
+            cache,
+            buffer: file,
+        })
+    }
+
+    /// The value at position `p`, by one touch.
+    pub fn get(&mut self, p: Pos) -> T
+        requires { IsPosition (shape self.old) p }
+        ensures state { state self.new ≡ touch (format self.old) (state self.old) (block_at self.old p) }
+        ensures value { T.value result ≡ slice_index_or ((state self.new).values (block_at self.old p)) (place_at self.old p) (pos 0) }
+        ensures header { self.new.header ≡ self.old.header }
+    {
+        let (b, place) = self.store.header().shape.place(p);
+        self.cache.get(&mut self.store, b, place)
+    }
+
+    /// Makes the value at position `p` be `v`, by one touch for writing.
+    pub fn set(&mut self, p: Pos, v: T)
+        requires { IsPosition (shape self.old) p }
+        ensures state { state self.new ≡ (let t = touch_for_writing (format self.old) (state self.old) (block_at self.old p) in
+            with_values t (block_at self.old p) (slice_set (t.values (block_at self.old p)) (place_at self.old p) (T.value v))) }
+        ensures header { self.new.header ≡ self.old.header }
+    {
+        let (b, place) = self.store.header().shape.place(p);
+        self.cache.set(&mut self.store, b, place, v);
+    }
+
+    /// Adds `v` to the value at position `p`, by one touch for writing. The sum wraps.
+    pub fn add(&mut self, p: Pos, v: T)
+        requires { IsPosition (shape self.old) p }
+        ensures state { state self.new ≡ (let t = touch_for_writing (format self.old) (state self.old) (block_at self.old p) in
+            let old = t.values (block_at self.old p) in
+            with_values t (block_at self.old p) (slice_set old (place_at self.old p)
+            (wrap T.width (slice_index_or old (place_at self.old p) (pos 0) +ℤ T.value v)))) }
+        ensures header { self.new.header ≡ self.old.header }
+    {
+        let (b, place) = self.store.header().shape.place(p);
+        self.cache.touch_mut(&mut self.store, b);
+        let value = &mut self.cache.part_mut(b, place, 1)[0];
+        *value = value.add(v);
+    }
+
+    /// Touches block `b`; its `4^D` values, x fastest.
+    pub fn block(&mut self, b: u64) -> &[T] {
+        self.cache.block(&mut self.store, b)
+    }
+
+    /// Touches block `b` for writing; its `4^D` values, x fastest. What is written to them is the block's value afterwards.
+    pub fn block_mut(&mut self, b: u64) -> &mut [T] {
+        self.cache.block_mut(&mut self.store, b)
+    }
+
+    /// Touches block `b` for writing, so that `part_mut` can lend parts of it.
+    pub fn touch_mut(&mut self, b: u64)
+        requires { b < blocks (shape self.old) }
+        ensures state { state self.new ≡ touch_for_writing (format self.old) (state self.old) b }
+        ensures header { self.new.header ≡ self.old.header }
+    {
+        self.cache.touch_mut(&mut self.store, b);
+    }
+
+    /// The `n` values of block `b` from its place `a` on, for writing. The block is in its line and dirty.
+    pub fn part_mut(&mut self, b: u64, a: usize, n: usize) -> &mut [T] {
+        self.cache.part_mut(b, a, n)
+    }
+
+    /// Writes every dirty block back, in the order of lines; then no block is in any line.
+    pub fn flush(&mut self)
+        ensures state { state self.new ≡ flush (format self.old) (state self.old) }
+        ensures header { self.new.header ≡ self.old.header }
+    {
+        self.cache.flush(&mut self.store);
+    }
+
+    /// Forgets what was not written back: no block is in any line, and each has the values that its code means.
+    pub fn discard(&mut self)
+        ensures state { state self.new ≡ discard (format self.old) (state self.old) }
+        ensures header { self.new.header ≡ self.old.header }
+    {
+        self.cache.discard();
+    }
+
+    /// A flush, and then this number of lines, raised to a power of two. The memory is taken first: after `AllocError` nothing
+    /// has changed.
+    pub fn set_lines(&mut self, lines: u32) -> Result<(), AllocError>
+        requires { (0 < lines) × (lines ≤ 2 ^ 16) }
+        ensures ok { OnOk result (state self.new ≡ relined (format self.old) (state self.old) (raised lines)) }
+        ensures err { OnErr result (self.new ≡ self.old) }
+        ensures header { self.new.header ≡ self.old.header }
+    {
+        self.cache.relined(&mut self.store, raised(lines))
+    }
+
+    /// Zeros of a new shape: no block is in any line, and changes that were not written back are gone; the number of lines and the
+    /// counts stay. The memory is taken first: after `AllocError` nothing has changed.
+    pub fn resize(&mut self, shape: Shape) -> Result<(), AllocError>
+        requires { length shape ≡ D }
+        ensures stored { OnOk result (stored self.new ≡ zeros self.old.header.ty shape (block_bits self.old.header.mode)) }
+        ensures ok { OnOk result (state self.new ≡ resized (format self.new) (replicate (block_bits self.old.header.mode) false) (state self.old)) }
+        ensures err { OnErr result (self.new ≡ self.old) }
+    {
+        let store = Store::zeros(self.alloc, shape, self.bits())?;
+        let buffer = vec![in self.alloc; 0; rate_bytes(&store.header()) as usize]?;
+        self.cache.discard();
+        self.store = store;
+        self.buffer = buffer;
+        Ok(())
+    }
+
+    /// The words of the codes, as last written back: code `b` from bit `b * B` on, `B` being the bits of a block, and zeros to the whole word.
+    pub fn words(&self) -> &[u64]
+        ensures { word_bits result.now ≡ with_fill (flat_map (λ c. c) self.now.codes) }
+    {
+        self.store.words()
+    }
+
+    /// The file of the codes, as last written back.
+    pub fn save_bytes(&mut self) -> &[u8] {
+        self.store.write_file(&mut self.buffer);
+        &self.buffer
+    }
+
+    /// The sizes.
+    pub fn shape(&self) -> Shape
+        ensures { result ≡ shape self.now }
+    {
+        self.store.header().shape
+    }
+
+    /// The bits of a block.
+    pub fn bits(&self) -> u32
+        ensures value { result ≡ block_bits self.now.header.mode }
+        ensures rate { IsRate (Mode.Rate result) }
+    {
+        let Mode::Rate(bits) = self.store.header().mode else {
+            unreachable!()
+        };
+        bits
+    }
+
+    /// The number of lines.
+    pub fn lines(&self) -> u32
+        ensures { result ≡ (state self.now).lines }
+    {
+        self.cache.lines()
+    }
+
+    /// How often a touched block was in its line and was not, and how many blocks were written back.
+    pub fn stats(&self) -> Stats
+        ensures { counts_of result ≡ self.now.counts }
+    {
+        self.cache.stats()
+    }
+}

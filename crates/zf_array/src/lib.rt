@@ -1,0 +1,6 @@
+//! Cached arrays: a store of fixed-rate codes, a write-back cache over it, and the buffer in which the file is saved.
+#![tactic(auto)]
+
+mod array;
+
+pub use array::Array;
