@@ -80,11 +80,14 @@ module _ {X : Type 0} (value : X → ℤ) (s : Stored) (c : Kept X) (count : len
       held : (l : ℕ) → (l < length c.tags) ⊎ (length c.tags ≤ l) → get_or (map (λ k. block_in (tag_at c.tags k)) (upto (length c.tags))) l None ≡ block_in (tag_at c.tags l)
       held l (inl h) = get_or-map-upto (λ k. block_in (tag_at c.tags k)) (length c.tags) l None h
       held l (inr h) = get_or_past (map (λ k. block_in (tag_at c.tags k)) (upto (length c.tags))) l None (omega (arith, length-map-upto (λ k. block_in (tag_at c.tags k)) (length c.tags))) ∙ none_past l h
+
       dirty : (b : ℕ) → (b < blocks s.header.shape) ⊎ (blocks s.header.shape ≤ b) → get_or (map (is_dirty c) (upto (blocks s.header.shape))) b false ≡ is_dirty c b
       dirty b (inl h) = get_or-map-upto (is_dirty c) (blocks s.header.shape) b false h
       dirty b (inr h) = get_or_past (map (is_dirty c) (upto (blocks s.header.shape))) b false (omega (arith, length-map-upto (is_dirty c) (blocks s.header.shape))) ∙ clean_past b h
+
       vals : ℕ → List ℤ
       vals = values_of value c (format_of s) (code_at s)
+
       values : (b : ℕ) → (b < blocks s.header.shape) ⊎ (blocks s.header.shape ≤ b) → get_or (map vals (upto (blocks s.header.shape))) b (zeros (format (held_by value s c))) ≡ vals b
       values b (inl h) = get_or-map-upto vals (blocks s.header.shape) b (zeros (format (held_by value s c))) h
       values b (inr h) =

@@ -89,6 +89,7 @@ module _ {X Code : Type 0} (value : X → ℤ) (f : Format Code) (c : Kept X) (k
     where
       zf_line : Kept X → ℕ → List X
       zf_line d a = get_or d.lines (line_of d a) []
+
       from : (v : Bool → List ℤ) → existing_of f b (v true) ≡ v true → existing_of f b (v false) ≡ v false → (t : Bool) → existing_of f b (v t) ≡ v t
       from v here away true = here
       from v here away false = away
@@ -162,6 +163,7 @@ module _ {X : Type 0} (value : X → ℤ) where
     where
       clean : (n b : ℕ) → (tag_at (replicate n 0) (b % n) == dirty_tag b) ≡ false
       clean n b = ap (λ t. t == dirty_tag b) (no_tag n (b % n)) ∙ ne_eqb 0 (dirty_tag b) (λ e. omega (arith, e))
+
       zero_code : (ns : List ℕ) (budget b : ℕ) → (b < blocks ns) ⊎ (blocks ns ≤ b) → get_or (replicate (blocks ns) (replicate budget false)) b (replicate budget false) ≡ replicate budget false
       zero_code ns budget b (inl h) = get_or-replicate (blocks ns) b (replicate budget false) (replicate budget false) h
       zero_code ns budget b (inr h) = get_or_past (replicate (blocks ns) (replicate budget false)) b (replicate budget false) (omega (arith, length-replicate (blocks ns) (replicate budget false)))
