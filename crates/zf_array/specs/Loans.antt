@@ -5,6 +5,8 @@ use mathlib.Core.Option.{none}
 use Rattle.zf_base.specs.Formats.{existing_of}
 use Rattle.zf_cached.specs.State.{State}
 use Rattle.zf_cached.specs.Touch.{touch, with_values}
+use Rattle.std.specs.declared.cmp.PartialEq as PartialEq
+use Rattle.zf_base.specs.declared.lane.Lane as Lane
 use Rattle.zf_lines.specs.Rows.{over}
 use Rattle.zf_array.specs.Standing.{Held, format, state, array_of}
 use Rattle.zf_array.specs.contracts.array.Array.{the_row}
@@ -19,11 +21,11 @@ with_part a b k n others =
     let s = state a in
     array_of a.header (with_values s b (existing_of (format a) b (spliced (s.values b) k n others)))
 
-module _ (R D : RattleType) (value : R.Denot → ℤ) (a : MutBor Held) where
+module _ (R D : RattleType) (lane : Lane.Ghosts R.Denot) (eq : PartialEq.Ghosts R.Denot) (a : MutBor Held) where
   -- n values of block b from its place k on are the last ones written through r
   abbrev pub EndsWithPart : ℕ → ℕ → ℕ → MutBor (List R.Denot) → Fml
-  EndsWithPart b k n r = Lends (the_row R D) (Array R 0) a r (λ ws. with_part a.now b k n (map value (over r.now ws)))
+  EndsWithPart b k n r = Lends (the_row R D lane eq) (Array R 0) a r (λ ws. with_part a.now b k n (map lane.value (over r.now ws)))
 
--- a loan for reading leaves this array
-abbrev pub EndsAs : (R D : RattleType) → MutBor Held → Held → Fml
-EndsAs R D a after = follows_so (the_row R D) (the_row R D) a.ghost_name none (λ _ _. ⊤) (λ e. e ≡ after)
+  -- a loan for reading leaves this array
+  abbrev pub EndsAs : Held → Fml
+  EndsAs after = follows_so (the_row R D lane eq) (the_row R D lane eq) a.ghost_name none (λ _ _. ⊤) (λ e. e ≡ after)

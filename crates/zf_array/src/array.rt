@@ -149,7 +149,7 @@ impl<T: Lane, const D: usize> Array<T, D> {
     /// Touches block `b`; its `4^D` values, x fastest.
     pub fn block(&mut self, b: u64) -> &[T]
         requires { b < blocks (shape self.old) }
-        ensures* touched { sem 𝓛 (EndsAs T.row D.row self.entry
+        ensures* touched { sem 𝓛 (EndsAs T.row D.row (record { width = T.width; WIDTH = T.WIDTH; TY = T.TY; value = T.value; in_range = T.in_range }) (record { eq = T.eq }) self.entry
             (array_of self.entry.now.header (touch (format self.entry.now) (state self.entry.now) b))) }
         ensures value { existing_of (format self.old) b (map T.value result.now) ≡ (touch (format self.old) (state self.old) b).values b }
     {
@@ -170,7 +170,7 @@ impl<T: Lane, const D: usize> Array<T, D> {
     pub fn part_mut(&mut self, b: u64, a: usize, n: usize) -> &mut [T]
         requires dirty { (state self.old).dirty b ≡ true }
         requires within { a + n ≤ 4 ^ D }
-        ensures* writes_back { sem 𝓛 (EndsWithPart T.row D.row T.value self.entry b a n result) }
+        ensures* writes_back { sem 𝓛 (EndsWithPart T.row D.row (record { width = T.width; WIDTH = T.WIDTH; TY = T.TY; value = T.value; in_range = T.in_range }) (record { eq = T.eq }) self.entry b a n result) }
         ensures value { existing_of (format self.old) b (spliced ((state self.old).values b) a n (map T.value result.now)) ≡ (state self.old).values b }
         ensures size { length result.now ≡ n }
     {
@@ -229,7 +229,7 @@ impl<T: Lane, const D: usize> Array<T, D> {
 
     /// The file of the codes, as last written back.
     pub fn save_bytes(&mut self) -> &[u8]
-        ensures* unchanged { sem 𝓛 (EndsAs T.row D.row self.entry self.entry.now) }
+        ensures* unchanged { sem 𝓛 (EndsAs T.row D.row (record { width = T.width; WIDTH = T.WIDTH; TY = T.TY; value = T.value; in_range = T.in_range }) (record { eq = T.eq }) self.entry self.entry.now) }
         ensures value { result.now ≡ file_of (stored self.old) }
     {
         self.store.write_file(&mut self.buffer);

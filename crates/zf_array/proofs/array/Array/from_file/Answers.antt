@@ -31,7 +31,7 @@ invariant_of-result g c =
     let t = c.in_ok-store.store in
     let opened = c.in_ok-store.ensures.ok in
     let P : Header → Type 0 = λ h. (g.T.Lane.width ≡ width_of h.ty) × (length h.shape ≡ g.row.D) × IsShape h.shape × IsRate h.mode × (length t.codes ≡ blocks h.shape) × (vec_len c.args.file ≡ rate_bytes_of h) in
-    let shape = (is_header c.deref.result.now c.args.h.now ?).shape in
+    let shape = (is_header c.args.file.items c.args.h.now c.requires.header).shape in
     let kept : P t.header = subst P (sym opened.header) (c.requires.same_type, c.requires.dims, shape, c.requires.header.rate, opened.count, sym c.deref.ensures.len ∙ opened.size) in
     record {
       same_type = kept.0;

@@ -35,3 +35,6 @@ pub returns-clause-header : goal.returns-clause-header
 returns-clause-header g c =
     let s = c.self.inside in
     header_step g.T.Lane.value g.T.Lane.width g.row.D s.store s.cache (vec_len s.buffer) c.self.invariant c.args.self.now c.self.view_is c.touch_mut.new.back c.touch_mut.new.self c.touch_mut.ensures.kept c.touch_mut.ensures.fits
+
+pub returns-clause-dirty : goal.returns-clause-dirty
+returns-clause-dirty g c = ?
