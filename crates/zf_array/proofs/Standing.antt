@@ -42,21 +42,21 @@ module _ {X : Type 0} (value : X → ℤ) (s : Stored) (c : Kept X) (count : len
       let codes : map (code_at s) (upto (blocks s.header.shape)) ≡ s.codes = map-get_or-upto s.codes (blocks s.header.shape) (replicate (rate_of s) false) count in
       λ i. record { header = s.header; codes = codes i }
 
-  none_past : (l : ℕ) → length c.tags ≤ l → None ≡ block_in (tag_at c.tags l)
+  pub none_past : (l : ℕ) → length c.tags ≤ l → None ≡ block_in (tag_at c.tags l)
   none_past l h = sym (ap block_in (get_or_past c.tags l 0 h))
 
   -- a block in a line is one of the array's
-  in_array : (l b : ℕ) → block_in (tag_at c.tags l) ≡ Some b → b < blocks s.header.shape
+  pub in_array : (l b : ℕ) → block_in (tag_at c.tags l) ≡ Some b → b < blocks s.header.shape
   in_array l b is = subst (λ n. b < n) (blocks_is s) (fits.own l b is).1
 
-  clean_past : (b : ℕ) → blocks s.header.shape ≤ b → false ≡ is_dirty c b
+  pub clean_past : (b : ℕ) → blocks s.header.shape ≤ b → false ≡ is_dirty c b
   clean_past b h = by (cases_Bool (is_dirty c b))
     where
       by : (is_dirty c b ≡ true) ⊎ (is_dirty c b ≡ false) → false ≡ is_dirty c b
       by (inl e) = absurd (let below : b < blocks s.header.shape = in_array (line_of c b) b (ap block_in (eqb-true (tag_at c.tags (line_of c b)) (dirty_tag b) e) ∙ names-dirty b) in omega arith)
       by (inr e) = sym e
 
-  zeros_past : (b : ℕ) → blocks s.header.shape ≤ b → zeros (format_of s) ≡ values_of value c (format_of s) (code_at s) b
+  pub zeros_past : (b : ℕ) → blocks s.header.shape ≤ b → zeros (format_of s) ≡ values_of value c (format_of s) (code_at s) b
   unfolding values_of
   zeros_past b h =
       let out : block_in (tag_at c.tags (line_of c b)) ≢ Some b = λ e. let below : b < blocks s.header.shape = in_array (line_of c b) b e in omega (arith, h, below) in

@@ -1,6 +1,6 @@
 //! The array.
 
-ghost use Rattle.std.specs.Prelude.{◌≡◌, ◌+◌, ◌<◌, ◌≤◌, ◌^◌, length, map, pos, slice_index_or, slice_set, replicate, true, false, IfOk, IfErr, OnOk, OnErr, ◌+ℤ◌};
+ghost use Rattle.std.specs.Prelude.{◌≡◌, ℤ, List, ◌+◌, ◌<◌, ◌≤◌, ◌^◌, length, map, pos, slice_index_or, slice_set, replicate, true, false, IfOk, IfErr, OnOk, OnErr, ◌+ℤ◌};
 ghost use Rattle.std.specs.List.{flat_map};
 ghost use Rattle.zf_spec.specs.Grid.{blocks};
 ghost use Rattle.zf_spec.specs.Numbers.{wrap, word_bits};
@@ -54,7 +54,7 @@ impl<T: Lane, const D: usize> Model for Array<T, D> {
 }
 
 impl<T: Lane, const D: usize> Array<T, D> {
-    ghost use Rattle.zf_array.specs.Loans.{EndsAs, EndsWithPart, spliced};
+    ghost use Rattle.zf_array.specs.Loans.{EndsAs, EndsWithPart, spliced, with_part};
 
     /// An array of zeros. A block has `bits` bits, 1 to 32768; the number of lines is raised to a power of two.
     /// `AllocError`: there was no memory.
@@ -152,8 +152,11 @@ impl<T: Lane, const D: usize> Array<T, D> {
         ensures* touched { sem 𝓛 (EndsAs T.row D.row (record { width = T.width; WIDTH = T.WIDTH; TY = T.TY; value = T.value; in_range = T.in_range }) (record { eq = T.eq }) self.entry
             (array_of self.entry.now.header (touch (format self.entry.now) (state self.entry.now) b))) }
         ensures value { existing_of (format self.old) b (map T.value result.now) ≡ (touch (format self.old) (state self.old) b).values b }
+        ensures size { length result.now ≡ 4 ^ D }
+        ensures state { state (array_of self.old.header (touch (format self.old) (state self.old) b)) ≡ touch (format self.old) (state self.old) b }
     {
-        self.cache.block(&mut self.store, b)
+        self.cache.touch(&mut self.store, b);
+        self.cache.line(b)
     }
 
     /// Touches block `b` for writing, so that `part_mut` can lend parts of it.
@@ -173,6 +176,9 @@ impl<T: Lane, const D: usize> Array<T, D> {
         ensures* writes_back { sem 𝓛 (EndsWithPart T.row D.row (record { width = T.width; WIDTH = T.WIDTH; TY = T.TY; value = T.value; in_range = T.in_range }) (record { eq = T.eq }) self.entry b a n result) }
         ensures value { existing_of (format self.old) b (spliced ((state self.old).values b) a n (map T.value result.now)) ≡ (state self.old).values b }
         ensures size { length result.now ≡ n }
+        ensures state { (vs : List ℤ) → state (with_part self.old b a n vs)
+            ≡ with_values (state self.old) b (existing_of (format self.old) b (spliced ((state self.old).values b) a n vs)) }
+        ensures header { (vs : List ℤ) → (with_part self.old b a n vs).header ≡ self.old.header }
     {
         self.cache.part_mut(b, a, n)
     }
