@@ -1,13 +1,13 @@
 -- What is written through a loan of a part of a block.
-use Rattle.std.proofs.Common.{◌≡◌, ◌≢◌, ◌⊎◌, inl, inr, refl, sym, ap, subst, ◌∙◌, ℕ, ◌+◌, ◌-◌, ◌*◌, ◌/◌, ◌%◌, ◌^◌, ◌<◌, ◌≤◌, ◌==◌, ℤ, pos, Bool, true, false, Option, Some, None, List, [], ◌++◌, map, length, get_or, set, take, drop, replicate, append_assoc, length-append, length-drop, arith}
+use Rattle.std.proofs.Common.{◌≡◌, ◌≢◌, ◌⊎◌, inl, inr, refl, sym, ap, subst, ◌∙◌, ℕ, suc, ◌+◌, ◌-◌, ◌*◌, ◌/◌, ◌%◌, ◌^◌, ◌<◌, ◌≤◌, ◌==◌, ℤ, pos, Bool, true, false, Option, Some, None, List, [], ◌∷◌, ◌++◌, map, length, get_or, set, take, drop, replicate, append_assoc, length-append, length-drop, arith}
 use Rattle.std.specs.Int.{Width}
 use Rattle.std.proofs.lemmas.Bool.{cases_lt, eqb-true}
-use Rattle.std.proofs.lemmas.List.{length-map, map-append, take-map, drop-map, length-take-le, take-append-drop, drop-drop, get_or-take, get_or-drop, get_or_append_left, get_or-append_right, get_or_past}
+use Rattle.std.proofs.lemmas.List.{length-map, map-append, take-map, drop-map, length-take-le, take-append-drop, drop-drop, get_or-take, get_or-drop, get_or_append_left, get_or-append_right, get_or_past, set_split, get_or-set_same}
 use Rattle.std.proofs.Math.Seq.{take-add}
 use Rattle.zf_spec.specs.Grid.{upto, blocks}
 use Rattle.zf_spec.proofs.Counting.{length-map-upto, get_or-map-upto}
 use Rattle.zf_base.specs.Formats.{Format, existing_of, with_at}
-use Rattle.zf_base.proofs.Formats.{existing_of_same, length-existing_of, get_or-existing_of_exists, existing_of-existing_of, with_at-other}
+use Rattle.zf_base.proofs.Formats.{existing_of_same, length-existing_of, get_or-existing_of_exists, existing_of-existing_of, existing_of-set, with_at-other}
 use Rattle.zf_header.specs.declared.header.Header.{Header}
 use Rattle.zf_header.specs.HeaderBits.{block_bits}
 use Rattle.zf_cached.specs.State.{State}
@@ -16,7 +16,7 @@ use Rattle.zf_cached.specs.Changes.{zeros}
 use Rattle.zf_cached.proofs.States.{same_state}
 use Rattle.zf_lines.specs.Rows.{line_at, part, over, over_part, HasSize}
 use Rattle.zf_lines.specs.Rows as rows
-use Rattle.zf_lines.proofs.Sizes.{length-over}
+use Rattle.zf_lines.proofs.Sizes.{length-over, over_same}
 use Rattle.zf_cache.specs.Kept.{Kept, IsDirty, tag_at, block_in, line_of, is_dirty, dirty_tag}
 use Rattle.zf_cache.specs.Standing.{state_of, Fits}
 use Rattle.zf_cache.specs.Loans.{StandsFor}
@@ -224,3 +224,21 @@ module _ {X : Type 0} (value : X → ℤ) (w : Width) (d : ℕ) (s : Stored) (c 
 pub header_spliced : (now : Held) (b a n : ℕ) (vs : List ℤ) → (with_part now b a n vs).header ≡ now.header
 unfolding array_of
 header_spliced now b a n vs = refl
+
+-- a sum in the place of one value
+pub adds : {X : Type 0} (value : X → ℤ) (f : Format (List Bool)) (b p : ℕ) (vs : List ℤ) (r : List X) (x sum : X) → length r ≡ 1 → x ≡ get_or r 0 x → existing_of f b (spliced vs p 1 (map value r)) ≡ vs
+    → p < f.block_len → f.exists b p ≡ true
+    → (existing_of f b (spliced vs p 1 (map value (over r (set r 0 sum)))) ≡ set vs p (value sum)) × (value x ≡ get_or vs p (pos 0))
+adds {X} value f b p vs [] x sum one at shows lt exists = absurd (omega arith)
+adds {X} value f b p vs (y ∷ z ∷ r) x sum one at shows lt exists = absurd (omega arith)
+adds {X} value f b p vs (y ∷ []) x sum one at shows lt exists =
+    let long : length vs ≡ f.block_len = sym (ap length shows) ∙ length-existing_of f b (spliced vs p 1 (map value (y ∷ []))) in
+    let inside : p < length vs = omega arith in
+    let whole : existing_of f b vs ≡ vs = ap (existing_of f b) (sym shows) ∙ existing_of-existing_of f b (spliced vs p 1 (map value (y ∷ []))) ∙ shows in
+    let there : (v : ℤ) → spliced vs p 1 (v ∷ []) ≡ set vs p v =
+    λ v. append_assoc (take p vs) (v ∷ []) (drop (p + 1) vs) ∙ ap (λ k. take p vs ++ v ∷ drop k vs) (let e : p + 1 ≡ suc p = omega arith in e) ∙ sym (set_split vs p v inside) in
+    let new : over (y ∷ []) (sum ∷ []) ≡ sum ∷ [] = over_same (y ∷ []) (sum ∷ []) refl in (
+      ap (λ (q : List X). existing_of f b (spliced vs p 1 (map value q))) new ∙ ap (existing_of f b) (there (value sum)) ∙ existing_of-set f b vs p (value sum) exists whole,
+      ap value at ∙ sym (ap (λ (xs : List ℤ). get_or xs p (pos 0)) (sym shows) ∙ get_or-existing_of_exists f b (spliced vs p 1 (map value (y ∷ []))) p lt exists
+          ∙ ap (λ (xs : List ℤ). get_or xs p (pos 0)) (there (value y)) ∙ get_or-set_same vs p (value y) (pos 0) inside),
+    )

@@ -53,6 +53,15 @@ module _ {X : Type 0} (value : X → ℤ) (w : Width) (d : ℕ) (s : Stored) (c 
         ∙ ap (λ (f : Format (List Bool)). F f (state_of value c (format_of s) (code_at s))) (sym (format_now value w d s c room joined now is))
         ∙ ap (F (format now)) (sym (state_now value w d s c room joined now is))
 
+    -- and the array itself is known by its state
+    pub held_step : (F : Format (List Bool) → State (List Bool) → State (List Bool)) → state_of value e (format_of t) (code_at t) ≡ F (format_of s) (state_of value c (format_of s) (code_at s))
+        → held_by value t e ≡ array_of now.header (F (format now) (state now))
+    held_step F given =
+        ap (array_of t.header) (given
+        ∙ ap (λ (f : Format (List Bool)). F f (state_of value c (format_of s) (code_at s))) (sym (format_now value w d s c room joined now is))
+        ∙ ap (F (format now)) (sym (state_now value w d s c room joined now is)))
+        ∙ ap (λ (h : Header). array_of h (F (format now) (state now))) (header_kept value w d s c room joined t e frame ∙ sym (header_now value w d s c room joined now is))
+
     pub header_step : (held_by value t e).header ≡ now.header
     unfolding array_of
     header_step = header_kept value w d s c room joined t e frame ∙ sym (header_now value w d s c room joined now is)
