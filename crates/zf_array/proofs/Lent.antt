@@ -2,7 +2,7 @@
 use Rattle.std.proofs.Common.{◌≡◌, ◌≢◌, ◌⊎◌, inl, inr, refl, sym, ap, subst, ◌∙◌, ℕ, suc, ◌+◌, ◌-◌, ◌*◌, ◌/◌, ◌%◌, ◌^◌, ◌<◌, ◌≤◌, ◌==◌, ℤ, pos, Bool, true, false, Option, Some, None, List, [], ◌∷◌, ◌++◌, map, length, get_or, set, take, drop, replicate, append_assoc, length-append, length-drop, arith}
 use Rattle.std.specs.Int.{Width}
 use Rattle.std.proofs.lemmas.Bool.{cases_lt, eqb-true}
-use Rattle.std.proofs.lemmas.List.{length-map, map-append, take-map, drop-map, length-take-le, take-append-drop, drop-drop, get_or-take, get_or-drop, get_or_append_left, get_or-append_right, get_or_past, set_split, get_or-set_same}
+use Rattle.std.proofs.lemmas.List.{length-map, map-append, take-map, drop-map, length-take-le, take-append-drop, drop-drop, get_or-take, get_or-drop, get_or_append_left, get_or-append_right, get_or_past, drop_all, append-nil, set_split, get_or-set_same}
 use Rattle.std.proofs.Math.Seq.{take-add}
 use Rattle.zf_spec.specs.Grid.{upto, blocks}
 use Rattle.zf_spec.proofs.Counting.{length-map-upto, get_or-map-upto}
@@ -28,7 +28,7 @@ use Rattle.zf_store.specs.Stored.{Stored, code_at, format_of, rate_of}
 use Rattle.zf_store.proofs.Kept.{blocks_is, block_len_is}
 use Rattle.zf_array.specs.Standing.{Held, stored, format, state, array_of}
 use Rattle.zf_array.specs.Parts.{held_by, IsJoined}
-use Rattle.zf_array.specs.Loans.{spliced, with_part}
+use Rattle.zf_array.specs.Loans.{spliced, with_part, with_block}
 use Rattle.zf_array.proofs.Standing.{none_past, clean_past, zeros_past, in_array, stored_now, state_now, format_now, header_now}
 
 -- ---- values with others in the place of some
@@ -220,6 +220,16 @@ module _ {X : Type 0} (value : X → ℤ) (w : Width) (d : ℕ) (s : Stored) (c 
         let bounded = subst (λ (h : Header). IsBounded h (state now)) (sym (header_now value w d s c room joined now is)) (subst (λ (u : State (List Bool)). IsBounded s.header u) (sym (state_now value w d s c room joined now is)) bounded_of) in
         let values = existing_of (format now) b (spliced ((state now).values b) a n vs) in
         state_array now.header (with_values (state now) b values) (bounded_values now.header (state now) b values below bounded)
+
+pub header_block : (now : Held) (b : ℕ) (vs : List ℤ) → (with_block now b vs).header ≡ now.header
+unfolding array_of
+header_block now b vs = refl
+
+-- all values are replaced
+pub spliced_all : (xs ys : List ℤ) (n : ℕ) → length xs ≤ n → spliced xs 0 n ys ≡ ys
+spliced_all xs ys n all =
+    let none : drop (0 + n) xs ≡ [] = drop_all (0 + n) xs (omega arith) in
+    ap (λ (zs : List ℤ). ys ++ zs) none ∙ append-nil ys
 
 pub header_spliced : (now : Held) (b a n : ℕ) (vs : List ℤ) → (with_part now b a n vs).header ≡ now.header
 unfolding array_of

@@ -21,7 +21,7 @@ ghost use Rattle.zf_array.specs.Standing.{stored, format, state, array_of, shape
 
 use std::alloc::{AllocError, Global};
 use std::marker::Model;
-use zf_base::{Lane, Pos, Shape};
+use zf_base::{Lane, Pos, Shape, block_len};
 use zf_cache::{Cache, raised};
 use zf_header::{Header, Mode, rate_bytes};
 use zf_script::Stats;
@@ -54,7 +54,7 @@ impl<T: Lane, const D: usize> Model for Array<T, D> {
 }
 
 impl<T: Lane, const D: usize> Array<T, D> {
-    ghost use Rattle.zf_array.specs.Loans.{EndsAs, EndsWithPart, spliced, with_part};
+    ghost use Rattle.zf_array.specs.Loans.{EndsAs, EndsWithPart, EndsWithBlock, spliced, with_part, with_block};
 
     /// An array of zeros. A block has `bits` bits, 1 to 32768; the number of lines is raised to a power of two.
     /// `AllocError`: there was no memory.
@@ -157,6 +157,21 @@ impl<T: Lane, const D: usize> Array<T, D> {
     {
         self.cache.touch(&mut self.store, b);
         self.cache.line(b)
+    }
+
+    /// Touches block `b` for writing; its `4^D` values, x fastest. What is written to them is the block's value afterwards.
+    pub fn block_mut(&mut self, b: u64) -> &mut [T]
+        requires { b < blocks (shape self.old) }
+        ensures* writes_back { sem 𝓛 (EndsWithBlock T.row D.row (record { width = T.width; WIDTH = T.WIDTH; TY = T.TY; value = T.value; in_range = T.in_range }) (record { eq = T.eq }) self.entry b result) }
+        ensures value { existing_of (format self.old) b (map T.value result.now) ≡ (touch_for_writing (format self.old) (state self.old) b).values b }
+        ensures size { length result.now ≡ 4 ^ D }
+        ensures state { (vs : List ℤ) → state (with_block self.old b vs)
+            ≡ with_values (touch_for_writing (format self.old) (state self.old) b) b (existing_of (format self.old) b vs) }
+        ensures header { (vs : List ℤ) → (with_block self.old b vs).header ≡ self.old.header }
+    {
+        let len = block_len(self.store.header().shape.dims());
+        self.touch_mut(b);
+        self.part_mut(b, 0, len)
     }
 
     /// Touches block `b` for writing, so that `part_mut` can lend parts of it.
