@@ -289,3 +289,44 @@ impl<T: Lane, const D: usize> Array<T, D> {
         self.cache.stats()
     }
 }
+
+#[cfg(test)]
+mod tests {
+    use super::*;
+    use std::test::Fail;
+
+    // No copy of the values stands beside words and lines: after each block was written back once, the buffer is as long as the file.
+    // The cache is told no number of blocks, and the store has a test of its own.
+    #[test]
+    fn array_fields(rt: HostRuntime) -> Result<(), Fail> {
+        let shape = Shape::new(1, 64, 1, 1, 1).ok().ok_or("a shape")?;
+        assert_eq!(rt; shape.dims(), 1);
+        let mut array = Array::<i32, 1>::new(rt.alloc(), shape, 64, 1)?;
+        for x in 0..16 {
+            let p = Pos {
+                x: 4 * x,
+                y: 0,
+                z: 0,
+                w: 0,
+            };
+            assert!(rt; array.shape().contains(p));
+            array.set(p, 1);
+        }
+        array.flush();
+        assert_eq!(rt; array.stats().writes, 16);
+        let Array {
+            alloc,
+            store,
+            cache,
+            buffer,
+        } = array;
+        let _alloc: Global = alloc;
+        let store: Store<i32, 1> = store;
+        let cache: Cache<i32, 1> = cache;
+        let buffer: Vec<u8> = buffer;
+        assert_eq!(rt; store.header().shape.blocks(), 16);
+        assert_eq!(rt; cache.lines(), 1);
+        assert!(rt; buffer.len() <= 144);
+        Ok(())
+    }
+}
