@@ -12,10 +12,11 @@ ghost use Rattle.zf_base.specs.Widths.{width_of};
 ghost use Rattle.zf_header.specs.HeaderBits.{IsRate, block_bits};
 ghost use Rattle.zf_cache.specs.Bodies.{counts_of};
 ghost use Rattle.zf_cached.specs.Touch.{touch, touch_for_writing, with_values};
-ghost use Rattle.zf_cached.specs.Changes.{flush, discard, relined, resized, raised, opened};
+ghost use Rattle.zf_cached.specs.Changes.{flush, discard, relined, resized, raised};
+ghost use Rattle.zf_cached.specs.Arrays.{open_array, new_array, saved_file};
 ghost use Rattle.zf_stream.specs.Parsing.{parse};
 ghost use Rattle.zf_stream.specs.ReadStreams.{IsFault};
-ghost use Rattle.zf_store.specs.Stored.{file_of, zeros, code_at};
+ghost use Rattle.zf_store.specs.Stored.{file_of, zeros};
 ghost use Rattle.zf_store.specs.Files.{HasHeader, IsOpened, stream_fault};
 ghost use Rattle.zf_array.specs.Standing.{stored, format, state, array_of, shape, block_at, place_at};
 
@@ -68,7 +69,7 @@ impl<T: Lane, const D: usize> Array<T, D> {
         requires rate { IsRate (Mode.Rate bits) }
         requires lines { (0 < lines) × (lines ≤ 2 ^ 16) }
         ensures stored { IfOk result (λ a. stored a ≡ zeros T.TY shape bits) }
-        ensures state { IfOk result (λ a. state a ≡ opened (format a) (code_at (stored a)) (raised lines)) }
+        ensures state { IfOk result (λ a. state a ≡ new_array T.width bits shape lines) }
     {
         let store = Store::zeros(alloc, shape, bits)?;
         let cache = Cache::new(alloc, raised(lines))?;
@@ -94,7 +95,7 @@ impl<T: Lane, const D: usize> Array<T, D> {
         requires dims { length h.now.shape ≡ D }
         requires lines { (0 < lines) × (lines ≤ 2 ^ 16) }
         ensures stored { IfOk result (λ a. IsOpened file.items h.now (stored a)) }
-        ensures state { IfOk result (λ a. state a ≡ opened (format a) (code_at (stored a)) (raised lines)) }
+        ensures state { IfOk result (λ a. state a ≡ open_array T.width (block_bits h.now.mode) h.now.shape a.codes lines) }
         ensures fault { IfErr result (λ e. IsFault (parse file.items) (stream_fault e)) }
     {
         let store = Store::from_file(alloc, h, &file)?;
@@ -149,7 +150,9 @@ impl<T: Lane, const D: usize> Array<T, D> {
     /// Touches block `b`; its `4^D` values, x fastest.
     pub fn block(&mut self, b: u64) -> &[T]
         requires { b < blocks (shape self.old) }
-        ensures* touched { sem 𝓛 (EndsAs T.row D.row (record { width = T.width; WIDTH = T.WIDTH; TY = T.TY; value = T.value; in_range = T.in_range }) (record { eq = T.eq }) self.entry
+        ensures* touched { sem 𝓛 (EndsAs T.row D.row
+            (record { width = T.width; WIDTH = T.WIDTH; TY = T.TY; value = T.value; in_range = T.in_range })
+            (record { eq = T.eq }) self.entry
             (array_of self.entry.now.header (touch (format self.entry.now) (state self.entry.now) b))) }
         ensures value { existing_of (format self.old) b (map T.value result.now) ≡ (touch (format self.old) (state self.old) b).values b }
         ensures size { length result.now ≡ 4 ^ D }
@@ -162,7 +165,9 @@ impl<T: Lane, const D: usize> Array<T, D> {
     /// Touches block `b` for writing; its `4^D` values, x fastest. What is written to them is the block's value afterwards.
     pub fn block_mut(&mut self, b: u64) -> &mut [T]
         requires { b < blocks (shape self.old) }
-        ensures* writes_back { sem 𝓛 (EndsWithBlock T.row D.row (record { width = T.width; WIDTH = T.WIDTH; TY = T.TY; value = T.value; in_range = T.in_range }) (record { eq = T.eq }) self.entry b result) }
+        ensures* writes_back { sem 𝓛 (EndsWithBlock T.row D.row
+            (record { width = T.width; WIDTH = T.WIDTH; TY = T.TY; value = T.value; in_range = T.in_range })
+            (record { eq = T.eq }) self.entry b result) }
         ensures value { existing_of (format self.old) b (map T.value result.now) ≡ (touch_for_writing (format self.old) (state self.old) b).values b }
         ensures size { length result.now ≡ 4 ^ D }
         ensures state { (vs : List ℤ) → state (with_block self.old b vs)
@@ -188,7 +193,9 @@ impl<T: Lane, const D: usize> Array<T, D> {
     pub fn part_mut(&mut self, b: u64, a: usize, n: usize) -> &mut [T]
         requires dirty { (state self.old).dirty b ≡ true }
         requires within { a + n ≤ 4 ^ D }
-        ensures* writes_back { sem 𝓛 (EndsWithPart T.row D.row (record { width = T.width; WIDTH = T.WIDTH; TY = T.TY; value = T.value; in_range = T.in_range }) (record { eq = T.eq }) self.entry b a n result) }
+        ensures* writes_back { sem 𝓛 (EndsWithPart T.row D.row
+            (record { width = T.width; WIDTH = T.WIDTH; TY = T.TY; value = T.value; in_range = T.in_range })
+            (record { eq = T.eq }) self.entry b a n result) }
         ensures value { existing_of (format self.old) b (spliced ((state self.old).values b) a n (map T.value result.now)) ≡ (state self.old).values b }
         ensures size { length result.now ≡ n }
         ensures state { (vs : List ℤ) → state (with_part self.old b a n vs)
@@ -250,8 +257,11 @@ impl<T: Lane, const D: usize> Array<T, D> {
 
     /// The file of the codes, as last written back.
     pub fn save_bytes(&mut self) -> &[u8]
-        ensures* unchanged { sem 𝓛 (EndsAs T.row D.row (record { width = T.width; WIDTH = T.WIDTH; TY = T.TY; value = T.value; in_range = T.in_range }) (record { eq = T.eq }) self.entry self.entry.now) }
+        ensures* unchanged { sem 𝓛 (EndsAs T.row D.row
+            (record { width = T.width; WIDTH = T.WIDTH; TY = T.TY; value = T.value; in_range = T.in_range })
+            (record { eq = T.eq }) self.entry self.entry.now) }
         ensures value { result.now ≡ file_of (stored self.old) }
+        ensures saved { result.now ≡ saved_file T.width (block_bits self.old.header.mode) (shape self.old) (state self.old) }
     {
         self.store.write_file(&mut self.buffer);
         &self.buffer
@@ -259,7 +269,9 @@ impl<T: Lane, const D: usize> Array<T, D> {
 
     /// The sizes.
     pub fn shape(&self) -> Shape
-        ensures { result ≡ shape self.now }
+        ensures value { result ≡ shape self.now }
+        ensures dims { length result ≡ D }
+        ensures same_type { T.width ≡ width_of self.now.header.ty }
     {
         self.store.header().shape
     }
@@ -267,6 +279,7 @@ impl<T: Lane, const D: usize> Array<T, D> {
     /// The bits of a block.
     pub fn bits(&self) -> u32
         ensures value { result ≡ block_bits self.now.header.mode }
+        ensures mode { self.now.header.mode ≡ Mode.Rate result }
         ensures rate { IsRate (Mode.Rate result) }
     {
         let Mode::Rate(bits) = self.store.header().mode else {

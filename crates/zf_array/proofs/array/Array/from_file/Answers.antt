@@ -13,15 +13,15 @@ use Rattle.zf_store.proofs.Kept.{blocks_is}
 use Rattle.zf_spec.specs.Grid.{IsShape}
 use Rattle.zf_base.specs.Widths.{width_of}
 use Rattle.zf_header.specs.HeaderBits.{IsRate, block_bits, rate_bytes_of}
-use Rattle.zf_cached.specs.Changes.{opened, resized}
+use Rattle.zf_cached.specs.Changes.{opened, raised, resized}
 use Rattle.zf_cache.proofs.Steps.{empty_fits}
 use Rattle.zf_store.specs.Stored.{zeros}
 use Rattle.zf_store.specs.Files.{IsOpened}
 use Rattle.zf_store.proofs.Opened.{is_header}
 use Rattle.zf_array.specs.Parts.{held_by}
 use Rattle.zf_array.proofs.Standing.{stored_held}
-use Rattle.zf_array.proofs.Steps.{same_ty}
-use Rattle.zf_array.specs.Standing.{Held, stored, format, state, block_at, place_at}
+use Rattle.zf_array.proofs.Steps.{same_ty, open_is}
+use Rattle.zf_array.specs.Standing.{Held, stored, format, state, array_of, block_at, place_at}
 use Rattle.zf_array.proofs.Standing.{has_blocks, stored_now, state_now, header_now, joined_after, state_after}
 use Rattle.zf_array.proofs.Steps.{step, header_step, position_is, block_is, place_is, block_below, place_below, place_exists, whole_values, puts_is, opens, resizes}
 use Rattle.zf_array.proofs.array.Array.from_file.Goals as goal
@@ -53,10 +53,15 @@ returns-clause-stored g c =
     (subst (λ (bs : List ℕ). IsOpened bs c.args.h.now t) c.deref.ensures.value opened)
 
 pub returns-clause-state : goal.returns-clause-state
+unfolding array_of
 returns-clause-state g c =
     let t = c.in_ok-store.store in
     let e = c.in-Ok.cache in
     let is = c.in_ok-store.ensures.ok in
-    let count = is.count ∙ ap (λ (h : Header). blocks h.shape) (sym is.header) in
+    let h = c.args.h.now in
+    let count = is.count ∙ ap (λ (k : Header). blocks k.shape) (sym is.header) in
+    let a = held_by g.T.Lane.value t e in
     opens g.T.Lane.value t e c.raised.result count c.in-Ok.ensures.empty c.in-Ok.ensures.counts
-    ∙ ap (opened (format (held_by g.T.Lane.value t e)) (code_at (stored (held_by g.T.Lane.value t e)))) c.raised.ensures.value
+    ∙ ap (opened (format a) (code_at (stored a))) c.raised.ensures.value
+    ∙ ap (λ (k : Header). let s : Stored = record { header = k; codes = a.codes } in opened (format_of s) (code_at s) (raised c.args.lines)) is.header
+    ∙ open_is g.T.Lane.width h a.codes c.args.lines c.requires.same_type

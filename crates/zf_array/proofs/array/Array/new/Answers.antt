@@ -20,7 +20,7 @@ use Rattle.zf_store.specs.Files.{IsOpened}
 use Rattle.zf_store.proofs.Opened.{is_header}
 use Rattle.zf_array.specs.Parts.{held_by}
 use Rattle.zf_array.proofs.Standing.{stored_held}
-use Rattle.zf_array.proofs.Steps.{same_ty}
+use Rattle.zf_array.proofs.Steps.{same_ty, new_is}
 use Rattle.zf_array.specs.Standing.{Held, stored, format, state, block_at, place_at}
 use Rattle.zf_array.proofs.Standing.{has_blocks, stored_now, state_now, header_now, joined_after, state_after}
 use Rattle.zf_array.proofs.Steps.{step, header_step, position_is, block_is, place_is, block_below, place_below, place_exists, whole_values, puts_is, opens, resizes}
@@ -50,5 +50,9 @@ pub returns-clause-state : goal.returns-clause-state
 returns-clause-state g c =
     let t = c.in_ok-store.store in
     let e = c.in_ok-cache.cache in
+    let fits = empty_fits g.T.Lane.value (format_of t) (code_at t) e c.raised.result c.in_ok-cache.ensures.empty in
+    let is = stored_held g.T.Lane.value t e c.header.ensures.whole.count fits ∙ c.in_ok-store.ensures in
     opens g.T.Lane.value t e c.raised.result c.header.ensures.whole.count c.in_ok-cache.ensures.empty c.in_ok-cache.ensures.counts
-    ∙ ap (opened (format (held_by g.T.Lane.value t e)) (code_at (stored (held_by g.T.Lane.value t e)))) c.raised.ensures.value
+    ∙ ap (λ (s : Stored). opened (format_of s) (code_at s) c.raised.result) is
+    ∙ ap (opened (format_of (zeros g.T.Lane.TY c.args.shape c.args.bits)) (code_at (zeros g.T.Lane.TY c.args.shape c.args.bits))) c.raised.ensures.value
+    ∙ new_is g.T.Lane.width g.T.Lane.TY c.args.shape c.args.bits c.args.lines g.met.T.Lane.width_of_type
