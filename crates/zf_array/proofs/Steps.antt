@@ -14,12 +14,15 @@ use Rattle.zf_base.specs.Places.{block_number, place_of, IsAt}
 use Rattle.zf_base.specs.Formats.{Format, existing_of, meant, with_at}
 use Rattle.zf_base.proofs.Formats.{existing_of-existing_of, existing_of-meant, existing_of-set, with_at-same}
 use Rattle.zf_header.specs.declared.header.Header.{Header}
-use Rattle.zf_header.specs.declared.header.Mode.TheVariants.{Rate}
-use Rattle.zf_header.specs.HeaderBits.{block_bits}
+use Rattle.zf_header.specs.declared.header.Mode.{Mode}
+use Rattle.zf_header.specs.declared.header.Mode.TheVariants.{Reversible, Rate, Precision}
+use Rattle.zf_spec.specs.Stream.{file, fixed_rate}
+use Rattle.zf_spec.proofs.Counting.{map-get_or-upto}
+use Rattle.zf_header.specs.HeaderBits.{IsRate, coding, block_bits}
 use Rattle.zf_cached.specs.State.{Counts, State, no_counts, own_line}
 use Rattle.zf_cached.specs.Touch.{write_back, write_back_line, hit, miss, touch, touch_for_writing, soiled, with_values}
-use Rattle.zf_cached.specs.Changes.{opened, resized, zeros}
-use Rattle.zf_cached.specs.Arrays.{rate_coding, array_format}
+use Rattle.zf_cached.specs.Changes.{opened, raised, resized, zeros}
+use Rattle.zf_cached.specs.Arrays.{rate_coding, array_format, zero_codes, open_array, new_array, codes_of, saved_file}
 use Rattle.zf_cached.proofs.States.{same_state}
 use Rattle.zf_cached.proofs.Caching.{at_change, write_back_line_by, touch_by}
 use Rattle.zf_cache.specs.Kept.{Kept, IsEmpty, tag_at, block_in, line_of, dirty_tag}
@@ -52,6 +55,15 @@ module _ {X : Type 0} (value : X → ℤ) (w : Width) (d : ℕ) (s : Stored) (c 
         state_after value w d s c room joined t e frame fits ∙ given
         ∙ ap (λ (f : Format (List Bool)). F f (state_of value c (format_of s) (code_at s))) (sym (format_now value w d s c room joined now is))
         ∙ ap (F (format now)) (sym (state_now value w d s c room joined now is))
+
+    -- and the array itself is known by its state
+    pub held_step : (F : Format (List Bool) → State (List Bool) → State (List Bool)) → state_of value e (format_of t) (code_at t) ≡ F (format_of s) (state_of value c (format_of s) (code_at s))
+        → held_by value t e ≡ array_of now.header (F (format now) (state now))
+    held_step F given =
+        ap (array_of t.header) (given
+        ∙ ap (λ (f : Format (List Bool)). F f (state_of value c (format_of s) (code_at s))) (sym (format_now value w d s c room joined now is))
+        ∙ ap (F (format now)) (sym (state_now value w d s c room joined now is)))
+        ∙ ap (λ (h : Header). array_of h (F (format now) (state now))) (header_kept value w d s c room joined t e frame ∙ sym (header_now value w d s c room joined now is))
 
     pub header_step : (held_by value t e).header ≡ now.header
     unfolding array_of
@@ -89,6 +101,7 @@ module _ {X Code : Type 0} (value : X → ℤ) (f : Format Code) (c : Kept X) (k
     where
       zf_line : Kept X → ℕ → List X
       zf_line d a = get_or d.lines (line_of d a) []
+
       from : (v : Bool → List ℤ) → existing_of f b (v true) ≡ v true → existing_of f b (v false) ≡ v false → (t : Bool) → existing_of f b (v t) ≡ v t
       from v here away true = here
       from v here away false = away
@@ -162,6 +175,35 @@ module _ {X : Type 0} (value : X → ℤ) where
     where
       clean : (n b : ℕ) → (tag_at (replicate n 0) (b % n) == dirty_tag b) ≡ false
       clean n b = ap (λ t. t == dirty_tag b) (no_tag n (b % n)) ∙ ne_eqb 0 (dirty_tag b) (λ e. omega (arith, e))
+
       zero_code : (ns : List ℕ) (budget b : ℕ) → (b < blocks ns) ⊎ (blocks ns ≤ b) → get_or (replicate (blocks ns) (replicate budget false)) b (replicate budget false) ≡ replicate budget false
       zero_code ns budget b (inl h) = get_or-replicate (blocks ns) b (replicate budget false) (replicate budget false) h
       zero_code ns budget b (inr h) = get_or_past (replicate (blocks ns) (replicate budget false)) b (replicate budget false) (omega (arith, length-replicate (blocks ns) (replicate budget false)))
+
+-- ---- an array and what is saved of it, in the words of the definitions
+
+-- one that is opened
+pub open_is : (w : Width) (h : Header) (codes : List (List Bool)) (lines : ℕ) → w ≡ width_of h.ty
+    → (let s : Stored = record { header = h; codes = codes } in opened (format_of s) (code_at s) (raised lines)) ≡ open_array w (block_bits h.mode) h.shape codes lines
+unfolding open_array
+open_is w h codes lines is = ap (λ (v : Width). opened (array_format (rate_coding v (block_bits h.mode)) h.shape) (λ b. get_or codes b (replicate (block_bits h.mode) false)) (raised lines)) (sym is)
+
+pub new_is : (w : Width) (ty : Ty) (ns : List ℕ) (budget lines : ℕ) → w ≡ width_of ty
+    → opened (format_of (store.zeros ty ns budget)) (code_at (store.zeros ty ns budget)) (raised lines) ≡ new_array w budget ns lines
+unfolding new_array
+new_is w ty ns budget lines is = open_is w (record { ty = ty; shape = ns; mode = Rate budget }) (zero_codes budget ns) lines is
+
+-- the mode of a rate
+rate_coding_is : (m : Mode) → IsRate m → coding m ≡ fixed_rate (block_bits m)
+rate_coding_is Reversible is = absurd is
+rate_coding_is (Rate b) is = refl
+rate_coding_is (Precision p) is = absurd is
+
+-- what is saved
+pub saved_is : (w : Width) (a : Held) → w ≡ width_of a.header.ty → IsRate a.header.mode → length a.codes ≡ blocks a.header.shape
+    → store.file_of (stored a) ≡ saved_file w (block_bits a.header.mode) a.header.shape (state a)
+unfolding saved_file codes_of state
+saved_is w a same_type rate count =
+    ap (λ (v : Width). file v a.header.shape (coding a.header.mode) a.codes) (sym same_type)
+    ∙ ap (λ m. file w a.header.shape m a.codes) (rate_coding_is a.header.mode rate)
+    ∙ ap (file w a.header.shape (fixed_rate (block_bits a.header.mode))) (sym (map-get_or-upto a.codes (blocks a.header.shape) (replicate (block_bits a.header.mode) false) count))

@@ -20,3 +20,8 @@ pub returns-clause-value : goal.returns-clause-value
 returns-clause-value g c =
     let s = c.self.inside in
     ap block_bits (sym c.in-Rate.is ∙ ap (λ (h : Header). h.mode) (c.header.ensures.value ∙ sym (header_now g.T.Lane.value g.T.Lane.width g.row.D s.store s.cache (vec_len s.buffer) c.self.invariant c.args.self.now c.self.view_is)))
+
+pub returns-clause-mode : goal.returns-clause-mode
+returns-clause-mode g c =
+    let s = c.self.inside in
+    ap (λ (h : Header). h.mode) (header_now g.T.Lane.value g.T.Lane.width g.row.D s.store s.cache (vec_len s.buffer) c.self.invariant c.args.self.now c.self.view_is ∙ sym c.header.ensures.value) ∙ c.in-Rate.is
