@@ -1,9 +1,9 @@
 -- Tables of planes of four digits, each entry of which is what the definitions say, by computation.
-use Rattle.std.proofs.Common.{◌≡◌, ℕ, zero, suc, ◌+◌, ◌*◌, ◌/◌, ◌%◌, ◌^◌, ◌<◌, ◌≤◌, ⊎_elim, max, Bool, true, false, ◌&&◌, eqb, ltb, List, [], ◌∷◌, take, drop, get_or, refl, sym, ap, subst, ◌∙◌, arith}
+use Rattle.std.proofs.Common.{◌≡◌, ℕ, zero, suc, ◌+◌, ◌*◌, ◌/◌, ◌%◌, ◌^◌, ◌<◌, ◌≤◌, ⊎_elim, max, Bool, true, false, ◌&&◌, eqb, ltb, List, [], ◌∷◌, get_or, refl, sym, ap, subst, ◌∙◌, arith}
 use Rattle.std.proofs.lemmas.Bool.{cases_lt, false≢true, and_parts, eqb-true, ltb-true}
 use Rattle.zf_spec.specs.Numbers.{field}
 use Rattle.zf_spec.specs.Planes.{plane_code, reach}
-use Rattle.zf_planes.specs.declared.four.TheConstants.{CODES}
+use Rattle.zf_planes.specs.declared.four.TheConstants.{CODES, PLANES}
 
 -- ---- tests that compute
 
@@ -70,3 +70,32 @@ code_of_entry n digits e in_plane four is =
     let two = and_parts (ltb (e % 128) (2 ^ (e / 128 % 8))) _ one.1 in
     let three = and_parts (eqb (e / 1024) (max n (reach (field 4 digits)))) _ two.1 in
     record { bits = same_digits-true _ _ one.0; small = ltb-true _ _ two.0; above = eqb-true _ _ three.0; within = ltb-true _ _ three.1 }
+
+-- ---- planes
+
+-- an entry has the digits whose code begins these bits, its length and how far the ones reach
+abbrev test_plane : ℕ → ℕ → ℕ → Bool
+test_plane n bits e =
+    same_digits (plane_code n (field 4 (e % 16))) (field (e / 16 % 8) bits) && (ltb 0 (e / 16 % 8) && eqb (e / 128) (max n (reach (field 4 (e % 16)))))
+
+test_planes : each_below (λ i. test_plane (i / 128) (i % 128) (get_or PLANES i 0)) 640 ≡ true
+test_planes = refl
+
+pub record IsPlane (n bits e : ℕ) : Type 0 where
+  pub code : plane_code n (field 4 (e % 16)) ≡ field (e / 16 % 8) bits
+  pub some : 0 < e / 16 % 8
+  pub above : e / 128 ≡ max n (reach (field 4 (e % 16)))
+
+pub plane_of_entry : (n bits e : ℕ) → n ≤ 4 → bits < 128 → e ≡ get_or PLANES (128 * n + bits) 0 → IsPlane n bits e
+plane_of_entry n bits e in_plane seven is =
+    let i = 128 * n + bits in
+    let front : i / 128 ≡ n = omega arith in
+    let low : i % 128 ≡ bits = omega arith in
+    let test : test_plane n bits e ≡ true =
+    ap (λ k. test_plane k bits e) (sym front)
+    ∙ ap (λ k. test_plane (i / 128) k e) (sym low)
+    ∙ ap (test_plane (i / 128) (i % 128)) is
+    ∙ each_below-true (λ j. test_plane (j / 128) (j % 128) (get_or PLANES j 0)) 640 i test_planes (omega arith) in
+    let one = and_parts (same_digits (plane_code n (field 4 (e % 16))) (field (e / 16 % 8) bits)) _ test in
+    let two = and_parts (ltb 0 (e / 16 % 8)) _ one.1 in
+    record { code = same_digits-true _ _ one.0; some = ltb-true _ _ two.0; above = eqb-true _ _ two.1 }

@@ -1,5 +1,5 @@
 -- The planes before the k-th are the bits that were put together.
-use Rattle.std.proofs.Common.{◌≡◌, ◌+◌, ◌-◌, ◌*◌, ◌^◌, ◌<◌, ◌≤◌, ◌++◌, map, take, drop}
+use Rattle.std.proofs.Common.{◌≡◌, ◌-◌, ◌*◌, ◌^◌, ◌<◌, ◌≤◌, ◌++◌, map, take, drop}
 use Rattle.zf_spec.specs.Numbers.{field}
 use Rattle.zf_spec.specs.Planes.{code_from}
 use Rattle.zf_spec.specs.HeldPlanes.{planes_held}

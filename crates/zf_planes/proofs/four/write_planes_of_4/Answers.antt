@@ -1,15 +1,14 @@
-use Rattle.std.proofs.Common.{◌≡◌, ℕ, ◌+◌, ◌-◌, ◌*◌, ◌<◌, ◌≤◌, min, Bool, List, ◌++◌, length, map, take, drop, sym, ap, ◌∙◌, arith}
-use Rattle.std.proofs.lemmas.List.{drop_all, length-map}
+use Rattle.std.proofs.Common.{◌≡◌, ◌-◌, length, map, take, drop, sym, ap, ◌∙◌, arith}
+use Rattle.std.proofs.lemmas.List.{length-map}
 use Rattle.zf_spec.specs.Numbers.{field}
 use Rattle.zf_spec.specs.Planes.{code, code_from}
 use Rattle.zf_spec.specs.HeldPlanes.{planes_held}
 use Rattle.zf_spec.proofs.Fields.{length-field}
 use Rattle.zf_bits.proofs.Appending.{Appends-same}
-use Rattle.zf_planes.proofs.Budgets.{Remains-start, Remains-same, Remains-fits, Remains-more, Remains-end}
+use Rattle.zf_planes.proofs.Budgets.{Remains-start, Remains-same, Remains-fits, Remains-more}
 use Rattle.zf_planes.proofs.Gathering.{take_field}
 use Rattle.zf_planes.proofs.Lengths.{length-code_words-le}
-use Rattle.zf_planes.proofs.Unpacking.{length-top_held, each_long}
-use Rattle.zf_planes.proofs.four.write_planes_of_4.Given.{Over}
+use Rattle.zf_planes.proofs.Unpacking.{each_long}
 use Rattle.zf_planes.proofs.four.write_planes_of_4.Goals as goal
 
 pub loop-i-init : goal.loop-i-init
