@@ -15,6 +15,7 @@ use zf_bits::Plane;
 pub(crate) const MOST_PLANES: usize = 64;
 
 /// Copies a block, padded.
+#[inline(always)]
 pub(crate) fn copy_padded<T: Lane>(d: u8, e: &Extent, block: &[T], values: &mut [T])
     requires four_at_most { d ≤ 4 }
     requires extent { IsExtent d e.now }
@@ -27,6 +28,7 @@ pub(crate) fn copy_padded<T: Lane>(d: u8, e: &Extent, block: &[T], values: &mut 
 }
 
 /// Makes the planes of coefficients, by way of their digits.
+#[inline(always)]
 pub(crate) fn to_planes<T: Lane, P: Plane>(
     d: u8,
     coefficients: &[T],
@@ -45,6 +47,7 @@ pub(crate) fn to_planes<T: Lane, P: Plane>(
 }
 
 /// Makes the coefficients of which these are the planes, by way of their digits.
+#[inline(always)]
 pub(crate) fn from_planes<T: Lane, P: Plane>(
     d: u8,
     planes: &[P],
