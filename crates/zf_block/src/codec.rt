@@ -105,7 +105,7 @@ fn write_block<C: BlockCode<T>, T: Lane, P: Plane>(
     copy_padded(d, e, block, values);
     C::forward(d, values);
     to_planes(d, values, digits, planes);
-    code.write(block.len(), planes, out);
+    code.write(block.len(), digits, planes, out);
 }
 
 /// Reads the code of a block, or answers `None` where the bits end before it does.

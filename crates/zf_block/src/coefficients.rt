@@ -6,6 +6,8 @@ ghost use Rattle.zf_spec.specs.Codes as codes;
 ghost use Rattle.zf_spec.specs.Codes.{coefficients_of};
 ghost use Rattle.zf_spec.specs.Padding.{pad};
 ghost use Rattle.zf_spec.specs.HeldPlanes.{planes_held};
+ghost use Rattle.zf_spec.specs.Planes.{planes_of};
+ghost use Rattle.zf_coef.specs.HeldDigits.{digits_in};
 ghost use Rattle.zf_base.specs.Positions.{used_axes, IsExtent};
 
 use zf_base::{Extent, Lane};
@@ -40,7 +42,8 @@ pub(crate) fn to_planes<T: Lane, P: Plane>(
     requires coefficients { length coefficients.now ≡ 4 ^ d }
     requires digits { length digits.old ≡ 4 ^ d }
     requires planes { length planes.old ≡ T.WIDTH }
-    ensures { planes_held (4 ^ d) (map P.words planes.new) ≡ codes.planes T.width d (map T.value coefficients.now) }
+    ensures planes { planes_held (4 ^ d) (map P.words planes.new) ≡ codes.planes T.width d (map T.value coefficients.now) }
+    ensures digits { planes_held (4 ^ d) (map P.words planes.new) ≡ planes_of T.WIDTH (digits_in T.WIDTH digits.new) }
 {
     zf_coef::ranked(d, coefficients, digits);
     zf_coef::planes_of_digits(digits, planes);
