@@ -34,9 +34,29 @@ pub(crate) fn encode<C: BlockCode<T>, T: Lane>(
         (C.code_of code.now (codes.planes T.width d (C.forth d (pad (used_axes d e.now.size) (map T.value block.now))))) }
     ensures scratch { s.new ≡ d }
 {
-    // Planes of up to 64 coefficients lie in one word each.
-    if d <= 3 {
-        write_block(
+    // Planes of up to 64 coefficients lie in one word each. Work room of a known size is faster where it is small.
+    match d {
+        1 => write_block(
+            code,
+            d,
+            e,
+            block,
+            &mut [T::zero(); 4],
+            &mut [0; 4],
+            &mut s.planes,
+            out,
+        ),
+        2 => write_block(
+            code,
+            d,
+            e,
+            block,
+            &mut [T::zero(); 16],
+            &mut [0; 16],
+            &mut s.planes,
+            out,
+        ),
+        3 => write_block(
             code,
             d,
             e,
@@ -45,9 +65,8 @@ pub(crate) fn encode<C: BlockCode<T>, T: Lane>(
             &mut s.digits,
             &mut s.planes,
             out,
-        );
-    } else {
-        write_block(
+        ),
+        _ => write_block(
             code,
             d,
             e,
@@ -56,11 +75,12 @@ pub(crate) fn encode<C: BlockCode<T>, T: Lane>(
             &mut s.digits,
             &mut s.wide_planes,
             out,
-        );
+        ),
     }
 }
 
 /// Appends the code of a block by way of these values, digits and planes.
+#[inline(always)]
 fn write_block<C: BlockCode<T>, T: Lane, P: Plane>(
     code: &C,
     d: u8,
@@ -85,7 +105,7 @@ fn write_block<C: BlockCode<T>, T: Lane, P: Plane>(
     copy_padded(d, e, block, values);
     C::forward(d, values);
     to_planes(d, values, digits, planes);
-    code.write(block.len(), planes, out);
+    code.write(block.len(), digits, planes, out);
 }
 
 /// Reads the code of a block, or answers `None` where the bits end before it does.
@@ -143,6 +163,7 @@ pub(crate) fn decode<C: BlockCode<T>, T: Lane>(
 }
 
 /// Reads the code of a block by way of these digits and planes.
+#[inline(always)]
 fn read_block<C: BlockCode<T>, T: Lane, P: Plane>(
     code: &C,
     d: u8,

@@ -116,7 +116,24 @@ fn tiles<P: Plane, const N: usize>(planes: &[P], number: usize) -> [u64; N]
     requires planes { length planes.now ≤ 64 }
     ensures { AreTiles N number (map P.words planes.now) result }
 {
-    let whole = planes.len() / N;
+    // A number of planes that is known needs no loop.
+    match planes.len() {
+        32 => tiles_to(planes, 32, number),
+        64 => tiles_to(planes, 64, number),
+        len => tiles_to(planes, len, number),
+    }
+}
+
+/// The same of so many planes.
+#[inline(always)]
+fn tiles_to<P: Plane, const N: usize>(planes: &[P], len: usize, number: usize) -> [u64; N]
+    requires size { (N ≡ 4) ⊎ (N ≡ 16) }
+    requires len { len ≡ length planes.now }
+    requires number { number < P.word_count }
+    requires planes { length planes.now ≤ 64 }
+    ensures { AreTiles N number (map P.words planes.now) result }
+{
+    let whole = len / N;
     let mut words = [0; N];
     let last: [u64; N] = words_from(planes, whole * N, number);
     put_tile_before(&mut words, &last);

@@ -124,25 +124,42 @@ fn put_16<P: Plane>(digits: &[u64], number: usize, planes: &mut [P])
 
 /// The planes of turned tiles: tile t of word j is plane `N * t + j`.
 #[inline(always)]
-fn put_tiles<P: Plane, const N: usize>(mut words: [u64; N], number: usize, planes: &mut [P])
+fn put_tiles<P: Plane, const N: usize>(words: [u64; N], number: usize, planes: &mut [P])
     requires size { (N ≡ 4) ⊎ (N ≡ 16) }
     requires number { number < P.word_count }
     requires planes { length planes.old ≤ 64 }
     ensures bits { HoldsTiles N number words.entry (map P.words planes.new) }
     ensures others { KeepsOthers number (map P.words planes.old) (map P.words planes.new) }
 {
-    let whole = planes.len() / N;
+    // A number of planes that is known needs no loop.
+    match planes.len() {
+        32 => put_tiles_to(words, 32, number, planes),
+        64 => put_tiles_to(words, 64, number, planes),
+        len => put_tiles_to(words, len, number, planes),
+    }
+}
+
+/// The same of so many planes.
+#[inline(always)]
+fn put_tiles_to<P: Plane, const N: usize>(
+    mut words: [u64; N],
+    len: usize,
+    number: usize,
+    planes: &mut [P],
+)
+    requires size { (N ≡ 4) ⊎ (N ≡ 16) }
+    requires len { len ≡ length planes.old }
+    requires number { number < P.word_count }
+    requires planes { length planes.old ≤ 64 }
+    ensures bits { HoldsTiles N number words.entry (map P.words planes.new) }
+    ensures others { KeepsOthers number (map P.words planes.old) (map P.words planes.new) }
+{
+    let whole = len / N;
     for tile in 0..whole {
         put_words(&first_tile(&words), N, tile * N, number, planes);
         next_tile(&mut words);
     }
-    put_words(
-        &first_tile(&words),
-        planes.len() % N,
-        whole * N,
-        number,
-        planes,
-    );
+    put_words(&first_tile(&words), len % N, whole * N, number, planes);
 }
 
 /// The first `N` bits of each word.

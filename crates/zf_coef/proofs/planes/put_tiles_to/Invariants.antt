@@ -1,7 +1,7 @@
 use Rattle.std.proofs.Common.{◌≡◌, ◌<◌, ◌*◌, ◌/◌, ◌^◌, ℕ, map, slice_index_or}
 use Rattle.zf_coef.specs.Groups.{KeepsOthers}
 use Rattle.zf_coef.proofs.Tiles.{HasTiles}
-use Rattle.zf_coef.proofs.planes.put_tiles.Given as goal
+use Rattle.zf_coef.proofs.planes.put_tiles_to.Given as goal
 
 abbrev pub invariant-loop-tile : goal.invariant-loop-tile
 invariant-loop-tile g l =

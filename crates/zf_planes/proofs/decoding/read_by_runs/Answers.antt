@@ -4,7 +4,7 @@ use Rattle.zf_bits.specs.Reader.{Reader, rest}
 use Rattle.zf_planes.specs.Decoding.{Takes, tail_ahead, tail_bits, plane_ahead, plane_bits}
 use Rattle.zf_planes.proofs.Passing.{Passes-start, Passes-part, Passes-lacks, Takes-rest, Takes-sum, if_none, on_none, on_some}
 use Rattle.zf_planes.proofs.PlaneAhead.{plane_ahead-is, plane_bits-is}
-use Rattle.zf_planes.proofs.decoding.read_plane.Goals as goal
+use Rattle.zf_planes.proofs.decoding.read_by_runs.Goals as goal
 
 -- the first n digits are read, and what reading makes of the plane goes on with its tail
 record FirstRead (old mid : Reader) (left after size n : ℕ) : Type 0 where

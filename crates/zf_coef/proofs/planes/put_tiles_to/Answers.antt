@@ -3,7 +3,7 @@ use Rattle.std.proofs.lemmas.List.{length-map}
 use Rattle.std.proofs.lemmas.Nat.{shr-shr}
 use Rattle.zf_coef.proofs.Putting.{none_changed, both_kept}
 use Rattle.zf_coef.proofs.Tiles.{HasTiles, size_positive, tile_next, tiles_end, end_less, tiles_none, tiles_more, tiles_whole, put_to_end}
-use Rattle.zf_coef.proofs.planes.put_tiles.Goals as goal
+use Rattle.zf_coef.proofs.planes.put_tiles_to.Goals as goal
 
 pub loop-tile-init : goal.loop-tile-init
 loop-tile-init g c =
@@ -42,22 +42,21 @@ returns-clause-bits g c =
     let n = g.row.N in
     let number = c.args.number in
     let turned = c.args.words in
-    let len = length c.args.planes.now in
+    let len = c.args.len in
     let whole = len / n in
     let last : c.loop-tile.tile ≡ whole = omega arith in
     let mid = map words c.loop-tile.planes in
     let new = map words c.put_words-2.new.planes in
     let long : length new ≡ length mid = omega (arith, length-map c.put_words-2.new.planes words, length-map c.loop-tile.planes words) in
-    let all : length new ≡ len = omega (arith, length-map c.put_words-2.new.planes words) in
+    let all : length new ≡ len = omega (arith, c.requires.len, length-map c.put_words-2.new.planes words) in
     let end = tiles_end n len c.requires.size in
     let less = end_less n len c.requires.size in
-    let count = length c.loop-tile.planes % n in
-    let same : count ≡ len % n = ap (λ l. l % n) c.loop-tile.auto.planes in
+    let count = len % n in
     tiles_whole n number (whole * n + n) turned new (omega arith)
     (tiles_more n whole number turned c.first_tile-2.result mid new (size_positive n c.requires.size) long
     (subst (λ t. HasTiles n number (t * n) turned mid) last c.loop-tile.invariant.tiles)
     (λ j h. c.first_tile-2.ensures.cut j h ∙ ap (λ v. v % 2 ^ n) (c.loop-tile.invariant.words j h) ∙ ap (λ t. get_or turned j 0 / 2 ^ (t * n) % 2 ^ n) last)
-    (put_to_end n count number (whole * n) c.first_tile-2.result mid new (omega (arith, same, less)) (omega (arith, same, end)) c.put_words-2.ensures.words))
+    (put_to_end n count number (whole * n) c.first_tile-2.result mid new (omega (arith, less)) (omega (arith, end)) c.put_words-2.ensures.words))
 
 pub returns-clause-others : goal.returns-clause-others
 returns-clause-others g c =
