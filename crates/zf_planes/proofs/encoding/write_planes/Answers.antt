@@ -62,7 +62,7 @@ loop-i-init g c =
     let zeros = c.zero_planes-zeros.ensures in
     let count : c.min-count.result ≡ min c.args.budget k = omega (arith, c.min-count.ensures, c.from.ensures) in
     let remains = zeros_written c.args.out.now g.P.Plane.words _ c.args.budget c.args.prec c.args.size k c.min-count.result c.args.planes.now g.met.P.Plane.long c.requires.words c.requires.planes c.requires.fits
-        zeros.some zeros.within zeros.zeros count c.write_reserved.ensures.bits in
+    zeros.some zeros.within zeros.zeros count c.write_reserved.ensures.bits in
     record { remains = remains; above = omega arith }
 
 -- ---- planes of four digits
@@ -73,7 +73,7 @@ write_planes_of_4-requires-clause-fits g c =
     let zeros = c.zero_planes-zeros.ensures in
     let count : c.min-count.result ≡ min c.args.budget k = omega (arith, c.min-count.ensures, c.from.ensures) in
     let remains = zeros_written c.args.out.now g.P.Plane.words _ c.args.budget c.args.prec c.args.size k c.min-count.result c.args.planes.now g.met.P.Plane.long c.requires.words c.requires.planes c.requires.fits
-        zeros.some zeros.within zeros.zeros count c.write_reserved.ensures.bits in
+    zeros.some zeros.within zeros.zeros count c.write_reserved.ensures.bits in
     let rest = λ (n : ℕ). code_from 0 (drop k (take c.args.prec (planes_held n (map g.P.Plane.words c.args.planes.now)))) in
     let same = ap (λ n. length (rest n)) c.if-size-eq4.true in
     omega (arith, remains.fits, same)
@@ -84,7 +84,7 @@ returns-then-size-eq4-clause-bits g c =
     let zeros = c.zero_planes-zeros.ensures in
     let count : c.min-count.result ≡ min c.args.budget k = omega (arith, c.min-count.ensures, c.from.ensures) in
     let remains = zeros_written c.args.out.now g.P.Plane.words _ c.args.budget c.args.prec c.args.size k c.min-count.result c.args.planes.now g.met.P.Plane.long c.requires.words c.requires.planes c.requires.fits
-        zeros.some zeros.within zeros.zeros count c.write_reserved.ensures.bits in
+    zeros.some zeros.within zeros.zeros count c.write_reserved.ensures.bits in
     let rest = λ (n : ℕ). code_from 0 (drop k (take c.args.prec (planes_held n (map g.P.Plane.words c.args.planes.now)))) in
     let Written : ℕ → Type 0 = λ n. Appends c.write_reserved.new.self c.write_planes_of_4.new.out (take (c.args.budget - c.min-count.result) (rest n)) in
     let written = subst Written (sym c.if-size-eq4.true) c.write_planes_of_4.ensures.bits in
@@ -96,7 +96,7 @@ returns-then-size-eq4-clause-count g c =
     let zeros = c.zero_planes-zeros.ensures in
     let count : c.min-count.result ≡ min c.args.budget k = omega (arith, c.min-count.ensures, c.from.ensures) in
     let remains = zeros_written c.args.out.now g.P.Plane.words _ c.args.budget c.args.prec c.args.size k c.min-count.result c.args.planes.now g.met.P.Plane.long c.requires.words c.requires.planes c.requires.fits
-        zeros.some zeros.within zeros.zeros count c.write_reserved.ensures.bits in
+    zeros.some zeros.within zeros.zeros count c.write_reserved.ensures.bits in
     let rest = λ (n : ℕ). code_from 0 (drop k (take c.args.prec (planes_held n (map g.P.Plane.words c.args.planes.now)))) in
     let same = ap (λ n. length (rest n)) c.if-size-eq4.true in
     omega (arith, remains.spent, remains.within, same, c.write_planes_of_4.ensures.left)
