@@ -145,12 +145,12 @@ pub fn write_planes<P: Plane>(
     ensures bits { Appends out.old out.new (take budget (code (take prec (planes_held size (map P.words planes.now))))) }
     ensures count { result ≡ min budget (length (code (take prec (planes_held size (map P.words planes.now))))) }
 {
-    if size == 4 {
-        return write_planes_of_4(budget, prec, planes, out);
-    }
     let zeros = zero_planes(prec, size, planes);
     let count = budget.min(u64::from(zeros));
     out.write_reserved(0, count as u32);
+    if size == 4 {
+        return budget - write_planes_of_4(budget - count, zeros as usize, prec, planes, out);
+    }
     let mut left = budget - count;
     let mut above = 0;
     let mut i = zeros as usize;

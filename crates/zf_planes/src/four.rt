@@ -2,7 +2,7 @@
 
 ghost use Rattle.std.specs.Prelude.{◌≡◌, ◌+◌, ◌-◌, ◌*◌, ◌^◌, ◌<◌, ◌≤◌, min, max, ◌++◌, length, map, take, drop, slice_index_or};
 ghost use Rattle.zf_spec.specs.Numbers.{field};
-ghost use Rattle.zf_spec.specs.Planes.{plane_code, code, code_from, reach};
+ghost use Rattle.zf_spec.specs.Planes.{plane_code, code_from, reach};
 ghost use Rattle.zf_spec.specs.HeldPlanes.{planes_held};
 ghost use Rattle.zf_bits.specs.Writer.{Appends};
 
@@ -169,22 +169,25 @@ fn next_part<P: Plane>(left: u64, above: usize, i: &mut usize, prec: usize, plan
     part
 }
 
-/// Appends the code of the top `prec` planes of four digits, or its first `budget` bits where it is longer. The answer is the number of bits appended.
+/// Appends the code of the top `prec` planes of four digits from the one of number `from` on, above which no rank has had a one, as far as `left` bits
+/// reach. The answer is the bits that are left.
 pub(crate) fn write_planes_of_4<P: Plane>(
-    budget: u64,
+    left: u64,
+    from: usize,
     prec: u32,
     planes: &[P],
     out: &mut BitWriter,
 ) -> u64
     requires words { 4 ≤ 64 * P.word_count }
     requires planes { prec ≤ length planes.now }
-    requires fits { min budget (4 * prec + 4) ≤ out.old.room }
-    ensures bits { Appends out.old out.new (take budget (code (take prec (planes_held 4 (map P.words planes.now))))) }
-    ensures count { result ≡ min budget (length (code (take prec (planes_held 4 (map P.words planes.now))))) }
+    requires from { from ≤ prec }
+    requires fits { min left (length (code_from 0 (drop from (take prec (planes_held 4 (map P.words planes.now)))))) ≤ out.old.room }
+    ensures bits { Appends out.old out.new (take left (code_from 0 (drop from (take prec (planes_held 4 (map P.words planes.now)))))) }
+    ensures left { result ≡ left - length (code_from 0 (drop from (take prec (planes_held 4 (map P.words planes.now))))) }
 {
-    let mut left = budget;
+    let mut left = left;
     let mut above = 0;
-    let mut i = 0;
+    let mut i = from;
     while i < prec as usize && left > 0 {
         let part = next_part(left, above, &mut i, prec as usize, planes);
         let count = left.min(part.len);
@@ -192,5 +195,5 @@ pub(crate) fn write_planes_of_4<P: Plane>(
         left -= count;
         above = part.above;
     }
-    budget - left
+    left
 }

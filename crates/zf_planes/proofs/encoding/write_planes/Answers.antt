@@ -1,7 +1,8 @@
-use Rattle.std.proofs.Common.{◌≡◌, ℕ, ◌+◌, ◌-◌, ◌*◌, ◌<◌, ◌≤◌, ◌⊎◌, ⊎_elim, min, max, Bool, false, List, ◌++◌, length, map, take, drop, get_or, replicate, refl, sym, ap, ◌∙◌, arith}
-use Rattle.std.proofs.lemmas.List.{drop_all, length-map, take-take, take-append-drop, length-replicate}
+use Rattle.std.proofs.Common.{◌≡◌, ℕ, ◌+◌, ◌-◌, ◌*◌, ◌<◌, ◌≤◌, ◌⊎◌, ⊎_elim, min, max, Bool, false, List, [], ◌++◌, length, map, take, drop, get_or, replicate, refl, sym, ap, subst, ◌∙◌, arith}
+use Rattle.std.proofs.lemmas.List.{append-nil, drop_all, length-map, take-take, take-append-drop, length-replicate}
 use Rattle.zf_spec.specs.Planes.{code, code_from, plane_code, reach}
-use Rattle.zf_bits.specs.Writer.{Writer}
+use Rattle.zf_bits.specs.Writer.{Writer, Appends}
+use Rattle.zf_spec.specs.Numbers.{field}
 use Rattle.zf_spec.specs.HeldPlanes.{planes_held, digits_held}
 use Rattle.zf_planes.proofs.Budgets.{Remains, Remains-start, Remains-same, Remains-fits, Remains-more, Remains-end}
 use Rattle.zf_planes.proofs.Lengths.{length-code_words-le}
@@ -44,15 +45,61 @@ write_reserved-requires-clause-fits g c =
     let remains = remains_all c.args.out.now g.P.Plane.words _ c.args.budget c.args.prec c.args.size k c.args.planes.now g.met.P.Plane.long c.requires.words c.requires.planes c.requires.fits zeros.some zeros.within zeros.zeros in
     omega (arith, Remains-fits (replicate k false) _ remains, length-replicate k false, c.min-count.ensures, c.from.ensures)
 
+-- behind the zeros of the first k planes the code of the others remains
+zeros_written : {A : Type 0} {new : Writer} (out : Writer) (words : A → List ℕ) (count budget prec size k bits : ℕ) (planes : List A) → ((plane : A) → length (words plane) ≡ count) → size ≤ 64 * count → prec ≤ length planes
+    → min budget (size * prec + size) ≤ out.room → (k ≡ 0) ⊎ (0 < size) → k ≤ prec → take k (planes_held size (map words planes)) ≡ replicate k (replicate size false)
+    → bits ≡ min budget k → Appends out new (field bits 0)
+    → Remains out new budget (budget - bits) (code (take prec (planes_held size (map words planes)))) (code_from 0 (drop k (take prec (planes_held size (map words planes)))))
+zeros_written out words count budget prec size k bits planes long enough in_planes room some within zeros is written =
+    let remains = remains_all out words count budget prec size k planes long enough in_planes room some within zeros in
+    let appends = Appends-same written (field-zero bits ∙ ap (λ n. replicate n false) is ∙ sym (take_zeros budget k)) in
+    let spent : budget - length (replicate k false) ≡ budget - bits = omega (arith, is, length-replicate k false) in
+    rw spent at (Remains-more (replicate k false) _ remains appends)
+
 pub loop-i-init : goal.loop-i-init
 loop-i-init g c =
     let k = c.zero_planes-zeros.result in
     let zeros = c.zero_planes-zeros.ensures in
-    let remains = remains_all c.args.out.now g.P.Plane.words _ c.args.budget c.args.prec c.args.size k c.args.planes.now g.met.P.Plane.long c.requires.words c.requires.planes c.requires.fits zeros.some zeros.within zeros.zeros in
     let count : c.min-count.result ≡ min c.args.budget k = omega (arith, c.min-count.ensures, c.from.ensures) in
-    let appends = Appends-same c.write_reserved.ensures.bits (field-zero c.min-count.result ∙ ap (λ n. replicate n false) count ∙ sym (take_zeros c.args.budget k)) in
-    let spent : c.args.budget - c.min-count.result ≡ c.args.budget - length (replicate k false) = omega (arith, count, length-replicate k false) in
-    record { remains = rw spent (Remains-more (replicate k false) _ remains appends); above = omega arith }
+    let remains = zeros_written c.args.out.now g.P.Plane.words _ c.args.budget c.args.prec c.args.size k c.min-count.result c.args.planes.now g.met.P.Plane.long c.requires.words c.requires.planes c.requires.fits
+    zeros.some zeros.within zeros.zeros count c.write_reserved.ensures.bits in
+    record { remains = remains; above = omega arith }
+
+-- ---- planes of four digits
+
+pub write_planes_of_4-requires-clause-fits : goal.write_planes_of_4-requires-clause-fits
+write_planes_of_4-requires-clause-fits g c =
+    let k = c.zero_planes-zeros.result in
+    let zeros = c.zero_planes-zeros.ensures in
+    let count : c.min-count.result ≡ min c.args.budget k = omega (arith, c.min-count.ensures, c.from.ensures) in
+    let remains = zeros_written c.args.out.now g.P.Plane.words _ c.args.budget c.args.prec c.args.size k c.min-count.result c.args.planes.now g.met.P.Plane.long c.requires.words c.requires.planes c.requires.fits
+    zeros.some zeros.within zeros.zeros count c.write_reserved.ensures.bits in
+    let rest = λ (n : ℕ). code_from 0 (drop k (take c.args.prec (planes_held n (map g.P.Plane.words c.args.planes.now)))) in
+    let same = ap (λ n. length (rest n)) c.if-size-eq4.true in
+    omega (arith, remains.fits, same)
+
+pub returns-then-size-eq4-clause-bits : goal.returns-then-size-eq4-clause-bits
+returns-then-size-eq4-clause-bits g c =
+    let k = c.zero_planes-zeros.result in
+    let zeros = c.zero_planes-zeros.ensures in
+    let count : c.min-count.result ≡ min c.args.budget k = omega (arith, c.min-count.ensures, c.from.ensures) in
+    let remains = zeros_written c.args.out.now g.P.Plane.words _ c.args.budget c.args.prec c.args.size k c.min-count.result c.args.planes.now g.met.P.Plane.long c.requires.words c.requires.planes c.requires.fits
+    zeros.some zeros.within zeros.zeros count c.write_reserved.ensures.bits in
+    let rest = λ (n : ℕ). code_from 0 (drop k (take c.args.prec (planes_held n (map g.P.Plane.words c.args.planes.now)))) in
+    let Written : ℕ → Type 0 = λ n. Appends c.write_reserved.new.self c.write_planes_of_4.new.out (take (c.args.budget - c.min-count.result) (rest n)) in
+    let written = subst Written (sym c.if-size-eq4.true) c.write_planes_of_4.ensures.bits in
+    Remains-end (Remains-more (rest c.args.size) [] (Remains-same remains (sym (append-nil (rest c.args.size)))) written) (omega arith)
+
+pub returns-then-size-eq4-clause-count : goal.returns-then-size-eq4-clause-count
+returns-then-size-eq4-clause-count g c =
+    let k = c.zero_planes-zeros.result in
+    let zeros = c.zero_planes-zeros.ensures in
+    let count : c.min-count.result ≡ min c.args.budget k = omega (arith, c.min-count.ensures, c.from.ensures) in
+    let remains = zeros_written c.args.out.now g.P.Plane.words _ c.args.budget c.args.prec c.args.size k c.min-count.result c.args.planes.now g.met.P.Plane.long c.requires.words c.requires.planes c.requires.fits
+    zeros.some zeros.within zeros.zeros count c.write_reserved.ensures.bits in
+    let rest = λ (n : ℕ). code_from 0 (drop k (take c.args.prec (planes_held n (map g.P.Plane.words c.args.planes.now)))) in
+    let same = ap (λ n. length (rest n)) c.if-size-eq4.true in
+    omega (arith, remains.spent, remains.within, same, c.write_planes_of_4.ensures.left)
 
 pub write_plane-left-requires-clause-in_plane : goal.write_plane-left-requires-clause-in_plane
 write_plane-left-requires-clause-in_plane g c = c.loop-i.invariant.above
@@ -85,9 +132,6 @@ none_left g c = elim c.loop-i-test.branch [
       let none = ap (λ (ps : List (List Bool)). length (code_from c.loop-i.above ps)) (drop_all c.loop-i.i top (omega (arith, length-top_held c.args.prec c.args.size planes (omega (arith, c.requires.planes)), w.loop-i-test.false))) in
       omega (arith, none)
 ]
-
-pub overflow_sub-result : goal.overflow_sub-result
-overflow_sub-result g c = c.loop-i.invariant.remains.within
 
 pub returns-clause-bits : goal.returns-clause-bits
 returns-clause-bits g c = Remains-end c.loop-i.invariant.remains (none_left g c)

@@ -1,24 +1,16 @@
 use Rattle.std.proofs.Common.{◌≡◌, ◌-◌, length, map, take, drop, sym, ap, ◌∙◌, arith}
-use Rattle.std.proofs.lemmas.List.{length-map}
 use Rattle.zf_spec.specs.Numbers.{field}
-use Rattle.zf_spec.specs.Planes.{code, code_from}
+use Rattle.zf_spec.specs.Planes.{code_from}
 use Rattle.zf_spec.specs.HeldPlanes.{planes_held}
 use Rattle.zf_spec.proofs.Fields.{length-field}
 use Rattle.zf_bits.proofs.Appending.{Appends-same}
 use Rattle.zf_planes.proofs.Budgets.{Remains-start, Remains-same, Remains-fits, Remains-more}
 use Rattle.zf_planes.proofs.Gathering.{take_field}
-use Rattle.zf_planes.proofs.Lengths.{length-code_words-le}
-use Rattle.zf_planes.proofs.Unpacking.{each_long}
 use Rattle.zf_planes.proofs.four.write_planes_of_4.Goals as goal
 
 pub loop-i-init : goal.loop-i-init
 loop-i-init g c =
-    let words = g.P.Plane.words in
-    let planes = c.args.planes.now in
-    let all = map words planes in
-    let count = length-map planes words in
-    let most = length-code_words-le c.args.prec 4 all (omega (arith, count, c.requires.planes)) (λ i below. let has = each_long words _ g.met.P.Plane.long planes i (omega (arith, count)) in omega (arith, has, c.requires.words)) in
-    record { remains = Remains-start c.args.out.now c.args.budget (code (take c.args.prec (planes_held 4 all))) (omega (arith, c.requires.fits, most)); above = omega arith }
+    record { remains = Remains-start c.args.out.now c.args.left (code_from 0 (drop c.args.from (take c.args.prec (planes_held 4 (map g.P.Plane.words c.args.planes.now))))) c.requires.fits; above = omega arith }
 
 pub write_reserved-requires-clause-fits : goal.write_reserved-requires-clause-fits
 write_reserved-requires-clause-fits g c =
