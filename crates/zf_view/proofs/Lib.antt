@@ -1,7 +1,9 @@
--- Lemmas on windows.
---     Axes     numbers along four axes, and along the used ones
---     Parts    windows made of their parts
---     Places   the positions that a window maps to, and its slices
+-- Lemmas on windows, and on the blocks of a shape.
+--     Axes         numbers along four axes, and along the used ones
+--     Parts        windows made of their parts
+--     Places       the positions that a window maps to, and its slices
+--     BlockItems   the list of the blocks that an iterator has left
 pub mod Axes
 pub mod Parts
 pub mod Places
+pub mod BlockItems

@@ -8,16 +8,20 @@ ghost use Rattle.zf_cached.specs.Windows.{LiesIn, stepped, mapped, whole, sliced
 ghost use Rattle.zf_view.specs.WindowFields.{window_of, AreUnused, view_fault};
 
 use std::marker::Model;
+use thiserror::Error;
 use zf_base::{Pos, Shape};
 
 /// Why numbers are no window of an array.
-#[derive(Clone, Copy, Debug, PartialEq, Eq)]
+#[derive(Clone, Copy, Debug, PartialEq, Eq, Error)]
 pub enum ViewFault {
     /// A size is zero.
+    #[error("a size is zero")]
     Zero,
     /// A step is zero.
+    #[error("a step is zero")]
     Step,
     /// The last position of the window lies outside of the array.
+    #[error("the last position lies outside of the array")]
     Outside,
 }
 
