@@ -42,21 +42,21 @@ module _ {X : Type 0} (value : X → ℤ) (s : Stored) (c : Kept X) (count : len
       let codes : map (code_at s) (upto (blocks s.header.shape)) ≡ s.codes = map-get_or-upto s.codes (blocks s.header.shape) (replicate (rate_of s) false) count in
       λ i. record { header = s.header; codes = codes i }
 
-  none_past : (l : ℕ) → length c.tags ≤ l → None ≡ block_in (tag_at c.tags l)
+  pub none_past : (l : ℕ) → length c.tags ≤ l → None ≡ block_in (tag_at c.tags l)
   none_past l h = sym (ap block_in (get_or_past c.tags l 0 h))
 
   -- a block in a line is one of the array's
-  in_array : (l b : ℕ) → block_in (tag_at c.tags l) ≡ Some b → b < blocks s.header.shape
+  pub in_array : (l b : ℕ) → block_in (tag_at c.tags l) ≡ Some b → b < blocks s.header.shape
   in_array l b is = subst (λ n. b < n) (blocks_is s) (fits.own l b is).1
 
-  clean_past : (b : ℕ) → blocks s.header.shape ≤ b → false ≡ is_dirty c b
+  pub clean_past : (b : ℕ) → blocks s.header.shape ≤ b → false ≡ is_dirty c b
   clean_past b h = by (cases_Bool (is_dirty c b))
     where
       by : (is_dirty c b ≡ true) ⊎ (is_dirty c b ≡ false) → false ≡ is_dirty c b
       by (inl e) = absurd (let below : b < blocks s.header.shape = in_array (line_of c b) b (ap block_in (eqb-true (tag_at c.tags (line_of c b)) (dirty_tag b) e) ∙ names-dirty b) in omega arith)
       by (inr e) = sym e
 
-  zeros_past : (b : ℕ) → blocks s.header.shape ≤ b → zeros (format_of s) ≡ values_of value c (format_of s) (code_at s) b
+  pub zeros_past : (b : ℕ) → blocks s.header.shape ≤ b → zeros (format_of s) ≡ values_of value c (format_of s) (code_at s) b
   unfolding values_of
   zeros_past b h =
       let out : block_in (tag_at c.tags (line_of c b)) ≢ Some b = λ e. let below : b < blocks s.header.shape = in_array (line_of c b) b e in omega (arith, h, below) in
@@ -80,11 +80,14 @@ module _ {X : Type 0} (value : X → ℤ) (s : Stored) (c : Kept X) (count : len
       held : (l : ℕ) → (l < length c.tags) ⊎ (length c.tags ≤ l) → get_or (map (λ k. block_in (tag_at c.tags k)) (upto (length c.tags))) l None ≡ block_in (tag_at c.tags l)
       held l (inl h) = get_or-map-upto (λ k. block_in (tag_at c.tags k)) (length c.tags) l None h
       held l (inr h) = get_or_past (map (λ k. block_in (tag_at c.tags k)) (upto (length c.tags))) l None (omega (arith, length-map-upto (λ k. block_in (tag_at c.tags k)) (length c.tags))) ∙ none_past l h
+
       dirty : (b : ℕ) → (b < blocks s.header.shape) ⊎ (blocks s.header.shape ≤ b) → get_or (map (is_dirty c) (upto (blocks s.header.shape))) b false ≡ is_dirty c b
       dirty b (inl h) = get_or-map-upto (is_dirty c) (blocks s.header.shape) b false h
       dirty b (inr h) = get_or_past (map (is_dirty c) (upto (blocks s.header.shape))) b false (omega (arith, length-map-upto (is_dirty c) (blocks s.header.shape))) ∙ clean_past b h
+
       vals : ℕ → List ℤ
       vals = values_of value c (format_of s) (code_at s)
+
       values : (b : ℕ) → (b < blocks s.header.shape) ⊎ (blocks s.header.shape ≤ b) → get_or (map vals (upto (blocks s.header.shape))) b (zeros (format (held_by value s c))) ≡ vals b
       values b (inl h) = get_or-map-upto vals (blocks s.header.shape) b (zeros (format (held_by value s c))) h
       values b (inr h) =

@@ -53,6 +53,15 @@ module _ {X : Type 0} (value : X → ℤ) (w : Width) (d : ℕ) (s : Stored) (c 
         ∙ ap (λ (f : Format (List Bool)). F f (state_of value c (format_of s) (code_at s))) (sym (format_now value w d s c room joined now is))
         ∙ ap (F (format now)) (sym (state_now value w d s c room joined now is))
 
+    -- and the array itself is known by its state
+    pub held_step : (F : Format (List Bool) → State (List Bool) → State (List Bool)) → state_of value e (format_of t) (code_at t) ≡ F (format_of s) (state_of value c (format_of s) (code_at s))
+        → held_by value t e ≡ array_of now.header (F (format now) (state now))
+    held_step F given =
+        ap (array_of t.header) (given
+        ∙ ap (λ (f : Format (List Bool)). F f (state_of value c (format_of s) (code_at s))) (sym (format_now value w d s c room joined now is))
+        ∙ ap (F (format now)) (sym (state_now value w d s c room joined now is)))
+        ∙ ap (λ (h : Header). array_of h (F (format now) (state now))) (header_kept value w d s c room joined t e frame ∙ sym (header_now value w d s c room joined now is))
+
     pub header_step : (held_by value t e).header ≡ now.header
     unfolding array_of
     header_step = header_kept value w d s c room joined t e frame ∙ sym (header_now value w d s c room joined now is)
@@ -89,6 +98,7 @@ module _ {X Code : Type 0} (value : X → ℤ) (f : Format Code) (c : Kept X) (k
     where
       zf_line : Kept X → ℕ → List X
       zf_line d a = get_or d.lines (line_of d a) []
+
       from : (v : Bool → List ℤ) → existing_of f b (v true) ≡ v true → existing_of f b (v false) ≡ v false → (t : Bool) → existing_of f b (v t) ≡ v t
       from v here away true = here
       from v here away false = away
@@ -162,6 +172,7 @@ module _ {X : Type 0} (value : X → ℤ) where
     where
       clean : (n b : ℕ) → (tag_at (replicate n 0) (b % n) == dirty_tag b) ≡ false
       clean n b = ap (λ t. t == dirty_tag b) (no_tag n (b % n)) ∙ ne_eqb 0 (dirty_tag b) (λ e. omega (arith, e))
+
       zero_code : (ns : List ℕ) (budget b : ℕ) → (b < blocks ns) ⊎ (blocks ns ≤ b) → get_or (replicate (blocks ns) (replicate budget false)) b (replicate budget false) ≡ replicate budget false
       zero_code ns budget b (inl h) = get_or-replicate (blocks ns) b (replicate budget false) (replicate budget false) h
       zero_code ns budget b (inr h) = get_or_past (replicate (blocks ns) (replicate budget false)) b (replicate budget false) (omega (arith, length-replicate (blocks ns) (replicate budget false)))

@@ -1,10 +1,12 @@
 //! The array.
 
-ghost use Rattle.std.specs.Prelude.{◌≡◌, ◌+◌, ◌<◌, ◌≤◌, ◌^◌, length, map, pos, slice_index_or, slice_set, replicate, false, IfOk, IfErr, OnOk, OnErr, ◌+ℤ◌};
+ghost use Rattle.std.specs.Prelude.{◌≡◌, ℤ, List, ◌+◌, ◌<◌, ◌≤◌, ◌^◌, length, map, pos, slice_index_or, slice_set, replicate, true, false, IfOk, IfErr, OnOk, OnErr, ◌+ℤ◌};
 ghost use Rattle.std.specs.List.{flat_map};
 ghost use Rattle.zf_spec.specs.Grid.{blocks};
 ghost use Rattle.zf_spec.specs.Numbers.{wrap, word_bits};
 ghost use Rattle.zf_spec.specs.Stream.{with_fill};
+ghost use Rattle.std.specs.Borrow.{sem};
+ghost use Rattle.zf_base.specs.Formats.{existing_of};
 ghost use Rattle.zf_base.specs.Positions.{IsPosition};
 ghost use Rattle.zf_base.specs.Widths.{width_of};
 ghost use Rattle.zf_header.specs.HeaderBits.{IsRate, block_bits};
@@ -15,11 +17,11 @@ ghost use Rattle.zf_stream.specs.Parsing.{parse};
 ghost use Rattle.zf_stream.specs.ReadStreams.{IsFault};
 ghost use Rattle.zf_store.specs.Stored.{file_of, zeros, code_at};
 ghost use Rattle.zf_store.specs.Files.{HasHeader, IsOpened, stream_fault};
-ghost use Rattle.zf_array.specs.Standing.{stored, format, state, shape, block_at, place_at};
+ghost use Rattle.zf_array.specs.Standing.{stored, format, state, array_of, shape, block_at, place_at};
 
 use std::alloc::{AllocError, Global};
 use std::marker::Model;
-use zf_base::{Lane, Pos, Shape};
+use zf_base::{Lane, Pos, Shape, block_len};
 use zf_cache::{Cache, raised};
 use zf_header::{Header, Mode, rate_bytes};
 use zf_script::Stats;
@@ -52,6 +54,8 @@ impl<T: Lane, const D: usize> Model for Array<T, D> {
 }
 
 impl<T: Lane, const D: usize> Array<T, D> {
+    ghost use Rattle.zf_array.specs.Loans.{EndsAs, EndsWithPart, EndsWithBlock, spliced, with_part, with_block};
+
     /// An array of zeros. A block has `bits` bits, 1 to 32768; the number of lines is raised to a power of two.
     /// `AllocError`: there was no memory.
     pub fn new(
@@ -137,32 +141,60 @@ impl<T: Lane, const D: usize> Array<T, D> {
         ensures header { self.new.header ≡ self.old.header }
     {
         let (b, place) = self.store.header().shape.place(p);
-        self.cache.touch_mut(&mut self.store, b);
-        let value = &mut self.cache.part_mut(b, place, 1)[0];
-        *value = value.add(v);
+        self.touch_mut(b);
+        let part = self.part_mut(b, place, 1);
+        part[0] = part[0].add(v);
     }
 
     /// Touches block `b`; its `4^D` values, x fastest.
-    pub fn block(&mut self, b: u64) -> &[T] {
-        self.cache.block(&mut self.store, b)
+    pub fn block(&mut self, b: u64) -> &[T]
+        requires { b < blocks (shape self.old) }
+        ensures* touched { sem 𝓛 (EndsAs T.row D.row (record { width = T.width; WIDTH = T.WIDTH; TY = T.TY; value = T.value; in_range = T.in_range }) (record { eq = T.eq }) self.entry
+            (array_of self.entry.now.header (touch (format self.entry.now) (state self.entry.now) b))) }
+        ensures value { existing_of (format self.old) b (map T.value result.now) ≡ (touch (format self.old) (state self.old) b).values b }
+        ensures size { length result.now ≡ 4 ^ D }
+        ensures state { state (array_of self.old.header (touch (format self.old) (state self.old) b)) ≡ touch (format self.old) (state self.old) b }
+    {
+        self.cache.touch(&mut self.store, b);
+        self.cache.line(b)
     }
 
     /// Touches block `b` for writing; its `4^D` values, x fastest. What is written to them is the block's value afterwards.
-    pub fn block_mut(&mut self, b: u64) -> &mut [T] {
-        self.cache.block_mut(&mut self.store, b)
+    pub fn block_mut(&mut self, b: u64) -> &mut [T]
+        requires { b < blocks (shape self.old) }
+        ensures* writes_back { sem 𝓛 (EndsWithBlock T.row D.row (record { width = T.width; WIDTH = T.WIDTH; TY = T.TY; value = T.value; in_range = T.in_range }) (record { eq = T.eq }) self.entry b result) }
+        ensures value { existing_of (format self.old) b (map T.value result.now) ≡ (touch_for_writing (format self.old) (state self.old) b).values b }
+        ensures size { length result.now ≡ 4 ^ D }
+        ensures state { (vs : List ℤ) → state (with_block self.old b vs)
+            ≡ with_values (touch_for_writing (format self.old) (state self.old) b) b (existing_of (format self.old) b vs) }
+        ensures header { (vs : List ℤ) → (with_block self.old b vs).header ≡ self.old.header }
+    {
+        let len = block_len(self.store.header().shape.dims());
+        self.touch_mut(b);
+        self.part_mut(b, 0, len)
     }
 
     /// Touches block `b` for writing, so that `part_mut` can lend parts of it.
     pub fn touch_mut(&mut self, b: u64)
         requires { b < blocks (shape self.old) }
         ensures state { state self.new ≡ touch_for_writing (format self.old) (state self.old) b }
+        ensures dirty { (state self.new).dirty b ≡ true }
         ensures header { self.new.header ≡ self.old.header }
     {
         self.cache.touch_mut(&mut self.store, b);
     }
 
     /// The `n` values of block `b` from its place `a` on, for writing. The block is in its line and dirty.
-    pub fn part_mut(&mut self, b: u64, a: usize, n: usize) -> &mut [T] {
+    pub fn part_mut(&mut self, b: u64, a: usize, n: usize) -> &mut [T]
+        requires dirty { (state self.old).dirty b ≡ true }
+        requires within { a + n ≤ 4 ^ D }
+        ensures* writes_back { sem 𝓛 (EndsWithPart T.row D.row (record { width = T.width; WIDTH = T.WIDTH; TY = T.TY; value = T.value; in_range = T.in_range }) (record { eq = T.eq }) self.entry b a n result) }
+        ensures value { existing_of (format self.old) b (spliced ((state self.old).values b) a n (map T.value result.now)) ≡ (state self.old).values b }
+        ensures size { length result.now ≡ n }
+        ensures state { (vs : List ℤ) → state (with_part self.old b a n vs)
+            ≡ with_values (state self.old) b (existing_of (format self.old) b (spliced ((state self.old).values b) a n vs)) }
+        ensures header { (vs : List ℤ) → (with_part self.old b a n vs).header ≡ self.old.header }
+    {
         self.cache.part_mut(b, a, n)
     }
 
@@ -217,7 +249,10 @@ impl<T: Lane, const D: usize> Array<T, D> {
     }
 
     /// The file of the codes, as last written back.
-    pub fn save_bytes(&mut self) -> &[u8] {
+    pub fn save_bytes(&mut self) -> &[u8]
+        ensures* unchanged { sem 𝓛 (EndsAs T.row D.row (record { width = T.width; WIDTH = T.WIDTH; TY = T.TY; value = T.value; in_range = T.in_range }) (record { eq = T.eq }) self.entry self.entry.now) }
+        ensures value { result.now ≡ file_of (stored self.old) }
+    {
         self.store.write_file(&mut self.buffer);
         &self.buffer
     }
@@ -252,5 +287,46 @@ impl<T: Lane, const D: usize> Array<T, D> {
         ensures { counts_of result ≡ self.now.counts }
     {
         self.cache.stats()
+    }
+}
+
+#[cfg(test)]
+mod tests {
+    use super::*;
+    use std::test::Fail;
+
+    // No copy of the values stands beside words and lines: after each block was written back once, the buffer is as long as the file.
+    // The cache is told no number of blocks, and the store has a test of its own.
+    #[test]
+    fn array_fields(rt: HostRuntime) -> Result<(), Fail> {
+        let shape = Shape::new(1, 64, 1, 1, 1).ok().ok_or("a shape")?;
+        assert_eq!(rt; shape.dims(), 1);
+        let mut array = Array::<i32, 1>::new(rt.alloc(), shape, 64, 1)?;
+        for x in 0..16 {
+            let p = Pos {
+                x: 4 * x,
+                y: 0,
+                z: 0,
+                w: 0,
+            };
+            assert!(rt; array.shape().contains(p));
+            array.set(p, 1);
+        }
+        array.flush();
+        assert_eq!(rt; array.stats().writes, 16);
+        let Array {
+            alloc,
+            store,
+            cache,
+            buffer,
+        } = array;
+        let _alloc: Global = alloc;
+        let store: Store<i32, 1> = store;
+        let cache: Cache<i32, 1> = cache;
+        let buffer: Vec<u8> = buffer;
+        assert_eq!(rt; store.header().shape.blocks(), 16);
+        assert_eq!(rt; cache.lines(), 1);
+        assert!(rt; buffer.len() <= 144);
+        Ok(())
     }
 }

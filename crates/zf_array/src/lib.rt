@@ -2,5 +2,7 @@
 #![tactic(auto)]
 
 mod array;
+#[cfg(test)]
+mod tests;
 
 pub use array::Array;

@@ -10,8 +10,9 @@ use Rattle.zf_cache.specs.Standing.{state_of, values_of, Fits}
 use Rattle.zf_header.specs.declared.header.Header.{Header}
 use Rattle.zf_store.specs.Stored.{Stored, code_at, format_of}
 use Rattle.zf_store.proofs.Kept.{blocks_is}
-use Rattle.std.proofs.lemmas.Bool.{OnTrue_at}
 use Rattle.zf_array.specs.Standing.{Held, stored, format, state, block_at, place_at}
+use Rattle.std.proofs.lemmas.Bool.{OnTrue_at}
+use Rattle.zf_array.specs.Parts.{held_by}
 use Rattle.zf_array.proofs.Standing.{has_blocks, stored_now, state_now, header_now, joined_after, state_after}
 use Rattle.zf_array.proofs.Steps.{step, header_step, position_is, block_is, place_is, block_below, place_below, place_exists, whole_values, puts_is, opens, resizes}
 use Rattle.zf_array.proofs.array.Array.get.Goals as goal
@@ -40,13 +41,19 @@ returns-clause-state g c =
     ∙ ap (touch (format c.args.self.now) (state c.args.self.now)) (block_is g.T.Lane.value g.T.Lane.width g.row.D s.store s.cache (vec_len s.buffer) c.self.invariant c.args.self.now c.self.view_is c.args.p c.header.result c.header.ensures.value c.place-b.result.0 c.place-b.ensures.block)
 
 pub returns-clause-value : goal.returns-clause-value
+unfolding state_of
 returns-clause-value g c =
     let s = c.self.inside in
     let t = c.get.new.back in
     let e = c.get.new.self in
+    let b = c.place-b.result.0 in
+    let k = c.place-b.result.1 in
+    let a = held_by g.T.Lane.value t e in
     let after = state_after g.T.Lane.value g.T.Lane.width g.row.D s.store s.cache (vec_len s.buffer) c.self.invariant c.get.new.back c.get.new.self c.get.ensures.kept c.get.ensures.fits in
     OnTrue_at (place_exists g.T.Lane.value g.T.Lane.width g.row.D s.store s.cache (vec_len s.buffer) c.self.invariant c.args.self.now c.self.view_is c.args.p c.header.result c.header.ensures.value c.place-b.result.0 c.place-b.result.1 c.place-b.ensures.at) c.get.ensures.value
-    ∙ ap (λ (u : State (List Bool)). get_or (u.values c.place-b.result.0) c.place-b.result.1 (pos 0)) (sym after ∙ ?)
+    ∙ ap (λ (u : State (List Bool)). get_or (u.values b) k (pos 0)) (sym after)
+    ∙ ap (λ m. get_or ((state a).values m) k (pos 0)) (block_is g.T.Lane.value g.T.Lane.width g.row.D s.store s.cache (vec_len s.buffer) c.self.invariant c.args.self.now c.self.view_is c.args.p c.header.result c.header.ensures.value c.place-b.result.0 c.place-b.ensures.block)
+    ∙ ap (λ m. get_or ((state a).values (block_at c.args.self.now c.args.p)) m (pos 0)) (place_is g.T.Lane.value g.T.Lane.width g.row.D s.store s.cache (vec_len s.buffer) c.self.invariant c.args.self.now c.self.view_is c.args.p c.header.result c.header.ensures.value c.place-b.result.1 c.place-b.ensures.place)
 
 pub returns-clause-header : goal.returns-clause-header
 returns-clause-header g c =

@@ -11,6 +11,7 @@ use Rattle.zf_header.specs.declared.header.Header.{Header}
 use Rattle.zf_store.specs.Stored.{Stored, code_at, format_of}
 use Rattle.zf_store.proofs.Kept.{blocks_is}
 use Rattle.zf_array.specs.Standing.{Held, stored, format, state, block_at, place_at}
+use Rattle.zf_cached.proofs.Caching.{touch_for_writing-dirty}
 use Rattle.zf_array.proofs.Standing.{has_blocks, stored_now, state_now, header_now, joined_after, state_after}
 use Rattle.zf_array.proofs.Steps.{step, header_step, position_is, block_is, place_is, block_below, place_below, place_exists, whole_values, puts_is, opens, resizes}
 use Rattle.zf_array.proofs.array.Array.touch_mut.Goals as goal
@@ -35,3 +36,9 @@ pub returns-clause-header : goal.returns-clause-header
 returns-clause-header g c =
     let s = c.self.inside in
     header_step g.T.Lane.value g.T.Lane.width g.row.D s.store s.cache (vec_len s.buffer) c.self.invariant c.args.self.now c.self.view_is c.touch_mut.new.back c.touch_mut.new.self c.touch_mut.ensures.kept c.touch_mut.ensures.fits
+
+pub returns-clause-dirty : goal.returns-clause-dirty
+returns-clause-dirty g c =
+    let s = c.self.inside in
+    ap (λ (u : State (List Bool)). u.dirty c.args.b) (step g.T.Lane.value g.T.Lane.width g.row.D s.store s.cache (vec_len s.buffer) c.self.invariant c.args.self.now c.self.view_is c.touch_mut.new.back c.touch_mut.new.self c.touch_mut.ensures.kept c.touch_mut.ensures.fits (λ f u. touch_for_writing f u c.args.b) c.touch_mut.ensures.state)
+    ∙ touch_for_writing-dirty (format c.args.self.now) (state c.args.self.now) c.args.b
