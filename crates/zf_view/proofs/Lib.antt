@@ -2,8 +2,10 @@
 --     Axes         numbers along four axes, and along the used ones
 --     Parts        windows made of their parts
 --     Places       the positions that a window maps to, and its slices
+--     Positions    the position of the array that a position of a window is
 --     BlockItems   the list of the blocks that an iterator has left
 pub mod Axes
 pub mod Parts
 pub mod Places
+pub mod Positions
 pub mod BlockItems

@@ -4,7 +4,9 @@
 mod blocks;
 #[cfg(test)]
 mod tests;
+mod view;
 mod window;
 
 pub use blocks::BlockIter;
+pub use view::{ElemMut, View};
 pub use window::{ViewFault, Window};
