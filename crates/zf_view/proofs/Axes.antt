@@ -111,7 +111,7 @@ module _ (d : ℕ) (origin size step : Pos) (dims : d ≤ 4) (unused : AreUnused
 
 -- a position of a box, by its coordinates along four axes
 module _ (d : ℕ) (size p : Pos) (dims : d ≤ 4) (sizes : size ≡ with_unused 1 (used_axes d size)) where
-  sizes_four : axes size ≡ used_axes d size ++ replicate (4 - d) 1
+  pub sizes_four : axes size ≡ used_axes d size ++ replicate (4 - d) 1
   sizes_four = ap axes sizes ∙ axes-with_unused 1 (used_axes d size) (omega (arith, length-used_axes d size dims)) ∙ ap (λ k. used_axes d size ++ replicate (4 - k) 1) (length-used_axes d size dims)
 
   -- along unused axes it is 0

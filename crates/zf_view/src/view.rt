@@ -8,6 +8,7 @@ ghost use Rattle.zf_cached.specs.Windows.{LiesIn};
 ghost use Rattle.zf_array.specs.Standing.{state, shape};
 ghost use Rattle.zf_view.specs.Touches.{position_at, touched_at, found_at, changed_at};
 
+use crate::elems::ElemIter;
 use crate::window::Window;
 use zf_array::Array;
 use zf_base::{Lane, Pos};
@@ -27,6 +28,7 @@ pub struct View<'a, T: Lane, const D: usize> {
 }
 
 impl<'a, T: Lane, const D: usize> View<'a, T, D> {
+    ghost use Rattle.zf_view.specs.Elems.{IsAtElem};
     ghost use Rattle.zf_view.specs.ViewLoans.{EndsWithArray};
 
     /// The array seen through a window that lies in it.
@@ -64,6 +66,27 @@ impl<'a, T: Lane, const D: usize> View<'a, T, D> {
     {
         let array = &mut *self.array;
         array.set(self.window.map(p), v);
+    }
+
+    /// The values at the positions of the window in raster order, x fastest; each item is one touch, and the value that this touch finds.
+    pub fn elems(&mut self) -> ElemIter<'_, T, D>
+        requires { LiesIn (shape self.old.array.now) self.old.window }
+        ensures* writes_back { sem 𝓛 (EndsWithArray T.row D.row (record { width = T.width; WIDTH = T.WIDTH; TY = T.TY; value = T.value; in_range = T.in_range }) (record { eq = T.eq }) self.entry result.array) }
+        ensures array { result.array.now ≡ self.old.array.now }
+        ensures window { result.window ≡ self.old.window }
+        ensures first { result.next ≡ 0 }
+        ensures can_next { IsAtElem result }
+    {
+        // a window has no more positions than its array has values, so that they can be counted
+        let _values = self.array.shape().values();
+        let window = self.window;
+        let end = window.count();
+        ElemIter {
+            array: &mut *self.array,
+            window,
+            next: 0,
+            end,
+        }
     }
 
     /// The value at position `p` of the window, to be read and written. No touch is made yet.

@@ -1,11 +1,13 @@
 //! Windows: parts of an array that are seen as arrays of their own.
 
-ghost use Rattle.std.specs.Prelude.{◌≡◌, ◌↔◌, ◌+◌, ◌-◌, ◌*◌, ◌<◌, ◌≤◌, true, nat_lt, map, length, slice_index_or, slice_set, IsTrue, IsSome, IfSome, IfOk};
+ghost use Rattle.std.specs.Prelude.{◌≡◌, ◌↔◌, ◌+◌, ◌-◌, ◌*◌, ◌<◌, ◌≤◌, ◌^◌, true, nat_lt, map, length, slice_index_or, slice_set, IsTrue, IsSome, IfSome, IfOk};
 ghost use Rattle.std.specs.Result.{result_err};
-ghost use Rattle.zf_spec.specs.Grid.{is_inside};
+ghost use Rattle.std.specs.List.{AllByRecursion};
+ghost use Rattle.zf_spec.specs.Grid.{is_inside, product, coordinates};
 ghost use Rattle.zf_base.specs.Positions.{axes, used_axes, with_unused, IsPosition};
 ghost use Rattle.zf_cached.specs.Windows.{LiesIn, stepped, mapped, whole, sliced, has_place, none_zero};
 ghost use Rattle.zf_view.specs.WindowFields.{window_of, AreUnused, view_fault};
+ghost use Rattle.zf_view.specs.Touches.{raster_at};
 
 use std::marker::Model;
 use thiserror::Error;
@@ -130,6 +132,23 @@ impl Window {
         }
     }
 
+    /// Position `number` of the window in raster order, x fastest, as a position of the array.
+    pub(crate) fn raster_at(&self, number: u64) -> Pos
+        requires { number < product self.now.size }
+        ensures { result ≡ raster_at self.now number }
+    {
+        self.map(coordinates(&self.size, number))
+    }
+
+    /// The number of positions.
+    pub(crate) fn count(&self) -> u64
+        requires { product self.now.size < 2 ^ 64 }
+        ensures value { result ≡ product self.now.size }
+        ensures axes { length self.now.size ≤ 4 }
+    {
+        product(&self.size)
+    }
+
     /// The window with one place of an axis alone, counted from 0 for x; `None` where there is no such axis or place.
     pub fn slice(&self, axis: u64, at: u64) -> Option<Window>
         ensures some { IfSome result (λ w. w ≡ sliced self.now axis at) }
@@ -153,6 +172,31 @@ fn is_inside(size: &Pos, at: &Pos) -> bool
     ensures { result ≡ is_inside (axes size.now) (axes at.now) }
 {
     at.x < size.x && at.y < size.y && at.z < size.z && at.w < size.w
+}
+
+// The position with this number of a box of these sizes, x fastest.
+fn coordinates(size: &Pos, number: u64) -> Pos
+    requires { AllByRecursion (λ n. 1 ≤ n) (axes size.now) }
+    ensures { axes result ≡ coordinates (axes size.now) number }
+{
+    let rows = number / size.x;
+    let slices = rows / size.y;
+    let volumes = slices / size.z;
+    Pos {
+        x: number % size.x,
+        y: rows % size.y,
+        z: slices % size.z,
+        w: volumes % size.w,
+    }
+}
+
+// The number of positions of a box of these sizes.
+fn product(size: &Pos) -> u64
+    requires not_zero { AllByRecursion (λ n. 1 ≤ n) (axes size.now) }
+    requires fits { product (axes size.now) < 2 ^ 64 }
+    ensures { result ≡ product (axes size.now) }
+{
+    size.x * size.y * size.z * size.w
 }
 
 // The number along an axis.
