@@ -1,6 +1,6 @@
 //! The values of a window in raster order.
 
-ghost use Rattle.std.specs.Prelude.{◌≡◌, ◌+◌, ◌-◌, ◌<◌, ◌≤◌, ◌^◌, Some, IfSome, true};
+ghost use Rattle.std.specs.Prelude.{◌≡◌, ◌-◌, Some, IfSome};
 ghost use Rattle.std.specs.Iterator.{UpTo};
 ghost use Rattle.std.specs.Iterator.SizeHint.{IsWithinCount};
 
@@ -40,4 +40,21 @@ impl<'a, T: Lane, const D: usize> Iterator for ElemIter<'a, T, D> {
         let array = &mut *self.array;
         Some(array.get(position))
     }
+
+    fn size_hint(&self) -> (usize, Option<usize>)
+        ensures lower { IsWithinCount result.0 (elems_left self.now) }
+        ensures upper { IfSome result.1 (UpTo (elems_left self.now)) }
+        ensures exact { (result.0 ≡ self.now.end - self.now.next) × (result.1 ≡ Some result.0) }
+    {
+        let left = self.len();
+        (left, Some(left))
+    }
 }
+
+impl<'a, T: Lane, const D: usize> ExactSizeIterator for ElemIter<'a, T, D> {
+    fn len(&self) -> usize {
+        self.end.saturating_sub(self.next) as usize
+    }
+}
+
+impl<'a, T: Lane, const D: usize> FusedIterator for ElemIter<'a, T, D> {}

@@ -11,17 +11,17 @@ count-end-requires g c =
 
 pub returns : goal.returns
 returns g c = (
-      (refl, λ w. refl),
-      record {
-        writes_back = tt;
-        array = refl;
-        window = refl;
-        first = refl;
-        can_next = record {
-          lies = c.requires;
-          four_axes_at_most = c.count-end.ensures.axes;
-          next_at_most = omega arith;
-          end_is = c.count-end.ensures.value;
-        };
-      },
-    )
+  (refl, λ w. refl),
+  record {
+    writes_back = tt;
+    array = refl;
+    window = refl;
+    first = refl;
+    can_next = record {
+      lies = c.requires;
+      four_axes_at_most = c.count-end.ensures.axes;
+      next_at_most = omega arith;
+      end_is = c.count-end.ensures.value;
+    };
+  },
+)
