@@ -1,0 +1,60 @@
+//! The values of a window in raster order.
+
+ghost use Rattle.std.specs.Prelude.{◌≡◌, ◌-◌, Some, IfSome};
+ghost use Rattle.std.specs.Iterator.{UpTo};
+ghost use Rattle.std.specs.Iterator.SizeHint.{IsWithinCount};
+
+use crate::window::Window;
+use std::iter::FusedIterator;
+use zf_array::Array;
+use zf_base::Lane;
+
+/// The values of a view in raster order, x fastest: each position of the window once, by one touch an item. Each value is the one that
+/// its own touch finds.
+#[derive(Drop)]
+pub struct ElemIter<'a, T: Lane, const D: usize> {
+    pub(crate) array: &'a mut Array<T, D>,
+    pub(crate) window: Window,
+    // the number of the next position, and how many there are
+    pub(crate) next: u64,
+    pub(crate) end: u64,
+}
+
+impl<'a, T: Lane, const D: usize> Iterator for ElemIter<'a, T, D> {
+    ghost use Rattle.zf_view.specs.Elems.{IsAtElem, GivesElems, elems_left};
+
+    type Item = T;
+
+    ghost can_next = { IsAtElem };
+
+    ghost next_gives = { GivesElems T.value };
+
+    ghost remaining = { elems_left };
+
+    fn next(&mut self) -> Option<T> {
+        if self.next == self.end {
+            return None;
+        }
+        let position = self.window.raster_at(self.next);
+        self.next += 1;
+        let array = &mut *self.array;
+        Some(array.get(position))
+    }
+
+    fn size_hint(&self) -> (usize, Option<usize>)
+        ensures lower { IsWithinCount result.0 (elems_left self.now) }
+        ensures upper { IfSome result.1 (UpTo (elems_left self.now)) }
+        ensures exact { (result.0 ≡ self.now.end - self.now.next) × (result.1 ≡ Some result.0) }
+    {
+        let left = self.len();
+        (left, Some(left))
+    }
+}
+
+impl<'a, T: Lane, const D: usize> ExactSizeIterator for ElemIter<'a, T, D> {
+    fn len(&self) -> usize {
+        self.end.saturating_sub(self.next) as usize
+    }
+}
+
+impl<'a, T: Lane, const D: usize> FusedIterator for ElemIter<'a, T, D> {}

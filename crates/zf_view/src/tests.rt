@@ -1,0 +1,127 @@
+//! Windows and blocks, with values from a program that was written from the definitions alone.
+
+ghost use Rattle.std.specs.Prelude.{◌≡◌, length};
+
+use super::*;
+use std::test::Fail;
+use zf_base::{Extent, Pos, Shape};
+
+fn at(x: u64, y: u64) -> Pos {
+    Pos { x, y, z: 0, w: 0 }
+}
+
+fn sizes(x: u64, y: u64) -> Pos {
+    Pos { x, y, z: 1, w: 1 }
+}
+
+// The window of these origins, sizes and steps along two axes.
+fn window(
+    shape: &Shape,
+    origin: [u64; 2],
+    size: [u64; 2],
+    step: [u64; 2],
+) -> Result<Window, ViewFault>
+    requires { length shape.now ≡ 2 }
+{
+    Window::new(
+        shape,
+        Pos {
+            x: origin[0],
+            y: origin[1],
+            z: 0,
+            w: 0,
+        },
+        Pos {
+            x: size[0],
+            y: size[1],
+            z: 1,
+            w: 1,
+        },
+        Pos {
+            x: step[0],
+            y: step[1],
+            z: 1,
+            w: 1,
+        },
+    )
+}
+
+// Where a position of the window lies in the array; `None` where it is none of the window's.
+fn mapped(window: &Window, x: u64, y: u64) -> Option<Pos> {
+    let p = at(x, y);
+    if !window.contains(p) {
+        return None;
+    }
+    Some(window.map(p))
+}
+
+#[test]
+fn windows_have_their_faults(rt: HostRuntime) {
+    let most = u64::MAX;
+    let cases = [
+        ([1, 1], [2, 2], [2, 2], None),
+        ([0, 0], [4, 4], [1, 1], None),
+        ([3, 3], [1, 1], [most, most], None),
+        ([0, 0], [0, 1], [0, 1], Some(ViewFault::Zero)),
+        ([9, 0], [1, 1], [1, 0], Some(ViewFault::Step)),
+        ([2, 1], [2, 2], [2, 2], Some(ViewFault::Outside)),
+        ([4, 0], [1, 1], [1, 1], Some(ViewFault::Outside)),
+        // 2 + 1 * (2^64 - 1) and 0 + 2 * 2^63 are 1 and 0 where a sum wraps
+        ([2, 0], [2, 1], [most, 1], Some(ViewFault::Outside)),
+        ([0, 0], [1, 3], [1, 1 << 63], Some(ViewFault::Outside)),
+    ];
+    let Ok(shape) = Shape::new(2, 4, 4, 1, 1) else {
+        assert!(rt; false);
+        return;
+    };
+    for (origin, size, step, want) in cases {
+        assert_eq!(rt; window(&shape, origin, size, step).err(), want);
+    }
+}
+
+#[test]
+fn windows_map_and_are_sliced(rt: HostRuntime) {
+    let Ok(shape) = Shape::new(2, 4, 4, 1, 1) else {
+        assert!(rt; false);
+        return;
+    };
+    let whole = Window::whole(&shape);
+    assert_eq!(rt; mapped(&whole, 3, 2), Some(at(3, 2)));
+    assert_eq!(rt; mapped(&whole, 4, 0), None);
+    let Ok(part) = window(&shape, [1, 0], [2, 4], [2, 1]) else {
+        assert!(rt; false);
+        return;
+    };
+    assert_eq!(rt; mapped(&part, 1, 1), Some(at(3, 1)));
+    assert_eq!(rt; mapped(&part, 2, 0), None);
+    assert!(rt; part.slice(2, 0).is_none() && part.slice(0, 2).is_none());
+    let Some(column) = part.slice(0, 1) else {
+        assert!(rt; false);
+        return;
+    };
+    assert_eq!(rt; mapped(&column, 0, 3), Some(at(3, 3)));
+    assert_eq!(rt; mapped(&column, 1, 0), None);
+}
+
+#[test]
+fn blocks_come_in_order(rt: HostRuntime) {
+    let Ok(shape) = Shape::new(2, 5, 6, 1, 1) else {
+        assert!(rt; false);
+        return;
+    };
+    let wanted = [
+        (0, at(0, 0), sizes(4, 4)),
+        (1, at(4, 0), sizes(1, 4)),
+        (2, at(0, 4), sizes(4, 2)),
+        (3, at(4, 4), sizes(1, 2)),
+    ];
+    let mut blocks = BlockIter::new(&shape);
+    for (number, origin, size) in wanted {
+        assert_eq!(rt; blocks.size_hint(), (blocks.len(), Some(blocks.len())));
+        assert_eq!(rt; blocks.next(), Some((number, Extent { origin, size })));
+    }
+    assert_eq!(rt; blocks.size_hint(), (0, Some(0)));
+    assert_eq!(rt; blocks.next(), None);
+    assert_eq!(rt; blocks.next(), None);
+    assert_eq!(rt; BlockIter::new(&shape).count(), 4);
+}

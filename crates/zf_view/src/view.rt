@@ -1,0 +1,153 @@
+//! Views: an array seen through a window.
+
+ghost use Rattle.std.specs.Prelude.{◌≡◌, ◌+ℤ◌};
+ghost use Rattle.std.specs.Borrow.{sem};
+ghost use Rattle.zf_spec.specs.Numbers.{wrap};
+ghost use Rattle.zf_base.specs.Positions.{IsPosition};
+ghost use Rattle.zf_cached.specs.Windows.{LiesIn};
+ghost use Rattle.zf_array.specs.Standing.{state, shape};
+ghost use Rattle.zf_view.specs.Touches.{position_at, touched_at, found_at, changed_at};
+
+use crate::elems::ElemIter;
+use crate::window::Window;
+use zf_array::Array;
+use zf_base::{Lane, Pos};
+
+/// An array of `D` dimensions seen through a window. It borrows the array, and each of its calls is the array's call at the position
+/// that the window maps to; so windows that overlap, and calls on the array itself, see one state.
+///
+/// ```text
+/// let mut view = View::bind(&mut array, window);
+/// view.set(p, 7);
+/// let sum = view.get(p).add(view.get(q));
+/// ```
+#[derive(Drop)]
+pub struct View<'a, T: Lane, const D: usize> {
+    array: &'a mut Array<T, D>,
+    window: Window,
+}
+
+impl<'a, T: Lane, const D: usize> View<'a, T, D> {
+    ghost use Rattle.zf_view.specs.Elems.{IsAtElem};
+    ghost use Rattle.zf_view.specs.ViewLoans.{EndsWithArray};
+
+    /// The array seen through a window that lies in it.
+    pub fn bind(array: &'a mut Array<T, D>, window: Window) -> View<'a, T, D>
+        requires { LiesIn (shape array.old) window }
+        ensures same_array { result.array.ghost_name ≡ array.entry.ghost_name }
+        ensures array { result.array.now ≡ array.old }
+        ensures window { result.window ≡ window }
+    {
+        View { array, window }
+    }
+
+    /// The value at position `p` of the window, by one touch.
+    pub fn get(&mut self, p: Pos) -> T
+        requires lies { LiesIn (shape self.old.array.now) self.old.window }
+        requires position { IsPosition self.old.window.size p }
+        ensures same_array { self.new.array.ghost_name ≡ self.old.array.ghost_name }
+        ensures window { self.new.window ≡ self.old.window }
+        ensures state { state self.new.array.now ≡ touched_at self.old.array.now (position_at self.old.window p) }
+        ensures value { T.value result ≡ found_at self.old.array.now (position_at self.old.window p) }
+        ensures header { self.new.array.now.header ≡ self.old.array.now.header }
+    {
+        let array = &mut *self.array;
+        array.get(self.window.map(p))
+    }
+
+    /// Makes the value at position `p` of the window be `v`, by one touch for writing.
+    pub fn set(&mut self, p: Pos, v: T)
+        requires lies { LiesIn (shape self.old.array.now) self.old.window }
+        requires position { IsPosition self.old.window.size p }
+        ensures same_array { self.new.array.ghost_name ≡ self.old.array.ghost_name }
+        ensures window { self.new.window ≡ self.old.window }
+        ensures state { state self.new.array.now ≡ changed_at self.old.array.now (position_at self.old.window p) (λ old. T.value v) }
+        ensures header { self.new.array.now.header ≡ self.old.array.now.header }
+    {
+        let array = &mut *self.array;
+        array.set(self.window.map(p), v);
+    }
+
+    /// The values at the positions of the window in raster order, x fastest; each item is one touch, and the value that this touch finds.
+    pub fn elems(&mut self) -> ElemIter<'_, T, D>
+        requires { LiesIn (shape self.old.array.now) self.old.window }
+        ensures* writes_back { sem 𝓛 (EndsWithArray T.row D.row (record { width = T.width; WIDTH = T.WIDTH; TY = T.TY; value = T.value; in_range = T.in_range }) (record { eq = T.eq }) self.entry result.array) }
+        ensures array { result.array.now ≡ self.old.array.now }
+        ensures window { result.window ≡ self.old.window }
+        ensures first { result.next ≡ 0 }
+        ensures can_next { IsAtElem result }
+    {
+        // a window has no more positions than its array has values, so that they can be counted
+        let _values = self.array.shape().values();
+        let window = self.window;
+        let end = window.count();
+        ElemIter {
+            array: &mut *self.array,
+            window,
+            next: 0,
+            end,
+        }
+    }
+
+    /// The value at position `p` of the window, to be read and written. No touch is made yet.
+    pub fn elem(&mut self, p: Pos) -> ElemMut<'_, T, D>
+        requires lies { LiesIn (shape self.old.array.now) self.old.window }
+        requires position { IsPosition self.old.window.size p }
+        ensures* writes_back { sem 𝓛 (EndsWithArray T.row D.row (record { width = T.width; WIDTH = T.WIDTH; TY = T.TY; value = T.value; in_range = T.in_range }) (record { eq = T.eq }) self.entry result.array) }
+        ensures array { result.array.now ≡ self.old.array.now }
+        ensures position { result.position ≡ position_at self.old.window p }
+        ensures inside { IsPosition (shape result.array.now) result.position }
+    {
+        let position = self.window.map(p);
+        ElemMut {
+            array: &mut *self.array,
+            position,
+        }
+    }
+}
+
+/// One value of an array, which it borrows. Each call is one touch.
+#[derive(Drop)]
+pub struct ElemMut<'a, T: Lane, const D: usize> {
+    array: &'a mut Array<T, D>,
+    position: Pos,
+}
+
+impl<'a, T: Lane, const D: usize> ElemMut<'a, T, D> {
+    /// The value, by one touch.
+    pub fn get(&mut self) -> T
+        requires { IsPosition (shape self.old.array.now) self.old.position }
+        ensures same_array { self.new.array.ghost_name ≡ self.old.array.ghost_name }
+        ensures position { self.new.position ≡ self.old.position }
+        ensures state { state self.new.array.now ≡ touched_at self.old.array.now self.old.position }
+        ensures value { T.value result ≡ found_at self.old.array.now self.old.position }
+        ensures header { self.new.array.now.header ≡ self.old.array.now.header }
+    {
+        let array = &mut *self.array;
+        array.get(self.position)
+    }
+
+    /// Makes the value be `v`, by one touch for writing.
+    pub fn set(&mut self, v: T)
+        requires { IsPosition (shape self.old.array.now) self.old.position }
+        ensures same_array { self.new.array.ghost_name ≡ self.old.array.ghost_name }
+        ensures position { self.new.position ≡ self.old.position }
+        ensures state { state self.new.array.now ≡ changed_at self.old.array.now self.old.position (λ old. T.value v) }
+        ensures header { self.new.array.now.header ≡ self.old.array.now.header }
+    {
+        let array = &mut *self.array;
+        array.set(self.position, v);
+    }
+
+    /// Adds `v` to the value, by one touch for writing. The sum wraps.
+    pub fn add(&mut self, v: T)
+        requires { IsPosition (shape self.old.array.now) self.old.position }
+        ensures same_array { self.new.array.ghost_name ≡ self.old.array.ghost_name }
+        ensures position { self.new.position ≡ self.old.position }
+        ensures state { state self.new.array.now ≡ changed_at self.old.array.now self.old.position (λ old. wrap T.width (old +ℤ T.value v)) }
+        ensures header { self.new.array.now.header ≡ self.old.array.now.header }
+    {
+        let array = &mut *self.array;
+        array.add(self.position, v);
+    }
+}
