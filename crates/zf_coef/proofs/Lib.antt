@@ -1,10 +1,24 @@
 -- Lemmas about coefficients, for the contracts of this crate and for the crates above.
 --     Mask         a word whose odd digits are flipped by a mask, and the number that its digits stand for
+--     ShiftedBits  bits of words that are shifted, cut and put together
+--     Fronts       lists that are written from the front, place by place
+--     Steps        words whose bits are swapped between pairs of them
+--     Lanes        words that are swapped in lanes of two
+--     Turns        steps that together turn the tiles of words
+--     Putting      words of planes that are written plane by plane
+--     Tiles        tiles of words that become planes, and planes that become tiles of words
 --     Filling      a list that is filled from the front
 --     ByRank       the digits of a block by rank, and blocks that are filled by rank
 --     Transposed   planes that are made of coefficients, and coefficients that are made of planes
 --     Composed     what the calls of this crate make of a block together
 pub mod Mask
+pub mod ShiftedBits
+pub mod Fronts
+pub mod Steps
+pub mod Lanes
+pub mod Turns
+pub mod Putting
+pub mod Tiles
 pub mod Filling
 pub mod ByRank
 pub mod Transposed

@@ -1,7 +1,7 @@
 -- Planes that are made of coefficients, and coefficients that are made of planes.
-use Rattle.std.proofs.Common.{◌≡◌, refl, sym, ap, subst, ◌∙◌, ℕ, ◌+◌, ◌-◌, ◌*◌, ◌/◌, ◌%◌, ◌^◌, ◌<◌, ◌≤◌, ⊎_elim, Bool, false, eqb, List, [], ◌∷◌, ◌++◌, map, reverse, length, get_or, take, drop, replicate, ext_get_or, get_or-take, get_or-drop, length-take, length-drop, arith}
+use Rattle.std.proofs.Common.{◌≡◌, refl, sym, ap, subst, ◌∙◌, ℕ, suc, ◌+◌, ◌-◌, ◌*◌, ◌/◌, ◌%◌, ◌^◌, ◌<◌, ◌≤◌, ⊎_elim, Bool, false, eqb, min, All, List, [], ◌∷◌, ◌++◌, map, reverse, length, get_or, take, drop, replicate, ext_get_or, get_or-take, get_or-drop, length-take, length-drop, mod-lt, arith}
 use Rattle.std.proofs.lemmas.Bool.{cases_lt}
-use Rattle.std.proofs.lemmas.List.{length-map, get_or-map, map-append, reverse-append, length-reverse, get_or-reverse, length-replicate, get_or-replicate, take_more}
+use Rattle.std.proofs.lemmas.List.{get_or_past, get_or_append_left, get_or-append_right, length-map, get_or-map, map-append, reverse-append, length-reverse, get_or-reverse, length-replicate, get_or-replicate, take_more}
 use Rattle.std.proofs.lemmas.Nat.{or_comm, or_shifted, shl_whole}
 use Rattle.std.proofs.lemmas.Nat.Bits.{bit_at-zero}
 use Rattle.std.specs.Int.Bits.{bit_or}
@@ -13,111 +13,21 @@ use Rattle.zf_spec.proofs.Fields.{number-append, number-lt}
 use Rattle.zf_spec.proofs.Counting.{length-map-upto, get_or-map-upto}
 use Rattle.zf_spec.proofs.PlaneDigits.{get_or-plane, length-map-reverse-upto, get_or-map-reverse-upto}
 use Rattle.zf_spec.specs.HeldPlanes.{digits_held, planes_held, IsClearFrom}
+use Rattle.std.specs.Int.{bit_at}
+use borrow.Rule.Slice.PartMut.{put_mid, post_of}
+use Rattle.std.proofs.Math.Nat.{mod-le}
+use Rattle.std.proofs.lemmas.Nat.{pow_pos}
+use Rattle.std.proofs.lemmas.Nat.Bits.{same_from_bits_below}
+use Rattle.std.proofs.lemmas.List.Elements.{All-from_get_or, All-get_or}
+use Rattle.zf_coef.proofs.ShiftedBits.{bit_at-mod_pow, bit_at-mod_above}
+use Rattle.zf_coef.proofs.Tiles.{word_of-past}
 use Rattle.zf_coef.specs.HeldDigits.{digits_in, column}
+use Rattle.zf_coef.specs.Turned.{bit_of}
+use Rattle.zf_coef.specs.Groups.{word_of, HoldsGroup, KeepsOthers, IsOfGroup}
 use Rattle.zf_spec.specs.Planes.{digits_in_planes}
-use Rattle.zf_spec.proofs.Fields.{get_or-field}
+use Rattle.zf_spec.proofs.Fields.{get_or-field, length-field}
 use Rattle.zf_spec.proofs.WordBits.{length-word_bits, get_or-word_bits, words_with_bit, length-words_with_bit, bit_kept, bit_written}
 use Rattle.zf_spec.proofs.HeldPlanes.{get_or-planes_held}
-
--- ---- one plane
-
--- words hold digit k of each of the first r coefficients, and no other bit
-pub record HoldsFront (k : ℕ) (digits words : List ℕ) (r : ℕ) : Type 0 where
-  pub long : length words ≡ 4
-  pub below : (j : ℕ) → j < r → get_or (word_bits words) j false ≡ is_odd (get_or digits j 0 / 2 ^ k)
-  pub above : (j : ℕ) → r ≤ j → j < 256 → get_or (word_bits words) j false ≡ false
-
-pub front_none : (k : ℕ) (digits words : List ℕ) → length words ≡ 4 → ((q : ℕ) → get_or words q 0 ≡ 0) → HoldsFront k digits words 0
-front_none k digits words long none = record {
-  long = long;
-  below = λ j small. absurd (omega arith);
-  above = λ j from small.
-      get_or-word_bits words j (omega arith)
-      ∙ ap (λ v. is_odd (v / 2 ^ (j % 64))) (none (j / 64))
-      ∙ ap (λ b. eqb b 1) (bit_at-zero (j % 64));
-}
-
-pub front_more : (k : ℕ) (digits words : List ℕ) (r : ℕ) → r < 256 → HoldsFront k digits words r
-    → HoldsFront k digits (words_with_bit words r (get_or digits r 0 / 2 ^ k % 2)) (r + 1)
-front_more k digits words r in_words front =
-    let c = get_or digits r 0 / 2 ^ k % 2 in
-    let small : c < 2 = omega arith in
-    record {
-      long = length-words_with_bit words r c ∙ front.long;
-      below = λ j less. ⊎_elim
-          (λ (earlier : j < r). bit_kept words r c j front.long in_words small (omega arith) (λ (same : j ≡ r). absurd (omega arith)) ∙ front.below j earlier)
-          (λ (later : r ≤ j).
-          let same : j ≡ r = omega arith in
-          ap (λ i. get_or (word_bits (words_with_bit words r c)) i false) same
-          ∙ bit_written words r c front.long in_words small (front.above r (omega arith) in_words)
-          ∙ ap (λ i. is_odd (get_or digits i 0 / 2 ^ k)) (sym same))
-          (cases_lt j r);
-      above = λ j more inside. bit_kept words r c j front.long in_words small inside (λ (same : j ≡ r). absurd (omega arith)) ∙ front.above j (omega arith) inside;
-    }
-
--- all coefficients: the words hold plane k
-pub front_digits : (k : ℕ) (digits words : List ℕ) (n : ℕ) → k < n → length digits ≤ 256 → HoldsFront k digits words (length digits)
-    → digits_held (length digits) words ≡ plane k (digits_in n digits)
-unfolding digits_held
-front_digits k digits words n below within front =
-    let size = length digits in
-    let coefficients = digits_in n digits in
-    let each = length-map digits (field n) in
-    let long = length-take size (word_bits words) in
-    let all = length-word_bits words in
-    ext_get_or false (take size (word_bits words)) (plane k coefficients)
-    (omega (arith, front.long, length-map coefficients (λ ds. get_or ds k false)))
-    (λ j h.
-    let small : j < size = omega (arith, front.long) in
-    get_or-take size (word_bits words) j false small
-    ∙ front.below j small
-    ∙ sym (get_or-plane k coefficients j
-    ∙ ap (λ ds. get_or ds k false) (get_or-map (field n) digits j 0 [] small)
-    ∙ get_or-field n (get_or digits j 0) k false below))
-
-pub front_clear : (k : ℕ) (digits words : List ℕ) → length digits ≤ 256 → HoldsFront k digits words (length digits) → IsClearFrom (length digits) words
-unfolding IsClearFrom
-front_clear k digits words within front =
-    let size = length digits in
-    let bits = word_bits words in
-    let rest = length bits - size in
-    let all = length-word_bits words in
-    let long = length-drop size bits in
-    ext_get_or false (drop size bits) (replicate rest false) (long ∙ sym (length-replicate rest false))
-    (λ i h.
-    get_or-drop size bits i false
-    ∙ front.above (size + i) (omega arith) (omega (arith, front.long))
-    ∙ sym (get_or-replicate rest i false false (omega arith)))
-
--- ---- one coefficient
-
--- the word of the first k digits of a column
-pub column_more : (rank : ℕ) (planes : List (List ℕ)) (k word : ℕ) → k < length planes → length planes ≤ 64 → length (get_or planes k []) ≡ 4 → rank < 256
-    → word ≡ number (take k (column rank planes))
-    → bit_or word (get_or (get_or planes k []) (rank / 64) 0 / 2 ^ (rank % 64) % 2 * 2 ^ k % 2 ^ 64) ≡ number (take (k + 1) (column rank planes))
-unfolding column
-column_more rank planes k word below few long in_words before =
-    let bit_at_rank : List ℕ → Bool = λ words. get_or (word_bits words) rank false in
-    let col = map bit_at_rank planes in
-    let p = get_or planes k [] in
-    let n = get_or p (rank / 64) 0 / 2 ^ (rank % 64) in
-    let c = n % 2 in
-    let b = bit_at_rank p in
-    let front = take k col in
-    let all = length-map planes bit_at_rank in
-    let long_front : length front ≡ k = omega (arith, length-take k col) in
-    let digit : digit_value b ≡ c = ap digit_value (get_or-word_bits p rank (omega arith)) ∙ digit_value-is_odd n in
-    let low : word < 2 ^ k = rw before (subst (λ j. number front < 2 ^ j) long_front (number-lt front)) in
-    let shifted : c * 2 ^ k % 2 ^ 64 ≡ c * 2 ^ k = shl_whole c 1 k 64 (omega arith) (omega arith) in
-    let joined : bit_or word (c * 2 ^ k % 2 ^ 64) ≡ c * 2 ^ k + word = ap (bit_or word) shifted ∙ or_comm word (c * 2 ^ k) ∙ or_shifted c k word low in
-    let more : take (k + 1) col ≡ front ++ b ∷ [] = take_more col k false (omega arith) ∙ ap (λ x. front ++ x ∷ []) (get_or-map bit_at_rank planes k [] false below) in
-    let last : 2 ^ length front * number (b ∷ []) ≡ 2 ^ k * c = ap (λ j. 2 ^ j * number (b ∷ [])) long_front ∙ ap (λ j. 2 ^ k * j) (omega arith) in
-    let sum : number (front ++ b ∷ []) ≡ c * 2 ^ k + word = omega (arith, number-append front (b ∷ []), last, before) in
-    joined ∙ sym sum ∙ ap number (sym more)
-
-pub length-column : (rank : ℕ) (planes : List (List ℕ)) → length (column rank planes) ≡ length planes
-unfolding column
-length-column rank planes = length-map planes (λ words. get_or (word_bits words) rank false)
 
 -- ---- all planes
 
@@ -140,6 +50,147 @@ pub planes_all : (size n : ℕ) (coefficients : List (List Bool)) (planes : List
 unfolding planes_held
 planes_all size n coefficients planes same =
     map-reverse (digits_held size) planes ∙ ap reverse same ∙ sym (map-reverse (λ k. plane k coefficients) (upto n))
+
+-- ---- one plane
+
+-- words hold digit k of each coefficient, and no other bit
+pub record HoldsPlane (k : ℕ) (digits words : List ℕ) : Type 0 where
+  pub room : length digits ≤ 64 * length words
+  pub each : (j : ℕ) → j < 64 * length words → get_or (word_bits words) j false ≡ is_odd (get_or digits j 0 / 2 ^ k)
+
+pub plane_digits : (k : ℕ) (digits words : List ℕ) (n : ℕ) → k < n → HoldsPlane k digits words
+    → digits_held (length digits) words ≡ plane k (digits_in n digits)
+unfolding digits_held
+plane_digits k digits words n below holds =
+    let size = length digits in
+    let coefficients = digits_in n digits in
+    let each = length-map digits (field n) in
+    let long = length-take size (word_bits words) in
+    let all = length-word_bits words in
+    let room = holds.room in
+    ext_get_or false (take size (word_bits words)) (plane k coefficients)
+    (omega (arith, length-map coefficients (λ ds. get_or ds k false)))
+    (λ j h.
+    let small : j < size = omega arith in
+    get_or-take size (word_bits words) j false small
+    ∙ holds.each j (omega arith)
+    ∙ sym (get_or-plane k coefficients j
+    ∙ ap (λ ds. get_or ds k false) (get_or-map (field n) digits j 0 [] small)
+    ∙ get_or-field n (get_or digits j 0) k false below))
+
+pub plane_clear : (k : ℕ) (digits words : List ℕ) → HoldsPlane k digits words → IsClearFrom (length digits) words
+unfolding IsClearFrom
+plane_clear k digits words holds =
+    let size = length digits in
+    let bits = word_bits words in
+    let rest = length bits - size in
+    let all = length-word_bits words in
+    let long = length-drop size bits in
+    let room = holds.room in
+    ext_get_or false (drop size bits) (replicate rest false) (long ∙ sym (length-replicate rest false))
+    (λ i h.
+    let past : size ≤ size + i = omega arith in
+    get_or-drop size bits i false
+    ∙ holds.each (size + i) (omega arith)
+    ∙ ap (λ v. is_odd (v / 2 ^ k)) (get_or_past digits (size + i) 0 past)
+    ∙ ap (λ b. eqb b 1) (bit_at-zero k)
+    ∙ sym (get_or-replicate rest i false false (omega arith)))
+
+-- ---- groups of 64 coefficients
+
+-- the first words of planes hold the digits of so many groups
+pub record HoldsGroups (number : ℕ) (digits : List ℕ) (planes : List (List ℕ)) : Type 0 where
+  pub each : (p k r : ℕ) → p < number → k < length planes → r < 64 → bit_at (word_of planes p k) r ≡ bit_of digits (64 * p + r) k
+
+-- digits that are left behind so many groups
+pub record IsBehind (number : ℕ) (digits rest : List ℕ) : Type 0 where
+  pub long : length rest ≡ length digits - 64 * number
+  pub each : (r : ℕ) → get_or rest r 0 ≡ get_or digits (64 * number + r) 0
+
+pub behind_none : (digits : List ℕ) → IsBehind 0 digits digits
+behind_none digits = record { long = omega arith; each = λ r. ap (λ j. get_or digits j 0) (omega arith) }
+
+-- a group ends where the digits end
+in_group : (rest : List ℕ) (n r : ℕ) → n ≡ min (length rest) 64 → r < 64 → get_or (take n rest) r 0 ≡ get_or rest r 0
+in_group rest n r size small = ⊎_elim
+    (λ (inside : r < n). get_or-take n rest r 0 inside)
+    (λ (outside : n ≤ r). get_or_past (take n rest) r 0 (omega (arith, length-take n rest)) ∙ sym (get_or_past rest r 0 (omega arith)))
+    (cases_lt r n)
+
+pub behind_more : (number n : ℕ) (digits rest : List ℕ) → n ≡ min (length rest) 64 → IsBehind number digits rest → IsBehind (number + 1) digits (drop n rest)
+behind_more number n digits rest size before = record {
+  long = omega (arith, length-drop n rest, before.long);
+  each = λ r.
+      let next : 64 * number + (64 + r) ≡ 64 * (number + 1) + r = omega arith in
+      get_or-drop n rest r 0
+      ∙ ⊎_elim
+      (λ (short : length rest < 64). get_or_past rest (n + r) 0 (omega arith) ∙ sym (get_or_past rest (64 + r) 0 (omega arith)))
+      (λ (full : 64 ≤ length rest). ap (λ m. get_or rest (m + r) 0) (omega arith))
+      (cases_lt (length rest) 64)
+      ∙ before.each (64 + r)
+      ∙ ap (λ j. get_or digits j 0) next;
+}
+
+pub groups_none : (digits : List ℕ) (planes : List (List ℕ)) → HoldsGroups 0 digits planes
+groups_none digits planes = record { each = λ p k r h a b. absurd (omega arith) }
+
+pub groups_more : (number n : ℕ) (digits rest : List ℕ) (old new : List (List ℕ)) → n ≡ min (length rest) 64 → length new ≡ length old
+    → IsBehind number digits rest → HoldsGroups number digits old
+    → HoldsGroup number (take n rest) new → KeepsOthers number old new → HoldsGroups (number + 1) digits new
+unfolding HoldsGroup KeepsOthers
+groups_more number n digits rest old new size long behind before group others = record {
+  each = λ p k r h within small. ⊎_elim
+      (λ (earlier : p < number). ap (λ w. bit_at w r) (others k p (λ (e : p ≡ number). absurd (omega arith))) ∙ before.each p k r earlier (omega arith) small)
+      (λ (last : number ≤ p).
+      let same : p ≡ number = omega arith in
+      ap (λ q. bit_at (word_of new q k) r) same
+      ∙ group k r within small
+      ∙ ap (λ w. bit_at w k) (in_group rest n r size small ∙ behind.each r)
+      ∙ ap (λ q. bit_of digits (64 * q + r) k) (sym same))
+      (cases_lt p number);
+}
+
+-- planes all of whose words hold the digits of their groups
+pub plane_of_groups : (number k : ℕ) (digits : List ℕ) (planes : List (List ℕ)) → length digits ≤ 64 * number → k < length planes
+    → length (get_or planes k []) ≡ number → HoldsGroups number digits planes → HoldsPlane k digits (get_or planes k [])
+plane_of_groups number k digits planes room within long groups =
+    let words = get_or planes k [] in
+    let whole : 64 * length words ≡ 64 * number = ap (λ n. 64 * n) long in
+    record {
+      room = omega arith;
+      each = λ j h.
+          let rank : 64 * (j / 64) + j % 64 ≡ j = omega arith in
+          get_or-word_bits words j h
+          ∙ ap (λ b. eqb b 1) (groups.each (j / 64) k (j % 64) (omega arith) within (omega arith) ∙ ap (λ i. bit_of digits i k) rank);
+    }
+
+pub planes_of_groups : (number : ℕ) (digits : List ℕ) (planes : List (List ℕ)) → length digits ≤ 64 * number
+    → ((k : ℕ) → k < length planes → length (get_or planes k []) ≡ number) → HoldsGroups number digits planes
+    → planes_held (length digits) planes ≡ planes_of (length planes) (digits_in (length planes) digits)
+planes_of_groups number digits planes room long groups =
+    let n = length planes in
+    let size = length digits in
+    let coefficients = digits_in n digits in
+    planes_all size n coefficients planes
+    (ext_get_or [] (map (digits_held size) planes) (planes_up n coefficients) (length-map planes (digits_held size) ∙ sym (length-planes_up n coefficients))
+    (λ k h.
+    let within : k < n = omega (arith, length-map planes (digits_held size)) in
+    get_or-map (digits_held size) planes k [] [] within
+    ∙ plane_digits k digits (get_or planes k []) n within (plane_of_groups number k digits planes room within (long k within) groups)
+    ∙ sym (get_or-planes_up n coefficients k within)))
+
+pub clear_of_groups : (number : ℕ) (digits : List ℕ) (planes : List (List ℕ)) → length digits ≤ 64 * number
+    → ((k : ℕ) → k < length planes → length (get_or planes k []) ≡ number) → HoldsGroups number digits planes
+    → All (IsClearFrom (length digits)) planes
+clear_of_groups number digits planes room long groups =
+    All-from_get_or (IsClearFrom (length digits)) planes []
+    (λ k within. plane_clear k digits (get_or planes k []) (plane_of_groups number k digits planes room within (long k within) groups))
+
+-- ---- one coefficient
+
+pub length-column : (rank : ℕ) (planes : List (List ℕ)) → length (column rank planes) ≡ length planes
+unfolding column
+length-column rank planes = length-map planes (λ words. get_or (word_bits words) rank false)
 
 -- ---- all coefficients
 
@@ -170,3 +221,102 @@ get_or-digits_in_planes size planes r below =
     ∙ get_or-digits_held size (get_or planes (n - 1 - (n - 1 - i)) []) r below
     ∙ ap (λ j. bit_at_rank (get_or planes j [])) turned
     ∙ sym (get_or-map bit_at_rank planes i [] false small))
+
+-- a list of four words, by its words
+four : (ws : List ℕ) → length ws ≡ 4 → get_or ws 0 0 ∷ get_or ws 1 0 ∷ get_or ws 2 0 ∷ get_or ws 3 0 ∷ [] ≡ ws
+four [] h = absurd (omega arith)
+four (a ∷ []) h = absurd (omega arith)
+four (a ∷ b ∷ []) h = absurd (omega arith)
+four (a ∷ b ∷ c ∷ []) h = absurd (omega arith)
+four (a ∷ b ∷ c ∷ d ∷ []) h = refl
+four (a ∷ b ∷ c ∷ d ∷ e ∷ ws) h = absurd (omega arith)
+
+-- planes of four words are what they are by their words
+pub all_four : (planes : List (List ℕ)) → ((k : ℕ) → k < length planes → length (get_or planes k []) ≡ 4)
+    → map (λ ws. get_or ws 0 0 ∷ get_or ws 1 0 ∷ get_or ws 2 0 ∷ get_or ws 3 0 ∷ []) planes ≡ planes
+all_four [] long = refl
+all_four (ws ∷ planes) long =
+    ap (λ vs. vs ∷ map (λ us. get_or us 0 0 ∷ get_or us 1 0 ∷ get_or us 2 0 ∷ get_or us 3 0 ∷ []) planes) (four ws (long 0 (omega arith)))
+    ∙ ap (λ ps. ws ∷ ps) (all_four planes (λ k h. long (suc k) (omega arith)))
+
+-- ---- coefficients of groups
+
+-- the coefficients of so many groups have the digits that planes hold
+pub record IsOfGroups (number : ℕ) (planes : List (List ℕ)) (digits : List ℕ) : Type 0 where
+  pub each : (r k : ℕ) → r < 64 * number → r < length digits → k < 64 → bit_of digits r k ≡ bit_at (word_of planes (r / 64) k) (r % 64)
+
+-- one group more, written where the coefficients before it end
+pub group_written : (number a k : ℕ) (planes : List (List ℕ)) (xs ys : List ℕ) → a ≡ 64 * number → k ≡ min 64 (length xs - a) → length ys ≡ k → a ≤ length xs
+    → length (put_mid a k xs ys) ≡ length xs
+    → IsOfGroups number planes xs → IsOfGroup number planes ys → IsOfGroups (number + 1) planes (put_mid a k xs ys)
+unfolding IsOfGroup
+group_written number a k planes xs ys start count long within same_length before group = record {
+  each = λ r i h inside small. ⊎_elim
+      (λ (earlier : r < a).
+      ap (λ w. bit_at w i)
+      (get_or_append_left (take a xs) (ys ++ post_of a k xs) 0 r (omega (arith, length-take a xs)) ∙ get_or-take a xs r 0 earlier)
+      ∙ before.each r i (omega arith) (omega arith) small)
+      (λ (later : a ≤ r).
+      let front : length (take a xs) ≡ a = omega (arith, length-take a xs) in
+      let in_group : r - a < length ys = omega arith in
+      let word : number ≡ r / 64 = omega arith in
+      let place : r - a ≡ r % 64 = omega arith in
+      ap (λ w. bit_at w i)
+      (get_or-append_right (take a xs) (ys ++ post_of a k xs) a r 0 front later ∙ get_or_append_left ys (post_of a k xs) 0 (r - a) in_group)
+      ∙ group (r - a) i in_group small
+      ∙ ap (λ q. bit_at (word_of planes q i) (r - a)) word
+      ∙ ap (bit_at (word_of planes (r / 64) i)) place)
+      (cases_lt r a);
+}
+
+-- the digits of one coefficient
+digits_of_rank : (number r : ℕ) (planes : List (List ℕ)) (digits : List ℕ) → length planes ≤ 64 → length digits ≤ 64 * number → r < length digits
+    → ((k : ℕ) → k < length planes → r < 64 * length (get_or planes k []))
+    → IsOfGroups number planes digits → field (length planes) (get_or digits r 0) ≡ column r planes
+unfolding column
+digits_of_rank number r planes digits few room within long groups =
+    let n = length planes in
+    let v = get_or digits r 0 in
+    let bit_at_rank : List ℕ → Bool = λ words. get_or (word_bits words) r false in
+    ext_get_or false (field n v) (map bit_at_rank planes) (length-field n v ∙ sym (length-map planes bit_at_rank))
+    (λ k h.
+    let below : k < n = omega (arith, length-field n v) in
+    get_or-field n v k false below
+    ∙ ap (λ b. eqb b 1) (groups.each r k (omega arith) within (omega arith))
+    ∙ sym (get_or-map bit_at_rank planes k [] false below ∙ get_or-word_bits (get_or planes k []) r (long k below)))
+
+pub digits_of_groups : (number : ℕ) (planes : List (List ℕ)) (digits : List ℕ) → length planes ≤ 64 → length digits ≤ 64 * number
+    → ((r k : ℕ) → r < length digits → k < length planes → r < 64 * length (get_or planes k []))
+    → IsOfGroups number planes digits
+    → digits_in (length planes) digits ≡ digits_in_planes (length planes) (length digits) (planes_held (length digits) planes)
+digits_of_groups number planes digits few room long groups =
+    let n = length planes in
+    let size = length digits in
+    let held = planes_held size planes in
+    ext_get_or [] (digits_in n digits) (digits_in_planes n size held) (length-map digits (field n) ∙ sym (length-digits_in_planes n size held))
+    (λ r h.
+    let within : r < size = omega (arith, length-map digits (field n)) in
+    get_or-map (field n) digits r 0 [] within
+    ∙ digits_of_rank number r planes digits few room within (λ k below. long r k within below) groups
+    ∙ sym (get_or-digits_in_planes size planes r within))
+
+-- a coefficient has no digit that has no plane
+pub below_planes : (number : ℕ) (planes : List (List ℕ)) (digits : List ℕ) → length planes ≤ 64 → length digits ≤ 64 * number
+    → All (λ u. u < 2 ^ 64) digits → IsOfGroups number planes digits → All (λ u. u < 2 ^ length planes) digits
+below_planes number planes digits few room words groups =
+    let n = length planes in
+    All-from_get_or (λ u. u < 2 ^ n) digits 0
+    (λ r within.
+    let v = get_or digits r 0 in
+    let word : v < 2 ^ 64 = All-get_or (λ u. u < 2 ^ 64) digits r 0 within words in
+    let cut : v % 2 ^ n < 2 ^ 64 = omega (arith, mod-le v (2 ^ n)) in
+    let same : v ≡ v % 2 ^ n = same_from_bits_below 64 v (v % 2 ^ n) word cut
+    (λ k small. ⊎_elim
+    (λ (low : k < n). sym (bit_at-mod_pow v n k low))
+    (λ (high : n ≤ k).
+    groups.each r k (omega arith) within small
+    ∙ ap (λ w. bit_at w (r % 64)) (word_of-past planes (r / 64) k high)
+    ∙ bit_at-zero (r % 64)
+    ∙ sym (bit_at-mod_above v n k high))
+    (cases_lt k n)) in
+    subst (λ x. x < 2 ^ n) (sym same) (mod-lt v (pow_pos n)))

@@ -2,13 +2,16 @@
 #![tactic(auto)]
 
 mod coefficient_order;
+mod digits;
 mod negabinary;
 mod planes;
 mod ranks;
+mod turning;
 
 pub use coefficient_order::order;
+pub use digits::{digits_of_planes, from_planes};
 pub use negabinary::{from_digits, to_digits};
-pub use planes::{from_planes, to_planes};
+pub use planes::{planes_of_digits, to_planes};
 pub use ranks::{ranked, unranked};
 
 #[cfg(test)]

@@ -1,31 +1,18 @@
-//! The digits of coefficients as bit planes.
+//! The digits of coefficients become bit planes.
 
-ghost use Rattle.std.specs.Prelude.{◌≡◌, ℕ, ◌^◌, ◌<◌, ◌≤◌, All, length};
-ghost use Rattle.zf_spec.specs.Numbers.{field};
-ghost use Rattle.zf_spec.specs.Planes.{plane, planes_of};
-ghost use Rattle.zf_spec.specs.HeldPlanes.{digits_held, planes_held, IsClearFrom};
-ghost use Rattle.zf_coef.specs.HeldDigits.{digits_in, column};
-ghost use Rattle.zf_spec.specs.Planes.{digits_in_planes};
+ghost use Rattle.std.specs.Prelude.{◌≡◌, ℕ, ◌+◌, ◌-◌, ◌*◌, ◌/◌, ◌%◌, ◌^◌, ◌<◌, ◌≤◌, ◌⊎◌, All, length, map, slice_index_or, []};
+ghost use Rattle.std.specs.Int.{bit_at};
+ghost use Rattle.zf_spec.specs.Planes.{planes_of};
+ghost use Rattle.zf_spec.specs.HeldPlanes.{planes_held, IsClearFrom};
+ghost use Rattle.zf_coef.specs.HeldDigits.{digits_in};
+ghost use Rattle.zf_coef.specs.Groups.{word_of, HoldsGroup, HoldsHalf, KeepsOthers, HoldsFrom, HoldsTiles};
+ghost use Rattle.zf_coef.specs.Turned.{bit_of};
 
-/// How many words hold a plane.
-const PLANE_WORDS: usize = 4;
+use crate::turning::{turn_4, turn_16, turn_32};
+use zf_bits::Plane;
 
 /// How many ranks a word of a plane has.
 const WORD_BITS: usize = 64;
-
-/// Plane `k` of coefficients by rank.
-fn plane_of(k: usize, digits: &[u64]) -> [u64; PLANE_WORDS]
-    requires in_word { k < 64 }
-    requires digits { length digits.now ≤ 256 }
-    ensures digits { (n : ℕ) → k < n → digits_held (length digits.now) result ≡ plane k (digits_in n digits.now) }
-    ensures clear { IsClearFrom (length digits.now) result }
-{
-    let mut words = [0; PLANE_WORDS];
-    for (rank, digit) in digits.iter().enumerate() {
-        words[rank / WORD_BITS] |= ((digit >> k) % 2) << (rank % WORD_BITS);
-    }
-    words
-}
 
 /// Writes the digits of coefficients by rank as bit planes: plane `k` has digit `k` of each. Digits that have no plane are left out.
 ///
@@ -37,35 +24,197 @@ pub fn to_planes(digits: &[u64], planes: &mut [[u64; 4]])
         planes_held (length digits.now) planes.new ≡ planes_of n (digits_in n digits.now) }
     ensures clear { All (IsClearFrom (length digits.now)) planes.new }
 {
-    for (k, plane) in planes.iter_mut().enumerate() {
-        *plane = plane_of(k, digits);
+    planes_of_digits(digits, planes);
+    have_four_words(planes);
+}
+
+/// Says that each plane has four words, for proofs that know of planes as lists alone.
+#[inline(always)]
+pub(crate) fn have_four_words(planes: &[[u64; 4]])
+    ensures { (k : ℕ) → k < length planes.now → length (slice_index_or planes.now k []) ≡ 4 }
+{
+    let _known = planes.len();
+}
+
+/// The same for planes of any number of words, so that blocks of up to 64 coefficients have one word a plane.
+pub fn planes_of_digits<P: Plane>(digits: &[u64], planes: &mut [P])
+    requires digits { length digits.now ≤ 64 * P.word_count }
+    requires planes { length planes.old ≤ 64 }
+    ensures digits { let n = length planes.new in
+        planes_held (length digits.now) (map P.words planes.new) ≡ planes_of n (digits_in n digits.now) }
+    ensures clear { All (IsClearFrom (length digits.now)) (map P.words planes.new) }
+{
+    let mut rest = digits;
+    for number in 0..P::word_count() {
+        let (group, behind) = rest.split_at(rest.len().min(WORD_BITS));
+        put_group(group, number, planes);
+        rest = behind;
     }
 }
 
-/// The digits of the coefficient of this rank.
-fn digits_of_rank(rank: usize, planes: &[[u64; 4]]) -> u64
-    requires rank { rank < 256 }
-    requires planes { length planes.now ≤ 64 }
-    ensures digits { field (length planes.now) result ≡ column rank planes.now }
-    ensures below { result < 2 ^ length planes.now }
+/// The words of this number of all planes, from the digits of their ranks.
+#[inline(always)]
+fn put_group<P: Plane>(digits: &[u64], number: usize, planes: &mut [P])
+    requires number { number < P.word_count }
+    requires digits { length digits.now ≤ 64 }
+    requires planes { length planes.old ≤ 64 }
+    ensures bits { HoldsGroup number digits.now (map P.words planes.new) }
+    ensures others { KeepsOthers number (map P.words planes.old) (map P.words planes.new) }
 {
-    let mut digits = 0;
-    for (k, plane) in planes.iter().enumerate() {
-        digits |= ((plane[rank / WORD_BITS] >> (rank % WORD_BITS)) % 2) << k;
+    match digits.len() {
+        4 => put_4(digits, number, planes),
+        16 => put_16(digits, number, planes),
+        64 => put_64(digits, number, planes),
+        _ => put_64(&padded(digits), number, planes),
     }
-    digits
 }
 
-/// The way back: writes the digits of as many coefficients as `digits` has words. Bits of later ranks are not looked at.
-pub fn from_planes(planes: &[[u64; 4]], digits: &mut [u64])
-    requires planes { length planes.now ≤ 64 }
-    requires digits { length digits.old ≤ 256 }
-    ensures digits { let n = length planes.now in
-        let size = length digits.new in
-        digits_in n digits.new ≡ digits_in_planes n size (planes_held size planes.now) }
-    ensures below { All (λ u. u < 2 ^ length planes.now) digits.new }
+/// 64 digits, of which those past the given ones are zero.
+fn padded(digits: &[u64]) -> [u64; WORD_BITS]
+    requires { length digits.now ≤ 64 }
+    ensures { (r : ℕ) → slice_index_or result r 0 ≡ slice_index_or digits.now r 0 }
 {
-    for (rank, digit) in digits.iter_mut().enumerate() {
-        *digit = digits_of_rank(rank, planes);
+    let mut whole = [0; WORD_BITS];
+    for r in 0..digits.len() {
+        whole[r] = digits[r];
     }
+    whole
+}
+
+#[inline(never)]
+fn put_4<P: Plane>(digits: &[u64], number: usize, planes: &mut [P])
+    requires number { number < P.word_count }
+    requires digits { length digits.now ≡ 4 }
+    requires planes { length planes.old ≤ 64 }
+    ensures bits { HoldsGroup number digits.now (map P.words planes.new) }
+    ensures others { KeepsOthers number (map P.words planes.old) (map P.words planes.new) }
+{
+    let mut words = [0; 4];
+    words.copy_from_slice(digits);
+    turn_4(&mut words);
+    put_tiles(&words, number, planes);
+}
+
+#[inline(never)]
+fn put_16<P: Plane>(digits: &[u64], number: usize, planes: &mut [P])
+    requires number { number < P.word_count }
+    requires digits { length digits.now ≡ 16 }
+    requires planes { length planes.old ≤ 64 }
+    ensures bits { HoldsGroup number digits.now (map P.words planes.new) }
+    ensures others { KeepsOthers number (map P.words planes.old) (map P.words planes.new) }
+{
+    let mut words = [0; 16];
+    words.copy_from_slice(digits);
+    turn_16(&mut words);
+    put_tiles(&words, number, planes);
+}
+
+/// The planes of turned tiles: tile t of word j is plane `N * t + j`.
+#[inline(always)]
+fn put_tiles<P: Plane, const N: usize>(words: &[u64; N], number: usize, planes: &mut [P])
+    requires size { (N ≡ 4) ⊎ (N ≡ 16) }
+    requires number { number < P.word_count }
+    requires planes { length planes.old ≤ 64 }
+    ensures bits { HoldsTiles N number words.now (map P.words planes.new) }
+    ensures others { KeepsOthers number (map P.words planes.old) (map P.words planes.new) }
+{
+    for tile in 0..WORD_BITS / N {
+        let from = tile * N;
+        if from < planes.len() {
+            put_from(&tile_of(words, from), from, number, planes);
+        }
+    }
+}
+
+/// The `N` bits of each word from this one on.
+#[inline(always)]
+fn tile_of<const N: usize>(words: &[u64; N], from: usize) -> [u64; N]
+    requires size { (N ≡ 4) ⊎ (N ≡ 16) }
+    requires from { from < 64 }
+    ensures { (j : ℕ) → j < N → slice_index_or result j 0 ≡ slice_index_or words.now j 0 / 2 ^ from % 2 ^ N }
+{
+    let mut tile = [0; N];
+    for j in 0..N {
+        tile[j] = (words[j] >> from) & (u64::MAX >> (WORD_BITS - N));
+    }
+    tile
+}
+
+/// Puts words into the planes from `from` on, as far as there are any.
+#[inline(always)]
+fn put_from<P: Plane, const N: usize>(
+    words: &[u64; N],
+    from: usize,
+    number: usize,
+    planes: &mut [P],
+)
+    requires number { number < P.word_count }
+    requires from { from ≤ length planes.old }
+    ensures words { HoldsFrom N number from words.now (map P.words planes.old) (map P.words planes.new) }
+    ensures others { KeepsOthers number (map P.words planes.old) (map P.words planes.new) }
+{
+    let count = planes.len() - from;
+    if count < N {
+        put_words(words, count, from, number, planes);
+    } else {
+        put_words(words, N, from, number, planes);
+    }
+}
+
+/// Puts so many words into the planes from `from` on.
+#[inline(always)]
+fn put_words<P: Plane>(words: &[u64], count: usize, from: usize, number: usize, planes: &mut [P])
+    requires words { count ≤ length words.now }
+    requires planes { from + count ≤ length planes.old }
+    requires number { number < P.word_count }
+    ensures words { HoldsFrom count number from words.now (map P.words planes.old) (map P.words planes.new) }
+    ensures others { KeepsOthers number (map P.words planes.old) (map P.words planes.new) }
+{
+    for j in 0..count {
+        planes[from + j].set_word(number, words[j]);
+    }
+}
+
+#[inline(never)]
+fn put_64<P: Plane>(digits: &[u64], number: usize, planes: &mut [P])
+    requires number { number < P.word_count }
+    requires digits { length digits.now ≡ 64 }
+    requires planes { length planes.old ≤ 64 }
+    ensures bits { HoldsGroup number digits.now (map P.words planes.new) }
+    ensures others { KeepsOthers number (map P.words planes.old) (map P.words planes.new) }
+{
+    put_half(digits, 0, number, planes);
+    if planes.len() > 32 {
+        put_half(digits, 32, number, planes);
+    }
+}
+
+/// The 32 planes from `from` on.
+#[inline(always)]
+fn put_half<P: Plane>(digits: &[u64], from: usize, number: usize, planes: &mut [P])
+    requires number { number < P.word_count }
+    requires digits { length digits.now ≡ 64 }
+    requires from { from ≤ 32 }
+    requires planes { from ≤ length planes.old }
+    ensures bits { HoldsHalf number from digits.now (map P.words planes.new) }
+    ensures below { (k : ℕ) → k < from → word_of (map P.words planes.new) number k ≡ word_of (map P.words planes.old) number k }
+    ensures others { KeepsOthers number (map P.words planes.old) (map P.words planes.new) }
+{
+    let mut words = half_digits(digits, from);
+    turn_32(&mut words);
+    put_from(&words, from, number, planes);
+}
+
+/// 32 digits from this one on: word r has those of rank r, and then those of the rank 32 above it.
+#[inline(always)]
+fn half_digits(digits: &[u64], from: usize) -> [u64; 32]
+    requires digits { length digits.now ≡ 64 }
+    requires from { from ≤ 32 }
+    ensures { (r i : ℕ) → r < 32 → i < 64 → bit_of result r i ≡ bit_of digits.now (i - i % 32 + r) (from + i % 32) }
+{
+    let mut words = [0; 32];
+    for r in 0..32 {
+        words[r] = ((digits[r] >> from) & 0xffff_ffff) | (digits[r + 32] >> from) << 32;
+    }
+    words
 }

@@ -61,3 +61,71 @@ fn planes_hold_a_block(rt: HostRuntime) {
     unranked::<i32>(2, &again, &mut restored);
     assert_eq!(rt; restored, block);
 }
+
+// The definitions' plain program: plane k by its digits.
+fn plane_of(k: usize, digits: &[u64]) -> [u64; 4] {
+    let mut words = [0; 4];
+    for (rank, digit) in digits.iter().enumerate() {
+        if k < 64 && rank < 256 {
+            words[rank / 64] |= ((digit >> k) % 2) << (rank % 64);
+        }
+    }
+    words
+}
+
+// Digits that follow no rule, the same each time.
+fn digits_of(size: usize, planes: usize) -> [u64; 256] {
+    let mut digits = [0; 256];
+    let mut word: u64 = 1;
+    for digit in digits.iter_mut().take(size) {
+        word = word
+            .wrapping_mul(6_364_136_223_846_793_005)
+            .wrapping_add(1_442_695_040_888_963_407);
+        *digit = if planes == 64 {
+            word.rotate_left(32)
+        } else {
+            word >> 32
+        };
+    }
+    digits
+}
+
+// Kernels against the plain program, over four words a plane and over one where it is enough.
+#[test]
+fn kernels_are_the_plain_program(rt: HostRuntime) {
+    for count in [32, 64] {
+        for size in [0, 1, 3, 4, 15, 16, 17, 64, 255, 256] {
+            let digits = digits_of(size, count);
+            let mut planes = [[7; 4]; 64];
+            to_planes(&digits[..size], &mut planes[..count]);
+            let mut narrow = [7; 64];
+            if size <= 64 {
+                planes_of_digits(&digits[..size], &mut narrow[..count]);
+            }
+            for k in 0..count {
+                let plane = plane_of(k, &digits[..size]);
+                assert_eq!(rt; planes[k], plane, "plane {k} of {size} digits");
+                assert!(rt;
+                    size > 64 || narrow[k] == plane[0],
+                    "plane {k} of {size} digits in a word"
+                );
+            }
+            let mut again = [7; 256];
+            from_planes(&planes[..count], &mut again[..size]);
+            assert_eq!(rt;
+                &again[..size],
+                &digits[..size],
+                "{size} digits of {count} planes"
+            );
+            let mut again = [7; 256];
+            if size <= 64 {
+                digits_of_planes(&narrow[..count], &mut again[..size]);
+                assert_eq!(rt;
+                    &again[..size],
+                    &digits[..size],
+                    "{size} digits of {count} words"
+                );
+            }
+        }
+    }
+}

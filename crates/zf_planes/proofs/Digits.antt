@@ -2,8 +2,9 @@
 use Rattle.std.proofs.Common.{◌≡◌, ℕ, zero, suc, ◌+◌, ◌-◌, ◌*◌, ◌/◌, ◌%◌, ◌^◌, ◌<◌, ◌≤◌, ⊎_elim, Bool, true, false, eqb, List, [], ◌∷◌, ◌++◌, length, take, drop, replicate, get_or, get_or-take, get_or-drop, ext_get_or, length-take, length-drop, pow_pos, pow-suc, sym, ap, ◌∙◌, arith}
 use Rattle.std.specs.Int.{bit_at, w64, trailing_zeros, leading_zeros}
 use Rattle.std.proofs.lemmas.Bool.{cases_lt, false≢true}
-use Rattle.std.proofs.lemmas.Nat.{shr-shr, shr_le, leading_top, div-add-mod'}
-use Rattle.std.proofs.lemmas.Nat.Bits.{bit_at-zero, bit_at-trailing_zeros, bit_at_above, bit_at_cat_low, bit_at_cat_high}
+use Rattle.std.specs.Int.Bits.{bit_and}
+use Rattle.std.proofs.lemmas.Nat.{shr-shr, shr_le, leading_top, div-add-mod', and_mask}
+use Rattle.std.proofs.lemmas.Nat.Bits.{ones_shr, bit_at-zero, bit_at-trailing_zeros, bit_at_above, bit_at_cat_low, bit_at_cat_high}
 use Rattle.std.proofs.lemmas.List.{get_or_past, take-take, drop-take}
 use Rattle.zf_spec.specs.Numbers.{is_odd, field, word_bits}
 use Rattle.zf_spec.specs.Planes.{has_one, reach}
@@ -46,6 +47,12 @@ field_in_word size at n w ws is long same within =
     ∙ sym (digit_in_word size at j w ws is long (omega arith) (omega arith))
     ∙ sym (get_or-drop at ds j false)
     ∙ sym (get_or-take n (drop at ds) j false below))
+
+-- a mask leaves the n lowest bits
+pub masked : (v n : ℕ) → n ≤ 64 → bit_and v (18446744073709551615 / 2 ^ (64 - n)) ≡ v % 2 ^ n
+masked v n small =
+    let left : 64 - (64 - n) ≡ n = omega arith in
+    ap (bit_and v) (ones_shr 64 (64 - n) (omega arith) ∙ ap (λ k. 2 ^ k - 1) left) ∙ and_mask v n
 
 -- the digits of a part of a plane
 pub held_part : (size n m : ℕ) (ws : List ℕ) → n ≤ m → m ≤ size → drop n (digits_held m ws) ≡ take (m - n) (drop n (digits_held size ws))

@@ -1,10 +1,17 @@
 -- How long the tail of a plane is: a group bit for each one, a digit for each rank up to the last one, and the end.
-use Rattle.std.proofs.Common.{◌≡◌, ℕ, suc, ◌+◌, ◌-◌, ◌*◌, ◌<◌, ◌≤◌, Bool, true, false, cond, List, [], ◌∷◌, length, take, drop, get_or, count_by, refl, ◌∙◌, arith, length-append}
+use Rattle.std.proofs.Common.{◌≡◌, ℕ, zero, suc, ◌+◌, ◌-◌, ◌*◌, ◌/◌, ◌%◌, ◌^◌, ◌<◌, ◌≤◌, Bool, true, false, cond, eqb, List, [], ◌∷◌, ◌++◌, length, take, drop, get_or, count_by, refl, sym, ap, ◌∙◌, arith, length-append, pow-suc}
 use Rattle.std.proofs.lemmas.Bool.{false≢true}
-use Rattle.std.proofs.lemmas.List.{length-take}
-use Rattle.std.proofs.lemmas.List.Sums.{sum_by-cons}
+use lib.Count.{ones_step}
+use Rattle.std.specs.Int.Bits.{bit_and}
+use Rattle.std.specs.Int.Count.{ones as number_ones}
+use Rattle.std.proofs.lemmas.Nat.{ones_le_self, mod_below, pow_pos}
+use Rattle.std.proofs.lemmas.List.{length-take, take-append-drop, drop-drop}
+use Rattle.std.proofs.lemmas.List.Sums.{sum_by-cons, sum_by-append}
 use Rattle.zf_spec.specs.Planes.{has_one, reach, group, code_from_run, tail, plane_code, code}
-use Rattle.zf_spec.specs.HeldPlanes.{planes_held}
+use Rattle.zf_spec.specs.Numbers.{is_odd, field}
+use Rattle.zf_spec.specs.HeldPlanes.{digits_held, planes_held}
+use Rattle.zf_spec.proofs.Fields.{field-mod}
+use Rattle.zf_planes.proofs.Digits.{masked, field_in_word}
 use Rattle.zf_spec.proofs.Reach.{reach_none, reach_some}
 use Rattle.zf_spec.proofs.PlaneCode.{length-code-le}
 use Rattle.zf_planes.proofs.Unpacking.{length-top_held, sizes-top_words}
@@ -64,6 +71,47 @@ pub length-code_words-le : (prec size : ℕ) (planes : List (List ℕ)) → prec
 length-code_words-le prec size planes within enough =
     rw (length-top_held prec size planes within) at (length-code-le size (take prec (planes_held size planes)) (sizes-top_words prec size planes enough))
 
-pub length-code_held-le : (prec size : ℕ) (planes : List (List ℕ)) → size ≤ 256 → prec ≤ length planes → ((i : ℕ) → i < length planes → length (get_or planes i []) ≡ 4)
-    → length (code (take prec (planes_held size planes))) ≤ size * prec + size
-length-code_held-le prec size planes small within four = length-code_words-le prec size planes within (λ i below. omega (arith, four i below))
+-- ---- the ones of a word
+
+digit_of : (k : ℕ) → k < 2 → k ≡ cond (eqb k 1) 1 0
+digit_of zero small = refl
+digit_of (suc zero) small = refl
+digit_of (suc (suc k)) small = absurd (omega arith)
+
+field_ones : (n v : ℕ) → v < 2 ^ n → number_ones v ≡ ones (field n v)
+field_ones zero v small = omega (arith, ones_le_self v)
+field_ones (suc n) v small =
+    let rest = field_ones n (v / 2) (omega (arith, pow-suc 2 n)) in
+    let first = digit_of (v % 2) (omega arith) in
+    let both = sum_by-cons (λ d. cond d 1 0) (is_odd v) (field n (v / 2)) in
+    omega (arith, ones_step v, rest, first, both)
+
+-- the ones of digits that lie in one word
+pub part_ones : (size at n w : ℕ) (ws : List ℕ) → w ≡ get_or ws (at / 64) 0 → size ≤ 64 * length ws → at % 64 + n ≤ 64 → at + n ≤ size
+    → number_ones (bit_and (w / 2 ^ (at % 64)) (18446744073709551615 / 2 ^ (64 - n))) ≡ ones (take n (drop at (digits_held size ws)))
+part_ones size at n w ws is long same within =
+    let v = w / 2 ^ (at % 64) in
+    ap number_ones (masked v n (omega arith))
+    ∙ field_ones n (v % 2 ^ n) (mod_below v (2 ^ n) (pow_pos n))
+    ∙ ap ones (field-mod n v ∙ field_in_word size at n w ws is long same within)
+
+-- and those behind them
+pub ones_split : (at n : ℕ) (ds : List Bool) → ones (drop at ds) ≡ ones (take n (drop at ds)) + ones (drop (at + n) ds)
+ones_split at n ds =
+    ap ones (sym (take-append-drop n (drop at ds)) ∙ ap (λ (xs : List Bool). take n (drop at ds) ++ xs) (drop-drop n at ds))
+    ∙ sum_by-append (λ d. cond d 1 0) (take n (drop at ds)) (drop (at + n) ds)
+
+-- ---- how far the ones of the ranks behind n reach
+
+pub reach-drop : (n : ℕ) (ds : List Bool) → reach (drop n ds) ≡ reach ds - n
+reach-drop zero ds = omega arith
+reach-drop (suc n) [] = omega arith
+reach-drop (suc n) (d ∷ ds) = by (reach-drop n ds) (has_one (d ∷ ds)) refl
+  where
+    none_behind : (d : Bool) → has_one (d ∷ ds) ≡ false → has_one ds ≡ false
+    none_behind true none = cc
+    none_behind false none = none
+
+    by : reach (drop n ds) ≡ reach ds - n → (t : Bool) → has_one (d ∷ ds) ≡ t → reach (drop n ds) ≡ cond t (suc (reach ds)) 0 - suc n
+    by rest true one = omega (arith, rest)
+    by rest false none = omega (arith, rest, reach_none ds (none_behind d none))

@@ -1,10 +1,10 @@
 -- The digits that planes hold in words.
-use Rattle.std.proofs.Common.{◌≡◌, ℕ, zero, suc, map, ◌+◌, ◌-◌, ◌*◌, ◌<◌, ◌≤◌, ◌≢◌, ⊎_elim, Bool, false, List, [], ◌∷◌, length, take, drop, get_or, set, replicate, refl, sym, ap, subst, ◌∙◌, arith, ext_get_or, length-set, get_or-set_same, get_or-set_other}
-use Rattle.std.proofs.lemmas.List.{get_or-take, length-take, drop_more, take-replicate, drop-replicate, length-replicate, get_or-replicate}
+use Rattle.std.proofs.Common.{◌≡◌, ℕ, zero, suc, map, ◌+◌, ◌-◌, ◌*◌, ◌<◌, ◌≤◌, ◌≢◌, ⊎_elim, Bool, false, max, List, [], ◌∷◌, ◌++◌, length, take, drop, get_or, set, replicate, refl, sym, ap, subst, ◌∙◌, arith, ext_get_or, length-set, get_or-set_same, get_or-set_other}
+use Rattle.std.proofs.lemmas.List.{length-map, get_or-map, get_or-take, length-take, drop_more, take-replicate, drop-replicate, length-replicate, get_or-replicate}
 use Rattle.std.proofs.lemmas.Bool.{cases_eq}
 use Rattle.std.specs.List.{All}
 use Rattle.zf_spec.proofs.Counting.{four_elements}
-use Rattle.zf_spec.specs.Numbers.{word_bits}
+use Rattle.zf_spec.specs.Planes.{code_from, plane_code, reach}
 use Rattle.zf_spec.specs.HeldPlanes.{digits_held, planes_held, IsClearFrom}
 use Rattle.zf_planes.proofs.Placing.{held_zeros}
 use Rattle.zf_spec.proofs.HeldPlanes.{length-digits_held, get_or-planes_held, length-planes_held}
@@ -41,6 +41,18 @@ pub each_long : {A : Type 0} (words : A → List ℕ) (n : ℕ) → ((plane : A)
 each_long words n long [] i below = absurd (omega arith)
 each_long words n long (plane ∷ planes) zero below = long plane
 each_long words n long (plane ∷ planes) (suc i) below = each_long words n long planes i (omega arith)
+
+-- the code from the i-th plane on begins with that of the plane
+pub code_next : {A : Type 0} (words : A → List ℕ) (above prec size i : ℕ) (planes : List A) (plane : A) → plane ≡ get_or planes (length planes - 1 - i) plane → i < prec → prec ≤ length planes
+    → code_from above (drop i (take prec (planes_held size (map words planes))))
+    ≡ plane_code above (digits_held size (words plane)) ++ code_from (max above (reach (digits_held size (words plane)))) (drop (i + 1) (take prec (planes_held size (map words planes))))
+code_next words above prec size i planes plane is below within =
+    let all = map words planes in
+    let long = length-map planes words in
+    let place : length all - 1 - i ≡ length planes - 1 - i = omega arith in
+    let same : get_or all (length all - 1 - i) [] ≡ words plane =
+    ap (λ k. get_or all k []) place ∙ get_or-map words planes (length planes - 1 - i) plane [] (omega arith) ∙ ap words (sym is) in
+    ap (code_from above) (drop-top_held prec size all i below (omega arith) ∙ ap (λ (ws : List ℕ). digits_held size ws ∷ drop (i + 1) (take prec (planes_held size all))) same)
 
 -- planes of four words are those of their words by number
 pub arrays_as_words : (planes : List (List ℕ)) → ((i : ℕ) → i < length planes → length (get_or planes i []) ≡ 4)

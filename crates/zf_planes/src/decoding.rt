@@ -10,7 +10,7 @@ ghost use Rattle.zf_spec.specs.Planes.{reach};
 ghost use Rattle.zf_bits.specs.Reader.{rest, Reads};
 ghost use Rattle.zf_planes.specs.Decoding.{IsWindow, coded, coded_bits, tail_ahead, tail_bits, run_ahead, run_bits, plane_ahead, plane_bits, planes_ahead, planes_bits, Takes, Lacks};
 
-use crate::plane::clear;
+use crate::words::clear;
 use zf_bits::{BitReader, Plane};
 
 /// What is left of a budget, and the bits that come next, as far as they were looked at.

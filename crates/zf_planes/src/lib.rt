@@ -4,13 +4,11 @@
 mod decoding;
 mod encoding;
 mod measuring;
-mod plane;
 mod words;
 
 pub use decoding::{decode, read_planes};
 pub use encoding::{encode, write_planes};
-pub use measuring::code_len;
-pub use plane::used_planes;
+pub use measuring::{code_len, planes_len, planes_used, used_planes};
 
 #[cfg(test)]
 mod tests;

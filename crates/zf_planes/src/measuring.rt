@@ -1,57 +1,49 @@
-//! How long the code of planes is.
+//! How long the code of planes is, and how many planes it needs.
 
-ghost use Rattle.std.specs.Prelude.{◌≡◌, ◌+◌, ◌*◌, ◌≤◌, ◌⊎◌, count_by, length, take, drop};
+ghost use Rattle.std.specs.Prelude.{◌≡◌, ◌+◌, ◌*◌, ◌≤◌, ◌⊎◌, count_by, length, map, take, drop};
 ghost use Rattle.zf_spec.specs.Grid.{IsBlockSize};
-ghost use Rattle.zf_spec.specs.Planes.{tail, plane_code, code};
-ghost use Rattle.zf_spec.specs.HeldPlanes.{planes_held};
+ghost use Rattle.zf_spec.specs.Planes.{reach, plane_code, code, needed_planes};
+ghost use Rattle.zf_spec.specs.HeldPlanes.{digits_held, planes_held};
 
-use crate::plane::{MOST_DIGITS, reach_of, unpack};
+use crate::words::{ones_from, reach_in};
+use zf_bits::Plane;
 
-/// How many digits are one.
-fn count_ones(digits: &[bool]) -> usize
-    ensures { result ≡ count_by (λ digit. digit) digits.now }
+/// The length of the code of a plane in which the ranks below `n` have had a one above, and whose own ones end before rank `end`.
+fn plane_len<P: Plane>(n: usize, size: usize, end: usize, plane: &P) -> usize
+    requires size { size ≤ 256 }
+    requires words { size ≤ 64 * P.word_count }
+    requires in_plane { n ≤ size }
+    requires end { end ≡ reach (digits_held size (P.words plane.now)) }
+    ensures { result ≡ length (plane_code n (digits_held size (P.words plane.now))) }
 {
-    digits.iter().filter(|digit| **digit).count()
-}
-
-/// The length of the tail of a plane.
-fn tail_len(digits: &[bool]) -> usize
-    requires { length digits.now ≤ 256 }
-    ensures { result ≡ length (tail digits.now) }
-{
-    let reach = reach_of(digits);
-    let ones = count_ones(digits);
     // Each one has a group bit before its run, and the runs are all digits up to the last one.
-    if reach < digits.len() {
+    let runs = ones_from(plane, n, size) + end.saturating_sub(n);
+    if end.max(n) < size {
         // A group bit says that no one follows.
-        ones + reach + 1
+        n + runs + 1
     } else {
         // The one of the last rank is implied.
-        (ones + reach).saturating_sub(1)
+        n + runs.saturating_sub(1)
     }
 }
 
-/// The length of the code of a plane in which the ranks below `n` have had a one above.
-fn plane_len(n: usize, digits: &[bool]) -> usize
-    requires size { length digits.now ≤ 256 }
-    requires in_plane { n ≤ length digits.now }
-    ensures { result ≡ length (plane_code n digits.now) }
-{
-    n + tail_len(&digits[n..])
-}
-
-/// The length of the code of the top `prec` planes, unpacking each into `digits`, whose length is the size of a plane.
-fn planes_len(prec: u32, planes: &[[u64; 4]], digits: &mut [bool]) -> u64
-    requires size { length digits.old ≤ 256 }
+/// The number of bits of the code of the top `prec` planes without a budget.
+///
+/// `planes[k]` holds digit k of each coefficient by rank, and bits from rank `size` on are not looked at.
+pub fn planes_len<P: Plane>(prec: u32, size: usize, planes: &[P]) -> u64
+    requires size { size ≤ 256 }
+    requires words { size ≤ 64 * P.word_count }
     requires planes { prec ≤ length planes.now }
-    ensures { result ≡ length (code (take prec (planes_held (length digits.old) planes.now))) }
+    ensures count { result ≡ length (code (take prec (planes_held size (map P.words planes.now)))) }
+    ensures most { result ≤ size * prec + size }
 {
     let mut len = 0;
     let mut above = 0;
     for i in 0..prec as usize {
-        unpack(&planes[planes.len() - 1 - i], digits);
-        len += plane_len(above, digits) as u64;
-        above = above.max(reach_of(digits));
+        let plane = &planes[planes.len() - 1 - i];
+        let end = reach_in(plane, size);
+        len += plane_len(above, size, end, plane) as u64;
+        above = above.max(end);
     }
     len
 }
@@ -65,6 +57,33 @@ pub fn code_len(prec: u32, size: usize, planes: &[[u64; 4]]) -> u64
     ensures count { result ≡ length (code (take prec (planes_held size planes.now))) }
     ensures most { result ≤ size * prec + size }
 {
-    let mut digits = [false; MOST_DIGITS];
-    planes_len(prec, planes, &mut digits[..size])
+    planes_len(prec, size, planes)
+}
+
+/// How many planes there are from the top one down to the lowest that has a one; 0 where none has.
+///
+/// `planes[k]` holds digit k of each coefficient by rank, and bits from rank `size` on are not looked at.
+pub fn planes_used<P: Plane>(size: usize, planes: &[P]) -> u32
+    requires size { size ≤ 256 }
+    requires words { size ≤ 64 * P.word_count }
+    requires planes { length planes.now ≤ 64 }
+    ensures { result ≡ needed_planes (planes_held size (map P.words planes.now)) }
+{
+    for (k, plane) in planes.iter().enumerate() {
+        if reach_in(plane, size) > 0 {
+            return (planes.len() - k) as u32;
+        }
+    }
+    0
+}
+
+/// How many planes there are from the top one down to the lowest that has a one; 0 where none has.
+///
+/// `planes[k]` holds digit k of each coefficient by rank, and bits from rank `size` on are not looked at.
+pub fn used_planes(size: usize, planes: &[[u64; 4]]) -> u32
+    requires size { IsBlockSize size }
+    requires planes { length planes.now ≤ 64 }
+    ensures { result ≡ needed_planes (planes_held size planes.now) }
+{
+    planes_used(size, planes)
 }

@@ -1,6 +1,6 @@
 //! Where the ones of a plane in words are.
 
-ghost use Rattle.std.specs.Prelude.{◌≡◌, ◌+◌, ◌*◌, ◌<◌, ◌≤◌, IsTrue, true, false, ◌∷◌, ◌++◌, length, drop, replicate};
+ghost use Rattle.std.specs.Prelude.{◌≡◌, ◌+◌, ◌*◌, ◌<◌, ◌≤◌, IsTrue, true, false, ◌∷◌, ◌++◌, count_by, length, map, drop, replicate};
 ghost use Rattle.zf_spec.specs.Planes.{reach, has_one};
 ghost use Rattle.zf_spec.specs.HeldPlanes.{digits_held};
 
@@ -46,4 +46,33 @@ pub(crate) fn reach_in<P: Plane>(plane: &P, size: usize) -> usize
         end = last - last % 64;
     }
     0
+}
+
+/// How many of the ranks from `n` on have a one.
+#[inline]
+pub(crate) fn ones_from<P: Plane>(plane: &P, n: usize, size: usize) -> usize
+    requires size { size ≤ 256 }
+    requires words { size ≤ 64 * P.word_count }
+    requires in_plane { n ≤ size }
+    ensures { result ≡ count_by (λ digit. digit) (drop n (digits_held size (P.words plane.now))) }
+{
+    let mut ones = 0;
+    let mut at = n;
+    while at < size {
+        // As many as one word has.
+        let count = (64 - at % 64).min(size - at);
+        let digits = plane.word(at / 64) >> (at % 64) & u64::MAX >> (64 - count);
+        ones += digits.count_ones() as usize;
+        at += count;
+    }
+    ones
+}
+
+/// Makes all planes zero.
+pub(crate) fn clear<P: Plane>(planes: &mut [P])
+    ensures { map P.words planes.new ≡ replicate (length planes.old) (replicate P.word_count 0) }
+{
+    for plane in planes.iter_mut() {
+        *plane = P::zero();
+    }
 }

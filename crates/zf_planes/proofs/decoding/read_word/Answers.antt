@@ -1,19 +1,12 @@
 use Rattle.std.proofs.Common.{◌≡◌, ℕ, ◌+◌, ◌-◌, ◌/◌, ◌%◌, ◌^◌, ◌≤◌, ◌<◌, Bool, false, List, ◌++◌, take, replicate, ap, sym, ◌∙◌, arith}
-use Rattle.std.proofs.lemmas.Nat.{and_mask, mod_below, pow_pos}
-use Rattle.std.proofs.lemmas.Nat.Bits.{ones_shr}
+use Rattle.std.proofs.lemmas.Nat.{mod_below, pow_pos}
 use Rattle.std.proofs.Math.Nat.{div-eq_of_lt}
-use Rattle.std.specs.Int.Bits.{bit_and}
 use Rattle.zf_spec.specs.Numbers.{field}
 use Rattle.zf_spec.proofs.Fields.{field-add, field-mod, field-zero}
 use Rattle.zf_bits.specs.Reader.{rest}
+use Rattle.zf_planes.proofs.Digits.{masked}
 use Rattle.zf_planes.proofs.Peeking.{window_front}
 use Rattle.zf_planes.proofs.decoding.read_word.Goals as goal
-
--- a mask leaves the lowest bits
-masked : (v n : ℕ) → n ≤ 64 → bit_and v (18446744073709551615 / 2 ^ (64 - n)) ≡ v % 2 ^ n
-masked v n small =
-    let left : 64 - (64 - n) ≡ n = omega arith in
-    ap (bit_and v) (ones_shr 64 (64 - n) (omega arith) ∙ ap (λ k. 2 ^ k - 1) left) ∙ and_mask v n
 
 -- the lowest bits as a word
 low_field : (v n : ℕ) → n ≤ 64 → field 64 (v % 2 ^ n) ≡ field n v ++ replicate (64 - n) false

@@ -8,7 +8,7 @@ use Rattle.zf_planes.proofs.Lengths.{length-code_words-le}
 use Rattle.zf_spec.proofs.Fields.{field-zero}
 use Rattle.zf_bits.proofs.Appending.{Appends-same}
 use Rattle.zf_planes.proofs.Zeros.{take_zeros, zero_code}
-use Rattle.zf_planes.proofs.Unpacking.{length-top_held, drop-top_held, each_long}
+use Rattle.zf_planes.proofs.Unpacking.{length-top_held, code_next, each_long}
 use Rattle.zf_planes.proofs.encoding.write_planes.Given.{Over}
 use Rattle.zf_planes.proofs.encoding.write_planes.Goals as goal
 use Rattle.zf_planes.proofs.encoding.write_planes.Goals.{then-loop-i-test+else-left-gt0, else-loop-i-test}
@@ -18,13 +18,7 @@ next_plane : {A : Type 0} {old now : Writer} {budget left : ℕ} {whole : List B
     → Remains old now budget left whole (code_from above (drop i (take prec (planes_held size (map words planes)))))
     → plane ≡ get_or planes (length planes - 1 - i) plane → i < prec → prec ≤ length planes
     → Remains old now budget left whole (plane_code above (digits_held size (words plane)) ++ code_from (max above (reach (digits_held size (words plane)))) (drop (i + 1) (take prec (planes_held size (map words planes)))))
-next_plane words above prec size i planes plane remains is below within =
-    let all = map words planes in
-    let long = length-map planes words in
-    let place : length all - 1 - i ≡ length planes - 1 - i = omega arith in
-    let same : get_or all (length all - 1 - i) [] ≡ words plane =
-    ap (λ k. get_or all k []) place ∙ get_or-map words planes (length planes - 1 - i) plane [] (omega arith) ∙ ap words (sym is) in
-    Remains-same remains (ap (code_from above) (drop-top_held prec size all i below (omega arith) ∙ ap (λ (ws : List ℕ). digits_held size ws ∷ drop (i + 1) (take prec (planes_held size all))) same))
+next_plane words above prec size i planes plane remains is below within = Remains-same remains (code_next words above prec size i planes plane is below within)
 
 -- the code of all planes remains to be written, of which the first k have no one
 remains_all : {A : Type 0} (out : Writer) (words : A → List ℕ) (count budget prec size k : ℕ) (planes : List A) → ((plane : A) → length (words plane) ≡ count) → size ≤ 64 * count → prec ≤ length planes

@@ -1,11 +1,61 @@
-use Rattle.std.proofs.Common.{drop, arith, length-drop}
-use Rattle.std.proofs.lemmas.List.{take_rest}
-use Rattle.zf_spec.proofs.PlaneCode.{length-tail-le}
+use Rattle.std.proofs.Common.{◌≡◌, ◌+◌, ◌-◌, ◌*◌, ◌≤◌, length, drop, sym, ap, ◌∙◌, arith, length-drop}
+use Rattle.std.proofs.lemmas.List.Sums.{count_by-le-length}
+use Rattle.zf_spec.specs.Planes.{reach, tail}
+use Rattle.zf_spec.specs.HeldPlanes.{digits_held}
+use Rattle.zf_spec.proofs.HeldPlanes.{length-digits_held}
 use Rattle.zf_spec.proofs.Reach.{reach-le}
+use Rattle.zf_planes.proofs.Lengths.{ones, length-tail, length-plane_code, reach-drop}
+use Rattle.zf_planes.proofs.measuring.plane_len.Given.{Over}
 use Rattle.zf_planes.proofs.measuring.plane_len.Goals as goal
 
+small : (g : Over) (c : goal.After-saturating_sub g) → (c.ones_from.result ≤ c.args.size) × (c.args.end ≤ c.args.size)
+small g c =
+    let ds = digits_held c.args.size (g.P.Plane.words c.args.plane.now) in
+    let long = length-digits_held c.args.size (g.P.Plane.words c.args.plane.now) (omega (arith, c.requires.words, g.met.P.Plane.long c.args.plane.now)) in
+    (omega (arith, c.ones_from.ensures, count_by-le-length (λ d. d) (drop c.args.n ds), length-drop c.args.n ds, long), omega (arith, c.requires.end, reach-le ds, long))
+
+pub overflow_add-runs : goal.overflow_add-runs
+overflow_add-runs g c =
+    let ds = digits_held c.args.size (g.P.Plane.words c.args.plane.now) in
+    let long = length-digits_held c.args.size (g.P.Plane.words c.args.plane.now) (omega (arith, c.requires.words, g.met.P.Plane.long c.args.plane.now)) in
+    omega (arith, c.ones_from.ensures, count_by-le-length (λ d. d) (drop c.args.n ds), length-drop c.args.n ds, long, c.requires.end, reach-le ds, c.requires.size, c.saturating_sub.ensures)
+
 pub overflow_add-result : goal.overflow_add-result
-overflow_add-result c =
-    let rest = drop c.args.n c.args.digits.now in
-    let is = rw (take_rest c.args.digits.now c.args.n) at c.tail_len.ensures in
-    omega (arith, is, length-tail-le rest, reach-le rest, length-drop c.args.n c.args.digits.now)
+overflow_add-result g c =
+    let ds = digits_held c.args.size (g.P.Plane.words c.args.plane.now) in
+    let long = length-digits_held c.args.size (g.P.Plane.words c.args.plane.now) (omega (arith, c.requires.words, g.met.P.Plane.long c.args.plane.now)) in
+    omega (arith, c.ones_from.ensures, count_by-le-length (λ d. d) (drop c.args.n ds), length-drop c.args.n ds, long, c.requires.end, reach-le ds, c.requires.size, c.saturating_sub.ensures, c.requires.in_plane)
+
+pub overflow_add-result-then-max-size : goal.overflow_add-result-then-max-size
+overflow_add-result-then-max-size g c =
+    let ds = digits_held c.args.size (g.P.Plane.words c.args.plane.now) in
+    let long = length-digits_held c.args.size (g.P.Plane.words c.args.plane.now) (omega (arith, c.requires.words, g.met.P.Plane.long c.args.plane.now)) in
+    omega (arith, c.ones_from.ensures, count_by-le-length (λ d. d) (drop c.args.n ds), length-drop c.args.n ds, long, c.requires.end, reach-le ds, c.requires.size, c.saturating_sub.ensures, c.requires.in_plane)
+
+pub overflow_add-result-else-max-size : goal.overflow_add-result-else-max-size
+overflow_add-result-else-max-size g c =
+    let ds = digits_held c.args.size (g.P.Plane.words c.args.plane.now) in
+    let long = length-digits_held c.args.size (g.P.Plane.words c.args.plane.now) (omega (arith, c.requires.words, g.met.P.Plane.long c.args.plane.now)) in
+    omega (arith, c.ones_from.ensures, count_by-le-length (λ d. d) (drop c.args.n ds), length-drop c.args.n ds, long, c.requires.end, reach-le ds, c.requires.size, c.saturating_sub.ensures, c.saturating_sub-else-max-size.ensures, c.requires.in_plane)
+
+pub returns-then-max-size : goal.returns-then-max-size
+returns-then-max-size g c =
+    let n = c.args.n in
+    let ds = digits_held c.args.size (g.P.Plane.words c.args.plane.now) in
+    let long = length-digits_held c.args.size (g.P.Plane.words c.args.plane.now) (omega (arith, c.requires.words, g.met.P.Plane.long c.args.plane.now)) in
+    let whole = length-plane_code n ds (omega (arith, long, c.requires.in_plane)) in
+    let reached = reach-drop n ds in
+    let behind = length-drop n ds in
+    let tail_long = (length-tail (drop n ds)).0 (omega (arith, reached, behind, long, c.requires.end, c.if-max-size.true, c.max.ensures)) in
+    omega (arith, whole, tail_long, reached, c.ones_from.ensures, c.saturating_sub.ensures, c.requires.end)
+
+pub returns-else-max-size : goal.returns-else-max-size
+returns-else-max-size g c =
+    let n = c.args.n in
+    let ds = digits_held c.args.size (g.P.Plane.words c.args.plane.now) in
+    let long = length-digits_held c.args.size (g.P.Plane.words c.args.plane.now) (omega (arith, c.requires.words, g.met.P.Plane.long c.args.plane.now)) in
+    let whole = length-plane_code n ds (omega (arith, long, c.requires.in_plane)) in
+    let reached = reach-drop n ds in
+    let behind = length-drop n ds in
+    let tail_long = (length-tail (drop n ds)).1 (omega (arith, reached, behind, long, c.requires.end, c.if-max-size.false, c.max.ensures)) in
+    omega (arith, whole, tail_long, reached, c.ones_from.ensures, c.saturating_sub.ensures, c.saturating_sub-else-max-size.ensures, c.requires.end)

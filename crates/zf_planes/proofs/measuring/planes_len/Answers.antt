@@ -1,36 +1,60 @@
-use Rattle.std.proofs.Common.{◌≡◌, ℕ, ◌+◌, ◌-◌, ◌<◌, ◌≤◌, max, Bool, List, [], ◌∷◌, length, take, drop, get_or, ap, sym, ◌∙◌, arith, length-append}
+use Rattle.std.proofs.Common.{◌≡◌, ℕ, ◌+◌, ◌-◌, ◌*◌, ◌<◌, ◌≤◌, max, Bool, List, [], ◌++◌, length, map, take, drop, get_or, ap, ◌∙◌, arith, length-append}
 use Rattle.std.proofs.Math.Nat.{mul-le-mul_right}
-use Rattle.zf_spec.specs.Planes.{code_from, plane_code, reach}
+use Rattle.std.proofs.lemmas.List.{drop_all, length-map}
+use Rattle.zf_spec.specs.Planes.{code, code_from, plane_code, reach}
 use Rattle.zf_spec.specs.HeldPlanes.{planes_held, digits_held}
-use Rattle.zf_planes.proofs.Lengths.{length-code_held-le}
-use Rattle.zf_planes.proofs.Unpacking.{drop-top_held}
+use Rattle.zf_planes.proofs.Lengths.{length-code_words-le}
+use Rattle.zf_planes.proofs.Unpacking.{length-top_held, code_next, each_long}
+use Rattle.zf_planes.proofs.measuring.planes_len.Given.{Over}
 use Rattle.zf_planes.proofs.measuring.planes_len.Goals as goal
 
--- the length from a plane on, whose digits are ds
-next_plane : (above prec size i : ℕ) (planes : List (List ℕ)) (ds : List Bool) → ds ≡ digits_held size (get_or planes (length planes - 1 - i) []) → i < prec → prec ≤ length planes
-    → length (code_from above (drop i (take prec (planes_held size planes)))) ≡ length (plane_code above ds) + length (code_from (max above (reach ds)) (drop (i + 1) (take prec (planes_held size planes))))
-next_plane above prec size i planes ds is below within =
-    let top = take prec (planes_held size planes) in
-    ap (λ (ps : List (List Bool)). length (code_from above ps)) (drop-top_held prec size planes i below within ∙ ap (λ (d : List Bool). d ∷ drop (i + 1) top) (sym is))
-    ∙ length-append (plane_code above ds) (code_from (max above (reach ds)) (drop (i + 1) top))
+pub loop-i-init : goal.loop-i-init
+loop-i-init g c = record { sum = omega arith; above = omega arith }
+
+pub plane_len-requires-clause-in_plane : goal.plane_len-requires-clause-in_plane
+plane_len-requires-clause-in_plane g c = c.loop-i.invariant.above
+
+-- the code has few bits
+most : {A : Type 0} (words : A → List ℕ) (count prec size : ℕ) (planes : List A) → ((plane : A) → length (words plane) ≡ count) → size ≤ 64 * count → prec ≤ length planes
+    → length (code (take prec (planes_held size (map words planes)))) ≤ size * prec + size
+most words count prec size planes long enough within =
+    let all = length-map planes words in
+    length-code_words-le prec size (map words planes) (omega arith) (λ i below. let has = each_long words count long planes i (omega arith) in omega arith)
+
+-- the length with one plane more
+step : {A : Type 0} (words : A → List ℕ) (above prec size i : ℕ) (planes : List A) (plane : A) → plane ≡ get_or planes (length planes - 1 - i) plane → i < prec → prec ≤ length planes
+    → length (code_from above (drop i (take prec (planes_held size (map words planes)))))
+    ≡ length (plane_code above (digits_held size (words plane))) + length (code_from (max above (reach (digits_held size (words plane)))) (drop (i + 1) (take prec (planes_held size (map words planes)))))
+step words above prec size i planes plane is below within =
+    ap length (code_next words above prec size i planes plane is below within)
+    ∙ length-append (plane_code above (digits_held size (words plane))) (code_from (max above (reach (digits_held size (words plane)))) (drop (i + 1) (take prec (planes_held size (map words planes)))))
 
 pub overflow_add-len : goal.overflow_add-len
-overflow_add-len c =
-    let size = length c.args.digits.now in
-    let is = rw c.loop-i.auto.digits at c.unpack.ensures in
-    let step = next_plane c.loop-i.above c.args.prec size c.loop-i.i c.args.planes.now c.unpack.new.digits is c.loop-i-test.true c.requires.planes in
-    let most = length-code_held-le c.args.prec size c.args.planes.now c.requires.size c.requires.planes c.told-planes in
-    let few = mul-le-mul_right c.args.prec c.requires.size in
-    omega (arith, c.loop-i.invariant.sum, c.plane_len.ensures, step, most, few)
+overflow_add-len g c =
+    let next = step g.P.Plane.words c.loop-i.above c.args.prec c.args.size c.loop-i.i c.args.planes.now c.index-planes-planes.result c.index-planes-planes.is c.loop-i-test.true c.requires.planes in
+    let few = most g.P.Plane.words _ c.args.prec c.args.size c.args.planes.now g.met.P.Plane.long c.requires.words c.requires.planes in
+    let product = mul-le-mul_right c.args.prec c.requires.size in
+    omega (arith, c.loop-i.invariant.sum, c.plane_len.ensures, next, few, product)
 
 pub loop-i-preserved : goal.loop-i-preserved
-loop-i-preserved c =
-    let size = length c.args.digits.now in
-    let is = rw c.loop-i.auto.digits at c.unpack.ensures in
-    let ds = c.unpack.new.digits in
-    let step = next_plane c.loop-i.above c.args.prec size c.loop-i.i c.args.planes.now ds is c.loop-i-test.true c.requires.planes in
-    let reached : max c.loop-i.above (reach ds) ≡ c.max-above.result = omega (arith, c.reach_of.ensures.value) in
+loop-i-preserved g c =
+    let ds = digits_held c.args.size (g.P.Plane.words c.index-planes-planes.result) in
+    let next = step g.P.Plane.words c.loop-i.above c.args.prec c.args.size c.loop-i.i c.args.planes.now c.index-planes-planes.result c.index-planes-planes.is c.loop-i-test.true c.requires.planes in
+    let reached : max c.loop-i.above (reach ds) ≡ c.max-above.result = omega (arith, c.reach_in-end.ensures.value, c.max-above.ensures) in
     record {
-      sum = omega (arith, c.loop-i.invariant.sum, c.plane_len.ensures, rw reached at step);
-      above = omega (arith, c.loop-i.invariant.above, c.unpack.auto.digits);
+      sum = omega (arith, c.loop-i.invariant.sum, c.plane_len.ensures, rw reached at next);
+      above = omega (arith, c.loop-i.invariant.above, c.reach_in-end.ensures.bound, c.max-above.ensures);
     }
+
+pub returns-clause-count : goal.returns-clause-count
+returns-clause-count g c =
+    let planes = map g.P.Plane.words c.args.planes.now in
+    let long = length-map c.args.planes.now g.P.Plane.words in
+    let top = take c.args.prec (planes_held c.args.size planes) in
+    let none = ap (λ (ps : List (List Bool)). length (code_from c.loop-i.above ps)) (drop_all c.loop-i.i top (omega (arith, length-top_held c.args.prec c.args.size planes (omega (arith, c.requires.planes)), c.loop-i-test.false))) in
+    omega (arith, c.loop-i.invariant.sum, none)
+
+pub returns-clause-most : goal.returns-clause-most
+returns-clause-most g c =
+    let few = most g.P.Plane.words _ c.args.prec c.args.size c.args.planes.now g.met.P.Plane.long c.requires.words c.requires.planes in
+    omega (arith, c.loop-i.invariant.sum, few)

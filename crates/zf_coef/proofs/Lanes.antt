@@ -1,0 +1,103 @@
+-- Words that are swapped in lanes of two.
+use Rattle.std.proofs.Common.{◌≡◌, refl, sym, ap, ◌∙◌, ℕ, ◌+◌, ◌-◌, ◌*◌, ◌/◌, ◌%◌, ◌^◌, ◌<◌, ◌≤◌, ◌≢◌, ⊎_elim, List, length, get_or, replicate, arith}
+use Rattle.std.proofs.lemmas.Bool.{cases_lt}
+use Rattle.std.specs.Int.RustNames.{bit_xor}
+use lib.Bits.{bit_and}
+use lib.Lanes.{zip2, chunk, put_chunk}
+use Rattle.std.proofs.lemmas.Simd.{length-chunk, get_or-chunk, length-zip2, get_or-zip2, get_or-replicate, length-replicate, length-put_chunk, get_or-put_chunk_at, get_or-put_chunk_below, get_or-put_chunk_above}
+use Rattle.zf_coef.specs.Turned.{moved, swapped_low, swapped_high, IsSwapped}
+
+-- the bits that are moved, of each lane
+abbrev pub moved_lanes : ℕ → ℕ → List ℕ → List ℕ → List ℕ
+moved_lanes s m as' bs = zip2 bit_and (zip2 bit_xor (zip2 (λ x k. x / 2 ^ k) as' (replicate 2 s)) bs) (replicate 2 m)
+
+abbrev pub high_lanes : ℕ → ℕ → List ℕ → List ℕ → List ℕ
+high_lanes s m as' bs = zip2 bit_xor bs (moved_lanes s m as' bs)
+
+abbrev pub low_lanes : ℕ → ℕ → List ℕ → List ℕ → List ℕ
+low_lanes s m as' bs = zip2 bit_xor as' (zip2 (λ x k. x * 2 ^ k % 2 ^ 64) (moved_lanes s m as' bs) (replicate 2 s))
+
+-- a lane of two vectors
+get_or-both : (f : ℕ → ℕ → ℕ) (xs ys : List ℕ) (l : ℕ) → length xs ≡ 2 → length ys ≡ 2 → l < 2 → get_or (zip2 f xs ys) l 0 ≡ f (get_or xs l 0) (get_or ys l 0)
+get_or-both f xs ys l a b h = get_or-zip2 f xs ys l 0 0 0 (omega arith) (omega arith)
+
+length-both : (f : ℕ → ℕ → ℕ) (xs ys : List ℕ) → length xs ≡ 2 → length ys ≡ 2 → length (zip2 f xs ys) ≡ 2
+length-both f xs ys a b = length-zip2 f xs ys (a ∙ sym b) ∙ a
+
+two : (k : ℕ) → length (replicate 2 k) ≡ 2
+two k = refl
+
+get_or-two : (k l : ℕ) → l < 2 → get_or (replicate 2 k) l 0 ≡ k
+get_or-two k l h = get_or-replicate 2 l k 0 h
+
+record Lanes (s m : ℕ) (as' bs : List ℕ) (l : ℕ) : Type 0 where
+  pub lower : get_or (low_lanes s m as' bs) l 0 ≡ swapped_low s m (get_or as' l 0) (get_or bs l 0)
+  pub upper : get_or (high_lanes s m as' bs) l 0 ≡ swapped_high s m (get_or as' l 0) (get_or bs l 0)
+  pub long_lower : length (low_lanes s m as' bs) ≡ 2
+  pub long_upper : length (high_lanes s m as' bs) ≡ 2
+
+each_lane : (s m : ℕ) (as' bs : List ℕ) (l : ℕ) → length as' ≡ 2 → length bs ≡ 2 → l < 2 → Lanes s m as' bs l
+each_lane s m as' bs l long_a long_b h =
+    let shr : ℕ → ℕ → ℕ = λ x k. x / 2 ^ k in
+    let shl : ℕ → ℕ → ℕ = λ x k. x * 2 ^ k % 2 ^ 64 in
+    let shifted = zip2 shr as' (replicate 2 s) in
+    let long_shifted = length-both shr as' (replicate 2 s) long_a (two s) in
+    let mixed = zip2 bit_xor shifted bs in
+    let long_mixed = length-both bit_xor shifted bs long_shifted long_b in
+    let all = moved_lanes s m as' bs in
+    let long_all = length-both bit_and mixed (replicate 2 m) long_mixed (two m) in
+    let back = zip2 shl all (replicate 2 s) in
+    let long_back = length-both shl all (replicate 2 s) long_all (two s) in
+    let a = get_or as' l 0 in
+    let b = get_or bs l 0 in
+    let at_all : get_or all l 0 ≡ moved s m a b =
+    get_or-both bit_and mixed (replicate 2 m) l long_mixed (two m) h
+    ∙ ap (bit_and (get_or mixed l 0)) (get_or-two m l h)
+    ∙ ap (λ x. bit_and x m) (get_or-both bit_xor shifted bs l long_shifted long_b h
+    ∙ ap (λ x. bit_xor x b) (get_or-both shr as' (replicate 2 s) l long_a (two s) h ∙ ap (λ k. a / 2 ^ k) (get_or-two s l h))) in
+    record {
+      lower = get_or-both bit_xor as' back l long_a long_back h
+          ∙ ap (bit_xor a) (get_or-both shl all (replicate 2 s) l long_all (two s) h ∙ ap (λ k. get_or all l 0 * 2 ^ k % 2 ^ 64) (get_or-two s l h) ∙ ap (λ x. x * 2 ^ s % 2 ^ 64) at_all);
+      upper = get_or-both bit_xor bs all l long_b long_all h ∙ ap (bit_xor b) at_all;
+      long_lower = length-both bit_xor as' back long_a long_back;
+      long_upper = length-both bit_xor bs all long_b long_all;
+    }
+
+-- two vectors that are stored where they were loaded
+pub lanes_swapped : (low high s m : ℕ) (words : List ℕ) → low + 2 ≤ high → high + 2 ≤ length words
+    → IsSwapped 2 low high s m words
+    (put_chunk low (put_chunk high words (high_lanes s m (chunk low 2 words) (chunk high 2 words))) (low_lanes s m (chunk low 2 words) (chunk high 2 words)))
+lanes_swapped low high s m words apart within =
+    let as' = chunk low 2 words in
+    let bs = chunk high 2 words in
+    let long_a : length as' ≡ 2 = length-chunk low 2 words (omega arith) in
+    let long_b : length bs ≡ 2 = length-chunk high 2 words within in
+    let up = high_lanes s m as' bs in
+    let down = low_lanes s m as' bs in
+    let lane = λ (l : ℕ) (h : l < 2). each_lane s m as' bs l long_a long_b h in
+    let first = lane 0 (omega arith) in
+    let mid = put_chunk high words up in
+    let long_mid : length mid ≡ length words = length-put_chunk high words up in
+    let at_a : (l : ℕ) → l < 2 → get_or as' l 0 ≡ get_or words (low + l) 0 = λ l h. get_or-chunk low 2 words l 0 h in
+    let at_b : (l : ℕ) → l < 2 → get_or bs l 0 ≡ get_or words (high + l) 0 = λ l h. get_or-chunk high 2 words l 0 h in
+    record {
+      long = length-put_chunk low mid down ∙ long_mid;
+      lower = λ l h. get_or-put_chunk_at low mid down l 0 (omega (arith, first.long_lower)) (omega (arith, first.long_lower))
+          ∙ (lane l h).lower
+          ∙ ap (λ a. swapped_low s m a (get_or bs l 0)) (at_a l h) ∙ ap (swapped_low s m (get_or words (low + l) 0)) (at_b l h);
+      upper = λ l h. get_or-put_chunk_above low mid down (high + l) 0 (omega (arith, first.long_lower))
+          ∙ get_or-put_chunk_at high words up l 0 (omega (arith, first.long_upper)) (omega (arith, first.long_upper))
+          ∙ (lane l h).upper
+          ∙ ap (λ a. swapped_high s m a (get_or bs l 0)) (at_a l h) ∙ ap (swapped_high s m (get_or words (low + l) 0)) (at_b l h);
+      other = λ j not_low not_high.
+          outside low mid down j first.long_lower not_low ∙ outside high words up j first.long_upper not_high;
+    }
+  where
+    outside : (at : ℕ) (xs ys : List ℕ) (j : ℕ) → length ys ≡ 2 → ((l : ℕ) → l < 2 → j ≢ at + l) → get_or (put_chunk at xs ys) j 0 ≡ get_or xs j 0
+    outside at xs ys j long apart = ⊎_elim
+        (λ before. get_or-put_chunk_below at xs ys j 0 before)
+        (λ from. ⊎_elim
+        (λ (inside : j < at + 2). absurd (apart (j - at) (omega arith) (omega arith)))
+        (λ behind. get_or-put_chunk_above at xs ys j 0 (omega arith))
+        (cases_lt j (at + 2)))
+        (cases_lt j at)

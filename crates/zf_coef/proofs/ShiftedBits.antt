@@ -1,0 +1,66 @@
+-- Bits of words that are shifted, cut and put together.
+use Rattle.std.proofs.Common.{◌≡◌, refl, sym, ap, subst, ◌∙◌, ℕ, ◌+◌, ◌-◌, ◌*◌, ◌/◌, ◌%◌, ◌^◌, ◌<◌, ◌≤◌, min, max, mod-lt, arith}
+use Rattle.std.specs.Int.{bit_at}
+use Rattle.std.specs.Int.RustNames.{bit_or}
+use lib.Bits.{bit_and}
+use Rattle.std.proofs.Math.Pow.{mod-mod-pow}
+use Rattle.std.proofs.lemmas.Nat.{shr-shr, field_of, pow_pos, and_mask}
+use Rattle.std.proofs.lemmas.Nat.Bits.{bit_at_and, bit_at_or, bit_at-lt, bit_at_cat_low, bit_at_cat_high, bit_at-zero, bit_at_above, ones_shr}
+
+pub bit_at-shr : (a s i : ℕ) → bit_at (a / 2 ^ s) i ≡ bit_at a (s + i)
+bit_at-shr a s i = ap (λ n. n % 2) (shr-shr a s i)
+
+pub bit_at-mod_pow : (a w i : ℕ) → i < w → bit_at (a % 2 ^ w) i ≡ bit_at a i
+bit_at-mod_pow a w i h =
+    let whole : (w - i) + i ≡ w = omega arith in
+    let cut : a % 2 ^ w / 2 ^ i ≡ a / 2 ^ i % 2 ^ (w - i) = subst (λ n. a % 2 ^ n / 2 ^ i ≡ a / 2 ^ i % 2 ^ (w - i)) whole (field_of a (w - i) i) in
+    let last : (w - i - 1) + 1 ≡ w - i = omega arith in
+    ap (λ n. n % 2) cut ∙ subst (λ n. a / 2 ^ i % 2 ^ n % 2 ≡ a / 2 ^ i % 2) last (mod-mod-pow (a / 2 ^ i) (w - i - 1) 1)
+
+pub bit_at-mod_above : (a w i : ℕ) → w ≤ i → bit_at (a % 2 ^ w) i ≡ 0
+bit_at-mod_above a w i h = bit_at_above (a % 2 ^ w) w i (mod-lt a (pow_pos w)) h
+
+pub bit_at-mod : (a i : ℕ) → i < 64 → bit_at (a % 2 ^ 64) i ≡ bit_at a i
+bit_at-mod a i h = bit_at-mod_pow a 64 i h
+
+pub bit_at-shl_low : (a s i : ℕ) → i < s → bit_at (a * 2 ^ s) i ≡ 0
+bit_at-shl_low a s i h =
+    let whole : a * 2 ^ s ≡ a * 2 ^ s + 0 = omega arith in
+    ap (λ n. bit_at n i) whole ∙ bit_at_cat_low a s 0 i h ∙ bit_at-zero i
+
+pub bit_at-shl_high : (a s i : ℕ) → s ≤ i → bit_at (a * 2 ^ s) i ≡ bit_at a (i - s)
+bit_at-shl_high a s i h =
+    let whole : a * 2 ^ s ≡ a * 2 ^ s + 0 = omega arith in
+    ap (λ n. bit_at n i) whole ∙ bit_at_cat_high a s 0 i (pow_pos s) h
+
+-- the n lowest bits, by a mask that is shifted down
+pub and_ones : (v n : ℕ) → n ≤ 64 → bit_and v (0xffff_ffff_ffff_ffff / 2 ^ (64 - n)) ≡ v % 2 ^ n
+and_ones v n within =
+    let back : 64 - (64 - n) ≡ n = omega arith in
+    ap (bit_and v) (ones_shr 64 (64 - n) (omega arith) ∙ ap (λ k. 2 ^ k - 1) back) ∙ and_mask v n
+
+-- the low half of a word and, above it, another
+pub low_half : (a b i : ℕ) → i < 32 → bit_at (bit_or (bit_and a 0xffff_ffff) (b * 0x1_0000_0000 % 2 ^ 64)) i ≡ bit_at a i
+low_half a b i h =
+    let low = bit_at-mod_pow a 32 i h in
+    let high = bit_at-shl_low b 32 i h in
+    omega (arith, bit_at_or (bit_and a 0xffff_ffff) (b * 0x1_0000_0000 % 2 ^ 64) i, ap (λ n. bit_at n i) (and_mask a 32), low, bit_at-mod (b * 2 ^ 32) i (omega arith), high)
+
+pub high_half : (a b i : ℕ) → 32 ≤ i → i < 64 → bit_at (bit_or (bit_and a 0xffff_ffff) (b * 0x1_0000_0000 % 2 ^ 64)) i ≡ bit_at b (i - 32)
+high_half a b i from h =
+    let low = bit_at-mod_above a 32 i from in
+    let high = bit_at-shl_high b 32 i from in
+    omega (arith, bit_at_or (bit_and a 0xffff_ffff) (b * 0x1_0000_0000 % 2 ^ 64) i, ap (λ n. bit_at n i) (and_mask a 32), low, bit_at-mod (b * 2 ^ 32) i h, high)
+
+-- the same of the high half of a word and that of another
+pub low_of_high : (a b i : ℕ) → a < 2 ^ 64 → i < 32 → bit_at (bit_or (a / 0x1_0000_0000) (b / 0x1_0000_0000 * 0x1_0000_0000 % 2 ^ 64)) i ≡ bit_at a (32 + i)
+low_of_high a b i word h =
+    let high = bit_at-shl_low (b / 2 ^ 32) 32 i h in
+    omega (arith, bit_at_or (a / 0x1_0000_0000) (b / 0x1_0000_0000 * 0x1_0000_0000 % 2 ^ 64) i, bit_at-shr a 32 i, bit_at-mod (b / 2 ^ 32 * 2 ^ 32) i (omega arith), high)
+
+pub high_of_high : (a b i : ℕ) → a < 2 ^ 64 → i < 32 → bit_at (bit_or (a / 0x1_0000_0000) (b / 0x1_0000_0000 * 0x1_0000_0000 % 2 ^ 64)) (32 + i) ≡ bit_at b (32 + i)
+high_of_high a b i word h =
+    let back : 32 + i - 32 ≡ i = omega arith in
+    let none = bit_at_above a 64 (32 + (32 + i)) word (omega arith) in
+    let high = bit_at-shl_high (b / 2 ^ 32) 32 (32 + i) (omega arith) ∙ ap (bit_at (b / 2 ^ 32)) back ∙ bit_at-shr b 32 i in
+    omega (arith, bit_at_or (a / 0x1_0000_0000) (b / 0x1_0000_0000 * 0x1_0000_0000 % 2 ^ 64) (32 + i), bit_at-shr a 32 (32 + i), none, bit_at-mod (b / 2 ^ 32 * 2 ^ 32) (32 + i) (omega arith), high)

@@ -1,0 +1,43 @@
+-- The digits of up to 64 coefficients, each a word, and the words of planes that have one digit of each.
+use Rattle.std.specs.Prelude.{ℕ, ◌+◌, ◌-◌, ◌%◌, ◌≡◌, ◌≢◌, ◌<◌, ◌≤◌, List, [], length, slice_index_or}
+use Rattle.std.specs.Int.{bit_at}
+use Rattle.zf_coef.specs.Turned.{bit_of}
+
+-- the word of this number of plane k
+abbrev pub word_of : List (List ℕ) → ℕ → ℕ → ℕ
+word_of planes number k = slice_index_or (slice_index_or planes k []) number 0
+
+-- bit r of that word of plane k is digit k of coefficient r
+unfoldable pub HoldsGroup : ℕ → List ℕ → List (List ℕ) → Type 0
+HoldsGroup number digits planes = (k r : ℕ) → k < length planes → r < 64 → bit_at (word_of planes number k) r ≡ bit_of digits r k
+
+-- the same of the 32 planes from `from` on
+unfoldable pub HoldsHalf : ℕ → ℕ → List ℕ → List (List ℕ) → Type 0
+HoldsHalf number from digits planes = (k r : ℕ) → from ≤ k → k < from + 32 → k < length planes → r < 64 → bit_at (word_of planes number k) r ≡ bit_of digits r k
+
+-- digit k of coefficient r is bit r of that word of plane k, or zero where there is no such plane
+unfoldable pub IsOfGroup : ℕ → List (List ℕ) → List ℕ → Type 0
+IsOfGroup number planes digits = (r k : ℕ) → r < length digits → k < 64 → bit_of digits r k ≡ bit_at (word_of planes number k) r
+
+-- planes have the same words but for those of this number
+unfoldable pub KeepsOthers : ℕ → List (List ℕ) → List (List ℕ) → Type 0
+KeepsOthers number old new = (k p : ℕ) → p ≢ number → word_of new p k ≡ word_of old p k
+
+-- ---- the way there
+
+-- so many planes from `from` on, as far as there are any, have words as those of this number; the planes before and behind them keep theirs
+pub record HoldsFrom (count number from : ℕ) (words : List ℕ) (old new : List (List ℕ)) : Type 0 where
+  pub inside : (j : ℕ) → j < count → from + j < length new → word_of new number (from + j) ≡ slice_index_or words j 0
+  pub below : (k : ℕ) → k < from → word_of new number k ≡ word_of old number k
+  pub above : (k : ℕ) → from + count ≤ k → word_of new number k ≡ word_of old number k
+
+-- bit r of plane k is bit r of the tile of words that k lies in, word k mod n; there is no bit from n on
+pub record HoldsTiles (n number : ℕ) (words : List ℕ) (planes : List (List ℕ)) : Type 0 where
+  pub inside : (k r : ℕ) → k < length planes → r < n → bit_at (word_of planes number k) r ≡ bit_of words (k % n) (k - k % n + r)
+  pub outside : (k r : ℕ) → k < length planes → n ≤ r → bit_at (word_of planes number k) r ≡ 0
+
+-- ---- the way back
+
+-- bit b of word j is digit b mod n of the plane that is word j of the tile b lies in
+unfoldable pub AreTiles : ℕ → ℕ → List (List ℕ) → List ℕ → Type 0
+AreTiles n number planes words = (j b : ℕ) → j < n → b < 64 → bit_of words j b ≡ bit_at (word_of planes number (b - b % n + j)) (b % n)

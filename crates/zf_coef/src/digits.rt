@@ -1,0 +1,215 @@
+//! Bit planes become the digits of coefficients.
+
+ghost use Rattle.std.specs.Prelude.{◌≡◌, ℕ, ◌+◌, ◌-◌, ◌*◌, ◌%◌, ◌^◌, ◌<◌, ◌≤◌, ◌⊎◌, All, length, map, slice_index_or};
+ghost use Rattle.std.specs.Int.RustNames.{bit_or};
+ghost use Rattle.zf_spec.specs.Planes.{digits_in_planes};
+ghost use Rattle.zf_spec.specs.HeldPlanes.{planes_held};
+ghost use Rattle.zf_coef.specs.HeldDigits.{digits_in};
+ghost use Rattle.zf_coef.specs.Groups.{word_of, IsOfGroup, AreTiles};
+ghost use Rattle.zf_coef.specs.Turned.{bit_of};
+ghost use Rattle.std.specs.Int.{bit_at};
+
+use crate::planes::have_four_words;
+use crate::turning::{turn_4, turn_16, turn_32};
+use zf_bits::Plane;
+
+/// How many ranks a word of a plane has.
+const WORD_BITS: usize = 64;
+
+/// The way back: writes the digits of as many coefficients as `digits` has words. Bits of later ranks are not looked at.
+pub fn from_planes(planes: &[[u64; 4]], digits: &mut [u64])
+    requires planes { length planes.now ≤ 64 }
+    requires digits { length digits.old ≤ 256 }
+    ensures digits { let n = length planes.now in
+        let size = length digits.new in
+        digits_in n digits.new ≡ digits_in_planes n size (planes_held size planes.now) }
+    ensures below { All (λ u. u < 2 ^ length planes.now) digits.new }
+{
+    have_four_words(planes);
+    digits_of_planes(planes, digits);
+}
+
+/// The same for planes of any number of words, so that blocks of up to 64 coefficients have one word a plane.
+pub fn digits_of_planes<P: Plane>(planes: &[P], digits: &mut [u64])
+    requires planes { length planes.now ≤ 64 }
+    requires digits { length digits.old ≤ 64 * P.word_count }
+    ensures digits { let n = length planes.now in
+        let size = length digits.new in
+        digits_in n digits.new ≡ digits_in_planes n size (planes_held size (map P.words planes.now)) }
+    ensures below { All (λ u. u < 2 ^ length planes.now) digits.new }
+{
+    let size = digits.len();
+    for number in 0..size.div_ceil(WORD_BITS) {
+        let from = number * WORD_BITS;
+        let to = (from + WORD_BITS).min(size);
+        take_group(planes, number, &mut digits[from..to]);
+    }
+    are_words(digits);
+}
+
+/// Says that each of these words is one, for proofs that know of lists of numbers alone.
+#[inline(always)]
+fn are_words(words: &[u64])
+    ensures { All (λ u. u < 2 ^ 64) words.now }
+{
+    let _known = words.len();
+}
+
+/// The digits of which planes have one each in their words of this number.
+#[inline(always)]
+fn take_group<P: Plane>(planes: &[P], number: usize, digits: &mut [u64])
+    requires number { number < P.word_count }
+    requires planes { length planes.now ≤ 64 }
+    requires digits { length digits.old ≤ 64 }
+    ensures { IsOfGroup number (map P.words planes.now) digits.new }
+{
+    match digits.len() {
+        4 => take_4(planes, number, digits),
+        16 => take_16(planes, number, digits),
+        64 => take_64(planes, number, digits),
+        _ => {
+            let mut whole = [0; WORD_BITS];
+            take_64(planes, number, &mut whole);
+            copy_front(&whole, digits);
+        }
+    }
+}
+
+/// Copies as many words as there are digits.
+fn copy_front(words: &[u64], digits: &mut [u64])
+    requires { length digits.old ≤ length words.now }
+    ensures { (r : ℕ) → r < length digits.new → slice_index_or digits.new r 0 ≡ slice_index_or words.now r 0 }
+{
+    for r in 0..digits.len() {
+        digits[r] = words[r];
+    }
+}
+
+#[inline(never)]
+fn take_4<P: Plane>(planes: &[P], number: usize, digits: &mut [u64])
+    requires number { number < P.word_count }
+    requires planes { length planes.now ≤ 64 }
+    requires digits { length digits.old ≡ 4 }
+    ensures { IsOfGroup number (map P.words planes.now) digits.new }
+{
+    let mut words = tiles::<P, 4>(planes, number);
+    turn_4(&mut words);
+    digits.copy_from_slice(&words);
+}
+
+#[inline(never)]
+fn take_16<P: Plane>(planes: &[P], number: usize, digits: &mut [u64])
+    requires number { number < P.word_count }
+    requires planes { length planes.now ≤ 64 }
+    requires digits { length digits.old ≡ 16 }
+    ensures { IsOfGroup number (map P.words planes.now) digits.new }
+{
+    let mut words = tiles::<P, 16>(planes, number);
+    turn_16(&mut words);
+    digits.copy_from_slice(&words);
+}
+
+/// Planes as tiles: tile t of word j is the first digits of plane `N * t + j`.
+#[inline(always)]
+fn tiles<P: Plane, const N: usize>(planes: &[P], number: usize) -> [u64; N]
+    requires size { (N ≡ 4) ⊎ (N ≡ 16) }
+    requires number { number < P.word_count }
+    requires planes { length planes.now ≤ 64 }
+    ensures { AreTiles N number (map P.words planes.now) result }
+{
+    let mut words = [0; N];
+    for tile in 0..WORD_BITS / N {
+        let from = tile * N;
+        if from < planes.len() {
+            add_tile(&mut words, from, &words_from(planes, from, number));
+        }
+    }
+    words
+}
+
+/// Adds the first `N` bits of other words, from bit `from` on.
+#[inline(always)]
+fn add_tile<const N: usize>(words: &mut [u64; N], from: usize, tile: &[u64; N])
+    requires size { (N ≡ 4) ⊎ (N ≡ 16) }
+    requires from { from < 64 }
+    ensures { (j : ℕ) → j < N → slice_index_or words.new j 0
+        ≡ bit_or (slice_index_or words.old j 0) (slice_index_or tile.now j 0 % 2 ^ N * 2 ^ from % 2 ^ 64) }
+{
+    for j in 0..N {
+        words[j] |= (tile[j] & (u64::MAX >> (WORD_BITS - N))) << from;
+    }
+}
+
+/// The words of the planes from `from` on, and zeros past their end.
+#[inline(always)]
+fn words_from<P: Plane, const N: usize>(planes: &[P], from: usize, number: usize) -> [u64; N]
+    requires number { number < P.word_count }
+    requires from { from ≤ length planes.now }
+    ensures { (j : ℕ) → j < N → slice_index_or result j 0 ≡ word_of (map P.words planes.now) number (from + j) }
+{
+    let mut words = [0; N];
+    let count = planes.len() - from;
+    if count < N {
+        copy_words(planes, from, count, number, &mut words);
+    } else {
+        copy_words(planes, from, N, number, &mut words);
+    }
+    words
+}
+
+/// Copies the words of so many planes from `from` on.
+#[inline(always)]
+fn copy_words<P: Plane>(planes: &[P], from: usize, count: usize, number: usize, words: &mut [u64])
+    requires planes { from + count ≤ length planes.now }
+    requires words { count ≤ length words.old }
+    requires number { number < P.word_count }
+    ensures copied { (j : ℕ) → j < count → slice_index_or words.new j 0 ≡ word_of (map P.words planes.now) number (from + j) }
+    ensures others { (j : ℕ) → count ≤ j → slice_index_or words.new j 0 ≡ slice_index_or words.old j 0 }
+{
+    for j in 0..count {
+        words[j] = planes[from + j].word(number);
+    }
+}
+
+#[inline(never)]
+fn take_64<P: Plane>(planes: &[P], number: usize, digits: &mut [u64])
+    requires number { number < P.word_count }
+    requires planes { length planes.now ≤ 64 }
+    requires digits { length digits.old ≡ 64 }
+    ensures { IsOfGroup number (map P.words planes.now) digits.new }
+{
+    let low = half(planes, 0, number);
+    if planes.len() > 32 {
+        join(&low, &half(planes, 32, number), digits);
+    } else {
+        join(&low, &[0; 32], digits);
+    }
+}
+
+/// The 32 planes from `from` on, turned. Planes past the end are zero.
+#[inline(always)]
+fn half<P: Plane>(planes: &[P], from: usize, number: usize) -> [u64; 32]
+    requires number { number < P.word_count }
+    requires from { (from ≤ length planes.now) × (from ≤ 32) }
+    ensures { (j r : ℕ) → j < 32 → r < 64 → bit_of result j r ≡ bit_at (word_of (map P.words planes.now) number (from + r % 32)) (r - r % 32 + j) }
+{
+    let mut words = words_from(planes, from, number);
+    turn_32(&mut words);
+    words
+}
+
+/// Each word has 32 digits of a rank below 32, and then those of the rank 32 above it.
+#[inline(always)]
+fn join(low: &[u64], high: &[u64], digits: &mut [u64])
+    requires halves { length low.now ≡ 32 }
+    requires others { length high.now ≡ 32 }
+    requires digits { length digits.old ≡ 64 }
+    ensures lower { (r k : ℕ) → r < 32 → k < 32 → (bit_of digits.new r k ≡ bit_of low.now r k) × (bit_of digits.new r (32 + k) ≡ bit_of high.now r k) }
+    ensures upper { (r k : ℕ) → r < 32 → k < 32
+        → (bit_of digits.new (32 + r) k ≡ bit_of low.now r (32 + k)) × (bit_of digits.new (32 + r) (32 + k) ≡ bit_of high.now r (32 + k)) }
+{
+    for r in 0..32 {
+        digits[r] = (low[r] & 0xffff_ffff) | high[r] << 32;
+        digits[r + 32] = (low[r] >> 32) | (high[r] >> 32) << 32;
+    }
+}

@@ -1,0 +1,98 @@
+//! Tiles of bits that are turned over their diagonal, in lanes of two words.
+//!
+//! Words are rows of bits. A tile is as many rows as it has columns. It is turned in steps: each swaps, at one digit of
+//! the numbers of rows and columns to the base 2, the bits whose row has a zero there and whose column has a one with
+//! those of which it is the other way round.
+
+ghost use Rattle.std.specs.Prelude.{◌≡◌, ◌+◌, ◌*◌, ◌%◌, ◌<◌, ◌≤◌, length};
+ghost use Rattle.zf_coef.specs.Turned.{IsSwapped, IsStep, IsMask, IsStepped, IsTurned};
+
+use std::simd::prelude::*;
+
+/// Swaps the bits of word `low` from `shift` on with the bits of word `high` that the mask has.
+#[inline(always)]
+fn swap_words(words: &mut [u64], low: usize, high: usize, shift: usize, mask: u64)
+    requires apart { low < high }
+    requires within { high < length words.old }
+    requires shift { shift < 64 }
+    ensures { IsSwapped 1 low high shift mask words.old words.new }
+{
+    let moved = ((words[low] >> shift) ^ words[high]) & mask;
+    words[high] ^= moved;
+    words[low] ^= moved << shift;
+}
+
+/// The same of two words behind `low` and two behind `high`, in lanes.
+#[inline(always)]
+fn swap_lanes(words: &mut [u64], low: usize, high: usize, shift: usize, mask: u64)
+    requires apart { low + 2 ≤ high }
+    requires within { high + 2 ≤ length words.old }
+    requires shift { shift < 64 }
+    ensures { IsSwapped 2 low high shift mask words.old words.new }
+{
+    let a = u64x2::from_slice(&words[low..]);
+    let b = u64x2::from_slice(&words[high..]);
+    let by = u64x2::splat(shift as u64);
+    let moved = ((a >> by) ^ b) & u64x2::splat(mask);
+    (b ^ moved).copy_to_slice(&mut words[high..]);
+    (a ^ (moved << by)).copy_to_slice(&mut words[low..]);
+}
+
+/// A step of words that stand next to each other.
+#[inline(always)]
+fn step_next<const N: usize>(words: &mut [u64; N], mask: u64)
+    requires even { N % 2 ≡ 0 }
+    requires mask { IsMask 1 mask }
+    ensures { IsStepped 1 words.old words.new }
+{
+    for pair in 0..N / 2 {
+        swap_words(words, 2 * pair, 2 * pair + 1, 1, mask);
+    }
+}
+
+/// A step of words that stand `S` apart, two pairs at a time.
+#[inline(always)]
+fn step<const N: usize, const S: usize>(words: &mut [u64; N], mask: u64)
+    requires step { IsStep S }
+    requires whole { N % (2 * S) ≡ 0 }
+    requires mask { IsMask S mask }
+    ensures { IsStepped S words.old words.new }
+{
+    for pair in 0..N / 4 {
+        let first = 2 * pair;
+        let low = first + first / S * S;
+        swap_lanes(words, low, low + S, S, mask);
+    }
+}
+
+/// Turns the tiles of four rows.
+#[inline(always)]
+pub(crate) fn turn_4(words: &mut [u64; 4])
+    ensures { IsTurned 4 words.old words.new }
+{
+    step::<4, 2>(words, 0x3333_3333_3333_3333);
+    step_next(words, 0x5555_5555_5555_5555);
+}
+
+/// Turns the tiles of sixteen rows.
+#[inline(always)]
+pub(crate) fn turn_16(words: &mut [u64; 16])
+    ensures { IsTurned 16 words.old words.new }
+{
+    step::<16, 8>(words, 0x00ff_00ff_00ff_00ff);
+    step::<16, 4>(words, 0x0f0f_0f0f_0f0f_0f0f);
+    step::<16, 2>(words, 0x3333_3333_3333_3333);
+    step_next(words, 0x5555_5555_5555_5555);
+}
+
+/// Turns the tiles of 32 rows.
+#[inline(always)]
+pub(crate) fn turn_32(words: &mut [u64; 32])
+    ensures { IsTurned 32 words.old words.new }
+{
+    step::<32, 16>(words, 0x0000_ffff_0000_ffff);
+    step::<32, 8>(words, 0x00ff_00ff_00ff_00ff);
+    step::<32, 4>(words, 0x0f0f_0f0f_0f0f_0f0f);
+    step::<32, 2>(words, 0x3333_3333_3333_3333);
+    step_next(words, 0x5555_5555_5555_5555);
+}

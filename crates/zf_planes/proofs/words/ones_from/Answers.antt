@@ -1,0 +1,42 @@
+use Rattle.std.proofs.Common.{◌≡◌, ◌+◌, ◌-◌, ◌*◌, ◌/◌, ◌%◌, ◌^◌, ◌≤◌, length, drop, take, ap, arith}
+use Rattle.std.specs.Int.Bits.{bit_and}
+use Rattle.std.specs.Int.Count.{ones as number_ones}
+use Rattle.std.proofs.lemmas.List.{drop_all, length-drop}
+use Rattle.std.proofs.lemmas.List.Sums.{count_by-le-length}
+use Rattle.zf_spec.specs.HeldPlanes.{digits_held}
+use Rattle.zf_spec.proofs.HeldPlanes.{length-digits_held}
+use Rattle.zf_planes.proofs.Lengths.{ones, part_ones, ones_split}
+use Rattle.zf_planes.proofs.words.ones_from.Given.{Over}
+use Rattle.zf_planes.proofs.words.ones_from.Goals as goal
+
+pub loop-at-init : goal.loop-at-init
+loop-at-init g c = record { sum = omega arith; within = c.requires.in_plane }
+
+-- the sum with the ones of one word more
+more : (g : Over) (c : goal.After-word g)
+    → c.loop-at.ones + number_ones (bit_and (c.word.result / 2 ^ (c.loop-at.at % 64)) (18446744073709551615 / 2 ^ (64 - c.min-count.result))) + ones (drop (c.loop-at.at + c.min-count.result) (digits_held c.args.size (g.P.Plane.words c.args.plane.now)))
+    ≡ ones (drop c.args.n (digits_held c.args.size (g.P.Plane.words c.args.plane.now)))
+more g c =
+    let at = c.loop-at.at in
+    let n = c.min-count.result in
+    let ws = g.P.Plane.words c.args.plane.now in
+    let part = part_ones c.args.size at n c.word.result ws c.word.ensures (omega (arith, c.requires.words, g.met.P.Plane.long c.args.plane.now)) (omega (arith, c.min-count.ensures)) (omega (arith, c.min-count.ensures, c.loop-at-test.true)) in
+    omega (arith, c.loop-at.invariant.sum, part, ones_split at n (digits_held c.args.size ws))
+
+pub overflow_add-ones : goal.overflow_add-ones
+overflow_add-ones g c =
+    let ws = g.P.Plane.words c.args.plane.now in
+    let ds = digits_held c.args.size ws in
+    let long = length-digits_held c.args.size ws (omega (arith, c.requires.words, g.met.P.Plane.long c.args.plane.now)) in
+    omega (arith, more g c, count_by-le-length (λ d. d) (drop c.args.n ds), length-drop c.args.n ds, long, c.requires.size)
+
+pub loop-at-preserved : goal.loop-at-preserved
+loop-at-preserved g c = record { sum = more g c; within = omega (arith, c.min-count.ensures, c.loop-at-test.true) }
+
+pub returns : goal.returns
+returns g c =
+    let ws = g.P.Plane.words c.args.plane.now in
+    let ds = digits_held c.args.size ws in
+    let long = length-digits_held c.args.size ws (omega (arith, c.requires.words, g.met.P.Plane.long c.args.plane.now)) in
+    let none = ap ones (drop_all c.loop-at.at ds (omega (arith, long, c.loop-at-test.false))) in
+    omega (arith, c.loop-at.invariant.sum, none)
