@@ -1,6 +1,6 @@
 //! What the codes of a block differ in: the transform of its values, and how the planes of the coefficients are written and read.
 
-ghost use Rattle.std.specs.Prelude.{◌≡◌, ◌≤◌, ◌<◌, ◌^◌, ℕ, ℤ, Bool, List, map, length, take, OnSome, IfNone};
+ghost use Rattle.std.specs.Prelude.{◌≡◌, ◌≤◌, ◌<◌, ◌*◌, ◌^◌, ℕ, ℤ, Bool, List, map, length, take, OnSome, IfNone};
 ghost use Rattle.zf_spec.specs.Grid.{IsDimension, IsBlockSize};
 ghost use Rattle.zf_spec.specs.HeldPlanes.{planes_held};
 ghost use Rattle.zf_bits.specs.Writer.{Appends};
@@ -8,7 +8,7 @@ ghost use Rattle.zf_bits.specs.Reader.{rest, Reads};
 ghost use Rattle.zf_block.specs.Block.{AreAbove};
 
 use zf_base::Lane;
-use zf_bits::{BitReader, BitWriter};
+use zf_bits::{BitReader, BitWriter, Plane};
 
 /// One of the codes of a block.
 pub(crate) trait BlockCode<T: Lane> {
@@ -41,19 +41,26 @@ pub(crate) trait BlockCode<T: Lane> {
         ensures { map T.value block.new ≡ back d (map T.value block.old) };
 
     /// Appends the code of planes in room that is there already.
-    fn write(&self, size: usize, planes: &[[u64; 4]], out: &mut BitWriter)
+    fn write<P: Plane>(&self, size: usize, planes: &[P], out: &mut BitWriter)
         requires size { IsBlockSize size }
+        requires words { size ≤ 64 * P.word_count }
         requires planes { length planes.now ≡ T.WIDTH }
         requires fits { longest self.now size ≤ out.old.room }
-        ensures { Appends out.old out.new (code_of self.now (planes_held size planes.now)) };
+        ensures { Appends out.old out.new (code_of self.now (planes_held size (map P.words planes.now))) };
 
     /// Reads the code of planes, or answers `None` where the bits end before it does. The planes below those that it has are zero.
-    fn read(&self, size: usize, reader: &mut BitReader<'_>, planes: &mut [[u64; 4]]) -> Option<()>
+    fn read<P: Plane>(
+        &self,
+        size: usize,
+        reader: &mut BitReader<'_>,
+        planes: &mut [P],
+    ) -> Option<()>
         requires size { IsBlockSize size }
+        requires words { size ≤ 64 * P.word_count }
         requires planes { length planes.old ≡ T.WIDTH }
         ensures short { IfNone result (length (rest reader.old) < len_at self.now size (rest reader.old)) }
         ensures unread { IfNone result (reader.new ≡ reader.old) }
         ensures enough { OnSome result (len_at self.now size (rest reader.old) ≤ length (rest reader.old)) }
         ensures reads { OnSome result (Reads reader.old reader.new (take (len_at self.now size (rest reader.old)) (rest reader.old))) }
-        ensures planes { OnSome result (AreAbove size (planes_at self.now size (rest reader.old)) (planes_held size planes.new)) };
+        ensures planes { OnSome result (AreAbove size (planes_at self.now size (rest reader.old)) (planes_held size (map P.words planes.new))) };
 }

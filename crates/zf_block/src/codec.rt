@@ -1,6 +1,6 @@
 //! The one way from a block to its code and back, whichever code it is.
 
-ghost use Rattle.std.specs.Prelude.{◌≡◌, ◌≤◌, ◌<◌, ◌^◌, map, length, take, OnSome, IfNone};
+ghost use Rattle.std.specs.Prelude.{◌≡◌, ◌≤◌, ◌<◌, ◌*◌, ◌^◌, map, length, take, OnSome, IfNone};
 ghost use Rattle.zf_spec.specs.Grid.{IsDimension};
 ghost use Rattle.zf_spec.specs.Codes as codes;
 ghost use Rattle.zf_spec.specs.Codes.{coefficients_of};
@@ -14,7 +14,7 @@ use crate::Scratch;
 use crate::block_code::BlockCode;
 use crate::coefficients::{MOST_PLANES, copy_padded, from_planes, to_planes};
 use zf_base::{Extent, Lane};
-use zf_bits::{BitReader, BitWriter};
+use zf_bits::{BitReader, BitWriter, Plane};
 
 /// Appends the code of a block in room that is there already.
 pub(crate) fn encode<C: BlockCode<T>, T: Lane>(
@@ -34,30 +34,29 @@ pub(crate) fn encode<C: BlockCode<T>, T: Lane>(
         (C.code_of code.now (codes.planes T.width d (C.forth d (pad (used_axes d e.now.size) (map T.value block.now))))) }
     ensures scratch { s.new ≡ d }
 {
-    write_block(
-        code,
-        d,
-        e,
-        block,
-        &mut s.values,
-        &mut s.digits,
-        &mut s.planes,
-        out,
-    );
+    let values = &mut s.values;
+    let digits = &mut s.digits;
+    // Up to 64 coefficients have planes of one word.
+    if d <= 3 {
+        write_block(code, d, e, block, values, digits, &mut s.planes, out);
+    } else {
+        write_block(code, d, e, block, values, digits, &mut s.wide_planes, out);
+    }
 }
 
 /// Appends the code of a block by way of these values, digits and planes.
-fn write_block<C: BlockCode<T>, T: Lane>(
+fn write_block<C: BlockCode<T>, T: Lane, P: Plane>(
     code: &C,
     d: u8,
     e: &Extent,
     block: &[T],
     values: &mut [T],
     digits: &mut [u64],
-    planes: &mut [[u64; 4]],
+    planes: &mut [P],
     out: &mut BitWriter,
 )
     requires dimension { IsDimension d }
+    requires words { 4 ^ d ≤ 64 * P.word_count }
     requires extent { IsExtent d e.now }
     requires block { length block.now ≡ 4 ^ d }
     requires values { length values.old ≡ 4 ^ d }
@@ -90,26 +89,31 @@ pub(crate) fn decode<C: BlockCode<T>, T: Lane>(
         ≡ C.back d (coefficients_of T.width d (C.planes_at code.now (4 ^ d) (rest reader.old)))) }
 {
     // No more is cleared than a block of these dimensions needs.
-    let mut planes = [[0; 4]; MOST_PLANES];
+    if d == 4 {
+        let mut planes = [[0; 4]; MOST_PLANES];
+        let planes = &mut planes[..T::WIDTH as usize];
+        return read_block(code, d, reader, block, &mut [0; 256], planes);
+    }
+    let mut planes = [0; MOST_PLANES];
     let planes = &mut planes[..T::WIDTH as usize];
     match d {
         1 => read_block(code, d, reader, block, &mut [0; 4], planes),
         2 => read_block(code, d, reader, block, &mut [0; 16], planes),
-        3 => read_block(code, d, reader, block, &mut [0; 64], planes),
-        _ => read_block(code, d, reader, block, &mut [0; 256], planes),
+        _ => read_block(code, d, reader, block, &mut [0; 64], planes),
     }
 }
 
 /// Reads the code of a block by way of these digits and planes.
-fn read_block<C: BlockCode<T>, T: Lane>(
+fn read_block<C: BlockCode<T>, T: Lane, P: Plane>(
     code: &C,
     d: u8,
     reader: &mut BitReader<'_>,
     block: &mut [T],
     digits: &mut [u64],
-    planes: &mut [[u64; 4]],
+    planes: &mut [P],
 ) -> Option<()>
     requires dimension { IsDimension d }
+    requires words { 4 ^ d ≤ 64 * P.word_count }
     requires block { length block.old ≡ 4 ^ d }
     requires digits { length digits.old ≡ 4 ^ d }
     requires planes { length planes.old ≡ T.WIDTH }

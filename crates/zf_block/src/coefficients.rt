@@ -1,6 +1,6 @@
 //! The padded values of a block, and the bit planes of its coefficients.
 
-ghost use Rattle.std.specs.Prelude.{◌≡◌, ◌≤◌, ◌^◌, map, length};
+ghost use Rattle.std.specs.Prelude.{◌≡◌, ◌≤◌, ◌*◌, ◌^◌, map, length};
 ghost use Rattle.zf_spec.specs.Grid.{IsDimension};
 ghost use Rattle.zf_spec.specs.Codes as codes;
 ghost use Rattle.zf_spec.specs.Codes.{coefficients_of};
@@ -9,6 +9,7 @@ ghost use Rattle.zf_spec.specs.HeldPlanes.{planes_held};
 ghost use Rattle.zf_base.specs.Positions.{used_axes, IsExtent};
 
 use zf_base::{Extent, Lane};
+use zf_bits::Plane;
 
 /// The most planes of a block: one of `i64` has 64.
 pub(crate) const MOST_PLANES: usize = 64;
@@ -26,35 +27,37 @@ pub(crate) fn copy_padded<T: Lane>(d: u8, e: &Extent, block: &[T], values: &mut 
 }
 
 /// Makes the planes of coefficients, by way of their digits.
-pub(crate) fn to_planes<T: Lane>(
+pub(crate) fn to_planes<T: Lane, P: Plane>(
     d: u8,
     coefficients: &[T],
     digits: &mut [u64],
-    planes: &mut [[u64; 4]],
+    planes: &mut [P],
 )
     requires dimension { IsDimension d }
+    requires words { 4 ^ d ≤ 64 * P.word_count }
     requires coefficients { length coefficients.now ≡ 4 ^ d }
     requires digits { length digits.old ≡ 4 ^ d }
     requires planes { length planes.old ≡ T.WIDTH }
-    ensures { planes_held (4 ^ d) planes.new ≡ codes.planes T.width d (map T.value coefficients.now) }
+    ensures { planes_held (4 ^ d) (map P.words planes.new) ≡ codes.planes T.width d (map T.value coefficients.now) }
 {
     zf_coef::ranked(d, coefficients, digits);
-    zf_coef::to_planes(digits, planes);
+    zf_coef::planes_of_digits(digits, planes);
 }
 
 /// Makes the coefficients of which these are the planes, by way of their digits.
-pub(crate) fn from_planes<T: Lane>(
+pub(crate) fn from_planes<T: Lane, P: Plane>(
     d: u8,
-    planes: &[[u64; 4]],
+    planes: &[P],
     digits: &mut [u64],
     coefficients: &mut [T],
 )
     requires dimension { IsDimension d }
+    requires words { 4 ^ d ≤ 64 * P.word_count }
     requires planes { length planes.now ≡ T.WIDTH }
     requires digits { length digits.old ≡ 4 ^ d }
     requires coefficients { length coefficients.old ≡ 4 ^ d }
-    ensures { map T.value coefficients.new ≡ coefficients_of T.width d (planes_held (4 ^ d) planes.now) }
+    ensures { map T.value coefficients.new ≡ coefficients_of T.width d (planes_held (4 ^ d) (map P.words planes.now)) }
 {
-    zf_coef::from_planes(planes, digits);
+    zf_coef::digits_of_planes(planes, digits);
     zf_coef::unranked(d, digits, coefficients);
 }

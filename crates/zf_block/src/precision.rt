@@ -16,7 +16,7 @@ use crate::codec::{decode, encode};
 use crate::uncut::{read_uncut, write_uncut};
 use std::alloc::AllocError;
 use zf_base::{Extent, Lane};
-use zf_bits::{BitReader, BitWriter};
+use zf_bits::{BitReader, BitWriter, Plane};
 
 /// Appends the code of the block's top `prec` planes, or of all where its type has fewer.
 ///
@@ -91,11 +91,16 @@ impl<T: Lane> BlockCode<T> for Precision {
         zf_lift::inverse(d, block);
     }
 
-    fn write(&self, size: usize, planes: &[[u64; 4]], out: &mut BitWriter) {
+    fn write<P: Plane>(&self, size: usize, planes: &[P], out: &mut BitWriter) {
         write_uncut(self.prec.min(T::WIDTH), size, planes, out);
     }
 
-    fn read(&self, size: usize, reader: &mut BitReader<'_>, planes: &mut [[u64; 4]]) -> Option<()> {
+    fn read<P: Plane>(
+        &self,
+        size: usize,
+        reader: &mut BitReader<'_>,
+        planes: &mut [P],
+    ) -> Option<()> {
         read_uncut(self.prec.min(T::WIDTH), size, reader, planes)
     }
 }

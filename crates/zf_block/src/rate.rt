@@ -16,7 +16,7 @@ use crate::Scratch;
 use crate::block_code::BlockCode;
 use crate::codec::{decode, encode};
 use zf_base::{Extent, Lane};
-use zf_bits::{BitReader, BitWriter};
+use zf_bits::{BitReader, BitWriter, Plane};
 
 /// Appends the first `bits` bits of the block's code, filled with zeros, so that each block takes the same room.
 ///
@@ -80,18 +80,23 @@ impl<T: Lane> BlockCode<T> for Rate {
         zf_lift::inverse(d, block);
     }
 
-    fn write(&self, size: usize, planes: &[[u64; 4]], out: &mut BitWriter) {
+    fn write<P: Plane>(&self, size: usize, planes: &[P], out: &mut BitWriter) {
         let bits = u64::from(self.bits);
-        let written = zf_planes::encode(bits, T::WIDTH, size, planes, out);
+        let written = zf_planes::write_planes(bits, T::WIDTH, size, planes, out);
         write_zeros(bits - written, out);
     }
 
-    fn read(&self, size: usize, reader: &mut BitReader<'_>, planes: &mut [[u64; 4]]) -> Option<()> {
+    fn read<P: Plane>(
+        &self,
+        size: usize,
+        reader: &mut BitReader<'_>,
+        planes: &mut [P],
+    ) -> Option<()> {
         let bits = u64::from(self.bits);
         if reader.left() < bits {
             return None;
         }
-        let used = zf_planes::decode(bits, T::WIDTH, size, reader, planes)?;
+        let used = zf_planes::read_planes(bits, T::WIDTH, size, reader, planes)?;
         // Bits that the code of the planes leaves are passed too.
         reader.skip(bits - used);
         Some(())

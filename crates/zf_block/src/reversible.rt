@@ -15,7 +15,7 @@ use crate::codec::{decode, encode};
 use crate::uncut::{read_uncut, write_uncut};
 use std::alloc::AllocError;
 use zf_base::{Extent, Lane};
-use zf_bits::{BitReader, BitWriter};
+use zf_bits::{BitReader, BitWriter, Plane};
 
 /// Appends the reversible code of a block, from which exactly its values come back.
 ///
@@ -82,13 +82,18 @@ impl<T: Lane> BlockCode<T> for Reversible {
         zf_lorenzo::inverse(d, block);
     }
 
-    fn write(&self, size: usize, planes: &[[u64; 4]], out: &mut BitWriter) {
-        let prec = zf_planes::used_planes(size, planes).max(1);
+    fn write<P: Plane>(&self, size: usize, planes: &[P], out: &mut BitWriter) {
+        let prec = zf_planes::planes_used(size, planes).max(1);
         out.write_reserved(u64::from(prec - 1), count_bits::<T>());
         write_uncut(prec, size, planes, out);
     }
 
-    fn read(&self, size: usize, reader: &mut BitReader<'_>, planes: &mut [[u64; 4]]) -> Option<()> {
+    fn read<P: Plane>(
+        &self,
+        size: usize,
+        reader: &mut BitReader<'_>,
+        planes: &mut [P],
+    ) -> Option<()> {
         let start = reader.at();
         // Known by this call: the start is within the bits, so that the reader can go back.
         let _left = reader.left();

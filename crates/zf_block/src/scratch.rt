@@ -13,7 +13,9 @@ pub struct Scratch<T: Lane> {
     d: u8,
     pub(crate) values: Vec<T>,
     pub(crate) digits: Vec<u64>,
-    pub(crate) planes: Vec<[u64; 4]>,
+    // the planes of up to 64 coefficients, and of up to 256
+    pub(crate) planes: Vec<u64>,
+    pub(crate) wide_planes: Vec<[u64; 4]>,
 }
 
 impl<T: Lane> Model for Scratch<T> {
@@ -24,7 +26,7 @@ impl<T: Lane> Model for Scratch<T> {
 
     ghost view = { λ s. s.d };
 
-    ghost invariant = { λ s. (vec_len s.values ≡ 4 ^ s.d) × (vec_len s.digits ≡ 4 ^ s.d) × (vec_len s.planes ≡ T.WIDTH) };
+    ghost invariant = { λ s. (vec_len s.values ≡ 4 ^ s.d) × (vec_len s.digits ≡ 4 ^ s.d) × (vec_len s.planes ≡ T.WIDTH) × (vec_len s.wide_planes ≡ T.WIDTH) };
 }
 
 impl<T: Lane> Scratch<T> {
@@ -36,12 +38,14 @@ impl<T: Lane> Scratch<T> {
         let size = block_len(d);
         let values = vec![in alloc; T::zero(); size]?;
         let digits = vec![in alloc; 0; size]?;
-        let planes = vec![in alloc; [0; 4]; T::WIDTH as usize]?;
+        let planes = vec![in alloc; 0; T::WIDTH as usize]?;
+        let wide_planes = vec![in alloc; [0; 4]; T::WIDTH as usize]?;
         Ok(Scratch {
             d,
             values,
             digits,
             planes,
+            wide_planes,
         })
     }
 }

@@ -1,4 +1,4 @@
-use Rattle.std.proofs.Common.{ℕ, ◌<◌, ◌≤◌, min, ap, ◌∙◌, subst, length, take}
+use Rattle.std.proofs.Common.{ℕ, ◌<◌, ◌≤◌, min, ap, ◌∙◌, subst, length, take, map}
 use Rattle.std.specs.Prelude.{IfNone, OnSome}
 use Rattle.zf_spec.specs.Planes.{code}
 use Rattle.zf_spec.specs.ReadPlanes.{planes_in}
@@ -33,5 +33,5 @@ pub returns-clause-planes : goal.returns-clause-planes
 unfolding prec_planes
 returns-clause-planes g c =
     let s = rest c.args.reader.now in
-    let P : ℕ → Type 0 = λ p. OnSome c.read_uncut.result (AreAbove c.args.size (planes_in p c.args.size s) (planes_held c.args.size c.read_uncut.new.planes)) in
+    let P : ℕ → Type 0 = λ p. OnSome c.read_uncut.result (AreAbove c.args.size (planes_in p c.args.size s) (planes_held c.args.size (map g.P.Plane.words c.read_uncut.new.planes))) in
     subst P (c.min.ensures ∙ ap (min c.args.self.now.prec) (c.WIDTH.ensures ∙ g.met.T.Lane.bits_of_width)) c.read_uncut.ensures.planes

@@ -1,5 +1,5 @@
-use Rattle.std.proofs.Common.{◌≡◌, ◌-◌, false, ◌++◌, length, take, replicate, sym, ap, ◌∙◌, arith}
-use Rattle.std.proofs.lemmas.List.{take_all}
+use Rattle.std.proofs.Common.{◌≡◌, ◌-◌, false, ◌++◌, length, take, replicate, sym, ap, ◌∙◌, arith, map}
+use Rattle.std.proofs.lemmas.List.{take_all, length-map}
 use Rattle.zf_spec.specs.Planes.{code}
 use Rattle.zf_spec.specs.ReadPlanes.{first_bits}
 use Rattle.zf_spec.specs.HeldPlanes.{planes_held}
@@ -11,11 +11,11 @@ use Rattle.zf_spec.proofs.HeldPlanes.{length-planes_held}
 pub returns : goal.returns
 returns g c =
     let budget = c.from-bits.result in
-    let planes = planes_held c.args.size c.args.planes.now in
+    let planes = planes_held c.args.size (map g.P.Plane.words c.args.planes.now) in
     let bits = code (take c.WIDTH.result planes) in
-    let whole : take c.WIDTH.result planes ≡ planes = take_all c.WIDTH.result planes (omega (arith, length-planes_held c.args.size c.args.planes.now, c.requires.planes, c.WIDTH.ensures)) in
-    let left : budget - c.encode-written.result ≡ budget - length bits = omega (arith, c.encode-written.ensures.count) in
-    Appends-same (Appends-append c.encode-written.ensures.bits c.write_zeros.ensures)
+    let whole : take c.WIDTH.result planes ≡ planes = take_all c.WIDTH.result planes (omega (arith, length-planes_held c.args.size (map g.P.Plane.words c.args.planes.now), length-map c.args.planes.now g.P.Plane.words, c.requires.planes, c.WIDTH.ensures)) in
+    let left : budget - c.write_planes-written.result ≡ budget - length bits = omega (arith, c.write_planes-written.ensures.count) in
+    Appends-same (Appends-append c.write_planes-written.ensures.bits c.write_zeros.ensures)
     (ap (λ n. take budget bits ++ replicate n false) left
     ∙ ap (λ ps. take budget (code ps) ++ replicate (budget - length (code ps)) false) whole
     ∙ sym (first_bits-take budget (code planes))

@@ -1,4 +1,4 @@
-use Rattle.std.proofs.Common.{List, Bool, subst, arith}
+use Rattle.std.proofs.Common.{List, Bool, subst, arith, map}
 use Rattle.zf_spec.specs.HeldPlanes.{planes_held}
 use Rattle.zf_bits.specs.Reader.{rest}
 use Rattle.zf_block.specs.Block.{AreAbove}
@@ -22,7 +22,7 @@ returns-in-Some-clause-reads g c =
 pub returns-in-Some-clause-planes : goal.returns-in-Some-clause-planes
 returns-in-Some-clause-planes g c =
     let same = planes-behind_count g.T.Lane.width c.args.size c.count_bits.result c.in_ok-prec.field-0 c.args.reader.now c.read.new.self c.count_bits.ensures.value c.in_ok-prec.ensures.value c.in_ok-prec.ensures.reads in
-    let P : List (List Bool) → Type 0 = λ ps. AreAbove c.args.size ps (planes_held c.args.size c.read_uncut.new.planes) in
+    let P : List (List Bool) → Type 0 = λ ps. AreAbove c.args.size ps (planes_held c.args.size (map g.P.Plane.words c.read_uncut.new.planes)) in
     subst P same c.in-Some.ensures.planes
 
 pub returns-in-None-clause-short : goal.returns-in-None-clause-short

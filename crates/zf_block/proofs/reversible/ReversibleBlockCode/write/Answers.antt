@@ -1,4 +1,5 @@
-use Rattle.std.proofs.Common.{◌≡◌, ℕ, ◌-◌, ◌≤◌, max, ◌++◌, take, ap, ◌∙◌, arith}
+use Rattle.std.proofs.Common.{◌≡◌, ℕ, ◌-◌, ◌≤◌, max, ◌++◌, take, ap, ◌∙◌, arith, map}
+use Rattle.std.proofs.lemmas.List.{length-map}
 use Rattle.std.proofs.Math.Nat.{mul-le-mul_left}
 use Rattle.zf_spec.specs.Numbers.{field}
 use Rattle.zf_spec.specs.Planes.{needed_planes, code}
@@ -13,7 +14,7 @@ use Rattle.zf_block.proofs.reversible.ReversibleBlockCode.write.Goals as goal
 pub write_uncut-requires-clause-planes : goal.write_uncut-requires-clause-planes
 write_uncut-requires-clause-planes g c =
     let bounds = width_bounds g.T.Lane.width g.T.Lane.WIDTH g.met.T.Lane.two_widths g.met.T.Lane.bits_of_width in
-    omega (arith, needed_planes-le (planes_held c.args.size c.args.planes.now), length-planes_held c.args.size c.args.planes.now, bounds.0, c.requires.planes)
+    omega (arith, needed_planes-le (planes_held c.args.size (map g.P.Plane.words c.args.planes.now)), length-planes_held c.args.size (map g.P.Plane.words c.args.planes.now), bounds.0, c.requires.planes, length-map c.args.planes.now g.P.Plane.words)
 
 pub write_uncut-requires-clause-fits : goal.write_uncut-requires-clause-fits
 write_uncut-requires-clause-fits g c =
@@ -24,8 +25,8 @@ write_uncut-requires-clause-fits g c =
 pub returns : goal.returns
 unfolding rev_of_planes
 returns g c =
-    let ps = planes_held c.args.size c.args.planes.now in
-    let prec : c.max-prec.result ≡ max 1 (needed_planes ps) = omega (arith, c.used_planes.ensures) in
+    let ps = planes_held c.args.size (map g.P.Plane.words c.args.planes.now) in
+    let prec : c.max-prec.result ≡ max 1 (needed_planes ps) = omega (arith, c.planes_used.ensures) in
     let code_of = λ (n k p : ℕ). field n k ++ code (take p ps) in
     Appends-same (Appends-append c.write_reserved.ensures.bits c.write_uncut.ensures)
     (ap (λ n. code_of n c.from.result c.max-prec.result) c.count_bits.ensures.value
