@@ -1,21 +1,18 @@
 //! Streams: from raw values to a stream, and back.
 #![tactic(auto)]
 
+mod bytes;
 mod compressing;
 mod decoding;
 mod encoding;
 mod fault;
 mod header;
 pub mod laws;
-mod longest;
 mod raw;
 mod restoring;
-mod slabs;
 #[cfg(test)]
 mod tests;
 mod values;
-mod window;
-mod writing;
 
 pub use compressing::compress;
 pub use fault::StreamFault;

@@ -1,9 +1,10 @@
 //! Values and their raw bytes, both ways.
 
-ghost use Rattle.std.specs.Prelude.{◌≡◌, ◌*◌, ◌≤◌, map, length};
+ghost use Rattle.std.specs.Prelude.{◌≡◌, ◌*◌, ◌≤◌, map, length, IfOk};
 ghost use Rattle.std.specs.Int.{w64, byte_len, from_le_bytes, cast_signed};
-ghost use Rattle.zf_spec.specs.Stream.{raw, values_from, first_bytes};
+ghost use Rattle.zf_spec.specs.Stream.{values_from, first_bytes};
 
+use std::alloc::{AllocError, Global};
 use zf_base::Lane;
 
 /// How many bytes a raw value has.
@@ -15,28 +16,22 @@ pub(crate) fn value_len<T: Lane>() -> usize
     (T::WIDTH / 8) as usize
 }
 
-/// Makes values of raw bytes.
-pub(crate) fn put_values<T: Lane>(raw: &[u8], values: &mut [T])
-    requires { length raw.now ≡ length values.old * byte_len T.width }
-    ensures { map T.value values.new ≡ values_from T.width (length values.new) raw.now }
+/// The `count` values that raw bytes are.
+pub(crate) fn values_of<T: Lane>(
+    alloc: Global,
+    count: usize,
+    raw: &[u8],
+) -> Result<Vec<T>, AllocError>
+    requires { length raw.now ≡ count * byte_len T.width }
+    ensures { IfOk result (λ values. map T.value values.items ≡ values_from T.width count raw.now) }
 {
     let len = value_len::<T>();
-    for i in 0..values.len() {
+    let mut values = Vec::with_capacity(alloc, count)?;
+    for i in 0..count {
         let start = i * len;
-        values[i] = value_of::<T>(&raw[start..start + len]);
+        values.push(value_of::<T>(&raw[start..start + len]))?;
     }
-}
-
-/// Makes raw bytes of values.
-pub(crate) fn put_raw<T: Lane>(values: &[T], bytes: &mut [u8])
-    requires { length bytes.old ≡ length values.now * byte_len T.width }
-    ensures { bytes.new ≡ raw T.width (map T.value values.now) }
-{
-    let len = value_len::<T>();
-    for i in 0..values.len() {
-        let start = i * len;
-        bytes[start..start + len].copy_from_slice(&values[i].to_word().to_le_bytes()[..len]);
-    }
+    Ok(values)
 }
 
 /// The value that has these bytes, the least significant first.
@@ -48,7 +43,7 @@ fn value_of<T: Lane>(bytes: &[u8]) -> T
 }
 
 /// The number that has these bytes, the least significant first.
-pub(crate) fn word_of(bytes: &[u8]) -> u64
+fn word_of(bytes: &[u8]) -> u64
     requires { length bytes.now ≤ 8 }
     ensures { result ≡ from_le_bytes w64 (first_bytes 8 bytes.now) }
 {
