@@ -19,7 +19,7 @@ use Rattle.zf_base.specs.Formats.{meant}
 use Rattle.zf_header.specs.declared.header.Header.{Header}
 use Rattle.zf_header.specs.declared.header.Mode.{Mode}
 use Rattle.zf_header.specs.declared.header.Mode.TheVariants.{Reversible, Rate, Precision}
-use Rattle.zf_header.specs.HeaderBits.{IsRate, IsTaken, IsHeader, BeginsWith, coding, block_bits, header_bits, rate_bytes_of}
+use Rattle.zf_header.specs.HeaderBits.{IsRate, IsHeader, BeginsWith, coding, block_bits, header_bits, rate_bytes_of}
 use Rattle.zf_header.proofs.Good.{good}
 use Rattle.zf_header.proofs.Parts.{length-header_bits, length-header_bits_le}
 use Rattle.zf_spec.specs.Grid.{IsShape}
@@ -48,11 +48,6 @@ rate_is_some Reversible is = absurd is
 rate_is_some (Rate b) is = is
 rate_is_some (Precision p) is = absurd is
 
-pub rate_is_taken : (m : Mode) → IsRate m → IsTaken m
-rate_is_taken Reversible is = absurd is
-rate_is_taken (Rate b) is = is
-rate_is_taken (Precision p) is = absurd is
-
 -- all codes have at most 2^42 bits
 pub all_bits_most : (h : Header) → IsShape h.shape → IsRate h.mode → all_bits h ≤ 2 ^ 42
 all_bits_most h is rate =
@@ -70,7 +65,7 @@ module _ (bytes : List ℕ) (h : Header) (has : HasHeader bytes h) where
   header_within = begins_within bytes h begins
 
   pub begun : BeginsWithHeader bytes h (length (header_bits h))
-  begun = record { good = has.good; header = has.header; bits_is = refl; within = header_within; taken = rate_is_taken h.mode has.rate }
+  begun = record { good = has.good; header = has.header; bits_is = refl; within = header_within }
 
   pub header_least : 96 ≤ length (header_bits h)
   header_least = omega (arith, length-header_bits h is_header.shape)
@@ -200,7 +195,7 @@ module _ (bytes : List ℕ) (h : Header) (has : HasHeader bytes h) where
         let back = λ (b : ℕ). read_rate w (extent_of h.shape b) (code_cut (block_bits h.mode) s b) in
         let reads : (b : ℕ) → b < blocks h.shape → ReadsBack h (code_cut (block_bits h.mode) s) back b =
         λ b below more. read_code-rate h (block_bits h.mode) (extent_of h.shape b) (code_cut (block_bits h.mode) s b) more (mode_is_rate h.mode has.rate) (length-cut (block_bits h.mode) (blocks h.shape) b s enough below) in
-        let parsed = parse-file h (code_cut (block_bits h.mode) s) is_header (rate_is_taken h.mode has.rate) back reads in
+        let parsed = parse-file h (code_cut (block_bits h.mode) s) is_header back reads in
         let joined : to_bytes (with_fill (hb ++ end_to_end (code_cut (block_bits h.mode) s) (upto (blocks h.shape)))) ≡ bytes =
         ap (λ (cs : List Bool). to_bytes (with_fill (hb ++ cs))) (end_to_end-cut (block_bits h.mode) s (blocks h.shape)) ∙ file_is in
         let store = with_codes h s in
