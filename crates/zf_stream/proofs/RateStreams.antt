@@ -72,14 +72,19 @@ read_codes-cut h budget b (suc n) s is some short = by (ltb (length s) budget) r
   where
     w : Width
     w = width_of h.ty
+
     es : List ℕ
     es = extent_of h.shape b
+
     behind : List Bool → Result (List (List ℤ) × List Bool) ℕ
     behind = read_codes h (suc b) n
+
     code : Bool → Option (List ℤ × ℕ)
     code t = cond t None (Some (read_rate w es (take budget s), budget))
+
     read : (t : Bool) → ltb (length s) budget ≡ t → read_code w h.mode es s ≡ code t
     read t e = ap (λ m. read_code w m es s) is ∙ ap code e
+
     by : (t : Bool) → ltb (length s) budget ≡ t → (length (drop budget s) < n * budget → read_codes h (suc b) n (drop budget s) ≡ Err (suc b + length (drop budget s) / budget)) → read_codes h b (suc n) s ≡ Err (b + length s / budget)
     by true e next =
         let here : b ≡ b + length s / budget = omega (arith, div-eq_of_lt (ltb-true (length s) budget e)) in
