@@ -3,6 +3,8 @@
 ghost use Rattle.std.specs.Prelude.{◌≡◌, ◌≤◌, ◌<◌, ◌*◌, ◌^◌, ℕ, ℤ, Bool, List, map, length, take, OnSome, IfNone};
 ghost use Rattle.zf_spec.specs.Grid.{IsDimension, IsBlockSize};
 ghost use Rattle.zf_spec.specs.HeldPlanes.{planes_held};
+ghost use Rattle.zf_spec.specs.Planes.{planes_of};
+ghost use Rattle.zf_coef.specs.HeldDigits.{digits_in};
 ghost use Rattle.zf_bits.specs.Writer.{Appends};
 ghost use Rattle.zf_bits.specs.Reader.{rest, Reads};
 ghost use Rattle.zf_block.specs.Block.{AreAbove};
@@ -40,11 +42,12 @@ pub(crate) trait BlockCode<T: Lane> {
         requires size { length block.old ≡ 4 ^ d }
         ensures { map T.value block.new ≡ back d (map T.value block.old) };
 
-    /// Appends the code of planes in room that is there already.
-    fn write<P: Plane>(&self, size: usize, planes: &[P], out: &mut BitWriter)
+    /// Appends the code of planes, which have these digits, in room that is there already.
+    fn write<P: Plane>(&self, size: usize, digits: &[u64], planes: &[P], out: &mut BitWriter)
         requires size { IsBlockSize size }
         requires words { size ≤ 64 * P.word_count }
         requires planes { length planes.now ≡ T.WIDTH }
+        requires digits { planes_held size (map P.words planes.now) ≡ planes_of T.WIDTH (digits_in T.WIDTH digits.now) }
         requires fits { longest self.now size ≤ out.old.room }
         ensures { Appends out.old out.new (code_of self.now (planes_held size (map P.words planes.now))) };
 

@@ -34,17 +34,53 @@ pub(crate) fn encode<C: BlockCode<T>, T: Lane>(
         (C.code_of code.now (codes.planes T.width d (C.forth d (pad (used_axes d e.now.size) (map T.value block.now))))) }
     ensures scratch { s.new ≡ d }
 {
-    let values = &mut s.values;
-    let digits = &mut s.digits;
-    // Up to 64 coefficients have planes of one word.
-    if d <= 3 {
-        write_block(code, d, e, block, values, digits, &mut s.planes, out);
-    } else {
-        write_block(code, d, e, block, values, digits, &mut s.wide_planes, out);
+    // Planes of up to 64 coefficients lie in one word each. Work room of a known size is faster where it is small.
+    match d {
+        1 => write_block(
+            code,
+            d,
+            e,
+            block,
+            &mut [T::zero(); 4],
+            &mut [0; 4],
+            &mut s.planes,
+            out,
+        ),
+        2 => write_block(
+            code,
+            d,
+            e,
+            block,
+            &mut [T::zero(); 16],
+            &mut [0; 16],
+            &mut s.planes,
+            out,
+        ),
+        3 => write_block(
+            code,
+            d,
+            e,
+            block,
+            &mut s.values,
+            &mut s.digits,
+            &mut s.planes,
+            out,
+        ),
+        _ => write_block(
+            code,
+            d,
+            e,
+            block,
+            &mut s.values,
+            &mut s.digits,
+            &mut s.wide_planes,
+            out,
+        ),
     }
 }
 
 /// Appends the code of a block by way of these values, digits and planes.
+#[inline(always)]
 fn write_block<C: BlockCode<T>, T: Lane, P: Plane>(
     code: &C,
     d: u8,
@@ -69,7 +105,7 @@ fn write_block<C: BlockCode<T>, T: Lane, P: Plane>(
     copy_padded(d, e, block, values);
     C::forward(d, values);
     to_planes(d, values, digits, planes);
-    code.write(block.len(), planes, out);
+    code.write(block.len(), digits, planes, out);
 }
 
 /// Reads the code of a block, or answers `None` where the bits end before it does.
@@ -89,21 +125,45 @@ pub(crate) fn decode<C: BlockCode<T>, T: Lane>(
         ≡ C.back d (coefficients_of T.width d (C.planes_at code.now (4 ^ d) (rest reader.old)))) }
 {
     // No more is cleared than a block of these dimensions needs.
-    if d == 4 {
-        let mut planes = [[0; 4]; MOST_PLANES];
-        let planes = &mut planes[..T::WIDTH as usize];
-        return read_block(code, d, reader, block, &mut [0; 256], planes);
-    }
-    let mut planes = [0; MOST_PLANES];
-    let planes = &mut planes[..T::WIDTH as usize];
+    let planes = T::WIDTH as usize;
     match d {
-        1 => read_block(code, d, reader, block, &mut [0; 4], planes),
-        2 => read_block(code, d, reader, block, &mut [0; 16], planes),
-        _ => read_block(code, d, reader, block, &mut [0; 64], planes),
+        1 => read_block(
+            code,
+            d,
+            reader,
+            block,
+            &mut [0; 4],
+            &mut [0; MOST_PLANES][..planes],
+        ),
+        2 => read_block(
+            code,
+            d,
+            reader,
+            block,
+            &mut [0; 16],
+            &mut [0; MOST_PLANES][..planes],
+        ),
+        3 => read_block(
+            code,
+            d,
+            reader,
+            block,
+            &mut [0; 64],
+            &mut [0; MOST_PLANES][..planes],
+        ),
+        _ => read_block(
+            code,
+            d,
+            reader,
+            block,
+            &mut [0; 256],
+            &mut [[0; 4]; MOST_PLANES][..planes],
+        ),
     }
 }
 
 /// Reads the code of a block by way of these digits and planes.
+#[inline(always)]
 fn read_block<C: BlockCode<T>, T: Lane, P: Plane>(
     code: &C,
     d: u8,

@@ -6,6 +6,8 @@ ghost use Rattle.zf_spec.specs.Codes as codes;
 ghost use Rattle.zf_spec.specs.Codes.{coefficients_of};
 ghost use Rattle.zf_spec.specs.Padding.{pad};
 ghost use Rattle.zf_spec.specs.HeldPlanes.{planes_held};
+ghost use Rattle.zf_spec.specs.Planes.{planes_of};
+ghost use Rattle.zf_coef.specs.HeldDigits.{digits_in};
 ghost use Rattle.zf_base.specs.Positions.{used_axes, IsExtent};
 
 use zf_base::{Extent, Lane};
@@ -15,6 +17,7 @@ use zf_bits::Plane;
 pub(crate) const MOST_PLANES: usize = 64;
 
 /// Copies a block, padded.
+#[inline(always)]
 pub(crate) fn copy_padded<T: Lane>(d: u8, e: &Extent, block: &[T], values: &mut [T])
     requires four_at_most { d ≤ 4 }
     requires extent { IsExtent d e.now }
@@ -27,6 +30,7 @@ pub(crate) fn copy_padded<T: Lane>(d: u8, e: &Extent, block: &[T], values: &mut 
 }
 
 /// Makes the planes of coefficients, by way of their digits.
+#[inline(always)]
 pub(crate) fn to_planes<T: Lane, P: Plane>(
     d: u8,
     coefficients: &[T],
@@ -38,13 +42,15 @@ pub(crate) fn to_planes<T: Lane, P: Plane>(
     requires coefficients { length coefficients.now ≡ 4 ^ d }
     requires digits { length digits.old ≡ 4 ^ d }
     requires planes { length planes.old ≡ T.WIDTH }
-    ensures { planes_held (4 ^ d) (map P.words planes.new) ≡ codes.planes T.width d (map T.value coefficients.now) }
+    ensures planes { planes_held (4 ^ d) (map P.words planes.new) ≡ codes.planes T.width d (map T.value coefficients.now) }
+    ensures digits { planes_held (4 ^ d) (map P.words planes.new) ≡ planes_of T.WIDTH (digits_in T.WIDTH digits.new) }
 {
     zf_coef::ranked(d, coefficients, digits);
     zf_coef::planes_of_digits(digits, planes);
 }
 
 /// Makes the coefficients of which these are the planes, by way of their digits.
+#[inline(always)]
 pub(crate) fn from_planes<T: Lane, P: Plane>(
     d: u8,
     planes: &[P],

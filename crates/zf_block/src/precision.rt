@@ -91,7 +91,7 @@ impl<T: Lane> BlockCode<T> for Precision {
         zf_lift::inverse(d, block);
     }
 
-    fn write<P: Plane>(&self, size: usize, planes: &[P], out: &mut BitWriter) {
+    fn write<P: Plane>(&self, size: usize, _digits: &[u64], planes: &[P], out: &mut BitWriter) {
         write_uncut(self.prec.min(T::WIDTH), size, planes, out);
     }
 

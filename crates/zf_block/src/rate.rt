@@ -80,7 +80,7 @@ impl<T: Lane> BlockCode<T> for Rate {
         zf_lift::inverse(d, block);
     }
 
-    fn write<P: Plane>(&self, size: usize, planes: &[P], out: &mut BitWriter) {
+    fn write<P: Plane>(&self, size: usize, _digits: &[u64], planes: &[P], out: &mut BitWriter) {
         let bits = u64::from(self.bits);
         let written = zf_planes::write_planes(bits, T::WIDTH, size, planes, out);
         write_zeros(bits - written, out);

@@ -82,8 +82,8 @@ impl<T: Lane> BlockCode<T> for Reversible {
         zf_lorenzo::inverse(d, block);
     }
 
-    fn write<P: Plane>(&self, size: usize, planes: &[P], out: &mut BitWriter) {
-        let prec = zf_planes::planes_used(size, planes).max(1);
+    fn write<P: Plane>(&self, size: usize, digits: &[u64], planes: &[P], out: &mut BitWriter) {
+        let prec = zf_coef::needed_planes(digits, T::WIDTH).max(1);
         out.write_reserved(u64::from(prec - 1), count_bits::<T>());
         write_uncut(prec, size, planes, out);
     }

@@ -13,7 +13,7 @@ pub struct Scratch<T: Lane> {
     d: u8,
     pub(crate) values: Vec<T>,
     pub(crate) digits: Vec<u64>,
-    // the planes of up to 64 coefficients, and of up to 256
+    // one word a plane up to three dimensions, four in four
     pub(crate) planes: Vec<u64>,
     pub(crate) wide_planes: Vec<[u64; 4]>,
 }

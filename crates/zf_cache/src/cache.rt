@@ -7,7 +7,7 @@ ghost use Rattle.zf_cached.specs.State.{no_counts};
 ghost use Rattle.zf_cached.specs.Touch.{touch, touch_for_writing};
 ghost use Rattle.zf_cached.specs.Changes.{flush, relined};
 ghost use Rattle.zf_lines.specs.Rows.{line_at, part, HasSize};
-ghost use Rattle.zf_cache.specs.Kept.{IsLineCount, IsClean, IsDirty, IsEmpty, HasBlocks, line_of, is_dirty};
+ghost use Rattle.zf_cache.specs.Kept.{IsLineCount, IsClean, IsDirty, IsEmpty, HasBlocks, Holds, line_of, is_dirty};
 ghost use Rattle.zf_cache.specs.Standing.{state_of, values_of, Fits};
 ghost use Rattle.zf_cache.specs.Steps.{put};
 
@@ -122,6 +122,32 @@ impl<T: Lane, const D: usize> Cache<T, D> {
     {
         let l = self.body.line_of(b);
         self.body.lines.part_mut(l, a, n)
+    }
+
+    /// Touches block `b`, so that `line` can show it.
+    #[inline]
+    pub fn touch<B: Backing<T>>(&mut self, back: &mut B, b: u64)
+        requires fits { Fits T.value self.old (B.format back.old) (B.codes back.old) }
+        requires blocks { HasBlocks (B.format back.old) D }
+        requires block { b < (B.format back.old).blocks }
+        ensures fits { Fits T.value self.new (B.format back.new) (B.codes back.new) }
+        ensures state { state_of T.value self.new (B.format back.new) (B.codes back.new)
+            ≡ touch (B.format back.old) (state_of T.value self.old (B.format back.old) (B.codes back.old)) b }
+        ensures here { Holds self.new b }
+        ensures format { B.format back.new ≡ B.format back.old }
+        ensures kept { B.kept back.new ≡ B.kept back.old }
+    {
+        self.body.touch(back, b);
+    }
+
+    /// The `4^D` values in the line of block `b`.
+    #[inline]
+    pub fn line(&self, b: u64) -> &[T]
+        ensures value { result.now ≡ line_at self.now.lines (line_of self.now b) }
+        ensures size { length result.now ≡ 4 ^ D }
+    {
+        let l = self.body.line_of(b);
+        self.body.lines.line(l)
     }
 
     /// Touches block `b`; its `4^D` values.

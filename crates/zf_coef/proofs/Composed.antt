@@ -1,12 +1,8 @@
 -- What the calls of this crate make of a block together.
-use Rattle.std.proofs.Common.{◌≡◌, sym, ap, ◌∙◌, ℕ, ◌^◌, Bool, false, ℤ, List, [], map, reverse, length, get_or, take}
+use Rattle.std.proofs.Common.{◌≡◌, sym, ap, ◌∙◌, ℕ, ◌^◌, ℤ, List, map, reverse, length, take}
 use Rattle.std.proofs.lemmas.List.{take-map}
-use Rattle.std.proofs.lemmas.Simd.{map-map}
 use Rattle.std.specs.Int.{Width}
 use mir.Val.{bits}
-use Rattle.zf_spec.specs.Numbers.{value_of}
-use Rattle.zf_spec.specs.Grid.{upto}
-use Rattle.zf_spec.specs.Ranks.{by_place}
 use Rattle.zf_spec.specs.Planes.{planes_of}
 use Rattle.zf_spec.specs.Codes as Codes
 use Rattle.zf_spec.specs.HeldPlanes.{digits_held, planes_held}

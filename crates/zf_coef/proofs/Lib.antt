@@ -10,6 +10,7 @@
 --     Filling      a list that is filled from the front
 --     ByRank       the digits of a block by rank, and blocks that are filled by rank
 --     Transposed   planes that are made of coefficients, and coefficients that are made of planes
+--     AnyDigits    the digits that any coefficient has, and the planes that are needed
 --     Composed     what the calls of this crate make of a block together
 pub mod Mask
 pub mod ShiftedBits
@@ -22,4 +23,5 @@ pub mod Tiles
 pub mod Filling
 pub mod ByRank
 pub mod Transposed
+pub mod AnyDigits
 pub mod Composed

@@ -1,9 +1,10 @@
 -- Tiles of words that become planes, and planes that become tiles of words.
-use Rattle.std.proofs.Common.{◌≡◌, refl, sym, ap, subst, ◌∙◌, ℕ, ◌+◌, ◌-◌, ◌*◌, ◌/◌, ◌%◌, ◌^◌, ◌<◌, ◌≤◌, ◌⊎◌, max, ⊎_elim, List, [], length, get_or, arith}
+use Rattle.std.proofs.Common.{◌≡◌, sym, ap, subst, ◌∙◌, ℕ, ◌+◌, ◌-◌, ◌*◌, ◌/◌, ◌%◌, ◌^◌, ◌<◌, ◌≤◌, ◌⊎◌, max, ⊎_elim, List, [], length, get_or, arith}
 use Rattle.std.specs.Int.{bit_at}
 use Rattle.std.specs.Int.RustNames.{bit_or}
 use Rattle.std.proofs.lemmas.Bool.{cases_lt}
 use Rattle.std.proofs.lemmas.List.{get_or_past}
+use Rattle.std.proofs.Math.Nat.{mod-eq_of_lt, mod-le}
 use Rattle.std.proofs.lemmas.Nat.{mod-mul-add}
 use Rattle.std.proofs.lemmas.Nat.Bits.{bit_at_or, bit_at-zero}
 use Rattle.zf_coef.specs.Turned.{bit_of, IsTurned}
@@ -16,9 +17,6 @@ IsSize n = (n ≡ 4) ⊎ (n ≡ 16)
 
 pub size_positive : (n : ℕ) → IsSize n → 0 < n
 size_positive n size = ⊎_elim (λ is. omega arith) (λ is. omega arith) size
-
-pub tiles_all : (n : ℕ) → IsSize n → 64 / n * n ≡ 64
-tiles_all n size = ⊎_elim (λ is. subst (λ m. 64 / m * m ≡ 64) (sym is) refl) (λ is. subst (λ m. 64 / m * m ≡ 64) (sym is) refl) size
 
 pub tile_next : (n tile : ℕ) → IsSize n → (tile + 1) * n ≡ tile * n + n
 tile_next n tile size = ⊎_elim (λ is. subst (λ m. (tile + 1) * m ≡ tile * m + m) (sym is) (omega arith)) (λ is. subst (λ m. (tile + 1) * m ≡ tile * m + m) (sym is) (omega arith)) size
@@ -69,12 +67,13 @@ tiles_more n tile number words part old new positive long before cut put =
           (cases_lt k from);
     }
 
--- the tile is that of no plane
-pub tiles_past : (n number from : ℕ) (words : List ℕ) (planes : List (List ℕ)) → length planes ≤ from
-    → HasTiles n number from words planes → HasTiles n number (from + n) words planes
-tiles_past n number from words planes past before = record {
-  inside = λ k r h within small. before.inside k r (omega arith) within small;
-  outside = λ k r h within large. before.outside k r (omega arith) within large;
+-- what was put as far as there are planes
+pub put_to_end : (n count number from : ℕ) (words : List ℕ) (old new : List (List ℕ)) → count ≤ n → from + count ≡ length new
+    → HoldsFrom count number from words old new → HoldsFrom n number from words old new
+put_to_end n count number from words old new less all put = record {
+  inside = λ j h within. put.inside j (omega arith) within;
+  below = put.below;
+  above = λ k h. put.above k (omega arith);
 }
 
 pub tiles_whole : (n number to : ℕ) (words : List ℕ) (planes : List (List ℕ)) → length planes ≤ to → HasTiles n number to words planes → HoldsTiles n number words planes
@@ -152,63 +151,56 @@ group_of_same number digits whole planes same group k r within small = group k r
 
 -- ---- tiles of planes
 
--- the bits of words below `to` are those of planes, and there is none from there on
-pub record AddsTiles (n number to : ℕ) (planes : List (List ℕ)) (words : List ℕ) : Type 0 where
-  pub inside : (j b : ℕ) → j < n → b < to → b < 64 → bit_of words j b ≡ bit_at (word_of planes number (b - b % n + j)) (b % n)
-  pub outside : (j b : ℕ) → j < n → to ≤ b → b < 64 → bit_of words j b ≡ 0
+-- words have the tiles of the planes from `from` on
+pub record HasTilesFrom (n number from : ℕ) (planes : List (List ℕ)) (words : List ℕ) : Type 0 where
+  pub each : (j b : ℕ) → j < n → b < 64 → bit_of words j b ≡ bit_at (word_of planes number (from + (b - b % n) + j)) (b % n)
 
 -- planes past the end have no words
 pub word_of-past : (planes : List (List ℕ)) (number k : ℕ) → length planes ≤ k → word_of planes number k ≡ 0
 word_of-past planes number k past = ap (λ ws. get_or ws number 0) (get_or_past planes k [] past)
 
--- one tile more
-pub add_more : (n tile number : ℕ) (planes : List (List ℕ)) (part old new : List ℕ) → 0 < n
-    → AddsTiles n number (tile * n) planes old
-    → ((j : ℕ) → j < n → get_or part j 0 ≡ word_of planes number (tile * n + j))
-    → ((j : ℕ) → j < n → get_or new j 0 ≡ bit_or (get_or old j 0) (get_or part j 0 % 2 ^ n * 2 ^ (tile * n) % 2 ^ 64))
-    → AddsTiles n number (tile * n + n) planes new
-add_more n tile number planes part old new positive before from_planes added =
-    let from = tile * n in
-    let bit : (j b : ℕ) → j < n → b < 64 → bit_of new j b ≡ max (bit_of old j b) (bit_at (get_or part j 0 % 2 ^ n * 2 ^ from) b) =
-    λ j b less small. ap (λ w. bit_at w b) (added j less) ∙ bit_at_or (get_or old j 0) (get_or part j 0 % 2 ^ n * 2 ^ from % 2 ^ 64) b
-    ∙ ap (max (bit_of old j b)) (bit_at-mod (get_or part j 0 % 2 ^ n * 2 ^ from) b small) in
-    record {
-      inside = λ j b less h small. ⊎_elim
-          (λ (earlier : b < from).
-          omega (arith, bit j b less small, bit_at-shl_low (get_or part j 0 % 2 ^ n) from b earlier, before.inside j b less earlier small))
-          (λ (later : from ≤ b).
-          let r = b - from in
-          let low : r < n = omega arith in
-          let at : from + r ≡ b = omega arith in
-          let place : b % n ≡ r = ap (λ i. i % n) (sym at) ∙ mod-mul-add tile n r low in
-          let row : b - b % n + j ≡ from + j = omega (arith, place) in
-          let same : bit_at (get_or part j 0) r ≡ bit_at (word_of planes number (b - b % n + j)) (b % n) =
-          ap (λ w. bit_at w r) (from_planes j less) ∙ ap (λ k. bit_at (word_of planes number k) r) (sym row) ∙ ap (bit_at (word_of planes number (b - b % n + j))) (sym place) in
-          omega (arith, bit j b less small, bit_at-shl_high (get_or part j 0 % 2 ^ n) from b later, bit_at-mod_pow (get_or part j 0) n r low, before.outside j b less later small, same))
-          (cases_lt b from);
-      outside = λ j b less h small.
-          omega (arith, bit j b less small, bit_at-shl_high (get_or part j 0 % 2 ^ n) from b (omega arith), bit_at-mod_above (get_or part j 0) n (b - from) (omega arith), before.outside j b less (omega arith) small);
-    }
-
--- the tile is that of no plane
-pub add_past : (n tile number : ℕ) (planes : List (List ℕ)) (words : List ℕ) → 0 < n → length planes ≤ tile * n
-    → AddsTiles n number (tile * n) planes words → AddsTiles n number (tile * n + n) planes words
-add_past n tile number planes words positive past before = record {
-  inside = λ j b less h small. ⊎_elim
-      (λ (earlier : b < tile * n). before.inside j b less earlier small)
-      (λ (later : tile * n ≤ b).
-      let r = b - tile * n in
-      let low : r < n = omega arith in
-      let at : tile * n + r ≡ b = omega arith in
-      let place : b % n ≡ r = ap (λ i. i % n) (sym at) ∙ mod-mul-add tile n r low in
-      before.outside j b less later small ∙ sym (bit_at-zero (b % n)) ∙ ap (λ w. bit_at w (b % n)) (sym (word_of-past planes number (b - b % n + j) (omega (arith, place)))))
-      (cases_lt b (tile * n));
-  outside = λ j b less h small. before.outside j b less (omega arith) small;
+-- no plane comes from there on
+pub tiles_from_end : (n number from : ℕ) (planes : List (List ℕ)) (words : List ℕ) → length planes ≤ from
+    → ((j : ℕ) → j < n → get_or words j 0 ≡ 0) → HasTilesFrom n number from planes words
+tiles_from_end n number from planes words past zeros = record {
+  each = λ j b less small.
+      ap (λ w. bit_at w b) (zeros j less) ∙ bit_at-zero b ∙ sym (bit_at-zero (b % n))
+      ∙ ap (λ w. bit_at w (b % n)) (sym (word_of-past planes number (from + (b - b % n) + j) (omega arith)));
 }
 
-pub add_all : (n number to : ℕ) (planes : List (List ℕ)) (words : List ℕ) → 64 ≤ to → AddsTiles n number to planes words → AreTiles n number planes words
+-- the tile before them
+pub tile_before : (n number from : ℕ) (planes : List (List ℕ)) (part old new : List ℕ) → IsSize n
+    → HasTilesFrom n number (from + n) planes old
+    → ((j : ℕ) → j < n → get_or part j 0 ≡ word_of planes number (from + j))
+    → ((j : ℕ) → j < n → get_or new j 0 ≡ bit_or (get_or old j 0 * 2 ^ n % 2 ^ 64) (get_or part j 0 % 2 ^ n))
+    → HasTilesFrom n number from planes new
+tile_before n number from planes part old new size before from_planes put = record {
+  each = λ j b less small.
+      let a = get_or old j 0 in
+      let p = get_or part j 0 in
+      let bit : bit_of new j b ≡ max (bit_at (a * 2 ^ n) b) (bit_at (p % 2 ^ n) b) =
+      ap (λ w. bit_at w b) (put j less) ∙ bit_at_or (a * 2 ^ n % 2 ^ 64) (p % 2 ^ n) b ∙ ap (λ x. max x (bit_at (p % 2 ^ n) b)) (bit_at-mod (a * 2 ^ n) b small) in
+      ⊎_elim
+      (λ (first : b < n).
+      let place : b % n ≡ b = mod-eq_of_lt first in
+      let plane : from + (b - b % n) + j ≡ from + j = omega (arith, place) in
+      let same : bit_at p b ≡ bit_at (word_of planes number (from + (b - b % n) + j)) (b % n) =
+      ap (λ w. bit_at w b) (from_planes j less) ∙ ap (λ k. bit_at (word_of planes number k) b) (sym plane) ∙ ap (bit_at (word_of planes number (from + (b - b % n) + j))) (sym place) in
+      omega (arith, bit, bit_at-shl_low a n b first, bit_at-mod_pow p n b first, same))
+      (λ (later : n ≤ b).
+      let r = b - n in
+      let place : r % n ≡ b % n = ⊎_elim (λ is. subst (λ m. m ≤ b → (b - m) % m ≡ b % m) (sym is) (λ h. omega arith) later) (λ is. subst (λ m. m ≤ b → (b - m) % m ≡ b % m) (sym is) (λ h. omega arith) later) size in
+      let within : r % n ≤ r = mod-le r n in
+      let plane : from + n + (r - r % n) + j ≡ from + (b - b % n) + j = omega (arith, place, within) in
+      let same : bit_at a r ≡ bit_at (word_of planes number (from + (b - b % n) + j)) (b % n) =
+      before.each j r less (omega arith) ∙ ap (λ k. bit_at (word_of planes number k) (r % n)) plane ∙ ap (bit_at (word_of planes number (from + (b - b % n) + j))) place in
+      omega (arith, bit, bit_at-shl_high a n b later, bit_at-mod_above p n b later, same))
+      (cases_lt b n);
+}
+
+pub tiles_from_start : (n number : ℕ) (planes : List (List ℕ)) (words : List ℕ) → HasTilesFrom n number 0 planes words → AreTiles n number planes words
 unfolding AreTiles
-add_all n number to planes words all adds j b less small = adds.inside j b less (omega arith) small
+tiles_from_start n number planes words all j b less small = all.each j b less small ∙ ap (λ k. bit_at (word_of planes number k) (b % n)) (omega arith)
 
 -- turned tiles are the digits
 pub digits_of_tiles : (n number : ℕ) (planes : List (List ℕ)) (words turned digits : List ℕ) → IsSize n → length digits ≡ n → digits ≡ turned
@@ -280,3 +272,22 @@ pub group_of_front : (number : ℕ) (planes : List (List ℕ)) (whole digits : L
     → ((r : ℕ) → r < length digits → get_or digits r 0 ≡ get_or whole r 0) → IsOfGroup number planes whole → IsOfGroup number planes digits
 unfolding IsOfGroup
 group_of_front number planes whole digits short same group r k h small = ap (λ w. bit_at w k) (same r h) ∙ group r k (omega arith) small
+
+-- ---- whole tiles of planes
+
+pub tile_within : (n tile len : ℕ) → IsSize n → tile < len / n → tile * n + n ≤ len
+tile_within n tile len size = ⊎_elim (λ is. subst (λ m. tile < len / m → tile * m + m ≤ len) (sym is) (λ h. omega arith)) (λ is. subst (λ m. tile < len / m → tile * m + m ≤ len) (sym is) (λ h. omega arith)) size
+
+-- planes behind the whole tiles
+pub tiles_end : (n len : ℕ) → IsSize n → len / n * n + len % n ≡ len
+tiles_end n len size = ⊎_elim (λ is. subst (λ m. len / m * m + len % m ≡ len) (sym is) (omega arith)) (λ is. subst (λ m. len / m * m + len % m ≡ len) (sym is) (omega arith)) size
+
+pub end_less : (n len : ℕ) → IsSize n → len % n < n
+end_less n len size = ⊎_elim (λ is. subst (λ m. len % m < m) (sym is) (omega arith)) (λ is. subst (λ m. len % m < m) (sym is) (omega arith)) size
+
+-- the words of no digits
+pub group_of_none : (number : ℕ) (digits : List ℕ) (planes : List (List ℕ)) → length digits ≡ 0
+    → ((k : ℕ) → k < length planes → word_of planes number k ≡ 0) → HoldsGroup number digits planes
+unfolding HoldsGroup
+group_of_none number digits planes none zeros k r within small =
+    ap (λ w. bit_at w r) (zeros k within) ∙ bit_at-zero r ∙ sym (bit_at-zero k) ∙ ap (λ w. bit_at w k) (sym (get_or_past digits r 0 (omega arith)))

@@ -1,15 +1,11 @@
 -- Planes that are made of coefficients, and coefficients that are made of planes.
 use Rattle.std.proofs.Common.{◌≡◌, refl, sym, ap, subst, ◌∙◌, ℕ, suc, ◌+◌, ◌-◌, ◌*◌, ◌/◌, ◌%◌, ◌^◌, ◌<◌, ◌≤◌, ⊎_elim, Bool, false, eqb, min, All, List, [], ◌∷◌, ◌++◌, map, reverse, length, get_or, take, drop, replicate, ext_get_or, get_or-take, get_or-drop, length-take, length-drop, mod-lt, arith}
 use Rattle.std.proofs.lemmas.Bool.{cases_lt}
-use Rattle.std.proofs.lemmas.List.{get_or_past, get_or_append_left, get_or-append_right, length-map, get_or-map, map-append, reverse-append, length-reverse, get_or-reverse, length-replicate, get_or-replicate, take_more}
-use Rattle.std.proofs.lemmas.Nat.{or_comm, or_shifted, shl_whole}
+use Rattle.std.proofs.lemmas.List.{get_or_past, get_or_append_left, get_or-append_right, length-map, get_or-map, map-append, reverse-append, length-replicate, get_or-replicate}
 use Rattle.std.proofs.lemmas.Nat.Bits.{bit_at-zero}
-use Rattle.std.specs.Int.Bits.{bit_or}
-use Rattle.zf_spec.specs.Numbers.{field, number, word_bits, is_odd, digit_value}
+use Rattle.zf_spec.specs.Numbers.{field, number, word_bits, is_odd}
 use Rattle.zf_spec.specs.Grid.{upto}
 use Rattle.zf_spec.specs.Planes.{plane, planes_of}
-use Rattle.zf_spec.proofs.Halves.{digit_value-is_odd}
-use Rattle.zf_spec.proofs.Fields.{number-append, number-lt}
 use Rattle.zf_spec.proofs.Counting.{length-map-upto, get_or-map-upto}
 use Rattle.zf_spec.proofs.PlaneDigits.{get_or-plane, length-map-reverse-upto, get_or-map-reverse-upto}
 use Rattle.zf_spec.specs.HeldPlanes.{digits_held, planes_held, IsClearFrom}
@@ -26,7 +22,7 @@ use Rattle.zf_coef.specs.Turned.{bit_of}
 use Rattle.zf_coef.specs.Groups.{word_of, HoldsGroup, KeepsOthers, IsOfGroup}
 use Rattle.zf_spec.specs.Planes.{digits_in_planes}
 use Rattle.zf_spec.proofs.Fields.{get_or-field, length-field}
-use Rattle.zf_spec.proofs.WordBits.{length-word_bits, get_or-word_bits, words_with_bit, length-words_with_bit, bit_kept, bit_written}
+use Rattle.zf_spec.proofs.WordBits.{length-word_bits, get_or-word_bits}
 use Rattle.zf_spec.proofs.HeldPlanes.{get_or-planes_held}
 
 -- ---- all planes

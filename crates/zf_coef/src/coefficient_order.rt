@@ -38,6 +38,7 @@ static ORDER_4: [u8; 256] = [
 ///
 /// The place with the smaller sum of indices comes first, then the one with the smaller sum of squares, then the one with the greater x, then y, then z.
 /// In one and two dimensions this is the order of zfp 1.0; in three and four dimensions the choice among equal sums is this project's own.
+#[inline(always)]
 pub fn order(d: u8) -> &'static [u8]
     requires dimension { IsDimension d }
     ensures places { result.now ≡ order d }

@@ -9,12 +9,9 @@ ghost use Rattle.zf_coef.specs.Groups.{word_of, IsOfGroup, AreTiles};
 ghost use Rattle.zf_coef.specs.Turned.{bit_of};
 ghost use Rattle.std.specs.Int.{bit_at};
 
-use crate::planes::have_four_words;
+use crate::planes::{WORD_BITS, have_four_words};
 use crate::turning::{turn_4, turn_16, turn_32};
 use zf_bits::Plane;
-
-/// How many ranks a word of a plane has.
-const WORD_BITS: usize = 64;
 
 /// The way back: writes the digits of as many coefficients as `digits` has words. Bits of later ranks are not looked at.
 pub fn from_planes(planes: &[[u64; 4]], digits: &mut [u64])
@@ -85,6 +82,7 @@ fn copy_front(words: &[u64], digits: &mut [u64])
     }
 }
 
+/// The same of four digits.
 #[inline(never)]
 fn take_4<P: Plane>(planes: &[P], number: usize, digits: &mut [u64])
     requires number { number < P.word_count }
@@ -97,6 +95,7 @@ fn take_4<P: Plane>(planes: &[P], number: usize, digits: &mut [u64])
     digits.copy_from_slice(&words);
 }
 
+/// The same of sixteen digits.
 #[inline(never)]
 fn take_16<P: Plane>(planes: &[P], number: usize, digits: &mut [u64])
     requires number { number < P.word_count }
@@ -117,27 +116,56 @@ fn tiles<P: Plane, const N: usize>(planes: &[P], number: usize) -> [u64; N]
     requires planes { length planes.now ≤ 64 }
     ensures { AreTiles N number (map P.words planes.now) result }
 {
+    // A number of planes that is known needs no loop.
+    match planes.len() {
+        32 => tiles_to(planes, 32, number),
+        64 => tiles_to(planes, 64, number),
+        len => tiles_to(planes, len, number),
+    }
+}
+
+/// The same of so many planes.
+#[inline(always)]
+fn tiles_to<P: Plane, const N: usize>(planes: &[P], len: usize, number: usize) -> [u64; N]
+    requires size { (N ≡ 4) ⊎ (N ≡ 16) }
+    requires len { len ≡ length planes.now }
+    requires number { number < P.word_count }
+    requires planes { length planes.now ≤ 64 }
+    ensures { AreTiles N number (map P.words planes.now) result }
+{
+    let whole = len / N;
     let mut words = [0; N];
-    for tile in 0..WORD_BITS / N {
-        let from = tile * N;
-        if from < planes.len() {
-            add_tile(&mut words, from, &words_from(planes, from, number));
-        }
+    let last: [u64; N] = words_from(planes, whole * N, number);
+    put_tile_before(&mut words, &last);
+    for done in 0..whole {
+        let tile: [u64; N] = words_at(planes, (whole - 1 - done) * N, number);
+        put_tile_before(&mut words, &tile);
     }
     words
 }
 
-/// Adds the first `N` bits of other words, from bit `from` on.
+/// Puts the first `N` bits of each word of a tile before all bits of the other words.
 #[inline(always)]
-fn add_tile<const N: usize>(words: &mut [u64; N], from: usize, tile: &[u64; N])
+fn put_tile_before<const N: usize>(words: &mut [u64; N], tile: &[u64; N])
     requires size { (N ≡ 4) ⊎ (N ≡ 16) }
-    requires from { from < 64 }
     ensures { (j : ℕ) → j < N → slice_index_or words.new j 0
-        ≡ bit_or (slice_index_or words.old j 0) (slice_index_or tile.now j 0 % 2 ^ N * 2 ^ from % 2 ^ 64) }
+        ≡ bit_or (slice_index_or words.old j 0 * 2 ^ N % 2 ^ 64) (slice_index_or tile.now j 0 % 2 ^ N) }
 {
     for j in 0..N {
-        words[j] |= (tile[j] & (u64::MAX >> (WORD_BITS - N))) << from;
+        words[j] = (words[j] << N) | (tile[j] & (u64::MAX >> (WORD_BITS - N)));
     }
+}
+
+/// The words of the `N` planes from `from` on.
+#[inline(always)]
+fn words_at<P: Plane, const N: usize>(planes: &[P], from: usize, number: usize) -> [u64; N]
+    requires number { number < P.word_count }
+    requires from { from + N ≤ length planes.now }
+    ensures { (j : ℕ) → j < N → slice_index_or result j 0 ≡ word_of (map P.words planes.now) number (from + j) }
+{
+    let mut words = [0; N];
+    copy_words(planes, from, N, number, &mut words);
+    words
 }
 
 /// The words of the planes from `from` on, and zeros past their end.
@@ -171,6 +199,7 @@ fn copy_words<P: Plane>(planes: &[P], from: usize, count: usize, number: usize, 
     }
 }
 
+/// The same of 64 digits, 32 planes at a time.
 #[inline(never)]
 fn take_64<P: Plane>(planes: &[P], number: usize, digits: &mut [u64])
     requires number { number < P.word_count }

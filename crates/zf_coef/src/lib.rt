@@ -3,6 +3,7 @@
 
 mod coefficient_order;
 mod digits;
+mod needed;
 mod negabinary;
 mod planes;
 mod ranks;
@@ -10,6 +11,7 @@ mod turning;
 
 pub use coefficient_order::order;
 pub use digits::{digits_of_planes, from_planes};
+pub use needed::{any_digits, needed_planes};
 pub use negabinary::{from_digits, to_digits};
 pub use planes::{planes_of_digits, to_planes};
 pub use ranks::{ranked, unranked};

@@ -10,6 +10,7 @@ use zf_base::Lane;
 const NEGATIVE: u64 = 0xaaaa_aaaa_aaaa_aaaa;
 
 /// The negabinary digits of a value, digit i as bit i (zfp 1.0 documentation, chapter Algorithm).
+#[inline]
 pub fn to_digits<T: Lane>(v: T) -> u64
     ensures digits { field (bits T.width) result ≡ digits (bits T.width) (T.value v) }
     ensures below { result < 2 ^ T.WIDTH }
@@ -19,6 +20,7 @@ pub fn to_digits<T: Lane>(v: T) -> u64
 }
 
 /// The value that the lowest `WIDTH` bits of `u` stand for as negabinary digits.
+#[inline]
 pub fn from_digits<T: Lane>(u: u64) -> T
     ensures value { T.value result ≡ value_of T.width (field (bits T.width) u) }
     ensures in_type { T.in_range (T.value result) }

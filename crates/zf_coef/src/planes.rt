@@ -12,7 +12,7 @@ use crate::turning::{turn_4, turn_16, turn_32};
 use zf_bits::Plane;
 
 /// How many ranks a word of a plane has.
-const WORD_BITS: usize = 64;
+pub(crate) const WORD_BITS: usize = 64;
 
 /// Writes the digits of coefficients by rank as bit planes: plane `k` has digit `k` of each. Digits that have no plane are left out.
 ///
@@ -62,11 +62,22 @@ fn put_group<P: Plane>(digits: &[u64], number: usize, planes: &mut [P])
     ensures others { KeepsOthers number (map P.words planes.old) (map P.words planes.new) }
 {
     match digits.len() {
+        0 => put_none(number, planes),
         4 => put_4(digits, number, planes),
         16 => put_16(digits, number, planes),
         64 => put_64(digits, number, planes),
         _ => put_64(&padded(digits), number, planes),
     }
+}
+
+/// The words of no digits, which are zero.
+fn put_none<P: Plane>(number: usize, planes: &mut [P])
+    requires number { number < P.word_count }
+    requires planes { length planes.old ≤ 64 }
+    ensures words { (k : ℕ) → k < length planes.new → word_of (map P.words planes.new) number k ≡ 0 }
+    ensures others { KeepsOthers number (map P.words planes.old) (map P.words planes.new) }
+{
+    put_words(&[0; WORD_BITS], planes.len(), 0, number, planes);
 }
 
 /// 64 digits, of which those past the given ones are zero.
@@ -81,6 +92,7 @@ fn padded(digits: &[u64]) -> [u64; WORD_BITS]
     whole
 }
 
+/// The same of four digits.
 #[inline(never)]
 fn put_4<P: Plane>(digits: &[u64], number: usize, planes: &mut [P])
     requires number { number < P.word_count }
@@ -92,9 +104,10 @@ fn put_4<P: Plane>(digits: &[u64], number: usize, planes: &mut [P])
     let mut words = [0; 4];
     words.copy_from_slice(digits);
     turn_4(&mut words);
-    put_tiles(&words, number, planes);
+    put_tiles(words, number, planes);
 }
 
+/// The same of sixteen digits.
 #[inline(never)]
 fn put_16<P: Plane>(digits: &[u64], number: usize, planes: &mut [P])
     requires number { number < P.word_count }
@@ -106,38 +119,72 @@ fn put_16<P: Plane>(digits: &[u64], number: usize, planes: &mut [P])
     let mut words = [0; 16];
     words.copy_from_slice(digits);
     turn_16(&mut words);
-    put_tiles(&words, number, planes);
+    put_tiles(words, number, planes);
 }
 
 /// The planes of turned tiles: tile t of word j is plane `N * t + j`.
 #[inline(always)]
-fn put_tiles<P: Plane, const N: usize>(words: &[u64; N], number: usize, planes: &mut [P])
+fn put_tiles<P: Plane, const N: usize>(words: [u64; N], number: usize, planes: &mut [P])
     requires size { (N ≡ 4) ⊎ (N ≡ 16) }
     requires number { number < P.word_count }
     requires planes { length planes.old ≤ 64 }
-    ensures bits { HoldsTiles N number words.now (map P.words planes.new) }
+    ensures bits { HoldsTiles N number words.entry (map P.words planes.new) }
     ensures others { KeepsOthers number (map P.words planes.old) (map P.words planes.new) }
 {
-    for tile in 0..WORD_BITS / N {
-        let from = tile * N;
-        if from < planes.len() {
-            put_from(&tile_of(words, from), from, number, planes);
-        }
+    // A number of planes that is known needs no loop.
+    match planes.len() {
+        32 => put_tiles_to(words, 32, number, planes),
+        64 => put_tiles_to(words, 64, number, planes),
+        len => put_tiles_to(words, len, number, planes),
     }
 }
 
-/// The `N` bits of each word from this one on.
+/// The same of so many planes.
 #[inline(always)]
-fn tile_of<const N: usize>(words: &[u64; N], from: usize) -> [u64; N]
+fn put_tiles_to<P: Plane, const N: usize>(
+    mut words: [u64; N],
+    len: usize,
+    number: usize,
+    planes: &mut [P],
+)
     requires size { (N ≡ 4) ⊎ (N ≡ 16) }
-    requires from { from < 64 }
-    ensures { (j : ℕ) → j < N → slice_index_or result j 0 ≡ slice_index_or words.now j 0 / 2 ^ from % 2 ^ N }
+    requires len { len ≡ length planes.old }
+    requires number { number < P.word_count }
+    requires planes { length planes.old ≤ 64 }
+    ensures bits { HoldsTiles N number words.entry (map P.words planes.new) }
+    ensures others { KeepsOthers number (map P.words planes.old) (map P.words planes.new) }
+{
+    let whole = len / N;
+    for tile in 0..whole {
+        put_words(&first_tile(&words), N, tile * N, number, planes);
+        next_tile(&mut words);
+    }
+    put_words(&first_tile(&words), len % N, whole * N, number, planes);
+}
+
+/// The first `N` bits of each word.
+#[inline(always)]
+fn first_tile<const N: usize>(words: &[u64; N]) -> [u64; N]
+    requires size { (N ≡ 4) ⊎ (N ≡ 16) }
+    ensures cut { (j : ℕ) → j < N → slice_index_or result j 0 ≡ slice_index_or words.now j 0 % 2 ^ N }
+    ensures long { length result ≡ N }
 {
     let mut tile = [0; N];
     for j in 0..N {
-        tile[j] = (words[j] >> from) & (u64::MAX >> (WORD_BITS - N));
+        tile[j] = words[j] & (u64::MAX >> (WORD_BITS - N));
     }
     tile
+}
+
+/// Drops the first `N` bits of each word.
+#[inline(always)]
+fn next_tile<const N: usize>(words: &mut [u64; N])
+    requires size { (N ≡ 4) ⊎ (N ≡ 16) }
+    ensures { (j : ℕ) → j < N → slice_index_or words.new j 0 ≡ slice_index_or words.old j 0 / 2 ^ N }
+{
+    for j in 0..N {
+        words[j] >>= N;
+    }
 }
 
 /// Puts words into the planes from `from` on, as far as there are any.
@@ -175,6 +222,7 @@ fn put_words<P: Plane>(words: &[u64], count: usize, from: usize, number: usize, 
     }
 }
 
+/// The same of 64 digits, 32 planes at a time.
 #[inline(never)]
 fn put_64<P: Plane>(digits: &[u64], number: usize, planes: &mut [P])
     requires number { number < P.word_count }

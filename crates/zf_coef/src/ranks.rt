@@ -12,6 +12,7 @@ use zf_base::Lane;
 /// Writes the negabinary digits of a block's coefficients by rank, those of rank 0 first.
 ///
 /// `block` has `4^d` coefficients by place, x fastest.
+#[inline(always)]
 pub fn ranked<T: Lane>(d: u8, block: &[T], digits: &mut [u64])
     requires dimension { IsDimension d }
     requires block { length block.now ≡ 4 ^ d }
@@ -25,6 +26,7 @@ pub fn ranked<T: Lane>(d: u8, block: &[T], digits: &mut [u64])
 }
 
 /// The way back: writes the coefficient of each rank at its place in the block. Bits from `WIDTH` on are not looked at.
+#[inline(always)]
 pub fn unranked<T: Lane>(d: u8, digits: &[u64], block: &mut [T])
     requires dimension { IsDimension d }
     requires digits { length digits.now ≡ 4 ^ d }

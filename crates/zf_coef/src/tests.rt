@@ -95,6 +95,7 @@ fn digits_of(size: usize, planes: usize) -> [u64; 256] {
 fn kernels_are_the_plain_program(rt: HostRuntime) {
     for count in [32, 64] {
         for size in [0, 1, 3, 4, 15, 16, 17, 64, 255, 256] {
+            assert!(rt; count <= 64 && size <= 256);
             let digits = digits_of(size, count);
             let mut planes = [[7; 4]; 64];
             to_planes(&digits[..size], &mut planes[..count]);
@@ -127,5 +128,25 @@ fn kernels_are_the_plain_program(rt: HostRuntime) {
                 );
             }
         }
+    }
+}
+
+// How many planes are needed: those above the lowest digit that any coefficient has.
+#[test]
+fn planes_are_needed_down_to_the_lowest_digit(rt: HostRuntime) {
+    let table: [(&[u64], u32, u32); 6] = [
+        (&[], 32, 0),
+        (&[0, 0, 0, 0], 32, 0),
+        (&[0, 1, 0, 0], 32, 32),
+        (&[0x8000_0000, 0, 0xc000_0000, 0], 32, 2),
+        (&[0x8000_0000_0000_0000, 0, 0, 0], 64, 1),
+        (&[12, 8, 0, 24], 64, 62),
+    ];
+    for (digits, width, needed) in table {
+        assert_eq!(rt;
+            needed_planes(digits, width),
+            needed,
+            "planes of {digits:?}"
+        );
     }
 }

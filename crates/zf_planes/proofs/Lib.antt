@@ -1,5 +1,7 @@
 -- Lemmas on planes and their code.
 --     Runs         a plane's tail n digits into it, as a group bit and a run
+--     Tables       tables of planes of four digits
+--     Gathering    bits of several planes in one word
 --     Lengths      how long the tail of a plane is
 --     Budgets      a list that is written in parts, as far as a budget reaches
 --     Zeros        the code of zeros and of a run as numbers
@@ -13,6 +15,8 @@
 --     Passing      a reader that passes the bits of a code in parts
 --     Peeking      bits that were looked at and are not yet passed
 pub mod Runs
+pub mod Tables
+pub mod Gathering
 pub mod Lengths
 pub mod Budgets
 pub mod Zeros

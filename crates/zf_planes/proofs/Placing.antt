@@ -1,17 +1,15 @@
 -- A plane in words whose digits are put in from its front on.
-use Rattle.std.proofs.Common.{◌≡◌, ℕ, zero, suc, ◌+◌, ◌-◌, ◌*◌, ◌/◌, ◌%◌, ◌^◌, ◌<◌, ◌≤◌, ◌≢◌, ⊎_elim, max, Bool, true, false, eqb, List, [], ◌∷◌, ◌++◌, length, get_or, set, take, drop, replicate, get_or-set_same, get_or-set_other, ext_get_or, refl, sym, ap, ◌∙◌, arith, length-set, length-append, length-take, length-drop, append_assoc}
-use Rattle.std.specs.Int.{bit_at, w64}
+use Rattle.std.proofs.Common.{◌≡◌, ℕ, zero, suc, ◌+◌, ◌-◌, ◌*◌, ◌/◌, ◌%◌, ◌^◌, ◌<◌, ◌≤◌, ◌≢◌, ⊎_elim, Bool, true, false, eqb, List, [], ◌∷◌, ◌++◌, length, get_or, set, take, drop, replicate, get_or-set_same, get_or-set_other, ext_get_or, sym, ap, ◌∙◌, arith, length-set, length-append, length-take, append_assoc}
+use Rattle.std.specs.Int.{w64}
 use Rattle.std.specs.Int.Bits.{bit_or}
-use Rattle.std.proofs.Math.Seq.{take-append-add, drop-append-add, take-add}
+use Rattle.std.proofs.Math.Seq.{take-add}
 use Rattle.std.proofs.lemmas.Bool.{cases_eq}
-use Rattle.std.proofs.lemmas.List.{take_at, drop_at, take-append-drop, drop-drop, take-replicate, drop-replicate, length-replicate, replicate-append-replicate, append-nil}
+use Rattle.std.proofs.lemmas.List.{take_at, drop_at, drop-drop, take-replicate, drop-replicate, length-replicate, replicate-append-replicate, append-nil}
 use Rattle.std.proofs.lemmas.Nat.Bits.{bit_at_set_same, bit_at_set_other}
 use Rattle.zf_spec.specs.Numbers.{is_odd, field, word_bits}
 use Rattle.zf_spec.specs.Planes.{reach}
 use Rattle.zf_spec.specs.HeldPlanes.{digits_held, IsClearFrom}
-use Rattle.zf_spec.proofs.Fields.{length-field}
 use Rattle.zf_spec.proofs.WordBits.{length-word_bits, get_or-word_bits}
-use Rattle.zf_spec.proofs.HeldPlanes.{length-digits_held}
 use Rattle.zf_bits.proofs.Words.{words-set}
 use Rattle.zf_bits.proofs.Packed.{flat_map-field-replicate}
 use Rattle.zf_planes.proofs.Filling.{front_set, behind_set}

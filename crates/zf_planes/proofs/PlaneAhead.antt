@@ -1,15 +1,15 @@
 -- What the decoder makes of one plane: its first digits as they are, and then a tail.
 use Rattle.std.proofs.Common.{◌≡◌, ℕ, suc, zero, ◌+◌, ◌-◌, ◌<◌, ◌≤◌, ◌⊎◌, inl, inr, ⊎_elim, min, Bool, true, false, cond, List, [], ◌∷◌, ◌++◌, length, take, drop, replicate, refl, sym, ap, ◌∙◌, arith, take_at, drop_at, append-nil, take-append-drop}
 use Rattle.std.proofs.lemmas.Bool.{false≢true, cases_lt}
-use Rattle.std.proofs.lemmas.List.{length-take, length-drop, drop-take, drop_all, take-append-le}
+use Rattle.std.proofs.lemmas.List.{length-take, take-take, length-drop, drop-take, drop_all, take-append-le}
 use Rattle.zf_spec.specs.Planes.{has_one, code_from_run, tail, plane_code}
 use Rattle.zf_spec.specs.Kept.{zeros, kept_run, kept_tail, cut_plane, kept_plane}
 use Rattle.zf_spec.specs.ReadPlanes.{first_bits, tail_in, plane_in}
 use Rattle.zf_spec.proofs.Reach.{zeros_from_none}
 use Rattle.zf_spec.proofs.KeptCases.{kept_tail-zeros, kept_tail-one}
 use Rattle.zf_spec.proofs.KeptSame.{kept_whole, kept_cut}
-use Rattle.zf_spec.proofs.Beginnings.{length-first_bits}
-use Rattle.zf_spec.proofs.Full.{length-plane_in}
+use Rattle.zf_spec.proofs.Beginnings.{length-first_bits, begins_itself}
+use Rattle.zf_spec.proofs.Full.{length-plane_in, full_plane_only}
 use Rattle.zf_planes.specs.Decoding.{tail_ahead, tail_bits, plane_ahead, plane_bits}
 use Rattle.zf_planes.proofs.Lengths.{length-plane_code}
 
@@ -144,3 +144,16 @@ plane_bits-is r size n s within =
     let long = length-plane_code n ds (omega (arith, length-plane_in size n (take r s) within)) in
     let rest = ap (λ (es : List Bool). length (tail es)) (tail_of_full r size n s) in
     omega (arith, long, rest)
+
+-- ---- a plane whose code is there and in the budget is read whole
+
+pub whole_plane : (left n len : ℕ) (ds s : List Bool) → n ≤ length ds → plane_code n ds ≡ take len s → len ≤ length s → len ≤ left → (plane_bits left (length ds) n s ≡ len) × (plane_ahead left (length ds) n s ≡ ds)
+unfolding plane_bits plane_ahead
+whole_plane left n len ds s within code there fits =
+    let front = take left s in
+    let split : plane_code n ds ++ drop len front ≡ front =
+    ap (λ (bs : List Bool). bs ++ drop len front) (code ∙ sym (take-take len left s fits)) ∙ take-append-drop len front in
+    let begins = begins_itself (plane_code n ds) (drop len front) in
+    let same : ds ≡ plane_in (length ds) n front = full_plane_only n ds front within (rw split at begins) in
+    let long : length (plane_code n ds) ≡ len = ap length code ∙ omega (arith, length-take len s) in
+    rw (← same) (omega (arith, long), kept_whole left n ds (omega (arith, long)))

@@ -10,6 +10,7 @@ ghost use Rattle.zf_spec.specs.Planes.{reach};
 ghost use Rattle.zf_bits.specs.Reader.{rest, Reads};
 ghost use Rattle.zf_planes.specs.Decoding.{IsWindow, coded, coded_bits, tail_ahead, tail_bits, run_ahead, run_bits, plane_ahead, plane_bits, planes_ahead, planes_bits, Takes, Lacks};
 
+use crate::four::plane_of_4;
 use crate::words::clear;
 use zf_bits::{BitReader, Plane};
 
@@ -250,6 +251,73 @@ fn read_tail<P: Plane>(
     Some(n)
 }
 
+/// Reads the code of a plane in which the ranks below `n` have had a one above, run by run. The answer is how far the ones of both reach.
+#[inline(always)]
+fn read_by_runs<P: Plane>(
+    n: usize,
+    size: usize,
+    plane: &mut P,
+    ahead: &mut Ahead,
+    reader: &mut BitReader<'_>,
+) -> Option<usize>
+    requires size { size ≤ 256 }
+    requires words { size ≤ 64 * P.word_count }
+    requires in_plane { n ≤ size }
+    requires blank { P.words plane.old ≡ replicate P.word_count 0 }
+    requires window { IsWindow ahead.old.left ahead.old.bits ahead.old.count (rest reader.old) }
+    ensures short { IfNone result (Lacks reader.old reader.new (plane_bits ahead.old.left size n (rest reader.old))) }
+    ensures window { OnSome result (IsWindow ahead.new.left ahead.new.bits ahead.new.count (rest reader.new)) }
+    ensures taken { OnSome result (Takes reader.old reader.new ahead.old.left ahead.new.left (plane_bits ahead.old.left size n (rest reader.old))) }
+    ensures digits { OnSome result (digits_held size (P.words plane.new) ≡ plane_ahead ahead.old.left size n (rest reader.old)) }
+    ensures clear { OnSome result (IsClearFrom size (P.words plane.new)) }
+    ensures above { IfSome result (λ above. above ≡ max n (reach (digits_held size (P.words plane.new)))) }
+{
+    read_front(n, plane, ahead, reader)?;
+    read_tail(n, size, plane, ahead, reader)
+}
+
+/// Looks again where there may be more bits than those that are in sight.
+#[inline]
+fn look_on(ahead: &mut Ahead, reader: &BitReader<'_>)
+    requires window { IsWindow ahead.old.left ahead.old.bits ahead.old.count (rest reader.now) }
+    ensures window { IsWindow ahead.new.left ahead.new.bits ahead.new.count (rest reader.now) }
+    ensures left { ahead.new.left ≡ ahead.old.left }
+    ensures more { (7 ≤ ahead.new.count) ⊎ (ahead.new.count ≡ min ahead.new.left (length (rest reader.now))) }
+{
+    if ahead.count < 7 {
+        *ahead = look(ahead.left, reader);
+    }
+}
+
+/// Reads the code of a plane of four digits in which the ranks below `n` have had a one above. The answer is how far the ones of both reach.
+#[inline(always)]
+fn read_plane_of_4<P: Plane>(
+    n: usize,
+    plane: &mut P,
+    ahead: &mut Ahead,
+    reader: &mut BitReader<'_>,
+) -> Option<usize>
+    requires words { 4 ≤ 64 * P.word_count }
+    requires in_plane { n ≤ 4 }
+    requires blank { P.words plane.old ≡ replicate P.word_count 0 }
+    requires window { IsWindow ahead.old.left ahead.old.bits ahead.old.count (rest reader.old) }
+    ensures short { IfNone result (Lacks reader.old reader.new (plane_bits ahead.old.left 4 n (rest reader.old))) }
+    ensures window { OnSome result (IsWindow ahead.new.left ahead.new.bits ahead.new.count (rest reader.new)) }
+    ensures taken { OnSome result (Takes reader.old reader.new ahead.old.left ahead.new.left (plane_bits ahead.old.left 4 n (rest reader.old))) }
+    ensures digits { OnSome result (digits_held 4 (P.words plane.new) ≡ plane_ahead ahead.old.left 4 n (rest reader.old)) }
+    ensures clear { OnSome result (IsClearFrom 4 (P.words plane.new)) }
+    ensures above { IfSome result (λ above. above ≡ max n (reach (digits_held 4 (P.words plane.new)))) }
+{
+    look_on(ahead, reader);
+    let next = plane_of_4(n, ahead.bits % 128);
+    if next.len <= ahead.count {
+        plane.set_word(0, next.digits);
+        pass(next.len, ahead, reader);
+        return Some(next.above);
+    }
+    read_by_runs(n, 4, plane, ahead, reader)
+}
+
 /// Reads the code of a plane in which the ranks below `n` have had a one above. The answer is how far the ones of both reach.
 #[inline(always)]
 fn read_plane<P: Plane>(
@@ -271,8 +339,10 @@ fn read_plane<P: Plane>(
     ensures clear { OnSome result (IsClearFrom size (P.words plane.new)) }
     ensures above { IfSome result (λ above. above ≡ max n (reach (digits_held size (P.words plane.new)))) }
 {
-    read_front(n, plane, ahead, reader)?;
-    read_tail(n, size, plane, ahead, reader)
+    if size == 4 {
+        return read_plane_of_4(n, plane, ahead, reader);
+    }
+    read_by_runs(n, size, plane, ahead, reader)
 }
 
 /// Passes planes of zeros at the top, of which each has one bit.

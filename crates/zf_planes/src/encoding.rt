@@ -6,6 +6,7 @@ ghost use Rattle.zf_spec.specs.Planes.{plane_code, tail, code, reach};
 ghost use Rattle.zf_bits.specs.Writer.{Appends};
 ghost use Rattle.zf_spec.specs.HeldPlanes.{digits_held, planes_held};
 
+use crate::four::write_planes_of_4;
 use crate::words::{reach_in, zeros_from};
 use zf_bits::{BitWriter, Plane};
 
@@ -144,6 +145,9 @@ pub fn write_planes<P: Plane>(
     ensures bits { Appends out.old out.new (take budget (code (take prec (planes_held size (map P.words planes.now))))) }
     ensures count { result ≡ min budget (length (code (take prec (planes_held size (map P.words planes.now))))) }
 {
+    if size == 4 {
+        return write_planes_of_4(budget, prec, planes, out);
+    }
     let zeros = zero_planes(prec, size, planes);
     let count = budget.min(u64::from(zeros));
     out.write_reserved(0, count as u32);

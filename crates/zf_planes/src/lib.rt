@@ -3,6 +3,7 @@
 
 mod decoding;
 mod encoding;
+mod four;
 mod measuring;
 mod words;
 

@@ -47,9 +47,13 @@ const SIZE_16: Case = Case {
     code_len: 44,
     code: &[0, 10, 12, 22, 29, 30, 38],
     kept: &[
+        (9, &[(2, 8)]),
         (10, &[(2, 9)]),
+        (11, &[(2, 9)]),
         (13, &[(2, 9), (1, 0)]),
         (26, &[(2, 9), (1, 0), (1, 13)]),
+        (28, &[(2, 9), (1, 0), (1, 15)]),
+        (29, &[(2, 9), (1, 0), (1, 15)]),
         (31, &[(2, 9), (1, 0), (1, 15), (0, 1), (0, 2)]),
         (44, &[(2, 9), (1, 0), (1, 15), (0, 1), (0, 2), (0, 10)]),
     ],
@@ -62,8 +66,13 @@ const SIZE_64: Case = Case {
     code: &[1, 42, 44, 45, 46],
     kept: &[
         (1, &[]),
+        (2, &[(1, 0)]),
         (41, &[(1, 39)]),
+        (42, &[(1, 40)]),
+        (43, &[(1, 40)]),
         (46, &[(1, 40), (0, 0), (0, 1)]),
+        (85, &[(1, 40), (0, 0), (0, 1), (0, 2)]),
+        (86, &[(1, 40), (0, 0), (0, 1), (0, 2)]),
         (90, &[(1, 40), (0, 0), (0, 1), (0, 2)]),
     ],
 };
@@ -74,8 +83,19 @@ const SIZE_256: Case = Case {
     code_len: 468,
     code: &[0, 131, 265, 396, 466],
     kept: &[
-        (100, &[(2, 99)]),
+        (1, &[(2, 0)]),
+        (64, &[(2, 63)]),
+        (65, &[(2, 64)]),
+        (66, &[(2, 65)]),
+        (128, &[(2, 127)]),
+        (130, &[(2, 129)]),
+        (131, &[(2, 130)]),
+        (132, &[(2, 130)]),
+        (264, &[(2, 130)]),
         (265, &[(2, 130)]),
+        (266, &[(2, 130), (0, 0)]),
+        (396, &[(2, 130), (0, 0)]),
+        (397, &[(2, 130), (0, 0), (0, 131)]),
         (398, &[(2, 130), (0, 0), (0, 132)]),
         (468, &[(2, 130), (0, 0), (0, 200)]),
     ],
@@ -179,12 +199,14 @@ fn planes_have_their_codes(rt: HostRuntime) -> Result<(), Fail> {
 }
 
 #[test]
-fn one_word_a_plane_writes_the_same(rt: HostRuntime) -> Result<(), Fail> {
+fn one_word_a_plane_does_the_same(rt: HostRuntime) -> Result<(), Fail> {
     for (size, case) in [(4, SIZE_4), (16, SIZE_16), (64, SIZE_64)] {
-        assert!(rt; size <= 64);
+        assert!(rt; 0 < size && size <= 64);
         let planes = planes_with(&rt, case.ones);
         let words = [planes[0][0], planes[1][0], planes[2][0]];
-        for (budget, _) in case.kept {
+        assert_eq!(rt; planes_used(size, &words), case.used);
+        assert_eq!(rt; planes_len(3, size, &words), case.code_len);
+        for (budget, ones) in case.kept {
             let mut writer = BitWriter::new(rt.alloc());
             writer.reserve(256)?;
             let count = write_planes(*budget, 3, size, &words, &mut writer);
@@ -198,6 +220,20 @@ fn one_word_a_plane_writes_the_same(rt: HostRuntime) -> Result<(), Fail> {
                     "bit {at}"
                 );
             }
+            reader.seek(0);
+
+            let kept = planes_with(&rt, ones);
+            let mut again = [u64::MAX; 4];
+            assert_eq!(rt;
+                read_planes(*budget, 3, size, &mut reader, &mut again),
+                Some(count),
+                "{budget} bits"
+            );
+            assert_eq!(rt;
+                again,
+                [0, kept[0][0], kept[1][0], kept[2][0]],
+                "{budget} bits"
+            );
         }
     }
     Ok(())

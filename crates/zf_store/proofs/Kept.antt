@@ -1,5 +1,5 @@
 -- What follows from what holds of the fields of a store.
-use Rattle.std.proofs.Common.{◌≡◌, refl, sym, ap, subst, ◌∙◌, ℕ, ◌+◌, ◌-◌, ◌*◌, ◌/◌, ◌%◌, ◌^◌, ◌<◌, ◌≤◌, Bool, false, ℤ, List, [], ◌++◌, map, length, get_or, take, drop, replicate, length-append, length-drop, arith}
+use Rattle.std.proofs.Common.{◌≡◌, refl, sym, ap, subst, ◌∙◌, ℕ, ◌+◌, ◌-◌, ◌*◌, ◌^◌, ◌<◌, ◌≤◌, Bool, false, ℤ, List, [], ◌++◌, length, take, drop, replicate, length-drop, arith}
 use Rattle.std.specs.List.{flat_map}
 use Rattle.std.specs.Int.{Width, div_ceil}
 use Rattle.std.proofs.lemmas.List.{length-take-le, take_at, drop_at, drop-replicate}
@@ -14,15 +14,15 @@ use Rattle.zf_base.proofs.Extents.{length-extent_of}
 use Rattle.zf_bits.specs.Writer.{Writer}
 use Rattle.zf_bits.proofs.Packed.{flat_map-field-replicate}
 use Rattle.zf_header.specs.declared.header.Header.{Header}
-use Rattle.zf_header.specs.HeaderBits.{coding, block_bits, header_bits, rate_bytes_of}
+use Rattle.zf_header.specs.HeaderBits.{block_bits, header_bits, rate_bytes_of}
 use Rattle.zf_cached.specs.Arrays.{rate_coding, array_format}
 use Rattle.zf_cached.proofs.Arrays.{existing_of-array, meant-rate, encoded-rate}
 use Rattle.zf_header.proofs.Parts.{length-header_bits_le}
 use Rattle.zf_store.proofs.Opened.{all_bits_most}
-use Rattle.zf_stream.proofs.RateStreams.{code_cut, length-cut}
+use Rattle.zf_stream.proofs.RateStreams.{length-cut}
 use Rattle.zf_store.specs.Stored.{Stored, IsStore, code_at, format_of, file_of}
 use Rattle.zf_store.specs.Words.{IsKept, all_bits, codes_in, with_codes}
-use Rattle.zf_store.proofs.Cut.{at_change, behind_change, code_cut-take, codes_in-put, ends_within, get_or-codes_in, joined-codes_in, length-codes_in, words_are_filled}
+use Rattle.zf_store.proofs.Cut.{behind_change, code_cut-take, codes_in-put, ends_within, get_or-codes_in, joined-codes_in, length-codes_in, words_are_filled}
 
 -- how many blocks there are, and how many places each has
 pub blocks_is : (s : Stored) → (format_of s).blocks ≡ blocks s.header.shape

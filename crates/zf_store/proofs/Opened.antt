@@ -1,7 +1,6 @@
 -- What a file of a rate says, and why it says nothing.
-use Rattle.std.proofs.Common.{◌≡◌, ◌≢◌, ◌⊎◌, inl, inr, refl, sym, ap, subst, ◌∙◌, ℕ, ◌+◌, ◌-◌, ◌*◌, ◌/◌, ◌%◌, ◌^◌, ◌<◌, ◌≤◌, min, Bool, false, ℤ, List, [], ◌∷◌, ◌++◌, map, length, get_or, take, drop, replicate, All, Result, Ok, Err, append_assoc, length-append, length-drop, length-take, arith}
-use Rattle.std.specs.List.{flat_map}
-use Rattle.std.specs.Int.{Width, div_ceil}
+use Rattle.std.proofs.Common.{◌≡◌, ◌≢◌, ◌⊎◌, inl, inr, refl, sym, ap, subst, ◌∙◌, ℕ, ◌+◌, ◌-◌, ◌*◌, ◌/◌, ◌^◌, ◌<◌, ◌≤◌, min, Bool, false, ℤ, List, ◌++◌, map, length, take, drop, replicate, All, Ok, Err, append_assoc, length-append, length-drop, arith}
+use Rattle.std.specs.Int.{div_ceil}
 use Rattle.std.proofs.Math.Nat.{div-lt_iff_lt-mul, le-div_iff_mul-le, mul-le-mul}
 use Rattle.std.proofs.lemmas.Bool.{cases_lt}
 use Rattle.std.proofs.lemmas.List.{length-take-le, take-append-drop, take-append-le, take_at, drop-append-le, drop-drop, take_all}
@@ -19,22 +18,21 @@ use Rattle.zf_base.specs.Formats.{meant}
 use Rattle.zf_header.specs.declared.header.Header.{Header}
 use Rattle.zf_header.specs.declared.header.Mode.{Mode}
 use Rattle.zf_header.specs.declared.header.Mode.TheVariants.{Reversible, Rate, Precision}
-use Rattle.zf_header.specs.HeaderBits.{IsRate, IsHeader, BeginsWith, coding, block_bits, header_bits, rate_bytes_of}
+use Rattle.zf_header.specs.HeaderBits.{IsRate, IsHeader, BeginsWith, block_bits, header_bits, rate_bytes_of}
 use Rattle.zf_header.proofs.Good.{good}
 use Rattle.zf_header.proofs.Parts.{length-header_bits, length-header_bits_le}
 use Rattle.zf_spec.specs.Grid.{IsShape}
 use Rattle.zf_header.proofs.Found.{read_is_spelled, read_is_header, begins_within}
-use Rattle.zf_stream.specs.declared.fault.StreamFault.{StreamFault}
 use Rattle.zf_stream.specs.declared.fault.StreamFault.TheVariants.{Truncated, Pad, Trailing}
-use Rattle.zf_stream.specs.Parsing.{Said, values_of_blocks, parse}
+use Rattle.zf_stream.specs.Parsing.{values_of_blocks, parse}
 use Rattle.zf_stream.specs.ReadStreams.{BeginsWithHeader}
 use Rattle.zf_stream.proofs.ParseOfStream.{end_to_end, ReadsBack, parse-file}
 use Rattle.zf_stream.proofs.RateStreams.{code_cut, end_to_end-cut, length-cut, read_code-rate, parse_cut, parse_fill_short, parse_pad, parse_trailing}
 use Rattle.zf_cached.proofs.Arrays.{meant-rate}
-use Rattle.zf_store.specs.Stored.{Stored, code_at, format_of, file_of}
-use Rattle.zf_store.specs.Files.{HasHeader, IsOpened, values_of, said}
+use Rattle.zf_store.specs.Stored.{code_at, format_of}
+use Rattle.zf_store.specs.Files.{HasHeader, IsOpened, values_of}
 use Rattle.zf_store.specs.Words.{codes_in, with_codes, all_bits, IsWholeFile}
-use Rattle.zf_store.proofs.Cut.{codes_in-front, get_or-codes_in, joined-codes_in}
+use Rattle.zf_store.proofs.Cut.{codes_in-front, get_or-codes_in, joined-codes_in, length-codes_in}
 
 -- ---- headers with a rate
 
@@ -205,6 +203,8 @@ module _ (bytes : List ℕ) (h : Header) (has : HasHeader bytes h) where
         ap (values_of_blocks h.shape) (map-upto_same back (λ b. meant (format_of store) b (code_at store b)) (blocks h.shape) meant_is) in
         record {
           header = refl;
+          count = length-codes_in (block_bits h.mode) (blocks h.shape) s;
+          size = whole.size;
           said_is = sym (ap parse joined) ∙ parsed.1 ∙ ap (λ (vs : List ℤ). Ok (record { header = h; codes = codes_in (block_bits h.mode) (blocks h.shape) s; values = vs })) values;
           file = ap (λ (cs : List Bool). to_bytes (with_fill (hb ++ cs))) (joined-codes_in (block_bits h.mode) (blocks h.shape) s) ∙ file_is;
         }

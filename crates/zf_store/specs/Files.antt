@@ -1,9 +1,9 @@
 -- What a file says, and why it says nothing.
-use Rattle.std.specs.Prelude.{ℕ, ◌≡◌, ◌≤◌, ◌⊎◌, ℤ, List, map, length, None, Ok}
+use Rattle.std.specs.Prelude.{ℕ, ◌≡◌, ℤ, List, map, length, None, Ok}
 use Rattle.zf_spec.specs.Grid.{blocks, upto}
 use Rattle.zf_base.specs.Formats.{meant}
 use Rattle.zf_header.specs.declared.header.Header.{Header}
-use Rattle.zf_header.specs.HeaderBits.{IsRate}
+use Rattle.zf_header.specs.HeaderBits.{IsRate, rate_bytes_of}
 use Rattle.zf_header.specs.HeaderFaults.{header_fault}
 use Rattle.zf_stream.specs.declared.fault.StreamFault.{StreamFault}
 use Rattle.zf_stream.specs.declared.fault.StreamFault.TheVariants as stream
@@ -29,6 +29,8 @@ said s = record { header = s.header; codes = s.codes; values = values_of s }
 -- a store was read from these bytes: they have this header, they say the store's codes, and they are the store's file, bit for bit
 pub record IsOpened (bytes : List ℕ) (h : Header) (s : Stored) : Type 0 where
   pub header : s.header ≡ h
+  pub count : length s.codes ≡ blocks h.shape
+  pub size : length bytes ≡ rate_bytes_of h
   pub said_is : parse bytes ≡ Ok (said s)
   pub file : file_of s ≡ bytes
 

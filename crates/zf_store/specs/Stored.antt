@@ -15,6 +15,14 @@ pub record Stored : Type 0 where
   pub header : Header
   pub codes : List (List Bool)
 
+-- what no load and no store changes: the header, and how many codes there are
+pub record Frame : Type 0 where
+  pub header : Header
+  pub count : ℕ
+
+abbrev pub frame_of : Stored → Frame
+frame_of s = record { header = s.header; count = length s.codes }
+
 -- how many bits each code has
 abbrev pub rate_of : Stored → ℕ
 rate_of s = block_bits s.header.mode

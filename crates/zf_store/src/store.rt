@@ -162,18 +162,17 @@ impl<T: Lane, const D: usize> Store<T, D> {
 
 impl<T: Lane, const D: usize> Reading<T> for Store<T, D> {
     ghost use Rattle.std.specs.Prelude.{List, Bool};
-    ghost use Rattle.zf_header.specs.declared.header.Header.{Header};
-    ghost use Rattle.zf_store.specs.Stored.{format_of, code_at};
+    ghost use Rattle.zf_store.specs.Stored.{Frame, format_of, code_at, frame_of};
 
     ghost Code = { List Bool };
 
-    ghost Kept = { Header };
+    ghost Kept = { Frame };
 
     ghost format = { λ s. format_of s };
 
     ghost codes = { λ s b. code_at s b };
 
-    ghost kept = { λ s. s.header };
+    ghost kept = { λ s. frame_of s };
 
     fn blocks(&self) -> u64 {
         self.header.shape.blocks()

@@ -1,5 +1,5 @@
 -- Words that are a command are one command's.
-use Rattle.std.proofs.Common.{◌≡◌, ℕ, ◌+◌, ◌<◌, ◌≤◌, ◌^◌, List, [], ◌∷◌, ◌++◌, map, length, get_or, take, drop, codes, decimal, refl, ap, sym, subst, ◌∙◌, arith, append_assoc}
+use Rattle.std.proofs.Common.{◌≡◌, ℕ, ◌+◌, ◌*◌, ◌<◌, ◌≤◌, ◌^◌, List, [], ◌∷◌, ◌++◌, map, length, get_or, take, drop, codes, decimal, refl, ap, sym, subst, ◌∙◌, arith, append_assoc}
 use Rattle.std.specs.Str.{bytes_eq}
 use Rattle.std.proofs.lemmas.Bool.{true≢false}
 use Rattle.std.proofs.lemmas.Fmt.{decimal_injective}
@@ -12,11 +12,11 @@ use Rattle.zf_header.specs.declared.header.Mode.{Mode}
 use Rattle.zf_header.specs.declared.header.Mode.TheVariants.{Reversible, Rate, Precision}
 use Rattle.zf_header.specs.HeaderBits.{IsMode}
 use Rattle.zfpi.specs.declared.command.Command.{Command}
-use Rattle.zfpi.specs.declared.command.Command.TheVariants.{Compress, Restore, Info}
+use Rattle.zfpi.specs.declared.command.Command.TheVariants.{Compress, Restore, Info, New}
 use Rattle.zfpi.specs.declared.words.Stage.{Stage}
 use Rattle.zfpi.specs.declared.words.Stage.TheVariants as stages
 use Rattle.zfpi.specs.Words.{type_word, shape_word, mode_words, compress_words, IsAskable, IsSpelled, BeginsCommand, IsUsage}
-use Rattle.zfpi.specs.Stages.{LeadsTo, IsRateWord}
+use Rattle.zfpi.specs.Stages.{LeadsTo, IsRateWord, IsPrecisionWord}
 use Rattle.zfpi.proofs.ShapeWords.{parts_of-shape, decimals_injective, sizes_small}
 use Rattle.zfpi.proofs.Completed.{header_with, BeginsCommand-reached}
 
@@ -53,25 +53,63 @@ same_header : (g h : Header) → g.ty ≡ h.ty → g.shape ≡ h.shape → g.mod
 same_header g h ty shape mode =
     ap (λ t. header_with t g.shape g.mode) ty ∙ (ap (λ ns. header_with h.ty ns g.mode) shape ∙ ap (λ m. header_with h.ty h.shape m) mode)
 
-restore_or_info : codes "restore" ∷ [] ≡ codes "info" ∷ [] → ⊥
-restore_or_info same = true≢false (ap (bytes_eq (codes "restore")) (heads_same same))
+-- ---- the first word tells a command from the others
+first_word : Command → List ℕ
+first_word (Compress h) = codes "compress"
+first_word Restore = codes "restore"
+first_word Info = codes "info"
+first_word (New name ty ns b) = codes "new"
+
+begins_with : (c : Command) (words : List (List ℕ)) → IsSpelled c words → (rest : List (List ℕ)) × (words ≡ first_word c ∷ rest)
+unfolding first_word
+begins_with (Compress h) words spelled = (type_word h.ty ∷ shape_word h.shape ∷ mode_words h.mode, spelled.1)
+begins_with Restore words spelled = ([], spelled)
+begins_with Info words spelled = ([], spelled)
+begins_with (New name ty ns b) words spelled = (name ∷ type_word ty ∷ shape_word ns ∷ decimal b ∷ [], spelled.words_are)
+
+-- the first words differ in their length or in their first letter
+mark : List ℕ → ℕ
+mark word = 256 * length word + get_or word 0 0
+
+same_mark : (c d : Command) (words : List (List ℕ)) → IsSpelled c words → IsSpelled d words → mark (first_word c) ≡ mark (first_word d)
+same_mark c d words a b =
+    let first = begins_with c words a in
+    let other = begins_with d words b in
+    ap mark (heads_same (sym first.1 ∙ other.1))
 
 -- words are those of one command at most
 pub one_command : (words : List (List ℕ)) (c d : Command) → IsSpelled c words → IsSpelled d words → c ≡ d
+unfolding first_word mark
 one_command words (Compress g) (Compress h) a b =
     let same : compress_words g ≡ compress_words h = sym a.1 ∙ b.1 in
     let ty : type_word g.ty ≡ type_word h.ty = cc in
     let shape : shape_word g.shape ≡ shape_word h.shape = cc in
     let mode : mode_words g.mode ≡ mode_words h.mode = cc in
     ap Compress (same_header g h (type_word_injective g.ty h.ty ty) (shape_word_injective g.shape h.shape a.0.header.shape b.0.header.shape shape) (mode_words_injective g.mode h.mode a.0.header.mode b.0.header.mode mode))
-one_command words (Compress g) Info a b = absurd (omega (arith, ap length (sym a.1 ∙ b)))
-one_command words Info (Compress h) a b = absurd (omega (arith, ap length (sym a ∙ b.1)))
-one_command words Info Info a b = refl
-one_command words (Compress g) Restore a b = absurd (omega (arith, ap length (sym a.1 ∙ b)))
-one_command words Restore (Compress h) a b = absurd (omega (arith, ap length (sym a ∙ b.1)))
+one_command words (New name ty ns b) (New name' ty' ns' b') a d =
+    let same : codes "new" ∷ name ∷ type_word ty ∷ shape_word ns ∷ decimal b ∷ [] ≡ codes "new" ∷ name' ∷ type_word ty' ∷ shape_word ns' ∷ decimal b' ∷ [] = sym a.words_are ∙ d.words_are in
+    let named : name ≡ name' = cc in
+    let typed : type_word ty ≡ type_word ty' = cc in
+    let shaped : shape_word ns ≡ shape_word ns' = cc in
+    let text : decimal b ≡ decimal b' = cc in
+    let same_type = type_word_injective ty ty' typed in
+    let same_shape = shape_word_injective ns ns' a.shape d.shape shaped in
+    let same_bits = decimal_injective b b' (omega (arith, a.rate.1)) (omega (arith, d.rate.1)) text in
+    ap (λ n. New n ty ns b) named ∙ (ap (λ t. New name' t ns b) same_type ∙ (ap (λ s. New name' ty' s b) same_shape ∙ ap (λ k. New name' ty' ns' k) same_bits))
 one_command words Restore Restore a b = refl
-one_command words Restore Info a b = absurd (restore_or_info (sym a ∙ b))
-one_command words Info Restore a b = absurd (restore_or_info (sym b ∙ a))
+one_command words Info Info a b = refl
+one_command words (Compress g) Restore a b = absurd (omega (arith, same_mark (Compress g) Restore words a b))
+one_command words (Compress g) Info a b = absurd (omega (arith, same_mark (Compress g) Info words a b))
+one_command words (Compress g) (New n t s k) a b = absurd (omega (arith, same_mark (Compress g) (New n t s k) words a b))
+one_command words Restore (Compress h) a b = absurd (omega (arith, same_mark Restore (Compress h) words a b))
+one_command words Restore Info a b = absurd (omega (arith, same_mark Restore Info words a b))
+one_command words Restore (New n t s k) a b = absurd (omega (arith, same_mark Restore (New n t s k) words a b))
+one_command words Info (Compress h) a b = absurd (omega (arith, same_mark Info (Compress h) words a b))
+one_command words Info Restore a b = absurd (omega (arith, same_mark Info Restore words a b))
+one_command words Info (New n t s k) a b = absurd (omega (arith, same_mark Info (New n t s k) words a b))
+one_command words (New n t s k) (Compress h) a b = absurd (omega (arith, same_mark (New n t s k) (Compress h) words a b))
+one_command words (New n t s k) Restore a b = absurd (omega (arith, same_mark (New n t s k) Restore words a b))
+one_command words (New n t s k) Info a b = absurd (omega (arith, same_mark (New n t s k) Info words a b))
 
 -- ---- fronts of commands
 pub BeginsCommand-front : (words rest : List (List ℕ)) → BeginsCommand (words ++ rest) → BeginsCommand words
@@ -102,38 +140,58 @@ behind_rate Reversible same = cc
 behind_rate (Rate b) same = cc
 behind_rate (Precision p) same = cc
 
+behind_precision : (m : Mode) → codes "precision" ∷ [] ≡ mode_words m → ⊥
+behind_precision Reversible same = cc
+behind_precision (Rate b) same = cc
+behind_precision (Precision p) same = cc
+
 no_mode : (m : Mode) → [] ≡ mode_words m → ⊥
 no_mode Reversible same = cc
 no_mode (Rate b) same = cc
 no_mode (Precision p) same = cc
 
+-- the words on the way to a mode are no whole command
+no_compress : (ty : Ty) (ns : List ℕ) (rest : List (List ℕ)) (words : List (List ℕ)) (c : Command) → words ≡ codes "compress" ∷ type_word ty ∷ shape_word ns ∷ rest → ((m : Mode) → rest ≡ mode_words m → ⊥) → IsSpelled c words → ⊥
+unfolding first_word mark
+no_compress ty ns rest words (Compress h) is none spelled =
+    let same : codes "compress" ∷ type_word ty ∷ shape_word ns ∷ rest ≡ compress_words h = sym is ∙ spelled.1 in
+    let behind : rest ≡ mode_words h.mode = cc in
+    none h.mode behind
+no_compress ty ns rest words Restore is none spelled = omega (arith, ap mark (heads_same (sym is ∙ spelled)))
+no_compress ty ns rest words Info is none spelled = omega (arith, ap mark (heads_same (sym is ∙ spelled)))
+no_compress ty ns rest words (New n t s k) is none spelled = omega (arith, ap mark (heads_same (sym is ∙ spelled.words_are)))
+
+-- nor are those that begin with `new` and are fewer than five
+no_new : (rest : List (List ℕ)) (words : List (List ℕ)) (c : Command) → words ≡ codes "new" ∷ rest → length rest ≤ 3 → IsSpelled c words → ⊥
+unfolding first_word mark
+no_new rest words (Compress h) is few spelled = omega (arith, ap mark (heads_same (sym is ∙ spelled.1)))
+no_new rest words Restore is few spelled = omega (arith, ap mark (heads_same (sym is ∙ spelled)))
+no_new rest words Info is few spelled = omega (arith, ap mark (heads_same (sym is ∙ spelled)))
+no_new rest words (New n t s k) is few spelled = omega (arith, ap length (sym is ∙ spelled.words_are))
+
+-- nor are none, or `compress` with fewer than two behind it
+no_words : (words : List (List ℕ)) (c : Command) → words ≡ [] → IsSpelled c words → ⊥
+no_words words c is spelled = let whole = begins_with c words spelled in let same = sym is ∙ whole.1 in cc
+
+no_shape : (rest : List (List ℕ)) (words : List (List ℕ)) (c : Command) → words ≡ codes "compress" ∷ rest → length rest ≤ 1 → IsSpelled c words → ⊥
+unfolding first_word mark
+no_shape rest words (Compress h) is few spelled = omega (arith, ap length (sym is ∙ spelled.1))
+no_shape rest words Restore is few spelled = omega (arith, ap mark (heads_same (sym is ∙ spelled)))
+no_shape rest words Info is few spelled = omega (arith, ap mark (heads_same (sym is ∙ spelled)))
+no_shape rest words (New n t s k) is few spelled = omega (arith, ap mark (heads_same (sym is ∙ spelled.words_are)))
+
 -- a whole command leads to its stage alone
 whole_at_end : (words : List (List ℕ)) (stage : Stage) (c : Command) → LeadsTo words stage → IsSpelled c words → (d : Command) × (stage ≡ stages.Whole d)
-whole_at_end words stages.Start (Compress h) leads spelled = let same = sym leads ∙ spelled.1 in absurd (cc)
-whole_at_end words stages.Compressing (Compress h) leads spelled = let same = sym leads ∙ spelled.1 in absurd (cc)
-whole_at_end words (stages.Typed ty) (Compress h) leads spelled = let same = sym leads ∙ spelled.1 in absurd (cc)
-whole_at_end words (stages.Shaped ty ns) (Compress h) leads spelled =
-    let same = sym leads.1 ∙ spelled.1 in
-    let rest : [] ≡ mode_words h.mode = cc in
-    absurd (no_mode h.mode rest)
-whole_at_end words (stages.AtRate ty ns) (Compress h) leads spelled =
-    let same = sym leads.1 ∙ spelled.1 in
-    let rest : codes "rate" ∷ [] ≡ mode_words h.mode = cc in
-    absurd (behind_rate h.mode rest)
-whole_at_end words stages.Start Info leads spelled = absurd (omega (arith, ap length (sym leads ∙ spelled)))
-whole_at_end words stages.Compressing Info leads spelled =
-    let same : codes "compress" ≡ codes "info" = heads_same (sym leads ∙ spelled) in
-    absurd (true≢false (ap (bytes_eq (codes "compress")) same))
-whole_at_end words (stages.Typed ty) Info leads spelled = absurd (omega (arith, ap length (sym leads ∙ spelled)))
-whole_at_end words (stages.Shaped ty ns) Info leads spelled = absurd (omega (arith, ap length (sym leads.1 ∙ spelled)))
-whole_at_end words (stages.AtRate ty ns) Info leads spelled = absurd (omega (arith, ap length (sym leads.1 ∙ spelled)))
-whole_at_end words stages.Start Restore leads spelled = absurd (omega (arith, ap length (sym leads ∙ spelled)))
-whole_at_end words stages.Compressing Restore leads spelled =
-    let same : codes "compress" ≡ codes "restore" = heads_same (sym leads ∙ spelled) in
-    absurd (true≢false (ap (bytes_eq (codes "compress")) same))
-whole_at_end words (stages.Typed ty) Restore leads spelled = absurd (omega (arith, ap length (sym leads ∙ spelled)))
-whole_at_end words (stages.Shaped ty ns) Restore leads spelled = absurd (omega (arith, ap length (sym leads.1 ∙ spelled)))
-whole_at_end words (stages.AtRate ty ns) Restore leads spelled = absurd (omega (arith, ap length (sym leads.1 ∙ spelled)))
+whole_at_end words stages.Start c leads spelled = absurd (no_words words c leads spelled)
+whole_at_end words stages.Compressing c leads spelled = absurd (no_shape [] words c leads (omega arith) spelled)
+whole_at_end words (stages.Typed ty) c leads spelled = absurd (no_shape (type_word ty ∷ []) words c leads (omega arith) spelled)
+whole_at_end words (stages.Shaped ty ns) c leads spelled = absurd (no_compress ty ns [] words c leads.1 no_mode spelled)
+whole_at_end words (stages.AtRate ty ns) c leads spelled = absurd (no_compress ty ns (codes "rate" ∷ []) words c leads.1 behind_rate spelled)
+whole_at_end words (stages.AtPrecision ty ns) c leads spelled = absurd (no_compress ty ns (codes "precision" ∷ []) words c leads.1 behind_precision spelled)
+whole_at_end words stages.Making c leads spelled = absurd (no_new [] words c leads (omega arith) spelled)
+whole_at_end words (stages.Named name) c leads spelled = absurd (no_new (name ∷ []) words c leads.1 (omega arith) spelled)
+whole_at_end words (stages.NamedTyped name ty) c leads spelled = absurd (no_new (name ∷ type_word ty ∷ []) words c leads.1 (omega arith) spelled)
+whole_at_end words (stages.NamedShaped name ty ns) c leads spelled = absurd (no_new (name ∷ type_word ty ∷ shape_word ns ∷ []) words c leads.2 (omega arith) spelled)
 whole_at_end words (stages.Whole d) c leads spelled = (d, refl)
 
 pub IsUsage-ended : (words : List (List ℕ)) (n : ℕ) (stage : Stage) → n ≡ length words → LeadsTo words stage → ((d : Command) → stage ≡ stages.Whole d → ⊥) → IsUsage words n
@@ -153,13 +211,14 @@ word_more text xs i x word lt is same =
 -- ---- rates
 rate_behind : (ty : Ty) (ns : List ℕ) (m : Mode) (word : List ℕ) (rest : List (List ℕ)) → IsAskable (header_with ty ns m) → codes "rate" ∷ word ∷ rest ≡ mode_words m → (b : ℕ) × IsRateWord ty ns b word
 rate_behind ty ns Reversible word rest askable same = absurd (omega (arith, ap length same))
-rate_behind ty ns (Precision p) word rest askable same = absurd askable.taken
+rate_behind ty ns (Precision p) word rest askable same = absurd (true≢false (ap (bytes_eq (codes "precision")) (heads_same (sym same))))
 rate_behind ty ns (Rate b) word rest askable same =
     let text : word ≡ decimal b = cc in
     (b, record { rate = askable.header.mode; fits = askable.fits; text = text })
 
 -- a word at the place of a rate, where a command goes on, is a rate
 pub IsRateWord-begun : (words : List (List ℕ)) (ty : Ty) (ns : List ℕ) (word : List ℕ) → LeadsTo words (stages.AtRate ty ns) → BeginsCommand (words ++ word ∷ []) → (b : ℕ) × IsRateWord ty ns b word
+unfolding first_word mark
 IsRateWord-begun words ty ns word leads (Compress h, rest, spelled) =
     let whole : codes "compress" ∷ type_word ty ∷ shape_word ns ∷ codes "rate" ∷ word ∷ rest ≡ compress_words h =
     ap (λ front. (front ++ word ∷ []) ++ rest) (sym leads.1) ∙ spelled.1 in
@@ -173,8 +232,57 @@ IsRateWord-begun words ty ns word leads (Restore, rest, spelled) =
     absurd (omega (arith, ap length (ap (λ front. (front ++ word ∷ []) ++ rest) (sym leads.1) ∙ spelled)))
 IsRateWord-begun words ty ns word leads (Info, rest, spelled) =
     absurd (omega (arith, ap length (ap (λ front. (front ++ word ∷ []) ++ rest) (sym leads.1) ∙ spelled)))
+IsRateWord-begun words ty ns word leads (New n t s k, rest, spelled) =
+    absurd (omega (arith, ap mark (heads_same (ap (λ front. (front ++ word ∷ []) ++ rest) (sym leads.1) ∙ spelled.words_are))))
+
+-- and so it is behind the shape of an array to be made
+pub IsRateWord-begun_new : (words : List (List ℕ)) (name : List ℕ) (ty : Ty) (ns : List ℕ) (word : List ℕ) → LeadsTo words (stages.NamedShaped name ty ns) → BeginsCommand (words ++ word ∷ []) → (b : ℕ) × IsRateWord ty ns b word
+unfolding first_word mark
+IsRateWord-begun_new words name ty ns word leads (Compress h, rest, spelled) =
+    absurd (omega (arith, ap mark (heads_same (ap (λ front. (front ++ word ∷ []) ++ rest) (sym leads.2) ∙ spelled.1))))
+IsRateWord-begun_new words name ty ns word leads (Restore, rest, spelled) =
+    absurd (omega (arith, ap mark (heads_same (ap (λ front. (front ++ word ∷ []) ++ rest) (sym leads.2) ∙ spelled))))
+IsRateWord-begun_new words name ty ns word leads (Info, rest, spelled) =
+    absurd (omega (arith, ap mark (heads_same (ap (λ front. (front ++ word ∷ []) ++ rest) (sym leads.2) ∙ spelled))))
+IsRateWord-begun_new words name ty ns word leads (New n t s k, rest, spelled) =
+    let whole : codes "new" ∷ name ∷ type_word ty ∷ shape_word ns ∷ word ∷ rest ≡ codes "new" ∷ n ∷ type_word t ∷ shape_word s ∷ decimal k ∷ [] =
+    ap (λ front. (front ++ word ∷ []) ++ rest) (sym leads.2) ∙ spelled.words_are in
+    let type_text : type_word t ≡ type_word ty = cc in
+    let shape_text : shape_word s ≡ shape_word ns = cc in
+    let text : word ≡ decimal k = cc in
+    let shape = shape_word_injective s ns spelled.shape leads.1 shape_text in
+    let found : IsRateWord t s k word = record { rate = spelled.rate; fits = spelled.fits; text = text } in
+    (k, subst (λ u. IsRateWord u ns k word) (type_word_injective t ty type_text) (subst (λ ms. IsRateWord t ms k word) shape found))
 
 -- the number of such a word
 pub IsRateWord-number : (ty : Ty) (ns : List ℕ) (b n : ℕ) (word : List ℕ) → IsRateWord ty ns b word → n < 2 ^ 64 → word ≡ decimal n → b ≡ n
 IsRateWord-number ty ns b n word is small text =
     decimal_injective b n (omega (arith, is.rate.1)) small (sym is.text ∙ text)
+
+-- ---- precisions
+precision_behind : (m : Mode) (word : List ℕ) (rest : List (List ℕ)) → IsMode m → codes "precision" ∷ word ∷ rest ≡ mode_words m → (p : ℕ) × IsPrecisionWord p word
+precision_behind Reversible word rest mode same = absurd (omega (arith, ap length same))
+precision_behind (Rate b) word rest mode same = absurd (true≢false (ap (bytes_eq (codes "rate")) (heads_same (sym same))))
+precision_behind (Precision p) word rest mode same =
+    let text : word ≡ decimal p = cc in
+    (p, record { planes = mode; text = text })
+
+-- a word at the place of a precision, where a command goes on, is one
+pub IsPrecisionWord-begun : (words : List (List ℕ)) (ty : Ty) (ns : List ℕ) (word : List ℕ) → LeadsTo words (stages.AtPrecision ty ns) → BeginsCommand (words ++ word ∷ []) → (p : ℕ) × IsPrecisionWord p word
+unfolding first_word mark
+IsPrecisionWord-begun words ty ns word leads (Compress h, rest, spelled) =
+    let whole : codes "compress" ∷ type_word ty ∷ shape_word ns ∷ codes "precision" ∷ word ∷ rest ≡ compress_words h =
+    ap (λ front. (front ++ word ∷ []) ++ rest) (sym leads.1) ∙ spelled.1 in
+    let behind : codes "precision" ∷ word ∷ rest ≡ mode_words h.mode = cc in
+    precision_behind h.mode word rest spelled.0.header.mode behind
+IsPrecisionWord-begun words ty ns word leads (Restore, rest, spelled) =
+    absurd (omega (arith, ap length (ap (λ front. (front ++ word ∷ []) ++ rest) (sym leads.1) ∙ spelled)))
+IsPrecisionWord-begun words ty ns word leads (Info, rest, spelled) =
+    absurd (omega (arith, ap length (ap (λ front. (front ++ word ∷ []) ++ rest) (sym leads.1) ∙ spelled)))
+IsPrecisionWord-begun words ty ns word leads (New n t s k, rest, spelled) =
+    absurd (omega (arith, ap mark (heads_same (ap (λ front. (front ++ word ∷ []) ++ rest) (sym leads.1) ∙ spelled.words_are))))
+
+-- the number of such a word
+pub IsPrecisionWord-number : (p n : ℕ) (word : List ℕ) → IsPrecisionWord p word → n < 2 ^ 64 → word ≡ decimal n → p ≡ n
+IsPrecisionWord-number p n word is small text =
+    decimal_injective p n (omega (arith, is.planes.1)) small (sym is.text ∙ text)

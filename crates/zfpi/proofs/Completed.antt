@@ -1,5 +1,5 @@
 -- Each stage that is reached can be completed to a command.
-use Rattle.std.proofs.Common.{ℕ, ◌≤◌, List, [], ◌∷◌, ◌++◌, codes, decimal, ap, sym, subst, arith, lit≤}
+use Rattle.std.proofs.Common.{◌≡◌, ℕ, ◌≤◌, List, [], ◌∷◌, ◌++◌, codes, decimal, refl, ap, sym, subst, arith, lit≤}
 use Rattle.std.proofs.lemmas.List.{append-nil}
 use Rattle.zf_base.specs.declared.lane.Ty.{Ty}
 use Rattle.zf_base.specs.declared.lane.Ty.TheVariants.{I32}
@@ -7,13 +7,14 @@ use Rattle.zf_base.proofs.Sizes.{blocks_le}
 use Rattle.zf_spec.specs.Grid.{IsShape}
 use Rattle.zf_header.specs.declared.header.Header.{Header}
 use Rattle.zf_header.specs.declared.header.Mode.{Mode}
-use Rattle.zf_header.specs.declared.header.Mode.TheVariants.{Reversible, Rate}
+use Rattle.zf_header.specs.declared.header.Mode.TheVariants.{Reversible, Rate, Precision}
 use Rattle.zf_header.specs.HeaderBits.{rate_bytes_of}
 use Rattle.zf_header.proofs.Parts.{length-header_bits}
-use Rattle.zfpi.specs.declared.command.Command.TheVariants.{Compress}
+use Rattle.zfpi.specs.Names.{IsName}
+use Rattle.zfpi.specs.declared.command.Command.TheVariants.{Compress, New}
 use Rattle.zfpi.specs.declared.words.Stage.{Stage}
 use Rattle.zfpi.specs.declared.words.Stage.TheVariants as stages
-use Rattle.zfpi.specs.Words.{shape_word, compress_words, IsAskable, IsSpelled, BeginsCommand}
+use Rattle.zfpi.specs.Words.{type_word, shape_word, compress_words, IsAskable, IsSpelled, BeginsCommand}
 use Rattle.zfpi.specs.Stages.{LeadsTo}
 
 -- a header by its parts
@@ -31,7 +32,7 @@ one_value = record {
 }
 
 askable_reversible : (ty : Ty) (ns : List ℕ) → IsShape ns → IsAskable (header_with ty ns Reversible)
-askable_reversible ty ns shape = record { header = record { shape = shape; mode = tt }; taken = tt; fits = tt }
+askable_reversible ty ns shape = record { header = record { shape = shape; mode = tt }; fits = tt }
 
 -- the rate of one bit fits every shape
 rate_one_fits : (ty : Ty) (ns : List ℕ) → IsShape ns → rate_bytes_of (header_with ty ns (Rate 1)) ≤ 1200000000
@@ -39,7 +40,17 @@ rate_one_fits ty ns shape =
     omega (arith, length-header_bits (header_with ty ns (Rate 1)) shape, blocks_le ns shape.not_zero, shape.not_too_large)
 
 askable_rate_one : (ty : Ty) (ns : List ℕ) → IsShape ns → IsAskable (header_with ty ns (Rate 1))
-askable_rate_one ty ns shape = record { header = record { shape = shape; mode = (lit≤ tt, lit≤ tt) }; taken = (lit≤ tt, lit≤ tt); fits = rate_one_fits ty ns shape }
+askable_rate_one ty ns shape = record { header = record { shape = shape; mode = (lit≤ tt, lit≤ tt) }; fits = rate_one_fits ty ns shape }
+
+askable_precision_one : (ty : Ty) (ns : List ℕ) → IsShape ns → IsAskable (header_with ty ns (Precision 1))
+askable_precision_one ty ns shape = record { header = record { shape = shape; mode = (lit≤ tt, lit≤ tt) }; fits = tt }
+
+-- an array of this name, type and shape can be made with one bit a block
+one_letter : IsName (97 ∷ [])
+one_letter = record { begins = refl; letters = refl; short = lit≤ tt }
+
+made_of_one_bit : (name : List ℕ) (ty : Ty) (ns : List ℕ) (words : List (List ℕ)) → IsName name → IsShape ns → words ≡ codes "new" ∷ name ∷ type_word ty ∷ shape_word ns ∷ decimal 1 ∷ [] → IsSpelled (New name ty ns 1) words
+made_of_one_bit name ty ns words named shape is = record { named = named; shape = shape; rate = (lit≤ tt, lit≤ tt); fits = rate_one_fits ty ns shape; words_are = is }
 
 -- the words that lead to a stage begin a command
 pub BeginsCommand-reached : (words : List (List ℕ)) (stage : Stage) → LeadsTo words stage → BeginsCommand words
@@ -54,4 +65,18 @@ BeginsCommand-reached words (stages.Shaped ty ns) leads =
     (Compress (header_with ty ns Reversible), codes "reversible" ∷ [], (askable_reversible ty ns leads.0, ap (λ front. front ++ codes "reversible" ∷ []) leads.1))
 BeginsCommand-reached words (stages.AtRate ty ns) leads =
     (Compress (header_with ty ns (Rate 1)), decimal 1 ∷ [], (askable_rate_one ty ns leads.0, ap (λ front. front ++ decimal 1 ∷ []) leads.1))
+BeginsCommand-reached words (stages.AtPrecision ty ns) leads =
+    (Compress (header_with ty ns (Precision 1)), decimal 1 ∷ [], (askable_precision_one ty ns leads.0, ap (λ front. front ++ decimal 1 ∷ []) leads.1))
+BeginsCommand-reached words stages.Making is =
+    let rest = (97 ∷ []) ∷ type_word I32 ∷ shape_word (1 ∷ []) ∷ decimal 1 ∷ [] in
+    (New (97 ∷ []) I32 (1 ∷ []) 1, rest, made_of_one_bit (97 ∷ []) I32 (1 ∷ []) (words ++ rest) one_letter one_value (ap (λ front. front ++ rest) is))
+BeginsCommand-reached words (stages.Named name) leads =
+    let rest = type_word I32 ∷ shape_word (1 ∷ []) ∷ decimal 1 ∷ [] in
+    (New name I32 (1 ∷ []) 1, rest, made_of_one_bit name I32 (1 ∷ []) (words ++ rest) leads.0 one_value (ap (λ front. front ++ rest) leads.1))
+BeginsCommand-reached words (stages.NamedTyped name ty) leads =
+    let rest = shape_word (1 ∷ []) ∷ decimal 1 ∷ [] in
+    (New name ty (1 ∷ []) 1, rest, made_of_one_bit name ty (1 ∷ []) (words ++ rest) leads.0 one_value (ap (λ front. front ++ rest) leads.1))
+BeginsCommand-reached words (stages.NamedShaped name ty ns) leads =
+    let rest = decimal 1 ∷ [] in
+    (New name ty ns 1, rest, made_of_one_bit name ty ns (words ++ rest) leads.0 leads.1 (ap (λ front. front ++ rest) leads.2))
 BeginsCommand-reached words (stages.Whole c) spelled = (c, [], subst (IsSpelled c) (sym (append-nil words)) spelled)

@@ -19,7 +19,7 @@ use Rattle.zfpi.specs.Info.{info_line, info_text}
 use Rattle.zfpi.specs.World.{World, TellsInput, seen}
 use Rattle.zfpi.specs.Answer.{fault_status, header_status, MayFail, TakesHeader, info_draft}
 use Rattle.zfpi.specs.Headline.{IsOfCommand, Writes, Behaves}
-use Rattle.zfpi.proofs.Told.{world_of, TellsFiles-same, KeepsFiles-none}
+use Rattle.zfpi.proofs.Told.{some_input, world_of, TellsFiles-same, KeepsFiles-none}
 
 -- the line of a header that was read is the text of the bytes that were read
 pub info_text-read : (bytes : List ℕ) (h : Header) → header_fault bytes ≡ None → h ≡ header_in (to_bits bytes) → info_text bytes ≡ info_line h
@@ -74,11 +74,6 @@ Behaves-cut_line h bits line src_before src_now out_before out_now shelf reads i
     let text = is ∙ sym (info_text-read reads.bytes h reads.begun.good reads.begun.header) in
     Behaves-first statuses.WriteFault reads.bytes src_before src_now out_before out_now shelf tt reads.first (inr (λ w. refl)) (λ input first. first)
     (subst (AppendsFront out_before out_now) text written)
-
--- some input is told
-some_input : (known : Option (List ℕ)) → (input : List ℕ) × TellsInput known input
-some_input None = ([], tt)
-some_input (Some all) = (all, refl)
 
 -- there was no header
 pub Behaves-lacks : (e : StreamFault) (src_before src_now out : Option (List ℕ)) (shelf : Option Files) → LacksHeader src_before src_now e → Behaves Info (fault_status e) (seen src_before out shelf) (seen src_now out shelf)

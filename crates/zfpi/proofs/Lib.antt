@@ -7,3 +7,4 @@ mod Streaming
 mod Heading
 mod Causes
 mod Promises
+pub mod Making

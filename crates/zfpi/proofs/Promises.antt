@@ -1,10 +1,10 @@
 -- From the promises of a command to those of the program.
-use Rattle.std.proofs.Common.{◌≡◌, ◌≢◌, ℕ, ◌<◌, Bool, true, false, cond, ltb, length, take, inl, inr, List, Option, Some, None, Result, Ok, Err, refl, ap, sym, subst, ◌∙◌}
-use Rattle.std.proofs.lemmas.Bool.{ltb-true}
+use Rattle.std.proofs.Common.{◌≡◌, ◌≢◌, ℕ, ◌<◌, Bool, true, false, cond, ltb, length, take, inl, inr, List, Option, Some, None, Result, Ok, Err, refl, ap, sym, subst, ◌∙◌, arith}
+use Rattle.std.proofs.lemmas.Bool.{ltb-true, false≢true}
+use Rattle.zf_dev.specs.Faults.{IsQuiet}
 use Rattle.zf_dev.specs.Sink.{Appends}
 use Rattle.zf_dev.proofs.Counts.{HasCause-quiet}
 use Rattle.zf_header.specs.declared.header.HeaderFault.{HeaderFault}
-use Rattle.zf_header.specs.HeaderBits.{IsTaken}
 use Rattle.zf_header.specs.HeaderFaults.{header_fault}
 use Rattle.zf_stream.specs.declared.fault.StreamFault.{StreamFault}
 use Rattle.zf_stream.specs.declared.fault.StreamFault.TheVariants as faults
@@ -13,20 +13,21 @@ use Rattle.zf_stream.specs.Parsing.{restore_answer, restored_text}
 use Rattle.zf_stream.proofs.OwnFaults.{is_foreign, blames_foreign, own_answer}
 use Rattle.zf_stream.proofs.StreamsBack.{answer-stream_text, text-reversible_text}
 use Rattle.zfpi.specs.declared.status.Status.{Status}
-use Rattle.zfpi.specs.declared.status.Status.TheVariants.{Done, Usage, RawShort, RawLong, Header, Truncated, Pad, Trailing, ReadFault, WriteFault, Memory}
+use Rattle.zfpi.specs.declared.status.Status.TheVariants.{Done, Usage, RawShort, RawLong, Header, Truncated, Pad, Trailing, ReadFault, WriteFault, SaveFault, Memory}
 use Rattle.zfpi.specs.declared.command.Command.{Command}
-use Rattle.zfpi.specs.declared.command.Command.TheVariants.{Compress, Restore, Info}
+use Rattle.zfpi.specs.declared.command.Command.TheVariants.{Compress, Restore, Info, New}
 use Rattle.zfpi.specs.Words.{IsSpelled}
 use Rattle.zfpi.specs.World.{World, Seen, Counts, TellsInput}
 use Rattle.zfpi.specs.Answer.{CanRun, TakesMemory, MayFail, IsPossible, CompressEnds, RestoreEnds, InfoEnds, status_of, header_status, status_for, restore_draft}
-use Rattle.zfpi.specs.Headline.{OfCommand, RefusesWords, IsOfCommand, Writes, Behaves, HasCauses, AreQuiet, IsComplete, IsFromOutside, GivesBack}
+use Rattle.zfpi.specs.Headline.{OfCommand, RefusesWords, IsOfCommand, Writes, Behaves, HasCauses, AreQuiet, IsComplete, IsFromOutside, IsCausedOnShelf, FailedSave, GivesBack}
 use Rattle.zfpi.proofs.Commands.{one_command}
 
 -- what the words say can be run
 pub CanRun-spelled : (c : Command) (words : List (List ℕ)) → IsSpelled c words → CanRun c
-CanRun-spelled (Compress h) words spelled = spelled.0.taken
+CanRun-spelled (Compress h) words spelled = spelled.0.header.mode
 CanRun-spelled Restore words spelled = tt
 CanRun-spelled Info words spelled = tt
+CanRun-spelled (New name ty ns b) words spelled = (spelled.shape, spelled.rate)
 
 -- what holds of one command that the words are holds of each
 pub OfCommand-one : (words : List (List ℕ)) (c : Command) → IsSpelled c words → (P : Command → Type 0) → P c → OfCommand words P
@@ -43,14 +44,16 @@ RefusesWords-command words c Pad spelled is = (c, spelled)
 RefusesWords-command words c Trailing spelled is = (c, spelled)
 RefusesWords-command words c ReadFault spelled is = (c, spelled)
 RefusesWords-command words c WriteFault spelled is = (c, spelled)
+RefusesWords-command words c SaveFault spelled is = (c, spelled)
 RefusesWords-command words c Memory spelled is = (c, spelled)
 
 -- ---- what follows from the two records of a command
 
 -- a status from outside that is no fault of a device is want of memory
-only_memory : (status : Status) (c : Command) (w : World) (wants : List ℕ) → MayFail status c w wants → (status ≢ ReadFault) × (status ≢ WriteFault) → (status ≡ Memory) × TakesMemory c w
+only_memory : (status : Status) (c : Command) (w : World) (wants : List ℕ) → MayFail status c w wants → (status ≢ ReadFault) × (status ≢ WriteFault) × (status ≢ SaveFault) → (status ≡ Memory) × TakesMemory c w
 only_memory ReadFault c w wants may none = absurd (none.0 refl)
 only_memory WriteFault c w wants may none = absurd (none.1 refl)
+only_memory SaveFault c w wants may none = absurd (none.2 refl)
 only_memory Memory c w wants may none = (refl, may)
 only_memory Done c w wants may none = absurd may
 only_memory (Usage k) c w wants may none = absurd may
@@ -61,10 +64,19 @@ only_memory (Truncated b) c w wants may none = absurd may
 only_memory Pad c w wants may none = absurd may
 only_memory Trailing c w wants may none = absurd may
 
+-- a fault of a save has a save that failed
+save_failed : (status : Status) (Loading Saving : Type 0) → status ≡ SaveFault → IsCausedOnShelf status Loading Saving → Saving
+save_failed status Loading Saving failed caused = subst (λ s. IsCausedOnShelf s Loading Saving) failed caused
+
+-- and no save failed where the count did not rise
+pub FailedSave-quiet : {F : Type 0} (saves : F → F → Type 0) (faults : F → ℕ) (before now : F) → IsQuiet (faults before) (faults now) → FailedSave saves faults before now → ⊥
+FailedSave-quiet saves faults before now quiet failed = omega (arith, quiet, failed.2, failed.2)
+
 -- where no count rose, no fault is answered
-pub IsComplete-quiet : (c : Command) (status : Status) (before now : Seen) (old new : Counts) (Loading Saving Sure Still : Type 0) → Behaves c status before now → HasCauses c status old new Loading Saving Sure Still → AreQuiet old new → IsComplete c status before
-IsComplete-quiet c status before now old new Loading Saving Sure Still behaves causes quiet =
-    let none : (status ≢ ReadFault) × (status ≢ WriteFault) = (HasCause-quiet old.src new.src causes.reading quiet.src, HasCause-quiet old.out new.out causes.writing quiet.out) in
+pub IsComplete-quiet : (c : Command) (status : Status) (before now : Seen) (old new : Counts) (Loading Saving Sure Still : Type 0) → Behaves c status before now → HasCauses c status old new Loading Saving Sure Still → AreQuiet old new → (Saving → ⊥) → IsComplete c status before
+IsComplete-quiet c status before now old new Loading Saving Sure Still behaves causes quiet no_save =
+    let none : (status ≢ ReadFault) × (status ≢ WriteFault) × (status ≢ SaveFault) =
+    (HasCause-quiet old.src new.src causes.reading quiet.src, HasCause-quiet old.out new.out causes.writing quiet.out, λ failed. no_save (save_failed status Loading Saving failed causes.shelving)) in
     record {
       world = behaves.world;
       told = behaves.told;
@@ -85,6 +97,13 @@ possible_fault ReadFault Info w wants may = tt
 possible_fault WriteFault (Compress h) w wants may = tt
 possible_fault WriteFault Restore w wants may = tt
 possible_fault WriteFault Info w wants may = tt
+possible_fault ReadFault (New name ty ns b) w wants may = absurd (false≢true may)
+possible_fault WriteFault (New name ty ns b) w wants may = absurd (false≢true may)
+possible_fault SaveFault (Compress h) w wants may = absurd (false≢true may)
+possible_fault SaveFault Restore w wants may = absurd (false≢true may)
+possible_fault SaveFault Info w wants may = absurd (false≢true may)
+possible_fault SaveFault (New name ty ns b) w wants may = tt
+possible_fault Memory (New name ty ns b) w wants may = tt
 possible_fault Memory (Compress h) w wants may = tt
 possible_fault Memory Restore w wants may = tt
 possible_fault Memory Info w wants may = absurd may
@@ -126,6 +145,7 @@ possible_status (Compress h) w wants =
     compress_ends (raw_len h) n (ltb n (raw_len h)) (ltb (raw_len h) n) (ltb-true n (raw_len h))
 possible_status Restore w wants = restore_ends (restore_answer w.input) (own_answer w.input)
 possible_status Info w wants = info_ends (header_fault (take 19 w.input))
+possible_status (New name ty ns b) w wants = tt
 
 pub IsPossible-behaves : (c : Command) (status : Status) (before now : Seen) → Behaves c status before now → IsPossible c status
 IsPossible-behaves c status before now behaves = elim behaves.stated [
@@ -133,18 +153,19 @@ IsPossible-behaves c status before now behaves = elim behaves.stated [
   | inr may ↦ possible_fault status c behaves.world behaves.wants may
 ]
 
-from_outside : (status : Status) (c : Command) (w : World) (wants : List ℕ) → MayFail status c w wants → IsFromOutside status
-from_outside ReadFault c w wants may = inl refl
-from_outside WriteFault c w wants may = inr (inl refl)
-from_outside Memory c w wants may = inr (inr refl)
-from_outside Done c w wants may = absurd may
-from_outside (Usage k) c w wants may = absurd may
-from_outside (RawShort m) c w wants may = absurd may
-from_outside RawLong c w wants may = absurd may
-from_outside (Header f) c w wants may = absurd may
-from_outside (Truncated b) c w wants may = absurd may
-from_outside Pad c w wants may = absurd may
-from_outside Trailing c w wants may = absurd may
+from_outside : (status : Status) (w : World) (wants : List ℕ) → MayFail status Restore w wants → IsFromOutside status
+from_outside ReadFault w wants may = inl refl
+from_outside WriteFault w wants may = inr (inl refl)
+from_outside Memory w wants may = inr (inr refl)
+from_outside SaveFault w wants may = absurd (false≢true may)
+from_outside Done w wants may = absurd may
+from_outside (Usage k) w wants may = absurd may
+from_outside (RawShort m) w wants may = absurd may
+from_outside RawLong w wants may = absurd may
+from_outside (Header f) w wants may = absurd may
+from_outside (Truncated b) w wants may = absurd may
+from_outside Pad w wants may = absurd may
+from_outside Trailing w wants may = absurd may
 
 -- a source that tells these bytes tells no other
 the_input : (known : Option (List ℕ)) (bytes input : List ℕ) → known ≡ Some bytes → TellsInput known input → input ≡ bytes
@@ -159,11 +180,11 @@ GivesBack-behaves words status before now command = λ h bytes holds.
     let input : w.input ≡ stream_text h bytes = the_input before.src (stream_text h bytes) w.input holds.stream behaves.told.input in
     elim behaves.stated [
       | inl same ↦
-          let done : status ≡ Done = same ∙ ap (λ xs. status_of (restore_answer xs)) input ∙ ap status_of (answer-stream_text h bytes holds.header (subst IsTaken (sym holds.mode) tt)) in
+          let done : status ≡ Done = same ∙ ap (λ xs. status_of (restore_answer xs)) input ∙ ap status_of (answer-stream_text h bytes holds.header) in
           let text : restored_text w.input ≡ bytes = ap restored_text input ∙ text-reversible_text h bytes holds.header holds.mode holds.whole holds.small in
           inl (record {
             done = done;
             written = subst (Appends before.out now.out) text (subst (λ s. Writes s (restored_text w.input) (restore_draft s (restored_text behaves.taken)) before.out now.out) done behaves.written);
           })
-      | inr may ↦ inr (from_outside status Restore w behaves.wants may)
+      | inr may ↦ inr (from_outside status w behaves.wants may)
     ]

@@ -87,7 +87,7 @@ IsStreaming-restore = record {
   to_end = λ input. refl;
   fault_extent = (IsStreaming-compress one_header).fault_extent;
   memory_input = stream_text one_header [];
-  takes_memory = λ files. good_header (stream_text one_header []) (answer-stream_text one_header [] (record { shape = one_value; mode = tt }) tt);
+  takes_memory = λ files. good_header (stream_text one_header []) (answer-stream_text one_header [] (record { shape = one_value; mode = tt }));
 }
 
 -- ---- after Ok

@@ -1,5 +1,5 @@
 -- A world that explains what devices tell.
-use Rattle.std.proofs.Common.{ℕ, List, Option, Some, None, refl}
+use Rattle.std.proofs.Common.{ℕ, List, [], Option, Some, None, refl}
 use Rattle.zf_dev.specs.Shelf.{Files, KeepsFiles}
 use Rattle.zf_dev.specs.Source.{Takes, IsAtEnd}
 use Rattle.zf_dev.proofs.Taking.{Takes-to_end}
@@ -28,3 +28,13 @@ KeepsFiles-none (Some files) = λ name. refl
 pub TellsInput-taken : (known now : Option (List ℕ)) (bytes : List ℕ) → Takes known now bytes → IsAtEnd now → TellsInput known bytes
 TellsInput-taken None now bytes taken ended = tt
 TellsInput-taken (Some all) now bytes taken ended = Takes-to_end all now bytes taken ended
+
+-- nothing was taken
+pub Takes-none : (known : Option (List ℕ)) → Takes known known []
+Takes-none None = tt
+Takes-none (Some all) = refl
+
+-- some input is told
+pub some_input : (known : Option (List ℕ)) → (input : List ℕ) × TellsInput known input
+some_input None = ([], tt)
+some_input (Some all) = (all, refl)

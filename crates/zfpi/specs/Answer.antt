@@ -1,7 +1,7 @@
 -- What each command does, in a world of an input and files. Each function of a command has one case for each, and a new command adds one.
 use Rattle.std.specs.Prelude.{◌≡◌, ℕ, ◌<◌, ◌≤◌, Bool, true, false, List, [], length, take, Option, Some, None, Result, Ok, Err, IsTrue}
 use Rattle.zf_header.specs.declared.header.HeaderFault.{HeaderFault}
-use Rattle.zf_header.specs.HeaderBits.{IsTaken}
+use Rattle.zf_header.specs.HeaderBits.{IsMode}
 use Rattle.zf_header.specs.HeaderFaults.{header_fault}
 use Rattle.zf_stream.specs.declared.fault.StreamFault.{StreamFault}
 use Rattle.zf_stream.specs.declared.fault.StreamFault.TheVariants as faults
@@ -10,7 +10,11 @@ use Rattle.zf_stream.specs.Parsing.{restore_answer, restored_text}
 use Rattle.zfpi.specs.declared.status.Status.{Status}
 use Rattle.zfpi.specs.declared.status.Status.TheVariants as statuses
 use Rattle.zfpi.specs.declared.command.Command.{Command}
-use Rattle.zfpi.specs.declared.command.Command.TheVariants.{Compress, Restore, Info}
+use Rattle.zfpi.specs.declared.command.Command.TheVariants.{Compress, Restore, Info, New}
+use Rattle.zf_header.specs.declared.header.Mode.TheVariants.{Rate}
+use Rattle.zf_header.specs.HeaderBits.{IsRate}
+use Rattle.zf_spec.specs.Grid.{IsShape}
+use Rattle.zf_store.specs.Stored.{file_of, zeros}
 use Rattle.zfpi.specs.World.{World}
 use Rattle.zfpi.specs.Info.{info_text}
 
@@ -38,9 +42,10 @@ status_of (Err fault) = fault_status fault
 
 -- what a command asks of its caller
 abbrev pub CanRun : Command → Type 0
-CanRun (Compress h) = IsTaken h.mode
+CanRun (Compress h) = IsMode h.mode
 CanRun Restore = Unit {0}
 CanRun Info = Unit {0}
+CanRun (New name ty ns b) = IsShape ns × IsRate (Rate b)
 
 -- the bytes that the longest header lies in
 abbrev pub header_bytes : ℕ
@@ -51,12 +56,14 @@ abbrev pub status_for : Command → World → List ℕ → Status
 status_for (Compress h) w wants = status_of (compress_answer h w.input)
 status_for Restore w wants = status_of (restore_answer w.input)
 status_for Info w wants = header_status (header_fault (take header_bytes w.input))
+status_for (New name ty ns b) w wants = statuses.Done
 
 -- what is written where the whole work was done
 abbrev pub text_for : Command → World → List ℕ → List ℕ
 text_for (Compress h) w wants = stream_text h w.input
 text_for Restore w wants = restored_text w.input
 text_for Info w wants = info_text (take header_bytes w.input)
+text_for (New name ty ns b) w wants = []
 
 -- nothing after want of memory, which comes before the first write
 abbrev pub compress_draft : Status → List ℕ → List ℕ
@@ -79,12 +86,14 @@ abbrev pub draft_for : Command → Status → World → List ℕ → List ℕ �
 draft_for (Compress h) status w wants taken = compress_draft status (stream_text h taken)
 draft_for Restore status w wants taken = restore_draft status (restored_text taken)
 draft_for Info status w wants taken = info_draft status (info_text taken)
+draft_for (New name ty ns b) status w wants taken = []
 
 -- what is saved, and under which name
 abbrev pub saved_for : Command → World → List ℕ → Option (List ℕ × List ℕ)
 saved_for (Compress h) w wants = None
 saved_for Restore w wants = None
 saved_for Info w wants = None
+saved_for (New name ty ns b) w wants = Some (name, file_of (zeros ty ns b))
 
 -- after Done the whole input was taken
 abbrev pub TakesWhole : Status → List ℕ → List ℕ → Type 0
@@ -101,12 +110,14 @@ abbrev pub IsExtent : Command → Status → List ℕ → List ℕ → Type 0
 IsExtent (Compress h) status input taken = TakesWhole status input taken
 IsExtent Restore status input taken = TakesWhole status input taken
 IsExtent Info status input taken = TakesHeader status input taken
+IsExtent (New name ty ns b) status input taken = taken ≡ []
 
 -- only a script has lines that answer `! memory`
 abbrev pub HasWants : Command → World → List ℕ → Type 0
 HasWants (Compress h) w wants = wants ≡ []
 HasWants Restore w wants = wants ≡ []
 HasWants Info w wants = wants ≡ []
+HasWants (New name ty ns b) w wants = wants ≡ []
 
 -- which devices a command uses
 pub record Uses : Type 0 where
@@ -119,17 +130,20 @@ abbrev pub uses : Command → Uses
 uses (Compress h) = record { reads = true; writes = true; loads = false; saves = false }
 uses Restore = record { reads = true; writes = true; loads = false; saves = false }
 uses Info = record { reads = true; writes = true; loads = false; saves = false }
+uses (New name ty ns b) = record { reads = false; writes = false; loads = false; saves = true }
 
 -- the command takes memory in this world
 abbrev pub TakesMemory : Command → World → Type 0
 TakesMemory (Compress h) w = Unit {0}
 TakesMemory Restore w = header_fault w.input ≡ None
 TakesMemory Info w = ⊥
+TakesMemory (New name ty ns b) w = Unit {0}
 
 -- the statuses that no world determines: faults of the devices that a command uses, and want of memory where it takes any
 abbrev pub MayFail : Status → Command → World → List ℕ → Type 0
 MayFail statuses.ReadFault c w wants = IsTrue (uses c).reads
 MayFail statuses.WriteFault c w wants = IsTrue (uses c).writes
+MayFail statuses.SaveFault c w wants = IsTrue (uses c).saves
 MayFail statuses.Memory c w wants = TakesMemory c w
 MayFail status c w wants = ⊥
 
@@ -163,8 +177,16 @@ InfoEnds statuses.ReadFault = Unit {0}
 InfoEnds statuses.WriteFault = Unit {0}
 InfoEnds status = ⊥
 
+-- those of `new`
+abbrev pub NewEnds : Status → Type 0
+NewEnds statuses.Done = Unit {0}
+NewEnds statuses.SaveFault = Unit {0}
+NewEnds statuses.Memory = Unit {0}
+NewEnds status = ⊥
+
 -- a command can end so at all, whatever its devices tell
 abbrev pub IsPossible : Command → Status → Type 0
 IsPossible (Compress h) status = CompressEnds (raw_len h) status
 IsPossible Restore status = RestoreEnds status
 IsPossible Info status = InfoEnds status
+IsPossible (New name ty ns b) status = NewEnds status

@@ -5,11 +5,11 @@ use Rattle.zf_header.specs.declared.header.Mode.TheVariants.{Reversible}
 use Rattle.zf_header.specs.HeaderBits.{IsHeader}
 use Rattle.zf_stream.specs.Raw.{raw_len, stream_text}
 use Rattle.zf_dev.specs.Faults.{Rose, IsQuiet, HasCause}
-use Rattle.zf_dev.specs.Shelf.{Files, KeepsFiles, SavesFile}
+use Rattle.zf_dev.specs.Shelf.{Files, KeepsFiles, KeepsOthers, SavesFile}
 use Rattle.zf_dev.specs.Source.{Takes}
 use Rattle.zf_dev.specs.Sink.{Appends, AppendsFront}
 use Rattle.zfpi.specs.declared.status.Status.{Status}
-use Rattle.zfpi.specs.declared.status.Status.TheVariants.{Done, Usage, ReadFault, WriteFault, Memory}
+use Rattle.zfpi.specs.declared.status.Status.TheVariants.{Done, Usage, ReadFault, WriteFault, SaveFault, Memory}
 use Rattle.zfpi.specs.declared.command.Command.{Command}
 use Rattle.zfpi.specs.Words.{IsSpelled, IsUsage}
 use Rattle.zfpi.specs.World.{World, Seen, Counts, IsTold}
@@ -39,10 +39,11 @@ abbrev pub Writes : Status → List ℕ → List ℕ → Option (List ℕ) → O
 Writes Done text draft before now = Appends before now text
 Writes status text draft before now = AppendsFront before now draft
 
--- what is to be saved was saved, or after another status than Done nothing was
+-- what is to be saved was saved. After a fault of the save nothing is known of that name, and after other statuses nothing was saved
 abbrev pub Saves : Option (List ℕ × List ℕ) → Status → Option Files → Option Files → Type 0
 Saves None status before now = KeepsFiles before now
 Saves (Some file) Done before now = SavesFile before now file.0 file.1
+Saves (Some file) SaveFault before now = KeepsOthers before now file.0
 Saves (Some file) status before now = KeepsFiles before now
 
 -- what a command did: its status, what it took, wrote and saved are those of a world that its devices tell
@@ -66,8 +67,9 @@ abbrev pub IsIdle : Bool → ℕ → ℕ → Type 0
 IsIdle true before now = Unit {0}
 IsIdle false before now = now ≡ before
 
--- a status of a load or of a save comes only with its cause; none is answered yet
+-- a fault of a save comes only where a save failed
 abbrev pub IsCausedOnShelf : Status → Type 0 → Type 0 → Type 0
+IsCausedOnShelf SaveFault Loading Saving = Saving
 IsCausedOnShelf status Loading Saving = Unit {0}
 
 -- no fault without a cause: a count that rose, a load that failed, a save that failed. Where the source was sure never to fail, it still is
@@ -106,7 +108,7 @@ pub record IsComplete (c : Command) (status : Status) (before : Seen) : Type 0 w
   pub wants : List ℕ
   pub wanted : HasWants c world wants
   pub stated : (status ≡ status_for c world wants) ⊎ ((status ≡ Memory) × TakesMemory c world)
-  pub no_fault : (status ≢ ReadFault) × (status ≢ WriteFault)
+  pub no_fault : (status ≢ ReadFault) × (status ≢ WriteFault) × (status ≢ SaveFault)
 
 -- the words are `restore`, and the source holds the reversible stream of these raw bytes
 pub record HoldsReversible (words : List (List ℕ)) (src : Option (List ℕ)) (h : Header) (bytes : List ℕ) : Type 0 where

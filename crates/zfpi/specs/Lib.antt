@@ -1,4 +1,5 @@
 -- What the contracts of zfpi cite.
+--     Names       the names of files
 --     Words       which lists of words are commands, and where others stop
 --     Stages      what each stage of reading words knows
 --     Statuses    the exit code of each status, and its line for the error output
@@ -6,6 +7,7 @@
 --     World       what a call works on, and what is seen of its devices
 --     Answer      what each command does: one case for each command
 --     Headline    what the program promises of every command
+pub mod Names
 pub mod Words
 pub mod Stages
 pub mod Statuses

@@ -3,7 +3,7 @@ use Rattle.std.specs.Prelude.{ℕ, List, [], ◌++◌, codes, decimal}
 use Rattle.zf_header.specs.declared.header.HeaderFault.{HeaderFault}
 use Rattle.zf_header.specs.declared.header.HeaderFault.TheVariants as headers
 use Rattle.zfpi.specs.declared.status.Status.{Status}
-use Rattle.zfpi.specs.declared.status.Status.TheVariants.{Done, Usage, RawShort, RawLong, Header, Truncated, Pad, Trailing, ReadFault, WriteFault, Memory}
+use Rattle.zfpi.specs.declared.status.Status.TheVariants.{Done, Usage, RawShort, RawLong, Header, Truncated, Pad, Trailing, ReadFault, WriteFault, SaveFault, Memory}
 
 -- the exit code of the process
 abbrev pub code_of : Status → ℕ
@@ -17,6 +17,7 @@ code_of Pad = 5
 code_of Trailing = 5
 code_of ReadFault = 10
 code_of WriteFault = 11
+code_of SaveFault = 12
 code_of Memory = 20
 
 -- what is wrong with a header
@@ -45,4 +46,5 @@ error_line Pad = line (codes "fill bit is one")
 error_line Trailing = line (codes "bytes after the stream")
 error_line ReadFault = line (codes "read fault")
 error_line WriteFault = line (codes "write fault")
+error_line SaveFault = line (codes "save fault")
 error_line Memory = line (codes "out of memory")

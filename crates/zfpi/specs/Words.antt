@@ -1,14 +1,16 @@
 -- The words of the command line: which lists of words are commands.
 use Rattle.std.specs.Prelude.{ℕ, ◌≡◌, ◌<◌, ◌≤◌, List, [], ◌∷◌, ◌++◌, map, length, take, codes, decimal}
 use Rattle.std.specs.List.{join_with_byte}
+use Rattle.zf_spec.specs.Grid.{IsShape}
 use Rattle.zf_base.specs.declared.lane.Ty.{Ty}
 use Rattle.zf_base.specs.declared.lane.Ty.TheVariants.{I32, I64}
 use Rattle.zf_header.specs.declared.header.Header.{Header}
 use Rattle.zf_header.specs.declared.header.Mode.{Mode}
 use Rattle.zf_header.specs.declared.header.Mode.TheVariants.{Reversible, Rate, Precision}
-use Rattle.zf_header.specs.HeaderBits.{IsTaken, IsHeader, rate_bytes_of}
+use Rattle.zf_header.specs.HeaderBits.{IsHeader, IsRate, rate_bytes_of}
+use Rattle.zfpi.specs.Names.{IsName}
 use Rattle.zfpi.specs.declared.command.Command.{Command}
-use Rattle.zfpi.specs.declared.command.Command.TheVariants.{Compress, Restore, Info}
+use Rattle.zfpi.specs.declared.command.Command.TheVariants.{Compress, Restore, Info, New}
 
 -- the word of a type
 abbrev pub type_word : Ty → List ℕ
@@ -35,21 +37,29 @@ FitsFile h Reversible = Unit {0}
 FitsFile h (Rate b) = rate_bytes_of h ≤ max_file
 FitsFile h (Precision p) = Unit {0}
 
--- what can be asked for: a type, a shape, and a mode that streams are made in, whose stream is not too long
+-- what can be asked for: a type, a shape and a mode, at a rate such that the stream is not too long
 pub record IsAskable (h : Header) : Type 0 where
   pub header : IsHeader h
-  pub taken : IsTaken h.mode
   pub fits : FitsFile h h.mode
 
--- `compress TYPE SHAPE reversible` or `compress TYPE SHAPE rate B`
+-- `compress TYPE SHAPE reversible`, `compress TYPE SHAPE rate B` or `compress TYPE SHAPE precision P`
 abbrev pub compress_words : Header → List (List ℕ)
 compress_words h = codes "compress" ∷ type_word h.ty ∷ shape_word h.shape ∷ mode_words h.mode
+
+-- `new NAME TYPE SHAPE B`: an array of this name, type and shape can be made, with so many bits a block
+pub record IsNew (name : List ℕ) (ty : Ty) (ns : List ℕ) (b : ℕ) (words : List (List ℕ)) : Type 0 where
+  pub named : IsName name
+  pub shape : IsShape ns
+  pub rate : IsRate (Rate b)
+  pub fits : rate_bytes_of (record { ty = ty; shape = ns; mode = Rate b }) ≤ max_file
+  pub words_are : words ≡ codes "new" ∷ name ∷ type_word ty ∷ shape_word ns ∷ decimal b ∷ []
 
 -- these words are the command
 abbrev pub IsSpelled : Command → List (List ℕ) → Type 0
 IsSpelled (Compress h) words = IsAskable h × (words ≡ compress_words h)
 IsSpelled Restore words = words ≡ codes "restore" ∷ []
 IsSpelled Info words = words ≡ codes "info" ∷ []
+IsSpelled (New name ty ns b) words = IsNew name ty ns b words
 
 -- some command begins with these words
 abbrev pub BeginsCommand : List (List ℕ) → Type 0

@@ -1,9 +1,11 @@
 //! The commands.
 
+use crate::name::Name;
+use zf_base::{Shape, Ty};
 use zf_header::Header;
 
 /// What the program is asked to do.
-#[derive(Clone, Copy, Debug, PartialEq, Eq)]
+#[derive(Debug, Drop)]
 pub enum Command {
     /// Raw values from the source; the stream that has this header to the sink.
     Compress(Header),
@@ -11,4 +13,11 @@ pub enum Command {
     Restore,
     /// The header of a stream from the source; a line that says it to the sink.
     Info,
+    /// An array of zeros, saved under this name; each block has this many bits.
+    New {
+        name: Name,
+        ty: Ty,
+        shape: Shape,
+        bits: u32,
+    },
 }

@@ -34,6 +34,7 @@ pub fn error_line(status: &Status) -> Line
         Status::Trailing => plain("bytes after the stream"),
         Status::ReadFault => plain("read fault"),
         Status::WriteFault => plain("write fault"),
+        Status::SaveFault => plain("save fault"),
         Status::Memory => plain("out of memory"),
     }
 }

@@ -10,6 +10,7 @@ use crate::command::Command;
 use crate::compress::compress;
 use crate::info::info;
 use crate::line::error_line;
+use crate::new::new;
 use crate::restore::restore;
 use crate::status::Status;
 use crate::words::parse;
@@ -99,6 +100,12 @@ fn do_command<S: Source, O: Sink, F: Shelf>(
         Command::Compress(header) => compress(alloc, header, src, out),
         Command::Restore => restore(alloc, src, out),
         Command::Info => info(src, out),
+        Command::New {
+            name,
+            ty,
+            shape,
+            bits,
+        } => new(alloc, &name, ty, shape, bits, shelf),
     }
 }
 

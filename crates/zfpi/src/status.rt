@@ -31,6 +31,8 @@ pub enum Status {
     ReadFault,
     /// The sink failed.
     WriteFault,
+    /// The shelf failed to save. Nothing is known of the file of that name.
+    SaveFault,
     /// There was no memory.
     Memory,
 }
@@ -48,6 +50,7 @@ impl Status {
             Status::Truncated(_) | Status::Pad | Status::Trailing => 5,
             Status::ReadFault => 10,
             Status::WriteFault => 11,
+            Status::SaveFault => 12,
             Status::Memory => 20,
         }
     }

@@ -66,7 +66,17 @@ fn call(
 
 #[test]
 fn values_become_their_stream(rt: HostRuntime) -> Result<(), Fail> {
-    let rows: [(&str, &[u8], &[u8]); 14] = [
+    let rows: [(&str, &[u8], &[u8]); 16] = [
+        (
+            "compress int32 4 precision 32",
+            &[1, 0, 0, 0, 2, 0, 0, 0, 3, 0, 0, 0, 4, 0, 0, 0],
+            b"zfp\x05\x30\0\0\0\0\0\xf0\x81\0\0\0\x60\x27\0\0\0\0\0\0\0",
+        ),
+        (
+            "compress int32 4 precision 1",
+            &[0, 0, 0, 0xc0, 0, 0, 0, 0xc0, 0, 0, 0, 0xc0, 0, 0, 0, 0xc0],
+            b"zfp\x05\x30\0\0\0\0\0\0\x80\x03\0\0\0",
+        ),
         (
             "compress int32 1 reversible",
             &[0, 0, 0, 0],
@@ -166,6 +176,9 @@ fn other_words_are_no_command(rt: HostRuntime) -> Result<(), Fail> {
         ("compress int32 4", 3),
         ("compress int32 4 rate 0", 4),
         ("compress int32 4 rate 32769", 4),
+        ("compress int32 4 precision", 4),
+        ("compress int32 4 precision 0", 4),
+        ("compress int32 4 precision 129", 4),
         ("compress int32 134217728 rate 2048", 4),
         ("compress int16 4 reversible", 1),
         ("compress int32 04 reversible", 2),
@@ -294,7 +307,12 @@ const LONG: &[u8; 21] = b"zfp\x45\x3c\0\x03\x30\0\x03\xf0\xff\xff\x8f\xff\xc7\xa
 
 #[test]
 fn info_says_the_header(rt: HostRuntime) -> Result<(), Fail> {
-    let rows: [(&[u8], &[u8], usize); 3] = [
+    let rows: [(&[u8], &[u8], usize); 4] = [
+        (
+            b"zfp\x05\x30\0\0\0\0\0\0\x80\x03\0\0\0",
+            b"int32 4 precision 1 blocks 1 header 96\n",
+            0,
+        ),
         (RATE, b"int32 4 rate 2 blocks 1 header 96\n", 0),
         (LONG, b"int32 4x4x4x4 rate 4096 blocks 1 header 148\n", 2),
         (
@@ -356,7 +374,19 @@ fn info_says_the_first_fault(rt: HostRuntime) -> Result<(), Fail> {
 
 #[test]
 fn a_stream_becomes_its_values(rt: HostRuntime) -> Result<(), Fail> {
-    let rows: [(&[u8], &[u8]); 8] = [
+    let rows: [(&[u8], &[u8]); 11] = [
+        (
+            b"zfp\x05\x30\0\0\0\0\0\xf0\x81\0\0\0\x60\x27\0\0\0\0\0\0\0",
+            &[0, 0, 0, 0, 2, 0, 0, 0, 2, 0, 0, 0, 4, 0, 0, 0],
+        ),
+        (
+            b"zfp\x05\x30\0\0\0\0\0\xf0\x83\0\0\0\x60\x27\0\0\0\0\0\0\0",
+            &[0, 0, 0, 0, 2, 0, 0, 0, 2, 0, 0, 0, 4, 0, 0, 0],
+        ),
+        (
+            b"zfp\x05\x30\0\0\0\0\0\0\x80\x03\0\0\0",
+            &[0, 0, 0, 0x80, 0, 0, 0, 0x80, 0, 0, 0, 0x80, 0, 0, 0, 0x80],
+        ),
         (
             b"zfp\x05\0\0\0\0\0\0\0\x88\x1f\0\0\0\x30\0\0\0\0\0\0\0",
             &[1, 0, 0, 0],

@@ -2,23 +2,29 @@
 
 ghost use Rattle.std.specs.Prelude.{◌≡◌, ◌≢◌, ◌↔◌, ℕ, List, [], ◌∷◌, ◌++◌, map, IfSome, IfNone, IfOk, IfErr, IsTrue, string_bytes};
 ghost use Rattle.zf_base.specs.declared.lane.Ty.{Ty};
-ghost use Rattle.zf_header.specs.HeaderBits.{IsRate};
+ghost use Rattle.zf_header.specs.HeaderBits.{IsRate, IsMode};
 ghost use Rattle.zfpi.specs.Words.{type_word, IsSpelled, BeginsCommand, IsUsage};
-ghost use Rattle.zfpi.specs.Stages.{LeadsTo, IsRateWord};
+ghost use Rattle.zfpi.specs.Stages.{LeadsTo, IsRateWord, IsPrecisionWord};
 
 use crate::command::Command;
+use crate::name::Name;
 use crate::numbers::{number_in, shape_in};
 use zf_base::{Shape, Ty};
-use zf_header::{Header, MAX_FILE, MAX_RATE, Mode, rate_bytes};
+use zf_header::{Header, MAX_FILE, MAX_PRECISION, MAX_RATE, Mode, rate_bytes};
 
 // How far the words have come.
-#[derive(Clone, Copy, Debug, PartialEq, Eq)]
+#[derive(Debug, Drop)]
 enum Stage {
     Start,
     Compressing,
     Typed(Ty),
     Shaped(Ty, Shape),
     AtRate(Ty, Shape),
+    AtPrecision(Ty, Shape),
+    Making,
+    Named(Name),
+    NamedTyped(Name, Ty),
+    NamedShaped(Name, Ty, Shape),
     Whole(Command),
 }
 
@@ -58,6 +64,22 @@ impl Stage {
                 let mode = Mode::Rate(rate_in(ty, shape, word)?);
                 Some(Stage::Whole(Command::Compress(Header { ty, shape, mode })))
             }
+            Stage::AtPrecision(ty, shape) => {
+                let mode = Mode::Precision(precision_in(word)?);
+                Some(Stage::Whole(Command::Compress(Header { ty, shape, mode })))
+            }
+            Stage::Making => Some(Stage::Named(Name::new(word)?)),
+            Stage::Named(name) => Some(Stage::NamedTyped(name, type_in(word)?)),
+            Stage::NamedTyped(name, ty) => Some(Stage::NamedShaped(name, ty, shape_in(word)?)),
+            Stage::NamedShaped(name, ty, shape) => {
+                let bits = rate_in(ty, shape, word)?;
+                Some(Stage::Whole(Command::New {
+                    name,
+                    ty,
+                    shape,
+                    bits,
+                }))
+            }
             Stage::Whole(_) => None,
         }
     }
@@ -72,6 +94,7 @@ fn first(word: &str) -> Option<Stage>
         "compress" => Some(Stage::Compressing),
         "restore" => Some(Stage::Whole(Command::Restore)),
         "info" => Some(Stage::Whole(Command::Info)),
+        "new" => Some(Stage::Making),
         _ => None,
     }
 }
@@ -101,6 +124,7 @@ fn behind_shape(ty: Ty, shape: Shape, word: &str) -> Option<Stage>
             Some(Stage::Whole(Command::Compress(Header { ty, shape, mode })))
         }
         "rate" => Some(Stage::AtRate(ty, shape)),
+        "precision" => Some(Stage::AtPrecision(ty, shape)),
         _ => None,
     }
 }
@@ -120,6 +144,26 @@ fn rate_in(ty: Ty, shape: Shape, word: &str) -> Option<u32>
         return None;
     }
     Some(bits)
+}
+
+// The number of planes that a word says.
+fn precision_in(word: &str) -> Option<u32>
+    ensures planes { IfSome result (λ p. IsPrecisionWord p word.now) }
+    ensures none { IfNone result ((p : ℕ) → IsPrecisionWord p word.now → ⊥) }
+{
+    let number = number_in(word)?;
+    if is_precision(number) {
+        Some(number as u32)
+    } else {
+        None
+    }
+}
+
+// Whether a header can state this precision.
+fn is_precision(planes: u64) -> bool
+    ensures { IsTrue result ↔ IsMode (Mode.Precision planes) }
+{
+    1 <= planes && planes <= u64::from(MAX_PRECISION)
 }
 
 // Whether a header can state this rate.

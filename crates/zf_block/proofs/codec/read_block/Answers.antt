@@ -1,4 +1,4 @@
-use Rattle.std.proofs.Common.{ℕ, ◌^◌, length, ap, subst, ◌∙◌, map}
+use Rattle.std.proofs.Common.{ℕ, ◌^◌, map, length, ap, subst, ◌∙◌}
 use Rattle.zf_spec.specs.Codes.{coefficients_of}
 use Rattle.zf_spec.specs.HeldPlanes.{planes_held}
 use Rattle.zf_bits.specs.Reader.{rest}

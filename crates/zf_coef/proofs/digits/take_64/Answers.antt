@@ -1,6 +1,6 @@
-use Rattle.std.proofs.Common.{◌≤◌, ◌≡◌, ℕ, ⊎_elim, get_or, replicate, map, arith}
+use Rattle.std.proofs.Common.{◌≡◌, ℕ, ⊎_elim, get_or, replicate, map, arith}
 use Rattle.std.proofs.lemmas.Bool.{cases_lt}
-use Rattle.std.proofs.lemmas.List.{length-map, get_or-replicate, length-replicate, get_or_past}
+use Rattle.std.proofs.lemmas.List.{length-map, get_or-replicate, get_or_past}
 use Rattle.zf_coef.proofs.Tiles.{half_past, digits_of_halves}
 use Rattle.zf_coef.proofs.digits.take_64.Goals as goal
 

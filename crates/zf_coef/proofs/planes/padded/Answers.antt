@@ -1,6 +1,6 @@
-use Rattle.std.proofs.Common.{◌≡◌, ◌≤◌, ◌<◌, ℕ, refl, sym, ap, ◌∙◌, length, length-set, get_or, replicate, ⊎_elim, arith}
+use Rattle.std.proofs.Common.{ℕ, refl, sym, ◌∙◌, length, length-set, get_or, replicate, ⊎_elim, arith}
 use Rattle.std.proofs.lemmas.Bool.{cases_lt}
-use Rattle.std.proofs.lemmas.List.{get_or_past, get_or-replicate, length-replicate}
+use Rattle.std.proofs.lemmas.List.{get_or_past, get_or-replicate}
 use Rattle.zf_coef.proofs.Fronts.{front_set, rest_set}
 use Rattle.zf_coef.proofs.planes.padded.Goals as goal
 

@@ -1,10 +1,10 @@
-use Rattle.std.proofs.Common.{◌≡◌, ◌+◌, ◌*◌, ◌≤◌, ℕ, List, map, length, take, drop, min, sym, ap, subst, ◌∙◌, arith}
+use Rattle.std.proofs.Common.{◌≡◌, ◌+◌, map, length, min, sym, ap, subst, ◌∙◌, arith}
 use Rattle.std.proofs.lemmas.List.{length-map}
 use Rattle.zf_spec.specs.Planes.{planes_of}
 use Rattle.zf_coef.specs.HeldDigits.{digits_in}
 use Rattle.zf_coef.specs.Groups.{HoldsGroup}
 use Rattle.zf_coef.proofs.Fronts.{each_long}
-use Rattle.zf_coef.proofs.Transposed.{IsBehind, HoldsGroups, behind_none, behind_more, groups_none, groups_more, planes_of_groups, clear_of_groups}
+use Rattle.zf_coef.proofs.Transposed.{IsBehind, HoldsGroups, behind_more, groups_more, planes_of_groups, clear_of_groups}
 use Rattle.zf_coef.proofs.planes.planes_of_digits.Goals as goal
 
 pub loop-number-preserved : goal.loop-number-preserved

@@ -1,7 +1,5 @@
-use Rattle.std.proofs.Common.{◌≡◌, ◌*◌, map, All, length, ap, sym, subst, ◌∙◌, arith}
-use Rattle.zf_spec.specs.Planes.{planes_of}
+use Rattle.std.proofs.Common.{All, length, ap, sym, subst, ◌∙◌}
 use Rattle.zf_spec.specs.HeldPlanes.{planes_held, IsClearFrom}
-use Rattle.zf_coef.specs.HeldDigits.{digits_in}
 use Rattle.zf_coef.proofs.Transposed.{all_four}
 use Rattle.zf_coef.proofs.planes.to_planes.Goals as goal
 

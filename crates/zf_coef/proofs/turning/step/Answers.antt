@@ -1,4 +1,4 @@
-use Rattle.std.proofs.Common.{◌≡◌, ◌+◌, ◌*◌, ◌/◌, ◌%◌, length, subst, sym, arith}
+use Rattle.std.proofs.Common.{◌≡◌, ◌+◌, ◌*◌, ◌%◌, length, subst, sym, arith}
 use Rattle.zf_coef.proofs.Steps.{HasStepped, paired, more_stepped, all_stepped, in_lanes}
 use Rattle.zf_coef.proofs.turning.step.Goals as goal
 

@@ -1,4 +1,4 @@
-use Rattle.std.proofs.Common.{◌≡◌, ◌+◌, ◌*◌, ◌/◌, length, subst, arith}
+use Rattle.std.proofs.Common.{◌≡◌, ◌+◌, ◌*◌, ◌/◌, subst, arith}
 use Rattle.zf_coef.specs.Turned.{IsSwapped}
 use Rattle.zf_coef.proofs.Steps.{paired_1, more_stepped, all_stepped}
 use Rattle.zf_coef.proofs.turning.step_next.Goals as goal

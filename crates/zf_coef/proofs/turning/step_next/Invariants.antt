@@ -1,4 +1,3 @@
-use Rattle.std.proofs.Common.{◌*◌}
 use Rattle.zf_coef.proofs.Steps.{HasStepped}
 use Rattle.zf_coef.proofs.turning.step_next.Given as goal
 

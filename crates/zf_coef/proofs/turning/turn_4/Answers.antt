@@ -1,4 +1,4 @@
-use Rattle.std.proofs.Common.{refl, inl, inr, arith}
+use Rattle.std.proofs.Common.{refl, inl, arith}
 use Rattle.zf_coef.proofs.Turns.{mask_from, none_turned, more_turned, all_turned, digit_4_2, digit_4_1}
 use Rattle.zf_coef.proofs.turning.turn_4.Goals as goal
 

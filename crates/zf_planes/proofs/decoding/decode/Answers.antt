@@ -1,4 +1,4 @@
-use Rattle.std.proofs.Common.{◌≡◌, ℕ, ◌-◌, Bool, false, List, [], ◌++◌, length, replicate, subst}
+use Rattle.std.proofs.Common.{◌≡◌, ℕ, ◌-◌, false, List, [], ◌++◌, length, replicate, subst}
 use Rattle.std.specs.List.{All}
 use Rattle.std.specs.Prelude.{OnSome}
 use Rattle.zf_spec.specs.Kept.{kept_planes}

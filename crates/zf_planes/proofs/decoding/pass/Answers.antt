@@ -1,4 +1,4 @@
-use Rattle.std.proofs.Common.{◌≡◌, ◌-◌, ◌/◌, ◌^◌, Bool, List, drop, sym, subst, arith}
+use Rattle.std.proofs.Common.{◌-◌, ◌/◌, ◌^◌, Bool, List, sym, subst, arith}
 use Rattle.zf_bits.specs.Reader.{rest}
 use Rattle.zf_planes.specs.Decoding.{IsWindow, Takes}
 use Rattle.zf_planes.proofs.Passing.{Takes-rest}

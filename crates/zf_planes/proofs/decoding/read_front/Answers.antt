@@ -1,6 +1,6 @@
-use Rattle.std.proofs.Common.{◌≡◌, ℕ, ◌+◌, ◌-◌, ◌*◌, ◌/◌, ◌%◌, ◌<◌, ◌≤◌, ◌⊎◌, inl, inr, ⊎_elim, min, Bool, false, List, [], ◌++◌, length, take, drop, set, replicate, refl, sym, ap, subst, ◌∙◌, arith}
+use Rattle.std.proofs.Common.{◌≡◌, ℕ, ◌+◌, ◌-◌, ◌*◌, ◌/◌, ◌%◌, ◌<◌, ◌≤◌, ◌⊎◌, inl, inr, ⊎_elim, min, Bool, false, List, ◌++◌, length, take, drop, replicate, refl, sym, ap, subst, ◌∙◌, arith}
 use Rattle.std.proofs.lemmas.Bool.{cases_lt}
-use Rattle.std.proofs.lemmas.List.{length-take, length-drop}
+use Rattle.std.proofs.lemmas.List.{length-take}
 use Rattle.std.proofs.Math.Seq.{take-add}
 use Rattle.zf_spec.specs.HeldPlanes.{digits_held, IsClearFrom}
 use Rattle.zf_bits.specs.Reader.{rest}
@@ -9,7 +9,6 @@ use Rattle.zf_spec.proofs.HeldPlanes.{digits_held-none}
 use Rattle.zf_planes.proofs.Passing.{Passes-start, Passes-part, Passes-end, Passes-lacks, Passes-rest, if_none}
 use Rattle.zf_planes.proofs.Placing.{clear_zeros, clear_later, held_behind, word_filled}
 use Rattle.zf_planes.proofs.PlaneAhead.{front_read}
-use Rattle.zf_planes.proofs.decoding.read_front.Given.{Over}
 use Rattle.zf_planes.proofs.decoding.read_front.Goals as goal
 
 pub loop-at-init : goal.loop-at-init

@@ -1,4 +1,4 @@
-use Rattle.std.proofs.Common.{◌≡◌, ℕ, ◌-◌, ◌<◌, Bool, true, false, List, ◌++◌, length, map, take, replicate, refl, ap, ◌∙◌, subst, arith}
+use Rattle.std.proofs.Common.{◌≡◌, ℕ, ◌-◌, Bool, true, false, List, ◌++◌, length, take, replicate, refl, ap, ◌∙◌, subst, arith}
 use Rattle.zf_spec.specs.Kept.{kept_planes}
 use Rattle.zf_bits.specs.Reader.{rest, Reads}
 use Rattle.zf_planes.specs.Decoding.{coded, coded_bits, planes_ahead, planes_bits, Takes}

@@ -1,9 +1,9 @@
-use Rattle.std.proofs.Common.{◌≡◌, ℕ, ◌+◌, ◌-◌, ◌<◌, ◌≤◌, inl, inr, Bool, true, false, List, [], ◌∷◌, ◌++◌, length, drop, replicate, refl, sym, ap, ◌∙◌, arith}
+use Rattle.std.proofs.Common.{◌≡◌, ◌+◌, ◌-◌, ◌<◌, ◌≤◌, inl, inr, Bool, true, false, List, [], ◌∷◌, ◌++◌, length, drop, replicate, refl, sym, ap, ◌∙◌, arith}
 use Rattle.zf_bits.specs.Reader.{rest}
 use Rattle.zf_planes.specs.Decoding.{run_ahead, run_bits, tail_ahead, tail_bits}
 use Rattle.zf_planes.proofs.Passing.{Passes-part, Passes-lacks, Takes-rest}
 use Rattle.zf_planes.proofs.Peeking.{peeked, zeros_ahead, one_ahead, run_zeros, zeros_and_one, replicate_both, Takes-skip}
-use Rattle.zf_planes.proofs.Steps.{run_stands, run_one, run_short}
+use Rattle.zf_planes.proofs.Steps.{run_stands, run_short}
 use Rattle.zf_planes.proofs.decoding.read_run.Goals as goal
 
 -- ---- the bits end

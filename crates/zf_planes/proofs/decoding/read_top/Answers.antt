@@ -1,7 +1,6 @@
-use Rattle.std.proofs.Common.{◌≡◌, ℕ, suc, ◌+◌, ◌-◌, ◌*◌, ◌<◌, ◌≤◌, ◌⊎◌, inl, inr, max, Bool, false, List, [], ◌∷◌, ◌++◌, length, map, take, drop, set, replicate, sym, ap, ◌∙◌, subst, arith, length-set}
-use Rattle.std.proofs.lemmas.List.{map-set, length-map, take_more_set, length-replicate, take-replicate, drop-replicate, append_assoc, append-nil, take-append-drop, replicate-append-replicate}
+use Rattle.std.proofs.Common.{◌≡◌, ℕ, suc, ◌+◌, ◌-◌, ◌<◌, ◌≤◌, inl, inr, max, Bool, false, List, [], ◌∷◌, ◌++◌, length, map, take, drop, set, replicate, sym, ap, ◌∙◌, subst, arith, length-set}
+use Rattle.std.proofs.lemmas.List.{map-set, length-map, take_more_set, length-replicate, take-replicate, drop-replicate, append_assoc, take-append-drop, replicate-append-replicate}
 use Rattle.std.proofs.lemmas.List.Elements.{All-set, All-replicate}
-use Rattle.std.specs.List.{All}
 use Rattle.zf_spec.specs.Planes.{reach}
 use Rattle.zf_spec.specs.HeldPlanes.{digits_held, planes_held, IsClearFrom}
 use Rattle.zf_spec.proofs.HeldPlanes.{length-planes_held, length-digits_held}
@@ -9,7 +8,7 @@ use Rattle.zf_spec.proofs.Reach.{reach-le}
 use Rattle.zf_bits.specs.Reader.{Reader, rest}
 use Rattle.zf_planes.specs.Decoding.{Takes, plane_ahead, plane_bits, planes_ahead, planes_bits}
 use Rattle.zf_planes.proofs.Filling.{behind_next}
-use Rattle.zf_planes.proofs.Passing.{Passes, Passes-start, Passes-part, Passes-end, Passes-lacks, Takes-rest, if_none}
+use Rattle.zf_planes.proofs.Passing.{Passes-start, Passes-part, Passes-end, Passes-lacks, Takes-rest, if_none}
 use Rattle.zf_planes.proofs.Placing.{clear_zeros}
 use Rattle.zf_planes.proofs.PlanesAhead.{next_plane, plane_bits-le, planes_over, zero_planes}
 use Rattle.zf_planes.proofs.Unpacking.{planes_held-set, planes_held-zeros}

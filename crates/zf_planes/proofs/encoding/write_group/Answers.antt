@@ -1,4 +1,4 @@
-use Rattle.std.proofs.Common.{◌≡◌, ℕ, ◌+◌, ◌*◌, ◌%◌, ◌^◌, min, Bool, true, false, List, [], ◌∷◌, ◌++◌, take, replicate, sym, ap, ◌∙◌, arith}
+use Rattle.std.proofs.Common.{◌≡◌, ◌+◌, min, true, false, [], ◌∷◌, ◌++◌, take, replicate, sym, ap, ◌∙◌, arith}
 use Rattle.zf_bits.proofs.Appending.{Appends-same}
 use Rattle.zf_planes.proofs.Zeros.{take_both, run_field}
 use Rattle.zf_planes.proofs.encoding.write_group.Goals as goal

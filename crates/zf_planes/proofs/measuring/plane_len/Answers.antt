@@ -1,10 +1,9 @@
-use Rattle.std.proofs.Common.{◌≡◌, ◌+◌, ◌-◌, ◌*◌, ◌≤◌, length, drop, sym, ap, ◌∙◌, arith, length-drop}
+use Rattle.std.proofs.Common.{◌≤◌, drop, arith, length-drop}
 use Rattle.std.proofs.lemmas.List.Sums.{count_by-le-length}
-use Rattle.zf_spec.specs.Planes.{reach, tail}
 use Rattle.zf_spec.specs.HeldPlanes.{digits_held}
 use Rattle.zf_spec.proofs.HeldPlanes.{length-digits_held}
 use Rattle.zf_spec.proofs.Reach.{reach-le}
-use Rattle.zf_planes.proofs.Lengths.{ones, length-tail, length-plane_code, reach-drop}
+use Rattle.zf_planes.proofs.Lengths.{length-tail, length-plane_code, reach-drop}
 use Rattle.zf_planes.proofs.measuring.plane_len.Given.{Over}
 use Rattle.zf_planes.proofs.measuring.plane_len.Goals as goal
 

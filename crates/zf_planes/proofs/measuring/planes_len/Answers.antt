@@ -1,11 +1,10 @@
-use Rattle.std.proofs.Common.{◌≡◌, ℕ, ◌+◌, ◌-◌, ◌*◌, ◌<◌, ◌≤◌, max, Bool, List, [], ◌++◌, length, map, take, drop, get_or, ap, ◌∙◌, arith, length-append}
+use Rattle.std.proofs.Common.{◌≡◌, ℕ, ◌+◌, ◌-◌, ◌*◌, ◌<◌, ◌≤◌, max, Bool, List, length, map, take, drop, get_or, ap, ◌∙◌, arith, length-append}
 use Rattle.std.proofs.Math.Nat.{mul-le-mul_right}
 use Rattle.std.proofs.lemmas.List.{drop_all, length-map}
 use Rattle.zf_spec.specs.Planes.{code, code_from, plane_code, reach}
 use Rattle.zf_spec.specs.HeldPlanes.{planes_held, digits_held}
 use Rattle.zf_planes.proofs.Lengths.{length-code_words-le}
 use Rattle.zf_planes.proofs.Unpacking.{length-top_held, code_next, each_long}
-use Rattle.zf_planes.proofs.measuring.planes_len.Given.{Over}
 use Rattle.zf_planes.proofs.measuring.planes_len.Goals as goal
 
 pub loop-i-init : goal.loop-i-init

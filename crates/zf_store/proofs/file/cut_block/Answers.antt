@@ -1,5 +1,4 @@
-use Rattle.std.proofs.Common.{◌≡◌, ◌*◌, ◌-◌, ◌/◌, ◌<◌, min, length, ap, ◌∙◌, arith}
-use Rattle.zf_spec.specs.Grid.{blocks}
+use Rattle.std.proofs.Common.{◌*◌, ◌-◌, ◌/◌, min, length, ap, ◌∙◌, arith}
 use Rattle.zf_header.specs.HeaderBits.{header_bits, block_bits}
 use Rattle.zf_store.proofs.Opened.{rate_bytes_most, parse_short}
 use Rattle.zf_store.proofs.file.cut_block.Goals as goal

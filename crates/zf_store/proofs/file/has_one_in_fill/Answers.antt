@@ -1,5 +1,4 @@
-use Rattle.std.proofs.Common.{◌≡◌, ◌≢◌, sym, ap, ◌∙◌, ◌+◌, ◌-◌, ◌*◌, length, take, drop, arith, rules}
-use Rattle.std.specs.Int.{div_ceil}
+use Rattle.std.proofs.Common.{◌≡◌, sym, ◌+◌, ◌-◌, ◌*◌, length, take, drop, arith, rules}
 use Rattle.zf_spec.specs.Numbers.{number}
 use Rattle.zf_spec.specs.Stream.{fill_len, to_bits}
 use Rattle.zf_header.specs.HeaderBits.{header_bits}

@@ -1,11 +1,7 @@
-use Rattle.std.proofs.Common.{◌≡◌, sym, ap, ◌∙◌, ℕ, ◌+◌, ◌-◌, ◌*◌, ◌≤◌, ◌++◌, Bool, false, List, length, take, drop, replicate, arith}
-use Rattle.std.specs.Int.{div_ceil}
+use Rattle.std.proofs.Common.{◌≡◌, ap, ◌∙◌, arith}
 use Rattle.std.specs.Vec.{vec_len}
-use Rattle.std.proofs.lemmas.List.{take_at}
 use Rattle.zf_spec.specs.Numbers.{word_bits}
 use Rattle.zf_spec.specs.Stream.{to_bits, with_fill}
-use Rattle.zf_header.specs.HeaderBits.{header_bits}
-use Rattle.zf_store.specs.Words.{all_bits}
 use Rattle.zf_store.proofs.Opened.{header_most, moved_codes}
 use Rattle.zf_store.proofs.file.words_of_file.Goals as goal
 

@@ -1,4 +1,4 @@
-use Rattle.std.proofs.Common.{◌≡◌, refl, ◌∙◌, ◌+◌, ◌*◌, ◌++◌, length, take, drop, length-append, arith}
+use Rattle.std.proofs.Common.{◌≡◌, refl, ◌∙◌, ◌+◌, ◌++◌, length, take, length-append, arith}
 use Rattle.std.proofs.lemmas.List.{length-take-le}
 use Rattle.zf_spec.specs.Numbers.{word_bits}
 use Rattle.zf_spec.proofs.WordBits.{length-word_bits}

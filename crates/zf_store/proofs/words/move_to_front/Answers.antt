@@ -1,4 +1,4 @@
-use Rattle.std.proofs.Common.{◌≡◌, refl, sym, ap, subst, ◌∙◌, ℕ, ◌+◌, ◌-◌, ◌*◌, ◌<◌, ◌≤◌, ◌++◌, false, min, length, set, take, drop, replicate, length-set, arith}
+use Rattle.std.proofs.Common.{◌≡◌, refl, sym, ap, subst, ◌∙◌, ℕ, ◌+◌, ◌-◌, ◌*◌, ◌<◌, ◌++◌, false, min, length, take, drop, replicate, length-set, arith}
 use Rattle.std.specs.Int.{div_ceil}
 use Rattle.zf_spec.specs.Numbers.{word_bits}
 use Rattle.zf_spec.proofs.WordBits.{length-word_bits}

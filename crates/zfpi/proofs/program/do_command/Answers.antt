@@ -1,4 +1,4 @@
-use Rattle.zfpi.proofs.Causes.{HasCauses-more}
+use Rattle.zfpi.proofs.Causes.{HasCauses-more, HasCauses-sure}
 use Rattle.zfpi.proofs.program.do_command.Goals as goal
 
 pub returns-in-Compress-clause-behaves : goal.returns-in-Compress-clause-behaves
@@ -18,3 +18,9 @@ returns-in-Info-clause-behaves g c = rw c.in-Info.is (c.info.ensures.behaves _)
 
 pub returns-in-Info-clause-causes : goal.returns-in-Info-clause-causes
 returns-in-Info-clause-causes g c = rw c.in-Info.is (HasCauses-more _ _ _ _ _ _ _ (c.info.ensures.causes _))
+
+pub returns-in-New-clause-behaves : goal.returns-in-New-clause-behaves
+returns-in-New-clause-behaves g c = rw c.in-New.is (c.new.ensures.behaves _ _)
+
+pub returns-in-New-clause-causes : goal.returns-in-New-clause-causes
+returns-in-New-clause-causes g c = rw c.in-New.is (HasCauses-sure _ _ _ _ (c.new.ensures.causes _ _))

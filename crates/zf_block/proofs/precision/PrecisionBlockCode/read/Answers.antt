@@ -1,4 +1,4 @@
-use Rattle.std.proofs.Common.{ℕ, ◌<◌, ◌≤◌, min, ap, ◌∙◌, subst, length, take, map}
+use Rattle.std.proofs.Common.{ℕ, ◌<◌, ◌≤◌, min, ap, ◌∙◌, subst, map, length, take}
 use Rattle.std.specs.Prelude.{IfNone, OnSome}
 use Rattle.zf_spec.specs.Planes.{code}
 use Rattle.zf_spec.specs.ReadPlanes.{planes_in}

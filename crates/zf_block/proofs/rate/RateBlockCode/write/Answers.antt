@@ -1,4 +1,4 @@
-use Rattle.std.proofs.Common.{◌≡◌, ◌-◌, false, ◌++◌, length, take, replicate, sym, ap, ◌∙◌, arith, map}
+use Rattle.std.proofs.Common.{◌≡◌, ◌-◌, false, ◌++◌, map, length, take, replicate, sym, ap, ◌∙◌, arith}
 use Rattle.std.proofs.lemmas.List.{take_all, length-map}
 use Rattle.zf_spec.specs.Planes.{code}
 use Rattle.zf_spec.specs.ReadPlanes.{first_bits}
@@ -11,9 +11,10 @@ use Rattle.zf_spec.proofs.HeldPlanes.{length-planes_held}
 pub returns : goal.returns
 returns g c =
     let budget = c.from-bits.result in
-    let planes = planes_held c.args.size (map g.P.Plane.words c.args.planes.now) in
+    let all = map g.P.Plane.words c.args.planes.now in
+    let planes = planes_held c.args.size all in
     let bits = code (take c.WIDTH.result planes) in
-    let whole : take c.WIDTH.result planes ≡ planes = take_all c.WIDTH.result planes (omega (arith, length-planes_held c.args.size (map g.P.Plane.words c.args.planes.now), length-map c.args.planes.now g.P.Plane.words, c.requires.planes, c.WIDTH.ensures)) in
+    let whole : take c.WIDTH.result planes ≡ planes = take_all c.WIDTH.result planes (omega (arith, length-planes_held c.args.size all, length-map c.args.planes.now g.P.Plane.words, c.requires.planes, c.WIDTH.ensures)) in
     let left : budget - c.write_planes-written.result ≡ budget - length bits = omega (arith, c.write_planes-written.ensures.count) in
     Appends-same (Appends-append c.write_planes-written.ensures.bits c.write_zeros.ensures)
     (ap (λ n. take budget bits ++ replicate n false) left

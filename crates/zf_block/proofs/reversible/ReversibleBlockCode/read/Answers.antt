@@ -1,4 +1,4 @@
-use Rattle.std.proofs.Common.{List, Bool, subst, arith, map}
+use Rattle.std.proofs.Common.{List, Bool, map, subst, arith}
 use Rattle.zf_spec.specs.HeldPlanes.{planes_held}
 use Rattle.zf_bits.specs.Reader.{rest}
 use Rattle.zf_block.specs.Block.{AreAbove}

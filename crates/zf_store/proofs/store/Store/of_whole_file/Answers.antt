@@ -1,4 +1,4 @@
-use Rattle.std.proofs.Common.{◌≡◌, sym, subst, ◌∙◌, ℕ, ◌-◌, ◌*◌, ◌<◌, false, replicate, length, drop, lit<, arith}
+use Rattle.std.proofs.Common.{◌≡◌, sym, subst, ◌-◌, ◌*◌, ◌<◌, false, replicate, length, drop, lit<}
 use Rattle.std.proofs.lemmas.Result.{IfOk-weaker}
 use Rattle.std.proofs.lemmas.List.Elements.{All-from_get_or}
 use Rattle.std.specs.Vec.{vec_len}

@@ -1,4 +1,4 @@
-use Rattle.std.proofs.Common.{◌≡◌, ap, ◌∙◌, ◌++◌, List, ℕ, Bool, length, take, sym, arith}
+use Rattle.std.proofs.Common.{ap, ◌∙◌, ◌++◌, List, ℕ, take, arith}
 use Rattle.zf_spec.specs.Numbers.{word_bits}
 use Rattle.zf_spec.specs.Stream.{to_bytes, with_fill}
 use Rattle.zf_store.specs.Stored.{file_of}

@@ -1,13 +1,11 @@
-use Rattle.std.proofs.Common.{◌≡◌, sym, ap, subst, ◌∙◌, ℕ, ◌-◌, ◌*◌, ◌≤◌, Bool, false, List, length, drop, replicate, lit<, arith}
+use Rattle.std.proofs.Common.{◌≡◌, sym, ap, ◌∙◌, ℕ, ◌-◌, ◌*◌, ◌≤◌, Bool, false, List, drop, replicate, lit<, arith}
 use Rattle.std.specs.Int.{div_ceil}
 use Rattle.std.specs.Vec.{vec_len}
 use Rattle.std.proofs.lemmas.Result.{IfOk-weaker}
-use Rattle.std.proofs.lemmas.List.{length-replicate}
 use Rattle.zf_base.specs.Widths.{width_of}
 use Rattle.zf_base.specs.declared.lane.Ty.{Ty}
 use Rattle.zf_spec.specs.Grid.{blocks}
 use Rattle.zf_spec.specs.Numbers.{word_bits}
-use Rattle.zf_header.specs.declared.header.Header.{Header}
 use Rattle.zf_header.specs.declared.header.Mode.TheVariants.{Rate}
 use Rattle.zf_store.specs.Stored.{Stored, zeros}
 use Rattle.zf_store.specs.Words.{with_codes}

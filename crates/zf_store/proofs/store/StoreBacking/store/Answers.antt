@@ -1,4 +1,4 @@
-use Rattle.std.proofs.Common.{◌≡◌, refl, sym, ap, subst, ◌∙◌, ℕ, ◌+◌, ◌<◌, ◌≤◌, ◌*◌, ◌^◌, ◌++◌, Bool, List, [], length, take, drop, map, arith}
+use Rattle.std.proofs.Common.{◌≡◌, sym, ap, subst, ◌∙◌, ℕ, ◌++◌, Bool, List, [], length, map, arith}
 use Rattle.std.proofs.lemmas.List.{take_at}
 use Rattle.zf_spec.specs.Codes.{rate}
 use Rattle.zf_spec.specs.Grid.{extent_of}

@@ -1,6 +1,6 @@
 use Rattle.std.proofs.Common.{subst}
 use Rattle.zfpi.specs.Stages.{LeadsTo}
-use Rattle.zfpi.proofs.Commands.{IsRateWord-begun}
+use Rattle.zfpi.proofs.Commands.{IsRateWord-begun, IsRateWord-begun_new, IsPrecisionWord-begun}
 use Rattle.zfpi.proofs.words.Stage.next.Goals as goal
 
 pub returns-in_err-rate_in-in-AtRate-clause-none : goal.returns-in_err-rate_in-in-AtRate-clause-none
@@ -11,3 +11,16 @@ returns-in_err-rate_in-in-AtRate-clause-none c =
 
 pub returns-in-Shaped-clause-none : goal.returns-in-Shaped-clause-none
 returns-in-Shaped-clause-none c = rw c.in-Shaped.is c.behind_shape.ensures.none
+
+pub returns-in_err-bits-in-NamedShaped-clause-none : goal.returns-in_err-bits-in-NamedShaped-clause-none
+returns-in_err-bits-in-NamedShaped-clause-none c =
+    rw c.from_residual-in_err-bits-in-NamedShaped.ensures (λ words leads begins.
+    let arm = c.in-NamedShaped in
+    let rate = IsRateWord-begun_new words arm.name arm.ty arm.shape c.args.word.now (subst (LeadsTo words) arm.is leads) begins in
+    c.in_err-bits-in-NamedShaped.ensures.none rate.0 rate.1)
+
+pub returns-in_err-precision_in-in-AtPrecision-clause-none : goal.returns-in_err-precision_in-in-AtPrecision-clause-none
+returns-in_err-precision_in-in-AtPrecision-clause-none c =
+    rw c.from_residual-in_err-precision_in-in-AtPrecision.ensures (λ words leads begins.
+    let planes = IsPrecisionWord-begun words c.in-AtPrecision.ty c.in-AtPrecision.shape c.args.word.now (subst (LeadsTo words) c.in-AtPrecision.is leads) begins in
+    c.in_err-precision_in-in-AtPrecision.ensures.none planes.0 planes.1)

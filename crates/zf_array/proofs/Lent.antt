@@ -1,0 +1,254 @@
+-- What is written through a loan of a part of a block.
+use Rattle.std.proofs.Common.{◌≡◌, ◌≢◌, ◌⊎◌, inl, inr, refl, sym, ap, subst, ◌∙◌, ℕ, suc, ◌+◌, ◌-◌, ◌*◌, ◌/◌, ◌%◌, ◌^◌, ◌<◌, ◌≤◌, ◌==◌, ℤ, pos, Bool, true, false, Option, Some, None, List, [], ◌∷◌, ◌++◌, map, length, get_or, set, take, drop, replicate, append_assoc, length-append, length-drop, arith}
+use Rattle.std.specs.Int.{Width}
+use Rattle.std.proofs.lemmas.Bool.{cases_lt, eqb-true}
+use Rattle.std.proofs.lemmas.List.{length-map, map-append, take-map, drop-map, length-take-le, take-append-drop, drop-drop, get_or-take, get_or-drop, get_or_append_left, get_or-append_right, get_or_past, drop_all, append-nil, set_split, get_or-set_same}
+use Rattle.std.proofs.Math.Seq.{take-add}
+use Rattle.zf_spec.specs.Grid.{upto, blocks}
+use Rattle.zf_spec.proofs.Counting.{length-map-upto, get_or-map-upto}
+use Rattle.zf_base.specs.Formats.{Format, existing_of, with_at}
+use Rattle.zf_base.proofs.Formats.{existing_of_same, length-existing_of, get_or-existing_of_exists, existing_of-existing_of, existing_of-set, with_at-other}
+use Rattle.zf_header.specs.declared.header.Header.{Header}
+use Rattle.zf_header.specs.HeaderBits.{block_bits}
+use Rattle.zf_cached.specs.State.{State}
+use Rattle.zf_cached.specs.Touch.{with_values}
+use Rattle.zf_cached.specs.Changes.{zeros}
+use Rattle.zf_cached.proofs.States.{same_state}
+use Rattle.zf_lines.specs.Rows.{line_at, part, over, over_part, HasSize}
+use Rattle.zf_lines.specs.Rows as rows
+use Rattle.zf_lines.proofs.Sizes.{length-over, over_same}
+use Rattle.zf_cache.specs.Kept.{Kept, IsDirty, tag_at, block_in, line_of, is_dirty, dirty_tag}
+use Rattle.zf_cache.specs.Standing.{state_of, Fits}
+use Rattle.zf_cache.specs.Loans.{StandsFor}
+use Rattle.zf_cache.proofs.Steps.{part_written}
+use Rattle.zf_cache.proofs.Sound.{values_here}
+use Rattle.zf_cache.proofs.Tags.{named, names-dirty}
+use Rattle.zf_store.specs.Stored as store
+use Rattle.zf_store.specs.Stored.{Stored, code_at, format_of, rate_of}
+use Rattle.zf_store.proofs.Kept.{blocks_is, block_len_is}
+use Rattle.zf_array.specs.Standing.{Held, stored, format, state, array_of}
+use Rattle.zf_array.specs.Parts.{held_by, IsJoined}
+use Rattle.zf_array.specs.Loans.{spliced, with_part, with_block}
+use Rattle.zf_array.proofs.Standing.{none_past, clean_past, zeros_past, in_array, stored_now, state_now, format_now, header_now}
+
+-- ---- values with others in the place of some
+
+module _ (xs : List ℤ) (a n : ℕ) (ys : List ℤ) (long : length ys ≡ n) (within : a + n ≤ length xs) where
+  front_long : length (take a xs) ≡ a
+  front_long = length-take-le a xs (omega arith)
+
+  both_long : length (take a xs ++ ys) ≡ a + n
+  both_long = omega (arith, length-append (take a xs) ys, front_long)
+
+  before : (p : ℕ) → p < a → get_or (spliced xs a n ys) p (pos 0) ≡ get_or xs p (pos 0)
+  before p h =
+      get_or_append_left (take a xs ++ ys) (drop (a + n) xs) (pos 0) p (omega (arith, both_long))
+      ∙ get_or_append_left (take a xs) ys (pos 0) p (omega (arith, front_long)) ∙ get_or-take a xs p (pos 0) h
+
+  between : (p : ℕ) → a ≤ p → p < a + n → get_or (spliced xs a n ys) p (pos 0) ≡ get_or ys (p - a) (pos 0)
+  between p h k =
+      get_or_append_left (take a xs ++ ys) (drop (a + n) xs) (pos 0) p (omega (arith, both_long))
+      ∙ get_or-append_right (take a xs) ys a p (pos 0) front_long h
+
+  behind : (p : ℕ) → a + n ≤ p → get_or (spliced xs a n ys) p (pos 0) ≡ get_or xs p (pos 0)
+  behind p h =
+      let sum : a + n + (p - (a + n)) ≡ p = omega arith in
+      get_or-append_right (take a xs ++ ys) (drop (a + n) xs) (a + n) p (pos 0) both_long h
+      ∙ get_or-drop (a + n) xs (p - (a + n)) (pos 0) ∙ ap (λ k. get_or xs k (pos 0)) sum
+
+-- it is the same at a place where the values are
+spliced_same : (xs vs ys : List ℤ) (a n p : ℕ) → length ys ≡ n → a + n ≤ length xs → length vs ≡ length xs → get_or xs p (pos 0) ≡ get_or vs p (pos 0)
+    → get_or (spliced xs a n ys) p (pos 0) ≡ get_or (spliced vs a n ys) p (pos 0)
+spliced_same xs vs ys a n p long within size same = by (cases_lt p a) (cases_lt p (a + n))
+  where
+    also : a + n ≤ length vs
+    also = omega arith
+
+    by : (p < a) ⊎ (a ≤ p) → (p < a + n) ⊎ (a + n ≤ p) → get_or (spliced xs a n ys) p (pos 0) ≡ get_or (spliced vs a n ys) p (pos 0)
+    by (inl h) k = before xs a n ys long within p h ∙ same ∙ sym (before vs a n ys long also p h)
+    by (inr h) (inl k) = between xs a n ys long within p h k ∙ sym (between vs a n ys long also p h k)
+    by (inr h) (inr k) = behind xs a n ys long within p k ∙ same ∙ sym (behind vs a n ys long also p k)
+
+-- the part that is there
+spliced_part : (xs : List ℤ) (a n : ℕ) → spliced xs a n (take n (drop a xs)) ≡ xs
+spliced_part xs a n = ap (λ (ys : List ℤ). ys ++ drop (a + n) xs) (sym (take-add a n xs)) ∙ take-append-drop (a + n) xs
+
+module _ {X : Type 0} (value : X → ℤ) (f : Format (List Bool)) (b : ℕ) (row : List X) (a n : ℕ) (whole : length row ≡ f.block_len) (within : a + n ≤ f.block_len) where
+  here : List ℤ
+  here = existing_of f b (map value row)
+
+  row_long : length (map value row) ≡ f.block_len
+  row_long = length-map row value ∙ whole
+
+  pub spliced_exist : (ys : List ℤ) → length ys ≡ n → existing_of f b (spliced (map value row) a n ys) ≡ existing_of f b (spliced (existing_of f b (map value row)) a n ys)
+  spliced_exist ys long = existing_of_same f b (spliced (map value row) a n ys) (spliced (existing_of f b (map value row)) a n ys)
+      (λ p lt exists. spliced_same (map value row) (existing_of f b (map value row)) ys a n p long (omega (arith, row_long)) (length-existing_of f b (map value row) ∙ sym row_long)
+      (sym (get_or-existing_of_exists f b (map value row) p lt exists)))
+
+  part_long : length (part row a n) ≡ n
+  part_long = length-take-le n (drop a row) (omega (arith, length-drop a row))
+
+  -- the row that is written is the block spliced
+  pub over_is : (ws : List X) → existing_of f b (map value (over_part row a n ws)) ≡ existing_of f b (spliced (existing_of f b (map value row)) a n (map value (over (part row a n) ws)))
+  over_is ws =
+      let ys = map value (over (part row a n) ws) in
+      let long : length ys ≡ n = length-map (over (part row a n) ws) value ∙ length-over (part row a n) ws ∙ part_long in
+      let sum = drop-drop n a row in
+      let made : map value (over_part row a n ws) ≡ spliced (map value row) a n ys =
+      map-append value (take a row) (over (part row a n) ws ++ drop n (drop a row))
+      ∙ ap (λ (zs : List ℤ). map value (take a row) ++ zs) (map-append value (over (part row a n) ws) (drop n (drop a row)))
+      ∙ sym (append_assoc (map value (take a row)) ys (map value (drop n (drop a row))))
+      ∙ ap (λ (zs : List ℤ). zs ++ ys ++ map value (drop n (drop a row))) (sym (take-map value a row))
+      ∙ ap (λ (zs : List X). take a (map value row) ++ ys ++ map value zs) sum
+      ∙ ap (λ (zs : List ℤ). take a (map value row) ++ ys ++ zs) (sym (drop-map value (a + n) row)) in
+      ap (existing_of f b) made ∙ spliced_exist ys long
+
+  -- the part that is lent has the block's values
+  pub part_is : existing_of f b (spliced (existing_of f b (map value row)) a n (map value (part row a n))) ≡ existing_of f b (map value row)
+  part_is =
+      let ys = map value (part row a n) in
+      let long : length ys ≡ n = length-map (part row a n) value ∙ part_long in
+      let there : ys ≡ take n (drop a (map value row)) = sym (take-map value n (drop a row)) ∙ ap (take n) (sym (drop-map value a row)) in
+      sym (spliced_exist ys long) ∙ ap (λ (zs : List ℤ). existing_of f b (spliced (map value row) a n zs)) there ∙ ap (existing_of f b) (spliced_part (map value row) a n)
+
+-- ---- a state of which nothing is said past its lines and blocks
+
+pub record IsBounded (h : Header) (s : State (List Bool)) : Type 0 where
+  pub held : (l : ℕ) → s.lines ≤ l → None ≡ s.held l
+  pub dirty : (b : ℕ) → blocks h.shape ≤ b → false ≡ s.dirty b
+  pub values : (b : ℕ) → blocks h.shape ≤ b → zeros (format (array_of h s)) ≡ s.values b
+  pub codes : (b : ℕ) → blocks h.shape ≤ b → replicate (block_bits h.mode) false ≡ s.codes b
+
+from_list : {Y : Type 0} (g : ℕ → Y) (n k : ℕ) (y : Y) → (n ≤ k → y ≡ g k) → get_or (map g (upto n)) k y ≡ g k
+from_list g n k y behind = by (cases_lt k n)
+  where
+    by : (k < n) ⊎ (n ≤ k) → get_or (map g (upto n)) k y ≡ g k
+    by (inl h) = get_or-map-upto g n k y h
+    by (inr h) = get_or_past (map g (upto n)) k y (omega (arith, length-map-upto g n)) ∙ behind h
+
+pub state_array : (h : Header) (s : State (List Bool)) → IsBounded h s → state (array_of h s) ≡ s
+unfolding state array_of
+state_array h s bounded =
+    let n = blocks h.shape in
+    same_state (state (array_of h s)) s (length-map-upto s.held s.lines)
+    (λ l. from_list s.held s.lines l None (bounded.held l)) (λ b. from_list s.dirty n b false (bounded.dirty b))
+    (λ b. from_list s.values n b (zeros (format (array_of h s))) (bounded.values b))
+    (λ b. from_list s.codes n b (replicate (block_bits h.mode) false) (bounded.codes b)) refl
+
+pub bounded_values : (h : Header) (s : State (List Bool)) (b : ℕ) (values : List ℤ) → b < blocks h.shape → IsBounded h s → IsBounded h (with_values s b values)
+unfolding with_values array_of
+bounded_values h s b values below bounded = record {
+  held = bounded.held;
+  dirty = bounded.dirty;
+  values = λ m past. bounded.values m past ∙ sym (with_at-other s.values b values m (λ e. omega (arith, e)));
+  codes = bounded.codes;
+}
+
+module _ {X : Type 0} (value : X → ℤ) (w : Width) (d : ℕ) (s : Stored) (c : Kept X) (room : ℕ) (joined : IsJoined value w d s c room) (now : Held) (is : held_by value s c ≡ now) where
+  bounded_of : IsBounded s.header (state_of value c (format_of s) (code_at s))
+  unfolding state_of array_of
+  bounded_of = record {
+    held = none_past value s c joined.count joined.fits;
+    dirty = clean_past value s c joined.count joined.fits;
+    values = zeros_past value s c joined.count joined.fits;
+    codes = λ b past. sym (get_or_past s.codes b (replicate (rate_of s) false) (omega (arith, joined.count)));
+  }
+
+  pub tag_is : (b : ℕ) → (state now).dirty b ≡ true → IsDirty c b
+  unfolding state_of
+  tag_is b dirty = eqb-true (tag_at c.tags (line_of c b)) (dirty_tag b) (sym (ap (λ (u : State (List Bool)). u.dirty b) (state_now value w d s c room joined now is)) ∙ dirty)
+
+  module _ (b a n : ℕ) (dirty : (state now).dirty b ≡ true) (within : a + n ≤ 4 ^ d) (size : HasSize c.lines (length c.tags) (4 ^ d)) where
+    names_b : block_in (tag_at c.tags (line_of c b)) ≡ Some b
+    names_b = ap block_in (tag_is b dirty) ∙ names-dirty b
+
+    in_line : line_of c b < length c.tags
+    in_line = by (cases_lt (line_of c b) (length c.tags))
+      where
+        by : (line_of c b < length c.tags) ⊎ (length c.tags ≤ line_of c b) → line_of c b < length c.tags
+        by (inl h) = h
+        by (inr h) = let none = get_or_past c.tags (line_of c b) 0 h in absurd (omega (arith, none, tag_is b dirty))
+
+    row_whole : length (line_at c.lines (line_of c b)) ≡ (format_of s).block_len
+    row_whole = size.1 (line_of c b) in_line ∙ ap (λ k. 4 ^ k) (sym joined.dims) ∙ sym (block_len_is s)
+
+    row_within : a + n ≤ (format_of s).block_len
+    row_within = subst (λ k. a + n ≤ k) (ap (λ k. 4 ^ k) (sym joined.dims) ∙ sym (block_len_is s)) within
+
+    values_are : (state now).values b ≡ existing_of (format_of s) b (map value (line_at c.lines (line_of c b)))
+    values_are =
+        ap (λ (u : State (List Bool)). u.values b) (state_now value w d s c room joined now is)
+        ∙ values_here value (format_of s) c (code_at s) b (line_of c b) refl (named (tag_at c.tags (line_of c b)) b names_b)
+
+    written : (ws : List X) → StandsFor value (record c { lines = rows.with_part c.lines (line_of c b) a n ws }) (format_of s) (code_at s)
+        (with_values (state_of value c (format_of s) (code_at s)) b (existing_of (format_of s) b (map value (over_part (line_at c.lines (line_of c b)) a n ws))))
+    written ws = part_written value (format_of s) (code_at s) c b a n ws joined.fits (tag_is b dirty) size.0
+
+    -- the fields stay joined, whatever is written
+    pub joined_lent : (ws : List X) → IsJoined value w d s (record c { lines = rows.with_part c.lines (line_of c b) a n ws }) room
+    joined_lent ws = record {
+      same_type = joined.same_type;
+      dims = joined.dims;
+      shape = joined.shape;
+      rate = joined.rate;
+      count = joined.count;
+      fits = (written ws).fits;
+      room_is = joined.room_is;
+    }
+
+    module _ (r : List X) (is_r : r ≡ part (line_at c.lines (line_of c b)) a n) where
+      pub ends_as : (ws : List X) → held_by value s (record c { lines = rows.with_part c.lines (line_of c b) a n ws }) ≡ with_part now b a n (map value (over r ws))
+      ends_as ws =
+          let S = state_of value c (format_of s) (code_at s) in
+          let made = ap (array_of s.header) ((written ws).state ∙ ap (with_values S b) (over_is value (format_of s) b (line_at c.lines (line_of c b)) a n row_whole row_within ws)) in
+          let End = λ (h : Header) (u : State (List Bool)) (f : Format (List Bool)) (vs : List ℤ) (q : List X). array_of h (with_values u b (existing_of f b (spliced vs a n (map value (over q ws))))) in
+          made
+          ∙ (λ i. End (sym (header_now value w d s c room joined now is) i) (sym (state_now value w d s c room joined now is) i) (sym (format_now value w d s c room joined now is) i) (sym values_are i) (sym is_r i))
+
+      pub shown : existing_of (format now) b (spliced ((state now).values b) a n (map value r)) ≡ (state now).values b
+      shown =
+          (λ i. existing_of (format_now value w d s c room joined now is i) b (spliced (values_are i) a n (map value (is_r i))))
+          ∙ part_is value (format_of s) b (line_at c.lines (line_of c b)) a n row_whole row_within ∙ sym values_are
+
+      pub long : length r ≡ n
+      long = ap length is_r ∙ part_long value (format_of s) b (line_at c.lines (line_of c b)) a n row_whole row_within
+
+    -- the state of the array with other values there
+    pub state_spliced : (vs : List ℤ) → state (with_part now b a n vs) ≡ with_values (state now) b (existing_of (format now) b (spliced ((state now).values b) a n vs))
+    state_spliced vs =
+        let below : b < blocks now.header.shape = subst (λ (h : Header). b < blocks h.shape) (sym (header_now value w d s c room joined now is)) (in_array value s c joined.count joined.fits (line_of c b) b names_b) in
+        let bounded = subst (λ (h : Header). IsBounded h (state now)) (sym (header_now value w d s c room joined now is)) (subst (λ (u : State (List Bool)). IsBounded s.header u) (sym (state_now value w d s c room joined now is)) bounded_of) in
+        let values = existing_of (format now) b (spliced ((state now).values b) a n vs) in
+        state_array now.header (with_values (state now) b values) (bounded_values now.header (state now) b values below bounded)
+
+pub header_block : (now : Held) (b : ℕ) (vs : List ℤ) → (with_block now b vs).header ≡ now.header
+unfolding array_of
+header_block now b vs = refl
+
+-- all values are replaced
+pub spliced_all : (xs ys : List ℤ) (n : ℕ) → length xs ≤ n → spliced xs 0 n ys ≡ ys
+spliced_all xs ys n all =
+    let none : drop (0 + n) xs ≡ [] = drop_all (0 + n) xs (omega arith) in
+    ap (λ (zs : List ℤ). ys ++ zs) none ∙ append-nil ys
+
+pub header_spliced : (now : Held) (b a n : ℕ) (vs : List ℤ) → (with_part now b a n vs).header ≡ now.header
+unfolding array_of
+header_spliced now b a n vs = refl
+
+-- a sum in the place of one value
+pub adds : {X : Type 0} (value : X → ℤ) (f : Format (List Bool)) (b p : ℕ) (vs : List ℤ) (r : List X) (x sum : X) → length r ≡ 1 → x ≡ get_or r 0 x → existing_of f b (spliced vs p 1 (map value r)) ≡ vs
+    → p < f.block_len → f.exists b p ≡ true
+    → (existing_of f b (spliced vs p 1 (map value (over r (set r 0 sum)))) ≡ set vs p (value sum)) × (value x ≡ get_or vs p (pos 0))
+adds {X} value f b p vs [] x sum one at shows lt exists = absurd (omega arith)
+adds {X} value f b p vs (y ∷ z ∷ r) x sum one at shows lt exists = absurd (omega arith)
+adds {X} value f b p vs (y ∷ []) x sum one at shows lt exists =
+    let long : length vs ≡ f.block_len = sym (ap length shows) ∙ length-existing_of f b (spliced vs p 1 (map value (y ∷ []))) in
+    let inside : p < length vs = omega arith in
+    let whole : existing_of f b vs ≡ vs = ap (existing_of f b) (sym shows) ∙ existing_of-existing_of f b (spliced vs p 1 (map value (y ∷ []))) ∙ shows in
+    let there : (v : ℤ) → spliced vs p 1 (v ∷ []) ≡ set vs p v =
+    λ v. append_assoc (take p vs) (v ∷ []) (drop (p + 1) vs) ∙ ap (λ k. take p vs ++ v ∷ drop k vs) (let e : p + 1 ≡ suc p = omega arith in e) ∙ sym (set_split vs p v inside) in
+    let new : over (y ∷ []) (sum ∷ []) ≡ sum ∷ [] = over_same (y ∷ []) (sum ∷ []) refl in (
+      ap (λ (q : List X). existing_of f b (spliced vs p 1 (map value q))) new ∙ ap (existing_of f b) (there (value sum)) ∙ existing_of-set f b vs p (value sum) exists whole,
+      ap value at ∙ sym (ap (λ (xs : List ℤ). get_or xs p (pos 0)) (sym shows) ∙ get_or-existing_of_exists f b (spliced vs p 1 (map value (y ∷ []))) p lt exists
+          ∙ ap (λ (xs : List ℤ). get_or xs p (pos 0)) (there (value y)) ∙ get_or-set_same vs p (value y) (pos 0) inside),
+    )

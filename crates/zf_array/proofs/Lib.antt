@@ -1,0 +1,7 @@
+-- Lemmas on arrays.
+--     Standing     an array stands for the state of its cache and its store
+--     Steps        what the calls of an array do to its state
+--     Lent         what is written through a loan of a part of a block
+pub mod Standing
+pub mod Steps
+pub mod Lent

@@ -1,0 +1,53 @@
+use Rattle.std.proofs.Common.{◌≡◌, refl, sym, ap, subst, ◌∙◌, ℕ, ◌<◌, ◌≤◌, ◌^◌, ◌*◌, pos, Bool, true, false, List, length, get_or, set, replicate, lit<, arith}
+use Rattle.std.specs.Vec.{vec_len}
+use Rattle.zf_spec.specs.Grid.{blocks}
+use Rattle.zf_base.specs.Formats.{Format}
+use Rattle.zf_cached.specs.State.{State}
+use Rattle.zf_cached.specs.Touch.{touch, touch_for_writing, with_values}
+use Rattle.zf_cached.specs.Changes.{flush, discard, relined}
+use Rattle.zf_cache.specs.Steps.{put}
+use Rattle.zf_cache.specs.Standing.{state_of, values_of, Fits}
+use Rattle.zf_header.specs.declared.header.Header.{Header}
+use Rattle.zf_store.specs.Stored.{Stored, code_at, format_of}
+use Rattle.zf_store.proofs.Kept.{blocks_is}
+use Rattle.std.proofs.Common.{map}
+use Rattle.zf_base.specs.Formats.{existing_of}
+use Rattle.zf_cache.specs.Kept.{line_of}
+use Rattle.zf_cache.proofs.Sound.{values_here}
+use Rattle.zf_array.proofs.Standing.{format_now}
+use Rattle.zf_array.proofs.Steps.{held_step}
+use Rattle.zf_array.specs.Standing.{Held, stored, format, state, block_at, place_at}
+use Rattle.zf_array.proofs.Standing.{has_blocks, stored_now, state_now, header_now, joined_after, state_after}
+use Rattle.zf_array.proofs.Steps.{step, header_step, position_is, block_is, place_is, block_below, place_below, place_exists, whole_values, puts_is, opens, resizes}
+use Rattle.zf_array.proofs.array.Array.block.Goals as goal
+
+pub touch-requires : goal.touch-requires
+touch-requires g c =
+    let s = c.self.inside in
+    let below = subst (λ n. c.args.b < n) (sym (blocks_is s.store)) (subst (λ (h : Header). c.args.b < blocks h.shape) (header_now g.T.Lane.value g.T.Lane.width g.row.D s.store s.cache (vec_len s.buffer) c.self.invariant c.args.self.now c.self.view_is) c.requires) in
+    (lit< tt, (c.self.invariant.fits, (has_blocks g.T.Lane.value g.T.Lane.width g.row.D s.store s.cache (vec_len s.buffer) c.self.invariant, below)))
+
+pub returns : goal.returns
+returns g c =
+    let s = c.self.inside in
+    let b = c.args.b in
+    let value = g.T.Lane.value in
+    let now = c.args.self.now in
+    let t = c.touch.new.back in
+    let e = c.touch.new.self in
+    let F = λ (f : Format (List Bool)) (u : State (List Bool)). touch f u b in
+    let is = held_step g.T.Lane.value g.T.Lane.width g.row.D s.store s.cache (vec_len s.buffer) c.self.invariant c.args.self.now c.self.view_is t e c.touch.ensures.kept c.touch.ensures.fits F c.touch.ensures.state in
+    let after = step g.T.Lane.value g.T.Lane.width g.row.D s.store s.cache (vec_len s.buffer) c.self.invariant c.args.self.now c.self.view_is t e c.touch.ensures.kept c.touch.ensures.fits F c.touch.ensures.state in
+    let same = format_now g.T.Lane.value g.T.Lane.width g.row.D s.store s.cache (vec_len s.buffer) c.self.invariant c.args.self.now c.self.view_is ∙ sym c.touch.ensures.format in
+    let shown = values_here value (format_of t) e (code_at t) b (line_of e b) refl c.touch.ensures.here in
+    let there = state_after g.T.Lane.value g.T.Lane.width g.row.D s.store s.cache (vec_len s.buffer) c.self.invariant c.touch.new.back c.touch.new.self c.touch.ensures.kept c.touch.ensures.fits in (
+      (refl, λ _. tt, is),
+      record {
+        touched = tt;
+        value = ap (λ (f : Format (List Bool)). existing_of f b (map value c.line.result.now)) same
+            ∙ ap (λ (xs : List g.row.T.Denot). existing_of (format_of t) b (map value xs)) c.line.ensures.value
+            ∙ sym shown ∙ ap (λ (u : State (List Bool)). u.values b) (sym there ∙ after);
+        size = c.line.ensures.size;
+        state = ap state (sym is) ∙ after;
+      },
+    )

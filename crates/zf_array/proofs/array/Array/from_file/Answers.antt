@@ -1,0 +1,67 @@
+use Rattle.std.proofs.Common.{◌≡◌, refl, sym, ap, subst, ◌∙◌, ℕ, ◌<◌, ◌≤◌, ◌^◌, ◌*◌, pos, Bool, true, false, List, length, get_or, set, replicate, lit<, arith}
+use Rattle.std.specs.Vec.{vec_len}
+use Rattle.zf_spec.specs.Grid.{blocks}
+use Rattle.zf_base.specs.Formats.{Format}
+use Rattle.zf_cached.specs.State.{State}
+use Rattle.zf_cached.specs.Touch.{touch, touch_for_writing, with_values}
+use Rattle.zf_cached.specs.Changes.{flush, discard, relined}
+use Rattle.zf_cache.specs.Steps.{put}
+use Rattle.zf_cache.specs.Standing.{state_of, values_of, Fits}
+use Rattle.zf_header.specs.declared.header.Header.{Header}
+use Rattle.zf_store.specs.Stored.{Stored, code_at, format_of}
+use Rattle.zf_store.proofs.Kept.{blocks_is}
+use Rattle.zf_spec.specs.Grid.{IsShape}
+use Rattle.zf_base.specs.Widths.{width_of}
+use Rattle.zf_header.specs.HeaderBits.{IsRate, block_bits, rate_bytes_of}
+use Rattle.zf_cached.specs.Changes.{opened, raised, resized}
+use Rattle.zf_cache.proofs.Steps.{empty_fits}
+use Rattle.zf_store.specs.Stored.{zeros}
+use Rattle.zf_store.specs.Files.{IsOpened}
+use Rattle.zf_store.proofs.Opened.{is_header}
+use Rattle.zf_array.specs.Parts.{held_by}
+use Rattle.zf_array.proofs.Standing.{stored_held}
+use Rattle.zf_array.proofs.Steps.{same_ty, open_is}
+use Rattle.zf_array.specs.Standing.{Held, stored, format, state, array_of, block_at, place_at}
+use Rattle.zf_array.proofs.Standing.{has_blocks, stored_now, state_now, header_now, joined_after, state_after}
+use Rattle.zf_array.proofs.Steps.{step, header_step, position_is, block_is, place_is, block_below, place_below, place_exists, whole_values, puts_is, opens, resizes}
+use Rattle.zf_array.proofs.array.Array.from_file.Goals as goal
+
+pub invariant_of-result : goal.invariant_of-result
+invariant_of-result g c =
+    let t = c.in_ok-store.store in
+    let opened = c.in_ok-store.ensures.ok in
+    let P : Header → Type 0 = λ h. (g.T.Lane.width ≡ width_of h.ty) × (length h.shape ≡ g.row.D) × IsShape h.shape × IsRate h.mode × (length t.codes ≡ blocks h.shape) × (vec_len c.args.file ≡ rate_bytes_of h) in
+    let shape = (is_header c.args.file.items c.args.h.now c.requires.header).shape in
+    let kept : P t.header = subst P (sym opened.header) (c.requires.same_type, c.requires.dims, shape, c.requires.header.rate, opened.count, sym c.deref.ensures.len ∙ opened.size) in
+    record {
+      same_type = kept.0;
+      dims = kept.1;
+      shape = kept.2;
+      rate = kept.3;
+      count = kept.4;
+      fits = empty_fits g.T.Lane.value (format_of t) (code_at t) c.in-Ok.cache c.raised.result c.in-Ok.ensures.empty;
+      room_is = kept.5;
+    }
+
+pub returns-clause-stored : goal.returns-clause-stored
+returns-clause-stored g c =
+    let t = c.in_ok-store.store in
+    let opened = c.in_ok-store.ensures.ok in
+    let fits = empty_fits g.T.Lane.value (format_of t) (code_at t) c.in-Ok.cache c.raised.result c.in-Ok.ensures.empty in
+    let count = opened.count ∙ ap (λ (h : Header). blocks h.shape) (sym opened.header) in
+    subst (λ (s : Stored). IsOpened c.args.file.items c.args.h.now s) (sym (stored_held g.T.Lane.value t c.in-Ok.cache count fits))
+    (subst (λ (bs : List ℕ). IsOpened bs c.args.h.now t) c.deref.ensures.value opened)
+
+pub returns-clause-state : goal.returns-clause-state
+unfolding array_of
+returns-clause-state g c =
+    let t = c.in_ok-store.store in
+    let e = c.in-Ok.cache in
+    let is = c.in_ok-store.ensures.ok in
+    let h = c.args.h.now in
+    let count = is.count ∙ ap (λ (k : Header). blocks k.shape) (sym is.header) in
+    let a = held_by g.T.Lane.value t e in
+    opens g.T.Lane.value t e c.raised.result count c.in-Ok.ensures.empty c.in-Ok.ensures.counts
+    ∙ ap (opened (format a) (code_at (stored a))) c.raised.ensures.value
+    ∙ ap (λ (k : Header). let s : Stored = record { header = k; codes = a.codes } in opened (format_of s) (code_at s) (raised c.args.lines)) is.header
+    ∙ open_is g.T.Lane.width h a.codes c.args.lines c.requires.same_type

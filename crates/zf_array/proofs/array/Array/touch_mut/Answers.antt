@@ -1,0 +1,44 @@
+use Rattle.std.proofs.Common.{◌≡◌, refl, sym, ap, subst, ◌∙◌, ℕ, ◌<◌, ◌≤◌, ◌^◌, ◌*◌, pos, Bool, true, false, List, length, get_or, set, replicate, lit<, arith}
+use Rattle.std.specs.Vec.{vec_len}
+use Rattle.zf_spec.specs.Grid.{blocks}
+use Rattle.zf_base.specs.Formats.{Format}
+use Rattle.zf_cached.specs.State.{State}
+use Rattle.zf_cached.specs.Touch.{touch, touch_for_writing, with_values}
+use Rattle.zf_cached.specs.Changes.{flush, discard, relined}
+use Rattle.zf_cache.specs.Steps.{put}
+use Rattle.zf_cache.specs.Standing.{state_of, values_of, Fits}
+use Rattle.zf_header.specs.declared.header.Header.{Header}
+use Rattle.zf_store.specs.Stored.{Stored, code_at, format_of}
+use Rattle.zf_store.proofs.Kept.{blocks_is}
+use Rattle.zf_array.specs.Standing.{Held, stored, format, state, block_at, place_at}
+use Rattle.zf_cached.proofs.Caching.{touch_for_writing-dirty}
+use Rattle.zf_array.proofs.Standing.{has_blocks, stored_now, state_now, header_now, joined_after, state_after}
+use Rattle.zf_array.proofs.Steps.{step, header_step, position_is, block_is, place_is, block_below, place_below, place_exists, whole_values, puts_is, opens, resizes}
+use Rattle.zf_array.proofs.array.Array.touch_mut.Goals as goal
+
+pub touch_mut-requires : goal.touch_mut-requires
+touch_mut-requires g c =
+    let s = c.self.inside in
+    let below = subst (λ n. c.args.b < n) (sym (blocks_is s.store)) (subst (λ (h : Header). c.args.b < blocks h.shape) (header_now g.T.Lane.value g.T.Lane.width g.row.D s.store s.cache (vec_len s.buffer) c.self.invariant c.args.self.now c.self.view_is) c.requires) in
+    (lit< tt, (c.self.invariant.fits, (has_blocks g.T.Lane.value g.T.Lane.width g.row.D s.store s.cache (vec_len s.buffer) c.self.invariant, below)))
+
+pub invariant_of-self : goal.invariant_of-self
+invariant_of-self g c =
+    let s = c.self.inside in
+    joined_after g.T.Lane.value g.T.Lane.width g.row.D s.store s.cache (vec_len s.buffer) c.self.invariant c.touch_mut.new.back c.touch_mut.new.self c.touch_mut.ensures.kept c.touch_mut.ensures.fits
+
+pub returns-clause-state : goal.returns-clause-state
+returns-clause-state g c =
+    let s = c.self.inside in
+    step g.T.Lane.value g.T.Lane.width g.row.D s.store s.cache (vec_len s.buffer) c.self.invariant c.args.self.now c.self.view_is c.touch_mut.new.back c.touch_mut.new.self c.touch_mut.ensures.kept c.touch_mut.ensures.fits (λ f u. touch_for_writing f u c.args.b) c.touch_mut.ensures.state
+
+pub returns-clause-header : goal.returns-clause-header
+returns-clause-header g c =
+    let s = c.self.inside in
+    header_step g.T.Lane.value g.T.Lane.width g.row.D s.store s.cache (vec_len s.buffer) c.self.invariant c.args.self.now c.self.view_is c.touch_mut.new.back c.touch_mut.new.self c.touch_mut.ensures.kept c.touch_mut.ensures.fits
+
+pub returns-clause-dirty : goal.returns-clause-dirty
+returns-clause-dirty g c =
+    let s = c.self.inside in
+    ap (λ (u : State (List Bool)). u.dirty c.args.b) (step g.T.Lane.value g.T.Lane.width g.row.D s.store s.cache (vec_len s.buffer) c.self.invariant c.args.self.now c.self.view_is c.touch_mut.new.back c.touch_mut.new.self c.touch_mut.ensures.kept c.touch_mut.ensures.fits (λ f u. touch_for_writing f u c.args.b) c.touch_mut.ensures.state)
+    ∙ touch_for_writing-dirty (format c.args.self.now) (state c.args.self.now) c.args.b

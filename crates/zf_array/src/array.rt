@@ -1,0 +1,345 @@
+//! The array.
+
+ghost use Rattle.std.specs.Prelude.{◌≡◌, ℤ, List, ◌+◌, ◌<◌, ◌≤◌, ◌^◌, length, map, pos, slice_index_or, slice_set, replicate, true, false, IfOk, IfErr, OnOk, OnErr, ◌+ℤ◌};
+ghost use Rattle.std.specs.List.{flat_map};
+ghost use Rattle.zf_spec.specs.Grid.{blocks};
+ghost use Rattle.zf_spec.specs.Numbers.{wrap, word_bits};
+ghost use Rattle.zf_spec.specs.Stream.{with_fill};
+ghost use Rattle.std.specs.Borrow.{sem};
+ghost use Rattle.zf_base.specs.Formats.{existing_of};
+ghost use Rattle.zf_base.specs.Positions.{IsPosition};
+ghost use Rattle.zf_base.specs.Widths.{width_of};
+ghost use Rattle.zf_header.specs.HeaderBits.{IsRate, block_bits};
+ghost use Rattle.zf_cache.specs.Bodies.{counts_of};
+ghost use Rattle.zf_cached.specs.Touch.{touch, touch_for_writing, with_values};
+ghost use Rattle.zf_cached.specs.Changes.{flush, discard, relined, resized, raised};
+ghost use Rattle.zf_cached.specs.Arrays.{open_array, new_array, saved_file};
+ghost use Rattle.zf_stream.specs.Parsing.{parse};
+ghost use Rattle.zf_stream.specs.ReadStreams.{IsFault};
+ghost use Rattle.zf_store.specs.Stored.{file_of, zeros};
+ghost use Rattle.zf_store.specs.Files.{HasHeader, IsOpened, stream_fault};
+ghost use Rattle.zf_array.specs.Standing.{stored, format, state, array_of, shape, block_at, place_at};
+
+use std::alloc::{AllocError, Global};
+use std::marker::Model;
+use zf_base::{Lane, Pos, Shape, block_len};
+use zf_cache::{Cache, raised};
+use zf_header::{Header, Mode, rate_bytes};
+use zf_script::Stats;
+use zf_store::{Store, StoreFault};
+
+/// An array of `D` dimensions whose blocks are kept as codes of a fixed rate, and are read and written through a write-back cache.
+///
+/// It is seen as one state of a cached array: the block in each line, which blocks are dirty, the values and the code of each
+/// block, and three counts; and as the header of its file. All memory is taken when it is made: no call but `set_lines` and `resize` asks for more.
+#[derive(Drop)]
+pub struct Array<T: Lane, const D: usize> {
+    alloc: Global,
+    store: Store<T, D>,
+    cache: Cache<T, D>,
+    // as long as the file
+    buffer: Vec<u8>,
+}
+
+impl<T: Lane, const D: usize> Model for Array<T, D> {
+    ghost use Rattle.zf_array.specs.Standing.{Held};
+
+    ghost Value = { Held };
+
+    ghost use Rattle.std.specs.Vec.{vec_len};
+    ghost use Rattle.zf_array.specs.Parts.{held_by, IsJoined};
+
+    ghost view = { λ a. held_by T.value a.store a.cache };
+
+    ghost invariant = { λ a. IsJoined T.value T.width D a.store a.cache (vec_len a.buffer) };
+}
+
+impl<T: Lane, const D: usize> Array<T, D> {
+    ghost use Rattle.zf_array.specs.Loans.{EndsAs, EndsWithPart, EndsWithBlock, spliced, with_part, with_block};
+
+    /// An array of zeros. A block has `bits` bits, 1 to 32768; the number of lines is raised to a power of two.
+    /// `AllocError`: there was no memory.
+    pub fn new(
+        alloc: Global,
+        shape: Shape,
+        bits: u32,
+        lines: u32,
+    ) -> Result<Array<T, D>, AllocError>
+        requires dims { length shape ≡ D }
+        requires rate { IsRate (Mode.Rate bits) }
+        requires lines { (0 < lines) × (lines ≤ 2 ^ 16) }
+        ensures stored { IfOk result (λ a. stored a ≡ zeros T.TY shape bits) }
+        ensures state { IfOk result (λ a. state a ≡ new_array T.width bits shape lines) }
+    {
+        let store = Store::zeros(alloc, shape, bits)?;
+        let cache = Cache::new(alloc, raised(lines))?;
+        let buffer = vec![in alloc; 0; rate_bytes(&store.header()) as usize]?;
+        Ok(Array {
+            alloc,
+            store,
+            cache,
+            buffer,
+        })
+    }
+
+    /// The array of a file that begins with the header `h`, of values of `T` in `D` dimensions at a rate. The file becomes the
+    /// buffer for saving; on a fault it is dropped. A fault is that of the stream, or there was no memory.
+    pub fn from_file(
+        alloc: Global,
+        h: &Header,
+        file: Vec<u8>,
+        lines: u32,
+    ) -> Result<Array<T, D>, StoreFault>
+        requires header { HasHeader file.items h.now }
+        requires same_type { T.width ≡ width_of h.now.ty }
+        requires dims { length h.now.shape ≡ D }
+        requires lines { (0 < lines) × (lines ≤ 2 ^ 16) }
+        ensures stored { IfOk result (λ a. IsOpened file.items h.now (stored a)) }
+        ensures state { IfOk result (λ a. state a ≡ open_array T.width (block_bits h.now.mode) h.now.shape a.codes lines) }
+        ensures fault { IfErr result (λ e. IsFault (parse file.items) (stream_fault e)) }
+    {
+        let store = Store::from_file(alloc, h, &file)?;
+        let Ok(cache) = Cache::new(alloc, raised(lines)) else {
+            return Err(StoreFault::Memory);
+        };
+        Ok(Array {
+            alloc,
+            store,
+            cache,
+            buffer: file,
+        })
+    }
+
+    /// The value at position `p`, by one touch.
+    pub fn get(&mut self, p: Pos) -> T
+        requires { IsPosition (shape self.old) p }
+        ensures state { state self.new ≡ touch (format self.old) (state self.old) (block_at self.old p) }
+        ensures value { T.value result ≡ slice_index_or ((state self.new).values (block_at self.old p)) (place_at self.old p) (pos 0) }
+        ensures header { self.new.header ≡ self.old.header }
+    {
+        let (b, place) = self.store.header().shape.place(p);
+        self.cache.get(&mut self.store, b, place)
+    }
+
+    /// Makes the value at position `p` be `v`, by one touch for writing.
+    pub fn set(&mut self, p: Pos, v: T)
+        requires { IsPosition (shape self.old) p }
+        ensures state { state self.new ≡ (let t = touch_for_writing (format self.old) (state self.old) (block_at self.old p) in
+            with_values t (block_at self.old p) (slice_set (t.values (block_at self.old p)) (place_at self.old p) (T.value v))) }
+        ensures header { self.new.header ≡ self.old.header }
+    {
+        let (b, place) = self.store.header().shape.place(p);
+        self.cache.set(&mut self.store, b, place, v);
+    }
+
+    /// Adds `v` to the value at position `p`, by one touch for writing. The sum wraps.
+    pub fn add(&mut self, p: Pos, v: T)
+        requires { IsPosition (shape self.old) p }
+        ensures state { state self.new ≡ (let t = touch_for_writing (format self.old) (state self.old) (block_at self.old p) in
+            let old = t.values (block_at self.old p) in
+            with_values t (block_at self.old p) (slice_set old (place_at self.old p)
+            (wrap T.width (slice_index_or old (place_at self.old p) (pos 0) +ℤ T.value v)))) }
+        ensures header { self.new.header ≡ self.old.header }
+    {
+        let (b, place) = self.store.header().shape.place(p);
+        self.touch_mut(b);
+        let part = self.part_mut(b, place, 1);
+        part[0] = part[0].add(v);
+    }
+
+    /// Touches block `b`; its `4^D` values, x fastest.
+    pub fn block(&mut self, b: u64) -> &[T]
+        requires { b < blocks (shape self.old) }
+        ensures* touched { sem 𝓛 (EndsAs T.row D.row
+            (record { width = T.width; WIDTH = T.WIDTH; TY = T.TY; value = T.value; in_range = T.in_range })
+            (record { eq = T.eq }) self.entry
+            (array_of self.entry.now.header (touch (format self.entry.now) (state self.entry.now) b))) }
+        ensures value { existing_of (format self.old) b (map T.value result.now) ≡ (touch (format self.old) (state self.old) b).values b }
+        ensures size { length result.now ≡ 4 ^ D }
+        ensures state { state (array_of self.old.header (touch (format self.old) (state self.old) b)) ≡ touch (format self.old) (state self.old) b }
+    {
+        self.cache.touch(&mut self.store, b);
+        self.cache.line(b)
+    }
+
+    /// Touches block `b` for writing; its `4^D` values, x fastest. What is written to them is the block's value afterwards.
+    pub fn block_mut(&mut self, b: u64) -> &mut [T]
+        requires { b < blocks (shape self.old) }
+        ensures* writes_back { sem 𝓛 (EndsWithBlock T.row D.row
+            (record { width = T.width; WIDTH = T.WIDTH; TY = T.TY; value = T.value; in_range = T.in_range })
+            (record { eq = T.eq }) self.entry b result) }
+        ensures value { existing_of (format self.old) b (map T.value result.now) ≡ (touch_for_writing (format self.old) (state self.old) b).values b }
+        ensures size { length result.now ≡ 4 ^ D }
+        ensures state { (vs : List ℤ) → state (with_block self.old b vs)
+            ≡ with_values (touch_for_writing (format self.old) (state self.old) b) b (existing_of (format self.old) b vs) }
+        ensures header { (vs : List ℤ) → (with_block self.old b vs).header ≡ self.old.header }
+    {
+        let len = block_len(self.store.header().shape.dims());
+        self.touch_mut(b);
+        self.part_mut(b, 0, len)
+    }
+
+    /// Touches block `b` for writing, so that `part_mut` can lend parts of it.
+    pub fn touch_mut(&mut self, b: u64)
+        requires { b < blocks (shape self.old) }
+        ensures state { state self.new ≡ touch_for_writing (format self.old) (state self.old) b }
+        ensures dirty { (state self.new).dirty b ≡ true }
+        ensures header { self.new.header ≡ self.old.header }
+    {
+        self.cache.touch_mut(&mut self.store, b);
+    }
+
+    /// The `n` values of block `b` from its place `a` on, for writing. The block is in its line and dirty.
+    pub fn part_mut(&mut self, b: u64, a: usize, n: usize) -> &mut [T]
+        requires dirty { (state self.old).dirty b ≡ true }
+        requires within { a + n ≤ 4 ^ D }
+        ensures* writes_back { sem 𝓛 (EndsWithPart T.row D.row
+            (record { width = T.width; WIDTH = T.WIDTH; TY = T.TY; value = T.value; in_range = T.in_range })
+            (record { eq = T.eq }) self.entry b a n result) }
+        ensures value { existing_of (format self.old) b (spliced ((state self.old).values b) a n (map T.value result.now)) ≡ (state self.old).values b }
+        ensures size { length result.now ≡ n }
+        ensures state { (vs : List ℤ) → state (with_part self.old b a n vs)
+            ≡ with_values (state self.old) b (existing_of (format self.old) b (spliced ((state self.old).values b) a n vs)) }
+        ensures header { (vs : List ℤ) → (with_part self.old b a n vs).header ≡ self.old.header }
+    {
+        self.cache.part_mut(b, a, n)
+    }
+
+    /// Writes every dirty block back, in the order of lines; then no block is in any line.
+    pub fn flush(&mut self)
+        ensures state { state self.new ≡ flush (format self.old) (state self.old) }
+        ensures header { self.new.header ≡ self.old.header }
+    {
+        self.cache.flush(&mut self.store);
+    }
+
+    /// Forgets what was not written back: no block is in any line, and each has the values that its code means.
+    pub fn discard(&mut self)
+        ensures state { state self.new ≡ discard (format self.old) (state self.old) }
+        ensures header { self.new.header ≡ self.old.header }
+    {
+        self.cache.discard();
+    }
+
+    /// A flush, and then this number of lines, raised to a power of two. The memory is taken first: after `AllocError` nothing
+    /// has changed.
+    pub fn set_lines(&mut self, lines: u32) -> Result<(), AllocError>
+        requires { (0 < lines) × (lines ≤ 2 ^ 16) }
+        ensures ok { OnOk result (state self.new ≡ relined (format self.old) (state self.old) (raised lines)) }
+        ensures err { OnErr result (self.new ≡ self.old) }
+        ensures header { self.new.header ≡ self.old.header }
+    {
+        self.cache.relined(&mut self.store, raised(lines))
+    }
+
+    /// Zeros of a new shape: no block is in any line, and changes that were not written back are gone; the number of lines and the
+    /// counts stay. The memory is taken first: after `AllocError` nothing has changed.
+    pub fn resize(&mut self, shape: Shape) -> Result<(), AllocError>
+        requires { length shape ≡ D }
+        ensures stored { OnOk result (stored self.new ≡ zeros self.old.header.ty shape (block_bits self.old.header.mode)) }
+        ensures ok { OnOk result (state self.new ≡ resized (format self.new) (replicate (block_bits self.old.header.mode) false) (state self.old)) }
+        ensures err { OnErr result (self.new ≡ self.old) }
+    {
+        let store = Store::zeros(self.alloc, shape, self.bits())?;
+        let buffer = vec![in self.alloc; 0; rate_bytes(&store.header()) as usize]?;
+        self.cache.discard();
+        self.store = store;
+        self.buffer = buffer;
+        Ok(())
+    }
+
+    /// The words of the codes, as last written back: code `b` from bit `b * B` on, `B` being the bits of a block, and zeros to the whole word.
+    pub fn words(&self) -> &[u64]
+        ensures { word_bits result.now ≡ with_fill (flat_map (λ c. c) self.now.codes) }
+    {
+        self.store.words()
+    }
+
+    /// The file of the codes, as last written back.
+    pub fn save_bytes(&mut self) -> &[u8]
+        ensures* unchanged { sem 𝓛 (EndsAs T.row D.row
+            (record { width = T.width; WIDTH = T.WIDTH; TY = T.TY; value = T.value; in_range = T.in_range })
+            (record { eq = T.eq }) self.entry self.entry.now) }
+        ensures value { result.now ≡ file_of (stored self.old) }
+        ensures saved { result.now ≡ saved_file T.width (block_bits self.old.header.mode) (shape self.old) (state self.old) }
+    {
+        self.store.write_file(&mut self.buffer);
+        &self.buffer
+    }
+
+    /// The sizes.
+    pub fn shape(&self) -> Shape
+        ensures value { result ≡ shape self.now }
+        ensures dims { length result ≡ D }
+        ensures same_type { T.width ≡ width_of self.now.header.ty }
+    {
+        self.store.header().shape
+    }
+
+    /// The bits of a block.
+    pub fn bits(&self) -> u32
+        ensures value { result ≡ block_bits self.now.header.mode }
+        ensures mode { self.now.header.mode ≡ Mode.Rate result }
+        ensures rate { IsRate (Mode.Rate result) }
+    {
+        let Mode::Rate(bits) = self.store.header().mode else {
+            unreachable!()
+        };
+        bits
+    }
+
+    /// The number of lines.
+    pub fn lines(&self) -> u32
+        ensures { result ≡ (state self.now).lines }
+    {
+        self.cache.lines()
+    }
+
+    /// How often a touched block was in its line and was not, and how many blocks were written back.
+    pub fn stats(&self) -> Stats
+        ensures { counts_of result ≡ self.now.counts }
+    {
+        self.cache.stats()
+    }
+}
+
+#[cfg(test)]
+mod tests {
+    use super::*;
+    use std::test::Fail;
+
+    // No copy of the values stands beside words and lines: after each block was written back once, the buffer is as long as the file.
+    // The cache is told no number of blocks, and the store has a test of its own.
+    #[test]
+    fn array_fields(rt: HostRuntime) -> Result<(), Fail> {
+        let shape = Shape::new(1, 64, 1, 1, 1).ok().ok_or("a shape")?;
+        assert_eq!(rt; shape.dims(), 1);
+        let mut array = Array::<i32, 1>::new(rt.alloc(), shape, 64, 1)?;
+        for x in 0..16 {
+            let p = Pos {
+                x: 4 * x,
+                y: 0,
+                z: 0,
+                w: 0,
+            };
+            assert!(rt; array.shape().contains(p));
+            array.set(p, 1);
+        }
+        array.flush();
+        assert_eq!(rt; array.stats().writes, 16);
+        let Array {
+            alloc,
+            store,
+            cache,
+            buffer,
+        } = array;
+        let _alloc: Global = alloc;
+        let store: Store<i32, 1> = store;
+        let cache: Cache<i32, 1> = cache;
+        let buffer: Vec<u8> = buffer;
+        assert_eq!(rt; store.header().shape.blocks(), 16);
+        assert_eq!(rt; cache.lines(), 1);
+        assert!(rt; buffer.len() <= 144);
+        Ok(())
+    }
+}

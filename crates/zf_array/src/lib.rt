@@ -1,0 +1,8 @@
+//! Cached arrays: a store of fixed-rate codes, a write-back cache over it, and the buffer in which the file is saved.
+#![tactic(auto)]
+
+mod array;
+#[cfg(test)]
+mod tests;
+
+pub use array::Array;

@@ -1,0 +1,78 @@
+-- The digits that any coefficient has, and the planes that are needed.
+use Rattle.std.proofs.Common.{◌≡◌, refl, sym, ap, ◌∙◌, ℕ, ◌-◌, ◌/◌, ◌%◌, ◌^◌, ◌<◌, ◌≤◌, max, ⊎_elim, Bool, true, false, ◌||◌, eqb, List, [], ◌∷◌, ◌++◌, map, get_or, arith}
+use Rattle.std.specs.Int.{bit_at, trailing_zeros, w64}
+use Rattle.std.specs.Int.RustNames.{bit_or}
+use Rattle.std.specs.Int.Count.{trailing_of_zero}
+use Rattle.std.proofs.lemmas.Bool.{cases_lt, cases_eq}
+use Rattle.std.proofs.lemmas.List.{map-append, get_or_past}
+use Rattle.std.proofs.lemmas.Nat.Bits.{bit_at_or, bit_at-zero, bit_at-trailing_zeros}
+use Rattle.zf_spec.specs.Numbers.{field, is_odd}
+use Rattle.zf_spec.specs.Planes.{plane, planes_of, has_one, needed_planes}
+use Rattle.zf_spec.proofs.Fields.{get_or-field}
+use Rattle.zf_spec.proofs.PlaneDigits.{get_or-planes_of, length-planes_of}
+use Rattle.zf_spec.proofs.Reach.{used_only}
+use Rattle.zf_coef.specs.HeldDigits.{digits_in}
+
+has_one-last : (ds : List Bool) (d : Bool) → has_one (ds ++ d ∷ []) ≡ (has_one ds || d)
+has_one-last [] true = refl
+has_one-last [] false = refl
+has_one-last (true ∷ ds) d = refl
+has_one-last (false ∷ ds) d = has_one-last ds d
+
+-- a bit of words that are put together is one where one of theirs is
+odd_or : (a b k : ℕ) → is_odd (bit_or a b / 2 ^ k) ≡ (is_odd (a / 2 ^ k) || is_odd (b / 2 ^ k))
+odd_or a b k = ap (λ n. eqb n 1) (bit_at_or a b k) ∙ by (a / 2 ^ k) (b / 2 ^ k)
+  where
+    by : (x y : ℕ) → eqb (max (x % 2) (y % 2)) 1 ≡ (eqb (x % 2) 1 || eqb (y % 2) 1)
+    by x y = ⊎_elim
+        (λ (zero_x : x % 2 ≡ 0). ap (λ n. eqb (max n (y % 2)) 1) zero_x ∙ ap (λ n. eqb n 1) (omega arith) ∙ ap (λ n. eqb n 1 || eqb (y % 2) 1) (sym zero_x))
+        (λ other.
+        let one : x % 2 ≡ 1 = omega arith in
+        let most : max (x % 2) (y % 2) ≡ 1 = omega arith in
+        ap (λ n. eqb n 1) most ∙ ap (λ n. eqb n 1 || eqb (y % 2) 1) (sym one))
+        (cases_eq (x % 2) 0)
+
+-- so many digits have a one where their planes have one
+abbrev pub IsAny : ℕ → List ℕ → Type 0
+IsAny any digits = (n k : ℕ) → k < n → is_odd (any / 2 ^ k) ≡ has_one (plane k (digits_in n digits))
+
+pub any_none : IsAny 0 []
+any_none n k h = ap (λ b. eqb b 1) (bit_at-zero k)
+
+pub any_more : (any v : ℕ) (digits : List ℕ) → IsAny any digits → IsAny (bit_or any v) (digits ++ v ∷ [])
+any_more any v digits before n k h =
+    let digit_at : List Bool → Bool = λ ds. get_or ds k false in
+    odd_or any v k
+    ∙ ap (λ b. b || is_odd (v / 2 ^ k)) (before n k h)
+    ∙ ap (λ b. has_one (plane k (digits_in n digits)) || b) (sym (get_or-field n v k false h))
+    ∙ sym (has_one-last (plane k (digits_in n digits)) (get_or (field n v) k false))
+    ∙ ap has_one (sym (ap (map digit_at) (map-append (field n) digits (v ∷ [])) ∙ map-append digit_at (map (field n) digits) (field n v ∷ [])))
+
+-- the planes from the lowest digit upward are needed
+pub needed-is : (any width : ℕ) (digits : List ℕ) → width ≤ 64 → any < 2 ^ 64 → IsAny any digits
+    → width - trailing_zeros w64 any ≡ needed_planes (planes_of width (digits_in width digits))
+needed-is any width digits within word is =
+    let coefficients = digits_in width digits in
+    let ps = planes_of width coefficients in
+    let low = trailing_zeros w64 any in
+    used_only ps (width - low)
+    (λ k past. ⊎_elim
+    (λ (below : k < width).
+    ap has_one (get_or-planes_of width coefficients k below) ∙ sym (is width (width - 1 - k) (omega arith)) ∙ ap (λ b. eqb b 1) (zero_below (width - 1 - k) (omega arith) (omega arith)))
+    (λ none. ap has_one (get_or_past ps k [] (omega (arith, length-planes_of width coefficients))))
+    (cases_lt k width))
+    (λ k last.
+    let lowest : width - 1 - k ≡ low = omega arith in
+    ap has_one (get_or-planes_of width coefficients k (omega arith)) ∙ sym (is width (width - 1 - k) (omega arith)) ∙ ap (λ j. is_odd (any / 2 ^ j)) lowest ∙ ap (λ b. eqb b 1) (one_at_lowest (omega arith)))
+  where
+    zero_below : (j : ℕ) → j < 64 → j < trailing_zeros w64 any → bit_at any j ≡ 0
+    zero_below j small below = ⊎_elim
+        (λ (none : any ≡ 0). ap (λ n. bit_at n j) none ∙ bit_at-zero j)
+        (λ some. (bit_at-trailing_zeros w64 any (omega arith) word).2 j below)
+        (cases_eq any 0)
+
+    one_at_lowest : trailing_zeros w64 any < 64 → bit_at any (trailing_zeros w64 any) ≡ 1
+    one_at_lowest found = ⊎_elim
+        (λ (none : any ≡ 0). let all : trailing_zeros w64 any ≡ 64 = ap (trailing_zeros w64) none ∙ trailing_of_zero 64 in absurd (omega arith))
+        (λ some. (bit_at-trailing_zeros w64 any (omega arith) word).1)
+        (cases_eq any 0)

@@ -1,0 +1,26 @@
+//! Which digits any coefficient has, and so which planes are needed.
+
+ghost use Rattle.std.specs.Prelude.{◌≡◌, ℕ, ◌/◌, ◌^◌, ◌<◌, ◌≤◌};
+ghost use Rattle.zf_spec.specs.Numbers.{is_odd};
+ghost use Rattle.zf_spec.specs.Planes as planes;
+ghost use Rattle.zf_spec.specs.Planes.{plane, planes_of, has_one};
+ghost use Rattle.zf_coef.specs.HeldDigits.{digits_in};
+
+/// The digits that any of these coefficients has: digit k is one where plane k has a one.
+pub fn any_digits(digits: &[u64]) -> u64
+    ensures { (n k : ℕ) → k < n → is_odd (result / 2 ^ k) ≡ has_one (plane k (digits_in n digits.now)) }
+{
+    let mut any = 0;
+    for digit in digits {
+        any |= digit;
+    }
+    any
+}
+
+/// How many of the `width` planes of these digits are needed: those from the greatest down to the lowest that has a one.
+pub fn needed_planes(digits: &[u64], width: u32) -> u32
+    requires { width ≤ 64 }
+    ensures { result ≡ planes.needed_planes (planes_of width (digits_in width digits.now)) }
+{
+    width.saturating_sub(any_digits(digits).trailing_zeros())
+}

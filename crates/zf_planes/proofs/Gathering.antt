@@ -1,0 +1,57 @@
+-- Bits of several planes in one word.
+use Rattle.std.proofs.Common.{◌≡◌, ℕ, ◌+◌, ◌-◌, ◌*◌, ◌/◌, ◌%◌, ◌^◌, ◌<◌, ◌≤◌, ⊎_elim, min, Bool, List, ◌++◌, length, take, get_or, sym, ap, ◌∙◌, arith, lit<}
+use Rattle.std.specs.Int.Bits.{bit_or}
+use Rattle.std.proofs.Math.Nat.{pow-le-pow_right, mod-le}
+use Rattle.std.proofs.Math.Seq.{take-append-add}
+use Rattle.std.proofs.lemmas.Bool.{cases_lt}
+use Rattle.std.proofs.lemmas.Nat.{or_lt, shl_below}
+use Rattle.std.proofs.lemmas.List.{take_all}
+use Rattle.zf_spec.specs.Numbers.{field}
+use Rattle.zf_spec.specs.HeldPlanes.{digits_held}
+use Rattle.zf_spec.proofs.Fields.{length-field, field-mod}
+use Rattle.zf_spec.proofs.HeldPlanes.{length-digits_held}
+use Rattle.zf_bits.proofs.Fields.{take-field}
+use Rattle.zf_bits.proofs.Words.{field_or}
+use Rattle.zf_planes.proofs.Digits.{field_in_word}
+
+-- as many bits of a word as a budget has
+pub take_field : (left n v : ℕ) → take left (field n v) ≡ field (min left n) v
+take_field left n v = ⊎_elim
+    (λ (cut : left < n).
+    let less : min left n ≡ left = omega arith in
+    let parts : left + (n - left) ≡ n = omega arith in
+    ap (λ k. take left (field k v)) (sym parts) ∙ take-field left (n - left) v ∙ ap (λ k. field k v) (sym less))
+    (λ (all : n ≤ left).
+    let less : min left n ≡ n = omega arith in
+    take_all left (field n v) (omega (arith, length-field n v)) ∙ ap (λ k. field k v) (sym less))
+    (cases_lt left n)
+
+-- n bits behind others in one word
+pub bits_behind : (len n a v : ℕ) → len + n ≤ 64 → a < 2 ^ len → field (len + n) (bit_or a (v * 2 ^ len % 2 ^ 64)) ≡ field len a ++ field n v
+bits_behind len n a v within small =
+    let x = bit_or a (v * 2 ^ len % 2 ^ 64) in
+    let more = 64 - len - n in
+    let whole : 64 ≡ (len + n) + more = omega arith in
+    let high : 64 - len ≡ n + more = omega arith in
+    let place : len + n ≡ length (field len a) + n = omega (arith, length-field len a) in
+    sym (take-field (len + n) more x)
+    ∙ ap (λ k. take (len + n) (field k x)) (sym whole)
+    ∙ ap (take (len + n)) (field_or 64 len (64 - len) v a (omega arith) small)
+    ∙ ap (λ k. take k (field len a ++ field (64 - len) v)) place
+    ∙ take-append-add (field len a) (field (64 - len) v) n
+    ∙ ap (λ (bs : List Bool). field len a ++ bs) (ap (λ k. take n (field k v)) high ∙ take-field n more v)
+
+pub small_behind : (len n a v : ℕ) → a < 2 ^ len → v < 2 ^ n → bit_or a (v * 2 ^ len % 2 ^ 64) < 2 ^ (len + n)
+small_behind len n a v small narrow =
+    let order : len ≤ len + n = omega arith in
+    let place : n + len ≡ len + n = omega arith in
+    or_lt (len + n) a (v * 2 ^ len % 2 ^ 64)
+    (omega (arith, pow-le-pow_right {n = 2} (lit< tt) order))
+    (omega (arith, mod-le (v * 2 ^ len) (2 ^ 64), (rw place at (shl_below v n len narrow))))
+
+-- the digits of a plane of four
+pub held_4 : (w : ℕ) (ws : List ℕ) → w ≡ get_or ws 0 0 → 4 ≤ 64 * length ws → digits_held 4 ws ≡ field 4 (w % 16)
+unfolding digits_held
+held_4 w ws is long =
+    let one : w / 2 ^ 0 ≡ w = omega arith in
+    sym (take_all 4 (digits_held 4 ws) (omega (arith, length-digits_held 4 ws long))) ∙ sym (field_in_word 4 0 4 w ws is long (omega arith) (omega arith)) ∙ ap (field 4) one ∙ sym (field-mod 4 w)

@@ -1,0 +1,46 @@
+use Rattle.std.proofs.Common.{◌≡◌, ℕ, ◌+◌, ◌-◌, ◌≤◌, min, Bool, List, ◌++◌, take, sym, ap, ◌∙◌, arith}
+use Rattle.zf_spec.specs.ReadPlanes.{first_bits}
+use Rattle.zf_bits.specs.Reader.{Reader, rest}
+use Rattle.zf_planes.specs.Decoding.{Takes, tail_ahead, tail_bits, plane_ahead, plane_bits}
+use Rattle.zf_planes.proofs.Passing.{Passes-start, Passes-part, Passes-lacks, Takes-rest, Takes-sum, if_none, on_none, on_some}
+use Rattle.zf_planes.proofs.PlaneAhead.{plane_ahead-is, plane_bits-is}
+use Rattle.zf_planes.proofs.decoding.read_by_runs.Goals as goal
+
+-- the first n digits are read, and what reading makes of the plane goes on with its tail
+record FirstRead (old mid : Reader) (left after size n : ℕ) : Type 0 where
+  bits : plane_bits left size n (rest old) ≡ min n left + tail_bits after (size - n) (rest mid)
+  digits : plane_ahead left size n (rest old) ≡ first_bits n (take left (rest old)) ++ tail_ahead after (size - n) (rest mid)
+
+first_read : {old mid : Reader} {left after : ℕ} (size n : ℕ) → n ≤ size → Takes old mid left after (min n left) → FirstRead old mid left after size n
+first_read {old} {mid} {left} {after} size n within takes =
+    let spent : after ≡ left - min n left = omega (arith, takes.spent) in
+    record {
+      bits = rw (Takes-rest takes, spent) (plane_bits-is left size n (rest old) within);
+      digits = rw (Takes-rest takes, spent) (plane_ahead-is left size n (rest old) within);
+    }
+
+pub returns-in_err-read_front-clause-short : goal.returns-in_err-read_front-clause-short
+returns-in_err-read_front-clause-short g c =
+    let left = c.args.ahead.now.left in
+    let whole = plane_bits-is left c.args.size c.args.n (rest c.args.reader.now) c.requires.in_plane in
+    if_none _ (Passes-lacks (Passes-start c.args.reader.now left (plane_bits left c.args.size c.args.n (rest c.args.reader.now))) c.in_err-read_front.ensures.short (omega (arith, whole)))
+
+pub returns-clause-short : goal.returns-clause-short
+returns-clause-short g c =
+    let front = c.in_ok-read_front.ensures in
+    let read = first_read c.args.size c.args.n c.requires.in_plane front.taken in
+    let passes = Passes-part _ (Passes-start c.args.reader.now c.args.ahead.now.left _) read.bits front.taken in
+    on_none c.read_tail.result c.read_tail.ensures.short (λ lacks. Passes-lacks passes lacks (omega arith))
+
+pub returns-clause-taken : goal.returns-clause-taken
+returns-clause-taken g c =
+    let front = c.in_ok-read_front.ensures in
+    let read = first_read c.args.size c.args.n c.requires.in_plane front.taken in
+    on_some c.read_tail.result c.read_tail.ensures.taken (λ takes. Takes-sum _ _ front.taken read.bits takes)
+
+pub returns-clause-digits : goal.returns-clause-digits
+returns-clause-digits g c =
+    let front = c.in_ok-read_front.ensures in
+    let read = first_read c.args.size c.args.n c.requires.in_plane front.taken in
+    on_some c.read_tail.result c.read_tail.ensures.digits
+    (λ same. same ∙ ap (λ (bs : List Bool). bs ++ tail_ahead c.read_front.new.ahead.left (c.args.size - c.args.n) (rest c.read_front.new.reader)) front.digits ∙ sym read.digits)

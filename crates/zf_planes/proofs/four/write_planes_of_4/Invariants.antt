@@ -1,0 +1,17 @@
+-- The code of the planes from the i-th on remains to be written.
+use Rattle.std.proofs.Common.{map, ◌-◌, ◌≤◌, take, drop}
+use Rattle.zf_spec.specs.Planes.{code, code_from}
+use Rattle.zf_spec.specs.HeldPlanes.{planes_held}
+use Rattle.zf_planes.proofs.Budgets.{Remains}
+use Rattle.zf_planes.proofs.four.write_planes_of_4.Given as goal
+
+abbrev pub invariant-loop-i : goal.invariant-loop-i
+invariant-loop-i g l =
+    let planes = take l.prec (planes_held 4 (map g.P.Plane.words l.planes)) in
+    record {
+      remains : Remains l.fn.out l.out l.budget l.left (code planes) (code_from l.above (drop l.i planes));
+      above : l.above ≤ 4;
+    }
+
+abbrev pub decreases-loop-i : goal.decreases-loop-i
+decreases-loop-i g l = l.prec - l.i

@@ -1,0 +1,68 @@
+-- What `new` does: nothing is read or written, and a file is saved.
+use Rattle.std.proofs.Common.{◌≡◌, ◌≢◌, ℕ, ◌≤◌, List, [], Option, Some, None, ◌⊎◌, inl, inr, refl, sym, subst, arith}
+use Rattle.zf_dev.specs.Faults.{Rose}
+use Rattle.zf_dev.specs.Shelf.{Files, KeepsFiles, KeepsOthers, SavesFile}
+use Rattle.zf_dev.specs.Source.{Takes}
+use Rattle.zf_dev.specs.Sink.{Appends, AppendsFront}
+use Rattle.zf_dev.proofs.Appending.{Appends-none, AppendsFront-none}
+use Rattle.zf_base.specs.declared.lane.Ty.{Ty}
+use Rattle.zf_store.specs.Stored.{file_of, zeros}
+use Rattle.zfpi.specs.declared.status.Status.{Status}
+use Rattle.zfpi.specs.declared.status.Status.TheVariants as statuses
+use Rattle.zfpi.specs.declared.command.Command.TheVariants.{New}
+use Rattle.zfpi.specs.World.{World, TellsInput, seen, counts}
+use Rattle.zfpi.specs.Answer.{status_for, MayFail}
+use Rattle.zfpi.specs.Headline.{IsOfCommand, Writes, Saves, Behaves, HasCauses, IsCausedOnShelf}
+use Rattle.zfpi.proofs.Told.{world_of, TellsFiles-same, KeepsFiles-none, some_input, Takes-none}
+
+module _ (name : List ℕ) (ty : Ty) (ns : List ℕ) (b : ℕ) where
+  -- so it ended, with these files
+  behaves_so : (status : Status) (src out : Option (List ℕ)) (before now : Option Files) → IsOfCommand status
+      → ((w : World) → (status ≡ status_for (New name ty ns b) w []) ⊎ MayFail status (New name ty ns b) w [])
+      → Writes status [] [] out out
+      → Saves (Some (name, file_of (zeros ty ns b))) status before now
+      → Behaves (New name ty ns b) status (seen src out before) (seen src out now)
+  behaves_so status src out before now ends stated written saved =
+      let some = some_input src in
+      record {
+        ends = ends;
+        world = world_of some.0 before;
+        told = record { input = some.1; files = TellsFiles-same before };
+        wants = [];
+        wanted = refl;
+        stated = stated (world_of some.0 before);
+        taken = [];
+        takes = Takes-none src;
+        extent = refl;
+        written = written;
+        saved = saved;
+      }
+
+  pub Behaves-saved : (src out : Option (List ℕ)) (before now : Option Files) (bytes : List ℕ) → bytes ≡ file_of (zeros ty ns b) → SavesFile before now name bytes
+      → Behaves (New name ty ns b) statuses.Done (seen src out before) (seen src out now)
+  Behaves-saved src out before now bytes is saved =
+      behaves_so statuses.Done src out before now tt (λ w. inl refl) (Appends-none out) (subst (SavesFile before now name) is saved)
+
+  pub Behaves-unsaved : (src out : Option (List ℕ)) (before now : Option Files) → KeepsOthers before now name
+      → Behaves (New name ty ns b) statuses.SaveFault (seen src out before) (seen src out now)
+  Behaves-unsaved src out before now others =
+      behaves_so statuses.SaveFault src out before now tt (λ w. inr refl) (AppendsFront-none out []) others
+
+  pub Behaves-starved : (src out : Option (List ℕ)) (shelf : Option Files)
+      → Behaves (New name ty ns b) statuses.Memory (seen src out shelf) (seen src out shelf)
+  Behaves-starved src out shelf =
+      behaves_so statuses.Memory src out shelf shelf tt (λ w. inr tt) (AppendsFront-none out []) (KeepsFiles-none shelf)
+
+  -- nothing was read or written, so no fault of it comes
+  pub HasCauses-made : (status : Status) (src out before now : ℕ) (Loading Saving : Type 0) → status ≢ statuses.ReadFault → status ≢ statuses.WriteFault → before ≤ now → IsCausedOnShelf status Loading Saving
+      → HasCauses (New name ty ns b) status (counts src out before) (counts src out now) Loading Saving (Unit {0}) (Unit {0})
+  HasCauses-made status src out before now Loading Saving no_read no_write kept caused = record {
+    reading = (omega arith, λ is. absurd (no_read is));
+    writing = (omega arith, λ is. absurd (no_write is));
+    shelf_kept = kept;
+    shelving = caused;
+    no_reading = refl;
+    no_writing = refl;
+    no_shelving = tt;
+    sure = λ sure. (no_read, sure);
+  }
