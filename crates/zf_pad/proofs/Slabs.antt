@@ -282,7 +282,7 @@ all_with_rows P rows [] here all = tt
 all_with_rows P rows (n ∷ []) here all = (here, tt)
 all_with_rows P rows (n ∷ m ∷ ns) here all = (all.0, all_with_rows P rows (m ∷ ns) here all.1)
 
-all_rows : (P : ℕ → Type 0) (ns : List ℕ) → 1 ≤ length ns → AllByRecursion P ns → P (rows_of ns)
+pub all_rows : (P : ℕ → Type 0) (ns : List ℕ) → 1 ≤ length ns → AllByRecursion P ns → P (rows_of ns)
 all_rows P [] some all = absurd (omega arith)
 all_rows P (n ∷ []) some all = all.0
 all_rows P (n ∷ m ∷ ns) some all = all_rows P (m ∷ ns) (omega arith) all.1

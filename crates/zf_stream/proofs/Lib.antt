@@ -1,5 +1,8 @@
 -- Lemmas on streams.
 --     LittleEndian   raw bytes as values, one after another
+--     WordBytes      the bytes of words
+--     OnErrors       what holds anyhow holds after an error
+--     Flowing        bits on their way through a writer to a sink
 --     Codes          the codes of blocks, one after another; a code says of a block only what its padded block says
 --     Fill           the fill behind the codes
 --     Joining        the blocks of a stream, read one after another
@@ -14,6 +17,14 @@
 --     BlocksBack     the codes of blocks read back
 --     StreamsBack    what compress writes, restore reads
 pub mod LittleEndian
+pub mod WordBytes
+pub mod OnErrors
+pub mod Flowing
+pub mod Rows
+pub mod RawRows
+pub mod Slabwise
+pub mod FrontsOfStreams
+pub mod Answering
 mod Codes
 mod Fill
 mod Joining

@@ -1,28 +1,40 @@
 //! From raw values to a stream.
 
-ghost use Rattle.std.specs.Prelude.{◌≡◌, ◌≢◌, ◌*◌, length, IfOk, IfErr, OnOk, OnErr, Err};
+ghost use Rattle.std.specs.Prelude.{◌≡◌, ◌≢◌, ◌≤◌, ◌<◌, ◌*◌, ◌+◌, ◌%◌, ◌^◌, [], map, length, IfOk, IfErr, OnOk, OnErr, Err};
 ghost use Rattle.std.specs.Int.{byte_len};
 ghost use Rattle.zf_spec.specs.Grid.{product};
+ghost use Rattle.zf_pad.specs.Slabs.{row_len, rows_of};
 ghost use Rattle.zf_base.specs.Widths.{width_of};
-ghost use Rattle.zf_header.specs.HeaderBits.{IsMode};
+ghost use Rattle.zf_header.specs.HeaderBits.{IsMode, header_bits};
 ghost use Rattle.zf_stream.specs.Raw.{compress_answer, stream_text};
 ghost use Rattle.zf_dev.specs.Faults.{HasCause};
 ghost use Rattle.zf_dev.specs.Source.{TakesSome};
-ghost use Rattle.zf_stream.specs.Outcomes.{CanRefuse, Answers, Finishes, LeavesFront, ReadsText, IsRefusal};
+ghost use Rattle.zf_stream.specs.Outcomes.{CanRefuse, Answers, Finishes, LeavesFront, IsRefusal};
+ghost use Rattle.zf_stream.specs.Parsing.{longest_code};
+ghost use Rattle.zf_stream.specs.Rows.{ArePieces, rows_len, Compresses, Stops, WritesSlab, BreaksSlab};
 ghost use Rattle.zf_stream.specs.declared.fault.StreamFault.TheVariants.{Read, Write, Memory};
 
 use crate::StreamFault;
-use crate::encoding::stream_of;
-use crate::raw::read_exactly;
-use crate::values::{value_len, values_of};
-use std::alloc::{AllocError, Global};
-use zf_base::{Lane, Ty};
-use zf_dev::{Sink, Source, write_all};
-use zf_header::Header;
+use crate::encoding::write_codes;
+use crate::longest::longest_code;
+use crate::raw::{read_end, read_raw};
+use crate::slabs::{most_rows, rows_of, with_rows};
+use crate::values::{put_values, value_len};
+use crate::writing::write_whole_words;
+use std::alloc::Global;
+use zf_base::{Lane, Ty, block_len};
+use zf_bits::BitWriter;
+use zf_block::Scratch;
+use zf_dev::{Sink, Source};
+use zf_header::{Header, LONG_HEADER_BITS};
+
+/// The most bytes that are read or written at a time.
+pub(crate) const PIECE: u64 = 1 << 16;
 
 /// Reads raw values, each little-endian in 4 or 8 bytes, x fastest, and writes their stream.
 ///
-/// The source is to give exactly the values of the header's shape: it is read to its end.
+/// The source is to give exactly the values of the header's shape: it is read to its end. A slab of values is held at a time, up to four rows of the last axis
+/// or 4096 values of one dimension; all memory is taken before anything is written.
 pub fn compress<S: Source, O: Sink>(
     alloc: Global,
     h: &Header,
@@ -41,54 +53,211 @@ pub fn compress<S: Source, O: Sink>(
     ensures write_cause { HasCause (result ≡ Err Write) (O.faults out.old) (O.faults out.new) }
     ensures sure { S.never_fails src.old → (result ≢ Err Read) × S.never_fails src.new }
 {
-    let stream = match h.ty {
-        Ty::I32 => read_stream::<i32, S>(alloc, h, src),
-        Ty::I64 => read_stream::<i64, S>(alloc, h, src),
-    }?;
-    match write_all(out, &stream) {
-        Ok(()) => Ok(()),
-        Err(_) => Err(StreamFault::Write),
+    match h.ty {
+        Ty::I32 => compress_as::<i32, S, O>(alloc, h, src, out),
+        Ty::I64 => compress_as::<i64, S, O>(alloc, h, src, out),
     }
 }
 
-/// Reads the raw values and makes their stream.
-fn read_stream<T: Lane, S: Source>(
+/// The same of values of this type.
+fn compress_as<T: Lane, S: Source, O: Sink>(
     alloc: Global,
     h: &Header,
     src: &mut S,
-) -> Result<Vec<u8>, StreamFault>
+    out: &mut O,
+) -> Result<(), StreamFault>
     requires mode { IsMode h.now.mode }
     requires same_type { T.width ≡ width_of h.now.ty }
-    ensures ok { IfOk result (λ stream. ReadsText (compress_answer h.now) (stream_text h.now)
-        (S.contents src.old) (S.contents src.new) stream.items) }
-    ensures refused { IfErr result (IsRefusal (S.contents src.old) (compress_answer h.now)) }
+    ensures answer { Answers result (S.contents src.old) (compress_answer h.now) }
     ensures possible { IfErr result (CanRefuse (compress_answer h.now)) }
-    ensures taken { OnErr result (TakesSome (S.contents src.old) (S.contents src.new)) }
-    ensures unwritten { IfErr result (λ e. e ≢ Write) }
-    ensures cause { HasCause (result ≡ Err Read) (S.faults src.old) (S.faults src.new) }
+    ensures ok { OnOk result (Finishes (compress_answer h.now) (stream_text h.now)
+        (S.contents src.old) (S.contents src.new) (O.contents out.old) (O.contents out.new)) }
+    ensures err { OnErr result (LeavesFront (stream_text h.now)
+        (S.contents src.old) (S.contents src.new) (O.contents out.old) (O.contents out.new)) }
+    ensures unwritten { result ≡ Err Memory → O.contents out.new ≡ O.contents out.old }
+    ensures read_cause { HasCause (result ≡ Err Read) (S.faults src.old) (S.faults src.new) }
+    ensures write_cause { HasCause (result ≡ Err Write) (O.faults out.old) (O.faults out.new) }
     ensures sure { S.never_fails src.old → (result ≢ Err Read) × S.never_fails src.new }
 {
-    let count = h.shape.values() as usize;
-    let raw = read_exactly(alloc, value_len::<T>() * count, src)?;
-    match encode_raw::<T>(alloc, h, count, &raw) {
-        Ok(stream) => Ok(stream),
-        Err(_) => Err(StreamFault::Memory),
-    }
+    let dims = h.shape.dims();
+    let rows = most_rows(&h.shape).min(rows_of(&h.shape));
+    let slab = with_rows(&h.shape, rows);
+    let count = slab.values() as usize;
+    let longest = longest_code::<T>(h);
+    let most = 64 + (8 * PIECE).min(slab.blocks() * longest);
+    let mut raw = vec![in alloc; 0; count * value_len::<T>()]?;
+    let mut values = vec![in alloc; T::zero(); count]?;
+    let mut block = vec![in alloc; T::zero(); block_len(dims)]?;
+    let mut s = Scratch::new(alloc, dims)?;
+    let mut piece = vec![in alloc; 0; PIECE as usize]?;
+    let mut codes = BitWriter::new(alloc);
+    codes.reserve(most + longest + u64::from(LONG_HEADER_BITS))?;
+    zf_header::write(h, &mut codes);
+    write_stream(
+        h,
+        rows,
+        &mut raw,
+        &mut values,
+        &mut block,
+        &mut s,
+        &mut codes,
+        most,
+        &mut piece,
+        src,
+        out,
+    )
 }
 
-/// The stream of the values that raw bytes are.
-fn encode_raw<T: Lane>(
-    alloc: Global,
+/// Writes the stream, whose header is at hand, in room that is there already.
+fn write_stream<T: Lane, S: Source, O: Sink>(
     h: &Header,
-    count: usize,
-    raw: &[u8],
-) -> Result<Vec<u8>, AllocError>
-    requires mode { IsMode h.now.mode }
+    rows: u64,
+    raw: &mut [u8],
+    values: &mut [T],
+    block: &mut [T],
+    s: &mut Scratch<T>,
+    codes: &mut BitWriter,
+    most: u64,
+    piece: &mut [u8],
+    src: &mut S,
+    out: &mut O,
+) -> Result<(), StreamFault>
     requires same_type { T.width ≡ width_of h.now.ty }
-    requires count { count ≡ product h.now.shape }
-    requires all { length raw.now ≡ count * byte_len T.width }
-    ensures { IfOk result (λ stream. stream.items ≡ stream_text h.now raw.now) }
+    requires rows { ArePieces h.now.shape rows }
+    requires raw { length raw.old ≡ rows_len h.now rows }
+    requires values { length values.old ≡ row_len h.now.shape * rows }
+    requires whole { length block.old ≡ 4 ^ length h.now.shape }
+    requires scratch { s.old ≡ length h.now.shape }
+    requires piece { 8 ≤ length piece.old }
+    requires some { 64 ≤ most }
+    requires header { codes.old.bits ≡ header_bits h.now }
+    requires fits { most + longest_code h.now + 64 ≤ length codes.old.bits + codes.old.room }
+    ensures answer { Answers result (S.contents src.old) (compress_answer h.now) }
+    ensures possible { IfErr result (CanRefuse (compress_answer h.now)) }
+    ensures ok { OnOk result (Finishes (compress_answer h.now) (stream_text h.now)
+        (S.contents src.old) (S.contents src.new) (O.contents out.old) (O.contents out.new)) }
+    ensures err { OnErr result (LeavesFront (stream_text h.now)
+        (S.contents src.old) (S.contents src.new) (O.contents out.old) (O.contents out.new)) }
+    ensures unwritten { result ≢ Err Memory }
+    ensures read_cause { HasCause (result ≡ Err Read) (S.faults src.old) (S.faults src.new) }
+    ensures write_cause { HasCause (result ≡ Err Write) (O.faults out.old) (O.faults out.new) }
+    ensures sure { S.never_fails src.old → (result ≢ Err Read) × S.never_fails src.new }
 {
-    let values = values_of::<T>(alloc, count, raw)?;
-    stream_of(alloc, h, &values)
+    // Known by this call: there is an axis.
+    let _dims = h.shape.dims();
+    write_whole_words(codes, piece, out)?;
+    write_slabs(h, rows, raw, values, block, s, codes, most, piece, src, out)?;
+    read_end(src)?;
+    codes.pad_to_word();
+    write_whole_words(codes, piece, out)
+}
+
+/// Reads the slabs and writes their codes.
+fn write_slabs<T: Lane, S: Source, O: Sink>(
+    h: &Header,
+    rows: u64,
+    raw: &mut [u8],
+    values: &mut [T],
+    block: &mut [T],
+    s: &mut Scratch<T>,
+    codes: &mut BitWriter,
+    most: u64,
+    piece: &mut [u8],
+    src: &mut S,
+    out: &mut O,
+) -> Result<(), StreamFault>
+    requires same_type { T.width ≡ width_of h.now.ty }
+    requires rows { ArePieces h.now.shape rows }
+    requires raw { length raw.old ≡ rows_len h.now rows }
+    requires values { length values.old ≡ row_len h.now.shape * rows }
+    requires whole { length block.old ≡ 4 ^ length h.now.shape }
+    requires scratch { s.old ≡ length h.now.shape }
+    requires piece { 8 ≤ length piece.old }
+    requires some { 64 ≤ most }
+    requires few { length codes.old.bits < most }
+    requires fits { most + longest_code h.now ≤ length codes.old.bits + codes.old.room }
+    ensures ok { OnOk result (Compresses h.now (rows_of h.now.shape)
+        (S.contents src.old) (S.contents src.new) (O.contents out.old) (O.contents out.new) codes.old.bits codes.new.bits) }
+    ensures err { OnErr result (Stops h.now
+        (S.contents src.old) (S.contents src.new) (O.contents out.old) (O.contents out.new) codes.old.bits) }
+    ensures refused { IfErr result (IsRefusal (S.contents src.old) (compress_answer h.now)) }
+    ensures possible { IfErr result (CanRefuse (compress_answer h.now)) }
+    ensures unwanted { IfErr result (λ e. e ≢ Memory) }
+    ensures few { OnOk result (length codes.new.bits < most) }
+    ensures room { OnOk result (length codes.old.bits + codes.old.room ≤ length codes.new.bits + codes.new.room) }
+    ensures read_cause { HasCause (result ≡ Err Read) (S.faults src.old) (S.faults src.new) }
+    ensures write_cause { HasCause (result ≡ Err Write) (O.faults out.old) (O.faults out.new) }
+    ensures sure { S.never_fails src.old → (result ≢ Err Read) × S.never_fails src.new }
+{
+    // Known by this call: the array has no more values than there may be.
+    let _dims = h.shape.dims();
+    let all = rows_of(&h.shape);
+    let mut row = 0;
+    let mut taken = 0;
+    while row < all {
+        let here = rows.min(all - row);
+        let part = Header {
+            ty: h.ty,
+            shape: with_rows(&h.shape, here),
+            mode: h.mode,
+        };
+        let count = part.shape.values() as usize;
+        let len = count * value_len::<T>();
+        write_slab(
+            &part,
+            taken,
+            &mut raw[..len],
+            &mut values[..count],
+            block,
+            s,
+            codes,
+            most,
+            piece,
+            src,
+            out,
+        )?;
+        row += here;
+        taken += len as u64;
+    }
+    Ok(())
+}
+
+/// Reads one slab, an array of its own behind so many bytes, and writes its codes.
+fn write_slab<T: Lane, S: Source, O: Sink>(
+    part: &Header,
+    taken: u64,
+    raw: &mut [u8],
+    values: &mut [T],
+    block: &mut [T],
+    s: &mut Scratch<T>,
+    codes: &mut BitWriter,
+    most: u64,
+    piece: &mut [u8],
+    src: &mut S,
+    out: &mut O,
+) -> Result<(), StreamFault>
+    requires same_type { T.width ≡ width_of part.now.ty }
+    requires raw { length raw.old ≡ product part.now.shape * byte_len (width_of part.now.ty) }
+    requires values { length values.old ≡ product part.now.shape }
+    requires whole { length block.old ≡ 4 ^ length part.now.shape }
+    requires scratch { s.old ≡ length part.now.shape }
+    requires piece { 8 ≤ length piece.old }
+    requires some { 64 ≤ most }
+    requires few { length codes.old.bits < most }
+    requires fits { most + longest_code part.now ≤ length codes.old.bits + codes.old.room }
+    requires taken { taken + length raw.old < 2 ^ 64 }
+    ensures ok { OnOk result (WritesSlab part.now
+        (S.contents src.old) (S.contents src.new) (O.contents out.old) (O.contents out.new) codes.old.bits codes.new.bits) }
+    ensures err { IfErr result (BreaksSlab part.now taken
+        (S.contents src.old) (S.contents src.new) (O.contents out.old) (O.contents out.new) codes.old.bits) }
+    ensures few { OnOk result (length codes.new.bits < most) }
+    ensures room { OnOk result (length codes.old.bits + codes.old.room ≤ length codes.new.bits + codes.new.room) }
+    ensures scratch { s.new ≡ s.old }
+    ensures read_cause { HasCause (result ≡ Err Read) (S.faults src.old) (S.faults src.new) }
+    ensures write_cause { HasCause (result ≡ Err Write) (O.faults out.old) (O.faults out.new) }
+    ensures sure { S.never_fails src.old → (result ≢ Err Read) × S.never_fails src.new }
+{
+    read_raw(taken, raw, src)?;
+    put_values(raw, values);
+    write_codes(part, values, block, s, codes, most, piece, out)
 }

@@ -1,53 +1,84 @@
-//! The stream of values.
+//! The codes of blocks on their way to a sink.
 
-ghost use Rattle.std.specs.Prelude.{◌≡◌, ◌<◌, ◌^◌, ◌++◌, map, length, IfOk, OnOk};
+ghost use Rattle.std.specs.Prelude.{◌≡◌, ◌≤◌, ◌<◌, ◌^◌, ◌+◌, ◌++◌, ◌≢◌, map, length, Err, IfErr, OnOk, OnErr};
 ghost use Rattle.std.specs.List.{flat_map};
 ghost use Rattle.zf_spec.specs.Grid.{product, blocks, extent_of, block_of};
-ghost use Rattle.zf_spec.specs.Stream.{block_code, codes, stream};
+ghost use Rattle.zf_spec.specs.Stream.{block_code};
+ghost use Rattle.zf_spec.specs.Stream as stream;
 ghost use Rattle.zf_base.specs.Widths.{width_of};
-ghost use Rattle.zf_header.specs.HeaderBits.{IsMode, coding};
+ghost use Rattle.zf_base.specs.Positions.{used_axes, IsExtent};
+ghost use Rattle.zf_bits.specs.Writer.{Appends};
+ghost use Rattle.zf_header.specs.HeaderBits.{coding};
+ghost use Rattle.zf_dev.specs.Faults.{HasCause};
+ghost use Rattle.zf_stream.specs.Flows.{Flows, Spills};
+ghost use Rattle.zf_stream.specs.Parsing.{longest_code};
+ghost use Rattle.zf_stream.specs.declared.fault.StreamFault.TheVariants.{Write};
+ghost use Rattle.zf_spec.specs.Grid.{IsDimension};
 
-use std::alloc::{AllocError, Global};
-use zf_base::{Lane, block_len};
-use zf_bits::{BitWriter, bytes_of_words};
+use crate::StreamFault;
+use crate::writing::write_whole_words;
+use zf_base::{Extent, Lane};
+use zf_bits::BitWriter;
 use zf_block::Scratch;
-use zf_header::{Header, LONG_HEADER_BITS, Mode};
+use zf_dev::Sink;
+use zf_header::{Header, Mode};
 
-/// The stream of an array's values, x fastest.
-pub(crate) fn stream_of<T: Lane>(
-    alloc: Global,
+/// Appends the codes of all blocks, in order. Where as many as `most` bits are at hand, whole words are written.
+pub(crate) fn write_codes<T: Lane, O: Sink>(
     h: &Header,
     values: &[T],
-) -> Result<Vec<u8>, AllocError>
-    requires mode { IsMode h.now.mode }
+    block: &mut [T],
+    s: &mut Scratch<T>,
+    codes: &mut BitWriter,
+    most: u64,
+    piece: &mut [u8],
+    out: &mut O,
+) -> Result<(), StreamFault>
     requires same_type { T.width ≡ width_of h.now.ty }
     requires all { length values.now ≡ product h.now.shape }
-    ensures { IfOk result (λ bytes. bytes.items ≡ stream T.width h.now.shape (coding h.now.mode) (map T.value values.now)) }
+    requires whole { length block.old ≡ 4 ^ length h.now.shape }
+    requires scratch { s.old ≡ length h.now.shape }
+    requires piece { 8 ≤ length piece.old }
+    requires some { 64 ≤ most }
+    requires few { length codes.old.bits < most }
+    requires fits { most + longest_code h.now ≤ length codes.old.bits + codes.old.room }
+    ensures ok { OnOk result (Flows (O.contents out.old) (O.contents out.new)
+        (codes.old.bits ++ flat_map (λ c. c) (stream.codes T.width h.now.shape (coding h.now.mode) (map T.value values.now))) codes.new.bits) }
+    ensures err { OnErr result (Spills (O.contents out.old) (O.contents out.new)
+        (codes.old.bits ++ flat_map (λ c. c) (stream.codes T.width h.now.shape (coding h.now.mode) (map T.value values.now)))) }
+    ensures fault { IfErr result (λ e. e ≡ Write) }
+    ensures few { OnOk result (length codes.new.bits < most) }
+    ensures room { OnOk result (length codes.old.bits + codes.old.room ≤ length codes.new.bits + codes.new.room) }
+    ensures scratch { s.new ≡ s.old }
+    ensures cause { HasCause (result ≡ Err Write) (O.faults out.old) (O.faults out.new) }
 {
-    let mut out = BitWriter::new(alloc);
-    out.reserve(u64::from(LONG_HEADER_BITS))?;
-    zf_header::write(h, &mut out);
-    write_codes(alloc, h, values, &mut out)?;
-    bytes_of_words(alloc, out.words())
-}
-
-/// Appends the codes of all blocks, in order.
-fn write_codes<T: Lane>(
-    alloc: Global,
-    h: &Header,
-    values: &[T],
-    out: &mut BitWriter,
-) -> Result<(), AllocError>
-    requires all { length values.now ≡ product h.now.shape }
-    ensures { OnOk result (out.new.bits
-        ≡ out.old.bits ++ flat_map (λ c. c) (codes T.width h.now.shape (coding h.now.mode) (map T.value values.now))) }
-{
-    let mut s = Scratch::new(alloc, h.shape.dims())?;
-    let mut block = vec![in alloc; T::zero(); block_len(h.shape.dims())]?;
     for b in 0..h.shape.blocks() {
-        write_code(h, values, b, &mut block, &mut s, out)?;
+        write_code(h, values, b, block, s, codes);
+        write_where_many(codes, most, piece, out)?;
     }
     Ok(())
+}
+
+/// Writes the whole words of codes where as many as `most` bits are at hand.
+fn write_where_many<O: Sink>(
+    codes: &mut BitWriter,
+    most: u64,
+    piece: &mut [u8],
+    out: &mut O,
+) -> Result<(), StreamFault>
+    requires piece { 8 ≤ length piece.old }
+    requires some { 64 ≤ most }
+    ensures ok { OnOk result (Flows (O.contents out.old) (O.contents out.new) codes.old.bits codes.new.bits) }
+    ensures err { OnErr result (Spills (O.contents out.old) (O.contents out.new) codes.old.bits) }
+    ensures fault { IfErr result (λ e. e ≡ Write) }
+    ensures few { OnOk result (length codes.new.bits < most) }
+    ensures room { OnOk result (length codes.old.bits + codes.old.room ≤ length codes.new.bits + codes.new.room) }
+    ensures cause { HasCause (result ≡ Err Write) (O.faults out.old) (O.faults out.new) }
+{
+    if codes.len() < most {
+        return Ok(());
+    }
+    write_whole_words(codes, piece, out)
 }
 
 /// Appends the code of block `b`, whose values are gathered in `block`.
@@ -57,25 +88,48 @@ fn write_code<T: Lane>(
     b: u64,
     block: &mut [T],
     s: &mut Scratch<T>,
-    out: &mut BitWriter,
-) -> Result<(), AllocError>
+    codes: &mut BitWriter,
+)
+    requires same_type { T.width ≡ width_of h.now.ty }
     requires all { length values.now ≡ product h.now.shape }
     requires in_array { b < blocks h.now.shape }
     requires whole { length block.old ≡ 4 ^ length h.now.shape }
     requires scratch { s.old ≡ length h.now.shape }
-    ensures code { OnOk result (out.new.bits
-        ≡ out.old.bits ++ block_code T.width (coding h.now.mode) (extent_of h.now.shape b) (block_of h.now.shape (map T.value values.now) b)) }
-    ensures scratch { s.new ≡ length h.now.shape }
+    requires fits { longest_code h.now ≤ codes.old.room }
+    ensures code { Appends codes.old codes.new
+        (block_code T.width (coding h.now.mode) (extent_of h.now.shape b) (block_of h.now.shape (map T.value values.now) b)) }
+    ensures scratch { s.new ≡ s.old }
+{
+    // Known by this call: there are one to four dimensions.
+    let _dims = h.shape.dims();
+    let e = zf_pad::gather_block(&h.shape, b, values, block);
+    encode(h, &e, block, s, codes);
+}
+
+/// Appends the code of a block of which this part exists.
+fn encode<T: Lane>(h: &Header, e: &Extent, block: &[T], s: &mut Scratch<T>, codes: &mut BitWriter)
+    requires same_type { T.width ≡ width_of h.now.ty }
+    requires dimension { IsDimension (length h.now.shape) }
+    requires extent { IsExtent (length h.now.shape) e.now }
+    requires whole { length block.now ≡ 4 ^ length h.now.shape }
+    requires scratch { s.old ≡ length h.now.shape }
+    requires fits { longest_code h.now ≤ codes.old.room }
+    ensures code { Appends codes.old codes.new
+        (block_code T.width (coding h.now.mode) (used_axes (length h.now.shape) e.now.size) (map T.value block.now)) }
+    ensures scratch { s.new ≡ s.old }
 {
     let d = h.shape.dims();
-    let e = zf_pad::gather_block(&h.shape, b, values, block);
-    match h.mode {
-        Mode::Reversible => zf_block::encode_rev(d, &e, block, s, out),
+    let done = match h.mode {
+        Mode::Reversible => zf_block::encode_rev(d, e, block, s, codes),
         Mode::Rate(bits) => {
-            out.reserve(u64::from(bits))?;
-            zf_block::encode_rate(d, &e, bits, block, s, out);
+            zf_block::encode_rate(d, e, bits, block, s, codes);
             Ok(())
         }
-        Mode::Precision(prec) => zf_block::encode_prec(d, &e, prec, block, s, out),
+        Mode::Precision(prec) => zf_block::encode_prec(d, e, prec, block, s, codes),
+    };
+    // There is room for the longest code.
+    match done {
+        Ok(()) => {}
+        Err(_) => unreachable!(),
     }
 }

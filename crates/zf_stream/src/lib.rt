@@ -8,11 +8,14 @@ mod encoding;
 mod fault;
 mod header;
 pub mod laws;
+mod longest;
 mod raw;
 mod restoring;
+mod slabs;
 #[cfg(test)]
 mod tests;
 mod values;
+mod writing;
 
 pub use compressing::compress;
 pub use fault::StreamFault;

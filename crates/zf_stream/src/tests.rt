@@ -42,6 +42,22 @@ const CUT_STREAM: [u8; 16] = [
     0x7a, 0x66, 0x70, 0x05, 0x30, 0x00, 0x00, 0x00, 0x00, 0x00, 0x10, 0x00, 0x01, 0x00, 0x00, 0x00,
 ];
 
+// Four values of 32 bits, 1 to 4, whose planes are all kept, and four times -2^30, of which one is.
+const COUNTED: [u8; 16] = [1, 0, 0, 0, 2, 0, 0, 0, 3, 0, 0, 0, 4, 0, 0, 0];
+
+const COUNTED_STREAM: [u8; 24] = [
+    0x7a, 0x66, 0x70, 0x05, 0x30, 0x00, 0x00, 0x00, 0x00, 0x00, 0xf0, 0x81, 0x00, 0x00, 0x00, 0x60,
+    0x27, 0x00, 0x00, 0x00, 0x00, 0x00, 0x00, 0x00,
+];
+
+const LOW: [u8; 16] = [
+    0x00, 0x00, 0x00, 0xc0, 0x00, 0x00, 0x00, 0xc0, 0x00, 0x00, 0x00, 0xc0, 0x00, 0x00, 0x00, 0xc0,
+];
+
+const LOW_STREAM: [u8; 16] = [
+    0x7a, 0x66, 0x70, 0x05, 0x30, 0x00, 0x00, 0x00, 0x00, 0x00, 0x00, 0x80, 0x03, 0x00, 0x00, 0x00,
+];
+
 // Whether a header can state the mode.
 fn can_state(mode: &Mode) -> bool
     ensures { IsTrue result → IsMode mode.now }
@@ -81,6 +97,22 @@ fn raw_values_become_a_stream(rt: HostRuntime) -> Result<(), Fail> {
             CUT.as_slice(),
             CUT_STREAM.as_slice(),
         ),
+        (
+            Ty::I32,
+            1,
+            [4, 1],
+            Mode::Precision(32),
+            COUNTED.as_slice(),
+            COUNTED_STREAM.as_slice(),
+        ),
+        (
+            Ty::I32,
+            1,
+            [4, 1],
+            Mode::Precision(1),
+            LOW.as_slice(),
+            LOW_STREAM.as_slice(),
+        ),
     ];
     for (ty, dims, [nx, ny], mode, raw, stream) in rows {
         assert!(rt; 1 <= dims && dims <= 4);
@@ -109,9 +141,9 @@ fn raw_values_are_as_many_as_the_shape_has(rt: HostRuntime) -> Result<(), Fail> 
     // the bytes, the call of the source and the call of the sink that fail, the answer, and how many bytes are written
     let rows = [
         (CUT.as_slice(), 1000, 1000, Ok(()), 16),
-        (&CUT[..15], 1000, 1000, Err(StreamFault::RawShort(15)), 0),
-        (&LINE[..17], 1000, 1000, Err(StreamFault::RawLong), 0),
-        (CUT.as_slice(), 1, 1000, Err(StreamFault::Read), 0),
+        (&CUT[..15], 1000, 1000, Err(StreamFault::RawShort(15)), 8),
+        (&LINE[..17], 1000, 1000, Err(StreamFault::RawLong), 8),
+        (CUT.as_slice(), 1, 1000, Err(StreamFault::Read), 8),
         (CUT.as_slice(), 1000, 1, Err(StreamFault::Write), 7),
     ];
     for (raw, read, write, answer, written) in rows {
@@ -119,6 +151,45 @@ fn raw_values_are_as_many_as_the_shape_has(rt: HostRuntime) -> Result<(), Fail> 
         let mut out = MemSink::new(alloc, [write].to_vec(alloc)?, 7);
         assert_eq!(rt; compress(alloc, &h, &mut src, &mut out), answer);
         assert_eq!(rt; out.bytes().len(), written);
+    }
+    Ok(())
+}
+
+// Of several slabs in each number of dimensions, the last of which has fewer rows.
+const SLABS: [(Ty, u8, [u64; 4]); 6] = [
+    (Ty::I32, 1, [9001, 1, 1, 1]),
+    (Ty::I64, 1, [4097, 1, 1, 1]),
+    (Ty::I32, 2, [5, 9, 1, 1]),
+    (Ty::I64, 3, [5, 3, 9, 1]),
+    (Ty::I32, 4, [3, 5, 2, 11]),
+    (Ty::I64, 4, [3, 2, 5, 8]),
+];
+
+#[test]
+fn arrays_of_several_slabs_come_back(rt: HostRuntime) -> Result<(), Fail> {
+    let alloc = rt.alloc();
+    for (ty, dims, [nx, ny, nz, nw]) in SLABS {
+        assert!(rt; 1 <= dims && dims <= 4);
+        let shape = Shape::new(dims, nx, ny, nz, nw).ok().ok_or("a shape")?;
+        let mode = Mode::Reversible;
+        let mut raw = Vec::new(alloc);
+        let mut word: u64 = 1;
+        for _ in 0..shape.values() {
+            word = word.wrapping_mul(6_364_136_223_846_793_005).wrapping_add(1);
+            raw.extend_from_slice(
+                &word.rotate_left(32).to_le_bytes()[..if ty == Ty::I32 { 4 } else { 8 }],
+            )?;
+        }
+        let mut src = MemSource::new(raw.clone()?, Vec::new(alloc), 1000);
+        let mut out = MemSink::new(alloc, Vec::new(alloc), 1000);
+        assert_eq!(rt;
+            compress(alloc, &Header { ty, shape, mode }, &mut src, &mut out),
+            Ok(())
+        );
+        let mut src = MemSource::new(out.bytes().to_vec(alloc)?, Vec::new(alloc), 1000);
+        let mut back = MemSink::new(alloc, Vec::new(alloc), 1000);
+        assert_eq!(rt; restore(alloc, &mut src, &mut back), Ok(()));
+        assert_eq!(rt; back.bytes(), raw.as_slice());
     }
     Ok(())
 }

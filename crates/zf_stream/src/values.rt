@@ -1,10 +1,9 @@
 //! Values and their raw bytes, both ways.
 
-ghost use Rattle.std.specs.Prelude.{◌≡◌, ◌*◌, ◌≤◌, map, length, IfOk};
+ghost use Rattle.std.specs.Prelude.{◌≡◌, ◌*◌, ◌≤◌, map, length};
 ghost use Rattle.std.specs.Int.{w64, byte_len, from_le_bytes, cast_signed};
 ghost use Rattle.zf_spec.specs.Stream.{values_from, first_bytes};
 
-use std::alloc::{AllocError, Global};
 use zf_base::Lane;
 
 /// How many bytes a raw value has.
@@ -16,22 +15,16 @@ pub(crate) fn value_len<T: Lane>() -> usize
     (T::WIDTH / 8) as usize
 }
 
-/// The `count` values that raw bytes are.
-pub(crate) fn values_of<T: Lane>(
-    alloc: Global,
-    count: usize,
-    raw: &[u8],
-) -> Result<Vec<T>, AllocError>
-    requires { length raw.now ≡ count * byte_len T.width }
-    ensures { IfOk result (λ values. map T.value values.items ≡ values_from T.width count raw.now) }
+/// Makes values of raw bytes.
+pub(crate) fn put_values<T: Lane>(raw: &[u8], values: &mut [T])
+    requires { length raw.now ≡ length values.old * byte_len T.width }
+    ensures { map T.value values.new ≡ values_from T.width (length values.new) raw.now }
 {
     let len = value_len::<T>();
-    let mut values = Vec::with_capacity(alloc, count)?;
-    for i in 0..count {
+    for i in 0..values.len() {
         let start = i * len;
-        values.push(value_of::<T>(&raw[start..start + len]))?;
+        values[i] = value_of::<T>(&raw[start..start + len]);
     }
-    Ok(values)
 }
 
 /// The value that has these bytes, the least significant first.

@@ -1,42 +1,56 @@
-use Rattle.std.proofs.Common.{◌≡◌, ℕ, ◌^◌, Bool, List, ◌++◌, map, sym, ap, ◌∙◌, arith}
-use Rattle.std.proofs.lemmas.List.{append-nil}
+use Rattle.std.proofs.Common.{◌≡◌, ℕ, ◌+◌, ◌-◌, ◌<◌, ◌≤◌, Bool, List, ◌++◌, length, map, Option, sym, ap, subst, ◌∙◌, append_assoc, arith}
 use Rattle.std.specs.List.{flat_map}
-use Rattle.zf_spec.specs.Grid.{blocks, upto, extent_of, block_of}
+use Rattle.zf_spec.specs.Grid.{blocks, upto, count_from, extent_of, block_of}
 use Rattle.zf_spec.specs.Stream.{block_code}
+use Rattle.zf_bits.proofs.Appending.{length-Appends}
 use Rattle.zf_header.specs.HeaderBits.{coding}
-use Rattle.zf_stream.proofs.Codes.{joined-more}
+use Rattle.zf_stream.specs.Flows.{Flows, Spills}
+use Rattle.zf_stream.proofs.Codes.{joined-more, joined-front}
+use Rattle.zf_stream.proofs.Flowing.{Flows-more, Flows-next, Flows-spill, Spills-more}
+use Rattle.zf_stream.proofs.OnErrors.{on_err}
 use Rattle.zf_stream.proofs.encoding.write_codes.Goals as goal
 
-pub loop-b-init : goal.loop-b-init
-loop-b-init g c =
-    record {
-      codes = sym (append-nil c.args.out.now.bits);
-      scratch = c.in_ok-s.ensures ∙ c.dims.ensures.value;
-      whole = c.in_ok-block.ensures.len ∙ c.block_len.ensures.value ∙ ap (λ d. 4 ^ d) c.dims-2.ensures.value;
-    }
+module _ (f : ℕ → List Bool) (start : List Bool) where
+  -- one code more is at hand
+  one_more : {a b : Option (List ℕ)} {left now : List Bool} (n : ℕ) → Flows a b (start ++ flat_map (λ c. c) (map f (upto n))) left → now ≡ left ++ f n → Flows a b (start ++ flat_map (λ c. c) (map f (upto (n + 1)))) now
+  one_more {a} {b} {left} {now} n flows is =
+      let Of : List Bool → Type 0 = λ bs. Flows a b bs (left ++ f n) in
+      let To : List Bool → Type 0 = λ bs. Flows a b (start ++ flat_map (λ c. c) (map f (upto (n + 1)))) bs in
+      subst To (sym is) (subst Of (joined-more f start n) (Flows-more (f n) flows))
 
-pub write_code-requires : goal.write_code-requires
-write_code-requires g c =
-    record {
-      all = c.requires.all;
-      in_array = omega (arith, c.loop-b-test.true, c.blocks-b-end.ensures.value);
-      whole = c.deref_mut.ensures.len ∙ c.loop-b.invariant.whole;
-      scratch = c.loop-b.invariant.scratch;
-    }
+  -- where the sink fails before all codes are at hand
+  fewer : {a b : Option (List ℕ)} (k n : ℕ) → k ≤ n → Spills a b (start ++ flat_map (λ c. c) (map f (upto k))) → Spills a b (start ++ flat_map (λ c. c) (map f (upto n)))
+  fewer {a} {b} k n within spills =
+      let rest = flat_map (λ c. c) (map f (count_from k (n - k))) in
+      let all : k + (n - k) ≡ n = omega arith in
+      let P : List Bool → Type 0 = λ bs. Spills a b bs in
+      subst P
+      (append_assoc start (flat_map (λ c. c) (map f (upto k))) rest
+      ∙ ap (λ (bs : List Bool). start ++ bs) (sym (joined-front f k (n - k)) ∙ ap (λ m. flat_map (λ c. c) (map f (upto m))) all))
+      (Spills-more rest spills)
+
+pub returns-in_err-write_where_many-clause-err : goal.returns-in_err-write_where_many-clause-err
+returns-in_err-write_where_many-clause-err g c =
+    let h = c.args.h.now in
+    let b = c.loop-b.b in
+    let f = λ (k : ℕ). block_code g.T.Lane.width (coding h.mode) (extent_of h.shape k) (block_of h.shape (map g.T.Lane.value c.args.values.now) k) in
+    let start = c.args.codes.now.bits in
+    let more = one_more f start b c.loop-b.invariant.flows c.write_code.ensures.code.bits in
+    on_err c.from_residual.result _
+    (fewer f start (b + 1) (blocks h.shape) (omega (arith, c.loop-b-test.true, c.blocks-b-end.ensures.value)) (Flows-spill more c.in_err-write_where_many.ensures.err))
 
 pub loop-b-preserved : goal.loop-b-preserved
 loop-b-preserved g c =
     let h = c.args.h.now in
-    let code = λ (b : ℕ). block_code g.T.Lane.width (coding h.mode) (extent_of h.shape b) (block_of h.shape (map g.T.Lane.value c.args.values.now) b) in
+    let b = c.loop-b.b in
+    let f = λ (k : ℕ). block_code g.T.Lane.width (coding h.mode) (extent_of h.shape k) (block_of h.shape (map g.T.Lane.value c.args.values.now) k) in
+    let start = c.args.codes.now.bits in
+    let more = one_more f start b c.loop-b.invariant.flows c.write_code.ensures.code.bits in
     record {
-      codes = c.in_ok-write_code.ensures.code ∙ ap (λ (bs : List Bool). bs ++ code c.loop-b.b) c.loop-b.invariant.codes ∙ joined-more code c.args.out.now.bits c.loop-b.b;
-      scratch = c.in_ok-write_code.ensures.scratch;
-      whole = c.loop-b.invariant.whole;
+      flows = Flows-next more c.in_ok-write_where_many.ensures.ok;
+      few = c.in_ok-write_where_many.ensures.few;
+      room = omega (arith, c.loop-b.invariant.room, c.in_ok-write_where_many.ensures.room, c.write_code.ensures.code.room, length-Appends c.write_code.ensures.code);
+      scratch = c.write_code.ensures.scratch ∙ c.loop-b.invariant.scratch;
+      whole = c.write_code.auto.block ∙ c.loop-b.invariant.whole;
+      faults = omega (arith, c.loop-b.invariant.faults, c.write_where_many.ensures.cause.0);
     }
-
-pub returns : goal.returns
-returns g c =
-    let h = c.args.h.now in
-    let code = λ (b : ℕ). block_code g.T.Lane.width (coding h.mode) (extent_of h.shape b) (block_of h.shape (map g.T.Lane.value c.args.values.now) b) in
-    let all : c.loop-b.b ≡ blocks h.shape = omega (arith, c.blocks-b-end.ensures.value) in
-    c.loop-b.invariant.codes ∙ ap (λ n. c.args.out.now.bits ++ flat_map (λ (c : List Bool). c) (map code (upto n))) all

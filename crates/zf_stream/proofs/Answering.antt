@@ -1,0 +1,42 @@
+-- What an answer says of the input.
+use Rattle.std.proofs.Common.{◌≡◌, ◌≢◌, refl, sym, ap, subst, ◌∙◌, ℕ, ◌⊎◌, inl, inr, ⊎_elim, List, [], length, Option, Some, None, Result, Ok, Err}
+use Rattle.std.specs.Prelude.{IfErr, OnOk, OnErr, IsErrAnd}
+use Rattle.zf_dev.specs.Source.{Takes, IsAtEnd}
+use Rattle.zf_dev.proofs.Taking.{Takes-none, Takes-to_end}
+use Rattle.zf_dev.proofs.Appending.{AppendsFront-none}
+use Rattle.zf_stream.specs.declared.fault.StreamFault.{StreamFault}
+use Rattle.zf_stream.specs.declared.fault.StreamFault.TheVariants.{Write, Memory}
+use Rattle.zf_stream.specs.Outcomes.{Answers, IsRefusal, IsFromOutside, LeavesFront}
+
+-- a refusal is an answer
+pub answer_of_refusal : (r : Result (Unit {0}) StreamFault) (e : StreamFault) (known : Option (List ℕ)) (answer : List ℕ → Result (Unit {0}) StreamFault) → r ≡ Err e → IsRefusal known answer e → Answers r known answer
+answer_of_refusal r e None answer is refusal = tt
+answer_of_refusal r e (Some input) answer is refusal =
+    let P : Result (Unit {0}) StreamFault → Type 0 = λ q. (q ≡ answer input) ⊎ IsErrAnd q IsFromOutside in
+    subst P (sym is) (⊎_elim (λ same. inl (sym same)) (λ outside. inr outside) refusal)
+
+-- a good input is answered so, unless the sink fails
+pub answer_at_end : (r : Result (Unit {0}) StreamFault) (known now : Option (List ℕ)) (answer : List ℕ → Result (Unit {0}) StreamFault) (bytes : List ℕ) → IfErr r (λ e. e ≡ Write) → Takes known now bytes → IsAtEnd now
+    → answer bytes ≡ Ok tt → Answers r known answer
+answer_at_end r None now answer bytes fault taken ended good = tt
+answer_at_end (Ok u) (Some input) now answer bytes fault taken ended good = inl (sym (ap answer (Takes-to_end input now bytes taken ended) ∙ good))
+answer_at_end (Err e) (Some input) now answer bytes fault taken ended good = inr (inr (inl fault))
+
+pub both_ok : {T E : Type 0} {P Q R : Type 0} (r : Result T E) → OnOk r P → OnOk r Q → (P → Q → R) → OnOk r R
+both_ok (Ok x) p q f = f p q
+both_ok (Err e) p q f = tt
+
+pub after_err : {T E : Type 0} {P R : Type 0} (r : Result T E) → OnErr r P → (P → R) → OnErr r R
+after_err (Ok x) p f = tt
+after_err (Err e) p f = f p
+
+-- want of memory is an answer
+pub answer_of_memory : (r : Result (Unit {0}) StreamFault) (e : StreamFault) (known : Option (List ℕ)) (answer : List ℕ → Result (Unit {0}) StreamFault) → r ≡ Err e → e ≡ Memory → Answers r known answer
+answer_of_memory r e None answer is memory = tt
+answer_of_memory r e (Some input) answer is memory =
+    let P : Result (Unit {0}) StreamFault → Type 0 = λ q. (q ≡ answer input) ⊎ IsErrAnd q IsFromOutside in
+    subst P (sym is) (inr (inr (inr memory)))
+
+-- nothing was read, and nothing written
+pub nothing_left : (text : List ℕ → List ℕ) (src out : Option (List ℕ)) → LeavesFront text src src out out
+nothing_left text src out = record { bytes = []; taken = Takes-none src; written = AppendsFront-none out (text []) }

@@ -1,0 +1,132 @@
+-- The codes of an array, row by row.
+use Rattle.std.proofs.Common.{◌≡◌, refl, sym, ap, subst, ◌∙◌, ℕ, zero, suc, ◌+◌, ◌-◌, ◌*◌, ◌/◌, ◌%◌, ◌<◌, ◌≤◌, ◌⊎◌, inl, inr, Bool, ℤ, List, [], ◌∷◌, ◌++◌, map, length, get_or, take, drop, mul_comm, append_assoc, length-append, take_at, drop_at, arith}
+use Rattle.std.proofs.lemmas.List.{append-nil, length-map, take-append-le, drop-append-le, length-drop, get_or-map}
+use Rattle.std.proofs.Math.Nat.{mul-add, mul-le-mul_left}
+use Rattle.std.specs.List.{flat_map}
+use Rattle.std.specs.Int.{Width, byte_len, from_le_bytes, cast_signed}
+use Rattle.zf_spec.specs.Grid.{product, grid, blocks, upto, count_from, extent_of, block_of}
+use Rattle.zf_spec.specs.Stream.{first_bytes, values_from, block_code, codes}
+use Rattle.zf_spec.proofs.Counting.{map-upto_same, from_places, length-count_from, get_or-count_from}
+use Rattle.zf_spec.proofs.RawValues.{length-values_from}
+use Rattle.zf_base.specs.Widths.{width_of}
+use Rattle.zf_pad.specs.Slabs.{rows_of, row_len, with_rows, IsSlab, slab_of, first_block}
+use Rattle.zf_pad.proofs.Slabs.{product-rows, rows_of-grid, blocks-with_rows, extent_of-slab, block_of-slab}
+use Rattle.zf_header.specs.declared.header.Header.{Header}
+use Rattle.zf_header.specs.HeaderBits.{coding}
+use Rattle.zf_stream.specs.Rows.{rows_len, code_of_block, codes_of_rows}
+use Rattle.zf_stream.proofs.LittleEndian.{first_bytes-take}
+use Rattle.zf_stream.proofs.Codes.{joined-front}
+
+-- ---- values of bytes, one part after another
+
+first_of_more : (n : ℕ) (xs ys : List ℕ) → n ≤ length xs → first_bytes n (xs ++ ys) ≡ first_bytes n xs
+first_of_more n xs ys within =
+    first_bytes-take n (xs ++ ys) (omega (arith, length-append xs ys)) ∙ take-append-le n xs ys within ∙ sym (first_bytes-take n xs within)
+
+pub values_from-append : (w : Width) (a b : ℕ) (xs ys : List ℕ) → length xs ≡ a * byte_len w → values_from w (a + b) (xs ++ ys) ≡ values_from w a xs ++ values_from w b ys
+values_from-append w zero b xs ys long =
+    let none : xs ≡ [] = nothing xs (omega arith) in
+    let count : 0 + b ≡ b = omega arith in
+    ap (λ n. values_from w n (xs ++ ys)) count ∙ ap (λ zs. values_from w b (zs ++ ys)) none
+  where
+    nothing : (xs : List ℕ) → length xs ≡ 0 → xs ≡ []
+    nothing [] e = refl
+    nothing (x ∷ xs) e = absurd (omega arith)
+values_from-append w (suc a) b xs ys long =
+    let n = byte_len w in
+    let within : n ≤ length xs = omega arith in
+    let count : suc a + b ≡ suc (a + b) = omega arith in
+    ap (λ k. values_from w k (xs ++ ys)) count
+    ∙ ap (λ (bs : List ℕ). cast_signed w (from_le_bytes w bs) ∷ values_from w (a + b) (drop n (xs ++ ys))) (first_of_more n xs ys within)
+    ∙ ap (λ (bs : List ℕ). cast_signed w (from_le_bytes w (first_bytes n xs)) ∷ values_from w (a + b) bs) (drop-append-le n xs ys within)
+    ∙ ap (λ (vs : List ℤ). cast_signed w (from_le_bytes w (first_bytes n xs)) ∷ vs) (values_from-append w a b (drop n xs) ys (omega (arith, length-drop n xs)))
+
+-- the values of a slab are those of its bytes
+pub slab_of-bytes : (h : Header) (c rows : ℕ) (before raw more : List ℕ) → IsSlab h.shape c rows → length before ≡ rows_len h (4 * c) → length raw ≡ rows_len h rows
+    → slab_of h.shape (values_from (width_of h.ty) (product h.shape) (before ++ (raw ++ more))) c rows ≡ values_from (width_of h.ty) (row_len h.shape * rows) raw
+slab_of-bytes h c rows before raw more slab long as_long =
+    let w = width_of h.ty in
+    let ns = h.shape in
+    let r = row_len ns in
+    let a = r * (4 * c) in
+    let n = r * rows in
+    let rest = rows_of ns - (4 * c + rows) in
+    let m = r * rest in
+    let all : rows_of ns ≡ 4 * c + (rows + rest) = omega (arith, slab.within) in
+    let count : product ns ≡ a + (n + m) = product-rows ns slab.some_axis ∙ ap (λ k. r * k) all ∙ mul-add r (4 * c) (rows + rest) ∙ ap (λ k. a + k) (mul-add r rows rest) in
+    let first = values_from w a before in
+    let here = values_from w n raw in
+    let last = values_from w m more in
+    let parts : values_from w (product ns) (before ++ (raw ++ more)) ≡ first ++ (here ++ last) =
+    ap (λ k. values_from w k (before ++ (raw ++ more))) count ∙ values_from-append w a (n + m) before (raw ++ more) long
+    ∙ ap (λ (vs : List ℤ). first ++ vs) (values_from-append w n m raw more as_long) in
+    ap (λ (vs : List ℤ). take n (drop a vs)) parts ∙ ap (take n) (drop_at first (here ++ last) a (length-values_from w a before)) ∙ take_at here last n (length-values_from w n raw)
+
+-- ---- the codes of first rows
+
+-- the code of a block of a slab
+pub code_in_slab : (h : Header) (c rows j : ℕ) (before raw more : List ℕ) → IsSlab h.shape c rows → length before ≡ rows_len h (4 * c) → length raw ≡ rows_len h rows → j < blocks (with_rows rows h.shape)
+    → code_of_block h (before ++ (raw ++ more)) (first_block h.shape c + j)
+    ≡ block_code (width_of h.ty) (coding h.mode) (extent_of (with_rows rows h.shape) j) (block_of (with_rows rows h.shape) (values_from (width_of h.ty) (row_len h.shape * rows) raw) j)
+code_in_slab h c rows j before raw more slab long as_long lt =
+    let w = width_of h.ty in
+    let m = coding h.mode in
+    let values = values_from w (product h.shape) (before ++ (raw ++ more)) in
+    ap (λ es. block_code w m es (block_of h.shape values (first_block h.shape c + j))) (extent_of-slab h.shape c rows slab j lt)
+    ∙ ap (block_code w m (extent_of (with_rows rows h.shape) j))
+    (block_of-slab h.shape c rows slab j lt values ∙ ap (λ (vs : List ℤ). block_of (with_rows rows h.shape) vs j) (slab_of-bytes h c rows before raw more slab long as_long))
+
+-- a code of the first rows depends on their bytes alone
+code_more : (h : Header) (rows b : ℕ) (bytes more : List ℕ) → IsSlab h.shape 0 rows → length bytes ≡ rows_len h rows → b < first_block h.shape ((rows + 3) / 4)
+    → code_of_block h (bytes ++ more) b ≡ code_of_block h bytes b
+code_more h rows b bytes more slab long lt =
+    let below : b < blocks (with_rows rows h.shape) = omega (arith, blocks-with_rows rows h.shape slab.some_axis) in
+    let none : 0 ≡ rows_len h (4 * 0) = omega arith in
+    let place : first_block h.shape 0 + b ≡ b = omega arith in
+    ap (code_of_block h (bytes ++ more)) (sym place) ∙ code_in_slab h 0 rows b [] bytes more slab none long below
+    ∙ sym (code_in_slab h 0 rows b [] bytes [] slab none long below) ∙ ap (code_of_block h (bytes ++ [])) place ∙ ap (λ bs. code_of_block h bs b) (append-nil bytes)
+
+pub codes_of_rows-more : (h : Header) (rows : ℕ) (bytes more : List ℕ) → IsSlab h.shape 0 rows → length bytes ≡ rows_len h rows → codes_of_rows h rows (bytes ++ more) ≡ codes_of_rows h rows bytes
+codes_of_rows-more h rows bytes more slab long =
+    ap (λ (cs : List (List Bool)). flat_map (λ c. c) cs)
+    (map-upto_same (code_of_block h (bytes ++ more)) (code_of_block h bytes) (first_block h.shape ((rows + 3) / 4)) (λ b lt. code_more h rows b bytes more slab long lt))
+
+map-count_from : (f : ℕ → List Bool) (k n : ℕ) → map f (count_from k n) ≡ map (λ j. f (k + j)) (upto n)
+map-count_from f k n =
+    let long = length-count_from k n in
+    sym (from_places (λ j. f (k + j)) n [] (map f (count_from k n)) (length-map (count_from k n) f ∙ long)
+    (λ j lt. get_or-map f (count_from k n) j 0 [] (omega arith) ∙ ap f (get_or-count_from k n j 0 lt)))
+
+-- with the codes of one slab more
+pub codes_of_rows-next : (h : Header) (c rows : ℕ) (bytes raw : List ℕ) → IsSlab h.shape c rows → length bytes ≡ rows_len h (4 * c) → length raw ≡ rows_len h rows
+    → codes_of_rows h (4 * c + rows) (bytes ++ raw)
+    ≡ codes_of_rows h (4 * c) bytes ++ flat_map (λ c. c) (codes (width_of h.ty) (with_rows rows h.shape) (coding h.mode) (values_from (width_of h.ty) (row_len h.shape * rows) raw))
+codes_of_rows-next h c rows bytes raw slab long as_long =
+    let w = width_of h.ty in
+    let g = row_len (grid h.shape) in
+    let b = first_block h.shape c in
+    let n = blocks (with_rows rows h.shape) in
+    let f = code_of_block h (bytes ++ raw) in
+    let joined : List (List Bool) → List Bool = λ cs. flat_map (λ c. c) cs in
+    let rounded : (4 * c + rows + 3) / 4 ≡ c + (rows + 3) / 4 = omega arith in
+    let down : (4 * c + 3) / 4 ≡ c = omega arith in
+    let count : first_block h.shape ((4 * c + rows + 3) / 4) ≡ b + n =
+    ap (λ k. g * k) rounded ∙ mul-add g c ((rows + 3) / 4) ∙ ap (λ k. b + k) (sym (blocks-with_rows rows h.shape slab.some_axis)) in
+    let front : IsSlab h.shape 0 (4 * c) = record { some_axis = slab.some_axis; within = omega (arith, slab.within); whole = inl (omega arith) } in
+    ap (λ k. joined (map f (upto k))) count ∙ joined-front f b n
+    ∙ ap (λ (bs : List Bool). bs ++ joined (map f (count_from b n)))
+    (ap (λ k. joined (map f (upto (first_block h.shape k)))) (sym down) ∙ codes_of_rows-more h (4 * c) bytes raw front long)
+    ∙ ap (λ (bs : List Bool). codes_of_rows h (4 * c) bytes ++ bs)
+    (ap joined
+    (map-count_from f b n
+    ∙ map-upto_same (λ j. f (b + j)) (λ j. block_code w (coding h.mode) (extent_of (with_rows rows h.shape) j) (block_of (with_rows rows h.shape) (values_from w (row_len h.shape * rows) raw) j)) n
+    (λ j lt. ap (λ (bs : List ℕ). code_of_block h (bytes ++ bs) (b + j)) (sym (append-nil raw)) ∙ code_in_slab h c rows j bytes raw [] slab long as_long lt)))
+
+-- those of all rows are the codes of the array
+pub codes_of_all_rows : (h : Header) (bytes : List ℕ) → 1 ≤ length h.shape
+    → codes_of_rows h (rows_of h.shape) bytes ≡ flat_map (λ c. c) (codes (width_of h.ty) h.shape (coding h.mode) (values_from (width_of h.ty) (product h.shape) bytes))
+codes_of_all_rows h bytes some =
+    let g = grid h.shape in
+    let axes : 1 ≤ length g = omega (arith, length-map h.shape (λ n. (n + 3) / 4)) in
+    let count : first_block h.shape ((rows_of h.shape + 3) / 4) ≡ blocks h.shape = ap (λ k. row_len g * k) (sym (rows_of-grid h.shape some)) ∙ sym (product-rows g axes) in
+    ap (λ n. flat_map (λ c. c) (map (code_of_block h bytes) (upto n))) count

@@ -1,0 +1,240 @@
+-- An array that is compressed slab by slab: one slab more, and where it stops.
+use Rattle.std.proofs.Common.{◌≡◌, ◌≢◌, refl, sym, ap, subst, ◌∙◌, ℕ, ◌+◌, ◌-◌, ◌*◌, ◌/◌, ◌%◌, ◌<◌, ◌≤◌, ◌^◌, ◌⊎◌, inl, inr, ⊎_elim, Bool, List, [], ◌++◌, length, map, mul_comm, Option, Some, None, append_assoc, length-append, mul_assoc, arith}
+use Rattle.std.proofs.lemmas.List.{append-nil}
+use Rattle.std.proofs.Math.Nat.{add-mul, mul-add, mul-le-mul_left, mul-le-mul_right}
+use Rattle.std.specs.Int.{byte_len}
+use Rattle.std.specs.List.{flat_map}
+use Rattle.zf_spec.specs.Stream.{codes, values_from}
+use Rattle.zf_header.specs.HeaderBits.{coding}
+use Rattle.zf_spec.specs.Grid.{product, grid, upto}
+use Rattle.zf_base.specs.Widths.{width_of}
+use Rattle.zf_pad.specs.Slabs.{rows_of, row_len, with_rows, IsSlab, first_block}
+use Rattle.zf_pad.proofs.Slabs.{product-with_rows, product-rows}
+use Rattle.zf_header.specs.declared.header.Header.{Header}
+use Rattle.zf_dev.specs.Source.{Takes}
+use Rattle.zf_dev.proofs.Taking.{Takes-none, Takes-append}
+use Rattle.zf_stream.specs.declared.fault.StreamFault.{StreamFault}
+use Rattle.zf_stream.specs.declared.fault.StreamFault.TheVariants as faults
+use Rattle.zf_header.specs.declared.header.Mode.{Mode}
+use Rattle.zf_header.specs.declared.header.Mode.TheVariants.{Reversible, Rate, Precision}
+use Rattle.zf_block.specs.Room.{longest_rev, longest_prec}
+use mir.Val.{bits}
+use Rattle.zf_stream.specs.Parsing.{longest_code}
+use Rattle.zf_stream.specs.Raw.{raw_len, compress_answer}
+use Rattle.zf_stream.specs.Outcomes.{IsRefusal, CanRefuse}
+use Rattle.zf_stream.specs.Flows.{Flows, Spills}
+use Rattle.zf_stream.specs.Rows.{rows_len, code_of_block, codes_of_rows, ArePieces, Compresses, Stops, slab_codes, WritesSlab, BreaksSlab}
+use Rattle.zf_stream.proofs.Flowing.{Flows-more, Flows-next, Flows-spill, Spills-flows}
+use Rattle.zf_stream.proofs.Rows.{codes_of_rows-next}
+use Rattle.zf_stream.proofs.RawRows.{some_taken, refused_raw, possible_raw, wanted_raw}
+
+-- the rows of an array as an array of their own
+abbrev pub with_shape : Header → List ℕ → Header
+with_shape h shape = record { ty = h.ty; shape = shape; mode = h.mode }
+
+abbrev pub part_of : Header → ℕ → Header
+part_of h rows = with_shape h (with_rows rows h.shape)
+
+pub rows_len-part : (h : Header) (rows : ℕ) → 1 ≤ length h.shape → product (with_rows rows h.shape) * byte_len (width_of h.ty) ≡ rows_len h rows
+rows_len-part h rows some = ap (λ n. n * byte_len (width_of h.ty)) (product-with_rows rows h.shape some)
+
+pub rows_len-add : (h : Header) (a b : ℕ) → rows_len h (a + b) ≡ rows_len h a + rows_len h b
+rows_len-add h a b = ap (λ n. n * byte_len (width_of h.ty)) (mul-add (row_len h.shape) a b) ∙ add-mul (row_len h.shape * a) (row_len h.shape * b) (byte_len (width_of h.ty))
+
+pub rows_len-all : (h : Header) → 1 ≤ length h.shape → rows_len h (rows_of h.shape) ≡ raw_len h
+rows_len-all h some = ap (λ n. n * byte_len (width_of h.ty)) (sym (product-rows h.shape some)) ∙ omega arith
+
+pub rows_len-le : (h : Header) (a b : ℕ) → a ≤ b → rows_len h a ≤ rows_len h b
+rows_len-le h a b le = mul-le-mul_right (byte_len (width_of h.ty)) (mul-le-mul_left (row_len h.shape) le)
+
+-- the next slab: its first row is a multiple of 4
+pub record IsNext (h : Header) (row here : ℕ) : Type 0 where
+  pub first : 4 * (row / 4) ≡ row
+  pub slab : IsSlab h.shape (row / 4) here
+
+pub next_slab : (h : Header) (rows row : ℕ) → ArePieces h.shape rows → IsSlab h.shape 0 row → row < rows_of h.shape → (here : ℕ) → (here ≡ rows) ⊎ (here ≡ rows_of h.shape - row) → here ≤ rows → here ≤ rows_of h.shape - row → IsNext h row here
+next_slab h rows row pieces whole more here least few within =
+    let fours : row % 4 ≡ 0 = ⊎_elim (λ e. e) (λ e. absurd (omega (arith, e, more))) whole.whole in
+    let first : 4 * (row / 4) ≡ row = omega arith in
+    record {
+      first = first;
+      slab = record {
+        some_axis = whole.some_axis;
+        within = omega (arith, first, within, more);
+        whole = ⊎_elim
+            (λ same. ⊎_elim (λ e. inl (ap (λ n. n % 4) same ∙ e)) (λ e. inr (omega (arith, first, same, e, within, more))) pieces.whole)
+            (λ last. inr (omega (arith, first, last, more)))
+            least;
+      };
+    }
+
+module _ (h : Header) (row here : ℕ) (next : IsNext h row here) (whole : IsSlab h.shape 0 row) where
+  next_whole : IsSlab h.shape 0 (row + here)
+  next_whole = record {
+    some_axis = whole.some_axis;
+    within = omega (arith, next.first, next.slab.within);
+    whole = ⊎_elim (λ e. inl (omega (arith, e, next.first))) (λ e. inr (omega (arith, e, next.first))) next.slab.whole;
+  }
+
+  -- the codes of one slab more
+  codes_next : (bytes raw : List ℕ) → length bytes ≡ rows_len h row → length raw ≡ rows_len h here
+      → codes_of_rows h (row + here) (bytes ++ raw) ≡ codes_of_rows h row bytes ++ slab_codes (part_of h here) raw
+  codes_next bytes raw long as_long =
+      let c = row / 4 in
+      let Sum : ℕ → Type 0 = λ r. codes_of_rows h (r + here) (bytes ++ raw) ≡ codes_of_rows h r bytes ++ slab_codes (part_of h here) raw in
+      let many : row_len h.shape * here ≡ product (with_rows here h.shape) = sym (product-with_rows here h.shape whole.some_axis) in
+      subst Sum next.first
+      (codes_of_rows-next h c here bytes raw next.slab (long ∙ ap (rows_len h) (sym next.first)) as_long
+      ∙ ap (λ n. codes_of_rows h (4 * c) bytes ++ flat_map (λ c. c) (codes (width_of h.ty) (with_rows here h.shape) (coding h.mode) (values_from (width_of h.ty) n raw))) many)
+
+  within_all : (bytes : List ℕ) → length bytes ≡ rows_len h row → length bytes + product (with_rows here h.shape) * byte_len (width_of h.ty) ≤ raw_len h
+  within_all bytes long =
+      omega (
+        arith,
+        long,
+        rows_len-part h here whole.some_axis,
+        rows_len-add h row here,
+        rows_len-le h (row + here) (rows_of h.shape) (omega (arith, next.first, next.slab.within)),
+        rows_len-all h whole.some_axis,
+      )
+
+  module _ {src0 mid now out0 out1 out2 : Option (List ℕ)} {bits left : List Bool} (done : Compresses h row src0 mid out0 out1 bits left) where
+    -- one slab more was written
+    pub slab_written : {last : List Bool} → WritesSlab (part_of h here) mid now out1 out2 left last → Compresses h (row + here) src0 now out0 out2 bits last
+    slab_written {last} slab =
+        let as_long = slab.long ∙ rows_len-part h here whole.some_axis in
+        let Of : List Bool → Type 0 = λ bs. Flows out0 out2 bs last in
+        record {
+          whole = next_whole;
+          bytes = done.bytes ++ slab.raw;
+          taken = Takes-append src0 mid now done.bytes slab.raw done.taken slab.taken;
+          long = length-append done.bytes slab.raw ∙ omega (arith, done.long, as_long, rows_len-add h row here);
+          flows = subst Of
+              (append_assoc bits (codes_of_rows h row done.bytes) (slab_codes (part_of h here) slab.raw) ∙ ap (λ (bs : List Bool). bits ++ bs) (sym (codes_next done.bytes slab.raw done.long as_long)))
+              (Flows-next (Flows-more (slab_codes (part_of h here) slab.raw) done.flows) slab.flows);
+        }
+
+    -- or it was not
+    pub slab_broken : (before : ℕ) (e : StreamFault) → BreaksSlab (part_of h here) before mid now out1 out2 left e → Stops h src0 now out0 out2 bits
+    slab_broken before e broken =
+        ⊎_elim
+        (λ lacks.
+        let some = some_taken before (product (with_rows here h.shape) * byte_len (width_of h.ty)) mid now e lacks.0 in
+        let Out : Option (List ℕ) → Type 0 = λ o. Spills out0 o (bits ++ codes_of_rows h row done.bytes) in
+        record {
+          rows = row;
+          whole = whole;
+          bytes = done.bytes;
+          more = some.0;
+          taken = Takes-append src0 mid now done.bytes some.0 done.taken some.1;
+          long = done.long;
+          spills = subst Out (sym lacks.1) (Spills-flows done.flows);
+        })
+        (λ failed.
+        let slab = failed.1 in
+        let as_long = slab.long ∙ rows_len-part h here whole.some_axis in
+        let Of : List Bool → Type 0 = λ bs. Spills out0 out2 bs in
+        let Taken : List ℕ → Type 0 = λ bs. Takes src0 now bs in
+        record {
+          rows = row + here;
+          whole = next_whole;
+          bytes = done.bytes ++ slab.raw;
+          more = [];
+          taken = subst Taken (sym (append-nil (done.bytes ++ slab.raw))) (Takes-append src0 mid now done.bytes slab.raw done.taken slab.taken);
+          long = length-append done.bytes slab.raw ∙ omega (arith, done.long, as_long, rows_len-add h row here);
+          spills = subst Of
+              (append_assoc bits (codes_of_rows h row done.bytes) (slab_codes (part_of h here) slab.raw) ∙ ap (λ (bs : List Bool). bits ++ bs) (sym (codes_next done.bytes slab.raw done.long as_long)))
+              (Flows-spill (Flows-more (slab_codes (part_of h here) slab.raw) done.flows) slab.spills);
+        })
+        broken
+
+    same_before : (before : ℕ) (e : StreamFault) → before ≡ rows_len h row → BreaksSlab (part_of h here) before mid now out1 out2 left e → BreaksSlab (part_of h here) (length done.bytes) mid now out1 out2 left e
+    same_before before e is broken = let P : ℕ → Type 0 = λ n. BreaksSlab (part_of h here) n mid now out1 out2 left e in subst P (is ∙ sym done.long) broken
+
+    pub slab_refused : (before : ℕ) (e : StreamFault) → before ≡ rows_len h row → BreaksSlab (part_of h here) before mid now out1 out2 left e → IsRefusal src0 (compress_answer h) e
+    slab_refused before e is broken =
+        ⊎_elim (λ lacks. refused_raw h src0 mid now done.bytes done.taken _ (within_all done.bytes done.long) e lacks.0) (λ failed. outside src0 failed.0) (same_before before e is broken)
+      where
+        outside : (known : Option (List ℕ)) → e ≡ faults.Write → IsRefusal known (compress_answer h) e
+        outside None is = tt
+        outside (Some all) is = inr (inr (inl is))
+
+    pub slab_possible : (before : ℕ) (e : StreamFault) → before ≡ rows_len h row → BreaksSlab (part_of h here) before mid now out1 out2 left e → CanRefuse (compress_answer h) e
+    slab_possible before e is broken =
+        ⊎_elim (λ lacks. possible_raw h src0 mid now done.bytes done.taken _ (within_all done.bytes done.long) e lacks.0) (λ failed. inr (inr (inl failed.0))) (same_before before e is broken)
+
+    pub slab_wanted : (before : ℕ) (e : StreamFault) → before ≡ rows_len h row → BreaksSlab (part_of h here) before mid now out1 out2 left e → e ≢ faults.Memory
+    slab_wanted before e is broken =
+        ⊎_elim (λ lacks. wanted_raw h src0 mid now done.bytes done.taken _ (within_all done.bytes done.long) e lacks.0) (λ failed memory. let no : faults.Write ≡ faults.Memory = sym failed.0 ∙ memory in cc) (same_before before e is broken)
+
+-- ---- the sizes of a slab
+
+pub record SlabSizes (h : Header) (rows here count len : ℕ) (shape : List ℕ) : Type 0 where
+  pub bytes : count * len ≤ rows_len h rows
+  pub bytes_are : count * len ≡ product shape * byte_len (width_of h.ty)
+  pub bytes_len : count * len ≡ rows_len h here
+  pub values : count ≤ row_len h.shape * rows
+
+pub slab_sizes : (h : Header) (rows here count len : ℕ) (shape : List ℕ) → 1 ≤ length h.shape → here ≤ rows → shape ≡ with_rows here h.shape → count ≡ product shape → len ≡ byte_len (width_of h.ty) → SlabSizes h rows here count len shape
+slab_sizes h rows here count len shape some few is count_is len_is =
+    let many : count ≡ row_len h.shape * here = count_is ∙ ap product is ∙ product-with_rows here h.shape some in
+    let size : count * len ≡ product shape * byte_len (width_of h.ty) = ap (λ n. n * len) count_is ∙ ap (λ n. product shape * n) len_is in
+    let all : count * len ≡ rows_len h here = ap (λ n. n * len) many ∙ ap (λ n. row_len h.shape * here * n) len_is in
+    record {
+      bytes = omega (arith, all, rows_len-le h here rows few);
+      bytes_are = size;
+      bytes_len = all;
+      values = omega (arith, many, mul-le-mul_left (row_len h.shape) few);
+    }
+
+-- the raw values of an array are not so many
+pub raw_small : (h : Header) (len row : ℕ) → 1 ≤ length h.shape → row ≤ rows_of h.shape → product h.shape ≤ 2 ^ 27 → len ≤ 8 → len ≡ byte_len (width_of h.ty) → rows_len h row ≤ 2 ^ 30
+raw_small h len row some within few narrow is =
+    let all = rows_len-le h row (rows_of h.shape) within in
+    let whole : rows_len h (rows_of h.shape) ≡ product h.shape * byte_len (width_of h.ty) = ap (λ n. n * byte_len (width_of h.ty)) (sym (product-rows h.shape some)) in
+    omega (arith, all, whole, mul-le-mul_right (byte_len (width_of h.ty)) few, narrow, is)
+
+-- ---- the start, where no row is read
+
+none_long : (h : Header) → 0 ≡ rows_len h 0
+none_long h = omega (arith, mul_comm (row_len h.shape) 0)
+
+pub no_rows : (h : Header) (bits : List Bool) {src out : Option (List ℕ)} → 1 ≤ length h.shape → Takes src src [] → Flows out out bits bits → Compresses h 0 src src out out bits bits
+no_rows h bits {src} {out} some taken flows =
+    let none : first_block h.shape ((0 + 3) / 4) ≡ 0 = omega (arith, mul_comm (row_len (grid h.shape)) 0) in
+    let codes : codes_of_rows h 0 [] ≡ [] = ap (λ n. flat_map (λ c. c) (map (code_of_block h []) (upto n))) none in
+    let Of : List Bool → Type 0 = λ bs. Flows out out bs bits in
+    record {
+      whole = record { some_axis = some; within = omega arith; whole = inl refl };
+      bytes = [];
+      taken = taken;
+      long = none_long h;
+      flows = subst Of (sym (append-nil bits) ∙ ap (λ (bs : List Bool). bits ++ bs) (sym codes)) flows;
+    }
+
+pub Stops-none : (h : Header) (bits : List Bool) {src out0 out : Option (List ℕ)} → 1 ≤ length h.shape → Takes src src [] → Spills out0 out bits → Stops h src src out0 out bits
+Stops-none h bits {src} {out0} {out} some taken spills =
+    let none : first_block h.shape ((0 + 3) / 4) ≡ 0 = omega (arith, mul_comm (row_len (grid h.shape)) 0) in
+    let codes : codes_of_rows h 0 [] ≡ [] = ap (λ n. flat_map (λ c. c) (map (code_of_block h []) (upto n))) none in
+    let Of : List Bool → Type 0 = λ bs. Spills out0 out bs in
+    record {
+      rows = 0;
+      whole = record { some_axis = some; within = omega arith; whole = inl refl };
+      bytes = [];
+      more = [];
+      taken = taken;
+      long = none_long h;
+      spills = subst Of (sym (append-nil bits) ∙ ap (λ (bs : List Bool). bits ++ bs) (sym codes)) spills;
+    }
+
+pub zero_rows : (h : Header) → 0 ≡ rows_len h 0
+zero_rows h = none_long h
+
+-- the longest code depends on the number of axes alone
+pub longest_part : (h : Header) (shape : List ℕ) → length shape ≡ length h.shape → longest_code (with_shape h shape) ≡ longest_code h
+longest_part h shape same = by h.mode
+  where
+    by : (m : Mode) → longest_code (record { ty = h.ty; shape = shape; mode = m }) ≡ longest_code (record { ty = h.ty; shape = h.shape; mode = m })
+    by Reversible = ap (longest_rev (bits (width_of h.ty))) same
+    by (Rate b) = refl
+    by (Precision p) = ap (longest_prec (bits (width_of h.ty))) same

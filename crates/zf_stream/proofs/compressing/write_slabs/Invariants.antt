@@ -1,0 +1,21 @@
+-- The rows so far were read, and their codes are on their way.
+use Rattle.std.proofs.Common.{◌≡◌, ◌≢◌, ◌+◌, ◌-◌, ◌≤◌, ◌<◌, ◌^◌, length}
+use Rattle.zf_pad.specs.Slabs.{rows_of}
+use Rattle.zf_stream.specs.Rows.{rows_len, Compresses}
+use Rattle.zf_stream.proofs.compressing.write_slabs.Given as goal
+
+pub record SoFar (g : goal.Over) (l : goal.Live-loop-row g) : Type 0 where
+  pub done : Compresses l.h l.row (g.S.Source.contents l.fn.src) (g.S.Source.contents l.src) (g.O.Sink.contents l.fn.out) (g.O.Sink.contents l.out) l.fn.codes.bits l.codes.bits
+  pub taken : l.taken ≡ rows_len l.h l.row
+  pub few : length l.codes.bits < l.most
+  pub room : length l.fn.codes.bits + l.fn.codes.room ≤ length l.codes.bits + l.codes.room
+  pub scratch : l.s ≡ l.fn.s
+  pub reads : g.S.Source.faults l.fn.src ≤ g.S.Source.faults l.src
+  pub writes : g.O.Sink.faults l.fn.out ≤ g.O.Sink.faults l.out
+  pub sure : g.S.Source.never_fails l.fn.src → g.S.Source.never_fails l.src
+
+abbrev pub invariant-loop-row : goal.invariant-loop-row
+invariant-loop-row g l = SoFar g l
+
+abbrev pub decreases-loop-row : goal.decreases-loop-row
+decreases-loop-row g l = rows_of l.h.shape - l.row

@@ -1,7 +1,0 @@
--- The values so far are those of the bytes so far.
-use Rattle.std.proofs.Common.{◌≡◌, map}
-use Rattle.zf_spec.specs.Stream.{values_from}
-use Rattle.zf_stream.proofs.values.values_of.Given as goal
-
-abbrev pub invariant-loop-i : goal.invariant-loop-i
-invariant-loop-i g l = map g.T.Lane.value l.values.items ≡ values_from g.T.Lane.width l.i l.raw

@@ -1,0 +1,68 @@
+use Rattle.std.proofs.Common.{◌≡◌, ℕ, ◌+◌, ◌-◌, ◌*◌, ◌≤◌, ◌<◌, ◌^◌, List, ◌++◌, length, take, drop, sym, ap, subst, ◌∙◌, take-append-drop, arith}
+use Rattle.std.proofs.lemmas.List.{take_all, take_at, length-take}
+use Rattle.std.proofs.lemmas.List.Elements.{All-from_get_or}
+use Rattle.std.proofs.lemmas.Grind.{flat_map-append}
+use Rattle.std.specs.Int.{w64, to_le_bytes}
+use Rattle.zf_dev.specs.Sink.{Appends, AppendsFront}
+use Rattle.zf_dev.proofs.Appending.{Appends-append, AppendsFront-append, AppendsFront-more}
+use Rattle.zf_stream.specs.Flows.{bytes_in}
+use Rattle.zf_stream.proofs.OnErrors.{on_err}
+use Rattle.zf_stream.proofs.writing.write_words.Goals as goal
+use Rattle.std.proofs.Math.Seq.{take-add}
+
+-- the bytes of some words more
+bytes_more : (words : List ℕ) (at n : ℕ) → bytes_in (take (at + n) words) ≡ bytes_in (take at words) ++ bytes_in (take n (drop at words))
+bytes_more words at n = ap bytes_in (take-add at n words) ∙ flat_map-append (to_le_bytes w64) (take at words) (take n (drop at words))
+
+-- those that were written, and those behind
+all_bytes : (words : List ℕ) (n : ℕ) → bytes_in (take n words) ++ bytes_in (drop n words) ≡ bytes_in words
+all_bytes words n = sym (flat_map-append (to_le_bytes w64) (take n words) (drop n words)) ∙ ap bytes_in (take-append-drop n words)
+
+-- what a piece was filled with
+filled : (put rest words : List ℕ) (at n m k : ℕ) → put ≡ bytes_in (take k (drop at words)) → k ≡ n → length put ≡ m → take m (put ++ rest) ≡ bytes_in (take n (drop at words))
+filled put rest words at n m k is count long = take_at put rest m long ∙ is ∙ ap (λ j. bytes_in (take j (drop at words))) count
+
+pub returns-in_err-write_bytes-clause-err : goal.returns-in_err-write_bytes-clause-err
+returns-in_err-write_bytes-clause-err g c = on_err c.from_residual.result _ (
+    let words = c.args.words.now in
+    let at = c.loop-at.at in
+    let n = c.min-n.result in
+    let from = g.O.Sink.contents c.args.out.now in
+    let to = g.O.Sink.contents c.write_bytes.new.out in
+    let mid = g.O.Sink.contents c.loop-at.out in
+    let behind = bytes_in (drop (at + n) words) in
+    let front = bytes_in (take at words) in
+    let count : at + n - at ≡ n = omega arith in
+    let long : length c.put_bytes.new.bytes ≡ 8 * n = omega (arith, c.put_bytes.auto.bytes, c.min-n.ensures, length-take (8 * n) c.loop-at.piece, c.loop-at.auto.piece) in
+    let same = filled c.put_bytes.new.bytes (drop (8 * n) c.loop-at.piece) words at n (8 * n) (at + n - at) c.put_bytes.ensures count long in
+    let Piece : List ℕ → Type 0 = λ bs. AppendsFront mid to bs in
+    let piece = subst Piece same c.in_err-write_bytes.ensures.err in
+    let P : List ℕ → Type 0 = λ bs. AppendsFront from to bs in
+    let parts = AppendsFront-append from mid to front (bytes_in (take n (drop at words))) c.loop-at.invariant.written piece in
+    subst P (ap (λ (bs : List ℕ). bs ++ behind) (sym (bytes_more words at n)) ∙ all_bytes words (at + n)) (AppendsFront-more from to (front ++ bytes_in (take n (drop at words))) behind parts))
+
+pub loop-at-preserved : goal.loop-at-preserved
+loop-at-preserved g c =
+    let words = c.args.words.now in
+    let at = c.loop-at.at in
+    let n = c.min-n.result in
+    let from = g.O.Sink.contents c.args.out.now in
+    let to = g.O.Sink.contents c.write_bytes.new.out in
+    let mid = g.O.Sink.contents c.loop-at.out in
+    let count : at + n - at ≡ n = omega arith in
+    let long : length c.put_bytes.new.bytes ≡ 8 * n = omega (arith, c.put_bytes.auto.bytes, c.min-n.ensures, length-take (8 * n) c.loop-at.piece, c.loop-at.auto.piece) in
+    let same = filled c.put_bytes.new.bytes (drop (8 * n) c.loop-at.piece) words at n (8 * n) (at + n - at) c.put_bytes.ensures count long in
+    let Piece : List ℕ → Type 0 = λ bs. Appends mid to bs in
+    let piece = subst Piece same c.in_ok-write_bytes.ensures.ok in
+    let P : List ℕ → Type 0 = λ bs. Appends from to bs in
+    record {
+      within = omega (arith, c.loop-at-test.true, c.min-n.ensures);
+      written = subst P (sym (bytes_more words at n)) (Appends-append from mid to (bytes_in (take at words)) (bytes_in (take n (drop at words))) c.loop-at.invariant.written piece);
+      faults = omega (arith, c.loop-at.invariant.faults, c.write_bytes.ensures.cause.0);
+    }
+
+pub returns-in_err-write_bytes-clause-words : goal.returns-in_err-write_bytes-clause-words
+returns-in_err-write_bytes-clause-words g c = All-from_get_or (λ v. v < 2 ^ 64) c.args.words.now 0 (λ i within. (c.type_inv.words i).fits)
+
+pub returns-clause-words : goal.returns-clause-words
+returns-clause-words g c = All-from_get_or (λ v. v < 2 ^ 64) c.args.words.now 0 (λ i within. (c.type_inv.words i).fits)

@@ -1,0 +1,25 @@
+-- What is read of raw values.
+use Rattle.std.specs.Prelude.{ℕ, ◌≡◌, ◌+◌, ◌<◌, List, [], ◌∷◌, length, Option}
+use Rattle.zf_dev.specs.Source.{Takes, TakesSome, IsAtEnd}
+use Rattle.zf_stream.specs.declared.fault.StreamFault.{StreamFault}
+use Rattle.zf_stream.specs.declared.fault.StreamFault.TheVariants.{RawShort, RawLong, Read}
+
+-- fewer bytes than are wanted were to come, behind those before: so many in all
+pub record EndsShort (before wanted : ℕ) (old new : Option (List ℕ)) (count : ℕ) : Type 0 where
+  pub bytes : List ℕ
+  pub taken : Takes old new bytes
+  pub ended : IsAtEnd new
+  pub few : length bytes < wanted
+  pub count_is : count ≡ before + length bytes
+
+-- as many bytes as are wanted were not read: there are fewer, or the source failed
+abbrev pub LacksRaw : ℕ → ℕ → Option (List ℕ) → Option (List ℕ) → StreamFault → Type 0
+LacksRaw before wanted old new (RawShort count) = EndsShort before wanted old new count
+LacksRaw before wanted old new Read = TakesSome old new
+LacksRaw before wanted old new e = ⊥
+
+-- no end was read: a byte came, or the source failed
+abbrev pub GoesOn : Option (List ℕ) → Option (List ℕ) → StreamFault → Type 0
+GoesOn old new RawLong = (byte : ℕ) × Takes old new (byte ∷ [])
+GoesOn old new Read = TakesSome old new
+GoesOn old new e = ⊥

@@ -1,0 +1,78 @@
+//! Words of a stream on their way to a sink.
+
+ghost use Rattle.std.specs.Prelude.{◌≡◌, ◌≤◌, ◌<◌, ◌*◌, ◌+◌, ◌≢◌, ◌^◌, All, length, Err, OnOk, OnErr, IfErr};
+ghost use Rattle.zf_dev.specs.Faults.{HasCause};
+ghost use Rattle.zf_dev.specs.Sink.{Appends, AppendsFront};
+ghost use Rattle.zf_stream.specs.Flows.{bytes_in, Flows, Spills};
+ghost use Rattle.zf_stream.specs.declared.fault.StreamFault.TheVariants.{Write};
+
+use crate::StreamFault;
+use zf_bits::{BitWriter, get_bits};
+use zf_dev::{Sink, write_all};
+
+/// Writes the whole words of a code, and keeps the bits behind them.
+pub(crate) fn write_whole_words<O: Sink>(
+    codes: &mut BitWriter,
+    piece: &mut [u8],
+    out: &mut O,
+) -> Result<(), StreamFault>
+    requires { 8 ≤ length piece.old }
+    ensures ok { OnOk result (Flows (O.contents out.old) (O.contents out.new) codes.old.bits codes.new.bits) }
+    ensures err { OnErr result (Spills (O.contents out.old) (O.contents out.new) codes.old.bits) }
+    ensures fault { IfErr result (λ e. e ≡ Write) }
+    ensures few { OnOk result (length codes.new.bits < 64) }
+    ensures room { OnOk result (length codes.old.bits + codes.old.room ≤ length codes.new.bits + codes.new.room) }
+    ensures cause { HasCause (result ≡ Err Write) (O.faults out.old) (O.faults out.new) }
+{
+    let len = codes.len();
+    let left = len % 64;
+    let words = codes.words();
+    write_words(&words[..(len / 64) as usize], piece, out)?;
+    let last = get_bits(words, len - left, left as u32);
+    codes.clear();
+    codes.write_reserved(last, left as u32);
+    Ok(())
+}
+
+/// Writes words, the least significant byte of each first, by way of `piece`.
+fn write_words<O: Sink>(words: &[u64], piece: &mut [u8], out: &mut O) -> Result<(), StreamFault>
+    requires { 8 ≤ length piece.old }
+    ensures ok { OnOk result (Appends (O.contents out.old) (O.contents out.new) (bytes_in words.now)) }
+    ensures err { OnErr result (AppendsFront (O.contents out.old) (O.contents out.new) (bytes_in words.now)) }
+    ensures words { All (λ v. v < 2 ^ 64) words.now }
+    ensures fault { IfErr result (λ e. e ≡ Write) }
+    ensures cause { HasCause (result ≡ Err Write) (O.faults out.old) (O.faults out.new) }
+{
+    let most = piece.len() / 8;
+    let mut at = 0;
+    while at < words.len() {
+        let n = (words.len() - at).min(most);
+        put_bytes(&words[at..at + n], &mut piece[..8 * n]);
+        write_bytes(&piece[..8 * n], out)?;
+        at += n;
+    }
+    Ok(())
+}
+
+/// Writes bytes.
+pub(crate) fn write_bytes<O: Sink>(bytes: &[u8], out: &mut O) -> Result<(), StreamFault>
+    ensures ok { OnOk result (Appends (O.contents out.old) (O.contents out.new) bytes.now) }
+    ensures err { OnErr result (AppendsFront (O.contents out.old) (O.contents out.new) bytes.now) }
+    ensures fault { IfErr result (λ e. e ≡ Write) }
+    ensures cause { HasCause (result ≡ Err Write) (O.faults out.old) (O.faults out.new) }
+{
+    match write_all(out, bytes) {
+        Ok(()) => Ok(()),
+        Err(_) => Err(StreamFault::Write),
+    }
+}
+
+/// Makes bytes of words, the least significant byte of each first.
+fn put_bytes(words: &[u64], bytes: &mut [u8])
+    requires { length bytes.old ≡ 8 * length words.now }
+    ensures { bytes.new ≡ bytes_in words.now }
+{
+    for i in 0..words.len() {
+        bytes[8 * i..8 * i + 8].copy_from_slice(&words[i].to_le_bytes());
+    }
+}
