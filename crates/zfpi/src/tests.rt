@@ -239,7 +239,9 @@ fn a_device_that_fails_is_told(rt: HostRuntime) -> Result<(), Fail> {
         let ended = call(rt.alloc(), words, &[0; 4], 1000, read_fails, write_fails)?;
         assert_eq!(rt; ended.status, status);
         assert_eq!(rt; ended.err.bytes(), line);
-        assert_eq!(rt; ended.out.bytes().len(), 0);
+        // A front of the stream, and nothing where the first write fails.
+        assert!(rt; b"zfp\x05\0\0\0\0\0\0\0\x88\0\0\0\0".starts_with(ended.out.bytes()));
+        assert!(rt; write_fails.is_empty() || ended.out.bytes().is_empty());
         assert!(rt; ended.keeps_the_shelf());
     }
     Ok(())
