@@ -7,7 +7,7 @@ use Rattle.zf_view.proofs.view.View.elems.Goals as goal
 pub count-end-requires : goal.count-end-requires
 count-end-requires g c =
     let now = c.args.self.now in
-    omega (arith, product_window (shape now.array.now) now.window c.requires, ap product c.shape.ensures, c.values-values.ensures.value, c.values-values.ensures.bound)
+    omega (arith, product_window (shape now.array.now) now.window c.requires, ap product c.shape.ensures.value, c.values-values.ensures.value, c.values-values.ensures.bound)
 
 pub returns : goal.returns
 returns g c = (
