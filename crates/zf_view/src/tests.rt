@@ -1,9 +1,14 @@
 //! Windows and blocks, with values from a program that was written from the definitions alone.
 
-ghost use Rattle.std.specs.Prelude.{◌≡◌, length};
+ghost use Rattle.std.specs.Prelude.{◌≡◌, length, IfOk};
+ghost use Rattle.zf_cached.specs.Windows.{LiesIn};
+ghost use Rattle.zf_array.specs.Standing.{shape};
 
 use super::*;
+use std::alloc::Global;
+use std::process::Abort;
 use std::test::Fail;
+use zf_array::Array;
 use zf_base::{Extent, Pos, Shape};
 
 fn at(x: u64, y: u64) -> Pos {
@@ -22,6 +27,7 @@ fn window(
     step: [u64; 2],
 ) -> Result<Window, ViewFault>
     requires { length shape.now ≡ 2 }
+    ensures { IfOk result (LiesIn shape.now) }
 {
     Window::new(
         shape,
@@ -124,4 +130,69 @@ fn blocks_come_in_order(rt: HostRuntime) {
     assert_eq!(rt; blocks.next(), None);
     assert_eq!(rt; blocks.next(), None);
     assert_eq!(rt; BlockIter::new(&shape).count(), 4);
+}
+
+// Zeros of int32, 4 by 4 values at 128 bits a block, with one line.
+fn zeros(rt: &impl Abort, alloc: Global) -> Result<Array<i32, 2>, Fail> {
+    let shape = Shape::new(2, 4, 4, 1, 1).ok().ok_or("a shape")?;
+    assert_eq!(rt; shape.dims(), 2);
+    Ok(Array::new(alloc, shape, 128, 1)?)
+}
+
+// The window of every second position from 1, 1 on.
+fn odd_places(rt: &impl Abort, array: &Array<i32, 2>) -> Window
+    ensures { LiesIn (shape array.now) result }
+{
+    let shape = array.shape();
+    assert_eq!(rt; shape.dims(), 2);
+    match window(&shape, [1, 1], [2, 2], [2, 2]) {
+        Ok(part) => part,
+        Err(_) => panic!(rt; "no window"),
+    }
+}
+
+fn get(rt: &impl Abort, array: &mut Array<i32, 2>, x: u64, y: u64) -> i32 {
+    let part = odd_places(rt, array);
+    let p = at(x, y);
+    assert!(rt; part.contains(p));
+    View::bind(array, part).get(p)
+}
+
+fn set(rt: &impl Abort, array: &mut Array<i32, 2>, x: u64, y: u64, v: i32) {
+    let part = odd_places(rt, array);
+    let p = at(x, y);
+    assert!(rt; part.contains(p));
+    View::bind(array, part).set(p, v);
+}
+
+fn add(rt: &impl Abort, array: &mut Array<i32, 2>, x: u64, y: u64, v: i32) {
+    let part = odd_places(rt, array);
+    let p = at(x, y);
+    assert!(rt; part.contains(p));
+    View::bind(array, part).elem(p).add(v);
+}
+
+fn sum(rt: &impl Abort, array: &mut Array<i32, 2>) -> i32 {
+    let part = odd_places(rt, array);
+    let mut sum = 0i32;
+    for value in View::bind(array, part).elems() {
+        sum = sum.wrapping_add(value);
+    }
+    sum
+}
+
+#[test]
+fn a_view_and_its_array_see_one_state(rt: HostRuntime) -> Result<(), Fail> {
+    let mut array = zeros(&rt, rt.alloc())?;
+    set(&rt, &mut array, 0, 0, 5);
+    set(&rt, &mut array, 1, 1, 9);
+    assert_eq!(rt; get(&rt, &mut array, 0, 0), 5);
+    assert_eq!(rt; sum(&rt, &mut array), 14);
+    add(&rt, &mut array, 1, 1, -2);
+    let last = at(3, 3);
+    assert!(rt; array.shape().contains(last));
+    assert_eq!(rt; array.get(last), 7);
+    let stats = array.stats();
+    assert_eq!(rt; (stats.hits, stats.misses, stats.writes), (8, 1, 0));
+    Ok(())
 }
