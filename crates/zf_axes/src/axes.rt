@@ -22,12 +22,23 @@ pub fn pass<T: Lane, M: LineMap<T>>(line_map: &M, step: usize, block: &mut [T])
         (64, 1) => pass_by(line_map, 1, 64, block),
         (64, 4) => pass_by(line_map, 4, 64, block),
         (64, 16) => pass_by(line_map, 16, 64, block),
-        (len, 1) => pass_by(line_map, 1, len, block),
-        (len, 4) => pass_by(line_map, 4, len, block),
-        (len, 16) => pass_by(line_map, 16, len, block),
-        (len, 64) => pass_by(line_map, 64, len, block),
-        (len, _) => pass_by(line_map, step, len, block),
+        (256, 1) => pass_by(line_map, 1, 256, block),
+        (256, 4) => pass_by(line_map, 4, 256, block),
+        (256, 16) => pass_by(line_map, 16, 256, block),
+        (256, 64) => pass_by(line_map, 64, 256, block),
+        _ => pass_any(line_map, step, block),
     }
+}
+
+// The same of any length, which no block of one to four dimensions has.
+#[cold]
+#[inline(never)]
+fn pass_any<T: Lane, M: LineMap<T>>(line_map: &M, step: usize, block: &mut [T])
+    requires step { 0 < step }
+    requires whole { length block.old % (4 * step) ≡ 0 }
+    ensures { map T.value block.new ≡ along (M.line line_map.now) step (map T.value block.old) }
+{
+    pass_by(line_map, step, block.len(), block);
 }
 
 // The same, compiled anew for each step and length that is a constant.
