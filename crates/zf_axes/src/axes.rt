@@ -14,25 +14,43 @@ pub fn pass<T: Lane, M: LineMap<T>>(line_map: &M, step: usize, block: &mut [T])
     requires whole { length block.old % (4 * step) ≡ 0 }
     ensures { map T.value block.new ≡ along (M.line line_map.now) step (map T.value block.old) }
 {
-    // Where the step is a constant, the compiler makes lanes of the lines beside one another.
-    match step {
-        1 => pass_by(line_map, 1, block),
-        4 => pass_by(line_map, 4, block),
-        16 => pass_by(line_map, 16, block),
-        64 => pass_by(line_map, 64, block),
-        _ => pass_by(line_map, step, block),
+    // Where the step and the length are constants, the compiler makes lanes of the lines beside one another, and needs no loop for few lines.
+    match (block.len(), step) {
+        (4, 1) => pass_by(line_map, 1, 4, block),
+        (16, 1) => pass_by(line_map, 1, 16, block),
+        (16, 4) => pass_by(line_map, 4, 16, block),
+        (64, 1) => pass_by(line_map, 1, 64, block),
+        (64, 4) => pass_by(line_map, 4, 64, block),
+        (64, 16) => pass_by(line_map, 16, 64, block),
+        (256, 1) => pass_by(line_map, 1, 256, block),
+        (256, 4) => pass_by(line_map, 4, 256, block),
+        (256, 16) => pass_by(line_map, 16, 256, block),
+        (256, 64) => pass_by(line_map, 64, 256, block),
+        _ => pass_any(line_map, step, block),
     }
 }
 
-// The same, compiled anew for each step that is a constant.
-#[inline(always)]
-fn pass_by<T: Lane, M: LineMap<T>>(line_map: &M, step: usize, block: &mut [T])
+// The same of any length, which no block of one to four dimensions has.
+#[cold]
+#[inline(never)]
+fn pass_any<T: Lane, M: LineMap<T>>(line_map: &M, step: usize, block: &mut [T])
     requires step { 0 < step }
     requires whole { length block.old % (4 * step) ≡ 0 }
     ensures { map T.value block.new ≡ along (M.line line_map.now) step (map T.value block.old) }
 {
+    pass_by(line_map, step, block.len(), block);
+}
+
+// The same, compiled anew for each step and length that is a constant.
+#[inline(always)]
+fn pass_by<T: Lane, M: LineMap<T>>(line_map: &M, step: usize, len: usize, block: &mut [T])
+    requires step { 0 < step }
+    requires len { len ≡ length block.old }
+    requires whole { length block.old % (4 * step) ≡ 0 }
+    ensures { map T.value block.new ≡ along (M.line line_map.now) step (map T.value block.old) }
+{
     // The block is made of groups of `4 * step` values, and the lines of a group begin at its first `step` places.
-    for group in 0..block.len() / step / 4 {
+    for group in 0..len / step / 4 {
         let first = 4 * step * group;
         for start in first..first + step {
             map_line(line_map, start, step, block);

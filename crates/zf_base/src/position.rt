@@ -105,14 +105,24 @@ impl Pos {
         ensures value { axes result ≡ coordinates (axes self.now) number }
         ensures bound { AllByRecursion (λ c. c ≤ number) (axes result) }
     {
-        let rows = number / self.x;
-        let slices = rows / self.y;
-        let volumes = slices / self.z;
-        Pos {
-            x: number % self.x,
-            y: rows % self.y,
-            z: slices % self.z,
-            w: volumes % self.w,
-        }
+        let (rows, x) = split(number, self.x);
+        let (slices, y) = split(rows, self.y);
+        let (volumes, z) = split(slices, self.z);
+        let (_, w) = split(volumes, self.w);
+        Pos { x, y, z, w }
+    }
+}
+
+// How often `len` is in a number, and what is left. Most numbers of blocks are below the first lengths, and then nothing is divided.
+#[inline]
+fn split(number: u64, len: u64) -> (u64, u64)
+    requires { 1 ≤ len }
+    ensures times { result.0 ≡ number / len }
+    ensures left { result.1 ≡ number % len }
+{
+    if number < len {
+        (0, number)
+    } else {
+        (number / len, number % len)
     }
 }

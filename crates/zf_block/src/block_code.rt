@@ -1,6 +1,6 @@
 //! What the codes of a block differ in: the transform of its values, and how the planes of the coefficients are written and read.
 
-ghost use Rattle.std.specs.Prelude.{◌≡◌, ◌≤◌, ◌<◌, ◌*◌, ◌^◌, ℕ, ℤ, Bool, List, map, length, take, OnSome, IfNone};
+ghost use Rattle.std.specs.Prelude.{◌≡◌, ◌≤◌, ◌<◌, ◌*◌, ◌^◌, ℕ, ℤ, Bool, List, map, length, take, replicate, OnSome, IfNone};
 ghost use Rattle.zf_spec.specs.Grid.{IsDimension, IsBlockSize};
 ghost use Rattle.zf_spec.specs.HeldPlanes.{planes_held};
 ghost use Rattle.zf_spec.specs.Planes.{planes_of};
@@ -51,7 +51,7 @@ pub(crate) trait BlockCode<T: Lane> {
         requires fits { longest self.now size ≤ out.old.room }
         ensures { Appends out.old out.new (code_of self.now (planes_held size (map P.words planes.now))) };
 
-    /// Reads the code of planes, or answers `None` where the bits end before it does. The planes below those that it has are zero.
+    /// Reads the code of planes into planes of zeros, or answers `None` where the bits end before it does. The planes below those that it has stay zero.
     fn read<P: Plane>(
         &self,
         size: usize,
@@ -61,6 +61,7 @@ pub(crate) trait BlockCode<T: Lane> {
         requires size { IsBlockSize size }
         requires words { size ≤ 64 * P.word_count }
         requires planes { length planes.old ≡ T.WIDTH }
+        requires blank { map P.words planes.old ≡ replicate T.WIDTH (replicate P.word_count 0) }
         ensures short { IfNone result (length (rest reader.old) < len_at self.now size (rest reader.old)) }
         ensures unread { IfNone result (reader.new ≡ reader.old) }
         ensures enough { OnSome result (len_at self.now size (rest reader.old) ≤ length (rest reader.old)) }

@@ -1,6 +1,6 @@
 //! The one way from a block to its code and back, whichever code it is.
 
-ghost use Rattle.std.specs.Prelude.{◌≡◌, ◌≤◌, ◌<◌, ◌*◌, ◌^◌, map, length, take, OnSome, IfNone};
+ghost use Rattle.std.specs.Prelude.{◌≡◌, ◌≤◌, ◌<◌, ◌*◌, ◌^◌, map, length, take, replicate, OnSome, IfNone};
 ghost use Rattle.zf_spec.specs.Grid.{IsDimension};
 ghost use Rattle.zf_spec.specs.Codes as codes;
 ghost use Rattle.zf_spec.specs.Codes.{coefficients_of};
@@ -162,7 +162,7 @@ pub(crate) fn decode<C: BlockCode<T>, T: Lane>(
     }
 }
 
-/// Reads the code of a block by way of these digits and planes.
+/// Reads the code of a block by way of these digits and planes, which are zero.
 #[inline(always)]
 fn read_block<C: BlockCode<T>, T: Lane, P: Plane>(
     code: &C,
@@ -177,6 +177,7 @@ fn read_block<C: BlockCode<T>, T: Lane, P: Plane>(
     requires block { length block.old ≡ 4 ^ d }
     requires digits { length digits.old ≡ 4 ^ d }
     requires planes { length planes.old ≡ T.WIDTH }
+    requires blank { map P.words planes.old ≡ replicate T.WIDTH (replicate P.word_count 0) }
     ensures short { IfNone result (length (rest reader.old) < C.len_at code.now (4 ^ d) (rest reader.old)) }
     ensures unread { IfNone result (reader.new ≡ reader.old) }
     ensures enough { OnSome result (C.len_at code.now (4 ^ d) (rest reader.old) ≤ length (rest reader.old)) }

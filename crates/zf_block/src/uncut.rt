@@ -34,6 +34,7 @@ pub(crate) fn read_uncut<P: Plane>(
     requires words { size ≤ 64 * P.word_count }
     requires planes { prec ≤ length planes.old }
     requires few { length planes.old ≤ 64 }
+    requires blank { map P.words planes.old ≡ replicate (length planes.old) (replicate P.word_count 0) }
     ensures short { IfNone result (length (rest reader.old) < length (code (planes_in prec size (rest reader.old)))) }
     ensures unread { IfNone result (reader.new ≡ reader.old) }
     ensures enough { OnSome result (length (code (planes_in prec size (rest reader.old))) ≤ length (rest reader.old)) }

@@ -363,7 +363,7 @@ fn pass_zero_planes(prec: u32, ahead: &mut Ahead, reader: &mut BitReader<'_>) ->
     count
 }
 
-/// Reads the code of the top `prec` planes. The other planes become zero.
+/// Reads the code of the top `prec` planes. All are zero before, and the other planes stay so.
 fn read_top<P: Plane>(
     budget: u64,
     prec: u32,
@@ -375,13 +375,13 @@ fn read_top<P: Plane>(
     requires size { size ≤ 256 }
     requires words { size ≤ 64 * P.word_count }
     requires planes { prec ≤ length planes.old }
+    requires blank { map P.words planes.old ≡ replicate (length planes.old) (replicate P.word_count 0) }
     ensures short { IfNone result (Lacks reader.old reader.new (planes_bits budget prec size 0 (rest reader.old))) }
     ensures bits { IfSome result (λ after. Takes reader.old reader.new budget after (planes_bits budget prec size 0 (rest reader.old))) }
     ensures digits { OnSome result (planes_held size (map P.words planes.new)
         ≡ planes_ahead budget prec size 0 (rest reader.old) ++ replicate (length planes.new - prec) (replicate size false)) }
     ensures clear { OnSome result (All (IsClearFrom size) (map P.words planes.new)) }
 {
-    clear(planes);
     let mut ahead = look(budget, reader);
     let mut i = pass_zero_planes(prec, &mut ahead, reader) as usize;
     let mut above = 0;
@@ -398,7 +398,7 @@ fn read_top<P: Plane>(
 /// Reads the code of the top `prec` planes, of which `budget` bits were written, or all of it where it is shorter. The answer is the number of its bits.
 /// `None` means that the bits end before the budget and the code do; then the reader stands where it stood, and the planes hold anything.
 ///
-/// `planes[k]` holds digit k of each coefficient by rank.
+/// `planes[k]` holds digit k of each coefficient by rank. The planes are zero before, so that a caller that has just made them clears none twice.
 /// Embedded coding as in the zfp 1.0 documentation, chapter Algorithm.
 pub fn read_planes<P: Plane>(
     budget: u64,
@@ -411,6 +411,7 @@ pub fn read_planes<P: Plane>(
     requires size { size ≤ 256 }
     requires words { size ≤ 64 * P.word_count }
     requires planes { prec ≤ length planes.old }
+    requires blank { map P.words planes.old ≡ replicate (length planes.old) (replicate P.word_count 0) }
 
     ensures short { IsNone result ↔ (length (rest reader.old) < coded_bits budget prec size (rest reader.old)) }
     ensures unread { IfNone result (reader.new ≡ reader.old) }
@@ -461,6 +462,7 @@ pub fn decode(
         ≡ kept_planes budget (coded budget prec size (rest reader.old)) ++ replicate (length planes.new - prec) (replicate size false)) }
     ensures clear { OnSome result (All (IsClearFrom size) planes.new) }
 {
+    clear(planes);
     let count = read_planes(budget, prec, size, reader, planes);
     see_arrays(planes);
     count

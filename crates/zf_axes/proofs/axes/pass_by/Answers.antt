@@ -1,4 +1,4 @@
-use Rattle.std.proofs.Common.{◌≡◌, ◌*◌, ◌/◌, length, ap, ◌∙◌, arith}
+use Rattle.std.proofs.Common.{◌≡◌, ◌*◌, ◌/◌, length, ap, sym, ◌∙◌, arith}
 use Rattle.std.proofs.lemmas.List.{length-map}
 use Rattle.zf_axes.proofs.Strides.{line_start-member, line_start-in_group, groups_are_whole, group_inside}
 use Rattle.zf_axes.proofs.LineByLine.{IsMappedBelow-line, IsMappedBelow-skip, IsMappedBelow-end}
@@ -6,15 +6,15 @@ use Rattle.zf_axes.proofs.axes.pass_by.Goals as goal
 
 pub overflow_mul-first-in-loop-group : goal.overflow_mul-first-in-loop-group
 overflow_mul-first-in-loop-group g c =
-    let inside = group_inside c.args.step (length c.args.block.now) c.loop-group.group c.requires.step c.requires.whole c.loop-group-test.true in omega arith
+    let inside = group_inside c.args.step (length c.args.block.now) c.loop-group.group c.requires.step c.requires.whole (rw c.requires.len at c.loop-group-test.true) in omega arith
 
 pub overflow_add-start-end : goal.overflow_add-start-end
 overflow_add-start-end g c =
-    let inside = group_inside c.args.step (length c.args.block.now) c.loop-group.group c.requires.step c.requires.whole c.loop-group-test.true in omega arith
+    let inside = group_inside c.args.step (length c.args.block.now) c.loop-group.group c.requires.step c.requires.whole (rw c.requires.len at c.loop-group-test.true) in omega arith
 
 pub map_line-requires-clause-inside : goal.map_line-requires-clause-inside
 map_line-requires-clause-inside g c =
-    let inside = group_inside c.args.step (length c.args.block.now) c.loop-group.group c.requires.step c.requires.whole c.loop-group-test.true in omega arith
+    let inside = group_inside c.args.step (length c.args.block.now) c.loop-group.group c.requires.step c.requires.whole (rw c.requires.len at c.loop-group-test.true) in omega arith
 
 pub loop-start-preserved : goal.loop-start-preserved
 loop-start-preserved g c =
@@ -33,6 +33,6 @@ returns g c =
     let n = length c.args.block.now in
     let step = c.args.step in
     let long = length-map c.args.block.now g.T.Lane.value in
-    let all : c.loop-group.group ≡ n / step / 4 = omega arith in
+    let all : c.loop-group.group ≡ n / step / 4 = rw (sym c.requires.len) (omega arith) in
     let whole = ap (λ k. 4 * step * k) all ∙ groups_are_whole step n c.requires.step c.requires.whole in
     IsMappedBelow-end _ _ _ _ _ (omega arith) c.loop-group.invariant

@@ -29,9 +29,9 @@ loop-i-init g c =
     let behind = rest c.pass_zero_planes-i.new.reader in
     let taken = rw c.look-ahead.ensures.left at c.pass_zero_planes-i.ensures.taken in
     let spent : after ≡ c.args.budget - k = omega (arith, taken.spent) in
-    let is = c.clear.ensures in
-    let long : length (map g.P.Plane.words c.clear.new.planes) ≡ n = ap length is ∙ length-replicate n blank in
-    let held : planes_held size (map g.P.Plane.words c.clear.new.planes) ≡ replicate n zeros = ap (planes_held size) is ∙ planes_held-zeros size n count c.requires.words in
+    let is = c.requires.blank in
+    let long : length (map g.P.Plane.words c.args.planes.now) ≡ n = ap length is ∙ length-replicate n blank in
+    let held : planes_held size (map g.P.Plane.words c.args.planes.now) ≡ replicate n zeros = ap (planes_held size) is ∙ planes_held-zeros size n count c.requires.words in
     let first = rw (← spent) at (zero_planes k c.args.budget c.args.prec size (rest c.args.reader.now) behind c.requires.some (omega (arith, taken.spent)) c.pass_zero_planes-i.ensures.within c.pass_zero_planes-i.ensures.zeros) in
     record {
       window = c.pass_zero_planes-i.ensures.window;
