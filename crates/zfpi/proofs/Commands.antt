@@ -1,5 +1,5 @@
 -- Words that are a command are one command's.
-use Rattle.std.proofs.Common.{◌≡◌, ℕ, ◌+◌, ◌*◌, ◌<◌, ◌≤◌, ◌^◌, List, [], ◌∷◌, ◌++◌, map, length, get_or, take, drop, codes, decimal, refl, ap, sym, subst, ◌∙◌, arith, append_assoc}
+use Rattle.std.proofs.Common.{◌≡◌, ◌≢◌, ℕ, ◌+◌, ◌*◌, ◌<◌, ◌≤◌, ◌^◌, List, [], ◌∷◌, ◌++◌, map, length, get_or, take, drop, codes, decimal, refl, ap, sym, subst, ◌∙◌, arith, append_assoc}
 use Rattle.std.specs.Str.{bytes_eq}
 use Rattle.std.proofs.lemmas.Bool.{true≢false}
 use Rattle.std.proofs.lemmas.Fmt.{decimal_injective}
@@ -12,11 +12,13 @@ use Rattle.zf_header.specs.declared.header.Mode.{Mode}
 use Rattle.zf_header.specs.declared.header.Mode.TheVariants.{Reversible, Rate, Precision}
 use Rattle.zf_header.specs.HeaderBits.{IsMode}
 use Rattle.zfpi.specs.declared.command.Command.{Command}
-use Rattle.zfpi.specs.declared.command.Command.TheVariants.{Compress, Restore, Info, New}
+use Rattle.zfpi.specs.declared.command.Command.TheVariants.{Compress, Restore, Info, New, Sample}
+use Rattle.zfpi.specs.declared.words.Task.{Task}
+use Rattle.zfpi.specs.declared.words.Task.TheVariants as tasks
 use Rattle.zfpi.specs.declared.words.Stage.{Stage}
 use Rattle.zfpi.specs.declared.words.Stage.TheVariants as stages
-use Rattle.zfpi.specs.Words.{type_word, shape_word, mode_words, compress_words, IsAskable, IsSpelled, BeginsCommand, IsUsage}
-use Rattle.zfpi.specs.Stages.{LeadsTo, IsRateWord, IsPrecisionWord}
+use Rattle.zfpi.specs.Words.{type_word, shape_word, mode_words, compress_words, sample_words, IsAskable, IsSpelled, BeginsCommand, IsUsage}
+use Rattle.zfpi.specs.Stages.{LeadsTo, IsBegun, task_words, IsRateWord, IsPrecisionWord}
 use Rattle.zfpi.proofs.ShapeWords.{parts_of-shape, decimals_injective, sizes_small}
 use Rattle.zfpi.proofs.Completed.{header_with, BeginsCommand-reached}
 
@@ -59,6 +61,7 @@ first_word (Compress h) = codes "compress"
 first_word Restore = codes "restore"
 first_word Info = codes "info"
 first_word (New name ty ns b) = codes "new"
+first_word (Sample h seed) = codes "sample"
 
 begins_with : (c : Command) (words : List (List ℕ)) → IsSpelled c words → (rest : List (List ℕ)) × (words ≡ first_word c ∷ rest)
 unfolding first_word
@@ -66,16 +69,17 @@ begins_with (Compress h) words spelled = (type_word h.ty ∷ shape_word h.shape 
 begins_with Restore words spelled = ([], spelled)
 begins_with Info words spelled = ([], spelled)
 begins_with (New name ty ns b) words spelled = (name ∷ type_word ty ∷ shape_word ns ∷ decimal b ∷ [], spelled.words_are)
+begins_with (Sample h seed) words spelled = (type_word h.ty ∷ shape_word h.shape ∷ decimal seed ∷ mode_words h.mode, spelled.words_are)
 
 -- the first words differ in their length or in their first letter
 mark : List ℕ → ℕ
 mark word = 256 * length word + get_or word 0 0
 
+mark_of : (c : Command) (words : List (List ℕ)) (word : List ℕ) (rest : List (List ℕ)) → words ≡ word ∷ rest → IsSpelled c words → mark (first_word c) ≡ mark word
+mark_of c words word rest is spelled = ap mark (heads_same (sym (begins_with c words spelled).1 ∙ is))
+
 same_mark : (c d : Command) (words : List (List ℕ)) → IsSpelled c words → IsSpelled d words → mark (first_word c) ≡ mark (first_word d)
-same_mark c d words a b =
-    let first = begins_with c words a in
-    let other = begins_with d words b in
-    ap mark (heads_same (sym first.1 ∙ other.1))
+same_mark c d words a b = let other = begins_with d words b in mark_of c words (first_word d) other.0 other.1 a
 
 -- words are those of one command at most
 pub one_command : (words : List (List ℕ)) (c d : Command) → IsSpelled c words → IsSpelled d words → c ≡ d
@@ -96,20 +100,18 @@ one_command words (New name ty ns b) (New name' ty' ns' b') a d =
     let same_shape = shape_word_injective ns ns' a.shape d.shape shaped in
     let same_bits = decimal_injective b b' (omega (arith, a.rate.1)) (omega (arith, d.rate.1)) text in
     ap (λ n. New n ty ns b) named ∙ (ap (λ t. New name' t ns b) same_type ∙ (ap (λ s. New name' ty' s b) same_shape ∙ ap (λ k. New name' ty' ns' k) same_bits))
+one_command words (Sample g n) (Sample h m) a b =
+    let same : sample_words g n ≡ sample_words h m = sym a.words_are ∙ b.words_are in
+    let ty : type_word g.ty ≡ type_word h.ty = cc in
+    let shape : shape_word g.shape ≡ shape_word h.shape = cc in
+    let text : decimal n ≡ decimal m = cc in
+    let mode : mode_words g.mode ≡ mode_words h.mode = cc in
+    let same_shape = shape_word_injective g.shape h.shape a.asked.header.shape b.asked.header.shape shape in
+    let same_mode = mode_words_injective g.mode h.mode a.asked.header.mode b.asked.header.mode mode in
+    ap (λ x. Sample x n) (same_header g h (type_word_injective g.ty h.ty ty) same_shape same_mode) ∙ ap (Sample h) (decimal_injective n m a.small b.small text)
 one_command words Restore Restore a b = refl
 one_command words Info Info a b = refl
-one_command words (Compress g) Restore a b = absurd (omega (arith, same_mark (Compress g) Restore words a b))
-one_command words (Compress g) Info a b = absurd (omega (arith, same_mark (Compress g) Info words a b))
-one_command words (Compress g) (New n t s k) a b = absurd (omega (arith, same_mark (Compress g) (New n t s k) words a b))
-one_command words Restore (Compress h) a b = absurd (omega (arith, same_mark Restore (Compress h) words a b))
-one_command words Restore Info a b = absurd (omega (arith, same_mark Restore Info words a b))
-one_command words Restore (New n t s k) a b = absurd (omega (arith, same_mark Restore (New n t s k) words a b))
-one_command words Info (Compress h) a b = absurd (omega (arith, same_mark Info (Compress h) words a b))
-one_command words Info Restore a b = absurd (omega (arith, same_mark Info Restore words a b))
-one_command words Info (New n t s k) a b = absurd (omega (arith, same_mark Info (New n t s k) words a b))
-one_command words (New n t s k) (Compress h) a b = absurd (omega (arith, same_mark (New n t s k) (Compress h) words a b))
-one_command words (New n t s k) Restore a b = absurd (omega (arith, same_mark (New n t s k) Restore words a b))
-one_command words (New n t s k) Info a b = absurd (omega (arith, same_mark (New n t s k) Info words a b))
+one_command words c d a b = absurd (omega (arith, same_mark c d words a b))
 
 -- ---- fronts of commands
 pub BeginsCommand-front : (words rest : List (List ℕ)) → BeginsCommand (words ++ rest) → BeginsCommand words
@@ -150,48 +152,109 @@ no_mode Reversible same = cc
 no_mode (Rate b) same = cc
 no_mode (Precision p) same = cc
 
--- the words on the way to a mode are no whole command
-no_compress : (ty : Ty) (ns : List ℕ) (rest : List (List ℕ)) (words : List (List ℕ)) (c : Command) → words ≡ codes "compress" ∷ type_word ty ∷ shape_word ns ∷ rest → ((m : Mode) → rest ≡ mode_words m → ⊥) → IsSpelled c words → ⊥
-unfolding first_word mark
-no_compress ty ns rest words (Compress h) is none spelled =
-    let same : codes "compress" ∷ type_word ty ∷ shape_word ns ∷ rest ≡ compress_words h = sym is ∙ spelled.1 in
-    let behind : rest ≡ mode_words h.mode = cc in
-    none h.mode behind
-no_compress ty ns rest words Restore is none spelled = omega (arith, ap mark (heads_same (sym is ∙ spelled)))
-no_compress ty ns rest words Info is none spelled = omega (arith, ap mark (heads_same (sym is ∙ spelled)))
-no_compress ty ns rest words (New n t s k) is none spelled = omega (arith, ap mark (heads_same (sym is ∙ spelled.words_are)))
+-- what is asked for where the words begin a task
+record IsAsked (ty : Ty) (ns : List ℕ) (behind : List (List ℕ)) : Type 0 where
+  mode : Mode
+  askable : IsAskable (header_with ty ns mode)
+  behind_is : behind ≡ mode_words mode
 
--- nor are those that begin with `new` and are fewer than five
-no_new : (rest : List (List ℕ)) (words : List (List ℕ)) (c : Command) → words ≡ codes "new" ∷ rest → length rest ≤ 3 → IsSpelled c words → ⊥
-unfolding first_word mark
-no_new rest words (Compress h) is few spelled = omega (arith, ap mark (heads_same (sym is ∙ spelled.1)))
-no_new rest words Restore is few spelled = omega (arith, ap mark (heads_same (sym is ∙ spelled)))
-no_new rest words Info is few spelled = omega (arith, ap mark (heads_same (sym is ∙ spelled)))
-no_new rest words (New n t s k) is few spelled = omega (arith, ap length (sym is ∙ spelled.words_are))
+asked : (h : Header) (ty : Ty) (ns : List ℕ) (behind : List (List ℕ)) → IsAskable h → IsShape ns → type_word h.ty ≡ type_word ty → shape_word h.shape ≡ shape_word ns → behind ≡ mode_words h.mode → IsAsked ty ns behind
+asked h ty ns behind askable shape type_text shape_text is = record {
+  mode = h.mode;
+  askable = subst IsAskable (same_header h (header_with ty ns h.mode) (type_word_injective h.ty ty type_text) (shape_word_injective h.shape ns askable.header.shape shape shape_text) refl) askable;
+  behind_is = is;
+}
 
--- nor are none, or `compress` with fewer than two behind it
+-- words that begin a task are those of its command, and end with a mode
+IsAsked-begun : (task : Task) (ty : Ty) (ns : List ℕ) (behind words : List (List ℕ)) (c : Command) → IsBegun task ty ns behind words → IsSpelled c words → IsAsked ty ns behind
+unfolding first_word mark
+IsAsked-begun tasks.Compress ty ns behind words (Compress h) begun spelled =
+    let whole : codes "compress" ∷ type_word ty ∷ shape_word ns ∷ behind ≡ compress_words h = sym begun.words_are ∙ spelled.1 in
+    let type_text : type_word h.ty ≡ type_word ty = cc in
+    let shape_text : shape_word h.shape ≡ shape_word ns = cc in
+    let is : behind ≡ mode_words h.mode = cc in
+    asked h ty ns behind spelled.0 begun.shape_is type_text shape_text is
+IsAsked-begun (tasks.Sample n) ty ns behind words (Sample h seed) begun spelled =
+    let whole : codes "sample" ∷ type_word ty ∷ shape_word ns ∷ decimal n ∷ behind ≡ sample_words h seed = sym begun.words_are ∙ spelled.words_are in
+    let type_text : type_word h.ty ≡ type_word ty = cc in
+    let shape_text : shape_word h.shape ≡ shape_word ns = cc in
+    let is : behind ≡ mode_words h.mode = cc in
+    asked h ty ns behind spelled.asked begun.shape_is type_text shape_text is
+IsAsked-begun tasks.Compress ty ns behind words c begun spelled = absurd (omega (arith, mark_of c words (codes "compress") (type_word ty ∷ shape_word ns ∷ behind) begun.words_are spelled))
+IsAsked-begun (tasks.Sample n) ty ns behind words c begun spelled = absurd (omega (arith, mark_of c words (codes "sample") (type_word ty ∷ shape_word ns ∷ decimal n ∷ behind) begun.words_are spelled))
+
+-- one word more behind those that begin a task, and what follows it
+IsBegun-more : (task : Task) (ty : Ty) (ns : List ℕ) (behind words : List (List ℕ)) (word : List ℕ) (rest : List (List ℕ)) → IsBegun task ty ns behind words → IsBegun task ty ns (behind ++ word ∷ rest) ((words ++ word ∷ []) ++ rest)
+IsBegun-more task ty ns behind words word rest begun = record {
+  task_is = begun.task_is;
+  shape_is = begun.shape_is;
+  words_are = append_assoc words (word ∷ []) rest ∙ (ap (λ front. front ++ word ∷ rest) begun.words_are ∙ append_assoc (task_words task ty ns) behind (word ∷ rest));
+}
+
+-- words on the way to a mode are no whole command
+no_asked : (task : Task) (ty : Ty) (ns : List ℕ) (behind words : List (List ℕ)) (c : Command) → IsBegun task ty ns behind words → ((m : Mode) → behind ≡ mode_words m → ⊥) → IsSpelled c words → ⊥
+no_asked task ty ns behind words c begun none spelled = let is = IsAsked-begun task ty ns behind words c begun spelled in none is.mode is.behind_is
+
+-- nor are none
 no_words : (words : List (List ℕ)) (c : Command) → words ≡ [] → IsSpelled c words → ⊥
 no_words words c is spelled = let whole = begins_with c words spelled in let same = sym is ∙ whole.1 in cc
 
-no_shape : (rest : List (List ℕ)) (words : List (List ℕ)) (c : Command) → words ≡ codes "compress" ∷ rest → length rest ≤ 1 → IsSpelled c words → ⊥
-unfolding first_word mark
-no_shape rest words (Compress h) is few spelled = omega (arith, ap length (sym is ∙ spelled.1))
-no_shape rest words Restore is few spelled = omega (arith, ap mark (heads_same (sym is ∙ spelled)))
-no_shape rest words Info is few spelled = omega (arith, ap mark (heads_same (sym is ∙ spelled)))
-no_shape rest words (New n t s k) is few spelled = omega (arith, ap mark (heads_same (sym is ∙ spelled.words_are)))
+-- nor are those that begin a command and are fewer than it has
+fewest : Command → ℕ
+fewest (Compress h) = 4
+fewest Restore = 1
+fewest Info = 1
+fewest (New name ty ns b) = 5
+fewest (Sample h seed) = 5
+
+enough_words : (c : Command) (words : List (List ℕ)) → IsSpelled c words → fewest c ≤ length words
+unfolding fewest
+enough_words (Compress h) words spelled = by h.mode spelled.1
+  where
+    by : (m : Mode) → words ≡ codes "compress" ∷ type_word h.ty ∷ shape_word h.shape ∷ mode_words m → 4 ≤ length words
+    by Reversible is = omega (arith, ap length is)
+    by (Rate b) is = omega (arith, ap length is)
+    by (Precision p) is = omega (arith, ap length is)
+enough_words Restore words spelled = omega (arith, ap length spelled)
+enough_words Info words spelled = omega (arith, ap length spelled)
+enough_words (New name ty ns b) words spelled = omega (arith, ap length spelled.words_are)
+enough_words (Sample h seed) words spelled = by h.mode spelled.words_are
+  where
+    by : (m : Mode) → words ≡ codes "sample" ∷ type_word h.ty ∷ shape_word h.shape ∷ decimal seed ∷ mode_words m → 5 ≤ length words
+    by Reversible is = omega (arith, ap length is)
+    by (Rate b) is = omega (arith, ap length is)
+    by (Precision p) is = omega (arith, ap length is)
+
+few_compress : (rest words : List (List ℕ)) (c : Command) → words ≡ codes "compress" ∷ rest → length rest ≤ 1 → IsSpelled c words → ⊥
+unfolding first_word mark fewest
+few_compress rest words (Compress h) is few spelled = omega (arith, enough_words (Compress h) words spelled, ap length is)
+few_compress rest words c is few spelled = omega (arith, mark_of c words (codes "compress") rest is spelled)
+
+few_new : (rest words : List (List ℕ)) (c : Command) → words ≡ codes "new" ∷ rest → length rest ≤ 3 → IsSpelled c words → ⊥
+unfolding first_word mark fewest
+few_new rest words (New n t s k) is few spelled = omega (arith, enough_words (New n t s k) words spelled, ap length is)
+few_new rest words c is few spelled = omega (arith, mark_of c words (codes "new") rest is spelled)
+
+few_sample : (rest words : List (List ℕ)) (c : Command) → words ≡ codes "sample" ∷ rest → length rest ≤ 2 → IsSpelled c words → ⊥
+unfolding first_word mark fewest
+few_sample rest words (Sample h n) is few spelled = omega (arith, enough_words (Sample h n) words spelled, ap length is)
+few_sample rest words c is few spelled = omega (arith, mark_of c words (codes "sample") rest is spelled)
 
 -- a whole command leads to its stage alone
 whole_at_end : (words : List (List ℕ)) (stage : Stage) (c : Command) → LeadsTo words stage → IsSpelled c words → (d : Command) × (stage ≡ stages.Whole d)
 whole_at_end words stages.Start c leads spelled = absurd (no_words words c leads spelled)
-whole_at_end words stages.Compressing c leads spelled = absurd (no_shape [] words c leads (omega arith) spelled)
-whole_at_end words (stages.Typed ty) c leads spelled = absurd (no_shape (type_word ty ∷ []) words c leads (omega arith) spelled)
-whole_at_end words (stages.Shaped ty ns) c leads spelled = absurd (no_compress ty ns [] words c leads.1 no_mode spelled)
-whole_at_end words (stages.AtRate ty ns) c leads spelled = absurd (no_compress ty ns (codes "rate" ∷ []) words c leads.1 behind_rate spelled)
-whole_at_end words (stages.AtPrecision ty ns) c leads spelled = absurd (no_compress ty ns (codes "precision" ∷ []) words c leads.1 behind_precision spelled)
-whole_at_end words stages.Making c leads spelled = absurd (no_new [] words c leads (omega arith) spelled)
-whole_at_end words (stages.Named name) c leads spelled = absurd (no_new (name ∷ []) words c leads.1 (omega arith) spelled)
-whole_at_end words (stages.NamedTyped name ty) c leads spelled = absurd (no_new (name ∷ type_word ty ∷ []) words c leads.1 (omega arith) spelled)
-whole_at_end words (stages.NamedShaped name ty ns) c leads spelled = absurd (no_new (name ∷ type_word ty ∷ shape_word ns ∷ []) words c leads.2 (omega arith) spelled)
+whole_at_end words stages.Compressing c leads spelled = absurd (few_compress [] words c leads (omega arith) spelled)
+whole_at_end words (stages.Typed ty) c leads spelled = absurd (few_compress (type_word ty ∷ []) words c leads (omega arith) spelled)
+whole_at_end words stages.Sampling c leads spelled = absurd (few_sample [] words c leads (omega arith) spelled)
+whole_at_end words (stages.SampleTyped ty) c leads spelled = absurd (few_sample (type_word ty ∷ []) words c leads (omega arith) spelled)
+whole_at_end words (stages.SampleShaped ty ns) c leads spelled = absurd (few_sample (type_word ty ∷ shape_word ns ∷ []) words c leads.1 (omega arith) spelled)
+whole_at_end words (stages.Shaped task ty ns) c leads spelled = absurd (no_asked task ty ns [] words c leads no_mode spelled)
+whole_at_end words (stages.AtRate task ty ns) c leads spelled = absurd (no_asked task ty ns (codes "rate" ∷ []) words c leads behind_rate spelled)
+whole_at_end words (stages.AtPrecision task ty ns) c leads spelled = absurd (no_asked task ty ns (codes "precision" ∷ []) words c leads behind_precision spelled)
+whole_at_end words stages.Making c leads spelled = absurd (few_new [] words c leads (omega arith) spelled)
+whole_at_end words (stages.Named name) c leads spelled = absurd (few_new (name ∷ []) words c leads.1 (omega arith) spelled)
+whole_at_end words (stages.NamedTyped name ty) c leads spelled = absurd (few_new (name ∷ type_word ty ∷ []) words c leads.1 (omega arith) spelled)
+whole_at_end words (stages.NamedShaped name ty ns) c leads spelled = absurd (few_new (name ∷ type_word ty ∷ shape_word ns ∷ []) words c leads.2 (omega arith) spelled)
 whole_at_end words (stages.Whole d) c leads spelled = (d, refl)
 
 pub IsUsage-ended : (words : List (List ℕ)) (n : ℕ) (stage : Stage) → n ≡ length words → LeadsTo words stage → ((d : Command) → stage ≡ stages.Whole d → ⊥) → IsUsage words n
@@ -217,33 +280,14 @@ rate_behind ty ns (Rate b) word rest askable same =
     (b, record { rate = askable.header.mode; fits = askable.fits; text = text })
 
 -- a word at the place of a rate, where a command goes on, is a rate
-pub IsRateWord-begun : (words : List (List ℕ)) (ty : Ty) (ns : List ℕ) (word : List ℕ) → LeadsTo words (stages.AtRate ty ns) → BeginsCommand (words ++ word ∷ []) → (b : ℕ) × IsRateWord ty ns b word
-unfolding first_word mark
-IsRateWord-begun words ty ns word leads (Compress h, rest, spelled) =
-    let whole : codes "compress" ∷ type_word ty ∷ shape_word ns ∷ codes "rate" ∷ word ∷ rest ≡ compress_words h =
-    ap (λ front. (front ++ word ∷ []) ++ rest) (sym leads.1) ∙ spelled.1 in
-    let type_text : type_word h.ty ≡ type_word ty = cc in
-    let shape_text : shape_word h.shape ≡ shape_word ns = cc in
-    let behind : codes "rate" ∷ word ∷ rest ≡ mode_words h.mode = cc in
-    let shape = shape_word_injective h.shape ns spelled.0.header.shape leads.0 shape_text in
-    let found = rate_behind h.ty h.shape h.mode word rest spelled.0 behind in
-    (found.0, subst (λ t. IsRateWord t ns found.0 word) (type_word_injective h.ty ty type_text) (subst (λ ms. IsRateWord h.ty ms found.0 word) shape found.1))
-IsRateWord-begun words ty ns word leads (Restore, rest, spelled) =
-    absurd (omega (arith, ap length (ap (λ front. (front ++ word ∷ []) ++ rest) (sym leads.1) ∙ spelled)))
-IsRateWord-begun words ty ns word leads (Info, rest, spelled) =
-    absurd (omega (arith, ap length (ap (λ front. (front ++ word ∷ []) ++ rest) (sym leads.1) ∙ spelled)))
-IsRateWord-begun words ty ns word leads (New n t s k, rest, spelled) =
-    absurd (omega (arith, ap mark (heads_same (ap (λ front. (front ++ word ∷ []) ++ rest) (sym leads.1) ∙ spelled.words_are))))
+pub IsRateWord-begun : (task : Task) (words : List (List ℕ)) (ty : Ty) (ns : List ℕ) (word : List ℕ) → LeadsTo words (stages.AtRate task ty ns) → BeginsCommand (words ++ word ∷ []) → (b : ℕ) × IsRateWord ty ns b word
+IsRateWord-begun task words ty ns word leads (c, rest, spelled) =
+    let is = IsAsked-begun task ty ns (codes "rate" ∷ word ∷ rest) ((words ++ word ∷ []) ++ rest) c (IsBegun-more task ty ns (codes "rate" ∷ []) words word rest leads) spelled in
+    rate_behind ty ns is.mode word rest is.askable is.behind_is
 
 -- and so it is behind the shape of an array to be made
 pub IsRateWord-begun_new : (words : List (List ℕ)) (name : List ℕ) (ty : Ty) (ns : List ℕ) (word : List ℕ) → LeadsTo words (stages.NamedShaped name ty ns) → BeginsCommand (words ++ word ∷ []) → (b : ℕ) × IsRateWord ty ns b word
 unfolding first_word mark
-IsRateWord-begun_new words name ty ns word leads (Compress h, rest, spelled) =
-    absurd (omega (arith, ap mark (heads_same (ap (λ front. (front ++ word ∷ []) ++ rest) (sym leads.2) ∙ spelled.1))))
-IsRateWord-begun_new words name ty ns word leads (Restore, rest, spelled) =
-    absurd (omega (arith, ap mark (heads_same (ap (λ front. (front ++ word ∷ []) ++ rest) (sym leads.2) ∙ spelled))))
-IsRateWord-begun_new words name ty ns word leads (Info, rest, spelled) =
-    absurd (omega (arith, ap mark (heads_same (ap (λ front. (front ++ word ∷ []) ++ rest) (sym leads.2) ∙ spelled))))
 IsRateWord-begun_new words name ty ns word leads (New n t s k, rest, spelled) =
     let whole : codes "new" ∷ name ∷ type_word ty ∷ shape_word ns ∷ word ∷ rest ≡ codes "new" ∷ n ∷ type_word t ∷ shape_word s ∷ decimal k ∷ [] =
     ap (λ front. (front ++ word ∷ []) ++ rest) (sym leads.2) ∙ spelled.words_are in
@@ -253,6 +297,8 @@ IsRateWord-begun_new words name ty ns word leads (New n t s k, rest, spelled) =
     let shape = shape_word_injective s ns spelled.shape leads.1 shape_text in
     let found : IsRateWord t s k word = record { rate = spelled.rate; fits = spelled.fits; text = text } in
     (k, subst (λ u. IsRateWord u ns k word) (type_word_injective t ty type_text) (subst (λ ms. IsRateWord t ms k word) shape found))
+IsRateWord-begun_new words name ty ns word leads (c, rest, spelled) =
+    absurd (omega (arith, mark_of c ((words ++ word ∷ []) ++ rest) (codes "new") (name ∷ type_word ty ∷ shape_word ns ∷ word ∷ rest) (ap (λ front. (front ++ word ∷ []) ++ rest) leads.2) spelled))
 
 -- the number of such a word
 pub IsRateWord-number : (ty : Ty) (ns : List ℕ) (b n : ℕ) (word : List ℕ) → IsRateWord ty ns b word → n < 2 ^ 64 → word ≡ decimal n → b ≡ n
@@ -268,19 +314,21 @@ precision_behind (Precision p) word rest mode same =
     (p, record { planes = mode; text = text })
 
 -- a word at the place of a precision, where a command goes on, is one
-pub IsPrecisionWord-begun : (words : List (List ℕ)) (ty : Ty) (ns : List ℕ) (word : List ℕ) → LeadsTo words (stages.AtPrecision ty ns) → BeginsCommand (words ++ word ∷ []) → (p : ℕ) × IsPrecisionWord p word
-unfolding first_word mark
-IsPrecisionWord-begun words ty ns word leads (Compress h, rest, spelled) =
-    let whole : codes "compress" ∷ type_word ty ∷ shape_word ns ∷ codes "precision" ∷ word ∷ rest ≡ compress_words h =
-    ap (λ front. (front ++ word ∷ []) ++ rest) (sym leads.1) ∙ spelled.1 in
-    let behind : codes "precision" ∷ word ∷ rest ≡ mode_words h.mode = cc in
-    precision_behind h.mode word rest spelled.0.header.mode behind
-IsPrecisionWord-begun words ty ns word leads (Restore, rest, spelled) =
-    absurd (omega (arith, ap length (ap (λ front. (front ++ word ∷ []) ++ rest) (sym leads.1) ∙ spelled)))
-IsPrecisionWord-begun words ty ns word leads (Info, rest, spelled) =
-    absurd (omega (arith, ap length (ap (λ front. (front ++ word ∷ []) ++ rest) (sym leads.1) ∙ spelled)))
-IsPrecisionWord-begun words ty ns word leads (New n t s k, rest, spelled) =
-    absurd (omega (arith, ap mark (heads_same (ap (λ front. (front ++ word ∷ []) ++ rest) (sym leads.1) ∙ spelled.words_are))))
+pub IsPrecisionWord-begun : (task : Task) (words : List (List ℕ)) (ty : Ty) (ns : List ℕ) (word : List ℕ) → LeadsTo words (stages.AtPrecision task ty ns) → BeginsCommand (words ++ word ∷ []) → (p : ℕ) × IsPrecisionWord p word
+IsPrecisionWord-begun task words ty ns word leads (c, rest, spelled) =
+    let is = IsAsked-begun task ty ns (codes "precision" ∷ word ∷ rest) ((words ++ word ∷ []) ++ rest) c (IsBegun-more task ty ns (codes "precision" ∷ []) words word rest leads) spelled in
+    precision_behind is.mode word rest is.askable.header.mode is.behind_is
+
+-- a word behind those of a task, where a command goes on, is the first of a mode
+pub no_mode_word : (task : Task) (words : List (List ℕ)) (ty : Ty) (ns : List ℕ) (word : List ℕ) → word ≢ codes "reversible" → word ≢ codes "rate" → word ≢ codes "precision" → LeadsTo words (stages.Shaped task ty ns) → BeginsCommand (words ++ word ∷ []) → ⊥
+no_mode_word task words ty ns word no_reversible no_rate no_precision leads (c, rest, spelled) =
+    let is = IsAsked-begun task ty ns (word ∷ rest) ((words ++ word ∷ []) ++ rest) c (IsBegun-more task ty ns [] words word rest leads) spelled in
+    by is.mode is.behind_is
+  where
+    by : (m : Mode) → word ∷ rest ≡ mode_words m → ⊥
+    by Reversible same = no_reversible (heads_same same)
+    by (Rate b) same = no_rate (heads_same same)
+    by (Precision p) same = no_precision (heads_same same)
 
 -- the number of such a word
 pub IsPrecisionWord-number : (p n : ℕ) (word : List ℕ) → IsPrecisionWord p word → n < 2 ^ 64 → word ≡ decimal n → p ≡ n

@@ -1,5 +1,5 @@
 -- Each stage that is reached can be completed to a command.
-use Rattle.std.proofs.Common.{◌≡◌, ℕ, ◌≤◌, List, [], ◌∷◌, ◌++◌, codes, decimal, refl, ap, sym, subst, arith, lit≤}
+use Rattle.std.proofs.Common.{◌≡◌, ℕ, ◌≤◌, List, [], ◌∷◌, ◌++◌, codes, decimal, refl, ap, sym, subst, ◌∙◌, arith, lit≤, lit<, append_assoc}
 use Rattle.std.proofs.lemmas.List.{append-nil}
 use Rattle.zf_base.specs.declared.lane.Ty.{Ty}
 use Rattle.zf_base.specs.declared.lane.Ty.TheVariants.{I32}
@@ -11,11 +11,13 @@ use Rattle.zf_header.specs.declared.header.Mode.TheVariants.{Reversible, Rate, P
 use Rattle.zf_header.specs.HeaderBits.{rate_bytes_of}
 use Rattle.zf_header.proofs.Parts.{length-header_bits}
 use Rattle.zfpi.specs.Names.{IsName}
-use Rattle.zfpi.specs.declared.command.Command.TheVariants.{Compress, New}
+use Rattle.zfpi.specs.declared.command.Command.TheVariants.{Compress, New, Sample}
+use Rattle.zfpi.specs.declared.words.Task.{Task}
+use Rattle.zfpi.specs.declared.words.Task.TheVariants as tasks
 use Rattle.zfpi.specs.declared.words.Stage.{Stage}
 use Rattle.zfpi.specs.declared.words.Stage.TheVariants as stages
-use Rattle.zfpi.specs.Words.{type_word, shape_word, compress_words, IsAskable, IsSpelled, BeginsCommand}
-use Rattle.zfpi.specs.Stages.{LeadsTo}
+use Rattle.zfpi.specs.Words.{type_word, shape_word, mode_words, compress_words, IsAskable, IsSpelled, BeginsCommand}
+use Rattle.zfpi.specs.Stages.{IsTask, IsBegun, task_words, command_of, LeadsTo}
 
 -- a header by its parts
 abbrev pub header_with : Ty → List ℕ → Mode → Header
@@ -45,12 +47,27 @@ askable_rate_one ty ns shape = record { header = record { shape = shape; mode = 
 askable_precision_one : (ty : Ty) (ns : List ℕ) → IsShape ns → IsAskable (header_with ty ns (Precision 1))
 askable_precision_one ty ns shape = record { header = record { shape = shape; mode = (lit≤ tt, lit≤ tt) }; fits = tt }
 
+-- the words of a task and of a mode are its command
+pub IsSpelled-task : (task : Task) (h : Header) (words : List (List ℕ)) → IsTask task → IsAskable h → words ≡ task_words task h.ty h.shape ++ mode_words h.mode → IsSpelled (command_of task h) words
+IsSpelled-task tasks.Compress h words task askable is = (askable, is)
+IsSpelled-task (tasks.Sample seed) h words task askable is = record { asked = askable; small = task; words_are = is }
+
+-- and so are words that begin a task, and those of a mode behind them
+pub IsSpelled-begun : (task : Task) (h : Header) (front behind words : List (List ℕ)) → IsBegun task h.ty h.shape front words → IsAskable h → mode_words h.mode ≡ front ++ behind → IsSpelled (command_of task h) (words ++ behind)
+IsSpelled-begun task h front behind words begun askable is =
+    IsSpelled-task task h (words ++ behind) begun.task_is askable
+    (ap (λ all. all ++ behind) begun.words_are ∙ (append_assoc (task_words task h.ty h.shape) front behind ∙ ap (λ mode. task_words task h.ty h.shape ++ mode) (sym is)))
+
 -- an array of this name, type and shape can be made with one bit a block
 one_letter : IsName (97 ∷ [])
 one_letter = record { begins = refl; letters = refl; short = lit≤ tt }
 
 made_of_one_bit : (name : List ℕ) (ty : Ty) (ns : List ℕ) (words : List (List ℕ)) → IsName name → IsShape ns → words ≡ codes "new" ∷ name ∷ type_word ty ∷ shape_word ns ∷ decimal 1 ∷ [] → IsSpelled (New name ty ns 1) words
 made_of_one_bit name ty ns words named shape is = record { named = named; shape = shape; rate = (lit≤ tt, lit≤ tt); fits = rate_one_fits ty ns shape; words_are = is }
+
+-- an array of this type and shape can be made of the number zero
+sampled : (ty : Ty) (ns : List ℕ) (words : List (List ℕ)) → IsShape ns → words ≡ codes "sample" ∷ type_word ty ∷ shape_word ns ∷ decimal 0 ∷ codes "reversible" ∷ [] → IsSpelled (Sample (header_with ty ns Reversible) 0) words
+sampled ty ns words shape is = record { asked = askable_reversible ty ns shape; small = lit< tt; words_are = is }
 
 -- the words that lead to a stage begin a command
 pub BeginsCommand-reached : (words : List (List ℕ)) (stage : Stage) → LeadsTo words stage → BeginsCommand words
@@ -61,12 +78,24 @@ BeginsCommand-reached words stages.Compressing is =
     (Compress (header_with I32 (1 ∷ []) Reversible), codes "int32" ∷ shape_word (1 ∷ []) ∷ codes "reversible" ∷ [], (askable_reversible I32 (1 ∷ []) one_value, ap (λ front. front ++ codes "int32" ∷ shape_word (1 ∷ []) ∷ codes "reversible" ∷ []) is))
 BeginsCommand-reached words (stages.Typed ty) is =
     (Compress (header_with ty (1 ∷ []) Reversible), shape_word (1 ∷ []) ∷ codes "reversible" ∷ [], (askable_reversible ty (1 ∷ []) one_value, ap (λ front. front ++ shape_word (1 ∷ []) ∷ codes "reversible" ∷ []) is))
-BeginsCommand-reached words (stages.Shaped ty ns) leads =
-    (Compress (header_with ty ns Reversible), codes "reversible" ∷ [], (askable_reversible ty ns leads.0, ap (λ front. front ++ codes "reversible" ∷ []) leads.1))
-BeginsCommand-reached words (stages.AtRate ty ns) leads =
-    (Compress (header_with ty ns (Rate 1)), decimal 1 ∷ [], (askable_rate_one ty ns leads.0, ap (λ front. front ++ decimal 1 ∷ []) leads.1))
-BeginsCommand-reached words (stages.AtPrecision ty ns) leads =
-    (Compress (header_with ty ns (Precision 1)), decimal 1 ∷ [], (askable_precision_one ty ns leads.0, ap (λ front. front ++ decimal 1 ∷ []) leads.1))
+BeginsCommand-reached words stages.Sampling is =
+    let rest = codes "int32" ∷ shape_word (1 ∷ []) ∷ decimal 0 ∷ codes "reversible" ∷ [] in
+    (Sample (header_with I32 (1 ∷ []) Reversible) 0, rest, sampled I32 (1 ∷ []) (words ++ rest) one_value (ap (λ front. front ++ rest) is))
+BeginsCommand-reached words (stages.SampleTyped ty) is =
+    let rest = shape_word (1 ∷ []) ∷ decimal 0 ∷ codes "reversible" ∷ [] in
+    (Sample (header_with ty (1 ∷ []) Reversible) 0, rest, sampled ty (1 ∷ []) (words ++ rest) one_value (ap (λ front. front ++ rest) is))
+BeginsCommand-reached words (stages.SampleShaped ty ns) leads =
+    let rest = decimal 0 ∷ codes "reversible" ∷ [] in
+    (Sample (header_with ty ns Reversible) 0, rest, sampled ty ns (words ++ rest) leads.0 (ap (λ front. front ++ rest) leads.1))
+BeginsCommand-reached words (stages.Shaped task ty ns) leads =
+    let h = header_with ty ns Reversible in
+    (command_of task h, codes "reversible" ∷ [], IsSpelled-begun task h [] (codes "reversible" ∷ []) words leads (askable_reversible ty ns leads.shape_is) refl)
+BeginsCommand-reached words (stages.AtRate task ty ns) leads =
+    let h = header_with ty ns (Rate 1) in
+    (command_of task h, decimal 1 ∷ [], IsSpelled-begun task h (codes "rate" ∷ []) (decimal 1 ∷ []) words leads (askable_rate_one ty ns leads.shape_is) refl)
+BeginsCommand-reached words (stages.AtPrecision task ty ns) leads =
+    let h = header_with ty ns (Precision 1) in
+    (command_of task h, decimal 1 ∷ [], IsSpelled-begun task h (codes "precision" ∷ []) (decimal 1 ∷ []) words leads (askable_precision_one ty ns leads.shape_is) refl)
 BeginsCommand-reached words stages.Making is =
     let rest = (97 ∷ []) ∷ type_word I32 ∷ shape_word (1 ∷ []) ∷ decimal 1 ∷ [] in
     (New (97 ∷ []) I32 (1 ∷ []) 1, rest, made_of_one_bit (97 ∷ []) I32 (1 ∷ []) (words ++ rest) one_letter one_value (ap (λ front. front ++ rest) is))

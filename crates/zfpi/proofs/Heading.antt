@@ -17,7 +17,7 @@ use Rattle.zfpi.specs.declared.status.Status.TheVariants as statuses
 use Rattle.zfpi.specs.declared.command.Command.TheVariants.{Info}
 use Rattle.zfpi.specs.Info.{info_line, info_text}
 use Rattle.zfpi.specs.World.{World, TellsInput, seen}
-use Rattle.zfpi.specs.Answer.{fault_status, header_status, MayFail, TakesHeader, info_draft}
+use Rattle.zfpi.specs.Answer.{fault_status, header_status, MayFail, TakesHeader, line_draft}
 use Rattle.zfpi.specs.Headline.{IsOfCommand, Writes, Behaves}
 use Rattle.zfpi.proofs.Told.{some_input, world_of, TellsFiles-same, KeepsFiles-none}
 
@@ -38,7 +38,7 @@ begins (Some all) bytes is within = record { input = all; told = refl; first = i
 -- the first bytes were read: the status is that of their header, or the line was not written
 Behaves-first : (status : Status) (bytes : List ℕ) (src_before src_now out_before out_now : Option (List ℕ)) (shelf : Option Files) → IsOfCommand status → TakesFirst 19 src_before src_now bytes
     → ((status ≡ header_status (header_fault bytes)) ⊎ ((w : World) → MayFail status Info w [])) → ((input : List ℕ) → bytes ≡ take 19 input → TakesHeader status input bytes)
-    → Writes status (info_text bytes) (info_draft status (info_text bytes)) out_before out_now → Behaves Info status (seen src_before out_before shelf) (seen src_now out_now shelf)
+    → Writes status (info_text bytes) (line_draft status (info_text bytes)) out_before out_now → Behaves Info status (seen src_before out_before shelf) (seen src_now out_now shelf)
 Behaves-first status bytes src_before src_now out_before out_now shelf ends first stated extent written =
     let b = begins src_before bytes first.first first.within in
     let w = world_of b.input shelf in
@@ -55,7 +55,7 @@ Behaves-first status bytes src_before src_now out_before out_now shelf ends firs
       taken = bytes;
       takes = first.taken;
       extent = extent b.input b.first;
-      written = subst (λ front. Writes status (info_text front) (info_draft status (info_text bytes)) out_before out_now) b.first written;
+      written = subst (λ front. Writes status (info_text front) (line_draft status (info_text bytes)) out_before out_now) b.first written;
       saved = KeepsFiles-none shelf;
     }
 

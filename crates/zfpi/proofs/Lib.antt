@@ -8,3 +8,4 @@ mod Heading
 mod Causes
 mod Promises
 pub mod Making
+mod Sampling

@@ -1,16 +1,13 @@
 -- What `new` does: nothing is read or written, and a file is saved.
-use Rattle.std.proofs.Common.{◌≡◌, ◌≢◌, ℕ, ◌≤◌, List, [], Option, Some, None, ◌⊎◌, inl, inr, refl, sym, subst, arith}
-use Rattle.zf_dev.specs.Faults.{Rose}
-use Rattle.zf_dev.specs.Shelf.{Files, KeepsFiles, KeepsOthers, SavesFile}
-use Rattle.zf_dev.specs.Source.{Takes}
-use Rattle.zf_dev.specs.Sink.{Appends, AppendsFront}
+use Rattle.std.proofs.Common.{◌≡◌, ◌≢◌, ℕ, ◌≤◌, List, [], Option, Some, ◌⊎◌, inl, inr, refl, subst, arith}
+use Rattle.zf_dev.specs.Shelf.{Files, KeepsOthers, SavesFile}
 use Rattle.zf_dev.proofs.Appending.{Appends-none, AppendsFront-none}
 use Rattle.zf_base.specs.declared.lane.Ty.{Ty}
 use Rattle.zf_store.specs.Stored.{file_of, zeros}
 use Rattle.zfpi.specs.declared.status.Status.{Status}
 use Rattle.zfpi.specs.declared.status.Status.TheVariants as statuses
 use Rattle.zfpi.specs.declared.command.Command.TheVariants.{New}
-use Rattle.zfpi.specs.World.{World, TellsInput, seen, counts}
+use Rattle.zfpi.specs.World.{World, seen, counts}
 use Rattle.zfpi.specs.Answer.{status_for, MayFail}
 use Rattle.zfpi.specs.Headline.{IsOfCommand, Writes, Saves, Behaves, HasCauses, IsCausedOnShelf}
 use Rattle.zfpi.proofs.Told.{world_of, TellsFiles-same, KeepsFiles-none, some_input, Takes-none}

@@ -1,6 +1,6 @@
 -- From the promises of a command to those of the program.
 use Rattle.std.proofs.Common.{◌≡◌, ◌≢◌, ℕ, ◌<◌, Bool, true, false, cond, ltb, length, take, inl, inr, List, Option, Some, None, Result, Ok, Err, refl, ap, sym, subst, ◌∙◌, arith}
-use Rattle.std.proofs.lemmas.Bool.{ltb-true, false≢true}
+use Rattle.std.proofs.lemmas.Bool.{ltb-true}
 use Rattle.zf_dev.specs.Faults.{IsQuiet}
 use Rattle.zf_dev.specs.Sink.{Appends}
 use Rattle.zf_dev.proofs.Counts.{HasCause-quiet}
@@ -13,9 +13,9 @@ use Rattle.zf_stream.specs.Parsing.{restore_answer, restored_text}
 use Rattle.zf_stream.proofs.OwnFaults.{is_foreign, blames_foreign, own_answer}
 use Rattle.zf_stream.proofs.StreamsBack.{answer-stream_text, text-reversible_text}
 use Rattle.zfpi.specs.declared.status.Status.{Status}
-use Rattle.zfpi.specs.declared.status.Status.TheVariants.{Done, Usage, RawShort, RawLong, Header, Truncated, Pad, Trailing, ReadFault, WriteFault, SaveFault, Memory}
+use Rattle.zfpi.specs.declared.status.Status.TheVariants.{Done, Usage, ReadFault, WriteFault, SaveFault, Memory}
 use Rattle.zfpi.specs.declared.command.Command.{Command}
-use Rattle.zfpi.specs.declared.command.Command.TheVariants.{Compress, Restore, Info, New}
+use Rattle.zfpi.specs.declared.command.Command.TheVariants.{Compress, Restore, Info, New, Sample}
 use Rattle.zfpi.specs.Words.{IsSpelled}
 use Rattle.zfpi.specs.World.{World, Seen, Counts, TellsInput}
 use Rattle.zfpi.specs.Answer.{CanRun, TakesMemory, MayFail, IsPossible, CompressEnds, RestoreEnds, InfoEnds, status_of, header_status, status_for, restore_draft}
@@ -28,24 +28,15 @@ CanRun-spelled (Compress h) words spelled = spelled.0.header.mode
 CanRun-spelled Restore words spelled = tt
 CanRun-spelled Info words spelled = tt
 CanRun-spelled (New name ty ns b) words spelled = (spelled.shape, spelled.rate)
+CanRun-spelled (Sample h seed) words spelled = spelled.asked.header.mode
 
 -- what holds of one command that the words are holds of each
 pub OfCommand-one : (words : List (List ℕ)) (c : Command) → IsSpelled c words → (P : Command → Type 0) → P c → OfCommand words P
 OfCommand-one words c spelled P this = λ d other. subst P (one_command words c d spelled other) this
 
 pub RefusesWords-command : (words : List (List ℕ)) (c : Command) (status : Status) → IsSpelled c words → IsOfCommand status → RefusesWords words status
-RefusesWords-command words c Done spelled is = (c, spelled)
 RefusesWords-command words c (Usage k) spelled is = absurd is
-RefusesWords-command words c (RawShort m) spelled is = (c, spelled)
-RefusesWords-command words c RawLong spelled is = (c, spelled)
-RefusesWords-command words c (Header f) spelled is = (c, spelled)
-RefusesWords-command words c (Truncated b) spelled is = (c, spelled)
-RefusesWords-command words c Pad spelled is = (c, spelled)
-RefusesWords-command words c Trailing spelled is = (c, spelled)
-RefusesWords-command words c ReadFault spelled is = (c, spelled)
-RefusesWords-command words c WriteFault spelled is = (c, spelled)
-RefusesWords-command words c SaveFault spelled is = (c, spelled)
-RefusesWords-command words c Memory spelled is = (c, spelled)
+RefusesWords-command words c status spelled is = (c, spelled)
 
 -- ---- what follows from the two records of a command
 
@@ -55,14 +46,7 @@ only_memory ReadFault c w wants may none = absurd (none.0 refl)
 only_memory WriteFault c w wants may none = absurd (none.1 refl)
 only_memory SaveFault c w wants may none = absurd (none.2 refl)
 only_memory Memory c w wants may none = (refl, may)
-only_memory Done c w wants may none = absurd may
-only_memory (Usage k) c w wants may none = absurd may
-only_memory (RawShort m) c w wants may none = absurd may
-only_memory RawLong c w wants may none = absurd may
-only_memory (Header f) c w wants may none = absurd may
-only_memory (Truncated b) c w wants may none = absurd may
-only_memory Pad c w wants may none = absurd may
-only_memory Trailing c w wants may none = absurd may
+only_memory status c w wants may none = absurd (first_of (assumption may, cc))
 
 -- a fault of a save has a save that failed
 save_failed : (status : Status) (Loading Saving : Type 0) → status ≡ SaveFault → IsCausedOnShelf status Loading Saving → Saving
@@ -97,24 +81,13 @@ possible_fault ReadFault Info w wants may = tt
 possible_fault WriteFault (Compress h) w wants may = tt
 possible_fault WriteFault Restore w wants may = tt
 possible_fault WriteFault Info w wants may = tt
-possible_fault ReadFault (New name ty ns b) w wants may = absurd (false≢true may)
-possible_fault WriteFault (New name ty ns b) w wants may = absurd (false≢true may)
-possible_fault SaveFault (Compress h) w wants may = absurd (false≢true may)
-possible_fault SaveFault Restore w wants may = absurd (false≢true may)
-possible_fault SaveFault Info w wants may = absurd (false≢true may)
+possible_fault WriteFault (Sample h seed) w wants may = tt
 possible_fault SaveFault (New name ty ns b) w wants may = tt
-possible_fault Memory (New name ty ns b) w wants may = tt
 possible_fault Memory (Compress h) w wants may = tt
 possible_fault Memory Restore w wants may = tt
-possible_fault Memory Info w wants may = absurd may
-possible_fault Done c w wants may = absurd may
-possible_fault (Usage k) c w wants may = absurd may
-possible_fault (RawShort m) c w wants may = absurd may
-possible_fault RawLong c w wants may = absurd may
-possible_fault (Header f) c w wants may = absurd may
-possible_fault (Truncated b) c w wants may = absurd may
-possible_fault Pad c w wants may = absurd may
-possible_fault Trailing c w wants may = absurd may
+possible_fault Memory (New name ty ns b) w wants may = tt
+possible_fault Memory (Sample h seed) w wants may = tt
+possible_fault status c w wants may = absurd (first_of (assumption may, cc))
 
 -- and so are those that it states for an input
 compress_ends : (wanted n : ℕ) (short long : Bool) → (short ≡ true → n < wanted) → CompressEnds wanted (status_of (cond short (Err (faults.RawShort n)) (cond long (Err faults.RawLong) (Ok tt))))
@@ -146,6 +119,7 @@ possible_status (Compress h) w wants =
 possible_status Restore w wants = restore_ends (restore_answer w.input) (own_answer w.input)
 possible_status Info w wants = info_ends (header_fault (take 19 w.input))
 possible_status (New name ty ns b) w wants = tt
+possible_status (Sample h seed) w wants = tt
 
 pub IsPossible-behaves : (c : Command) (status : Status) (before now : Seen) → Behaves c status before now → IsPossible c status
 IsPossible-behaves c status before now behaves = elim behaves.stated [
@@ -157,15 +131,7 @@ from_outside : (status : Status) (w : World) (wants : List ℕ) → MayFail stat
 from_outside ReadFault w wants may = inl refl
 from_outside WriteFault w wants may = inr (inl refl)
 from_outside Memory w wants may = inr (inr refl)
-from_outside SaveFault w wants may = absurd (false≢true may)
-from_outside Done w wants may = absurd may
-from_outside (Usage k) w wants may = absurd may
-from_outside (RawShort m) w wants may = absurd may
-from_outside RawLong w wants may = absurd may
-from_outside (Header f) w wants may = absurd may
-from_outside (Truncated b) w wants may = absurd may
-from_outside Pad w wants may = absurd may
-from_outside Trailing w wants may = absurd may
+from_outside status w wants may = absurd (first_of (assumption may, cc))
 
 -- a source that tells these bytes tells no other
 the_input : (known : Option (List ℕ)) (bytes input : List ℕ) → known ≡ Some bytes → TellsInput known input → input ≡ bytes

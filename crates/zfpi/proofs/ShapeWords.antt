@@ -18,7 +18,6 @@ use Rattle.zf_base.specs.declared.shape.ShapeFault.{ShapeFault}
 use Rattle.zf_spec.specs.Grid.{IsShape}
 use Rattle.zfpi.specs.Words.{shape_word}
 use Rattle.zfpi.proofs.Decimals.{decimal_has_no}
-use Rattle.zf_spec.proofs.Counting.{four_elements}
 
 -- the letter at which a shape is cut
 abbrev pub is_x : ℕ → Bool

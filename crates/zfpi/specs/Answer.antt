@@ -10,13 +10,14 @@ use Rattle.zf_stream.specs.Parsing.{restore_answer, restored_text}
 use Rattle.zfpi.specs.declared.status.Status.{Status}
 use Rattle.zfpi.specs.declared.status.Status.TheVariants as statuses
 use Rattle.zfpi.specs.declared.command.Command.{Command}
-use Rattle.zfpi.specs.declared.command.Command.TheVariants.{Compress, Restore, Info, New}
+use Rattle.zfpi.specs.declared.command.Command.TheVariants.{Compress, Restore, Info, New, Sample}
 use Rattle.zf_header.specs.declared.header.Mode.TheVariants.{Rate}
 use Rattle.zf_header.specs.HeaderBits.{IsRate}
 use Rattle.zf_spec.specs.Grid.{IsShape}
 use Rattle.zf_store.specs.Stored.{file_of, zeros}
 use Rattle.zfpi.specs.World.{World}
 use Rattle.zfpi.specs.Info.{info_text}
+use Rattle.zfpi.specs.Sample.{sample_text}
 
 -- the status of a fault of a stream
 abbrev pub fault_status : StreamFault → Status
@@ -46,6 +47,7 @@ CanRun (Compress h) = IsMode h.mode
 CanRun Restore = Unit {0}
 CanRun Info = Unit {0}
 CanRun (New name ty ns b) = IsShape ns × IsRate (Rate b)
+CanRun (Sample h seed) = IsMode h.mode
 
 -- the bytes that the longest header lies in
 abbrev pub header_bytes : ℕ
@@ -57,6 +59,7 @@ status_for (Compress h) w wants = status_of (compress_answer h w.input)
 status_for Restore w wants = status_of (restore_answer w.input)
 status_for Info w wants = header_status (header_fault (take header_bytes w.input))
 status_for (New name ty ns b) w wants = statuses.Done
+status_for (Sample h seed) w wants = statuses.Done
 
 -- what is written where the whole work was done
 abbrev pub text_for : Command → World → List ℕ → List ℕ
@@ -64,6 +67,7 @@ text_for (Compress h) w wants = stream_text h w.input
 text_for Restore w wants = restored_text w.input
 text_for Info w wants = info_text (take header_bytes w.input)
 text_for (New name ty ns b) w wants = []
+text_for (Sample h seed) w wants = sample_text h seed
 
 -- nothing after want of memory, which comes before the first write
 abbrev pub compress_draft : Status → List ℕ → List ℕ
@@ -76,17 +80,18 @@ restore_draft statuses.Memory text = []
 restore_draft (statuses.Header fault) text = []
 restore_draft status text = text
 
--- a line is written once the header is known
-abbrev pub info_draft : Status → List ℕ → List ℕ
-info_draft statuses.WriteFault text = text
-info_draft status text = []
+-- a line is written once all of it is known
+abbrev pub line_draft : Status → List ℕ → List ℕ
+line_draft statuses.WriteFault text = text
+line_draft status text = []
 
 -- after each other status a front of this is written; the last list has the bytes that were taken
 abbrev pub draft_for : Command → Status → World → List ℕ → List ℕ → List ℕ
 draft_for (Compress h) status w wants taken = compress_draft status (stream_text h taken)
 draft_for Restore status w wants taken = restore_draft status (restored_text taken)
-draft_for Info status w wants taken = info_draft status (info_text taken)
+draft_for Info status w wants taken = line_draft status (info_text taken)
 draft_for (New name ty ns b) status w wants taken = []
+draft_for (Sample h seed) status w wants taken = line_draft status (sample_text h seed)
 
 -- what is saved, and under which name
 abbrev pub saved_for : Command → World → List ℕ → Option (List ℕ × List ℕ)
@@ -94,6 +99,7 @@ saved_for (Compress h) w wants = None
 saved_for Restore w wants = None
 saved_for Info w wants = None
 saved_for (New name ty ns b) w wants = Some (name, file_of (zeros ty ns b))
+saved_for (Sample h seed) w wants = None
 
 -- after Done the whole input was taken
 abbrev pub TakesWhole : Status → List ℕ → List ℕ → Type 0
@@ -111,6 +117,7 @@ IsExtent (Compress h) status input taken = TakesWhole status input taken
 IsExtent Restore status input taken = TakesWhole status input taken
 IsExtent Info status input taken = TakesHeader status input taken
 IsExtent (New name ty ns b) status input taken = taken ≡ []
+IsExtent (Sample h seed) status input taken = taken ≡ []
 
 -- only a script has lines that answer `! memory`
 abbrev pub HasWants : Command → World → List ℕ → Type 0
@@ -118,6 +125,7 @@ HasWants (Compress h) w wants = wants ≡ []
 HasWants Restore w wants = wants ≡ []
 HasWants Info w wants = wants ≡ []
 HasWants (New name ty ns b) w wants = wants ≡ []
+HasWants (Sample h seed) w wants = wants ≡ []
 
 -- which devices a command uses
 pub record Uses : Type 0 where
@@ -131,6 +139,7 @@ uses (Compress h) = record { reads = true; writes = true; loads = false; saves =
 uses Restore = record { reads = true; writes = true; loads = false; saves = false }
 uses Info = record { reads = true; writes = true; loads = false; saves = false }
 uses (New name ty ns b) = record { reads = false; writes = false; loads = false; saves = true }
+uses (Sample h seed) = record { reads = false; writes = true; loads = false; saves = false }
 
 -- the command takes memory in this world
 abbrev pub TakesMemory : Command → World → Type 0
@@ -138,6 +147,7 @@ TakesMemory (Compress h) w = Unit {0}
 TakesMemory Restore w = header_fault w.input ≡ None
 TakesMemory Info w = ⊥
 TakesMemory (New name ty ns b) w = Unit {0}
+TakesMemory (Sample h seed) w = Unit {0}
 
 -- the statuses that no world determines: faults of the devices that a command uses, and want of memory where it takes any
 abbrev pub MayFail : Status → Command → World → List ℕ → Type 0
@@ -184,9 +194,17 @@ NewEnds statuses.SaveFault = Unit {0}
 NewEnds statuses.Memory = Unit {0}
 NewEnds status = ⊥
 
+-- those of `sample`
+abbrev pub SampleEnds : Status → Type 0
+SampleEnds statuses.Done = Unit {0}
+SampleEnds statuses.WriteFault = Unit {0}
+SampleEnds statuses.Memory = Unit {0}
+SampleEnds status = ⊥
+
 -- a command can end so at all, whatever its devices tell
 abbrev pub IsPossible : Command → Status → Type 0
 IsPossible (Compress h) status = CompressEnds (raw_len h) status
 IsPossible Restore status = RestoreEnds status
 IsPossible Info status = InfoEnds status
 IsPossible (New name ty ns b) status = NewEnds status
+IsPossible (Sample h seed) status = SampleEnds status

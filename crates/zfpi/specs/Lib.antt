@@ -4,6 +4,7 @@
 --     Stages      what each stage of reading words knows
 --     Statuses    the exit code of each status, and its line for the error output
 --     Info        the line that `info` writes
+--     Sample      the line that `sample` writes
 --     World       what a call works on, and what is seen of its devices
 --     Answer      what each command does: one case for each command
 --     Headline    what the program promises of every command
@@ -12,6 +13,7 @@ pub mod Words
 pub mod Stages
 pub mod Statuses
 pub mod Info
+pub mod Sample
 pub mod World
 pub mod Answer
 pub mod Headline

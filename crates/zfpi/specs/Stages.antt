@@ -1,22 +1,51 @@
 -- How far a list of words has come on the way to a command.
-use Rattle.std.specs.Prelude.{ℕ, ◌≡◌, ◌≤◌, List, [], ◌∷◌, codes, decimal}
+use Rattle.std.specs.Prelude.{ℕ, ◌≡◌, ◌<◌, ◌≤◌, ◌^◌, List, [], ◌∷◌, ◌++◌, codes, decimal}
 use Rattle.zf_spec.specs.Grid.{IsShape}
 use Rattle.zf_base.specs.declared.lane.Ty.{Ty}
+use Rattle.zf_header.specs.declared.header.Header.{Header}
 use Rattle.zf_header.specs.declared.header.Mode.TheVariants.{Rate, Precision}
 use Rattle.zf_header.specs.HeaderBits.{IsRate, IsMode, rate_bytes_of}
 use Rattle.zfpi.specs.Names.{IsName}
+use Rattle.zfpi.specs.declared.command.Command.{Command}
+use Rattle.zfpi.specs.declared.command.Command.TheVariants as commands
+use Rattle.zfpi.specs.declared.words.Task.{Task}
+use Rattle.zfpi.specs.declared.words.Task.TheVariants as tasks
 use Rattle.zfpi.specs.declared.words.Stage.{Stage}
 use Rattle.zfpi.specs.declared.words.Stage.TheVariants as stages
 use Rattle.zfpi.specs.Words.{type_word, shape_word, max_file, IsSpelled}
+
+-- the number that an array is made of has 64 bits
+abbrev pub IsTask : Task → Type 0
+IsTask tasks.Compress = Unit {0}
+IsTask (tasks.Sample seed) = seed < 2 ^ 64
+
+-- the words of a task before those of the mode
+abbrev pub task_words : Task → Ty → List ℕ → List (List ℕ)
+task_words tasks.Compress ty shape = codes "compress" ∷ type_word ty ∷ shape_word shape ∷ []
+task_words (tasks.Sample seed) ty shape = codes "sample" ∷ type_word ty ∷ shape_word shape ∷ decimal seed ∷ []
+
+-- the command that does a task with the arrays of a header
+abbrev pub command_of : Task → Header → Command
+command_of tasks.Compress h = commands.Compress h
+command_of (tasks.Sample seed) h = commands.Sample h seed
+
+-- these words begin a task for arrays of this type and shape, and then those behind follow
+pub record IsBegun (task : Task) (ty : Ty) (shape : List ℕ) (behind : List (List ℕ)) (words : List (List ℕ)) : Type 0 where
+  pub task_is : IsTask task
+  pub shape_is : IsShape shape
+  pub words_are : words ≡ task_words task ty shape ++ behind
 
 -- these words lead to the stage
 abbrev pub LeadsTo : List (List ℕ) → Stage → Type 0
 LeadsTo words stages.Start = words ≡ []
 LeadsTo words stages.Compressing = words ≡ codes "compress" ∷ []
 LeadsTo words (stages.Typed ty) = words ≡ codes "compress" ∷ type_word ty ∷ []
-LeadsTo words (stages.Shaped ty shape) = IsShape shape × (words ≡ codes "compress" ∷ type_word ty ∷ shape_word shape ∷ [])
-LeadsTo words (stages.AtRate ty shape) = IsShape shape × (words ≡ codes "compress" ∷ type_word ty ∷ shape_word shape ∷ codes "rate" ∷ [])
-LeadsTo words (stages.AtPrecision ty shape) = IsShape shape × (words ≡ codes "compress" ∷ type_word ty ∷ shape_word shape ∷ codes "precision" ∷ [])
+LeadsTo words stages.Sampling = words ≡ codes "sample" ∷ []
+LeadsTo words (stages.SampleTyped ty) = words ≡ codes "sample" ∷ type_word ty ∷ []
+LeadsTo words (stages.SampleShaped ty shape) = IsShape shape × (words ≡ codes "sample" ∷ type_word ty ∷ shape_word shape ∷ [])
+LeadsTo words (stages.Shaped task ty shape) = IsBegun task ty shape [] words
+LeadsTo words (stages.AtRate task ty shape) = IsBegun task ty shape (codes "rate" ∷ []) words
+LeadsTo words (stages.AtPrecision task ty shape) = IsBegun task ty shape (codes "precision" ∷ []) words
 LeadsTo words stages.Making = words ≡ codes "new" ∷ []
 LeadsTo words (stages.Named name) = IsName name × (words ≡ codes "new" ∷ name ∷ [])
 LeadsTo words (stages.NamedTyped name ty) = IsName name × (words ≡ codes "new" ∷ name ∷ type_word ty ∷ [])

@@ -20,4 +20,7 @@ pub enum Command {
         shape: Shape,
         bits: u32,
     },
+    /// An array made from a number, which becomes the stream that has this header and is restored from it; a line that says what
+    /// became of it to the sink.
+    Sample(Header, u64),
 }

@@ -6,6 +6,7 @@ ghost use Rattle.arrayvec.specs.ArrayString.{array_string_len};
 ghost use Rattle.zf_header.specs.HeaderBits.{header_bits};
 ghost use Rattle.zfpi.specs.Words.{type_word, shape_word};
 ghost use Rattle.zfpi.specs.Info.{mode_text, info_line};
+ghost use Rattle.zfpi.specs.Sample.{summary_line};
 ghost use Rattle.zfpi.specs.Statuses.{line, header_message, error_line};
 
 use crate::status::Status;
@@ -13,6 +14,7 @@ use arrayvec::ArrayString;
 use itoa::Buffer;
 use zf_base::{Shape, Ty};
 use zf_header::{Header, HeaderFault, Mode};
+use zf_sample::Summary;
 
 /// The most bytes of a line.
 const LINE: usize = 256;
@@ -54,6 +56,23 @@ pub fn info_line(header: &Header, bits: u32) -> Line
     push_number(header.shape.blocks(), &mut line);
     line.push_str(" header ");
     push_number(u64::from(bits), &mut line);
+    line.push_str("\n");
+    line
+}
+
+/// The line of `sample`.
+pub fn summary_line(summary: &Summary) -> Line
+    ensures { result.bytes ≡ summary_line summary.now }
+{
+    let mut line = Line::new();
+    line.push_str("values ");
+    push_number(summary.values, &mut line);
+    line.push_str(" blocks ");
+    push_number(summary.blocks, &mut line);
+    line.push_str(" bytes ");
+    push_number(summary.bytes, &mut line);
+    line.push_str(" changed ");
+    push_number(summary.changed, &mut line);
     line.push_str("\n");
     line
 }

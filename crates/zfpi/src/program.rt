@@ -12,6 +12,7 @@ use crate::info::info;
 use crate::line::error_line;
 use crate::new::new;
 use crate::restore::restore;
+use crate::sample::sample;
 use crate::status::Status;
 use crate::words::parse;
 use std::alloc::Global;
@@ -106,6 +107,7 @@ fn do_command<S: Source, O: Sink, F: Shelf>(
             shape,
             bits,
         } => new(alloc, &name, ty, shape, bits, shelf),
+        Command::Sample(header, seed) => sample(alloc, header, seed, out),
     }
 }
 

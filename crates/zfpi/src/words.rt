@@ -4,7 +4,7 @@ ghost use Rattle.std.specs.Prelude.{◌≡◌, ◌≢◌, ◌↔◌, ℕ, List, 
 ghost use Rattle.zf_base.specs.declared.lane.Ty.{Ty};
 ghost use Rattle.zf_header.specs.HeaderBits.{IsRate, IsMode};
 ghost use Rattle.zfpi.specs.Words.{type_word, IsSpelled, BeginsCommand, IsUsage};
-ghost use Rattle.zfpi.specs.Stages.{LeadsTo, IsRateWord, IsPrecisionWord};
+ghost use Rattle.zfpi.specs.Stages.{LeadsTo, IsRateWord, IsPrecisionWord, command_of};
 
 use crate::command::Command;
 use crate::name::Name;
@@ -12,15 +12,25 @@ use crate::numbers::{number_in, shape_in};
 use zf_base::{Shape, Ty};
 use zf_header::{Header, MAX_FILE, MAX_PRECISION, MAX_RATE, Mode, rate_bytes};
 
+// What is done with the arrays of a header: raw values become their stream, or values are made from a number.
+#[derive(Clone, Copy, Debug)]
+enum Task {
+    Compress,
+    Sample(u64),
+}
+
 // How far the words have come.
 #[derive(Debug, Drop)]
 enum Stage {
     Start,
     Compressing,
     Typed(Ty),
-    Shaped(Ty, Shape),
-    AtRate(Ty, Shape),
-    AtPrecision(Ty, Shape),
+    Sampling,
+    SampleTyped(Ty),
+    SampleShaped(Ty, Shape),
+    Shaped(Task, Ty, Shape),
+    AtRate(Task, Ty, Shape),
+    AtPrecision(Task, Ty, Shape),
     Making,
     Named(Name),
     NamedTyped(Name, Ty),
@@ -47,6 +57,18 @@ pub fn parse(words: &[String]) -> Result<Command, u64>
     }
 }
 
+impl Task {
+    // The command that does it.
+    fn command(self, header: Header) -> Command
+        ensures { result ≡ command_of self header }
+    {
+        match self {
+            Task::Compress => Command::Compress(header),
+            Task::Sample(seed) => Command::Sample(header, seed),
+        }
+    }
+}
+
 impl Stage {
     // The stage that one more word leads to.
     fn next(self, word: &str) -> Option<Stage>
@@ -58,15 +80,21 @@ impl Stage {
         match self {
             Stage::Start => first(word),
             Stage::Compressing => Some(Stage::Typed(type_in(word)?)),
-            Stage::Typed(ty) => Some(Stage::Shaped(ty, shape_in(word)?)),
-            Stage::Shaped(ty, shape) => behind_shape(ty, shape, word),
-            Stage::AtRate(ty, shape) => {
-                let mode = Mode::Rate(rate_in(ty, shape, word)?);
-                Some(Stage::Whole(Command::Compress(Header { ty, shape, mode })))
+            Stage::Typed(ty) => Some(Stage::Shaped(Task::Compress, ty, shape_in(word)?)),
+            Stage::Sampling => Some(Stage::SampleTyped(type_in(word)?)),
+            Stage::SampleTyped(ty) => Some(Stage::SampleShaped(ty, shape_in(word)?)),
+            Stage::SampleShaped(ty, shape) => {
+                let seed = number_in(word)?;
+                Some(Stage::Shaped(Task::Sample(seed), ty, shape))
             }
-            Stage::AtPrecision(ty, shape) => {
+            Stage::Shaped(task, ty, shape) => behind_shape(task, ty, shape, word),
+            Stage::AtRate(task, ty, shape) => {
+                let mode = Mode::Rate(rate_in(ty, shape, word)?);
+                Some(Stage::Whole(task.command(Header { ty, shape, mode })))
+            }
+            Stage::AtPrecision(task, ty, shape) => {
                 let mode = Mode::Precision(precision_in(word)?);
-                Some(Stage::Whole(Command::Compress(Header { ty, shape, mode })))
+                Some(Stage::Whole(task.command(Header { ty, shape, mode })))
             }
             Stage::Making => Some(Stage::Named(Name::new(word)?)),
             Stage::Named(name) => Some(Stage::NamedTyped(name, type_in(word)?)),
@@ -95,6 +123,7 @@ fn first(word: &str) -> Option<Stage>
         "restore" => Some(Stage::Whole(Command::Restore)),
         "info" => Some(Stage::Whole(Command::Info)),
         "new" => Some(Stage::Making),
+        "sample" => Some(Stage::Sampling),
         _ => None,
     }
 }
@@ -112,19 +141,19 @@ fn type_in(word: &str) -> Option<Ty>
 }
 
 // The stage that the first word of the mode leads to.
-fn behind_shape(ty: Ty, shape: Shape, word: &str) -> Option<Stage>
-    ensures leads { IfSome result (λ next. (words : List (List ℕ)) → LeadsTo words (Stage.Shaped ty shape)
+fn behind_shape(task: Task, ty: Ty, shape: Shape, word: &str) -> Option<Stage>
+    ensures leads { IfSome result (λ next. (words : List (List ℕ)) → LeadsTo words (Stage.Shaped task ty shape)
         → LeadsTo (words ++ word.now ∷ []) next) }
-    ensures none { IfNone result ((words : List (List ℕ)) → LeadsTo words (Stage.Shaped ty shape)
+    ensures none { IfNone result ((words : List (List ℕ)) → LeadsTo words (Stage.Shaped task ty shape)
         → BeginsCommand (words ++ word.now ∷ []) → ⊥) }
 {
     match word {
         "reversible" => {
             let mode = Mode::Reversible;
-            Some(Stage::Whole(Command::Compress(Header { ty, shape, mode })))
+            Some(Stage::Whole(task.command(Header { ty, shape, mode })))
         }
-        "rate" => Some(Stage::AtRate(ty, shape)),
-        "precision" => Some(Stage::AtPrecision(ty, shape)),
+        "rate" => Some(Stage::AtRate(task, ty, shape)),
+        "precision" => Some(Stage::AtPrecision(task, ty, shape)),
         _ => None,
     }
 }

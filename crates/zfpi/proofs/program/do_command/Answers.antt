@@ -24,3 +24,9 @@ returns-in-New-clause-behaves g c = rw c.in-New.is (c.new.ensures.behaves _ _)
 
 pub returns-in-New-clause-causes : goal.returns-in-New-clause-causes
 returns-in-New-clause-causes g c = rw c.in-New.is (HasCauses-sure _ _ _ _ (c.new.ensures.causes _ _))
+
+pub returns-in-Sample-clause-behaves : goal.returns-in-Sample-clause-behaves
+returns-in-Sample-clause-behaves g c = rw c.in-Sample.is (c.sample.ensures.behaves _ _)
+
+pub returns-in-Sample-clause-causes : goal.returns-in-Sample-clause-causes
+returns-in-Sample-clause-causes g c = rw c.in-Sample.is (HasCauses-sure _ _ _ _ (HasCauses-more _ _ _ _ _ _ _ (c.sample.ensures.causes _ _)))

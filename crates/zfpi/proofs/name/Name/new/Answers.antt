@@ -1,4 +1,4 @@
-use Rattle.std.proofs.Common.{◌≡◌, ◌∙◌, sym, subst, ap, length, true, rules}
+use Rattle.std.proofs.Common.{◌≡◌, sym, subst, true, rules}
 use Rattle.std.specs.List.{list_all}
 use Rattle.zfpi.specs.Names.{IsName, begins_name, is_name_byte}
 use Rattle.zfpi.proofs.name.Name.new.Goals as goal

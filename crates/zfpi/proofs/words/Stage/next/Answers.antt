@@ -6,7 +6,7 @@ use Rattle.zfpi.proofs.words.Stage.next.Goals as goal
 pub returns-in_err-rate_in-in-AtRate-clause-none : goal.returns-in_err-rate_in-in-AtRate-clause-none
 returns-in_err-rate_in-in-AtRate-clause-none c =
     rw c.from_residual-in_err-rate_in-in-AtRate.ensures (λ words leads begins.
-    let rate = IsRateWord-begun words c.in-AtRate.ty c.in-AtRate.shape c.args.word.now (subst (LeadsTo words) c.in-AtRate.is leads) begins in
+    let rate = IsRateWord-begun c.in-AtRate.task words c.in-AtRate.ty c.in-AtRate.shape c.args.word.now (subst (LeadsTo words) c.in-AtRate.is leads) begins in
     c.in_err-rate_in-in-AtRate.ensures.none rate.0 rate.1)
 
 pub returns-in-Shaped-clause-none : goal.returns-in-Shaped-clause-none
@@ -22,5 +22,5 @@ returns-in_err-bits-in-NamedShaped-clause-none c =
 pub returns-in_err-precision_in-in-AtPrecision-clause-none : goal.returns-in_err-precision_in-in-AtPrecision-clause-none
 returns-in_err-precision_in-in-AtPrecision-clause-none c =
     rw c.from_residual-in_err-precision_in-in-AtPrecision.ensures (λ words leads begins.
-    let planes = IsPrecisionWord-begun words c.in-AtPrecision.ty c.in-AtPrecision.shape c.args.word.now (subst (LeadsTo words) c.in-AtPrecision.is leads) begins in
+    let planes = IsPrecisionWord-begun c.in-AtPrecision.task words c.in-AtPrecision.ty c.in-AtPrecision.shape c.args.word.now (subst (LeadsTo words) c.in-AtPrecision.is leads) begins in
     c.in_err-precision_in-in-AtPrecision.ensures.none planes.0 planes.1)

@@ -1,0 +1,54 @@
+-- What `sample` does: nothing is read, a line is written, and no file is saved.
+use Rattle.std.proofs.Common.{◌≡◌, ℕ, List, [], Option, ◌⊎◌, inl, inr, refl, subst, ◌∙◌, ap}
+use Rattle.zf_dev.specs.Shelf.{Files}
+use Rattle.zf_dev.specs.Sink.{Appends, AppendsFront}
+use Rattle.zf_dev.proofs.Appending.{AppendsFront-none}
+use Rattle.zf_header.specs.declared.header.Header.{Header}
+use Rattle.zf_sample.specs.declared.summary.Summary.{Summary}
+use Rattle.zf_sample.specs.Summaries.{summary_of}
+use Rattle.zfpi.specs.declared.status.Status.{Status}
+use Rattle.zfpi.specs.declared.status.Status.TheVariants as statuses
+use Rattle.zfpi.specs.declared.command.Command.TheVariants.{Sample}
+use Rattle.zfpi.specs.Sample.{summary_line, sample_text}
+use Rattle.zfpi.specs.World.{World, seen}
+use Rattle.zfpi.specs.Answer.{status_for, MayFail, line_draft}
+use Rattle.zfpi.specs.Headline.{IsOfCommand, Writes, Behaves}
+use Rattle.zfpi.proofs.Told.{world_of, TellsFiles-same, KeepsFiles-none, some_input, Takes-none}
+
+module _ (h : Header) (seed : ℕ) where
+  -- so it ended, with this output
+  behaves_so : (status : Status) (src before now : Option (List ℕ)) (shelf : Option Files) → IsOfCommand status
+      → ((w : World) → (status ≡ status_for (Sample h seed) w []) ⊎ MayFail status (Sample h seed) w [])
+      → Writes status (sample_text h seed) (line_draft status (sample_text h seed)) before now
+      → Behaves (Sample h seed) status (seen src before shelf) (seen src now shelf)
+  behaves_so status src before now shelf ends stated written =
+      let some = some_input src in
+      record {
+        ends = ends;
+        world = world_of some.0 shelf;
+        told = record { input = some.1; files = TellsFiles-same shelf };
+        wants = [];
+        wanted = refl;
+        stated = stated (world_of some.0 shelf);
+        taken = [];
+        takes = Takes-none src;
+        extent = refl;
+        written = written;
+        saved = KeepsFiles-none shelf;
+      }
+
+  -- the line was written
+  pub Behaves-summary : (summary : Summary) (line : List ℕ) (src before now : Option (List ℕ)) (shelf : Option Files) → summary ≡ summary_of h seed → line ≡ summary_line summary → Appends before now line
+      → Behaves (Sample h seed) statuses.Done (seen src before shelf) (seen src now shelf)
+  Behaves-summary summary line src before now shelf of_values of_summary written =
+      behaves_so statuses.Done src before now shelf tt (λ w. inl refl) (subst (Appends before now) (of_summary ∙ ap summary_line of_values) written)
+
+  -- a front of the line was
+  pub Behaves-cut_summary : (summary : Summary) (line : List ℕ) (src before now : Option (List ℕ)) (shelf : Option Files) → summary ≡ summary_of h seed → line ≡ summary_line summary → AppendsFront before now line
+      → Behaves (Sample h seed) statuses.WriteFault (seen src before shelf) (seen src now shelf)
+  Behaves-cut_summary summary line src before now shelf of_values of_summary written =
+      behaves_so statuses.WriteFault src before now shelf tt (λ w. inr refl) (subst (AppendsFront before now) (of_summary ∙ ap summary_line of_values) written)
+
+  -- there was no memory
+  pub Behaves-unmade : (src out : Option (List ℕ)) (shelf : Option Files) → Behaves (Sample h seed) statuses.Memory (seen src out shelf) (seen src out shelf)
+  Behaves-unmade src out shelf = behaves_so statuses.Memory src out out shelf tt (λ w. inr tt) (AppendsFront-none out [])
