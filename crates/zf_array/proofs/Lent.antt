@@ -285,55 +285,80 @@ pub header_spliced : (now : Held) (b a n : ℕ) (vs : List ℤ) → (with_part n
 unfolding array_of
 header_spliced now b a n vs = refl
 
--- ---- one value is lent
+-- ---- values that are lent after a touch for writing
 
 -- another value in the place of one
 spliced_one : (vs : List ℤ) (p : ℕ) (v : ℤ) → p < length vs → spliced vs p 1 (v ∷ []) ≡ set vs p v
 spliced_one vs p v inside =
     append_assoc (take p vs) (v ∷ []) (drop (p + 1) vs) ∙ ap (λ k. take p vs ++ v ∷ drop k vs) (let e : p + 1 ≡ suc p = omega arith in e) ∙ sym (set_split vs p v inside)
 
-module _ (f : Format (List Bool)) (b p : ℕ) (vs : List ℤ) (y : ℤ) (shows : existing_of f b (spliced vs p 1 (y ∷ [])) ≡ vs) (lt : p < f.block_len) (exists : f.exists b p ≡ true) where
-  one_inside : p < length vs
-  one_inside = omega (arith, ap length shows, length-existing_of f b (spliced vs p 1 (y ∷ [])))
-
-  -- the block with another value at a place that exists
-  one_set : (v : ℤ) → existing_of f b (spliced vs p 1 (v ∷ [])) ≡ set vs p v
-  one_set v =
-      let whole : existing_of f b vs ≡ vs = ap (existing_of f b) (sym shows) ∙ existing_of-existing_of f b (spliced vs p 1 (y ∷ [])) ∙ shows in
-      ap (existing_of f b) (spliced_one vs p v one_inside) ∙ existing_of-set f b vs p v exists whole
-
-  -- and the value that is there
-  one_there : y ≡ get_or vs p (pos 0)
-  one_there =
-      sym (ap (λ (xs : List ℤ). get_or xs p (pos 0)) (sym shows) ∙ get_or-existing_of_exists f b (spliced vs p 1 (y ∷ [])) p lt exists
-      ∙ ap (λ (xs : List ℤ). get_or xs p (pos 0)) (spliced_one vs p y one_inside) ∙ get_or-set_same vs p y (pos 0) one_inside)
-
--- the array a is the array now with block b touched for writing, and its value at place p is y
-module _ (now a : Held) (b p : ℕ) (y : ℤ) (head : a.header ≡ now.header) (is : state a ≡ touch_for_writing (format now) (state now) b)
-    (shows : existing_of (format a) b (spliced ((state a).values b) p 1 (y ∷ [])) ≡ (state a).values b) (lt : p < (format now).block_len) (exists : (format now).exists b p ≡ true) where
+-- the array a is the array now with block b touched for writing, and its n values from place p on are ys
+module _ (now a : Held) (b p n : ℕ) (ys : List ℤ) (head : a.header ≡ now.header) (is : state a ≡ touch_for_writing (format now) (state now) b) (long : length ys ≡ n)
+    (shows : existing_of (format a) b (spliced ((state a).values b) p n ys) ≡ (state a).values b) (within : p + n ≤ (format now).block_len)
+    (exist : (j : ℕ) → j < n → (format now).exists b (p + j) ≡ true) where
   abbrev u : State (List Bool)
   u = touch_for_writing (format now) (state now) b
 
   same : format a ≡ format now
   same = ap (λ (h : Header). format_of (record { header = h; codes = a.codes })) head
 
-  shows_there : existing_of (format now) b (spliced (u.values b) p 1 (y ∷ [])) ≡ u.values b
-  shows_there = (λ i. existing_of (sym same i) b (spliced ((sym is i).values b) p 1 (y ∷ []))) ∙ shows ∙ ap (λ (t : State (List Bool)). t.values b) is
+  shows_there : existing_of (format now) b (spliced (u.values b) p n ys) ≡ u.values b
+  shows_there = (λ i. existing_of (sym same i) b (spliced ((sym is i).values b) p n ys)) ∙ shows ∙ ap (λ (t : State (List Bool)). t.values b) is
 
-  pub value_there : y ≡ get_or (u.values b) p (pos 0)
-  value_there = one_there (format now) b p (u.values b) y shows_there lt exists
+  pub inside_there : p + n ≤ length (u.values b)
+  inside_there = omega (arith, ap length shows_there, length-existing_of (format now) b (spliced (u.values b) p n ys), within)
 
-  written_there : (v : ℤ) → with_values (state a) b (existing_of (format a) b (spliced ((state a).values b) p 1 (v ∷ []))) ≡ with_values u b (set (u.values b) p v)
-  written_there v =
-      (λ i. with_values (is i) b (existing_of (same i) b (spliced ((is i).values b) p 1 (v ∷ []))))
-      ∙ ap (with_values u b) (one_set (format now) b p (u.values b) y shows_there lt exists v)
+  exists_there : (vs : List ℤ) → length vs ≡ n → existing_of (format now) b (spliced (u.values b) p n vs) ≡ spliced (u.values b) p n vs
+  exists_there vs size =
+      let whole : existing_of (format now) b (u.values b) ≡ u.values b =
+      ap (existing_of (format now) b) (sym shows_there) ∙ existing_of-existing_of (format now) b (spliced (u.values b) p n ys) ∙ shows_there in
+      spliced_exists (format now) b (u.values b) p n vs whole size within exist
 
-  pub ends_there : (v : ℤ) → with_part a b p 1 (v ∷ []) ≡ array_of now.header (with_values u b (set (u.values b) p v))
-  ends_there v = (λ i. array_of (head i) (written_there v i))
+  -- they are the values that are there
+  pub found_there : ys ≡ take n (drop p (u.values b))
+  found_there = sym (part_spliced (u.values b) p n ys long inside_there) ∙ ap (λ (xs : List ℤ). take n (drop p xs)) (sym (exists_there ys long) ∙ shows_there)
 
-  pub state_there : (v : ℤ) → state (with_part a b p 1 (v ∷ [])) ≡ with_values (state a) b (existing_of (format a) b (spliced ((state a).values b) p 1 (v ∷ [])))
-      → state (array_of now.header (with_values u b (set (u.values b) p v))) ≡ with_values u b (set (u.values b) p v)
-  state_there v e = ap state (sym (ends_there v)) ∙ e ∙ written_there v
+  -- and others may be written over them
+  written_there : (vs : List ℤ) → length vs ≡ n → with_values (state a) b (existing_of (format a) b (spliced ((state a).values b) p n vs)) ≡ with_values u b (spliced (u.values b) p n vs)
+  written_there vs size = (λ i. with_values (is i) b (existing_of (same i) b (spliced ((is i).values b) p n vs))) ∙ ap (with_values u b) (exists_there vs size)
+
+  pub ends_there : (vs : List ℤ) → length vs ≡ n → with_part a b p n vs ≡ array_of now.header (with_values u b (spliced (u.values b) p n vs))
+  ends_there vs size = (λ i. array_of (head i) (written_there vs size i))
+
+  pub state_there : (vs : List ℤ) → length vs ≡ n → state (with_part a b p n vs) ≡ with_values (state a) b (existing_of (format a) b (spliced ((state a).values b) p n vs))
+      → state (array_of now.header (with_values u b (spliced (u.values b) p n vs))) ≡ with_values u b (spliced (u.values b) p n vs)
+  state_there vs size e = ap state (sym (ends_there vs size)) ∙ e ∙ written_there vs size
+
+-- the same of one value
+module _ (now a : Held) (b p : ℕ) (y : ℤ) (head : a.header ≡ now.header) (is : state a ≡ touch_for_writing (format now) (state now) b)
+    (shows : existing_of (format a) b (spliced ((state a).values b) p 1 (y ∷ [])) ≡ (state a).values b) (lt : p < (format now).block_len) (exists : (format now).exists b p ≡ true) where
+  abbrev t : State (List Bool)
+  t = touch_for_writing (format now) (state now) b
+
+  one_within : p + 1 ≤ (format now).block_len
+  one_within = omega (arith, lt)
+
+  one_exists : (j : ℕ) → j < 1 → (format now).exists b (p + j) ≡ true
+  one_exists j small = let e : p ≡ p + j = omega (arith, small) in subst (λ k. (format now).exists b k ≡ true) e exists
+
+  one_inside : p < length (t.values b)
+  one_inside = omega (arith, inside_there now a b p 1 (y ∷ []) head is refl shows one_within one_exists)
+
+  pub value_there : y ≡ get_or (t.values b) p (pos 0)
+  value_there =
+      ap (λ (xs : List ℤ). get_or xs 0 (pos 0))
+      (found_there now a b p 1 (y ∷ []) head is refl shows one_within one_exists ∙ ap (take 1) (drop-cons (t.values b) p (pos 0) one_inside))
+
+  set_there : (v : ℤ) → with_values t b (spliced (t.values b) p 1 (v ∷ [])) ≡ with_values t b (set (t.values b) p v)
+  set_there v = ap (with_values t b) (spliced_one (t.values b) p v one_inside)
+
+  pub value_ends : (v : ℤ) → with_part a b p 1 (v ∷ []) ≡ array_of now.header (with_values t b (set (t.values b) p v))
+  value_ends v = ends_there now a b p 1 (y ∷ []) head is refl shows one_within one_exists (v ∷ []) refl ∙ ap (array_of now.header) (set_there v)
+
+  pub value_state : (v : ℤ) → state (with_part a b p 1 (v ∷ [])) ≡ with_values (state a) b (existing_of (format a) b (spliced ((state a).values b) p 1 (v ∷ [])))
+      → state (array_of now.header (with_values t b (set (t.values b) p v))) ≡ with_values t b (set (t.values b) p v)
+  value_state v e =
+      ap (λ x. state (array_of now.header x)) (sym (set_there v)) ∙ state_there now a b p 1 (y ∷ []) head is refl shows one_within one_exists (v ∷ []) refl e ∙ set_there v
 
 pub header_value : (now : Held) (q : Pos) (v : ℤ) → (with_value now q v).header ≡ now.header
 unfolding array_of

@@ -92,10 +92,11 @@ impl<'a, T: Lane, const D: usize> View<'a, T, D> {
             ≡ run_changed self.old.array.now (position_at self.old.window p) vs }
         ensures header { (vs : List ℤ) → (with_run self.old.array.now (position_at self.old.window p) vs).header ≡ self.old.array.now.header }
     {
+        let (first, len) = (self.window.map(p), self.window.run_length(p));
         let array = &mut *self.array;
-        let (b, place) = array.shape().place(self.window.map(p));
+        let (b, place) = array.shape().place(first);
         array.touch_mut(b);
-        array.part_mut(b, place, self.window.run_length(p))
+        array.part_mut(b, place, len)
     }
 
     /// The values at the positions of the window in raster order, x fastest; each item is one touch, and the value that this touch finds.
@@ -183,8 +184,9 @@ impl<'a, T: Lane, const D: usize> ElemMut<'a, T, D> {
             ≡ changed_at self.old.array.now self.old.position (λ old. v) }
         ensures header { (v : ℤ) → (with_value self.old.array.now self.old.position v).header ≡ self.old.array.now.header }
     {
+        let position = self.position;
         let array = &mut *self.array;
-        array.value_mut(self.position)
+        array.value_mut(position)
     }
 
     /// Adds `v` to the value, by one touch for writing. The sum wraps.

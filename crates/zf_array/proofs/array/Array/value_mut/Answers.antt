@@ -10,7 +10,7 @@ use Rattle.zf_array.specs.Standing.{format, state, array_of, block_at, place_at}
 use Rattle.zf_array.specs.Parts.{held_by}
 use Rattle.zf_array.proofs.Standing.{has_blocks, format_now, joined_after}
 use Rattle.zf_array.proofs.Steps.{step, header_step, position_is, block_is, place_is, block_below, place_below, place_exists}
-use Rattle.zf_array.proofs.Lent.{joined_lent, ends_as, shown, part_of_one, state_spliced, value_there, ends_there, state_there, header_value}
+use Rattle.zf_array.proofs.Lent.{joined_lent, ends_as, shown, part_of_one, state_spliced, value_there, value_ends, value_state, header_value}
 use Rattle.zf_array.proofs.array.Array.value_mut.Goals as goal
 
 pub place-b-requires : goal.place-b-requires
@@ -71,13 +71,13 @@ returns g c =
     let at_block = block_is g.T.Lane.value g.T.Lane.width g.row.D s.store s.cache (vec_len s.buffer) c.self.invariant c.args.self.now c.self.view_is c.args.p c.header.result c.header.ensures.value b c.place-b.ensures.block in
     let at_place = place_is g.T.Lane.value g.T.Lane.width g.row.D s.store s.cache (vec_len s.buffer) c.self.invariant c.args.self.now c.self.view_is c.args.p c.header.result c.header.ensures.value k c.place-b.ensures.place in
     let there = λ (v : ℤ). ap (λ m. There m k v) at_block ∙ ap (λ j. There (block_at now q) j v) at_place in (
-      (refl, λ w. ends_as g.T.Lane.value g.T.Lane.width g.row.D t e (vec_len s.buffer) joined (held_by g.T.Lane.value t e) refl b k 1 dirty one c.value_mut.ensures.size (r ∷ []) is_r (w ∷ []) ∙ ends_there now a b k (value r) head after shows lt exists (value w) ∙ ap (array_of now.header) (there (value w))),
+      (refl, λ w. ends_as g.T.Lane.value g.T.Lane.width g.row.D t e (vec_len s.buffer) joined (held_by g.T.Lane.value t e) refl b k 1 dirty one c.value_mut.ensures.size (r ∷ []) is_r (w ∷ []) ∙ value_ends now a b k (value r) head after shows lt exists (value w) ∙ ap (array_of now.header) (there (value w))),
       record {
         writes_back = tt;
         value = value_there now a b k (value r) head after shows lt exists
             ∙ ap (λ m. let u = touch_for_writing (format now) (state now) m in get_or (u.values m) k (pos 0)) at_block
             ∙ ap (λ j. let u = touch_for_writing (format now) (state now) (block_at now q) in get_or (u.values (block_at now q)) j (pos 0)) at_place;
-        state = λ v. ap (λ u. state (array_of now.header u)) (sym (there v)) ∙ state_there now a b k (value r) head after shows lt exists v (state_spliced g.T.Lane.value g.T.Lane.width g.row.D t e (vec_len s.buffer) joined (held_by g.T.Lane.value t e) refl b k 1 dirty one c.value_mut.ensures.size (v ∷ [])) ∙ there v;
+        state = λ v. ap (λ u. state (array_of now.header u)) (sym (there v)) ∙ value_state now a b k (value r) head after shows lt exists v (state_spliced g.T.Lane.value g.T.Lane.width g.row.D t e (vec_len s.buffer) joined (held_by g.T.Lane.value t e) refl b k 1 dirty one c.value_mut.ensures.size (v ∷ [])) ∙ there v;
         header = header_value now q;
       },
     )
