@@ -1,17 +1,18 @@
 -- What is written through a loan of a part of a block.
-use Rattle.std.proofs.Common.{◌≡◌, ◌≢◌, ◌⊎◌, inl, inr, refl, sym, ap, subst, ◌∙◌, ℕ, suc, ◌+◌, ◌-◌, ◌*◌, ◌/◌, ◌%◌, ◌^◌, ◌<◌, ◌≤◌, ◌==◌, ℤ, pos, Bool, true, false, Option, Some, None, List, [], ◌∷◌, ◌++◌, map, length, get_or, set, take, drop, replicate, append_assoc, length-append, length-drop, arith}
+use Rattle.std.proofs.Common.{◌≡◌, ◌≢◌, ◌⊎◌, inl, inr, refl, sym, ap, subst, ◌∙◌, ℕ, suc, ◌+◌, ◌-◌, ◌*◌, ◌/◌, ◌%◌, ◌^◌, ◌<◌, ◌≤◌, ◌==◌, ℤ, pos, cond, Bool, true, false, Option, Some, None, List, [], ◌∷◌, ◌++◌, map, length, get_or, set, take, drop, replicate, append_assoc, length-append, length-drop, drop-cons, take_at, drop_at, arith}
 use Rattle.std.specs.Int.{Width}
-use Rattle.std.proofs.lemmas.Bool.{cases_lt, eqb-true}
+use Rattle.std.proofs.lemmas.Bool.{cases_lt, cases_Bool, eqb-true, false≢true}
 use Rattle.std.proofs.lemmas.List.{length-map, map-append, take-map, drop-map, length-take-le, take-append-drop, drop-drop, get_or-take, get_or-drop, get_or_append_left, get_or-append_right, get_or_past, drop_all, append-nil, set_split, get_or-set_same}
 use Rattle.std.proofs.Math.Seq.{take-add}
 use Rattle.zf_spec.specs.Grid.{upto, blocks}
-use Rattle.zf_spec.proofs.Counting.{length-map-upto, get_or-map-upto}
+use Rattle.zf_spec.proofs.Counting.{length-map-upto, get_or-map-upto, map-get_or-upto, map-upto_same}
 use Rattle.zf_base.specs.Formats.{Format, existing_of, with_at}
-use Rattle.zf_base.proofs.Formats.{existing_of_same, length-existing_of, get_or-existing_of_exists, existing_of-existing_of, existing_of-set, with_at-other}
+use Rattle.zf_base.proofs.Formats.{existing_of_same, length-existing_of, get_or-existing_of, get_or-existing_of_exists, existing_of-existing_of, existing_of-set, with_at-other}
+use Rattle.zf_base.specs.declared.position.Pos.{Pos}
 use Rattle.zf_header.specs.declared.header.Header.{Header}
 use Rattle.zf_header.specs.HeaderBits.{block_bits}
 use Rattle.zf_cached.specs.State.{State}
-use Rattle.zf_cached.specs.Touch.{with_values}
+use Rattle.zf_cached.specs.Touch.{touch_for_writing, with_values}
 use Rattle.zf_cached.specs.Changes.{zeros}
 use Rattle.zf_cached.proofs.States.{same_state}
 use Rattle.zf_lines.specs.Rows.{line_at, part, over, over_part, HasSize}
@@ -28,7 +29,7 @@ use Rattle.zf_store.specs.Stored.{Stored, code_at, format_of, rate_of}
 use Rattle.zf_store.proofs.Kept.{blocks_is, block_len_is}
 use Rattle.zf_array.specs.Standing.{Held, stored, format, state, array_of}
 use Rattle.zf_array.specs.Parts.{held_by, IsJoined}
-use Rattle.zf_array.specs.Loans.{spliced, with_part, with_block}
+use Rattle.zf_array.specs.Loans.{spliced, with_part, with_block, with_value}
 use Rattle.zf_array.proofs.Standing.{none_past, clean_past, zeros_past, in_array, stored_now, state_now, format_now, header_now}
 
 -- ---- values with others in the place of some
@@ -73,6 +74,47 @@ spliced_same xs vs ys a n p long within size same = by (cases_lt p a) (cases_lt 
 spliced_part : (xs : List ℤ) (a n : ℕ) → spliced xs a n (take n (drop a xs)) ≡ xs
 spliced_part xs a n = ap (λ (ys : List ℤ). ys ++ drop (a + n) xs) (sym (take-add a n xs)) ∙ take-append-drop (a + n) xs
 
+pub part_spliced : (xs : List ℤ) (a n : ℕ) (ys : List ℤ) → length ys ≡ n → a + n ≤ length xs → take n (drop a (spliced xs a n ys)) ≡ ys
+part_spliced xs a n ys long within =
+    ap (λ (zs : List ℤ). take n (drop a zs)) (append_assoc (take a xs) ys (drop (a + n) xs))
+    ∙ ap (take n) (drop_at (take a xs) (ys ++ drop (a + n) xs) a (front_long xs a n ys long within)) ∙ take_at ys (drop (a + n) xs) n long
+
+-- values of a block with others in the place of some that exist
+module _ (f : Format (List Bool)) (b : ℕ) (vs : List ℤ) (a n : ℕ) (ys : List ℤ) (whole : existing_of f b vs ≡ vs) (long : length ys ≡ n) (within : a + n ≤ f.block_len)
+    (exist : (j : ℕ) → j < n → f.exists b (a + j) ≡ true) where
+  abbrev new : List ℤ
+  new = spliced vs a n ys
+
+  size : length vs ≡ f.block_len
+  size = sym (ap length whole) ∙ length-existing_of f b vs
+
+  inside : a + n ≤ length vs
+  inside = omega (arith, size)
+
+  length-new : length new ≡ length vs
+  length-new = omega (arith, length-append (take a vs ++ ys) (drop (a + n) vs), both_long vs a n ys long inside, length-drop (a + n) vs, inside)
+
+  none_outside : (p : ℕ) → p < f.block_len → f.exists b p ≡ false → get_or vs p (pos 0) ≡ pos 0
+  none_outside p lt none = ap (λ (xs : List ℤ). get_or xs p (pos 0)) (sym whole) ∙ get_or-existing_of f b vs p lt ∙ ap (λ (t : Bool). cond t (get_or vs p (pos 0)) (pos 0)) none
+
+  none_there : (p : ℕ) → p < f.block_len → f.exists b p ≡ false → (p < a) ⊎ (a ≤ p) → (p < a + n) ⊎ (a + n ≤ p) → get_or new p (pos 0) ≡ pos 0
+  none_there p lt none (inl h) k = before vs a n ys long inside p h ∙ none_outside p lt none
+  none_there p lt none (inr h) (inl k) =
+      let on : a + (p - a) ≡ p = omega arith in
+      let there : f.exists b p ≡ true = subst (λ m. f.exists b m ≡ true) on (exist (p - a) (omega arith)) in
+      absurd (false≢true (sym none ∙ there))
+  none_there p lt none (inr h) (inr k) = behind vs a n ys long inside p k ∙ none_outside p lt none
+
+  same_there : (p : ℕ) → p < f.block_len → (f.exists b p ≡ true) ⊎ (f.exists b p ≡ false) → cond (f.exists b p) (get_or new p (pos 0)) (pos 0) ≡ get_or new p (pos 0)
+  same_there p lt (inl e) = ap (λ (t : Bool). cond t (get_or new p (pos 0)) (pos 0)) e
+  same_there p lt (inr e) = ap (λ (t : Bool). cond t (get_or new p (pos 0)) (pos 0)) e ∙ sym (none_there p lt e (cases_lt p a) (cases_lt p (a + n)))
+
+  pub spliced_exists : existing_of f b (spliced vs a n ys) ≡ spliced vs a n ys
+  unfolding existing_of
+  spliced_exists =
+      map-upto_same (λ p. cond (f.exists b p) (get_or new p (pos 0)) (pos 0)) (λ p. get_or new p (pos 0)) f.block_len (λ p lt. same_there p lt (cases_Bool (f.exists b p)))
+      ∙ map-get_or-upto new f.block_len (pos 0) (length-new ∙ size)
+
 module _ {X : Type 0} (value : X → ℤ) (f : Format (List Bool)) (b : ℕ) (row : List X) (a n : ℕ) (whole : length row ≡ f.block_len) (within : a + n ≤ f.block_len) where
   here : List ℤ
   here = existing_of f b (map value row)
@@ -110,6 +152,10 @@ module _ {X : Type 0} (value : X → ℤ) (f : Format (List Bool)) (b : ℕ) (ro
       let long : length ys ≡ n = length-map (part row a n) value ∙ part_long in
       let there : ys ≡ take n (drop a (map value row)) = sym (take-map value n (drop a row)) ∙ ap (take n) (sym (drop-map value a row)) in
       sym (spliced_exist ys long) ∙ ap (λ (zs : List ℤ). existing_of f b (spliced (map value row) a n zs)) there ∙ ap (existing_of f b) (spliced_part (map value row) a n)
+
+-- one value is a part of one
+one_part : {X : Type 0} (xs : List X) (p : ℕ) (x : X) → p < length xs → get_or xs p x ≡ x → x ∷ [] ≡ part xs p 1
+one_part xs p x inside e = sym (ap (take 1) (drop-cons xs p x inside) ∙ ap (λ y. y ∷ []) e)
 
 -- ---- a state of which nothing is said past its lines and blocks
 
@@ -213,6 +259,10 @@ module _ {X : Type 0} (value : X → ℤ) (w : Width) (d : ℕ) (s : Stored) (c 
       pub long : length r ≡ n
       long = ap length is_r ∙ part_long value (format_of s) b (line_at c.lines (line_of c b)) a n row_whole row_within
 
+    -- one value that is lent is a part of one
+    pub part_of_one : n ≡ 1 → (x : X) → get_or (line_at c.lines (line_of c b)) a x ≡ x → x ∷ [] ≡ part (line_at c.lines (line_of c b)) a n
+    part_of_one one x e = one_part (line_at c.lines (line_of c b)) a x (omega (arith, row_whole, row_within)) e ∙ ap (part (line_at c.lines (line_of c b)) a) (sym one)
+
     -- the state of the array with other values there
     pub state_spliced : (vs : List ℤ) → state (with_part now b a n vs) ≡ with_values (state now) b (existing_of (format now) b (spliced ((state now).values b) a n vs))
     state_spliced vs =
@@ -235,20 +285,81 @@ pub header_spliced : (now : Held) (b a n : ℕ) (vs : List ℤ) → (with_part n
 unfolding array_of
 header_spliced now b a n vs = refl
 
--- a sum in the place of one value
-pub adds : {X : Type 0} (value : X → ℤ) (f : Format (List Bool)) (b p : ℕ) (vs : List ℤ) (r : List X) (x sum : X) → length r ≡ 1 → x ≡ get_or r 0 x → existing_of f b (spliced vs p 1 (map value r)) ≡ vs
-    → p < f.block_len → f.exists b p ≡ true
-    → (existing_of f b (spliced vs p 1 (map value (over r (set r 0 sum)))) ≡ set vs p (value sum)) × (value x ≡ get_or vs p (pos 0))
-adds {X} value f b p vs [] x sum one at shows lt exists = absurd (omega arith)
-adds {X} value f b p vs (y ∷ z ∷ r) x sum one at shows lt exists = absurd (omega arith)
-adds {X} value f b p vs (y ∷ []) x sum one at shows lt exists =
-    let long : length vs ≡ f.block_len = sym (ap length shows) ∙ length-existing_of f b (spliced vs p 1 (map value (y ∷ []))) in
-    let inside : p < length vs = omega arith in
-    let whole : existing_of f b vs ≡ vs = ap (existing_of f b) (sym shows) ∙ existing_of-existing_of f b (spliced vs p 1 (map value (y ∷ []))) ∙ shows in
-    let there : (v : ℤ) → spliced vs p 1 (v ∷ []) ≡ set vs p v =
-    λ v. append_assoc (take p vs) (v ∷ []) (drop (p + 1) vs) ∙ ap (λ k. take p vs ++ v ∷ drop k vs) (let e : p + 1 ≡ suc p = omega arith in e) ∙ sym (set_split vs p v inside) in
-    let new : over (y ∷ []) (sum ∷ []) ≡ sum ∷ [] = over_same (y ∷ []) (sum ∷ []) refl in (
-      ap (λ (q : List X). existing_of f b (spliced vs p 1 (map value q))) new ∙ ap (existing_of f b) (there (value sum)) ∙ existing_of-set f b vs p (value sum) exists whole,
-      ap value at ∙ sym (ap (λ (xs : List ℤ). get_or xs p (pos 0)) (sym shows) ∙ get_or-existing_of_exists f b (spliced vs p 1 (map value (y ∷ []))) p lt exists
-          ∙ ap (λ (xs : List ℤ). get_or xs p (pos 0)) (there (value y)) ∙ get_or-set_same vs p (value y) (pos 0) inside),
-    )
+-- ---- values that are lent after a touch for writing
+
+-- another value in the place of one
+spliced_one : (vs : List ℤ) (p : ℕ) (v : ℤ) → p < length vs → spliced vs p 1 (v ∷ []) ≡ set vs p v
+spliced_one vs p v inside =
+    append_assoc (take p vs) (v ∷ []) (drop (p + 1) vs) ∙ ap (λ k. take p vs ++ v ∷ drop k vs) (let e : p + 1 ≡ suc p = omega arith in e) ∙ sym (set_split vs p v inside)
+
+-- the array a is the array now with block b touched for writing, and its n values from place p on are ys
+module _ (now a : Held) (b p n : ℕ) (ys : List ℤ) (head : a.header ≡ now.header) (is : state a ≡ touch_for_writing (format now) (state now) b) (long : length ys ≡ n)
+    (shows : existing_of (format a) b (spliced ((state a).values b) p n ys) ≡ (state a).values b) (within : p + n ≤ (format now).block_len)
+    (exist : (j : ℕ) → j < n → (format now).exists b (p + j) ≡ true) where
+  abbrev u : State (List Bool)
+  u = touch_for_writing (format now) (state now) b
+
+  same : format a ≡ format now
+  same = ap (λ (h : Header). format_of (record { header = h; codes = a.codes })) head
+
+  shows_there : existing_of (format now) b (spliced (u.values b) p n ys) ≡ u.values b
+  shows_there = (λ i. existing_of (sym same i) b (spliced ((sym is i).values b) p n ys)) ∙ shows ∙ ap (λ (t : State (List Bool)). t.values b) is
+
+  pub inside_there : p + n ≤ length (u.values b)
+  inside_there = omega (arith, ap length shows_there, length-existing_of (format now) b (spliced (u.values b) p n ys), within)
+
+  exists_there : (vs : List ℤ) → length vs ≡ n → existing_of (format now) b (spliced (u.values b) p n vs) ≡ spliced (u.values b) p n vs
+  exists_there vs size =
+      let whole : existing_of (format now) b (u.values b) ≡ u.values b =
+      ap (existing_of (format now) b) (sym shows_there) ∙ existing_of-existing_of (format now) b (spliced (u.values b) p n ys) ∙ shows_there in
+      spliced_exists (format now) b (u.values b) p n vs whole size within exist
+
+  -- they are the values that are there
+  pub found_there : ys ≡ take n (drop p (u.values b))
+  found_there = sym (part_spliced (u.values b) p n ys long inside_there) ∙ ap (λ (xs : List ℤ). take n (drop p xs)) (sym (exists_there ys long) ∙ shows_there)
+
+  -- and others may be written over them
+  written_there : (vs : List ℤ) → length vs ≡ n → with_values (state a) b (existing_of (format a) b (spliced ((state a).values b) p n vs)) ≡ with_values u b (spliced (u.values b) p n vs)
+  written_there vs size = (λ i. with_values (is i) b (existing_of (same i) b (spliced ((is i).values b) p n vs))) ∙ ap (with_values u b) (exists_there vs size)
+
+  pub ends_there : (vs : List ℤ) → length vs ≡ n → with_part a b p n vs ≡ array_of now.header (with_values u b (spliced (u.values b) p n vs))
+  ends_there vs size = (λ i. array_of (head i) (written_there vs size i))
+
+  pub state_there : (vs : List ℤ) → length vs ≡ n → state (with_part a b p n vs) ≡ with_values (state a) b (existing_of (format a) b (spliced ((state a).values b) p n vs))
+      → state (array_of now.header (with_values u b (spliced (u.values b) p n vs))) ≡ with_values u b (spliced (u.values b) p n vs)
+  state_there vs size e = ap state (sym (ends_there vs size)) ∙ e ∙ written_there vs size
+
+-- the same of one value
+module _ (now a : Held) (b p : ℕ) (y : ℤ) (head : a.header ≡ now.header) (is : state a ≡ touch_for_writing (format now) (state now) b)
+    (shows : existing_of (format a) b (spliced ((state a).values b) p 1 (y ∷ [])) ≡ (state a).values b) (lt : p < (format now).block_len) (exists : (format now).exists b p ≡ true) where
+  abbrev t : State (List Bool)
+  t = touch_for_writing (format now) (state now) b
+
+  one_within : p + 1 ≤ (format now).block_len
+  one_within = omega (arith, lt)
+
+  one_exists : (j : ℕ) → j < 1 → (format now).exists b (p + j) ≡ true
+  one_exists j small = let e : p ≡ p + j = omega (arith, small) in subst (λ k. (format now).exists b k ≡ true) e exists
+
+  one_inside : p < length (t.values b)
+  one_inside = omega (arith, inside_there now a b p 1 (y ∷ []) head is refl shows one_within one_exists)
+
+  pub value_there : y ≡ get_or (t.values b) p (pos 0)
+  value_there =
+      ap (λ (xs : List ℤ). get_or xs 0 (pos 0))
+      (found_there now a b p 1 (y ∷ []) head is refl shows one_within one_exists ∙ ap (take 1) (drop-cons (t.values b) p (pos 0) one_inside))
+
+  set_there : (v : ℤ) → with_values t b (spliced (t.values b) p 1 (v ∷ [])) ≡ with_values t b (set (t.values b) p v)
+  set_there v = ap (with_values t b) (spliced_one (t.values b) p v one_inside)
+
+  pub value_ends : (v : ℤ) → with_part a b p 1 (v ∷ []) ≡ array_of now.header (with_values t b (set (t.values b) p v))
+  value_ends v = ends_there now a b p 1 (y ∷ []) head is refl shows one_within one_exists (v ∷ []) refl ∙ ap (array_of now.header) (set_there v)
+
+  pub value_state : (v : ℤ) → state (with_part a b p 1 (v ∷ [])) ≡ with_values (state a) b (existing_of (format a) b (spliced ((state a).values b) p 1 (v ∷ [])))
+      → state (array_of now.header (with_values t b (set (t.values b) p v))) ≡ with_values t b (set (t.values b) p v)
+  value_state v e =
+      ap (λ x. state (array_of now.header x)) (sym (set_there v)) ∙ state_there now a b p 1 (y ∷ []) head is refl shows one_within one_exists (v ∷ []) refl e ∙ set_there v
+
+pub header_value : (now : Held) (q : Pos) (v : ℤ) → (with_value now q v).header ≡ now.header
+unfolding array_of
+header_value now q v = refl

@@ -55,7 +55,7 @@ impl<T: Lane, const D: usize> Model for Array<T, D> {
 }
 
 impl<T: Lane, const D: usize> Array<T, D> {
-    ghost use Rattle.zf_array.specs.Loans.{EndsAs, EndsWithPart, EndsWithBlock, spliced, with_part, with_block};
+    ghost use Rattle.zf_array.specs.Loans.{EndsAs, EndsWithPart, EndsWithBlock, EndsWithValue, spliced, with_part, with_block, with_value};
 
     /// An array of zeros. A block has `bits` bits, 1 to 32768; the number of lines is raised to a power of two.
     /// `AllocError`: there was no memory.
@@ -141,10 +141,26 @@ impl<T: Lane, const D: usize> Array<T, D> {
             (wrap T.width (slice_index_or old (place_at self.old p) (pos 0) +ℤ T.value v)))) }
         ensures header { self.new.header ≡ self.old.header }
     {
+        let value = self.value_mut(p);
+        *value = value.add(v);
+    }
+
+    /// Touches position `p` for writing; its value. What is written to it is the array's value there afterwards.
+    pub fn value_mut(&mut self, p: Pos) -> &mut T
+        requires { IsPosition (shape self.old) p }
+        ensures* writes_back { sem 𝓛 (EndsWithValue T.row D.row
+            (record { width = T.width; WIDTH = T.WIDTH; TY = T.TY; value = T.value; in_range = T.in_range })
+            (record { eq = T.eq }) self.entry p result) }
+        ensures value { T.value result.now ≡ (let t = touch_for_writing (format self.old) (state self.old) (block_at self.old p) in
+            slice_index_or (t.values (block_at self.old p)) (place_at self.old p) (pos 0)) }
+        ensures state { (v : ℤ) → state (with_value self.old p v)
+            ≡ (let t = touch_for_writing (format self.old) (state self.old) (block_at self.old p) in
+            with_values t (block_at self.old p) (slice_set (t.values (block_at self.old p)) (place_at self.old p) v)) }
+        ensures header { (v : ℤ) → (with_value self.old p v).header ≡ self.old.header }
+    {
         let (b, place) = self.store.header().shape.place(p);
-        self.touch_mut(b);
-        let part = self.part_mut(b, place, 1);
-        part[0] = part[0].add(v);
+        self.cache.touch_mut(&mut self.store, b);
+        self.cache.value_mut(b, place)
     }
 
     /// Touches block `b`; its `4^D` values, x fastest.

@@ -1,5 +1,5 @@
 -- What a cache ends as, once a loan has ended, and what that means for the state that it stands for.
-use Rattle.std.specs.Prelude.{◌≡◌, ℕ, ℤ, List, map, ⊤}
+use Rattle.std.specs.Prelude.{◌≡◌, ℕ, ℤ, List, [], ◌∷◌, map, ⊤}
 use Rattle.std.specs.Borrow.{Fml, RattleType, MutBor, Array, Lends, follows_so}
 use mathlib.Core.Option.{none}
 use Rattle.zf_base.specs.Formats.{Format, existing_of}
@@ -33,6 +33,10 @@ module _ (R D : RattleType) (c : MutBor (Kept R.Denot)) where
   -- n values of block b from its place a on are the last ones written through r
   abbrev pub EndsWithPart : ℕ → ℕ → ℕ → MutBor (List R.Denot) → Fml
   EndsWithPart b a n r = Lends (the_row R D) (Array R 0) c r (λ ws. record c.now { lines = with_part c.now.lines (line_of c.now b) a n ws })
+
+  -- the value of block b at its place p is the last one written through r
+  abbrev pub EndsWithValue : ℕ → ℕ → MutBor R.Denot → Fml
+  EndsWithValue b p r = Lends (the_row R D) R c r (λ v. record c.now { lines = with_part c.now.lines (line_of c.now b) p 1 (v ∷ []) })
 
   -- a loan for reading has left the touch alone
   abbrev pub EndsTouched : {Code : Type 0} → (R.Denot → ℤ) → Format Code → (ℕ → Code) → (ℕ → Code) → ℕ → Fml

@@ -46,7 +46,7 @@ impl<T, const D: usize> Model for Cache<T, D> {
 }
 
 impl<T: Lane, const D: usize> Cache<T, D> {
-    ghost use Rattle.zf_cache.specs.Loans.{EndsWithBlock, EndsWithPart, EndsTouched, EndsRead, LendsBlock};
+    ghost use Rattle.zf_cache.specs.Loans.{EndsWithBlock, EndsWithPart, EndsWithValue, EndsTouched, EndsRead, LendsBlock};
     ghost use Rattle.zf_cache.specs.Bodies.{counts_of};
 
     /// An empty cache of so many lines. `AllocError`: there was no memory for them.
@@ -122,6 +122,19 @@ impl<T: Lane, const D: usize> Cache<T, D> {
     {
         let l = self.body.line_of(b);
         self.body.lines.part_mut(l, a, n)
+    }
+
+    /// The value of block `b` at its place `p`, for writing. The block is in its line and dirty.
+    #[inline]
+    pub fn value_mut(&mut self, b: u64, p: usize) -> &mut T
+        requires dirty { IsDirty self.old b }
+        requires place { p < 4 ^ D }
+        ensures* writes_back { sem 𝓛 (EndsWithValue T.row D.row self.entry b p result) }
+        ensures value { slice_index_or (line_at self.old.lines (line_of self.old b)) p result.now ≡ result.now }
+        ensures size { HasSize self.old.lines (length self.old.tags) (4 ^ D) }
+    {
+        let l = self.body.line_of(b);
+        self.body.lines.value_mut(l, p)
     }
 
     /// Touches block `b`, so that `line` can show it.

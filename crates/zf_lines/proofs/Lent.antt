@@ -1,9 +1,9 @@
 -- What `Lines` are once a run of their values was lent.
-use Rattle.std.proofs.Common.{◌≡◌, ℕ, ◌+◌, ◌-◌, ◌*◌, ◌<◌, ◌≤◌, List, [], ◌++◌, map, length, take, drop, slice_set, Some, sym, ap, ◌∙◌, arith, length-take, length-drop, drop-drop, append-nil}
-use Rattle.std.proofs.lemmas.List.{length-map, drop_all, drop-take, take-take}
+use Rattle.std.proofs.Common.{◌≡◌, ℕ, ◌+◌, ◌-◌, ◌*◌, ◌<◌, ◌≤◌, List, [], ◌∷◌, ◌++◌, map, length, take, drop, get_or, slice_set, Some, None, sym, ap, subst, ◌∙◌, arith, length-take, length-drop, drop-drop, append-nil}
+use Rattle.std.proofs.lemmas.List.{length-map, drop_all, drop-take, take-take, get_or-take, get_or-drop}
 use Rattle.std.specs.List.{refill, length_refill}
 use Rattle.std.specs.declared.alloc.Global.{Global}
-use Rattle.zf_lines.specs.Places.{somes, IsRun}
+use Rattle.zf_lines.specs.Places.{somes, IsHeld, IsRun}
 use Rattle.zf_lines.specs.Lends.{with_slots, spliced}
 use Rattle.zf_lines.specs.Rows.{rows, line_at, part, with_line, with_part}
 use Rattle.zf_lines.specs.Filled.{IsFilled}
@@ -11,7 +11,7 @@ use Rattle.zf_lines.specs.declared.cells.Base.{Base}
 use Rattle.zf_lines.specs.declared.cells.Cells.{Cells}
 use Rattle.zf_lines.specs.declared.cells.Deed.{Deed}
 use Rattle.zf_lines.proofs.Blocks.{splice, length-splice, length-rows, line_at-rows, rows-splice, line_within}
-use Rattle.zf_lines.proofs.Runs.{somes-map, run_of, same_values, spliced_map}
+use Rattle.zf_lines.proofs.Runs.{somes-map, run_of, same_values, spliced_map, held_at, held_value, set_spliced}
 
 -- a part of a block, read from the values that the block begins
 part_of_taken : {X : Type 0} (a m n : ℕ) (xs : List X) → a + m ≤ n → take m (drop a (take n xs)) ≡ take m (drop a xs)
@@ -67,6 +67,13 @@ module _ {X : Type 0} (base : Base X) (lines len : ℕ) (cells : Cells X) (deed 
             size = ap length slots_are ∙ length-map (splice from n ws xs) Some ∙ length-splice from n ws xs (omega (arith, long)) as_long ∙ long;
             small = h.small;
           }
+
+  -- one place is a run of one
+  pub place_held : (at : ℕ) → at + 1 ≤ lines * len → IsHeld cells.slots at
+  place_held at within = subst (λ cs. IsHeld cs at) (sym h.full) (held_at xs at (omega (arith, long)))
+
+  pub place_now : (at : ℕ) (within : at + 1 ≤ lines * len) (v : X) → with_slots cells (slice_set cells.slots at (Some v)) ≡ now at 1 within (v ∷ [])
+  place_now at within v = ap (with_slots cells) (set_spliced cells.slots at v (omega (arith, h.size)))
 
   module _ (self : List (List X)) (is : blocks ≡ self) (i : ℕ) (lt : i < length self) where
     pub line_there : i < lines
@@ -130,3 +137,9 @@ module _ {X : Type 0} (base : Base X) (lines len : ℕ) (cells : Cells X) (deed 
           ∙ ap (λ ys. slice_set blocks i (take a row ++ (refill m ys w ++ drop m (drop a row)))) (sym part_is)
           ∙ ap (λ n. slice_set blocks i (take a row ++ (refill n (part row a m) w ++ drop m (drop a row)))) (sym size)
           ∙ ap (λ ls. with_part ls i a m w) is
+
+    -- the value at a place of block i
+    pub value_at : (a : ℕ) (x : X) → a < length (line_at self i) → get_or cells.slots (i * len + a) None ≡ Some x → get_or (line_at self i) a x ≡ x
+    value_at a x lt e =
+        ap (λ l. get_or l a x) (sym line_value) ∙ get_or-take len (drop (i * len) xs) a x (omega (arith, length-line)) ∙ get_or-drop (i * len) xs a x
+        ∙ held_value xs (i * len + a) x (ap (λ cs. get_or cs (i * len + a) None) (sym h.full) ∙ e)

@@ -117,6 +117,11 @@ module _ (Y : RattleType) (L : Laws Y) {M : Type 1} {𝓤 : Ura M} {𝓛 : Logic
       let one = alone (layout Y) vs (((param_laws 0 Y L).lawful 𝓛).typed x vs is) in
       rewrite t 0 (λ (us : List Val). ‵ (Y.own_val x us)) one.1.0 refl $ k one.0 one.1.0 one.1.1)
 
+pub held_within : {X : Type 0} (cs : List (Option X)) (i : ℕ) (x : X) → get_or cs i None ≡ Some x → i < length cs
+held_within [] i x e = cc
+held_within (c ∷ cs) zero x e = omega arith
+held_within (c ∷ cs) (suc i) x e = omega (arith, held_within cs i x e)
+
 module _ (E : El) {M : Type 1} {𝓤 : Ura M} (𝓛 : Logic 𝓤) (b : ℕ) where
   open 𝓛 use {H}
 

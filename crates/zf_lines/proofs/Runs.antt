@@ -1,7 +1,7 @@
 -- Places that all hold values, and a run of them written over.
 use Rattle.std.proofs.Common.{◌≡◌, ℕ, zero, suc, ◌+◌, ◌-◌, ◌<◌, List, [], ◌∷◌, ◌++◌, map, length, take, drop, replicate, get_or, Option, Some, None, slice_set, refl, sym, ap, ◌∙◌, arith, length-append, append-nil}
-use Rattle.std.proofs.lemmas.List.{length-replicate, take-map, drop-map, map-append}
-use Rattle.zf_lines.specs.Places.{somes}
+use Rattle.std.proofs.lemmas.List.{length-replicate, take-map, drop-map, map-append, set_split}
+use Rattle.zf_lines.specs.Places.{somes, IsHeld}
 use Rattle.zf_lines.specs.Lends.{spliced}
 use Rattle.zf_lines.proofs.Blocks.{splice}
 
@@ -23,6 +23,22 @@ module _ {X : Type 0} where
       (λ i. take-map Some from xs i ++ (map Some ws ++ drop-map Some (from + n) xs i))
       ∙ ap (λ l. map Some (take from xs) ++ l) (sym (map-append Some ws (drop (from + n) xs)))
       ∙ sym (map-append Some (take from xs) (ws ++ drop (from + n) xs))
+
+module _ {X : Type 0} where
+  -- each place of values holds one
+  pub held_at : (xs : List X) (i : ℕ) → i < length xs → IsHeld (map Some xs) i
+  held_at [] i lt = absurd (omega arith)
+  held_at (x ∷ xs) zero lt = (x, refl)
+  held_at (x ∷ xs) (suc i) lt = held_at xs i (omega arith)
+
+  pub held_value : (xs : List X) (i : ℕ) (x : X) → get_or (map Some xs) i None ≡ Some x → get_or xs i x ≡ x
+  held_value [] i x e = cc
+  held_value (y ∷ xs) zero x e = cc
+  held_value (y ∷ xs) (suc i) x e = held_value xs i x e
+
+  -- a value written over is a run of one
+  pub set_spliced : (cs : List (Option X)) (i : ℕ) (v : X) → i < length cs → slice_set cs i (Some v) ≡ spliced cs i 1 (v ∷ [])
+  set_spliced cs i v lt = let on : suc i ≡ i + 1 = omega arith in set_split cs i (Some v) lt ∙ ap (λ k. take i cs ++ Some v ∷ drop k cs) on
 
 -- some places from the front are filled, and k more are empty
 abbrev pub filling : {X : Type 0} → ℕ → ℕ → X → List (Option X)

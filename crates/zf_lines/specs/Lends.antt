@@ -1,5 +1,5 @@
--- What the places end as, once a `&mut` to a run of them has ended.
-use Rattle.std.specs.Prelude.{ℕ, ◌+◌, List, ◌++◌, map, take, drop, Option, Some}
+-- What the places end as, once a `&mut` to one of them or to a run has ended.
+use Rattle.std.specs.Prelude.{ℕ, ◌+◌, List, ◌++◌, map, take, drop, slice_set, Option, Some}
 use Rattle.std.specs.Borrow.{Fml, RattleType, MutBor, Array, Lends}
 use Rattle.std.specs.List.{refill}
 use Rattle.zf_lines.specs.Places.{somes}
@@ -13,6 +13,9 @@ module _ {X : Type 0} where
   -- cs, with ws in the place of the len from the index from on
   abbrev pub spliced : List (Option X) → ℕ → ℕ → List X → List (Option X)
   spliced cs from len ws = take from cs ++ (map Some ws ++ drop (from + len) cs)
+
+abbrev pub lends_slot : (R : RattleType) → MutBor (Cells R.Denot) → ℕ → MutBor R.Denot → Fml
+lends_slot R c i r = Lends (the_row R) R c r (λ v. with_slots c.now (slice_set c.now.slots i (Some v)))
 
 abbrev pub lends_run : (R : RattleType) → MutBor (Cells R.Denot) → ℕ → ℕ → MutBor (List R.Denot) → Fml
 lends_run R c from len r = Lends (the_row R) (Array R 0) c r (λ ws. with_slots c.now (spliced c.now.slots from len (refill len (somes (take len (drop from c.now.slots))) ws)))

@@ -1,5 +1,5 @@
 -- What the lines end as, once a `&mut` into one of them has ended.
-use Rattle.std.specs.Prelude.{ℕ, List}
+use Rattle.std.specs.Prelude.{ℕ, List, [], ◌∷◌}
 use Rattle.std.specs.Borrow.{Fml, RattleType, MutBor, Array, Lends}
 use Rattle.zf_lines.specs.Rows.{with_line, with_part}
 use Rattle.zf_lines.specs.contracts.lines.Lines.{the_row}
@@ -12,3 +12,7 @@ module _ (R : RattleType) (s : MutBor (List (List R.Denot))) where
   -- the n values of block i from its place a on are the last ones written through r
   abbrev pub LendsPart : ℕ → ℕ → ℕ → MutBor (List R.Denot) → Fml
   LendsPart i a n r = Lends (the_row R) (Array R 0) s r (with_part s.now i a n)
+
+  -- the value of block i at its place a is the last one written through r
+  abbrev pub LendsValue : ℕ → ℕ → MutBor R.Denot → Fml
+  LendsValue i a r = Lends (the_row R) R s r (λ v. with_part s.now i a 1 (v ∷ []))

@@ -1,5 +1,5 @@
 -- Rows of places, each empty or holding a value.
-use Rattle.std.specs.Prelude.{◌≡◌, ℕ, ◌+◌, ◌≤◌, List, [], ◌∷◌, map, length, take, drop, Option, Some, None}
+use Rattle.std.specs.Prelude.{◌≡◌, ℕ, ◌+◌, ◌≤◌, List, [], ◌∷◌, map, length, take, drop, get_or, Option, Some, None}
 
 module _ {X : Type 0} where
   -- the values that are there
@@ -7,6 +7,10 @@ module _ {X : Type 0} where
   somes [] = []
   somes (None ∷ cs) = somes cs
   somes (Some x ∷ cs) = x ∷ somes cs
+
+  -- the place i holds a value
+  abbrev pub IsHeld : List (Option X) → ℕ → Type 0
+  IsHeld cs i = (x : X) × (get_or cs i None ≡ Some x)
 
   -- the len places from the index from on hold values
   abbrev pub IsRun : List (Option X) → ℕ → ℕ → Type 0

@@ -4,7 +4,7 @@ ghost use Rattle.std.specs.Borrow.{sem};
 ghost use Rattle.std.specs.Vec.Ownership.{FitsInBlock};
 ghost use base.Fml.{ftrue};
 ghost use denote.RawPtr.{Ptr};
-ghost use Rattle.zf_lines.specs.Places.{IsRun};
+ghost use Rattle.zf_lines.specs.Places.{IsHeld, IsRun};
 ghost use Rattle.zf_lines.specs.Ownership.{cells_own, cells_lent, deed_owns};
 
 use std::alloc::{AllocError, Allocator};
@@ -99,7 +99,7 @@ pub(crate) fn deallocate<T, A: Allocator>(
 }
 
 impl<T> Cells<T> {
-    ghost use Rattle.zf_lines.specs.Lends.{lends_run};
+    ghost use Rattle.zf_lines.specs.Lends.{lends_slot, lends_run};
 
     /// Fills an empty place.
     pub(crate) fn write(&mut self, base: Base<T>, index: usize, item: T)
@@ -107,6 +107,16 @@ impl<T> Cells<T> {
         ensures { (self.new.at ≡ self.old.at) × (self.new.slots ≡ slice_set self.old.slots index (Some item)) }
     {
         unsafe { base.ptr.add(index).write(item) }
+    }
+
+    /// The value at `index`, for writing.
+    #[inline]
+    pub(crate) fn value_mut(&mut self, base: Base<T>, index: usize) -> &mut T
+        requires { (base.ptr ≡ self.old.at) × IsHeld self.old.slots index }
+        ensures* writes_back { sem 𝓛 (lends_slot T.row self.entry index result) }
+        ensures value { get_or self.old.slots index None ≡ Some result.now }
+    {
+        unsafe { &mut *base.ptr.add(index) }
     }
 
     /// The `len` values from `from` on.

@@ -1,5 +1,5 @@
 //! Blocks of one length in one allocation.
-ghost use Rattle.std.specs.Prelude.{◌≡◌, ◌+◌, ◌*◌, ◌-◌, ◌^◌, ◌<◌, ◌≤◌, ◌++◌, length, replicate, Some, None, IfOk};
+ghost use Rattle.std.specs.Prelude.{◌≡◌, ◌+◌, ◌*◌, ◌-◌, ◌^◌, ◌<◌, ◌≤◌, ◌++◌, length, replicate, slice_index_or, Some, None, IfOk};
 ghost use Rattle.std.specs.Borrow.{sem};
 ghost use Rattle.zf_lines.specs.Rows.{line_at, part};
 
@@ -48,7 +48,7 @@ fn fill<T: Copy>(cells: &mut Cells<T>, base: Base<T>, count: usize, zero: T)
 }
 
 impl<T: Copy> Lines<T> {
-    ghost use Rattle.zf_lines.specs.LinesLend.{LendsLine, LendsPart};
+    ghost use Rattle.zf_lines.specs.LinesLend.{LendsLine, LendsPart, LendsValue};
 
     /// `lines` blocks of `len` values, all of them `zero`. `AllocError`: there was no memory for them.
     pub fn new(alloc: Global, lines: u32, len: usize, zero: T) -> Result<Lines<T>, AllocError>
@@ -102,6 +102,18 @@ impl<T: Copy> Lines<T> {
     {
         let (base, len) = (self.base, self.len);
         self.cells.slice_mut(base, i as usize * len + a, n)
+    }
+
+    /// The value of block `i` at its place `a`, for writing; all others stay.
+    #[inline]
+    pub fn value_mut(&mut self, i: u32, a: usize) -> &mut T
+        requires line { i < length self.old }
+        requires within { a < length (line_at self.old i) }
+        ensures* writes_back { sem 𝓛 (LendsValue T.row self.entry i a result) }
+        ensures value { slice_index_or (line_at self.old i) a result.now ≡ result.now }
+    {
+        let (base, len) = (self.base, self.len);
+        self.cells.value_mut(base, i as usize * len + a)
     }
 }
 

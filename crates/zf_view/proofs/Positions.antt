@@ -20,9 +20,13 @@ take_at_most zero xs = omega arith
 take_at_most (suc k) [] = omega arith
 take_at_most (suc k) (x ∷ xs) = omega (arith, take_at_most k xs)
 
+-- so there are four axes at most
+pub four_axes : (ns : List ℕ) (p : Pos) → IsPosition ns p → length ns ≤ 4
+four_axes ns p at = omega (arith, inside_long ns (used_axes (length ns) p) at.inside, take_at_most (length ns) (axes p))
+
 pub position_at-inside : (ns : List ℕ) (w : Window) (p : Pos) → LiesIn ns w → IsPosition w.size p → IsPosition ns (position_at w p)
 position_at-inside ns w p lies at =
-    let four : length w.size ≤ 4 = omega (arith, inside_long w.size (used_axes (length w.size) p) at.inside, take_at_most (length w.size) (axes p)) in
+    let four = four_axes w.size p at in
     let long : length (used_axes (length w.size) p) ≡ length w.size = length-used_axes (length w.size) p four in
     IsPosition-with_unused ns (mapped w (used_axes (length w.size) p)) (omega (arith, four, lies.sizes)) (length-mapped ns w (used_axes (length w.size) p) lies long)
     (mapped_inside ns w lies (used_axes (length w.size) p) at.inside long)

@@ -1,12 +1,13 @@
 //! Views: an array seen through a window.
 
-ghost use Rattle.std.specs.Prelude.{◌≡◌, ◌+ℤ◌};
+ghost use Rattle.std.specs.Prelude.{◌≡◌, ℤ, List, length, map, ◌+ℤ◌};
 ghost use Rattle.std.specs.Borrow.{sem};
 ghost use Rattle.zf_spec.specs.Numbers.{wrap};
 ghost use Rattle.zf_base.specs.Positions.{IsPosition};
 ghost use Rattle.zf_cached.specs.Windows.{LiesIn};
 ghost use Rattle.zf_array.specs.Standing.{state, shape};
 ghost use Rattle.zf_view.specs.Touches.{position_at, touched_at, found_at, changed_at};
+ghost use Rattle.zf_view.specs.Runs.{AreBeside, x_step, run_length, run_found, run_changed, with_run};
 
 use crate::elems::ElemIter;
 use crate::window::Window;
@@ -29,7 +30,7 @@ pub struct View<'a, T: Lane, const D: usize> {
 
 impl<'a, T: Lane, const D: usize> View<'a, T, D> {
     ghost use Rattle.zf_view.specs.Elems.{IsAtElem};
-    ghost use Rattle.zf_view.specs.ViewLoans.{EndsWithArray};
+    ghost use Rattle.zf_view.specs.ViewLoans.{EndsWithArray, EndsWithRun};
 
     /// The array seen through a window that lies in it.
     pub fn bind(array: &'a mut Array<T, D>, window: Window) -> View<'a, T, D>
@@ -66,6 +67,36 @@ impl<'a, T: Lane, const D: usize> View<'a, T, D> {
     {
         let array = &mut *self.array;
         array.set(self.window.map(p), v);
+    }
+
+    /// The values at position `p` of the window and at those that follow along x, as far as they lie in one block of the array and in
+    /// the window: 1 to 4 of them, side by side. One touch for writing; what is written to them is the array's values there.
+    ///
+    /// ```text
+    /// for value in view.run_mut(p) {
+    ///     *value = 7;
+    /// }
+    /// ```
+    pub fn run_mut(&mut self, p: Pos) -> &mut [T]
+        requires lies { LiesIn (shape self.old.array.now) self.old.window }
+        requires position { IsPosition self.old.window.size p }
+        requires step { x_step self.old.window ≡ 1 }
+        ensures* writes_back { sem 𝓛 (EndsWithRun T.row D.row
+            (record { width = T.width; WIDTH = T.WIDTH; TY = T.TY; value = T.value; in_range = T.in_range })
+            (record { eq = T.eq }) self.entry p result) }
+        ensures size { length result.now ≡ run_length self.old.window p }
+        ensures beside { AreBeside self.old.array.now self.old.window p (run_length self.old.window p) }
+        ensures value { map T.value result.now ≡ run_found self.old.array.now (position_at self.old.window p) (run_length self.old.window p) }
+        ensures state { (vs : List ℤ) → length vs ≡ run_length self.old.window p
+            → state (with_run self.old.array.now (position_at self.old.window p) vs)
+            ≡ run_changed self.old.array.now (position_at self.old.window p) vs }
+        ensures header { (vs : List ℤ) → (with_run self.old.array.now (position_at self.old.window p) vs).header ≡ self.old.array.now.header }
+    {
+        let (first, len) = (self.window.map(p), self.window.run_length(p));
+        let array = &mut *self.array;
+        let (b, place) = array.shape().place(first);
+        array.touch_mut(b);
+        array.part_mut(b, place, len)
     }
 
     /// The values at the positions of the window in raster order, x fastest; each item is one touch, and the value that this touch finds.
@@ -114,6 +145,9 @@ pub struct ElemMut<'a, T: Lane, const D: usize> {
 }
 
 impl<'a, T: Lane, const D: usize> ElemMut<'a, T, D> {
+    ghost use Rattle.zf_array.specs.Loans.{with_value};
+    ghost use Rattle.zf_view.specs.ViewLoans.{EndsWithValue};
+
     /// The value, by one touch.
     pub fn get(&mut self) -> T
         requires { IsPosition (shape self.old.array.now) self.old.position }
@@ -137,6 +171,22 @@ impl<'a, T: Lane, const D: usize> ElemMut<'a, T, D> {
     {
         let array = &mut *self.array;
         array.set(self.position, v);
+    }
+
+    /// The value, to be read and written, by one touch for writing. What is written to it is the array's value there.
+    pub fn value_mut(&mut self) -> &mut T
+        requires { IsPosition (shape self.old.array.now) self.old.position }
+        ensures* writes_back { sem 𝓛 (EndsWithValue T.row D.row
+            (record { width = T.width; WIDTH = T.WIDTH; TY = T.TY; value = T.value; in_range = T.in_range })
+            (record { eq = T.eq }) self.entry result) }
+        ensures value { T.value result.now ≡ found_at self.old.array.now self.old.position }
+        ensures state { (v : ℤ) → state (with_value self.old.array.now self.old.position v)
+            ≡ changed_at self.old.array.now self.old.position (λ old. v) }
+        ensures header { (v : ℤ) → (with_value self.old.array.now self.old.position v).header ≡ self.old.array.now.header }
+    {
+        let position = self.position;
+        let array = &mut *self.array;
+        array.value_mut(position)
     }
 
     /// Adds `v` to the value, by one touch for writing. The sum wraps.

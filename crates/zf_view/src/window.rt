@@ -73,6 +73,8 @@ const NEXT: Pos = Pos {
 };
 
 impl Window {
+    ghost use Rattle.zf_view.specs.Runs.{run_length};
+
     /// The whole array.
     pub fn whole(shape: &Shape) -> Window
         ensures window { result ≡ whole shape.now }
@@ -138,6 +140,16 @@ impl Window {
         ensures { result ≡ raster_at self.now number }
     {
         self.map(coordinates(&self.size, number))
+    }
+
+    /// How many positions there are from `p` on along x, up to the end of the block that `map(p)` lies in and of the window: 1 to 4.
+    pub(crate) fn run_length(&self, p: Pos) -> usize
+        requires { IsPosition self.now.size p }
+        ensures { result ≡ run_length self.now p }
+    {
+        let in_block = 4 - self.map(p).x % 4;
+        let in_window = self.size.x - p.x;
+        in_block.min(in_window) as usize
     }
 
     /// The number of positions.

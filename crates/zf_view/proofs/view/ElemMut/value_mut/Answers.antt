@@ -1,0 +1,15 @@
+use Rattle.std.proofs.Common.{refl, ◌∙◌}
+use Rattle.zf_cached.specs.Touch.{touch_for_writing, soiled}
+use Rattle.zf_view.proofs.view.ElemMut.value_mut.Goals as goal
+
+pub returns : goal.returns
+unfolding touch_for_writing soiled
+returns g c = (
+  (refl, λ w. refl),
+  record {
+    writes_back = tt;
+    value = c.value_mut.ensures.value;
+    state = c.value_mut.ensures.state;
+    header = c.value_mut.ensures.header;
+  },
+)

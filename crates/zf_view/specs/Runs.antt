@@ -1,0 +1,42 @@
+-- A run of values along x, as a view lends it.
+use Rattle.std.specs.Prelude.{ℕ, ◌≡◌, ◌+◌, ◌-◌, ◌%◌, ◌<◌, min, ℤ, Bool, List, length, take, drop, slice_index_or}
+use Rattle.zf_base.specs.declared.position.Pos.{Pos}
+use Rattle.zf_base.specs.Positions.{IsPosition}
+use Rattle.zf_cached.specs.State.{State}
+use Rattle.zf_cached.specs.Touch.{touch_for_writing, with_values}
+use Rattle.zf_cached.specs.Windows.{Window}
+use Rattle.zf_array.specs.Standing.{Held, format, state, array_of, block_at, place_at}
+use Rattle.zf_array.specs.Loans.{spliced}
+use Rattle.zf_view.specs.Touches.{position_at}
+
+-- the step of a window along x
+abbrev pub x_step : Window → ℕ
+x_step w = slice_index_or w.step 0 0
+
+-- how many positions there are from position p of a window on along x, up to the end of the block and of the window
+abbrev pub run_length : Window → Pos → ℕ
+run_length w p = min (4 - (position_at w p).x % 4) (slice_index_or w.size 0 0 - p.x)
+
+-- the position k further along x
+abbrev pub along_x : Pos → ℕ → Pos
+along_x p k = record { x = p.x + k; y = p.y; z = p.z; w = p.w }
+
+-- the n positions of the window from p on along x are values side by side in one block of the array
+pub record AreBeside (a : Held) (w : Window) (p : Pos) (n : ℕ) : Type 0 where
+  pub inside : (k : ℕ) → k < n → IsPosition w.size (along_x p k)
+  pub block : (k : ℕ) → k < n → block_at a (position_at w (along_x p k)) ≡ block_at a (position_at w p)
+  pub place : (k : ℕ) → k < n → place_at a (position_at w (along_x p k)) ≡ place_at a (position_at w p) + k
+
+-- the n values from position q of the array on that a touch for writing finds
+abbrev pub run_found : Held → Pos → ℕ → List ℤ
+run_found a q n = take n (drop (place_at a q) ((touch_for_writing (format a) (state a) (block_at a q)).values (block_at a q)))
+
+-- the state after a touch for writing, with these values from position q on
+abbrev pub run_changed : Held → Pos → List ℤ → State (List Bool)
+run_changed a q vs =
+    let t = touch_for_writing (format a) (state a) (block_at a q) in
+    with_values t (block_at a q) (spliced (t.values (block_at a q)) (place_at a q) (length vs) vs)
+
+-- the array of that state
+abbrev pub with_run : Held → Pos → List ℤ → Held
+with_run a q vs = array_of a.header (run_changed a q vs)
