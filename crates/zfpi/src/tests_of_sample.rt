@@ -25,7 +25,7 @@ fn call(
 }
 
 // Words, and the line that they write.
-const LINES: [(&str, &[u8]); 8] = [
+const LINES: [(&str, &[u8]); 9] = [
     (
         "sample int32 1 0 reversible",
         b"values 1 blocks 1 bytes 24 changed 0\n",
@@ -57,6 +57,10 @@ const LINES: [(&str, &[u8]); 8] = [
     (
         "sample int32 16x16x4 1 reversible",
         b"values 1024 blocks 16 bytes 2848 changed 0\n",
+    ),
+    (
+        "sample int32 64x64x64 1 reversible",
+        b"values 262144 blocks 4096 bytes 731320 changed 0\n",
     ),
 ];
 
