@@ -1,8 +1,9 @@
-//! Reading raw values: as many bytes as are wanted, and then the end.
+//! Reading from a source: as many bytes as are wanted, and then the end.
 
 ghost use Rattle.std.specs.Prelude.{◌≡◌, ◌≢◌, ◌≤◌, ◌<◌, ◌+◌, ◌^◌, [], length, take, IsOk, Err, IfOk, IfErr, OnOk, OnErr};
-ghost use Rattle.zf_dev.specs.Source.{TakesSome, TakesAtMost, Takes, IsFill, IsAtEnd};
+ghost use Rattle.zf_dev.specs.Source.{TakesSome, TakesAtMost, Takes, IsAtEnd};
 ghost use Rattle.zf_dev.specs.Faults.{HasCause};
+ghost use Rattle.zf_stream.specs.Outcomes.{TakesFirst};
 ghost use Rattle.zf_stream.specs.ReadRaw.{LacksRaw, GoesOn};
 ghost use Rattle.zf_stream.specs.declared.fault.StreamFault.TheVariants.{Read};
 
@@ -46,8 +47,7 @@ pub(crate) fn read_end<S: Source>(src: &mut S) -> Result<(), StreamFault>
 /// Reads until `buf` is full or the source is at its end.
 pub(crate) fn read_into<S: Source>(src: &mut S, buf: &mut [u8]) -> Result<usize, StreamFault>
     ensures bound { IfOk result (λ n. n ≤ length buf.old) }
-    ensures taken { IfOk result (λ n. Takes (S.contents src.old) (S.contents src.new) (take n buf.new)) }
-    ensures filled { IfOk result (λ n. IsFill (S.contents src.old) (length buf.old) n) }
+    ensures first { IfOk result (λ n. TakesFirst (length buf.old) (S.contents src.old) (S.contents src.new) (take n buf.new)) }
     ensures end { IfOk result (λ n. n < length buf.old → IsAtEnd (S.contents src.new)) }
     ensures lost { OnErr result (TakesAtMost (S.contents src.old) (S.contents src.new) (length buf.old)) }
     ensures some { TakesSome (S.contents src.old) (S.contents src.new) }
