@@ -1,5 +1,5 @@
 -- The bits of a window, as its words are moved and more are put behind them.
-use Rattle.std.proofs.Common.{◌≡◌, refl, sym, ap, ◌∙◌, ℕ, ◌+◌, ◌-◌, ◌*◌, ◌/◌, ◌%◌, ◌<◌, ◌≤◌, false, Bool, List, [], ◌∷◌, ◌++◌, length, take, drop, replicate, get_or, Option, append_assoc, length-append, take-append-drop, take_at, drop_at, arith}
+use Rattle.std.proofs.Common.{◌≡◌, refl, sym, ap, ◌∙◌, ℕ, ◌+◌, ◌-◌, ◌*◌, ◌/◌, ◌%◌, ◌<◌, ◌≤◌, false, Bool, List, [], ◌∷◌, ◌++◌, length, take, drop, replicate, get_or, ℤ, Option, Result, Ok, append_assoc, length-append, take-append-drop, take_at, drop_at, arith}
 use Rattle.std.proofs.lemmas.List.{drop-take, drop-drop, take-append-le, drop-append-le, length-take-le, length-drop, append-nil}
 use Rattle.std.proofs.lemmas.Grind.{flat_map-append}
 use Rattle.std.proofs.Math.Seq.{take-append-add}
@@ -12,6 +12,10 @@ use Rattle.zf_bits.proofs.Packed.{word_bits-words_from}
 use Rattle.zf_dev.specs.Source.{Takes}
 use Rattle.zf_dev.proofs.Taking.{Takes-none, Takes-append}
 use Rattle.zf_stream.specs.Windows.{Window, left_of, Goes, Refills}
+use Rattle.zf_header.specs.declared.header.Header.{Header}
+use Rattle.zf_stream.specs.Parsing.{read_codes}
+use Rattle.zf_stream.specs.Restoring.{stream_from}
+use Rattle.zf_stream.proofs.TextOfParse.{read_codes_more}
 use Rattle.zf_stream.proofs.WordBytes.{word_bits-take, word_bits-drop}
 
 -- ---- words moved to the front
@@ -109,7 +113,7 @@ Refills-moved src u v same room place = record {
 }
 
 -- bytes were put behind
-pub Refills-put : (a b : Option (List ℕ)) (u v : Window) (bytes : List ℕ) → Takes a b bytes → v.reader.all ≡ u.reader.all ++ to_bits bytes → v.reader.at ≡ u.reader.at → u.reader.at ≤ length u.reader.all → v.room ≡ u.room
+unfoldable pub Refills-put : (a b : Option (List ℕ)) (u v : Window) (bytes : List ℕ) → Takes a b bytes → v.reader.all ≡ u.reader.all ++ to_bits bytes → v.reader.at ≡ u.reader.at → u.reader.at ≤ length u.reader.all → v.room ≡ u.room
     → Refills a b u v
 Refills-put a b u v bytes taken all place within room =
     let bits : left_of v ≡ left_of u ++ to_bits bytes = ap (drop v.reader.at) all ∙ ap (λ k. drop k (u.reader.all ++ to_bits bytes)) place ∙ drop-append-le u.reader.at u.reader.all (to_bits bytes) within in
@@ -119,3 +123,15 @@ Refills-put a b u v bytes taken all place within room =
       bits = bits;
       room = room;
     }
+
+-- bits that are held were read
+pub Goes-read : {a b : Option (List ℕ)} {u v w : Window} {xs : List ℕ} → Goes a b u v xs → w.reader.at + length (left_of w) ≡ v.reader.at + length (left_of v) → Goes a b u w xs
+Goes-read {a} {b} {u} {v} {w} {xs} goes read = record { taken = goes.taken; moved = goes.moved; place = omega (arith, goes.place, read) }
+
+-- what was read of the bits so far is read of them with those behind
+pub codes_refilled : (h : Header) (n : ℕ) (w : Window) (bytes : List ℕ) (blocks : List (List ℤ)) {a b : Option (List ℕ)} {u v : Window} → read_codes h 0 n (stream_from w bytes) ≡ Ok (blocks, left_of u) → (refill : Refills a b u v)
+    → read_codes h 0 n (stream_from w (bytes ++ refill.bytes)) ≡ Ok (blocks, left_of v)
+codes_refilled h n w bytes blocks {a} {b} {u} {v} read refill =
+    ap (read_codes h 0 n) (sym (to_bits-append (left_of w) bytes refill.bytes))
+    ∙ read_codes_more h 0 n (stream_from w bytes) (to_bits refill.bytes) (blocks, left_of u) read
+    ∙ ap (λ (s : List Bool). Ok (blocks, s)) (sym refill.bits)

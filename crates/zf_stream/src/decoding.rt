@@ -39,7 +39,7 @@ pub(crate) fn read_slab<T: Lane, S: Source>(
     requires numbers { first + blocks part.now.shape < 2 ^ 64 }
     ensures ok { OnOk result (ReadsSlab part.now (S.contents src.old) (S.contents src.new) window.old window.new (map T.value values.new)) }
     ensures err { IfErr result (LacksSlab part.now first (S.contents src.old) (S.contents src.new) window.old) }
-    ensures room { window.new.room ≡ window.old.room }
+    ensures room { OnOk result (window.new.room ≡ window.old.room) }
     ensures ended { OnOk result (KnowsEnd window.new (S.contents src.new)) }
     ensures cause { HasCause (result ≡ Err Read) (S.faults src.old) (S.faults src.new) }
     ensures sure { S.never_fails src.old → (result ≢ Err Read) × S.never_fails src.new }
@@ -66,6 +66,7 @@ fn read_block<T: Lane>(
     requires all { length values.old ≡ product part.now.shape }
     requires whole { length block.old ≡ 4 ^ length part.now.shape }
     ensures some { OnSome result (ReadsBlock part.now b window.old.reader window.new.reader (map T.value values.old) (map T.value values.new)) }
+    ensures place { OnSome result (window.new.reader.at + length (left_of window.new) ≡ window.old.reader.at + length (left_of window.old)) }
     ensures none { IfNone result (LacksCode T.width part.now.mode (length part.now.shape) window.old.reader) }
     ensures room { window.new.room ≡ window.old.room }
     ensures ended { window.new.ended ≡ window.old.ended }

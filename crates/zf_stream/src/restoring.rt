@@ -165,7 +165,7 @@ fn restore_slabs<T: Lane, S: Source, O: Sink>(
     ensures err { OnErr result (LeavesRows h.now
         (S.contents src.old) (S.contents src.new) (O.contents out.old) (O.contents out.new) window.old) }
     ensures refused { IfErr result (Refuses h.now (S.contents src.old) (S.contents src.new) window.old) }
-    ensures room { window.new.room ≡ window.old.room }
+    ensures room { OnOk result (window.new.room ≡ window.old.room) }
     ensures ended { OnOk result (KnowsEnd window.new (S.contents src.new)) }
     ensures read_cause { HasCause (result ≡ Err Read) (S.faults src.old) (S.faults src.new) }
     ensures write_cause { HasCause (result ≡ Err Write) (O.faults out.old) (O.faults out.new) }

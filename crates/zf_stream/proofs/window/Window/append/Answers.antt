@@ -44,7 +44,7 @@ longer : (s : List Bool) (bytes : List ℕ) → 0 < length bytes → length s < 
 longer s bytes some = omega (arith, length-append s (to_bits bytes), length-to_bits bytes)
 
 pub returns-clause-more : goal.returns-clause-more
-unfolding returns-clause-ok
+unfolding returns-clause-ok Refills-put
 returns-clause-more g c = λ going.
     let w = c.self.inside in
     let old = c.args.self.now in
