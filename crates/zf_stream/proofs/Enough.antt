@@ -94,9 +94,9 @@ reads_code ty (Precision p) es s enough = reads_prec (width_of ty) p es s enough
 -- ---- the codes of blocks
 
 -- codes were read
-record ReadsAll (found : Result (List (List ℤ) × List Bool) ℕ) : Type 0 where
-  all : List (List ℤ) × List Bool
-  is : found ≡ Ok all
+pub record ReadsAll (found : Result (List (List ℤ) × List Bool) ℕ) : Type 0 where
+  pub all : List (List ℤ) × List Bool
+  pub is : found ≡ Ok all
 
 reads_all : (h : Header) (most b n : ℕ) (s : List Bool) → ((k : ℕ) (t : List Bool) → most ≤ length t → Reads (read_code (width_of h.ty) h.mode (extent_of h.shape k) t) most)
     → n * most ≤ length s → ReadsAll (read_codes h b n s)
@@ -132,7 +132,7 @@ enough_for_one h es s dims enough none =
     absurd cc
 
 -- zeros behind are enough, whatever stands in front of them
-enough_for_all : (h : Header) (s : List Bool) → ReadsAll (read_codes h 0 (blocks h.shape) (s ++ replicate (longest_codes h) false))
+pub enough_for_all : (h : Header) (s : List Bool) → ReadsAll (read_codes h 0 (blocks h.shape) (s ++ replicate (longest_codes h) false))
 enough_for_all h s =
     let most = longest_code h in
     let zeros : List Bool = replicate (longest_codes h) false in

@@ -70,6 +70,25 @@ read_codes-then h b (suc m) n s found e =
     ∙ read_next_then b s (read_code (width_of h.ty) h.mode (extent_of h.shape b) s) (read_codes h (suc b) m) (read_codes h (suc b) (m + n)) found (read_codes h (b + suc m) n)
     (λ t rest is. read_codes-then h (suc b) m n t rest is ∙ ap (λ j. with_blocks rest.0 (read_codes h j n rest.1)) place) e
 
+-- a code that ends too early does so with more blocks behind
+with_block_cut : (block : List ℤ) (r q : Result (List (List ℤ) × List Bool) ℕ) (k : ℕ) → (r ≡ Err k → q ≡ Err k) → with_block block r ≡ Err k → with_block block q ≡ Err k
+with_block_cut block (Ok rest) q k same e = absurd cc
+with_block_cut block (Err j) q k same e =
+    let is : j ≡ k = cc in
+    ap (with_block block) (same (ap Err is))
+
+read_next_cut : (b : ℕ) (s : List Bool) (c : Option (List ℤ × ℕ)) (r q : List Bool → Result (List (List ℤ) × List Bool) ℕ) (k : ℕ) → ((t : List Bool) → r t ≡ Err k → q t ≡ Err k)
+    → read_next b s c r ≡ Err k → read_next b s c q ≡ Err k
+read_next_cut b s None r q k same e = e
+read_next_cut b s (Some code) r q k same e = with_block_cut code.0 (r (drop code.1 s)) (q (drop code.1 s)) k (same (drop code.1 s)) e
+
+pub read_codes-cut_more : (h : Header) (b m n : ℕ) (s : List Bool) (k : ℕ) → read_codes h b m s ≡ Err k → read_codes h b (m + n) s ≡ Err k
+read_codes-cut_more h b zero n s k e = absurd cc
+read_codes-cut_more h b (suc m) n s k e =
+    let count : suc m + n ≡ suc (m + n) = omega arith in
+    ap (λ j. read_codes h b j s) count
+    ∙ read_next_cut b s (read_code (width_of h.ty) h.mode (extent_of h.shape b) s) (read_codes h (suc b) m) (read_codes h (suc b) (m + n)) k (λ t is. read_codes-cut_more h (suc b) m n t k is) e
+
 -- one code more
 pub read_codes-next : (h : Header) (b k : ℕ) (s behind : List Bool) (blocks : List (List ℤ)) (block : List ℤ) (left : List Bool) → read_codes h 0 b s ≡ Ok (blocks, behind)
     → read_code (width_of h.ty) h.mode (extent_of h.shape b) behind ≡ Some (block, k) → left ≡ drop k behind → read_codes h 0 (b + 1) s ≡ Ok (blocks ++ block ∷ [], left)

@@ -25,6 +25,9 @@ pub mod Flowing
 pub mod Rows
 pub mod RawRows
 pub mod Slabwise
+pub mod SlabsBack
+pub mod Restored
+pub mod RawValues
 pub mod FrontsOfStreams
 pub mod Answering
 mod Codes

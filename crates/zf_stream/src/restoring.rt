@@ -171,8 +171,9 @@ fn restore_slabs<T: Lane, S: Source, O: Sink>(
     ensures write_cause { HasCause (result ≡ Err Write) (O.faults out.old) (O.faults out.new) }
     ensures sure { S.never_fails src.old → (result ≢ Err Read) × S.never_fails src.new }
 {
-    // Known by this call: the array has no more values than there may be.
+    // Known by these calls: there is an axis, and blocks are counted in a word.
     let _dims = h.shape.dims();
+    let _blocks = h.shape.blocks();
     let all = rows_of(&h.shape);
     let mut row = 0;
     let mut first = 0;
