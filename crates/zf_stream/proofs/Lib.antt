@@ -27,6 +27,8 @@ pub mod RawRows
 pub mod Slabwise
 pub mod SlabsBack
 pub mod Restored
+pub mod RestoredAll
+pub mod FromFront
 pub mod RawValues
 pub mod FrontsOfStreams
 pub mod Answering

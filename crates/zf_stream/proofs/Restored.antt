@@ -27,6 +27,11 @@ use Rattle.zf_stream.proofs.SlabsBack.{counted_from, read_codes-slab, count_next
 use Rattle.zf_stream.proofs.TextOfParse.{read_codes_more}
 use Rattle.zf_stream.proofs.Windows.{Goes-none, Goes-next, to_bits-append}
 
+-- nothing is to come at the end
+pub still_none : (known : Option (List ℕ)) → IsAtEnd known → still known ≡ []
+still_none None ended = refl
+still_none (Some left) ended = ended
+
 -- ---- the numbers of blocks
 
 -- those of all rows, behind those of the first ones
@@ -203,10 +208,6 @@ module _ (h : Header) (row here : ℕ) (next : IsNext h row here) {src0 mid out0
             ∙ ap (λ (bs : List ℕ). answer_of_codes h w0.reader.at (stream_from w0 bs)) (append-nil bytes)
             ∙ ap (codes_answer h (w0.reader.at + length (stream_from w0 bytes))) codes;
       })
-    where
-      still_none : (known : Option (List ℕ)) → IsAtEnd known → still known ≡ []
-      still_none None ended = refl
-      still_none (Some left) ended = ended
   slab_cut now first faults.Read is lacks = inr (inl refl)
   slab_cut now first (faults.RawShort n) is lacks = absurd lacks
   slab_cut now first faults.RawLong is lacks = absurd lacks

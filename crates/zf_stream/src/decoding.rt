@@ -112,7 +112,7 @@ fn read_rate<T: Lane>(d: u8, bits: u32, reader: &mut BitReader<'_>, block: &mut 
 
 /// Reads the fill, which is to be zero, and behind which nothing is to be.
 pub(crate) fn check_fill(h: &Header, reader: &mut BitReader<'_>) -> Result<(), StreamFault>
-    ensures { result ≡ fill_answer h.now (length reader.old.all - length (rest reader.old)) (rest reader.old) }
+    ensures { result ≡ fill_answer h.now reader.old.at (rest reader.old) }
 {
     let left = reader.left();
     let fill = (64 - reader.at() % 64) % 64;
