@@ -15,6 +15,8 @@ use Rattle.zf_header.proofs.Good.{good}
 use Rattle.zf_header.proofs.Found.{read_is_header}
 use Rattle.zf_dev.specs.Source.{Takes, IsAtEnd}
 use Rattle.zf_dev.specs.Sink.{Appends, AppendsFront}
+use Rattle.zf_dev.proofs.Taking.{Takes-none}
+use Rattle.zf_dev.proofs.Appending.{AppendsFront-none}
 use Rattle.zf_stream.specs.declared.fault.StreamFault.{StreamFault}
 use Rattle.zf_stream.specs.Raw.{raw_bytes}
 use Rattle.zf_stream.specs.Parsing.{read_codes, values_said, header_of, code_bits, codes_answer, blocks_text, longest_codes, restore_answer, restored_text, without_values}
@@ -146,3 +148,11 @@ module _ (h : Header) (len : ℕ) (front : List ℕ) (begun : BeginsWithHeader f
 -- a header that bytes begin with can be written
 pub header_is : (front : List ℕ) (h : Header) (len : ℕ) → BeginsWithHeader front h len → IsHeader h
 header_is front h len begun = subst IsHeader (sym begun.header) (read_is_header front (good front (sym begun.good)))
+
+-- nothing more was taken, and nothing written
+pub nothing_taken : (front : List ℕ) (src out : Option (List ℕ)) {text : List ℕ → List ℕ} → LeavesFront text (behind front src) src out out
+nothing_taken front src out {text} = record {
+  bytes = front ++ [];
+  taken = Takes-behind front [] src src (Takes-none src);
+  written = AppendsFront-none out (text (front ++ []));
+}
