@@ -1,5 +1,5 @@
 -- From what a call on a stream promises to what a command promises that hands it on.
-use Rattle.std.proofs.Common.{◌≡◌, ◌≢◌, ℕ, ℤ, List, [], ◌∷◌, Option, Some, None, Result, Ok, Err, ◌⊎◌, inl, inr, refl, ap, sym, subst, ◌∙◌}
+use Rattle.std.proofs.Common.{◌≡◌, ℕ, ℤ, List, [], ◌∷◌, Option, Some, None, Result, Ok, Err, ◌⊎◌, inl, inr, refl, ap, sym, subst, ◌∙◌}
 use Rattle.zf_dev.specs.Shelf.{Files}
 use Rattle.zf_dev.specs.Sink.{Appends, AppendsFront}
 use Rattle.zf_dev.proofs.Appending.{AppendsFront-none}
