@@ -40,3 +40,7 @@ answer_of_memory r e (Some input) answer is memory =
 -- nothing was read, and nothing written
 pub nothing_left : (text : List ℕ → List ℕ) (src out : Option (List ℕ)) → LeavesFront text src src out out
 nothing_left text src out = record { bytes = []; taken = Takes-none src; written = AppendsFront-none out (text []) }
+
+pub on_ok_weaker : {T E : Type 0} {P R : Type 0} (r : Result T E) → OnOk r P → (P → R) → OnOk r R
+on_ok_weaker (Ok x) p f = f p
+on_ok_weaker (Err e) p f = tt

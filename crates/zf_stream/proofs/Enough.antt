@@ -1,5 +1,5 @@
 -- As many bits as the longest codes have are enough for any codes, so that what is restored has the length of the raw values.
-use Rattle.std.proofs.Common.{◌≡◌, refl, sym, ap, ◌∙◌, ℕ, zero, suc, ◌+◌, ◌*◌, ◌^◌, ◌<◌, ◌≤◌, min, Bool, false, cond, ltb, le-ltb, ℤ, Option, Some, None, is_none, Result, Ok, List, [], ◌∷◌, ◌++◌, length, take, drop, replicate, suc-mul, mul-le-mul_left, mul_comm, length-drop, length-append, arith}
+use Rattle.std.proofs.Common.{◌≡◌, ◌≢◌, refl, sym, ap, ◌∙◌, ℕ, zero, suc, ◌+◌, ◌*◌, ◌^◌, ◌<◌, ◌≤◌, min, Bool, false, cond, ltb, le-ltb, ℤ, Option, Some, None, is_none, Result, Ok, List, [], ◌∷◌, ◌++◌, length, take, drop, replicate, suc-mul, mul-le-mul_left, mul_comm, length-drop, length-append, arith}
 use Rattle.std.proofs.lemmas.List.{length-take, length-replicate}
 use Rattle.std.proofs.Math.Nat.{pow-le-pow_right}
 use Rattle.std.specs.Int.{Width, byte_len}
@@ -94,9 +94,9 @@ reads_code ty (Precision p) es s enough = reads_prec (width_of ty) p es s enough
 -- ---- the codes of blocks
 
 -- codes were read
-record ReadsAll (found : Result (List (List ℤ) × List Bool) ℕ) : Type 0 where
-  all : List (List ℤ) × List Bool
-  is : found ≡ Ok all
+pub record ReadsAll (found : Result (List (List ℤ) × List Bool) ℕ) : Type 0 where
+  pub all : List (List ℤ) × List Bool
+  pub is : found ≡ Ok all
 
 reads_all : (h : Header) (most b n : ℕ) (s : List Bool) → ((k : ℕ) (t : List Bool) → most ≤ length t → Reads (read_code (width_of h.ty) h.mode (extent_of h.shape k) t) most)
     → n * most ≤ length s → ReadsAll (read_codes h b n s)
@@ -124,8 +124,15 @@ longest-is h = by h.mode refl
     by (Rate b) e = refl
     by (Precision p) e = refl
 
+-- the bits of the longest code are enough for one
+pub enough_for_one : (h : Header) (es : List ℕ) (s : List Bool) → length es ≡ length h.shape → longest_code h ≤ length s → read_code (width_of h.ty) h.mode es s ≢ None
+enough_for_one h es s dims enough none =
+    let read = reads_code h.ty h.mode es s (omega (arith, longest-is h, ap (longest h.ty h.mode) dims, enough)) in
+    let no : None ≡ Some read.code = sym none ∙ read.is in
+    absurd cc
+
 -- zeros behind are enough, whatever stands in front of them
-enough_for_all : (h : Header) (s : List Bool) → ReadsAll (read_codes h 0 (blocks h.shape) (s ++ replicate (longest_codes h) false))
+pub enough_for_all : (h : Header) (s : List Bool) → ReadsAll (read_codes h 0 (blocks h.shape) (s ++ replicate (longest_codes h) false))
 enough_for_all h s =
     let most = longest_code h in
     let zeros : List Bool = replicate (longest_codes h) false in

@@ -1,6 +1,7 @@
 -- Lemmas on streams.
 --     LittleEndian   raw bytes as values, one after another
 --     WordBytes      the bytes of words
+--     Windows        the bits of a window, as it moves on
 --     OnErrors       what holds anyhow holds after an error
 --     Flowing        bits on their way through a writer to a sink
 --     Codes          the codes of blocks, one after another; a code says of a block only what its padded block says
@@ -18,11 +19,17 @@
 --     StreamsBack    what compress writes, restore reads
 pub mod LittleEndian
 pub mod WordBytes
+pub mod Windows
 pub mod OnErrors
 pub mod Flowing
 pub mod Rows
 pub mod RawRows
 pub mod Slabwise
+pub mod SlabsBack
+pub mod Restored
+pub mod RestoredAll
+pub mod FromFront
+pub mod RawValues
 pub mod FrontsOfStreams
 pub mod Answering
 mod Codes

@@ -1,5 +1,5 @@
 -- What is said of the bytes of a stream is never a fault of a device, nor one of raw values.
-use Rattle.std.proofs.Common.{◌≡◌, ◌≢◌, ℕ, ℤ, Bool, true, false, cond, nat_lt, List, Option, Some, None, Result, Ok, Err, take, length, ◌-◌, ◌%◌, refl, sym, ap, ◌∙◌, ⊎_elim}
+use Rattle.std.proofs.Common.{◌≡◌, ◌≢◌, ℕ, ℤ, Bool, true, false, cond, nat_lt, List, ◌++◌, Option, Some, None, Result, Ok, Err, take, length, ◌+◌, ◌-◌, ◌⊎◌, subst, ◌%◌, refl, sym, ap, ◌∙◌, ⊎_elim}
 use Rattle.std.specs.Prelude.{IfErr}
 use Rattle.std.proofs.lemmas.Result.{IfErr-at_err}
 use Rattle.zf_spec.specs.Grid.{blocks}
@@ -11,7 +11,10 @@ use Rattle.zf_header.specs.HeaderFaults.{header_fault}
 use Rattle.zf_stream.specs.declared.fault.StreamFault.{StreamFault}
 use Rattle.zf_stream.specs.declared.fault.StreamFault.TheVariants as faults
 use Rattle.zf_stream.specs.Parsing.{values_said, header_of, code_bits, header_or, codes_answer, read_codes, values_or_fault, restore_answer, without_values}
+use Rattle.zf_stream.specs.Outcomes.{IsBeforeWriting}
 use Rattle.zf_stream.specs.ReadStreams.{IsFault}
+use Rattle.zf_stream.specs.Windows.{Window}
+use Rattle.zf_stream.specs.Restoring.{still, stream_from, Refuses}
 
 -- the faults of devices, and those of raw values
 unfoldable pub is_foreign : StreamFault → Bool
@@ -78,3 +81,46 @@ blameless r none is = absurd (IfErr-at_err (λ e. e ≢ faults.Read) is none ref
 pub anyhow : {T : Type 0} (r : Result T StreamFault) (P : StreamFault → Type 0) → ((e : StreamFault) → P e) → IfErr r P
 anyhow (Ok x) P p = tt
 anyhow (Err e) P p = p e
+
+-- ---- what is said of codes is none of a header, nor want of memory
+
+abbrev IsOfCodes : StreamFault → Type 0
+IsOfCodes (faults.Truncated n) = Unit {0}
+IsOfCodes faults.Pad = Unit {0}
+IsOfCodes faults.Trailing = Unit {0}
+IsOfCodes e = ⊥
+
+of_fill : (n : ℕ) (vs : List ℤ) (short one more : Bool) → IfErr (values_or_fault vs (cond short (Err (faults.Truncated n)) (cond one (Err faults.Pad) (cond more (Err faults.Trailing) (Ok tt))))) IsOfCodes
+of_fill n vs true one more = tt
+of_fill n vs false true more = tt
+of_fill n vs false false true = tt
+of_fill n vs false false false = tt
+
+of_codes : (h : Header) (all : ℕ) (found : Result (List (List ℤ) × List Bool) ℕ) → IfErr (codes_answer h all found) IsOfCodes
+of_codes h all (Err b) = tt
+of_codes h all (Ok found) = of_fill (blocks h.shape) _ (nat_lt (length found.1) ((64 - (all - length found.1) % 64) % 64)) (has_one (take ((64 - (all - length found.1) % 64) % 64) found.1)) (nat_lt ((64 - (all - length found.1) % 64) % 64) (length found.1))
+
+not_before : (e : StreamFault) → IsOfCodes e → ¬ IsBeforeWriting e
+not_before (faults.Header f) of before = of
+not_before faults.Memory of before = of
+not_before faults.Read of before = of
+not_before faults.Write of before = of
+not_before (faults.RawShort n) of before = of
+not_before faults.RawLong of before = of
+not_before (faults.Truncated n) of before = before
+not_before faults.Pad of before = before
+not_before faults.Trailing of before = before
+
+device_not_before : (e : StreamFault) → (e ≡ faults.Read) ⊎ (e ≡ faults.Write) → ¬ IsBeforeWriting e
+device_not_before e device before =
+    ⊎_elim (λ read. let no : IsBeforeWriting faults.Read = subst IsBeforeWriting read before in no) (λ write. let no : IsBeforeWriting faults.Write = subst IsBeforeWriting write before in no) device
+
+pub refused_later : (h : Header) (src now : Option (List ℕ)) (w : Window) (e : StreamFault) → Refuses h src now w e → ¬ IsBeforeWriting e
+refused_later h src now w e refuses =
+    ⊎_elim
+    (λ fault.
+    let s = stream_from w (fault.bytes ++ still now) in
+    let all = w.reader.at + length s in
+    let found = read_codes h 0 (blocks h.shape) s in
+    not_before e (IfErr-at_err IsOfCodes fault.answer (of_codes h all found)))
+    (device_not_before e) refuses

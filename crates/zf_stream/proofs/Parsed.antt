@@ -1,5 +1,5 @@
 -- What the bits of bytes say, for the one who has their header.
-use Rattle.std.proofs.Common.{◌≡◌, ℕ, ◌*◌, ◌≤◌, Bool, ℤ, List, ◌++◌, length, take, drop, Option, Some, None, Result, Err, sym, ap, ◌∙◌, subst, inl, inr, ⊎_elim, length-append, arith}
+use Rattle.std.proofs.Common.{◌≡◌, ℕ, ◌*◌, ◌≤◌, Bool, ℤ, List, ◌++◌, length, take, drop, Option, Some, None, Result, Err, sym, ap, ◌∙◌, subst, inl, inr, ⊎_elim, length-append, take-take, arith}
 use Rattle.std.proofs.lemmas.List.{take_at, take-append-le}
 use Rattle.std.proofs.lemmas.Grind.{flat_map-append}
 use Rattle.zf_spec.specs.Grid.{blocks}
@@ -59,36 +59,30 @@ begun_more front more h len begun =
       within = omega (arith, begun.within, length-append front more);
     }
 
+-- the first bytes tell the fault of the header, where the longest header lies in them
+fault_first : (n : ℕ) (all : List ℕ) → 19 ≤ n → header_fault (take n all) ≡ header_fault all
+fault_first n all within = sym (header_fault-first (take n all)) ∙ ap header_fault (take-take 19 n all within) ∙ header_fault-first all
+
 -- the header of a told source is good where that of its first bytes is
-pub good_of_front : (known : Option (List ℕ)) (front : List ℕ) → IsFront 19 known front → header_fault front ≡ None → HasGoodHeader known
-good_of_front None front is none = tt
-good_of_front (Some all) front is none = sym (header_fault-first all) ∙ ap header_fault (sym is) ∙ none
+pub good_of_front : (n : ℕ) (known : Option (List ℕ)) (front : List ℕ) → 19 ≤ n → IsFront n known front → header_fault front ≡ None → HasGoodHeader known
+good_of_front n None front within is none = tt
+good_of_front n (Some all) front within is none = sym (fault_first n all within) ∙ ap header_fault (sym is) ∙ none
 
 -- and of its fault
-pub parse_fault : (all front : List ℕ) (f : HeaderFault) → front ≡ take 19 all → header_fault front ≡ Some f → restore_answer all ≡ Err (faults.Header f)
+pub parse_fault : (n : ℕ) (all front : List ℕ) (f : HeaderFault) → 19 ≤ n → front ≡ take n all → header_fault front ≡ Some f → restore_answer all ≡ Err (faults.Header f)
 unfolding values_said answer_of
-parse_fault all front f is fault =
-    let known : header_fault all ≡ Some f = sym (header_fault-first all) ∙ ap header_fault (sym is) ∙ fault in
+parse_fault n all front f within is fault =
+    let known : header_fault all ≡ Some f = sym (fault_first n all within) ∙ ap header_fault (sym is) ∙ fault in
     ap (λ o. without_values (answer_of o (header_of all) all (code_bits all))) known
 
-pub refusal_of_fault : (known : Option (List ℕ)) (front : List ℕ) (e : StreamFault) → IsFront 19 known front → IsFaultOf front e → IsRefusal known restore_answer e
-refusal_of_fault None front e is fault = tt
-refusal_of_fault (Some all) front (faults.Header f) is fault = inl (parse_fault all front f is fault)
-refusal_of_fault (Some all) front (faults.RawShort n) is fault = absurd fault
-refusal_of_fault (Some all) front faults.RawLong is fault = absurd fault
-refusal_of_fault (Some all) front (faults.Truncated n) is fault = absurd fault
-refusal_of_fault (Some all) front faults.Pad is fault = absurd fault
-refusal_of_fault (Some all) front faults.Trailing is fault = absurd fault
-refusal_of_fault (Some all) front faults.Read is fault = absurd fault
-refusal_of_fault (Some all) front faults.Write is fault = absurd fault
-refusal_of_fault (Some all) front faults.Memory is fault = absurd fault
-
--- a fault of the bytes is one of the source that they are all of
-pub refusal_of_bytes : (known now : Option (List ℕ)) (bytes : List ℕ) (e : StreamFault) → Takes known now bytes → IsAtEnd now → IsFault (restore_answer bytes) e → IsRefusal known restore_answer e
-refusal_of_bytes None now bytes e taken ended fault = tt
-refusal_of_bytes (Some all) now bytes e taken ended fault =
-    ⊎_elim (λ answer. inl (ap restore_answer (Takes-to_end all now bytes taken ended) ∙ answer)) (λ memory. inr (inr (inr memory))) fault
-
--- a fault of the values is one of the text
-pub fault_of_values : (bytes : List ℕ) (e : StreamFault) → IsFault (values_said bytes) e → IsFault (restore_answer bytes) e
-fault_of_values bytes e fault = ⊎_elim (λ answer. inl (ap without_values answer)) (λ memory. inr memory) fault
+pub refusal_of_fault : (n : ℕ) (known : Option (List ℕ)) (front : List ℕ) (e : StreamFault) → 19 ≤ n → IsFront n known front → IsFaultOf front e → IsRefusal known restore_answer e
+refusal_of_fault n None front e within is fault = tt
+refusal_of_fault n (Some all) front (faults.Header f) within is fault = inl (parse_fault n all front f within is fault)
+refusal_of_fault n (Some all) front (faults.RawShort m) within is fault = absurd fault
+refusal_of_fault n (Some all) front faults.RawLong within is fault = absurd fault
+refusal_of_fault n (Some all) front (faults.Truncated m) within is fault = absurd fault
+refusal_of_fault n (Some all) front faults.Pad within is fault = absurd fault
+refusal_of_fault n (Some all) front faults.Trailing within is fault = absurd fault
+refusal_of_fault n (Some all) front faults.Read within is fault = absurd fault
+refusal_of_fault n (Some all) front faults.Write within is fault = absurd fault
+refusal_of_fault n (Some all) front faults.Memory within is fault = absurd fault

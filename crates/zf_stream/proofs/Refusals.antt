@@ -27,10 +27,6 @@ CanRefuse-long wanted =
     )
 
 -- the fault of a header is that of its bytes
-pub CanRefuse-header : (front : List ℕ) (e : StreamFault) → length front ≤ 19 → IsFaultOf front e → CanRefuse restore_answer e
-CanRefuse-header front e within fault =
-    ⊎_elim (λ same. inl (front, same)) (λ outside. inr outside) (refusal_of_fault (Some front) front e (sym (take_all 19 front within)) fault)
-
--- a fault of bytes is theirs
-pub CanRefuse-bytes : (bytes : List ℕ) (e : StreamFault) → IsFault (restore_answer bytes) e → CanRefuse restore_answer e
-CanRefuse-bytes bytes e fault = ⊎_elim (λ same. inl (bytes, same)) (λ memory. inr (inr (inr memory))) fault
+pub CanRefuse-header : (n : ℕ) (front : List ℕ) (e : StreamFault) → 19 ≤ n → length front ≤ n → IsFaultOf front e → CanRefuse restore_answer e
+CanRefuse-header n front e enough within fault =
+    ⊎_elim (λ same. inl (front, same)) (λ outside. inr outside) (refusal_of_fault n (Some front) front e enough (sym (take_all n front within)) fault)

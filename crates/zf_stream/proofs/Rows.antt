@@ -91,11 +91,11 @@ codes_of_rows-more h rows bytes more slab long =
     ap (λ (cs : List (List Bool)). flat_map (λ c. c) cs)
     (map-upto_same (code_of_block h (bytes ++ more)) (code_of_block h bytes) (first_block h.shape ((rows + 3) / 4)) (λ b lt. code_more h rows b bytes more slab long lt))
 
-map-count_from : (f : ℕ → List Bool) (k n : ℕ) → map f (count_from k n) ≡ map (λ j. f (k + j)) (upto n)
+pub map-count_from : {X : Type 0} (f : ℕ → X) (k n : ℕ) → map f (count_from k n) ≡ map (λ j. f (k + j)) (upto n)
 map-count_from f k n =
     let long = length-count_from k n in
-    sym (from_places (λ j. f (k + j)) n [] (map f (count_from k n)) (length-map (count_from k n) f ∙ long)
-    (λ j lt. get_or-map f (count_from k n) j 0 [] (omega arith) ∙ ap f (get_or-count_from k n j 0 lt)))
+    sym (from_places (λ j. f (k + j)) n (f 0) (map f (count_from k n)) (length-map (count_from k n) f ∙ long)
+    (λ j lt. get_or-map f (count_from k n) j 0 (f 0) (omega arith) ∙ ap f (get_or-count_from k n j 0 lt)))
 
 -- with the codes of one slab more
 pub codes_of_rows-next : (h : Header) (c rows : ℕ) (bytes raw : List ℕ) → IsSlab h.shape c rows → length bytes ≡ rows_len h (4 * c) → length raw ≡ rows_len h rows

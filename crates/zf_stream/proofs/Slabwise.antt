@@ -1,15 +1,16 @@
 -- An array that is compressed slab by slab: one slab more, and where it stops.
-use Rattle.std.proofs.Common.{◌≡◌, ◌≢◌, refl, sym, ap, subst, ◌∙◌, ℕ, ◌+◌, ◌-◌, ◌*◌, ◌/◌, ◌%◌, ◌<◌, ◌≤◌, ◌^◌, ◌⊎◌, inl, inr, ⊎_elim, Bool, List, [], ◌++◌, length, map, mul_comm, Option, Some, None, append_assoc, length-append, mul_assoc, arith}
+use Rattle.std.proofs.Common.{◌≡◌, ◌≢◌, refl, sym, ap, subst, ◌∙◌, ℕ, ◌+◌, ◌-◌, ◌*◌, ◌/◌, ◌%◌, ◌<◌, ◌≤◌, ◌^◌, ◌⊎◌, inl, inr, ⊎_elim, min, Bool, List, [], ◌++◌, length, map, mul_comm, Option, Some, None, append_assoc, length-append, mul_assoc, arith}
+use Rattle.std.proofs.lemmas.Bool.{cases_lt}
 use Rattle.std.proofs.lemmas.List.{append-nil}
 use Rattle.std.proofs.Math.Nat.{add-mul, mul-add, mul-le-mul_left, mul-le-mul_right}
 use Rattle.std.specs.Int.{byte_len}
 use Rattle.std.specs.List.{flat_map}
 use Rattle.zf_spec.specs.Stream.{codes, values_from}
 use Rattle.zf_header.specs.HeaderBits.{coding}
-use Rattle.zf_spec.specs.Grid.{product, grid, upto}
+use Rattle.zf_spec.specs.Grid.{IsShape, product, grid, upto}
 use Rattle.zf_base.specs.Widths.{width_of}
 use Rattle.zf_pad.specs.Slabs.{rows_of, row_len, with_rows, IsSlab, first_block}
-use Rattle.zf_pad.proofs.Slabs.{product-with_rows, product-rows}
+use Rattle.zf_pad.proofs.Slabs.{all_rows, product-with_rows, product-rows}
 use Rattle.zf_header.specs.declared.header.Header.{Header}
 use Rattle.zf_dev.specs.Source.{Takes}
 use Rattle.zf_dev.proofs.Taking.{Takes-none, Takes-append}
@@ -46,6 +47,16 @@ rows_len-all h some = ap (λ n. n * byte_len (width_of h.ty)) (sym (product-rows
 
 pub rows_len-le : (h : Header) (a b : ℕ) → a ≤ b → rows_len h a ≤ rows_len h b
 rows_len-le h a b le = mul-le-mul_right (byte_len (width_of h.ty)) (mul-le-mul_left (row_len h.shape) le)
+
+-- so many rows, or all
+whole_rows : (rows most all n : ℕ) → rows ≡ min most all → all ≡ n → most % 4 ≡ 0 → (rows % 4 ≡ 0) ⊎ (rows ≡ n)
+whole_rows rows most all n is same fours = ⊎_elim (λ lt. inl (omega arith)) (λ le. inr (omega arith)) (cases_lt most all)
+
+-- the most rows of a slab, or all where there are fewer, are pieces of the array
+pub are_pieces : (ns : List ℕ) (rows most all : ℕ) → IsShape ns → rows ≡ min most all → all ≡ rows_of ns → 4 ≤ most → most % 4 ≡ 0 → ArePieces ns rows
+are_pieces ns rows most all shape is same some fours =
+    let not_none = all_rows (λ n. 1 ≤ n) ns shape.some_dimension shape.not_zero in
+    record { some = omega (arith, not_none, is, same, some); few = omega (arith, is, same); whole = whole_rows rows most all (rows_of ns) is same fours }
 
 -- the next slab: its first row is a multiple of 4
 pub record IsNext (h : Header) (row here : ℕ) : Type 0 where

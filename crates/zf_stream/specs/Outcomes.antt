@@ -3,11 +3,17 @@ use Rattle.std.specs.Prelude.{ℕ, ◌≡◌, ◌≤◌, ◌⊎◌, List, length
 use Rattle.zf_dev.specs.Source.{Takes, IsAtEnd}
 use Rattle.zf_dev.specs.Sink.{Appends, AppendsFront}
 use Rattle.zf_stream.specs.declared.fault.StreamFault.{StreamFault}
-use Rattle.zf_stream.specs.declared.fault.StreamFault.TheVariants.{Read, Write, Memory}
+use Rattle.zf_stream.specs.declared.fault.StreamFault.TheVariants.{Header, Read, Write, Memory}
 
 -- a fault of a device, or want of memory: what no input determines
 abbrev pub IsFromOutside : StreamFault → Type 0
 IsFromOutside e = (e ≡ Read) ⊎ (e ≡ Write) ⊎ (e ≡ Memory)
+
+-- such a fault is answered before anything is written
+abbrev pub IsBeforeWriting : StreamFault → Type 0
+IsBeforeWriting (Header f) = Unit {0}
+IsBeforeWriting Memory = Unit {0}
+IsBeforeWriting e = ⊥
 
 -- the answer is the one that is stated for the input, unless it comes from outside
 abbrev pub Answers : {T : Type 0} → Result T StreamFault → Option (List ℕ) → (List ℕ → Result T StreamFault) → Type 0

@@ -1,71 +1,53 @@
-//! The bytes of a source, and the raw bytes of values.
+//! Words of a stream and their bytes, the least significant byte of each word first, both ways.
 
-ghost use Rattle.std.specs.Prelude.{◌≡◌, ◌≢◌, ◌⊎◌, ◌<◌, ◌^◌, ◌≤◌, ◌++◌, map, length, Err, IfOk, IfErr, OnOk, OnErr};
-ghost use Rattle.zf_spec.specs.Stream.{raw};
-ghost use Rattle.zf_dev.specs.Faults.{HasCause};
-ghost use Rattle.zf_dev.specs.Source.{TakesSome};
-ghost use Rattle.zf_stream.specs.ReadStreams.{ReadsRest};
-ghost use Rattle.zf_stream.specs.declared.fault.StreamFault.TheVariants.{Read, Memory};
+ghost use Rattle.std.specs.Prelude.{◌≡◌, ◌*◌, ◌≤◌, ◌<◌, ◌+◌, ◌++◌, length, take};
+ghost use Rattle.std.specs.Int.{w64, from_le_bytes};
+ghost use Rattle.zf_spec.specs.Numbers.{word_bits};
+ghost use Rattle.zf_spec.specs.Stream.{to_bits, first_bytes};
+ghost use Rattle.zf_bits.specs.Packing.{words_from};
+ghost use Rattle.zf_stream.specs.Flows.{bytes_in};
 
-use crate::StreamFault;
-use crate::raw::read_into;
-use crate::values::value_len;
-use std::alloc::{AllocError, Global};
-use zf_base::Lane;
-use zf_dev::Source;
-
-// How many bytes are read at a time.
-const PIECE: usize = 4096;
-
-// How many pieces are read at most: more than there is memory for.
-const MOST_PIECES: u64 = 1 << 48;
-
-/// The bytes in `front`, at most 19, and all that the source still gives.
-pub(crate) fn read_rest<S: Source>(
-    alloc: Global,
-    front: &[u8],
-    src: &mut S,
-) -> Result<Vec<u8>, StreamFault>
-    requires { length front.now ≤ 19 }
-    ensures ok { IfOk result (λ bytes. ReadsRest front.now (S.contents src.old) (S.contents src.new) bytes.items) }
-    ensures bound { IfOk result (λ bytes. length bytes.items < 2 ^ 61) }
-    ensures fault { IfErr result (λ e. (e ≡ Read) ⊎ (e ≡ Memory)) }
-    ensures taken { OnErr result (TakesSome (S.contents src.old) (S.contents src.new)) }
-    ensures cause { HasCause (result ≡ Err Read) (S.faults src.old) (S.faults src.new) }
-    ensures sure { S.never_fails src.old → (result ≢ Err Read) × S.never_fails src.new }
+/// Makes bytes of words.
+pub(crate) fn put_bytes(words: &[u64], bytes: &mut [u8])
+    requires { length bytes.old ≡ 8 * length words.now }
+    ensures { bytes.new ≡ bytes_in words.now }
 {
-    let mut bytes = Vec::new(alloc);
-    append(&mut bytes, front)?;
-    let mut piece = [0; PIECE];
-    for _i in 0..MOST_PIECES {
-        let count = read_into(src, &mut piece)?;
-        append(&mut bytes, &piece[..count])?;
-        if count < PIECE {
-            return Ok(bytes);
-        }
-    }
-    Err(StreamFault::Memory)
-}
-
-/// Appends bytes.
-fn append(bytes: &mut Vec<u8>, more: &[u8]) -> Result<(), StreamFault>
-    ensures ok { OnOk result (bytes.new.items ≡ bytes.old.items ++ more.now) }
-    ensures fault { IfErr result (λ e. e ≡ Memory) }
-{
-    match bytes.extend_from_slice(more) {
-        Ok(()) => Ok(()),
-        Err(_) => Err(StreamFault::Memory),
+    for i in 0..words.len() {
+        bytes[8 * i..8 * i + 8].copy_from_slice(&words[i].to_le_bytes());
     }
 }
 
-/// The values as bytes, each little-endian.
-pub(crate) fn raw_of<T: Lane>(alloc: Global, values: &[T]) -> Result<Vec<u8>, AllocError>
-    ensures { IfOk result (λ bytes. bytes.items ≡ raw T.width (map T.value values.now)) }
+/// Makes words of bytes, from word `at` on: the bits of the bytes come behind those of the words before.
+pub(crate) fn put_words_at(bytes: &[u8], words: &mut [u64], at: usize)
+    requires { 8 * at + length bytes.now ≤ 8 * length words.old }
+    ensures bits { take (64 * at + 8 * length bytes.now) (word_bits words.new) ≡ take (64 * at) (word_bits words.old) ++ to_bits bytes.now }
+    ensures len { length words.new ≡ length words.old }
 {
-    let len = value_len::<T>();
-    let mut bytes = Vec::new(alloc);
-    for v in values {
-        bytes.extend_from_slice(&v.to_word().to_le_bytes()[..len])?;
+    put_words(bytes, &mut words[at..at + bytes.len().div_ceil(8)]);
+}
+
+/// Makes words of bytes. A last word of fewer bytes is filled with zeros.
+fn put_words(bytes: &[u8], words: &mut [u64])
+    requires enough { length bytes.now ≤ 8 * length words.old }
+    requires no_more { 8 * length words.old < length bytes.now + 8 }
+    ensures { words.new ≡ words_from (length words.old) bytes.now }
+{
+    let whole = bytes.len() / 8;
+    for i in 0..whole {
+        words[i] = word_of(&bytes[8 * i..8 * i + 8]);
     }
-    Ok(bytes)
+    if whole < words.len() {
+        words[whole] = word_of(&bytes[8 * whole..]);
+    }
+}
+
+/// The number that has these bytes, the least significant first.
+#[inline]
+pub(crate) fn word_of(bytes: &[u8]) -> u64
+    requires { length bytes.now ≤ 8 }
+    ensures { result ≡ from_le_bytes w64 (first_bytes 8 bytes.now) }
+{
+    let mut all = [0; 8];
+    all[..bytes.len()].copy_from_slice(bytes);
+    u64::from_le_bytes(all)
 }

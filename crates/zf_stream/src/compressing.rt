@@ -17,7 +17,7 @@ ghost use Rattle.zf_stream.specs.declared.fault.StreamFault.TheVariants.{Read, W
 use crate::StreamFault;
 use crate::encoding::write_codes;
 use crate::longest::longest_code;
-use crate::raw::{read_end, read_raw};
+use crate::reading::{read_end, read_raw};
 use crate::slabs::{most_rows, rows_of, with_rows};
 use crate::values::{put_values, value_len};
 use crate::writing::write_whole_words;

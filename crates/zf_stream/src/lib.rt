@@ -9,12 +9,13 @@ mod fault;
 mod header;
 pub mod laws;
 mod longest;
-mod raw;
+mod reading;
 mod restoring;
 mod slabs;
 #[cfg(test)]
 mod tests;
 mod values;
+mod window;
 mod writing;
 
 pub use compressing::compress;

@@ -1,28 +1,37 @@
 //! From a stream to raw values.
 
-ghost use Rattle.std.specs.Prelude.{◌≡◌, ◌≢◌, ◌^◌, ◌<◌, length, IfOk, IfErr, OnOk, OnErr, Err};
+ghost use Rattle.std.specs.Prelude.{◌≡◌, ◌≢◌, ◌≤◌, ◌<◌, ◌*◌, ◌+◌, ◌^◌, length, IfErr, OnOk, OnErr, Err};
+ghost use Rattle.zf_pad.specs.Slabs.{row_len, rows_of};
 ghost use Rattle.zf_base.specs.Widths.{width_of};
 ghost use Rattle.zf_header.specs.declared.header.HeaderFault.{HeaderFault};
-ghost use Rattle.zf_stream.specs.Parsing.{restore_answer, restored_text};
 ghost use Rattle.zf_dev.specs.Faults.{HasCause};
-ghost use Rattle.zf_dev.specs.Source.{TakesSome};
-ghost use Rattle.zf_stream.specs.Outcomes.{CanRefuse, Answers, Finishes, LeavesFront, ReadsText, IsRefusal};
-ghost use Rattle.zf_stream.specs.ReadStreams.{BeginsWithHeader, HasGoodHeader, IsFault, IsTextOf};
+ghost use Rattle.zf_dev.specs.Source.{IsAtEnd};
+ghost use Rattle.zf_stream.specs.Parsing.{restore_answer, restored_text, longest_code};
+ghost use Rattle.zf_stream.specs.Outcomes.{CanRefuse, Answers, Finishes, LeavesFront, IsBeforeWriting};
+ghost use Rattle.zf_stream.specs.ReadStreams.{BeginsWithHeader, HasGoodHeader};
+ghost use Rattle.zf_stream.specs.Rows.{ArePieces};
+ghost use Rattle.zf_stream.specs.Windows.{KnowsEnd};
+ghost use Rattle.zf_stream.specs.Restoring.{behind, Restores, LeavesRows, Refuses, RestoresAll};
 ghost use Rattle.zf_stream.specs.declared.fault.StreamFault.TheVariants.{Read, Write, Memory};
-ghost use Rattle.zf_stream.specs.declared.fault.StreamFault.TheVariants as faults;
 
 use crate::StreamFault;
-use crate::bytes::{raw_of, read_rest};
-use crate::decoding::values_in;
-use crate::header::{header_at_front, read_front};
+use crate::compressing::PIECE;
+use crate::decoding::{check_fill, read_slab};
+use crate::header::header_at_front;
+use crate::longest::longest_code;
+use crate::reading::read_into;
+use crate::slabs::{most_rows, rows_of, with_rows};
+use crate::window::{FRONT, Window};
+use crate::writing::write_values;
 use std::alloc::Global;
-use zf_base::{Lane, Ty};
-use zf_dev::{Sink, Source, write_all};
-use zf_header::{FULL_HEADER_BYTES, Header};
+use zf_base::{Lane, Ty, block_len};
+use zf_dev::{Sink, Source};
+use zf_header::Header;
 
 /// Reads a stream to the end of the source, and writes its raw values, each little-endian in 4 or 8 bytes, x fastest.
 ///
-/// Nothing is written before the whole stream has been found good.
+/// A slab of values is held at a time, up to four rows of the last axis or 4096 values of one dimension; all memory is taken before anything is written.
+/// A slab is written once all its codes were read, so a stream that ends early, is damaged or goes on leaves the values before on `out`.
 pub fn restore<S: Source, O: Sink>(
     alloc: Global,
     src: &mut S,
@@ -34,72 +43,152 @@ pub fn restore<S: Source, O: Sink>(
         (S.contents src.old) (S.contents src.new) (O.contents out.old) (O.contents out.new)) }
     ensures err { OnErr result (LeavesFront restored_text
         (S.contents src.old) (S.contents src.new) (O.contents out.old) (O.contents out.new)) }
-    ensures unwritten { IfErr result (λ e. e ≢ Write → O.contents out.new ≡ O.contents out.old) }
+    ensures unwritten { IfErr result (λ e. IsBeforeWriting e → O.contents out.new ≡ O.contents out.old) }
     ensures memory { result ≡ Err Memory → HasGoodHeader (S.contents src.old) }
     ensures read_cause { HasCause (result ≡ Err Read) (S.faults src.old) (S.faults src.new) }
     ensures write_cause { HasCause (result ≡ Err Write) (O.faults out.old) (O.faults out.new) }
     ensures sure { S.never_fails src.old → (result ≢ Err Read) × S.never_fails src.new }
 {
-    let raw = read_raw(alloc, src)?;
-    match write_all(out, &raw) {
-        Ok(()) => Ok(()),
-        Err(_) => Err(StreamFault::Write),
+    let mut front = [0; FRONT];
+    let count = read_into(src, &mut front)?;
+    let (h, header_len) = header_at_front(&front[..count])?;
+    match h.ty {
+        Ty::I32 => restore_as::<i32, S, O>(alloc, &h, header_len, &front[..count], src, out),
+        Ty::I64 => restore_as::<i64, S, O>(alloc, &h, header_len, &front[..count], src, out),
     }
 }
 
-/// Reads the stream and makes the raw values of it.
-fn read_raw<S: Source>(alloc: Global, src: &mut S) -> Result<Vec<u8>, StreamFault>
-    ensures ok { IfOk result (λ raw. ReadsText restore_answer restored_text
-        (S.contents src.old) (S.contents src.new) raw.items) }
-    ensures refused { IfErr result (IsRefusal (S.contents src.old) restore_answer) }
+/// The same of values of this type, where these bytes were read, with the header.
+fn restore_as<T: Lane, S: Source, O: Sink>(
+    alloc: Global,
+    h: &Header,
+    header_len: u32,
+    front: &[u8],
+    src: &mut S,
+    out: &mut O,
+) -> Result<(), StreamFault>
+    requires begun { BeginsWithHeader front.now h.now header_len }
+    requires same_type { T.width ≡ width_of h.now.ty }
+    requires few { length front.now ≤ 24 }
+    requires ended { length front.now < 24 → IsAtEnd (S.contents src.old) }
+    ensures answer { Answers result (behind front.now (S.contents src.old)) restore_answer }
     ensures possible { IfErr result (CanRefuse restore_answer) }
-    ensures taken { OnErr result (TakesSome (S.contents src.old) (S.contents src.new)) }
-    ensures unwritten { IfErr result (λ e. e ≢ Write) }
-    ensures memory { IfErr result (λ e. e ≡ Memory → HasGoodHeader (S.contents src.old)) }
-    ensures cause { HasCause (result ≡ Err Read) (S.faults src.old) (S.faults src.new) }
+    ensures ok { OnOk result (Finishes restore_answer restored_text
+        (behind front.now (S.contents src.old)) (S.contents src.new) (O.contents out.old) (O.contents out.new)) }
+    ensures err { OnErr result (LeavesFront restored_text
+        (behind front.now (S.contents src.old)) (S.contents src.new) (O.contents out.old) (O.contents out.new)) }
+    ensures unwritten { IfErr result (λ e. IsBeforeWriting e → O.contents out.new ≡ O.contents out.old) }
+    ensures read_cause { HasCause (result ≡ Err Read) (S.faults src.old) (S.faults src.new) }
+    ensures write_cause { HasCause (result ≡ Err Write) (O.faults out.old) (O.faults out.new) }
     ensures sure { S.never_fails src.old → (result ≢ Err Read) × S.never_fails src.new }
 {
-    let mut front = [0; FULL_HEADER_BYTES];
-    let count = read_front(src, &mut front)?;
-    let (h, header_len) = header_at_front(&front[..count])?;
-    let bytes = read_rest(alloc, &front[..count], src)?;
-    restored(alloc, &h, header_len, &bytes)
+    let dims = h.shape.dims();
+    let rows = most_rows(&h.shape).min(rows_of(&h.shape));
+    let slab = with_rows(&h.shape, rows);
+    let longest = longest_code::<T>(h);
+    let most = longest + (8 * PIECE).min(slab.blocks() * longest);
+    let mut window = Window::new(alloc, most, front, u64::from(header_len))?;
+    let mut values = vec![in alloc; T::zero(); slab.values() as usize]?;
+    let mut block = vec![in alloc; T::zero(); block_len(dims)]?;
+    let mut piece = vec![in alloc; 0; PIECE as usize]?;
+    restore_rows(
+        h,
+        rows,
+        longest,
+        &mut window,
+        &mut values,
+        &mut block,
+        &mut piece,
+        src,
+        out,
+    )
 }
 
-/// The raw values of the stream that these bytes are.
-fn restored(
-    alloc: Global,
+/// Restores what the codes behind the header say, in room that is there already, and judges what stands behind them.
+fn restore_rows<T: Lane, S: Source, O: Sink>(
     h: &Header,
-    header_len: u32,
-    bytes: &[u8],
-) -> Result<Vec<u8>, StreamFault>
-    requires begun { BeginsWithHeader bytes.now h.now header_len }
-    requires small { length bytes.now < 2 ^ 61 }
-    ensures ok { IfOk result (λ raw. IsTextOf bytes.now raw.items) }
-    ensures err { IfErr result (IsFault (restore_answer bytes.now)) }
-{
-    match h.ty {
-        Ty::I32 => restored_as::<i32>(alloc, h, header_len, bytes),
-        Ty::I64 => restored_as::<i64>(alloc, h, header_len, bytes),
-    }
-}
-
-/// The same for values of this type.
-fn restored_as<T: Lane>(
-    alloc: Global,
-    h: &Header,
-    header_len: u32,
-    bytes: &[u8],
-) -> Result<Vec<u8>, StreamFault>
-    requires begun { BeginsWithHeader bytes.now h.now header_len }
+    rows: u64,
+    longest: u64,
+    window: &mut Window,
+    values: &mut [T],
+    block: &mut [T],
+    piece: &mut [u8],
+    src: &mut S,
+    out: &mut O,
+) -> Result<(), StreamFault>
     requires same_type { T.width ≡ width_of h.now.ty }
-    requires small { length bytes.now < 2 ^ 61 }
-    ensures ok { IfOk result (λ raw. IsTextOf bytes.now raw.items) }
-    ensures err { IfErr result (IsFault (restore_answer bytes.now)) }
+    requires rows { ArePieces h.now.shape rows }
+    requires longest { longest_code h.now ≤ longest }
+    requires room { longest + 64 ≤ 64 * window.old.room }
+    requires fill { 128 ≤ 64 * window.old.room }
+    requires ended { KnowsEnd window.old (S.contents src.old) }
+    requires values { length values.old ≡ row_len h.now.shape * rows }
+    requires whole { length block.old ≡ 4 ^ length h.now.shape }
+    requires piece { 8 ≤ length piece.old }
+    ensures ok { OnOk result (RestoresAll h.now
+        (S.contents src.old) (S.contents src.new) (O.contents out.old) (O.contents out.new) window.old) }
+    ensures err { OnErr result (LeavesRows h.now
+        (S.contents src.old) (S.contents src.new) (O.contents out.old) (O.contents out.new) window.old) }
+    ensures refused { IfErr result (Refuses h.now (S.contents src.old) (S.contents src.new) window.old) }
+    ensures read_cause { HasCause (result ≡ Err Read) (S.faults src.old) (S.faults src.new) }
+    ensures write_cause { HasCause (result ≡ Err Write) (O.faults out.old) (O.faults out.new) }
+    ensures sure { S.never_fails src.old → (result ≢ Err Read) × S.never_fails src.new }
 {
-    let values = values_in::<T>(alloc, h, header_len, bytes)?;
-    match raw_of(alloc, &values) {
-        Ok(raw) => Ok(raw),
-        Err(_) => Err(StreamFault::Memory),
+    restore_slabs(h, rows, longest, window, values, block, piece, src, out)?;
+    // The fill has less than a word, so what is told of 64 bits is told of all that follow.
+    window.reach(64, piece, src)?;
+    check_fill(h, &mut window.reader())
+}
+
+/// Restores the slabs, one after another.
+fn restore_slabs<T: Lane, S: Source, O: Sink>(
+    h: &Header,
+    rows: u64,
+    longest: u64,
+    window: &mut Window,
+    values: &mut [T],
+    block: &mut [T],
+    piece: &mut [u8],
+    src: &mut S,
+    out: &mut O,
+) -> Result<(), StreamFault>
+    requires same_type { T.width ≡ width_of h.now.ty }
+    requires rows { ArePieces h.now.shape rows }
+    requires longest { longest_code h.now ≤ longest }
+    requires room { longest + 64 ≤ 64 * window.old.room }
+    requires ended { KnowsEnd window.old (S.contents src.old) }
+    requires values { length values.old ≡ row_len h.now.shape * rows }
+    requires whole { length block.old ≡ 4 ^ length h.now.shape }
+    requires piece { 8 ≤ length piece.old }
+    ensures ok { OnOk result (Restores h.now (rows_of h.now.shape)
+        (S.contents src.old) (S.contents src.new) (O.contents out.old) (O.contents out.new) window.old window.new) }
+    ensures err { OnErr result (LeavesRows h.now
+        (S.contents src.old) (S.contents src.new) (O.contents out.old) (O.contents out.new) window.old) }
+    ensures refused { IfErr result (Refuses h.now (S.contents src.old) (S.contents src.new) window.old) }
+    ensures room { OnOk result (window.new.room ≡ window.old.room) }
+    ensures ended { OnOk result (KnowsEnd window.new (S.contents src.new)) }
+    ensures read_cause { HasCause (result ≡ Err Read) (S.faults src.old) (S.faults src.new) }
+    ensures write_cause { HasCause (result ≡ Err Write) (O.faults out.old) (O.faults out.new) }
+    ensures sure { S.never_fails src.old → (result ≢ Err Read) × S.never_fails src.new }
+{
+    // Known by these calls: there is an axis, and blocks are counted in a word.
+    let _dims = h.shape.dims();
+    let _blocks = h.shape.blocks();
+    let all = rows_of(&h.shape);
+    let mut row = 0;
+    let mut first = 0;
+    while row < all {
+        let here = rows.min(all - row);
+        let part = Header {
+            ty: h.ty,
+            shape: with_rows(&h.shape, here),
+            mode: h.mode,
+        };
+        let slab = &mut values[..part.shape.values() as usize];
+        read_slab(&part, first, longest, window, slab, block, piece, src)?;
+        write_values(slab, piece, out)?;
+        first += part.shape.blocks();
+        row += here;
     }
+    Ok(())
 }

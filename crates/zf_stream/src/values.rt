@@ -1,9 +1,10 @@
 //! Values and their raw bytes, both ways.
 
 ghost use Rattle.std.specs.Prelude.{◌≡◌, ◌*◌, ◌≤◌, map, length};
-ghost use Rattle.std.specs.Int.{w64, byte_len, from_le_bytes, cast_signed};
-ghost use Rattle.zf_spec.specs.Stream.{values_from, first_bytes};
+ghost use Rattle.std.specs.Int.{byte_len, from_le_bytes, cast_signed};
+ghost use Rattle.zf_spec.specs.Stream.{raw, values_from};
 
+use crate::bytes::word_of;
 use zf_base::Lane;
 
 /// How many bytes a raw value has.
@@ -16,14 +17,14 @@ pub(crate) fn value_len<T: Lane>() -> usize
 }
 
 /// Makes values of raw bytes.
-pub(crate) fn put_values<T: Lane>(raw: &[u8], values: &mut [T])
-    requires { length raw.now ≡ length values.old * byte_len T.width }
-    ensures { map T.value values.new ≡ values_from T.width (length values.new) raw.now }
+pub(crate) fn put_values<T: Lane>(bytes: &[u8], values: &mut [T])
+    requires { length bytes.now ≡ length values.old * byte_len T.width }
+    ensures { map T.value values.new ≡ values_from T.width (length values.new) bytes.now }
 {
     let len = value_len::<T>();
     for i in 0..values.len() {
         let start = i * len;
-        values[i] = value_of::<T>(&raw[start..start + len]);
+        values[i] = value_of::<T>(&bytes[start..start + len]);
     }
 }
 
@@ -35,12 +36,14 @@ fn value_of<T: Lane>(bytes: &[u8]) -> T
     T::from_word(word_of(bytes))
 }
 
-/// The number that has these bytes, the least significant first.
-fn word_of(bytes: &[u8]) -> u64
-    requires { length bytes.now ≤ 8 }
-    ensures { result ≡ from_le_bytes w64 (first_bytes 8 bytes.now) }
+/// Makes raw bytes of values.
+pub(crate) fn put_raw<T: Lane>(values: &[T], bytes: &mut [u8])
+    requires { length bytes.old ≡ length values.now * byte_len T.width }
+    ensures { bytes.new ≡ raw T.width (map T.value values.now) }
 {
-    let mut all = [0; 8];
-    all[..bytes.len()].copy_from_slice(bytes);
-    u64::from_le_bytes(all)
+    let len = value_len::<T>();
+    for i in 0..values.len() {
+        let start = i * len;
+        bytes[start..start + len].copy_from_slice(&values[i].to_word().to_le_bytes()[..len]);
+    }
 }

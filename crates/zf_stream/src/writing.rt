@@ -1,12 +1,16 @@
 //! Words of a stream on their way to a sink.
 
-ghost use Rattle.std.specs.Prelude.{◌≡◌, ◌≤◌, ◌<◌, ◌*◌, ◌+◌, ◌≢◌, ◌^◌, All, length, Err, OnOk, OnErr, IfErr};
+ghost use Rattle.std.specs.Prelude.{◌≡◌, ◌≤◌, ◌<◌, ◌*◌, ◌+◌, ◌≢◌, ◌^◌, All, map, length, Err, OnOk, OnErr, IfErr};
+ghost use Rattle.zf_spec.specs.Stream.{raw};
 ghost use Rattle.zf_dev.specs.Faults.{HasCause};
 ghost use Rattle.zf_dev.specs.Sink.{Appends, AppendsFront};
 ghost use Rattle.zf_stream.specs.Flows.{bytes_in, Flows, Spills};
 ghost use Rattle.zf_stream.specs.declared.fault.StreamFault.TheVariants.{Write};
 
 use crate::StreamFault;
+use crate::bytes::put_bytes;
+use crate::values::{put_raw, value_len};
+use zf_base::Lane;
 use zf_bits::{BitWriter, get_bits};
 use zf_dev::{Sink, write_all};
 
@@ -67,12 +71,26 @@ pub(crate) fn write_bytes<O: Sink>(bytes: &[u8], out: &mut O) -> Result<(), Stre
     }
 }
 
-/// Makes bytes of words, the least significant byte of each first.
-fn put_bytes(words: &[u64], bytes: &mut [u8])
-    requires { length bytes.old ≡ 8 * length words.now }
-    ensures { bytes.new ≡ bytes_in words.now }
+/// Writes values as raw bytes, by way of `piece`.
+pub(crate) fn write_values<T: Lane, O: Sink>(
+    values: &[T],
+    piece: &mut [u8],
+    out: &mut O,
+) -> Result<(), StreamFault>
+    requires { 8 ≤ length piece.old }
+    ensures ok { OnOk result (Appends (O.contents out.old) (O.contents out.new) (raw T.width (map T.value values.now))) }
+    ensures err { OnErr result (AppendsFront (O.contents out.old) (O.contents out.new) (raw T.width (map T.value values.now))) }
+    ensures fault { IfErr result (λ e. e ≡ Write) }
+    ensures cause { HasCause (result ≡ Err Write) (O.faults out.old) (O.faults out.new) }
 {
-    for i in 0..words.len() {
-        bytes[8 * i..8 * i + 8].copy_from_slice(&words[i].to_le_bytes());
+    let len = value_len::<T>();
+    let most = piece.len() / len;
+    let mut at = 0;
+    while at < values.len() {
+        let n = (values.len() - at).min(most);
+        put_raw(&values[at..at + n], &mut piece[..n * len]);
+        write_bytes(&piece[..n * len], out)?;
+        at += n;
     }
+    Ok(())
 }

@@ -1,5 +1,5 @@
 -- From what a call on a stream promises to what a command promises that hands it on.
-use Rattle.std.proofs.Common.{◌≡◌, ◌≢◌, ℕ, ℤ, List, [], ◌∷◌, Option, Some, None, Result, Ok, Err, ◌⊎◌, inl, inr, refl, ap, sym, subst, ◌∙◌}
+use Rattle.std.proofs.Common.{◌≡◌, ℕ, ℤ, List, [], ◌∷◌, Option, Some, None, Result, Ok, Err, ◌⊎◌, inl, inr, refl, ap, sym, subst, ◌∙◌}
 use Rattle.zf_dev.specs.Shelf.{Files}
 use Rattle.zf_dev.specs.Sink.{Appends, AppendsFront}
 use Rattle.zf_dev.proofs.Appending.{AppendsFront-none}
@@ -184,16 +184,16 @@ compress_front faults.Read text before now front none = front
 compress_front faults.Write text before now front none = front
 compress_front faults.Memory text before now front none = nothing_written before now (none refl)
 
-pub restore_front : (e : StreamFault) (text : List ℕ) (before now : Option (List ℕ)) → AppendsFront before now text → (e ≢ faults.Write → now ≡ before) → AppendsFront before now (restore_draft (fault_status e) text)
+pub restore_front : (e : StreamFault) (text : List ℕ) (before now : Option (List ℕ)) → AppendsFront before now text → (streams.IsBeforeWriting e → now ≡ before) → AppendsFront before now (restore_draft (fault_status e) text)
 restore_front (faults.RawShort m) text before now front none = front
 restore_front faults.RawLong text before now front none = front
-restore_front (faults.Header f) text before now front none = nothing_written before now (none (λ same. cc))
+restore_front (faults.Header f) text before now front none = nothing_written before now (none tt)
 restore_front (faults.Truncated b) text before now front none = front
 restore_front faults.Pad text before now front none = front
 restore_front faults.Trailing text before now front none = front
 restore_front faults.Read text before now front none = front
 restore_front faults.Write text before now front none = front
-restore_front faults.Memory text before now front none = nothing_written before now (none (λ same. cc))
+restore_front faults.Memory text before now front none = nothing_written before now (none tt)
 
 pub Behaves-fault : (c : Command) (answer : List ℕ → Result (Unit {0}) StreamFault) (text : List ℕ → List ℕ) (e : StreamFault) (src_before src_now out_before out_now : Option (List ℕ)) (shelf : Option Files) → IsStreaming c answer text
     → streams.Answers (Err e) src_before answer → streams.CanRefuse answer e → ((input : List ℕ) → src_before ≡ Some input → e ≡ faults.Memory → TakesMemory c (record { input = input; files = files_of shelf }))

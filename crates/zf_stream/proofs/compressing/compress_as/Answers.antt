@@ -8,26 +8,16 @@ use Rattle.zf_pad.proofs.Slabs.{all_rows, product-with_rows}
 use Rattle.zf_stream.specs.Raw.{compress_answer, stream_text}
 use Rattle.zf_stream.proofs.OnErrors.{on_err}
 use Rattle.zf_stream.proofs.Answering.{answer_of_memory, nothing_left}
-use Rattle.zf_stream.proofs.Slabwise.{slab_sizes}
+use Rattle.zf_stream.proofs.Slabwise.{are_pieces, slab_sizes}
 use Rattle.zf_stream.proofs.compressing.compress_as.Goals as goal
-
--- so many rows, or all
-whole_rows : (rows most all n : ℕ) → rows ≡ min most all → all ≡ n → most % 4 ≡ 0 → (rows % 4 ≡ 0) ⊎ (rows ≡ n)
-whole_rows rows most all n is same fours = ⊎_elim (λ lt. inl (omega arith)) (λ le. inr (omega arith)) (cases_lt most all)
 
 pub with_rows-slab-requires-clause-some : goal.with_rows-slab-requires-clause-some
 with_rows-slab-requires-clause-some g c =
-    let some = all_rows (λ n. 1 ≤ n) c.args.h.now.shape c.dims-dims.ensures.shape.some_dimension c.dims-dims.ensures.shape.not_zero in
-    omega (arith, some, c.min-rows.ensures, c.most_rows.ensures.some, c.rows_of.ensures)
+    (are_pieces c.args.h.now.shape c.min-rows.result c.most_rows.result c.rows_of.result c.dims-dims.ensures.shape c.min-rows.ensures c.rows_of.ensures c.most_rows.ensures.some c.most_rows.ensures.whole).some
 
 pub write_stream-requires-clause-rows : goal.write_stream-requires-clause-rows
 write_stream-requires-clause-rows g c =
-    let some = all_rows (λ n. 1 ≤ n) c.args.h.now.shape c.dims-dims.ensures.shape.some_dimension c.dims-dims.ensures.shape.not_zero in
-    record {
-      some = omega (arith, some, c.min-rows.ensures, c.most_rows.ensures.some, c.rows_of.ensures);
-      few = omega (arith, c.min-rows.ensures, c.rows_of.ensures);
-      whole = whole_rows c.min-rows.result c.most_rows.result c.rows_of.result (rows_of c.args.h.now.shape) c.min-rows.ensures c.rows_of.ensures c.most_rows.ensures.whole;
-    }
+    are_pieces c.args.h.now.shape c.min-rows.result c.most_rows.result c.rows_of.result c.dims-dims.ensures.shape c.min-rows.ensures c.rows_of.ensures c.most_rows.ensures.some c.most_rows.ensures.whole
 
 pub write_stream-requires-clause-raw : goal.write_stream-requires-clause-raw
 write_stream-requires-clause-raw g c =

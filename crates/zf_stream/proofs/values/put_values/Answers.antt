@@ -10,7 +10,7 @@ pub loop-i-preserved : goal.loop-i-preserved
 loop-i-preserved g c =
     let w = g.T.Lane.width in
     let i = c.loop-i.i in
-    let raw = c.args.raw.now in
+    let raw = c.args.bytes.now in
     let values = c.loop-i.values in
     let len = c.value_len-len.result in
     let At : ℕ → Type 0 = λ n. g.T.Lane.value c.value_of.result ≡ cast_signed w (from_le_bytes w (take n (drop (i * n) raw))) in
@@ -26,4 +26,4 @@ loop-i-preserved g c =
 pub returns : goal.returns
 returns g c =
     let all : c.loop-i.i ≡ length c.loop-i.values = omega (arith, c.loop-i-test.false) in
-    ap (map g.T.Lane.value) (sym (take_all c.loop-i.i c.loop-i.values (omega arith))) ∙ c.loop-i.invariant ∙ ap (λ n. values_from g.T.Lane.width n c.args.raw.now) all
+    ap (map g.T.Lane.value) (sym (take_all c.loop-i.i c.loop-i.values (omega arith))) ∙ c.loop-i.invariant ∙ ap (λ n. values_from g.T.Lane.width n c.args.bytes.now) all

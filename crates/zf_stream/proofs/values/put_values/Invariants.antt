@@ -4,4 +4,4 @@ use Rattle.zf_spec.specs.Stream.{values_from}
 use Rattle.zf_stream.proofs.values.put_values.Given as goal
 
 abbrev pub invariant-loop-i : goal.invariant-loop-i
-invariant-loop-i g l = map g.T.Lane.value (take l.i l.values) ≡ values_from g.T.Lane.width l.i l.raw
+invariant-loop-i g l = map g.T.Lane.value (take l.i l.values) ≡ values_from g.T.Lane.width l.i l.bytes

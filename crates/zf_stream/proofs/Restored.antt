@@ -1,0 +1,262 @@
+-- An array that is restored slab by slab: one slab more, and where it stops.
+use Rattle.std.proofs.Common.{◌≡◌, ◌≢◌, refl, sym, ap, subst, ◌∙◌, ℕ, zero, suc, ◌+◌, ◌-◌, ◌*◌, ◌/◌, ◌<◌, ◌≤◌, ◌⊎◌, inl, inr, ⊎_elim, Bool, false, ℤ, List, [], ◌∷◌, ◌++◌, map, length, get_or, take, drop, replicate, Option, Some, None, Result, Ok, Err, mul_comm, append_assoc, length-append, arith}
+use Rattle.std.proofs.lemmas.List.{append-nil, length-map, get_or_append_left}
+use Rattle.std.proofs.Math.Nat.{mul-add}
+use Rattle.zf_spec.specs.Grid.{product, grid, blocks, upto, block_of, blocks_of}
+use Rattle.zf_spec.specs.Stream.{to_bits}
+use Rattle.zf_spec.proofs.Counting.{get_or-map-upto, length-map-upto}
+use Rattle.zf_base.specs.Widths.{width_of}
+use Rattle.zf_pad.specs.Slabs.{rows_of, row_len, with_rows, IsSlab, first_block}
+use Rattle.zf_pad.proofs.Slabs.{product-rows, rows_of-grid, extent_of-slab, blocks-with_rows}
+use Rattle.zf_header.specs.declared.header.Header.{Header}
+use Rattle.zf_dev.specs.Source.{Takes, TakesSome, IsAtEnd}
+use Rattle.zf_dev.specs.Sink.{Appends, AppendsFront}
+use Rattle.zf_dev.proofs.Taking.{Takes-append}
+use Rattle.zf_dev.proofs.Appending.{Appends-none, Appends-append, AppendsFront-all, AppendsFront-append, AppendsFront-more}
+use Rattle.zf_stream.specs.declared.fault.StreamFault.{StreamFault}
+use Rattle.zf_stream.specs.declared.fault.StreamFault.TheVariants as faults
+use Rattle.zf_stream.specs.Raw.{raw_bytes}
+use Rattle.zf_stream.specs.Parsing.{read_code, read_codes, read_next, with_block, values_of_blocks, codes_answer, blocks_text, longest_codes}
+use Rattle.zf_stream.specs.Windows.{Window, left_of, Goes}
+use Rattle.zf_stream.specs.Restoring.{still, stream_from, ReadsSlab, CutsSlab, LacksSlab, blocks_of_rows, Restores, text_of_codes, answer_of_codes, LeavesRows, HasFault, Refuses}
+use Rattle.zf_stream.proofs.Enough.{ReadsAll, enough_for_all}
+use Rattle.zf_stream.proofs.Joining.{with_blocks, with_blocks-both, with_blocks-cut, with_blocks-found, read_codes-then, read_codes-cut_more}
+use Rattle.zf_stream.proofs.RawValues.{raw-append, raw_front}
+use Rattle.zf_stream.proofs.Slabwise.{with_shape, part_of, IsNext}
+use Rattle.zf_stream.proofs.SlabsBack.{counted_from, read_codes-slab, count_next, blocks_next, front_joined}
+use Rattle.zf_stream.proofs.TextOfParse.{read_codes_more}
+use Rattle.zf_stream.proofs.Windows.{Goes-none, Goes-next, to_bits-append}
+
+-- nothing is to come at the end
+pub still_none : (known : Option (List ℕ)) → IsAtEnd known → still known ≡ []
+still_none None ended = refl
+still_none (Some left) ended = ended
+
+-- ---- the numbers of blocks
+
+-- those of all rows, behind those of the first ones
+pub blocks_behind : (ns : List ℕ) (rows : ℕ) → IsSlab ns 0 rows → (n : ℕ) × (blocks ns ≡ first_block ns ((rows + 3) / 4) + n)
+blocks_behind ns rows slab =
+    let g = grid ns in
+    let axes : 1 ≤ length g = omega (arith, length-map ns (λ n. (n + 3) / 4), slab.some_axis) in
+    let k = (rows + 3) / 4 in
+    let m = rows_of g - k in
+    let all : rows_of g ≡ k + m = omega (arith, rows_of-grid ns slab.some_axis, slab.within) in
+    (row_len g * m, product-rows g axes ∙ ap (λ r. row_len g * r) all ∙ mul-add (row_len g) k m)
+
+pub all_blocks : (ns : List ℕ) → 1 ≤ length ns → first_block ns ((rows_of ns + 3) / 4) ≡ blocks ns
+all_blocks ns some =
+    let g = grid ns in
+    let axes : 1 ≤ length g = omega (arith, length-map ns (λ n. (n + 3) / 4), some) in
+    ap (λ r. row_len g * r) (sym (rows_of-grid ns some)) ∙ sym (product-rows g axes)
+
+-- ---- the codes of one slab more
+
+module _ (h : Header) (c here : ℕ) (slab : IsSlab h.shape c here) (values : List ℤ) (long : length values ≡ row_len h.shape * (4 * c)) (s t left1 : List Bool)
+    (read : read_codes h 0 (first_block h.shape ((4 * c + 3) / 4)) s ≡ Ok (blocks_of_rows h.shape (4 * c) values, left1)) where
+  b : ℕ
+  b = first_block h.shape c
+
+  front : read_codes h 0 (first_block h.shape c) (s ++ t) ≡ Ok (blocks_of_rows h.shape (4 * c) values, left1 ++ t)
+  front =
+      let down : (4 * c + 3) / 4 ≡ c = omega arith in
+      ap (λ k. read_codes h 0 (first_block h.shape k) (s ++ t)) (sym down) ∙ read_codes_more h 0 (first_block h.shape ((4 * c + 3) / 4)) s t (blocks_of_rows h.shape (4 * c) values, left1) read
+
+  behind_front : (n : ℕ) → read_codes h 0 (first_block h.shape c + n) (s ++ t) ≡ with_blocks (blocks_of_rows h.shape (4 * c) values) (read_codes h (first_block h.shape c) n (left1 ++ t))
+  behind_front n =
+      let place : 0 + first_block h.shape c ≡ first_block h.shape c = omega arith in
+      read_codes-then h 0 (first_block h.shape c) n (s ++ t) (blocks_of_rows h.shape (4 * c) values, left1 ++ t) front
+      ∙ ap (λ k. with_blocks (blocks_of_rows h.shape (4 * c) values) (read_codes h k n (left1 ++ t))) place
+
+  of_slab : read_codes h (first_block h.shape c) (blocks (with_rows here h.shape)) (left1 ++ t) ≡ counted_from (first_block h.shape c) (read_codes (part_of h here) 0 (blocks (with_rows here h.shape)) (left1 ++ t))
+  of_slab =
+      let place : first_block h.shape c ≡ first_block h.shape c + 0 = omega arith in
+      ap (λ k. read_codes h k (blocks (with_rows here h.shape)) (left1 ++ t)) place
+      ∙ read_codes-slab h (with_rows here h.shape) (first_block h.shape c) 0 (blocks (with_rows here h.shape)) (left1 ++ t) (λ j lt. extent_of-slab h.shape c here slab j (omega (arith, lt)))
+
+  pub codes_with_slab : (more : List ℤ) (left2 : List Bool) → length more ≡ row_len h.shape * here
+      → read_codes (part_of h here) 0 (blocks (with_rows here h.shape)) (left1 ++ t) ≡ Ok (blocks_of (with_rows here h.shape) more, left2)
+      → read_codes h 0 (first_block h.shape ((4 * c + here + 3) / 4)) (s ++ t) ≡ Ok (blocks_of_rows h.shape (4 * c + here) (values ++ more), left2)
+  codes_with_slab more left2 as_long as_read =
+      let bs = blocks_of_rows h.shape (4 * c) values in
+      let cs = blocks_of (with_rows here h.shape) more in
+      ap (λ k. read_codes h 0 k (s ++ t)) (count_next h.shape c here slab values more long as_long)
+      ∙ behind_front (blocks (with_rows here h.shape))
+      ∙ ap (with_blocks bs) (of_slab ∙ ap (counted_from (first_block h.shape c)) as_read)
+      ∙ with_blocks-both bs cs left2
+      ∙ ap (λ (ds : List (List ℤ)). Ok (ds, left2)) (sym (blocks_next h.shape c here slab values more long as_long))
+
+  -- they end too early
+  pub codes_cut : (block : ℕ) → read_codes (part_of h here) 0 (blocks (with_rows here h.shape)) (left1 ++ t) ≡ Err block → read_codes h 0 (blocks h.shape) (s ++ t) ≡ Err (first_block h.shape c + block)
+  codes_cut block cut =
+      let bs = blocks_of_rows h.shape (4 * c) values in
+      let n = blocks (with_rows here h.shape) in
+      let whole : IsSlab h.shape 0 (4 * c + here) = record { some_axis = slab.some_axis; within = omega (arith, slab.within); whole = ⊎_elim (λ e. inl (omega (arith, e))) (λ e. inr (omega (arith, e))) slab.whole } in
+      let behind = blocks_behind h.shape (4 * c + here) whole in
+      let rounded : (4 * c + here + 3) / 4 ≡ c + (here + 3) / 4 = omega arith in
+      let count : first_block h.shape ((4 * c + here + 3) / 4) ≡ first_block h.shape c + n =
+      ap (λ k. row_len (grid h.shape) * k) rounded ∙ mul-add (row_len (grid h.shape)) c ((here + 3) / 4) ∙ ap (λ k. first_block h.shape c + k) (sym (blocks-with_rows here h.shape slab.some_axis)) in
+      let all : blocks h.shape ≡ first_block h.shape c + (n + behind.0) = omega (arith, behind.1, count) in
+      ap (λ k. read_codes h 0 k (s ++ t)) all
+      ∙ behind_front (n + behind.0)
+      ∙ ap (with_blocks bs) (read_codes-cut_more h (first_block h.shape c) n behind.0 (left1 ++ t) (first_block h.shape c + block) (of_slab ∙ ap (counted_from (first_block h.shape c)) cut))
+      ∙ with_blocks-cut bs (first_block h.shape c + block)
+
+-- ---- the text
+
+-- the values of first rows are in front of it, whatever stands behind their codes
+pub text_front : (h : Header) (rows : ℕ) (values : List ℤ) (s t left : List Bool) → IsSlab h.shape 0 rows → length values ≡ row_len h.shape * rows
+    → read_codes h 0 (first_block h.shape ((rows + 3) / 4)) s ≡ Ok (blocks_of_rows h.shape rows values, left) → (rest : List ℕ) × (raw_bytes h values ++ rest ≡ text_of_codes h (s ++ t))
+text_front h rows values s t left slab long read =
+    let ns = h.shape in
+    let n = first_block ns ((rows + 3) / 4) in
+    let bs = blocks_of_rows ns rows values in
+    let zeros = replicate (longest_codes h) false in
+    let all = enough_for_all h (s ++ t) in
+    let behind = blocks_behind ns rows slab in
+    let place : 0 + n ≡ n = omega arith in
+    let front : read_codes h 0 n ((s ++ t) ++ zeros) ≡ Ok (bs, left ++ (t ++ zeros)) =
+    ap (read_codes h 0 n) (append_assoc s t zeros) ∙ read_codes_more h 0 n s (t ++ zeros) (bs, left) read in
+    let whole : with_blocks bs (read_codes h (0 + n) behind.0 (left ++ (t ++ zeros))) ≡ Ok all.all =
+    sym (read_codes-then h 0 n behind.0 ((s ++ t) ++ zeros) (bs, left ++ (t ++ zeros)) front) ∙ ap (λ k. read_codes h 0 k ((s ++ t) ++ zeros)) (sym behind.1) ∙ all.is in
+    let found = with_blocks-found bs (read_codes h (0 + n) behind.0 (left ++ (t ++ zeros))) all.all whole in
+    let joined = values_of_blocks ns all.all.0 in
+    let size = row_len ns * rows in
+    let first : take size joined ≡ values =
+    front_joined ns rows values all.all.0 slab long
+    (λ b lt. ap (λ (ds : List (List ℤ)). get_or ds b []) (sym found.1) ∙ get_or_append_left bs found.0 [] b (omega (arith, lt, length-map-upto (block_of ns values) n)) ∙ get_or-map-upto (block_of ns values) n b [] lt) in (
+      raw_bytes h (drop size joined),
+      ap (λ (vs : List ℤ). raw_bytes h vs ++ raw_bytes h (drop size joined)) (sym first) ∙ sym (raw_front (width_of h.ty) size joined) ∙ ap (blocks_text h) (sym all.is),
+    )
+
+-- ---- one slab more
+
+module _ (h : Header) (row here : ℕ) (next : IsNext h row here) {src0 mid out0 out1 : Option (List ℕ)} {w0 w1 : Window} (done : Restores h row src0 mid out0 out1 w0 w1) where
+  long_before : length done.values ≡ row_len h.shape * (4 * (row / 4))
+  long_before = done.long ∙ ap (λ r. row_len h.shape * r) (sym next.first)
+
+  codes_before : read_codes h 0 (first_block h.shape ((4 * (row / 4) + 3) / 4)) (stream_from w0 done.bytes) ≡ Ok (blocks_of_rows h.shape (4 * (row / 4)) done.values, left_of w1)
+  codes_before =
+      let P : ℕ → Type 0 = λ r. read_codes h 0 (first_block h.shape ((r + 3) / 4)) (stream_from w0 done.bytes) ≡ Ok (blocks_of_rows h.shape r done.values, left_of w1) in
+      subst P (sym next.first) done.codes
+
+  more_bytes : (bytes : List ℕ) → stream_from w0 done.bytes ++ to_bits bytes ≡ stream_from w0 (done.bytes ++ bytes)
+  more_bytes bytes = to_bits-append (left_of w0) done.bytes bytes
+
+  -- its codes were read
+  codes_read : {now : Option (List ℕ)} {w2 : Window} (values : List ℤ) (slab : ReadsSlab (part_of h here) mid now w1 w2 values) → length values ≡ row_len h.shape * here
+      → read_codes h 0 (first_block h.shape ((row + here + 3) / 4)) (stream_from w0 (done.bytes ++ slab.bytes)) ≡ Ok (blocks_of_rows h.shape (row + here) (done.values ++ values), left_of w2)
+  codes_read {now} {w2} values slab as_long =
+      let P : ℕ → Type 0 = λ r. read_codes h 0 (first_block h.shape ((r + here + 3) / 4)) (stream_from w0 (done.bytes ++ slab.bytes)) ≡ Ok (blocks_of_rows h.shape (r + here) (done.values ++ values), left_of w2) in
+      let of_bytes = codes_with_slab h (row / 4) here next.slab done.values long_before (stream_from w0 done.bytes) (to_bits slab.bytes) (left_of w1) codes_before values (left_of w2) as_long slab.codes in
+      subst P next.first (ap (read_codes h 0 (first_block h.shape ((4 * (row / 4) + here + 3) / 4))) (sym (more_bytes slab.bytes)) ∙ of_bytes)
+
+  whole_next : IsSlab h.shape 0 (row + here)
+  whole_next = record {
+    some_axis = next.slab.some_axis;
+    within = omega (arith, next.first, next.slab.within);
+    whole = ⊎_elim (λ e. inl (omega (arith, e, next.first))) (λ e. inr (omega (arith, e, next.first))) next.slab.whole;
+  }
+
+  long_next : (values : List ℤ) → length values ≡ row_len h.shape * here → length (done.values ++ values) ≡ row_len h.shape * (row + here)
+  long_next values as_long = length-append done.values values ∙ omega (arith, done.long, as_long) ∙ sym (mul-add (row_len h.shape) row here)
+
+  -- and its values written
+  pub slab_restored : {now out2 : Option (List ℕ)} {w2 : Window} (values : List ℤ) → ReadsSlab (part_of h here) mid now w1 w2 values → length values ≡ row_len h.shape * here → Appends out1 out2 (raw_bytes h values)
+      → Restores h (row + here) src0 now out0 out2 w0 w2
+  slab_restored {now} {out2} {w2} values slab as_long written =
+      let P : List ℕ → Type 0 = λ bs. Appends out0 out2 bs in
+      record {
+        whole = whole_next;
+        bytes = done.bytes ++ slab.bytes;
+        goes = Goes-next done.goes slab.goes;
+        values = done.values ++ values;
+        long = long_next values as_long;
+        codes = codes_read values slab as_long;
+        written = subst P (sym (raw-append (width_of h.ty) done.values values)) (Appends-append out0 out1 out2 (raw_bytes h done.values) (raw_bytes h values) done.written written);
+      }
+
+  -- or a front of them
+  pub slab_spilled : {now out2 : Option (List ℕ)} {w2 : Window} (values : List ℤ) → ReadsSlab (part_of h here) mid now w1 w2 values → length values ≡ row_len h.shape * here → AppendsFront out1 out2 (raw_bytes h values)
+      → LeavesRows h src0 now out0 out2 w0
+  slab_spilled {now} {out2} {w2} values slab as_long written =
+      let bytes = done.bytes ++ slab.bytes in
+      let all = done.values ++ values in
+      let text = text_front h (row + here) all (stream_from w0 bytes) [] (left_of w2) whole_next (long_next values as_long) (codes_read values slab as_long) in
+      let P : List ℕ → Type 0 = λ bs. AppendsFront out0 out2 bs in
+      let both = AppendsFront-append out0 out1 out2 (raw_bytes h done.values) (raw_bytes h values) done.written written in
+      record {
+        bytes = bytes;
+        taken = (Goes-next done.goes slab.goes).taken;
+        written = subst P (text.1 ∙ ap (text_of_codes h) (append-nil (stream_from w0 bytes)))
+            (AppendsFront-more out0 out2 (raw_bytes h all) text.0 (subst P (sym (raw-append (width_of h.ty) done.values values)) both));
+      }
+
+  -- its codes end too early
+  pub slab_cut : (now : Option (List ℕ)) (first : ℕ) (e : StreamFault) → first ≡ first_block h.shape (row / 4) → LacksSlab (part_of h here) first mid now w1 e → Refuses h src0 now w0 e
+  slab_cut now first (faults.Truncated number) is cut =
+      let bytes = done.bytes ++ cut.bytes in
+      let none : still now ≡ [] = still_none now cut.ended in
+      let number_is : first_block h.shape (row / 4) + cut.block ≡ number = omega (arith, is, cut.number_is) in
+      let codes : read_codes h 0 (blocks h.shape) (stream_from w0 bytes) ≡ Err number =
+      ap (read_codes h 0 (blocks h.shape)) (sym (more_bytes cut.bytes))
+      ∙ codes_cut h (row / 4) here next.slab done.values long_before (stream_from w0 done.bytes) (to_bits cut.bytes) (left_of w1) codes_before cut.block cut.codes ∙ ap Err number_is in
+      inl (record {
+        bytes = bytes;
+        taken = Takes-append src0 mid now done.bytes cut.bytes done.goes.taken cut.taken;
+        answer = ap (λ (more : List ℕ). answer_of_codes h w0.reader.at (stream_from w0 (bytes ++ more))) none
+            ∙ ap (λ (bs : List ℕ). answer_of_codes h w0.reader.at (stream_from w0 bs)) (append-nil bytes)
+            ∙ ap (codes_answer h (w0.reader.at + length (stream_from w0 bytes))) codes;
+      })
+  slab_cut now first faults.Read is lacks = inr (inl refl)
+  slab_cut now first (faults.RawShort n) is lacks = absurd lacks
+  slab_cut now first faults.RawLong is lacks = absurd lacks
+  slab_cut now first (faults.Header f) is lacks = absurd lacks
+  slab_cut now first faults.Pad is lacks = absurd lacks
+  slab_cut now first faults.Trailing is lacks = absurd lacks
+  slab_cut now first faults.Write is lacks = absurd lacks
+  slab_cut now first faults.Memory is lacks = absurd lacks
+
+-- some bytes were taken
+some_lacked : (part : Header) (first : ℕ) (src now : Option (List ℕ)) (w : Window) (e : StreamFault) → LacksSlab part first src now w e → TakesSome src now
+some_lacked part first src now w (faults.Truncated number) cut = (cut.bytes, cut.taken)
+some_lacked part first src now w faults.Read some = some
+some_lacked part first src now w (faults.RawShort n) lacks = absurd lacks
+some_lacked part first src now w faults.RawLong lacks = absurd lacks
+some_lacked part first src now w (faults.Header f) lacks = absurd lacks
+some_lacked part first src now w faults.Pad lacks = absurd lacks
+some_lacked part first src now w faults.Trailing lacks = absurd lacks
+some_lacked part first src now w faults.Write lacks = absurd lacks
+some_lacked part first src now w faults.Memory lacks = absurd lacks
+
+-- where the work stopped
+pub rows_left : (h : Header) (row : ℕ) {src0 mid now out0 out1 : Option (List ℕ)} {w0 w1 : Window} → Restores h row src0 mid out0 out1 w0 w1 → TakesSome mid now → LeavesRows h src0 now out0 out1 w0
+rows_left h row {src0} {mid} {now} {out0} {out1} {w0} {w1} done some =
+    let text = text_front h row done.values (stream_from w0 done.bytes) (to_bits some.0) (left_of w1) done.whole done.long done.codes in
+    let P : List ℕ → Type 0 = λ bs. AppendsFront out0 out1 bs in
+    record {
+      bytes = done.bytes ++ some.0;
+      taken = Takes-append src0 mid now done.bytes some.0 done.goes.taken some.1;
+      written = subst P (text.1 ∙ ap (text_of_codes h) (to_bits-append (left_of w0) done.bytes some.0))
+          (AppendsFront-more out0 out1 (raw_bytes h done.values) text.0 (AppendsFront-all out0 out1 (raw_bytes h done.values) done.written));
+    }
+
+pub slab_lacked : (h : Header) (row : ℕ) {src0 mid now out0 out1 : Option (List ℕ)} {w0 w1 : Window} → Restores h row src0 mid out0 out1 w0 w1 → (part : Header) (first : ℕ) (e : StreamFault) → LacksSlab part first mid now w1 e
+    → LeavesRows h src0 now out0 out1 w0
+slab_lacked h row {src0} {mid} {now} {out0} {out1} {w0} {w1} done part first e lacks = rows_left h row done (some_lacked part first mid now w1 e lacks)
+
+-- ---- the start, where no row is restored
+
+pub Restores-none : (h : Header) (src out : Option (List ℕ)) (w : Window) → 1 ≤ length h.shape → Restores h 0 src src out out w w
+Restores-none h src out w some =
+    let none : first_block h.shape ((0 + 3) / 4) ≡ 0 = omega (arith, mul_comm (row_len (grid h.shape)) 0) in
+    record {
+      whole = record { some_axis = some; within = omega arith; whole = inl refl };
+      bytes = [];
+      goes = Goes-none src w;
+      values = [];
+      long = omega (arith, mul_comm (row_len h.shape) 0);
+      codes = ap (λ k. read_codes h 0 k (stream_from w [])) none ∙ ap (λ (s : List Bool). Ok ([], s)) (append-nil (left_of w))
+          ∙ ap (λ k. Ok (map (block_of h.shape []) (upto k), left_of w)) (sym none);
+      written = Appends-none out;
+    }

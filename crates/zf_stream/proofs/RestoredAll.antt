@@ -1,0 +1,95 @@
+-- The end of an array that is restored slab by slab: the fill, and what follows.
+use Rattle.std.proofs.Common.{◌≡◌, ◌≢◌, refl, sym, ap, subst, ◌∙◌, ℕ, ◌+◌, ◌-◌, ◌*◌, ◌%◌, ◌≤◌, Bool, true, false, ℤ, List, [], ◌++◌, map, length, Option, Some, None, Result, Ok, Err, append_assoc, length-append, arith}
+use Rattle.std.proofs.lemmas.List.{append-nil}
+use Rattle.std.specs.Prelude.{OnOk, IfErr}
+use Rattle.zf_spec.specs.Grid.{product, blocks, upto, block_of, blocks_of}
+use Rattle.zf_spec.specs.Stream.{to_bits}
+use Rattle.zf_spec.proofs.Bytes.{length-to_bits}
+use Rattle.zf_pad.specs.Slabs.{rows_of}
+use Rattle.zf_pad.proofs.Slabs.{product-rows}
+use Rattle.zf_header.specs.declared.header.Header.{Header}
+use Rattle.zf_dev.specs.Source.{IsAtEnd}
+use Rattle.zf_stream.specs.declared.fault.StreamFault.{StreamFault}
+use Rattle.zf_stream.specs.Parsing.{read_codes, values_of_blocks, values_or_fault, fill_answer, codes_answer}
+use Rattle.zf_stream.specs.Windows.{Window, left_of, KnowsEnd, Refills}
+use Rattle.zf_stream.specs.Restoring.{still, stream_from, Restores, answer_of_codes, LeavesRows, HasFault, RestoresAll}
+use Rattle.zf_stream.proofs.Fill.{fill_place, fill_told, fill_not_good}
+use Rattle.zf_stream.proofs.Joined.{values_of_blocks-blocks}
+use Rattle.zf_stream.proofs.Restored.{all_blocks, still_none, rows_left}
+use Rattle.zf_stream.proofs.TextOfParse.{read_codes_more}
+use Rattle.zf_stream.proofs.Windows.{Goes-next, codes_refilled, to_bits-append}
+
+-- an answer by its two cases
+pub on_ok_of : (r : Result (Unit {0}) StreamFault) (P : Type 0) → (r ≡ Ok tt → P) → OnOk r P
+on_ok_of (Ok u) P f = f refl
+on_ok_of (Err e) P f = tt
+
+pub if_err_of : (r : Result (Unit {0}) StreamFault) (P : StreamFault → Type 0) → ((e : StreamFault) → r ≡ Err e → P e) → IfErr r P
+if_err_of (Ok u) P f = tt
+if_err_of (Err e) P f = f e refl
+
+module _ (h : Header) {src0 mid now out0 out : Option (List ℕ)} {w0 w1 w2 : Window} (done : Restores h (rows_of h.shape) src0 mid out0 out w0 w1) (refill : Refills mid now w1 w2) (ended : KnowsEnd w2 now)
+    (enough : w2.ended ≡ false → 64 ≤ length (left_of w2)) where
+  all_bytes : List ℕ
+  all_bytes = done.bytes ++ refill.bytes
+
+  -- the codes of all blocks were read
+  codes_all : read_codes h 0 (blocks h.shape) (stream_from w0 (done.bytes ++ refill.bytes)) ≡ Ok (blocks_of h.shape done.values, left_of w2)
+  codes_all =
+      let P : ℕ → Type 0 = λ n. read_codes h 0 n (stream_from w0 (done.bytes ++ refill.bytes)) ≡ Ok (map (block_of h.shape done.values) (upto n), left_of w2) in
+      subst P (all_blocks h.shape done.whole.some_axis) (codes_refilled h _ w0 done.bytes _ done.codes refill)
+
+  -- what is answered where more bytes follow
+  answer_with : (more : List ℕ) → answer_of_codes h w0.reader.at (stream_from w0 ((done.bytes ++ refill.bytes) ++ more)) ≡ values_or_fault done.values (fill_answer h w2.reader.at (left_of w2 ++ to_bits more))
+  answer_with more =
+      let bytes = done.bytes ++ refill.bytes in
+      let s = stream_from w0 bytes in
+      let left = left_of w2 ++ to_bits more in
+      let goes = Goes-next done.goes refill.goes in
+      let joined : s ++ to_bits more ≡ stream_from w0 (bytes ++ more) = to_bits-append (left_of w0) bytes more in
+      let all = w0.reader.at + length (stream_from w0 (bytes ++ more)) in
+      let read : read_codes h 0 (blocks h.shape) (stream_from w0 (bytes ++ more)) ≡ Ok (blocks_of h.shape done.values, left) =
+      ap (read_codes h 0 (blocks h.shape)) (sym joined) ∙ read_codes_more h 0 (blocks h.shape) s (to_bits more) (blocks_of h.shape done.values, left_of w2) codes_all in
+      let place : all - length left ≡ w2.reader.at + 64 * goes.moved = omega (arith, goes.place, ap length joined, length-append s (to_bits more), length-append (left_of w2) (to_bits more)) in
+      let same : (all - length left) % 64 ≡ w2.reader.at % 64 = omega (arith, place) in
+      ap (codes_answer h all) read
+      ∙ ap (λ (vs : List ℤ). values_or_fault vs (fill_answer h (all - length left) left)) (values_of_blocks-blocks h.shape done.values (done.long ∙ sym (product-rows h.shape done.whole.some_axis)))
+      ∙ ap (values_or_fault done.values) (fill_place h (all - length left) w2.reader.at left same)
+
+  -- the window tells it
+  told : fill_answer h w2.reader.at (left_of w2 ++ to_bits (still now)) ≡ fill_answer h w2.reader.at (left_of w2)
+  told = by w2.ended ended enough
+    where
+      by : (known : Bool) → (known ≡ true → IsAtEnd now) → (known ≡ false → 64 ≤ length (left_of w2)) → fill_answer h w2.reader.at (left_of w2 ++ to_bits (still now)) ≡ fill_answer h w2.reader.at (left_of w2)
+      by true at_end many =
+          ap (λ (bs : List ℕ). fill_answer h w2.reader.at (left_of w2 ++ to_bits bs)) (still_none now (at_end refl)) ∙ ap (fill_answer h w2.reader.at) (append-nil (left_of w2))
+      by false at_end many = fill_told h w2.reader.at (left_of w2) (to_bits (still now)) (many refl)
+
+  -- the stream is good, so the source is at its end
+  pub restores_all : fill_answer h w2.reader.at (left_of w2) ≡ Ok tt → RestoresAll h src0 now out0 out w0
+  restores_all good =
+      let bytes = done.bytes ++ refill.bytes in
+      record {
+        bytes = bytes;
+        taken = (Goes-next done.goes refill.goes).taken;
+        ended = by w2.ended ended enough;
+        values = done.values;
+        good = ap (λ (bs : List ℕ). answer_of_codes h w0.reader.at (stream_from w0 bs)) (sym (append-nil bytes)) ∙ answer_with []
+            ∙ ap (λ (s : List Bool). values_or_fault done.values (fill_answer h w2.reader.at s)) (append-nil (left_of w2)) ∙ ap (values_or_fault done.values) good;
+        written = done.written;
+      }
+    where
+      by : (known : Bool) → (known ≡ true → IsAtEnd now) → (known ≡ false → 64 ≤ length (left_of w2)) → IsAtEnd now
+      by true at_end many = at_end refl
+      by false at_end many = absurd (fill_not_good h w2.reader.at (left_of w2) (many refl) good)
+
+  -- or it has this fault
+  pub has_fault : (e : StreamFault) → fill_answer h w2.reader.at (left_of w2) ≡ Err e → HasFault h src0 now w0 e
+  has_fault e fault = record {
+    bytes = done.bytes ++ refill.bytes;
+    taken = (Goes-next done.goes refill.goes).taken;
+    answer = answer_with (still now) ∙ ap (values_or_fault done.values) (told ∙ fault);
+  }
+
+  pub all_left : LeavesRows h src0 now out0 out w0
+  all_left = rows_left h (rows_of h.shape) done (refill.bytes, refill.goes.taken)

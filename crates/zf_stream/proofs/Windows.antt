@@ -1,0 +1,137 @@
+-- The bits of a window, as its words are moved and more are put behind them.
+use Rattle.std.proofs.Common.{◌≡◌, refl, sym, ap, ◌∙◌, ℕ, ◌+◌, ◌-◌, ◌*◌, ◌/◌, ◌%◌, ◌<◌, ◌≤◌, false, Bool, List, [], ◌∷◌, ◌++◌, length, take, drop, replicate, get_or, ℤ, Option, Result, Ok, append_assoc, length-append, take-append-drop, take_at, drop_at, arith}
+use Rattle.std.proofs.lemmas.List.{drop-take, drop-drop, take-append-le, drop-append-le, length-take-le, length-drop, append-nil}
+use Rattle.std.proofs.lemmas.Grind.{flat_map-append}
+use Rattle.std.proofs.Math.Seq.{take-append-add}
+use Rattle.zf_spec.specs.Numbers.{field, word_bits}
+use Rattle.zf_spec.specs.Stream.{to_bits}
+use Rattle.zf_spec.proofs.Bytes.{length-to_bits}
+use Rattle.zf_spec.proofs.WordBits.{length-word_bits}
+use Rattle.zf_bits.specs.Packing.{words_from}
+use Rattle.zf_bits.proofs.Packed.{word_bits-words_from}
+use Rattle.zf_dev.specs.Source.{Takes}
+use Rattle.zf_dev.proofs.Taking.{Takes-none, Takes-append}
+use Rattle.zf_stream.specs.Windows.{Window, left_of, Goes, Refills}
+use Rattle.zf_header.specs.declared.header.Header.{Header}
+use Rattle.zf_stream.specs.Parsing.{read_codes}
+use Rattle.zf_stream.specs.Restoring.{stream_from}
+use Rattle.zf_stream.proofs.TextOfParse.{read_codes_more}
+use Rattle.zf_stream.proofs.WordBytes.{word_bits-take, word_bits-drop}
+
+-- ---- words moved to the front
+
+pub bits_moved : (words new : List ℕ) (bits at first end : ℕ) → take (end - first) new ≡ take (end - first) (drop first words) → end - first ≤ length new → end ≤ length words
+    → bits ≡ 64 * end → 64 * first ≤ at → at ≤ bits
+    → drop (at - 64 * first) (take (bits - 64 * first) (word_bits new)) ≡ drop at (take bits (word_bits words))
+bits_moved words new bits at first end same within whole bits_are before in_bits =
+    let n = end - first in
+    let first_in : first ≤ end = omega arith in
+    let count : bits - 64 * first ≡ 64 * n = omega arith in
+    let all : 64 * first + 64 * n ≡ bits = omega arith in
+    let place : 64 * first + (at - 64 * first) ≡ at = omega arith in
+    let bits_of : List Bool = word_bits words in
+    ap (λ k. drop (at - 64 * first) (take k (word_bits new))) count
+    ∙ ap (drop (at - 64 * first))
+    (sym (word_bits-take n new within) ∙ ap word_bits same ∙ word_bits-take n (drop first words) (omega (arith, length-drop first words))
+    ∙ ap (take (64 * n)) (word_bits-drop first words (omega arith))
+    ∙ sym (drop-take (64 * first) (64 * n) bits_of)
+    ∙ ap (λ k. drop (64 * first) (take k bits_of)) all)
+    ∙ drop-drop (at - 64 * first) (64 * first) (take bits bits_of)
+    ∙ ap (λ k. drop k (take bits bits_of)) place
+
+-- ---- words put behind
+
+pub bits_put : (words rest s : List ℕ) (bits held k : ℕ) → bits ≡ 64 * held → held ≤ length words → length s ≤ 8 * k → ((i : ℕ) → get_or s i 0 < 256)
+    → take (bits + 8 * length s) (word_bits (take held words ++ (words_from k s ++ rest))) ≡ take bits (word_bits words) ++ to_bits s
+bits_put words rest s bits held k bits_are within fits bytes =
+    let front = take bits (word_bits words) in
+    let zeros = replicate (64 * k - 8 * length s) false in
+    let more = zeros ++ word_bits rest in
+    let old : word_bits (take held words) ≡ front = word_bits-take held words within ∙ ap (λ n. take n (word_bits words)) (sym bits_are) in
+    let long : length front ≡ bits = length-take-le bits (word_bits words) (omega (arith, length-word_bits words)) in
+    let size : length front + length (to_bits s) ≡ bits + 8 * length s = omega (arith, long, length-to_bits s) in
+    let parts : word_bits (take held words ++ (words_from k s ++ rest)) ≡ front ++ (to_bits s ++ more) =
+    flat_map-append (field 64) (take held words) (words_from k s ++ rest)
+    ∙ ap (λ (bs : List Bool). bs ++ word_bits (words_from k s ++ rest)) old
+    ∙ ap (λ (bs : List Bool). front ++ bs)
+    (flat_map-append (field 64) (words_from k s) rest ∙ ap (λ (bs : List Bool). bs ++ word_bits rest) (word_bits-words_from k s fits bytes) ∙ append_assoc (to_bits s) zeros (word_bits rest)) in
+    ap (take (bits + 8 * length s)) (parts ∙ sym (append_assoc front (to_bits s) more))
+    ∙ take_at (front ++ to_bits s) more (bits + 8 * length s) (length-append front (to_bits s) ∙ size)
+
+-- ---- one step after another
+
+pub Goes-none : (src : Option (List ℕ)) (w : Window) → Goes src src w w []
+Goes-none src w = record {
+  taken = Takes-none src;
+  moved = 0;
+  place = omega (arith, ap length (append-nil (left_of w)));
+}
+
+pub Goes-next : {a b c : Option (List ℕ)} {u v w : Window} {xs ys : List ℕ} → Goes a b u v xs → Goes b c v w ys → Goes a c u w (xs ++ ys)
+Goes-next {a} {b} {c} {u} {v} {w} {xs} {ys} first next = record {
+  taken = Takes-append a b c xs ys first.taken next.taken;
+  moved = first.moved + next.moved;
+  place = omega (
+    arith,
+    first.place,
+    next.place,
+    length-append (left_of u) (to_bits xs),
+    length-append (left_of v) (to_bits ys),
+    length-append (left_of u) (to_bits (xs ++ ys)),
+    length-to_bits xs,
+    length-to_bits ys,
+    length-to_bits (xs ++ ys),
+    length-append xs ys,
+  );
+}
+
+pub to_bits-append : (s : List Bool) (xs ys : List ℕ) → (s ++ to_bits xs) ++ to_bits ys ≡ s ++ to_bits (xs ++ ys)
+to_bits-append s xs ys = append_assoc s (to_bits xs) (to_bits ys) ∙ ap (λ (bs : List Bool). s ++ bs) (sym (flat_map-append (field 8) xs ys))
+
+pub Refills-none : (src : Option (List ℕ)) (w : Window) → Refills src src w w
+Refills-none src w = record { bytes = []; goes = Goes-none src w; bits = sym (append-nil (left_of w)); room = refl }
+
+pub Refills-next : {a b c : Option (List ℕ)} {u v w : Window} → Refills a b u v → Refills b c v w → Refills a c u w
+Refills-next {a} {b} {c} {u} {v} {w} first next = record {
+  bytes = first.bytes ++ next.bytes;
+  goes = Goes-next first.goes next.goes;
+  bits = next.bits ∙ ap (λ (bs : List Bool). bs ++ to_bits next.bytes) first.bits ∙ to_bits-append (left_of u) first.bytes next.bytes;
+  room = next.room ∙ first.room;
+}
+
+-- words that were read are gone
+pub Refills-moved : (src : Option (List ℕ)) (u v : Window) → left_of v ≡ left_of u → v.room ≡ u.room → v.reader.at ≡ u.reader.at % 64 → Refills src src u v
+Refills-moved src u v same room place = record {
+  bytes = [];
+  goes = record {
+    taken = Takes-none src;
+    moved = u.reader.at / 64;
+    place = omega (arith, place, ap length same, ap length (append-nil (left_of u)));
+  };
+  bits = same ∙ sym (append-nil (left_of u));
+  room = room;
+}
+
+-- bytes were put behind
+unfoldable pub Refills-put : (a b : Option (List ℕ)) (u v : Window) (bytes : List ℕ) → Takes a b bytes → v.reader.all ≡ u.reader.all ++ to_bits bytes → v.reader.at ≡ u.reader.at → u.reader.at ≤ length u.reader.all → v.room ≡ u.room
+    → Refills a b u v
+Refills-put a b u v bytes taken all place within room =
+    let bits : left_of v ≡ left_of u ++ to_bits bytes = ap (drop v.reader.at) all ∙ ap (λ k. drop k (u.reader.all ++ to_bits bytes)) place ∙ drop-append-le u.reader.at u.reader.all (to_bits bytes) within in
+    record {
+      bytes = bytes;
+      goes = record { taken = taken; moved = 0; place = omega (arith, place, ap length bits) };
+      bits = bits;
+      room = room;
+    }
+
+-- bits that are held were read
+pub Goes-read : {a b : Option (List ℕ)} {u v w : Window} {xs : List ℕ} → Goes a b u v xs → w.reader.at + length (left_of w) ≡ v.reader.at + length (left_of v) → Goes a b u w xs
+Goes-read {a} {b} {u} {v} {w} {xs} goes read = record { taken = goes.taken; moved = goes.moved; place = omega (arith, goes.place, read) }
+
+-- what was read of the bits so far is read of them with those behind
+pub codes_refilled : (h : Header) (n : ℕ) (w : Window) (bytes : List ℕ) (blocks : List (List ℤ)) {a b : Option (List ℕ)} {u v : Window} → read_codes h 0 n (stream_from w bytes) ≡ Ok (blocks, left_of u) → (refill : Refills a b u v)
+    → read_codes h 0 n (stream_from w (bytes ++ refill.bytes)) ≡ Ok (blocks, left_of v)
+codes_refilled h n w bytes blocks {a} {b} {u} {v} read refill =
+    ap (read_codes h 0 n) (sym (to_bits-append (left_of w) bytes refill.bytes))
+    ∙ read_codes_more h 0 n (stream_from w bytes) (to_bits refill.bytes) (blocks, left_of u) read
+    ∙ ap (λ (s : List Bool). Ok (blocks, s)) (sym refill.bits)

@@ -1,0 +1,30 @@
+use Rattle.std.proofs.Common.{◌≡◌, inl, inr, Ok, Err, ap, sym, subst, ◌∙◌}
+use Rattle.std.proofs.lemmas.Result.{err_from_is_err_and}
+use Rattle.zf_pad.specs.Slabs.{rows_of}
+use Rattle.zf_bits.specs.Reader.{rest}
+use Rattle.zf_stream.specs.Parsing.{fill_answer}
+use Rattle.zf_stream.specs.Windows.{left_of}
+use Rattle.zf_stream.proofs.OnErrors.{on_err}
+use Rattle.zf_stream.proofs.Restored.{rows_left}
+use Rattle.zf_stream.proofs.RestoredAll.{on_ok_of, if_err_of, restores_all, has_fault, all_left}
+use Rattle.zf_stream.proofs.restoring.restore_rows.Goals as goal
+
+pub returns-in_err-reach-clause-err : goal.returns-in_err-reach-clause-err
+returns-in_err-reach-clause-err g c =
+    on_err c.from_residual-in_err-reach.result _ (rows_left c.args.h.now (rows_of c.args.h.now.shape) c.in_ok-restore_slabs.ensures.ok c.in_err-reach.ensures.taken)
+
+pub returns-clause-ok : goal.returns-clause-ok
+returns-clause-ok g c =
+    let h = c.args.h.now in
+    let is : c.check_fill.result ≡ fill_answer h c.reach.new.self.reader.at (left_of c.reach.new.self) = c.check_fill.ensures ∙ ap (λ r. fill_answer h r.at (rest r)) c.reader.ensures in
+    on_ok_of c.check_fill.result _ (λ good. restores_all h c.in_ok-restore_slabs.ensures.ok c.in_ok-reach.ensures.ok c.in_ok-reach.ensures.ended c.in_ok-reach.ensures.enough (sym is ∙ good))
+
+pub returns-clause-err : goal.returns-clause-err
+returns-clause-err g c =
+    on_err c.check_fill.result _ (all_left c.args.h.now c.in_ok-restore_slabs.ensures.ok c.in_ok-reach.ensures.ok c.in_ok-reach.ensures.ended c.in_ok-reach.ensures.enough)
+
+pub returns-clause-refused : goal.returns-clause-refused
+returns-clause-refused g c =
+    let h = c.args.h.now in
+    let is : c.check_fill.result ≡ fill_answer h c.reach.new.self.reader.at (left_of c.reach.new.self) = c.check_fill.ensures ∙ ap (λ r. fill_answer h r.at (rest r)) c.reader.ensures in
+    if_err_of c.check_fill.result _ (λ e fault. inl (has_fault h c.in_ok-restore_slabs.ensures.ok c.in_ok-reach.ensures.ok c.in_ok-reach.ensures.ended c.in_ok-reach.ensures.enough e (sym is ∙ fault)))

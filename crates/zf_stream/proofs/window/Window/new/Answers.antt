@@ -1,0 +1,12 @@
+use Rattle.std.proofs.Common.{◌≡◌, ℕ, ◌+◌, ◌*◌, length, take, ap, sym, ◌∙◌, arith, rules}
+use Rattle.std.proofs.lemmas.List.{with_items_is, places}
+use Rattle.zf_spec.specs.Numbers.{word_bits}
+use Rattle.zf_stream.proofs.window.Window.new.Goals as goal
+
+pub returns-clause-bits : goal.returns-clause-bits
+returns-clause-bits c =
+    let front = c.args.front.now in
+    let new = c.put_words_at.new.words in
+    let count : 8 * length front ≡ 64 * 0 + 8 * length front = omega arith in
+    ap (λ ws. take (8 * length front) (word_bits ws)) (with_items_is c.in_ok-words.words new (search (rules, places)))
+    ∙ ap (λ n. take n (word_bits new)) count ∙ c.put_words_at.ensures.bits

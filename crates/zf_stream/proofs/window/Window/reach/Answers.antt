@@ -1,0 +1,29 @@
+use Rattle.std.proofs.Common.{◌≡◌, ℕ, ◌+◌, ◌-◌, ◌*◌, ◌%◌, ◌<◌, ◌≤◌, length, Option, refl, ap, sym, ◌∙◌, arith}
+use Rattle.zf_dev.proofs.Taking.{Takes-append}
+use Rattle.zf_stream.specs.Windows.{Window, left_of, KnowsEnd, Refills}
+use Rattle.zf_stream.proofs.OnErrors.{on_err}
+use Rattle.zf_stream.proofs.Windows.{Refills-none, Refills-next, Refills-moved}
+use Rattle.zf_stream.proofs.window.Window.reach.Goals as goal
+
+pub loop-self-init : goal.loop-self-init
+loop-self-init g c = record {
+  refills = Refills-moved (g.S.Source.contents c.args.src.now) c.args.self.now c.move_down.new.self c.move_down.ensures.bits c.move_down.ensures.room c.move_down.ensures.place;
+  place = omega (arith, c.move_down.ensures.place);
+  ended = λ is. c.requires.ended (sym c.move_down.ensures.ended ∙ is);
+  faults = omega arith;
+  sure = λ sure. sure;
+}
+
+pub loop-self-preserved : goal.loop-self-preserved
+loop-self-preserved g c = record {
+  refills = Refills-next c.loop-self.invariant.refills c.in_ok-append.ensures.ok;
+  place = omega (arith, c.in_ok-append.ensures.place, c.loop-self.invariant.place);
+  ended = c.in_ok-append.ensures.ended;
+  faults = omega (arith, c.loop-self.invariant.faults, c.append.ensures.cause.0);
+  sure = λ sure. (c.append.ensures.sure (c.loop-self.invariant.sure sure)).1;
+}
+
+pub returns-in_err-append-clause-taken : goal.returns-in_err-append-clause-taken
+returns-in_err-append-clause-taken g c =
+    let more = c.in_err-append.ensures.taken in
+    on_err c.from_residual.result _ (_, Takes-append _ _ _ _ _ c.loop-self.invariant.refills.goes.taken more.1)

@@ -1,0 +1,98 @@
+-- An array that is restored slab by slab: how far its codes were read, and its values written. The codes are those of the bits that were left in a window,
+-- and of the bytes that were taken of the source behind them.
+use Rattle.std.specs.Prelude.{ℕ, ◌≡◌, ◌+◌, ◌*◌, ◌/◌, ◌⊎◌, ℤ, Bool, false, List, [], ◌++◌, map, length, replicate, Option, Some, None, Result, Ok, Err}
+use Rattle.zf_spec.specs.Grid.{blocks, upto, block_of, blocks_of}
+use Rattle.zf_spec.specs.Stream.{to_bits}
+use Rattle.zf_pad.specs.Slabs.{rows_of, row_len, IsSlab, first_block}
+use Rattle.zf_header.specs.declared.header.Header.{Header}
+use Rattle.zf_dev.specs.Source.{Takes, TakesSome, IsAtEnd}
+use Rattle.zf_dev.specs.Sink.{Appends, AppendsFront}
+use Rattle.zf_stream.specs.declared.fault.StreamFault.{StreamFault}
+use Rattle.zf_stream.specs.declared.fault.StreamFault.TheVariants as faults
+use Rattle.zf_stream.specs.Raw.{raw_bytes}
+use Rattle.zf_stream.specs.Parsing.{read_codes, codes_answer, blocks_text, longest_codes}
+use Rattle.zf_stream.specs.Windows.{Window, left_of, Goes}
+
+-- bytes in front of what is still to come of a device
+abbrev pub behind : List ℕ → Option (List ℕ) → Option (List ℕ)
+behind front None = None
+behind front (Some left) = Some (front ++ left)
+
+-- what is still to come, as far as the device tells it
+abbrev pub still : Option (List ℕ) → List ℕ
+still None = []
+still (Some left) = left
+
+-- the bits of a window that were left, and those of bytes behind them
+abbrev pub stream_from : Window → List ℕ → List Bool
+stream_from window bytes = left_of window ++ to_bits bytes
+
+-- ---- a slab, which is an array of its own
+
+-- its codes were read, which are those of these values
+pub record ReadsSlab (part : Header) (src_before src_now : Option (List ℕ)) (old new : Window) (values : List ℤ) : Type 0 where
+  pub bytes : List ℕ
+  pub goes : Goes src_before src_now old new bytes
+  pub codes : read_codes part 0 (blocks part.shape) (stream_from old bytes) ≡ Ok (blocks_of part.shape values, left_of new)
+
+-- the source ends within the code of this block of the array, of which the slab's blocks are those from the first on
+pub record CutsSlab (part : Header) (first number : ℕ) (src_before src_now : Option (List ℕ)) (old : Window) : Type 0 where
+  pub bytes : List ℕ
+  pub taken : Takes src_before src_now bytes
+  pub ended : IsAtEnd src_now
+  pub block : ℕ
+  pub number_is : number ≡ first + block
+  pub codes : read_codes part 0 (blocks part.shape) (stream_from old bytes) ≡ Err block
+
+abbrev pub LacksSlab : Header → ℕ → Option (List ℕ) → Option (List ℕ) → Window → StreamFault → Type 0
+LacksSlab part first src_before src_now old (faults.Truncated number) = CutsSlab part first number src_before src_now old
+LacksSlab part first src_before src_now old faults.Read = TakesSome src_before src_now
+LacksSlab part first src_before src_now old e = ⊥
+
+-- ---- the array
+
+-- the blocks of its first rows
+abbrev pub blocks_of_rows : List ℕ → ℕ → List ℤ → List (List ℤ)
+blocks_of_rows ns rows values = map (block_of ns values) (upto (first_block ns ((rows + 3) / 4)))
+
+-- the codes of its first rows were read, and their values written
+pub record Restores (h : Header) (rows : ℕ) (src_before src_now out_before out_now : Option (List ℕ)) (old new : Window) : Type 0 where
+  pub whole : IsSlab h.shape 0 rows
+  pub bytes : List ℕ
+  pub goes : Goes src_before src_now old new bytes
+  pub values : List ℤ
+  pub long : length values ≡ row_len h.shape * rows
+  pub codes : read_codes h 0 (first_block h.shape ((rows + 3) / 4)) (stream_from old bytes) ≡ Ok (blocks_of_rows h.shape rows values, left_of new)
+  pub written : Appends out_before out_now (raw_bytes h values)
+
+-- the raw values that are read of bits continued with zeros
+abbrev pub text_of_codes : Header → List Bool → List ℕ
+text_of_codes h s = blocks_text h (read_codes h 0 (blocks h.shape) (s ++ replicate (longest_codes h) false))
+
+-- what is answered for bits of which so many came before
+abbrev pub answer_of_codes : Header → ℕ → List Bool → Result (List ℤ) StreamFault
+answer_of_codes h before s = codes_answer h (before + length s) (read_codes h 0 (blocks h.shape) s)
+
+-- some bytes were taken, and a front of the text was written
+pub record LeavesRows (h : Header) (src_before src_now out_before out_now : Option (List ℕ)) (old : Window) : Type 0 where
+  pub bytes : List ℕ
+  pub taken : Takes src_before src_now bytes
+  pub written : AppendsFront out_before out_now (text_of_codes h (stream_from old bytes))
+
+-- the fault of all that was to come, unless it is one of a device
+pub record HasFault (h : Header) (src_before src_now : Option (List ℕ)) (old : Window) (e : StreamFault) : Type 0 where
+  pub bytes : List ℕ
+  pub taken : Takes src_before src_now bytes
+  pub answer : answer_of_codes h old.reader.at (stream_from old (bytes ++ still src_now)) ≡ Err e
+
+abbrev pub Refuses : Header → Option (List ℕ) → Option (List ℕ) → Window → StreamFault → Type 0
+Refuses h src_before src_now old e = HasFault h src_before src_now old e ⊎ ((e ≡ faults.Read) ⊎ (e ≡ faults.Write))
+
+-- all that was to come was taken and is good, and its text was written
+pub record RestoresAll (h : Header) (src_before src_now out_before out_now : Option (List ℕ)) (old : Window) : Type 0 where
+  pub bytes : List ℕ
+  pub taken : Takes src_before src_now bytes
+  pub ended : IsAtEnd src_now
+  pub values : List ℤ
+  pub good : answer_of_codes h old.reader.at (stream_from old bytes) ≡ Ok values
+  pub written : Appends out_before out_now (raw_bytes h values)

@@ -1,0 +1,62 @@
+//! Reading from a source: as many bytes as are wanted, and then the end.
+
+ghost use Rattle.std.specs.Prelude.{◌≡◌, ◌≢◌, ◌≤◌, ◌<◌, ◌+◌, ◌^◌, [], length, take, IsOk, Err, IfOk, IfErr, OnOk, OnErr};
+ghost use Rattle.zf_dev.specs.Source.{TakesSome, TakesAtMost, Takes, IsAtEnd};
+ghost use Rattle.zf_dev.specs.Faults.{HasCause};
+ghost use Rattle.zf_stream.specs.Outcomes.{TakesFirst};
+ghost use Rattle.zf_stream.specs.ReadRaw.{LacksRaw, GoesOn};
+ghost use Rattle.zf_stream.specs.declared.fault.StreamFault.TheVariants.{Read};
+
+use crate::StreamFault;
+use zf_dev::{Source, fill};
+
+/// Fills `raw` with the next bytes, of which `before` came before.
+pub(crate) fn read_raw<S: Source>(
+    before: u64,
+    raw: &mut [u8],
+    src: &mut S,
+) -> Result<(), StreamFault>
+    requires fits { before + length raw.old < 2 ^ 64 }
+    ensures ok { OnOk result (Takes (S.contents src.old) (S.contents src.new) raw.new) }
+    ensures err { IfErr result (LacksRaw before (length raw.old) (S.contents src.old) (S.contents src.new)) }
+    ensures cause { HasCause (result ≡ Err Read) (S.faults src.old) (S.faults src.new) }
+    ensures sure { S.never_fails src.old → (result ≢ Err Read) × S.never_fails src.new }
+{
+    let count = read_into(src, raw)?;
+    if count < raw.len() {
+        return Err(StreamFault::RawShort(before + count as u64));
+    }
+    Ok(())
+}
+
+/// Reads the end of the source, before which no byte is to come.
+pub(crate) fn read_end<S: Source>(src: &mut S) -> Result<(), StreamFault>
+    ensures ok { OnOk result (Takes (S.contents src.old) (S.contents src.new) [] × IsAtEnd (S.contents src.new)) }
+    ensures err { IfErr result (GoesOn (S.contents src.old) (S.contents src.new)) }
+    ensures cause { HasCause (result ≡ Err Read) (S.faults src.old) (S.faults src.new) }
+    ensures sure { S.never_fails src.old → (result ≢ Err Read) × S.never_fails src.new }
+{
+    let mut more = [0];
+    let count = read_into(src, &mut more)?;
+    if count > 0 {
+        return Err(StreamFault::RawLong);
+    }
+    Ok(())
+}
+
+/// Reads until `buf` is full or the source is at its end.
+pub(crate) fn read_into<S: Source>(src: &mut S, buf: &mut [u8]) -> Result<usize, StreamFault>
+    ensures bound { IfOk result (λ n. n ≤ length buf.old) }
+    ensures first { IfOk result (λ n. TakesFirst (length buf.old) (S.contents src.old) (S.contents src.new) (take n buf.new)) }
+    ensures end { IfOk result (λ n. n < length buf.old → IsAtEnd (S.contents src.new)) }
+    ensures lost { OnErr result (TakesAtMost (S.contents src.old) (S.contents src.new) (length buf.old)) }
+    ensures some { TakesSome (S.contents src.old) (S.contents src.new) }
+    ensures fault { IfErr result (λ e. e ≡ Read) }
+    ensures cause { HasCause (result ≡ Err Read) (S.faults src.old) (S.faults src.new) }
+    ensures sure { S.never_fails src.old → IsOk result × S.never_fails src.new }
+{
+    match fill(src, buf) {
+        Ok(count) => Ok(count),
+        Err(_) => Err(StreamFault::Read),
+    }
+}

@@ -1,0 +1,158 @@
+//! A window of a stream's words, which is filled from a source.
+
+ghost use Rattle.std.specs.Prelude.{◌≡◌, ◌≢◌, ◌≤◌, ◌<◌, ◌+◌, ◌*◌, ◌^◌, ◌%◌, true, false, [], length, Err, IfOk, IfErr, OnOk, OnErr};
+ghost use Rattle.std.specs.Int.{div_ceil};
+ghost use Rattle.zf_spec.specs.Stream.{to_bits};
+ghost use Rattle.zf_dev.specs.Faults.{HasCause};
+ghost use Rattle.zf_dev.specs.Source.{TakesSome};
+ghost use Rattle.zf_stream.specs.Windows.{left_of, KnowsEnd, Refills};
+ghost use Rattle.zf_stream.specs.declared.fault.StreamFault.TheVariants.{Read};
+
+use crate::StreamFault;
+use crate::bytes::put_words_at;
+use crate::reading::read_into;
+use std::alloc::{AllocError, Global};
+use std::marker::Model;
+use zf_bits::BitReader;
+use zf_dev::Source;
+
+/// How many bytes are taken from a source before its window is made: whole words, and the longest header lies in them.
+pub(crate) const FRONT: usize = 24;
+
+// The words of the front, and one that may have been read in part.
+const SPARE: usize = 4;
+
+/// Bits of a stream that are held, of which some were read. Contracts see them with the place, and whether the source is known to be at its end.
+#[derive(Drop)]
+pub(crate) struct Window {
+    words: Vec<u64>,
+    bits: u64,
+    at: u64,
+    ended: bool,
+}
+
+impl Model for Window {
+    ghost use Rattle.std.specs.Prelude.{◌≡◌, ◌*◌, ◌<◌, ◌≤◌, ◌%◌, ◌^◌, false, length, take};
+    ghost use Rattle.zf_spec.specs.Numbers.{word_bits};
+    ghost use Rattle.zf_stream.specs.Windows.{Window, IsHeld};
+
+    ghost Value = { Window };
+
+    ghost view = { λ w. record { reader = record { all = take w.bits (word_bits w.words.items); at = w.at }; room = length w.words.items; ended = w.ended } };
+
+    ghost invariant = { λ w. IsHeld w.words.items w.bits w.at w.ended };
+}
+
+impl Window {
+    /// A window that holds the first bytes of a source, all of them where there are fewer than 24, and stands at bit `at`.
+    /// It has room for `most` bits and those before them.
+    pub(crate) fn new(alloc: Global, most: u64, front: &[u8], at: u64) -> Result<Window, AllocError>
+        requires few { length front.now ≤ 24 }
+        requires within { at ≤ 8 * length front.now }
+        requires small { most ≤ 2 ^ 40 }
+        ensures bits { IfOk result (λ w. w.reader.all ≡ to_bits front.now) }
+        ensures place { IfOk result (λ w. w.reader.at ≡ at) }
+        ensures room { IfOk result (λ w. most + 64 ≤ 64 * w.room) }
+        ensures ended { IfOk result (λ w. w.ended ≡ true → length front.now < 24) }
+    {
+        let count = most.div_ceil(64) as usize + SPARE;
+        let mut words = vec![in alloc; 0; count]?;
+        put_words_at(front, &mut words, 0);
+        Ok(Window {
+            words,
+            bits: 8 * front.len() as u64,
+            at,
+            ended: front.len() < FRONT,
+        })
+    }
+
+    /// The bits that are held, at the place.
+    pub(crate) fn reader(&self) -> BitReader<'_>
+        ensures { result ≡ self.now.reader }
+    {
+        let mut reader = BitReader::new(&self.words, self.bits);
+        reader.seek(self.at);
+        reader
+    }
+
+    /// Goes to a place.
+    pub(crate) fn go_to(&mut self, at: u64)
+        requires { at ≤ length self.old.reader.all }
+        ensures { self.new ≡ record self.old { reader = record self.old.reader { at = at } } }
+    {
+        self.at = at;
+    }
+
+    /// Sees to it that `need` bits are held that are not read yet, or all that the source still gives.
+    pub(crate) fn reach<S: Source>(
+        &mut self,
+        need: u64,
+        piece: &mut [u8],
+        src: &mut S,
+    ) -> Result<(), StreamFault>
+        requires room { need + 64 ≤ 64 * self.old.room }
+        requires piece { 8 ≤ length piece.old }
+        requires ended { KnowsEnd self.old (S.contents src.old) }
+        ensures ok { OnOk result (Refills (S.contents src.old) (S.contents src.new) self.old self.new) }
+        ensures ended { OnOk result (KnowsEnd self.new (S.contents src.new)) }
+        ensures enough { OnOk result (self.new.ended ≡ false → need ≤ length (left_of self.new)) }
+        ensures fault { IfErr result (λ e. e ≡ Read) }
+        ensures taken { OnErr result (TakesSome (S.contents src.old) (S.contents src.new)) }
+        ensures cause { HasCause (result ≡ Err Read) (S.faults src.old) (S.faults src.new) }
+        ensures sure { S.never_fails src.old → (result ≢ Err Read) × S.never_fails src.new }
+    {
+        if self.left() < need && !self.ended {
+            self.move_down();
+            while self.left() < need && !self.ended {
+                self.append(piece, src)?;
+            }
+        }
+        Ok(())
+    }
+
+    // How many bits are held that are not read yet.
+    fn left(&self) -> u64
+        ensures count { result ≡ length (left_of self.now) }
+        ensures within { self.now.reader.at + result ≡ length self.now.reader.all }
+    {
+        self.bits - self.at
+    }
+
+    // Moves the words that are not read yet to the front.
+    fn move_down(&mut self)
+        requires { self.old.ended ≡ false }
+        ensures bits { left_of self.new ≡ left_of self.old }
+        ensures room { self.new.room ≡ self.old.room }
+        ensures ended { self.new.ended ≡ self.old.ended }
+        ensures place { self.new.reader.at ≡ self.old.reader.at % 64 }
+    {
+        let first = self.at / 64;
+        let end = self.bits / 64;
+        self.words.copy_within(first as usize..end as usize, 0);
+        self.bits -= 64 * first;
+        self.at -= 64 * first;
+    }
+
+    // Appends a piece of what the source still gives, as far as there is room.
+    fn append<S: Source>(&mut self, piece: &mut [u8], src: &mut S) -> Result<(), StreamFault>
+        requires going { self.old.ended ≡ false }
+        requires room { length self.old.reader.all < 64 * self.old.room }
+        requires piece { 8 ≤ length piece.old }
+        ensures ok { OnOk result (Refills (S.contents src.old) (S.contents src.new) self.old self.new) }
+        ensures place { OnOk result (self.new.reader.at ≡ self.old.reader.at) }
+        ensures ended { OnOk result (KnowsEnd self.new (S.contents src.new)) }
+        ensures more { OnOk result (self.new.ended ≡ false → length (left_of self.old) < length (left_of self.new)) }
+        ensures fault { IfErr result (λ e. e ≡ Read) }
+        ensures taken { OnErr result (TakesSome (S.contents src.old) (S.contents src.new)) }
+        ensures cause { HasCause (result ≡ Err Read) (S.faults src.old) (S.faults src.new) }
+        ensures sure { S.never_fails src.old → (result ≢ Err Read) × S.never_fails src.new }
+    {
+        let held = (self.bits / 64) as usize;
+        let most = 8 * (self.words.len() - held).min(piece.len() / 8);
+        let count = read_into(src, &mut piece[..most])?;
+        put_words_at(&piece[..count], &mut self.words, held);
+        self.bits += 8 * count as u64;
+        self.ended = count < most;
+        Ok(())
+    }
+}
