@@ -120,33 +120,6 @@ impl<'a, T: Lane, const D: usize> View<'a, T, D> {
         }
     }
 
-    /// As `elems`, of a view that is not used again: what the iterator leaves is what the array has.
-    ///
-    /// ```text
-    /// for value in View::bind(&mut array, window).into_elems() {
-    ///     sum += i64::from(value);
-    /// }
-    /// ```
-    pub fn into_elems(self) -> ElemIter<'a, T, D>
-        requires { LiesIn (shape self.array.now) self.window }
-        ensures same_array { result.array.ghost_name ≡ self.entry.array.ghost_name }
-        ensures array { result.array.now ≡ self.entry.array.now }
-        ensures window { result.window ≡ self.entry.window }
-        ensures first { result.next ≡ 0 }
-        ensures can_next { IsAtElem result }
-    {
-        let View { array, window } = self;
-        // a window has no more positions than its array has values, so that they can be counted
-        let _values = array.shape().values();
-        let end = window.count();
-        ElemIter {
-            array,
-            window,
-            next: 0,
-            end,
-        }
-    }
-
     /// The value at position `p` of the window, to be read and written. No touch is made yet.
     pub fn elem(&mut self, p: Pos) -> ElemMut<'_, T, D>
         requires lies { LiesIn (shape self.old.array.now) self.old.window }

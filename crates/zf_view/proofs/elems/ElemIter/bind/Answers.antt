@@ -2,12 +2,12 @@ use Rattle.std.proofs.Common.{ap, arith}
 use Rattle.zf_spec.specs.Grid.{product}
 use Rattle.zf_array.specs.Standing.{shape}
 use Rattle.zf_view.proofs.Raster.{product_window}
-use Rattle.zf_view.proofs.view.View.into_elems.Goals as goal
+use Rattle.zf_view.proofs.elems.ElemIter.bind.Goals as goal
 
 pub count-end-requires : goal.count-end-requires
 count-end-requires g c =
-    let view = c.args.self in
-    omega (arith, product_window (shape view.array.now) view.window c.requires, ap product c.shape.ensures.value, c.values-values.ensures.value, c.values-values.ensures.bound)
+    let array = c.args.array.now in
+    omega (arith, product_window (shape array) c.args.window c.requires, ap product c.shape.ensures.value, c.values-values.ensures.value, c.values-values.ensures.bound)
 
 pub returns-clause-can_next : goal.returns-clause-can_next
 returns-clause-can_next g c = record {
