@@ -3,6 +3,8 @@
 ghost use Rattle.std.specs.Prelude.{◌≡◌, ◌-◌, Some, IfSome};
 ghost use Rattle.std.specs.Iterator.{UpTo};
 ghost use Rattle.std.specs.Iterator.SizeHint.{IsWithinCount};
+ghost use Rattle.zf_cached.specs.Windows.{LiesIn};
+ghost use Rattle.zf_array.specs.Standing.{shape};
 
 use crate::window::Window;
 use std::iter::FusedIterator;
@@ -18,6 +20,36 @@ pub struct ElemIter<'a, T: Lane, const D: usize> {
     // the number of the next position, and how many there are
     pub(crate) next: u64,
     pub(crate) end: u64,
+}
+
+impl<'a, T: Lane, const D: usize> ElemIter<'a, T, D> {
+    ghost use Rattle.zf_view.specs.Elems.{IsAtElem};
+
+    /// The values of an array in a window that lies in it, as `View::elems` gives them.
+    ///
+    /// ```text
+    /// for value in ElemIter::bind(&mut array, window) {
+    ///     sum += i64::from(value);
+    /// }
+    /// ```
+    pub fn bind(array: &'a mut Array<T, D>, window: Window) -> ElemIter<'a, T, D>
+        requires { LiesIn (shape array.old) window }
+        ensures same_array { result.array.ghost_name ≡ array.entry.ghost_name }
+        ensures array { result.array.now ≡ array.old }
+        ensures window { result.window ≡ window }
+        ensures first { result.next ≡ 0 }
+        ensures can_next { IsAtElem result }
+    {
+        // a window has no more positions than its array has values, so that they can be counted
+        let _values = array.shape().values();
+        let end = window.count();
+        ElemIter {
+            array,
+            window,
+            next: 0,
+            end,
+        }
+    }
 }
 
 impl<'a, T: Lane, const D: usize> Iterator for ElemIter<'a, T, D> {

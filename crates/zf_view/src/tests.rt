@@ -3,6 +3,7 @@
 ghost use Rattle.std.specs.Prelude.{◌≡◌, length, IfOk};
 ghost use Rattle.zf_cached.specs.Windows.{LiesIn};
 ghost use Rattle.zf_array.specs.Standing.{shape};
+ghost use Rattle.zf_view.specs.Runs.{x_step};
 
 use super::*;
 use std::alloc::Global;
@@ -194,5 +195,99 @@ fn a_view_and_its_array_see_one_state(rt: HostRuntime) -> Result<(), Fail> {
     assert_eq!(rt; array.get(last), 7);
     let stats = array.stats();
     assert_eq!(rt; (stats.hits, stats.misses, stats.writes), (8, 1, 0));
+    Ok(())
+}
+
+fn place(x: u64) -> Pos {
+    Pos {
+        x,
+        y: 0,
+        z: 0,
+        w: 0,
+    }
+}
+
+// The window of the six places from place 1 on, of an array of one dimension.
+fn six_places(rt: &impl Abort, array: &Array<i32, 1>) -> Window
+    ensures lies { LiesIn (shape array.now) result }
+    ensures step { x_step result ≡ 1 }
+{
+    let shape = array.shape();
+    assert_eq!(rt; shape.dims(), 1);
+    let origin = Pos {
+        x: 1,
+        y: 0,
+        z: 0,
+        w: 0,
+    };
+    let sizes = Pos {
+        x: 6,
+        y: 1,
+        z: 1,
+        w: 1,
+    };
+    match Window::new(&shape, origin, sizes, Pos { x: 1, ..sizes }) {
+        Ok(part) => part,
+        Err(_) => panic!(rt; "no window"),
+    }
+}
+
+// The length of the run that is lent from place `x` of the window on. Its first value is made `v`.
+fn lend(rt: &impl Abort, array: &mut Array<i32, 1>, x: u64, v: i32) -> usize {
+    let part = six_places(rt, array);
+    let p = place(x);
+    assert!(rt; part.contains(p));
+    let mut view = View::bind(array, part);
+    let run = view.run_mut(p);
+    if let Some(first) = run.first_mut() {
+        *first = v;
+    }
+    run.len()
+}
+
+// The value at place `x` of the window is raised by `v`.
+fn raise(rt: &impl Abort, array: &mut Array<i32, 1>, x: u64, v: i32) {
+    let part = six_places(rt, array);
+    let p = place(x);
+    assert!(rt; part.contains(p));
+    let mut view = View::bind(array, part);
+    let mut elem = view.elem(p);
+    let value = elem.value_mut();
+    *value = value.wrapping_add(v);
+}
+
+fn value(rt: &impl Abort, array: &mut Array<i32, 1>, x: u64) -> i32 {
+    let p = place(x);
+    assert!(rt; array.shape().contains(p));
+    array.get(p)
+}
+
+#[test]
+fn runs_and_values_are_lent(rt: HostRuntime) -> Result<(), Fail> {
+    let shape = Shape::new(1, 8, 1, 1, 1).ok().ok_or("a shape")?;
+    assert_eq!(rt; shape.dims(), 1);
+    let mut array = Array::<i32, 1>::new(rt.alloc(), shape, 64, 2)?;
+    // each run ends with its block or with the window
+    let runs = [
+        (0, 9, 3),
+        (3, 9, 3),
+        (1, 0, 2),
+        (2, 0, 1),
+        (4, 0, 2),
+        (5, 0, 1),
+    ];
+    for (x, v, len) in runs {
+        assert_eq!(rt; lend(&rt, &mut array, x, v), len);
+    }
+    let stats = array.stats();
+    assert_eq!(rt; (stats.hits, stats.misses, stats.writes), (4, 2, 0));
+    let wanted = [0, 9, 0, 0, 9, 0, 0, 0];
+    for x in 0..8usize {
+        assert_eq!(rt; value(&rt, &mut array, x as u64), wanted[x]);
+    }
+    raise(&rt, &mut array, 3, 5);
+    assert_eq!(rt; value(&rt, &mut array, 4), 14);
+    let stats = array.stats();
+    assert_eq!(rt; (stats.hits, stats.misses, stats.writes), (14, 2, 0));
     Ok(())
 }

@@ -1,0 +1,3 @@
+-- Lemmas on sums of windows.
+--     Sums   the values of a window summed so far
+pub mod Sums
