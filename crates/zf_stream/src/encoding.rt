@@ -9,6 +9,7 @@ ghost use Rattle.zf_base.specs.Widths.{width_of};
 ghost use Rattle.zf_base.specs.Positions.{used_axes, IsExtent};
 ghost use Rattle.zf_bits.specs.Writer.{Appends};
 ghost use Rattle.zf_header.specs.HeaderBits.{coding};
+ghost use Rattle.zf_pad.specs.Rasters.{IsRaster};
 ghost use Rattle.zf_dev.specs.Faults.{HasCause};
 ghost use Rattle.zf_stream.specs.Flows.{Flows, Spills};
 ghost use Rattle.zf_stream.specs.Parsing.{longest_code};
@@ -22,6 +23,7 @@ use zf_bits::BitWriter;
 use zf_block::Scratch;
 use zf_dev::Sink;
 use zf_header::{Header, Mode};
+use zf_pad::Layout;
 
 /// Appends the codes of all blocks, in order. Where as many as `most` bits are at hand, whole words are written.
 pub(crate) fn write_codes<T: Lane, O: Sink>(
@@ -52,8 +54,9 @@ pub(crate) fn write_codes<T: Lane, O: Sink>(
     ensures scratch { s.new ≡ s.old }
     ensures cause { HasCause (result ≡ Err Write) (O.faults out.old) (O.faults out.new) }
 {
+    let layout = Layout::raster(&h.shape);
     for b in 0..h.shape.blocks() {
-        write_code(h, values, b, block, s, codes);
+        write_code(h, &layout, values, b, block, s, codes);
         write_where_many(codes, most, piece, out)?;
     }
     Ok(())
@@ -84,6 +87,7 @@ fn write_where_many<O: Sink>(
 /// Appends the code of block `b`, whose values are gathered in `block`.
 fn write_code<T: Lane>(
     h: &Header,
+    layout: &Layout,
     values: &[T],
     b: u64,
     block: &mut [T],
@@ -91,6 +95,7 @@ fn write_code<T: Lane>(
     codes: &mut BitWriter,
 )
     requires same_type { T.width ≡ width_of h.now.ty }
+    requires layout { IsRaster h.now.shape layout.now }
     requires all { length values.now ≡ product h.now.shape }
     requires in_array { b < blocks h.now.shape }
     requires whole { length block.old ≡ 4 ^ length h.now.shape }
@@ -102,7 +107,7 @@ fn write_code<T: Lane>(
 {
     // Known by this call: there are one to four dimensions.
     let _dims = h.shape.dims();
-    let e = zf_pad::gather_block(&h.shape, b, values, block);
+    let e = zf_pad::gather_block(&h.shape, layout, b, values, block);
     encode(h, &e, block, s, codes);
 }
 
