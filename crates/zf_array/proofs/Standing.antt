@@ -1,25 +1,23 @@
 -- An array stands for the state that its cache and its store stand for.
-use Rattle.std.proofs.Common.{◌≡◌, ◌≢◌, ◌⊎◌, inl, inr, refl, sym, ap, subst, ◌∙◌, ℕ, ◌+◌, ◌*◌, ◌/◌, ◌%◌, ◌^◌, ◌<◌, ◌≤◌, ◌==◌, ℤ, pos, Bool, true, false, Option, Some, None, List, map, length, get_or, replicate, arith}
+use Rattle.std.proofs.Common.{◌≡◌, ◌≢◌, ◌⊎◌, inl, inr, refl, sym, ap, subst, ◌∙◌, ℕ, ◌^◌, ◌<◌, ◌≤◌, ℤ, Bool, true, false, Some, None, List, map, length, get_or, replicate, arith}
 use Rattle.std.specs.Int.{Width}
-use Rattle.std.proofs.Math.Path.{fun_ext}
 use Rattle.std.proofs.lemmas.Bool.{cases_lt, cases_Bool, eqb-true}
-use Rattle.std.proofs.lemmas.List.{get_or_past, length-replicate}
-use Rattle.zf_spec.specs.Grid.{IsShape, upto, blocks, max_values}
-use Rattle.zf_spec.proofs.Counting.{length-map-upto, get_or-map-upto, map-get_or-upto, map-upto_same}
+use Rattle.std.proofs.lemmas.List.{get_or_past}
+use Rattle.zf_spec.specs.Grid.{IsShape, upto, blocks}
+use Rattle.zf_spec.proofs.Counting.{length-map-upto, get_or-map-upto, map-get_or-upto}
 use Rattle.zf_base.specs.Widths.{width_of}
-use Rattle.zf_base.specs.Formats.{Format, existing_of, meant}
+use Rattle.zf_base.specs.Formats.{meant}
 use Rattle.zf_base.proofs.Sizes.{blocks_le}
 use Rattle.zf_header.specs.declared.header.Header.{Header}
-use Rattle.zf_header.specs.HeaderBits.{IsRate, block_bits, rate_bytes_of}
-use Rattle.zf_cached.specs.State.{State, is_block}
+use Rattle.zf_header.specs.HeaderBits.{IsRate, rate_bytes_of}
 use Rattle.zf_cached.specs.Changes.{zeros}
-use Rattle.zf_cached.specs.Arrays.{rate_coding, array_format}
+use Rattle.zf_cached.specs.Arrays.{rate_coding}
 use Rattle.zf_cached.proofs.Arrays.{meant-zeros}
 use Rattle.zf_cached.proofs.States.{same_state}
 use Rattle.zf_cache.specs.Kept.{Kept, HasBlocks, tag_at, block_in, line_of, is_dirty, dirty_tag}
 use Rattle.zf_cache.specs.Standing.{state_of, values_of, line_values, Fits}
 use Rattle.zf_cache.proofs.Tags.{names-dirty, is_block-other}
-use Rattle.zf_store.specs.Stored.{Stored, Frame, IsStore, code_at, format_of, frame_of, rate_of}
+use Rattle.zf_store.specs.Stored.{Stored, Frame, code_at, format_of, frame_of, rate_of}
 use Rattle.zf_store.proofs.Kept.{blocks_is, block_len_is}
 use Rattle.zf_array.specs.Standing.{Held, stored, format, state, array_of}
 use Rattle.zf_array.specs.Parts.{held_by, IsJoined}

@@ -1,8 +1,7 @@
 -- What the calls of an array do to its state.
-use Rattle.std.proofs.Common.{◌≡◌, refl, sym, ap, subst, ◌∙◌, ◌⊎◌, inl, inr, ℕ, ◌*◌, ◌%◌, ◌^◌, ◌<◌, ◌≤◌, ℤ, pos, Bool, true, false, Option, Some, None, List, [], map, length, get_or, set, replicate, ◌==◌, arith}
-use Rattle.std.specs.Int.{Width, w32, w64}
-use Rattle.std.specs.Bool.{OnTrue}
-use Rattle.std.proofs.lemmas.Bool.{OnTrue_at, cases_lt, ne_eqb}
+use Rattle.std.proofs.Common.{◌≡◌, refl, sym, ap, subst, ◌∙◌, ◌⊎◌, inl, inr, ℕ, ◌%◌, ◌^◌, ◌<◌, ◌≤◌, ℤ, Bool, true, false, List, [], map, length, get_or, set, replicate, ◌==◌, arith}
+use Rattle.std.specs.Int.{Width}
+use Rattle.std.proofs.lemmas.Bool.{cases_lt, ne_eqb}
 use Rattle.std.proofs.lemmas.List.{get_or_past, length-replicate, get_or-replicate}
 use Rattle.zf_spec.specs.Grid.{blocks, is_inside, indices, extent_of}
 use Rattle.zf_base.specs.declared.lane.Ty.{Ty}
@@ -11,16 +10,16 @@ use Rattle.zf_base.specs.declared.position.Pos.{Pos}
 use Rattle.zf_base.specs.Widths.{width_of}
 use Rattle.zf_base.specs.Positions.{used_axes, IsPosition}
 use Rattle.zf_base.specs.Places.{block_number, place_of, IsAt}
-use Rattle.zf_base.specs.Formats.{Format, existing_of, meant, with_at}
-use Rattle.zf_base.proofs.Formats.{existing_of-existing_of, existing_of-meant, existing_of-set, with_at-same}
+use Rattle.zf_base.specs.Formats.{Format, existing_of, meant}
+use Rattle.zf_base.proofs.Formats.{existing_of-existing_of, existing_of-meant, existing_of-set}
 use Rattle.zf_header.specs.declared.header.Header.{Header}
 use Rattle.zf_header.specs.declared.header.Mode.{Mode}
 use Rattle.zf_header.specs.declared.header.Mode.TheVariants.{Reversible, Rate, Precision}
 use Rattle.zf_spec.specs.Stream.{file, fixed_rate}
 use Rattle.zf_spec.proofs.Counting.{map-get_or-upto}
 use Rattle.zf_header.specs.HeaderBits.{IsRate, coding, block_bits}
-use Rattle.zf_cached.specs.State.{Counts, State, no_counts, own_line}
-use Rattle.zf_cached.specs.Touch.{write_back, write_back_line, hit, miss, touch, touch_for_writing, soiled, with_values}
+use Rattle.zf_cached.specs.State.{State, no_counts, own_line}
+use Rattle.zf_cached.specs.Touch.{write_back, hit, miss, touch, touch_for_writing, soiled, with_values}
 use Rattle.zf_cached.specs.Changes.{opened, raised, resized, zeros}
 use Rattle.zf_cached.specs.Arrays.{rate_coding, array_format, zero_codes, open_array, new_array, codes_of, saved_file}
 use Rattle.zf_cached.proofs.States.{same_state}
@@ -35,7 +34,7 @@ use Rattle.zf_store.specs.Stored as store
 use Rattle.zf_store.specs.Stored.{Stored, Frame, code_at, format_of, frame_of, rate_of}
 use Rattle.zf_array.specs.Standing.{Held, stored, format, state, array_of, block_at, place_at}
 use Rattle.zf_array.specs.Parts.{held_by, IsJoined}
-use Rattle.zf_array.proofs.Standing.{zero_meant, stored_held, state_held, stored_now, state_now, format_now, header_now, header_kept, joined_after, state_after}
+use Rattle.zf_array.proofs.Standing.{zero_meant, stored_held, state_held, state_now, format_now, header_now, header_kept, state_after}
 
 -- a type is known by its width
 pub same_ty : (s t : Ty) → width_of s ≡ width_of t → s ≡ t

@@ -3,7 +3,6 @@ use Rattle.std.specs.Prelude.{◌≡◌, ℕ, ◌+◌, ℤ, List, ◌++◌, map,
 use Rattle.std.specs.Borrow.{Fml, RattleType, MutBor, Array, Lends, follows_so}
 use mathlib.Core.Option.{none}
 use Rattle.zf_base.specs.Formats.{existing_of}
-use Rattle.zf_cached.specs.State.{State}
 use Rattle.zf_cached.specs.Touch.{touch_for_writing, with_values}
 use Rattle.std.specs.declared.cmp.PartialEq as PartialEq
 use Rattle.zf_base.specs.declared.lane.Lane as Lane

@@ -1,5 +1,5 @@
 -- What an array is seen as, and the one state that it stands for.
-use Rattle.std.specs.Prelude.{ℕ, ◌≡◌, ℤ, Bool, false, List, map, length, slice_index_or, Option, None}
+use Rattle.std.specs.Prelude.{ℕ, ℤ, Bool, false, List, map, length, slice_index_or, Option, None}
 use Rattle.zf_spec.specs.Grid.{upto, blocks}
 use Rattle.zf_base.specs.Positions.{used_axes}
 use Rattle.zf_base.specs.declared.position.Pos.{Pos}

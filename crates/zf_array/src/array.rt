@@ -128,8 +128,7 @@ impl<T: Lane, const D: usize> Array<T, D> {
             with_values t (block_at self.old p) (slice_set (t.values (block_at self.old p)) (place_at self.old p) (T.value v))) }
         ensures header { self.new.header ≡ self.old.header }
     {
-        let (b, place) = self.store.header().shape.place(p);
-        self.cache.set(&mut self.store, b, place, v);
+        *self.value_mut(p) = v;
     }
 
     /// Adds `v` to the value at position `p`, by one touch for writing. The sum wraps.

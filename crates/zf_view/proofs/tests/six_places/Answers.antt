@@ -1,4 +1,4 @@
-use Rattle.std.proofs.Common.{◌≡◌, ℕ, refl, sym, subst}
+use Rattle.std.proofs.Common.{◌≡◌, ℕ, refl, sym, subst, arith}
 use Rattle.zf_view.specs.WindowFields.{AreUnused}
 use Rattle.zf_view.proofs.tests.six_places.Goals as goal
 
@@ -8,4 +8,4 @@ line d a b c one =
     (record { origins = refl; sizes = refl; steps = refl })
 
 pub new-requires : goal.new-requires
-new-requires c = line _ _ _ _ (omega (arith, c))
+new-requires c = line _ _ _ _ (omega arith)

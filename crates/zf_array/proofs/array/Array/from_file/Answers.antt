@@ -1,29 +1,20 @@
-use Rattle.std.proofs.Common.{◌≡◌, refl, sym, ap, subst, ◌∙◌, ℕ, ◌<◌, ◌≤◌, ◌^◌, ◌*◌, pos, Bool, true, false, List, length, get_or, set, replicate, lit<, arith}
+use Rattle.std.proofs.Common.{◌≡◌, sym, ap, subst, ◌∙◌, ℕ, List, length}
 use Rattle.std.specs.Vec.{vec_len}
 use Rattle.zf_spec.specs.Grid.{blocks}
-use Rattle.zf_base.specs.Formats.{Format}
-use Rattle.zf_cached.specs.State.{State}
-use Rattle.zf_cached.specs.Touch.{touch, touch_for_writing, with_values}
-use Rattle.zf_cached.specs.Changes.{flush, discard, relined}
-use Rattle.zf_cache.specs.Steps.{put}
-use Rattle.zf_cache.specs.Standing.{state_of, values_of, Fits}
 use Rattle.zf_header.specs.declared.header.Header.{Header}
 use Rattle.zf_store.specs.Stored.{Stored, code_at, format_of}
-use Rattle.zf_store.proofs.Kept.{blocks_is}
 use Rattle.zf_spec.specs.Grid.{IsShape}
 use Rattle.zf_base.specs.Widths.{width_of}
-use Rattle.zf_header.specs.HeaderBits.{IsRate, block_bits, rate_bytes_of}
-use Rattle.zf_cached.specs.Changes.{opened, raised, resized}
+use Rattle.zf_header.specs.HeaderBits.{IsRate, rate_bytes_of}
+use Rattle.zf_cached.specs.Changes.{opened, raised}
 use Rattle.zf_cache.proofs.Steps.{empty_fits}
-use Rattle.zf_store.specs.Stored.{zeros}
 use Rattle.zf_store.specs.Files.{IsOpened}
 use Rattle.zf_store.proofs.Opened.{is_header}
 use Rattle.zf_array.specs.Parts.{held_by}
 use Rattle.zf_array.proofs.Standing.{stored_held}
-use Rattle.zf_array.proofs.Steps.{same_ty, open_is}
-use Rattle.zf_array.specs.Standing.{Held, stored, format, state, array_of, block_at, place_at}
-use Rattle.zf_array.proofs.Standing.{has_blocks, stored_now, state_now, header_now, joined_after, state_after}
-use Rattle.zf_array.proofs.Steps.{step, header_step, position_is, block_is, place_is, block_below, place_below, place_exists, whole_values, puts_is, opens, resizes}
+use Rattle.zf_array.proofs.Steps.{open_is}
+use Rattle.zf_array.specs.Standing.{stored, format, array_of}
+use Rattle.zf_array.proofs.Steps.{opens}
 use Rattle.zf_array.proofs.array.Array.from_file.Goals as goal
 
 pub invariant_of-result : goal.invariant_of-result

@@ -1,4 +1,4 @@
-use Rattle.std.proofs.Common.{◌≡◌, refl, sym, ap, ◌∙◌, ◌<◌, ◌≤◌, List, lit<, arith}
+use Rattle.std.proofs.Common.{refl, lit<}
 use Rattle.std.specs.Vec.{vec_len}
 use Rattle.zf_array.proofs.Lent.{tag_is, joined_lent, ends_as, shown, long, state_spliced, header_spliced}
 use Rattle.zf_array.proofs.array.Array.part_mut.Goals as goal

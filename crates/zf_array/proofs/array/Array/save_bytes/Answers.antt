@@ -1,4 +1,4 @@
-use Rattle.std.proofs.Common.{◌≡◌, refl, sym, ap, subst, ◌∙◌, length}
+use Rattle.std.proofs.Common.{refl, sym, ap, subst, ◌∙◌, length}
 use Rattle.zf_spec.specs.Grid.{blocks}
 use Rattle.zf_base.specs.Widths.{width_of}
 use Rattle.zf_header.specs.declared.header.Header.{Header}

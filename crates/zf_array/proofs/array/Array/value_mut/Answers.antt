@@ -1,12 +1,11 @@
-use Rattle.std.proofs.Common.{◌≡◌, refl, sym, ap, subst, ◌∙◌, ℕ, ◌+◌, ◌<◌, ◌≤◌, ◌^◌, ℤ, Bool, true, List, [], ◌∷◌, length, pos, get_or, set, lit<, arith}
+use Rattle.std.proofs.Common.{refl, sym, ap, subst, ◌∙◌, ℕ, ◌+◌, ◌<◌, ◌≤◌, ◌^◌, ℤ, Bool, List, [], ◌∷◌, pos, get_or, set, lit<, arith}
 use Rattle.std.specs.Vec.{vec_len}
 use Rattle.zf_base.specs.Formats.{Format}
-use Rattle.zf_header.specs.declared.header.Header.{Header}
 use Rattle.zf_cached.specs.State.{State}
 use Rattle.zf_cached.specs.Touch.{touch_for_writing, with_values}
 use Rattle.zf_cached.proofs.Caching.{touch_for_writing-dirty}
 use Rattle.zf_store.proofs.Kept.{blocks_is}
-use Rattle.zf_array.specs.Standing.{format, state, array_of, block_at, place_at}
+use Rattle.zf_array.specs.Standing.{format, state, array_of, block_at}
 use Rattle.zf_array.specs.Parts.{held_by}
 use Rattle.zf_array.proofs.Standing.{has_blocks, format_now, joined_after}
 use Rattle.zf_array.proofs.Steps.{step, header_step, position_is, block_is, place_is, block_below, place_below, place_exists}
