@@ -132,7 +132,7 @@ module _ (w : Width) (a : Held) (dim : ℕ) (is : IsArray w dim a) where
 
       pub added : (n m : ℤ) → m ≡ n → is_of_type w n ≡ true
           → state b ≡ (let t = touch_for_writing (format a) (state a) (block_at a p) in let old = t.values (block_at a p) in
-              with_values t (block_at a p) (set old (place_at a p) (wrap w (get_or old (place_at a p) (pos 0) +ℤ m))))
+          with_values t (block_at a p) (set old (place_at a p) (wrap w (get_or old (place_at a p) (pos 0) +ℤ m))))
           → Does w (Command.add (used_axes (length (shape a)) p) n) a v b v None
       unfolding done array_setting
       added n m same of_type changes =

@@ -51,11 +51,7 @@ impl<T: Lane, const D: usize> Target for Array<T, D> {
 }
 
 // What a command of each kind does. Each tests what it is refused for in the order of size, range, value and memory.
-fn answer<T: Lane, const D: usize>(
-    a: &mut Array<T, D>,
-    window: &mut Window,
-    cmd: Cmd,
-) -> Answer
+fn answer<T: Lane, const D: usize>(a: &mut Array<T, D>, window: &mut Window, cmd: Cmd) -> Answer
     requires array { IsArray T.width D a.old }
     requires inside { LiesIn (shape a.old) window.old }
     requires numbers { cmd ≡ cmd_of (command_of (length (shape a.old)) cmd) }

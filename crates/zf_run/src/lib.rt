@@ -13,3 +13,6 @@ mod windows;
 
 pub use end::RunEnd;
 pub use runs::run;
+
+#[cfg(test)]
+mod tests;

@@ -60,11 +60,7 @@ pub(crate) fn add<T: Lane, const D: usize>(a: &mut Array<T, D>, p: Pos, v: i128)
 }
 
 /// `vget P`: the value at a position of the window.
-pub(crate) fn vget<T: Lane, const D: usize>(
-    a: &mut Array<T, D>,
-    window: &Window,
-    p: Pos,
-) -> Answer
+pub(crate) fn vget<T: Lane, const D: usize>(a: &mut Array<T, D>, window: &Window, p: Pos) -> Answer
     requires array { IsArray T.width D a.old }
     requires inside { LiesIn (shape a.old) window.now }
     requires unused { p ≡ with_unused 0 (used_axes (length (shape a.old)) p) }

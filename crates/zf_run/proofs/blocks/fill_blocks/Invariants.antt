@@ -10,4 +10,4 @@ abbrev pub invariant-loop-b : goal.invariant-loop-b
 invariant-loop-b g l =
     (l.a.header ≡ l.fn.a.header)
     × ((u : Part) → filled_below (setting_of g.T.Lane.width l.fn.a) (session_of l.a u) (g.T.Lane.value l.fn.v) (count_from l.b (blocks (shape l.fn.a) - l.b))
-      ≡ filled_below (setting_of g.T.Lane.width l.fn.a) (session_of l.fn.a u) (g.T.Lane.value l.fn.v) (upto (blocks (shape l.fn.a))))
+    ≡ filled_below (setting_of g.T.Lane.width l.fn.a) (session_of l.fn.a u) (g.T.Lane.value l.fn.v) (upto (blocks (shape l.fn.a))))

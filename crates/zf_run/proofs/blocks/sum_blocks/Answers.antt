@@ -12,9 +12,12 @@ use Rattle.zf_run.proofs.blocks.sum_blocks.Goals as goal
 pub loop-b-init : goal.loop-b-init
 loop-b-init g c =
     let a = c.args.a.now in
-    let all : blocks (shape a) ≡ blocks (shape a) - 0 = omega arith in
-    (refl, (omega (arith, ints), omega (arith, ints)), λ u. sum_starts (setting_of g.T.Lane.width a) (λ b. b) (λ b values. total values) (count_from 0 (blocks (shape a))) (session_of a u)
-        ∙ ap (λ m. sum_from (setting_of g.T.Lane.width a) (λ b. b) (λ b values. total values) (count_from 0 m) (session_of a u) (pos 0)) all)
+    let all : blocks (shape a) ≡ blocks (shape a) - 0 = omega arith in (
+      refl,
+      (omega (arith, ints), omega (arith, ints)),
+      λ u. sum_starts (setting_of g.T.Lane.width a) (λ b. b) (λ b values. total values) (count_from 0 (blocks (shape a))) (session_of a u)
+          ∙ ap (λ m. sum_from (setting_of g.T.Lane.width a) (λ b. b) (λ b values. total values) (count_from 0 m) (session_of a u) (pos 0)) all,
+    )
 
 pub sum_block-sum-requires : goal.sum_block-sum-requires
 sum_block-sum-requires g c =

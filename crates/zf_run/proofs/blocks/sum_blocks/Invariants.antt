@@ -14,4 +14,4 @@ invariant-loop-b g l =
     let n = blocks (shape l.fn.a) in
     (l.a.header ≡ l.fn.a.header) × IsUpTo (2 ^ 71 * l.b) l.sum
     × ((u : Part) → summed setting (λ b. b) (λ b values. total values) (upto n) (session_of l.fn.a u)
-      ≡ sum_from setting (λ b. b) (λ b values. total values) (count_from l.b (n - l.b)) (session_of l.a u) l.sum)
+    ≡ sum_from setting (λ b. b) (λ b values. total values) (count_from l.b (n - l.b)) (session_of l.a u) l.sum)

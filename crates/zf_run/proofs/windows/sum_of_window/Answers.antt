@@ -25,9 +25,11 @@ loop-number-init g c =
     let w = c.args.window in
     let S = setting_of g.T.Lane.width a in
     let all : product w.size ≡ product w.size - 0 = omega arith in
-    let ps = λ (n : ℕ). map (λ k. mapped w (coordinates w.size k)) (count_from 0 n) in
-    (refl, (omega (arith, ints), omega (arith, ints)),
-      λ u. sum_starts S (block_number (shape a)) value_there (ps (product w.size)) (session_of a u) ∙ ap (λ m. sum_from S (block_number (shape a)) value_there (ps m) (session_of a u) (pos 0)) all)
+    let ps = λ (n : ℕ). map (λ k. mapped w (coordinates w.size k)) (count_from 0 n) in (
+      refl,
+      (omega (arith, ints), omega (arith, ints)),
+      λ u. sum_starts S (block_number (shape a)) value_there (ps (product w.size)) (session_of a u) ∙ ap (λ m. sum_from S (block_number (shape a)) value_there (ps m) (session_of a u) (pos 0)) all,
+    )
 
 pub get-requires : goal.get-requires
 get-requires g c =

@@ -15,4 +15,4 @@ invariant-loop-number g l =
     let w = l.fn.window in
     (l.a.header ≡ l.fn.a.header) × IsUpTo (2 ^ 63 * l.number) l.sum
     × ((v : Part) → summed setting (block_number (shape l.fn.a)) value_there (positions w) (session_of l.fn.a v)
-      ≡ sum_from setting (block_number (shape l.fn.a)) value_there (map (λ k. mapped w (coordinates w.size k)) (count_from l.number (product w.size - l.number))) (session_of l.a v) l.sum)
+    ≡ sum_from setting (block_number (shape l.fn.a)) value_there (map (λ k. mapped w (coordinates w.size k)) (count_from l.number (product w.size - l.number))) (session_of l.a v) l.sum)
