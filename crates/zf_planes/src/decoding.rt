@@ -284,7 +284,8 @@ fn look_on(ahead: &mut Ahead, reader: &BitReader<'_>)
     ensures left { ahead.new.left ≡ ahead.old.left }
     ensures more { (7 ≤ ahead.new.count) ⊎ (ahead.new.count ≡ min ahead.new.left (length (rest reader.now))) }
 {
-    if ahead.count < 7 {
+    // Where all that is left of the budget is in sight, there is no more to see.
+    if ahead.count < 7 && ahead.count < ahead.left {
         *ahead = look(ahead.left, reader);
     }
 }
