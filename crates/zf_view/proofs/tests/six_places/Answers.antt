@@ -8,4 +8,4 @@ line d a b c one =
     (record { origins = refl; sizes = refl; steps = refl })
 
 pub new-requires : goal.new-requires
-new-requires c = line _ _ _ _ (omega arith)
+new-requires g c = line _ _ _ _ (omega arith)
