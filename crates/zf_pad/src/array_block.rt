@@ -39,13 +39,7 @@ pub fn gather_block<T: Lane>(
 ///
 /// `layout` is that of the raw values, made once for all blocks. `block` has `4^d` values, x fastest; those at places that do not exist are not
 /// looked at.
-pub fn scatter_block<T: Lane>(
-    shape: &Shape,
-    layout: &Layout,
-    b: u64,
-    block: &[T],
-    values: &mut [T],
-)
+pub fn scatter_block<T: Lane>(shape: &Shape, layout: &Layout, b: u64, block: &[T], values: &mut [T])
     requires layout { IsRaster shape.now layout.now }
     requires in_array { b < blocks shape.now }
     requires all { length values.old ≡ product shape.now }
