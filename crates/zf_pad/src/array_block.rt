@@ -5,15 +5,23 @@ ghost use Rattle.zf_spec.specs.Grid.{product, blocks, extent_of, block_of};
 ghost use Rattle.zf_spec.specs.Codes.{existing_values};
 ghost use Rattle.zf_base.specs.Positions.{used_axes, IsExtent};
 ghost use Rattle.zf_pad.specs.Blocks.{WritesBlock};
+ghost use Rattle.zf_pad.specs.Rasters.{IsRaster};
 
 use crate::copies::{gather, scatter};
 use crate::layout::Layout;
 use zf_base::{Extent, Lane, Shape};
 
-/// Copies block `b` out of the values of an array, x fastest, and answers which part of the block exists.
+/// Copies block `b` out of the values of an array, whose layout is at hand, and answers which part of the block exists.
 ///
 /// `block` has `4^d` values, x fastest; those at places that do not exist stay.
-pub fn gather_block<T: Lane>(shape: &Shape, b: u64, values: &[T], block: &mut [T]) -> Extent
+pub fn gather_block<T: Lane>(
+    layout: &Layout,
+    shape: &Shape,
+    b: u64,
+    values: &[T],
+    block: &mut [T],
+) -> Extent
+    requires raster { IsRaster shape.now layout.now }
     requires in_array { b < blocks shape.now }
     requires all { length values.now ≡ product shape.now }
     requires whole { length block.old ≡ 4 ^ length shape.now }
@@ -23,19 +31,20 @@ pub fn gather_block<T: Lane>(shape: &Shape, b: u64, values: &[T], block: &mut [T
     ensures size { used_axes (length shape.now) result.size ≡ extent_of shape.now b }
 {
     let e = shape.extent(b);
-    gather(&Layout::raster(shape), &e, shape.dims(), values, block);
+    gather(layout, &e, shape.dims(), values, block);
     e
 }
 
-/// Copies a block to the place of block `b` among the values of an array, x fastest.
+/// Copies a block to the place of block `b` among the values of an array, whose layout is at hand.
 ///
 /// `block` has `4^d` values, x fastest; those at places that do not exist are not looked at.
-pub fn scatter_block<T: Lane>(shape: &Shape, b: u64, block: &[T], values: &mut [T])
+pub fn scatter_block<T: Lane>(layout: &Layout, shape: &Shape, b: u64, block: &[T], values: &mut [T])
+    requires raster { IsRaster shape.now layout.now }
     requires in_array { b < blocks shape.now }
     requires all { length values.old ≡ product shape.now }
     requires whole { length block.now ≡ 4 ^ length shape.now }
     ensures { WritesBlock shape.now b (map T.value block.now) (map T.value values.old) (map T.value values.new) }
 {
     let e = shape.extent(b);
-    scatter(&Layout::raster(shape), &e, shape.dims(), block, values);
+    scatter(layout, &e, shape.dims(), block, values);
 }

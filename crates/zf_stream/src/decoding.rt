@@ -4,6 +4,7 @@ ghost use Rattle.std.specs.Prelude.{◌≡◌, ◌≢◌, ◌-◌, ◌+◌, ◌*
 ghost use Rattle.zf_spec.specs.Grid.{product, blocks};
 ghost use Rattle.zf_base.specs.Widths.{width_of};
 ghost use Rattle.zf_bits.specs.Reader.{rest};
+ghost use Rattle.zf_pad.specs.Rasters.{IsRaster};
 ghost use Rattle.zf_dev.specs.Faults.{HasCause};
 ghost use Rattle.zf_stream.specs.Parsing.{fill_answer, longest_code};
 ghost use Rattle.zf_stream.specs.ReadStreams.{ReadsCode, LacksCode, ReadsBlock};
@@ -17,9 +18,11 @@ use zf_base::Lane;
 use zf_bits::BitReader;
 use zf_dev::Source;
 use zf_header::{Header, Mode};
+use zf_pad::Layout;
 
-/// Reads the codes of a slab, an array of its own whose blocks are those of the array from block `first` on. No code has more than `longest` bits.
+/// Reads the codes of a slab, an array of its own whose blocks are those of the array from block `first` on, and which the array's layout serves. No code has more than `longest` bits.
 pub(crate) fn read_slab<T: Lane, S: Source>(
+    layout: &Layout,
     part: &Header,
     first: u64,
     longest: u64,
@@ -30,6 +33,7 @@ pub(crate) fn read_slab<T: Lane, S: Source>(
     src: &mut S,
 ) -> Result<(), StreamFault>
     requires same_type { T.width ≡ width_of part.now.ty }
+    requires raster { IsRaster part.now.shape layout.now }
     requires all { length values.old ≡ product part.now.shape }
     requires whole { length block.old ≡ 4 ^ length part.now.shape }
     requires longest { longest_code part.now ≤ longest }
@@ -46,7 +50,7 @@ pub(crate) fn read_slab<T: Lane, S: Source>(
 {
     for b in 0..part.shape.blocks() {
         window.reach(longest, piece, src)?;
-        let Some(()) = read_block(part, b, window, values, block) else {
+        let Some(()) = read_block(layout, part, b, window, values, block) else {
             return Err(StreamFault::Truncated(first + b));
         };
     }
@@ -55,6 +59,7 @@ pub(crate) fn read_slab<T: Lane, S: Source>(
 
 /// Reads the code of block `b` by way of `block`, or answers `None` where the bits that are held end too early.
 fn read_block<T: Lane>(
+    layout: &Layout,
     part: &Header,
     b: u64,
     window: &mut Window,
@@ -63,6 +68,7 @@ fn read_block<T: Lane>(
 ) -> Option<()>
     requires same_type { T.width ≡ width_of part.now.ty }
     requires in_array { b < blocks part.now.shape }
+    requires raster { IsRaster part.now.shape layout.now }
     requires all { length values.old ≡ product part.now.shape }
     requires whole { length block.old ≡ 4 ^ length part.now.shape }
     ensures some { OnSome result (ReadsBlock part.now b window.old.reader window.new.reader (map T.value values.old) (map T.value values.new)) }
@@ -77,7 +83,7 @@ fn read_block<T: Lane>(
     let _left = reader.left();
     let at = reader.at();
     window.go_to(at);
-    zf_pad::scatter_block(&part.shape, b, block, values);
+    zf_pad::scatter_block(layout, &part.shape, b, block, values);
     Some(())
 }
 

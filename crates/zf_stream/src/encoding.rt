@@ -9,6 +9,7 @@ ghost use Rattle.zf_base.specs.Widths.{width_of};
 ghost use Rattle.zf_base.specs.Positions.{used_axes, IsExtent};
 ghost use Rattle.zf_bits.specs.Writer.{Appends};
 ghost use Rattle.zf_header.specs.HeaderBits.{coding};
+ghost use Rattle.zf_pad.specs.Rasters.{IsRaster};
 ghost use Rattle.zf_dev.specs.Faults.{HasCause};
 ghost use Rattle.zf_stream.specs.Flows.{Flows, Spills};
 ghost use Rattle.zf_stream.specs.Parsing.{longest_code};
@@ -22,9 +23,11 @@ use zf_bits::BitWriter;
 use zf_block::Scratch;
 use zf_dev::Sink;
 use zf_header::{Header, Mode};
+use zf_pad::Layout;
 
 /// Appends the codes of all blocks, in order. Where as many as `most` bits are at hand, whole words are written.
 pub(crate) fn write_codes<T: Lane, O: Sink>(
+    layout: &Layout,
     h: &Header,
     values: &[T],
     block: &mut [T],
@@ -35,6 +38,7 @@ pub(crate) fn write_codes<T: Lane, O: Sink>(
     out: &mut O,
 ) -> Result<(), StreamFault>
     requires same_type { T.width ≡ width_of h.now.ty }
+    requires raster { IsRaster h.now.shape layout.now }
     requires all { length values.now ≡ product h.now.shape }
     requires whole { length block.old ≡ 4 ^ length h.now.shape }
     requires scratch { s.old ≡ length h.now.shape }
@@ -53,7 +57,7 @@ pub(crate) fn write_codes<T: Lane, O: Sink>(
     ensures cause { HasCause (result ≡ Err Write) (O.faults out.old) (O.faults out.new) }
 {
     for b in 0..h.shape.blocks() {
-        write_code(h, values, b, block, s, codes);
+        write_code(layout, h, values, b, block, s, codes);
         write_where_many(codes, most, piece, out)?;
     }
     Ok(())
@@ -83,6 +87,7 @@ fn write_where_many<O: Sink>(
 
 /// Appends the code of block `b`, whose values are gathered in `block`.
 fn write_code<T: Lane>(
+    layout: &Layout,
     h: &Header,
     values: &[T],
     b: u64,
@@ -91,6 +96,7 @@ fn write_code<T: Lane>(
     codes: &mut BitWriter,
 )
     requires same_type { T.width ≡ width_of h.now.ty }
+    requires raster { IsRaster h.now.shape layout.now }
     requires all { length values.now ≡ product h.now.shape }
     requires in_array { b < blocks h.now.shape }
     requires whole { length block.old ≡ 4 ^ length h.now.shape }
@@ -102,7 +108,7 @@ fn write_code<T: Lane>(
 {
     // Known by this call: there are one to four dimensions.
     let _dims = h.shape.dims();
-    let e = zf_pad::gather_block(&h.shape, b, values, block);
+    let e = zf_pad::gather_block(layout, &h.shape, b, values, block);
     encode(h, &e, block, s, codes);
 }
 

@@ -5,10 +5,10 @@ use Rattle.zf_pad.proofs.array_block.gather_block.Goals as goal
 
 pub gather-requires-clause-within : goal.gather-requires-clause-within
 gather-requires-clause-within g c =
-    let here : IsRasterBlock c.args.shape.now c.args.b c.raster.result c.extent-e.result = record {
+    let here : IsRasterBlock c.args.shape.now c.args.b c.args.layout.now c.extent-e.result = record {
       shape = c.dims.ensures.shape;
       in_array = c.requires.in_array;
-      raster_layout = c.raster.ensures;
+      raster_layout = c.requires.raster;
       origin = c.extent-e.ensures.origin;
       size = c.extent-e.ensures.size;
     } in
@@ -16,10 +16,10 @@ gather-requires-clause-within g c =
 
 pub returns-clause-block : goal.returns-clause-block
 returns-clause-block g c =
-    let here : IsRasterBlock c.args.shape.now c.args.b c.raster.result c.extent-e.result = record {
+    let here : IsRasterBlock c.args.shape.now c.args.b c.args.layout.now c.extent-e.result = record {
       shape = c.dims.ensures.shape;
       in_array = c.requires.in_array;
-      raster_layout = c.raster.ensures;
+      raster_layout = c.requires.raster;
       origin = c.extent-e.ensures.origin;
       size = c.extent-e.ensures.size;
     } in

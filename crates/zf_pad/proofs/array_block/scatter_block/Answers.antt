@@ -5,10 +5,10 @@ use Rattle.zf_pad.proofs.array_block.scatter_block.Goals as goal
 
 pub scatter-requires-clause-within : goal.scatter-requires-clause-within
 scatter-requires-clause-within g c =
-    let here : IsRasterBlock c.args.shape.now c.args.b c.raster.result c.extent-e.result = record {
+    let here : IsRasterBlock c.args.shape.now c.args.b c.args.layout.now c.extent-e.result = record {
       shape = c.dims.ensures.shape;
       in_array = c.requires.in_array;
-      raster_layout = c.raster.ensures;
+      raster_layout = c.requires.raster;
       origin = c.extent-e.ensures.origin;
       size = c.extent-e.ensures.size;
     } in
@@ -16,10 +16,10 @@ scatter-requires-clause-within g c =
 
 pub scatter-requires-clause-one_to_one : goal.scatter-requires-clause-one_to_one
 scatter-requires-clause-one_to_one g c =
-    let here : IsRasterBlock c.args.shape.now c.args.b c.raster.result c.extent-e.result = record {
+    let here : IsRasterBlock c.args.shape.now c.args.b c.args.layout.now c.extent-e.result = record {
       shape = c.dims.ensures.shape;
       in_array = c.requires.in_array;
-      raster_layout = c.raster.ensures;
+      raster_layout = c.requires.raster;
       origin = c.extent-e.ensures.origin;
       size = c.extent-e.ensures.size;
     } in
@@ -27,10 +27,10 @@ scatter-requires-clause-one_to_one g c =
 
 pub returns : goal.returns
 returns g c =
-    let here : IsRasterBlock c.args.shape.now c.args.b c.raster.result c.extent-e.result = record {
+    let here : IsRasterBlock c.args.shape.now c.args.b c.args.layout.now c.extent-e.result = record {
       shape = c.dims.ensures.shape;
       in_array = c.requires.in_array;
-      raster_layout = c.raster.ensures;
+      raster_layout = c.requires.raster;
       origin = c.extent-e.ensures.origin;
       size = c.extent-e.ensures.size;
     } in
