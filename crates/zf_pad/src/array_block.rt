@@ -11,17 +11,17 @@ use crate::copies::{gather, scatter};
 use crate::layout::Layout;
 use zf_base::{Extent, Lane, Shape};
 
-/// Copies block `b` out of the values of an array, x fastest, and answers which part of the block exists.
+/// Copies block `b` out of the values of an array, whose layout is at hand, and answers which part of the block exists.
 ///
-/// `layout` is that of the raw values, made once for all blocks. `block` has `4^d` values, x fastest; those at places that do not exist stay.
+/// `block` has `4^d` values, x fastest; those at places that do not exist stay.
 pub fn gather_block<T: Lane>(
-    shape: &Shape,
     layout: &Layout,
+    shape: &Shape,
     b: u64,
     values: &[T],
     block: &mut [T],
 ) -> Extent
-    requires layout { IsRaster shape.now layout.now }
+    requires raster { IsRaster shape.now layout.now }
     requires in_array { b < blocks shape.now }
     requires all { length values.now ≡ product shape.now }
     requires whole { length block.old ≡ 4 ^ length shape.now }
@@ -35,12 +35,11 @@ pub fn gather_block<T: Lane>(
     e
 }
 
-/// Copies a block to the place of block `b` among the values of an array, x fastest.
+/// Copies a block to the place of block `b` among the values of an array, whose layout is at hand.
 ///
-/// `layout` is that of the raw values, made once for all blocks. `block` has `4^d` values, x fastest; those at places that do not exist are not
-/// looked at.
-pub fn scatter_block<T: Lane>(shape: &Shape, layout: &Layout, b: u64, block: &[T], values: &mut [T])
-    requires layout { IsRaster shape.now layout.now }
+/// `block` has `4^d` values, x fastest; those at places that do not exist are not looked at.
+pub fn scatter_block<T: Lane>(layout: &Layout, shape: &Shape, b: u64, block: &[T], values: &mut [T])
+    requires raster { IsRaster shape.now layout.now }
     requires in_array { b < blocks shape.now }
     requires all { length values.old ≡ product shape.now }
     requires whole { length block.now ≡ 4 ^ length shape.now }

@@ -13,7 +13,7 @@ fn read_block<T: Lane>(shape: &Shape, b: u64, values: &[T], block: &mut [T])
     requires all { length values.now ≡ product shape.now }
     requires whole { length block.old ≡ 4 ^ length shape.now }
 {
-    let e = gather_block(shape, &Layout::raster(shape), b, values, block);
+    let e = gather_block(&Layout::raster(shape), shape, b, values, block);
     pad(&e, shape.dims(), block);
 }
 
@@ -41,7 +41,7 @@ fn read_and_write<T: Lane>(shape: &Shape, b: u64, values: &mut [T], block: &mut 
     for value in values.iter_mut() {
         *value = T::zero();
     }
-    scatter_block(shape, &Layout::raster(shape), b, block, values);
+    scatter_block(&Layout::raster(shape), shape, b, block, values);
     (fingerprint(block), fingerprint(values))
 }
 

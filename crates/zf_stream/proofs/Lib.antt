@@ -1,12 +1,22 @@
 -- Lemmas on streams.
 --     LittleEndian   raw bytes as values, one after another
---     WordBytes      the bytes of words
---     Windows        the bits of a window, as it moves on
+--     RawValues      values as raw bytes, one part after another
+--     WordBytes      the bytes of words, and the words of bytes
 --     OnErrors       what holds anyhow holds after an error
 --     Flowing        bits on their way through a writer to a sink
 --     Codes          the codes of blocks, one after another; a code says of a block only what its padded block says
+--     Rows           the codes of an array, row by row
+--     RawRows        what is read of raw values
+--     Slabwise       an array that is compressed slab by slab
+--     FrontsOfStreams    what was written of a stream
+--     Answering      what an answer says of the input
 --     Fill           the fill behind the codes
 --     Joining        the blocks of a stream, read one after another
+--     Windows        the bits of a window, as it moves on
+--     SlabsBack      the blocks and the values of an array, slab by slab
+--     Restored       an array that is restored slab by slab
+--     RestoredAll    the end of an array that is restored
+--     FromFront      what is restored of a window, said of the whole stream
 --     Parsed         from what was read to what a stream says
 --     OwnFaults      which faults are a call's own
 --     Refusals       each refusal is that of some input, or comes from outside
@@ -18,23 +28,23 @@
 --     BlocksBack     the codes of blocks read back
 --     StreamsBack    what compress writes, restore reads
 pub mod LittleEndian
+pub mod RawValues
 pub mod WordBytes
-pub mod Windows
 pub mod OnErrors
 pub mod Flowing
+mod Codes
 pub mod Rows
 pub mod RawRows
 pub mod Slabwise
+pub mod FrontsOfStreams
+pub mod Answering
+mod Fill
+mod Joining
+pub mod Windows
 pub mod SlabsBack
 pub mod Restored
 pub mod RestoredAll
 pub mod FromFront
-pub mod RawValues
-pub mod FrontsOfStreams
-pub mod Answering
-mod Codes
-mod Fill
-mod Joining
 mod Parsed
 pub mod OwnFaults
 mod Refusals

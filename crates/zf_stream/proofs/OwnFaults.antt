@@ -1,5 +1,5 @@
--- What is said of the bytes of a stream is never a fault of a device, nor one of raw values.
-use Rattle.std.proofs.Common.{◌≡◌, ◌≢◌, ℕ, ℤ, Bool, true, false, cond, nat_lt, List, ◌++◌, Option, Some, None, Result, Ok, Err, take, length, ◌+◌, ◌-◌, ◌⊎◌, subst, ◌%◌, refl, sym, ap, ◌∙◌, ⊎_elim}
+-- What is said of the bytes of a stream is never a fault of a device, nor one of raw values; what is said of codes is none of a header either.
+use Rattle.std.proofs.Common.{◌≡◌, ℕ, ℤ, Bool, true, false, cond, nat_lt, List, ◌++◌, Option, Some, None, Result, Ok, Err, take, length, ◌+◌, ◌-◌, ◌⊎◌, subst, ◌%◌, refl, sym, ap, ◌∙◌, ⊎_elim}
 use Rattle.std.specs.Prelude.{IfErr}
 use Rattle.std.proofs.lemmas.Result.{IfErr-at_err}
 use Rattle.zf_spec.specs.Grid.{blocks}
@@ -12,7 +12,6 @@ use Rattle.zf_stream.specs.declared.fault.StreamFault.{StreamFault}
 use Rattle.zf_stream.specs.declared.fault.StreamFault.TheVariants as faults
 use Rattle.zf_stream.specs.Parsing.{values_said, header_of, code_bits, header_or, codes_answer, read_codes, values_or_fault, restore_answer, without_values}
 use Rattle.zf_stream.specs.Outcomes.{IsBeforeWriting}
-use Rattle.zf_stream.specs.ReadStreams.{IsFault}
 use Rattle.zf_stream.specs.Windows.{Window}
 use Rattle.zf_stream.specs.Restoring.{still, stream_from, Refuses}
 
@@ -62,25 +61,6 @@ own_answer bytes =
     let h = header_of bytes in
     let found = read_codes h 0 (blocks h.shape) (code_bits bytes) in
     own_text (values_said bytes) (own_header (header_fault bytes) (codes_answer h (length (to_bits bytes)) found) (own_codes h (length (to_bits bytes)) found))
-
-not_foreign : (e : StreamFault) → is_foreign e ≡ false → (e ≢ faults.Read) × (e ≢ faults.Write)
-unfolding is_foreign
-not_foreign e own =
-    (λ is. let t : true ≡ false = sym (ap is_foreign is) ∙ own in cc, λ is. let t : true ≡ false = sym (ap is_foreign is) ∙ own in cc)
-
-pub own_fault : (bytes : List ℕ) (e : StreamFault) → IsFault (restore_answer bytes) e → (e ≢ faults.Read) × (e ≢ faults.Write)
-unfolding blames_foreign is_foreign
-own_fault bytes e fault =
-    ⊎_elim (λ answer. not_foreign e (sym (ap blames_foreign answer) ∙ own_answer bytes)) (λ memory. not_foreign e (ap is_foreign memory)) fault
-
--- an answer that is no fault of the source is none
-pub blameless : {T : Type 0} {X : Type 0} (r : Result T StreamFault) → IfErr r (λ e. e ≢ faults.Read) → r ≡ Err faults.Read → X
-blameless r none is = absurd (IfErr-at_err (λ e. e ≢ faults.Read) is none refl)
-
--- what holds anyhow holds after an error
-pub anyhow : {T : Type 0} (r : Result T StreamFault) (P : StreamFault → Type 0) → ((e : StreamFault) → P e) → IfErr r P
-anyhow (Ok x) P p = tt
-anyhow (Err e) P p = p e
 
 -- ---- what is said of codes is none of a header, nor want of memory
 

@@ -20,7 +20,7 @@ use Rattle.zf_stream.specs.Outcomes.{IsFront, IsRefusal}
 use Rattle.zf_stream.specs.declared.fault.StreamFault.{StreamFault}
 use Rattle.zf_stream.specs.declared.fault.StreamFault.TheVariants as faults
 use Rattle.zf_stream.specs.Parsing.{values_said, header_of, code_bits, header_or, codes_answer, read_codes, restore_answer, without_values}
-use Rattle.zf_stream.specs.ReadStreams.{BeginsWithHeader, HasGoodHeader, IsFaultOf, IsFault}
+use Rattle.zf_stream.specs.ReadStreams.{BeginsWithHeader, HasGoodHeader, IsFaultOf}
 
 -- the answer of what stands behind the header
 answer_of : Option HeaderFault → Header → List ℕ → List Bool → Result (List ℤ) StreamFault
@@ -34,12 +34,6 @@ parse_is bytes h len begun =
     let behind : code_bits bytes ≡ drop len s = ap (λ g. drop (length (header_bits g)) s) (sym begun.header) ∙ ap (λ n. drop n s) (sym begun.bits_is) in
     ap (λ fault. answer_of fault (header_of bytes) bytes (code_bits bytes)) begun.good
     ∙ ap (λ g. answer_of None g bytes (code_bits bytes)) (sym begun.header) ∙ ap (answer_of None h bytes) behind
-
--- the bits of words that hold bytes begin with those of the bytes
-pub all_bits : (bytes words : List ℕ) → word_bits words ≡ with_fill (to_bits bytes) → take (8 * length bytes) (word_bits words) ≡ to_bits bytes
-all_bits bytes words bits =
-    let s = to_bits bytes in
-    ap (take (8 * length bytes)) bits ∙ take_at s _ (8 * length bytes) (length-to_bits bytes)
 
 -- bytes behind a header change nothing of it
 pub begun_more : (front more : List ℕ) (h : Header) (len : ℕ) → BeginsWithHeader front h len → BeginsWithHeader (front ++ more) h len

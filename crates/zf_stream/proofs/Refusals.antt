@@ -5,7 +5,7 @@ use Rattle.zf_stream.specs.declared.fault.StreamFault.{StreamFault}
 use Rattle.zf_stream.specs.declared.fault.StreamFault.TheVariants as faults
 use Rattle.zf_stream.specs.Raw.{length_answer}
 use Rattle.zf_stream.specs.Parsing.{restore_answer}
-use Rattle.zf_stream.specs.ReadStreams.{IsFaultOf, IsFault}
+use Rattle.zf_stream.specs.ReadStreams.{IsFaultOf}
 use Rattle.zf_stream.specs.Outcomes.{CanRefuse}
 use Rattle.zf_stream.proofs.Parsed.{refusal_of_fault}
 

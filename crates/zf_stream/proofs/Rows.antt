@@ -19,10 +19,6 @@ use Rattle.zf_stream.proofs.Codes.{joined-front}
 
 -- ---- values of bytes, one part after another
 
-first_of_more : (n : ℕ) (xs ys : List ℕ) → n ≤ length xs → first_bytes n (xs ++ ys) ≡ first_bytes n xs
-first_of_more n xs ys within =
-    first_bytes-take n (xs ++ ys) (omega (arith, length-append xs ys)) ∙ take-append-le n xs ys within ∙ sym (first_bytes-take n xs within)
-
 pub values_from-append : (w : Width) (a b : ℕ) (xs ys : List ℕ) → length xs ≡ a * byte_len w → values_from w (a + b) (xs ++ ys) ≡ values_from w a xs ++ values_from w b ys
 values_from-append w zero b xs ys long =
     let none : xs ≡ [] = nothing xs (omega arith) in
@@ -36,8 +32,10 @@ values_from-append w (suc a) b xs ys long =
     let n = byte_len w in
     let within : n ≤ length xs = omega arith in
     let count : suc a + b ≡ suc (a + b) = omega arith in
+    let front : first_bytes n (xs ++ ys) ≡ first_bytes n xs =
+    first_bytes-take n (xs ++ ys) (omega (arith, length-append xs ys)) ∙ take-append-le n xs ys within ∙ sym (first_bytes-take n xs within) in
     ap (λ k. values_from w k (xs ++ ys)) count
-    ∙ ap (λ (bs : List ℕ). cast_signed w (from_le_bytes w bs) ∷ values_from w (a + b) (drop n (xs ++ ys))) (first_of_more n xs ys within)
+    ∙ ap (λ (bs : List ℕ). cast_signed w (from_le_bytes w bs) ∷ values_from w (a + b) (drop n (xs ++ ys))) front
     ∙ ap (λ (bs : List ℕ). cast_signed w (from_le_bytes w (first_bytes n xs)) ∷ values_from w (a + b) bs) (drop-append-le n xs ys within)
     ∙ ap (λ (vs : List ℤ). cast_signed w (from_le_bytes w (first_bytes n xs)) ∷ vs) (values_from-append w a b (drop n xs) ys (omega (arith, length-drop n xs)))
 

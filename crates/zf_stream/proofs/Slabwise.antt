@@ -207,8 +207,8 @@ raw_small h len row some within few narrow is =
 
 -- ---- the start, where no row is read
 
-none_long : (h : Header) → 0 ≡ rows_len h 0
-none_long h = omega (arith, mul_comm (row_len h.shape) 0)
+pub zero_rows : (h : Header) → 0 ≡ rows_len h 0
+zero_rows h = omega (arith, mul_comm (row_len h.shape) 0)
 
 pub no_rows : (h : Header) (bits : List Bool) {src out : Option (List ℕ)} → 1 ≤ length h.shape → Takes src src [] → Flows out out bits bits → Compresses h 0 src src out out bits bits
 no_rows h bits {src} {out} some taken flows =
@@ -219,7 +219,7 @@ no_rows h bits {src} {out} some taken flows =
       whole = record { some_axis = some; within = omega arith; whole = inl refl };
       bytes = [];
       taken = taken;
-      long = none_long h;
+      long = zero_rows h;
       flows = subst Of (sym (append-nil bits) ∙ ap (λ (bs : List Bool). bits ++ bs) (sym codes)) flows;
     }
 
@@ -234,12 +234,9 @@ Stops-none h bits {src} {out0} {out} some taken spills =
       bytes = [];
       more = [];
       taken = taken;
-      long = none_long h;
+      long = zero_rows h;
       spills = subst Of (sym (append-nil bits) ∙ ap (λ (bs : List Bool). bits ++ bs) (sym codes)) spills;
     }
-
-pub zero_rows : (h : Header) → 0 ≡ rows_len h 0
-zero_rows h = none_long h
 
 -- the longest code depends on the number of axes alone
 pub longest_part : (h : Header) (shape : List ℕ) → length shape ≡ length h.shape → longest_code (with_shape h shape) ≡ longest_code h

@@ -29,18 +29,6 @@ IsRefusal (Some input) answer e = (answer input ≡ Err e) ⊎ IsFromOutside e
 abbrev pub CanRefuse : (List ℕ → Result (Unit {0}) StreamFault) → StreamFault → Type 0
 CanRefuse answer e = ((input : List ℕ) × (answer input ≡ Err e)) ⊎ IsFromOutside e
 
--- the whole source was read, and these bytes are a good input
-pub record ReadsWhole (answer : List ℕ → Result (Unit {0}) StreamFault) (before now : Option (List ℕ)) (bytes : List ℕ) : Type 0 where
-  pub taken : Takes before now bytes
-  pub ended : IsAtEnd now
-  pub good : answer bytes ≡ Ok tt
-
--- the whole source was read and is a good input, and this is its text
-pub record ReadsText (answer : List ℕ → Result (Unit {0}) StreamFault) (text : List ℕ → List ℕ) (before now : Option (List ℕ)) (said : List ℕ) : Type 0 where
-  pub bytes : List ℕ
-  pub whole : ReadsWhole answer before now bytes
-  pub said_is : said ≡ text bytes
-
 -- the input was read to its end and is a good one, and its text was written
 pub record Finishes (answer : List ℕ → Result (Unit {0}) StreamFault) (text : List ℕ → List ℕ) (src_before src_now out_before out_now : Option (List ℕ)) : Type 0 where
   pub bytes : List ℕ

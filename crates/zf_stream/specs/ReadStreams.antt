@@ -1,7 +1,7 @@
 -- What is read of a stream: its header, and the codes of its blocks.
-use Rattle.std.specs.Prelude.{ℕ, ◌≡◌, ◌≢◌, ◌-◌, ◌*◌, ◌<◌, ◌≤◌, ◌⊎◌, ℤ, Bool, List, ◌++◌, length, drop, take, Option, Some, None, Result, Ok, Err}
+use Rattle.std.specs.Prelude.{ℕ, ◌≡◌, ◌≢◌, ◌-◌, ◌*◌, ◌<◌, ◌≤◌, ℤ, List, length, drop, take, Option, Some, None}
 use Rattle.std.specs.Int.{Width}
-use Rattle.zf_spec.specs.Grid.{blocks, blocks_of, block_of, extent_of}
+use Rattle.zf_spec.specs.Grid.{blocks, block_of, extent_of}
 use Rattle.zf_spec.specs.Codes.{existing_values}
 use Rattle.zf_base.specs.Widths.{width_of}
 use Rattle.zf_bits.specs.Reader.{Reader, rest, Reads}
@@ -9,11 +9,11 @@ use Rattle.zf_header.specs.declared.header.Header.{Header}
 use Rattle.zf_header.specs.declared.header.Mode.{Mode}
 use Rattle.zf_header.specs.HeaderBits.{header_bits}
 use Rattle.zf_header.specs.HeaderFaults.{header_fault}
-use Rattle.zf_dev.specs.Source.{Takes, TakesAtMost, IsAtEnd}
+use Rattle.zf_dev.specs.Source.{TakesAtMost}
 use Rattle.zf_stream.specs.declared.fault.StreamFault.{StreamFault}
 use Rattle.zf_stream.specs.declared.fault.StreamFault.TheVariants as faults
 use Rattle.zf_stream.specs.Outcomes.{TakesFirst}
-use Rattle.zf_stream.specs.Parsing.{header_of, read_code, read_codes, restore_answer, restored_text}
+use Rattle.zf_stream.specs.Parsing.{header_of, read_code}
 
 -- the bytes that the longest header lies in
 abbrev pub header_room : ℕ
@@ -48,13 +48,6 @@ abbrev pub HasGoodHeader : Option (List ℕ) → Type 0
 HasGoodHeader None = Unit {0}
 HasGoodHeader (Some bytes) = header_fault bytes ≡ None
 
--- these are the bytes in hand and then all that the source still gave
-pub record ReadsRest (front : List ℕ) (before now : Option (List ℕ)) (bytes : List ℕ) : Type 0 where
-  pub more : List ℕ
-  pub taken : Takes before now more
-  pub ended : IsAtEnd now
-  pub all : bytes ≡ front ++ more
-
 -- a code of d dimensions was read, which stands for this block, and just its bits were passed
 pub record ReadsCode (w : Width) (mode : Mode) (d : ℕ) (old new : Reader) (block : List ℤ) : Type 0 where
   pub code : (es : List ℕ) → length es ≡ d → read_code w mode es (rest old) ≡ Some (existing_values es block, new.at - old.at)
@@ -70,22 +63,3 @@ pub record ReadsBlock (h : Header) (b : ℕ) (old new : Reader) (before now : Li
   pub passed : rest new ≡ drop (new.at - old.at) (rest old)
   pub all : new.all ≡ old.all
   pub others : (a : ℕ) → a < blocks h.shape → a ≢ b → block_of h.shape now a ≡ block_of h.shape before a
-
--- the codes of all blocks were read, which are those of these values
-pub record ReadsBlocks (h : Header) (old new : Reader) (values : List ℤ) : Type 0 where
-  pub codes : read_codes h 0 (blocks h.shape) (rest old) ≡ Ok (blocks_of h.shape values, rest new)
-  pub all : new.all ≡ old.all
-
--- the code of this block is the first that ends too early
-abbrev pub IsCutAt : Header → List Bool → StreamFault → Type 0
-IsCutAt h s (faults.Truncated b) = read_codes h 0 (blocks h.shape) s ≡ Err b
-IsCutAt h s e = ⊥
-
--- the answer is a fault, unless there was no memory
-abbrev pub IsFault : {T : Type 0} → Result T StreamFault → StreamFault → Type 0
-IsFault answer e = (answer ≡ Err e) ⊎ (e ≡ faults.Memory)
-
--- these bytes are a good stream, and this is its text
-pub record IsTextOf (bytes said : List ℕ) : Type 0 where
-  pub good : restore_answer bytes ≡ Ok tt
-  pub text : said ≡ restored_text bytes

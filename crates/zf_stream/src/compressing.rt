@@ -3,6 +3,7 @@
 ghost use Rattle.std.specs.Prelude.{◌≡◌, ◌≢◌, ◌≤◌, ◌<◌, ◌*◌, ◌+◌, ◌%◌, ◌^◌, [], map, length, IfOk, IfErr, OnOk, OnErr, Err};
 ghost use Rattle.std.specs.Int.{byte_len};
 ghost use Rattle.zf_spec.specs.Grid.{product};
+ghost use Rattle.zf_pad.specs.Rasters.{IsRaster};
 ghost use Rattle.zf_pad.specs.Slabs.{row_len, rows_of};
 ghost use Rattle.zf_base.specs.Widths.{width_of};
 ghost use Rattle.zf_header.specs.HeaderBits.{IsMode, header_bits};
@@ -27,6 +28,7 @@ use zf_bits::BitWriter;
 use zf_block::Scratch;
 use zf_dev::{Sink, Source};
 use zf_header::{Header, LONG_HEADER_BITS};
+use zf_pad::Layout;
 
 /// The most bytes that are read or written at a time.
 pub(crate) const PIECE: u64 = 1 << 16;
@@ -191,6 +193,7 @@ fn write_slabs<T: Lane, S: Source, O: Sink>(
 {
     // Known by this call: the array has no more values than there may be.
     let _dims = h.shape.dims();
+    let layout = Layout::raster(&h.shape);
     let all = rows_of(&h.shape);
     let mut row = 0;
     let mut taken = 0;
@@ -204,6 +207,7 @@ fn write_slabs<T: Lane, S: Source, O: Sink>(
         let count = part.shape.values() as usize;
         let len = count * value_len::<T>();
         write_slab(
+            &layout,
             &part,
             taken,
             &mut raw[..len],
@@ -222,8 +226,9 @@ fn write_slabs<T: Lane, S: Source, O: Sink>(
     Ok(())
 }
 
-/// Reads one slab, an array of its own behind so many bytes, and writes its codes.
+/// Reads one slab, an array of its own behind so many bytes, and writes its codes. The array's layout serves it.
 fn write_slab<T: Lane, S: Source, O: Sink>(
+    layout: &Layout,
     part: &Header,
     taken: u64,
     raw: &mut [u8],
@@ -238,6 +243,7 @@ fn write_slab<T: Lane, S: Source, O: Sink>(
 ) -> Result<(), StreamFault>
     requires same_type { T.width ≡ width_of part.now.ty }
     requires raw { length raw.old ≡ product part.now.shape * byte_len (width_of part.now.ty) }
+    requires raster { IsRaster part.now.shape layout.now }
     requires values { length values.old ≡ product part.now.shape }
     requires whole { length block.old ≡ 4 ^ length part.now.shape }
     requires scratch { s.old ≡ length part.now.shape }
@@ -259,5 +265,5 @@ fn write_slab<T: Lane, S: Source, O: Sink>(
 {
     read_raw(taken, raw, src)?;
     put_values(raw, values);
-    write_codes(part, values, block, s, codes, most, piece, out)
+    write_codes(layout, part, values, block, s, codes, most, piece, out)
 }

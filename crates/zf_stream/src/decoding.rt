@@ -20,8 +20,9 @@ use zf_dev::Source;
 use zf_header::{Header, Mode};
 use zf_pad::Layout;
 
-/// Reads the codes of a slab, an array of its own whose blocks are those of the array from block `first` on. No code has more than `longest` bits.
+/// Reads the codes of a slab, an array of its own whose blocks are those of the array from block `first` on, and which the array's layout serves. No code has more than `longest` bits.
 pub(crate) fn read_slab<T: Lane, S: Source>(
+    layout: &Layout,
     part: &Header,
     first: u64,
     longest: u64,
@@ -32,6 +33,7 @@ pub(crate) fn read_slab<T: Lane, S: Source>(
     src: &mut S,
 ) -> Result<(), StreamFault>
     requires same_type { T.width ≡ width_of part.now.ty }
+    requires raster { IsRaster part.now.shape layout.now }
     requires all { length values.old ≡ product part.now.shape }
     requires whole { length block.old ≡ 4 ^ length part.now.shape }
     requires longest { longest_code part.now ≤ longest }
@@ -46,10 +48,9 @@ pub(crate) fn read_slab<T: Lane, S: Source>(
     ensures cause { HasCause (result ≡ Err Read) (S.faults src.old) (S.faults src.new) }
     ensures sure { S.never_fails src.old → (result ≢ Err Read) × S.never_fails src.new }
 {
-    let layout = Layout::raster(&part.shape);
     for b in 0..part.shape.blocks() {
         window.reach(longest, piece, src)?;
-        let Some(()) = read_block(part, &layout, b, window, values, block) else {
+        let Some(()) = read_block(layout, part, b, window, values, block) else {
             return Err(StreamFault::Truncated(first + b));
         };
     }
@@ -58,8 +59,8 @@ pub(crate) fn read_slab<T: Lane, S: Source>(
 
 /// Reads the code of block `b` by way of `block`, or answers `None` where the bits that are held end too early.
 fn read_block<T: Lane>(
-    part: &Header,
     layout: &Layout,
+    part: &Header,
     b: u64,
     window: &mut Window,
     values: &mut [T],
@@ -67,7 +68,7 @@ fn read_block<T: Lane>(
 ) -> Option<()>
     requires same_type { T.width ≡ width_of part.now.ty }
     requires in_array { b < blocks part.now.shape }
-    requires layout { IsRaster part.now.shape layout.now }
+    requires raster { IsRaster part.now.shape layout.now }
     requires all { length values.old ≡ product part.now.shape }
     requires whole { length block.old ≡ 4 ^ length part.now.shape }
     ensures some { OnSome result (ReadsBlock part.now b window.old.reader window.new.reader (map T.value values.old) (map T.value values.new)) }
@@ -82,7 +83,7 @@ fn read_block<T: Lane>(
     let _left = reader.left();
     let at = reader.at();
     window.go_to(at);
-    zf_pad::scatter_block(&part.shape, layout, b, block, values);
+    zf_pad::scatter_block(layout, &part.shape, b, block, values);
     Some(())
 }
 

@@ -27,6 +27,7 @@ use zf_pad::Layout;
 
 /// Appends the codes of all blocks, in order. Where as many as `most` bits are at hand, whole words are written.
 pub(crate) fn write_codes<T: Lane, O: Sink>(
+    layout: &Layout,
     h: &Header,
     values: &[T],
     block: &mut [T],
@@ -37,6 +38,7 @@ pub(crate) fn write_codes<T: Lane, O: Sink>(
     out: &mut O,
 ) -> Result<(), StreamFault>
     requires same_type { T.width ≡ width_of h.now.ty }
+    requires raster { IsRaster h.now.shape layout.now }
     requires all { length values.now ≡ product h.now.shape }
     requires whole { length block.old ≡ 4 ^ length h.now.shape }
     requires scratch { s.old ≡ length h.now.shape }
@@ -54,9 +56,8 @@ pub(crate) fn write_codes<T: Lane, O: Sink>(
     ensures scratch { s.new ≡ s.old }
     ensures cause { HasCause (result ≡ Err Write) (O.faults out.old) (O.faults out.new) }
 {
-    let layout = Layout::raster(&h.shape);
     for b in 0..h.shape.blocks() {
-        write_code(h, &layout, values, b, block, s, codes);
+        write_code(layout, h, values, b, block, s, codes);
         write_where_many(codes, most, piece, out)?;
     }
     Ok(())
@@ -86,8 +87,8 @@ fn write_where_many<O: Sink>(
 
 /// Appends the code of block `b`, whose values are gathered in `block`.
 fn write_code<T: Lane>(
-    h: &Header,
     layout: &Layout,
+    h: &Header,
     values: &[T],
     b: u64,
     block: &mut [T],
@@ -95,7 +96,7 @@ fn write_code<T: Lane>(
     codes: &mut BitWriter,
 )
     requires same_type { T.width ≡ width_of h.now.ty }
-    requires layout { IsRaster h.now.shape layout.now }
+    requires raster { IsRaster h.now.shape layout.now }
     requires all { length values.now ≡ product h.now.shape }
     requires in_array { b < blocks h.now.shape }
     requires whole { length block.old ≡ 4 ^ length h.now.shape }
@@ -107,7 +108,7 @@ fn write_code<T: Lane>(
 {
     // Known by this call: there are one to four dimensions.
     let _dims = h.shape.dims();
-    let e = zf_pad::gather_block(&h.shape, layout, b, values, block);
+    let e = zf_pad::gather_block(layout, &h.shape, b, values, block);
     encode(h, &e, block, s, codes);
 }
 

@@ -27,6 +27,7 @@ use std::alloc::Global;
 use zf_base::{Lane, Ty, block_len};
 use zf_dev::{Sink, Source};
 use zf_header::Header;
+use zf_pad::Layout;
 
 /// Reads a stream to the end of the source, and writes its raw values, each little-endian in 4 or 8 bytes, x fastest.
 ///
@@ -174,6 +175,7 @@ fn restore_slabs<T: Lane, S: Source, O: Sink>(
     // Known by these calls: there is an axis, and blocks are counted in a word.
     let _dims = h.shape.dims();
     let _blocks = h.shape.blocks();
+    let layout = Layout::raster(&h.shape);
     let all = rows_of(&h.shape);
     let mut row = 0;
     let mut first = 0;
@@ -185,7 +187,9 @@ fn restore_slabs<T: Lane, S: Source, O: Sink>(
             mode: h.mode,
         };
         let slab = &mut values[..part.shape.values() as usize];
-        read_slab(&part, first, longest, window, slab, block, piece, src)?;
+        read_slab(
+            &layout, &part, first, longest, window, slab, block, piece, src,
+        )?;
         write_values(slab, piece, out)?;
         first += part.shape.blocks();
         row += here;

@@ -8,7 +8,7 @@ gather-requires-clause-within g c =
     let here : IsRasterBlock c.args.shape.now c.args.b c.args.layout.now c.extent-e.result = record {
       shape = c.dims.ensures.shape;
       in_array = c.requires.in_array;
-      raster_layout = c.requires.layout;
+      raster_layout = c.requires.raster;
       origin = c.extent-e.ensures.origin;
       size = c.extent-e.ensures.size;
     } in
@@ -19,7 +19,7 @@ returns-clause-block g c =
     let here : IsRasterBlock c.args.shape.now c.args.b c.args.layout.now c.extent-e.result = record {
       shape = c.dims.ensures.shape;
       in_array = c.requires.in_array;
-      raster_layout = c.requires.layout;
+      raster_layout = c.requires.raster;
       origin = c.extent-e.ensures.origin;
       size = c.extent-e.ensures.size;
     } in

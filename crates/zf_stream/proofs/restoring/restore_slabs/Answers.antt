@@ -7,7 +7,8 @@ use Rattle.zf_spec.specs.Grid.{product, grid, blocks}
 use Rattle.zf_spec.specs.Stream.{raw}
 use Rattle.zf_base.specs.Widths.{width_of}
 use Rattle.zf_pad.specs.Slabs.{rows_of, row_len, with_rows, IsSlab, first_block}
-use Rattle.zf_pad.proofs.Slabs.{length-with_rows, product-with_rows, blocks-with_rows}
+use Rattle.zf_pad.specs.Rasters.{IsRaster}
+use Rattle.zf_pad.proofs.Slabs.{layout_of_slab, length-with_rows, product-with_rows, blocks-with_rows}
 use Rattle.zf_dev.specs.Sink.{Appends, AppendsFront}
 use Rattle.zf_header.specs.declared.header.Header.{Header}
 use Rattle.zf_stream.specs.declared.fault.StreamFault.{StreamFault}
@@ -163,3 +164,10 @@ loop-row-preserved g c =
       writes = omega (arith, c.loop-row.invariant.writes, c.write_values.ensures.cause.0);
       sure = λ sure. (c.read_slab.ensures.sure (c.loop-row.invariant.sure sure)).1;
     }
+
+pub read_slab-requires-clause-raster : goal.read_slab-requires-clause-raster
+read_slab-requires-clause-raster g c =
+    let ns = c.args.h.now.shape in
+    let Serves : List ℕ → Type 0 = λ s. IsRaster s c.raster-layout.result in
+    subst Serves (sym c.with_rows.ensures)
+    (layout_of_slab ns c.min-here.result c.raster-layout.result c.dims-dims.ensures.shape.some_dimension c.dims-dims.ensures.shape.four_at_most (omega (arith, c.min-here.ensures, c.rows_of-all.ensures)) c.raster-layout.ensures)
