@@ -396,7 +396,7 @@ fn is_rate(h: &Header) -> bool
     }
 }
 
-// The call that fails, the most bytes of a call, what is written, and the lines that are run: what stands in block 0 afterwards.
+// The call that fails, the most bytes of a call, and what is written.
 #[test]
 fn a_sink_fails(rt: HostRuntime) -> Result<(), Fail> {
     let rows: [(u64, usize, &[u8]); 3] = [(1, 100, b"1\n"), (0, 100, b""), (3, 1, b"1\n0")];
