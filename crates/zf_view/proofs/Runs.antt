@@ -1,9 +1,9 @@
 -- A run of positions of a window along x: its values stand side by side in one block of the array.
-use Rattle.std.proofs.Common.{◌≡◌, ℕ, zero, suc, ◌+◌, ◌-◌, ◌*◌, ◌/◌, ◌%◌, ◌^◌, ◌<◌, ◌≤◌, min, ℤ, Bool, true, ◌&&◌, ltb, ltb-true, lt-ltb, List, [], ◌∷◌, map, length, take, drop, get_or, refl, ap, sym, subst, ◌∙◌, arith}
+use Rattle.std.proofs.Common.{◌≡◌, ℕ, ◌+◌, ◌-◌, ◌*◌, ◌/◌, ◌%◌, ◌^◌, ◌<◌, ◌≤◌, ℤ, Bool, true, ltb, ltb-true, lt-ltb, List, [], ◌∷◌, map, length, take, drop, get_or, refl, ap, sym, subst, ◌∙◌, arith}
 use Rattle.std.proofs.lemmas.Bool.{and_parts, and_from}
-use Rattle.zf_spec.specs.Grid.{blocks, grid, raster, fours, is_inside, indices, extent_of}
+use Rattle.zf_spec.specs.Grid.{grid, raster, fours, is_inside}
 use Rattle.zf_base.specs.declared.position.Pos.{Pos}
-use Rattle.zf_base.specs.Positions.{axes, used_axes, with_unused, IsPosition}
+use Rattle.zf_base.specs.Positions.{used_axes, with_unused, IsPosition}
 use Rattle.zf_base.specs.Places.{block_number, place_of, IsAt}
 use Rattle.zf_base.specs.Formats.{existing_of}
 use Rattle.zf_base.proofs.Extents.{length-used_axes, used_axes-with_unused}

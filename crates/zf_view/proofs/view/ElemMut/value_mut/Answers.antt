@@ -1,4 +1,4 @@
-use Rattle.std.proofs.Common.{refl, ◌∙◌}
+use Rattle.std.proofs.Common.{refl}
 use Rattle.zf_cached.specs.Touch.{touch_for_writing, soiled}
 use Rattle.zf_view.proofs.view.ElemMut.value_mut.Goals as goal
 

@@ -1,4 +1,4 @@
-use Rattle.std.proofs.Common.{◌≡◌, refl, ap, sym, subst, ◌∙◌, ◌+◌, ◌≤◌, ◌^◌, ℤ, List, map, length, lit<, arith}
+use Rattle.std.proofs.Common.{refl, ap, sym, subst, ◌∙◌, ◌+◌, ◌≤◌, ◌^◌, map, length, lit<, arith}
 use Rattle.std.proofs.lemmas.List.{length-map}
 use Rattle.zf_base.specs.Positions.{used_axes, IsPosition}
 use Rattle.zf_base.specs.Places.{block_number, place_of}

@@ -1,4 +1,4 @@
-use Rattle.std.proofs.Common.{◌≡◌, ◌≤◌, length, ap, sym, subst, ◌∙◌, arith}
+use Rattle.std.proofs.Common.{◌≤◌, length, ap, subst, ◌∙◌, arith}
 use Rattle.zf_spec.specs.Grid.{product}
 use Rattle.zf_base.proofs.Extents.{length-used_axes}
 use Rattle.zf_view.proofs.Raster.{product_used}
