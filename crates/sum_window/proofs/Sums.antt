@@ -1,5 +1,5 @@
 -- The values of a window summed so far.
-use Rattle.std.proofs.Common.{◌≡◌, ℕ, suc, ◌+◌, ◌*◌, ◌^◌, ◌<◌, ◌≤◌, ℤ, pos, ◌+ℤ◌, neg_ℤ, ◌≤ℤ◌, ◌<ℤ◌, Bool, false, true, List, length, get_or, refl, sym, ap, subst, ◌∙◌, arith}
+use Rattle.std.proofs.Common.{◌≡◌, ℕ, suc, ◌+◌, ◌*◌, ◌^◌, ◌≤◌, ℤ, pos, ◌+ℤ◌, neg_ℤ, ◌≤ℤ◌, Bool, false, List, length, get_or, refl, sym, ap, subst, ◌∙◌, arith}
 use mir.Syntax.{w32, w64}
 use mir.Val.{to_z, of_z, SFits}
 use Rattle.std.proofs.lemmas.Int.{ints}
@@ -10,11 +10,10 @@ use Rattle.zf_base.specs.Positions.{used_axes}
 use Rattle.zf_base.specs.Places.{block_number, place_of}
 use Rattle.zf_header.specs.declared.header.Header.{Header}
 use Rattle.zf_cached.specs.State.{State}
-use Rattle.zf_cached.specs.Touch.{touch}
 use Rattle.zf_cached.specs.Windows.{Window, LiesIn}
 use Rattle.zf_cached.proofs.Caching.{touch-left_clean}
 use Rattle.zf_array.specs.Standing.{Held, format, state, shape, block_at, place_at}
-use Rattle.zf_view.specs.Touches.{raster_at, touched_at, found_at}
+use Rattle.zf_view.specs.Touches.{raster_at}
 use Rattle.zf_view.specs.Elems.{IsAtElem, GivesElem}
 use Rattle.zf_view.specs.declared.elems.ElemIter.{ElemIter}
 use Rattle.sum_window.specs.Marked.{value_at, sum_of, IsOnlyRead}

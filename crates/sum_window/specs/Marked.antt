@@ -1,5 +1,5 @@
 -- The sum of a window of an array, and what is saved once its first run was written over.
-use Rattle.std.specs.Prelude.{ℕ, zero, suc, ◌≡◌, ◌*◌, ◌≤◌, ℤ, pos, ◌+ℤ◌, Bool, false, List, [], ◌∷◌, length, replicate, slice_index_or, Some, None}
+use Rattle.std.specs.Prelude.{ℕ, zero, suc, ◌≡◌, ℤ, pos, ◌+ℤ◌, Bool, false, List, [], ◌∷◌, length, replicate, slice_index_or, Some, None}
 use Rattle.std.specs.Int.{w32}
 use Rattle.zf_base.specs.declared.lane.Ty.TheVariants.{I32}
 use Rattle.zf_base.specs.declared.position.Pos.{Pos}
@@ -13,7 +13,7 @@ use Rattle.zf_cached.specs.Arrays.{saved_file}
 use Rattle.zf_stream.specs.Parsing.{parse, header_of}
 use Rattle.zf_stream.specs.ReadStreams.{IsFault}
 use Rattle.zf_store.specs.Files.{IsOpened, stream_fault}
-use Rattle.zf_array.specs.Standing.{Held, stored, format, state, shape, block_at, place_at}
+use Rattle.zf_array.specs.Standing.{Held, stored, format, state, block_at, place_at}
 use Rattle.zf_view.specs.Touches.{position_at, raster_at}
 use Rattle.zf_view.specs.Runs.{run_length, run_changed}
 use Rattle.zf_view.specs.WindowFields.{view_fault}

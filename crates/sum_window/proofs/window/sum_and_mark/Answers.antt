@@ -1,4 +1,4 @@
-use Rattle.std.proofs.Common.{◌≡◌, ◌*◌, ℕ, refl, ap, sym, subst, ◌∙◌, ℤ, Bool, List, arith}
+use Rattle.std.proofs.Common.{◌≡◌, ◌*◌, ap, subst, ◌∙◌, Bool, List, arith}
 use Rattle.std.specs.Int.{w32}
 use mir.Val.{to_z, of_z}
 use mir.Syntax.{w32 as n32, w64 as n64}
@@ -11,7 +11,7 @@ use Rattle.zf_cached.specs.Changes.{flush, opened}
 use Rattle.zf_cached.specs.Arrays.{open_array, saved_file}
 use Rattle.zf_cached.specs.Windows.{Window}
 use Rattle.zf_store.specs.Stored.{format_of}
-use Rattle.zf_array.specs.Standing.{format, state}
+use Rattle.zf_array.specs.Standing.{format}
 use Rattle.sum_window.specs.Marked.{places_from, sum_of, marked, IsCause}
 use Rattle.sum_window.proofs.window.sum_and_mark.Goals as goal
 
