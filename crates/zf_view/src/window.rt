@@ -133,7 +133,7 @@ impl Window {
     }
 
     /// Position `number` of the window in raster order, x fastest, as a position of the array.
-    pub(crate) fn raster_at(&self, number: u64) -> Pos
+    pub fn raster_at(&self, number: u64) -> Pos
         requires { number < product self.now.size }
         ensures { result ≡ raster_at self.now number }
     {
@@ -141,7 +141,7 @@ impl Window {
     }
 
     /// The number of positions.
-    pub(crate) fn count(&self) -> u64
+    pub fn count(&self) -> u64
         requires { product self.now.size < 2 ^ 64 }
         ensures value { result ≡ product self.now.size }
         ensures axes { length self.now.size ≤ 4 }

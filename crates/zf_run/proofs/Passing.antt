@@ -1,0 +1,200 @@
+-- Passes over all blocks, and sums of the values of one.
+use Rattle.std.proofs.Common.{◌≡◌, refl, sym, ap, subst, ◌∙◌, ℕ, zero, suc, ◌+◌, ◌-◌, ◌*◌, ◌<◌, ◌≤◌, ◌^◌, ℤ, pos, negsuc, ◌+ℤ◌, Bool, List, [], ◌∷◌, ◌++◌, map, length, take, drop, replicate, get_or, FitsSigned, to_z, of_z, if◌then◌else◌, arith}
+use Rattle.std.specs.Int.{Width, w128}
+use Rattle.std.specs.List.{refill}
+use Rattle.std.proofs.lemmas.Int.{ints, to_z-of_z}
+use Rattle.std.proofs.lemmas.List.{map-append}
+use Rattle.std.proofs.Math.Seq.{take-append_seam}
+use Rattle.zf_spec.specs.Grid.{IsShape, upto, count_from, is_inside, indices, extent_of}
+use Rattle.zf_header.specs.HeaderBits.{block_bits}
+use Rattle.zf_cached.specs.Runs.{array_setting}
+use Rattle.zf_spec.proofs.Counting.{count_from-add, map-upto_same}
+use Rattle.zf_base.specs.Widths.{width_of}
+use Rattle.zf_base.specs.Formats.{Format, existing_of}
+use Rattle.zf_cached.specs.State.{State}
+use Rattle.zf_cached.specs.Touch.{touch_for_writing, with_values}
+use Rattle.zf_cached.specs.Windows.{Window}
+use Rattle.zf_cached.specs.Arrays.{array_format}
+use Rattle.zf_cached.specs.Steps.{Setting, Session, touched, changed, filled_below, summed, total, format_of}
+use Rattle.zf_array.specs.Standing.{Held, shape, state, format, array_of}
+use Rattle.zf_run.specs.Sessions.{setting_of, session_of, IsArray}
+use Rattle.zf_base.specs.declared.position.Extent.{Extent}
+use Rattle.zf_base.specs.Positions.{axes, used_axes, IsExtent}
+use Rattle.zf_header.specs.declared.header.Header.{Header}
+use Rattle.zf_pad.specs.Layouts.{place_indices}
+use Rattle.zf_pad.proofs.Existing.{has_place}
+use Rattle.zf_run.specs.Sums.{IsUpTo, value_within, within}
+use Rattle.zf_run.proofs.Sessions.{format_is, changed_is}
+
+-- a list of one value alone
+pub all_alike : {X : Type 0} (xs : List X) (v : X) → ((k : ℕ) → k < length xs → get_or xs k v ≡ v) → xs ≡ replicate (length xs) v
+all_alike [] v same = refl
+all_alike (x ∷ xs) v same =
+    let first : x ≡ v = same 0 (omega arith) in
+    let rest : xs ≡ replicate (length xs) v = all_alike xs v (λ k lt. same (suc k) (omega arith)) in
+    λ i. first i ∷ rest i
+
+refill_same : {X : Type 0} (xs ws : List X) → length ws ≡ length xs → refill (length xs) xs ws ≡ ws
+refill_same xs ws long = ap (λ n. take n (ws ++ drop (length ws) xs)) (sym long) ∙ take-append_seam ws (drop (length ws) xs)
+
+map-replicate : {X Y : Type 0} (f : X → Y) (n : ℕ) (x : X) → map f (replicate n x) ≡ replicate n (f x)
+map-replicate f zero x = refl
+map-replicate f (suc n) x = ap (λ ys. f x ∷ ys) (map-replicate f n x)
+
+-- a line that was filled
+pub filled_line : {X : Type 0} (value : X → ℤ) (line new : List X) (v : X) → new ≡ replicate (length line) v → length new ≡ length line
+    → map value (refill (length line) line new) ≡ replicate (length line) (value v)
+filled_line value line new v is long = ap (map value) (refill_same line new long ∙ is) ∙ map-replicate value (length line) v
+
+module _ (w : Width) (a : Held) (dim : ℕ) (is : IsArray w dim a) (u : Window) where
+  -- a block that was filled
+  pub filled_block : (b : Held) (k : ℕ) (vs : List ℤ) (n : ℕ) (x : ℤ) → vs ≡ replicate n x → n ≡ 4 ^ dim → b.header ≡ a.header
+      → state b ≡ with_values (touch_for_writing (format a) (state a) k) k (existing_of (format a) k vs)
+      → session_of b u ≡ changed (setting_of w a) (session_of a u) k (λ values. existing_of (format a) k (replicate (format a).block_len x))
+  unfolding array_format
+  filled_block b k vs n x alike many head now =
+      let room : n ≡ 4 ^ length (shape a) = many ∙ ap (λ d. 4 ^ d) (sym is.dims) in
+      let t = touch_for_writing (format a) (state a) k in
+      sym (changed_is w a is.same_type u b k (λ values. existing_of (format a) k (replicate (format a).block_len x))
+      (now ∙ ap (λ ys. with_values t k (existing_of (format a) k ys)) (alike ∙ ap (λ m. replicate m x) room)) head)
+
+-- ---- sums
+
+total-append : (xs : List ℤ) (y : ℤ) → total (xs ++ y ∷ []) ≡ total xs +ℤ y
+total-append [] y = omega (arith, ints)
+total-append (x ∷ xs) y = let rest = total-append xs y in omega (arith, ints, rest)
+
+-- with one number more
+pub total_more : (f : ℕ → ℤ) (n : ℕ) → total (map f (upto (n + 1))) ≡ total (map f (upto n)) +ℤ f n
+total_more f n =
+    let last : count_from (0 + n) 1 ≡ n ∷ [] = ap (λ k. k ∷ []) (omega arith) in
+    ap (λ ks. total (map f ks)) (count_from-add 0 n 1 ∙ ap (λ ks. upto n ++ ks) last) ∙ ap total (map-append f (upto n) (n ∷ [])) ∙ total-append (map f (upto n)) (f n)
+
+-- small numbers have small sums
+pub up_to_more : (step n : ℕ) (s x : ℤ) → IsUpTo (step * n) s → IsUpTo step x → IsUpTo (step * (n + 1)) (s +ℤ x)
+up_to_more step n s x sum one =
+    let more : step * (n + 1) ≡ step * n + step = omega arith in
+    let P : ℕ → Type 0 = λ m. IsUpTo m (s +ℤ x) in
+    subst P (sym more) (sum_up_to (step * n) step s x sum one)
+  where
+    sum_up_to : (m n : ℕ) (s x : ℤ) → IsUpTo m s → IsUpTo n x → IsUpTo (m + n) (s +ℤ x)
+    sum_up_to m n s x a b = (omega (arith, ints, a.0, a.1, b.0, b.1), omega (arith, ints, a.0, a.1, b.0, b.1))
+
+pub up_to_less : (m n : ℕ) (s : ℤ) → m ≤ n → IsUpTo m s → IsUpTo n s
+up_to_less m n s le h = (omega (arith, ints, h.0, le), omega (arith, ints, h.1, le))
+
+-- and fit
+pub up_to_fits : (s : ℤ) → IsUpTo (2 ^ 100) s → FitsSigned w128 s
+up_to_fits (pos n) h = record { sfits = omega (arith, ints, h.0, h.1) }
+up_to_fits (negsuc n) h = record { sfits = omega (arith, ints, h.0, h.1) }
+
+-- the sum of two numbers of 128 bits
+module _ (bits : ℕ) (x : ℤ) where
+  pub summed_fits : (n step : ℕ) → step * (n + 1) ≤ 2 ^ 100 → step ≤ 2 ^ 100 → IsUpTo (step * n) (to_z w128 bits) → IsUpTo step x → FitsSigned w128 (to_z w128 bits +ℤ to_z w128 (of_z w128 x))
+  summed_fits n step room less sum_small small =
+      let one = to_z-of_z w128 x (up_to_fits x (up_to_less step (2 ^ 100) x less small)) in
+      subst (λ y. FitsSigned w128 (to_z w128 bits +ℤ y)) (sym one) (up_to_fits (to_z w128 bits +ℤ x) (up_to_less (step * (n + 1)) (2 ^ 100) (to_z w128 bits +ℤ x) room (up_to_more step n (to_z w128 bits) x sum_small small)))
+
+  pub summed_is : (n step : ℕ) → step * (n + 1) ≤ 2 ^ 100 → step ≤ 2 ^ 100 → IsUpTo (step * n) (to_z w128 bits) → IsUpTo step x
+      → to_z w128 (of_z w128 (to_z w128 bits +ℤ to_z w128 (of_z w128 x))) ≡ to_z w128 bits +ℤ x
+  summed_is n step room less sum_small small =
+      to_z-of_z w128 (to_z w128 bits +ℤ to_z w128 (of_z w128 x)) (summed_fits n step room less sum_small small)
+      ∙ ap (λ y. to_z w128 bits +ℤ y) (to_z-of_z w128 x (up_to_fits x (up_to_less step (2 ^ 100) x less small)))
+
+-- ---- passes
+
+-- the numbers from k on begin with k
+pub count_from-below : (k n : ℕ) → k < n → count_from k (n - k) ≡ k ∷ count_from (k + 1) (n - (k + 1))
+count_from-below k n below =
+    let left : n - k ≡ suc (n - (k + 1)) = omega arith in
+    let next : suc k ≡ k + 1 = omega arith in
+    ap (count_from k) left ∙ ap (λ i. k ∷ count_from i (n - (k + 1))) next
+
+-- what does not change stays an array's
+pub is_array_kept : (w : Width) (dim : ℕ) (a b : Held) → b.header ≡ a.header → IsArray w dim a → IsArray w dim b
+is_array_kept w dim a b head is = record {
+  same_type = is.same_type ∙ ap (λ h. width_of h.ty) (sym head);
+  sizes = subst (λ h. IsShape h.shape) (sym head) is.sizes;
+  dims = ap (λ h. length h.shape) head ∙ is.dims;
+}
+
+module _ (w : Width) (dim : ℕ) (a now next : Held) (is : IsArray w dim a) (head : now.header ≡ a.header) (u : Window) where
+  setting_kept : setting_of w now ≡ setting_of w a
+  setting_kept = ap (λ h. array_setting w (block_bits h.mode)) head
+
+  pub touched_on : (k : ℕ) → session_of next u ≡ touched (setting_of w now) (session_of now u) k → touched (setting_of w a) (session_of now u) k ≡ session_of next u
+  touched_on k is_next = ap (λ s. touched s (session_of now u) k) (sym setting_kept) ∙ sym is_next
+
+  -- one block more is filled
+  pub fill_on : (k n : ℕ) (x : ℤ) → k < n
+      → session_of next u ≡ changed (setting_of w now) (session_of now u) k (λ values. existing_of (format now) k (replicate (format now).block_len x))
+      → filled_below (setting_of w a) (session_of next u) x (count_from (k + 1) (n - (k + 1))) ≡ filled_below (setting_of w a) (session_of now u) x (count_from k (n - k))
+  unfolding filled_below
+  fill_on k n x below is_next =
+      let same = (is_array_kept w dim a now head is).same_type in
+      let Fill = λ (s : Setting (List Bool)) (f : Format (List Bool)). changed s (session_of now u) k (λ values. existing_of f k (replicate f.block_len x)) in
+      let here : session_of next u ≡ Fill (setting_of w a) (format_of (setting_of w a) (session_of now u)) =
+      is_next ∙ ap (Fill (setting_of w now)) (sym (format_is w now same u)) ∙ ap (λ s. Fill s (format_of s (session_of now u))) setting_kept in
+      ap (λ t. filled_below (setting_of w a) t x (count_from (k + 1) (n - (k + 1)))) here ∙ sym (ap (filled_below (setting_of w a) (session_of now u) x) (count_from-below k n below))
+
+-- at last none is left
+pub filled_all : {Code : Type 0} (setting : Setting Code) (s t : Session Code) (x : ℤ) (k n : ℕ) → n ≤ k → filled_below setting s x (count_from k (n - k)) ≡ t → s ≡ t
+unfolding filled_below
+filled_all setting s t x k n past is = let none : 0 ≡ n - k = omega arith in ap (λ m. filled_below setting s x (count_from k m)) none ∙ is
+
+-- a sum so far, and what is still to be touched
+abbrev pub sum_from : {Code X : Type 0} → Setting Code → (X → ℕ) → (X → List ℤ → ℤ) → List X → Session Code → ℤ → Session Code × ℤ
+sum_from setting block found xs s sum = let rest = summed setting block found xs s in (rest.0, sum +ℤ rest.1)
+
+module _ {Code X : Type 0} (setting : Setting Code) (block : X → ℕ) (found : X → List ℤ → ℤ) where
+  pub sum_on : (x : X) (xs : List X) (s t : Session Code) → touched setting s (block x) ≡ t → (sum one more : ℤ) → one ≡ found x (t.state.values (block x)) → more ≡ sum +ℤ one
+      → sum_from setting block found (x ∷ xs) s sum ≡ sum_from setting block found xs t more
+  unfolding summed
+  sum_on x xs s t touches sum one more finds is =
+      let After : Session Code → Session Code × ℤ = λ q. let rest = summed setting block found xs q in (rest.0, sum +ℤ (found x (q.state.values (block x)) +ℤ rest.1)) in
+      let rest = summed setting block found xs t in
+      let assoc : sum +ℤ (one +ℤ rest.1) ≡ more +ℤ rest.1 = omega (arith, ints, is) in
+      ap After touches ∙ ap (λ y. (rest.0, sum +ℤ (y +ℤ rest.1))) (sym finds) ∙ ap (λ y. (rest.0, y)) assoc
+
+  pub sum_starts : (xs : List X) (s : Session Code) → summed setting block found xs s ≡ sum_from setting block found xs s (pos 0)
+  sum_starts xs s = let rest = summed setting block found xs s in let none : rest.1 ≡ pos 0 +ℤ rest.1 = omega (arith, ints) in ap (λ y. (rest.0, y)) none
+
+  pub sum_ends : (s : Session Code) (sum : ℤ) → sum_from setting block found [] s sum ≡ (s, sum)
+  unfolding summed
+  sum_ends s sum = let none : sum +ℤ pos 0 ≡ sum = omega (arith, ints) in ap (λ y. (s, y)) none
+
+-- ---- the places of a block that exist
+
+-- those that lie within its extents
+pub within_is : (w : Width) (dim : ℕ) (a : Held) (b : ℕ) (e : Extent) (vs : List ℤ) → IsArray w dim a → IsExtent (length (shape a)) e → used_axes (length (shape a)) e.size ≡ extent_of (shape a) b → length vs ≡ 4 ^ dim
+    → within e.size vs ≡ existing_of (format a) b vs
+unfolding existing_of array_format place_indices
+within_is w dim a b e vs is extent used long =
+    let d = length (shape a) in
+    let many : length vs ≡ 4 ^ d = long ∙ ap (λ k. 4 ^ k) (sym is.dims) in
+    let exists : (p : ℕ) → p < 4 ^ d → is_inside (axes e.size) (indices 4 p) ≡ is_inside (extent_of (shape a) b) (indices d p) =
+    λ p lt. has_place d e is.sizes.four_at_most extent p lt ∙ ap (λ es. is_inside es (indices d p)) used in
+    ap (λ n. map (value_within e.size vs) (upto n)) many
+    ∙ map-upto_same (value_within e.size vs) (λ p. if is_inside (extent_of (shape a) b) (indices d p) then get_or vs p (pos 0) else pos 0) (4 ^ d)
+    (λ p lt. ap (λ t. if t then get_or vs p (pos 0) else pos 0) (exists p lt))
+
+-- an array after a touch
+pub header_after : (h : Header) (s : State (List Bool)) → (array_of h s).header ≡ h
+unfolding array_of
+header_after h s = refl
+
+-- a block has 256 places at most
+pub block_room : (w : Width) (dim : ℕ) (a : Held) → IsArray w dim a → (n : ℕ) → n ≡ 4 ^ dim → n ≤ 256
+block_room w dim a is n many = by (length (shape a)) is.sizes.four_at_most (many ∙ ap (λ d. 4 ^ d) (sym is.dims))
+  where
+    by : (d : ℕ) → d ≤ 4 → n ≡ 4 ^ d → n ≤ 256
+    by zero four e = omega (arith, e)
+    by (suc zero) four e = omega (arith, e)
+    by (suc (suc zero)) four e = omega (arith, e)
+    by (suc (suc (suc zero))) four e = omega (arith, e)
+    by (suc (suc (suc (suc zero)))) four e = omega (arith, e)
+    by (suc (suc (suc (suc (suc d))))) four e = absurd (omega arith)
+
+-- a number of 128 bits that is small
+pub small_is : (s : ℤ) → IsUpTo (2 ^ 100) s → to_z w128 (of_z w128 s) ≡ s
+small_is s small = to_z-of_z w128 s (up_to_fits s small)

@@ -1,0 +1,82 @@
+-- Shapes that an array may be resized to, and the array of another shape.
+use Rattle.std.proofs.Common.{◌≡◌, refl, sym, ap, subst, ◌∙◌, ℕ, ◌+◌, ◌*◌, ◌<◌, ◌≤◌, Bool, true, false, not, ◌&&◌, eqb, eq-eqb, ne_eqb, leb, List, length, replicate, None, is_none, arith}
+use Rattle.std.proofs.lemmas.Bool.{and_from, le-leb, leb-true}
+use Rattle.std.specs.Int.{Width, div_ceil}
+use Rattle.zf_spec.specs.Grid.{blocks}
+use Rattle.zf_spec.specs.Stream.{header, fixed_rate}
+use Rattle.zf_base.specs.Widths.{width_of}
+use Rattle.zf_base.specs.Shapes.{shape_fault}
+use Rattle.zf_base.specs.declared.lane.Ty.{Ty}
+use Rattle.zf_header.specs.declared.header.Header.{Header}
+use Rattle.zf_header.specs.declared.header.Mode.TheVariants.{Rate}
+use Rattle.zf_header.specs.HeaderBits.{header_bits, rate_bytes_of, block_bits}
+use Rattle.zf_cached.specs.Commands.{Command}
+use Rattle.zf_cached.specs.Changes.{resized}
+use Rattle.zf_cached.specs.Arrays.{rate_coding, array_format, max_file, file_bytes}
+use Rattle.zf_cached.specs.Windows.{Window, LiesIn, whole}
+use Rattle.zf_cached.specs.Steps.{Setting, Session, is_new_shape, done}
+use Rattle.zf_cached.specs.Runs.{array_setting}
+use Rattle.zf_array.specs.Standing.{Held, shape, state, format}
+use Rattle.zf_run.specs.Sessions.{setting_of, session_of, start_of, IsArray}
+use Rattle.zf_run.specs.Steps.{Does}
+use Rattle.zf_run.proofs.Stepping.{accepted}
+
+and_false : (a : Bool) → (a && false) ≡ false
+and_false true = refl
+and_false false = refl
+
+not_le : (m n : ℕ) → n < m → leb m n ≡ false
+not_le m n lt = by (leb m n) refl
+  where
+    by : (t : Bool) → leb m n ≡ t → t ≡ false
+    by true e = absurd (omega (arith, leb-true m n e))
+    by false e = refl
+
+module _ {Code : Type 0} (setting : Setting Code) (s : Session Code) (ns : List ℕ) where
+  pub not_as_many : (length ns ≡ length s.shape → ⊥) → is_new_shape setting s ns ≡ false
+  not_as_many other = ap (λ t. t && (is_none (shape_fault ns) && setting.has_room ns)) (ne_eqb (length ns) (length s.shape) other)
+
+  pub no_room : setting.has_room ns ≡ false → is_new_shape setting s ns ≡ false
+  no_room none = ap (λ t. eqb (length ns) (length s.shape) && (is_none (shape_fault ns) && t)) none
+      ∙ ap (λ t. eqb (length ns) (length s.shape) && t) (and_false (is_none (shape_fault ns))) ∙ and_false (eqb (length ns) (length s.shape))
+
+  pub is_new : length ns ≡ length s.shape → shape_fault ns ≡ None → setting.has_room ns ≡ true → is_new_shape setting s ns ≡ true
+  is_new many good room = and_from (eqb (length ns) (length s.shape)) (is_none (shape_fault ns) && setting.has_room ns) (eq-eqb (length ns) (length s.shape) many)
+      (and_from (is_none (shape_fault ns)) (setting.has_room ns) (ap is_none good) room)
+
+-- the file of an array is as long as its header says
+pub file_is : (w : Width) (ty : Ty) (ns : List ℕ) (b : ℕ) → w ≡ width_of ty → rate_bytes_of (record { ty = ty; shape = ns; mode = Rate b }) ≡ file_bytes w b ns
+unfolding file_bytes header_bits
+file_is w ty ns b same = ap (λ u. 8 * div_ceil (length (header u ns (fixed_rate b)) + blocks ns * b) 64) (sym same)
+
+module _ (w : Width) (a : Held) (ty : Ty) (ms ns : List ℕ) (b : ℕ) (same : ms ≡ ns) (of_type : w ≡ width_of ty) (rate : b ≡ block_bits a.header.mode) where
+  bytes : rate_bytes_of (record { ty = ty; shape = ms; mode = Rate b }) ≡ file_bytes w (block_bits a.header.mode) ns
+  bytes = file_is w ty ms b of_type ∙ (λ i. file_bytes w (rate i) (same i))
+
+  pub has_room_is : rate_bytes_of (record { ty = ty; shape = ms; mode = Rate b }) ≤ 1200000000 → (setting_of w a).has_room ns ≡ true
+  unfolding array_setting
+  has_room_is small = le-leb (file_bytes w (block_bits a.header.mode) ns) max_file (omega (arith, small, bytes))
+
+  pub has_no_room : 1200000000 < rate_bytes_of (record { ty = ty; shape = ms; mode = Rate b }) → (setting_of w a).has_room ns ≡ false
+  unfolding array_setting
+  has_no_room large = not_le (file_bytes w (block_bits a.header.mode) ns) max_file (omega (arith, large, bytes))
+
+-- an array that was resized
+module _ (w : Width) (a : Held) (dim : ℕ) (is : IsArray w dim a) (v : Window) (lies : LiesIn (shape a) v) (b : Held) (ns ms : List ℕ) (same : ms ≡ ns) (new : is_new_shape (setting_of w a) (start_of a) ns ≡ true)
+    (rate : a.header.mode ≡ Rate (block_bits a.header.mode)) (head : b.header ≡ record { ty = a.header.ty; shape = ms; mode = Rate (block_bits a.header.mode) }) where
+  coded : array_format (rate_coding w (block_bits a.header.mode)) ns ≡ format b
+  coded = ap (array_format (rate_coding w (block_bits a.header.mode))) (sym same) ∙ ap (λ u. array_format (rate_coding u (block_bits a.header.mode)) ms) is.same_type
+      ∙ sym (ap (λ (h : Header). array_format (rate_coding (width_of h.ty) (block_bits h.mode)) h.shape) head)
+
+  pub resizes : state b ≡ resized (format b) (replicate (block_bits a.header.mode) false) (state a) → (u : Window) → u ≡ whole ms → LiesIn ms u → Does w (Command.resize ns) a v b u None
+  unfolding done array_setting rate_coding
+  resizes now u whole_is inside =
+      let zero = replicate (block_bits a.header.mode) false in
+      let sizes : ns ≡ b.header.shape = sym same ∙ sym (ap (λ (h : Header). h.shape) head) in
+      let there : resized (array_format (rate_coding w (block_bits a.header.mode)) ns) zero (state a) ≡ state b = ap (λ f. resized f zero (state a)) coded ∙ sym now in
+      let view : whole ns ≡ u = ap whole (sym same) ∙ sym whole_is in
+      let end : record { shape = ns; state = resized (array_format (rate_coding w (block_bits a.header.mode)) ns) zero (state a); window = whole ns } ≡ session_of b u =
+      λ i. record { shape = sizes i; state = there i; window = view i } in
+      accepted w (Command.resize ns) a v lies (ap not new) refl refl b u None refl
+      (ap (λ (t : Session (List Bool)). (t, None)) end)
+      (subst (λ ks. LiesIn ks u) (sym (ap (λ (h : Header). h.shape) head)) inside) (ap (λ (h : Header). h.ty) head) (ap (λ (h : Header). h.mode) head ∙ sym rate)

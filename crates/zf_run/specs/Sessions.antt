@@ -1,0 +1,33 @@
+-- An array and a window as what a script works on.
+use Rattle.std.specs.Prelude.{ℕ, ◌≡◌, Bool, List, length}
+use Rattle.std.specs.Int.{Width}
+use Rattle.zf_spec.specs.Grid.{IsShape}
+use Rattle.zf_base.specs.Widths.{width_of}
+use Rattle.zf_header.specs.HeaderBits.{block_bits}
+use Rattle.zf_cached.specs.Windows.{Window, whole}
+use Rattle.zf_cached.specs.Steps.{Setting, Session}
+use Rattle.zf_cached.specs.Replies.{Reply}
+use Rattle.zf_cached.specs.Runs.{array_setting, run}
+use Rattle.zf_array.specs.Standing.{Held, shape, state}
+
+-- what a script doesn't change about an array: the type of its values and the bits of a block
+abbrev pub setting_of : Width → Held → Setting (List Bool)
+setting_of w a = array_setting w (block_bits a.header.mode)
+
+-- what it does change
+abbrev pub session_of : Held → Window → Session (List Bool)
+session_of a window = record { shape = shape a; state = state a; window = window }
+
+-- what it begins with
+abbrev pub start_of : Held → Session (List Bool)
+start_of a = session_of a (whole (shape a))
+
+-- the run of a script over an array, where memory is wanting at the lines with these numbers: the session at its end, and the replies
+abbrev pub run_of : Width → Held → List ℕ → List ℕ → Session (List Bool) × List Reply
+run_of w a wants script = run (setting_of w a) wants (shape a) (state a) script
+
+-- an array of values of this width in d dimensions: so says its header, and its sizes are those of a shape
+pub record IsArray (w : Width) (d : ℕ) (a : Held) : Type 0 where
+  pub same_type : w ≡ width_of a.header.ty
+  pub sizes : IsShape (shape a)
+  pub dims : length (shape a) ≡ d

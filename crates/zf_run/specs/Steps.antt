@@ -1,0 +1,61 @@
+-- What a line of a script leads to, and what it answers.
+use Rattle.std.specs.Prelude.{ℕ, ◌≡◌, Bool, true, false, List, Option, Some, None, Result, Ok, Err}
+use Rattle.std.specs.Option.{option_map}
+use Rattle.std.specs.Int.{Width}
+use Rattle.zf_cached.specs.Replies as script
+use Rattle.zf_cached.specs.Windows.{Window, LiesIn}
+use Rattle.zf_cached.specs.Commands.{Command}
+use Rattle.zf_cached.specs.Steps.{Setting, Session, step}
+use Rattle.zf_cached.specs.Runs.{read_step, line_step}
+use Rattle.zf_script.specs.declared.reply.Refusal.{Refusal}
+use Rattle.zf_script.specs.declared.reply.Reply.{Reply}
+use Rattle.zf_script.specs.Seen.{refusal_of, reply_of}
+use Rattle.zf_array.specs.Standing.{Held, shape}
+use Rattle.zf_run.specs.Sessions.{setting_of, session_of}
+
+-- the reply is a refusal
+abbrev pub is_refusal : script.Reply → Bool
+is_refusal (script.Reply.refused why) = true
+is_refusal reply = false
+
+-- it says that memory was wanting
+abbrev pub is_want : script.Reply → Bool
+is_want (script.Reply.refused script.Refusal.memory) = true
+is_want reply = false
+
+-- memory was wanting at a line with this reply, if any
+abbrev pub wanted : Option script.Reply → Bool
+wanted None = false
+wanted (Some reply) = is_want reply
+
+-- a reply, if any, as the language has it
+abbrev pub said : Option Reply → Option script.Reply
+said reply = option_map reply_of reply
+
+-- the reply of a command, if any, or why it is refused
+abbrev pub answer : Result (Option Reply) Refusal → Option script.Reply
+answer (Ok reply) = said reply
+answer (Err why) = Some (script.Reply.refused (refusal_of why))
+
+-- the window lies in the array
+abbrev pub HasWindow : {Code : Type 0} → Session Code → Type 0
+HasWindow s = LiesIn s.shape s.window
+
+-- a command leads from one session to another, and this is its reply, if any
+abbrev pub Takes : {Code : Type 0} → Setting Code → Session Code → Command → Session Code → Option script.Reply → Type 0
+Takes setting s c t reply = read_step setting s (Some c) (wanted reply) ≡ (t, reply)
+
+-- a line leads from one session to another, and this is its reply, if any
+abbrev pub LeadsTo : {Code : Type 0} → Setting Code → Session Code → List ℕ → Session Code → Option script.Reply → Type 0
+LeadsTo setting s line t reply = line_step setting s line (wanted reply) ≡ (t, reply)
+
+-- a command leads from an array and a window to others, and this is its answer; the type and the mode stay
+pub record Does (w : Width) (c : Command) (a : Held) (v : Window) (b : Held) (u : Window) (reply : Option script.Reply) : Type 0 where
+  pub step_is : step (setting_of w a) (session_of a v) c (wanted reply) ≡ (session_of b u, reply)
+  pub inside : LiesIn (shape b) u
+  pub same_type : b.header.ty ≡ a.header.ty
+  pub same_mode : b.header.mode ≡ a.header.mode
+
+-- a command that does not look at the window, and keeps it
+abbrev pub DoesAlone : Width → Command → Held → Held → Option script.Reply → Type 0
+DoesAlone w c a b reply = (v : Window) → LiesIn (shape a) v → Does w c a v b v reply

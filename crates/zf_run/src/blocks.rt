@@ -1,0 +1,134 @@
+//! Commands on all blocks.
+
+ghost use Rattle.std.specs.Prelude.{◌≡◌, ◌<◌, ◌≤◌, ◌^◌, map, replicate, length};
+ghost use Rattle.zf_spec.specs.Grid.{upto, blocks, is_inside, indices};
+ghost use Rattle.zf_base.specs.Formats.{existing_of};
+ghost use Rattle.zf_base.specs.Positions.{axes};
+ghost use Rattle.zf_cached.specs.Commands.{Command};
+ghost use Rattle.zf_cached.specs.Windows.{Window as Part};
+ghost use Rattle.zf_cached.specs.Steps.{touched, changed, filled_below, summed, total};
+ghost use Rattle.zf_array.specs.Standing.{shape, state, format};
+ghost use Rattle.zf_run.specs.Sessions.{setting_of, session_of, IsArray};
+ghost use Rattle.zf_run.specs.Sums.{value_within, within, IsUpTo};
+ghost use Rattle.zf_run.specs.Steps.{DoesAlone, answer};
+
+use crate::commands::Answer;
+use crate::values::of_type;
+use zf_array::Array;
+use zf_base::{Lane, Pos};
+use zf_script::{Refusal, Reply};
+
+/// `fill v`: makes all values be `v`.
+pub(crate) fn fill<T: Lane, const D: usize>(a: &mut Array<T, D>, v: i128) -> Answer
+    requires { IsArray T.width D a.old }
+    ensures { DoesAlone T.width (Command.fill v) a.old a.new (answer result) }
+{
+    let Some(v) = of_type(v) else {
+        return Err(Refusal::Value);
+    };
+    fill_blocks(a, v);
+    Ok(None)
+}
+
+/// `sum`: the sum of all values.
+pub(crate) fn sum<T: Lane, const D: usize>(a: &mut Array<T, D>) -> Answer
+    requires { IsArray T.width D a.old }
+    ensures { DoesAlone T.width Command.sum a.old a.new (answer result) }
+{
+    Ok(Some(Reply::Number(sum_blocks(a))))
+}
+
+// Makes all values of each block be `v`, by one touch for writing.
+fn fill_blocks<T: Lane, const D: usize>(a: &mut Array<T, D>, v: T)
+    requires { IsArray T.width D a.old }
+    ensures filled { (u : Part) → session_of a.new u
+        ≡ filled_below (setting_of T.width a.old) (session_of a.old u) (T.value v) (upto (blocks (shape a.old))) }
+    ensures header { a.new.header ≡ a.old.header }
+{
+    for b in 0..a.shape().blocks() {
+        fill_block(a, b, v);
+    }
+}
+
+// Makes all values of block `b` be `v`, by one touch for writing.
+fn fill_block<T: Lane, const D: usize>(a: &mut Array<T, D>, b: u64, v: T)
+    requires array { IsArray T.width D a.old }
+    requires block { b < blocks (shape a.old) }
+    ensures filled { (u : Part) → session_of a.new u ≡ changed (setting_of T.width a.old) (session_of a.old u) b
+        (λ values. existing_of (format a.old) b (replicate (format a.old).block_len (T.value v))) }
+    ensures header { a.new.header ≡ a.old.header }
+{
+    fill_line(a.block_mut(b), v);
+}
+
+// Makes all values of a line be `v`.
+fn fill_line<T: Lane>(line: &mut [T], v: T)
+    ensures { line.new ≡ replicate (length line.old) v }
+{
+    for value in line.iter_mut() {
+        *value = v;
+    }
+}
+
+// The sum of all values as the touches of their blocks find them. At most 2^27 blocks of 256 values of 64 bits have a sum far below 2^127.
+fn sum_blocks<T: Lane, const D: usize>(a: &mut Array<T, D>) -> i128
+    requires { IsArray T.width D a.old }
+    ensures sum { (u : Part) → summed (setting_of T.width a.old) (λ b. b) (λ b values. total values) (upto (blocks (shape a.old)))
+        (session_of a.old u) ≡ (session_of a.new u, result) }
+    ensures bound { IsUpTo (2 ^ 100) result }
+    ensures header { a.new.header ≡ a.old.header }
+{
+    let mut sum = 0;
+    for b in 0..a.shape().blocks() {
+        sum += sum_block(a, b);
+    }
+    sum
+}
+
+// The sum of the values of block `b` as a touch finds them.
+fn sum_block<T: Lane, const D: usize>(a: &mut Array<T, D>, b: u64) -> i128
+    requires array { IsArray T.width D a.old }
+    requires block { b < blocks (shape a.old) }
+    ensures touched { (u : Part) → session_of a.new u ≡ touched (setting_of T.width a.old) (session_of a.old u) b }
+    ensures sum { result ≡ total ((state a.new).values b) }
+    ensures bound { IsUpTo (2 ^ 71) result }
+    ensures header { a.new.header ≡ a.old.header }
+{
+    let size = a.shape().extent(b).size;
+    sum_within(a.block(b), &size)
+}
+
+// The sum of the values of a block at the places that lie within these sizes.
+fn sum_within<T: Lane>(block: &[T], size: &Pos) -> i128
+    requires { length block.now ≤ 256 }
+    ensures sum { result ≡ total (within size.now (map T.value block.now)) }
+    ensures bound { IsUpTo (2 ^ 71) result }
+{
+    let mut sum = 0;
+    for place in 0..block.len() {
+        sum += value_within(block, size, place);
+    }
+    sum
+}
+
+// The value at a place of a block, 0 where the place does not lie within these sizes.
+fn value_within<T: Lane>(block: &[T], size: &Pos, place: usize) -> i128
+    requires { place < length block.now }
+    ensures value { result ≡ value_within size.now (map T.value block.now) place }
+    ensures bound { IsUpTo (2 ^ 63) result }
+{
+    if !is_within(size, place as u64) {
+        return 0;
+    }
+    block[place].to_wide()
+}
+
+// Whether a place lies within these sizes. A place has the digits of its number in base 4 as indices, x lowest.
+fn is_within(size: &Pos, place: u64) -> bool
+    ensures { result ≡ is_inside (axes size.now) (indices 4 place) }
+{
+    let y = place / 4;
+    let z = y / 4;
+    let w = z / 4;
+    place % 4 < size.x && y % 4 < size.y && z % 4 < size.z && w % 4 < size.w
+}

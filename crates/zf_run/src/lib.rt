@@ -1,0 +1,15 @@
+//! Scripts on arrays: each line is a step of an array and a window, and its reply is written as it comes.
+#![tactic(auto)]
+
+mod blocks;
+mod changes;
+mod commands;
+mod end;
+mod lines;
+mod runs;
+mod target;
+mod values;
+mod windows;
+
+pub use end::RunEnd;
+pub use runs::run;

@@ -1,0 +1,65 @@
+//! The lines of a script.
+
+ghost use Rattle.std.specs.Prelude.{◌≡◌, ◌<◌, [], ◌∷◌, length, IfSome, IfNone, IfOk, OnErr, OnOk, IsErr};
+ghost use Rattle.zf_dev.specs.Faults.{HasCause};
+ghost use Rattle.zf_cached.specs.Runs.{lines_of};
+ghost use Rattle.zf_run.specs.Steps.{HasWindow, LeadsTo, said};
+ghost use Rattle.zf_run.specs.Lines.{Replies, Breaks};
+
+use crate::target::Target;
+use memchr::memchr;
+use zf_dev::{Failed, Sink, write_all};
+use zf_script::{Reply, parse_line, reply_text};
+use zf_view::Window;
+
+/// The first line of some and those behind its line feed; none where there is no line feed, and so one line.
+pub(crate) fn cut_line(lines: &[u8]) -> Option<(&[u8], &[u8])>
+    ensures parts { IfSome result (λ parts. lines_of lines.now ≡ parts.0.now ∷ lines_of parts.1.now) }
+    ensures shorter { IfSome result (λ parts. length parts.1.now < length lines.now) }
+    ensures none { IfNone result (lines_of lines.now ≡ lines.now ∷ []) }
+{
+    let end = memchr(b'\n', lines)?;
+    Some((&lines[..end], &lines[end + 1..]))
+}
+
+/// Runs a line and writes its reply, if any; whether the line was refused.
+pub(crate) fn run_line<A: Target, O: Sink>(
+    a: &mut A,
+    window: &mut Window,
+    line: &[u8],
+    out: &mut O,
+) -> Result<bool, Failed>
+    requires { HasWindow (A.session a.old window.old) }
+    ensures ok { IfOk result (Replies (A.setting (A.kept a.old)) (A.session a.old window.old) line.now
+        (A.session a.new window.new) (O.contents out.old) (O.contents out.new)) }
+    ensures err { OnErr result (Breaks (A.setting (A.kept a.old)) (A.session a.old window.old) line.now
+        (A.session a.new window.new) (O.contents out.old) (O.contents out.new)) }
+    ensures window { HasWindow (A.session a.new window.new) }
+    ensures kept { A.kept a.new ≡ A.kept a.old }
+    ensures unchanged { OnOk result (O.faults out.new ≡ O.faults out.old) }
+    ensures cause { HasCause (IsErr result) (O.faults out.old) (O.faults out.new) }
+{
+    let Some(reply) = reply_to(a, window, line) else {
+        return Ok(false);
+    };
+    let mut room = [0; 128];
+    write_all(out, reply_text(&reply, &mut room))?;
+    Ok(matches!(reply, Reply::Refused(_)))
+}
+
+// What a line leads to, and its reply, if any. An empty line has none.
+fn reply_to<A: Target>(a: &mut A, window: &mut Window, line: &[u8]) -> Option<Reply>
+    requires { HasWindow (A.session a.old window.old) }
+    ensures step { LeadsTo (A.setting (A.kept a.old)) (A.session a.old window.old) line.now
+        (A.session a.new window.new) (said result) }
+    ensures window { HasWindow (A.session a.new window.new) }
+    ensures kept { A.kept a.new ≡ A.kept a.old }
+{
+    if line.is_empty() {
+        return None;
+    }
+    match parse_line(a.dims(), line) {
+        Ok(cmd) => a.command(window, cmd),
+        Err(why) => Some(Reply::Refused(why)),
+    }
+}

@@ -1,0 +1,69 @@
+//! The run of a script.
+
+ghost use Rattle.std.specs.Prelude.{◌≡◌, ◌≢◌, IfOk, OnErr, OnOk, IsErr};
+ghost use Rattle.zf_dev.specs.Faults.{HasCause};
+ghost use Rattle.zf_run.specs.Steps.{HasWindow};
+ghost use Rattle.zf_run.specs.Ends.{Runs, AllRun, HasStopped};
+
+use crate::end::RunEnd;
+use crate::lines::{cut_line, run_line};
+use crate::target::Target;
+use zf_array::Array;
+use zf_base::Lane;
+use zf_dev::{Failed, Sink};
+use zf_view::Window;
+
+/// Runs the lines of a script over an array and writes the reply of each as it comes; at the end it flushes the array.
+///
+/// A line that is refused changes nothing, and the script goes on. After `Write`, `out` holds the replies before some line and a part
+/// of that line's reply; the array is as after that line, and is not flushed.
+pub fn run<T: Lane, const D: usize, O: Sink>(
+    a: &mut Array<T, D>,
+    script: &[u8],
+    out: &mut O,
+) -> RunEnd
+    ensures runs { Runs T.width a.old a.new script.now (O.contents out.old) (O.contents out.new) result }
+    ensures unchanged { result ≢ RunEnd.Write → O.faults out.new ≡ O.faults out.old }
+    ensures cause { HasCause (result ≡ RunEnd.Write) (O.faults out.old) (O.faults out.new) }
+{
+    let mut window = Window::whole(&a.shape());
+    match run_lines(a, &mut window, script, out) {
+        Ok(refused) => {
+            a.flush();
+            if refused == 0 {
+                RunEnd::Done
+            } else {
+                RunEnd::Lines(refused)
+            }
+        }
+        Err(_) => RunEnd::Write,
+    }
+}
+
+// Runs all lines, each on what those before left, and counts those that are refused.
+fn run_lines<A: Target, O: Sink>(
+    a: &mut A,
+    window: &mut Window,
+    script: &[u8],
+    out: &mut O,
+) -> Result<u64, Failed>
+    requires { HasWindow (A.session a.old window.old) }
+    ensures ok { IfOk result (AllRun (A.setting (A.kept a.old)) script.now (A.session a.old window.old)
+        (A.session a.new window.new) (O.contents out.old) (O.contents out.new)) }
+    ensures err { OnErr result (HasStopped (A.setting (A.kept a.old)) script.now (A.session a.old window.old)
+        (A.session a.new window.new) (O.contents out.old) (O.contents out.new)) }
+    ensures window { HasWindow (A.session a.new window.new) }
+    ensures kept { A.kept a.new ≡ A.kept a.old }
+    ensures unchanged { OnOk result (O.faults out.new ≡ O.faults out.old) }
+    ensures cause { HasCause (IsErr result) (O.faults out.old) (O.faults out.new) }
+{
+    let mut refused = 0;
+    let mut lines = script;
+    while let Some((line, rest)) = cut_line(lines) {
+        refused += u64::from(run_line(a, window, line, out)?);
+        lines = rest;
+    }
+    // the last line has no line feed
+    refused += u64::from(run_line(a, window, lines, out)?);
+    Ok(refused)
+}

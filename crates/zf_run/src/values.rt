@@ -1,0 +1,108 @@
+//! Commands on one value, at a position of the array or of the window.
+
+ghost use Rattle.std.specs.Prelude.{◌≡◌, true, false, length, IfSome, IfNone};
+ghost use Rattle.zf_base.specs.Positions.{used_axes, with_unused};
+ghost use Rattle.zf_cached.specs.Commands.{Command};
+ghost use Rattle.zf_cached.specs.Windows.{LiesIn};
+ghost use Rattle.zf_cached.specs.Steps.{is_of_type};
+ghost use Rattle.zf_array.specs.Standing.{shape};
+ghost use Rattle.zf_run.specs.Sessions.{IsArray};
+ghost use Rattle.zf_run.specs.Steps.{Does, DoesAlone, answer};
+
+use crate::commands::Answer;
+use zf_array::Array;
+use zf_base::{Lane, Pos};
+use zf_script::{Refusal, Reply};
+use zf_view::Window;
+
+/// `get P`: the value at a position.
+pub(crate) fn get<T: Lane, const D: usize>(a: &mut Array<T, D>, p: Pos) -> Answer
+    requires array { IsArray T.width D a.old }
+    requires unused { p ≡ with_unused 0 (used_axes (length (shape a.old)) p) }
+    ensures { DoesAlone T.width (Command.get (used_axes (length (shape a.old)) p)) a.old a.new (answer result) }
+{
+    if !a.shape().contains(p) {
+        return Err(Refusal::Range);
+    }
+    Ok(Some(Reply::Number(a.get(p).to_wide())))
+}
+
+/// `set P v`: makes the value at a position be `v`.
+pub(crate) fn set<T: Lane, const D: usize>(a: &mut Array<T, D>, p: Pos, v: i128) -> Answer
+    requires array { IsArray T.width D a.old }
+    requires unused { p ≡ with_unused 0 (used_axes (length (shape a.old)) p) }
+    ensures { DoesAlone T.width (Command.set (used_axes (length (shape a.old)) p) v) a.old a.new (answer result) }
+{
+    if !a.shape().contains(p) {
+        return Err(Refusal::Range);
+    }
+    let Some(v) = of_type(v) else {
+        return Err(Refusal::Value);
+    };
+    a.set(p, v);
+    Ok(None)
+}
+
+/// `add P v`: adds `v` to the value at a position; the sum wraps.
+pub(crate) fn add<T: Lane, const D: usize>(a: &mut Array<T, D>, p: Pos, v: i128) -> Answer
+    requires array { IsArray T.width D a.old }
+    requires unused { p ≡ with_unused 0 (used_axes (length (shape a.old)) p) }
+    ensures { DoesAlone T.width (Command.add (used_axes (length (shape a.old)) p) v) a.old a.new (answer result) }
+{
+    if !a.shape().contains(p) {
+        return Err(Refusal::Range);
+    }
+    let Some(v) = of_type(v) else {
+        return Err(Refusal::Value);
+    };
+    a.add(p, v);
+    Ok(None)
+}
+
+/// `vget P`: the value at a position of the window.
+pub(crate) fn vget<T: Lane, const D: usize>(
+    a: &mut Array<T, D>,
+    window: &Window,
+    p: Pos,
+) -> Answer
+    requires array { IsArray T.width D a.old }
+    requires inside { LiesIn (shape a.old) window.now }
+    requires unused { p ≡ with_unused 0 (used_axes (length (shape a.old)) p) }
+    ensures { Does T.width (Command.vget (used_axes (length (shape a.old)) p)) a.old window.now a.new window.now (answer result) }
+{
+    if !window.contains(p) {
+        return Err(Refusal::Range);
+    }
+    Ok(Some(Reply::Number(a.get(window.map(p)).to_wide())))
+}
+
+/// `vset P v`: makes the value at a position of the window be `v`.
+pub(crate) fn vset<T: Lane, const D: usize>(
+    a: &mut Array<T, D>,
+    window: &Window,
+    p: Pos,
+    v: i128,
+) -> Answer
+    requires array { IsArray T.width D a.old }
+    requires inside { LiesIn (shape a.old) window.now }
+    requires unused { p ≡ with_unused 0 (used_axes (length (shape a.old)) p) }
+    ensures { Does T.width (Command.vset (used_axes (length (shape a.old)) p) v) a.old window.now a.new window.now (answer result) }
+{
+    if !window.contains(p) {
+        return Err(Refusal::Range);
+    }
+    let Some(v) = of_type(v) else {
+        return Err(Refusal::Value);
+    };
+    a.set(window.map(p), v);
+    Ok(None)
+}
+
+/// The value of the type that a number is.
+pub(crate) fn of_type<T: Lane>(v: i128) -> Option<T>
+    ensures value { IfSome result (λ a. T.value a ≡ v) }
+    ensures some { IfSome result (λ a. is_of_type T.width v ≡ true) }
+    ensures none { IfNone result (is_of_type T.width v ≡ false) }
+{
+    T::from_wide(v)
+}
