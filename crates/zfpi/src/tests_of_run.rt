@@ -7,25 +7,15 @@ use std::test::Fail;
 use zf_dev::{MemShelf, MemSink, MemSource, Shelf};
 use zf_header::HeaderFault;
 
-// Which calls of the devices fail, by their numbers. The source gives and the sink takes large pieces.
-#[derive(Clone, Copy)]
-struct Fails<'a> {
-    reads: &'a [u64],
-    writes: &'a [u64],
-}
-
-const NONE: Fails<'static> = Fails {
-    reads: &[],
-    writes: &[],
-};
-
-// Calls the program on a shelf; its status, and what it wrote to the output and to the error output.
+// Calls the program on a shelf; its status, and what it wrote to the output and to the error output. The source gives and the sink takes large
+// pieces, and fail at these calls.
 fn call(
     alloc: Global,
     shelf: &mut MemShelf,
     words: &str,
     script: &[u8],
-    fails: Fails<'_>,
+    read_fails: &[u64],
+    write_fails: &[u64],
 ) -> Result<(Status, MemSink, MemSink), AllocError> {
     let mut all = Vec::new(alloc);
     for word in words.split_whitespace() {
@@ -33,10 +23,10 @@ fn call(
     }
     let mut src = MemSource::new(
         Vec::from_slice(alloc, script)?,
-        Vec::from_slice(alloc, fails.reads)?,
+        Vec::from_slice(alloc, read_fails)?,
         1 << 20,
     );
-    let mut out = MemSink::new(alloc, Vec::from_slice(alloc, fails.writes)?, 1 << 20);
+    let mut out = MemSink::new(alloc, Vec::from_slice(alloc, write_fails)?, 1 << 20);
     let mut err = MemSink::new(alloc, Vec::new(alloc), 1000);
     let status = zfpi(alloc, &all, &mut src, &mut out, &mut err, shelf);
     Ok((status, out, err))
@@ -188,7 +178,7 @@ fn scripts_are_run_and_the_array_is_saved(rt: HostRuntime) -> Result<(), Fail> {
         let mut shelf = MemShelf::new(rt.alloc(), Vec::new(rt.alloc()));
         let _ = shelf.save("a", row.before);
         let _ = shelf.save("kept", b"abc");
-        let (status, out, err) = call(rt.alloc(), &mut shelf, row.words, row.script, NONE)?;
+        let (status, out, err) = call(rt.alloc(), &mut shelf, row.words, row.script, &[], &[])?;
         assert_eq!(rt; status, row.status, "{number}");
         assert_eq!(rt; out.bytes(), row.replies, "{number}");
         assert_eq!(rt; shelf.file("a"), Some(row.after), "{number}");
@@ -247,22 +237,18 @@ fn other_files_are_left_alone(rt: HostRuntime) -> Result<(), Fail> {
         let mut shelf = MemShelf::new(rt.alloc(), Vec::new(rt.alloc()));
         let _ = shelf.save("a", file);
         // The first read would fail.
-        let fails = Fails {
-            reads: &[0],
-            writes: &[],
-        };
-        let (status, out, err) = call(rt.alloc(), &mut shelf, "run a", b"get 0\n", fails)?;
+        let (status, out, err) = call(rt.alloc(), &mut shelf, "run a", b"get 0\n", &[0], &[])?;
         assert_eq!(rt; status, wanted);
         assert_eq!(rt; (out.bytes(), err.bytes()), (b"".as_slice(), line));
         assert_eq!(rt; shelf.file("a"), Some(file));
     }
     let mut shelf = MemShelf::new(rt.alloc(), Vec::new(rt.alloc()));
-    let (status, _, err) = call(rt.alloc(), &mut shelf, "run nosuch", b"get 0\n", NONE)?;
+    let (status, _, err) = call(rt.alloc(), &mut shelf, "run nosuch", b"get 0\n", &[], &[])?;
     assert_eq!(rt; (status, status.code()), (Status::Missing, 7));
     assert_eq!(rt; err.bytes(), b"zfpi: no such file\n".as_slice());
     let _ = shelf.save("a", ZEROS);
     let script = vec![in rt.alloc(); b'\n'; 16_777_217]?;
-    let (status, _, err) = call(rt.alloc(), &mut shelf, "run a", &script, NONE)?;
+    let (status, _, err) = call(rt.alloc(), &mut shelf, "run a", &script, &[], &[])?;
     assert_eq!(rt; (status, status.code()), (Status::ScriptLong, 8));
     assert_eq!(rt; err.bytes(), b"zfpi: script too long\n".as_slice());
     assert_eq!(rt; shelf.file("a"), Some(ZEROS));
@@ -310,9 +296,15 @@ fn a_device_that_fails_is_told(rt: HostRuntime) -> Result<(), Fail> {
     for (reads, writes, shelf_fails, wanted, replies, line) in FAULTS {
         let mut shelf = MemShelf::new(rt.alloc(), Vec::from_slice(rt.alloc(), shelf_fails)?);
         let _ = shelf.save("a", ZEROS);
-        let fails = Fails { reads, writes };
         let script = b"set 0 1\nget 0\nflush\nget 0\nstats\n";
-        let (status, out, err) = call(rt.alloc(), &mut shelf, "run a lines 1", script, fails)?;
+        let (status, out, err) = call(
+            rt.alloc(),
+            &mut shelf,
+            "run a lines 1",
+            script,
+            reads,
+            writes,
+        )?;
         assert_eq!(rt; status, wanted);
         assert_eq!(rt; (out.bytes(), err.bytes()), (replies, line));
         assert!(rt; status == Status::SaveFault || shelf.file("a") == Some(ZEROS));
@@ -337,7 +329,7 @@ fn other_words_run_nothing(rt: HostRuntime) -> Result<(), Fail> {
     for (words, number) in REFUSED {
         let mut shelf = MemShelf::new(rt.alloc(), Vec::new(rt.alloc()));
         let _ = shelf.save("a", ZEROS);
-        let (status, out, _) = call(rt.alloc(), &mut shelf, words, b"set 0 9\nget 0\n", NONE)?;
+        let (status, out, _) = call(rt.alloc(), &mut shelf, words, b"set 0 9\nget 0\n", &[], &[])?;
         assert_eq!(rt; status, Status::Usage(number), "{words}");
         assert_eq!(rt; out.bytes().len(), 0, "{words}");
         assert_eq!(rt; shelf.file("a"), Some(ZEROS), "{words}");
@@ -348,10 +340,17 @@ fn other_words_run_nothing(rt: HostRuntime) -> Result<(), Fail> {
 #[test]
 fn a_large_array_is_made_and_run(rt: HostRuntime) -> Result<(), Fail> {
     let mut shelf = MemShelf::new(rt.alloc(), Vec::new(rt.alloc()));
-    let (made, _, _) = call(rt.alloc(), &mut shelf, "new g int32 256x256 512", b"", NONE)?;
+    let (made, _, _) = call(
+        rt.alloc(),
+        &mut shelf,
+        "new g int32 256x256 512",
+        b"",
+        &[],
+        &[],
+    )?;
     assert_eq!(rt; made, Status::Done);
     let script = b"fill 3\nsum\nstats\nset 255,255 -5\nget 255,255\nstats\n";
-    let (status, out, _) = call(rt.alloc(), &mut shelf, "run g", script, NONE)?;
+    let (status, out, _) = call(rt.alloc(), &mut shelf, "run g", script, &[], &[])?;
     assert_eq!(rt; status, Status::Done);
     let replies = b"196608\nhits 0 misses 8192 writes 4096\n-5\nhits 2 misses 8192 writes 4096\n";
     assert_eq!(rt; out.bytes(), replies.as_slice());
