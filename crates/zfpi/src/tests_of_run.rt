@@ -192,56 +192,70 @@ fn scripts_are_run_and_the_array_is_saved(rt: HostRuntime) -> Result<(), Fail> {
     Ok(())
 }
 
-// Files that are no arrays, and what is said of them.
-const FILES: [(&[u8], Status, &[u8]); 7] = [
-    (
-        b"zfp\x05\0\0\0\0\0\0\0\x88\0\0\0\0",
-        Status::NotRate(2176),
-        b"zfpi: mode 2176 has no cached array\n",
-    ),
-    (
-        b"zfp\x05\x30\0\0\0\0\0\0\x80\x03\0\0\0",
-        Status::NotRate(2048),
-        b"zfpi: mode 2048 has no cached array\n",
-    ),
-    (
-        b"zfp\x05\x70\0\0\0\0\0\xf0",
-        Status::Header(HeaderFault::Short),
-        b"zfpi: header: short\n",
-    ),
-    (
-        b"zfp\x05\x70\0\0\0\0\0\xf0\x03\0\0\0\0\xff\xff\xff",
-        Status::Truncated(0),
-        b"zfpi: stream ends in block 0\n",
-    ),
-    (
-        b"zfp\x05\x70\0\0\0\0\0\xf0\x03\0\0\0\0\xff\xff\xff\xff\0\0\0\0\0\0\0\0\0\0\0",
-        Status::Truncated(2),
-        b"zfpi: stream ends in block 2\n",
-    ),
-    (
-        b"zfp\x05\x70\0\0\0\0\0\xf0\x03\0\0\0\0\xff\xff\xff\xff\0\0\0\0\0\0\0\0\0\0\0\x01\0",
-        Status::Pad,
-        b"zfpi: fill bit is one\n",
-    ),
-    (
-        b"zfp\x05\x70\0\0\0\0\0\xf0\x03\0\0\0\0\xff\xff\xff\xff\0\0\0\0\0\0\0\0\0\0\0\0\0",
-        Status::Trailing,
-        b"zfpi: bytes after the stream\n",
-    ),
+// A file that is no array, and what is said of it.
+struct NoArray {
+    file: &'static [u8],
+    status: Status,
+    line: &'static [u8],
+}
+
+const FILES: [NoArray; 7] = [
+    NoArray {
+        file: b"zfp\x05\0\0\0\0\0\0\0\x88\0\0\0\0",
+        status: Status::NotRate(2176),
+        line: b"zfpi: mode 2176 has no cached array\n",
+    },
+    NoArray {
+        file: b"zfp\x05\x30\0\0\0\0\0\0\x80\x03\0\0\0",
+        status: Status::NotRate(2048),
+        line: b"zfpi: mode 2048 has no cached array\n",
+    },
+    NoArray {
+        file: b"zfp\x05\x70\0\0\0\0\0\xf0",
+        status: Status::Header(HeaderFault::Short),
+        line: b"zfpi: header: short\n",
+    },
+    NoArray {
+        file: b"zfp\x05\x70\0\0\0\0\0\xf0\x03\0\0\0\0\xff\xff\xff",
+        status: Status::Truncated(0),
+        line: b"zfpi: stream ends in block 0\n",
+    },
+    NoArray {
+        file: b"zfp\x05\x70\0\0\0\0\0\xf0\x03\0\0\0\0\xff\xff\xff\xff\0\0\0\0\0\0\0\0\0\0\0",
+        status: Status::Truncated(2),
+        line: b"zfpi: stream ends in block 2\n",
+    },
+    NoArray {
+        file: b"zfp\x05\x70\0\0\0\0\0\xf0\x03\0\0\0\0\xff\xff\xff\xff\0\0\0\0\0\0\0\0\0\0\0\x01\0",
+        status: Status::Pad,
+        line: b"zfpi: fill bit is one\n",
+    },
+    NoArray {
+        file: b"zfp\x05\x70\0\0\0\0\0\xf0\x03\0\0\0\0\xff\xff\xff\xff\0\0\0\0\0\0\0\0\0\0\0\0\0",
+        status: Status::Trailing,
+        line: b"zfpi: bytes after the stream\n",
+    },
 ];
+
+// The first read fails, so that one is seen.
+const FIRST: &[u64] = &[0];
 
 #[test]
 fn other_files_are_left_alone(rt: HostRuntime) -> Result<(), Fail> {
-    for (file, wanted, line) in FILES {
+    for row in FILES.iter() {
         let mut shelf = MemShelf::new(rt.alloc(), Vec::new(rt.alloc()));
-        let _ = shelf.save("a", file);
-        // The first read would fail.
-        let (status, out, err) = call(rt.alloc(), &mut shelf, "run a", b"get 0\n", &[0], &[])?;
-        assert_eq!(rt; status, wanted);
-        assert_eq!(rt; (out.bytes(), err.bytes()), (b"".as_slice(), line));
-        assert_eq!(rt; shelf.file("a"), Some(file));
+        let _ = shelf.save("a", row.file);
+        let (status, out, err) = call(rt.alloc(), &mut shelf, "run a", b"get 0\n", FIRST, &[])?;
+        assert_eq!(rt; status, row.status);
+        assert_eq!(rt; out.bytes().len(), 0);
+        assert_eq!(rt; err.bytes(), row.line);
+        assert_eq!(rt; shelf.file("a"), Some(row.file));
     }
+    Ok(())
+}
+
+#[test]
+fn a_missing_file_and_a_long_script_are_told(rt: HostRuntime) -> Result<(), Fail> {
     let mut shelf = MemShelf::new(rt.alloc(), Vec::new(rt.alloc()));
     let (status, _, err) = call(rt.alloc(), &mut shelf, "run nosuch", b"get 0\n", &[], &[])?;
     assert_eq!(rt; (status, status.code()), (Status::Missing, 7));
