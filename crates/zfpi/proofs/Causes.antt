@@ -1,25 +1,22 @@
 -- Faults of a command and their causes.
-use Rattle.std.proofs.Common.{ℕ}
+use Rattle.std.proofs.Common.{◌≡◌, ◌≢◌, ℕ, ◌≤◌, ◌||◌, List, Option, refl, arith}
+use Rattle.zf_dev.specs.Faults.{Rose, HasCause}
+use Rattle.zf_dev.specs.declared.faults.LoadError.{LoadError}
+use Rattle.zf_dev.specs.declared.faults.LoadError.TheVariants as loading
 use Rattle.zfpi.specs.declared.status.Status.{Status}
-use Rattle.zfpi.specs.declared.status.Status.TheVariants.{Done, Usage, RawShort, RawLong, Header, Truncated, Pad, Trailing, ReadFault, WriteFault, SaveFault, Memory}
+use Rattle.zfpi.specs.declared.status.Status.TheVariants.{ReadFault, WriteFault, LoadFault, SaveFault}
 use Rattle.zfpi.specs.declared.command.Command.{Command}
+use Rattle.zfpi.specs.declared.command.Command.TheVariants.{Run}
+use Rattle.zfpi.specs.Faults.{load_status}
 use Rattle.zfpi.specs.World.{Counts, counts}
-use Rattle.zfpi.specs.Headline.{HasCauses, IsCausedOnShelf}
+use Rattle.zfpi.specs.Answer.{uses}
+use Rattle.zfpi.specs.Headline.{HasCauses, IsCausedOnShelf, IsIdle, FailedLoad, FailedSave}
 
 -- without a shelf no status is a fault of one
 caused : (Loading Saving : Type 0) (status : Status) → IsCausedOnShelf status ⊥ ⊥ → IsCausedOnShelf status Loading Saving
-caused l s Done none = tt
-caused l s (Usage k) none = tt
-caused l s (RawShort m) none = tt
-caused l s RawLong none = tt
-caused l s (Header fault) none = tt
-caused l s (Truncated b) none = tt
-caused l s Pad none = tt
-caused l s Trailing none = tt
-caused l s ReadFault none = tt
-caused l s WriteFault none = tt
+caused l s LoadFault none = absurd none
 caused l s SaveFault none = absurd none
-caused l s Memory none = tt
+caused l s status none = tt
 
 -- a command that uses no shelf has its causes whatever a load and a save may do
 pub HasCauses-more : (c : Command) (status : Status) (src src_now out out_now shelf : ℕ) {Loading Saving Sure Still : Type 0} → HasCauses c status (counts src out shelf) (counts src_now out_now shelf) ⊥ ⊥ Sure Still
@@ -47,3 +44,69 @@ HasCauses-sure c status before now causes = record {
   no_shelving = causes.no_shelving;
   sure = λ sure. ((causes.sure tt).0, sure);
 }
+
+-- a command that came to the shelf after a load that did not fail has its causes over both
+pub HasCauses-after_load : {F : Type 0} (saves : F → F → Type 0) (faults : F → ℕ) (before mid now : F) (c : Command) (status : Status) (src src_now out out_now : ℕ) {Loading Sure Still : Type 0} → faults before ≤ faults mid
+    → HasCauses c status (counts src out (faults mid)) (counts src_now out_now (faults now)) ⊥ (FailedSave saves faults mid now) Sure Still → (c_uses : IsIdle ((uses c).loads || (uses c).saves) (faults before) (faults now))
+    → HasCauses c status (counts src out (faults before)) (counts src_now out_now (faults now)) Loading (FailedSave saves faults before now) Sure Still
+HasCauses-after_load {F} saves faults before mid now c status src src_now out out_now {Loading} first causes idle = record {
+  reading = causes.reading;
+  writing = causes.writing;
+  shelf_kept = omega (arith, first, causes.shelf_kept);
+  shelving = by status causes.shelving;
+  no_reading = causes.no_reading;
+  no_writing = causes.no_writing;
+  no_shelving = idle;
+  sure = causes.sure;
+}
+  where
+    by : (s : Status) → IsCausedOnShelf s ⊥ (FailedSave saves faults mid now) → IsCausedOnShelf s Loading (FailedSave saves faults before now)
+    by LoadFault caused = absurd caused
+    by SaveFault caused = (caused.0, omega (arith, first, caused.1), caused.2, caused.3)
+    by s caused = tt
+
+-- a command that came to the other devices after the source was read without a fault has its causes over all
+pub HasCauses-taken : (c : Command) (status : Status) (src src_now out out_now shelf shelf_now : ℕ) {Loading Saving Sure Still : Type 0} → src ≤ src_now → IsIdle (uses c).reads src src_now → (Sure → Still)
+    → HasCauses c status (counts src out shelf) (counts src out_now shelf_now) Loading Saving (Unit {0}) (Unit {0}) → HasCauses c status (counts src out shelf) (counts src_now out_now shelf_now) Loading Saving Sure Still
+HasCauses-taken c status src src_now out out_now shelf shelf_now kept idle still causes = record {
+  reading = (kept, λ is. absurd ((causes.sure tt).0 is));
+  writing = causes.writing;
+  shelf_kept = causes.shelf_kept;
+  shelving = causes.shelving;
+  no_reading = idle;
+  no_writing = causes.no_writing;
+  no_shelving = causes.no_shelving;
+  sure = λ sure. ((causes.sure tt).0, still sure);
+}
+
+-- a run whose file was not loaded
+pub HasCauses-unloaded : {F : Type 0} (loads : F → F → Type 0) (faults : F → ℕ) (before now : F) (name : List ℕ) (lines : Option ℕ) (e : LoadError) (src out : ℕ) {Saving Sure : Type 0} → loads before now → HasCause (e ≡ loading.Failed) (faults before) (faults now)
+    → HasCauses (Run name lines) (load_status e) (counts src out (faults before)) (counts src out (faults now)) (FailedLoad loads faults before now) Saving Sure Sure
+HasCauses-unloaded {F} loads faults before now name lines e src out {Saving} {Sure} step cause = record {
+  reading = (omega arith, λ is. absurd (no_read e is));
+  writing = (omega arith, λ is. absurd (no_write e is));
+  shelf_kept = cause.0;
+  shelving = by e cause.1;
+  no_reading = tt;
+  no_writing = tt;
+  no_shelving = tt;
+  sure = λ sure. (no_read e, sure);
+}
+  where
+    no_read : (e : LoadError) → load_status e ≢ ReadFault
+    no_read loading.Missing is = cc
+    no_read loading.Long is = cc
+    no_read loading.Failed is = cc
+    no_read loading.Memory is = cc
+
+    no_write : (e : LoadError) → load_status e ≢ WriteFault
+    no_write loading.Missing is = cc
+    no_write loading.Long is = cc
+    no_write loading.Failed is = cc
+    no_write loading.Memory is = cc
+
+    by : (e : LoadError) → (e ≡ loading.Failed → Rose (faults before) (faults now)) → IsCausedOnShelf (load_status e) (FailedLoad loads faults before now) Saving
+    by loading.Missing rose = tt
+    by loading.Long rose = tt
+    by loading.Failed rose = (now, step, rose refl, omega arith)
+    by loading.Memory rose = tt

@@ -1,5 +1,5 @@
 -- Words that are a command are one command's.
-use Rattle.std.proofs.Common.{◌≡◌, ◌≢◌, ℕ, ◌+◌, ◌*◌, ◌<◌, ◌≤◌, ◌^◌, List, [], ◌∷◌, ◌++◌, map, length, get_or, take, drop, codes, decimal, refl, ap, sym, subst, ◌∙◌, arith, append_assoc}
+use Rattle.std.proofs.Common.{◌≡◌, ◌≢◌, ℕ, ◌+◌, ◌*◌, ◌<◌, ◌≤◌, ◌^◌, List, [], ◌∷◌, ◌++◌, map, length, get_or, take, drop, Option, Some, None, codes, decimal, refl, ap, sym, subst, ◌∙◌, arith, append_assoc}
 use Rattle.std.specs.Str.{bytes_eq}
 use Rattle.std.proofs.lemmas.Bool.{true≢false}
 use Rattle.std.proofs.lemmas.Fmt.{decimal_injective}
@@ -12,13 +12,13 @@ use Rattle.zf_header.specs.declared.header.Mode.{Mode}
 use Rattle.zf_header.specs.declared.header.Mode.TheVariants.{Reversible, Rate, Precision}
 use Rattle.zf_header.specs.HeaderBits.{IsMode}
 use Rattle.zfpi.specs.declared.command.Command.{Command}
-use Rattle.zfpi.specs.declared.command.Command.TheVariants.{Compress, Restore, Info, New, Sample}
+use Rattle.zfpi.specs.declared.command.Command.TheVariants.{Compress, Restore, Info, New, Run, Sample}
 use Rattle.zfpi.specs.declared.words.Task.{Task}
 use Rattle.zfpi.specs.declared.words.Task.TheVariants as tasks
 use Rattle.zfpi.specs.declared.words.Stage.{Stage}
 use Rattle.zfpi.specs.declared.words.Stage.TheVariants as stages
-use Rattle.zfpi.specs.Words.{type_word, shape_word, mode_words, compress_words, sample_words, IsAskable, IsSpelled, BeginsCommand, IsUsage}
-use Rattle.zfpi.specs.Stages.{LeadsTo, IsBegun, task_words, IsRateWord, IsPrecisionWord}
+use Rattle.zfpi.specs.Words.{type_word, shape_word, mode_words, compress_words, IsLines, lines_words, sample_words, IsAskable, IsSpelled, BeginsCommand, IsUsage}
+use Rattle.zfpi.specs.Stages.{LeadsTo, IsBegun, task_words, IsRateWord, IsLinesWord, IsPrecisionWord}
 use Rattle.zfpi.proofs.ShapeWords.{parts_of-shape, decimals_injective, sizes_small}
 use Rattle.zfpi.proofs.Completed.{header_with, BeginsCommand-reached}
 
@@ -55,12 +55,21 @@ same_header : (g h : Header) → g.ty ≡ h.ty → g.shape ≡ h.shape → g.mod
 same_header g h ty shape mode =
     ap (λ t. header_with t g.shape g.mode) ty ∙ (ap (λ ns. header_with h.ty ns g.mode) shape ∙ ap (λ m. header_with h.ty h.shape m) mode)
 
+pub lines_words_injective : (l m : Option ℕ) → IsLines l → IsLines m → lines_words l ≡ lines_words m → l ≡ m
+lines_words_injective None None a b same = refl
+lines_words_injective None (Some m) a b same = absurd (cc)
+lines_words_injective (Some l) None a b same = absurd (cc)
+lines_words_injective (Some l) (Some m) a b same =
+    let text : decimal l ≡ decimal m = cc in
+    ap Some (decimal_injective l m (omega (arith, a.1)) (omega (arith, b.1)) text)
+
 -- ---- the first word tells a command from the others
 first_word : Command → List ℕ
 first_word (Compress h) = codes "compress"
 first_word Restore = codes "restore"
 first_word Info = codes "info"
 first_word (New name ty ns b) = codes "new"
+first_word (Run name lines) = codes "run"
 first_word (Sample h seed) = codes "sample"
 
 begins_with : (c : Command) (words : List (List ℕ)) → IsSpelled c words → (rest : List (List ℕ)) × (words ≡ first_word c ∷ rest)
@@ -69,6 +78,7 @@ begins_with (Compress h) words spelled = (type_word h.ty ∷ shape_word h.shape 
 begins_with Restore words spelled = ([], spelled)
 begins_with Info words spelled = ([], spelled)
 begins_with (New name ty ns b) words spelled = (name ∷ type_word ty ∷ shape_word ns ∷ decimal b ∷ [], spelled.words_are)
+begins_with (Run name lines) words spelled = (name ∷ lines_words lines, spelled.words_are)
 begins_with (Sample h seed) words spelled = (type_word h.ty ∷ shape_word h.shape ∷ decimal seed ∷ mode_words h.mode, spelled.words_are)
 
 -- the first words differ in their length or in their first letter
@@ -109,6 +119,11 @@ one_command words (Sample g n) (Sample h m) a b =
     let same_shape = shape_word_injective g.shape h.shape a.asked.header.shape b.asked.header.shape shape in
     let same_mode = mode_words_injective g.mode h.mode a.asked.header.mode b.asked.header.mode mode in
     ap (λ x. Sample x n) (same_header g h (type_word_injective g.ty h.ty ty) same_shape same_mode) ∙ ap (Sample h) (decimal_injective n m a.small b.small text)
+one_command words (Run name l) (Run name' l') a d =
+    let same : codes "run" ∷ name ∷ lines_words l ≡ codes "run" ∷ name' ∷ lines_words l' = sym a.words_are ∙ d.words_are in
+    let named : name ≡ name' = cc in
+    let behind : lines_words l ≡ lines_words l' = cc in
+    ap (λ n. Run n l) named ∙ ap (Run name') (lines_words_injective l l' a.lines_are d.lines_are behind)
 one_command words Restore Restore a b = refl
 one_command words Info Info a b = refl
 one_command words c d a b = absurd (omega (arith, same_mark c d words a b))
@@ -205,6 +220,7 @@ fewest (Compress h) = 4
 fewest Restore = 1
 fewest Info = 1
 fewest (New name ty ns b) = 5
+fewest (Run name lines) = 2
 fewest (Sample h seed) = 5
 
 enough_words : (c : Command) (words : List (List ℕ)) → IsSpelled c words → fewest c ≤ length words
@@ -218,6 +234,7 @@ enough_words (Compress h) words spelled = by h.mode spelled.1
 enough_words Restore words spelled = omega (arith, ap length spelled)
 enough_words Info words spelled = omega (arith, ap length spelled)
 enough_words (New name ty ns b) words spelled = omega (arith, ap length spelled.words_are)
+enough_words (Run name lines) words spelled = omega (arith, ap length spelled.words_are)
 enough_words (Sample h seed) words spelled = by h.mode spelled.words_are
   where
     by : (m : Mode) → words ≡ codes "sample" ∷ type_word h.ty ∷ shape_word h.shape ∷ decimal seed ∷ mode_words m → 5 ≤ length words
@@ -234,6 +251,48 @@ few_new : (rest words : List (List ℕ)) (c : Command) → words ≡ codes "new"
 unfolding first_word mark fewest
 few_new rest words (New n t s k) is few spelled = omega (arith, enough_words (New n t s k) words spelled, ap length is)
 few_new rest words c is few spelled = omega (arith, mark_of c words (codes "new") rest is spelled)
+
+few_run : (words : List (List ℕ)) (c : Command) → words ≡ codes "run" ∷ [] → IsSpelled c words → ⊥
+unfolding first_word mark fewest
+few_run words (Run name lines) is spelled = omega (arith, enough_words (Run name lines) words spelled, ap length is)
+few_run words c is spelled = omega (arith, mark_of c words (codes "run") [] is spelled)
+
+-- what is behind `run` and a name where they begin a whole command: a number of lines, or nothing
+record IsRunning (behind : List (List ℕ)) : Type 0 where
+  lines : Option ℕ
+  lines_are : IsLines lines
+  behind_is : behind ≡ lines_words lines
+
+IsRunning-begun : (name : List ℕ) (behind words : List (List ℕ)) (c : Command) → words ≡ codes "run" ∷ name ∷ behind → IsSpelled c words → IsRunning behind
+unfolding first_word mark
+IsRunning-begun name behind words (Run n l) is spelled =
+    let whole : codes "run" ∷ name ∷ behind ≡ codes "run" ∷ n ∷ lines_words l = sym is ∙ spelled.words_are in
+    let same : behind ≡ lines_words l = cc in
+    record { lines = l; lines_are = spelled.lines_are; behind_is = same }
+IsRunning-begun name behind words c is spelled = absurd (omega (arith, mark_of c words (codes "run") (name ∷ behind) is spelled))
+
+-- a word behind `run` and a name, where a command goes on, is `lines`, and the next one is a number of lines
+pub lines_begun : (name : List ℕ) (words : List (List ℕ)) (word : List ℕ) → words ≡ codes "run" ∷ name ∷ [] → BeginsCommand (words ++ word ∷ []) → word ≡ codes "lines"
+lines_begun name words word is (c, rest, spelled) =
+    let r = IsRunning-begun name (word ∷ rest) ((words ++ word ∷ []) ++ rest) c (ap (λ front. (front ++ word ∷ []) ++ rest) is) spelled in
+    by r.lines r.behind_is
+  where
+    by : (l : Option ℕ) → word ∷ rest ≡ lines_words l → word ≡ codes "lines"
+    by None same = absurd (cc)
+    by (Some l) same = heads_same same
+
+pub IsLinesWord-begun : (name : List ℕ) (words : List (List ℕ)) (word : List ℕ) → words ≡ codes "run" ∷ name ∷ codes "lines" ∷ [] → BeginsCommand (words ++ word ∷ []) → (l : ℕ) × IsLinesWord l word
+IsLinesWord-begun name words word is (c, rest, spelled) =
+    let r = IsRunning-begun name (codes "lines" ∷ word ∷ rest) ((words ++ word ∷ []) ++ rest) c (ap (λ front. (front ++ word ∷ []) ++ rest) is) spelled in
+    by r.lines r.lines_are r.behind_is
+  where
+    by : (l : Option ℕ) → IsLines l → codes "lines" ∷ word ∷ rest ≡ lines_words l → (n : ℕ) × IsLinesWord n word
+    by None in_range same = absurd (cc)
+    by (Some l) in_range same = let text : word ≡ decimal l = cc in (l, record { lines = in_range; text = text })
+
+-- the number of such a word
+pub IsLinesWord-number : (l n : ℕ) (word : List ℕ) → IsLinesWord l word → n < 2 ^ 64 → word ≡ decimal n → l ≡ n
+IsLinesWord-number l n word is small text = decimal_injective l n (omega (arith, is.lines.1)) small (sym is.text ∙ text)
 
 few_sample : (rest words : List (List ℕ)) (c : Command) → words ≡ codes "sample" ∷ rest → length rest ≤ 2 → IsSpelled c words → ⊥
 unfolding first_word mark fewest
@@ -255,6 +314,13 @@ whole_at_end words stages.Making c leads spelled = absurd (few_new [] words c le
 whole_at_end words (stages.Named name) c leads spelled = absurd (few_new (name ∷ []) words c leads.1 (omega arith) spelled)
 whole_at_end words (stages.NamedTyped name ty) c leads spelled = absurd (few_new (name ∷ type_word ty ∷ []) words c leads.1 (omega arith) spelled)
 whole_at_end words (stages.NamedShaped name ty ns) c leads spelled = absurd (few_new (name ∷ type_word ty ∷ shape_word ns ∷ []) words c leads.2 (omega arith) spelled)
+whole_at_end words stages.Running c leads spelled = absurd (few_run words c leads spelled)
+whole_at_end words (stages.AtLines name) c leads spelled =
+    let r = IsRunning-begun name (codes "lines" ∷ []) words c leads.1 spelled in absurd (by r.lines r.behind_is)
+  where
+    by : (l : Option ℕ) → codes "lines" ∷ [] ≡ lines_words l → ⊥
+    by None same = cc
+    by (Some l) same = cc
 whole_at_end words (stages.Whole d) c leads spelled = (d, refl)
 
 pub IsUsage-ended : (words : List (List ℕ)) (n : ℕ) (stage : Stage) → n ≡ length words → LeadsTo words stage → ((d : Command) → stage ≡ stages.Whole d → ⊥) → IsUsage words n
@@ -334,3 +400,43 @@ no_mode_word task words ty ns word no_reversible no_rate no_precision leads (c, 
 pub IsPrecisionWord-number : (p n : ℕ) (word : List ℕ) → IsPrecisionWord p word → n < 2 ^ 64 → word ≡ decimal n → p ≡ n
 IsPrecisionWord-number p n word is small text =
     decimal_injective p n (omega (arith, is.planes.1)) small (sym is.text ∙ text)
+
+-- ---- behind whole commands
+mode_ends : (l m : Mode) (word : List ℕ) (rest : List (List ℕ)) → mode_words l ++ word ∷ rest ≡ mode_words m → ⊥
+mode_ends Reversible Reversible word rest same = omega (arith, ap length same)
+mode_ends Reversible (Rate b) word rest same = omega (arith, ap length (heads_same same))
+mode_ends Reversible (Precision p) word rest same = omega (arith, ap length (heads_same same))
+mode_ends (Rate b) Reversible word rest same = omega (arith, ap length same)
+mode_ends (Rate b) (Rate c) word rest same = omega (arith, ap length same)
+mode_ends (Rate b) (Precision p) word rest same = omega (arith, ap length same)
+mode_ends (Precision q) Reversible word rest same = omega (arith, ap length same)
+mode_ends (Precision q) (Rate b) word rest same = omega (arith, ap length same)
+mode_ends (Precision q) (Precision p) word rest same = omega (arith, ap length same)
+
+task_ends : (task : Task) (ty : Ty) (ns : List ℕ) (m : Mode) (words : List (List ℕ)) (word : List ℕ) → IsBegun task ty ns (mode_words m) words → BeginsCommand (words ++ word ∷ []) → ⊥
+task_ends task ty ns m words word begun (c, rest, spelled) =
+    let is = IsAsked-begun task ty ns (mode_words m ++ word ∷ rest) ((words ++ word ∷ []) ++ rest) c (IsBegun-more task ty ns (mode_words m) words word rest begun) spelled in
+    mode_ends m is.mode word rest is.behind_is
+
+-- with a word more, only a run begins a command
+pub whole_ends : (c : Command) (words : List (List ℕ)) (word : List ℕ) → IsSpelled c words → ((name : List ℕ) → c ≡ Run name None → ⊥) → BeginsCommand (words ++ word ∷ []) → ⊥
+unfolding first_word mark
+whole_ends (Compress h) words word spelled not_run begins =
+    task_ends tasks.Compress h.ty h.shape h.mode words word (record { task_is = tt; shape_is = spelled.0.header.shape; words_are = spelled.1 }) begins
+whole_ends (Sample h seed) words word spelled not_run begins =
+    task_ends (tasks.Sample seed) h.ty h.shape h.mode words word (record { task_is = spelled.small; shape_is = spelled.asked.header.shape; words_are = spelled.words_are }) begins
+whole_ends Restore words word spelled not_run (Restore, rest, more) = omega (arith, ap length (sym (ap (λ front. (front ++ word ∷ []) ++ rest) spelled) ∙ more))
+whole_ends Info words word spelled not_run (Info, rest, more) = omega (arith, ap length (sym (ap (λ front. (front ++ word ∷ []) ++ rest) spelled) ∙ more))
+whole_ends (New n t s k) words word spelled not_run (New n' t' s' k', rest, more) =
+    omega (arith, ap length (sym (ap (λ front. (front ++ word ∷ []) ++ rest) spelled.words_are) ∙ more.words_are))
+whole_ends (Run name None) words word spelled not_run begins = not_run name refl
+whole_ends (Run name (Some l)) words word spelled not_run (d, rest, more) =
+    let r = IsRunning-begun name (codes "lines" ∷ decimal l ∷ word ∷ rest) ((words ++ word ∷ []) ++ rest) d (ap (λ front. (front ++ word ∷ []) ++ rest) spelled.words_are) more in
+    by r.lines r.behind_is
+  where
+    by : (m : Option ℕ) → codes "lines" ∷ decimal l ∷ word ∷ rest ≡ lines_words m → ⊥
+    by None same = omega (arith, ap length same)
+    by (Some m) same = omega (arith, ap length same)
+whole_ends c words word spelled not_run (d, rest, more) =
+    let first = begins_with c words spelled in
+    omega (arith, mark_of d ((words ++ word ∷ []) ++ rest) (first_word c) ((first.0 ++ word ∷ []) ++ rest) (ap (λ front. (front ++ word ∷ []) ++ rest) first.1) more)

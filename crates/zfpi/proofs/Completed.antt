@@ -1,5 +1,5 @@
 -- Each stage that is reached can be completed to a command.
-use Rattle.std.proofs.Common.{◌≡◌, ℕ, ◌≤◌, List, [], ◌∷◌, ◌++◌, codes, decimal, refl, ap, sym, subst, ◌∙◌, arith, lit≤, lit<, append_assoc}
+use Rattle.std.proofs.Common.{◌≡◌, ℕ, ◌≤◌, List, [], ◌∷◌, ◌++◌, Some, None, codes, decimal, refl, ap, sym, subst, ◌∙◌, arith, lit≤, lit<, append_assoc}
 use Rattle.std.proofs.lemmas.List.{append-nil}
 use Rattle.zf_base.specs.declared.lane.Ty.{Ty}
 use Rattle.zf_base.specs.declared.lane.Ty.TheVariants.{I32}
@@ -11,7 +11,7 @@ use Rattle.zf_header.specs.declared.header.Mode.TheVariants.{Reversible, Rate, P
 use Rattle.zf_header.specs.HeaderBits.{rate_bytes_of}
 use Rattle.zf_header.proofs.Parts.{length-header_bits}
 use Rattle.zfpi.specs.Names.{IsName}
-use Rattle.zfpi.specs.declared.command.Command.TheVariants.{Compress, New, Sample}
+use Rattle.zfpi.specs.declared.command.Command.TheVariants.{Compress, New, Run, Sample}
 use Rattle.zfpi.specs.declared.words.Task.{Task}
 use Rattle.zfpi.specs.declared.words.Task.TheVariants as tasks
 use Rattle.zfpi.specs.declared.words.Stage.{Stage}
@@ -108,4 +108,9 @@ BeginsCommand-reached words (stages.NamedTyped name ty) leads =
 BeginsCommand-reached words (stages.NamedShaped name ty ns) leads =
     let rest = decimal 1 ∷ [] in
     (New name ty ns 1, rest, made_of_one_bit name ty ns (words ++ rest) leads.0 leads.1 (ap (λ front. front ++ rest) leads.2))
+BeginsCommand-reached words stages.Running is =
+    let rest = (97 ∷ []) ∷ [] in
+    (Run (97 ∷ []) None, rest, record { named = one_letter; lines_are = tt; words_are = ap (λ front. front ++ rest) is })
+BeginsCommand-reached words (stages.AtLines name) leads =
+    (Run name (Some 1), decimal 1 ∷ [], record { named = leads.0; lines_are = (lit≤ tt, lit≤ tt); words_are = ap (λ front. front ++ decimal 1 ∷ []) leads.1 })
 BeginsCommand-reached words (stages.Whole c) spelled = (c, [], subst (IsSpelled c) (sym (append-nil words)) spelled)

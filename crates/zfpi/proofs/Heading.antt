@@ -15,9 +15,10 @@ use Rattle.zf_stream.specs.ReadStreams.{ReadsHeader, LacksHeader}
 use Rattle.zfpi.specs.declared.status.Status.{Status}
 use Rattle.zfpi.specs.declared.status.Status.TheVariants as statuses
 use Rattle.zfpi.specs.declared.command.Command.TheVariants.{Info}
+use Rattle.zfpi.specs.Faults.{fault_status}
 use Rattle.zfpi.specs.Info.{info_line, info_text}
 use Rattle.zfpi.specs.World.{World, TellsInput, seen}
-use Rattle.zfpi.specs.Answer.{fault_status, header_status, MayFail, TakesHeader, line_draft}
+use Rattle.zfpi.specs.Answer.{header_status, MayFail, TakesHeader, cut_draft}
 use Rattle.zfpi.specs.Headline.{IsOfCommand, Writes, Behaves}
 use Rattle.zfpi.proofs.Told.{some_input, world_of, TellsFiles-same, KeepsFiles-none}
 
@@ -38,7 +39,7 @@ begins (Some all) bytes is within = record { input = all; told = refl; first = i
 -- the first bytes were read: the status is that of their header, or the line was not written
 Behaves-first : (status : Status) (bytes : List ℕ) (src_before src_now out_before out_now : Option (List ℕ)) (shelf : Option Files) → IsOfCommand status → TakesFirst 19 src_before src_now bytes
     → ((status ≡ header_status (header_fault bytes)) ⊎ ((w : World) → MayFail status Info w [])) → ((input : List ℕ) → bytes ≡ take 19 input → TakesHeader status input bytes)
-    → Writes status (info_text bytes) (line_draft status (info_text bytes)) out_before out_now → Behaves Info status (seen src_before out_before shelf) (seen src_now out_now shelf)
+    → Writes status (info_text bytes) (cut_draft status (info_text bytes)) out_before out_now → Behaves Info status (seen src_before out_before shelf) (seen src_now out_now shelf)
 Behaves-first status bytes src_before src_now out_before out_now shelf ends first stated extent written =
     let b = begins src_before bytes first.first first.within in
     let w = world_of b.input shelf in
@@ -55,7 +56,7 @@ Behaves-first status bytes src_before src_now out_before out_now shelf ends firs
       taken = bytes;
       takes = first.taken;
       extent = extent b.input b.first;
-      written = subst (λ front. Writes status (info_text front) (line_draft status (info_text bytes)) out_before out_now) b.first written;
+      written = subst (λ front. Writes status (info_text front) (cut_draft status (info_text bytes)) out_before out_now) b.first written;
       saved = KeepsFiles-none shelf;
     }
 
@@ -72,7 +73,7 @@ pub Behaves-cut_line : (h : Header) (bits : ℕ) (line : List ℕ) (src_before s
     → Behaves Info statuses.WriteFault (seen src_before out_before shelf) (seen src_now out_now shelf)
 Behaves-cut_line h bits line src_before src_now out_before out_now shelf reads is written =
     let text = is ∙ sym (info_text-read reads.bytes h reads.begun.good reads.begun.header) in
-    Behaves-first statuses.WriteFault reads.bytes src_before src_now out_before out_now shelf tt reads.first (inr (λ w. refl)) (λ input first. first)
+    Behaves-first statuses.WriteFault reads.bytes src_before src_now out_before out_now shelf tt reads.first (inr (λ w. tt)) (λ input first. first)
     (subst (AppendsFront out_before out_now) text written)
 
 -- there was no header
@@ -87,7 +88,7 @@ Behaves-lacks faults.Read src_before src_now out shelf lacks =
       told = record { input = some.1; files = TellsFiles-same shelf };
       wants = [];
       wanted = refl;
-      stated = inr refl;
+      stated = inr tt;
       taken = lacks.0;
       takes = lacks.2;
       extent = lacks.1;

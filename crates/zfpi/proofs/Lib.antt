@@ -9,3 +9,4 @@ mod Causes
 mod Promises
 pub mod Making
 mod Sampling
+mod Running

@@ -43,7 +43,7 @@ module _ (name : List ℕ) (ty : Ty) (ns : List ℕ) (b : ℕ) where
   pub Behaves-unsaved : (src out : Option (List ℕ)) (before now : Option Files) → KeepsOthers before now name
       → Behaves (New name ty ns b) statuses.SaveFault (seen src out before) (seen src out now)
   Behaves-unsaved src out before now others =
-      behaves_so statuses.SaveFault src out before now tt (λ w. inr refl) (AppendsFront-none out []) others
+      behaves_so statuses.SaveFault src out before now tt (λ w. inr tt) (Appends-none out) others
 
   pub Behaves-starved : (src out : Option (List ℕ)) (shelf : Option Files)
       → Behaves (New name ty ns b) statuses.Memory (seen src out shelf) (seen src out shelf)

@@ -1,25 +1,31 @@
 -- From the promises of a command to those of the program.
-use Rattle.std.proofs.Common.{◌≡◌, ◌≢◌, ℕ, ◌<◌, Bool, true, false, cond, ltb, length, take, inl, inr, List, Option, Some, None, Result, Ok, Err, refl, ap, sym, subst, ◌∙◌, arith}
+use Rattle.std.proofs.Common.{◌≡◌, ◌≢◌, ℕ, zero, suc, ℤ, ◌<◌, count_by, Bool, true, false, cond, ltb, length, take, inl, inr, List, Option, Some, None, Result, Ok, Err, refl, ap, sym, subst, ◌∙◌, arith}
 use Rattle.std.proofs.lemmas.Bool.{ltb-true}
 use Rattle.zf_dev.specs.Faults.{IsQuiet}
 use Rattle.zf_dev.specs.Sink.{Appends}
 use Rattle.zf_dev.proofs.Counts.{HasCause-quiet}
 use Rattle.zf_header.specs.declared.header.HeaderFault.{HeaderFault}
+use Rattle.zf_header.specs.declared.header.Mode.{Mode}
+use Rattle.zf_header.specs.declared.header.Mode.TheVariants.{Reversible, Rate, Precision}
+use Rattle.zf_header.specs.declared.header.Header.{Header}
 use Rattle.zf_header.specs.HeaderFaults.{header_fault}
 use Rattle.zf_stream.specs.declared.fault.StreamFault.{StreamFault}
 use Rattle.zf_stream.specs.declared.fault.StreamFault.TheVariants as faults
 use Rattle.zf_stream.specs.Raw.{raw_len, stream_text}
-use Rattle.zf_stream.specs.Parsing.{restore_answer, restored_text}
+use Rattle.zf_spec.specs.Grid.{blocks}
+use Rattle.zf_stream.specs.Parsing.{Said, header_of, code_bits, codes_said, values_said, said_with, parse, without_values, without_said, restore_answer, restored_text}
 use Rattle.zf_stream.proofs.OwnFaults.{is_foreign, blames_foreign, own_answer}
+use Rattle.zf_run.specs.Steps.{is_refusal}
 use Rattle.zf_stream.proofs.StreamsBack.{answer-stream_text, text-reversible_text}
 use Rattle.zfpi.specs.declared.status.Status.{Status}
-use Rattle.zfpi.specs.declared.status.Status.TheVariants.{Done, Usage, ReadFault, WriteFault, SaveFault, Memory}
+use Rattle.zfpi.specs.declared.status.Status.TheVariants.{Done, Usage, ScriptLong, FileLong, ReadFault, WriteFault, LoadFault, SaveFault, Memory}
 use Rattle.zfpi.specs.declared.command.Command.{Command}
-use Rattle.zfpi.specs.declared.command.Command.TheVariants.{Compress, Restore, Info, New, Sample}
+use Rattle.zfpi.specs.declared.command.Command.TheVariants.{Compress, Restore, Info, New, Run, Sample}
 use Rattle.zfpi.specs.Words.{IsSpelled}
 use Rattle.zfpi.specs.World.{World, Seen, Counts, TellsInput}
-use Rattle.zfpi.specs.Answer.{CanRun, TakesMemory, MayFail, IsPossible, CompressEnds, RestoreEnds, InfoEnds, status_of, header_status, status_for, restore_draft}
-use Rattle.zfpi.specs.Headline.{OfCommand, RefusesWords, IsOfCommand, Writes, Behaves, HasCauses, AreQuiet, IsComplete, IsFromOutside, IsCausedOnShelf, FailedSave, GivesBack}
+use Rattle.zfpi.specs.Scripts.{array_in, opened, said_at_rate, array_behind, replies_for, lines_status, run_status}
+use Rattle.zfpi.specs.Answer.{CanRun, TakesMemory, MayFail, IsPossible, CompressEnds, RestoreEnds, InfoEnds, RunEnds, status_of, header_status, status_for, restore_draft}
+use Rattle.zfpi.specs.Headline.{OfCommand, RefusesWords, IsOfCommand, Writes, Behaves, HasCauses, AreQuiet, IsComplete, IsFromOutside, IsCausedOnShelf, FailedLoad, FailedSave, GivesBack}
 use Rattle.zfpi.proofs.Commands.{one_command}
 
 -- what the words say can be run
@@ -28,6 +34,7 @@ CanRun-spelled (Compress h) words spelled = spelled.0.header.mode
 CanRun-spelled Restore words spelled = tt
 CanRun-spelled Info words spelled = tt
 CanRun-spelled (New name ty ns b) words spelled = (spelled.shape, spelled.rate)
+CanRun-spelled (Run name lines) words spelled = spelled.lines_are
 CanRun-spelled (Sample h seed) words spelled = spelled.asked.header.mode
 
 -- what holds of one command that the words are holds of each
@@ -41,12 +48,17 @@ RefusesWords-command words c status spelled is = (c, spelled)
 -- ---- what follows from the two records of a command
 
 -- a status from outside that is no fault of a device is want of memory
-only_memory : (status : Status) (c : Command) (w : World) (wants : List ℕ) → MayFail status c w wants → (status ≢ ReadFault) × (status ≢ WriteFault) × (status ≢ SaveFault) → (status ≡ Memory) × TakesMemory c w
+only_memory : (status : Status) (c : Command) (w : World) (wants : List ℕ) → MayFail status c w wants → (status ≢ ReadFault) × (status ≢ WriteFault) × (status ≢ LoadFault) × (status ≢ SaveFault) → (status ≡ Memory) × TakesMemory c w
 only_memory ReadFault c w wants may none = absurd (none.0 refl)
 only_memory WriteFault c w wants may none = absurd (none.1 refl)
-only_memory SaveFault c w wants may none = absurd (none.2 refl)
+only_memory LoadFault c w wants may none = absurd (none.2 refl)
+only_memory SaveFault c w wants may none = absurd (none.3 refl)
 only_memory Memory c w wants may none = (refl, may)
 only_memory status c w wants may none = absurd (first_of (assumption may, cc))
+
+-- a fault of a load has a load that failed
+load_failed : (status : Status) (Loading Saving : Type 0) → status ≡ LoadFault → IsCausedOnShelf status Loading Saving → Loading
+load_failed status Loading Saving failed caused = subst (λ s. IsCausedOnShelf s Loading Saving) failed caused
 
 -- a fault of a save has a save that failed
 save_failed : (status : Status) (Loading Saving : Type 0) → status ≡ SaveFault → IsCausedOnShelf status Loading Saving → Saving
@@ -56,11 +68,15 @@ save_failed status Loading Saving failed caused = subst (λ s. IsCausedOnShelf s
 pub FailedSave-quiet : {F : Type 0} (saves : F → F → Type 0) (faults : F → ℕ) (before now : F) → IsQuiet (faults before) (faults now) → FailedSave saves faults before now → ⊥
 FailedSave-quiet saves faults before now quiet failed = omega (arith, quiet, failed.2, failed.2)
 
+-- nor did a load
+pub FailedLoad-quiet : {F : Type 0} (loads : F → F → Type 0) (faults : F → ℕ) (before now : F) → IsQuiet (faults before) (faults now) → FailedLoad loads faults before now → ⊥
+FailedLoad-quiet loads faults before now quiet failed = omega (arith, quiet, failed.2, failed.3)
+
 -- where no count rose, no fault is answered
-pub IsComplete-quiet : (c : Command) (status : Status) (before now : Seen) (old new : Counts) (Loading Saving Sure Still : Type 0) → Behaves c status before now → HasCauses c status old new Loading Saving Sure Still → AreQuiet old new → (Saving → ⊥) → IsComplete c status before
-IsComplete-quiet c status before now old new Loading Saving Sure Still behaves causes quiet no_save =
-    let none : (status ≢ ReadFault) × (status ≢ WriteFault) × (status ≢ SaveFault) =
-    (HasCause-quiet old.src new.src causes.reading quiet.src, HasCause-quiet old.out new.out causes.writing quiet.out, λ failed. no_save (save_failed status Loading Saving failed causes.shelving)) in
+pub IsComplete-quiet : (c : Command) (status : Status) (before now : Seen) (old new : Counts) (Loading Saving Sure Still : Type 0) → Behaves c status before now → HasCauses c status old new Loading Saving Sure Still → AreQuiet old new → (Loading → ⊥) → (Saving → ⊥) → IsComplete c status before
+IsComplete-quiet c status before now old new Loading Saving Sure Still behaves causes quiet no_load no_save =
+    let none : (status ≢ ReadFault) × (status ≢ WriteFault) × (status ≢ LoadFault) × (status ≢ SaveFault) =
+    (HasCause-quiet old.src new.src causes.reading quiet.src, HasCause-quiet old.out new.out causes.writing quiet.out, λ failed. no_load (load_failed status Loading Saving failed causes.shelving), λ failed. no_save (save_failed status Loading Saving failed causes.shelving)) in
     record {
       world = behaves.world;
       told = behaves.told;
@@ -82,7 +98,12 @@ possible_fault WriteFault (Compress h) w wants may = tt
 possible_fault WriteFault Restore w wants may = tt
 possible_fault WriteFault Info w wants may = tt
 possible_fault WriteFault (Sample h seed) w wants may = tt
+possible_fault ReadFault (Run name l) w wants may = tt
+possible_fault WriteFault (Run name l) w wants may = tt
+possible_fault LoadFault (Run name l) w wants may = tt
 possible_fault SaveFault (New name ty ns b) w wants may = tt
+possible_fault SaveFault (Run name l) w wants may = tt
+possible_fault Memory (Run name l) w wants may = tt
 possible_fault Memory (Compress h) w wants may = tt
 possible_fault Memory Restore w wants may = tt
 possible_fault Memory (New name ty ns b) w wants may = tt
@@ -112,6 +133,57 @@ info_ends : (fault : Option HeaderFault) → InfoEnds (header_status fault)
 info_ends None = tt
 info_ends (Some f) = tt
 
+-- a file that is no array's ends a run with one of its statuses
+IsRefusal : Result Said Status → Type 0
+IsRefusal (Ok said) = Unit {0}
+IsRefusal (Err status) = RunEnds status
+
+-- it is no array's for one of these reasons
+array_ends : (fault : Option HeaderFault) (mode : Mode) (answer : Result Said StreamFault) → blames_foreign (without_said answer) ≡ false → IsRefusal (array_behind fault (said_at_rate mode answer))
+unfolding blames_foreign is_foreign IsRefusal
+array_ends (Some f) mode answer own = tt
+array_ends None Reversible answer own = tt
+array_ends None (Precision p) answer own = tt
+array_ends None (Rate b) (Ok said) own = tt
+array_ends None (Rate b) (Err (faults.RawShort m)) own = absurd (cc)
+array_ends None (Rate b) (Err faults.RawLong) own = absurd (cc)
+array_ends None (Rate b) (Err (faults.Header f)) own = tt
+array_ends None (Rate b) (Err (faults.Truncated c)) own = tt
+array_ends None (Rate b) (Err faults.Pad) own = tt
+array_ends None (Rate b) (Err faults.Trailing) own = tt
+array_ends None (Rate b) (Err faults.Read) own = absurd (cc)
+array_ends None (Rate b) (Err faults.Write) own = absurd (cc)
+array_ends None (Rate b) (Err faults.Memory) own = tt
+
+without_same : (h : Header) (cs : List (List Bool)) (said : Result (List ℤ) StreamFault) → without_values said ≡ without_said (said_with h cs said)
+without_same h cs (Ok values) = refl
+without_same h cs (Err e) = refl
+
+own_said : (bytes : List ℕ) → blames_foreign (without_said (parse bytes)) ≡ false
+unfolding parse
+own_said bytes =
+    let h = header_of bytes in
+    subst (λ answer. blames_foreign answer ≡ false) (without_same h (codes_said h 0 (blocks h.shape) (code_bits bytes)) (values_said bytes)) (own_answer bytes)
+
+opened_ends : (file : Option (List ℕ)) → IsRefusal (opened file)
+unfolding array_in IsRefusal
+opened_ends None = tt
+opened_ends (Some bytes) = by (ltb 1200000000 (length bytes))
+  where
+    by : (long : Bool) → IsRefusal (cond long (Err FileLong) (array_in bytes))
+    by true = tt
+    by false = array_ends (header_fault bytes) (header_of bytes).mode (parse bytes) (own_said bytes)
+
+run_ends : (l : Option ℕ) (array : Result Said Status) → IsRefusal array → (wants script : List ℕ) → RunEnds (run_status l array wants script)
+unfolding IsRefusal
+run_ends l (Err status) refusal wants script = refusal
+run_ends l (Ok said) refusal wants script = by (ltb 16777216 (length script)) (count_by is_refusal (replies_for l said wants script))
+  where
+    by : (long : Bool) (refused : ℕ) → RunEnds (cond long ScriptLong (lines_status refused))
+    by true refused = tt
+    by false zero = tt
+    by false (suc n) = omega arith
+
 possible_status : (c : Command) (w : World) (wants : List ℕ) → IsPossible c (status_for c w wants)
 possible_status (Compress h) w wants =
     let n = length w.input in
@@ -119,6 +191,7 @@ possible_status (Compress h) w wants =
 possible_status Restore w wants = restore_ends (restore_answer w.input) (own_answer w.input)
 possible_status Info w wants = info_ends (header_fault (take 19 w.input))
 possible_status (New name ty ns b) w wants = tt
+possible_status (Run name l) w wants = run_ends l (opened (w.files name)) (opened_ends (w.files name)) wants w.input
 possible_status (Sample h seed) w wants = tt
 
 pub IsPossible-behaves : (c : Command) (status : Status) (before now : Seen) → Behaves c status before now → IsPossible c status

@@ -11,7 +11,7 @@ use Rattle.zfpi.specs.declared.status.Status.TheVariants as statuses
 use Rattle.zfpi.specs.declared.command.Command.TheVariants.{Sample}
 use Rattle.zfpi.specs.Sample.{summary_line, sample_text}
 use Rattle.zfpi.specs.World.{World, seen}
-use Rattle.zfpi.specs.Answer.{status_for, MayFail, line_draft}
+use Rattle.zfpi.specs.Answer.{status_for, MayFail, cut_draft}
 use Rattle.zfpi.specs.Headline.{IsOfCommand, Writes, Behaves}
 use Rattle.zfpi.proofs.Told.{world_of, TellsFiles-same, KeepsFiles-none, some_input, Takes-none}
 
@@ -19,7 +19,7 @@ module _ (h : Header) (seed : ℕ) where
   -- so it ended, with this output
   behaves_so : (status : Status) (src before now : Option (List ℕ)) (shelf : Option Files) → IsOfCommand status
       → ((w : World) → (status ≡ status_for (Sample h seed) w []) ⊎ MayFail status (Sample h seed) w [])
-      → Writes status (sample_text h seed) (line_draft status (sample_text h seed)) before now
+      → Writes status (sample_text h seed) (cut_draft status (sample_text h seed)) before now
       → Behaves (Sample h seed) status (seen src before shelf) (seen src now shelf)
   behaves_so status src before now shelf ends stated written =
       let some = some_input src in
@@ -47,7 +47,7 @@ module _ (h : Header) (seed : ℕ) where
   pub Behaves-cut_summary : (summary : Summary) (line : List ℕ) (src before now : Option (List ℕ)) (shelf : Option Files) → summary ≡ summary_of h seed → line ≡ summary_line summary → AppendsFront before now line
       → Behaves (Sample h seed) statuses.WriteFault (seen src before shelf) (seen src now shelf)
   Behaves-cut_summary summary line src before now shelf of_values of_summary written =
-      behaves_so statuses.WriteFault src before now shelf tt (λ w. inr refl) (subst (AppendsFront before now) (of_summary ∙ ap summary_line of_values) written)
+      behaves_so statuses.WriteFault src before now shelf tt (λ w. inr tt) (subst (AppendsFront before now) (of_summary ∙ ap summary_line of_values) written)
 
   -- there was no memory
   pub Behaves-unmade : (src out : Option (List ℕ)) (shelf : Option Files) → Behaves (Sample h seed) statuses.Memory (seen src out shelf) (seen src out shelf)

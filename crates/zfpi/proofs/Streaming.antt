@@ -14,11 +14,13 @@ use Rattle.zf_stream.specs.Raw.{stream_text, compress_answer}
 use Rattle.zf_stream.specs.Parsing.{values_said, header_or, without_values, restore_answer, restored_text}
 use Rattle.zf_stream.proofs.StreamsBack.{answer-stream_text}
 use Rattle.zf_stream.specs.Outcomes as streams
+use Rattle.zfpi.specs.declared.status.Status.{Status}
 use Rattle.zfpi.specs.declared.status.Status.TheVariants as statuses
 use Rattle.zfpi.specs.declared.command.Command.{Command}
 use Rattle.zfpi.specs.declared.command.Command.TheVariants.{Compress, Restore}
+use Rattle.zfpi.specs.Faults.{fault_status}
 use Rattle.zfpi.specs.World.{World, TellsInput, seen}
-use Rattle.zfpi.specs.Answer.{fault_status, status_of, status_for, text_for, draft_for, saved_for, IsExtent, HasWants, TakesMemory, MayFail, compress_draft, restore_draft, TakesWhole}
+use Rattle.zfpi.specs.Answer.{status_of, status_for, text_for, draft_for, saved_for, IsExtent, HasWants, TakesMemory, MayFail, compress_draft, restore_draft, TakesWhole}
 use Rattle.zfpi.specs.Headline.{IsOfCommand, Writes, Saves, Behaves}
 use Rattle.zfpi.proofs.Completed.{one_value}
 use Rattle.zfpi.proofs.Told.{files_of, world_of, TellsFiles-same, KeepsFiles-none, TellsInput-taken}
@@ -27,7 +29,7 @@ use Rattle.zfpi.proofs.Told.{files_of, world_of, TellsFiles-same, KeepsFiles-non
 pub record IsStreaming (c : Command) (answer : List ℕ → Result (Unit {0}) StreamFault) (text : List ℕ → List ℕ) : Type 0 where
   pub status : (w : World) → status_for c w [] ≡ status_of (answer w.input)
   pub text_is : (w : World) → text_for c w [] ≡ text w.input
-  pub no_wants : (w : World) → HasWants c w []
+  pub no_wants : (status : Status) (w : World) → HasWants c status w []
   pub nothing_saved : (w : World) → saved_for c w [] ≡ None
   pub reads : (w : World) → MayFail statuses.ReadFault c w []
   pub writes : (w : World) → MayFail statuses.WriteFault c w []
@@ -41,10 +43,10 @@ pub IsStreaming-compress : (h : Header) → IsStreaming (Compress h) (compress_a
 IsStreaming-compress h = record {
   status = λ w. refl;
   text_is = λ w. refl;
-  no_wants = λ w. refl;
+  no_wants = λ status w. refl;
   nothing_saved = λ w. refl;
-  reads = λ w. refl;
-  writes = λ w. refl;
+  reads = λ w. tt;
+  writes = λ w. tt;
   to_end = λ input. refl;
   fault_extent = TakesWhole-fault;
   memory_input = [];
@@ -80,10 +82,10 @@ unfolding one_header
 IsStreaming-restore = record {
   status = λ w. refl;
   text_is = λ w. refl;
-  no_wants = λ w. refl;
+  no_wants = λ status w. refl;
   nothing_saved = λ w. refl;
-  reads = λ w. refl;
-  writes = λ w. refl;
+  reads = λ w. tt;
+  writes = λ w. tt;
   to_end = λ input. refl;
   fault_extent = (IsStreaming-compress one_header).fault_extent;
   memory_input = stream_text one_header [];
@@ -101,7 +103,7 @@ Behaves-done c answer text src_before src_now out_before out_now shelf is done =
       world = w;
       told = record { input = TellsInput-taken src_before src_now done.bytes done.taken done.ended; files = TellsFiles-same shelf };
       wants = [];
-      wanted = is.no_wants w;
+      wanted = is.no_wants statuses.Done w;
       stated = inl (ap status_of (sym done.good) ∙ sym (is.status w));
       taken = done.bytes;
       takes = done.taken;
@@ -207,7 +209,7 @@ Behaves-fault c answer text e src_before src_now out_before out_now shelf is ans
       world = w;
       told = record { input = why.told; files = TellsFiles-same shelf };
       wants = [];
-      wanted = is.no_wants w;
+      wanted = is.no_wants (fault_status e) w;
       stated = why.stated;
       taken = left.bytes;
       takes = left.taken;

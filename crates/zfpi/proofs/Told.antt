@@ -1,6 +1,6 @@
 -- A world that explains what devices tell.
-use Rattle.std.proofs.Common.{ℕ, List, [], Option, Some, None, refl}
-use Rattle.zf_dev.specs.Shelf.{Files, KeepsFiles}
+use Rattle.std.proofs.Common.{◌≡◌, ℕ, List, [], Option, Some, None, refl}
+use Rattle.zf_dev.specs.Shelf.{Files, LacksFile, KeepsFiles}
 use Rattle.zf_dev.specs.Source.{Takes, IsAtEnd}
 use Rattle.zf_dev.proofs.Taking.{Takes-to_end}
 use Rattle.zfpi.specs.World.{World, TellsInput, TellsFiles}
@@ -9,6 +9,11 @@ use Rattle.zfpi.specs.World.{World, TellsInput, TellsFiles}
 pub files_of : Option Files → Files
 files_of None name = None
 files_of (Some files) name = files name
+
+pub files_of-none : (known : Option Files) (name : List ℕ) → LacksFile known name → files_of known name ≡ None
+unfolding files_of
+files_of-none None name lacks = refl
+files_of-none (Some files) name lacks = lacks
 
 -- an input beside the files that are told
 abbrev pub world_of : List ℕ → Option Files → World

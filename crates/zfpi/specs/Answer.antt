@@ -1,35 +1,25 @@
 -- What each command does, in a world of an input and files. Each function of a command has one case for each, and a new command adds one.
-use Rattle.std.specs.Prelude.{◌≡◌, ℕ, ◌<◌, ◌≤◌, Bool, true, false, List, [], length, take, Option, Some, None, Result, Ok, Err, IsTrue}
+use Rattle.std.specs.Prelude.{◌≡◌, ℕ, ◌<◌, ◌≤◌, Bool, true, false, List, [], length, take, Option, Some, None, Result, Ok, Err, IsOk}
 use Rattle.zf_header.specs.declared.header.HeaderFault.{HeaderFault}
 use Rattle.zf_header.specs.HeaderBits.{IsMode}
 use Rattle.zf_header.specs.HeaderFaults.{header_fault}
 use Rattle.zf_stream.specs.declared.fault.StreamFault.{StreamFault}
-use Rattle.zf_stream.specs.declared.fault.StreamFault.TheVariants as faults
 use Rattle.zf_stream.specs.Raw.{raw_len, compress_answer, stream_text}
 use Rattle.zf_stream.specs.Parsing.{restore_answer, restored_text}
+use Rattle.zfpi.specs.Faults.{fault_status}
 use Rattle.zfpi.specs.declared.status.Status.{Status}
 use Rattle.zfpi.specs.declared.status.Status.TheVariants as statuses
 use Rattle.zfpi.specs.declared.command.Command.{Command}
-use Rattle.zfpi.specs.declared.command.Command.TheVariants.{Compress, Restore, Info, New, Sample}
+use Rattle.zfpi.specs.declared.command.Command.TheVariants.{Compress, Restore, Info, New, Run, Sample}
 use Rattle.zf_header.specs.declared.header.Mode.TheVariants.{Rate}
 use Rattle.zf_header.specs.HeaderBits.{IsRate}
 use Rattle.zf_spec.specs.Grid.{IsShape}
 use Rattle.zf_store.specs.Stored.{file_of, zeros}
 use Rattle.zfpi.specs.World.{World}
+use Rattle.zfpi.specs.Words.{IsLines}
 use Rattle.zfpi.specs.Info.{info_text}
+use Rattle.zfpi.specs.Scripts.{opened, max_script, run_status, run_text_of, saved_of, AreWants}
 use Rattle.zfpi.specs.Sample.{sample_text}
-
--- the status of a fault of a stream
-abbrev pub fault_status : StreamFault → Status
-fault_status (faults.RawShort m) = statuses.RawShort m
-fault_status faults.RawLong = statuses.RawLong
-fault_status (faults.Header fault) = statuses.Header fault
-fault_status (faults.Truncated b) = statuses.Truncated b
-fault_status faults.Pad = statuses.Pad
-fault_status faults.Trailing = statuses.Trailing
-fault_status faults.Read = statuses.ReadFault
-fault_status faults.Write = statuses.WriteFault
-fault_status faults.Memory = statuses.Memory
 
 -- the status of a fault of a header, or of none
 abbrev pub header_status : Option HeaderFault → Status
@@ -47,6 +37,7 @@ CanRun (Compress h) = IsMode h.mode
 CanRun Restore = Unit {0}
 CanRun Info = Unit {0}
 CanRun (New name ty ns b) = IsShape ns × IsRate (Rate b)
+CanRun (Run name lines) = IsLines lines
 CanRun (Sample h seed) = IsMode h.mode
 
 -- the bytes that the longest header lies in
@@ -59,6 +50,7 @@ status_for (Compress h) w wants = status_of (compress_answer h w.input)
 status_for Restore w wants = status_of (restore_answer w.input)
 status_for Info w wants = header_status (header_fault (take header_bytes w.input))
 status_for (New name ty ns b) w wants = statuses.Done
+status_for (Run name lines) w wants = run_status lines (opened (w.files name)) wants w.input
 status_for (Sample h seed) w wants = statuses.Done
 
 -- what is written where the whole work was done
@@ -67,6 +59,7 @@ text_for (Compress h) w wants = stream_text h w.input
 text_for Restore w wants = restored_text w.input
 text_for Info w wants = info_text (take header_bytes w.input)
 text_for (New name ty ns b) w wants = []
+text_for (Run name lines) w wants = run_text_of lines (opened (w.files name)) wants w.input
 text_for (Sample h seed) w wants = sample_text h seed
 
 -- nothing after want of memory, which comes before the first write
@@ -81,17 +74,18 @@ restore_draft (statuses.Header fault) text = []
 restore_draft status text = text
 
 -- a line is written once all of it is known
-abbrev pub line_draft : Status → List ℕ → List ℕ
-line_draft statuses.WriteFault text = text
-line_draft status text = []
+abbrev pub cut_draft : Status → List ℕ → List ℕ
+cut_draft statuses.WriteFault text = text
+cut_draft status text = []
 
 -- after each other status a front of this is written; the last list has the bytes that were taken
 abbrev pub draft_for : Command → Status → World → List ℕ → List ℕ → List ℕ
 draft_for (Compress h) status w wants taken = compress_draft status (stream_text h taken)
 draft_for Restore status w wants taken = restore_draft status (restored_text taken)
-draft_for Info status w wants taken = line_draft status (info_text taken)
+draft_for Info status w wants taken = cut_draft status (info_text taken)
 draft_for (New name ty ns b) status w wants taken = []
-draft_for (Sample h seed) status w wants taken = line_draft status (sample_text h seed)
+draft_for (Run name lines) status w wants taken = cut_draft status (run_text_of lines (opened (w.files name)) wants w.input)
+draft_for (Sample h seed) status w wants taken = cut_draft status (sample_text h seed)
 
 -- what is saved, and under which name
 abbrev pub saved_for : Command → World → List ℕ → Option (List ℕ × List ℕ)
@@ -99,6 +93,7 @@ saved_for (Compress h) w wants = None
 saved_for Restore w wants = None
 saved_for Info w wants = None
 saved_for (New name ty ns b) w wants = Some (name, file_of (zeros ty ns b))
+saved_for (Run name lines) w wants = saved_of name lines (opened (w.files name)) wants w.input
 saved_for (Sample h seed) w wants = None
 
 -- after Done the whole input was taken
@@ -111,21 +106,41 @@ abbrev pub TakesHeader : Status → List ℕ → List ℕ → Type 0
 TakesHeader statuses.ReadFault input taken = length taken ≤ header_bytes
 TakesHeader status input taken = taken ≡ take header_bytes input
 
+-- a script is taken whole before its first line is run, and only once the array is opened
+abbrev pub TakesScript : Status → List ℕ → List ℕ → Type 0
+TakesScript statuses.Done input taken = taken ≡ input
+TakesScript (statuses.Lines n) input taken = taken ≡ input
+TakesScript statuses.WriteFault input taken = taken ≡ input
+TakesScript statuses.SaveFault input taken = taken ≡ input
+TakesScript statuses.ScriptLong input taken = max_script < length taken
+TakesScript statuses.ReadFault input taken = Unit {0}
+TakesScript statuses.Memory input taken = Unit {0}
+TakesScript status input taken = taken ≡ []
+
 -- how far the input was taken
 abbrev pub IsExtent : Command → Status → List ℕ → List ℕ → Type 0
 IsExtent (Compress h) status input taken = TakesWhole status input taken
 IsExtent Restore status input taken = TakesWhole status input taken
 IsExtent Info status input taken = TakesHeader status input taken
 IsExtent (New name ty ns b) status input taken = taken ≡ []
+IsExtent (Run name lines) status input taken = TakesScript status input taken
 IsExtent (Sample h seed) status input taken = taken ≡ []
 
+-- this holds where the whole of a script was run
+abbrev pub OnWholeScript : Status → Type 0 → Type 0
+OnWholeScript statuses.Done P = P
+OnWholeScript (statuses.Lines n) P = P
+OnWholeScript statuses.SaveFault P = P
+OnWholeScript status P = Unit {0}
+
 -- only a script has lines that answer `! memory`
-abbrev pub HasWants : Command → World → List ℕ → Type 0
-HasWants (Compress h) w wants = wants ≡ []
-HasWants Restore w wants = wants ≡ []
-HasWants Info w wants = wants ≡ []
-HasWants (New name ty ns b) w wants = wants ≡ []
-HasWants (Sample h seed) w wants = wants ≡ []
+abbrev pub HasWants : Command → Status → World → List ℕ → Type 0
+HasWants (Compress h) status w wants = wants ≡ []
+HasWants Restore status w wants = wants ≡ []
+HasWants Info status w wants = wants ≡ []
+HasWants (New name ty ns b) status w wants = wants ≡ []
+HasWants (Run name lines) status w wants = OnWholeScript status (AreWants lines (opened (w.files name)) wants w.input)
+HasWants (Sample h seed) status w wants = wants ≡ []
 
 -- which devices a command uses
 pub record Uses : Type 0 where
@@ -139,6 +154,7 @@ uses (Compress h) = record { reads = true; writes = true; loads = false; saves =
 uses Restore = record { reads = true; writes = true; loads = false; saves = false }
 uses Info = record { reads = true; writes = true; loads = false; saves = false }
 uses (New name ty ns b) = record { reads = false; writes = false; loads = false; saves = true }
+uses (Run name lines) = record { reads = true; writes = true; loads = true; saves = true }
 uses (Sample h seed) = record { reads = false; writes = true; loads = false; saves = false }
 
 -- the command takes memory in this world
@@ -147,13 +163,52 @@ TakesMemory (Compress h) w = Unit {0}
 TakesMemory Restore w = header_fault w.input ≡ None
 TakesMemory Info w = ⊥
 TakesMemory (New name ty ns b) w = Unit {0}
+TakesMemory (Run name lines) w = Unit {0}
 TakesMemory (Sample h seed) w = Unit {0}
 
--- the statuses that no world determines: faults of the devices that a command uses, and want of memory where it takes any
+-- the file of this name is an array, and the input a script
+abbrev pub IsRunnable : List ℕ → World → Type 0
+IsRunnable name w = IsOk (opened (w.files name)) × (length w.input ≤ max_script)
+
+-- the command reads the source, writes to the sink, loads and saves in this world
+abbrev pub MayRead : Command → World → Type 0
+MayRead (Compress h) w = Unit {0}
+MayRead Restore w = Unit {0}
+MayRead Info w = Unit {0}
+MayRead (New name ty ns b) w = ⊥
+MayRead (Run name lines) w = IsOk (opened (w.files name))
+MayRead (Sample h seed) w = ⊥
+
+abbrev pub MayWrite : Command → World → Type 0
+MayWrite (Compress h) w = Unit {0}
+MayWrite Restore w = Unit {0}
+MayWrite Info w = Unit {0}
+MayWrite (New name ty ns b) w = ⊥
+MayWrite (Run name lines) w = IsRunnable name w
+MayWrite (Sample h seed) w = Unit {0}
+
+abbrev pub MayLoad : Command → World → Type 0
+MayLoad (Compress h) w = ⊥
+MayLoad Restore w = ⊥
+MayLoad Info w = ⊥
+MayLoad (New name ty ns b) w = ⊥
+MayLoad (Run name lines) w = Unit {0}
+MayLoad (Sample h seed) w = ⊥
+
+abbrev pub MaySave : Command → World → Type 0
+MaySave (Compress h) w = ⊥
+MaySave Restore w = ⊥
+MaySave Info w = ⊥
+MaySave (New name ty ns b) w = Unit {0}
+MaySave (Run name lines) w = IsRunnable name w
+MaySave (Sample h seed) w = ⊥
+
+-- the statuses that no world determines: faults of the devices that a command comes to, and want of memory where it takes any
 abbrev pub MayFail : Status → Command → World → List ℕ → Type 0
-MayFail statuses.ReadFault c w wants = IsTrue (uses c).reads
-MayFail statuses.WriteFault c w wants = IsTrue (uses c).writes
-MayFail statuses.SaveFault c w wants = IsTrue (uses c).saves
+MayFail statuses.ReadFault c w wants = MayRead c w
+MayFail statuses.WriteFault c w wants = MayWrite c w
+MayFail statuses.LoadFault c w wants = MayLoad c w
+MayFail statuses.SaveFault c w wants = MaySave c w
 MayFail statuses.Memory c w wants = TakesMemory c w
 MayFail status c w wants = ⊥
 
@@ -194,6 +249,25 @@ NewEnds statuses.SaveFault = Unit {0}
 NewEnds statuses.Memory = Unit {0}
 NewEnds status = ⊥
 
+-- those of `run`
+abbrev pub RunEnds : Status → Type 0
+RunEnds statuses.Done = Unit {0}
+RunEnds (statuses.Lines n) = 1 ≤ n
+RunEnds (statuses.Header fault) = Unit {0}
+RunEnds (statuses.Truncated b) = Unit {0}
+RunEnds statuses.Pad = Unit {0}
+RunEnds statuses.Trailing = Unit {0}
+RunEnds (statuses.NotRate m) = Unit {0}
+RunEnds statuses.Missing = Unit {0}
+RunEnds statuses.ScriptLong = Unit {0}
+RunEnds statuses.FileLong = Unit {0}
+RunEnds statuses.ReadFault = Unit {0}
+RunEnds statuses.WriteFault = Unit {0}
+RunEnds statuses.LoadFault = Unit {0}
+RunEnds statuses.SaveFault = Unit {0}
+RunEnds statuses.Memory = Unit {0}
+RunEnds status = ⊥
+
 -- those of `sample`
 abbrev pub SampleEnds : Status → Type 0
 SampleEnds statuses.Done = Unit {0}
@@ -207,4 +281,5 @@ IsPossible (Compress h) status = CompressEnds (raw_len h) status
 IsPossible Restore status = RestoreEnds status
 IsPossible Info status = InfoEnds status
 IsPossible (New name ty ns b) status = NewEnds status
+IsPossible (Run name lines) status = RunEnds status
 IsPossible (Sample h seed) status = SampleEnds status

@@ -9,7 +9,7 @@ use Rattle.zf_dev.specs.Shelf.{Files, KeepsFiles, KeepsOthers, SavesFile}
 use Rattle.zf_dev.specs.Source.{Takes}
 use Rattle.zf_dev.specs.Sink.{Appends, AppendsFront}
 use Rattle.zfpi.specs.declared.status.Status.{Status}
-use Rattle.zfpi.specs.declared.status.Status.TheVariants.{Done, Usage, ReadFault, WriteFault, SaveFault, Memory}
+use Rattle.zfpi.specs.declared.status.Status.TheVariants.{Done, Lines, Usage, ReadFault, WriteFault, LoadFault, SaveFault, Memory}
 use Rattle.zfpi.specs.declared.command.Command.{Command}
 use Rattle.zfpi.specs.Words.{IsSpelled, IsUsage}
 use Rattle.zfpi.specs.World.{World, Seen, Counts, IsTold}
@@ -34,15 +34,18 @@ abbrev pub IsOfCommand : Status → Type 0
 IsOfCommand (Usage k) = ⊥
 IsOfCommand status = Unit {0}
 
--- the whole text was written, or after another status than Done a front of the draft
+-- the whole text was written where the work was done, but for the saving maybe, and else a front of the draft
 abbrev pub Writes : Status → List ℕ → List ℕ → Option (List ℕ) → Option (List ℕ) → Type 0
 Writes Done text draft before now = Appends before now text
+Writes (Lines n) text draft before now = Appends before now text
+Writes SaveFault text draft before now = Appends before now text
 Writes status text draft before now = AppendsFront before now draft
 
 -- what is to be saved was saved. After a fault of the save nothing is known of that name, and after other statuses nothing was saved
 abbrev pub Saves : Option (List ℕ × List ℕ) → Status → Option Files → Option Files → Type 0
 Saves None status before now = KeepsFiles before now
 Saves (Some file) Done before now = SavesFile before now file.0 file.1
+Saves (Some file) (Lines n) before now = SavesFile before now file.0 file.1
 Saves (Some file) SaveFault before now = KeepsOthers before now file.0
 Saves (Some file) status before now = KeepsFiles before now
 
@@ -53,7 +56,7 @@ pub record Behaves (c : Command) (status : Status) (before now : Seen) : Type 0 
   pub told : IsTold before world
   -- the lines of the script that answered `! memory`
   pub wants : List ℕ
-  pub wanted : HasWants c world wants
+  pub wanted : HasWants c status world wants
   pub stated : (status ≡ status_for c world wants) ⊎ MayFail status c world wants
   -- the bytes that were read
   pub taken : List ℕ
@@ -67,8 +70,9 @@ abbrev pub IsIdle : Bool → ℕ → ℕ → Type 0
 IsIdle true before now = Unit {0}
 IsIdle false before now = now ≡ before
 
--- a fault of a save comes only where a save failed
+-- a fault of a load comes only where a load failed, and one of a save where a save did
 abbrev pub IsCausedOnShelf : Status → Type 0 → Type 0 → Type 0
+IsCausedOnShelf LoadFault Loading Saving = Loading
 IsCausedOnShelf SaveFault Loading Saving = Saving
 IsCausedOnShelf status Loading Saving = Unit {0}
 
@@ -84,8 +88,8 @@ pub record HasCauses (c : Command) (status : Status) (before now : Counts) (Load
   pub sure : Sure → (status ≢ ReadFault) × Still
 
 -- a load from the shelf as it was before failed
-abbrev pub FailedLoad : {F : Type 0} → (F → F → Type 0) → (F → ℕ) → F → Type 0
-FailedLoad {F} loads faults before = (mid : F) × loads before mid × Rose (faults before) (faults mid)
+abbrev pub FailedLoad : {F : Type 0} → (F → F → Type 0) → (F → ℕ) → F → F → Type 0
+FailedLoad {F} loads faults before now = (mid : F) × loads before mid × Rose (faults before) (faults mid) × (faults mid ≤ faults now)
 
 -- a save that led to the shelf as it is now failed
 abbrev pub FailedSave : {F : Type 0} → (F → F → Type 0) → (F → ℕ) → F → F → Type 0
@@ -106,9 +110,9 @@ pub record IsComplete (c : Command) (status : Status) (before : Seen) : Type 0 w
   pub world : World
   pub told : IsTold before world
   pub wants : List ℕ
-  pub wanted : HasWants c world wants
+  pub wanted : HasWants c status world wants
   pub stated : (status ≡ status_for c world wants) ⊎ ((status ≡ Memory) × TakesMemory c world)
-  pub no_fault : (status ≢ ReadFault) × (status ≢ WriteFault) × (status ≢ SaveFault)
+  pub no_fault : (status ≢ ReadFault) × (status ≢ WriteFault) × (status ≢ LoadFault) × (status ≢ SaveFault)
 
 -- the words are `restore`, and the source holds the reversible stream of these raw bytes
 pub record HoldsReversible (words : List (List ℕ)) (src : Option (List ℕ)) (h : Header) (bytes : List ℕ) : Type 0 where

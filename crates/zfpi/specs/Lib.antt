@@ -3,17 +3,23 @@
 --     Words       which lists of words are commands, and where others stop
 --     Stages      what each stage of reading words knows
 --     Statuses    the exit code of each status, and its line for the error output
+--     Faults      the status of each fault that a call answers
 --     Info        the line that `info` writes
 --     Sample      the line that `sample` writes
+--     Scripts     what `run` does with a file and a script
 --     World       what a call works on, and what is seen of its devices
 --     Answer      what each command does: one case for each command
+--     Loaded      what a run has loaded, and how it is saved
 --     Headline    what the program promises of every command
 pub mod Names
 pub mod Words
 pub mod Stages
 pub mod Statuses
+pub mod Faults
 pub mod Info
 pub mod Sample
+pub mod Scripts
 pub mod World
 pub mod Answer
+pub mod Loaded
 pub mod Headline

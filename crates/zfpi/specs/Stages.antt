@@ -1,5 +1,5 @@
 -- How far a list of words has come on the way to a command.
-use Rattle.std.specs.Prelude.{ℕ, ◌≡◌, ◌<◌, ◌≤◌, ◌^◌, List, [], ◌∷◌, ◌++◌, codes, decimal}
+use Rattle.std.specs.Prelude.{ℕ, ◌≡◌, ◌<◌, ◌≤◌, ◌^◌, List, [], ◌∷◌, ◌++◌, Some, codes, decimal}
 use Rattle.zf_spec.specs.Grid.{IsShape}
 use Rattle.zf_base.specs.declared.lane.Ty.{Ty}
 use Rattle.zf_header.specs.declared.header.Header.{Header}
@@ -12,7 +12,7 @@ use Rattle.zfpi.specs.declared.words.Task.{Task}
 use Rattle.zfpi.specs.declared.words.Task.TheVariants as tasks
 use Rattle.zfpi.specs.declared.words.Stage.{Stage}
 use Rattle.zfpi.specs.declared.words.Stage.TheVariants as stages
-use Rattle.zfpi.specs.Words.{type_word, shape_word, max_file, IsSpelled}
+use Rattle.zfpi.specs.Words.{type_word, shape_word, max_file, IsLines, IsSpelled}
 
 -- the number that an array is made of has 64 bits
 abbrev pub IsTask : Task → Type 0
@@ -50,6 +50,8 @@ LeadsTo words stages.Making = words ≡ codes "new" ∷ []
 LeadsTo words (stages.Named name) = IsName name × (words ≡ codes "new" ∷ name ∷ [])
 LeadsTo words (stages.NamedTyped name ty) = IsName name × (words ≡ codes "new" ∷ name ∷ type_word ty ∷ [])
 LeadsTo words (stages.NamedShaped name ty shape) = IsName name × IsShape shape × (words ≡ codes "new" ∷ name ∷ type_word ty ∷ shape_word shape ∷ [])
+LeadsTo words stages.Running = words ≡ codes "run" ∷ []
+LeadsTo words (stages.AtLines name) = IsName name × (words ≡ codes "run" ∷ name ∷ codes "lines" ∷ [])
 LeadsTo words (stages.Whole c) = IsSpelled c words
 
 -- the word is the bits of a block, and the stream of such an array is not too long
@@ -57,6 +59,11 @@ pub record IsRateWord (ty : Ty) (shape : List ℕ) (b : ℕ) (word : List ℕ) :
   pub rate : IsRate (Rate b)
   pub fits : rate_bytes_of (record { ty = ty; shape = shape; mode = Rate b }) ≤ max_file
   pub text : word ≡ decimal b
+
+-- the word is a number of lines
+pub record IsLinesWord (l : ℕ) (word : List ℕ) : Type 0 where
+  pub lines : IsLines (Some l)
+  pub text : word ≡ decimal l
 
 -- the word is a number of planes
 pub record IsPrecisionWord (p : ℕ) (word : List ℕ) : Type 0 where

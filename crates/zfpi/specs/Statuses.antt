@@ -3,11 +3,12 @@ use Rattle.std.specs.Prelude.{ℕ, List, [], ◌++◌, codes, decimal}
 use Rattle.zf_header.specs.declared.header.HeaderFault.{HeaderFault}
 use Rattle.zf_header.specs.declared.header.HeaderFault.TheVariants as headers
 use Rattle.zfpi.specs.declared.status.Status.{Status}
-use Rattle.zfpi.specs.declared.status.Status.TheVariants.{Done, Usage, RawShort, RawLong, Header, Truncated, Pad, Trailing, ReadFault, WriteFault, SaveFault, Memory}
+use Rattle.zfpi.specs.declared.status.Status.TheVariants.{Done, Lines, Usage, RawShort, RawLong, Header, Truncated, Pad, Trailing, NotRate, Missing, ScriptLong, FileLong, ReadFault, WriteFault, LoadFault, SaveFault, Memory}
 
 -- the exit code of the process
 abbrev pub code_of : Status → ℕ
 code_of Done = 0
+code_of (Lines n) = 1
 code_of (Usage k) = 2
 code_of (RawShort m) = 3
 code_of RawLong = 3
@@ -15,8 +16,13 @@ code_of (Header fault) = 4
 code_of (Truncated b) = 5
 code_of Pad = 5
 code_of Trailing = 5
+code_of (NotRate m) = 6
+code_of Missing = 7
+code_of ScriptLong = 8
+code_of FileLong = 9
 code_of ReadFault = 10
 code_of WriteFault = 11
+code_of LoadFault = 12
 code_of SaveFault = 12
 code_of Memory = 20
 
@@ -37,6 +43,7 @@ line text = codes "zfpi: " ++ text ++ codes "\n"
 -- the line of a status; none after Done
 abbrev pub error_line : Status → List ℕ
 error_line Done = []
+error_line (Lines n) = line (decimal n ++ codes " lines refused")
 error_line (Usage k) = line (codes "usage: word " ++ decimal k)
 error_line (RawShort m) = line (codes "input ends after " ++ decimal m ++ codes " bytes")
 error_line RawLong = line (codes "input is longer than the shape")
@@ -44,7 +51,12 @@ error_line (Header fault) = line (codes "header: " ++ header_message fault)
 error_line (Truncated b) = line (codes "stream ends in block " ++ decimal b)
 error_line Pad = line (codes "fill bit is one")
 error_line Trailing = line (codes "bytes after the stream")
+error_line (NotRate m) = line (codes "mode " ++ decimal m ++ codes " has no cached array")
+error_line Missing = line (codes "no such file")
+error_line ScriptLong = line (codes "script too long")
+error_line FileLong = line (codes "file too long")
 error_line ReadFault = line (codes "read fault")
 error_line WriteFault = line (codes "write fault")
+error_line LoadFault = line (codes "load fault")
 error_line SaveFault = line (codes "save fault")
 error_line Memory = line (codes "out of memory")

@@ -1,5 +1,5 @@
 -- The words of the command line: which lists of words are commands.
-use Rattle.std.specs.Prelude.{ℕ, ◌≡◌, ◌<◌, ◌≤◌, ◌^◌, List, [], ◌∷◌, ◌++◌, map, length, take, codes, decimal}
+use Rattle.std.specs.Prelude.{ℕ, ◌≡◌, ◌<◌, ◌≤◌, ◌^◌, List, [], ◌∷◌, ◌++◌, map, length, take, Option, Some, None, codes, decimal}
 use Rattle.std.specs.List.{join_with_byte}
 use Rattle.zf_spec.specs.Grid.{IsShape}
 use Rattle.zf_base.specs.declared.lane.Ty.{Ty}
@@ -10,7 +10,7 @@ use Rattle.zf_header.specs.declared.header.Mode.TheVariants.{Reversible, Rate, P
 use Rattle.zf_header.specs.HeaderBits.{IsHeader, IsRate, rate_bytes_of}
 use Rattle.zfpi.specs.Names.{IsName}
 use Rattle.zfpi.specs.declared.command.Command.{Command}
-use Rattle.zfpi.specs.declared.command.Command.TheVariants.{Compress, Restore, Info, New, Sample}
+use Rattle.zfpi.specs.declared.command.Command.TheVariants.{Compress, Restore, Info, New, Run, Sample}
 
 -- the word of a type
 abbrev pub type_word : Ty → List ℕ
@@ -54,6 +54,22 @@ pub record IsNew (name : List ℕ) (ty : Ty) (ns : List ℕ) (b : ℕ) (words : 
   pub fits : rate_bytes_of (record { ty = ty; shape = ns; mode = Rate b }) ≤ max_file
   pub words_are : words ≡ codes "new" ∷ name ∷ type_word ty ∷ shape_word ns ∷ decimal b ∷ []
 
+-- a number of lines that can be asked for, where one is
+abbrev pub IsLines : Option ℕ → Type 0
+IsLines None = Unit {0}
+IsLines (Some l) = (1 ≤ l) × (l ≤ 65536)
+
+-- nothing, or `lines L`
+abbrev pub lines_words : Option ℕ → List (List ℕ)
+lines_words None = []
+lines_words (Some l) = codes "lines" ∷ decimal l ∷ []
+
+-- `run NAME` or `run NAME lines L`
+pub record IsRun (name : List ℕ) (lines : Option ℕ) (words : List (List ℕ)) : Type 0 where
+  pub named : IsName name
+  pub lines_are : IsLines lines
+  pub words_are : words ≡ codes "run" ∷ name ∷ lines_words lines
+
 -- `sample TYPE SHAPE SEED` and a mode
 abbrev pub sample_words : Header → ℕ → List (List ℕ)
 sample_words h seed = codes "sample" ∷ type_word h.ty ∷ shape_word h.shape ∷ decimal seed ∷ mode_words h.mode
@@ -70,6 +86,7 @@ IsSpelled (Compress h) words = IsAskable h × (words ≡ compress_words h)
 IsSpelled Restore words = words ≡ codes "restore" ∷ []
 IsSpelled Info words = words ≡ codes "info" ∷ []
 IsSpelled (New name ty ns b) words = IsNew name ty ns b words
+IsSpelled (Run name lines) words = IsRun name lines words
 IsSpelled (Sample h seed) words = IsSample h seed words
 
 -- some command begins with these words

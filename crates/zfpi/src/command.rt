@@ -20,6 +20,12 @@ pub enum Command {
         shape: Shape,
         bits: u32,
     },
+    /// The file of this name is an array, and a script from the source runs on it over a cache of so many lines, or of as many as suit the
+    /// array; replies to the sink, and the array is saved under the same name.
+    Run {
+        name: Name,
+        lines: Option<u32>,
+    },
     /// An array made from a number, which becomes the stream that has this header and is restored from it; a line that says what
     /// became of it to the sink.
     Sample(Header, u64),

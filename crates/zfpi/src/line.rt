@@ -27,6 +27,7 @@ pub fn error_line(status: &Status) -> Line
 {
     match *status {
         Status::Done => Line::new(),
+        Status::Lines(lines) => counted("", lines, " lines refused"),
         Status::Usage(word) => counted("usage: word ", word, ""),
         Status::RawShort(bytes) => counted("input ends after ", bytes, " bytes"),
         Status::RawLong => plain("input is longer than the shape"),
@@ -34,8 +35,13 @@ pub fn error_line(status: &Status) -> Line
         Status::Truncated(block) => counted("stream ends in block ", block, ""),
         Status::Pad => plain("fill bit is one"),
         Status::Trailing => plain("bytes after the stream"),
+        Status::NotRate(number) => counted("mode ", u64::from(number), " has no cached array"),
+        Status::Missing => plain("no such file"),
+        Status::ScriptLong => plain("script too long"),
+        Status::FileLong => plain("file too long"),
         Status::ReadFault => plain("read fault"),
         Status::WriteFault => plain("write fault"),
+        Status::LoadFault => plain("load fault"),
         Status::SaveFault => plain("save fault"),
         Status::Memory => plain("out of memory"),
     }

@@ -31,7 +31,7 @@ pub fn new<F: Shelf>(
         (seen src out (F.files shelf.old)) (seen src out (F.files shelf.new)) }
     ensures causes { (src out : ℕ) → HasCauses (New name.now ty shape bits) result
         (counts src out (F.faults shelf.old)) (counts src out (F.faults shelf.new))
-        (FailedLoad F.loads F.faults shelf.old) (FailedSave F.saves F.faults shelf.old shelf.new) (Unit {0}) (Unit {0}) }
+        (FailedLoad F.loads F.faults shelf.old shelf.new) (FailedSave F.saves F.faults shelf.old shelf.new) (Unit {0}) (Unit {0}) }
 {
     match file_of_zeros(alloc, ty, shape, bits) {
         Ok(file) => match shelf.save(name.as_str(), &file) {

@@ -12,6 +12,7 @@ use crate::info::info;
 use crate::line::error_line;
 use crate::new::new;
 use crate::restore::restore;
+use crate::run::run;
 use crate::sample::sample;
 use crate::status::Status;
 use crate::words::parse;
@@ -36,7 +37,7 @@ pub fn zfpi<S: Source, O: Sink, E: Sink, F: Shelf>(
     ensures causes { OfCommand (map string_bytes words.now) (λ c. HasCauses c result
         (counts (S.faults src.old) (O.faults out.old) (F.faults shelf.old))
         (counts (S.faults src.new) (O.faults out.new) (F.faults shelf.new))
-        (FailedLoad F.loads F.faults shelf.old) (FailedSave F.saves F.faults shelf.old shelf.new)
+        (FailedLoad F.loads F.faults shelf.old shelf.new) (FailedSave F.saves F.faults shelf.old shelf.new)
         (S.never_fails src.old) (S.never_fails src.new)) }
     ensures possible { OfCommand (map string_bytes words.now) (λ c. IsPossible c result) }
     ensures complete { AreQuiet
@@ -70,7 +71,7 @@ fn answer<S: Source, O: Sink, F: Shelf>(
     ensures causes { OfCommand (map string_bytes words.now) (λ c. HasCauses c result
         (counts (S.faults src.old) (O.faults out.old) (F.faults shelf.old))
         (counts (S.faults src.new) (O.faults out.new) (F.faults shelf.new))
-        (FailedLoad F.loads F.faults shelf.old) (FailedSave F.saves F.faults shelf.old shelf.new)
+        (FailedLoad F.loads F.faults shelf.old shelf.new) (FailedSave F.saves F.faults shelf.old shelf.new)
         (S.never_fails src.old) (S.never_fails src.new)) }
 {
     match parse(words) {
@@ -94,7 +95,7 @@ fn do_command<S: Source, O: Sink, F: Shelf>(
     ensures causes { HasCauses command result
         (counts (S.faults src.old) (O.faults out.old) (F.faults shelf.old))
         (counts (S.faults src.new) (O.faults out.new) (F.faults shelf.new))
-        (FailedLoad F.loads F.faults shelf.old) (FailedSave F.saves F.faults shelf.old shelf.new)
+        (FailedLoad F.loads F.faults shelf.old shelf.new) (FailedSave F.saves F.faults shelf.old shelf.new)
         (S.never_fails src.old) (S.never_fails src.new) }
 {
     match command {
@@ -107,6 +108,7 @@ fn do_command<S: Source, O: Sink, F: Shelf>(
             shape,
             bits,
         } => new(alloc, &name, ty, shape, bits, shelf),
+        Command::Run { name, lines } => run(alloc, &name, lines, src, out, shelf),
         Command::Sample(header, seed) => sample(alloc, header, seed, out),
     }
 }

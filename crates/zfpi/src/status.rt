@@ -1,10 +1,12 @@
 //! How the program ends.
 
 ghost use Rattle.std.specs.Prelude.{◌≡◌};
-ghost use Rattle.zfpi.specs.Answer.{fault_status};
+ghost use Rattle.zfpi.specs.Faults.{fault_status, load_status, store_status, take_status};
 ghost use Rattle.zfpi.specs.Statuses.{code_of};
 
+use zf_dev::{LoadError, TakeError};
 use zf_header::HeaderFault;
+use zf_store::StoreFault;
 use zf_stream::StreamFault;
 
 /// How the program ends. Each status but `Done` has a line for the error output.
@@ -12,6 +14,8 @@ use zf_stream::StreamFault;
 pub enum Status {
     /// The whole work was done.
     Done,
+    /// This many lines of the script were refused, at least one. All else was done.
+    Lines(u64),
     /// The words are no command. It is the number, from 0, of the first word that fits none, or of words where more are
     /// missing.
     Usage(u64),
@@ -27,10 +31,20 @@ pub enum Status {
     Pad,
     /// A byte follows the stream.
     Trailing,
+    /// The file is a stream of the mode with this number, and no array's.
+    NotRate(u16),
+    /// There is no file of that name.
+    Missing,
+    /// The script has more bytes than a script may have.
+    ScriptLong,
+    /// The file has more bytes than a file may have.
+    FileLong,
     /// The source failed.
     ReadFault,
     /// The sink failed.
     WriteFault,
+    /// The shelf failed to load.
+    LoadFault,
     /// The shelf failed to save. Nothing is known of the file of that name.
     SaveFault,
     /// There was no memory.
@@ -44,13 +58,18 @@ impl Status {
     {
         match *self {
             Status::Done => 0,
+            Status::Lines(_) => 1,
             Status::Usage(_) => 2,
             Status::RawShort(_) | Status::RawLong => 3,
             Status::Header(_) => 4,
             Status::Truncated(_) | Status::Pad | Status::Trailing => 5,
+            Status::NotRate(_) => 6,
+            Status::Missing => 7,
+            Status::ScriptLong => 8,
+            Status::FileLong => 9,
             Status::ReadFault => 10,
             Status::WriteFault => 11,
-            Status::SaveFault => 12,
+            Status::LoadFault | Status::SaveFault => 12,
             Status::Memory => 20,
         }
     }
@@ -70,6 +89,44 @@ impl From<StreamFault> for Status {
             StreamFault::Read => Status::ReadFault,
             StreamFault::Write => Status::WriteFault,
             StreamFault::Memory => Status::Memory,
+        }
+    }
+}
+
+impl From<LoadError> for Status {
+    ghost from_gives = { λ error status. status ≡ load_status error };
+
+    fn from(error: LoadError) -> Status {
+        match error {
+            LoadError::Missing => Status::Missing,
+            LoadError::Long => Status::FileLong,
+            LoadError::Failed => Status::LoadFault,
+            LoadError::Memory => Status::Memory,
+        }
+    }
+}
+
+impl From<StoreFault> for Status {
+    ghost from_gives = { λ fault status. status ≡ store_status fault };
+
+    fn from(fault: StoreFault) -> Status {
+        match fault {
+            StoreFault::Truncated(block) => Status::Truncated(block),
+            StoreFault::Pad => Status::Pad,
+            StoreFault::Trailing => Status::Trailing,
+            StoreFault::Memory => Status::Memory,
+        }
+    }
+}
+
+impl From<TakeError> for Status {
+    ghost from_gives = { λ error status. status ≡ take_status error };
+
+    fn from(error: TakeError) -> Status {
+        match error {
+            TakeError::Long => Status::ScriptLong,
+            TakeError::Failed => Status::ReadFault,
+            TakeError::Memory => Status::Memory,
         }
     }
 }

@@ -1,16 +1,19 @@
 //! The words of the command line.
 
-ghost use Rattle.std.specs.Prelude.{◌≡◌, ◌≢◌, ◌↔◌, ℕ, List, [], ◌∷◌, ◌++◌, map, IfSome, IfNone, IfOk, IfErr, IsTrue, string_bytes};
+ghost use Rattle.std.specs.Prelude.{◌≡◌, ◌≢◌, ◌↔◌, ℕ, List, [], ◌∷◌, ◌++◌, map, Some, IfSome, IfNone, IfOk, IfErr, IsTrue, string_bytes};
 ghost use Rattle.zf_base.specs.declared.lane.Ty.{Ty};
 ghost use Rattle.zf_header.specs.HeaderBits.{IsRate, IsMode};
-ghost use Rattle.zfpi.specs.Words.{type_word, IsSpelled, BeginsCommand, IsUsage};
-ghost use Rattle.zfpi.specs.Stages.{LeadsTo, IsRateWord, IsPrecisionWord, command_of};
+ghost use Rattle.zfpi.specs.Words.{type_word, IsLines, IsSpelled, BeginsCommand, IsUsage};
+ghost use Rattle.zfpi.specs.Stages.{LeadsTo, IsRateWord, IsLinesWord, IsPrecisionWord, command_of};
 
 use crate::command::Command;
 use crate::name::Name;
 use crate::numbers::{number_in, shape_in};
 use zf_base::{Shape, Ty};
 use zf_header::{Header, MAX_FILE, MAX_PRECISION, MAX_RATE, Mode, rate_bytes};
+
+// The most lines of a cache.
+const MOST_LINES: u32 = 1 << 16;
 
 // What is done with the arrays of a header: raw values become their stream, or values are made from a number.
 #[derive(Clone, Copy, Debug)]
@@ -35,6 +38,8 @@ enum Stage {
     Named(Name),
     NamedTyped(Name, Ty),
     NamedShaped(Name, Ty, Shape),
+    Running,
+    AtLines(Name),
     Whole(Command),
 }
 
@@ -108,7 +113,15 @@ impl Stage {
                     bits,
                 }))
             }
-            Stage::Whole(_) => None,
+            Stage::Running => {
+                let name = Name::new(word)?;
+                Some(Stage::Whole(Command::Run { name, lines: None }))
+            }
+            Stage::AtLines(name) => {
+                let lines = Some(lines_in(word)?);
+                Some(Stage::Whole(Command::Run { name, lines }))
+            }
+            Stage::Whole(command) => behind_whole(command, word),
         }
     }
 }
@@ -123,6 +136,7 @@ fn first(word: &str) -> Option<Stage>
         "restore" => Some(Stage::Whole(Command::Restore)),
         "info" => Some(Stage::Whole(Command::Info)),
         "new" => Some(Stage::Making),
+        "run" => Some(Stage::Running),
         "sample" => Some(Stage::Sampling),
         _ => None,
     }
@@ -158,6 +172,22 @@ fn behind_shape(task: Task, ty: Ty, shape: Shape, word: &str) -> Option<Stage>
     }
 }
 
+// The stage that a word behind a whole command leads to: only a run can go on with a number of lines.
+fn behind_whole(command: Command, word: &str) -> Option<Stage>
+    ensures leads { IfSome result (λ next. (words : List (List ℕ)) → LeadsTo words (Stage.Whole command)
+        → LeadsTo (words ++ word.now ∷ []) next) }
+    ensures none { IfNone result ((words : List (List ℕ)) → LeadsTo words (Stage.Whole command)
+        → BeginsCommand (words ++ word.now ∷ []) → ⊥) }
+{
+    match command {
+        Command::Run { name, lines: None } => match word {
+            "lines" => Some(Stage::AtLines(name)),
+            _ => None,
+        },
+        _ => None,
+    }
+}
+
 // The bits of a block that a word says, where the stream of such an array is not too long.
 fn rate_in(ty: Ty, shape: Shape, word: &str) -> Option<u32>
     ensures rate { IfSome result (λ b. IsRateWord ty shape b word.now) }
@@ -175,6 +205,19 @@ fn rate_in(ty: Ty, shape: Shape, word: &str) -> Option<u32>
     Some(bits)
 }
 
+// The number of lines that a word says.
+fn lines_in(word: &str) -> Option<u32>
+    ensures lines { IfSome result (λ l. IsLinesWord l word.now) }
+    ensures none { IfNone result ((l : ℕ) → IsLinesWord l word.now → ⊥) }
+{
+    let number = number_in(word)?;
+    if is_line_count(number) {
+        Some(number as u32)
+    } else {
+        None
+    }
+}
+
 // The number of planes that a word says.
 fn precision_in(word: &str) -> Option<u32>
     ensures planes { IfSome result (λ p. IsPrecisionWord p word.now) }
@@ -186,6 +229,13 @@ fn precision_in(word: &str) -> Option<u32>
     } else {
         None
     }
+}
+
+// Whether a cache can have so many lines.
+fn is_line_count(lines: u64) -> bool
+    ensures { IsTrue result ↔ IsLines (Some lines) }
+{
+    1 <= lines && lines <= u64::from(MOST_LINES)
 }
 
 // Whether a header can state this precision.

@@ -30,3 +30,9 @@ returns-in-Sample-clause-behaves g c = rw c.in-Sample.is (c.sample.ensures.behav
 
 pub returns-in-Sample-clause-causes : goal.returns-in-Sample-clause-causes
 returns-in-Sample-clause-causes g c = rw c.in-Sample.is (HasCauses-sure _ _ _ _ (HasCauses-more _ _ _ _ _ _ _ (c.sample.ensures.causes _ _)))
+
+pub returns-in-Run-clause-behaves : goal.returns-in-Run-clause-behaves
+returns-in-Run-clause-behaves g c = rw c.in-Run.is c.run.ensures.behaves
+
+pub returns-in-Run-clause-causes : goal.returns-in-Run-clause-causes
+returns-in-Run-clause-causes g c = rw c.in-Run.is c.run.ensures.causes

@@ -1,5 +1,5 @@
 use Rattle.std.proofs.Common.{map, string_bytes}
-use Rattle.zfpi.proofs.Promises.{IsPossible-behaves, IsComplete-quiet, FailedSave-quiet, GivesBack-behaves}
+use Rattle.zfpi.proofs.Promises.{IsPossible-behaves, IsComplete-quiet, FailedLoad-quiet, FailedSave-quiet, GivesBack-behaves}
 use Rattle.zfpi.proofs.program.zfpi.Goals as goal
 
 pub returns-clause-possible : goal.returns-clause-possible
@@ -11,4 +11,5 @@ returns-clause-back g c = GivesBack-behaves (map string_bytes c.args.words.now) 
 pub returns-clause-complete : goal.returns-clause-complete
 returns-clause-complete g c = λ quiet d spelled.
     IsComplete-quiet d c.answer-status.result _ _ _ _ _ _ _ _ (c.answer-status.ensures.command d spelled) (c.answer-status.ensures.causes d spelled) quiet
+    (FailedLoad-quiet g.F.Shelf.loads g.F.Shelf.faults c.args.shelf.now c.answer-status.new.shelf quiet.shelf)
     (FailedSave-quiet g.F.Shelf.saves g.F.Shelf.faults c.args.shelf.now c.answer-status.new.shelf quiet.shelf)

@@ -1,0 +1,41 @@
+-- The status of each fault that a call answers.
+use Rattle.std.specs.Prelude.{ℕ}
+use Rattle.zf_dev.specs.declared.faults.LoadError.{LoadError}
+use Rattle.zf_dev.specs.declared.faults.LoadError.TheVariants as loading
+use Rattle.zf_dev.specs.declared.faults.TakeError.{TakeError}
+use Rattle.zf_dev.specs.declared.faults.TakeError.TheVariants as taking
+use Rattle.zf_stream.specs.declared.fault.StreamFault.{StreamFault}
+use Rattle.zf_stream.specs.declared.fault.StreamFault.TheVariants as faults
+use Rattle.zf_store.specs.declared.fault.StoreFault.{StoreFault}
+use Rattle.zf_store.specs.Files.{stream_fault}
+use Rattle.zfpi.specs.declared.status.Status.{Status}
+use Rattle.zfpi.specs.declared.status.Status.TheVariants as statuses
+
+-- the status of a fault of a stream
+abbrev pub fault_status : StreamFault → Status
+fault_status (faults.RawShort m) = statuses.RawShort m
+fault_status faults.RawLong = statuses.RawLong
+fault_status (faults.Header fault) = statuses.Header fault
+fault_status (faults.Truncated b) = statuses.Truncated b
+fault_status faults.Pad = statuses.Pad
+fault_status faults.Trailing = statuses.Trailing
+fault_status faults.Read = statuses.ReadFault
+fault_status faults.Write = statuses.WriteFault
+fault_status faults.Memory = statuses.Memory
+
+-- the status of a file that was not loaded
+abbrev pub load_status : LoadError → Status
+load_status loading.Missing = statuses.Missing
+load_status loading.Long = statuses.FileLong
+load_status loading.Failed = statuses.LoadFault
+load_status loading.Memory = statuses.Memory
+
+-- the status of a file that is no array's
+abbrev pub store_status : StoreFault → Status
+store_status e = fault_status (stream_fault e)
+
+-- the status of a script that was not read to its end
+abbrev pub take_status : TakeError → Status
+take_status taking.Long = statuses.ScriptLong
+take_status taking.Failed = statuses.ReadFault
+take_status taking.Memory = statuses.Memory

@@ -1,0 +1,30 @@
+-- What a run has loaded, the file of the shelf and the array of it, and how it is saved.
+use Rattle.std.specs.Prelude.{◌≡◌, ℕ, ◌≤◌, ◌⊎◌, List, length, Option, Ok}
+use Rattle.std.specs.Int.{Width}
+use Rattle.zf_base.specs.Widths.{width_of}
+use Rattle.zf_dev.specs.Shelf.{Files, HasFile, KeepsOthers, SavesFile}
+use Rattle.zf_header.specs.HeaderBits.{block_bits}
+use Rattle.zf_cached.specs.Arrays.{open_array, max_file}
+use Rattle.zf_store.specs.Files.{said}
+use Rattle.zf_array.specs.Standing.{Held, stored, state}
+use Rattle.zfpi.specs.declared.status.Status.{Status}
+use Rattle.zfpi.specs.declared.status.Status.TheVariants.{SaveFault}
+use Rattle.zfpi.specs.Scripts.{array_in, lines_for}
+
+-- the file of this name has these bytes, and not more than a file may have
+pub record HoldsFile (known : Option Files) (name bytes : List ℕ) : Type 0 where
+  pub held : HasFile known name bytes
+  pub size : length bytes ≤ max_file
+
+-- the array is that of the file of this name, has values of this width, and a cache of as many lines as are asked for or suit it
+pub record HoldsArray (known : Option Files) (name : List ℕ) (lines : Option ℕ) (w : Width) (a : Held) : Type 0 where
+  pub bytes : List ℕ
+  pub file : HoldsFile known name bytes
+  pub array : array_in bytes ≡ Ok (said (stored a))
+  pub same_type : w ≡ width_of a.header.ty
+  pub state_is : state a ≡ open_array w (block_bits a.header.mode) a.header.shape a.codes (lines_for lines a.header.shape)
+
+-- the file was saved and the status is this one, or a save failed
+abbrev pub SavesOrFails : Option Files → Option Files → List ℕ → List ℕ → Status → Status → Type 0 → Type 0
+SavesOrFails before now name bytes status ended Saving =
+    ((ended ≡ status) × SavesFile before now name bytes) ⊎ ((ended ≡ SaveFault) × KeepsOthers before now name × Saving)

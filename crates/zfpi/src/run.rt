@@ -1,0 +1,233 @@
+//! `run`: a script on the array of a file.
+
+ghost use Rattle.std.specs.Prelude.{◌≡◌, ℕ, List, Option, ◌≤◌, ◌<◌, ◌^◌, length};
+ghost use Rattle.zf_base.specs.Widths.{width_of};
+ghost use Rattle.zf_dev.specs.Shelf.{Files, KeepsFiles};
+ghost use Rattle.zf_dev.specs.Source.{Takes, IsAtEnd};
+ghost use Rattle.zf_store.specs.Files.{HasHeader};
+ghost use Rattle.zfpi.specs.declared.command.Command.TheVariants.{Run};
+ghost use Rattle.zfpi.specs.Words.{IsLines};
+ghost use Rattle.zfpi.specs.World.{seen, counts};
+ghost use Rattle.zfpi.specs.Answer.{CanRun};
+ghost use Rattle.zfpi.specs.Scripts.{lines_for, max_script};
+ghost use Rattle.zfpi.specs.Loaded.{HoldsFile, HoldsArray, SavesOrFails};
+ghost use Rattle.zfpi.specs.Headline.{Behaves, HasCauses, FailedLoad, FailedSave};
+
+use crate::name::Name;
+use crate::status::Status;
+use std::alloc::Global;
+use zf_array::Array;
+use zf_base::{Lane, Shape, Ty};
+use zf_cache::default_lines;
+use zf_dev::{Shelf, Sink, Source, take_all};
+use zf_header::{Header, MAX_FILE, Mode, mode_number};
+use zf_run::RunEnd;
+
+/// The most bytes of a script.
+const MAX_SCRIPT: u64 = 1 << 24;
+
+/// Loads the file of this name, which is an array, reads a script to its end and runs it, with a cache of `lines` lines or of as many as suit the
+/// array, writes the replies, and saves the array under the same name.
+pub fn run<S: Source, O: Sink, F: Shelf>(
+    alloc: Global,
+    name: &Name,
+    lines: Option<u32>,
+    src: &mut S,
+    out: &mut O,
+    shelf: &mut F,
+) -> Status
+    requires { CanRun (Run name.now lines) }
+    ensures behaves { Behaves (Run name.now lines) result
+        (seen (S.contents src.old) (O.contents out.old) (F.files shelf.old))
+        (seen (S.contents src.new) (O.contents out.new) (F.files shelf.new)) }
+    ensures causes { HasCauses (Run name.now lines) result
+        (counts (S.faults src.old) (O.faults out.old) (F.faults shelf.old))
+        (counts (S.faults src.new) (O.faults out.new) (F.faults shelf.new))
+        (FailedLoad F.loads F.faults shelf.old shelf.new) (FailedSave F.saves F.faults shelf.old shelf.new)
+        (S.never_fails src.old) (S.never_fails src.new) }
+{
+    match shelf.load(alloc, name.as_str(), MAX_FILE) {
+        Ok(file) => run_file(alloc, name, lines, file, src, out, shelf),
+        Err(error) => Status::from(error),
+    }
+}
+
+// Runs a script on the array of the file that was loaded.
+fn run_file<S: Source, O: Sink, F: Shelf>(
+    alloc: Global,
+    name: &Name,
+    lines: Option<u32>,
+    file: Vec<u8>,
+    src: &mut S,
+    out: &mut O,
+    shelf: &mut F,
+) -> Status
+    requires lines { IsLines lines }
+    ensures behaves { (known : Option Files) → HoldsFile known name.now file.items → KeepsFiles known (F.files shelf.old)
+        → Behaves (Run name.now lines) result (seen (S.contents src.old) (O.contents out.old) known)
+        (seen (S.contents src.new) (O.contents out.new) (F.files shelf.new)) }
+    ensures causes { HasCauses (Run name.now lines) result
+        (counts (S.faults src.old) (O.faults out.old) (F.faults shelf.old))
+        (counts (S.faults src.new) (O.faults out.new) (F.faults shelf.new))
+        ⊥ (FailedSave F.saves F.faults shelf.old shelf.new) (S.never_fails src.old) (S.never_fails src.new) }
+{
+    match zf_header::read(&file) {
+        Ok((header, _)) => match header.mode {
+            Mode::Rate(_) => run_typed(alloc, name, lines, &header, file, src, out, shelf),
+            mode => Status::NotRate(mode_number(&mode)),
+        },
+        Err(fault) => Status::Header(fault),
+    }
+}
+
+// The same, with the header of the file: chooses the type of its values and the number of its dimensions.
+fn run_typed<S: Source, O: Sink, F: Shelf>(
+    alloc: Global,
+    name: &Name,
+    lines: Option<u32>,
+    header: &Header,
+    file: Vec<u8>,
+    src: &mut S,
+    out: &mut O,
+    shelf: &mut F,
+) -> Status
+    requires lines { IsLines lines }
+    requires header { HasHeader file.items header.now }
+    ensures behaves { (known : Option Files) → HoldsFile known name.now file.items → KeepsFiles known (F.files shelf.old)
+        → Behaves (Run name.now lines) result (seen (S.contents src.old) (O.contents out.old) known)
+        (seen (S.contents src.new) (O.contents out.new) (F.files shelf.new)) }
+    ensures causes { HasCauses (Run name.now lines) result
+        (counts (S.faults src.old) (O.faults out.old) (F.faults shelf.old))
+        (counts (S.faults src.new) (O.faults out.new) (F.faults shelf.new))
+        ⊥ (FailedSave F.saves F.faults shelf.old shelf.new) (S.never_fails src.old) (S.never_fails src.new) }
+{
+    match (header.ty, header.shape.dims()) {
+        (Ty::I32, 1) => run_array::<i32, 1, S, O, F>(
+            alloc, name, lines, header, file, src, out, shelf,
+        ),
+        (Ty::I32, 2) => run_array::<i32, 2, S, O, F>(
+            alloc, name, lines, header, file, src, out, shelf,
+        ),
+        (Ty::I32, 3) => run_array::<i32, 3, S, O, F>(
+            alloc, name, lines, header, file, src, out, shelf,
+        ),
+        (Ty::I32, _) => run_array::<i32, 4, S, O, F>(
+            alloc, name, lines, header, file, src, out, shelf,
+        ),
+        (Ty::I64, 1) => run_array::<i64, 1, S, O, F>(
+            alloc, name, lines, header, file, src, out, shelf,
+        ),
+        (Ty::I64, 2) => run_array::<i64, 2, S, O, F>(
+            alloc, name, lines, header, file, src, out, shelf,
+        ),
+        (Ty::I64, 3) => run_array::<i64, 3, S, O, F>(
+            alloc, name, lines, header, file, src, out, shelf,
+        ),
+        (Ty::I64, _) => run_array::<i64, 4, S, O, F>(
+            alloc, name, lines, header, file, src, out, shelf,
+        ),
+    }
+}
+
+// The same in the type and the number of dimensions: opens the array.
+fn run_array<T: Lane, const D: usize, S: Source, O: Sink, F: Shelf>(
+    alloc: Global,
+    name: &Name,
+    lines: Option<u32>,
+    header: &Header,
+    file: Vec<u8>,
+    src: &mut S,
+    out: &mut O,
+    shelf: &mut F,
+) -> Status
+    requires lines { IsLines lines }
+    requires header { HasHeader file.items header.now }
+    requires same_type { T.width ≡ width_of header.now.ty }
+    requires dims { length header.now.shape ≡ D }
+    ensures behaves { (known : Option Files) → HoldsFile known name.now file.items → KeepsFiles known (F.files shelf.old)
+        → Behaves (Run name.now lines) result (seen (S.contents src.old) (O.contents out.old) known)
+        (seen (S.contents src.new) (O.contents out.new) (F.files shelf.new)) }
+    ensures causes { HasCauses (Run name.now lines) result
+        (counts (S.faults src.old) (O.faults out.old) (F.faults shelf.old))
+        (counts (S.faults src.new) (O.faults out.new) (F.faults shelf.new))
+        ⊥ (FailedSave F.saves F.faults shelf.old shelf.new) (S.never_fails src.old) (S.never_fails src.new) }
+{
+    let count = line_count(lines, &header.shape);
+    match Array::<T, D>::from_file(alloc, header, file, count) {
+        Ok(array) => run_script(alloc, name, array, src, out, shelf),
+        Err(fault) => Status::from(fault),
+    }
+}
+
+// The number of lines that is asked for, or else the one that suits an array of this shape.
+fn line_count(lines: Option<u32>, shape: &Shape) -> u32
+    requires { IsLines lines }
+    ensures value { result ≡ lines_for lines shape.now }
+    ensures bound { (0 < result) × (result ≤ 2 ^ 16) }
+{
+    match lines {
+        Some(count) => count,
+        None => default_lines(shape),
+    }
+}
+
+// Reads the script and runs it on an array.
+fn run_script<T: Lane, const D: usize, S: Source, O: Sink, F: Shelf>(
+    alloc: Global,
+    name: &Name,
+    array: Array<T, D>,
+    src: &mut S,
+    out: &mut O,
+    shelf: &mut F,
+) -> Status
+    ensures behaves { (known : Option Files) (lines : Option ℕ) → HoldsArray known name.now lines T.width array
+        → KeepsFiles known (F.files shelf.old)
+        → Behaves (Run name.now lines) result (seen (S.contents src.old) (O.contents out.old) known)
+        (seen (S.contents src.new) (O.contents out.new) (F.files shelf.new)) }
+    ensures causes { (lines : Option ℕ) → HasCauses (Run name.now lines) result
+        (counts (S.faults src.old) (O.faults out.old) (F.faults shelf.old))
+        (counts (S.faults src.new) (O.faults out.new) (F.faults shelf.new))
+        ⊥ (FailedSave F.saves F.faults shelf.old shelf.new) (S.never_fails src.old) (S.never_fails src.new) }
+{
+    match take_all(alloc, src, MAX_SCRIPT) {
+        Ok(script) => run_lines(name, array, &script, out, shelf),
+        Err(error) => Status::from(error),
+    }
+}
+
+// Runs a script on an array, and saves it.
+fn run_lines<T: Lane, const D: usize, O: Sink, F: Shelf>(
+    name: &Name,
+    array: Array<T, D>,
+    script: &[u8],
+    out: &mut O,
+    shelf: &mut F,
+) -> Status
+    ensures behaves { (known : Option Files) (lines : Option ℕ) (src rest : Option (List ℕ))
+        → HoldsArray known name.now lines T.width array → KeepsFiles known (F.files shelf.old)
+        → Takes src rest script.now → IsAtEnd rest → length script.now ≤ max_script
+        → Behaves (Run name.now lines) result (seen src (O.contents out.old) known)
+        (seen rest (O.contents out.new) (F.files shelf.new)) }
+    ensures causes { (lines : Option ℕ) (src : ℕ) → HasCauses (Run name.now lines) result
+        (counts src (O.faults out.old) (F.faults shelf.old)) (counts src (O.faults out.new) (F.faults shelf.new))
+        ⊥ (FailedSave F.saves F.faults shelf.old shelf.new) (Unit {0}) (Unit {0}) }
+{
+    let mut array = array;
+    match zf_run::run(&mut array, script, out) {
+        RunEnd::Done => save(name, array.save_bytes(), Status::Done, shelf),
+        RunEnd::Lines(count) => save(name, array.save_bytes(), Status::Lines(count), shelf),
+        RunEnd::Write => Status::WriteFault,
+    }
+}
+
+// Saves a file; the status is this one, unless the save fails.
+fn save<F: Shelf>(name: &Name, file: &[u8], status: Status, shelf: &mut F) -> Status
+    ensures saved { SavesOrFails (F.files shelf.old) (F.files shelf.new) name.now file.now status result
+        (FailedSave F.saves F.faults shelf.old shelf.new) }
+    ensures kept { F.faults shelf.old ≤ F.faults shelf.new }
+{
+    match shelf.save(name.as_str(), file) {
+        Ok(()) => status,
+        Err(_) => Status::SaveFault,
+    }
+}
