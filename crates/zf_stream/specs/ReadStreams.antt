@@ -1,5 +1,5 @@
 -- What is read of a stream: its header, and the codes of its blocks.
-use Rattle.std.specs.Prelude.{ℕ, ◌≡◌, ◌≢◌, ◌-◌, ◌*◌, ◌<◌, ◌≤◌, ℤ, List, length, drop, take, Option, Some, None}
+use Rattle.std.specs.Prelude.{ℕ, ◌≡◌, ◌≢◌, ◌-◌, ◌*◌, ◌<◌, ◌≤◌, ◌⊎◌, ℤ, List, length, drop, take, Option, Some, None, Result, Err}
 use Rattle.std.specs.Int.{Width}
 use Rattle.zf_spec.specs.Grid.{blocks, block_of, extent_of}
 use Rattle.zf_spec.specs.Codes.{existing_values}
@@ -63,3 +63,7 @@ pub record ReadsBlock (h : Header) (b : ℕ) (old new : Reader) (before now : Li
   pub passed : rest new ≡ drop (new.at - old.at) (rest old)
   pub all : new.all ≡ old.all
   pub others : (a : ℕ) → a < blocks h.shape → a ≢ b → block_of h.shape now a ≡ block_of h.shape before a
+
+-- the answer is a fault, unless there was no memory
+abbrev pub IsFault : {T : Type 0} → Result T StreamFault → StreamFault → Type 0
+IsFault answer e = (answer ≡ Err e) ⊎ (e ≡ faults.Memory)
