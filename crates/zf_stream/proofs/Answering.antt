@@ -1,5 +1,5 @@
 -- What an answer says of the input.
-use Rattle.std.proofs.Common.{◌≡◌, ◌≢◌, refl, sym, ap, subst, ◌∙◌, ℕ, ◌⊎◌, inl, inr, ⊎_elim, List, [], length, Option, Some, None, Result, Ok, Err}
+use Rattle.std.proofs.Common.{◌≡◌, sym, ap, subst, ◌∙◌, ℕ, ◌⊎◌, inl, inr, ⊎_elim, List, [], Option, Some, None, Result, Ok, Err}
 use Rattle.std.specs.Prelude.{IfErr, OnOk, OnErr, IsErrAnd}
 use Rattle.zf_dev.specs.Source.{Takes, IsAtEnd}
 use Rattle.zf_dev.proofs.Taking.{Takes-none, Takes-to_end}

@@ -1,8 +1,8 @@
 -- What is restored of the codes in a window, said of the whole stream: the window holds the first bytes, and stands behind their header.
-use Rattle.std.proofs.Common.{◌≡◌, refl, sym, ap, subst, ◌∙◌, ℕ, ◌+◌, ◌-◌, ◌*◌, ◌≤◌, ◌⊎◌, inl, inr, ⊎_elim, cond, Bool, false, ℤ, List, [], ◌++◌, length, take, drop, replicate, Option, Some, None, is_none, Result, Ok, Err, append_assoc, length-append, take-take, arith}
+use Rattle.std.proofs.Common.{◌≡◌, refl, sym, ap, subst, ◌∙◌, ℕ, ◌+◌, inl, inr, ⊎_elim, cond, Bool, false, List, [], ◌++◌, length, drop, replicate, Option, Some, None, is_none, Result, Ok, Err, append_assoc, length-append, arith}
 use Rattle.std.proofs.lemmas.List.{drop-append-le, length-drop}
 use Rattle.std.proofs.lemmas.Grind.{flat_map-append}
-use Rattle.std.specs.Prelude.{OnOk, OnErr, IfErr}
+use Rattle.std.specs.Prelude.{OnOk, IfErr}
 use Rattle.zf_spec.specs.Grid.{blocks}
 use Rattle.zf_spec.specs.Numbers.{field}
 use Rattle.zf_spec.specs.Stream.{to_bits}
@@ -10,10 +10,9 @@ use Rattle.zf_spec.proofs.Bytes.{length-to_bits}
 use Rattle.zf_header.specs.declared.header.Header.{Header}
 use Rattle.zf_header.specs.declared.header.HeaderFault.{HeaderFault}
 use Rattle.zf_header.specs.HeaderBits.{header_bits, IsHeader}
-use Rattle.zf_header.specs.HeaderFaults.{header_fault}
 use Rattle.zf_header.proofs.Good.{good}
 use Rattle.zf_header.proofs.Found.{read_is_header}
-use Rattle.zf_dev.specs.Source.{Takes, IsAtEnd}
+use Rattle.zf_dev.specs.Source.{Takes}
 use Rattle.zf_dev.specs.Sink.{Appends, AppendsFront}
 use Rattle.zf_dev.proofs.Taking.{Takes-none}
 use Rattle.zf_dev.proofs.Appending.{AppendsFront-none}
@@ -22,7 +21,7 @@ use Rattle.zf_stream.specs.Raw.{raw_bytes}
 use Rattle.zf_stream.specs.Parsing.{read_codes, values_said, header_of, code_bits, codes_answer, blocks_text, longest_codes, restore_answer, restored_text, without_values}
 use Rattle.zf_stream.specs.ReadStreams.{BeginsWithHeader}
 use Rattle.zf_stream.specs.Outcomes.{Answers, IsRefusal, CanRefuse, Finishes, LeavesFront}
-use Rattle.zf_stream.specs.Windows.{Window, left_of}
+use Rattle.zf_stream.specs.Windows.{Window}
 use Rattle.zf_stream.specs.Restoring.{behind, still, stream_from, text_of_codes, answer_of_codes, LeavesRows, HasFault, Refuses, RestoresAll}
 use Rattle.zf_stream.proofs.Answering.{answer_of_refusal, answer_at_end}
 use Rattle.zf_stream.proofs.Parsed.{parse_is, begun_more}

@@ -1,6 +1,6 @@
 -- What was written of a stream: a front, or all of it.
-use Rattle.std.proofs.Common.{◌≡◌, refl, sym, ap, subst, ◌∙◌, ℕ, zero, suc, ◌+◌, ◌-◌, ◌*◌, ◌/◌, ◌%◌, ◌<◌, ◌≤◌, Bool, false, List, [], ◌∷◌, ◌++◌, map, length, take, drop, replicate, All, Option, append_assoc, length-append, take_at, drop_at, mul_comm, arith}
-use Rattle.std.proofs.lemmas.List.{append-nil, take-append-le, drop-append-le}
+use Rattle.std.proofs.Common.{◌≡◌, refl, sym, ap, subst, ◌∙◌, ℕ, suc, ◌+◌, ◌-◌, ◌/◌, ◌<◌, ◌≤◌, Bool, false, List, [], ◌∷◌, ◌++◌, map, length, drop, replicate, All, Option, append_assoc, length-append, take_at, drop_at, arith}
+use Rattle.std.proofs.lemmas.List.{append-nil}
 use Rattle.std.proofs.lemmas.List.Elements.{All-head, All-tail}
 use Rattle.std.proofs.Math.Nat.{mul-le-mul_left, mod-eq_of_lt}
 use Rattle.std.specs.List.{flat_map}

@@ -1,10 +1,10 @@
 -- What the bits of bytes say, for the one who has their header.
-use Rattle.std.proofs.Common.{◌≡◌, ℕ, ◌*◌, ◌≤◌, Bool, ℤ, List, ◌++◌, length, take, drop, Option, Some, None, Result, Err, sym, ap, ◌∙◌, subst, inl, inr, ⊎_elim, length-append, take-take, arith}
-use Rattle.std.proofs.lemmas.List.{take_at, take-append-le}
+use Rattle.std.proofs.Common.{◌≡◌, ℕ, ◌≤◌, Bool, ℤ, List, ◌++◌, length, take, drop, Option, Some, None, Result, Err, sym, ap, ◌∙◌, subst, inl, length-append, take-take, arith}
+use Rattle.std.proofs.lemmas.List.{take-append-le}
 use Rattle.std.proofs.lemmas.Grind.{flat_map-append}
 use Rattle.zf_spec.specs.Grid.{blocks}
-use Rattle.zf_spec.specs.Numbers.{field, word_bits}
-use Rattle.zf_spec.specs.Stream.{to_bits, with_fill}
+use Rattle.zf_spec.specs.Numbers.{field}
+use Rattle.zf_spec.specs.Stream.{to_bits}
 use Rattle.zf_spec.proofs.Bytes.{length-to_bits}
 use Rattle.zf_header.specs.declared.header.Header.{Header}
 use Rattle.zf_header.specs.HeaderBits.{header_bits, BeginsWith, IsHeader}
@@ -14,8 +14,6 @@ use Rattle.zf_header.proofs.First.{header_fault-first}
 use Rattle.zf_header.proofs.Good.{good}
 use Rattle.zf_header.proofs.Found.{read_is_spelled, read_is_header}
 use Rattle.zf_header.proofs.Spelled.{spelled_is_read, spelled_is_good}
-use Rattle.zf_dev.specs.Source.{Takes, IsAtEnd}
-use Rattle.zf_dev.proofs.Taking.{Takes-to_end}
 use Rattle.zf_stream.specs.Outcomes.{IsFront, IsRefusal}
 use Rattle.zf_stream.specs.declared.fault.StreamFault.{StreamFault}
 use Rattle.zf_stream.specs.declared.fault.StreamFault.TheVariants as faults

@@ -1,22 +1,20 @@
 -- What a stream of a fixed rate says: each code has as many bits, so it is cut by places alone.
-use Rattle.std.proofs.Common.{◌≡◌, ◌≢◌, refl, sym, ap, ◌∙◌, ℕ, zero, suc, ◌+◌, ◌-◌, ◌*◌, ◌/◌, ◌<◌, ◌≤◌, min, Bool, true, false, cond, ltb, ℤ, Option, Some, None, Result, Ok, Err, List, [], ◌∷◌, ◌++◌, map, length, take, drop, append_assoc, append-nil, length-append, length-drop, length-take, arith, suc-mul, add_comm}
+use Rattle.std.proofs.Common.{◌≡◌, ◌≢◌, refl, sym, ap, ◌∙◌, ℕ, zero, suc, ◌+◌, ◌-◌, ◌*◌, ◌/◌, ◌<◌, ◌≤◌, Bool, true, false, cond, ltb, ℤ, Option, Some, None, Result, Ok, Err, List, [], ◌++◌, map, length, take, drop, length-append, length-drop, arith, suc-mul}
 use Rattle.std.specs.Int.{Width}
-use Rattle.std.specs.List.{flat_map}
 use Rattle.std.proofs.lemmas.Bool.{le-ltb, ltb-true, ltb-false}
 use Rattle.std.proofs.lemmas.List.{take-append-drop, length-take-le, take_at}
 use Rattle.std.proofs.Math.Nat.{div-eq-sub-div, div-eq_of_lt, mul-le-mul_right}
 use Rattle.std.proofs.Math.Seq.{take-add}
-use Rattle.zf_spec.specs.Grid.{count_from, upto, blocks, extent_of}
+use Rattle.zf_spec.specs.Grid.{upto, blocks, extent_of}
 use Rattle.zf_spec.specs.Codes.{read_rate}
 use Rattle.zf_spec.specs.Numbers.{number}
 use Rattle.zf_spec.specs.Stream.{fill_len, to_bits}
 use Rattle.zf_base.specs.Widths.{width_of}
 use Rattle.zf_header.specs.declared.header.Header.{Header}
-use Rattle.zf_header.specs.declared.header.Mode.{Mode}
-use Rattle.zf_header.specs.declared.header.Mode.TheVariants.{Reversible, Rate, Precision}
+use Rattle.zf_header.specs.declared.header.Mode.TheVariants.{Rate}
 use Rattle.zf_stream.specs.declared.fault.StreamFault.{StreamFault}
 use Rattle.zf_stream.specs.declared.fault.StreamFault.TheVariants as faults
-use Rattle.zf_stream.specs.Parsing.{read_code, with_block, read_next, read_codes, values_of_blocks, fill_answer, values_or_fault, codes_answer, header_of, code_bits, codes_said, values_said, Said, said_with, parse}
+use Rattle.zf_stream.specs.Parsing.{read_code, with_block, read_next, read_codes, values_of_blocks, fill_answer, values_or_fault, codes_answer, header_of, code_bits, codes_said, values_said, said_with, parse}
 use Rattle.zf_stream.specs.ReadStreams.{BeginsWithHeader}
 use Rattle.zf_stream.proofs.Codes.{joined-more}
 use Rattle.zf_stream.proofs.Fill.{fill_short, fill_one, fill_more}

@@ -1,7 +1,7 @@
 -- Raw values that are read row by row: what is refused.
-use Rattle.std.proofs.Common.{◌≡◌, ◌≢◌, refl, sym, ap, subst, ◌∙◌, ℕ, ◌+◌, ◌*◌, ◌<◌, ◌≤◌, ◌⊎◌, inl, inr, cond, ltb, lt-ltb, le-ltb, List, [], ◌∷◌, ◌++◌, length, Option, Some, None, Ok, Err, length-append, arith}
-use Rattle.zf_dev.specs.Source.{Takes, TakesSome, IsAtEnd}
-use Rattle.zf_dev.proofs.Taking.{Takes-none, Takes-append, Takes-to_end}
+use Rattle.std.proofs.Common.{◌≡◌, ◌≢◌, refl, sym, ap, ◌∙◌, ℕ, ◌+◌, ◌<◌, ◌≤◌, inl, inr, cond, ltb, lt-ltb, le-ltb, List, [], ◌∷◌, ◌++◌, length, Option, Some, None, Ok, Err, length-append, arith}
+use Rattle.zf_dev.specs.Source.{Takes, TakesSome}
+use Rattle.zf_dev.proofs.Taking.{Takes-append, Takes-to_end}
 use Rattle.zf_header.specs.declared.header.Header.{Header}
 use Rattle.zf_stream.specs.declared.fault.StreamFault.{StreamFault}
 use Rattle.zf_stream.specs.declared.fault.StreamFault.TheVariants as faults

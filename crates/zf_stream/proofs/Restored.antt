@@ -1,28 +1,28 @@
 -- An array that is restored slab by slab: one slab more, and where it stops.
-use Rattle.std.proofs.Common.{◌≡◌, ◌≢◌, refl, sym, ap, subst, ◌∙◌, ℕ, zero, suc, ◌+◌, ◌-◌, ◌*◌, ◌/◌, ◌<◌, ◌≤◌, ◌⊎◌, inl, inr, ⊎_elim, Bool, false, ℤ, List, [], ◌∷◌, ◌++◌, map, length, get_or, take, drop, replicate, Option, Some, None, Result, Ok, Err, mul_comm, append_assoc, length-append, arith}
+use Rattle.std.proofs.Common.{◌≡◌, refl, sym, ap, subst, ◌∙◌, ℕ, ◌+◌, ◌-◌, ◌*◌, ◌/◌, ◌≤◌, inl, inr, ⊎_elim, Bool, false, ℤ, List, [], ◌++◌, map, length, get_or, take, drop, replicate, Option, Some, None, Ok, Err, mul_comm, append_assoc, length-append, arith}
 use Rattle.std.proofs.lemmas.List.{append-nil, length-map, get_or_append_left}
 use Rattle.std.proofs.Math.Nat.{mul-add}
-use Rattle.zf_spec.specs.Grid.{product, grid, blocks, upto, block_of, blocks_of}
+use Rattle.zf_spec.specs.Grid.{grid, blocks, upto, block_of, blocks_of}
 use Rattle.zf_spec.specs.Stream.{to_bits}
 use Rattle.zf_spec.proofs.Counting.{get_or-map-upto, length-map-upto}
 use Rattle.zf_base.specs.Widths.{width_of}
 use Rattle.zf_pad.specs.Slabs.{rows_of, row_len, with_rows, IsSlab, first_block}
 use Rattle.zf_pad.proofs.Slabs.{product-rows, rows_of-grid, extent_of-slab, blocks-with_rows}
 use Rattle.zf_header.specs.declared.header.Header.{Header}
-use Rattle.zf_dev.specs.Source.{Takes, TakesSome, IsAtEnd}
+use Rattle.zf_dev.specs.Source.{TakesSome, IsAtEnd}
 use Rattle.zf_dev.specs.Sink.{Appends, AppendsFront}
 use Rattle.zf_dev.proofs.Taking.{Takes-append}
 use Rattle.zf_dev.proofs.Appending.{Appends-none, Appends-append, AppendsFront-all, AppendsFront-append, AppendsFront-more}
 use Rattle.zf_stream.specs.declared.fault.StreamFault.{StreamFault}
 use Rattle.zf_stream.specs.declared.fault.StreamFault.TheVariants as faults
 use Rattle.zf_stream.specs.Raw.{raw_bytes}
-use Rattle.zf_stream.specs.Parsing.{read_code, read_codes, read_next, with_block, values_of_blocks, codes_answer, blocks_text, longest_codes}
-use Rattle.zf_stream.specs.Windows.{Window, left_of, Goes}
-use Rattle.zf_stream.specs.Restoring.{still, stream_from, ReadsSlab, CutsSlab, LacksSlab, blocks_of_rows, Restores, text_of_codes, answer_of_codes, LeavesRows, HasFault, Refuses}
-use Rattle.zf_stream.proofs.Enough.{ReadsAll, enough_for_all}
+use Rattle.zf_stream.specs.Parsing.{read_codes, values_of_blocks, codes_answer, blocks_text, longest_codes}
+use Rattle.zf_stream.specs.Windows.{Window, left_of}
+use Rattle.zf_stream.specs.Restoring.{still, stream_from, ReadsSlab, LacksSlab, blocks_of_rows, Restores, text_of_codes, answer_of_codes, LeavesRows, Refuses}
+use Rattle.zf_stream.proofs.Enough.{enough_for_all}
 use Rattle.zf_stream.proofs.Joining.{with_blocks, with_blocks-both, with_blocks-cut, with_blocks-found, read_codes-then, read_codes-cut_more}
 use Rattle.zf_stream.proofs.RawValues.{raw-append, raw_front}
-use Rattle.zf_stream.proofs.Slabwise.{with_shape, part_of, IsNext}
+use Rattle.zf_stream.proofs.Slabwise.{part_of, IsNext}
 use Rattle.zf_stream.proofs.SlabsBack.{counted_from, read_codes-slab, count_next, blocks_next, front_joined}
 use Rattle.zf_stream.proofs.TextOfParse.{read_codes_more}
 use Rattle.zf_stream.proofs.Windows.{Goes-none, Goes-next, to_bits-append}

@@ -1,16 +1,15 @@
 -- The end of an array that is restored slab by slab: the fill, and what follows.
-use Rattle.std.proofs.Common.{◌≡◌, ◌≢◌, refl, sym, ap, subst, ◌∙◌, ℕ, ◌+◌, ◌-◌, ◌*◌, ◌%◌, ◌≤◌, Bool, true, false, ℤ, List, [], ◌++◌, map, length, Option, Some, None, Result, Ok, Err, append_assoc, length-append, arith}
+use Rattle.std.proofs.Common.{◌≡◌, refl, sym, ap, subst, ◌∙◌, ℕ, ◌+◌, ◌-◌, ◌*◌, ◌%◌, ◌≤◌, Bool, true, false, ℤ, List, [], ◌++◌, map, length, Option, Result, Ok, Err, length-append, arith}
 use Rattle.std.proofs.lemmas.List.{append-nil}
 use Rattle.std.specs.Prelude.{OnOk, IfErr}
-use Rattle.zf_spec.specs.Grid.{product, blocks, upto, block_of, blocks_of}
+use Rattle.zf_spec.specs.Grid.{blocks, upto, block_of, blocks_of}
 use Rattle.zf_spec.specs.Stream.{to_bits}
-use Rattle.zf_spec.proofs.Bytes.{length-to_bits}
 use Rattle.zf_pad.specs.Slabs.{rows_of}
 use Rattle.zf_pad.proofs.Slabs.{product-rows}
 use Rattle.zf_header.specs.declared.header.Header.{Header}
 use Rattle.zf_dev.specs.Source.{IsAtEnd}
 use Rattle.zf_stream.specs.declared.fault.StreamFault.{StreamFault}
-use Rattle.zf_stream.specs.Parsing.{read_codes, values_of_blocks, values_or_fault, fill_answer, codes_answer}
+use Rattle.zf_stream.specs.Parsing.{read_codes, values_or_fault, fill_answer, codes_answer}
 use Rattle.zf_stream.specs.Windows.{Window, left_of, KnowsEnd, Refills}
 use Rattle.zf_stream.specs.Restoring.{still, stream_from, Restores, answer_of_codes, LeavesRows, HasFault, RestoresAll}
 use Rattle.zf_stream.proofs.Fill.{fill_place, fill_told, fill_not_good}

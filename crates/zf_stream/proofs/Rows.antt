@@ -1,7 +1,7 @@
 -- The codes of an array, row by row.
-use Rattle.std.proofs.Common.{◌≡◌, refl, sym, ap, subst, ◌∙◌, ℕ, zero, suc, ◌+◌, ◌-◌, ◌*◌, ◌/◌, ◌%◌, ◌<◌, ◌≤◌, ◌⊎◌, inl, inr, Bool, ℤ, List, [], ◌∷◌, ◌++◌, map, length, get_or, take, drop, mul_comm, append_assoc, length-append, take_at, drop_at, arith}
+use Rattle.std.proofs.Common.{◌≡◌, refl, sym, ap, ◌∙◌, ℕ, zero, suc, ◌+◌, ◌-◌, ◌*◌, ◌/◌, ◌<◌, ◌≤◌, inl, Bool, ℤ, List, [], ◌∷◌, ◌++◌, map, length, take, drop, length-append, take_at, drop_at, arith}
 use Rattle.std.proofs.lemmas.List.{append-nil, length-map, take-append-le, drop-append-le, length-drop, get_or-map}
-use Rattle.std.proofs.Math.Nat.{mul-add, mul-le-mul_left}
+use Rattle.std.proofs.Math.Nat.{mul-add}
 use Rattle.std.specs.List.{flat_map}
 use Rattle.std.specs.Int.{Width, byte_len, from_le_bytes, cast_signed}
 use Rattle.zf_spec.specs.Grid.{product, grid, blocks, upto, count_from, extent_of, block_of}

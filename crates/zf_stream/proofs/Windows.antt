@@ -1,8 +1,7 @@
 -- The bits of a window, as its words are moved and more are put behind them.
-use Rattle.std.proofs.Common.{◌≡◌, refl, sym, ap, ◌∙◌, ℕ, ◌+◌, ◌-◌, ◌*◌, ◌/◌, ◌%◌, ◌<◌, ◌≤◌, false, Bool, List, [], ◌∷◌, ◌++◌, length, take, drop, replicate, get_or, ℤ, Option, Result, Ok, append_assoc, length-append, take-append-drop, take_at, drop_at, arith}
-use Rattle.std.proofs.lemmas.List.{drop-take, drop-drop, take-append-le, drop-append-le, length-take-le, length-drop, append-nil}
+use Rattle.std.proofs.Common.{◌≡◌, refl, sym, ap, ◌∙◌, ℕ, ◌+◌, ◌-◌, ◌*◌, ◌/◌, ◌%◌, ◌<◌, ◌≤◌, false, Bool, List, [], ◌++◌, length, take, drop, replicate, get_or, ℤ, Option, Ok, append_assoc, length-append, take_at, arith}
+use Rattle.std.proofs.lemmas.List.{drop-take, drop-drop, drop-append-le, length-take-le, length-drop, append-nil}
 use Rattle.std.proofs.lemmas.Grind.{flat_map-append}
-use Rattle.std.proofs.Math.Seq.{take-append-add}
 use Rattle.zf_spec.specs.Numbers.{field, word_bits}
 use Rattle.zf_spec.specs.Stream.{to_bits}
 use Rattle.zf_spec.proofs.Bytes.{length-to_bits}

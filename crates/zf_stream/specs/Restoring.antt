@@ -3,7 +3,7 @@
 use Rattle.std.specs.Prelude.{ℕ, ◌≡◌, ◌+◌, ◌*◌, ◌/◌, ◌⊎◌, ℤ, Bool, false, List, [], ◌++◌, map, length, replicate, Option, Some, None, Result, Ok, Err}
 use Rattle.zf_spec.specs.Grid.{blocks, upto, block_of, blocks_of}
 use Rattle.zf_spec.specs.Stream.{to_bits}
-use Rattle.zf_pad.specs.Slabs.{rows_of, row_len, IsSlab, first_block}
+use Rattle.zf_pad.specs.Slabs.{row_len, IsSlab, first_block}
 use Rattle.zf_header.specs.declared.header.Header.{Header}
 use Rattle.zf_dev.specs.Source.{Takes, TakesSome, IsAtEnd}
 use Rattle.zf_dev.specs.Sink.{Appends, AppendsFront}

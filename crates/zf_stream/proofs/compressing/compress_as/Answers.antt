@@ -1,10 +1,8 @@
-use Rattle.std.proofs.Common.{◌≡◌, ℕ, ◌*◌, ◌≤◌, ◌%◌, ◌⊎◌, inl, inr, ⊎_elim, length, min, Err, sym, ap, ◌∙◌, arith}
-use Rattle.std.proofs.lemmas.Bool.{cases_lt}
+use Rattle.std.proofs.Common.{ap, ◌∙◌, arith}
 use Rattle.std.proofs.lemmas.Result.{err_from_is_err_and}
 use Rattle.std.specs.Int.{byte_len}
 use Rattle.zf_spec.specs.Grid.{product}
-use Rattle.zf_pad.specs.Slabs.{rows_of, row_len}
-use Rattle.zf_pad.proofs.Slabs.{all_rows, product-with_rows}
+use Rattle.zf_pad.proofs.Slabs.{product-with_rows}
 use Rattle.zf_stream.specs.Raw.{compress_answer, stream_text}
 use Rattle.zf_stream.proofs.OnErrors.{on_err}
 use Rattle.zf_stream.proofs.Answering.{answer_of_memory, nothing_left}

@@ -1,20 +1,13 @@
-use Rattle.std.proofs.Common.{◌≡◌, ℕ, ◌+◌, ◌-◌, ◌*◌, ◌<◌, ◌≤◌, ◌^◌, ◌⊎◌, inl, inr, ⊎_elim, List, [], ◌++◌, length, take, drop, min, refl, sym, ap, subst, ◌∙◌, length-append, arith}
-use Rattle.std.proofs.lemmas.List.{append-nil, length-take-le, length-take}
-use Rattle.std.proofs.lemmas.List.Elements.{All-nil}
+use Rattle.std.proofs.Common.{◌≡◌, ℕ, ◌+◌, ◌-◌, ◌*◌, ◌<◌, ◌^◌, ◌⊎◌, inl, inr, ⊎_elim, List, length, min, refl, sym, ap, subst, ◌∙◌, arith}
+use Rattle.std.proofs.lemmas.List.{length-take-le}
 use Rattle.std.specs.Int.{byte_len}
-use Rattle.zf_spec.specs.Grid.{product}
-use Rattle.zf_base.specs.Widths.{width_of}
-use Rattle.zf_pad.specs.Slabs.{rows_of, row_len, with_rows}
 use Rattle.zf_pad.specs.Rasters.{IsRaster}
 use Rattle.zf_pad.proofs.Slabs.{layout_of_slab, length-with_rows}
 use Rattle.zf_dev.proofs.Taking.{Takes-none}
-use Rattle.zf_header.specs.declared.header.Header.{Header}
-use Rattle.zf_stream.specs.declared.fault.StreamFault.{StreamFault}
-use Rattle.zf_stream.specs.Parsing.{longest_code}
-use Rattle.zf_stream.specs.Rows.{rows_len, codes_of_rows, WritesSlab, BreaksSlab}
+use Rattle.zf_stream.specs.Rows.{WritesSlab, BreaksSlab}
 use Rattle.zf_stream.proofs.Flowing.{Flows-none}
 use Rattle.zf_stream.proofs.OnErrors.{on_err}
-use Rattle.zf_stream.proofs.Slabwise.{part_of, with_shape, IsNext, next_slab, slab_written, slab_broken, slab_refused, slab_possible, slab_wanted, SlabSizes, slab_sizes, longest_part, raw_small, rows_len-add, no_rows, zero_rows}
+use Rattle.zf_stream.proofs.Slabwise.{part_of, with_shape, next_slab, slab_written, slab_broken, slab_refused, slab_possible, slab_wanted, slab_sizes, longest_part, raw_small, rows_len-add, no_rows, zero_rows}
 use Rattle.std.proofs.lemmas.Bool.{cases_lt}
 use Rattle.std.proofs.lemmas.Result.{err_from_is_err_and}
 use Rattle.zf_stream.proofs.compressing.write_slabs.Goals as goal

@@ -1,5 +1,5 @@
 -- The rows so far were read, and their codes are on their way.
-use Rattle.std.proofs.Common.{◌≡◌, ◌≢◌, ◌+◌, ◌-◌, ◌≤◌, ◌<◌, ◌^◌, length}
+use Rattle.std.proofs.Common.{◌≡◌, ◌+◌, ◌-◌, ◌≤◌, ◌<◌, length}
 use Rattle.zf_pad.specs.Slabs.{rows_of}
 use Rattle.zf_stream.specs.Rows.{rows_len, Compresses}
 use Rattle.zf_stream.proofs.compressing.write_slabs.Given as goal

@@ -1,12 +1,10 @@
-use Rattle.std.proofs.Common.{◌≡◌, ℕ, Bool, List, ◌++◌, length, Err, sym, ap, subst, ◌∙◌}
+use Rattle.std.proofs.Common.{◌≡◌, Bool, List, Err, subst, ◌∙◌}
 use Rattle.std.proofs.lemmas.Result.{err_from_is_err_and}
-use Rattle.zf_spec.specs.Stream.{fill}
 use Rattle.zf_pad.specs.Slabs.{rows_of}
 use Rattle.zf_dev.proofs.Taking.{Takes-none}
 use Rattle.zf_header.specs.HeaderBits.{header_bits}
-use Rattle.zf_stream.specs.Raw.{raw_len, compress_answer, stream_text}
+use Rattle.zf_stream.specs.Raw.{raw_len, compress_answer}
 use Rattle.zf_stream.specs.Flows.{Flows, Spills}
-use Rattle.zf_stream.specs.Rows.{Compresses}
 use Rattle.zf_stream.proofs.OnErrors.{on_err}
 use Rattle.zf_stream.proofs.Answering.{answer_of_refusal, answer_at_end, both_ok, after_err}
 use Rattle.zf_stream.proofs.RawRows.{refused_more, possible_more, some_more, good_answer}

@@ -1,4 +1,4 @@
-use Rattle.std.proofs.Common.{◌≡◌, ◌≢◌, ℕ, ◌+◌, ◌-◌, ◌<◌, ◌≤◌, Bool, true, false, ℤ, List, [], ◌∷◌, ◌++◌, map, length, None, Ok, Err, refl, sym, ap, subst, ◌∙◌, arith}
+use Rattle.std.proofs.Common.{◌≡◌, ◌-◌, ◌<◌, ◌≤◌, Bool, true, false, ℤ, List, [], ◌++◌, map, length, None, Ok, refl, sym, ap, subst, ◌∙◌, arith}
 use Rattle.std.proofs.lemmas.List.{append-nil}
 use Rattle.std.proofs.lemmas.Result.{err_from_is_err_and}
 use Rattle.zf_spec.specs.Grid.{blocks, block_of, extent_of, upto}
@@ -7,7 +7,7 @@ use Rattle.zf_base.proofs.Extents.{length-extent_of}
 use Rattle.zf_dev.specs.Source.{IsAtEnd}
 use Rattle.zf_dev.proofs.Taking.{Takes-append}
 use Rattle.zf_stream.specs.declared.fault.StreamFault.{StreamFault}
-use Rattle.zf_stream.specs.Parsing.{read_code, read_codes}
+use Rattle.zf_stream.specs.Parsing.{read_code}
 use Rattle.zf_stream.specs.Windows.{left_of}
 use Rattle.zf_stream.specs.Restoring.{stream_from, LacksSlab}
 use Rattle.zf_stream.proofs.Enough.{enough_for_one}

@@ -1,7 +1,6 @@
-use Rattle.std.proofs.Common.{◌≡◌, ℕ, List, map, sym, ap, ◌∙◌}
+use Rattle.std.proofs.Common.{ℕ, List, map, ap, ◌∙◌}
 use Rattle.zf_spec.specs.Grid.{extent_of, block_of}
 use Rattle.zf_spec.specs.Stream.{block_code}
-use Rattle.zf_base.specs.Positions.{used_axes}
 use Rattle.zf_pad.proofs.Blocks.{padded_same}
 use Rattle.zf_bits.proofs.Appending.{Appends-same}
 use Rattle.zf_header.specs.HeaderBits.{coding}

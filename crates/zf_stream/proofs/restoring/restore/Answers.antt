@@ -1,8 +1,7 @@
-use Rattle.std.proofs.Common.{◌≡◌, Err, sym, ap, ◌∙◌, arith}
+use Rattle.std.proofs.Common.{◌≡◌, Err, arith}
 use Rattle.std.proofs.lemmas.Result.{err_from_is_err_and}
-use Rattle.zf_stream.specs.Parsing.{restore_answer, restored_text}
-use Rattle.zf_stream.proofs.Answering.{answer_of_refusal, after_err, on_ok_weaker}
-use Rattle.zf_stream.proofs.FromFront.{Answers-known, Finishes-known, LeavesFront-known}
+use Rattle.zf_stream.specs.Parsing.{restore_answer}
+use Rattle.zf_stream.proofs.Answering.{answer_of_refusal}
 use Rattle.zf_stream.proofs.Parsed.{good_of_front, refusal_of_fault}
 use Rattle.zf_stream.proofs.Refusals.{CanRefuse-header}
 use Rattle.zf_stream.proofs.restoring.restore.Goals as goal

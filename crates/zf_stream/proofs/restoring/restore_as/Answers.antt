@@ -1,8 +1,6 @@
-use Rattle.std.proofs.Common.{◌≡◌, ◌*◌, true, List, length, Option, ap, sym, subst, ◌∙◌}
+use Rattle.std.proofs.Common.{ap, ◌∙◌}
 use Rattle.std.proofs.lemmas.Result.{IfErr-weaker}
-use Rattle.std.specs.Prelude.{OnErr}
 use Rattle.zf_spec.specs.Grid.{product}
-use Rattle.zf_pad.specs.Slabs.{row_len}
 use Rattle.zf_pad.proofs.Slabs.{product-with_rows}
 use Rattle.zf_stream.proofs.OnErrors.{on_err}
 use Rattle.zf_stream.proofs.OwnFaults.{refused_later}

@@ -1,5 +1,4 @@
-use Rattle.std.proofs.Common.{◌≡◌, inl, inr, Ok, Err, ap, sym, subst, ◌∙◌}
-use Rattle.std.proofs.lemmas.Result.{err_from_is_err_and}
+use Rattle.std.proofs.Common.{◌≡◌, inl, ap, sym, ◌∙◌}
 use Rattle.zf_pad.specs.Slabs.{rows_of}
 use Rattle.zf_bits.specs.Reader.{rest}
 use Rattle.zf_stream.specs.Parsing.{fill_answer}

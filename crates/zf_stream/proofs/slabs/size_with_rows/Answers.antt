@@ -1,4 +1,4 @@
-use Rattle.std.proofs.Common.{◌≡◌, ◌≢◌, ℕ, zero, suc, ◌+◌, ◌<◌, List, [], ◌∷◌, length, get_or, refl, sym, ◌∙◌, arith}
+use Rattle.std.proofs.Common.{◌≡◌, ◌≢◌, ℕ, zero, suc, ◌+◌, List, [], ◌∷◌, length, get_or, refl, ◌∙◌, arith}
 use Rattle.zf_pad.specs.Slabs.{with_rows}
 use Rattle.zf_stream.proofs.slabs.size_with_rows.Goals as goal
 

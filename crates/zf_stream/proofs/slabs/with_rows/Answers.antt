@@ -1,4 +1,4 @@
-use Rattle.std.proofs.Common.{◌≡◌, ℕ, zero, suc, ◌≤◌, List, [], ◌∷◌, length, get_or, take, true, false, refl, sym, ap, subst, ◌∙◌, arith}
+use Rattle.std.proofs.Common.{◌≡◌, ℕ, ◌≤◌, List, [], ◌∷◌, length, get_or, take, refl, sym, subst, ◌∙◌, arith}
 use Rattle.zf_spec.specs.Grid.{IsShape}
 use Rattle.zf_pad.specs.Slabs.{with_rows}
 use Rattle.zf_pad.proofs.Slabs.{length-with_rows, IsShape-with_rows}

@@ -1,15 +1,13 @@
 use Rattle.std.proofs.Common.{◌≡◌, ℕ, ◌+◌, ◌-◌, ◌*◌, ◌/◌, ◌≤◌, ℤ, List, ◌++◌, map, length, take, drop, sym, ap, subst, ◌∙◌, take-append-drop, arith}
-use Rattle.std.proofs.lemmas.List.{take_all, take_at, length-take, map-append}
-use Rattle.std.proofs.lemmas.Grind.{flat_map-append}
+use Rattle.std.proofs.lemmas.List.{take_at, length-take, map-append}
 use Rattle.std.proofs.Math.Nat.{div-mul-le_self, mul-le-mul_right}
 use Rattle.std.proofs.Math.Seq.{take-add}
-use Rattle.std.specs.Int.{Width, to_le_bytes, cast_unsigned}
+use Rattle.std.specs.Int.{Width}
 use Rattle.zf_spec.specs.Stream.{raw}
 use Rattle.zf_dev.specs.Sink.{Appends, AppendsFront}
 use Rattle.zf_dev.proofs.Appending.{Appends-append, AppendsFront-append, AppendsFront-more}
 use Rattle.zf_stream.proofs.OnErrors.{on_err}
 use Rattle.zf_stream.proofs.RawValues.{raw-append}
-use Rattle.zf_stream.proofs.Restored.{text_front}
 use Rattle.zf_stream.proofs.writing.write_values.Goals as goal
 
 -- the bytes of some values more, which a piece was filled with

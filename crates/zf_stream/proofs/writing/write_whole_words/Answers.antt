@@ -1,12 +1,9 @@
-use Rattle.std.proofs.Common.{◌≡◌, ℕ, ◌+◌, ◌-◌, ◌*◌, ◌/◌, ◌%◌, ◌<◌, ◌≤◌, ◌^◌, Bool, List, Option, ◌++◌, length, take, drop, All, get_or, sym, ap, subst, ◌∙◌, take-append-drop, length-append, arith}
-use Rattle.std.proofs.lemmas.List.{take-append-le, drop-append-le, length-take-le, length-drop, take_at, take_all}
-use Rattle.std.proofs.lemmas.List.Elements.{All-take}
+use Rattle.std.proofs.Common.{◌≡◌, ℕ, ◌-◌, ◌*◌, ◌/◌, ◌%◌, ◌<◌, ◌^◌, Bool, List, Option, ◌++◌, length, take, drop, All, sym, ap, subst, ◌∙◌, take-append-drop, length-append, arith}
+use Rattle.std.proofs.lemmas.List.{take-append-le, drop-append-le, length-drop, take_at}
 use Rattle.std.specs.Int.{div_ceil}
 use Rattle.zf_spec.specs.Numbers.{field, number, word_bits}
 use Rattle.zf_spec.specs.Stream.{to_bits, fill, with_fill}
 use Rattle.zf_spec.proofs.Fields.{length-field, field-number}
-use Rattle.zf_spec.proofs.WordBits.{length-word_bits}
-use Rattle.zf_bits.proofs.Appending.{length-Appends}
 use Rattle.zf_dev.specs.Sink as Sink
 use Rattle.zf_dev.specs.Sink.{AppendsFront}
 use Rattle.zf_stream.specs.Flows.{bytes_in, Flows, Spills}

@@ -1,8 +1,7 @@
-use Rattle.std.proofs.Common.{◌≡◌, ℕ, ◌+◌, ◌-◌, ◌*◌, ◌%◌, ◌<◌, ◌≤◌, length, Option, refl, ap, sym, ◌∙◌, arith}
+use Rattle.std.proofs.Common.{sym, ◌∙◌, arith}
 use Rattle.zf_dev.proofs.Taking.{Takes-append}
-use Rattle.zf_stream.specs.Windows.{Window, left_of, KnowsEnd, Refills}
 use Rattle.zf_stream.proofs.OnErrors.{on_err}
-use Rattle.zf_stream.proofs.Windows.{Refills-none, Refills-next, Refills-moved}
+use Rattle.zf_stream.proofs.Windows.{Refills-next, Refills-moved}
 use Rattle.zf_stream.proofs.window.Window.reach.Goals as goal
 
 pub loop-self-init : goal.loop-self-init

@@ -1,4 +1,4 @@
-use Rattle.std.proofs.Common.{length, ap, sym, ◌∙◌, arith}
+use Rattle.std.proofs.Common.{length, ap, arith}
 use Rattle.zf_bits.proofs.Reading.{length-reader_of}
 use Rattle.zf_stream.proofs.window.Window.reader.Goals as goal
 
