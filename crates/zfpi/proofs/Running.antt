@@ -1,5 +1,5 @@
 -- What `run` does, from what its calls answer.
-use Rattle.std.proofs.Common.{◌≡◌, ℕ, zero, suc, ◌+◌, ◌≤◌, ◌<◌, ltb, true, false, cond, List, [], ◌∷◌, ◌++◌, length, take, drop, Option, Some, None, Result, Ok, Err, IsOk, ◌⊎◌, inl, inr, refl, ap, sym, subst, ◌∙◌, arith, append-nil, length-append}
+use Rattle.std.proofs.Common.{◌≡◌, ℕ, zero, suc, ◌+◌, ◌≤◌, ◌<◌, cond, List, [], ◌∷◌, ◌++◌, length, take, drop, Option, Some, None, Result, Ok, Err, IsOk, ◌⊎◌, inl, inr, refl, ap, sym, subst, ◌∙◌, arith, append-nil, length-append}
 use Rattle.std.specs.Prelude.{replicate, count_by}
 use Rattle.std.specs.Int.{Width}
 use Rattle.std.proofs.lemmas.Bool.{lt-ltb, le-ltb}
@@ -8,7 +8,7 @@ use Rattle.std.proofs.lemmas.List.{take-append-drop, length-replicate}
 use Rattle.std.proofs.Math.Seq.{take-append-add}
 use Rattle.zf_spec.specs.Stream.{mode_number}
 use Rattle.zf_base.specs.Widths.{width_of}
-use Rattle.zf_dev.specs.Shelf.{Files, HasFile, LacksFile, HasLongFile, ExplainsLoad, KeepsFiles, KeepsOthers, SavesFile}
+use Rattle.zf_dev.specs.Shelf.{Files, HasFile, HasLongFile, ExplainsLoad, KeepsFiles, KeepsOthers, SavesFile}
 use Rattle.zf_dev.specs.Source.{Takes, IsAtEnd, TakesMoreThan, TakesSome}
 use Rattle.zf_dev.specs.Sink.{Appends, AppendsFront}
 use Rattle.zf_dev.specs.declared.faults.LoadError.{LoadError}
@@ -31,7 +31,7 @@ use Rattle.zf_store.specs.declared.fault.StoreFault.TheVariants as stores
 use Rattle.zf_store.specs.Files.{HasHeader, IsOpened, said, stream_fault}
 use Rattle.zf_array.specs.Standing.{Held, stored, shape, state}
 use Rattle.zf_cached.specs.Arrays.{open_array, saved_file}
-use Rattle.zf_cached.specs.Replies.{Reply, reply_text}
+use Rattle.zf_cached.specs.Replies.{reply_text}
 use Rattle.zf_cached.specs.Runs.{lines_of, run_lines, run_script, run, array_setting, replies_text, run_text, run_saved}
 use Rattle.zf_cached.proofs.Runs.{run_lines-append}
 use Rattle.zf_run.specs.Sessions.{setting_of, start_of, run_of}
@@ -39,15 +39,14 @@ use Rattle.zf_run.specs.Steps.{is_refusal, is_want}
 use Rattle.zf_run.specs.Ends.{Finishes, Stops}
 use Rattle.zfpi.specs.declared.status.Status.{Status}
 use Rattle.zfpi.specs.declared.status.Status.TheVariants as statuses
-use Rattle.zfpi.specs.declared.command.Command.{Command}
 use Rattle.zfpi.specs.declared.command.Command.TheVariants.{Run}
 use Rattle.zfpi.specs.Faults.{load_status, store_status, take_status}
 use Rattle.zfpi.specs.Scripts.{array_in, array_behind, said_at_rate, opened, lines_for, replies_for, script_text, script_file, lines_status, run_status, run_text_of, saved_of, AreWants}
 use Rattle.zfpi.specs.Loaded.{HoldsFile, HoldsArray, SavesOrFails}
-use Rattle.zfpi.specs.World.{World, TellsInput, TellsFiles, IsTold, seen}
+use Rattle.zfpi.specs.World.{TellsInput, TellsFiles, IsTold, seen}
 use Rattle.zfpi.specs.Answer.{OnWholeScript, TakesScript, cut_draft, MayFail}
 use Rattle.zfpi.specs.Headline.{IsOfCommand, Writes, Saves, Behaves}
-use Rattle.zfpi.proofs.Told.{files_of, files_of-none, TellsFiles-same, KeepsFiles-none, some_input, Takes-none, TellsInput-taken}
+use Rattle.zfpi.proofs.Told.{files_of, files_of-none, TellsFiles-same, some_input, Takes-none, TellsInput-taken}
 
 -- ---- shelves
 

@@ -1,5 +1,4 @@
 -- The status of each fault that a call answers.
-use Rattle.std.specs.Prelude.{ℕ}
 use Rattle.zf_dev.specs.declared.faults.LoadError.{LoadError}
 use Rattle.zf_dev.specs.declared.faults.LoadError.TheVariants as loading
 use Rattle.zf_dev.specs.declared.faults.TakeError.{TakeError}

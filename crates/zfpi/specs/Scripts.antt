@@ -1,10 +1,8 @@
 -- What `run` does with a file and a script.
-use Rattle.std.specs.Prelude.{◌≡◌, ℕ, zero, suc, ◌≤◌, nat_lt, List, [], length, count_by, Option, Some, None, Result, Ok, Err, if◌then◌else◌}
-use Rattle.std.specs.Int.{Width}
+use Rattle.std.specs.Prelude.{◌≡◌, ℕ, zero, suc, nat_lt, List, [], length, count_by, Option, Some, None, Result, Ok, Err, if◌then◌else◌}
 use Rattle.zf_spec.specs.Grid.{blocks}
 use Rattle.zf_spec.specs.Stream.{mode_number}
 use Rattle.zf_base.specs.Widths.{width_of}
-use Rattle.zf_header.specs.declared.header.Header.{Header}
 use Rattle.zf_header.specs.declared.header.Mode.{Mode}
 use Rattle.zf_header.specs.declared.header.Mode.TheVariants.{Reversible, Rate, Precision}
 use Rattle.zf_header.specs.declared.header.HeaderFault.{HeaderFault}
@@ -14,7 +12,6 @@ use Rattle.zf_stream.specs.declared.fault.StreamFault.{StreamFault}
 use Rattle.zf_stream.specs.Parsing.{Said, header_of, parse}
 use Rattle.zf_cached.specs.Changes.{default_lines}
 use Rattle.zf_cached.specs.Arrays.{open_array, max_file}
-use Rattle.zf_cached.specs.Steps.{Session}
 use Rattle.zf_cached.specs.Replies.{Reply}
 use Rattle.zf_cached.specs.Runs.{array_setting, run, run_text, run_saved}
 use Rattle.zf_run.specs.Steps.{is_refusal, is_want}
