@@ -492,7 +492,12 @@ fn restore_says_the_first_fault(rt: HostRuntime) -> Result<(), Fail> {
         let ended = call(rt.alloc(), "restore", &bytes[..len], 1000, &[], &[])?;
         assert_eq!(rt; ended.status, status);
         assert_eq!(rt; ended.err.bytes(), line);
-        assert_eq!(rt; ended.out.bytes().len(), 0);
+        // The one value may be written before what follows its code is judged.
+        let text: &[u8] = match status {
+            Status::Header(_) | Status::Truncated(0) => &[],
+            _ => &[1, 0, 0, 0],
+        };
+        assert!(rt; text.starts_with(ended.out.bytes()));
     }
     Ok(())
 }
