@@ -1,5 +1,5 @@
 -- What the calls of an array do to its state.
-use Rattle.std.proofs.Common.{◌≡◌, refl, sym, ap, subst, ◌∙◌, ◌⊎◌, inl, inr, ℕ, ◌%◌, ◌^◌, ◌<◌, ◌≤◌, ℤ, Bool, true, false, List, [], map, length, get_or, set, replicate, ◌==◌, arith}
+use Rattle.std.proofs.Common.{◌≡◌, refl, sym, ap, subst, ◌∙◌, ◌⊎◌, inl, inr, ℕ, ◌%◌, ◌^◌, ◌<◌, ◌≤◌, ℤ, Bool, true, false, List, length, get_or, replicate, ◌==◌, arith}
 use Rattle.std.specs.Int.{Width}
 use Rattle.std.proofs.lemmas.Bool.{cases_lt, ne_eqb}
 use Rattle.std.proofs.lemmas.List.{get_or_past, length-replicate, get_or-replicate}
@@ -10,28 +10,24 @@ use Rattle.zf_base.specs.declared.position.Pos.{Pos}
 use Rattle.zf_base.specs.Widths.{width_of}
 use Rattle.zf_base.specs.Positions.{used_axes, IsPosition}
 use Rattle.zf_base.specs.Places.{block_number, place_of, IsAt}
-use Rattle.zf_base.specs.Formats.{Format, existing_of, meant}
-use Rattle.zf_base.proofs.Formats.{existing_of-existing_of, existing_of-meant, existing_of-set}
+use Rattle.zf_base.specs.Formats.{Format, meant}
 use Rattle.zf_header.specs.declared.header.Header.{Header}
 use Rattle.zf_header.specs.declared.header.Mode.{Mode}
 use Rattle.zf_header.specs.declared.header.Mode.TheVariants.{Reversible, Rate, Precision}
 use Rattle.zf_spec.specs.Stream.{file, fixed_rate}
 use Rattle.zf_spec.proofs.Counting.{map-get_or-upto}
 use Rattle.zf_header.specs.HeaderBits.{IsRate, coding, block_bits}
-use Rattle.zf_cached.specs.State.{State, no_counts, own_line}
-use Rattle.zf_cached.specs.Touch.{write_back, hit, miss, touch, touch_for_writing, soiled, with_values}
+use Rattle.zf_cached.specs.State.{State, no_counts}
 use Rattle.zf_cached.specs.Changes.{opened, raised, resized, zeros}
 use Rattle.zf_cached.specs.Arrays.{rate_coding, array_format, zero_codes, open_array, new_array, codes_of, saved_file}
 use Rattle.zf_cached.proofs.States.{same_state}
-use Rattle.zf_cached.proofs.Caching.{at_change, write_back_line_by, touch_by}
-use Rattle.zf_cache.specs.Kept.{Kept, IsEmpty, tag_at, block_in, line_of, dirty_tag}
-use Rattle.zf_cache.specs.Standing.{state_of, values_of, line_values, Fits}
-use Rattle.zf_cache.specs.Steps.{put}
+use Rattle.zf_cache.specs.Kept.{Kept, IsEmpty, tag_at, block_in, dirty_tag}
+use Rattle.zf_cache.specs.Standing.{state_of, Fits}
 use Rattle.zf_cache.proofs.Stands.{standing}
 use Rattle.zf_cache.proofs.Steps.{empty_fits}
 use Rattle.zf_cache.proofs.Touches.{state_is, no_tag, all_meant}
 use Rattle.zf_store.specs.Stored as store
-use Rattle.zf_store.specs.Stored.{Stored, Frame, code_at, format_of, frame_of, rate_of}
+use Rattle.zf_store.specs.Stored.{Stored, code_at, format_of, frame_of, rate_of}
 use Rattle.zf_array.specs.Standing.{Held, stored, format, state, array_of, block_at, place_at}
 use Rattle.zf_array.specs.Parts.{held_by, IsJoined}
 use Rattle.zf_array.proofs.Standing.{zero_meant, stored_held, state_held, state_now, format_now, header_now, header_kept, state_after}
@@ -88,43 +84,6 @@ module _ {X : Type 0} (value : X → ℤ) (w : Width) (d : ℕ) (s : Stored) (c 
     pub place_exists : (b k : ℕ) → IsAt h.shape (used_axes (length h.shape) p) b k → (format_of s).exists b k ≡ true
     unfolding array_format
     place_exists b k at = subst (λ (g : Header). is_inside (extent_of g.shape b) (indices (length g.shape) k) ≡ true) is_h at.exists
-
--- ---- values of a state are 0 where no place exists
-
-module _ {X Code : Type 0} (value : X → ℤ) (f : Format Code) (c : Kept X) (k : ℕ → Code) where
-  pub whole_values : (b : ℕ) → existing_of f b ((state_of value c f k).values b) ≡ (state_of value c f k).values b
-  unfolding state_of values_of
-  whole_values b =
-      from (λ (t : Bool). elim t [ true ↦ line_values value c f (line_of c b) b | false ↦ meant f b (k b) ])
-      (existing_of-existing_of f b (map value (zf_line c b))) (existing_of-meant f b (k b)) _
-    where
-      zf_line : Kept X → ℕ → List X
-      zf_line d a = get_or d.lines (line_of d a) []
-
-      from : (v : Bool → List ℤ) → existing_of f b (v true) ≡ v true → existing_of f b (v false) ≡ v false → (t : Bool) → existing_of f b (v t) ≡ v t
-      from v here away true = here
-      from v here away false = away
-
-abbrev AllWhole : {Code : Type 0} → Format Code → State Code → Type 0
-AllWhole format s = (b : ℕ) → existing_of format b (s.values b) ≡ s.values b
-
-write_back-whole : {Code : Type 0} (format : Format Code) (s : State Code) (b : ℕ) → AllWhole format s → AllWhole format (write_back format s b)
-unfolding write_back
-write_back-whole format s b whole n = at_change (λ m values. existing_of format m values ≡ values) s.values b (meant format b _) n (existing_of-meant format b _) (λ ne. whole n)
-
-pub touch-whole : {Code : Type 0} (format : Format Code) (s : State Code) (b : ℕ) → AllWhole format s → AllWhole format (touch format s b)
-unfolding hit miss
-touch-whole format s b whole =
-    touch_by format s b (AllWhole format) (λ here. whole)
-    (λ away. write_back_line_by format s (own_line s b) (AllWhole format) (λ a held dirty. write_back-whole format s a whole) (λ a held clean. whole) (λ none. whole))
-
--- a value that is put where a place exists
-pub puts_is : {Code : Type 0} (f : Format Code) (s : State Code) (b p : ℕ) (v : ℤ) → AllWhole f s → f.exists b p ≡ true
-    → put f s b p v ≡ (let t = touch_for_writing f s b in with_values t b (set (t.values b) p v))
-unfolding put touch_for_writing soiled
-puts_is f s b p v whole exists =
-    let t = touch f s b in
-    ap (λ (values : List ℤ). with_values (touch_for_writing f s b) b values) (existing_of-set f b (t.values b) p v exists (touch-whole f s b whole b))
 
 -- ---- an array as it is made
 

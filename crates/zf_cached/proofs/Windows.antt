@@ -33,7 +33,7 @@ module _ (ns : List ℕ) (w : Window) (h : LiesIn ns w) where
   pub mapped_inside : (ps : List ℕ) → is_inside w.size ps ≡ true → length ps ≡ length w.size → is_inside ns (mapped w ps) ≡ true
   mapped_inside ps inside same = stepped_inside ns w.origin w.size w.step ps lies inside same
 
-length-stepped : (os ts ps : List ℕ) (n : ℕ) → length os ≡ n → length ts ≡ n → length ps ≡ n → length (stepped os ts ps) ≡ n
+pub length-stepped : (os ts ps : List ℕ) (n : ℕ) → length os ≡ n → length ts ≡ n → length ps ≡ n → length (stepped os ts ps) ≡ n
 length-stepped [] ts ps n o t p = o
 length-stepped (o ∷ os) [] ps n a b c = absurd (omega arith)
 length-stepped (o ∷ os) (t ∷ ts) [] n a b c = absurd (omega arith)

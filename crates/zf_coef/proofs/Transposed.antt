@@ -6,7 +6,7 @@ use Rattle.std.proofs.lemmas.Nat.Bits.{bit_at-zero}
 use Rattle.zf_spec.specs.Numbers.{field, number, word_bits, is_odd}
 use Rattle.zf_spec.specs.Grid.{upto}
 use Rattle.zf_spec.specs.Planes.{plane, planes_of}
-use Rattle.zf_spec.proofs.Counting.{length-map-upto, get_or-map-upto}
+use Rattle.zf_spec.proofs.Counting.{four_elements, length-map-upto, get_or-map-upto}
 use Rattle.zf_spec.proofs.PlaneDigits.{get_or-plane, length-map-reverse-upto, get_or-map-reverse-upto}
 use Rattle.zf_spec.specs.HeldPlanes.{digits_held, planes_held, IsClearFrom}
 use Rattle.std.specs.Int.{bit_at}
@@ -218,21 +218,12 @@ get_or-digits_in_planes size planes r below =
     ∙ ap (λ j. bit_at_rank (get_or planes j [])) turned
     ∙ sym (get_or-map bit_at_rank planes i [] false small))
 
--- a list of four words, by its words
-four : (ws : List ℕ) → length ws ≡ 4 → get_or ws 0 0 ∷ get_or ws 1 0 ∷ get_or ws 2 0 ∷ get_or ws 3 0 ∷ [] ≡ ws
-four [] h = absurd (omega arith)
-four (a ∷ []) h = absurd (omega arith)
-four (a ∷ b ∷ []) h = absurd (omega arith)
-four (a ∷ b ∷ c ∷ []) h = absurd (omega arith)
-four (a ∷ b ∷ c ∷ d ∷ []) h = refl
-four (a ∷ b ∷ c ∷ d ∷ e ∷ ws) h = absurd (omega arith)
-
 -- planes of four words are what they are by their words
 pub all_four : (planes : List (List ℕ)) → ((k : ℕ) → k < length planes → length (get_or planes k []) ≡ 4)
     → map (λ ws. get_or ws 0 0 ∷ get_or ws 1 0 ∷ get_or ws 2 0 ∷ get_or ws 3 0 ∷ []) planes ≡ planes
 all_four [] long = refl
 all_four (ws ∷ planes) long =
-    ap (λ vs. vs ∷ map (λ us. get_or us 0 0 ∷ get_or us 1 0 ∷ get_or us 2 0 ∷ get_or us 3 0 ∷ []) planes) (four ws (long 0 (omega arith)))
+    ap (λ vs. vs ∷ map (λ us. get_or us 0 0 ∷ get_or us 1 0 ∷ get_or us 2 0 ∷ get_or us 3 0 ∷ []) planes) (four_elements ws (long 0 (omega arith)))
     ∙ ap (λ ps. ws ∷ ps) (all_four planes (λ k h. long (suc k) (omega arith)))
 
 -- ---- coefficients of groups

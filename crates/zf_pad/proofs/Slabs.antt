@@ -1,5 +1,5 @@
 -- A slab of an array is an array of its own.
-use Rattle.std.proofs.Common.{◌≡◌, refl, sym, ap, subst, ◌∙◌, ℕ, zero, suc, ◌+◌, ◌-◌, ◌*◌, ◌/◌, ◌%◌, ◌^◌, ◌<◌, ◌≤◌, ◌⊎◌, min, Bool, true, false, cond, ltb, ℤ, pos, List, [], ◌∷◌, length, get_or, map, take, drop, mul_comm, mul_assoc, mod-lt, mod-eq_of_lt, ⊎_elim, arith}
+use Rattle.std.proofs.Common.{◌≡◌, refl, sym, ap, subst, ◌∙◌, ℕ, zero, suc, ◌+◌, ◌-◌, ◌*◌, ◌/◌, ◌%◌, ◌^◌, ◌<◌, ◌≤◌, ◌⊎◌, min, Bool, true, false, cond, ltb, ℤ, pos, List, [], ◌∷◌, length, get_or, map, drop, mul_assoc, mod-eq_of_lt, ⊎_elim, arith}
 use Rattle.std.proofs.Math.Nat.{add-mul-mod_self_left, add-mul-div_left, mul-add, mul-le-mul_left}
 use Rattle.std.specs.List.{AllByRecursion}
 use Rattle.std.proofs.lemmas.Bool.{and_parts, and_from, ltb-true, lt-ltb, false≢true}
@@ -8,10 +8,9 @@ use Rattle.std.proofs.lemmas.List.{length-map, get_or-take, get_or-drop}
 use Rattle.zf_spec.specs.Grid.{IsShape, product, grid, blocks, places, coordinates, raster, is_inside, indices, extents, extent_of, position_in, value_at, block_of}
 use Rattle.zf_spec.proofs.Counting.{map-upto_same}
 use Rattle.zf_spec.proofs.Raster.{length-coordinates, length-indices}
-use Rattle.zf_base.specs.Places.{IsAt, block_number, place_of}
+use Rattle.zf_base.specs.Places.{IsAt}
 use Rattle.zf_base.proofs.Boxes.{raster-lt, is_inside-coordinates}
 use Rattle.zf_base.proofs.Places.{IsAt-inside}
-use Rattle.zf_base.specs.declared.position.Pos.{Pos}
 use Rattle.zf_base.specs.declared.position.Extent.{Extent}
 use Rattle.zf_base.specs.Positions.{used_axes, with_unused, IsPosition}
 use Rattle.zf_base.proofs.Extents.{length-used_axes}
@@ -246,7 +245,7 @@ gathered_of_slab ns values old new c rows j layout e slab h g =
 
 -- ---- the layout of the whole array serves
 
-rows_on-none : (ps : List ℕ) → rows_on 0 ps ≡ ps
+pub rows_on-none : (ps : List ℕ) → rows_on 0 ps ≡ ps
 rows_on-none [] = refl
 rows_on-none (p ∷ []) = let same : 0 + p ≡ p = omega arith in ap (λ k. k ∷ []) same
 rows_on-none (p ∷ q ∷ ps) = ap (λ qs. p ∷ qs) (rows_on-none (q ∷ ps))

@@ -9,6 +9,7 @@ use Rattle.zf_spec.specs.Grid.{IsShape, upto, count_from, is_inside, indices, ex
 use Rattle.zf_header.specs.HeaderBits.{block_bits}
 use Rattle.zf_cached.specs.Runs.{array_setting}
 use Rattle.zf_spec.proofs.Counting.{count_from-add, map-upto_same}
+use Rattle.zf_view.proofs.BlockItems.{count_from-below}
 use Rattle.zf_base.specs.Widths.{width_of}
 use Rattle.zf_base.specs.Formats.{Format, existing_of}
 use Rattle.zf_cached.specs.State.{State}
@@ -102,13 +103,6 @@ module _ (bits : ℕ) (x : ℤ) where
       ∙ ap (λ y. to_z w128 bits +ℤ y) (to_z-of_z w128 x (up_to_fits x (up_to_less step (2 ^ 100) x less small)))
 
 -- ---- passes
-
--- the numbers from k on begin with k
-pub count_from-below : (k n : ℕ) → k < n → count_from k (n - k) ≡ k ∷ count_from (k + 1) (n - (k + 1))
-count_from-below k n below =
-    let left : n - k ≡ suc (n - (k + 1)) = omega arith in
-    let next : suc k ≡ k + 1 = omega arith in
-    ap (count_from k) left ∙ ap (λ i. k ∷ count_from i (n - (k + 1))) next
 
 -- what does not change stays an array's
 pub is_array_kept : (w : Width) (dim : ℕ) (a b : Held) → b.header ≡ a.header → IsArray w dim a → IsArray w dim b

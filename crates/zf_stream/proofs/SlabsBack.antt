@@ -1,5 +1,5 @@
 -- The blocks and the values of an array, slab by slab, as they are restored.
-use Rattle.std.proofs.Common.{◌≡◌, refl, sym, ap, ◌∙◌, ℕ, zero, suc, ◌+◌, ◌-◌, ◌*◌, ◌/◌, ◌<◌, ◌≤◌, inl, Bool, ℤ, pos, List, [], ◌∷◌, ◌++◌, map, length, get_or, take, drop, Option, Some, None, Result, Ok, Err, mul_comm, take_at, drop_at, arith}
+use Rattle.std.proofs.Common.{◌≡◌, refl, sym, ap, ◌∙◌, ℕ, zero, suc, ◌+◌, ◌-◌, ◌*◌, ◌/◌, ◌<◌, ◌≤◌, inl, Bool, ℤ, pos, List, [], ◌++◌, map, length, get_or, take, drop, Option, Some, None, Result, Ok, Err, mul_comm, take_at, drop_at, arith}
 use Rattle.std.proofs.lemmas.List.{append-nil, length-map, map-append, take_all}
 use Rattle.std.proofs.Math.Nat.{mul-add, mul-le-mul_left}
 use Rattle.zf_spec.specs.Grid.{product, grid, blocks, upto, count_from, coordinates, raster, extent_of, block_of, blocks_of}
@@ -9,8 +9,8 @@ use Rattle.zf_base.specs.Widths.{width_of}
 use Rattle.zf_base.specs.Places.{block_number, place_of}
 use Rattle.zf_base.proofs.Boxes.{is_inside-coordinates}
 use Rattle.zf_base.proofs.Places.{IsAt-position}
-use Rattle.zf_pad.specs.Slabs.{rows_of, row_len, with_rows, rows_on, IsSlab, slab_of, first_block}
-use Rattle.zf_pad.proofs.Slabs.{product-rows, product-with_rows, length-with_rows, grid-with_rows, blocks-with_rows, coordinates-rows_on, raster-rows_on, block_of-slab}
+use Rattle.zf_pad.specs.Slabs.{rows_of, row_len, with_rows, IsSlab, slab_of, first_block}
+use Rattle.zf_pad.proofs.Slabs.{product-rows, product-with_rows, length-with_rows, grid-with_rows, blocks-with_rows, coordinates-rows_on, raster-rows_on, rows_on-none, block_of-slab}
 use Rattle.zf_pad.proofs.Blocks.{value_of_block}
 use Rattle.zf_header.specs.declared.header.Header.{Header}
 use Rattle.zf_stream.specs.Parsing.{read_code, read_codes, read_next, with_block, values_of_blocks}
@@ -95,12 +95,6 @@ module _ (ns : List ℕ) (c here : ℕ) (slab : IsSlab ns c here) (values more :
       (λ j lt. block_of-slab ns c here slab j lt (values ++ more) ∙ ap (λ vs. block_of (with_rows here ns) vs j) same))
 
 -- ---- the values of first blocks
-
--- no rows on
-rows_on-none : (ps : List ℕ) → rows_on 0 ps ≡ ps
-rows_on-none [] = refl
-rows_on-none (p ∷ []) = let same : 0 + p ≡ p = omega arith in ap (λ k. k ∷ []) same
-rows_on-none (p ∷ q ∷ ps) = ap (λ qs. p ∷ qs) (rows_on-none (q ∷ ps))
 
 -- a position in the first rows lies in one of their blocks
 number_below : (ns : List ℕ) (rows i : ℕ) → IsSlab ns 0 rows → i < row_len ns * rows → block_number ns (coordinates ns i) < first_block ns ((rows + 3) / 4)

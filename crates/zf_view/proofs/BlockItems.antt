@@ -12,7 +12,8 @@ use Rattle.zf_view.specs.BlockItems.{block_item, items_from}
 pub length-items_from : (ns : List ℕ) (b : ℕ) → length (items_from ns b) ≡ blocks ns - b
 length-items_from ns b = length-map (count_from b (blocks ns - b)) (block_item ns) ∙ length-count_from b (blocks ns - b)
 
-count_from-below : (k n : ℕ) → k < n → count_from k (n - k) ≡ k ∷ count_from (k + 1) (n - (k + 1))
+-- the numbers from k on begin with k
+pub count_from-below : (k n : ℕ) → k < n → count_from k (n - k) ≡ k ∷ count_from (k + 1) (n - (k + 1))
 count_from-below k n below =
     let left : n - k ≡ suc (n - (k + 1)) = omega arith in
     let next : suc k ≡ k + 1 = omega arith in

@@ -1,5 +1,5 @@
 -- Windows made of their parts.
-use Rattle.std.proofs.Common.{◌≡◌, ℕ, zero, suc, ◌-◌, ◌/◌, ◌^◌, ◌≤◌, true, false, ◌&&◌, ltb, ltb-true, lt-ltb, List, [], ◌∷◌, map, length, Some, None, refl, ap, sym, ◌∙◌, arith, lit≤}
+use Rattle.std.proofs.Common.{◌≡◌, ℕ, zero, suc, ◌-◌, ◌/◌, ◌^◌, ◌≤◌, true, false, ◌&&◌, ltb, ltb-true, lt-ltb, List, [], ◌∷◌, map, length, Some, None, refl, sym, ◌∙◌, arith, lit≤}
 use Rattle.std.specs.List.{AllByRecursion}
 use Rattle.std.proofs.lemmas.Bool.{and_parts, and_from}
 use Rattle.std.proofs.lemmas.List.{length-map}
@@ -7,16 +7,10 @@ use Rattle.zf_spec.specs.Grid.{IsShape, is_inside}
 use Rattle.zf_base.specs.declared.position.Pos.{Pos}
 use Rattle.zf_base.specs.Positions.{used_axes, with_unused}
 use Rattle.zf_base.proofs.Extents.{length-used_axes}
-use Rattle.zf_cached.specs.Windows.{Window, LiesIn, stepped, mapped, whole, none_zero, lies_in}
+use Rattle.zf_cached.proofs.Windows.{length-stepped}
+use Rattle.zf_cached.specs.Windows.{Window, LiesIn, mapped, whole, none_zero, lies_in}
 use Rattle.zf_view.specs.declared.window.ViewFault.TheVariants.{Outside}
 use Rattle.zf_view.specs.WindowFields.{window_of, largest, AreUnused, IsWindowOf, view_fault}
-
-length-stepped : (os ts ps : List ℕ) (n : ℕ) → length os ≡ n → length ts ≡ n → length ps ≡ n → length (stepped os ts ps) ≡ n
-length-stepped [] ts ps n o t p = o
-length-stepped (o ∷ os) [] ps n a b c = absurd (omega arith)
-length-stepped (o ∷ os) (t ∷ ts) [] n a b c = absurd (omega arith)
-length-stepped (o ∷ os) (t ∷ ts) (p ∷ ps) zero a b c = absurd (omega arith)
-length-stepped (o ∷ os) (t ∷ ts) (p ∷ ps) (suc n) a b c = ap suc (length-stepped os ts ps n (omega arith) (omega arith) (omega arith))
 
 -- ---- a window of an array is one of the largest array
 

@@ -6,7 +6,8 @@ use Rattle.zf_cached.specs.Steps.{total}
 use Rattle.zf_array.specs.Standing.{shape}
 use Rattle.zf_run.specs.Sums.{IsUpTo}
 use Rattle.zf_run.specs.Sessions.{setting_of, session_of}
-use Rattle.zf_run.proofs.Passing.{count_from-below, is_array_kept, touched_on, sum_from, sum_on, sum_starts, sum_ends, summed_fits, summed_is, up_to_more, up_to_less}
+use Rattle.zf_view.proofs.BlockItems.{count_from-below}
+use Rattle.zf_run.proofs.Passing.{is_array_kept, touched_on, sum_from, sum_on, sum_starts, sum_ends, summed_fits, summed_is, up_to_more, up_to_less}
 use Rattle.zf_run.proofs.blocks.sum_blocks.Goals as goal
 
 pub loop-b-init : goal.loop-b-init

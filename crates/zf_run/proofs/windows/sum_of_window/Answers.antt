@@ -11,7 +11,8 @@ use Rattle.zf_view.proofs.Raster.{product_window, raster_at-inside}
 use Rattle.zf_run.specs.Sums.{IsUpTo}
 use Rattle.zf_run.specs.Sessions.{setting_of, session_of}
 use Rattle.zf_run.proofs.Wide.{wide_up_to}
-use Rattle.zf_run.proofs.Passing.{count_from-below, sum_from, sum_on, sum_starts, sum_ends, summed_fits, summed_is, up_to_more, up_to_less}
+use Rattle.zf_view.proofs.BlockItems.{count_from-below}
+use Rattle.zf_run.proofs.Passing.{sum_from, sum_on, sum_starts, sum_ends, summed_fits, summed_is, up_to_more, up_to_less}
 use Rattle.zf_run.proofs.Rastering.{touched_there, found_there}
 use Rattle.zf_run.proofs.windows.sum_of_window.Goals as goal
 
