@@ -66,10 +66,10 @@ class Bench:
 
 def inputs(bench):
     """Inputs that are closed, no stream of bytes, or end early."""
-    for words in ("compress int32 1 reversible", "restore", "info"):
-        bench.ends("input closed", words, 10, "read fault", stdin=None, preexec_fn=closing(0), out=b"")
+    for words, out in (("compress int32 1 reversible", ZERO[:8]), ("restore", b""), ("info", b"")):
+        bench.ends("input closed", words, 10, "read fault", stdin=None, preexec_fn=closing(0), out=out)
         folder = os.open(bench.folder, os.O_RDONLY)
-        bench.ends("input a folder", words, 10, "read fault", stdin=folder, out=b"")
+        bench.ends("input a folder", words, 10, "read fault", stdin=folder, out=out)
         os.close(folder)
     bench.put("a", ARRAY)
     bench.ends("script closed", "run a", 10, "read fault", stdin=None, preexec_fn=closing(0), out=b"")

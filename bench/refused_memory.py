@@ -121,7 +121,8 @@ class Bench:
         if (code, out, line, after) == whole:
             return
         if code == 20:
-            assert line == b"zfpi: out of memory\n" and out == b"" and after == files, said
+            # With no line where it was the words themselves that found none.
+            assert line in (b"zfpi: out of memory\n", b"") and out == b"" and after == files, said
         elif code == 11:
             assert line == b"zfpi: write fault\n" and whole[1].startswith(out) and after == files, said
         elif code == 12 and words.startswith(("new", "run")):

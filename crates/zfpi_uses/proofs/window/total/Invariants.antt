@@ -1,6 +1,6 @@
 use Rattle.std.proofs.Common.{◌≡◌, ◌-◌}
-use Rattle.sum_window.proofs.Sums.{IsSummed}
-use Rattle.sum_window.proofs.window.total.Given as goal
+use Rattle.zfpi_uses.proofs.Sums.{IsSummed}
+use Rattle.zfpi_uses.proofs.window.total.Given as goal
 
 abbrev pub decreases-values : goal.decreases-values
 decreases-values l = l.elems.end - l.elems.next

@@ -17,8 +17,8 @@ use Rattle.zf_array.specs.Standing.{Held, stored, format, state, block_at, place
 use Rattle.zf_view.specs.Touches.{position_at, raster_at}
 use Rattle.zf_view.specs.Runs.{run_length, run_changed}
 use Rattle.zf_view.specs.WindowFields.{view_fault}
-use Rattle.sum_window.specs.declared.window.Fault.{Fault}
-use Rattle.sum_window.specs.declared.window.Fault.TheVariants as fault
+use Rattle.zfpi_uses.specs.declared.window.Fault.{Fault}
+use Rattle.zfpi_uses.specs.declared.window.Fault.TheVariants as fault
 
 -- the count places from the place first on
 abbrev pub places_from : ℕ → ℕ → Window

@@ -12,8 +12,8 @@ use Rattle.zf_cached.specs.Arrays.{open_array, saved_file}
 use Rattle.zf_cached.specs.Windows.{Window}
 use Rattle.zf_store.specs.Stored.{format_of}
 use Rattle.zf_array.specs.Standing.{format}
-use Rattle.sum_window.specs.Marked.{places_from, sum_of, marked, IsCause}
-use Rattle.sum_window.proofs.window.sum_and_mark.Goals as goal
+use Rattle.zfpi_uses.specs.Marked.{places_from, sum_of, marked, IsCause}
+use Rattle.zfpi_uses.proofs.window.sum_and_mark.Goals as goal
 
 pub returns-in-Err-clause-fault : goal.returns-in-Err-clause-fault
 returns-in-Err-clause-fault c = subst (λ file. IsCause file c.args.first c.args.count c.in-Err.fault) c.deref.ensures.value (c.in-Err.ensures.fault c.args.first c.args.count)

@@ -16,7 +16,7 @@ use Rattle.zf_array.specs.Standing.{Held, format, state, shape, block_at, place_
 use Rattle.zf_view.specs.Touches.{raster_at}
 use Rattle.zf_view.specs.Elems.{IsAtElem, GivesElem}
 use Rattle.zf_view.specs.declared.elems.ElemIter.{ElemIter}
-use Rattle.sum_window.specs.Marked.{value_at, sum_of, IsOnlyRead}
+use Rattle.zfpi_uses.specs.Marked.{value_at, sum_of, IsOnlyRead}
 
 -- a value read as a longer one and added, as the program does it
 pub added : (x s f v : ℤ) → x ≡ s → f ≡ to_z w32 (of_z w32 v) → SFits w32 v → SFits w64 (s +ℤ v) → to_z w64 (of_z w64 (x +ℤ to_z w64 (of_z w64 f))) ≡ s +ℤ v

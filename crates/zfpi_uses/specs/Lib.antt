@@ -1,3 +1,3 @@
--- What the contracts of sum_window cite.
+-- What the contracts of zfpi_uses cite.
 --     Marked   the sum of a window, what is saved after its first run was written over, and why nothing was done
 pub mod Marked

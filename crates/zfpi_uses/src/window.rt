@@ -9,7 +9,7 @@ ghost use Rattle.zf_array.specs.Standing.{state, shape};
 ghost use Rattle.zf_view.specs.Elems.{IsAtElem};
 ghost use Rattle.zf_view.specs.Runs.{x_step};
 ghost use Rattle.zf_view.specs.WindowFields.{view_fault};
-ghost use Rattle.sum_window.specs.Marked.{places_from, first_place, sum_of, marked, IsOnlyRead, IsMarked, IsSeries, IsCause};
+ghost use Rattle.zfpi_uses.specs.Marked.{places_from, first_place, sum_of, marked, IsOnlyRead, IsMarked, IsSeries, IsCause};
 
 use std::alloc::Global;
 use thiserror::Error;

@@ -5,8 +5,8 @@ use Rattle.std.proofs.lemmas.Int.{ints}
 use Rattle.zf_spec.specs.Grid.{product}
 use Rattle.zf_base.specs.Lemmas.{FitsSigned-bounds}
 use Rattle.zf_cached.specs.Windows.{Window}
-use Rattle.sum_window.proofs.Sums.{added, one_more, summed_as}
-use Rattle.sum_window.proofs.window.total.Goals as goal
+use Rattle.zfpi_uses.proofs.Sums.{added, one_more, summed_as}
+use Rattle.zfpi_uses.proofs.window.total.Goals as goal
 
 pub values-preserved : goal.values-preserved
 values-preserved c =

@@ -3,7 +3,8 @@
 use super::*;
 use std::alloc::{AllocError, Global};
 use std::test::Fail;
-use zf_header::HeaderFault;
+use zf_base::{Shape, Ty};
+use zf_header::{Header, HeaderFault, Mode};
 use zf_store::StoreFault;
 use zf_view::ViewFault;
 
@@ -82,5 +83,30 @@ fn has_its_faults(rt: HostRuntime) -> Result<(), Fail> {
             Some(fault)
         );
     }
+    Ok(())
+}
+
+#[test]
+fn values_go_there_and_back(rt: HostRuntime) -> Result<(), Fail> {
+    let alloc = rt.alloc();
+    let Ok(shape) = Shape::new(1, 2, 1, 1, 1) else {
+        return Err("two values are a shape")?;
+    };
+    let header = Header {
+        ty: Ty::I32,
+        shape,
+        mode: Mode::Reversible,
+    };
+    let raw = [1, 0, 0, 0, 2, 0, 0, 0];
+    let stream = b"zfp\x05\x10\0\0\0\0\0\0\x88\x1f\0\0\0\x48\x07\0\0\0\0\0\0";
+    let Ok(packed) = packed(alloc, &header, &raw) else {
+        return Err("two values have a stream")?;
+    };
+    assert_eq!(rt; packed.bytes(), stream.as_slice());
+    let Ok(back) = there_and_back(alloc, &header, &raw) else {
+        return Err("the stream has two values")?;
+    };
+    assert_eq!(rt; back.bytes(), raw.as_slice());
+    assert!(rt; unpacked(alloc, &stream[..23]).is_err());
     Ok(())
 }
