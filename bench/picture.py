@@ -51,18 +51,16 @@ def picture(program, raw, plate, file):
     places[0, 0].set_title("the plate, 32 bits a value")
     figure.colorbar(shown, ax=places[0, :], label="millikelvin", shrink=0.9)
     places[1, 0].axis("off")
-    places[1, 0].text(0, 0.5, "48 x 32 values of int32;\nbelow: what was lost", va="center")
-    errors = []
-    for place, rate in ((1, 32), (2, 96)):
+    places[1, 0].text(0, 0.5, "48 x 32 values of int32.\nAbove: what two rates give back.\nRight: the change of each value,\nin millikelvin, each on its scale.", va="center")
+    for place, rate in ((1, 32), (2, 64)):
         back = read(zfpi(program, zfpi(program, raw, "compress", "int32", WORDS, "rate", str(rate)), "restore"))
         places[0, place].imshow(back, cmap="inferno", vmin=low, vmax=high)
         places[0, place].set_title(f"rate {rate}: {rate // 16} bits a value")
-        errors.append((place, back - plate))
-    most = max(abs(error).max() for _, error in errors)
-    for place, error in errors:
-        shown = places[1, place].imshow(error, cmap="RdBu", vmin=-most, vmax=most)
-        places[1, place].set_title(f"greatest change {abs(error).max()}")
-    figure.colorbar(shown, ax=places[1, :], label="change, millikelvin", shrink=0.9)
+        change = back - plate
+        most = abs(change).max()
+        shown = places[1, place].imshow(change, cmap="RdBu", vmin=-most, vmax=most)
+        places[1, place].set_title(f"what was lost: at most {most}")
+        figure.colorbar(shown, ax=places[1, place], shrink=0.8)
     for place in places.flat:
         place.set_xticks([])
         place.set_yticks([])

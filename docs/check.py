@@ -4,7 +4,7 @@
     python3 docs/check.py [PROGRAM]
 
 PROGRAM is the built program, by default crates/zfpi/out/zfpi. Outside the gate; needs no network. A session is a block that begins with `$ `: each such line is
-a command, and the lines up to the next one are what it writes, standard output before standard error. The commands of a file run one after the other in one folder,
+a command, and the lines up to the next one are what it writes. A block of Python has to run. The commands of a file run one after the other in one folder,
 which holds the sample data and README. A block after `<!-- table: COMMAND -->` is a table that the command has to print. The manual page is looked at by
 mandoc, where there is one.
 """
@@ -20,10 +20,13 @@ import tempfile
 TOP = pathlib.Path(__file__).resolve().parent.parent
 
 
-def blocks(text):
-    """The sessions of a page, each as the lines of a fenced block whose first one is a command."""
-    for found in re.finditer(r"^```[a-z]*\n(\$ .*?)^```$", text, re.M | re.S):
-        yield found.group(1).splitlines()
+def shown(text):
+    """The commands of a page in their order, each with the lines that it writes; None of a block of Python."""
+    for found in re.finditer(r"^```([a-z]*)\n(.*?)^```$", text, re.M | re.S):
+        if found.group(1) == "python":
+            yield f"/usr/bin/python3 - <<'END'\n{found.group(2)}END", None
+        elif found.group(2).startswith("$ "):
+            yield from commands(found.group(2).splitlines())
 
 
 def commands(lines):
@@ -47,8 +50,7 @@ def tables(text):
 
 
 def run(command, folder, known):
-    ended = subprocess.run(["bash", "-c", command], cwd=folder, env=known, capture_output=True, text=True, check=False)
-    return ended.stdout + ended.stderr
+    return subprocess.run(["bash", "-c", command], cwd=folder, env=known, stdout=subprocess.PIPE, stderr=subprocess.STDOUT, text=True, check=False).stdout
 
 
 def page(file, known):
@@ -58,13 +60,12 @@ def page(file, known):
         folder = pathlib.Path(name)
         shutil.copytree(TOP / "data", folder / "data")
         shutil.copy(TOP / "README.md", folder)
-        for session in blocks(text):
-            for command, wanted in commands(session):
-                wrote = run(command, folder, known).rstrip("\n").split("\n")
-                count += 1
-                if wrote != (wanted or [""]):
-                    wrong += 1
-                    print(f"{file.name}: {command}\n  stands there: {wanted}\n  comes:        {wrote}")
+        for command, wanted in shown(text):
+            wrote = run(command, folder, known).rstrip("\n").split("\n")
+            count += 1
+            if wrote != (wanted or [""]) if wanted is not None else "Traceback" in wrote[0]:
+                wrong += 1
+                print(f"{file.name}: {command}\n  stands there: {wanted}\n  comes:        {wrote}")
     for command, wanted in tables(text):
         count += 1
         if run(command, TOP, known) != wanted:
