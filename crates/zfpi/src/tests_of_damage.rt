@@ -309,7 +309,7 @@ fn call(alloc: Global, row: &Row, number: u64) -> Result<Ended, AllocError> {
         words.push(String::from_str(alloc, word)?)?;
     }
     let mut whole = Vec::from_slice(alloc, row.input)?;
-    whole.resize(row.input.len() + row.zeros, 0)?;
+    whole.resize(row.input.len().saturating_add(row.zeros), 0)?;
     let input = Vec::from_slice(alloc, cut(&whole, row, Change::Input, number))?;
     let piece = row.piece.max(1);
     let mut src = MemSource::new(input, fails(alloc, row, Change::Read, number)?, piece);
@@ -327,30 +327,34 @@ fn call(alloc: Global, row: &Row, number: u64) -> Result<Ended, AllocError> {
     })
 }
 
+// Whether a call of a row ended with this status, and its devices hold what they should then.
+fn is_as_said(row: &Row, number: u64, status: Status, ended: &Ended) -> bool {
+    let written = ended.out.bytes();
+    let whole = matches!(status, Status::Done | Status::SaveFault);
+    let text_is = row.text.starts_with(written)
+        && (!whole || written == row.text)
+        && (number >= row.silent || written.is_empty());
+    let left_is = !whole || ended.src.left().len() == row.left;
+    let file = cut(row.file, row, Change::File, number);
+    let files_are = ended.shelf.file("kept") == Some(b"abc".as_slice())
+        && (status == Status::SaveFault || ended.shelf.file("a") == Some(file));
+    ended.status == status && text_is && left_is && files_are
+}
+
 #[test]
 fn each_case_ends_as_it_is_said(rt: HostRuntime) -> Result<(), Fail> {
     for row in ROWS.iter() {
-        let mut number = row.first;
+        let shows = row.shows;
+        let mut first = row.first;
         for (last, status) in row.ends.iter() {
-            while number <= *last {
+            for number in first..=*last {
                 let ended = call(rt.alloc(), row, number)?;
-                let written = ended.out.bytes();
-                assert_eq!(rt; ended.status, *status, "{}: {number}", row.shows);
-                let whole = matches!(ended.status, Status::Done | Status::SaveFault);
-                assert!(rt; row.text.starts_with(written), "{}: {number}", row.shows);
-                assert!(rt; !whole || written == row.text, "{}: {number}", row.shows);
-                assert!(rt; number >= row.silent || written.is_empty(), "{}: {number}", row.shows);
-                let left = ended.src.left().len();
-                assert!(rt; !whole || left == row.left, "{}: {number}", row.shows);
-                let file = cut(row.file, row, Change::File, number);
-                let kept = *status == Status::SaveFault || ended.shelf.file("a") == Some(file);
-                assert!(rt; kept, "{}: {number}", row.shows);
-                assert_eq!(rt; ended.shelf.file("kept"), Some(b"abc".as_slice()), "{}", row.shows);
-                if number == ALL {
-                    break;
-                }
-                number += 1;
+                assert!(rt;
+                    is_as_said(row, number, *status, &ended),
+                    "{shows}: {number}"
+                );
             }
+            first = last.saturating_add(1);
         }
     }
     Ok(())
@@ -389,7 +393,14 @@ fn a_file_that_is_too_long_is_told(rt: HostRuntime) -> Result<(), Fail> {
     let mut src = MemSource::new([b'x'].to_vec(rt.alloc())?, Vec::new(rt.alloc()), 1);
     let mut out = MemSink::new(rt.alloc(), Vec::new(rt.alloc()), 1000);
     let mut err = MemSink::new(rt.alloc(), Vec::new(rt.alloc()), 1000);
-    let status = zfpi(rt.alloc(), &words, &mut src, &mut out, &mut err, &mut Overlong);
+    let status = zfpi(
+        rt.alloc(),
+        &words,
+        &mut src,
+        &mut out,
+        &mut err,
+        &mut Overlong,
+    );
     assert_eq!(rt; (status, status.code()), (Status::FileLong, 9));
     assert_eq!(rt; err.bytes(), b"zfpi: file too long\n".as_slice());
     assert_eq!(rt; (src.left().len(), out.bytes().len()), (1, 0));
