@@ -1,0 +1,3 @@
+-- What the contracts of zf_bound cite.
+--     Errors       how far values are from one another, and how an error grows
+pub mod Errors
