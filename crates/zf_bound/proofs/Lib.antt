@@ -1,3 +1,11 @@
 -- Lemmas on the error.
 --     WholeLines   a line and its lift over whole numbers, where nothing wraps, and how far what comes back is from it
+--     NoWrap       where nothing wraps, the line of the type is that of whole numbers
+--     Lines        the two facts of a line
+--     Members      the places of a line in a block
+--     Axes         along all axes: how large coefficients are, and how far what comes back is from the block
 pub mod WholeLines
+pub mod NoWrap
+pub mod Lines
+pub mod Members
+pub mod Axes
