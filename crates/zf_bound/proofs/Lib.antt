@@ -4,8 +4,10 @@
 --     Lines        the two facts of a line
 --     Members      the places of a line in a block
 --     Axes         along all axes: how large coefficients are, and how far what comes back is from the block
+--     LostDigits   what the digits below a plane come to
 pub mod WholeLines
 pub mod NoWrap
 pub mod Lines
 pub mod Members
 pub mod Axes
+pub mod LostDigits
