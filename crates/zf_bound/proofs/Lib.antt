@@ -5,9 +5,11 @@
 --     Members      the places of a line in a block
 --     Axes         along all axes: how large coefficients are, and how far what comes back is from the block
 --     LostDigits   what the digits below a plane come to
+--     KeptWhole    which planes are kept whole is known from the code
 pub mod WholeLines
 pub mod NoWrap
 pub mod Lines
 pub mod Members
 pub mod Axes
 pub mod LostDigits
+pub mod KeptWhole
