@@ -6,6 +6,7 @@
 --     Axes         along all axes: how large coefficients are, and how far what comes back is from the block
 --     LostDigits   what the digits below a plane come to
 --     KeptWhole    which planes are kept whole is known from the code
+--     Blocks       how far what a fixed rate makes of a block is from it
 pub mod WholeLines
 pub mod NoWrap
 pub mod Lines
@@ -13,3 +14,4 @@ pub mod Members
 pub mod Axes
 pub mod LostDigits
 pub mod KeptWhole
+pub mod Blocks
