@@ -5,13 +5,13 @@
 --     Members      the places of a line in a block
 --     Axes         along all axes: how large coefficients are, and how far what comes back is from the block
 --     LostDigits   what the digits below a plane come to
---     KeptWhole    which planes are kept whole is known from the code
 --     Blocks       how far what a fixed rate makes of a block is from it
+--     Streams      how far the values of a stream are from whatever contents have its codes
 pub mod WholeLines
 pub mod NoWrap
 pub mod Lines
 pub mod Members
 pub mod Axes
 pub mod LostDigits
-pub mod KeptWhole
 pub mod Blocks
+pub mod Streams

@@ -1,3 +1,5 @@
 -- What the contracts of zf_bound cite.
 --     Errors       how far values are from one another, and how an error grows
+--     Bounds       what is certified of a stream
 pub mod Errors
+pub mod Bounds
