@@ -7,6 +7,7 @@
 --     LostDigits   what the digits below a plane come to
 --     Blocks       how far what a fixed rate makes of a block is from it
 --     Streams      how far the values of a stream are from whatever contents have its codes
+--     Cuts         codes that are cut from bits, and the plane of the codes of an index
 pub mod WholeLines
 pub mod NoWrap
 pub mod Lines
@@ -15,3 +16,4 @@ pub mod Axes
 pub mod LostDigits
 pub mod Blocks
 pub mod Streams
+pub mod Cuts

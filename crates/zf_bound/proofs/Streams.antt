@@ -41,7 +41,7 @@ plane_of-most w d [] b h = absurd (omega arith)
 plane_of-most w d (code ∷ codes) zero h = omega arith
 plane_of-most w d (code ∷ codes) (suc b) h = let rest = plane_of-most w d codes b (omega arith) in omega arith
 
-rate_whole_from-le : (w : Width) (d : ℕ) (code : List Bool) → rate_whole_from w d code ≤ bits w
+pub rate_whole_from-le : (w : Width) (d : ℕ) (code : List Bool) → rate_whole_from w d code ≤ bits w
 unfolding rate_whole_from
 rate_whole_from-le w d code = omega (arith, whole_from-le (length code) (planes_in (bits w) (4 ^ d) code), length-planes_in (bits w) (4 ^ d) code)
 
