@@ -3,10 +3,12 @@ use Rattle.std.proofs.Common.{◌≡◌, refl, sym, ap, subst, ◌∙◌, inl, i
 use Rattle.std.proofs.lemmas.Bool.{cases_lt}
 use Rattle.std.proofs.lemmas.Simd.{map-map}
 use Rattle.std.proofs.lemmas.List.{drop-drop, length-take-le}
-use Rattle.zf_spec.specs.Grid.{count_from, upto, blocks, extent_of}
+use Rattle.zf_spec.specs.Grid.{count_from, upto, grid, blocks, extent_of}
 use Rattle.zf_spec.specs.Stream.{to_bits}
 use Rattle.zf_spec.proofs.Counting.{length-map-upto, get_or-map-upto, from_places}
 use Rattle.zf_base.specs.Widths.{width_of}
+use Rattle.zf_base.specs.Positions.{with_unused}
+use Rattle.zf_base.proofs.Sizes.{grid_of_shape}
 use Rattle.zf_bits.specs.Reader.{Reader, rest}
 use Rattle.zf_header.specs.declared.header.Header.{Header}
 use Rattle.zf_header.specs.HeaderBits.{header_bits, IsHeader}
@@ -164,4 +166,4 @@ module _ (bytes : List ℕ) (h : Header) (has : HasHeader bytes h) where
 
 -- an array has a block
 pub blocks_some : (bytes : List ℕ) (h : Header) → HasHeader bytes h → 0 < blocks h.shape
-blocks_some bytes h has = some_blocks h.shape (is_header bytes h has).shape.not_zero
+blocks_some bytes h has = (grid_of_shape h.shape (with_unused 1 (grid h.shape)) (is_header bytes h has).shape refl).some

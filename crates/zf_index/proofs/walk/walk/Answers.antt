@@ -1,4 +1,5 @@
 use Rattle.std.proofs.Common.{◌≡◌, refl, sym, ap, subst, ◌∙◌, inl, ℕ, ◌+◌, ◌-◌, ◌<◌, ◌≤◌, Bool, ℤ, List, [], ◌∷◌, ◌++◌, Some, None, Err, length, drop, length-append, arith}
+use Rattle.std.proofs.lemmas.List.{take_at}
 use Rattle.std.proofs.lemmas.Result.{err_from_is_err_and}
 use Rattle.zf_spec.specs.Grid.{blocks, extent_of}
 use Rattle.zf_base.specs.Widths.{width_of}
@@ -63,7 +64,7 @@ loop-b-preserved g c =
       all = passed.1.passed.all ∙ so_far.all;
       at = at ∙ ap (place j) (sym size) ∙ ap (λ (zs : List ℕ). place (record { start = start; lens = zs }) (length ys)) (sym is);
       read = subst Is (sym is) (one_more h s start xs k so_far.read read);
-      whole = c.pass_code.ensures.whole;
+      whole = ap length (take_at c.pass_code.new.block (drop (length c.pass_code.new.block) c.loop-b.block.items) c.loop-b.block.len (c.pass_code.ensures.whole ∙ sym so_far.whole ∙ sym c.loop-b.block.ok.0)) ∙ c.pass_code.ensures.whole;
     }
 
 pub returns-in_err-check_fill-clause-fault : goal.returns-in_err-check_fill-clause-fault
