@@ -1,5 +1,5 @@
 -- The index of a stream, and why there is none.
-use Rattle.std.specs.Prelude.{ℕ, ◌≡◌, ◌<◌, ◌≤◌, ℤ, Bool, List, [], map, length, drop, Option, Some, None, Ok}
+use Rattle.std.specs.Prelude.{ℕ, ◌≡◌, ◌<◌, ◌≤◌, ◌^◌, ℤ, Bool, List, [], map, length, drop, Option, Some, None, Ok}
 use Rattle.zf_spec.specs.Grid.{upto, blocks, extent_of}
 use Rattle.zf_spec.specs.Stream.{to_bits}
 use Rattle.zf_base.specs.Widths.{width_of}
@@ -39,7 +39,7 @@ abbrev pub blocks_found : Header → Index → List Bool → List (List ℤ)
 blocks_found h i s = map (λ b. block_read (found h i s b)) (upto (length i.lens))
 
 -- an index of the codes of these bytes: the first code begins behind the header, and there is one for each block; what the bytes say are
--- the bits of the spans, as codes, and the blocks that are read there
+-- the bits of the spans, as codes, and the blocks that are read there. A word counts their bits
 pub record IsIndexOf (bytes : List ℕ) (h : Header) (i : Index) : Type 0 where
   pub start : i.start ≡ length (header_bits h)
   pub count : length i.lens ≡ blocks h.shape
@@ -47,6 +47,7 @@ pub record IsIndexOf (bytes : List ℕ) (h : Header) (i : Index) : Type 0 where
   pub lens : map length (codes_in i (to_bits bytes)) ≡ i.lens
   pub read : AreRead h i (to_bits bytes)
   pub within : place i (length i.lens) ≤ length (to_bits bytes)
+  pub small : length (to_bits bytes) < 2 ^ 64
 
 -- a fault of an index as one of a stream
 abbrev pub stream_fault : IndexFault → StreamFault

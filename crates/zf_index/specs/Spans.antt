@@ -41,5 +41,5 @@ pub record ArePlaces (step : ℕ) (i : Index) (places : List ℕ) : Type 0 where
 
 pub record IsKept (step : ℕ) (places lens : List ℕ) : Type 0 where
   pub some : 0 < step
-  pub places : ArePlaces step (index_of places lens) places
+  pub kept : ArePlaces step (index_of places lens) places
   pub within : place (index_of places lens) (length lens) < 2 ^ 64

@@ -30,8 +30,12 @@ pub(crate) fn code_lengths(
     ensures ok { IfOk result (λ lens. IsIndexOf file.now h.now (record { start = start; lens = lens.items })) }
     ensures fault { IfErr result (λ e. IsFault (parse file.now) (stream_fault e)) }
 {
+    // No memory has a file with more bits than a word counts.
+    let Some(bits) = (file.len() as u64).checked_mul(8) else {
+        return Err(IndexFault::Memory);
+    };
     let words = words_of_bytes(alloc, file)?;
-    let mut reader = BitReader::new(&words, 8 * file.len() as u64);
+    let mut reader = BitReader::new(&words, bits);
     reader.seek(start);
     match h.ty {
         Ty::I32 => walk::<i32>(alloc, h, &mut reader),
@@ -56,8 +60,12 @@ fn walk<T: Lane>(
         let Some(len) = pass_code(h, reader, &mut block) else {
             return Err(IndexFault::Truncated(b));
         };
-        lens.push(len)?;
+        let Ok(()) = lens.push(len) else {
+            return Err(IndexFault::Memory);
+        };
     }
+    // Known by this call: the place is not behind the end.
+    let _left = reader.left();
     check_fill(h, reader)?;
     Ok(lens)
 }
