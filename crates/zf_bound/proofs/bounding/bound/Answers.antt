@@ -1,0 +1,43 @@
+use Rattle.std.proofs.Common.{◌≡◌, sym, ap, subst, ◌∙◌, ℕ, ◌*◌, List, length, arith}
+use Rattle.std.specs.Prelude.{IsTrue, IfOk}
+use mir.Val.{bits}
+use Rattle.zf_spec.specs.Numbers.{word_bits}
+use Rattle.zf_spec.specs.Stream.{to_bits}
+use Rattle.zf_spec.proofs.WordBits.{length-word_bits}
+use Rattle.zf_base.specs.Widths.{width_of}
+use Rattle.zf_index.proofs.Read.{is_header}
+use Rattle.zf_index.specs.Spans.{codes_in}
+use Rattle.zf_bound.specs.Errors.{IsSmallEnough}
+use Rattle.zf_bound.specs.Bounds.{plane_of, error_of}
+use Rattle.zf_bound.proofs.Indexed.{are_inside, is_said, codes_in_words, bound_holds}
+use Rattle.zf_bound.proofs.bounding.bound.Goals as goal
+
+pub stream_plane-plane-requires-clause-inside : goal.stream_plane-plane-requires-clause-inside
+stream_plane-plane-requires-clause-inside g c =
+    let words = c.deref.result.now in
+    are_inside c.args.file.now c.args.h.now c.in_ok-index.index c.in_ok-index.ensures.ok c.requires.rate
+    (word_bits words) (ap word_bits c.deref.ensures.value ∙ c.in_ok-words.ensures.bits) (64 * length words) (length-word_bits words)
+
+pub returns-clause-plane : goal.returns-clause-plane
+returns-clause-plane g c =
+    let words = c.deref.result.now in
+    let plane : c.stream_plane-plane.result ≡ plane_of g.T.Lane.width (length c.args.h.now.shape) (codes_in c.in_ok-index.index (to_bits c.args.file.now)) =
+    c.stream_plane-plane.ensures.value
+    ∙ ap (plane_of g.T.Lane.width (length c.args.h.now.shape))
+    (codes_in_words c.args.file.now c.args.h.now c.in_ok-index.index c.in_ok-index.ensures.ok (word_bits words) (ap word_bits c.deref.ensures.value ∙ c.in_ok-words.ensures.bits)) in
+    is_said c.args.file.now c.args.h.now c.in_ok-index.index c.in_ok-index.ensures.ok
+    (λ said. c.stream_plane-plane.result ≡ plane_of g.T.Lane.width (length c.args.h.now.shape) said.codes) plane
+
+pub returns-clause-bound : goal.returns-clause-bound
+returns-clause-bound g c holds =
+    let words = c.deref.result.now in
+    let plane : c.stream_plane-plane.result ≡ plane_of (width_of c.args.h.now.ty) (length c.args.h.now.shape) (codes_in c.in_ok-index.index (to_bits c.args.file.now)) =
+    c.stream_plane-plane.ensures.value
+    ∙ ap (plane_of g.T.Lane.width (length c.args.h.now.shape))
+    (codes_in_words c.args.file.now c.args.h.now c.in_ok-index.index c.in_ok-index.ensures.ok (word_bits words) (ap word_bits c.deref.ensures.value ∙ c.in_ok-words.ensures.bits))
+    ∙ ap (λ w. plane_of w (length c.args.h.now.shape) (codes_in c.in_ok-index.index (to_bits c.args.file.now))) c.requires.same_type in
+    let error = c.error_from-error.ensures.value ∙ ap (λ d. error_of d c.stream_plane-plane.result) c.dims-2.ensures.value in
+    bound_holds c.args.file.now c.args.h.now c.in_ok-index.index c.in_ok-index.ensures.ok c.requires.rate
+    c.args.m c.stream_plane-plane.result c.error_from-error.result g.T.Lane.WIDTH (is_header c.args.file.now c.args.h.now c.requires.header).shape
+    plane error (g.met.T.Lane.bits_of_width ∙ ap bits c.requires.same_type)
+    (subst (λ n. IsSmallEnough n c.args.m c.error_from-error.result) c.WIDTH.ensures (c.is_small_enough.ensures.0 holds))
