@@ -73,10 +73,11 @@ module _ (bytes : List ℕ) (h : Header) (i : Index) (index : IsIndexOf bytes h 
   pub codes_in_words : (bits : List Bool) → bits ≡ with_fill (to_bits bytes) → codes_in i bits ≡ codes_in i (to_bits bytes)
   codes_in_words bits is = ap (codes_in i) is ∙ codes_in_more i (to_bits bytes) (fill (to_bits bytes)) index.within
 
-  module _ (rate : IsRate h.mode) where
-    budget : ℕ
-    budget = block_bits h.mode
+  -- the plane of the codes that stand in words is that of the codes that the file says
+  pub plane_in_words : (w : Width) (d k : ℕ) (bits : List Bool) → bits ≡ with_fill (to_bits bytes) → k ≡ plane_of w d (codes_in i bits) → k ≡ plane_of w d (codes_in i (to_bits bytes))
+  plane_in_words w d k bits is plane = plane ∙ ap (plane_of w d) (codes_in_words bits is)
 
+  module _ (rate : IsRate h.mode) where
     code_found : (b : ℕ) → b < length i.lens → (len_at i b ≡ block_bits h.mode) × (block_read (found h i (to_bits bytes) b) ≡ read_rate (width_of h.ty) (extent_of h.shape b) (code_in i (to_bits bytes) b))
     code_found b below =
         let mode = rate_is h.mode rate in

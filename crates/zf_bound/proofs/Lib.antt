@@ -9,6 +9,8 @@
 --     Streams      how far the values of a stream are from whatever contents have its codes
 --     Cuts         codes that are cut from bits, and the plane of the codes of an index
 --     Indexed      what is certified of a file whose codes an index has
+--     LineLaws     the two facts of a line, as the laws state them
+--     Certificates what is certified is there once its parts are
 --     Growth       how large the error is at most
 pub mod WholeLines
 pub mod NoWrap
@@ -21,3 +23,5 @@ pub mod Streams
 pub mod Cuts
 pub mod Indexed
 pub mod Growth
+pub mod LineLaws
+pub mod Certificates
