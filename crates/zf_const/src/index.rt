@@ -15,6 +15,7 @@ use zf_index::{Chunked, IndexFault, Span, Verbatim};
 const MOST_VERBATIM: u64 = 4096;
 
 /// The spans of an array's codes.
+#[derive(Drop)]
 pub(crate) enum Index {
     Verbatim(Verbatim),
     Chunked(Chunked),
