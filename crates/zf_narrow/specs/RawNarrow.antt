@@ -1,6 +1,6 @@
 -- The raw bytes of narrow values, and those of the int32 values that stand for them.
 use Rattle.std.specs.Prelude.{ℕ, ◌*◌, ◌/◌, ◌%◌, ℤ, pos, List, ◌++◌, map, length, replicate}
-use Rattle.std.specs.Int.{w8, w16, w32, cast_unsigned}
+use Rattle.std.specs.Int.{w8, w16, w32, cast_unsigned, cast_signed, from_le_bytes, to_le_bytes}
 use Rattle.zf_spec.specs.Stream.{raw, values_from}
 use Rattle.zf_narrow.specs.declared.narrow.Narrow.{Narrow}
 use Rattle.zf_narrow.specs.declared.narrow.Narrow.TheVariants.{I8, U8, I16, U16}
@@ -12,6 +12,14 @@ of_signed I8 v = v
 of_signed U8 v = pos (cast_unsigned w8 v)
 of_signed I16 v = v
 of_signed U16 v = pos (cast_unsigned w16 v)
+
+-- the value that has these bytes, the least significant first
+abbrev pub value_of : Narrow → List ℕ → ℤ
+value_of n bytes = of_signed n (cast_signed (width_of n) (from_le_bytes (width_of n) bytes))
+
+-- the raw bytes of a number of the type
+abbrev pub narrow_bytes : Narrow → ℤ → List ℕ
+narrow_bytes n v = to_le_bytes (width_of n) (cast_unsigned (width_of n) v)
 
 -- the first k values of raw bytes, each in 1 or 2 bytes, the least significant first
 abbrev pub values_in : Narrow → ℕ → List ℕ → List ℤ

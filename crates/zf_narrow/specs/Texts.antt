@@ -1,5 +1,5 @@
 -- What `compress_narrow` and `restore_narrow` answer and write for an input, and how they end.
-use Rattle.std.specs.Prelude.{ℕ, ◌≡◌, ◌≤◌, ◌+◌, ◌*◌, ◌⊎◌, List, length, take, Option, Some, None, Result, Ok, Err, IsErrAnd}
+use Rattle.std.specs.Prelude.{ℕ, ◌≡◌, ◌≤◌, ◌+◌, ◌-◌, ◌*◌, ◌/◌, ◌%◌, min, ◌⊎◌, List, length, take, Option, Some, None, Result, Ok, Err, IsErrAnd}
 use Rattle.zf_spec.specs.Grid.{product}
 use Rattle.zf_base.specs.declared.lane.Ty.{Ty}
 use Rattle.zf_base.specs.declared.lane.Ty.TheVariants.{I32, I64}
@@ -23,6 +23,10 @@ use Rattle.zf_narrow.specs.RawNarrow.{promoted_bytes, demoted_bytes}
 -- how many bytes the raw narrow values of an array have
 abbrev pub narrow_len : Narrow → Header → ℕ
 narrow_len n h = size_of n * product h.shape
+
+-- how many narrow bytes are told by so many int32 bytes, of which a last one alone stands for half a value
+abbrev pub narrow_count : Narrow → ℕ → ℕ
+narrow_count n bytes = bytes / 4 * size_of n + min (bytes % 4) (size_of n - 1)
 
 -- what `compress_narrow` answers for an input of these bytes
 abbrev pub compress_narrow_answer : Narrow → Header → List ℕ → Result (Unit {0}) StreamFault

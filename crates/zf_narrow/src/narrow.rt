@@ -1,7 +1,7 @@
 //! The narrow types, and the int32 values that stand for their numbers.
 
-ghost use Rattle.std.specs.Prelude.{◌≡◌, ◌≤◌, ◌<◌};
-ghost use Rattle.zf_narrow.specs.Values.{IsNarrow, promoted, demoted, size_of};
+ghost use Rattle.std.specs.Prelude.{◌≡◌, ◌+ℤ◌};
+ghost use Rattle.zf_narrow.specs.Values.{IsNarrow, promoted, demoted, nearest, floor_div, step_of, middle_of};
 
 /// A type of values with 8 or 16 bits, signed or not.
 #[derive(Clone, Copy, Debug, PartialEq, Eq)]
@@ -25,15 +25,35 @@ pub fn promote(n: Narrow, v: i32) -> i32
     }
 }
 
-/// The number of the type that an int32 value stands for: the step that it lies on or next above, or the last one where it lies beyond.
+/// The number of the type that an int32 value stands for: the one on whose step it lies, or next above, and the last one where it lies beyond.
 pub fn demote(n: Narrow, v: i32) -> i32
     ensures value { result ≡ demoted n v }
     ensures narrow { IsNarrow n result }
 {
+    nearest(n, on_step(n, v))
+}
+
+// The number of the step that a value lies on or next above, where the type had no end.
+fn on_step(n: Narrow, v: i32) -> i32
+    ensures { result ≡ floor_div v (step_of n) +ℤ middle_of n }
+{
     match n {
-        Narrow::I8 => (v >> 23).max(-128).min(127),
-        Narrow::U8 => ((v >> 23) + 128).max(0).min(255),
-        Narrow::I16 => (v >> 15).max(-32768).min(32767),
-        Narrow::U16 => ((v >> 15) + 32768).max(0).min(65535),
+        Narrow::I8 => v >> 23,
+        Narrow::U8 => (v >> 23) + 128,
+        Narrow::I16 => v >> 15,
+        Narrow::U16 => (v >> 15) + 32768,
+    }
+}
+
+// The number of the type that is nearest.
+fn nearest(n: Narrow, v: i32) -> i32
+    ensures value { result ≡ nearest n v }
+    ensures narrow { IsNarrow n result }
+{
+    match n {
+        Narrow::I8 => v.max(-128).min(127),
+        Narrow::U8 => v.max(0).min(255),
+        Narrow::I16 => v.max(-32768).min(32767),
+        Narrow::U16 => v.max(0).min(65535),
     }
 }

@@ -21,4 +21,4 @@ mod writing;
 pub use compressing::compress;
 pub use fault::StreamFault;
 pub use header::read_header;
-pub use restoring::restore;
+pub use restoring::{restore, restore_where};
