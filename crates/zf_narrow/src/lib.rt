@@ -18,3 +18,6 @@ pub use compressing::compress_narrow;
 pub use fault::NarrowFault;
 pub use narrow::{Narrow, demote, promote};
 pub use restoring::restore_narrow;
+
+#[cfg(test)]
+mod tests;
