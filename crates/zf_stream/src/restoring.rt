@@ -78,11 +78,11 @@ pub fn restore_where<S: Source, O: Sink>(
 {
     let mut front = [0; FRONT];
     let count = read_into(src, &mut front)?;
-    let (h, header_len) = header_at_front(&front[..count])?;
-    if h.ty != wanted {
+    let (header, len) = header_at_front(&front[..count])?;
+    if header.ty != wanted {
         return Ok(false);
     }
-    restore_behind(alloc, &h, header_len, &front[..count], src, out)?;
+    restore_behind(alloc, &header, len, &front[..count], src, out)?;
     Ok(true)
 }
 
