@@ -27,6 +27,7 @@
 --     RateStreams    what a stream of a fixed rate says: its codes are cut by places alone
 --     BlocksBack     the codes of blocks read back
 --     StreamsBack    what compress writes, restore reads
+--     TypedAnswers   what is answered where a stream is restored if its values are of one type
 pub mod LittleEndian
 pub mod RawValues
 pub mod WordBytes
@@ -55,3 +56,4 @@ pub mod ParseOfStream
 pub mod RateStreams
 pub mod BlocksBack
 pub mod StreamsBack
+mod TypedAnswers

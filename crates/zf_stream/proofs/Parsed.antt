@@ -52,7 +52,7 @@ begun_more front more h len begun =
     }
 
 -- the first bytes tell the fault of the header, where the longest header lies in them
-fault_first : (n : ℕ) (all : List ℕ) → 19 ≤ n → header_fault (take n all) ≡ header_fault all
+pub fault_first : (n : ℕ) (all : List ℕ) → 19 ≤ n → header_fault (take n all) ≡ header_fault all
 fault_first n all within = sym (header_fault-first (take n all)) ∙ ap header_fault (take-take 19 n all within) ∙ header_fault-first all
 
 -- the header of a told source is good where that of its first bytes is

@@ -22,4 +22,4 @@ pub use compressing::compress;
 pub use decoding::{check_fill, read_code};
 pub use fault::StreamFault;
 pub use header::read_header;
-pub use restoring::restore;
+pub use restoring::{restore, restore_where};

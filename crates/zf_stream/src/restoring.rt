@@ -1,6 +1,6 @@
 //! From a stream to raw values.
 
-ghost use Rattle.std.specs.Prelude.{◌≡◌, ◌≢◌, ◌≤◌, ◌<◌, ◌*◌, ◌+◌, ◌^◌, length, IfErr, OnOk, OnErr, Err};
+ghost use Rattle.std.specs.Prelude.{◌≡◌, ◌≢◌, ◌≤◌, ◌<◌, ◌*◌, ◌+◌, ◌^◌, length, IfOk, IfErr, OnOk, OnErr, Err};
 ghost use Rattle.zf_pad.specs.Slabs.{row_len, rows_of};
 ghost use Rattle.zf_base.specs.Widths.{width_of};
 ghost use Rattle.zf_header.specs.declared.header.HeaderFault.{HeaderFault};
@@ -8,6 +8,7 @@ ghost use Rattle.zf_dev.specs.Faults.{HasCause};
 ghost use Rattle.zf_dev.specs.Source.{IsAtEnd};
 ghost use Rattle.zf_stream.specs.Parsing.{restore_answer, restored_text, longest_code};
 ghost use Rattle.zf_stream.specs.Outcomes.{CanRefuse, Answers, Finishes, LeavesFront, IsBeforeWriting};
+ghost use Rattle.zf_stream.specs.Typed.{typed_answer, RestoresWhere};
 ghost use Rattle.zf_stream.specs.ReadStreams.{BeginsWithHeader, HasGoodHeader};
 ghost use Rattle.zf_stream.specs.Rows.{ArePieces};
 ghost use Rattle.zf_stream.specs.Windows.{KnowsEnd};
@@ -53,9 +54,64 @@ pub fn restore<S: Source, O: Sink>(
     let mut front = [0; FRONT];
     let count = read_into(src, &mut front)?;
     let (h, header_len) = header_at_front(&front[..count])?;
+    restore_behind(alloc, &h, header_len, &front[..count], src, out)
+}
+
+/// The same where the values are of this type, and says so; else nothing but the header is read, and nothing is written.
+pub fn restore_where<S: Source, O: Sink>(
+    alloc: Global,
+    wanted: Ty,
+    src: &mut S,
+    out: &mut O,
+) -> Result<bool, StreamFault>
+    ensures answer { Answers result (S.contents src.old) (typed_answer wanted) }
+    ensures possible { IfErr result (CanRefuse restore_answer) }
+    ensures ok { IfOk result (λ is. RestoresWhere wanted is
+        (S.contents src.old) (S.contents src.new) (O.contents out.old) (O.contents out.new)) }
+    ensures err { OnErr result (LeavesFront restored_text
+        (S.contents src.old) (S.contents src.new) (O.contents out.old) (O.contents out.new)) }
+    ensures unwritten { IfErr result (λ e. IsBeforeWriting e → O.contents out.new ≡ O.contents out.old) }
+    ensures memory { result ≡ Err Memory → HasGoodHeader (S.contents src.old) }
+    ensures read_cause { HasCause (result ≡ Err Read) (S.faults src.old) (S.faults src.new) }
+    ensures write_cause { HasCause (result ≡ Err Write) (O.faults out.old) (O.faults out.new) }
+    ensures sure { S.never_fails src.old → (result ≢ Err Read) × S.never_fails src.new }
+{
+    let mut front = [0; FRONT];
+    let count = read_into(src, &mut front)?;
+    let (header, len) = header_at_front(&front[..count])?;
+    if header.ty != wanted {
+        return Ok(false);
+    }
+    restore_behind(alloc, &header, len, &front[..count], src, out)?;
+    Ok(true)
+}
+
+/// Restores what stands behind a header, where these bytes were read, with the header.
+fn restore_behind<S: Source, O: Sink>(
+    alloc: Global,
+    h: &Header,
+    header_len: u32,
+    front: &[u8],
+    src: &mut S,
+    out: &mut O,
+) -> Result<(), StreamFault>
+    requires begun { BeginsWithHeader front.now h.now header_len }
+    requires few { length front.now ≤ 24 }
+    requires ended { length front.now < 24 → IsAtEnd (S.contents src.old) }
+    ensures answer { Answers result (behind front.now (S.contents src.old)) restore_answer }
+    ensures possible { IfErr result (CanRefuse restore_answer) }
+    ensures ok { OnOk result (Finishes restore_answer restored_text
+        (behind front.now (S.contents src.old)) (S.contents src.new) (O.contents out.old) (O.contents out.new)) }
+    ensures err { OnErr result (LeavesFront restored_text
+        (behind front.now (S.contents src.old)) (S.contents src.new) (O.contents out.old) (O.contents out.new)) }
+    ensures unwritten { IfErr result (λ e. IsBeforeWriting e → O.contents out.new ≡ O.contents out.old) }
+    ensures read_cause { HasCause (result ≡ Err Read) (S.faults src.old) (S.faults src.new) }
+    ensures write_cause { HasCause (result ≡ Err Write) (O.faults out.old) (O.faults out.new) }
+    ensures sure { S.never_fails src.old → (result ≢ Err Read) × S.never_fails src.new }
+{
     match h.ty {
-        Ty::I32 => restore_as::<i32, S, O>(alloc, &h, header_len, &front[..count], src, out),
-        Ty::I64 => restore_as::<i64, S, O>(alloc, &h, header_len, &front[..count], src, out),
+        Ty::I32 => restore_as::<i32, S, O>(alloc, h, header_len, front, src, out),
+        Ty::I64 => restore_as::<i64, S, O>(alloc, h, header_len, front, src, out),
     }
 }
 

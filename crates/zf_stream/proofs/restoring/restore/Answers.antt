@@ -20,8 +20,5 @@ returns-in_err-h-clause-possible g c =
     let p = err_from_is_err_and c.from_residual-in_err-h.result c.from_residual-in_err-h.ensures.1 in
     rw (p.1, p.2) (CanRefuse-header 24 _ e (omega arith) c.in_ok-count.ensures.first.within c.in_err-h.ensures.err)
 
-pub returns-in-I32-clause-memory : goal.returns-in-I32-clause-memory
-returns-in-I32-clause-memory g c = λ memory. good_of_front 24 (g.S.Source.contents c.args.src.now) _ (omega arith) c.in_ok-count.ensures.first.first c.in_ok-h.ensures.ok.good
-
-pub returns-in-I64-clause-memory : goal.returns-in-I64-clause-memory
-returns-in-I64-clause-memory g c = λ memory. good_of_front 24 (g.S.Source.contents c.args.src.now) _ (omega arith) c.in_ok-count.ensures.first.first c.in_ok-h.ensures.ok.good
+pub returns-clause-memory : goal.returns-clause-memory
+returns-clause-memory g c = λ memory. good_of_front 24 (g.S.Source.contents c.args.src.now) _ (omega arith) c.in_ok-count.ensures.first.first c.in_ok-h.ensures.ok.good

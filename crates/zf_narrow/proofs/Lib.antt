@@ -1,0 +1,11 @@
+-- Lemmas on narrow streams.
+--     OneMore    one value more, of bytes and as bytes
+--     Whole      the bytes of whole values, and what follows them
+--     Taken      what is read of a source, one piece behind another
+--     Stepping   one read of a source that promotes
+--     Reading    one read of a promotion, as the source sees it
+pub mod OneMore
+pub mod Taken
+pub mod Whole
+pub mod Stepping
+pub mod Reading

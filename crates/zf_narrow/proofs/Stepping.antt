@@ -1,0 +1,95 @@
+-- One read of a source that promotes: what is given is gone from what is to come.
+use Rattle.std.proofs.Common.{◌≡◌, refl, sym, ap, subst, ◌∙◌, ℕ, zero, suc, ◌+◌, ◌%◌, ◌≤◌, ◌<◌, Bool, true, false, IsTrue, List, [], ◌∷◌, ◌++◌, length, take, drop, replicate, Option, Some, None, Result, Ok, Err, append_assoc, append-nil, arith}
+use Rattle.std.specs.Prelude.{IfOk, ◌↔◌}
+use Rattle.std.proofs.lemmas.List.{length-take-le}
+use Rattle.zf_dev.specs.Source.{Takes, IsAtEnd, EndsAt}
+use Rattle.zf_narrow.specs.declared.narrow.Narrow.{Narrow}
+use Rattle.zf_narrow.specs.declared.narrow.Narrow.TheVariants.{I8, U8, I16, U16}
+use Rattle.zf_narrow.specs.Values.{size_of}
+use Rattle.zf_narrow.specs.RawNarrow.{promoted_bytes, promoted_all}
+use Rattle.zf_narrow.specs.Promoting.{listed, coming, told_by, TakesValues}
+use Rattle.zf_narrow.proofs.Whole.{promoted_all-append, promoted_all-few}
+
+some_size : (n : Narrow) → 0 < size_of n
+some_size I8 = omega arith
+some_size U8 = omega arith
+some_size I16 = omega arith
+some_size U16 = omega arith
+
+-- the bytes of whole values come before those of what is left
+pub values_then : (n : Narrow) (half half_now values bytes left rest : List ℕ) → left ≡ bytes ++ rest → half ++ bytes ≡ values ++ half_now → length values % size_of n ≡ 0
+    → promoted_all n (half ++ left) ≡ promoted_bytes n values ++ promoted_all n (half_now ++ rest)
+values_then n half half_now values bytes left rest taken parts whole =
+    ap (λ bs. promoted_all n (half ++ bs)) taken
+    ∙ ap (promoted_all n) (sym (append_assoc half bytes rest) ∙ ap (λ bs. bs ++ rest) parts ∙ append_assoc values half_now rest)
+    ∙ promoted_all-append n values (half_now ++ rest) whole
+
+-- whole values were read, of whose bytes the first were given and the rest are pending
+pub values_given : (n : Narrow) (before now : Option (List ℕ)) (half half_now values first pending : List ℕ) → TakesValues n before now half half_now values → promoted_bytes n values ≡ first ++ pending
+    → Takes (told_by n false [] half before) (told_by n false pending half_now now) first
+values_given n None now half half_now values first pending takes is = tt
+values_given n (Some left) None half half_now values first pending takes is = absurd takes.taken
+values_given n (Some left) (Some rest) half half_now values first pending takes is =
+    values_then n half half_now values takes.bytes left rest takes.taken takes.parts takes.whole
+    ∙ ap (λ bs. bs ++ promoted_all n (half_now ++ rest)) is ∙ append_assoc first pending (promoted_all n (half_now ++ rest))
+
+-- the first of the pending bytes were given
+pub pending_given : (n : Narrow) (spent : Bool) (known : Option (List ℕ)) (half pending first rest : List ℕ) → pending ≡ first ++ rest → Takes (told_by n spent pending half known) (told_by n spent rest half known) first
+pending_given n spent None half pending first rest is = tt
+pending_given n spent (Some left) half pending first rest is = ap (λ bs. bs ++ coming n spent half left) is ∙ append_assoc first rest (coming n spent half left)
+
+-- at the end of the source a zero byte is given for half a value
+pub half_given : (n : Narrow) (before now : Option (List ℕ)) (half half_now : List ℕ) (spent : Bool) → length half_now < size_of n → TakesValues n before now half half_now [] → IsAtEnd now → IsTrue spent ↔ (0 < length half_now)
+    → Takes (told_by n false [] half before) (told_by n spent [] half_now now) (replicate (length half_now) 0)
+half_given n None now half half_now spent few takes end is = tt
+half_given n (Some left) None half half_now spent few takes end is = absurd takes.taken
+half_given n (Some left) (Some rest) half half_now spent few takes end is =
+    values_then n half half_now [] takes.bytes left rest takes.taken takes.parts takes.whole
+    ∙ ap (λ bs. promoted_bytes n [] ++ promoted_all n (half_now ++ bs)) end
+    ∙ ap (λ bs. bs ++ promoted_all n (half_now ++ [])) (nothing n)
+    ∙ ap (promoted_all n) (append-nil half_now) ∙ promoted_all-few n half_now few ∙ by spent is
+  where
+    nothing : (n : Narrow) → promoted_bytes n [] ≡ []
+    nothing I8 = refl
+    nothing U8 = refl
+    nothing I16 = refl
+    nothing U16 = refl
+    none : (xs : List ℕ) → (0 < length xs → ⊥) → xs ≡ []
+    none [] h = refl
+    none (x ∷ xs) h = absurd (h (omega arith))
+    by : (spent : Bool) → IsTrue spent ↔ (0 < length half_now) → replicate {A = ℕ} (length half_now) 0 ≡ replicate (length half_now) 0 ++ ([] ++ coming n spent half_now rest)
+    by true is = sym (append-nil (replicate (length half_now) 0))
+    by false is =
+        let no_half : half_now ≡ [] = none half_now (λ some. false_is_not (is.1 some)) in
+        let nothing_comes : promoted_all n (half_now ++ rest) ≡ [] = ap (λ xs. promoted_all n (xs ++ rest)) no_half ∙ ap (promoted_all n) end ∙ promoted_all-few n [] (some_size n) in
+        sym (ap (λ bs. replicate (length half_now) 0 ++ bs) nothing_comes ∙ append-nil (replicate (length half_now) 0))
+      where
+        false_is_not : IsTrue false → ⊥
+        false_is_not h = cc
+
+-- nothing comes where nothing is left
+pub none_comes : (n : Narrow) (spent : Bool) (now : Option (List ℕ)) (half : List ℕ) → IsAtEnd now → length half ≡ 0 → IsAtEnd (told_by n spent [] half now)
+none_comes n spent None half end none = tt
+none_comes n true (Some left) half end none = refl
+none_comes n false (Some left) [] end none = ap (promoted_all n) end ∙ promoted_all-few n [] (some_size n)
+none_comes n false (Some left) (b ∷ half) end none = absurd (omega arith)
+
+pub spent_end : (n : Narrow) (spent : Bool) (known : Option (List ℕ)) (half : List ℕ) → IsTrue spent → IsAtEnd (told_by n spent [] half known)
+spent_end n spent None half is = tt
+spent_end n true (Some left) half is = refl
+spent_end n false (Some left) half is = absurd (false_is_not is)
+  where
+    false_is_not : IsTrue false → ⊥
+    false_is_not h = cc
+
+-- the end of a source that promotes is told by a read of nothing
+pub ends_at : {E : Type 0} (r : Result ℕ E) (old new : Option (List ℕ)) (buf : List ℕ) → IfOk r (λ k. Takes old new (take k buf)) → IfOk r (λ k. k ≤ length buf) → IfOk r (λ k. k ≡ 0 → IsAtEnd new) → IfOk r (λ k. EndsAt old new k)
+ends_at (Err e) old new buf takes bound end = tt
+ends_at (Ok k) None new buf takes bound end = end
+ends_at (Ok k) (Some left) None buf takes bound end = absurd takes
+ends_at (Ok zero) (Some left) (Some rest) buf takes bound end = (λ z. takes ∙ end refl, λ none. refl)
+ends_at (Ok (suc k)) (Some left) (Some rest) buf takes bound end = (λ z. absurd (omega arith), λ none. absurd (no_front (take (suc k) buf) (length-take-le (suc k) buf bound) (sym takes ∙ none)))
+  where
+    no_front : (front : List ℕ) → length front ≡ suc k → front ++ rest ≡ [] → ⊥
+    no_front [] long none = absurd (omega arith)
+    no_front (x ∷ xs) long none = absurd (omega (arith, ap (length {A = ℕ}) none))

@@ -1,0 +1,137 @@
+-- The bytes of whole values, and what follows them.
+use Rattle.std.proofs.Common.{◌≡◌, refl, sym, ap, subst, ◌∙◌, ℕ, zero, suc, ◌+◌, ◌*◌, ◌/◌, ◌%◌, ◌<◌, ℤ, List, [], ◌∷◌, ◌++◌, map, length, replicate, append_assoc, length-append, arith}
+use Rattle.std.proofs.lemmas.List.{map-append, length-map}
+use Rattle.std.specs.Int.{Width, w32, byte_len}
+use Rattle.zf_spec.specs.Stream.{raw, values_from}
+use Rattle.zf_spec.proofs.RawValues.{length-raw, length-values_from}
+use Rattle.zf_stream.proofs.RawValues.{raw-append}
+use Rattle.zf_stream.proofs.Rows.{values_from-append}
+use Rattle.zf_narrow.specs.declared.narrow.Narrow.{Narrow}
+use Rattle.zf_narrow.specs.declared.narrow.Narrow.TheVariants.{I8, U8, I16, U16}
+use Rattle.zf_narrow.specs.Values.{width_of, size_of, promoted, demoted}
+use Rattle.zf_narrow.specs.RawNarrow.{of_signed, values_in, promoted_bytes, promoted_all, raw_narrow, demoted_bytes}
+use Rattle.zf_narrow.proofs.OneMore.{size_is}
+
+-- ---- counts
+
+pub whole_count : (n : Narrow) (a : ℕ) → a % size_of n ≡ 0 → a ≡ a / size_of n * size_of n
+whole_count I8 a whole = omega arith
+whole_count U8 a whole = omega arith
+whole_count I16 a whole = omega arith
+whole_count U16 a whole = omega arith
+
+pub count-add : (n : Narrow) (a b : ℕ) → a % size_of n ≡ 0 → (a + b) / size_of n ≡ a / size_of n + b / size_of n
+count-add I8 a b whole = omega arith
+count-add U8 a b whole = omega arith
+count-add I16 a b whole = omega arith
+count-add U16 a b whole = omega arith
+
+pub rest-add : (n : Narrow) (a b : ℕ) → a % size_of n ≡ 0 → (a + b) % size_of n ≡ b % size_of n
+rest-add I8 a b whole = omega arith
+rest-add U8 a b whole = omega arith
+rest-add I16 a b whole = omega arith
+rest-add U16 a b whole = omega arith
+
+pub few_count : (n : Narrow) (a : ℕ) → a < size_of n → a / size_of n ≡ 0
+few_count I8 a few = omega arith
+few_count U8 a few = omega arith
+few_count I16 a few = omega arith
+few_count U16 a few = omega arith
+
+pub few_rest : (n : Narrow) (a : ℕ) → a < size_of n → a % size_of n ≡ a
+few_rest I8 a few = omega arith
+few_rest U8 a few = omega arith
+few_rest I16 a few = omega arith
+few_rest U16 a few = omega arith
+
+none_of_both : (n : Narrow) (a : ℕ) → a / size_of n ≡ 0 → a % size_of n ≡ 0 → a ≡ 0
+none_of_both I8 a none no_rest = omega arith
+none_of_both U8 a none no_rest = omega arith
+none_of_both I16 a none no_rest = omega arith
+none_of_both U16 a none no_rest = omega arith
+
+-- ---- narrow values as int32 bytes
+
+values_in-append : (n : Narrow) (a b : ℕ) (xs ys : List ℕ) → length xs ≡ a * size_of n → values_in n (a + b) (xs ++ ys) ≡ values_in n a xs ++ values_in n b ys
+values_in-append n a b xs ys long =
+    let w = width_of n in
+    ap (map (of_signed n)) (values_from-append w a b xs ys (long ∙ ap (λ k. a * k) (sym (size_is n))))
+    ∙ map-append (of_signed n) (values_from w a xs) (values_from w b ys)
+
+pub promoted_bytes-append : (n : Narrow) (xs ys : List ℕ) → length xs % size_of n ≡ 0 → promoted_bytes n (xs ++ ys) ≡ promoted_bytes n xs ++ promoted_bytes n ys
+promoted_bytes-append n xs ys whole =
+    let a = length xs / size_of n in
+    let b = length ys / size_of n in
+    let count : length (xs ++ ys) / size_of n ≡ a + b = ap (λ k. k / size_of n) (length-append xs ys) ∙ count-add n (length xs) (length ys) whole in
+    ap (λ k. raw w32 (map (promoted n) (values_in n k (xs ++ ys)))) count
+    ∙ ap (λ vs. raw w32 (map (promoted n) vs)) (values_in-append n a b xs ys (whole_count n (length xs) whole))
+    ∙ ap (raw w32) (map-append (promoted n) (values_in n a xs) (values_in n b ys))
+    ∙ raw-append w32 (map (promoted n) (values_in n a xs)) (map (promoted n) (values_in n b ys))
+
+pub promoted_all-append : (n : Narrow) (xs ys : List ℕ) → length xs % size_of n ≡ 0 → promoted_all n (xs ++ ys) ≡ promoted_bytes n xs ++ promoted_all n ys
+promoted_all-append n xs ys whole =
+    let left : length (xs ++ ys) % size_of n ≡ length ys % size_of n = ap (λ k. k % size_of n) (length-append xs ys) ∙ rest-add n (length xs) (length ys) whole in
+    ap (λ k. promoted_bytes n (xs ++ ys) ++ replicate k 0) left
+    ∙ ap (λ bs. bs ++ replicate (length ys % size_of n) 0) (promoted_bytes-append n xs ys whole)
+    ∙ append_assoc (promoted_bytes n xs) (promoted_bytes n ys) (replicate (length ys % size_of n) 0)
+
+pub length-promoted_bytes : (n : Narrow) (s : List ℕ) → length (promoted_bytes n s) ≡ length s / size_of n * 4
+length-promoted_bytes n s =
+    let k = length s / size_of n in
+    length-raw w32 (map (promoted n) (values_in n k s))
+    ∙ ap (λ m. m * 4) (length-map (values_in n k s) (promoted n) ∙ length-map (values_from (width_of n) k s) (of_signed n) ∙ length-values_from (width_of n) k s)
+
+-- less than a value
+pub promoted_bytes-few : (n : Narrow) (s : List ℕ) → length s < size_of n → promoted_bytes n s ≡ []
+promoted_bytes-few n s few = ap (λ k. raw w32 (map (promoted n) (values_in n k s))) (few_count n (length s) few)
+
+pub promoted_all-few : (n : Narrow) (s : List ℕ) → length s < size_of n → promoted_all n s ≡ replicate (length s) 0
+promoted_all-few n s few = ap (λ bs. bs ++ replicate (length s % size_of n) 0) (promoted_bytes-few n s few) ∙ ap (λ k. replicate k 0) (few_rest n (length s) few)
+
+length-zeros : (k : ℕ) → length (replicate {A = ℕ} k 0) ≡ k
+length-zeros zero = refl
+length-zeros (suc k) = ap suc (length-zeros k)
+
+pub length-promoted_all : (n : Narrow) (s : List ℕ) → length (promoted_all n s) ≡ length s / size_of n * 4 + length s % size_of n
+length-promoted_all n s =
+    length-append (promoted_bytes n s) (replicate (length s % size_of n) 0)
+    ∙ ap (λ k. k + length (replicate {A = ℕ} (length s % size_of n) 0)) (length-promoted_bytes n s)
+    ∙ ap (λ k. length s / size_of n * 4 + k) (length-zeros (length s % size_of n))
+
+empty : (s : List ℕ) → length s ≡ 0 → s ≡ []
+empty [] e = refl
+empty (x ∷ xs) e = absurd (omega arith)
+
+-- nothing comes of nothing alone
+pub promoted_all-none : (n : Narrow) (s : List ℕ) → promoted_all n s ≡ [] → s ≡ []
+promoted_all-none n s none =
+    let nothing : length s / size_of n * 4 + length s % size_of n ≡ 0 = sym (length-promoted_all n s) ∙ ap (λ (bs : List ℕ). length bs) none in
+    empty s (none_of_both n (length s) (omega arith) (omega arith))
+
+pub no_values : (n : Narrow) (values : List ℕ) → length values % size_of n ≡ 0 → length (promoted_bytes n values) ≡ 0 → values ≡ []
+no_values n values whole none = empty values (none_of_both n (length values) (omega (arith, length-promoted_bytes n values)) whole)
+
+-- ---- int32 values as narrow bytes
+
+raw_narrow-append : (n : Narrow) (xs ys : List ℤ) → raw_narrow n (xs ++ ys) ≡ raw_narrow n xs ++ raw_narrow n ys
+raw_narrow-append n xs ys = ap (raw (width_of n)) (map-append (demoted n) xs ys) ∙ raw-append (width_of n) (map (demoted n) xs) (map (demoted n) ys)
+
+pub demoted_bytes-append : (n : Narrow) (xs ys : List ℕ) → length xs % 4 ≡ 0 → demoted_bytes n (xs ++ ys) ≡ demoted_bytes n xs ++ demoted_bytes n ys
+demoted_bytes-append n xs ys whole =
+    let a = length xs / 4 in
+    let b = length ys / 4 in
+    let count : length (xs ++ ys) / 4 ≡ a + b = omega (arith, length-append xs ys) in
+    ap (λ k. raw_narrow n (values_from w32 k (xs ++ ys))) count
+    ∙ ap (raw_narrow n) (values_from-append w32 a b xs ys (omega arith))
+    ∙ raw_narrow-append n (values_from w32 a xs) (values_from w32 b ys)
+
+pub length-demoted_bytes : (n : Narrow) (s : List ℕ) → length (demoted_bytes n s) ≡ length s / 4 * size_of n
+length-demoted_bytes n s =
+    let vs = values_from w32 (length s / 4) s in
+    length-raw (width_of n) (map (demoted n) vs) ∙ ap (λ k. length (map (demoted n) vs) * k) (size_is n)
+    ∙ ap (λ m. m * size_of n) (length-map vs (demoted n) ∙ length-values_from w32 (length s / 4) s)
+
+pub demoted_bytes-few : (n : Narrow) (s : List ℕ) → length s < 4 → demoted_bytes n s ≡ []
+demoted_bytes-few n s few =
+    let none : length s / 4 ≡ 0 = omega arith in
+    ap (λ k. raw_narrow n (values_from w32 k s)) none

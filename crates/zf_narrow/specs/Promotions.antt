@@ -1,0 +1,27 @@
+-- How far values were promoted, before and after.
+use Rattle.std.specs.Prelude.{ℕ, ◌≡◌, List, ◌++◌, drop, Option}
+use Rattle.zf_dev.specs.Source.{Takes}
+use Rattle.zf_narrow.specs.declared.promotion.Promotion.{Promotion}
+use Rattle.zf_narrow.specs.Promoting.{listed, told_by, TakesValues}
+use Rattle.zf_narrow.specs.RawNarrow.{promoted_bytes}
+
+-- the int32 bytes still to come, where the source tells what is to come
+abbrev pub told : Promotion → Option (List ℕ) → Option (List ℕ)
+told p left = told_by p.narrow p.spent (drop p.at p.value) (listed p.half) left
+
+-- all narrow bytes that were read
+abbrev pub read_so_far : Promotion → List ℕ
+read_so_far p = p.taken.bytes ++ listed p.half
+
+-- some narrow bytes were read
+pub record Logs (old new : Promotion) (before now : Option (List ℕ)) : Type 0 where
+  pub bytes : List ℕ
+  pub taken : Takes before now bytes
+  pub logged : read_so_far old ++ bytes ≡ read_so_far new
+
+-- some whole values were read, and these are their int32 bytes
+pub record TakesRaw (old new : Promotion) (before now : Option (List ℕ)) (raw : List ℕ) : Type 0 where
+  pub values : List ℕ
+  pub taken : TakesValues old.narrow before now (listed old.half) (listed new.half) values
+  pub logged : new.taken.bytes ≡ old.taken.bytes ++ values
+  pub raw_is : raw ≡ promoted_bytes old.narrow values

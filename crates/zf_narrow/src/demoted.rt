@@ -1,0 +1,33 @@
+//! A sink of raw narrow values as a sink of raw int32 values, which stand for them.
+
+ghost use Rattle.std.specs.Prelude.{◌≡◌, [], Some};
+ghost use Rattle.zf_dev.specs.Sink.{Appends};
+ghost use Rattle.zf_narrow.specs.Demotions.{taken_so_far};
+ghost use Rattle.zf_narrow.specs.Facts.{Appends-prop};
+
+use crate::Narrow;
+use crate::begun::Begun;
+use crate::demotion::Demotion;
+use std::marker::PhantomData;
+use zf_dev::{Failed, Sink};
+
+/// Takes int32 bytes, and writes to `out` the narrow bytes that their whole values stand for.
+#[derive(Drop)]
+pub(crate) struct Demoted<'a, O: Sink, K: Begun> {
+    pub(crate) out: &'a mut O,
+    pub(crate) demotion: Demotion,
+    pub(crate) begun: PhantomData<K>,
+    ghost same_sink: { out.ghost_name ≡ K.name },
+    ghost same_type: { demotion.narrow ≡ K.narrow },
+    ghost written: { Appends K.start (O.contents out.now) demotion.given.bytes } by { Appends-prop K.start (O.contents out.now) demotion.given.bytes },
+}
+
+impl<'a, O: Sink, K: Begun> Sink for Demoted<'a, O, K> {
+    ghost contents = { λ d. Some (taken_so_far d.demotion) };
+
+    ghost faults = { λ d. O.faults d.out.now };
+
+    fn write(&mut self, bytes: &[u8]) -> Result<usize, Failed> {
+        self.demotion.write(&mut *self.out, bytes)
+    }
+}

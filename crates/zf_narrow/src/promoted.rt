@@ -1,0 +1,39 @@
+//! A source of raw narrow values as a source of raw int32 values: those that stand for them.
+
+ghost use Rattle.std.specs.Prelude.{◌≡◌, ◌<◌, ◌≤◌, [], length, take, drop, IsTrue, IsOk, IsErr, IfOk, OnOk, OnErr};
+ghost use Rattle.std.specs.Coded.{→_prop};
+ghost use Rattle.zf_dev.specs.Faults.{HasCause};
+ghost use Rattle.zf_dev.specs.Source.{Takes, IsAtEnd, EndsAt};
+ghost use Rattle.zf_narrow.specs.Promotions.{told, read_so_far};
+ghost use Rattle.zf_narrow.specs.Facts.{IsAtEnd-prop, Takes-prop};
+
+use crate::begun::Begun;
+use crate::promotion::Promotion;
+use std::marker::PhantomData;
+use zf_dev::{Failed, Source};
+
+/// Gives the int32 bytes of the values that stand for the whole narrow values of `src`, and a zero byte where half a value is left over at its end.
+///
+/// It reads no value before it gives the first byte of it.
+#[derive(Drop)]
+pub(crate) struct Promoted<'a, S: Source, K: Begun> {
+    pub(crate) src: &'a mut S,
+    pub(crate) promotion: Promotion,
+    pub(crate) begun: PhantomData<K>,
+    ghost same_source: { src.ghost_name ≡ K.name },
+    ghost same_type: { promotion.narrow ≡ K.narrow },
+    ghost at_end: { IsTrue promotion.spent → IsAtEnd (S.contents src.now) } by { →_prop (IsAtEnd-prop (S.contents src.now)) },
+    ghost read: { Takes K.start (S.contents src.now) (read_so_far promotion) } by { Takes-prop K.start (S.contents src.now) (read_so_far promotion) },
+}
+
+impl<'a, S: Source, K: Begun> Source for Promoted<'a, S, K> {
+    ghost contents = { λ p. told p.promotion (S.contents p.src.now) };
+
+    ghost faults = { λ p. S.faults p.src.now };
+
+    ghost never_fails = { λ p. S.never_fails p.src.now };
+
+    fn read(&mut self, buf: &mut [u8]) -> Result<usize, Failed> {
+        self.promotion.read(&mut *self.src, buf)
+    }
+}

@@ -1,0 +1,193 @@
+//! How far values were promoted: what is between a source of narrow bytes and its int32 bytes.
+
+ghost use Rattle.std.specs.Prelude.{◌≡◌, ◌+◌, ◌-◌, ◌%◌, ◌<◌, ◌≤◌, ◌++◌, ◌↔◌, [], length, take, drop, replicate, IsTrue, IsOk, IsErr, IfOk, OnOk, OnErr};
+ghost use Rattle.zf_dev.specs.Faults.{HasCause};
+ghost use Rattle.zf_dev.specs.Source.{Takes, IsAtEnd};
+ghost use Rattle.zf_narrow.specs.Values.{size_of};
+ghost use Rattle.zf_narrow.specs.Promoting.{listed};
+
+use crate::Narrow;
+use crate::log::Log;
+use crate::raw::{put_promoted, size};
+use crate::taking::take_values;
+use zf_dev::{Failed, Source};
+
+// The most narrow bytes that are read at a time.
+const PIECE: usize = 4096;
+
+/// What is kept of the narrow bytes that were read: less than a value of them, and less than a value of the int32 bytes.
+#[derive(Drop)]
+pub(crate) struct Promotion {
+    narrow: Narrow,
+    // The int32 bytes of a value, of which those from `at` on are still to be given.
+    value: [u8; 4],
+    at: usize,
+    // The first byte of a value of two.
+    half: Option<u8>,
+    // The source is at its end, and the zero byte for half a value was given.
+    spent: bool,
+    // The narrow bytes of whole values that were read.
+    taken: Log,
+    ghost some_given: { 1 ≤ at },
+    ghost within: { at ≤ 4 },
+    ghost all_given: { IsTrue spent → at ≡ 4 },
+    ghost few: { length (listed half) < size_of narrow },
+    ghost whole: { length taken.bytes % size_of narrow ≡ 0 },
+}
+
+impl Promotion {
+    ghost use Rattle.zf_narrow.specs.Promotions.{told, Logs, TakesRaw};
+
+    /// Nothing was read.
+    pub(crate) fn new(narrow: Narrow) -> Promotion
+        ensures narrow { result.narrow ≡ narrow }
+        ensures at { result.at ≡ 4 }
+        ensures half { listed result.half ≡ [] }
+        ensures spent { ¬ IsTrue result.spent }
+        ensures taken { result.taken.bytes ≡ [] }
+    {
+        Promotion {
+            narrow,
+            value: [0; 4],
+            at: 4,
+            half: None,
+            spent: false,
+            taken: Log::new(),
+        }
+    }
+
+    /// Reads some of the next int32 bytes into the front of `buf`, and says how many, as a source does.
+    pub(crate) fn read<S: Source>(&mut self, src: &mut S, buf: &mut [u8]) -> Result<usize, Failed>
+        requires room { 0 < length buf.old }
+        requires at_end { IsTrue self.old.spent → IsAtEnd (S.contents src.old) }
+        ensures same_type { self.new.narrow ≡ self.old.narrow }
+        ensures bound { IfOk result (λ k. k ≤ length buf.old) }
+        ensures given { IfOk result (λ k. Takes (told self.old (S.contents src.old)) (told self.new (S.contents src.new)) (take k buf.new)) }
+        ensures rest { IfOk result (λ k. drop k buf.new ≡ drop k buf.old) }
+        ensures end { IfOk result (λ k. k ≡ 0 → IsAtEnd (told self.new (S.contents src.new))) }
+        ensures ungiven { OnErr result (Takes (told self.old (S.contents src.old)) (told self.new (S.contents src.new)) []) }
+        ensures taken { Logs self.old self.new (S.contents src.old) (S.contents src.new) }
+        ensures at_end { IsTrue self.new.spent → IsAtEnd (S.contents src.new) }
+        ensures unchanged { OnOk result (S.faults src.new ≡ S.faults src.old) }
+        ensures cause { HasCause (IsErr result) (S.faults src.old) (S.faults src.new) }
+        ensures sure { S.never_fails src.old → IsOk result × S.never_fails src.new }
+    {
+        if self.at < 4 {
+            return Ok(give(&self.value, &mut self.at, buf));
+        }
+        if self.spent {
+            return Ok(0);
+        }
+        if buf.len() < 4 {
+            return self.read_one(src, buf);
+        }
+        let count = self.read_values(src, buf)?;
+        if count == 0 {
+            return Ok(self.give_half(buf));
+        }
+        Ok(count)
+    }
+
+    // Reads one value, and gives the first of its bytes.
+    fn read_one<S: Source>(&mut self, src: &mut S, buf: &mut [u8]) -> Result<usize, Failed>
+        requires room { 0 < length buf.old }
+        requires given { self.old.at ≡ 4 }
+        requires unspent { ¬ IsTrue self.old.spent }
+        ensures same_type { self.new.narrow ≡ self.old.narrow }
+        ensures bound { IfOk result (λ k. k ≤ length buf.old) }
+        ensures given { IfOk result (λ k. Takes (told self.old (S.contents src.old)) (told self.new (S.contents src.new)) (take k buf.new)) }
+        ensures rest { IfOk result (λ k. drop k buf.new ≡ drop k buf.old) }
+        ensures end { IfOk result (λ k. k ≡ 0 → IsAtEnd (told self.new (S.contents src.new))) }
+        ensures ungiven { OnErr result (Takes (told self.old (S.contents src.old)) (told self.new (S.contents src.new)) []) }
+        ensures taken { Logs self.old self.new (S.contents src.old) (S.contents src.new) }
+        ensures at_end { IsTrue self.new.spent → IsAtEnd (S.contents src.new) }
+        ensures unchanged { OnOk result (S.faults src.new ≡ S.faults src.old) }
+        ensures cause { HasCause (IsErr result) (S.faults src.old) (S.faults src.new) }
+        ensures sure { S.never_fails src.old → IsOk result × S.never_fails src.new }
+    {
+        let mut value = [0; 4];
+        let count = self.read_values(src, &mut value)?;
+        if count == 0 {
+            return Ok(self.give_half(buf));
+        }
+        let mut at = 0;
+        let given = give(&value, &mut at, buf);
+        self.value = value;
+        self.at = at;
+        Ok(given)
+    }
+
+    // Reads the int32 bytes of as many whole values as come at once, at least one, and says how many: none at the end.
+    fn read_values<S: Source>(&mut self, src: &mut S, buf: &mut [u8]) -> Result<usize, Failed>
+        requires room { 4 ≤ length buf.old }
+        requires given { self.old.at ≡ 4 }
+        requires unspent { ¬ IsTrue self.old.spent }
+        ensures same_type { self.new.narrow ≡ self.old.narrow }
+        ensures given { self.new.at ≡ 4 }
+        ensures kept { self.new.value ≡ self.old.value }
+        ensures unspent { ¬ IsTrue self.new.spent }
+        ensures bound { IfOk result (λ k. k ≤ length buf.old) }
+        ensures some { IfOk result (λ k. 0 < k → 4 ≤ k) }
+        ensures values { IfOk result (λ k. TakesRaw self.old self.new (S.contents src.old) (S.contents src.new) (take k buf.new)) }
+        ensures rest { IfOk result (λ k. drop k buf.new ≡ drop k buf.old) }
+        ensures end { IfOk result (λ k. k ≡ 0 → IsAtEnd (S.contents src.new)) }
+        ensures err { OnErr result (TakesRaw self.old self.new (S.contents src.old) (S.contents src.new) []) }
+        ensures unchanged { OnOk result (S.faults src.new ≡ S.faults src.old) }
+        ensures cause { HasCause (IsErr result) (S.faults src.old) (S.faults src.new) }
+        ensures sure { S.never_fails src.old → IsOk result × S.never_fails src.new }
+    {
+        let len = size(self.narrow);
+        let mut piece = [0; PIECE];
+        let room = (buf.len() / 4).min(PIECE / 2) * len;
+        let count = take_values(self.narrow, src, &mut self.half, &mut piece[..room])?;
+        if count == 0 {
+            return Ok(0);
+        }
+        let values = count / len;
+        put_promoted(self.narrow, values, &piece[..count], &mut buf[..values * 4]);
+        self.taken.push(&piece[..count]);
+        Ok(values * 4)
+    }
+
+    // Gives a zero byte where half a value is left over, and says how many bytes that are.
+    fn give_half(&mut self, buf: &mut [u8]) -> usize
+        requires room { 0 < length buf.old }
+        requires given { self.old.at ≡ 4 }
+        requires unspent { ¬ IsTrue self.old.spent }
+        ensures same_type { self.new.narrow ≡ self.old.narrow }
+        ensures given { self.new.at ≡ 4 }
+        ensures kept { self.new.value ≡ self.old.value }
+        ensures half { self.new.half ≡ self.old.half }
+        ensures taken { self.new.taken.bytes ≡ self.old.taken.bytes }
+        ensures value { take result buf.new ≡ replicate (length (listed self.old.half)) 0 }
+        ensures rest { drop result buf.new ≡ drop result buf.old }
+        ensures count { result ≡ length (listed self.old.half) }
+        ensures spent { IsTrue self.new.spent ↔ (0 < result) }
+    {
+        match self.half {
+            Some(_) => {
+                buf[0] = 0;
+                self.spent = true;
+                1
+            }
+            None => 0,
+        }
+    }
+}
+
+// Gives bytes of a value from `at` on, as many as there is room for, and says how many.
+fn give(value: &[u8; 4], at: &mut usize, buf: &mut [u8]) -> usize
+    requires left { at.old < 4 }
+    requires room { 0 < length buf.old }
+    ensures given { drop at.old value.now ≡ take result buf.new ++ drop at.new value.now }
+    ensures some { 0 < result }
+    ensures bound { result ≤ length buf.old }
+    ensures at { at.new ≡ at.old + result }
+    ensures within { at.new ≤ 4 }
+    ensures rest { drop result buf.new ≡ drop result buf.old }
+{
+    let count = (4 - *at).min(buf.len());
+    buf[..count].copy_from_slice(&value[*at..*at + count]);
+    *at += count;
+    count
+}

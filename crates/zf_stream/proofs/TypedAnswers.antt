@@ -1,0 +1,74 @@
+-- What is answered where a stream is restored if its values are of one type.
+use Rattle.std.proofs.Common.{◌≡◌, ◌≢◌, refl, sym, ap, subst, ◌∙◌, ℕ, ◌≤◌, ◌⊎◌, inl, inr, ⊎_elim, Bool, true, false, List, ◌++◌, Option, Some, None, Result, Ok, Err}
+use Rattle.std.specs.Prelude.{IsErrAnd}
+use Rattle.zf_base.specs.declared.lane.Ty.{Ty}
+use Rattle.zf_base.specs.declared.lane.Ty.TheVariants.{I32, I64}
+use Rattle.zf_header.specs.declared.header.Header.{Header}
+use Rattle.zf_header.specs.declared.header.HeaderFault.{HeaderFault}
+use Rattle.zf_header.specs.HeaderFaults.{header_fault}
+use Rattle.zf_dev.specs.Source.{Takes}
+use Rattle.zf_stream.specs.declared.fault.StreamFault.{StreamFault}
+use Rattle.zf_stream.specs.declared.fault.StreamFault.TheVariants as faults
+use Rattle.zf_stream.specs.Parsing.{header_of, header_or, restore_answer}
+use Rattle.zf_stream.specs.Outcomes.{Answers, IsFront, IsFromOutside}
+use Rattle.zf_stream.specs.ReadStreams.{BeginsWithHeader, IsFaultOf}
+use Rattle.zf_stream.specs.Restoring.{behind}
+use Rattle.zf_stream.specs.Typed.{with_true, answer_of_types, typed_answer}
+use Rattle.zf_stream.proofs.Parsed.{begun_more, fault_first}
+use Rattle.zf_stream.proofs.FromFront.{Answers-known}
+
+same_types : (wanted ty : Ty) (answer : Result (Unit {0}) StreamFault) → ty ≡ wanted → answer_of_types wanted ty answer ≡ with_true answer
+same_types I32 ty answer is = ap (λ t. answer_of_types I32 t answer) is
+same_types I64 ty answer is = ap (λ t. answer_of_types I64 t answer) is
+
+other_types : (wanted ty : Ty) (answer : Result (Unit {0}) StreamFault) → ty ≢ wanted → answer_of_types wanted ty answer ≡ Ok false
+other_types I32 I32 answer is_not = absurd (is_not refl)
+other_types I32 I64 answer is_not = refl
+other_types I64 I32 answer is_not = refl
+other_types I64 I64 answer is_not = absurd (is_not refl)
+
+-- the answer where the header is known
+typed_by : (wanted : Ty) (front more : List ℕ) (h : Header) (len : ℕ) → BeginsWithHeader front h len → typed_answer wanted (front ++ more) ≡ answer_of_types wanted h.ty (restore_answer (front ++ more))
+typed_by wanted front more h len begun =
+    let all = begun_more front more h len begun in
+    ap (λ f. header_or f (answer_of_types wanted (header_of (front ++ more)).ty (restore_answer (front ++ more)))) all.good
+    ∙ ap (λ (g : Header). answer_of_types wanted g.ty (restore_answer (front ++ more))) (sym all.header)
+
+-- a fault of the header
+pub typed_fault : (wanted : Ty) (n : ℕ) (known : Option (List ℕ)) (front : List ℕ) (e : StreamFault) (r : Result Bool StreamFault) → 19 ≤ n → IsFront n known front → IsFaultOf front e → r ≡ Err e → Answers r known (typed_answer wanted)
+typed_fault wanted n None front e r within is fault result = tt
+typed_fault wanted n (Some all) front (faults.Header f) r within is fault result =
+    let known : header_fault all ≡ Some f = sym (fault_first n all within) ∙ ap header_fault (sym is) ∙ fault in
+    inl (result ∙ sym (ap (λ o. header_or o (answer_of_types wanted (header_of all).ty (restore_answer all))) known))
+typed_fault wanted n (Some all) front (faults.RawShort m) r within is fault result = absurd fault
+typed_fault wanted n (Some all) front faults.RawLong r within is fault result = absurd fault
+typed_fault wanted n (Some all) front (faults.Truncated m) r within is fault result = absurd fault
+typed_fault wanted n (Some all) front faults.Pad r within is fault result = absurd fault
+typed_fault wanted n (Some all) front faults.Trailing r within is fault result = absurd fault
+typed_fault wanted n (Some all) front faults.Read r within is fault result = absurd fault
+typed_fault wanted n (Some all) front faults.Write r within is fault result = absurd fault
+typed_fault wanted n (Some all) front faults.Memory r within is fault result = absurd fault
+
+-- a good header of the other type
+pub typed_other : (wanted : Ty) (known src : Option (List ℕ)) (front : List ℕ) (h : Header) (len : ℕ) → Takes known src front → BeginsWithHeader front h len → h.ty ≢ wanted → Answers (Ok false) known (typed_answer wanted)
+typed_other wanted None src front h len taken begun other = tt
+typed_other wanted (Some all) None front h len taken begun other = absurd taken
+typed_other wanted (Some all) (Some rest) front h len taken begun other =
+    inl (sym (ap (typed_answer wanted) taken ∙ typed_by wanted front rest h len begun ∙ other_types wanted h.ty (restore_answer (front ++ rest)) other))
+
+-- one of the wanted type
+pub typed_same : (wanted : Ty) (known src : Option (List ℕ)) (front : List ℕ) (h : Header) (len : ℕ) (r : Result (Unit {0}) StreamFault) → Takes known src front → BeginsWithHeader front h len → h.ty ≡ wanted
+    → Answers r (behind front src) restore_answer → Answers (with_true r) known (typed_answer wanted)
+typed_same wanted known src front h len r taken begun same answers = by known src taken (Answers-known r known src front restore_answer taken answers)
+  where
+    outside : (r : Result (Unit {0}) StreamFault) → IsErrAnd r IsFromOutside → IsErrAnd (with_true r) IsFromOutside
+    outside (Ok done) is = absurd is
+    outside (Err e) is = is
+    by : (known src : Option (List ℕ)) → Takes known src front → Answers r known restore_answer → Answers (with_true r) known (typed_answer wanted)
+    by None src taken answers = tt
+    by (Some all) None taken answers = absurd taken
+    by (Some all) (Some rest) taken answers =
+        let is : typed_answer wanted all ≡ with_true (restore_answer all) =
+        ap (typed_answer wanted) taken ∙ typed_by wanted front rest h len begun ∙ same_types wanted h.ty (restore_answer (front ++ rest)) same
+        ∙ ap (λ bs. with_true (restore_answer bs)) (sym taken) in
+        ⊎_elim (λ answer. inl (ap with_true answer ∙ sym is)) (λ out. inr (outside r out)) answers

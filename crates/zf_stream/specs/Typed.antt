@@ -1,0 +1,39 @@
+-- A stream that is restored where its values are of one type.
+use Rattle.std.specs.Prelude.{ℕ, ◌≡◌, ◌≢◌, Bool, true, false, List, Option, Some, None, Result, Ok, Err}
+use Rattle.zf_base.specs.declared.lane.Ty.{Ty}
+use Rattle.zf_base.specs.declared.lane.Ty.TheVariants.{I32, I64}
+use Rattle.zf_header.specs.declared.header.HeaderFault.{HeaderFault}
+use Rattle.zf_header.specs.HeaderFaults.{header_fault}
+use Rattle.zf_dev.specs.Source.{Takes}
+use Rattle.zf_stream.specs.declared.fault.StreamFault.{StreamFault}
+use Rattle.zf_stream.specs.Parsing.{header_of, header_or, restore_answer, restored_text}
+use Rattle.zf_stream.specs.Outcomes.{Finishes}
+
+-- a good stream is of the wanted type
+abbrev pub with_true : Result (Unit {0}) StreamFault → Result Bool StreamFault
+with_true (Ok done) = Ok true
+with_true (Err e) = Err e
+
+-- the answer where the wanted type is the one of the stream, and where it is the other
+abbrev pub answer_of_types : Ty → Ty → Result (Unit {0}) StreamFault → Result Bool StreamFault
+answer_of_types I32 I32 answer = with_true answer
+answer_of_types I64 I64 answer = with_true answer
+answer_of_types I32 I64 answer = Ok false
+answer_of_types I64 I32 answer = Ok false
+
+-- what `restore_where` answers for an input of these bytes: a fault of the header comes first, then the type
+abbrev pub typed_answer : Ty → List ℕ → Result Bool StreamFault
+typed_answer wanted bytes = header_or (header_fault bytes) (answer_of_types wanted (header_of bytes).ty (restore_answer bytes))
+
+-- some bytes were read that begin with a good header of another type, and nothing was written
+pub record HasOtherType (wanted : Ty) (src_before src_now out_before out_now : Option (List ℕ)) : Type 0 where
+  pub bytes : List ℕ
+  pub taken : Takes src_before src_now bytes
+  pub good : header_fault bytes ≡ None
+  pub other : (header_of bytes).ty ≢ wanted
+  pub unwritten : out_now ≡ out_before
+
+-- the stream is of the wanted type and was restored, or of the other
+abbrev pub RestoresWhere : Ty → Bool → Option (List ℕ) → Option (List ℕ) → Option (List ℕ) → Option (List ℕ) → Type 0
+RestoresWhere wanted true src_before src_now out_before out_now = Finishes restore_answer restored_text src_before src_now out_before out_now
+RestoresWhere wanted false src_before src_now out_before out_now = HasOtherType wanted src_before src_now out_before out_now
