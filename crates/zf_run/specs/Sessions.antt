@@ -3,12 +3,21 @@ use Rattle.std.specs.Prelude.{ℕ, ◌≡◌, Bool, List, length}
 use Rattle.std.specs.Int.{Width}
 use Rattle.zf_spec.specs.Grid.{IsShape}
 use Rattle.zf_base.specs.Widths.{width_of}
+use Rattle.zf_base.specs.declared.lane.Ty.{Ty}
+use Rattle.zf_header.specs.declared.header.Mode.{Mode}
 use Rattle.zf_header.specs.HeaderBits.{block_bits}
+use Rattle.zf_cached.specs.State.{State}
 use Rattle.zf_cached.specs.Windows.{Window, whole}
 use Rattle.zf_cached.specs.Steps.{Setting, Session}
 use Rattle.zf_cached.specs.Replies.{Reply}
 use Rattle.zf_cached.specs.Runs.{array_setting, run}
 use Rattle.zf_array.specs.Standing.{Held, shape, state}
+
+-- an array with these sizes and this state, seen through a window
+abbrev pub session : {Code : Type 0} → List ℕ → State Code → Window → Session Code
+session ns s window = record { shape = ns; state = s; window = window }
+
+-- ---- an array that is read and written
 
 -- what a script doesn't change about an array: the type of its values and the bits of a block
 abbrev pub setting_of : Width → Held → Setting (List Bool)
@@ -16,7 +25,11 @@ setting_of w a = array_setting w (block_bits a.header.mode)
 
 -- what it does change
 abbrev pub session_of : Held → Window → Session (List Bool)
-session_of a window = record { shape = shape a; state = state a; window = window }
+session_of a window = session (shape a) (state a) window
+
+-- the type of its values and its mode
+abbrev pub kind : Held → Ty × Mode
+kind a = (a.header.ty, a.header.mode)
 
 -- what it begins with
 abbrev pub start_of : Held → Session (List Bool)

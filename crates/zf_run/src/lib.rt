@@ -1,6 +1,7 @@
 //! Scripts on arrays: each line is a step of an array and a window, and its reply is written as it comes.
 #![tactic(auto)]
 
+mod arrays;
 mod blocks;
 mod changes;
 mod commands;

@@ -2,6 +2,7 @@
 
 ghost use Rattle.std.specs.Prelude.{◌≡◌, ◌≢◌, IfOk, OnErr, OnOk, IsErr};
 ghost use Rattle.zf_dev.specs.Faults.{HasCause};
+ghost use Rattle.zf_run.specs.Sessions.{session};
 ghost use Rattle.zf_run.specs.Steps.{HasWindow};
 ghost use Rattle.zf_run.specs.Ends.{Runs, AllRun, HasStopped};
 
@@ -47,12 +48,12 @@ fn run_lines<A: Target, O: Sink>(
     script: &[u8],
     out: &mut O,
 ) -> Result<u64, Failed>
-    requires { HasWindow (A.session a.old window.old) }
-    ensures ok { IfOk result (AllRun (A.setting (A.kept a.old)) script.now (A.session a.old window.old)
-        (A.session a.new window.new) (O.contents out.old) (O.contents out.new)) }
-    ensures err { OnErr result (HasStopped (A.setting (A.kept a.old)) script.now (A.session a.old window.old)
-        (A.session a.new window.new) (O.contents out.old) (O.contents out.new)) }
-    ensures window { HasWindow (A.session a.new window.new) }
+    requires { HasWindow (session (A.shape a.old) (A.state a.old) window.old) }
+    ensures ok { IfOk result (AllRun (A.setting (A.kept a.old)) script.now (session (A.shape a.old) (A.state a.old) window.old)
+        (session (A.shape a.new) (A.state a.new) window.new) (O.contents out.old) (O.contents out.new)) }
+    ensures err { OnErr result (HasStopped (A.setting (A.kept a.old)) script.now (session (A.shape a.old) (A.state a.old) window.old)
+        (session (A.shape a.new) (A.state a.new) window.new) (O.contents out.old) (O.contents out.new)) }
+    ensures window { HasWindow (session (A.shape a.new) (A.state a.new) window.new) }
     ensures kept { A.kept a.new ≡ A.kept a.old }
     ensures unchanged { OnOk result (O.faults out.new ≡ O.faults out.old) }
     ensures cause { HasCause (IsErr result) (O.faults out.old) (O.faults out.new) }
