@@ -100,8 +100,8 @@ pub(crate) fn sum_block<T: Lane, const D: usize>(a: &mut Array<T, D>, b: u64) ->
     sum_within(a.block(b), &size)
 }
 
-// The sum of the values of a block at the places that lie within these sizes.
-fn sum_within<T: Lane>(block: &[T], size: &Pos) -> i128
+/// The sum of the values of a block at the places that lie within these sizes.
+pub(crate) fn sum_within<T: Lane>(block: &[T], size: &Pos) -> i128
     requires { length block.now ≤ 256 }
     ensures sum { result ≡ total (within size.now (map T.value block.now)) }
     ensures bound { IsUpTo (2 ^ 71) result }

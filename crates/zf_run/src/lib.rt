@@ -5,14 +5,17 @@ mod arrays;
 mod blocks;
 mod changes;
 mod commands;
+mod const_arrays;
 mod end;
 mod lines;
+mod looks;
 mod runs;
 mod target;
 mod values;
 mod windows;
 
 pub use end::RunEnd;
+pub use looks::look;
 pub use runs::run;
 
 #[cfg(test)]

@@ -6,7 +6,7 @@ ghost use Rattle.zf_run.specs.Sessions.{session};
 ghost use Rattle.zf_run.specs.Steps.{HasWindow};
 ghost use Rattle.zf_run.specs.Ends.{Runs, AllRun, HasStopped};
 
-use crate::end::RunEnd;
+use crate::end::{RunEnd, end_of};
 use crate::lines::{cut_line, run_line};
 use crate::target::Target;
 use zf_array::Array;
@@ -31,18 +31,14 @@ pub fn run<T: Lane, const D: usize, O: Sink>(
     match run_lines(a, &mut window, script, out) {
         Ok(refused) => {
             a.flush();
-            if refused == 0 {
-                RunEnd::Done
-            } else {
-                RunEnd::Lines(refused)
-            }
+            end_of(refused)
         }
         Err(_) => RunEnd::Write,
     }
 }
 
-// Runs all lines, each on what those before left, and counts those that are refused.
-fn run_lines<A: Target, O: Sink>(
+/// Runs all lines, each on what those before left, and counts those that are refused.
+pub(crate) fn run_lines<A: Target, O: Sink>(
     a: &mut A,
     window: &mut Window,
     script: &[u8],
