@@ -82,4 +82,6 @@ read_prec-front w p es s block k e =
     let t = take k s in
     let long : length t ≡ k = length-take-le k s (omega (arith, enough, is.count)) in
     let same : planes_in q size t ≡ ps = ap (λ m. planes_in q size (take m s)) (sym is.count) ∙ planes_front q size s enough in
-    found_again of 0 s t ps (planes_in q size t) block k long same is.count is.same
+    let none : (n : ℕ) → 0 + n ≡ n = λ n. omega arith in
+    let Answer : ℕ → Option (List ℤ × ℕ) = λ n. cond {A = Option (List ℤ × ℕ)} (ltb (length t) n) None (Some (of (planes_in q size t), n)) in
+    ap Answer (sym (none (length (code (planes_in q size t))))) ∙ found_again of 0 s t ps (planes_in q size t) block k long same (none (length (code ps)) ∙ is.count) is.same

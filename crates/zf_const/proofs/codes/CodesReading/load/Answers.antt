@@ -1,4 +1,4 @@
-use Rattle.std.proofs.Common.{◌≡◌, refl, sym, ap, subst, ◌∙◌, ℕ, ◌-◌, ◌^◌, ◌<◌, ◌≤◌, ℤ, Bool, List, Some, None, map, length, take, drop, arith}
+use Rattle.std.proofs.Common.{◌≡◌, refl, sym, ap, subst, ◌∙◌, ℕ, ◌-◌, ◌^◌, ◌<◌, ◌≤◌, ℤ, Bool, List, Option, Some, None, map, length, take, drop, arith}
 use Rattle.std.specs.Int.{Width}
 use Rattle.std.proofs.lemmas.List.{length-take-le}
 use Rattle.zf_spec.specs.Grid.{blocks, extent_of}
@@ -26,6 +26,12 @@ use Rattle.zf_const.specs.Parts.{Coded, seen, format_of, code_at, file_bits, cod
 use Rattle.zf_const.proofs.Meaning.{found_meant}
 use Rattle.zf_const.proofs.codes.CodesReading.load.Goals as goal
 
+nothing : {A : Type 0} {a : A} → None ≡ Some a → ⊥
+nothing e = absurd cc
+
+same_block : {a c : List ℤ} {m n : ℕ} → ◌≡◌ {A = Option (List ℤ × ℕ)} (Some (a, m)) (Some (c, n)) → a ≡ c
+same_block {a} {c} {m} {n} e = let pairs : ◌≡◌ {A = List ℤ × ℕ} (a, m) (c, n) = cc in ap (λ (p : List ℤ × ℕ). p.0) pairs
+
 module _ (w : Width) (d : ℕ) (h : Header) (words : List ℕ) (bits : ℕ) (index : Index) (coded : IsCoded w d h words bits (seen index)) (now : Coded) (is : coded_by h words bits index ≡ now) (b : ℕ) where
   below : b < (format_of now).blocks → b < length (seen index).lens
   unfolding array_format
@@ -50,24 +56,19 @@ module _ (w : Width) (d : ℕ) (h : Header) (words : List ℕ) (bits : ℕ) (ind
       rest_is : rest r ≡ drop (place (seen index) b) (file_bits words bits)
       rest_is = ap rest sought ∙ ap (drop span.at) all_is ∙ ap (λ (x : Span). drop x.at (file_bits words bits)) is_span
 
-      es : List ℕ
-      es = extent_of h.shape b
-
-      there : read_code w h.mode es (rest r) ≡ Some (block_read (found h (seen index) (file_bits words bits) b), len_at (seen index) b)
+      there : read_code w h.mode (extent_of h.shape b) (rest r) ≡ Some (block_read (found h (seen index) (file_bits words bits) b), len_at (seen index) b)
       there =
-          ap (λ v. read_code v h.mode es (rest r)) coded.same_type ∙ ap (read_code (width_of h.ty) h.mode es) rest_is
+          ap (λ v. read_code v h.mode (extent_of h.shape b) (rest r)) coded.same_type ∙ ap (read_code (width_of h.ty) h.mode (extent_of h.shape b)) rest_is
           ∙ read_parts (found h (seen index) (file_bits words bits) b) (len_at (seen index) b) (coded.read b lt)
 
       not_none : LacksCode w h.mode (length h.shape) r → ⊥
-      not_none lacks = let both : None ≡ Some (block_read (found h (seen index) (file_bits words bits) b), len_at (seen index) b) = sym (lacks.code es (length-extent_of h.shape b)) ∙ there in absurd cc
+      not_none lacks = nothing (sym (lacks.code (extent_of h.shape b) (length-extent_of h.shape b)) ∙ there)
 
       value_is : (new : Reader) (block : List ℤ) → ReadsCode w h.mode (length h.shape) r new block → existing_of (format_of now) b block ≡ meant (format_of now) b (code_at now b)
       value_is new block reads =
           let s : Coded = coded_by h words bits index in
           let P : Coded → Type 0 = λ t. existing_of (format_of t) b block ≡ meant (format_of t) b (code_at t b) in
-          let both : Some (existing_values es block, new.at - r.at) ≡ Some (block_read (found h (seen index) (file_bits words bits) b), len_at (seen index) b) =
-          sym (reads.code es (length-extent_of h.shape b)) ∙ there in
-          let same : existing_values es block ≡ block_read (found h (seen index) (file_bits words bits) b) = cc in
+          let same = same_block (sym (reads.code (extent_of h.shape b) (length-extent_of h.shape b)) ∙ there) in
           subst P is (existing_of-array (coding_of h) h.shape b block ∙ same ∙ sym (found_meant h (seen index) (file_bits words bits) b lt coded.read))
 
 pub span-requires : goal.span-requires
