@@ -43,9 +43,10 @@ impl<T: Lane, const D: usize> Target for ConstArray<T, D> {
     }
 
     fn sum_of_block(&mut self, b: u64) -> i128 {
+        let shape = self.shape();
         // Known by this call: the sizes are those of a shape.
-        let _dims = self.shape().dims();
-        let size = self.shape().extent(b).size;
+        let _dims = shape.dims();
+        let size = shape.extent(b).size;
         sum_within(self.block(b), &size)
     }
 
