@@ -1,0 +1,8 @@
+//! A write-back cache of blocks over any backing, in which each block has two lines: its number modulo the number of lines, and a skewed one.
+#![tactic(auto)]
+
+mod skewed;
+mod twoway;
+
+pub use skewed::Skewed;
+pub use twoway::TwoWay;
