@@ -30,7 +30,7 @@ module _ (place : ℕ → List ℕ → ℕ → ℕ) (may_hold : ℕ → ℕ → 
   lt : l < length t.tags.items
   lt = (line_below place may_hold rule value t h j sound c b l at others).0
 
-  whole : length (line_at t.lines l) ≡ h.block_len
+  pub whole : length (line_at t.lines l) ≡ h.block_len
   whole = sound.whole.size.1 l lt
 
   module _ (half : tag_at t.tags.items l / 2 ≡ b + 1) where

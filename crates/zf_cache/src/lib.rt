@@ -3,6 +3,7 @@
 
 mod body;
 mod cache;
+mod counted;
 mod counts;
 pub mod laws;
 mod rule;
@@ -11,5 +12,6 @@ mod tests;
 
 pub use body::Body;
 pub use cache::Cache;
+pub use counted::Counted;
 pub use counts::{default_lines, raised};
 pub use rule::{OneLine, Rule};

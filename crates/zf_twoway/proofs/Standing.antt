@@ -1,21 +1,22 @@
 -- Two-way caches that fit, and a touch of them, in the words of their contracts.
 use Rattle.std.proofs.Common.{◌≡◌, ◌⊎◌, inl, inr, refl, sym, ap, subst, ◌∙◌, ℕ, zero, suc, ◌+◌, ◌*◌, ◌/◌, ◌%◌, ◌<◌, ◌==◌, Bool, true, false, not, ◌||◌, ℤ, Option, Some, None, List, map, length, is_none, eq-eqb, arith}
 use Rattle.std.proofs.lemmas.Bool.{ne_eqb}
-use Rattle.zf_base.specs.Formats.{Format, existing_of}
+use Rattle.zf_base.specs.Formats.{Format, existing_of, meant}
 use Rattle.zf_cached.specs.State.{State, is_block}
 use Rattle.zf_cached.specs.Touch.{hit, miss, soiled, with_values}
 use Rattle.zf_cached.specs.Changes.{flush, relined}
 use Rattle.zf_lines.specs.Rows.{line_at, over}
 use Rattle.zf_cache.specs.declared.body.Body.{Body}
-use Rattle.zf_cache.specs.Kept.{Kept, OnlyLine, IsIn, tag_at, block_in, dirty_of, dirty_tag, line_by, written_in}
+use Rattle.zf_cache.specs.Kept.{Kept, OnlyLine, IsIn, IsAway, tag_at, block_in, dirty_of, dirty_tag, line_by, written_in}
 use Rattle.zf_cache.specs.Bodies.{IsWhole, IsSound, kept_of}
-use Rattle.zf_cache.specs.Standing.{state_at, values_by, FitsAt}
+use Rattle.zf_cache.specs.Standing.{line_values, state_at, FitsAt}
 use Rattle.zf_cache.specs.Steps.{touch_in, with_value}
-use Rattle.zf_cache.proofs.Tags.{is_or_not, is_block-same, is_block-other, named}
+use Rattle.zf_cache.proofs.Tags.{names-dirty, is_or_not, is_block-same, is_block-other, named}
+use Rattle.zf_cache.proofs.Stands.{vals-in, vals-out, dirty-in, dirty-out}
 use Rattle.zf_cache.proofs.Lent.{state_now, fits_now, row_held, lent_state, lent_fits}
 use Rattle.zf_twoway.specs.Touch.{first_line, second_line, choice, is_clean_line, is_here, goes_to, touch, touch_for_writing, put}
-use Rattle.zf_twoway.specs.Placing.{place_by, taking_line, skewed, skewed-first, skewed-second, IsOneOfTwo, skewed_rule}
-use Rattle.zf_twoway.specs.Standing.{line_of, state_of, values_of, Fits}
+use Rattle.zf_twoway.specs.Placing.{place_by, taking_line, skewed, either, skewed-first, skewed-second, IsOneOfTwo, skewed_rule}
+use Rattle.zf_twoway.specs.Standing.{line_of, is_dirty, state_of, values_of, Fits}
 use Rattle.zf_twoway.specs.Loans.{StandsFor, LendsBlock, lent_block}
 
 -- ---- the three facts, and where blocks are looked for
@@ -131,6 +132,46 @@ module _ {X Code : Type 0} (value : X → ℤ) (c : Kept X) (f : Format Code) (k
           | inr e ↦ none (ap (λ j. block_in (tag_at c.tags j)) e ∙ is)
         ]
 
+-- ---- what the lines tell of a block
+
+module _ {X Code : Type 0} (value : X → ℤ) (c : Kept X) (f : Format Code) (k : ℕ → Code) where
+  pub told_in : (l b : ℕ) → Fits value c f k → IsIn c.tags l b
+      → ((state_of value c f k).values b ≡ line_values value c f l b) × ((state_of value c f k).dirty b ≡ (tag_at c.tags l == dirty_tag b))
+  unfolding state_at
+  told_in l b fits is =
+      let at = ((fits_at value c f k fits).own l b is).0 in
+      (vals-in skewed value f (length c.tags) c.lines c.tags k b l at is, dirty-in skewed value f (length c.tags) c.tags b l at)
+
+  pub told_away : (b : ℕ) → IsAway c.tags b → ((state_of value c f k).values b ≡ meant f b (k b)) × ((state_of value c f k).dirty b ≡ false)
+  unfolding state_at
+  told_away b out =
+      let none = out (line_by skewed c b) in
+      (vals-out skewed value f (length c.tags) c.lines c.tags k b none, dirty-out skewed value f (length c.tags) c.tags b none)
+
+  not_dirty : (l b : ℕ) → (IsIn c.tags l b → ⊥) → (tag_at c.tags l == dirty_tag b) ≡ false
+  not_dirty l b out = ne_eqb (tag_at c.tags l) (dirty_tag b) (λ e. out (ap block_in e ∙ names-dirty b))
+
+  or_false : (x : Bool) → x ≡ (x || false)
+  or_false true = refl
+  or_false false = refl
+
+  or_same : (x : Bool) → x ≡ (x || x)
+  or_same true = refl
+  or_same false = refl
+
+  pub told_dirty : (b : ℕ) → Fits value c f k
+      → is_dirty c b ≡ ((tag_at c.tags (first_line (length c.tags) b) == dirty_tag b) || (tag_at c.tags (second_line (length c.tags) b) == dirty_tag b))
+  told_dirty b fits = let one = first_line (length c.tags) b in let two = second_line (length c.tags) b in elim (is_or_not (block_in (tag_at c.tags one)) b) [
+    | inl is ↦ ap (λ l. tag_at c.tags l == dirty_tag b) (skewed-first (length c.tags) c.tags b is) ∙ elim (is_or_not (block_in (tag_at c.tags two)) b) [
+      | inl both ↦ or_same (tag_at c.tags one == dirty_tag b) ∙ ap (λ l. (tag_at c.tags one == dirty_tag b) || (tag_at c.tags l == dirty_tag b)) (fits.once one two b is both)
+      | inr out ↦ or_false (tag_at c.tags one == dirty_tag b) ∙ ap (λ x. (tag_at c.tags one == dirty_tag b) || x) (sym (not_dirty two b out))
+    ]
+    | inr out ↦ elim (is_or_not (block_in (tag_at c.tags two)) b) [
+      | inl is ↦ ap (λ l. tag_at c.tags l == dirty_tag b) (skewed-second (length c.tags) c.tags b out is) ∙ ap (λ x. x || (tag_at c.tags two == dirty_tag b)) (sym (not_dirty one b out))
+      | inr none ↦ not_dirty (line_by skewed c b) b (either (λ l. IsIn c.tags l b → ⊥) (length c.tags) c.tags b out none)
+          ∙ (λ i. sym (not_dirty one b out) i || sym (not_dirty two b none) i)
+    ]
+  ]
 -- ---- steps
 
 module _ {X Code : Type 0} (value : X → ℤ) (f h : Format Code) (k j : ℕ → Code) (c d : Kept X) (fits : Fits value c f k) where

@@ -105,6 +105,7 @@ impl<T: Lane, const D: usize> TwoWay<T, D> {
             (B.codes back.old) (B.codes back.new) b) }
         ensures value { existing_of (B.format back.old) b (map T.value result.now) ≡ (touch (B.format back.old)
             (state_of T.value self.old (B.format back.old) (B.codes back.old)) b).values b }
+        ensures size { length result.now ≡ 4 ^ D }
         ensures format { B.format back.new ≡ B.format back.old }
         ensures kept { B.kept back.new ≡ B.kept back.old }
     {
@@ -121,6 +122,7 @@ impl<T: Lane, const D: usize> TwoWay<T, D> {
         ensures* writes_back { sem 𝓛 (EndsWithBlock T.row D.row self.entry T.value (B.format back.old)
             (B.codes back.old) b result) }
         ensures loan { LendsBlock T.value (B.format back.old) (B.codes back.old) (B.codes back.new) self.old b result.now }
+        ensures size { length result.now ≡ 4 ^ D }
         ensures format { B.format back.new ≡ B.format back.old }
         ensures kept { B.kept back.new ≡ B.kept back.old }
     {

@@ -1,7 +1,7 @@
-use Rattle.std.proofs.Common.{refl, sym, ap, subst, ◌∙◌}
+use Rattle.std.proofs.Common.{refl, sym, ap, subst, ◌∙◌, length}
 use Rattle.zf_cache.specs.Kept.{Kept}
 use Rattle.zf_cache.specs.Bodies.{kept_of}
-use Rattle.zf_cache.proofs.Lent.{shows}
+use Rattle.zf_cache.proofs.Lent.{shows, whole}
 use Rattle.zf_twoway.specs.Touch.{touch}
 use Rattle.zf_twoway.specs.Placing.{skewed, IsOneOfTwo, skewed_rule}
 use Rattle.zf_twoway.specs.Standing.{state_of, Fits}
@@ -27,6 +27,7 @@ returns g c =
       record {
         touched = tt;
         value = shows skewed IsOneOfTwo skewed_rule value f h j o t b l e.format e.sound e.line e.others e.here s c.line.result.now state c.line.ensures;
+        size = ap length c.line.ensures ∙ whole skewed IsOneOfTwo skewed_rule value f h j o t b l e.format e.sound e.line e.others ∙ ap (λ q. q.block_len) e.format ∙ c.requires.blocks.0;
         format = e.format;
         kept = e.kept;
       },

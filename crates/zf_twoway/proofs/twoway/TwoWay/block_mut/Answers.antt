@@ -1,7 +1,7 @@
-use Rattle.std.proofs.Common.{refl, sym, ap, subst, ◌∙◌}
+use Rattle.std.proofs.Common.{refl, sym, ap, subst, ◌∙◌, length}
 use Rattle.zf_cache.specs.Kept.{Kept}
 use Rattle.zf_cache.specs.Bodies.{kept_of}
-use Rattle.zf_cache.proofs.Lent.{lends}
+use Rattle.zf_cache.proofs.Lent.{lends, whole}
 use Rattle.zf_twoway.specs.Placing.{skewed, IsOneOfTwo, skewed_rule}
 use Rattle.zf_twoway.specs.Standing.{Fits}
 use Rattle.zf_twoway.specs.Loans.{LendsBlock, lent_block}
@@ -27,6 +27,7 @@ returns g c =
       record {
         writes_back = tt;
         loan = subst (λ (q : Kept g.row.T.Denot). LendsBlock value f k j q b row) is (loans value f h j o t b l e.format e.sound e.line e.others k fits e.dirty e.state row row_is);
+        size = ap length row_is ∙ whole skewed IsOneOfTwo skewed_rule value f h j o t b l e.format e.sound e.line e.others ∙ ap (λ q. q.block_len) e.format ∙ c.requires.blocks.0;
         format = e.format;
         kept = e.kept;
       },
