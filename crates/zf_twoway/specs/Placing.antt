@@ -30,7 +30,7 @@ IsOneOfTwo n b l = (first_line n b ≡ l) ⊎ (second_line n b ≡ l)
 
 -- ---- so a block is found where it is
 
-chosen : (P : ℕ → Type 0) (a b c d : Bool) (first second : ℕ) → P first → P second → P (choice a b c d first second)
+pub chosen : (P : ℕ → Type 0) (a b c d : Bool) (first second : ℕ) → P first → P second → P (choice a b c d first second)
 chosen P true b c d first second p q = p
 chosen P false true c d first second p q = q
 chosen P false false true d first second p q = p

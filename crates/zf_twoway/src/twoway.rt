@@ -19,11 +19,11 @@ use zf_script::Stats;
 /// A cache of blocks of `4^D` values, which stands on a backing that is passed to each call.
 ///
 /// Block `b` has two lines: `b` modulo the number `L` of lines, and `b ^ (b / L)` modulo it. It is in one of them at most. Blocks that
-/// share their first line mostly have other second ones, so a walk whose step is a multiple of `L` does not miss each time. The cache is
-/// seen as the values in its lines, a tag for each of them and three counts. A cache and the backing that it is used with fit: each
-/// line that is not empty holds a block that has it as its first or its second line, no block is in two lines, and a clean line has the
-/// values that the block's code means. An empty cache fits every backing, and each call leaves the two fitting. Values are stated at
-/// the places that exist.
+/// share their first line mostly have other second ones, so they can be in the cache together, and a dirty block makes room only where both
+/// lines hold one. The cache is seen as the values in its lines, a tag for each of them and three counts. A cache and the backing that
+/// it is used with fit: each line that is not empty holds a block that has it as its first or its second line, no block is in two lines,
+/// and a clean line has the values that the block's code means. An empty cache fits every backing, and each call leaves the two fitting.
+/// Values are stated at the places that exist.
 #[derive(Drop)]
 pub struct TwoWay<T, const D: usize> {
     alloc: Global,
