@@ -1,5 +1,6 @@
 pub mod Doubled
 pub mod Lent
+pub mod OwnLines
 pub mod Puts
 pub mod Sound
 pub mod Stands

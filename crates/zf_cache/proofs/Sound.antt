@@ -1,23 +1,23 @@
 -- The fields of a cache are whole, and fit the backing.
 use Rattle.std.proofs.Common.{◌≡◌, ◌≢◌, refl, sym, ap, subst, ◌∙◌, ℕ, ◌+◌, ◌*◌, ◌/◌, ◌%◌, ◌<◌, ℤ, pos, inl, inr, Option, Some, List, map, length, get_or, set, arith}
 use Rattle.std.proofs.lemmas.List.{length-set, set-set, get_or-set_same, get_or-set_other}
-use Rattle.std.proofs.lemmas.Nat.{mod_below}
 use Rattle.zf_base.specs.Formats.{Format, existing_of, meant}
 use Rattle.zf_base.proofs.Formats.{length-existing_of, existing_of_same, get_or-existing_of_exists}
 use Rattle.zf_cached.specs.State.{Counts, State, risen}
-use Rattle.zf_cached.specs.Touch.{hit, touch, soiled, with_values}
+use Rattle.zf_cached.specs.Touch.{hit, soiled, with_values}
 use Rattle.zf_lines.specs.Rows.{line_at, HasSize}
 use Rattle.zf_lines.proofs.Sizes.{HasSize-set}
 use Rattle.zf_cache.specs.declared.body.Body.{Body}
-use Rattle.zf_cache.specs.Kept.{Kept, IsClean, OnlyLine, tag_at, block_in, clean_tag, dirty_tag, dirty_of}
+use Rattle.zf_cache.specs.Kept.{line_by, Kept, IsIn, IsAway, IsClean, OnlyLine, tag_at, block_in, clean_tag, dirty_tag, dirty_of}
 use Rattle.zf_cache.specs.Bodies.{IsMask, IsWhole, IsSound, kept_of, counts_of}
-use Rattle.zf_cache.specs.Standing.{state_of, evicted}
-use Rattle.zf_cache.specs.Steps.{taken_in}
+use Rattle.zf_cache.specs.Rules.{IsRule, one_line}
+use Rattle.zf_cache.specs.Standing.{state_at, state_of, evicted}
+use Rattle.zf_cache.specs.Steps.{taken_in, touch_in}
 use Rattle.zf_cache.proofs.Tags.{same_or_not, names, named, tag-set_same, tag-set_other}
-use Rattle.zf_cache.proofs.Stands.{standing, Fit, codes_after, counts_after, empties, fits_after, dirty_below, takes_in, fits_taken, writes, fits_written, soils, fits_soiled, vals-in}
-use Rattle.zf_cache.proofs.Touches.{fits_of, fit_of, state_is, touches_here, touches_away}
+use Rattle.zf_cache.proofs.Stands.{standing_at, Fit, codes_after, counts_after, empties, fits_after, dirty_below, takes_in, fits_taken, writes, fits_written, soils, fits_soiled, vals-in}
+use Rattle.zf_cache.proofs.Touches.{fits_of, fit_of, state_stands, one_line_state, touches_here, touches_away}
 
-module _ {X : Type 0} where
+module _ (place : ℕ → List ℕ → ℕ → ℕ) {X : Type 0} where
   -- fields with as many tags, and lines of the same size
   pub whole_as : (c d : Body X) (len : ℕ) → IsWhole c len → length d.tags.items ≡ length c.tags.items → HasSize d.lines (length c.tags.items) len → IsWhole d len
   whole_as c d len w e size = record {
@@ -28,106 +28,115 @@ module _ {X : Type 0} where
 
   pub sound_as : {Code : Type 0} (value : X → ℤ) (c d : Body X) (f g : Format Code) (k : ℕ → Code) → g ≡ f → IsWhole c f.block_len
       → length d.tags.items ≡ length c.tags.items → HasSize d.lines (length c.tags.items) f.block_len
-      → Fit value f (length c.tags.items) d.lines d.tags.items k → IsSound value d g k
-  sound_as value c d f g k same w e size fit = subst (λ h. IsSound value d h k) (sym same) (record {
+      → Fit place value f (length c.tags.items) d.lines d.tags.items k → IsSound place value d g k
+  sound_as value c d f g k same w e size fit = subst (λ h. IsSound place value d h k) (sym same) (record {
     whole = whole_as c d f.block_len w e size;
-    fits = fits_of value f (kept_of d) k (length c.tags.items) e fit;
+    fits = fits_of place value f (kept_of d) k (length c.tags.items) e fit;
   })
 
 -- the fields c become d, and the backing's format and codes f and k become g and k'
-module _ {X Code : Type 0} (value : X → ℤ) (c d : Body X) (f g : Format Code) (k k' : ℕ → Code) (same : g ≡ f) (s : IsSound value c f k) where
+module _ (place : ℕ → List ℕ → ℕ → ℕ) (may_hold : ℕ → ℕ → ℕ → Type 0) (rule : IsRule place may_hold) {X Code : Type 0} (value : X → ℤ)
+    (c d : Body X) (f g : Format Code) (k k' : ℕ → Code) (same : g ≡ f) (s : IsSound place value c f k) where
   abbrev n : ℕ
   n = length c.tags.items
 
-  abbrev pub fit : Fit value f n c.lines c.tags.items k
-  fit = fit_of value f (kept_of c) k n refl s.fits
+  abbrev pub fit : Fit place value f n c.lines c.tags.items k
+  fit = fit_of place value f (kept_of c) k n refl s.fits
 
   abbrev before : State Code
-  before = standing value f n c.lines c.tags.items (counts_of c.counts) k
+  before = standing_at place value f n c.lines c.tags.items (counts_of c.counts) k
 
-  before_is : state_of value (kept_of c) f k ≡ before
-  before_is = state_is value f (kept_of c) k n refl
+  before_is : state_at place value (kept_of c) f k ≡ before
+  before_is = state_stands place value f (kept_of c) k n refl
 
   -- what the new fields and codes are gives that they are sound, and which state they stand for
   became : (lines : List (List X)) (tags : List ℕ) (counts : Counts) (codes : ℕ → Code) → d.lines ≡ lines → d.tags.items ≡ tags → counts_of d.counts ≡ counts → k' ≡ codes
-      → length tags ≡ n → HasSize lines n f.block_len → Fit value f n lines tags codes → (t : State Code) → standing value f n lines tags counts codes ≡ t
-      → IsSound value d g k' × (state_of value (kept_of d) g k' ≡ t)
+      → length tags ≡ n → HasSize lines n f.block_len → Fit place value f n lines tags codes → (t : State Code) → standing_at place value f n lines tags counts codes ≡ t
+      → IsSound place value d g k' × (state_at place value (kept_of d) g k' ≡ t)
   became lines tags counts codes el et ec ek long size fits t is =
       let tags_are : length d.tags.items ≡ n = ap length et ∙ long in (
-        sound_as value c d f g k' same s.whole tags_are (subst (λ ls. HasSize ls n f.block_len) (sym el) size)
-            (subst (λ ls. Fit value f n ls d.tags.items k') (sym el) (subst (λ ts. Fit value f n lines ts k') (sym et) (subst (Fit value f n lines tags) (sym ek) fits))),
-        ap (λ h. state_of value (kept_of d) h k') same ∙ state_is value f (kept_of d) k' n tags_are ∙ (λ i. standing value f n (el i) (et i) (ec i) (ek i)) ∙ is,
+        sound_as place value c d f g k' same s.whole tags_are (subst (λ ls. HasSize ls n f.block_len) (sym el) size)
+            (subst (λ ls. Fit place value f n ls d.tags.items k') (sym el) (subst (λ ts. Fit place value f n lines ts k') (sym et) (subst (Fit place value f n lines tags) (sym ek) fits))),
+        ap (λ h. state_at place value (kept_of d) h k') same ∙ state_stands place value f (kept_of d) k' n tags_are ∙ (λ i. standing_at place value f n (el i) (et i) (ec i) (ek i)) ∙ is,
       )
 
-  pub line_in : (b : ℕ) → b % n < n
-  line_in b = mod_below b n (omega (arith, s.whole.count))
+  -- a block that is not in the line where it is looked for is in none, also once that line is empty
+  pub none_in : (b l : ℕ) → place n c.tags.items b ≡ l → l < n → tag_at c.tags.items l / 2 ≢ b + 1 → IsAway (set c.tags.items l 0) b
+  none_in b l at lt ne m e = elim (same_or_not m l) [
+    | inl here ↦
+        let zero : tag_at (set c.tags.items l 0) m ≡ 0 = ap (tag_at (set c.tags.items l 0)) here ∙ tag-set_same c.tags.items l 0 lt in
+        let half = named (tag_at (set c.tags.items l 0) m) b e in omega (arith, half, zero)
+    | inr off ↦
+        let is : IsIn c.tags.items m b = sym (ap block_in (tag-set_other c.tags.items l 0 m off)) ∙ e in
+        off (sym (fit.own m b is).0 ∙ at)
+  ]
 
   module _ (l : ℕ) (lt : l < n) where
     pub evicts : (o : Option ℕ) → dirty_of (tag_at c.tags.items l) ≡ o → d.lines ≡ c.lines → d.tags.items ≡ set c.tags.items l 0
-        → counts_of d.counts ≡ counts_after value f n c.lines c.tags.items (counts_of c.counts) k fit l lt o
-        → k' ≡ codes_after value f n c.lines c.tags.items (counts_of c.counts) k fit l lt o
-        → IsSound value d g k' × (state_of value (kept_of d) g k' ≡ evicted f (state_of value (kept_of c) f k) l)
+        → counts_of d.counts ≡ counts_after place value f n may_hold rule c.lines c.tags.items (counts_of c.counts) k fit l lt o
+        → k' ≡ codes_after place value f n may_hold rule c.lines c.tags.items (counts_of c.counts) k fit l lt o
+        → IsSound place value d g k' × (state_at place value (kept_of d) g k' ≡ evicted f (state_at place value (kept_of c) f k) l)
     evicts o dirty el et ec ek =
         became c.lines (set c.tags.items l 0) _ _ el et ec ek (length-set c.tags.items l 0) s.whole.size
-        (fits_after value f n c.lines c.tags.items (counts_of c.counts) k fit l lt o dirty)
-        (evicted f (state_of value (kept_of c) f k) l)
-        (empties value f n c.lines c.tags.items (counts_of c.counts) k fit l lt o dirty ∙ ap (λ t. evicted f t l) (sym before_is))
+        (fits_after place value f n may_hold rule c.lines c.tags.items (counts_of c.counts) k fit l lt o dirty)
+        (evicted f (state_at place value (kept_of c) f k) l)
+        (empties place value f n may_hold rule c.lines c.tags.items (counts_of c.counts) k fit l lt o dirty ∙ ap (λ t. evicted f t l) (sym before_is))
 
     pub evicts_below : (b : ℕ) → dirty_of (tag_at c.tags.items l) ≡ Some b → b < f.blocks
-    evicts_below = dirty_below value f n c.lines c.tags.items (counts_of c.counts) k fit l lt
+    evicts_below = dirty_below place value f n may_hold rule c.lines c.tags.items (counts_of c.counts) k fit l lt
 
-    module _ (b : ℕ) (own : b % n ≡ l) (row : List X) (long : length row ≡ f.block_len) where
+    module _ (b : ℕ) (row : List X) (long : length row ≡ f.block_len) where
       in_lines : l < length c.lines
       in_lines = omega (arith, s.whole.size.0)
 
-      pub takes : tag_at c.tags.items l ≡ 0 → existing_of f b (map value row) ≡ meant f b (k b) → b < f.blocks
+      pub takes : may_hold n b l → tag_at c.tags.items l ≡ 0 → IsAway c.tags.items b → existing_of f b (map value row) ≡ meant f b (k b) → b < f.blocks
           → d.lines ≡ set c.lines l row → d.tags.items ≡ set c.tags.items l (clean_tag b)
           → counts_of d.counts ≡ record (counts_of c.counts) { misses = risen c.counts.misses } → k' ≡ k
-          → IsSound value d g k' × (state_of value (kept_of d) g k' ≡ taken_in (state_of value (kept_of c) f k) l b)
-      takes none loaded below el et ec ek =
+          → IsSound place value d g k' × (state_at place value (kept_of d) g k' ≡ taken_in (state_at place value (kept_of c) f k) l b)
+      takes may none away loaded below el et ec ek =
           became (set c.lines l row) (set c.tags.items l (clean_tag b)) (record (counts_of c.counts) { misses = risen c.counts.misses }) k el et ec ek (length-set c.tags.items l (clean_tag b))
           (HasSize-set c.lines n f.block_len l row s.whole.size lt long)
-          (fits_taken value f n c.lines c.tags.items (counts_of c.counts) k fit l lt b own in_lines row none loaded below)
-          (taken_in (state_of value (kept_of c) f k) l b)
-          (takes_in value f n c.lines c.tags.items (counts_of c.counts) k fit l lt b own in_lines row none loaded ∙ ap (λ t. taken_in t l b) (sym before_is))
+          (fits_taken place value f n may_hold rule c.lines c.tags.items (counts_of c.counts) k fit l lt b in_lines row may none away loaded below)
+          (taken_in (state_at place value (kept_of c) f k) l b)
+          (takes_in place value f n may_hold rule c.lines c.tags.items (counts_of c.counts) k fit l lt b in_lines row may none away loaded ∙ ap (λ t. taken_in t l b) (sym before_is))
 
       pub writes_row : tag_at c.tags.items l ≡ dirty_tag b → d.lines ≡ set c.lines l row → d.tags.items ≡ c.tags.items → counts_of d.counts ≡ counts_of c.counts → k' ≡ k
-          → IsSound value d g k' × (state_of value (kept_of d) g k' ≡ with_values (state_of value (kept_of c) f k) b (existing_of f b (map value row)))
+          → IsSound place value d g k' × (state_at place value (kept_of d) g k' ≡ with_values (state_at place value (kept_of c) f k) b (existing_of f b (map value row)))
       writes_row is el et ec ek =
           became (set c.lines l row) c.tags.items (counts_of c.counts) k el et ec ek refl
           (HasSize-set c.lines n f.block_len l row s.whole.size lt long)
-          (fits_written value f n c.lines c.tags.items (counts_of c.counts) k fit l lt b own in_lines row is)
-          (with_values (state_of value (kept_of c) f k) b (existing_of f b (map value row)))
-          (writes value f n c.lines c.tags.items (counts_of c.counts) k fit l lt b own in_lines row is ∙ ap (λ t. with_values t b (existing_of f b (map value row))) (sym before_is))
+          (fits_written place value f n may_hold rule c.lines c.tags.items (counts_of c.counts) k fit l lt b in_lines row is)
+          (with_values (state_at place value (kept_of c) f k) b (existing_of f b (map value row)))
+          (writes place value f n may_hold rule c.lines c.tags.items (counts_of c.counts) k fit l lt b in_lines row is ∙ ap (λ t. with_values t b (existing_of f b (map value row))) (sym before_is))
 
-    pub soils_line : (b : ℕ) → b % n ≡ l → tag_at c.tags.items l / 2 ≡ b + 1 → d.lines ≡ c.lines → d.tags.items ≡ set c.tags.items l (dirty_tag b)
+    pub soils_line : (b : ℕ) → tag_at c.tags.items l / 2 ≡ b + 1 → d.lines ≡ c.lines → d.tags.items ≡ set c.tags.items l (dirty_tag b)
         → counts_of d.counts ≡ counts_of c.counts → k' ≡ k
-        → IsSound value d g k' × (state_of value (kept_of d) g k' ≡ soiled (state_of value (kept_of c) f k) b)
-    soils_line b own half el et ec ek =
+        → IsSound place value d g k' × (state_at place value (kept_of d) g k' ≡ soiled (state_at place value (kept_of c) f k) b)
+    soils_line b half el et ec ek =
         became c.lines (set c.tags.items l (dirty_tag b)) (counts_of c.counts) k el et ec ek (length-set c.tags.items l (dirty_tag b)) s.whole.size
-        (fits_soiled value f n c.lines c.tags.items (counts_of c.counts) k fit l lt b own half)
-        (soiled (state_of value (kept_of c) f k) b)
-        (soils value f n c.lines c.tags.items (counts_of c.counts) k fit l lt b own half ∙ ap (λ t. soiled t b) (sym before_is))
+        (fits_soiled place value f n may_hold rule c.lines c.tags.items (counts_of c.counts) k fit l lt b half)
+        (soiled (state_at place value (kept_of c) f k) b)
+        (soils place value f n may_hold rule c.lines c.tags.items (counts_of c.counts) k fit l lt b half ∙ ap (λ t. soiled t b) (sym before_is))
 
-  pub hits_block : (b : ℕ) → tag_at c.tags.items (b % n) / 2 ≡ b + 1 → d.lines ≡ c.lines → d.tags.items ≡ c.tags.items
+  pub hits_block : (b l : ℕ) → tag_at c.tags.items l / 2 ≡ b + 1 → d.lines ≡ c.lines → d.tags.items ≡ c.tags.items
       → counts_of d.counts ≡ record (counts_of c.counts) { hits = risen c.counts.hits } → k' ≡ k
-      → IsSound value d g k' × (state_of value (kept_of d) g k' ≡ touch f (state_of value (kept_of c) f k) b)
+      → IsSound place value d g k' × (state_at place value (kept_of d) g k' ≡ touch_in f (state_at place value (kept_of c) f k) l b)
   unfolding hit
-  hits_block b half el et ec ek =
+  hits_block b l half el et ec ek =
       became c.lines c.tags.items (record (counts_of c.counts) { hits = risen c.counts.hits }) k el et ec ek refl s.whole.size fit
-      (touch f (state_of value (kept_of c) f k) b)
-      (touches_here f before b (names (tag_at c.tags.items (b % n)) b half) ∙ ap (λ t. touch f t b) (sym before_is))
+      (touch_in f (state_at place value (kept_of c) f k) l b)
+      (touches_here f before b l (names (tag_at c.tags.items l) b half) ∙ ap (λ t. touch_in f t l b) (sym before_is))
 
 -- a line emptied, and the block taken in, is a touch of a block that was not there
-pub misses_block : {X Code : Type 0} (value : X → ℤ) (c : Body X) (f : Format Code) (k : ℕ → Code) (b l : ℕ) (t u : State Code) → l ≡ b % length c.tags.items
-    → tag_at c.tags.items l / 2 ≢ b + 1 → t ≡ evicted f (state_of value (kept_of c) f k) l → u ≡ taken_in t l b → u ≡ touch f (state_of value (kept_of c) f k) b
-misses_block value c f k b l t u at away first second =
+pub misses_block : (place : ℕ → List ℕ → ℕ → ℕ) {X Code : Type 0} (value : X → ℤ) (c : Body X) (f : Format Code) (k : ℕ → Code) (b l : ℕ) (t u : State Code)
+    → tag_at c.tags.items l / 2 ≢ b + 1 → t ≡ evicted f (state_at place value (kept_of c) f k) l → u ≡ taken_in t l b → u ≡ touch_in f (state_at place value (kept_of c) f k) l b
+misses_block place value c f k b l t u away first second =
     let n = length c.tags.items in
-    let s = standing value f n c.lines c.tags.items (counts_of c.counts) k in
-    let is = state_is value f (kept_of c) k n refl in
+    let s = standing_at place value f n c.lines c.tags.items (counts_of c.counts) k in
+    let is = state_stands place value f (kept_of c) k n refl in
     second ∙ ap (λ v. taken_in v l b) (first ∙ ap (λ v. evicted f v l) is)
-    ∙ touches_away f s b l (sym at) (λ e. away (named (tag_at c.tags.items l) b (ap (λ j. block_in (tag_at c.tags.items j)) at ∙ e)))
-    ∙ ap (λ v. touch f v b) (sym is)
+    ∙ touches_away f s b l (λ e. away (named (tag_at c.tags.items l) b e))
+    ∙ ap (λ v. touch_in f v l b) (sym is)
 
 -- ---- one line alone
 
@@ -145,14 +154,26 @@ only_line_again c d e l x lt h lines tags =
 pub same_length : {X : Type 0} (c d : Kept X) (l : ℕ) → OnlyLine c d l → length d.tags ≡ length c.tags
 same_length c d l h = ap length h.tags ∙ length-set c.tags l (tag_at d.tags l)
 
+-- the line of a block that was touched is one, before and after
+pub line_below : (place : ℕ → List ℕ → ℕ → ℕ) (may_hold : ℕ → ℕ → ℕ → Type 0) → IsRule place may_hold → {X Code : Type 0} (value : X → ℤ) (t : Body X) (h : Format Code) (j : ℕ → Code) → IsSound place value t h j
+    → (c : Kept X) (b l : ℕ) → l ≡ line_by place c b → OnlyLine c (kept_of t) l → (l < length t.tags.items) × (l < length c.tags)
+line_below place may_hold rule value t h j sound c b l at others =
+    let size = same_length c (kept_of t) l others in let some = sound.whole.count.0 in
+    let lt = rule.inside (length c.tags) c.tags b (omega (arith, size, some)) in
+    (omega (arith, at, lt, size), omega (arith, at, lt))
+
 -- ---- the values of a block that is in its line
 
+pub values_there : (place : ℕ → List ℕ → ℕ → ℕ) {X Code : Type 0} (value : X → ℤ) (f : Format Code) (c : Kept X) (k : ℕ → Code) (b l : ℕ) → place (length c.tags) c.tags b ≡ l → tag_at c.tags l / 2 ≡ b + 1
+    → (state_at place value c f k).values b ≡ existing_of f b (map value (line_at c.lines l))
+values_there place value f c k b l own half =
+    ap (λ (s : State _). s.values b) (state_stands place value f c k (length c.tags) refl)
+    ∙ vals-in place value f (length c.tags) c.lines c.tags k b l own (names (tag_at c.tags l) b half)
+
+-- where each block has one line
 pub values_here : {X Code : Type 0} (value : X → ℤ) (f : Format Code) (c : Kept X) (k : ℕ → Code) (b l : ℕ) → b % length c.tags ≡ l → tag_at c.tags l / 2 ≡ b + 1
     → (state_of value c f k).values b ≡ existing_of f b (map value (line_at c.lines l))
-values_here value f c k b l own half =
-    ap (λ (s : State _). s.values b) (state_is value f c k (length c.tags) refl)
-    ∙ vals-in value f (length c.tags) c.lines c.tags k b (names (tag_at c.tags (b % length c.tags)) b (ap (λ j. tag_at c.tags j / 2) own ∙ half))
-    ∙ ap (λ j. existing_of f b (map value (line_at c.lines j))) own
+values_here value f c k b l own half = ap (λ (s : State _). s.values b) (sym (one_line_state value f c k)) ∙ values_there one_line value f c k b l own half
 
 -- a value put into a block, at the places that exist
 pub existing_of-set : {Code : Type 0} (f : Format Code) (b : ℕ) (xs : List ℤ) (p : ℕ) (v : ℤ) → length xs ≡ f.block_len → p < f.block_len

@@ -1,5 +1,6 @@
--- What becomes of the state that a cache and its backing stand for, when a line changes. The number of lines is n.
-use Rattle.std.proofs.Common.{◌≡◌, ◌≢◌, inl, inr, refl, sym, ap, subst, ◌∙◌, ℕ, ◌+◌, ◌*◌, ◌/◌, ◌%◌, ◌<◌, ◌==◌, ℤ, Bool, true, false, Option, Some, None, List, [], map, length, set, eq-eqb, arith}
+-- What becomes of the state that a cache and its backing stand for, when a line changes. The number of lines is n, and the line of
+-- block b is `place n tags b`.
+use Rattle.std.proofs.Common.{◌≡◌, ◌≢◌, ◌⊎◌, inl, inr, refl, sym, ap, subst, ◌∙◌, ℕ, ◌+◌, ◌*◌, ◌/◌, ◌<◌, ◌==◌, ℤ, Bool, true, false, Option, Some, None, List, [], map, length, set, eq-eqb, arith}
 use Rattle.std.proofs.lemmas.Bool.{ne_eqb}
 use Rattle.std.proofs.lemmas.List.{get_or-set_same, get_or-set_other}
 use Rattle.zf_base.specs.Formats.{Format, existing_of, meant, encoded, with_at}
@@ -8,10 +9,11 @@ use Rattle.zf_cached.specs.State.{Counts, State, is_block, risen}
 use Rattle.zf_cached.specs.Touch.{write_back, write_back_dirty, write_back_line, soiled, with_values}
 use Rattle.zf_cached.proofs.States.{same_state}
 use Rattle.zf_lines.specs.Rows.{line_at}
-use Rattle.zf_cache.specs.Kept.{tag_at, block_in, clean_tag, dirty_tag, dirty_of}
+use Rattle.zf_cache.specs.Kept.{IsIn, IsAway, tag_at, block_in, clean_tag, dirty_tag, dirty_of}
+use Rattle.zf_cache.specs.Rules.{IsRule, one_line}
 use Rattle.zf_cache.specs.Standing.{evicted}
 use Rattle.zf_cache.specs.Steps.{taken_in}
-use Rattle.zf_cache.proofs.Tags.{even, same_or_not, names, named, names-clean, names-dirty, is_block-same, is_block-other, dirty_of-some, dirty_of-none, tag-set_same, tag-set_other}
+use Rattle.zf_cache.proofs.Tags.{even, same_or_not, is_or_not, names, named, names-clean, names-dirty, is_block-same, is_block-other, dirty_of-some, dirty_of-none, tag-set_same, tag-set_other}
 
 -- ---- the definitions of write-back, case by case
 
@@ -32,346 +34,501 @@ module _ {Code : Type 0} (format : Format Code) (s : State Code) where
   unfolding write_back_dirty
   write_back_dirty-true b e = ap (λ (t : Bool). elim t [ true ↦ write_back format s b | false ↦ s ]) e
 
-module _ {X Code : Type 0} (value : X → ℤ) (f : Format Code) (n : ℕ) where
+module _ (place : ℕ → List ℕ → ℕ → ℕ) {X Code : Type 0} (value : X → ℤ) (f : Format Code) (n : ℕ) where
   abbrev pub in_line : List (List X) → ℕ → ℕ → List ℤ
   in_line lines l b = existing_of f b (map value (line_at lines l))
 
   abbrev pub vals : List (List X) → List ℕ → (ℕ → Code) → ℕ → List ℤ
-  vals lines tags k b = elim (is_block (block_in (tag_at tags (b % n))) b) [ true ↦ in_line lines (b % n) b | false ↦ meant f b (k b) ]
+  vals lines tags k b =
+      elim (is_block (block_in (tag_at tags (place n tags b))) b) [ true ↦ in_line lines (place n tags b) b | false ↦ meant f b (k b) ]
+
+  abbrev pub soiled_in : List ℕ → ℕ → Bool
+  soiled_in tags b = tag_at tags (place n tags b) == dirty_tag b
 
   -- the state of lines, tags, counts and codes
-  abbrev pub standing : List (List X) → List ℕ → Counts → (ℕ → Code) → State Code
-  standing lines tags counts k = record {
+  abbrev pub standing_at : List (List X) → List ℕ → Counts → (ℕ → Code) → State Code
+  standing_at lines tags counts k = record {
     lines = n;
     held = λ l. block_in (tag_at tags l);
-    dirty = λ b. tag_at tags (b % n) == dirty_tag b;
+    dirty = soiled_in tags;
     values = vals lines tags k;
     codes = k;
     counts = counts;
   }
 
+  -- each block in a line is where it is looked for
+  abbrev pub IsPlaced : List ℕ → Type 0
+  IsPlaced tags = (l b : ℕ) → IsIn tags l b → place n tags b ≡ l
+
   pub record Fit (lines : List (List X)) (tags : List ℕ) (k : ℕ → Code) : Type 0 where
-    pub own : (l b : ℕ) → block_in (tag_at tags l) ≡ Some b → (b % n ≡ l) × (b < f.blocks)
+    pub own : (l b : ℕ) → IsIn tags l b → (place n tags b ≡ l) × (b < f.blocks)
     pub clean : (l b : ℕ) → tag_at tags l ≡ clean_tag b → in_line lines l b ≡ meant f b (k b)
 
-  pub vals-in : (lines : List (List X)) (tags : List ℕ) (k : ℕ → Code) (b : ℕ) → block_in (tag_at tags (b % n)) ≡ Some b → vals lines tags k b ≡ in_line lines (b % n) b
-  vals-in lines tags k b e = ap (λ (t : Bool). elim t [ true ↦ in_line lines (b % n) b | false ↦ meant f b (k b) ]) (is_block-same _ b e)
+  -- a block that is in line l: its values, and whether it is dirty
+  pub vals-in : (lines : List (List X)) (tags : List ℕ) (k : ℕ → Code) (b l : ℕ) → place n tags b ≡ l → IsIn tags l b → vals lines tags k b ≡ in_line lines l b
+  vals-in lines tags k b l at is =
+      ap (λ (t : Bool). elim t [ true ↦ in_line lines (place n tags b) b | false ↦ meant f b (k b) ]) (is_block-same _ b (ap (λ j. block_in (tag_at tags j)) at ∙ is))
+      ∙ ap (λ j. in_line lines j b) at
 
-  pub vals-out : (lines : List (List X)) (tags : List ℕ) (k : ℕ → Code) (b : ℕ) → block_in (tag_at tags (b % n)) ≢ Some b → vals lines tags k b ≡ meant f b (k b)
-  vals-out lines tags k b ne = ap (λ (t : Bool). elim t [ true ↦ in_line lines (b % n) b | false ↦ meant f b (k b) ]) (is_block-other _ b ne)
+  pub dirty-in : (tags : List ℕ) (b l : ℕ) → place n tags b ≡ l → soiled_in tags b ≡ (tag_at tags l == dirty_tag b)
+  dirty-in tags b l at = ap (λ j. tag_at tags j == dirty_tag b) at
 
-  vals-same : (lines lines' : List (List X)) (tags tags' : List ℕ) (k k' : ℕ → Code) (b : ℕ) → block_in (tag_at tags (b % n)) ≡ block_in (tag_at tags' (b % n))
-      → line_at lines (b % n) ≡ line_at lines' (b % n) → k b ≡ k' b → vals lines tags k b ≡ vals lines' tags' k' b
-  vals-same lines lines' tags tags' k k' b t r e =
-      λ i. elim (is_block (t i) b) [ true ↦ existing_of f b (map value (r i)) | false ↦ meant f b (e i) ]
+  -- one that is in no line
+  pub vals-out : (lines : List (List X)) (tags : List ℕ) (k : ℕ → Code) (b : ℕ) → (IsIn tags (place n tags b) b → ⊥) → vals lines tags k b ≡ meant f b (k b)
+  vals-out lines tags k b ne = ap (λ (t : Bool). elim t [ true ↦ in_line lines (place n tags b) b | false ↦ meant f b (k b) ]) (is_block-other _ b ne)
+
+  pub dirty-out : (tags : List ℕ) (b : ℕ) → (IsIn tags (place n tags b) b → ⊥) → soiled_in tags b ≡ false
+  dirty-out tags b ne = ne_eqb (tag_at tags (place n tags b)) (dirty_tag b) (λ e. ne (ap block_in e ∙ names-dirty b))
+
+  -- a block that is not where it is looked for is in no line
+  pub away : (tags : List ℕ) → IsPlaced tags → (b : ℕ) → (IsIn tags (place n tags b) b → ⊥) → IsAway tags b
+  away tags placed b ne l is = ne (ap (λ j. block_in (tag_at tags j)) (placed l b is) ∙ is)
+
+  -- a block is in line l, in another, or in none
+  module _ (tags : List ℕ) (placed : IsPlaced tags) (l b : ℕ) where
+    pub record IsElsewhere : Type 0 where
+      pub line : ℕ
+      pub other : line ≢ l
+      pub there : IsIn tags line b
+
+    pub whereabouts : IsIn tags l b ⊎ (IsElsewhere ⊎ IsAway tags b)
+    whereabouts = elim (is_or_not (block_in (tag_at tags (place n tags b))) b) [
+      | inl is ↦ elim (same_or_not (place n tags b) l) [
+        | inl at ↦ inl (ap (λ j. block_in (tag_at tags j)) (sym at) ∙ is)
+        | inr ne ↦ inr (inl (record { line = place n tags b; other = ne; there = is }))
+      ]
+      | inr ne ↦ inr (inr (away tags placed b ne))
+    ]
 
   -- a block that is not dirty has what its code means
   module _ (lines : List (List X)) (tags : List ℕ) (k : ℕ → Code) (fit : Fit lines tags k) where
-    pub undirty_values : (b : ℕ) → tag_at tags (b % n) ≢ dirty_tag b → vals lines tags k b ≡ meant f b (k b)
-    undirty_values b away = by (block_in (tag_at tags (b % n))) refl
-      where
-        by : (o : Option ℕ) → block_in (tag_at tags (b % n)) ≡ o → vals lines tags k b ≡ meant f b (k b)
-        by None e = vals-out lines tags k b (λ e'. let both : None ≡ Some b = sym e ∙ e' in cc)
-        by (Some a) e = elim (same_or_not a b) [
-          | inl same ↦
-              let there = e ∙ ap Some same in
-              vals-in lines tags k b there ∙ fit.clean (b % n) b (even (tag_at tags (b % n)) b (named (tag_at tags (b % n)) b there) away)
-          | inr ne ↦ vals-out lines tags k b (λ e'. let both : Some a ≡ Some b = sym e ∙ e' in let same : a ≡ b = cc in ne same)
-        ]
-
-  module _ (lines : List (List X)) (tags : List ℕ) (counts : Counts) (k : ℕ → Code) (fit : Fit lines tags k) (l : ℕ) (lt : l < length tags) where
-    abbrev s : State Code
-    s = standing lines tags counts k
-
-    undirty-values : (b : ℕ) → tag_at tags (b % n) ≢ dirty_tag b → vals lines tags k b ≡ meant f b (k b)
-    undirty-values = undirty_values lines tags k fit
-
-    abbrev emptied : List ℕ
-    emptied = set tags l 0
-
-    none_named : (b : ℕ) → block_in 0 ≢ Some b
-    none_named b e = cc
-
-    emptied-held : (m : ℕ) → block_in (tag_at emptied m) ≡ with_at s.held l None m
-    emptied-held m = elim (same_or_not m l) [
-      | inl e ↦ ap (λ j. block_in (tag_at emptied j)) e ∙ ap block_in (tag-set_same tags l 0 lt) ∙ sym (with_at-same s.held l None) ∙ ap (with_at s.held l None) (sym e)
-      | inr ne ↦ ap block_in (tag-set_other tags l 0 m ne) ∙ sym (with_at-other s.held l None m ne)
+    pub undirty_values : (b : ℕ) → tag_at tags (place n tags b) ≢ dirty_tag b → vals lines tags k b ≡ meant f b (k b)
+    undirty_values b clean = elim (is_or_not (block_in (tag_at tags (place n tags b))) b) [
+      | inl is ↦
+          let l = place n tags b in
+          vals-in lines tags k b l refl is ∙ fit.clean l b (even (tag_at tags l) b (named (tag_at tags l) b is) clean)
+      | inr ne ↦ vals-out lines tags k b ne
     ]
 
-    zero-dirty : (b : ℕ) → (tag_at emptied l == dirty_tag b) ≡ false
-    zero-dirty b = ap (λ t. t == dirty_tag b) (tag-set_same tags l 0 lt) ∙ ne_eqb 0 (dirty_tag b) (λ e. omega (arith, e))
+    pub placed_of : IsPlaced tags
+    placed_of l b is = (fit.own l b is).0
 
-    emptied-out : (b : ℕ) → b % n ≡ l → (k' : ℕ → Code) → vals lines emptied k' b ≡ meant f b (k' b)
-    emptied-out b at k' = vals-out lines emptied k' b (λ e. none_named b (sym (ap block_in (ap (tag_at emptied) at ∙ tag-set_same tags l 0 lt)) ∙ e))
+  -- what changes in a line leaves a block that is in another, and one that is in none before and after
+  module _ (lines lines' : List (List X)) (tags tags' : List ℕ) (k k' : ℕ → Code) (b : ℕ) (same : k' b ≡ k b) where
+    pub vals-stay : (l : ℕ) → place n tags b ≡ l → place n tags' b ≡ l → IsIn tags l b → tag_at tags' l ≡ tag_at tags l → line_at lines' l ≡ line_at lines l
+        → vals lines' tags' k' b ≡ vals lines tags k b
+    vals-stay l at at' is tag row =
+        vals-in lines' tags' k' b l at' (ap block_in tag ∙ is) ∙ ap (λ r. existing_of f b (map value r)) row ∙ sym (vals-in lines tags k b l at is)
 
-    -- a line is emptied whose block is not dirty
-    module _ (none : dirty_of (tag_at tags l) ≡ None) where
-      not_dirty : (b : ℕ) → b % n ≡ l → (tag_at tags (b % n) == dirty_tag b) ≡ false
-      not_dirty b at = ne_eqb (tag_at tags (b % n)) (dirty_tag b) (λ e. dirty_of-none (tag_at tags l) b none (ap (tag_at tags) (sym at) ∙ e))
+    pub vals-away : IsAway tags b → IsAway tags' b → vals lines' tags' k' b ≡ vals lines tags k b
+    vals-away out out' = vals-out lines' tags' k' b (out' (place n tags' b)) ∙ ap (meant f b) same ∙ sym (vals-out lines tags k b (out (place n tags b)))
 
-      kept-back : write_back_line f s l ≡ s
-      kept-back = by (block_in (tag_at tags l)) refl
-        where
-          by : (o : Option ℕ) → block_in (tag_at tags l) ≡ o → write_back_line f s l ≡ s
-          by None e = write_back_line-none f s l e
-          by (Some b) e = write_back_line-some f s l b e ∙ write_back_dirty-false f s b (not_dirty b (fit.own l b e).0)
+  pub dirty-stay : (tags tags' : List ℕ) (b l : ℕ) → place n tags b ≡ l → place n tags' b ≡ l → tag_at tags' l ≡ tag_at tags l → soiled_in tags' b ≡ soiled_in tags b
+  dirty-stay tags tags' b l at at' tag = dirty-in tags' b l at' ∙ ap (λ t. t == dirty_tag b) tag ∙ sym (dirty-in tags b l at)
 
-      clean-dirty : (b : ℕ) → (tag_at emptied (b % n) == dirty_tag b) ≡ s.dirty b
-      clean-dirty b = elim (same_or_not (b % n) l) [
-        | inl at ↦ ap (λ j. tag_at emptied j == dirty_tag b) at ∙ zero-dirty b ∙ sym (not_dirty b at)
-        | inr ne ↦ ap (λ t. t == dirty_tag b) (tag-set_other tags l 0 (b % n) ne)
+  pub dirty-away : (tags tags' : List ℕ) (b : ℕ) → IsAway tags b → IsAway tags' b → soiled_in tags' b ≡ soiled_in tags b
+  dirty-away tags tags' b out out' = dirty-out tags' b (out' (place n tags' b)) ∙ sym (dirty-out tags b (out (place n tags b)))
+
+  module _ (may_hold : ℕ → ℕ → ℕ → Type 0) (rule : IsRule place may_hold) where
+    -- where each block was in the same line before, it is found again
+    pub still_placed : (tags tags' : List ℕ) → IsPlaced tags → ((l b : ℕ) → IsIn tags' l b → IsIn tags l b) → IsPlaced tags'
+    still_placed tags tags' placed was l b is =
+        rule.found n tags' b l (subst (may_hold n b) (placed l b (was l b is)) (rule.allowed n tags b)) is (λ m there. sym (placed m b (was m b there)) ∙ placed l b (was l b is))
+
+    module _ (lines : List (List X)) (tags : List ℕ) (counts : Counts) (k : ℕ → Code) (fit : Fit lines tags k) (l : ℕ) (lt : l < length tags) where
+      abbrev s : State Code
+      s = standing_at lines tags counts k
+
+      abbrev placed : IsPlaced tags
+      placed = placed_of lines tags k fit
+
+      abbrev emptied : List ℕ
+      emptied = set tags l 0
+
+      none_named : (b : ℕ) → block_in 0 ≢ Some b
+      none_named b e = cc
+
+      tag-emptied : tag_at emptied l ≡ 0
+      tag-emptied = tag-set_same tags l 0 lt
+
+      -- who is in a line after it, was there before, and the line is another
+      gone : (m b : ℕ) → IsIn emptied m b → m ≢ l
+      gone m b e at = none_named b (sym (ap block_in (ap (tag_at emptied) at ∙ tag-emptied)) ∙ e)
+
+      was_in : (m b : ℕ) → IsIn emptied m b → IsIn tags m b
+      was_in m b e = sym (ap block_in (tag-set_other tags l 0 m (gone m b e))) ∙ e
+
+      placed-emptied : IsPlaced emptied
+      placed-emptied = still_placed tags emptied placed was_in
+
+      -- the block of the line is in no line after it
+      out-emptied : (b : ℕ) → IsIn tags l b → IsAway emptied b
+      out-emptied b is m e = gone m b e (sym (placed m b (was_in m b e)) ∙ placed l b is)
+
+      away-emptied : (b : ℕ) → IsAway tags b → IsAway emptied b
+      away-emptied b out m e = out m (was_in m b e)
+
+      emptied-held : (m : ℕ) → block_in (tag_at emptied m) ≡ with_at s.held l None m
+      emptied-held m = elim (same_or_not m l) [
+        | inl e ↦ ap (λ j. block_in (tag_at emptied j)) e ∙ ap block_in tag-emptied ∙ sym (with_at-same s.held l None) ∙ ap (with_at s.held l None) (sym e)
+        | inr ne ↦ ap block_in (tag-set_other tags l 0 m ne) ∙ sym (with_at-other s.held l None m ne)
       ]
 
-      pub empties_clean : standing lines emptied counts k ≡ evicted f s l
-      unfolding evicted
-      empties_clean =
-          same_state (standing lines emptied counts k) (record s { held = with_at s.held l None }) refl emptied-held clean-dirty
-          (λ b. elim (same_or_not (b % n) l) [
-            | inl at ↦ emptied-out b at k ∙ sym (undirty-values b (λ e. dirty_of-none (tag_at tags l) b none (ap (tag_at tags) (sym at) ∙ e)))
-            | inr ne ↦ vals-same lines lines emptied tags k k b (ap block_in (tag-set_other tags l 0 (b % n) ne)) refl refl
-          ])
-          (λ b. refl) refl
-          ∙ ap (λ (t : State Code). record t { held = with_at t.held l None }) (sym kept-back)
+      -- a block in another line stays there
+      still-in : (m b : ℕ) → m ≢ l → IsIn tags m b → place n emptied b ≡ m
+      still-in m b ne is = placed-emptied m b (ap block_in (tag-set_other tags l 0 m ne) ∙ is)
 
-    pub fits_emptied : (k' : ℕ → Code) → ((b : ℕ) → b % n ≢ l → k' b ≡ k b) → Fit lines emptied k'
-    fits_emptied k' same = record {
-      own = λ m b e. fit.own m b (sym (ap block_in (tag-set_other tags l 0 m (off m b (named (tag_at emptied m) b e)))) ∙ e);
-      clean = λ m b e.
-          let ne = off m b (ap (λ t. t / 2) e ∙ half b) in
-          let was = sym (tag-set_other tags l 0 m ne) ∙ e in
-          let own = fit.own m b (ap block_in was ∙ names-clean b) in
-          fit.clean m b was ∙ ap (meant f b) (sym (same b (λ at. ne (sym own.0 ∙ at))));
-    }
-      where
-        half : (b : ℕ) → (2 * b + 2) / 2 ≡ b + 1
-        half b = omega arith
+      elsewhere-dirty : (m b : ℕ) → m ≢ l → IsIn tags m b → soiled_in emptied b ≡ soiled_in tags b
+      elsewhere-dirty m b ne is = dirty-stay tags emptied b m (placed m b is) (still-in m b ne is) (tag-set_other tags l 0 m ne)
 
-        off : (m b : ℕ) → tag_at emptied m / 2 ≡ b + 1 → m ≢ l
-        off m b e at =
-            let none : tag_at emptied m ≡ 0 = ap (tag_at emptied) at ∙ tag-set_same tags l 0 lt in
-            omega (arith, e, none)
+      elsewhere-values : (k' : ℕ → Code) (m b : ℕ) → m ≢ l → IsIn tags m b → k' b ≡ k b → vals lines emptied k' b ≡ vals lines tags k b
+      elsewhere-values k' m b ne is same = vals-stay lines lines tags emptied k k' b same m (placed m b is) (still-in m b ne is) is (tag-set_other tags l 0 m ne) refl
 
-    -- a line is emptied whose block was written back
-    module _ (b : ℕ) (is : tag_at tags l ≡ dirty_tag b) where
-      abbrev code : Code
-      code = encoded f b (map value (line_at lines l))
+      -- a line is emptied whose block is not dirty
+      module _ (none : dirty_of (tag_at tags l) ≡ None) where
+        not_dirty : (b : ℕ) → place n tags b ≡ l → tag_at tags (place n tags b) ≢ dirty_tag b
+        not_dirty b at e = dirty_of-none (tag_at tags l) b none (ap (tag_at tags) (sym at) ∙ e)
 
-      abbrev k' : ℕ → Code
-      k' = with_at k b code
+        undirty : (b : ℕ) → IsIn tags l b → soiled_in tags b ≡ false
+        undirty b is = ne_eqb (tag_at tags (place n tags b)) (dirty_tag b) (not_dirty b (placed l b is))
 
-      there : block_in (tag_at tags l) ≡ Some b
-      there = ap block_in is ∙ names-dirty b
+        kept-back : write_back_line f s l ≡ s
+        kept-back = by (block_in (tag_at tags l)) refl
+          where
+            by : (o : Option ℕ) → block_in (tag_at tags l) ≡ o → write_back_line f s l ≡ s
+            by None e = write_back_line-none f s l e
+            by (Some b) e = write_back_line-some f s l b e ∙ write_back_dirty-false f s b (undirty b e)
 
-      own : b % n ≡ l
-      own = (fit.own l b there).0
-
-      was-dirty : s.dirty b ≡ true
-      was-dirty = eq-eqb (tag_at tags (b % n)) (dirty_tag b) (ap (tag_at tags) own ∙ is)
-
-      was-values : s.values b ≡ in_line lines l b
-      was-values = vals-in lines tags k b (ap (λ j. block_in (tag_at tags j)) own ∙ there) ∙ ap (λ j. in_line lines j b) own
-
-      same-code : encoded f b (s.values b) ≡ code
-      same-code = ap (encoded f b) was-values ∙ encoded-existing_of f b (map value (line_at lines l))
-
-      written-back : write_back_line f s l ≡ write_back f s b
-      written-back = write_back_line-some f s l b there ∙ write_back_dirty-true f s b was-dirty
-
-      not_other : (a : ℕ) → a % n ≡ l → a ≢ b → block_in (tag_at tags (a % n)) ≢ Some a
-      not_other a at ne e = let both : Some b ≡ Some a = sym there ∙ ap (λ j. block_in (tag_at tags j)) (sym at) ∙ e in let same : a ≡ b = cc in ne same
-
-      soiled-dirty : (a : ℕ) → (tag_at emptied (a % n) == dirty_tag a) ≡ with_at s.dirty b false a
-      soiled-dirty a = elim (same_or_not a b) [
-        | inl e ↦ ap (λ j. tag_at emptied (j % n) == dirty_tag j) e ∙ ap (λ j. tag_at emptied j == dirty_tag b) own ∙ zero-dirty b ∙ sym (with_at-same s.dirty b false) ∙ ap (with_at s.dirty b false) (sym e)
-        | inr ne ↦ elim (same_or_not (a % n) l) [
-          | inl at ↦ ap (λ j. tag_at emptied j == dirty_tag a) at ∙ zero-dirty a
-              ∙ sym (ne_eqb (tag_at tags (a % n)) (dirty_tag a) (λ e. not_other a at ne (ap block_in e ∙ names-dirty a))) ∙ sym (with_at-other s.dirty b false a ne)
-          | inr off ↦ ap (λ t. t == dirty_tag a) (tag-set_other tags l 0 (a % n) off) ∙ sym (with_at-other s.dirty b false a ne)
+        clean-dirty : (b : ℕ) → soiled_in emptied b ≡ soiled_in tags b
+        clean-dirty b = elim (whereabouts tags placed l b) [
+          | inl is ↦ dirty-out emptied b (out-emptied b is (place n emptied b)) ∙ sym (undirty b is)
+          | inr rest ↦ elim rest [
+            | inl m ↦ elsewhere-dirty m.line b m.other m.there
+            | inr out ↦ dirty-away tags emptied b out (away-emptied b out)
+          ]
         ]
-      ]
 
-      soiled-values : (a : ℕ) → vals lines emptied k' a ≡ with_at s.values b (meant f b (encoded f b (s.values b))) a
-      soiled-values a = elim (same_or_not a b) [
-        | inl e ↦ ap (vals lines emptied k') e ∙ emptied-out b own k' ∙ ap (meant f b) (with_at-same k b code ∙ sym same-code)
-            ∙ sym (with_at-same s.values b (meant f b (encoded f b (s.values b)))) ∙ ap (with_at s.values b (meant f b (encoded f b (s.values b)))) (sym e)
-        | inr ne ↦ elim (same_or_not (a % n) l) [
-          | inl at ↦ emptied-out a at k' ∙ ap (meant f a) (with_at-other k b code a ne) ∙ sym (vals-out lines tags k a (not_other a at ne)) ∙ sym (with_at-other s.values b _ a ne)
-          | inr off ↦ vals-same lines lines emptied tags k' k a (ap block_in (tag-set_other tags l 0 (a % n) off)) refl (with_at-other k b code a ne) ∙ sym (with_at-other s.values b _ a ne)
+        clean-values : (b : ℕ) → vals lines emptied k b ≡ vals lines tags k b
+        clean-values b = elim (whereabouts tags placed l b) [
+          | inl is ↦ vals-out lines emptied k b (out-emptied b is (place n emptied b)) ∙ sym (undirty_values lines tags k fit b (not_dirty b (placed l b is)))
+          | inr rest ↦ elim rest [
+            | inl m ↦ elsewhere-values k m.line b m.other m.there refl
+            | inr out ↦ vals-away lines lines tags emptied k k b refl out (away-emptied b out)
+          ]
         ]
-      ]
 
-      pub empties_dirty : standing lines emptied (record counts { writes = risen counts.writes }) k' ≡ evicted f s l
-      unfolding evicted write_back
-      empties_dirty =
-          same_state (standing lines emptied (record counts { writes = risen counts.writes }) k') (record (write_back f s b) { held = with_at s.held l None })
-          refl emptied-held soiled-dirty soiled-values (λ a. ap (λ (c : Code). with_at k b c a) (sym same-code)) refl
-          ∙ ap (λ (t : State Code). record t { held = with_at t.held l None }) (sym written-back)
+        pub empties_clean : standing_at lines emptied counts k ≡ evicted f s l
+        unfolding evicted
+        empties_clean =
+            same_state (standing_at lines emptied counts k) (record s { held = with_at s.held l None }) refl emptied-held clean-dirty clean-values (λ b. refl) refl
+            ∙ ap (λ (t : State Code). record t { held = with_at t.held l None }) (sym kept-back)
 
-      pub fits_dirty : Fit lines emptied k'
-      fits_dirty = fits_emptied k' (λ a off. with_at-other k b code a (λ e. off (ap (λ j. j % n) e ∙ own)))
-
-    -- a line is emptied, with the dirty block in it written back
-    abbrev pub codes_after : Option ℕ → ℕ → Code
-    codes_after None = k
-    codes_after (Some b) = with_at k b (encoded f b (map value (line_at lines l)))
-
-    abbrev pub counts_after : Option ℕ → Counts
-    counts_after None = counts
-    counts_after (Some b) = record counts { writes = risen counts.writes }
-
-    pub empties : (o : Option ℕ) → dirty_of (tag_at tags l) ≡ o → standing lines emptied (counts_after o) (codes_after o) ≡ evicted f s l
-    empties None e = empties_clean e
-    empties (Some b) e = empties_dirty b (dirty_of-some (tag_at tags l) b e)
-
-    pub fits_after : (o : Option ℕ) → dirty_of (tag_at tags l) ≡ o → Fit lines emptied (codes_after o)
-    fits_after None e = fits_emptied k (λ b off. refl)
-    fits_after (Some b) e = fits_dirty b (dirty_of-some (tag_at tags l) b e)
-
-    -- the block that is written back is one of the backing's
-    pub dirty_below : (b : ℕ) → dirty_of (tag_at tags l) ≡ Some b → b < f.blocks
-    dirty_below b e = (fit.own l b (ap block_in (dirty_of-some (tag_at tags l) b e) ∙ names-dirty b)).1
-
-    -- ---- block b goes into its line l
-
-    module _ (b : ℕ) (own : b % n ≡ l) (here : l < length lines) (row : List X) where
-      abbrev rows : List (List X)
-      rows = set lines l row
-
-      row-same : line_at rows l ≡ row
-      row-same = get_or-set_same lines l row [] here
-
-      row-other : (m : ℕ) → m ≢ l → line_at rows m ≡ line_at lines m
-      row-other m ne = get_or-set_other lines l m row [] ne
-
-      module _ (zero_there : tag_at tags l ≡ 0) (loaded : existing_of f b (map value row) ≡ meant f b (k b)) where
-        abbrev tags' : List ℕ
-        tags' = set tags l (clean_tag b)
-
-        tag-same : tag_at tags' l ≡ clean_tag b
-        tag-same = tag-set_same tags l (clean_tag b) lt
-
-        tag-other : (m : ℕ) → m ≢ l → tag_at tags' m ≡ tag_at tags m
-        tag-other m ne = tag-set_other tags l (clean_tag b) m ne
-
-        out-before : (a : ℕ) → a % n ≡ l → vals lines tags k a ≡ meant f a (k a)
-        out-before a at = vals-out lines tags k a (λ e. none_named a (sym (ap block_in (ap (tag_at tags) at ∙ zero_there)) ∙ e))
-
-        in-after : in_line rows l b ≡ meant f b (k b)
-        in-after = ap (λ r. existing_of f b (map value r)) row-same ∙ loaded
-
-        names-own : (a : ℕ) → block_in (tag_at tags' l) ≡ Some a → b ≡ a
-        names-own a e = let both : Some b ≡ Some a = sym (ap block_in tag-same ∙ names-clean b) ∙ e in cc
-
-        pub takes_in : standing rows tags' (record counts { misses = risen counts.misses }) k ≡ taken_in s l b
-        unfolding taken_in
-        takes_in =
-            same_state (standing rows tags' (record counts { misses = risen counts.misses }) k) (record s { held = with_at s.held l (Some b); counts = record counts { misses = risen counts.misses } })
-            refl
-            (λ m. elim (same_or_not m l) [
-              | inl e ↦ ap (λ j. block_in (tag_at tags' j)) e ∙ ap block_in tag-same ∙ names-clean b ∙ sym (with_at-same s.held l (Some b)) ∙ ap (with_at s.held l (Some b)) (sym e)
-              | inr ne ↦ ap block_in (tag-other m ne) ∙ sym (with_at-other s.held l (Some b) m ne)
-            ])
-            (λ a. elim (same_or_not (a % n) l) [
-              | inl at ↦ ap (λ j. tag_at tags' j == dirty_tag a) at ∙ ap (λ t. t == dirty_tag a) tag-same ∙ ne_eqb (clean_tag b) (dirty_tag a) (λ e. omega (arith, e))
-                  ∙ sym (ap (λ j. tag_at tags j == dirty_tag a) at ∙ ap (λ t. t == dirty_tag a) zero_there ∙ ne_eqb 0 (dirty_tag a) (λ e. omega (arith, e)))
-              | inr off ↦ ap (λ t. t == dirty_tag a) (tag-other (a % n) off)
-            ])
-            (λ a. elim (same_or_not (a % n) l) [
-              | inl at ↦ elim (same_or_not b a) [
-                | inl e ↦ ap (vals rows tags' k) (sym e) ∙ vals-in rows tags' k b (ap (λ j. block_in (tag_at tags' j)) own ∙ ap block_in tag-same ∙ names-clean b)
-                    ∙ ap (λ j. in_line rows j b) own ∙ in-after ∙ sym (out-before b own) ∙ ap (vals lines tags k) e
-                | inr ne ↦ vals-out rows tags' k a (λ e. ne (names-own a (ap (λ j. block_in (tag_at tags' j)) (sym at) ∙ e))) ∙ sym (out-before a at)
-              ]
-              | inr off ↦ vals-same rows lines tags' tags k k a (ap block_in (tag-other (a % n) off)) (row-other (a % n) off) refl
-            ])
-            (λ a. refl) refl
-
-        pub fits_taken : b < f.blocks → Fit rows tags' k
-        fits_taken below = record {
-          own = λ m a e. elim (same_or_not m l) [
-            | inl at ↦ let is = names-own a (ap (λ j. block_in (tag_at tags' j)) (sym at) ∙ e) in (ap (λ j. j % n) (sym is) ∙ own ∙ sym at, subst (λ j. j < f.blocks) is below)
-            | inr off ↦ fit.own m a (sym (ap block_in (tag-other m off)) ∙ e)
-          ];
-          clean = λ m a e. elim (same_or_not m l) [
-            | inl at ↦ let tag : clean_tag b ≡ clean_tag a = sym tag-same ∙ ap (tag_at tags') (sym at) ∙ e in let is : b ≡ a = omega (arith, tag) in
-                ap (λ j. in_line rows j a) at ∙ subst (λ j. in_line rows l j ≡ meant f j (k j)) is in-after
-            | inr off ↦ ap (λ r. existing_of f a (map value r)) (row-other m off) ∙ fit.clean m a (sym (tag-other m off) ∙ e)
-          ];
-        }
-
-      -- ---- what is written through a loan of the dirty block b
-
-      module _ (is : tag_at tags l ≡ dirty_tag b) where
-        names-it : (a : ℕ) → a % n ≡ l → block_in (tag_at tags (a % n)) ≡ Some b
-        names-it a at = ap (λ j. block_in (tag_at tags j)) at ∙ ap block_in is ∙ names-dirty b
-
-        apart : (a : ℕ) → a ≢ b → a % n ≡ l → block_in (tag_at tags (a % n)) ≢ Some a
-        apart a ne at e = let both : Some b ≡ Some a = sym (names-it a at) ∙ e in let same : a ≡ b = cc in ne same
-
-        pub writes : standing rows tags counts k ≡ with_values s b (existing_of f b (map value row))
-        unfolding with_values
-        writes =
-            let v = existing_of f b (map value row) in
-            same_state (standing rows tags counts k) (record s { values = with_at s.values b v }) refl (λ m. refl) (λ a. refl)
-            (λ a. elim (same_or_not a b) [
-              | inl e ↦ ap (vals rows tags k) e ∙ vals-in rows tags k b (names-it b own) ∙ ap (λ j. in_line rows j b) own ∙ ap (λ r. existing_of f b (map value r)) row-same
-                  ∙ sym (with_at-same s.values b v) ∙ ap (with_at s.values b v) (sym e)
-              | inr ne ↦ elim (same_or_not (a % n) l) [
-                | inl at ↦ vals-out rows tags k a (apart a ne at) ∙ sym (vals-out lines tags k a (apart a ne at)) ∙ sym (with_at-other s.values b v a ne)
-                | inr off ↦ vals-same rows lines tags tags k k a refl (row-other (a % n) off) refl ∙ sym (with_at-other s.values b v a ne)
-              ]
-            ])
-            (λ a. refl) refl
-
-        pub fits_written : Fit rows tags k
-        fits_written = record {
-          own = fit.own;
-          clean = λ m a e. elim (same_or_not m l) [
-            | inl at ↦ let both : dirty_tag b ≡ clean_tag a = sym is ∙ ap (tag_at tags) (sym at) ∙ e in absurd (omega (arith, both))
-            | inr off ↦ ap (λ r. existing_of f a (map value r)) (row-other m off) ∙ fit.clean m a e
-          ];
-        }
-
-    -- ---- block b, which is in its line l, becomes dirty
-
-    module _ (b : ℕ) (own : b % n ≡ l) (half : tag_at tags l / 2 ≡ b + 1) where
-      abbrev marked : List ℕ
-      marked = set tags l (dirty_tag b)
-
-      mark-same : tag_at marked l ≡ dirty_tag b
-      mark-same = tag-set_same tags l (dirty_tag b) lt
-
-      mark-other : (m : ℕ) → m ≢ l → tag_at marked m ≡ tag_at tags m
-      mark-other m ne = tag-set_other tags l (dirty_tag b) m ne
-
-      same-block : (m : ℕ) → block_in (tag_at marked m) ≡ block_in (tag_at tags m)
-      same-block m = elim (same_or_not m l) [
-        | inl e ↦ ap (λ j. block_in (tag_at marked j)) e ∙ ap block_in mark-same ∙ names-dirty b ∙ sym (names (tag_at tags l) b half) ∙ ap (λ j. block_in (tag_at tags j)) (sym e)
-        | inr ne ↦ ap block_in (mark-other m ne)
-      ]
-
-      pub soils : standing lines marked counts k ≡ soiled s b
-      unfolding soiled
-      soils =
-          same_state (standing lines marked counts k) (record s { dirty = with_at s.dirty b true }) refl same-block
-          (λ a. elim (same_or_not a b) [
-            | inl e ↦ ap (λ j. tag_at marked (j % n) == dirty_tag j) e ∙ eq-eqb (tag_at marked (b % n)) (dirty_tag b) (ap (tag_at marked) own ∙ mark-same)
-                ∙ sym (with_at-same s.dirty b true) ∙ ap (with_at s.dirty b true) (sym e)
-            | inr ne ↦ elim (same_or_not (a % n) l) [
-              | inl at ↦ ap (λ j. tag_at marked j == dirty_tag a) at ∙ ap (λ t. t == dirty_tag a) mark-same
-                  ∙ ne_eqb (dirty_tag b) (dirty_tag a) (λ e. let same : a ≡ b = omega (arith, e) in ne same)
-                  ∙ sym (ap (λ j. tag_at tags j == dirty_tag a) at
-                  ∙ ne_eqb (tag_at tags l) (dirty_tag a) (λ e. let same : a ≡ b = omega (arith, half, e) in ne same)) ∙ sym (with_at-other s.dirty b true a ne)
-              | inr off ↦ ap (λ t. t == dirty_tag a) (mark-other (a % n) off) ∙ sym (with_at-other s.dirty b true a ne)
-            ]
-          ])
-          (λ a. vals-same lines lines marked tags k k a (same-block (a % n)) refl refl) (λ a. refl) refl
-
-      pub fits_soiled : Fit lines marked k
-      fits_soiled = record {
-        own = λ m a e. fit.own m a (sym (same-block m) ∙ e);
-        clean = λ m a e. elim (same_or_not m l) [
-          | inl at ↦ let both : dirty_tag b ≡ clean_tag a = sym mark-same ∙ ap (tag_at marked) (sym at) ∙ e in absurd (omega (arith, both))
-          | inr off ↦ fit.clean m a (sym (mark-other m off) ∙ e)
-        ];
+      pub fits_emptied : (k' : ℕ → Code) → ((b : ℕ) → (IsIn tags l b → ⊥) → k' b ≡ k b) → Fit lines emptied k'
+      fits_emptied k' same = record {
+        own = λ m b e. (placed-emptied m b e, (fit.own m b (was_in m b e)).1);
+        clean = λ m b e.
+            let is = ap block_in e ∙ names-clean b in
+            let ne = gone m b is in
+            fit.clean m b (sym (tag-set_other tags l 0 m ne) ∙ e) ∙ ap (meant f b) (sym (same b (λ at. out-emptied b at m is)));
       }
+
+      -- a line is emptied whose block was written back
+      module _ (b : ℕ) (is : tag_at tags l ≡ dirty_tag b) where
+        abbrev code : Code
+        code = encoded f b (map value (line_at lines l))
+
+        abbrev k' : ℕ → Code
+        k' = with_at k b code
+
+        there : IsIn tags l b
+        there = ap block_in is ∙ names-dirty b
+
+        own : place n tags b ≡ l
+        own = placed l b there
+
+        was-dirty : s.dirty b ≡ true
+        was-dirty = eq-eqb (tag_at tags (place n tags b)) (dirty_tag b) (ap (tag_at tags) own ∙ is)
+
+        was-values : s.values b ≡ in_line lines l b
+        was-values = vals-in lines tags k b l own there
+
+        same-code : encoded f b (s.values b) ≡ code
+        same-code = ap (encoded f b) was-values ∙ encoded-existing_of f b (map value (line_at lines l))
+
+        written-back : write_back_line f s l ≡ write_back f s b
+        written-back = write_back_line-some f s l b there ∙ write_back_dirty-true f s b was-dirty
+
+        only : (a : ℕ) → IsIn tags l a → a ≡ b
+        only a e = let both : Some a ≡ Some b = sym e ∙ there in cc
+
+        other : (a m : ℕ) → m ≢ l → IsIn tags m a → a ≢ b
+        other a m ne e same = ne (sym (placed m a e) ∙ ap (place n tags) same ∙ own)
+
+        apart : (a : ℕ) → IsAway tags a → a ≢ b
+        apart a out same = out l (there ∙ ap Some (sym same))
+
+        soiled-dirty : (a : ℕ) → soiled_in emptied a ≡ with_at s.dirty b false a
+        soiled-dirty a = elim (whereabouts tags placed l a) [
+          | inl e ↦ dirty-out emptied a (out-emptied a e (place n emptied a)) ∙ sym (with_at-same s.dirty b false) ∙ ap (with_at s.dirty b false) (sym (only a e))
+          | inr rest ↦ elim rest [
+            | inl m ↦ elsewhere-dirty m.line a m.other m.there ∙ sym (with_at-other s.dirty b false a (other a m.line m.other m.there))
+            | inr out ↦ dirty-away tags emptied a out (away-emptied a out) ∙ sym (with_at-other s.dirty b false a (apart a out))
+          ]
+        ]
+
+        soiled-values : (a : ℕ) → vals lines emptied k' a ≡ with_at s.values b (meant f b (encoded f b (s.values b))) a
+        soiled-values a =
+            let v = meant f b (encoded f b (s.values b)) in
+            elim (whereabouts tags placed l a) [
+              | inl e ↦ ap (vals lines emptied k') (only a e) ∙ vals-out lines emptied k' b (out-emptied b there (place n emptied b)) ∙ ap (meant f b) (with_at-same k b code ∙ sym same-code)
+                  ∙ sym (with_at-same s.values b v) ∙ ap (with_at s.values b v) (sym (only a e))
+              | inr rest ↦ elim rest [
+                | inl m ↦
+                    let ne = other a m.line m.other m.there in
+                    elsewhere-values k' m.line a m.other m.there (with_at-other k b code a ne) ∙ sym (with_at-other s.values b v a ne)
+                | inr out ↦
+                    vals-away lines lines tags emptied k k' a (with_at-other k b code a (apart a out)) out (away-emptied a out) ∙ sym (with_at-other s.values b v a (apart a out))
+              ]
+            ]
+
+        pub empties_dirty : standing_at lines emptied (record counts { writes = risen counts.writes }) k' ≡ evicted f s l
+        unfolding evicted write_back
+        empties_dirty =
+            same_state (standing_at lines emptied (record counts { writes = risen counts.writes }) k') (record (write_back f s b) { held = with_at s.held l None })
+            refl emptied-held soiled-dirty soiled-values (λ a. ap (λ (c : Code). with_at k b c a) (sym same-code)) refl
+            ∙ ap (λ (t : State Code). record t { held = with_at t.held l None }) (sym written-back)
+
+        pub fits_dirty : Fit lines emptied k'
+        fits_dirty = fits_emptied k' (λ a off. with_at-other k b code a (λ e. off (there ∙ ap Some (sym e))))
+
+      -- a line is emptied, with the dirty block in it written back
+      abbrev pub codes_after : Option ℕ → ℕ → Code
+      codes_after None = k
+      codes_after (Some b) = with_at k b (encoded f b (map value (line_at lines l)))
+
+      abbrev pub counts_after : Option ℕ → Counts
+      counts_after None = counts
+      counts_after (Some b) = record counts { writes = risen counts.writes }
+
+      pub empties : (o : Option ℕ) → dirty_of (tag_at tags l) ≡ o → standing_at lines emptied (counts_after o) (codes_after o) ≡ evicted f s l
+      empties None e = empties_clean e
+      empties (Some b) e = empties_dirty b (dirty_of-some (tag_at tags l) b e)
+
+      pub fits_after : (o : Option ℕ) → dirty_of (tag_at tags l) ≡ o → Fit lines emptied (codes_after o)
+      fits_after None e = fits_emptied k (λ b off. refl)
+      fits_after (Some b) e = fits_dirty b (dirty_of-some (tag_at tags l) b e)
+
+      -- the block that is written back is one of the backing's
+      pub dirty_below : (b : ℕ) → dirty_of (tag_at tags l) ≡ Some b → b < f.blocks
+      dirty_below b e = (fit.own l b (ap block_in (dirty_of-some (tag_at tags l) b e) ∙ names-dirty b)).1
+
+      -- ---- the values in line l change
+
+      module _ (b : ℕ) (here : l < length lines) (row : List X) where
+        abbrev rows : List (List X)
+        rows = set lines l row
+
+        row-same : line_at rows l ≡ row
+        row-same = get_or-set_same lines l row [] here
+
+        row-other : (m : ℕ) → m ≢ l → line_at rows m ≡ line_at lines m
+        row-other m ne = get_or-set_other lines l m row [] ne
+
+        -- ---- block b, which is in no line, goes into line l, which is empty
+
+        module _ (may : may_hold n b l) (zero_there : tag_at tags l ≡ 0) (none : IsAway tags b) (loaded : existing_of f b (map value row) ≡ meant f b (k b)) where
+          abbrev tags' : List ℕ
+          tags' = set tags l (clean_tag b)
+
+          tag-same : tag_at tags' l ≡ clean_tag b
+          tag-same = tag-set_same tags l (clean_tag b) lt
+
+          tag-other : (m : ℕ) → m ≢ l → tag_at tags' m ≡ tag_at tags m
+          tag-other m ne = tag-set_other tags l (clean_tag b) m ne
+
+          is-in : IsIn tags' l b
+          is-in = ap block_in tag-same ∙ names-clean b
+
+          only-in : (a : ℕ) → IsIn tags' l a → a ≡ b
+          only-in a e = let both : Some a ≡ Some b = sym e ∙ is-in in cc
+
+          before : (m a : ℕ) → m ≢ l → IsIn tags' m a → IsIn tags m a
+          before m a ne e = sym (ap block_in (tag-other m ne)) ∙ e
+
+          nowhere : (a : ℕ) → IsIn tags l a → ⊥
+          nowhere a e = none_named a (sym (ap block_in zero_there) ∙ e)
+
+          placed-taken : IsPlaced tags'
+          placed-taken m a e = elim (same_or_not m l) [
+            | inl at ↦
+                let is : a ≡ b = only-in a (ap (λ j. block_in (tag_at tags' j)) (sym at) ∙ e) in
+                ap (place n tags') is ∙ rule.found n tags' b l may is-in (λ j there. elim (same_or_not j l) [ inl same ↦ same | inr off ↦ absurd (none j (before j b off there)) ]) ∙ sym at
+            | inr off ↦
+                let was = before m a off e in
+                rule.found n tags' a m (subst (may_hold n a) (placed m a was) (rule.allowed n tags a)) e (λ j there. elim (same_or_not j l) [
+                  | inl same ↦
+                      let is : a ≡ b = only-in a (ap (λ j. block_in (tag_at tags' j)) (sym same) ∙ there) in
+                      absurd (none m (was ∙ ap Some is))
+                  | inr ne ↦ sym (placed j a (before j a ne there)) ∙ placed m a was
+                ])
+          ]
+
+          in-after : in_line rows l b ≡ meant f b (k b)
+          in-after = ap (λ r. existing_of f b (map value r)) row-same ∙ loaded
+
+          away-taken : (a : ℕ) → a ≢ b → IsAway tags a → IsAway tags' a
+          away-taken a ne out m e = elim (same_or_not m l) [
+            | inl at ↦ ne (only-in a (ap (λ j. block_in (tag_at tags' j)) (sym at) ∙ e))
+            | inr off ↦ out m (before m a off e)
+          ]
+
+          again : (m a : ℕ) → m ≢ l → IsIn tags m a → place n tags' a ≡ m
+          again m a ne e = placed-taken m a (ap block_in (tag-other m ne) ∙ e)
+
+          taken-dirty : (a : ℕ) → soiled_in tags' a ≡ soiled_in tags a
+          taken-dirty a = elim (whereabouts tags placed l a) [
+            | inl e ↦ absurd (nowhere a e)
+            | inr rest ↦ elim rest [
+              | inl m ↦ dirty-stay tags tags' a m.line (placed m.line a m.there) (again m.line a m.other m.there) (tag-other m.line m.other)
+              | inr out ↦ elim (same_or_not a b) [
+                | inl e ↦ ap (soiled_in tags') e ∙ dirty-in tags' b l (placed-taken l b is-in) ∙ ap (λ t. t == dirty_tag b) tag-same
+                    ∙ ne_eqb (clean_tag b) (dirty_tag b) (λ e. omega (arith, e)) ∙ sym (dirty-out tags b (none (place n tags b))) ∙ ap (soiled_in tags) (sym e)
+                | inr ne ↦ dirty-away tags tags' a out (away-taken a ne out)
+              ]
+            ]
+          ]
+
+          taken-values : (a : ℕ) → vals rows tags' k a ≡ vals lines tags k a
+          taken-values a = elim (whereabouts tags placed l a) [
+            | inl e ↦ absurd (nowhere a e)
+            | inr rest ↦ elim rest [
+              | inl m ↦ vals-stay lines rows tags tags' k k a refl m.line (placed m.line a m.there) (again m.line a m.other m.there) m.there (tag-other m.line m.other) (row-other m.line m.other)
+              | inr out ↦ elim (same_or_not a b) [
+                | inl e ↦ ap (vals rows tags' k) e ∙ vals-in rows tags' k b l (placed-taken l b is-in) is-in ∙ in-after
+                    ∙ sym (vals-out lines tags k b (none (place n tags b))) ∙ ap (vals lines tags k) (sym e)
+                | inr ne ↦ vals-away lines rows tags tags' k k a refl out (away-taken a ne out)
+              ]
+            ]
+          ]
+
+          pub takes_in : standing_at rows tags' (record counts { misses = risen counts.misses }) k ≡ taken_in s l b
+          unfolding taken_in
+          takes_in =
+              same_state (standing_at rows tags' (record counts { misses = risen counts.misses }) k) (record s { held = with_at s.held l (Some b); counts = record counts { misses = risen counts.misses } })
+              refl
+              (λ m. elim (same_or_not m l) [
+                | inl e ↦ ap (λ j. block_in (tag_at tags' j)) e ∙ is-in ∙ sym (with_at-same s.held l (Some b)) ∙ ap (with_at s.held l (Some b)) (sym e)
+                | inr ne ↦ ap block_in (tag-other m ne) ∙ sym (with_at-other s.held l (Some b) m ne)
+              ])
+              taken-dirty taken-values (λ a. refl) refl
+
+          pub fits_taken : b < f.blocks → Fit rows tags' k
+          fits_taken below = record {
+            own = λ m a e. (placed-taken m a e, elim (same_or_not m l) [
+              | inl at ↦ subst (λ j. j < f.blocks) (sym (only-in a (ap (λ j. block_in (tag_at tags' j)) (sym at) ∙ e))) below
+              | inr off ↦ (fit.own m a (before m a off e)).1
+            ]);
+            clean = λ m a e. elim (same_or_not m l) [
+              | inl at ↦ let tag : clean_tag b ≡ clean_tag a = sym tag-same ∙ ap (tag_at tags') (sym at) ∙ e in let is : b ≡ a = omega (arith, tag) in
+                  ap (λ j. in_line rows j a) at ∙ subst (λ j. in_line rows l j ≡ meant f j (k j)) is in-after
+              | inr off ↦ ap (λ r. existing_of f a (map value r)) (row-other m off) ∙ fit.clean m a (sym (tag-other m off) ∙ e)
+            ];
+          }
+
+        -- ---- what is written through a loan of the dirty block b
+
+        module _ (is : tag_at tags l ≡ dirty_tag b) where
+          in-it : IsIn tags l b
+          in-it = ap block_in is ∙ names-dirty b
+
+          pub writes : standing_at rows tags counts k ≡ with_values s b (existing_of f b (map value row))
+          unfolding with_values
+          writes =
+              let v = existing_of f b (map value row) in
+              same_state (standing_at rows tags counts k) (record s { values = with_at s.values b v }) refl (λ m. refl) (λ a. refl)
+              (λ a. elim (same_or_not a b) [
+                | inl e ↦ ap (vals rows tags k) e ∙ vals-in rows tags k b l (placed l b in-it) in-it ∙ ap (λ r. existing_of f b (map value r)) row-same
+                    ∙ sym (with_at-same s.values b v) ∙ ap (with_at s.values b v) (sym e)
+                | inr ne ↦ elim (whereabouts tags placed l a) [
+                  | inl at ↦ let both : Some a ≡ Some b = sym at ∙ in-it in let same : a ≡ b = cc in absurd (ne same)
+                  | inr rest ↦ elim rest [
+                    | inl m ↦ vals-stay lines rows tags tags k k a refl m.line (placed m.line a m.there) (placed m.line a m.there) m.there refl (row-other m.line m.other)
+                    | inr out ↦ vals-away lines rows tags tags k k a refl out out
+                  ] ∙ sym (with_at-other s.values b v a ne)
+                ]
+              ])
+              (λ a. refl) refl
+
+          pub fits_written : Fit rows tags k
+          fits_written = record {
+            own = fit.own;
+            clean = λ m a e. elim (same_or_not m l) [
+              | inl at ↦ let both : dirty_tag b ≡ clean_tag a = sym is ∙ ap (tag_at tags) (sym at) ∙ e in absurd (omega (arith, both))
+              | inr off ↦ ap (λ r. existing_of f a (map value r)) (row-other m off) ∙ fit.clean m a e
+            ];
+          }
+
+      -- ---- block b, which is in line l, becomes dirty
+
+      module _ (b : ℕ) (half : tag_at tags l / 2 ≡ b + 1) where
+        abbrev marked : List ℕ
+        marked = set tags l (dirty_tag b)
+
+        mark-same : tag_at marked l ≡ dirty_tag b
+        mark-same = tag-set_same tags l (dirty_tag b) lt
+
+        mark-other : (m : ℕ) → m ≢ l → tag_at marked m ≡ tag_at tags m
+        mark-other m ne = tag-set_other tags l (dirty_tag b) m ne
+
+        held-here : IsIn tags l b
+        held-here = names (tag_at tags l) b half
+
+        same-block : (m : ℕ) → block_in (tag_at marked m) ≡ block_in (tag_at tags m)
+        same-block m = elim (same_or_not m l) [
+          | inl e ↦ ap (λ j. block_in (tag_at marked j)) e ∙ ap block_in mark-same ∙ names-dirty b ∙ sym held-here ∙ ap (λ j. block_in (tag_at tags j)) (sym e)
+          | inr ne ↦ ap block_in (mark-other m ne)
+        ]
+
+        placed-marked : IsPlaced marked
+        placed-marked = still_placed tags marked placed (λ m a e. sym (same-block m) ∙ e)
+
+        now-in : (m a : ℕ) → IsIn tags m a → place n marked a ≡ m
+        now-in m a e = placed-marked m a (same-block m ∙ e)
+
+        marked-dirty : (a : ℕ) → soiled_in marked a ≡ with_at s.dirty b true a
+        marked-dirty a = elim (same_or_not a b) [
+          | inl e ↦ ap (soiled_in marked) e ∙ dirty-in marked b l (now-in l b held-here) ∙ eq-eqb (tag_at marked l) (dirty_tag b) mark-same
+              ∙ sym (with_at-same s.dirty b true) ∙ ap (with_at s.dirty b true) (sym e)
+          | inr ne ↦ elim (whereabouts tags placed l a) [
+            | inl at ↦ let both : Some a ≡ Some b = sym at ∙ held-here in let same : a ≡ b = cc in absurd (ne same)
+            | inr rest ↦ elim rest [
+              | inl m ↦ dirty-stay tags marked a m.line (placed m.line a m.there) (now-in m.line a m.there) (mark-other m.line m.other)
+              | inr out ↦ dirty-away tags marked a out (λ m e. out m (sym (same-block m) ∙ e))
+            ] ∙ sym (with_at-other s.dirty b true a ne)
+          ]
+        ]
+
+        marked-values : (a : ℕ) → vals lines marked k a ≡ vals lines tags k a
+        marked-values a = elim (is_or_not (block_in (tag_at tags (place n tags a))) a) [
+          | inl is ↦
+              let m = place n tags a in
+              vals-in lines marked k a m (now-in m a is) (same-block m ∙ is) ∙ sym (vals-in lines tags k a m refl is)
+          | inr ne ↦ let out = away tags placed a ne in vals-away lines lines tags marked k k a refl out (λ m e. out m (sym (same-block m) ∙ e))
+        ]
+
+        pub soils : standing_at lines marked counts k ≡ soiled s b
+        unfolding soiled
+        soils = same_state (standing_at lines marked counts k) (record s { dirty = with_at s.dirty b true }) refl same-block marked-dirty marked-values (λ a. refl) refl
+
+        pub fits_soiled : Fit lines marked k
+        fits_soiled = record {
+          own = λ m a e. (placed-marked m a e, (fit.own m a (sym (same-block m) ∙ e)).1);
+          clean = λ m a e. elim (same_or_not m l) [
+            | inl at ↦ let both : dirty_tag b ≡ clean_tag a = sym mark-same ∙ ap (tag_at marked) (sym at) ∙ e in absurd (omega (arith, both))
+            | inr off ↦ fit.clean m a (sym (mark-other m off) ∙ e)
+          ];
+        }
+
+-- where each block has one line
+abbrev pub standing : {X Code : Type 0} → (X → ℤ) → Format Code → ℕ → List (List X) → List ℕ → Counts → (ℕ → Code) → State Code
+standing value f n = standing_at one_line value f n

@@ -9,31 +9,42 @@ use Rattle.zf_cached.specs.Changes.{write_back_lines, flush, emptied, discard, r
 use Rattle.zf_cached.proofs.States.{same_state}
 use Rattle.zf_lines.specs.Rows.{line_at, over_part, with_part}
 use Rattle.zf_cache.specs.Kept.{Kept, IsClean, IsDirty, IsEmpty, line_of, tag_at, block_in, dirty_tag}
-use Rattle.zf_cache.specs.Standing.{state_of, Fits}
+use Rattle.zf_cache.specs.Rules.{one_line, IsOneLine, one_line_rule}
+use Rattle.zf_cache.specs.Standing.{state_at, state_of, FitsAt, Fits}
 use Rattle.zf_cache.specs.Loans.{StandsFor}
-use Rattle.zf_cache.proofs.Stands.{standing, Fit, write_back_line-none, write_back_line-some, write_back_dirty-false, undirty_values, writes, fits_written}
-use Rattle.zf_cache.proofs.Touches.{no_tag, state_is, fit_of, fits_of, fits_empty, all_meant, discards}
+use Rattle.zf_cache.proofs.Stands.{standing_at, standing, Fit, write_back_line-none, write_back_line-some, write_back_dirty-false, undirty_values, writes, fits_written}
+use Rattle.zf_cache.proofs.Touches.{no_tag, state_stands, state_is, one_line_state, fit_of, fits_of, fits_empty, all_meant_at, all_meant, discards}
 
-module _ {X Code : Type 0} (value : X → ℤ) (f : Format Code) (k : ℕ → Code) where
+module _ (place : ℕ → List ℕ → ℕ → ℕ) {X Code : Type 0} (value : X → ℤ) (f : Format Code) (k : ℕ → Code) where
   empty_count : (c : Kept X) (n : ℕ) → IsEmpty c n → length c.tags ≡ n
   empty_count c n e = let none : ℕ = 0 in ap length e ∙ length-replicate n none
 
+  -- an empty cache fits every backing
+  pub empty_fits_at : (c : Kept X) (n : ℕ) → IsEmpty c n → FitsAt place value c f k
+  empty_fits_at c n e = fits_of place value f c k n (empty_count c n e) (subst (λ ts. Fit place value f n c.lines ts k) (sym e) (fits_empty place value f n c.lines c.counts k))
+
+  pub discarded_at : (c d : Kept X) → FitsAt place value c f k → IsEmpty d (length c.tags) → d.counts ≡ c.counts → state_at place value d f k ≡ discard f (state_at place value c f k)
+  discarded_at c d fits e counts =
+      let n = length c.tags in
+      state_stands place value f d k n (empty_count d n e)
+      ∙ (λ i. standing_at place value f n d.lines (e i) (counts i) k)
+      ∙ lines_apart n (d.lines) (c.lines) c.counts
+      ∙ discards place value f n c.lines c.counts k c.tags (fit_of place value f c k n refl fits)
+      ∙ ap (discard f) (sym (state_stands place value f c k n refl))
+    where
+      lines_apart : (n : ℕ) (xs ys : List (List X)) (counts : Counts) → standing_at place value f n xs (replicate n 0) counts k ≡ standing_at place value f n ys (replicate n 0) counts k
+      lines_apart n xs ys counts =
+          same_state (standing_at place value f n xs (replicate n 0) counts k) (standing_at place value f n ys (replicate n 0) counts k) refl (λ l. refl) (λ b. refl)
+          (λ b. all_meant_at place value f n xs counts k b ∙ sym (all_meant_at place value f n ys counts k b)) (λ b. refl) refl
+
+-- ---- where each block has one line
+
+module _ {X Code : Type 0} (value : X → ℤ) (f : Format Code) (k : ℕ → Code) where
   pub empty_fits : (c : Kept X) (n : ℕ) → IsEmpty c n → Fits value c f k
-  empty_fits c n e = fits_of value f c k n (empty_count c n e) (subst (λ ts. Fit value f n c.lines ts k) (sym e) (fits_empty value f n c.lines c.counts k))
+  empty_fits c n e = empty_fits_at one_line value f k c n e
 
   pub discarded : (c d : Kept X) → Fits value c f k → IsEmpty d (length c.tags) → d.counts ≡ c.counts → state_of value d f k ≡ discard f (state_of value c f k)
-  discarded c d fits e counts =
-      let n = length c.tags in
-      state_is value f d k n (empty_count d n e)
-      ∙ (λ i. standing value f n d.lines (e i) (counts i) k)
-      ∙ lines_apart n (d.lines) (c.lines) c.counts
-      ∙ discards value f n c.lines c.counts k c.tags (fit_of value f c k n refl fits)
-      ∙ ap (discard f) (sym (state_is value f c k n refl))
-    where
-      lines_apart : (n : ℕ) (xs ys : List (List X)) (counts : Counts) → standing value f n xs (replicate n 0) counts k ≡ standing value f n ys (replicate n 0) counts k
-      lines_apart n xs ys counts =
-          same_state (standing value f n xs (replicate n 0) counts k) (standing value f n ys (replicate n 0) counts k) refl (λ l. refl) (λ b. refl)
-          (λ b. all_meant value f n xs counts k b ∙ sym (all_meant value f n ys counts k b)) (λ b. refl) refl
+  discarded c d fits e counts = sym (one_line_state value f d k) ∙ discarded_at one_line value f k c d fits e counts ∙ ap (discard f) (one_line_state value f c k)
 
   -- where nothing is dirty a flush writes nothing
   pub flush_clean : (s : State Code) → ((b : ℕ) → s.dirty b ≡ false) → flush f s ≡ emptied s
@@ -53,12 +64,12 @@ module _ {X Code : Type 0} (value : X → ℤ) (f : Format Code) (k : ℕ → Co
   relined_clean c d n clean fits e counts =
       let m = length c.tags in let s = standing value f m c.lines c.tags c.counts k in
       let undirty : (b : ℕ) → s.dirty b ≡ false = λ b. ne_eqb (tag_at c.tags (b % m)) (dirty_tag b) (λ is. let even = clean (b % m) in omega (arith, is, even)) in
-      state_is value f d k n (empty_count d n e)
+      state_is value f d k n (empty_count one_line value f k d n e)
       ∙ (λ i. standing value f n d.lines (e i) (counts i) k)
       ∙ same_state (standing value f n d.lines (replicate n 0) c.counts k) (record (emptied s) { lines = n }) refl
       (λ l. ap block_in (no_tag n l))
       (λ b. ap (λ t. t == dirty_tag b) (no_tag n (b % n)) ∙ ne_eqb 0 (dirty_tag b) (λ is. omega (arith, is)) ∙ sym (undirty b))
-      (λ b. all_meant value f n d.lines c.counts k b ∙ sym (undirty_values value f m c.lines c.tags k (fit_of value f c k m refl fits) b (λ is. let even = clean (b % m) in omega (arith, is, even))))
+      (λ b. all_meant value f n d.lines c.counts k b ∙ sym (undirty_values one_line value f m c.lines c.tags k (fit_of one_line value f c k m refl fits) b (λ is. let even = clean (b % m) in omega (arith, is, even))))
       (λ b. refl) refl
       ∙ ap (λ (t : State Code). record t { lines = n }) (sym (flush_clean s undirty) ∙ ap (flush f) (sym (state_is value f c k m refl)))
 
@@ -69,13 +80,13 @@ module _ {X Code : Type 0} (value : X → ℤ) (f : Format Code) (k : ℕ → Co
   part_written c b a n ws fits dirty long =
       let m = length c.tags in let l = line_of c b in let row = over_part (line_at c.lines l) a n ws in
       let d : Kept X = record c { lines = with_part c.lines l a n ws } in
-      let fit = fit_of value f c k m refl fits in
+      let fit = fit_of one_line value f c k m refl fits in
       let lt : l < m = inside c l (dirty_tag b) dirty (omega arith) in
       let here : l < length c.lines = subst (λ j. l < j) (sym long) lt in
       record {
-        state = state_is value f d k m refl ∙ writes value f m c.lines c.tags c.counts k fit l lt b refl here row dirty
+        state = state_is value f d k m refl ∙ writes one_line value f m IsOneLine one_line_rule c.lines c.tags c.counts k fit l lt b here row dirty
             ∙ ap (λ (s : State Code). with_values s b (existing_of f b (map value row))) (sym (state_is value f c k m refl));
-        fits = fits_of value f d k m refl (fits_written value f m c.lines c.tags c.counts k fit l lt b refl here row dirty);
+        fits = fits_of one_line value f d k m refl (fits_written one_line value f m IsOneLine one_line_rule c.lines c.tags c.counts k fit l lt b here row dirty);
       }
     where
       inside : (c : Kept X) (l t : ℕ) → tag_at c.tags l ≡ t → 0 < t → l < length c.tags

@@ -14,6 +14,10 @@ same_or_not zero (suc b) = inr (λ e. omega (arith, e))
 same_or_not (suc a) zero = inr (λ e. omega (arith, e))
 same_or_not (suc a) (suc b) = elim (same_or_not a b) [ inl e ↦ inl (ap suc e) | inr n ↦ inr (λ e. let same : a ≡ b = omega (arith, e) in n same) ]
 
+pub is_or_not : (o : Option ℕ) (b : ℕ) → (o ≡ Some b) ⊎ (o ≢ Some b)
+is_or_not None b = inr (λ e. cc)
+is_or_not (Some a) b = elim (same_or_not a b) [ inl e ↦ inl (ap Some e) | inr n ↦ inr (λ e. let same : a ≡ b = cc in n same) ]
+
 one_less-some : (n b : ℕ) → one_less n ≡ Some b → n ≡ suc b
 one_less-some zero b e = cc
 one_less-some (suc a) b e = let same : a ≡ b = cc in ap suc same

@@ -8,22 +8,23 @@ use Rattle.zf_cached.specs.State.{Counts, State, own_line}
 use Rattle.zf_cached.specs.Touch.{write_back, write_back_dirty, write_back_line, hit, miss, touch}
 use Rattle.zf_cached.specs.Changes.{write_back_lines, emptied, flush, discard}
 use Rattle.zf_cached.proofs.States.{same_state}
-use Rattle.zf_cache.specs.Kept.{Kept, tag_at, block_in, clean_tag, dirty_tag}
-use Rattle.zf_cache.specs.Standing.{state_of, values_of, Fits, evicted}
-use Rattle.zf_cache.specs.Steps.{taken_in}
+use Rattle.zf_cache.specs.Kept.{Kept, IsAway, tag_at, block_in, clean_tag, dirty_tag}
+use Rattle.zf_cache.specs.Rules.{one_line}
+use Rattle.zf_cache.specs.Standing.{state_at, state_of, values_of, FitsAt, evicted}
+use Rattle.zf_cache.specs.Steps.{taken_in, touch_in}
 use Rattle.zf_cache.proofs.Tags.{same_or_not, is_block-same, is_block-other}
-use Rattle.zf_cache.proofs.Stands.{standing, Fit, write_back_line-none, write_back_line-some, write_back_dirty-false, write_back_dirty-true, undirty_values, vals-out}
+use Rattle.zf_cache.proofs.Stands.{standing_at, standing, soiled_in, Fit, write_back_line-none, write_back_line-some, write_back_dirty-false, write_back_dirty-true, undirty_values, vals-out, dirty-out}
 
 module _ {Code : Type 0} (f : Format Code) (s : State Code) (b : ℕ) where
-  -- a block that is here is hit
-  pub touches_here : s.held (own_line s b) ≡ Some b → hit s ≡ touch f s b
-  unfolding touch
-  touches_here e = sym (ap (λ (t : Bool). elim t [ true ↦ hit s | false ↦ miss f s (own_line s b) b ]) (is_block-same _ b e))
+  -- a block that is in a line is hit there
+  pub touches_here : (l : ℕ) → s.held l ≡ Some b → hit s ≡ touch_in f s l b
+  unfolding touch_in
+  touches_here l e = sym (ap (λ (t : Bool). elim t [ true ↦ hit s | false ↦ miss f s l b ]) (is_block-same _ b e))
 
-  -- one that is not is missed: its line is emptied, and takes the block in
-  pub touches_away : (l : ℕ) → own_line s b ≡ l → s.held (own_line s b) ≢ Some b → taken_in (evicted f s l) l b ≡ touch f s b
-  unfolding touch miss taken_in evicted
-  touches_away l at ne =
+  -- one that is not is missed: the line is emptied, and takes the block in
+  pub touches_away : (l : ℕ) → s.held l ≢ Some b → taken_in (evicted f s l) l b ≡ touch_in f s l b
+  unfolding touch_in miss taken_in evicted
+  touches_away l ne =
       let t = write_back_line f s l in
       same_state (taken_in (evicted f s l) l b) (miss f s l b) refl
       (λ m. elim (same_or_not m l) [
@@ -31,7 +32,7 @@ module _ {Code : Type 0} (f : Format Code) (s : State Code) (b : ℕ) where
         | inr off ↦ with_at-other (with_at t.held l None) l (Some b) m off ∙ with_at-other t.held l None m off ∙ sym (with_at-other t.held l (Some b) m off)
       ])
       (λ a. refl) (λ a. refl) (λ a. refl) refl
-      ∙ ap (λ j. miss f s j b) (sym at) ∙ sym (ap (λ (t : Bool). elim t [ true ↦ hit s | false ↦ miss f s (own_line s b) b ]) (is_block-other _ b ne))
+      ∙ sym (ap (λ (t : Bool). elim t [ true ↦ hit s | false ↦ miss f s l b ]) (is_block-other _ b ne))
 
 -- ---- flush
 
@@ -130,70 +131,92 @@ module _ {Code : Type 0} (f : Format Code) where
 pub no_tag : (n l : ℕ) → tag_at (replicate n 0) l ≡ 0
 no_tag n l = elim (cases_lt l n) [ inl lt ↦ get_or-replicate n l 0 0 lt | inr ge ↦ get_or_past (replicate n 0) l 0 (let none : ℕ = 0 in let size : length (replicate n none) ≡ n = length-replicate n none in omega (arith, size)) ]
 
-module _ {X Code : Type 0} (value : X → ℤ) (f : Format Code) (n : ℕ) (lines : List (List X)) (counts : Counts) (k : ℕ → Code) where
+module _ (place : ℕ → List ℕ → ℕ → ℕ) {X Code : Type 0} (value : X → ℤ) (f : Format Code) (n : ℕ) (lines : List (List X)) (counts : Counts) (k : ℕ → Code) where
   none_held : (l : ℕ) → block_in (tag_at (replicate n 0) l) ≡ None
   none_held l = ap block_in (no_tag n l)
 
-  none_dirty_there : (l b : ℕ) → (tag_at (replicate n 0) l == dirty_tag b) ≡ false
-  none_dirty_there l b = ap (λ t. t == dirty_tag b) (no_tag n l) ∙ ne_eqb 0 (dirty_tag b) (λ e. omega (arith, e))
+  none_in : (m : ℕ) (b : ℕ) → IsAway (replicate m 0) b
+  none_in m b l e = let both : None ≡ Some b = sym (ap block_in (no_tag m l)) ∙ e in cc
 
-  pub all_meant : (b : ℕ) → (standing value f n lines (replicate n 0) counts k).values b ≡ meant f b (k b)
-  all_meant b = vals-out value f n lines (replicate n 0) k b (λ e. let both : None ≡ Some b = sym (none_held (b % n)) ∙ e in cc)
+  none_soiled : (m b : ℕ) → soiled_in place value f m (replicate m 0) b ≡ false
+  none_soiled m b = dirty-out place value f m (replicate m 0) b (none_in m b (place m (replicate m 0) b))
+
+  pub all_meant_at : (b : ℕ) → (standing_at place value f n lines (replicate n 0) counts k).values b ≡ meant f b (k b)
+  all_meant_at b = vals-out place value f n lines (replicate n 0) k b (none_in n b (place n (replicate n 0) b))
 
   -- an empty cache fits every backing
-  pub fits_empty : Fit value f n lines (replicate n 0) k
+  pub fits_empty : Fit place value f n lines (replicate n 0) k
   fits_empty = record {
-    own = λ l b e. let both : None ≡ Some b = sym (none_held l) ∙ e in absurd (no both);
+    own = λ l b e. absurd (none_in n b l e);
     clean = λ l b e. let none : 0 ≡ clean_tag b = sym (no_tag n l) ∙ e in absurd (omega (arith, none));
   }
-    where
-      no : {b : ℕ} → None ≡ Some b → ⊥
-      no {b} e = cc
 
   -- empty lines of another number
-  pub relines : (n' : ℕ) (lines' : List (List X)) → standing value f n' lines' (replicate n' 0) counts k ≡ record (standing value f n lines (replicate n 0) counts k) { lines = n' }
+  pub relines : (n' : ℕ) (lines' : List (List X)) → standing_at place value f n' lines' (replicate n' 0) counts k ≡ record (standing_at place value f n lines (replicate n 0) counts k) { lines = n' }
   relines n' lines' =
-      same_state (standing value f n' lines' (replicate n' 0) counts k) (record (standing value f n lines (replicate n 0) counts k) { lines = n' }) refl
+      same_state (standing_at place value f n' lines' (replicate n' 0) counts k) (record (standing_at place value f n lines (replicate n 0) counts k) { lines = n' }) refl
       (λ l. ap block_in (no_tag n' l) ∙ sym (none_held l))
-      (λ b. ap (λ t. t == dirty_tag b) (no_tag n' (b % n') ∙ sym (no_tag n (b % n))))
-      (λ b. vals-out value f n' lines' (replicate n' 0) k b (λ e. let both : None ≡ Some b = sym (ap block_in (no_tag n' (b % n'))) ∙ e in cc) ∙ sym (all_meant b))
+      (λ b. none_soiled n' b ∙ sym (none_soiled n b))
+      (λ b. vals-out place value f n' lines' (replicate n' 0) k b (none_in n' b (place n' (replicate n' 0) b)) ∙ sym (all_meant_at b))
       (λ b. refl) refl
 
   -- discard, whatever stood in the lines
-  pub discards : (tags : List ℕ) → Fit value f n lines tags k → standing value f n lines (replicate n 0) counts k ≡ discard f (standing value f n lines tags counts k)
+  pub discards : (tags : List ℕ) → Fit place value f n lines tags k → standing_at place value f n lines (replicate n 0) counts k ≡ discard f (standing_at place value f n lines tags counts k)
   unfolding discard
   discards tags fit =
-      let s = standing value f n lines tags counts k in
-      same_state (standing value f n lines (replicate n 0) counts k) (discard f s) refl none_held (λ b. none_dirty_there (b % n) b)
-      (λ b. all_meant b ∙ by b (s.dirty b) refl) (λ b. refl) refl
+      let s = standing_at place value f n lines tags counts k in
+      same_state (standing_at place value f n lines (replicate n 0) counts k) (discard f s) refl none_held (none_soiled n)
+      (λ b. all_meant_at b ∙ by b (s.dirty b) refl) (λ b. refl) refl
     where
-      by : (b : ℕ) (t : Bool) → (tag_at tags (b % n) == dirty_tag b) ≡ t
-          → meant f b (k b) ≡ cond (tag_at tags (b % n) == dirty_tag b) (meant f b (k b)) ((standing value f n lines tags counts k).values b)
-      by b true e = sym (ap (λ t. cond t (meant f b (k b)) ((standing value f n lines tags counts k).values b)) e)
+      by : (b : ℕ) (t : Bool) → soiled_in place value f n tags b ≡ t
+          → meant f b (k b) ≡ cond (soiled_in place value f n tags b) (meant f b (k b)) ((standing_at place value f n lines tags counts k).values b)
+      by b true e = sym (ap (λ t. cond t (meant f b (k b)) ((standing_at place value f n lines tags counts k).values b)) e)
       by b false e =
-          sym (undirty_values value f n lines tags k fit b (λ is. let both : true ≡ false = sym (eq-eqb (tag_at tags (b % n)) (dirty_tag b) is) ∙ e in cc))
-          ∙ sym (ap (λ t. cond t (meant f b (k b)) ((standing value f n lines tags counts k).values b)) e)
+          sym (undirty_values place value f n lines tags k fit b (λ is. let both : true ≡ false = sym (eq-eqb (tag_at tags (place n tags b)) (dirty_tag b) is) ∙ e in cc))
+          ∙ sym (ap (λ t. cond t (meant f b (k b)) ((standing_at place value f n lines tags counts k).values b)) e)
 
 -- ---- caches as they are seen
 
-module _ {X Code : Type 0} (value : X → ℤ) (f : Format Code) (c : Kept X) (k : ℕ → Code) where
-  pub state_is : (n : ℕ) → length c.tags ≡ n → state_of value c f k ≡ standing value f n c.lines c.tags c.counts k
-  unfolding state_of values_of
-  state_is n e = ap (λ m. standing value f m c.lines c.tags c.counts k) e
+module _ (place : ℕ → List ℕ → ℕ → ℕ) {X Code : Type 0} (value : X → ℤ) (f : Format Code) (c : Kept X) (k : ℕ → Code) where
+  pub state_stands : (n : ℕ) → length c.tags ≡ n → state_at place value c f k ≡ standing_at place value f n c.lines c.tags c.counts k
+  unfolding state_at
+  state_stands n e = ap (λ m. standing_at place value f m c.lines c.tags c.counts k) e
 
-  pub fit_of : (n : ℕ) → length c.tags ≡ n → Fits value c f k → Fit value f n c.lines c.tags k
+  pub fit_of : (n : ℕ) → length c.tags ≡ n → FitsAt place value c f k → Fit place value f n c.lines c.tags k
   fit_of n e fits = record {
-    own = λ l b is. let o = fits.own l b is in (ap (λ m. b % m) (sym e) ∙ o.0, o.1);
+    own = λ l b is. let o = fits.own l b is in (ap (λ m. place m c.tags b) (sym e) ∙ o.0, o.1);
     clean = fits.clean;
   }
 
-  pub fits_of : (n : ℕ) → length c.tags ≡ n → Fit value f n c.lines c.tags k → Fits value c f k
+  pub fits_of : (n : ℕ) → length c.tags ≡ n → Fit place value f n c.lines c.tags k → FitsAt place value c f k
   fits_of n e fit = record {
-    own = λ l b is. let o = fit.own l b is in (ap (λ m. b % m) e ∙ o.0, o.1);
+    own = λ l b is. let o = fit.own l b is in (ap (λ m. place m c.tags b) e ∙ o.0, o.1);
     clean = fit.clean;
   }
 
   -- nothing is in a line past the last
-  pub past_lines : (l : ℕ) → (state_of value c f k).lines ≤ l → (state_of value c f k).held l ≡ None
-  unfolding state_of
+  pub past_lines : (l : ℕ) → (state_at place value c f k).lines ≤ l → (state_at place value c f k).held l ≡ None
+  unfolding state_at
   past_lines l past = ap block_in (get_or_past c.tags l 0 past)
+
+-- ---- where each block has one line
+
+module _ {X Code : Type 0} (value : X → ℤ) (f : Format Code) where
+  pub one_line_state : (c : Kept X) (k : ℕ → Code) → state_at one_line value c f k ≡ state_of value c f k
+  unfolding state_at state_of values_of
+  one_line_state c k = refl
+
+  pub one_line_values : (c : Kept X) (k : ℕ → Code) (b : ℕ) → (state_at one_line value c f k).values b ≡ values_of value c f k b
+  unfolding state_at values_of
+  one_line_values c k b = refl
+
+  pub state_is : (c : Kept X) (k : ℕ → Code) (n : ℕ) → length c.tags ≡ n → state_of value c f k ≡ standing value f n c.lines c.tags c.counts k
+  state_is c k n e = sym (one_line_state c k) ∙ state_stands one_line value f c k n e
+
+  pub all_meant : (n : ℕ) (lines : List (List X)) (counts : Counts) (k : ℕ → Code) (b : ℕ) → (standing value f n lines (replicate n 0) counts k).values b ≡ meant f b (k b)
+  all_meant n lines counts k b = all_meant_at one_line value f n lines counts k b
+
+  -- a touch of a block in its own line
+  pub one_line_touch : (c : Kept X) (k : ℕ → Code) (l b : ℕ) → l ≡ b % length c.tags → touch_in f (state_at one_line value c f k) l b ≡ touch f (state_of value c f k) b
+  unfolding state_at state_of values_of touch touch_in
+  one_line_touch c k l b at = ap (λ j. touch_in f (state_of value c f k) j b) at

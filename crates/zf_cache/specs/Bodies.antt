@@ -1,12 +1,12 @@
 -- What holds of the fields of a cache.
-use Rattle.std.specs.Prelude.{◌≡◌, ℕ, ◌-◌, ◌%◌, ◌^◌, ◌<◌, ◌≤◌, ℤ, length, bit_and}
+use Rattle.std.specs.Prelude.{◌≡◌, ℕ, ◌-◌, ◌%◌, ◌^◌, ◌<◌, ◌≤◌, ℤ, List, length, bit_and}
 use Rattle.zf_base.specs.Formats.{Format}
 use Rattle.zf_cached.specs.State.{Counts}
 use Rattle.zf_script.specs.declared.reply.Stats.{Stats}
 use Rattle.zf_lines.specs.Rows.{HasSize}
 use Rattle.zf_cache.specs.declared.body.Body.{Body}
 use Rattle.zf_cache.specs.Kept.{Kept}
-use Rattle.zf_cache.specs.Standing.{Fits}
+use Rattle.zf_cache.specs.Standing.{FitsAt}
 
 -- to cut a number by n - 1 is to take it modulo n
 abbrev pub IsMask : ℕ → Type 0
@@ -26,6 +26,6 @@ module _ {X : Type 0} where
     pub mask : IsMask (length c.tags.items)
 
   -- the fields are whole, and fit the backing
-  pub record IsSound {Code : Type 0} (value : X → ℤ) (c : Body X) (format : Format Code) (codes : ℕ → Code) : Type 0 where
+  pub record IsSound (place : ℕ → List ℕ → ℕ → ℕ) {Code : Type 0} (value : X → ℤ) (c : Body X) (format : Format Code) (codes : ℕ → Code) : Type 0 where
     pub whole : IsWhole c format.block_len
-    pub fits : Fits value (kept_of c) format codes
+    pub fits : FitsAt place value (kept_of c) format codes

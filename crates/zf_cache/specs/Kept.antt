@@ -37,6 +37,14 @@ one_less (suc b) = Some b
 abbrev pub block_in : ℕ → Option ℕ
 block_in tag = one_less (tag / 2)
 
+-- line l holds block b
+abbrev pub IsIn : List ℕ → ℕ → ℕ → Type 0
+IsIn tags l b = block_in (tag_at tags l) ≡ Some b
+
+-- no line holds block b
+abbrev pub IsAway : List ℕ → ℕ → Type 0
+IsAway tags b = (l : ℕ) → IsIn tags l b → ⊥
+
 -- the dirty block that a tag names
 abbrev pub dirty_of : ℕ → Option ℕ
 dirty_of tag = elim (tag % 2 == 1) [ true ↦ block_in tag | false ↦ None ]
@@ -45,6 +53,10 @@ module _ {X : Type 0} where
   -- the line of a block: its number modulo the number of lines
   abbrev pub line_of : Kept X → ℕ → ℕ
   line_of c b = b % length c.tags
+
+  -- the line of block b, where `place n tags b` is that in a cache of n lines with these tags
+  abbrev pub line_by : (ℕ → List ℕ → ℕ → ℕ) → Kept X → ℕ → ℕ
+  line_by place c b = place (length c.tags) c.tags b
 
   -- block b is in its line
   abbrev pub Holds : Kept X → ℕ → Type 0
@@ -71,13 +83,17 @@ module _ {X : Type 0} where
   abbrev pub IsEmpty : Kept X → ℕ → Type 0
   IsEmpty c n = c.tags ≡ replicate n 0
 
-  -- block b is dirty, and these are the values in its line
-  abbrev pub written : Kept X → ℕ → List X → Counts → Kept X
-  written c b row counts = record {
-    lines = slice_set c.lines (line_of c b) row;
-    tags = slice_set c.tags (line_of c b) (dirty_tag b);
+  -- block b is dirty in line l, and these are the values there
+  abbrev pub written_in : Kept X → ℕ → ℕ → List X → Counts → Kept X
+  written_in c l b row counts = record {
+    lines = slice_set c.lines l row;
+    tags = slice_set c.tags l (dirty_tag b);
     counts = counts;
   }
+
+  -- block b is dirty, and these are the values in its line
+  abbrev pub written : Kept X → ℕ → List X → Counts → Kept X
+  written c b row counts = written_in c (line_of c b) b row counts
 
 abbrev pub counts_code : Coded Counts
 counts_code = code_by (ℕ × (ℕ × ℕ)) (coded× coded_ℕ (coded× coded_ℕ coded_ℕ)) (λ c. (c.hits, (c.misses, c.writes))) (λ p. record { hits = p.0; misses = p.1.0; writes = p.1.1 }) (λ _. refl)

@@ -1,13 +1,14 @@
 //! The fields of a cache, and what a touch does to them.
-ghost use Rattle.std.specs.Prelude.{◌≡◌, ◌+◌, ◌*◌, ◌-◌, ◌/◌, ◌%◌, ◌^◌, ◌<◌, ◌≤◌, ℕ, Some, None, length, slice_set, slice_index_or, replicate, IfOk};
+ghost use Rattle.std.specs.Prelude.{◌≡◌, ◌+◌, ◌*◌, ◌-◌, ◌/◌, ◌%◌, ◌^◌, ◌<◌, ◌≤◌, ◌==◌, ℕ, Some, None, length, slice_set, slice_index_or, replicate, IfOk};
 ghost use Rattle.zf_base.specs.Formats.{with_at};
 ghost use Rattle.zf_cached.specs.State.{no_counts};
-ghost use Rattle.zf_cached.specs.Touch.{touch, touch_for_writing};
+ghost use Rattle.zf_cached.specs.Touch.{soiled};
 ghost use Rattle.zf_cached.specs.Changes.{flush};
-ghost use Rattle.zf_cache.specs.Kept.{tag_at, clean_tag, dirty_tag, dirty_of, IsClean, OnlyLine, IsLineCount, is_dirty};
+ghost use Rattle.zf_cache.specs.Kept.{line_by, tag_at, clean_tag, dirty_tag, dirty_of, IsClean, OnlyLine, IsLineCount, IsAway};
 ghost use Rattle.zf_lines.specs.Rows.{line_at};
-ghost use Rattle.zf_cache.specs.Standing.{state_of, evicted};
+ghost use Rattle.zf_cache.specs.Standing.{state_at, evicted};
 
+use crate::rule::Rule;
 use std::alloc::{AllocError, Global};
 use zf_base::{Backing, Lane, Reading};
 use zf_lines::Lines;
@@ -15,12 +16,13 @@ use zf_script::Stats;
 
 /// The lines, a tag for each of them, and the counts.
 ///
-/// A tag is 0 for an empty line, `2 * b + 2` for the clean block `b`, and `2 * b + 3` for the dirty block `b`.
+/// A tag is 0 for an empty line, `2 * b + 2` for the clean block `b`, and `2 * b + 3` for the dirty block `b`. In which line a block is,
+/// or goes, is told by a `Rule`.
 #[derive(Drop)]
 pub struct Body<T> {
-    pub(crate) lines: Lines<T>,
-    pub(crate) tags: Vec<u64>,
-    pub(crate) counts: Stats,
+    pub lines: Lines<T>,
+    pub tags: Vec<u64>,
+    pub counts: Stats,
 }
 
 /// The dirty block that a tag names.
@@ -36,10 +38,10 @@ fn dirty_block(tag: u64) -> Option<u64>
 
 impl<T: Lane> Body<T> {
     ghost use Rattle.zf_cache.specs.Bodies.{IsMask, IsWhole, IsSound, kept_of, counts_of};
-    ghost use Rattle.zf_cache.specs.Steps.{taken_in, put};
+    ghost use Rattle.zf_cache.specs.Steps.{taken_in, touch_in, with_value};
 
     /// Empty lines of `len` values each, and counts of 0.
-    pub(crate) fn new(alloc: Global, lines: u32, len: usize) -> Result<Body<T>, AllocError>
+    pub fn new(alloc: Global, lines: u32, len: usize) -> Result<Body<T>, AllocError>
         requires count { IsLineCount lines }
         requires size { len ≤ 2 ^ 8 }
         ensures whole { IfOk result (λ c. IsWhole c len) }
@@ -61,7 +63,7 @@ impl<T: Lane> Body<T> {
     }
 
     /// The lines and tags of another cache in the place of its own; the counts stay.
-    pub(crate) fn replace(&mut self, other: Body<T>)
+    pub fn replace(&mut self, other: Body<T>)
         ensures lines { self.new.lines ≡ other.lines }
         ensures tags { self.new.tags.items ≡ other.tags.items }
         ensures counts { self.new.counts ≡ self.old.counts }
@@ -76,7 +78,7 @@ impl<T: Lane> Body<T> {
     }
 
     /// Empties all lines; nothing is written.
-    pub(crate) fn discard(&mut self)
+    pub fn discard(&mut self)
         ensures lines { self.new.lines ≡ self.old.lines }
         ensures tags { self.new.tags.items ≡ replicate (length self.old.tags.items) 0 }
         ensures counts { self.new.counts ≡ self.old.counts }
@@ -85,33 +87,34 @@ impl<T: Lane> Body<T> {
     }
 
     /// Whether block `b` is in its line and dirty.
-    pub(crate) fn is_dirty(&self, b: u64) -> bool
+    pub fn is_dirty<R: Rule>(&self, b: u64) -> bool
         requires count { (0 < length self.now.tags.items) × (length self.now.tags.items ≤ 2 ^ 16) }
         requires mask { IsMask (length self.now.tags.items) }
-        ensures { result ≡ is_dirty (kept_of self.now) b }
+        ensures { result ≡ (tag_at self.now.tags.items (line_by R.place (kept_of self.now) b) == dirty_tag b) }
     {
-        dirty_block(self.tags[self.line_of(b) as usize]) == Some(b)
+        dirty_block(self.tags[self.line_of::<R>(b) as usize]) == Some(b)
     }
 
     /// The line of block `b`.
     #[inline]
-    pub(crate) fn line_of(&self, b: u64) -> u32
+    pub fn line_of<R: Rule>(&self, b: u64) -> u32
         requires count { (0 < length self.now.tags.items) × (length self.now.tags.items ≤ 2 ^ 16) }
         requires mask { IsMask (length self.now.tags.items) }
-        ensures { result ≡ b % length self.now.tags.items }
+        ensures place { result ≡ line_by R.place (kept_of self.now) b }
+        ensures inside { result < length self.now.tags.items }
     {
-        (b & (self.tags.len() as u64 - 1)) as u32
+        R::line_for(&self.tags, b)
     }
 
     /// Writes the block of line `l` back where it is dirty, and empties the line.
     #[cold]
     #[inline(never)]
-    pub(crate) fn evict<B: Backing<T>>(&mut self, back: &mut B, l: u32)
-        requires sound { IsSound T.value self.old (B.format back.old) (B.codes back.old) }
+    pub fn evict<R: Rule, B: Backing<T>>(&mut self, back: &mut B, l: u32)
+        requires sound { IsSound R.place T.value self.old (B.format back.old) (B.codes back.old) }
         requires line { l < length self.old.tags.items }
-        ensures sound { IsSound T.value self.new (B.format back.new) (B.codes back.new) }
-        ensures state { state_of T.value (kept_of self.new) (B.format back.new) (B.codes back.new)
-            ≡ evicted (B.format back.old) (state_of T.value (kept_of self.old) (B.format back.old) (B.codes back.old)) l }
+        ensures sound { IsSound R.place T.value self.new (B.format back.new) (B.codes back.new) }
+        ensures state { state_at R.place T.value (kept_of self.new) (B.format back.new) (B.codes back.new)
+            ≡ evicted (B.format back.old) (state_at R.place T.value (kept_of self.old) (B.format back.old) (B.codes back.old)) l }
         ensures tags { self.new.tags.items ≡ slice_set self.old.tags.items l 0 }
         ensures lines { self.new.lines ≡ self.old.lines }
         ensures format { B.format back.new ≡ B.format back.old }
@@ -124,17 +127,18 @@ impl<T: Lane> Body<T> {
         self.tags[l as usize] = 0;
     }
 
-    /// Puts block `b` into its line `l`, which is empty.
+    /// Puts block `b`, which is in no line, into line `l`, which is empty and may hold it.
     #[cold]
     #[inline(never)]
-    pub(crate) fn take_in<B: Reading<T>>(&mut self, back: &mut B, l: u32, b: u64)
-        requires sound { IsSound T.value self.old (B.format back.old) (B.codes back.old) }
-        requires line { l ≡ b % length self.old.tags.items }
+    pub fn take_in<R: Rule, B: Reading<T>>(&mut self, back: &mut B, l: u32, b: u64)
+        requires sound { IsSound R.place T.value self.old (B.format back.old) (B.codes back.old) }
+        requires line { (l < length self.old.tags.items) × R.may_hold (length self.old.tags.items) b l }
         requires empty { tag_at self.old.tags.items l ≡ 0 }
+        requires away { IsAway self.old.tags.items b }
         requires block { (b < (B.format back.old).blocks) × ((B.format back.old).blocks ≤ 2 ^ 32) }
-        ensures sound { IsSound T.value self.new (B.format back.new) (B.codes back.new) }
-        ensures state { state_of T.value (kept_of self.new) (B.format back.new) (B.codes back.new)
-            ≡ taken_in (state_of T.value (kept_of self.old) (B.format back.old) (B.codes back.old)) l b }
+        ensures sound { IsSound R.place T.value self.new (B.format back.new) (B.codes back.new) }
+        ensures state { state_at R.place T.value (kept_of self.new) (B.format back.new) (B.codes back.new)
+            ≡ taken_in (state_at R.place T.value (kept_of self.old) (B.format back.old) (B.codes back.old)) l b }
         ensures tags { self.new.tags.items ≡ slice_set self.old.tags.items l (clean_tag b) }
         ensures lines { self.new.lines ≡ slice_set self.old.lines l (line_at self.new.lines l) }
         ensures format { B.format back.new ≡ B.format back.old }
@@ -147,102 +151,105 @@ impl<T: Lane> Body<T> {
 
     /// Touches block `b`, and gives its line.
     #[inline]
-    pub(crate) fn touch<B: Backing<T>>(&mut self, back: &mut B, b: u64) -> u32
-        requires sound { IsSound T.value self.old (B.format back.old) (B.codes back.old) }
+    pub fn touch<R: Rule, B: Backing<T>>(&mut self, back: &mut B, b: u64) -> u32
+        requires sound { IsSound R.place T.value self.old (B.format back.old) (B.codes back.old) }
         requires block { (b < (B.format back.old).blocks) × ((B.format back.old).blocks ≤ 2 ^ 32) }
-        ensures sound { IsSound T.value self.new (B.format back.new) (B.codes back.new) }
-        ensures state { state_of T.value (kept_of self.new) (B.format back.new) (B.codes back.new)
-            ≡ touch (B.format back.old) (state_of T.value (kept_of self.old) (B.format back.old) (B.codes back.old)) b }
-        ensures line { result ≡ b % length self.old.tags.items }
+        ensures sound { IsSound R.place T.value self.new (B.format back.new) (B.codes back.new) }
+        ensures state { state_at R.place T.value (kept_of self.new) (B.format back.new) (B.codes back.new)
+            ≡ touch_in (B.format back.old)
+            (state_at R.place T.value (kept_of self.old) (B.format back.old) (B.codes back.old)) result b }
+        ensures line { result ≡ line_by R.place (kept_of self.old) b }
         ensures here { tag_at self.new.tags.items result / 2 ≡ b + 1 }
         ensures others { OnlyLine (kept_of self.old) (kept_of self.new) result }
         ensures format { B.format back.new ≡ B.format back.old }
         ensures kept { B.kept back.new ≡ B.kept back.old }
     {
-        let l = self.line_of(b);
+        let l = self.line_of::<R>(b);
         if self.tags[l as usize] / 2 == b + 1 {
             self.counts.hits = self.counts.hits.saturating_add(1);
             return l;
         }
-        self.evict(back, l);
-        self.take_in(back, l, b);
+        self.evict::<R, B>(back, l);
+        self.take_in::<R, B>(back, l, b);
         l
     }
 
     /// Touches block `b` for writing, and gives its line.
     #[inline]
-    pub(crate) fn touch_for_writing<B: Backing<T>>(&mut self, back: &mut B, b: u64) -> u32
-        requires sound { IsSound T.value self.old (B.format back.old) (B.codes back.old) }
+    pub fn touch_for_writing<R: Rule, B: Backing<T>>(&mut self, back: &mut B, b: u64) -> u32
+        requires sound { IsSound R.place T.value self.old (B.format back.old) (B.codes back.old) }
         requires block { (b < (B.format back.old).blocks) × ((B.format back.old).blocks ≤ 2 ^ 32) }
-        ensures sound { IsSound T.value self.new (B.format back.new) (B.codes back.new) }
-        ensures state { state_of T.value (kept_of self.new) (B.format back.new) (B.codes back.new)
-            ≡ touch_for_writing (B.format back.old)
-            (state_of T.value (kept_of self.old) (B.format back.old) (B.codes back.old)) b }
-        ensures line { result ≡ b % length self.old.tags.items }
+        ensures sound { IsSound R.place T.value self.new (B.format back.new) (B.codes back.new) }
+        ensures state { state_at R.place T.value (kept_of self.new) (B.format back.new) (B.codes back.new)
+            ≡ soiled (touch_in (B.format back.old)
+            (state_at R.place T.value (kept_of self.old) (B.format back.old) (B.codes back.old)) result b) b }
+        ensures line { result ≡ line_by R.place (kept_of self.old) b }
         ensures dirty { tag_at self.new.tags.items result ≡ dirty_tag b }
         ensures others { OnlyLine (kept_of self.old) (kept_of self.new) result }
         ensures format { B.format back.new ≡ B.format back.old }
         ensures kept { B.kept back.new ≡ B.kept back.old }
     {
-        let l = self.touch(back, b);
+        let l = self.touch::<R, B>(back, b);
         self.tags[l as usize] = 2 * b + 3;
         l
     }
 
     /// Touches block `b` where nothing is dirty, so that the backing is only read, and gives its line.
     #[inline]
-    pub(crate) fn touch_read<B: Reading<T>>(&mut self, back: &mut B, b: u64) -> u32
-        requires sound { IsSound T.value self.old (B.format back.old) (B.codes back.old) }
+    pub fn touch_read<R: Rule, B: Reading<T>>(&mut self, back: &mut B, b: u64) -> u32
+        requires sound { IsSound R.place T.value self.old (B.format back.old) (B.codes back.old) }
         requires block { (b < (B.format back.old).blocks) × ((B.format back.old).blocks ≤ 2 ^ 32) }
         requires clean { IsClean (kept_of self.old) }
-        ensures sound { IsSound T.value self.new (B.format back.new) (B.codes back.new) }
-        ensures state { state_of T.value (kept_of self.new) (B.format back.new) (B.codes back.new)
-            ≡ touch (B.format back.old) (state_of T.value (kept_of self.old) (B.format back.old) (B.codes back.old)) b }
+        ensures sound { IsSound R.place T.value self.new (B.format back.new) (B.codes back.new) }
+        ensures state { state_at R.place T.value (kept_of self.new) (B.format back.new) (B.codes back.new)
+            ≡ touch_in (B.format back.old)
+            (state_at R.place T.value (kept_of self.old) (B.format back.old) (B.codes back.old)) result b }
         ensures clean { IsClean (kept_of self.new) }
-        ensures line { result ≡ b % length self.old.tags.items }
+        ensures line { result ≡ line_by R.place (kept_of self.old) b }
         ensures here { tag_at self.new.tags.items result / 2 ≡ b + 1 }
         ensures others { OnlyLine (kept_of self.old) (kept_of self.new) result }
         ensures format { B.format back.new ≡ B.format back.old }
         ensures kept { B.kept back.new ≡ B.kept back.old }
     {
-        let l = self.line_of(b);
+        let l = self.line_of::<R>(b);
         if self.tags[l as usize] / 2 == b + 1 {
             self.counts.hits = self.counts.hits.saturating_add(1);
             return l;
         }
         self.tags[l as usize] = 0;
-        self.take_in(back, l, b);
+        self.take_in::<R, B>(back, l, b);
         l
     }
 
     /// Touches block `b` for writing, and puts `v` at its place `p`.
-    pub(crate) fn set<B: Backing<T>>(&mut self, back: &mut B, b: u64, p: usize, v: T)
-        requires sound { IsSound T.value self.old (B.format back.old) (B.codes back.old) }
+    pub fn set<R: Rule, B: Backing<T>>(&mut self, back: &mut B, b: u64, p: usize, v: T)
+        requires sound { IsSound R.place T.value self.old (B.format back.old) (B.codes back.old) }
         requires block { (b < (B.format back.old).blocks) × ((B.format back.old).blocks ≤ 2 ^ 32) }
         requires place { p < (B.format back.old).block_len }
-        ensures sound { IsSound T.value self.new (B.format back.new) (B.codes back.new) }
-        ensures state { state_of T.value (kept_of self.new) (B.format back.new) (B.codes back.new)
-            ≡ put (B.format back.old)
-            (state_of T.value (kept_of self.old) (B.format back.old) (B.codes back.old)) b p (T.value v) }
+        ensures sound { IsSound R.place T.value self.new (B.format back.new) (B.codes back.new) }
+        ensures state { state_at R.place T.value (kept_of self.new) (B.format back.new) (B.codes back.new)
+            ≡ with_value (B.format back.old) (soiled (touch_in (B.format back.old)
+            (state_at R.place T.value (kept_of self.old) (B.format back.old) (B.codes back.old))
+            (line_by R.place (kept_of self.old) b) b) b) b p (T.value v) }
         ensures format { B.format back.new ≡ B.format back.old }
         ensures kept { B.kept back.new ≡ B.kept back.old }
     {
-        let l = self.touch_for_writing(back, b);
+        let l = self.touch_for_writing::<R, B>(back, b);
         self.lines.line_mut(l)[p] = v;
     }
 
     /// Writes every dirty block back, in the order of lines, and empties all lines.
-    pub(crate) fn flush<B: Backing<T>>(&mut self, back: &mut B)
-        requires sound { IsSound T.value self.old (B.format back.old) (B.codes back.old) }
-        ensures sound { IsSound T.value self.new (B.format back.new) (B.codes back.new) }
-        ensures state { state_of T.value (kept_of self.new) (B.format back.new) (B.codes back.new)
-            ≡ flush (B.format back.old) (state_of T.value (kept_of self.old) (B.format back.old) (B.codes back.old)) }
+    pub fn flush<R: Rule, B: Backing<T>>(&mut self, back: &mut B)
+        requires sound { IsSound R.place T.value self.old (B.format back.old) (B.codes back.old) }
+        ensures sound { IsSound R.place T.value self.new (B.format back.new) (B.codes back.new) }
+        ensures state { state_at R.place T.value (kept_of self.new) (B.format back.new) (B.codes back.new)
+            ≡ flush (B.format back.old) (state_at R.place T.value (kept_of self.old) (B.format back.old) (B.codes back.old)) }
         ensures empty { self.new.tags.items ≡ replicate (length self.old.tags.items) 0 }
         ensures format { B.format back.new ≡ B.format back.old }
         ensures kept { B.kept back.new ≡ B.kept back.old }
     {
         for l in 0..self.tags.len() as u32 {
-            self.evict(back, l);
+            self.evict::<R, B>(back, l);
         }
     }
 }

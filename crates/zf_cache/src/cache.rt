@@ -12,6 +12,7 @@ ghost use Rattle.zf_cache.specs.Standing.{state_of, values_of, Fits};
 ghost use Rattle.zf_cache.specs.Steps.{put};
 
 use crate::body::Body;
+use crate::rule::OneLine;
 use std::alloc::{AllocError, Global};
 use std::marker::Model;
 use zf_base::{Backing, Lane, Reading, block_len};
@@ -75,7 +76,7 @@ impl<T: Lane, const D: usize> Cache<T, D> {
         ensures format { B.format back.new ≡ B.format back.old }
         ensures kept { B.kept back.new ≡ B.kept back.old }
     {
-        let l = self.body.touch(back, b);
+        let l = self.body.touch::<OneLine, B>(back, b);
         self.body.lines.line(l)[p]
     }
 
@@ -92,7 +93,7 @@ impl<T: Lane, const D: usize> Cache<T, D> {
         ensures format { B.format back.new ≡ B.format back.old }
         ensures kept { B.kept back.new ≡ B.kept back.old }
     {
-        self.body.set(back, b, p, v);
+        self.body.set::<OneLine, B>(back, b, p, v);
     }
 
     /// Touches block `b` for writing, so that `part_mut` can lend parts of it.
@@ -108,7 +109,7 @@ impl<T: Lane, const D: usize> Cache<T, D> {
         ensures format { B.format back.new ≡ B.format back.old }
         ensures kept { B.kept back.new ≡ B.kept back.old }
     {
-        self.body.touch_for_writing(back, b);
+        self.body.touch_for_writing::<OneLine, B>(back, b);
     }
 
     /// The `n` values of block `b` from its place `a` on, for writing. The block is in its line and dirty.
@@ -120,7 +121,7 @@ impl<T: Lane, const D: usize> Cache<T, D> {
         ensures value { result.now ≡ part (line_at self.old.lines (line_of self.old b)) a n }
         ensures size { HasSize self.old.lines (length self.old.tags) (4 ^ D) }
     {
-        let l = self.body.line_of(b);
+        let l = self.body.line_of::<OneLine>(b);
         self.body.lines.part_mut(l, a, n)
     }
 
@@ -133,7 +134,7 @@ impl<T: Lane, const D: usize> Cache<T, D> {
         ensures value { slice_index_or (line_at self.old.lines (line_of self.old b)) p result.now ≡ result.now }
         ensures size { HasSize self.old.lines (length self.old.tags) (4 ^ D) }
     {
-        let l = self.body.line_of(b);
+        let l = self.body.line_of::<OneLine>(b);
         self.body.lines.value_mut(l, p)
     }
 
@@ -150,7 +151,7 @@ impl<T: Lane, const D: usize> Cache<T, D> {
         ensures format { B.format back.new ≡ B.format back.old }
         ensures kept { B.kept back.new ≡ B.kept back.old }
     {
-        self.body.touch(back, b);
+        self.body.touch::<OneLine, B>(back, b);
     }
 
     /// The `4^D` values in the line of block `b`.
@@ -159,7 +160,7 @@ impl<T: Lane, const D: usize> Cache<T, D> {
         ensures value { result.now ≡ line_at self.now.lines (line_of self.now b) }
         ensures size { length result.now ≡ 4 ^ D }
     {
-        let l = self.body.line_of(b);
+        let l = self.body.line_of::<OneLine>(b);
         self.body.lines.line(l)
     }
 
@@ -176,7 +177,7 @@ impl<T: Lane, const D: usize> Cache<T, D> {
         ensures format { B.format back.new ≡ B.format back.old }
         ensures kept { B.kept back.new ≡ B.kept back.old }
     {
-        let l = self.body.touch(back, b);
+        let l = self.body.touch::<OneLine, B>(back, b);
         self.body.lines.line(l)
     }
 
@@ -192,7 +193,7 @@ impl<T: Lane, const D: usize> Cache<T, D> {
         ensures format { B.format back.new ≡ B.format back.old }
         ensures kept { B.kept back.new ≡ B.kept back.old }
     {
-        let l = self.body.touch_for_writing(back, b);
+        let l = self.body.touch_for_writing::<OneLine, B>(back, b);
         self.body.lines.line_mut(l)
     }
 
@@ -207,7 +208,7 @@ impl<T: Lane, const D: usize> Cache<T, D> {
         ensures format { B.format back.new ≡ B.format back.old }
         ensures kept { B.kept back.new ≡ B.kept back.old }
     {
-        self.body.flush(back)
+        self.body.flush::<OneLine, B>(back)
     }
 
     /// Empties the cache; nothing is written.
@@ -232,7 +233,7 @@ impl<T: Lane, const D: usize> Cache<T, D> {
         ensures kept { B.kept back.new ≡ B.kept back.old }
     {
         let taken = Body::new(self.alloc, lines, block_len(D as u8))?;
-        self.body.flush(back);
+        self.body.flush::<OneLine, B>(back);
         self.body.replace(taken);
         Ok(())
     }
@@ -254,7 +255,7 @@ impl<T: Lane, const D: usize> Cache<T, D> {
         ensures format { B.format back.new ≡ B.format back.old }
         ensures kept { B.kept back.new ≡ B.kept back.old }
     {
-        let l = self.body.touch_read(back, b);
+        let l = self.body.touch_read::<OneLine, B>(back, b);
         self.body.lines.line(l)[p]
     }
 
@@ -290,7 +291,7 @@ impl<T: Lane, const D: usize> Cache<T, D> {
         ensures format { B.format back.new ≡ B.format back.old }
         ensures kept { B.kept back.new ≡ B.kept back.old }
     {
-        let l = self.body.touch_read(back, b);
+        let l = self.body.touch_read::<OneLine, B>(back, b);
         self.body.lines.line(l)
     }
 
@@ -325,6 +326,6 @@ impl<T: Lane, const D: usize> Cache<T, D> {
     pub fn is_dirty(&self, b: u64) -> bool
         ensures { result ≡ is_dirty self.now b }
     {
-        self.body.is_dirty(b)
+        self.body.is_dirty::<OneLine>(b)
     }
 }

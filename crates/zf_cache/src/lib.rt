@@ -3,13 +3,15 @@
 
 mod body;
 mod cache;
+mod counted;
 mod counts;
 pub mod laws;
+mod rule;
 #[cfg(test)]
 mod tests;
 
-// A crate names `Cache` in a contract only where the types of its fields are exported.
-#[doc(hidden)]
 pub use body::Body;
 pub use cache::Cache;
+pub use counted::Counted;
 pub use counts::{default_lines, raised};
+pub use rule::{OneLine, Rule};

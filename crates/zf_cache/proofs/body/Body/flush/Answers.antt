@@ -3,7 +3,7 @@ use Rattle.std.proofs.lemmas.Bool.{cases_lt}
 use Rattle.std.proofs.lemmas.List.{length-set}
 use Rattle.zf_cache.specs.Kept.{tag_at}
 use Rattle.zf_cache.specs.Bodies.{kept_of}
-use Rattle.zf_cache.specs.Standing.{state_of, evicted}
+use Rattle.zf_cache.specs.Standing.{state_at, evicted}
 use Rattle.zf_cache.proofs.Tags.{same_or_not, tag-set_same, tag-set_other, zeros_of}
 use Rattle.zf_cache.proofs.Touches.{flushing, flush_begins, flush_goes_on, flush_ends, past_lines}
 use Rattle.zf_cache.proofs.body.Body.flush.Goals as goal
@@ -11,12 +11,12 @@ use Rattle.zf_cache.proofs.body.Body.flush.Goals as goal
 pub loop-l-init : goal.loop-l-init
 loop-l-init g c =
     let a = c.args.self.now in let f = g.B.Reading.format c.args.back.now in let k = g.B.Reading.codes c.args.back.now in
-    (refl, refl, c.requires.sound, sym (flush_begins f (state_of g.T.Lane.value (kept_of a) f k)), refl, λ m lt. absurd (omega arith))
+    (refl, refl, c.requires.sound, sym (flush_begins f (state_at g.R.Rule.place g.T.Lane.value (kept_of a) f k)), refl, λ m lt. absurd (omega arith))
 
 pub loop-l-preserved : goal.loop-l-preserved
 loop-l-preserved g c =
     let a = c.args.self.now in let f = g.B.Reading.format c.args.back.now in let k = g.B.Reading.codes c.args.back.now in
-    let l = c.loop-l.l in let inv = c.loop-l.invariant in let e = c.evict.ensures in let s = state_of g.T.Lane.value (kept_of a) f k in
+    let l = c.loop-l.l in let inv = c.loop-l.invariant in let e = c.evict.ensures in let s = state_at g.R.Rule.place g.T.Lane.value (kept_of a) f k in
     let on : suc l ≡ l + 1 = omega arith in
     let was = c.loop-l.self.tags.items in
     let count : c.len-l-end.result ≡ length a.tags.items = search (c.len-l-end.ensures, rules) in (
@@ -35,13 +35,13 @@ loop-l-preserved g c =
     below m l lt ne = elim (cases_lt m l) [ inl less ↦ less | inr more ↦ let same : m ≡ l = omega (arith, lt, more) in absurd (ne same) ]
 
 pub returns-clause-state : goal.returns-clause-state
-unfolding state_of
+unfolding state_at
 returns-clause-state g c =
     let a = c.args.self.now in let f = g.B.Reading.format c.args.back.now in let k = g.B.Reading.codes c.args.back.now in
-    let inv = c.loop-l.invariant in let s = state_of g.T.Lane.value (kept_of a) f k in
+    let inv = c.loop-l.invariant in let s = state_at g.R.Rule.place g.T.Lane.value (kept_of a) f k in
     let count : c.len-l-end.result ≡ length a.tags.items = search (c.len-l-end.ensures, rules) in
     let at_end : c.loop-l.l ≡ length a.tags.items = omega (arith, c.loop-l-test.false, c.loop-l.auto.l-end, count) in
-    inv.3 ∙ ap (flushing f s) at_end ∙ flush_ends f s (past_lines g.T.Lane.value f (kept_of a) k)
+    inv.3 ∙ ap (flushing f s) at_end ∙ flush_ends f s (past_lines g.R.Rule.place g.T.Lane.value f (kept_of a) k)
 
 pub returns-clause-empty : goal.returns-clause-empty
 returns-clause-empty g c =

@@ -1,10 +1,10 @@
-use Rattle.std.proofs.Common.{refl, sym, ap, subst, ◌∙◌, ◌+◌, ◌*◌, ◌<◌, length, map}
+use Rattle.std.proofs.Common.{refl, ap, ◌∙◌, ◌+◌, ◌*◌, length, map}
 use Rattle.std.specs.Vec.{with_item}
 use Rattle.zf_base.specs.Formats.{existing_of}
 use Rattle.zf_lines.specs.Rows.{line_at, over, with_line}
 use Rattle.zf_lines.proofs.Sizes.{length-over, over_same}
 use Rattle.zf_cache.specs.declared.body.Body.{Body}
-use Rattle.zf_cache.proofs.Sound.{takes, line_in}
+use Rattle.zf_cache.proofs.Sound.{takes}
 use Rattle.zf_cache.proofs.body.Body.take_in.Goals as goal
 
 pub returns-clause-sound : goal.returns-clause-sound
@@ -17,12 +17,12 @@ returns-clause-sound g c =
     } in
     let sound = c.requires.sound in
     let row = over (line_at a.lines l) c.load.new.line in
-    let lt = subst (λ j. j < length a.tags.items) (sym c.requires.line) (line_in g.T.Lane.value a a f f k k refl sound b) in
+    let lt = c.requires.line.0 in
     let long = length-over (line_at a.lines l) c.load.new.line ∙ sound.whole.size.1 l lt in
     let same = over_same (line_at a.lines l) c.load.new.line (c.load.auto.line ∙ ap length c.line_mut.ensures.value) in
     let loaded = ap (λ r. existing_of f b (map g.T.Lane.value r)) same ∙ c.load.ensures.value in
-    (takes g.T.Lane.value a d f (g.B.Reading.format c.load.new.self) k (g.B.Reading.codes c.load.new.self) c.load.ensures.format sound l lt b (sym c.requires.line) row long
-    c.requires.empty loaded c.requires.block.0 refl refl (ap (λ n. record { hits = a.counts.hits; misses = n; writes = a.counts.writes }) c.saturating_add-self.ensures) c.load.ensures.codes).0
+    (takes g.R.Rule.place g.R.Rule.may_hold g.met.R.Rule.rule g.T.Lane.value a d f (g.B.Reading.format c.load.new.self) k (g.B.Reading.codes c.load.new.self) c.load.ensures.format sound l lt b row long
+    c.requires.line.1 c.requires.empty c.requires.away loaded c.requires.block.0 refl refl (ap (λ n. record { hits = a.counts.hits; misses = n; writes = a.counts.writes }) c.saturating_add-self.ensures) c.load.ensures.codes).0
 
 pub returns-clause-state : goal.returns-clause-state
 returns-clause-state g c =
@@ -34,9 +34,9 @@ returns-clause-state g c =
     } in
     let sound = c.requires.sound in
     let row = over (line_at a.lines l) c.load.new.line in
-    let lt = subst (λ j. j < length a.tags.items) (sym c.requires.line) (line_in g.T.Lane.value a a f f k k refl sound b) in
+    let lt = c.requires.line.0 in
     let long = length-over (line_at a.lines l) c.load.new.line ∙ sound.whole.size.1 l lt in
     let same = over_same (line_at a.lines l) c.load.new.line (c.load.auto.line ∙ ap length c.line_mut.ensures.value) in
     let loaded = ap (λ r. existing_of f b (map g.T.Lane.value r)) same ∙ c.load.ensures.value in
-    (takes g.T.Lane.value a d f (g.B.Reading.format c.load.new.self) k (g.B.Reading.codes c.load.new.self) c.load.ensures.format sound l lt b (sym c.requires.line) row long
-    c.requires.empty loaded c.requires.block.0 refl refl (ap (λ n. record { hits = a.counts.hits; misses = n; writes = a.counts.writes }) c.saturating_add-self.ensures) c.load.ensures.codes).1
+    (takes g.R.Rule.place g.R.Rule.may_hold g.met.R.Rule.rule g.T.Lane.value a d f (g.B.Reading.format c.load.new.self) k (g.B.Reading.codes c.load.new.self) c.load.ensures.format sound l lt b row long
+    c.requires.line.1 c.requires.empty c.requires.away loaded c.requires.block.0 refl refl (ap (λ n. record { hits = a.counts.hits; misses = n; writes = a.counts.writes }) c.saturating_add-self.ensures) c.load.ensures.codes).1

@@ -1,55 +1,71 @@
-use Rattle.std.proofs.Common.{refl, sym, ap, subst, ◌∙◌, ◌/◌, ◌<◌, length, None}
-use Rattle.std.proofs.lemmas.List.{get_or_default, set-set}
+use Rattle.std.proofs.Common.{◌≡◌, refl, sym, ap, subst, ◌∙◌, ◌/◌, length, set, None, arith}
+use Rattle.std.proofs.lemmas.List.{get_or_default, set-set, length-set}
 use Rattle.std.specs.Vec.{with_item}
 use Rattle.zf_cache.specs.declared.body.Body.{Body}
 use Rattle.zf_cache.specs.Kept.{tag_at, clean_tag}
 use Rattle.zf_cache.specs.Bodies.{kept_of}
-use Rattle.zf_cache.specs.Standing.{state_of}
+use Rattle.zf_cache.specs.Standing.{state_at}
 use Rattle.zf_cache.proofs.Tags.{undirty}
-use Rattle.zf_cache.proofs.Sound.{line_in, only_line, stays_clean, evicts, hits_block, misses_block}
+use Rattle.zf_cache.proofs.Sound.{none_in, only_line, stays_clean, evicts, hits_block, misses_block}
 use Rattle.zf_cache.proofs.body.Body.touch_read.Goals as goal
 
 pub returns-then-index-b-clause-state : goal.returns-then-index-b-clause-state
 returns-then-index-b-clause-state g c =
     let a = c.args.self.now in let f = g.B.Reading.format c.args.back.now in let k = g.B.Reading.codes c.args.back.now in let b = c.args.b in let value = g.T.Lane.value in
     let l = c.line_of-l.result in
-    let lt = subst (λ j. j < length a.tags.items) (sym c.line_of-l.ensures) (line_in value a a f f k k refl c.requires.sound b) in
-    let tag = get_or_default a.tags.items l 0 c.index.result.now lt ∙ sym c.index.ensures in
+    let tag = get_or_default a.tags.items l 0 c.index.result.now c.line_of-l.ensures.inside ∙ sym c.index.ensures in
     let d : Body g.row.T.Denot = record {
       lines = a.lines;
       tags = a.tags;
       counts = record { hits = c.saturating_add-self.result; misses = a.counts.misses; writes = a.counts.writes };
     } in
-    (hits_block value a d f f k k refl c.requires.sound b (ap (λ j. tag_at a.tags.items j / 2) (sym c.line_of-l.ensures) ∙ ap (λ t. t / 2) tag ∙ c.if-index-b.true) refl refl
+    (hits_block g.R.Rule.place g.R.Rule.may_hold g.met.R.Rule.rule value a d f f k k refl c.requires.sound b l (ap (λ t. t / 2) tag ∙ c.if-index-b.true) refl refl
     (ap (λ n. record { hits = n; misses = a.counts.misses; writes = a.counts.writes }) c.saturating_add-self.ensures) refl).1
+
+pub take_in-requires-clause-line : goal.take_in-requires-clause-line
+take_in-requires-clause-line g c =
+    let a = c.args.self.now in let l = c.line_of-l.result in let b = c.args.b in
+    let tags = set a.tags.items l 0 in
+    let size : length tags ≡ length a.tags.items = length-set a.tags.items l 0 in (
+      omega (arith, size, c.line_of-l.ensures.inside),
+      subst (λ n. g.R.Rule.may_hold n b l) (sym size) (subst (g.R.Rule.may_hold (length a.tags.items) b) (sym c.line_of-l.ensures.place) (g.met.R.Rule.rule.allowed (length a.tags.items) a.tags.items b)),
+    )
+
+pub take_in-requires-clause-away : goal.take_in-requires-clause-away
+take_in-requires-clause-away g c =
+    let a = c.args.self.now in let f = g.B.Reading.format c.args.back.now in let k = g.B.Reading.codes c.args.back.now in let b = c.args.b in let value = g.T.Lane.value in
+    let l = c.line_of-l.result in
+    let tag = get_or_default a.tags.items l 0 c.index.result.now c.line_of-l.ensures.inside ∙ sym c.index.ensures in
+    let out = none_in g.R.Rule.place g.R.Rule.may_hold g.met.R.Rule.rule value a a f f k k refl c.requires.sound b l (sym c.line_of-l.ensures.place) c.line_of-l.ensures.inside (λ e. c.if-index-b.false (ap (λ t. t / 2) (sym tag) ∙ e)) in
+    out
 
 pub take_in-requires-clause-sound : goal.take_in-requires-clause-sound
 take_in-requires-clause-sound g c =
     let a = c.args.self.now in let f = g.B.Reading.format c.args.back.now in let k = g.B.Reading.codes c.args.back.now in let b = c.args.b in let value = g.T.Lane.value in
     let l = c.line_of-l.result in
-    let lt = subst (λ j. j < length a.tags.items) (sym c.line_of-l.ensures) (line_in value a a f f k k refl c.requires.sound b) in
+    let lt = c.line_of-l.ensures.inside in
     let tag = get_or_default a.tags.items l 0 c.index.result.now lt ∙ sym c.index.ensures in
     let d : Body g.row.T.Denot = record { lines = a.lines; tags = with_item a.tags l 0; counts = a.counts } in
-    let emptied = evicts value a d f f k k refl c.requires.sound l lt None (undirty (tag_at a.tags.items l) (c.requires.clean l)) refl refl refl refl in
+    let emptied = evicts g.R.Rule.place g.R.Rule.may_hold g.met.R.Rule.rule value a d f f k k refl c.requires.sound l lt None (undirty (tag_at a.tags.items l) (c.requires.clean l)) refl refl refl refl in
     emptied.0
 
 pub returns-clause-state : goal.returns-clause-state
 returns-clause-state g c =
     let a = c.args.self.now in let f = g.B.Reading.format c.args.back.now in let k = g.B.Reading.codes c.args.back.now in let b = c.args.b in let value = g.T.Lane.value in
     let l = c.line_of-l.result in
-    let lt = subst (λ j. j < length a.tags.items) (sym c.line_of-l.ensures) (line_in value a a f f k k refl c.requires.sound b) in
+    let lt = c.line_of-l.ensures.inside in
     let tag = get_or_default a.tags.items l 0 c.index.result.now lt ∙ sym c.index.ensures in
     let d : Body g.row.T.Denot = record { lines = a.lines; tags = with_item a.tags l 0; counts = a.counts } in
-    let emptied = evicts value a d f f k k refl c.requires.sound l lt None (undirty (tag_at a.tags.items l) (c.requires.clean l)) refl refl refl refl in
-    misses_block value a f k b l (state_of value (kept_of d) f k)
-    (state_of value (kept_of c.take_in.new.self) (g.B.Reading.format c.take_in.new.back) (g.B.Reading.codes c.take_in.new.back))
-    c.line_of-l.ensures (λ e. c.if-index-b.false (ap (λ t. t / 2) (sym tag) ∙ e)) emptied.1 c.take_in.ensures.state
+    let emptied = evicts g.R.Rule.place g.R.Rule.may_hold g.met.R.Rule.rule value a d f f k k refl c.requires.sound l lt None (undirty (tag_at a.tags.items l) (c.requires.clean l)) refl refl refl refl in
+    misses_block g.R.Rule.place value a f k b l (state_at g.R.Rule.place value (kept_of d) f k)
+    (state_at g.R.Rule.place value (kept_of c.take_in.new.self) (g.B.Reading.format c.take_in.new.back) (g.B.Reading.codes c.take_in.new.back))
+    (λ e. c.if-index-b.false (ap (λ t. t / 2) (sym tag) ∙ e)) emptied.1 c.take_in.ensures.state
 
 pub returns-clause-others : goal.returns-clause-others
 returns-clause-others g c =
     let a = c.args.self.now in let f = g.B.Reading.format c.args.back.now in let k = g.B.Reading.codes c.args.back.now in let b = c.args.b in let value = g.T.Lane.value in
     let l = c.line_of-l.result in
-    let lt = subst (λ j. j < length a.tags.items) (sym c.line_of-l.ensures) (line_in value a a f f k k refl c.requires.sound b) in
+    let lt = c.line_of-l.ensures.inside in
     let tag = get_or_default a.tags.items l 0 c.index.result.now lt ∙ sym c.index.ensures in
     let e = c.take_in.ensures in
     only_line (kept_of a) (kept_of c.take_in.new.self) l (clean_tag b) lt e.lines (e.tags ∙ set-set a.tags.items l 0 (clean_tag b))
@@ -58,6 +74,6 @@ pub returns-clause-clean : goal.returns-clause-clean
 returns-clause-clean g c =
     let a = c.args.self.now in let f = g.B.Reading.format c.args.back.now in let k = g.B.Reading.codes c.args.back.now in let b = c.args.b in let value = g.T.Lane.value in
     let l = c.line_of-l.result in
-    let lt = subst (λ j. j < length a.tags.items) (sym c.line_of-l.ensures) (line_in value a a f f k k refl c.requires.sound b) in
+    let lt = c.line_of-l.ensures.inside in
     let tag = get_or_default a.tags.items l 0 c.index.result.now lt ∙ sym c.index.ensures in
     stays_clean (kept_of a) (kept_of c.take_in.new.self) l b lt c.requires.clean (c.take_in.ensures.tags ∙ set-set a.tags.items l 0 (clean_tag b))

@@ -2,14 +2,18 @@ use Rattle.std.proofs.Common.{ap, ◌∙◌, length}
 use Rattle.zf_cached.specs.Changes.{relined}
 use Rattle.zf_cache.specs.Kept.{Kept}
 use Rattle.zf_cache.specs.Bodies.{kept_of, counts_of}
-use Rattle.zf_cache.specs.Standing.{state_of}
+use Rattle.zf_cache.specs.Standing.{state_at, state_of}
+use Rattle.zf_cache.specs.Rules.{one_line}
 use Rattle.zf_cache.proofs.Lent.{reline}
+use Rattle.zf_cache.proofs.OwnLines.{relined_own}
 use Rattle.zf_cache.proofs.cache.Cache.relined.Goals as goal
 
 pub returns-clause-ok : goal.returns-clause-ok
 returns-clause-ok g c =
     let f = g.B.Reading.format c.args.back.now in let k = g.B.Reading.codes c.args.back.now in let value = g.T.Lane.value in
     let o = c.self.inside.body in let e = c.flush.ensures in
-    reline value f (g.B.Reading.format c.flush.new.back) (g.B.Reading.codes c.flush.new.back) (kept_of c.flush.new.self) (kept_of c.replace.new.self)
-    (length o.tags.items) c.args.lines (state_of value (kept_of o) f k) e.empty (c.replace.ensures.tags ∙ c.in_ok-taken.ensures.empty) (ap counts_of c.replace.ensures.counts) e.state
+    let h = g.B.Reading.format c.flush.new.back in let j = g.B.Reading.codes c.flush.new.back in
+    relined_own value f h k j (kept_of o) (kept_of c.replace.new.self) c.args.lines
+    (reline one_line value f h j (kept_of c.flush.new.self) (kept_of c.replace.new.self)
+    (length o.tags.items) c.args.lines (state_at one_line value (kept_of o) f k) e.empty (c.replace.ensures.tags ∙ c.in_ok-taken.ensures.empty) (ap counts_of c.replace.ensures.counts) e.state)
     ∙ ap (λ (q : Kept g.row.T.Denot). relined f (state_of value q f k) c.args.lines) c.self.view_is

@@ -1,0 +1,30 @@
+use Rattle.std.proofs.Common.{ap, ◌∙◌, length}
+use Rattle.zf_cache.specs.Kept.{Kept}
+use Rattle.zf_cache.specs.Bodies.{kept_of, counts_of}
+use Rattle.zf_cached.specs.Changes.{relined}
+use Rattle.zf_cache.proofs.Lent.{reline}
+use Rattle.zf_cache.proofs.Steps.{empty_fits_at}
+use Rattle.zf_twoway.specs.Placing.{skewed}
+use Rattle.zf_twoway.specs.Standing.{state_of}
+use Rattle.zf_twoway.proofs.Standing.{sound_of, fits_of}
+use Rattle.zf_twoway.proofs.twoway.TwoWay.relined.Goals as goal
+
+pub flush-requires : goal.flush-requires
+flush-requires g c =
+    record { sound = sound_of g.T.Lane.value c.self.inside.body c.args.self.now (g.B.Reading.format c.args.back.now) (g.B.Reading.codes c.args.back.now) _
+    c.self.view_is c.self.invariant.0 c.requires.blocks.0 c.requires.fits }
+
+pub returns-clause-fits : goal.returns-clause-fits
+returns-clause-fits g c =
+    let h = g.B.Reading.format c.flush.new.back in let j = g.B.Reading.codes c.flush.new.back in
+    let new = kept_of c.replace.new.self in
+    fits_of g.T.Lane.value new h j (empty_fits_at skewed g.T.Lane.value h j new c.args.lines (c.replace.ensures.tags ∙ c.in_ok-taken.ensures.empty))
+
+pub returns-clause-ok : goal.returns-clause-ok
+returns-clause-ok g c =
+    let f = g.B.Reading.format c.args.back.now in let k = g.B.Reading.codes c.args.back.now in let value = g.T.Lane.value in
+    let o = kept_of c.self.inside.body in let is = c.self.view_is in
+    let e = c.flush.ensures in
+    reline skewed value f (g.B.Reading.format c.flush.new.back) (g.B.Reading.codes c.flush.new.back) (kept_of c.flush.new.self) (kept_of c.replace.new.self)
+    (length o.tags) c.args.lines (state_of value o f k) e.empty (c.replace.ensures.tags ∙ c.in_ok-taken.ensures.empty) (ap counts_of c.replace.ensures.counts) e.state
+    ∙ ap (λ (q : Kept g.row.T.Denot). relined f (state_of value q f k) c.args.lines) is

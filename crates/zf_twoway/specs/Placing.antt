@@ -1,0 +1,73 @@
+-- In which line a block is, or goes, as the tags of the lines tell.
+use Rattle.std.specs.Prelude.{◌≡◌, ℕ, Bool, true, false, List, Option, Some, None, is_none, if◌then◌else◌, refl}
+use Rattle.std.proofs.Common.{◌⊎◌, inl, inr, sym, ap, ◌∙◌, ◌<◌, ◌≢◌}
+use Rattle.std.proofs.lemmas.Nat.{mod_below}
+use Rattle.zf_cached.specs.State.{is_block}
+use Rattle.zf_cache.specs.Kept.{IsIn, tag_at, block_in, dirty_of}
+use Rattle.zf_cache.specs.Rules.{IsRule}
+use Rattle.zf_cache.proofs.Tags.{same_or_not, is_or_not, is_block-same, is_block-other}
+use Rattle.zf_twoway.specs.Touch.{first_line, second_line, choice}
+
+-- the line that holds the block, or else the line that takes it in: whether the first holds it, whether the second does, and which takes it in
+abbrev pub place_by : Bool → Bool → ℕ → ℕ → ℕ → ℕ
+place_by in_first in_second taking first second = if in_first then first else (if in_second then second else taking)
+
+-- which of two lines with these tags takes a block in
+abbrev pub taking_line : ℕ → ℕ → ℕ → ℕ → ℕ
+taking_line t u first second =
+    choice (is_none (block_in t)) (is_none (block_in u)) (is_none (dirty_of t)) (is_none (dirty_of u)) first second
+
+-- the line of block b in a cache of n lines with these tags
+abbrev pub skewed : ℕ → List ℕ → ℕ → ℕ
+skewed n tags b =
+    let first = first_line n b in let second = second_line n b in
+    let t = tag_at tags first in let u = tag_at tags second in
+    place_by (is_block (block_in t) b) (is_block (block_in u) b) (taking_line t u first second) first second
+
+-- line l is the first or the second of block b
+abbrev pub IsOneOfTwo : ℕ → ℕ → ℕ → Type 0
+IsOneOfTwo n b l = (first_line n b ≡ l) ⊎ (second_line n b ≡ l)
+
+-- ---- so a block is found where it is
+
+pub chosen : (P : ℕ → Type 0) (a b c d : Bool) (first second : ℕ) → P first → P second → P (choice a b c d first second)
+chosen P true b c d first second p q = p
+chosen P false true c d first second p q = q
+chosen P false false true d first second p q = p
+chosen P false false false true first second p q = q
+chosen P false false false false first second p q = p
+
+pub placed : (P : ℕ → Type 0) (a b : Bool) (taking first second : ℕ) → P first → P second → P taking → P (place_by a b taking first second)
+placed P true b taking first second p q r = p
+placed P false true taking first second p q r = q
+placed P false false taking first second p q r = r
+
+-- what holds of both lines of a block holds of its line
+pub either : (P : ℕ → Type 0) (n : ℕ) (tags : List ℕ) (b : ℕ) → P (first_line n b) → P (second_line n b) → P (skewed n tags b)
+either P n tags b p q =
+    let first = first_line n b in let second = second_line n b in let t = tag_at tags first in let u = tag_at tags second in
+    placed P (is_block (block_in t) b) (is_block (block_in u) b) (taking_line t u first second) first second p q
+    (chosen P (is_none (block_in t)) (is_none (block_in u)) (is_none (dirty_of t)) (is_none (dirty_of u)) first second p q)
+
+pub skewed-first : (n : ℕ) (tags : List ℕ) (b : ℕ) → IsIn tags (first_line n b) b → skewed n tags b ≡ first_line n b
+skewed-first n tags b is =
+    let first = first_line n b in let second = second_line n b in let t = tag_at tags first in let u = tag_at tags second in
+    ap (λ x. place_by x (is_block (block_in u) b) (taking_line t u first second) first second) (is_block-same (block_in t) b is)
+
+pub skewed-second : (n : ℕ) (tags : List ℕ) (b : ℕ) → (IsIn tags (first_line n b) b → ⊥) → IsIn tags (second_line n b) b → skewed n tags b ≡ second_line n b
+skewed-second n tags b out is =
+    let first = first_line n b in let second = second_line n b in let t = tag_at tags first in let u = tag_at tags second in
+    (λ i. place_by (is_block-other (block_in t) b out i) (is_block-same (block_in u) b is i) (taking_line t u first second) first second)
+
+pub skewed_rule : IsRule skewed IsOneOfTwo
+skewed_rule = record {
+  inside = λ n tags b some. either (λ l. l < n) n tags b (mod_below b n some) (mod_below _ n some);
+  allowed = λ n tags b. either (IsOneOfTwo n b) n tags b (inl refl) (inr refl);
+  found = λ n tags b l may is only. elim may [
+    | inl at ↦ skewed-first n tags b (ap (λ j. block_in (tag_at tags j)) at ∙ is) ∙ at
+    | inr at ↦ elim (is_or_not (block_in (tag_at tags (first_line n b))) b) [
+      | inl first ↦ skewed-first n tags b first ∙ only (first_line n b) first
+      | inr out ↦ skewed-second n tags b out (ap (λ j. block_in (tag_at tags j)) at ∙ is) ∙ at
+    ]
+  ];
+}

@@ -1,0 +1,12 @@
+//! A write-back cache of blocks over any backing, in which each block has two lines: its number modulo the number of lines, and a skewed one.
+#![tactic(auto)]
+
+pub mod laws;
+pub mod laws_of_touches;
+mod skewed;
+#[cfg(test)]
+mod tests;
+mod twoway;
+
+pub use skewed::Skewed;
+pub use twoway::TwoWay;
