@@ -1,9 +1,9 @@
-use Rattle.std.proofs.Common.{◌≡◌, refl, sym, ap, ◌∙◌, inl, inr, ⊎_elim, ℕ, zero, suc, ◌+◌, ◌-◌, ◌*◌, ◌<◌, ◌≤◌, min, List, [], ◌∷◌, ◌++◌, length, get_or, length-append, arith}
+use Rattle.std.proofs.Common.{◌≡◌, refl, sym, ap, ◌∙◌, ⊎_elim, ℕ, suc, ◌+◌, ◌*◌, ◌<◌, List, [], ◌∷◌, ◌++◌, length, get_or, length-append, arith}
 use Rattle.std.proofs.Math.Nat.{mul-suc}
 use Rattle.std.proofs.Math.Seq.{get_or-append_seam}
 use Rattle.std.proofs.lemmas.Bool.{cases_lt}
-use Rattle.std.proofs.lemmas.List.{get_or_append_left, get_or_read_under}
-use Rattle.zf_index.specs.Spans.{Index, len_at, place}
+use Rattle.std.proofs.lemmas.List.{get_or_append_left}
+use Rattle.zf_index.specs.Spans.{Index, place}
 use Rattle.zf_index.proofs.Places.{place-next, ends_within}
 use Rattle.zf_index.proofs.index.places_of.Goals as goal
 
@@ -46,7 +46,7 @@ more step i xs ys at first is there chunk each c lt =
     ∙ ⊎_elim
     (λ below. get_or_append_left xs (at ∷ []) 0 c below ∙ each c below)
     (λ ge. let last : c ≡ length xs = omega (arith, lt, size) in
-        ap (λ k. get_or (xs ++ at ∷ []) k 0) last ∙ get_or-append_seam xs at [] 0 ∙ there ∙ ap (place i) (chunk ∙ ap (λ k. step * k) (sym last)))
+    ap (λ k. get_or (xs ++ at ∷ []) k 0) last ∙ get_or-append_seam xs at [] 0 ∙ there ∙ ap (place i) (chunk ∙ ap (λ k. step * k) (sym last)))
     (cases_lt c (length xs))
 
 pub loop-first-preserved : goal.loop-first-preserved
