@@ -2,7 +2,6 @@
 use Rattle.std.proofs.Common.{◌≡◌, refl, sym, ap, subst, ◌∙◌, ℕ, zero, suc, ◌+◌, ◌-◌, ◌*◌, ◌<◌, ◌≤◌, max, Bool, List, [], ◌∷◌, ◌++◌, map, length, take, drop, take-take, add-one, arith}
 use Rattle.std.specs.Int.{Width}
 use Rattle.std.proofs.lemmas.List.{length-take-le, length-drop, drop-take, map-append}
-use Rattle.std.specs.Ordering.{nat_cmp, ord_max}
 use Rattle.zf_spec.specs.Grid.{upto}
 use Rattle.zf_spec.proofs.Counting.{count_from-add}
 use Rattle.zf_bits.specs.Reader.{Reader, rest}
@@ -25,10 +24,6 @@ module _ (bits : List Bool) (at len : ℕ) (first r : Reader) (made : first ≡ 
   code_is = ap (take len) code_left ∙ take-take len len (drop at bits) (omega arith)
 
 -- ---- the greatest plane over codes
-
--- the greater of two numbers, as code finds it
-pub ord_max-is : (a b : ℕ) → ord_max nat_cmp a b ≡ max a b
-ord_max-is a b = grind arith
 
 plane_of-append : (w : Width) (d : ℕ) (cs : List (List Bool)) (c : List Bool) → plane_of w d (cs ++ c ∷ []) ≡ max (plane_of w d cs) (rate_whole_from w d c)
 plane_of-append w d [] c = omega arith
