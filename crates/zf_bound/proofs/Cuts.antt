@@ -1,12 +1,11 @@
 -- A code that is cut from bits, and the plane of the codes of an index.
-use Rattle.std.proofs.Common.{◌≡◌, refl, sym, ap, subst, ◌∙◌, ℕ, zero, suc, ◌+◌, ◌-◌, ◌*◌, ◌<◌, ◌≤◌, max, Bool, List, [], ◌∷◌, ◌++◌, map, length, take, drop, take-take, add-one, arith}
+use Rattle.std.proofs.Common.{◌≡◌, sym, ap, ◌∙◌, ℕ, ◌+◌, ◌≤◌, max, Bool, List, [], ◌∷◌, ◌++◌, map, length, take, drop, take-take, arith}
 use Rattle.std.specs.Int.{Width}
 use Rattle.std.proofs.lemmas.List.{length-take-le, length-drop, drop-take, map-append}
 use Rattle.zf_spec.specs.Grid.{upto}
 use Rattle.zf_spec.proofs.Counting.{count_from-add}
 use Rattle.zf_bits.specs.Reader.{Reader, rest}
 use Rattle.zf_block.specs.WholePlanes.{rate_whole_from}
-use Rattle.zf_index.specs.Spans.{Index, place, len_at, code_in, codes_in}
 use Rattle.zf_bound.specs.Bounds.{plane_of}
 
 -- ---- a reader that ends where the code does, and stands where it begins

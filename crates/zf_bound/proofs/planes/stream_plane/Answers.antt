@@ -1,4 +1,4 @@
-use Rattle.std.proofs.Common.{◌≡◌, sym, ap, ◌∙◌, max, ℕ, List, Bool, length, take, drop, arith}
+use Rattle.std.proofs.Common.{◌≡◌, ap, ◌∙◌, max, length, take, drop, arith}
 use Rattle.zf_spec.specs.Numbers.{word_bits}
 use Rattle.zf_block.specs.WholePlanes.{rate_whole_from}
 use Rattle.zf_index.specs.Spans.{code_in}
