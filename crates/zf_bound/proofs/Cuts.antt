@@ -1,13 +1,11 @@
 -- A code that is cut from bits, and the plane of the codes of an index.
-use Rattle.std.proofs.Common.{◌≡◌, refl, sym, ap, subst, ◌∙◌, ℕ, zero, suc, ◌+◌, ◌-◌, ◌*◌, ◌<◌, ◌≤◌, max, Bool, List, [], ◌∷◌, ◌++◌, map, length, take, drop, take-take, add-one, arith}
+use Rattle.std.proofs.Common.{◌≡◌, sym, ap, ◌∙◌, ℕ, ◌+◌, ◌≤◌, max, Bool, List, [], ◌∷◌, ◌++◌, map, length, take, drop, take-take, arith}
 use Rattle.std.specs.Int.{Width}
 use Rattle.std.proofs.lemmas.List.{length-take-le, length-drop, drop-take, map-append}
-use Rattle.std.specs.Ordering.{nat_cmp, ord_max}
 use Rattle.zf_spec.specs.Grid.{upto}
 use Rattle.zf_spec.proofs.Counting.{count_from-add}
 use Rattle.zf_bits.specs.Reader.{Reader, rest}
 use Rattle.zf_block.specs.WholePlanes.{rate_whole_from}
-use Rattle.zf_index.specs.Spans.{Index, place, len_at, code_in, codes_in}
 use Rattle.zf_bound.specs.Bounds.{plane_of}
 
 -- ---- a reader that ends where the code does, and stands where it begins
@@ -25,10 +23,6 @@ module _ (bits : List Bool) (at len : ℕ) (first r : Reader) (made : first ≡ 
   code_is = ap (take len) code_left ∙ take-take len len (drop at bits) (omega arith)
 
 -- ---- the greatest plane over codes
-
--- the greater of two numbers, as code finds it
-pub ord_max-is : (a b : ℕ) → ord_max nat_cmp a b ≡ max a b
-ord_max-is a b = grind arith
 
 plane_of-append : (w : Width) (d : ℕ) (cs : List (List Bool)) (c : List Bool) → plane_of w d (cs ++ c ∷ []) ≡ max (plane_of w d cs) (rate_whole_from w d c)
 plane_of-append w d [] c = omega arith

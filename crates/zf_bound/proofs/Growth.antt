@@ -1,7 +1,6 @@
 -- How large the error is at most.
-use Rattle.std.proofs.Common.{◌≡◌, ap, ◌∙◌, ℕ, zero, suc, ◌+◌, ◌-◌, ◌*◌, ◌^◌, ◌<◌, ◌≤◌, pow-suc, add-one, mul-le-mul_left, arith}
+use Rattle.std.proofs.Common.{◌≡◌, ap, ◌∙◌, ℕ, ◌+◌, ◌*◌, ◌^◌, ◌≤◌, pow-suc, add-one, arith}
 use Rattle.std.proofs.Math.Nat.{pow-le-pow_right}
-use Rattle.zf_bound.specs.Errors.{grown, lost_below}
 use Rattle.zf_bound.specs.Bounds.{error_of}
 
 -- one axis more

@@ -1,11 +1,11 @@
 -- What is certified of a file whose codes an index has.
-use Rattle.std.proofs.Common.{◌≡◌, refl, sym, ap, subst, ◌∙◌, ℕ, zero, suc, ◌+◌, ◌-◌, ◌*◌, ◌^◌, ◌<◌, ◌≤◌, Bool, true, false, cond, ltb, ℤ, Some, None, Ok, Option, List, [], ◌++◌, map, length, get_or, take, drop, ⊎_elim, arith}
+use Rattle.std.proofs.Common.{◌≡◌, refl, sym, ap, subst, ◌∙◌, ℕ, ◌<◌, ◌≤◌, Bool, true, false, cond, ltb, ℤ, Some, None, Option, List, [], ◌++◌, map, length, get_or, take, drop, arith}
 use Rattle.std.specs.Prelude.{IfOk}
 use Rattle.std.specs.Int.{Width}
 use Rattle.std.proofs.lemmas.List.{length-append, length-drop, take-append-le, drop-append-le}
 use Rattle.std.proofs.lemmas.Option.{none-some}
 use mir.Val.{bits}
-use Rattle.zf_spec.specs.Grid.{IsShape, blocks, extent_of, upto}
+use Rattle.zf_spec.specs.Grid.{IsShape, extent_of, upto}
 use Rattle.zf_spec.specs.Codes.{read_rate}
 use Rattle.zf_spec.specs.Stream.{to_bits, fill, with_fill}
 use Rattle.zf_spec.proofs.Counting.{map-upto_same, get_or-map-upto}

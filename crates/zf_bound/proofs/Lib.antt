@@ -7,6 +7,7 @@
 --     LostDigits   what the digits below a plane come to
 --     Blocks       how far what a fixed rate makes of a block is from it
 --     Streams      how far the values of a stream are from whatever contents have its codes
+--     Stored       what was stored comes back within the bound
 --     Cuts         codes that are cut from bits, and the plane of the codes of an index
 --     Indexed      what is certified of a file whose codes an index has
 --     LineLaws     the two facts of a line, as the laws state them
@@ -20,6 +21,7 @@ pub mod Axes
 pub mod LostDigits
 pub mod Blocks
 pub mod Streams
+pub mod Stored
 pub mod Cuts
 pub mod Indexed
 pub mod Growth

@@ -1,15 +1,15 @@
 -- How far the values of a stream are from whatever contents have its codes.
-use Rattle.std.proofs.Common.{◌≡◌, refl, sym, ap, subst, ◌∙◌, ℕ, zero, suc, ◌+◌, ◌-◌, ◌*◌, ◌^◌, ◌<◌, ◌≤◌, max, Bool, true, false, cond, ℤ, pos, List, [], ◌∷◌, map, length, get_or, take, All, ⊎_elim, arith}
+use Rattle.std.proofs.Common.{◌≡◌, refl, sym, ap, subst, ◌∙◌, ℕ, zero, suc, ◌-◌, ◌^◌, ◌<◌, ◌≤◌, Bool, true, false, cond, ℤ, pos, List, [], ◌∷◌, map, length, get_or, take, All, ⊎_elim, arith}
 use Rattle.std.specs.Int.RustNames.{unsigned_abs}
 use Rattle.std.specs.Int.{Width}
 use Rattle.std.proofs.lemmas.Bool.{cases_lt}
-use Rattle.std.proofs.lemmas.List.{get_or_past, length-map}
+use Rattle.std.proofs.lemmas.List.{get_or_past}
 use mir.Val.{bits}
 use Rattle.zf_spec.specs.Grid.{IsShape, product, grid, blocks, coordinates, raster, is_inside, indices, extents, extent_of, position_in, value_at, block_of, blocks_of, upto}
 use Rattle.zf_spec.specs.Kept.{kept_planes}
 use Rattle.zf_spec.specs.Padding.{pad}
 use Rattle.zf_spec.specs.Lift.{lift}
-use Rattle.zf_spec.specs.Codes.{planes, existing_values, rate, round, read_rate}
+use Rattle.zf_spec.specs.Codes.{existing_values, rate, round, read_rate}
 use Rattle.zf_spec.specs.Stream as stream
 use Rattle.zf_spec.specs.ReadPlanes.{planes_in}
 use Rattle.zf_spec.proofs.Full.{length-planes_in}
@@ -23,12 +23,12 @@ use Rattle.zf_pad.proofs.Blocks.{all_extents}
 use Rattle.zf_header.specs.declared.header.Header.{Header}
 use Rattle.zf_header.specs.declared.header.Mode.TheVariants.{Rate}
 use Rattle.zf_header.specs.HeaderBits.{coding}
-use Rattle.zf_block.specs.WholePlanes.{planes_from, rate_whole_from, whole_from}
+use Rattle.zf_block.specs.WholePlanes.{planes_from, rate_whole_from}
 use Rattle.zf_block.proofs.WholePlanes.{planes_kept_from, block_planes, length-kept_planes, whole_from-le}
 use Rattle.zf_stream.specs.Parsing.{values_of_blocks}
 use Rattle.zf_stream.proofs.Joined.{values_of_blocks-blocks}
 use Rattle.zf_stream.proofs.BlocksBack.{existing_values-block_of}
-use Rattle.zf_bound.specs.Errors.{AreWithin, AreClose, lost_below, grown, IsSmallEnough}
+use Rattle.zf_bound.specs.Errors.{AreWithin, AreClose, IsSmallEnough}
 use Rattle.zf_bound.specs.Bounds.{plane_of, error_of, AreContents}
 use Rattle.zf_bound.proofs.Lines.{IsNear, zero_within}
 use Rattle.zf_bound.proofs.Blocks.{round_close}

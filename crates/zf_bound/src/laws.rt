@@ -1,12 +1,18 @@
 //! Laws of the bound. Each is a function with no parameters and an empty body, whose contract is the theorem.
 
-ghost use Rattle.std.specs.Prelude.{◌≡◌, ◌+◌, ◌-◌, ◌*◌, ◌≤◌, ◌<◌, ◌^◌, ◌↔◌, ℕ, ℤ, Bool, false, List, [], ◌∷◌, length, replicate, All, IsTrue};
+ghost use Rattle.std.specs.Prelude.{◌≡◌, ◌+◌, ◌-◌, ◌*◌, ◌≤◌, ◌<◌, ◌^◌, ◌↔◌, ℕ, ℤ, Bool, false, List, [], ◌∷◌, length, replicate, All, IsTrue, IfOk};
 ghost use Rattle.std.specs.Int.{Width, w32};
 ghost use mir.Val.{bits};
 ghost use Rattle.zf_spec.specs.Lift.{lift_line, unlift_line};
 ghost use Rattle.zf_spec.specs.Codes.{rate, round, existing_values};
+ghost use Rattle.zf_spec.specs.Grid.{product};
+ghost use Rattle.zf_spec.specs.Stream as stream;
 ghost use Rattle.zf_base.specs.Widths.{width_of};
 ghost use Rattle.zf_header.specs.declared.header.Header.{Header};
+ghost use Rattle.zf_header.specs.declared.header.Mode.TheVariants.{Rate};
+ghost use Rattle.zf_header.specs.HeaderBits.{IsHeader, coding};
+ghost use Rattle.zf_stream.specs.Raw.{stream_of};
+ghost use Rattle.zf_stream.specs.Parsing.{parse};
 ghost use Rattle.zf_block.specs.WholePlanes.{rate_whole_from};
 ghost use Rattle.zf_bound.specs.declared.certified.Certified.{Certified};
 ghost use Rattle.zf_bound.specs.Errors.{AreWithin, AreClose, IsSmallEnough};
@@ -28,6 +34,15 @@ pub fn a_block_comes_back_close()
         → let k = rate_whole_from w (length es) (rate w budget es block) in
         IsSmallEnough (bits w) m (error_of (length es) k)
         → AreClose (error_of (length es) k) (existing_values es block) (round w budget es block) }
+{}
+
+/// What is restored of the stream of an array's values is within the bound of that stream.
+pub fn what_was_stored_comes_back_close()
+    ensures { (h : Header) (values : List ℤ) (budget m : ℕ) → IsHeader h → h.mode ≡ Rate budget → length values ≡ product h.shape
+        → AreWithin m values
+        → let cs = stream.codes (width_of h.ty) h.shape (coding h.mode) values in
+        let error = error_of (length h.shape) (plane_of (width_of h.ty) (length h.shape) cs) in
+        IsSmallEnough (bits (width_of h.ty)) m error → IfOk (parse (stream_of h values)) (λ said. AreClose error values said.values) }
 {}
 
 /// What is certified is there once the plane, the error and whether the bound holds are.

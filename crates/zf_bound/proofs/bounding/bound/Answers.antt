@@ -1,5 +1,4 @@
-use Rattle.std.proofs.Common.{◌≡◌, sym, ap, subst, ◌∙◌, ℕ, ◌*◌, List, length, arith}
-use Rattle.std.specs.Prelude.{IsTrue, IfOk}
+use Rattle.std.proofs.Common.{◌≡◌, ap, subst, ◌∙◌, ◌*◌, length}
 use mir.Val.{bits}
 use Rattle.zf_spec.specs.Numbers.{word_bits}
 use Rattle.zf_spec.specs.Stream.{to_bits}

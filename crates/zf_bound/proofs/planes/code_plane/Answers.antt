@@ -1,4 +1,4 @@
-use Rattle.std.proofs.Common.{◌≡◌, ℕ, ◌+◌, ◌*◌, ◌≤◌, ap, subst, ◌∙◌, length, take, arith}
+use Rattle.std.proofs.Common.{ap, ◌∙◌, take, arith}
 use Rattle.zf_spec.specs.Numbers.{word_bits}
 use Rattle.zf_spec.proofs.WordBits.{length-word_bits}
 use Rattle.zf_bits.specs.Reader.{rest}
