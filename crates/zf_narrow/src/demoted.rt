@@ -1,6 +1,7 @@
 //! A sink of raw narrow values as a sink of raw int32 values, which stand for them.
 
-ghost use Rattle.std.specs.Prelude.{◌≡◌, [], Some};
+ghost use Rattle.std.specs.Prelude.{◌≡◌, [], Some, None, IsErr, OnOk};
+ghost use Rattle.zf_dev.specs.Faults.{HasCause};
 ghost use Rattle.zf_dev.specs.Sink.{Appends};
 ghost use Rattle.zf_narrow.specs.Demotions.{taken_so_far};
 ghost use Rattle.zf_narrow.specs.Facts.{Appends-prop};
@@ -20,6 +21,18 @@ pub(crate) struct Demoted<'a, O: Sink, K: Begun> {
     ghost same_sink: { out.ghost_name ≡ K.name },
     ghost same_type: { demotion.narrow ≡ K.narrow },
     ghost written: { Appends K.start (O.contents out.now) demotion.given.bytes } by { Appends-prop K.start (O.contents out.now) demotion.given.bytes },
+}
+
+impl<'a, O: Sink, K: Begun> Demoted<'a, O, K> {
+    /// Writes the byte that is owed, where one is.
+    pub(crate) fn settle(&mut self) -> Result<(), Failed>
+        ensures taken { taken_so_far self.new.demotion ≡ taken_so_far self.old.demotion }
+        ensures settled { OnOk result (self.new.demotion.owed ≡ None) }
+        ensures unchanged { OnOk result (O.faults self.new.out.now ≡ O.faults self.old.out.now) }
+        ensures cause { HasCause (IsErr result) (O.faults self.old.out.now) (O.faults self.new.out.now) }
+    {
+        self.demotion.settle(&mut *self.out)
+    }
 }
 
 impl<'a, O: Sink, K: Begun> Sink for Demoted<'a, O, K> {

@@ -69,7 +69,7 @@ fn restore_begun<S: Source, O: Sink, K: Begun>(
         begun: PhantomData,
     };
     match zf_stream::restore_where(alloc, Ty::I32, src, &mut sink) {
-        Ok(true) => match sink.demotion.settle(&mut *sink.out) {
+        Ok(true) => match sink.settle() {
             Ok(()) => Ok(()),
             Err(_) => Err(NarrowFault::Stream(StreamFault::Write)),
         },

@@ -1,5 +1,5 @@
 -- Raw values that are read row by row: what is refused.
-use Rattle.std.proofs.Common.{◌≡◌, ◌≢◌, refl, sym, ap, ◌∙◌, ℕ, ◌+◌, ◌<◌, ◌≤◌, inl, inr, cond, ltb, lt-ltb, le-ltb, List, [], ◌∷◌, ◌++◌, length, Option, Some, None, Ok, Err, length-append, arith}
+use Rattle.std.proofs.Common.{◌≡◌, ◌≢◌, refl, sym, ap, subst, ◌∙◌, ℕ, ◌+◌, ◌<◌, ◌≤◌, inl, inr, cond, ltb, lt-ltb, le-ltb, List, [], ◌∷◌, ◌++◌, length, Option, Some, None, Ok, Err, length-append, arith}
 use Rattle.zf_dev.specs.Source.{Takes, TakesSome}
 use Rattle.zf_dev.proofs.Taking.{Takes-append, Takes-to_end}
 use Rattle.zf_header.specs.declared.header.Header.{Header}
@@ -7,7 +7,7 @@ use Rattle.zf_stream.specs.declared.fault.StreamFault.{StreamFault}
 use Rattle.zf_stream.specs.declared.fault.StreamFault.TheVariants as faults
 use Rattle.zf_stream.specs.Raw.{raw_len, length_answer, compress_answer}
 use Rattle.zf_stream.specs.ReadRaw.{EndsShort, LacksRaw, GoesOn}
-use Rattle.zf_stream.specs.Outcomes.{IsRefusal, CanRefuse}
+use Rattle.zf_stream.specs.Outcomes.{IsRefusal, CanRefuse, ShowsLength}
 use Rattle.zf_stream.proofs.Refusals.{CanRefuse-short, CanRefuse-long}
 
 -- the answer for as many bytes
@@ -148,3 +148,31 @@ not_wanted_more mid now (faults.Truncated n) more is = cc
 not_wanted_more mid now faults.Pad more is = cc
 not_wanted_more mid now faults.Trailing more is = cc
 not_wanted_more mid now faults.Write more is = cc
+
+-- ---- what a refusal shows
+
+pub lacks_shows : (wanted before count : ℕ) (known old new : Option (List ℕ)) (e : StreamFault) → LacksRaw before count old new e → ShowsLength wanted known new e
+lacks_shows wanted before count known old new (faults.RawShort n) lacks = lacks.ended
+lacks_shows wanted before count known old new faults.RawLong lacks = absurd lacks
+lacks_shows wanted before count known old new faults.Read lacks = tt
+lacks_shows wanted before count known old new (faults.Header f) lacks = tt
+lacks_shows wanted before count known old new (faults.Truncated n) lacks = tt
+lacks_shows wanted before count known old new faults.Pad lacks = tt
+lacks_shows wanted before count known old new faults.Trailing lacks = tt
+lacks_shows wanted before count known old new faults.Write lacks = tt
+lacks_shows wanted before count known old new faults.Memory lacks = tt
+
+pub write_shows : (wanted : ℕ) (known now : Option (List ℕ)) (e : StreamFault) → e ≡ faults.Write → ShowsLength wanted known now e
+write_shows wanted known now e is = subst (ShowsLength wanted known now) (sym is) tt
+
+pub more_shows : (wanted : ℕ) (known mid now : Option (List ℕ)) (bytes : List ℕ) (e : StreamFault) → Takes known mid bytes → length bytes ≡ wanted → GoesOn mid now e → ShowsLength wanted known now e
+more_shows wanted known mid now bytes faults.RawLong taken all more =
+    (bytes ++ more.0 ∷ [], omega (arith, length-append bytes (more.0 ∷ []), all), Takes-append known mid now bytes (more.0 ∷ []) taken more.1)
+more_shows wanted known mid now bytes (faults.RawShort n) taken all more = absurd more
+more_shows wanted known mid now bytes faults.Read taken all more = tt
+more_shows wanted known mid now bytes (faults.Header f) taken all more = tt
+more_shows wanted known mid now bytes (faults.Truncated n) taken all more = tt
+more_shows wanted known mid now bytes faults.Pad taken all more = tt
+more_shows wanted known mid now bytes faults.Trailing taken all more = tt
+more_shows wanted known mid now bytes faults.Write taken all more = tt
+more_shows wanted known mid now bytes faults.Memory taken all more = tt

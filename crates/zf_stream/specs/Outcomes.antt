@@ -1,9 +1,9 @@
 -- How a call that reads from a source and writes to a sink ends. What a device tells of its bytes is `Some`, else `None`.
 use Rattle.std.specs.Prelude.{ℕ, ◌≡◌, ◌≤◌, ◌⊎◌, List, length, take, Option, Some, None, Result, Ok, Err, IsErrAnd}
-use Rattle.zf_dev.specs.Source.{Takes, IsAtEnd}
+use Rattle.zf_dev.specs.Source.{Takes, TakesMoreThan, IsAtEnd}
 use Rattle.zf_dev.specs.Sink.{Appends, AppendsFront}
 use Rattle.zf_stream.specs.declared.fault.StreamFault.{StreamFault}
-use Rattle.zf_stream.specs.declared.fault.StreamFault.TheVariants.{Header, Read, Write, Memory}
+use Rattle.zf_stream.specs.declared.fault.StreamFault.TheVariants.{RawShort, RawLong, Header, Read, Write, Memory}
 
 -- a fault of a device, or want of memory: what no input determines
 abbrev pub IsFromOutside : StreamFault → Type 0
@@ -28,6 +28,12 @@ IsRefusal (Some input) answer e = (answer input ≡ Err e) ⊎ IsFromOutside e
 -- some input has this refusal, or it comes from outside
 abbrev pub CanRefuse : (List ℕ → Result (Unit {0}) StreamFault) → StreamFault → Type 0
 CanRefuse answer e = ((input : List ℕ) × (answer input ≡ Err e)) ⊎ IsFromOutside e
+
+-- what a refusal of raw bytes shows of them: they ended, or more were taken than are wanted
+abbrev pub ShowsLength : ℕ → Option (List ℕ) → Option (List ℕ) → StreamFault → Type 0
+ShowsLength wanted before now (RawShort n) = IsAtEnd now
+ShowsLength wanted before now RawLong = TakesMoreThan before now wanted
+ShowsLength wanted before now e = Unit {0}
 
 -- the input was read to its end and is a good one, and its text was written
 pub record Finishes (answer : List ℕ → Result (Unit {0}) StreamFault) (text : List ℕ → List ℕ) (src_before src_now out_before out_now : Option (List ℕ)) : Type 0 where

@@ -7,10 +7,10 @@ ghost use Rattle.zf_pad.specs.Rasters.{IsRaster};
 ghost use Rattle.zf_pad.specs.Slabs.{row_len, rows_of};
 ghost use Rattle.zf_base.specs.Widths.{width_of};
 ghost use Rattle.zf_header.specs.HeaderBits.{IsMode, header_bits};
-ghost use Rattle.zf_stream.specs.Raw.{compress_answer, stream_text};
+ghost use Rattle.zf_stream.specs.Raw.{raw_len, compress_answer, stream_text};
 ghost use Rattle.zf_dev.specs.Faults.{HasCause};
 ghost use Rattle.zf_dev.specs.Source.{TakesSome};
-ghost use Rattle.zf_stream.specs.Outcomes.{CanRefuse, Answers, Finishes, LeavesFront, IsRefusal};
+ghost use Rattle.zf_stream.specs.Outcomes.{CanRefuse, ShowsLength, Answers, Finishes, LeavesFront, IsRefusal};
 ghost use Rattle.zf_stream.specs.Parsing.{longest_code};
 ghost use Rattle.zf_stream.specs.Rows.{ArePieces, rows_len, Compresses, Stops, WritesSlab, BreaksSlab};
 ghost use Rattle.zf_stream.specs.declared.fault.StreamFault.TheVariants.{Read, Write, Memory};
@@ -46,6 +46,7 @@ pub fn compress<S: Source, O: Sink>(
     requires { IsMode h.now.mode }
     ensures answer { Answers result (S.contents src.old) (compress_answer h.now) }
     ensures possible { IfErr result (CanRefuse (compress_answer h.now)) }
+    ensures length { IfErr result (ShowsLength (raw_len h.now) (S.contents src.old) (S.contents src.new)) }
     ensures ok { OnOk result (Finishes (compress_answer h.now) (stream_text h.now)
         (S.contents src.old) (S.contents src.new) (O.contents out.old) (O.contents out.new)) }
     ensures err { OnErr result (LeavesFront (stream_text h.now)
@@ -72,6 +73,7 @@ fn compress_as<T: Lane, S: Source, O: Sink>(
     requires same_type { T.width ≡ width_of h.now.ty }
     ensures answer { Answers result (S.contents src.old) (compress_answer h.now) }
     ensures possible { IfErr result (CanRefuse (compress_answer h.now)) }
+    ensures length { IfErr result (ShowsLength (raw_len h.now) (S.contents src.old) (S.contents src.new)) }
     ensures ok { OnOk result (Finishes (compress_answer h.now) (stream_text h.now)
         (S.contents src.old) (S.contents src.new) (O.contents out.old) (O.contents out.new)) }
     ensures err { OnErr result (LeavesFront (stream_text h.now)
@@ -136,6 +138,7 @@ fn write_stream<T: Lane, S: Source, O: Sink>(
     requires fits { most + longest_code h.now + 64 ≤ length codes.old.bits + codes.old.room }
     ensures answer { Answers result (S.contents src.old) (compress_answer h.now) }
     ensures possible { IfErr result (CanRefuse (compress_answer h.now)) }
+    ensures length { IfErr result (ShowsLength (raw_len h.now) (S.contents src.old) (S.contents src.new)) }
     ensures ok { OnOk result (Finishes (compress_answer h.now) (stream_text h.now)
         (S.contents src.old) (S.contents src.new) (O.contents out.old) (O.contents out.new)) }
     ensures err { OnErr result (LeavesFront (stream_text h.now)
@@ -184,6 +187,7 @@ fn write_slabs<T: Lane, S: Source, O: Sink>(
         (S.contents src.old) (S.contents src.new) (O.contents out.old) (O.contents out.new) codes.old.bits) }
     ensures refused { IfErr result (IsRefusal (S.contents src.old) (compress_answer h.now)) }
     ensures possible { IfErr result (CanRefuse (compress_answer h.now)) }
+    ensures length { IfErr result (ShowsLength (raw_len h.now) (S.contents src.old) (S.contents src.new)) }
     ensures unwanted { IfErr result (λ e. e ≢ Memory) }
     ensures few { OnOk result (length codes.new.bits < most) }
     ensures room { OnOk result (length codes.old.bits + codes.old.room ≤ length codes.new.bits + codes.new.room) }

@@ -77,12 +77,12 @@ pub fn restore_where<S: Source, O: Sink>(
     ensures sure { S.never_fails src.old → (result ≢ Err Read) × S.never_fails src.new }
 {
     let mut front = [0; FRONT];
-    let count = read_into(src, &mut front)?;
-    let (header, len) = header_at_front(&front[..count])?;
+    let read = read_into(src, &mut front)?;
+    let (header, len) = header_at_front(&front[..read])?;
     if header.ty != wanted {
         return Ok(false);
     }
-    restore_behind(alloc, &header, len, &front[..count], src, out)?;
+    restore_behind(alloc, &header, len, &front[..read], src, out)?;
     Ok(true)
 }
 

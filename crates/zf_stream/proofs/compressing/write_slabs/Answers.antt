@@ -5,6 +5,8 @@ use Rattle.zf_pad.specs.Rasters.{IsRaster}
 use Rattle.zf_pad.proofs.Slabs.{layout_of_slab, length-with_rows}
 use Rattle.zf_dev.proofs.Taking.{Takes-none}
 use Rattle.zf_stream.specs.Rows.{WritesSlab, BreaksSlab}
+use Rattle.zf_stream.specs.Raw.{raw_len}
+use Rattle.zf_stream.proofs.RawRows.{lacks_shows, write_shows}
 use Rattle.zf_stream.proofs.Flowing.{Flows-none}
 use Rattle.zf_stream.proofs.OnErrors.{on_err}
 use Rattle.zf_stream.proofs.Slabwise.{part_of, with_shape, next_slab, slab_written, slab_broken, slab_refused, slab_possible, slab_wanted, slab_sizes, longest_part, raw_small, rows_len-add, no_rows, zero_rows}
@@ -134,6 +136,20 @@ returns-in_err-write_slab-clause-possible g c =
     let next = next_slab c.args.h.now c.args.rows c.loop-row.row c.requires.rows c.loop-row.invariant.done.whole (omega (arith, c.loop-row-test.true, c.rows_of-all.ensures)) c.min-here.result (least _ _ _ _ _ c.min-here.ensures c.rows_of-all.ensures) (omega (arith, c.min-here.ensures)) (omega (arith, c.min-here.ensures, c.rows_of-all.ensures)) in
     let p = err_from_is_err_and c.from_residual.result c.from_residual.ensures.1 in
     rw (p.1, p.2) (slab_possible h c.loop-row.row here next c.loop-row.invariant.done.whole c.loop-row.invariant.done c.loop-row.taken e c.loop-row.invariant.taken broken)
+
+pub returns-in_err-write_slab-clause-length : goal.returns-in_err-write_slab-clause-length
+returns-in_err-write_slab-clause-length g c =
+    let h = c.args.h.now in
+    let here = c.min-here.result in
+    let mid = g.S.Source.contents c.loop-row.src in
+    let now = g.S.Source.contents c.write_slab.new.src in
+    let out1 = g.O.Sink.contents c.loop-row.out in
+    let out2 = g.O.Sink.contents c.write_slab.new.out in
+    let e = c.in_err-write_slab.field-0.0 in
+    let P : List ℕ → Type 0 = λ s. BreaksSlab (with_shape h s) c.loop-row.taken mid now out1 out2 c.loop-row.codes.bits e in
+    let broken : BreaksSlab (part_of h here) c.loop-row.taken mid now out1 out2 c.loop-row.codes.bits e = subst P c.with_rows.ensures c.in_err-write_slab.ensures.err in
+    let p = err_from_is_err_and c.from_residual.result c.from_residual.ensures.1 in
+    rw (p.1, p.2) (⊎_elim (λ lacks. lacks_shows (raw_len h) _ _ (g.S.Source.contents c.args.src.now) mid now e lacks.0) (λ spills. write_shows (raw_len h) (g.S.Source.contents c.args.src.now) now e spills.0) broken)
 
 pub returns-in_err-write_slab-clause-unwanted : goal.returns-in_err-write_slab-clause-unwanted
 returns-in_err-write_slab-clause-unwanted g c =

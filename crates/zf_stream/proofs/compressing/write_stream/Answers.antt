@@ -7,7 +7,7 @@ use Rattle.zf_stream.specs.Raw.{raw_len, compress_answer}
 use Rattle.zf_stream.specs.Flows.{Flows, Spills}
 use Rattle.zf_stream.proofs.OnErrors.{on_err}
 use Rattle.zf_stream.proofs.Answering.{answer_of_refusal, answer_at_end, both_ok, after_err}
-use Rattle.zf_stream.proofs.RawRows.{refused_more, possible_more, some_more, good_answer}
+use Rattle.zf_stream.proofs.RawRows.{more_shows, refused_more, possible_more, some_more, good_answer}
 use Rattle.zf_stream.proofs.Slabwise.{Stops-none, rows_len-all}
 use Rattle.zf_stream.proofs.FrontsOfStreams.{front_where_stopped, Stops-behind, Compresses-behind, Compresses-read, Compresses-stop, front_at_end, text_at_end}
 use Rattle.zf_stream.proofs.compressing.write_stream.Goals as goal
@@ -46,6 +46,14 @@ returns-in_err-read_end-clause-possible g c =
     let p = err_from_is_err_and c.from_residual-in_err-read_end.result c.from_residual-in_err-read_end.ensures.1 in
     rw (p.1, p.2)
     (possible_more h known (g.S.Source.contents c.write_slabs.new.src) (g.S.Source.contents c.read_end.new.src) done.bytes done.taken (done.long ∙ rows_len-all h done.whole.some_axis) e c.in_err-read_end.ensures.err)
+
+pub returns-in_err-read_end-clause-length : goal.returns-in_err-read_end-clause-length
+returns-in_err-read_end-clause-length g c =
+    let h = c.args.h.now in
+    let e = c.in_err-read_end.field-0.0 in
+    let done = c.in_ok-write_slabs.ensures.ok in
+    let p = err_from_is_err_and c.from_residual-in_err-read_end.result c.from_residual-in_err-read_end.ensures.1 in
+    rw (p.1, p.2) (more_shows (raw_len h) (g.S.Source.contents c.args.src.now) (g.S.Source.contents c.write_slabs.new.src) (g.S.Source.contents c.read_end.new.src) done.bytes e done.taken (done.long ∙ rows_len-all h done.whole.some_axis) c.in_err-read_end.ensures.err)
 
 pub returns-in_err-read_end-clause-err : goal.returns-in_err-read_end-clause-err
 returns-in_err-read_end-clause-err g c =

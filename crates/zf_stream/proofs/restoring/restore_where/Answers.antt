@@ -14,18 +14,18 @@ returns-in_err-header-clause-answer g c =
     let e = c.in_err-header.field-0.0 in
     let p = err_from_is_err_and c.from_residual-in_err-header.result c.from_residual-in_err-header.ensures.1 in
     let is : c.from_residual-in_err-header.result ≡ Err e = rw p.2 at p.1 in
-    typed_fault c.args.wanted 24 (g.S.Source.contents c.args.src.now) _ e c.from_residual-in_err-header.result (omega arith) c.in_ok-count.ensures.first.first c.in_err-header.ensures.err is
+    typed_fault c.args.wanted 24 (g.S.Source.contents c.args.src.now) _ e c.from_residual-in_err-header.result (omega arith) c.in_ok-read.ensures.first.first c.in_err-header.ensures.err is
 
 pub returns-in_err-header-clause-possible : goal.returns-in_err-header-clause-possible
 returns-in_err-header-clause-possible g c =
     let e = c.in_err-header.field-0.0 in
     let p = err_from_is_err_and c.from_residual-in_err-header.result c.from_residual-in_err-header.ensures.1 in
-    rw (p.1, p.2) (CanRefuse-header 24 _ e (omega arith) c.in_ok-count.ensures.first.within c.in_err-header.ensures.err)
+    rw (p.1, p.2) (CanRefuse-header 24 _ e (omega arith) c.in_ok-read.ensures.first.within c.in_err-header.ensures.err)
 
 pub returns-then-ne-clause-answer : goal.returns-then-ne-clause-answer
 returns-then-ne-clause-answer g c =
     let other : c.in_ok-header.header.ty ≢ c.args.wanted = search rules in
-    typed_other c.args.wanted (g.S.Source.contents c.args.src.now) (g.S.Source.contents c.read_into.new.src) _ c.in_ok-header.header c.in_ok-header.len c.in_ok-count.ensures.first.taken c.in_ok-header.ensures.ok other
+    typed_other c.args.wanted (g.S.Source.contents c.args.src.now) (g.S.Source.contents c.read_into.new.src) _ c.in_ok-header.header c.in_ok-header.len c.in_ok-read.ensures.first.taken c.in_ok-header.ensures.ok other
 
 pub returns-in_err-restore_behind-clause-answer : goal.returns-in_err-restore_behind-clause-answer
 returns-in_err-restore_behind-clause-answer g c =
@@ -34,12 +34,12 @@ returns-in_err-restore_behind-clause-answer g c =
     let p = err_from_is_err_and c.from_residual-in_err-restore_behind.result c.from_residual-in_err-restore_behind.ensures.1 in
     let is : c.from_residual-in_err-restore_behind.result ≡ Err e = rw p.2 at p.1 in
     let Of : Result Bool StreamFault → Type 0 = λ r. Answers r (g.S.Source.contents c.args.src.now) (typed_answer c.args.wanted) in
-    subst Of (sym is) (typed_same c.args.wanted (g.S.Source.contents c.args.src.now) (g.S.Source.contents c.read_into.new.src) _ c.in_ok-header.header c.in_ok-header.len (Err e) c.in_ok-count.ensures.first.taken c.in_ok-header.ensures.ok same c.in_err-restore_behind.ensures.answer)
+    subst Of (sym is) (typed_same c.args.wanted (g.S.Source.contents c.args.src.now) (g.S.Source.contents c.read_into.new.src) _ c.in_ok-header.header c.in_ok-header.len (Err e) c.in_ok-read.ensures.first.taken c.in_ok-header.ensures.ok same c.in_err-restore_behind.ensures.answer)
 
 pub returns-in_err-restore_behind-clause-memory : goal.returns-in_err-restore_behind-clause-memory
-returns-in_err-restore_behind-clause-memory g c = λ memory. good_of_front 24 (g.S.Source.contents c.args.src.now) _ (omega arith) c.in_ok-count.ensures.first.first c.in_ok-header.ensures.ok.good
+returns-in_err-restore_behind-clause-memory g c = λ memory. good_of_front 24 (g.S.Source.contents c.args.src.now) _ (omega arith) c.in_ok-read.ensures.first.first c.in_ok-header.ensures.ok.good
 
 pub returns-clause-answer : goal.returns-clause-answer
 returns-clause-answer g c =
     let same : c.in_ok-header.header.ty ≡ c.args.wanted = search rules in
-    typed_same c.args.wanted (g.S.Source.contents c.args.src.now) (g.S.Source.contents c.read_into.new.src) _ c.in_ok-header.header c.in_ok-header.len (Ok tt) c.in_ok-count.ensures.first.taken c.in_ok-header.ensures.ok same c.in_ok-restore_behind.ensures.answer
+    typed_same c.args.wanted (g.S.Source.contents c.args.src.now) (g.S.Source.contents c.read_into.new.src) _ c.in_ok-header.header c.in_ok-header.len (Ok tt) c.in_ok-read.ensures.first.taken c.in_ok-header.ensures.ok same c.in_ok-restore_behind.ensures.answer
