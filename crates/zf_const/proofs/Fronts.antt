@@ -11,6 +11,7 @@ use Rattle.zf_spec.specs.Lorenzo.{unlorenzo}
 use Rattle.zf_spec.specs.Lift.{unlift}
 use Rattle.zf_spec.specs.Codes.{count_bits, coefficients_of, existing_values, read_rev, read_rate, read_prec}
 use Rattle.zf_spec.proofs.Beginnings.{begins_is_first, begins_itself, first_bits-append}
+use Rattle.zf_index.proofs.Longest.{found_some}
 use Rattle.zf_spec.proofs.Full.{length-planes_in, planes_in-length, full_begins, full_only}
 
 -- bits that begin others, as far as those go, are their front
@@ -27,18 +28,6 @@ planes_front p size s within =
     let begins : Begins (code ps) (take (length (code ps)) s) = subst Begun (append-nil (code ps) ∙ front) (begins_itself (code ps) []) in
     sym (full_only size ps (take (length (code ps)) s) (planes_in-length p size s) begins
     ∙ ap (λ k. planes_in k size (take (length (code ps)) s)) (length-planes_in p size s))
-
--- what is found where enough bits are there
-pub record Found {A : Type 0} (short : Bool) (a : A) (n : ℕ) (b : A) (k : ℕ) : Type 0 where
-  pub enough : short ≡ false
-  pub same : a ≡ b
-  pub count : n ≡ k
-
-pub found_some : {A : Type 0} (short : Bool) (a b : A) (n k : ℕ) → cond {A = Option (A × ℕ)} short None (Some (a, n)) ≡ Some (b, k) → Found short a n b k
-found_some true a b n k e = absurd cc
-found_some {A} false a b n k e =
-    let same : (a, n) ≡ (b, k) = cc in
-    record { enough = refl; same = ap (λ (c : A × ℕ). c.0) same; count = ap (λ (c : A × ℕ). c.1) same }
 
 -- planes that were found, as they are found where just so many bits are there
 found_again : {A : Type 0} (of : List (List Bool) → A) (front : ℕ) (s t : List Bool) (ps qs : List (List Bool)) (b : A) (k : ℕ) → length t ≡ k → qs ≡ ps → front + length (code ps) ≡ k → of ps ≡ b

@@ -18,7 +18,8 @@ use Rattle.zf_index.specs.Spans.{Index, len_at, place, code_in, codes_in}
 use Rattle.zf_index.specs.Files.{AreRead, found, block_read}
 use Rattle.zf_index.proofs.Read.{read_parts}
 use Rattle.zf_const.specs.Standing.{coding_of, code_of}
-use Rattle.zf_const.proofs.Fronts.{found_some, read_rev-front, read_prec-front}
+use Rattle.zf_index.proofs.Longest.{found_some}
+use Rattle.zf_const.proofs.Fronts.{read_rev-front, read_prec-front}
 
 -- a code of just so many bits means the block that is read
 code_means : (w : Width) (mode : Mode) (es : List ℕ) (s : List Bool) (block : List ℤ) (k : ℕ) → read_code w mode es s ≡ Some (block, k) → (mode_coding w (coding mode)).meaning es (take k s) ≡ block

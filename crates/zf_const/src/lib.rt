@@ -4,6 +4,7 @@
 mod array;
 mod codes;
 mod index;
+pub mod laws;
 #[cfg(test)]
 mod tests;
 

@@ -108,7 +108,7 @@ one_more h s start xs n read last b lt =
     ⊎_elim
     (λ below. ap len_read (there b (omega arith)) ∙ read b below ∙ ap Some (sym (len-push start xs n b below)))
     (λ ge. let same : length xs ≡ b = omega (arith, lt, length-append xs (n ∷ [])) in
-        subst Is same (ap len_read (there (length xs) (omega arith)) ∙ last ∙ ap Some (sym (len-last start xs n))))
+    subst Is same (ap len_read (there (length xs) (omega arith)) ∙ last ∙ ap Some (sym (len-last start xs n))))
     (cases_lt b (length xs))
 
 -- ---- what the bytes say
@@ -127,9 +127,9 @@ module _ (bytes : List ℕ) (h : Header) (has : HasHeader bytes h) where
         let left : rest r ≡ drop start bits = ap (λ (s : List Bool). drop r.at s) all ∙ ap (λ k. drop k bits) at in
         ⊎_elim
         (λ said. inl (parse_err bytes (stream_fault e)
-            (parse_is bytes h start begun
-            ∙ ap (λ (s : List Bool). codes_answer h (length bits) (read_codes h 0 (blocks h.shape) s)) (sym left)
-            ∙ ap (λ (s : List Bool). codes_answer h (length s) (read_codes h 0 (blocks h.shape) (rest r))) (sym all) ∙ said)))
+        (parse_is bytes h start begun
+        ∙ ap (λ (s : List Bool). codes_answer h (length bits) (read_codes h 0 (blocks h.shape) s)) (sym left)
+        ∙ ap (λ (s : List Bool). codes_answer h (length s) (read_codes h 0 (blocks h.shape) (rest r))) (sym all) ∙ said)))
         (λ wanting. inr (ap stream_fault wanting)) fault
 
     pub index_is : (lens : List ℕ) → length (to_bits bytes) < 2 ^ 64 → IsWalked h (to_bits bytes) (record { start = start; lens = lens }) → IsIndexOf bytes h (record { start = start; lens = lens })

@@ -1,13 +1,21 @@
 -- What a walk over the codes of a stream finds.
-use Rattle.std.specs.Prelude.{ℕ, ◌≡◌, ◌+◌, ◌≤◌, ◌⊎◌, Bool, List, length, drop, Ok, Err}
+use Rattle.std.specs.Prelude.{ℕ, ◌≡◌, ◌+◌, ◌≤◌, ◌⊎◌, Bool, List, length, drop, Some, Ok, Err}
+use Rattle.std.specs.Int.{Width}
 use Rattle.zf_spec.specs.Grid.{blocks}
 use Rattle.zf_bits.specs.Reader.{Reader, rest}
 use Rattle.zf_header.specs.declared.header.Header.{Header}
-use Rattle.zf_stream.specs.Parsing.{read_codes, codes_answer, fill_answer}
+use Rattle.zf_header.specs.declared.header.Mode.{Mode}
+use Rattle.zf_stream.specs.Parsing.{read_code, read_codes, codes_answer, fill_answer}
 use Rattle.zf_index.specs.declared.fault.IndexFault.{IndexFault}
 use Rattle.zf_index.specs.declared.fault.IndexFault.TheVariants.{Memory}
 use Rattle.zf_index.specs.Spans.{Index, place}
-use Rattle.zf_index.specs.Files.{AreRead, stream_fault}
+use Rattle.zf_index.specs.Files.{len_read, AreRead, stream_fault}
+
+-- a code of so many bits, of d dimensions, comes next, and was passed
+pub record PassesCode (w : Width) (mode : Mode) (d : ℕ) (old new : Reader) (len : ℕ) : Type 0 where
+  pub code : (es : List ℕ) → length es ≡ d → len_read (read_code w mode es (rest old)) ≡ Some len
+  pub place : new.at ≡ old.at + len
+  pub all : new.all ≡ old.all
 
 -- the codes of all blocks are read where they begin in these bits, and what stands behind them is good
 pub record IsWalked (h : Header) (s : List Bool) (i : Index) : Type 0 where

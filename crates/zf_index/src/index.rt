@@ -87,12 +87,7 @@ fn header_len(h: &Header, file: &[u8]) -> u64
 }
 
 // Where the first of each `step` codes of these lengths begins.
-fn places_of(
-    alloc: Global,
-    start: u64,
-    lens: &[u16],
-    step: usize,
-) -> Result<Vec<u64>, AllocError>
+fn places_of(alloc: Global, start: u64, lens: &[u16], step: usize) -> Result<Vec<u64>, AllocError>
     requires step { 0 < step }
     requires within { place (record { start = start; lens = lens.now }) (length lens.now) < 2 ^ 64 }
     ensures { IfOk result (λ places. ArePlaces step (record { start = start; lens = lens.now }) places.items) }

@@ -6,15 +6,15 @@ ghost use Rattle.zf_base.specs.Widths.{width_of};
 ghost use Rattle.zf_bits.specs.Reader.{rest};
 ghost use Rattle.zf_header.specs.HeaderBits.{IsHeader, header_bits};
 ghost use Rattle.zf_stream.specs.Parsing.{parse, read_code, fill_answer};
-ghost use Rattle.zf_stream.specs.ReadStreams.{IsFault, ReadsCode, LacksCode};
+ghost use Rattle.zf_stream.specs.ReadStreams.{IsFault, LacksCode};
 ghost use Rattle.zf_index.specs.Files.{HasHeader, IsIndexOf, stream_fault};
-ghost use Rattle.zf_index.specs.Walks.{IsWalked, HasFault};
+ghost use Rattle.zf_index.specs.Walks.{IsWalked, HasFault, PassesCode};
 
 use crate::IndexFault;
 use std::alloc::Global;
 use zf_base::{Lane, Ty, block_len};
 use zf_bits::{BitReader, words_of_bytes};
-use zf_header::Header;
+use zf_header::{Header, Mode};
 use zf_stream::StreamFault;
 
 /// How many bits the code of each block of a file has that begins with the header `h`, of `start` bits; or what is wrong with the file.
@@ -70,21 +70,37 @@ fn walk<T: Lane>(
     Ok(lens)
 }
 
-/// Passes the code of a block; how many bits it has. `None` where the bits end too early.
+/// Passes the code of a block, by way of `block`; how many bits it has. `None` where the bits end too early.
 ///
 /// The longest code has 32768 bits.
 fn pass_code<T: Lane>(h: &Header, reader: &mut BitReader<'_>, block: &mut [T]) -> Option<u16>
     requires header { IsHeader h.now }
     requires same_type { T.width ≡ width_of h.now.ty }
     requires whole { length block.old ≡ 4 ^ length h.now.shape }
-    ensures some { IfSome result (λ len. (reader.new.at ≡ reader.old.at + len)
-        × ReadsCode T.width h.now.mode (length h.now.shape) reader.old reader.new (map T.value block.new)) }
+    ensures some { IfSome result (PassesCode T.width h.now.mode (length h.now.shape) reader.old reader.new) }
     ensures none { IfNone result (LacksCode T.width h.now.mode (length h.now.shape) reader.old) }
     ensures whole { length block.new ≡ 4 ^ length h.now.shape }
 {
+    // At a fixed rate the length is known, and nothing is decoded.
+    if let Mode::Rate(bits) = h.mode {
+        return pass_rate::<T>(h.shape.dims(), bits, reader);
+    }
     let start = reader.at();
     zf_stream::read_code(h, reader, block)?;
     Some((reader.at() - start) as u16)
+}
+
+/// Passes a code of `bits` bits of `d` dimensions. `None` where fewer are left.
+fn pass_rate<T: Lane>(d: u8, bits: u32, reader: &mut BitReader<'_>) -> Option<u16>
+    requires { bits ≤ 32768 }
+    ensures some { IfSome result (PassesCode T.width (Mode.Rate bits) d reader.old reader.new) }
+    ensures none { IfNone result (LacksCode T.width (Mode.Rate bits) d reader.old) }
+{
+    if reader.left() < u64::from(bits) {
+        return None;
+    }
+    reader.skip(u64::from(bits));
+    Some(bits as u16)
 }
 
 /// Judges what stands behind the codes.

@@ -46,7 +46,7 @@ more step i xs ys at first is there chunk each c lt =
     ∙ ⊎_elim
     (λ below. get_or_append_left xs (at ∷ []) 0 c below ∙ each c below)
     (λ ge. let last : c ≡ length xs = omega (arith, lt, size) in
-        ap (λ k. get_or (xs ++ at ∷ []) k 0) last ∙ get_or-append_seam xs at [] 0 ∙ there ∙ ap (place i) (chunk ∙ ap (λ k. step * k) (sym last)))
+    ap (λ k. get_or (xs ++ at ∷ []) k 0) last ∙ get_or-append_seam xs at [] 0 ∙ there ∙ ap (place i) (chunk ∙ ap (λ k. step * k) (sym last)))
     (cases_lt c (length xs))
 
 pub loop-first-preserved : goal.loop-first-preserved

@@ -52,16 +52,15 @@ loop-b-preserved g c =
     let passed = c.in-Some.ensures.some in
     let is : ys ≡ xs ++ k ∷ [] = c.in-Ok.ensures.items in
     let size : length ys ≡ n + 1 = ap length is ∙ length-append xs (k ∷ []) in
-    let len : new.at - old.at ≡ k = omega (arith, passed.0) in
     let read : len_read (read_code (width_of h.ty) h.mode es (drop (place i n) s)) ≡ Some k =
     ap (λ (t : List Bool). len_read (read_code (width_of h.ty) h.mode es t)) (sym (rest_at old s (place i n) so_far.all so_far.at))
     ∙ ap (λ w. len_read (read_code w h.mode es (rest old))) (sym c.requires.same_type)
-    ∙ ap len_read (passed.1.code es (length-extent_of h.shape n)) ∙ ap Some len in
-    let at : new.at ≡ place j (n + 1) = omega (arith, passed.0, so_far.at, place-next j n, place-push start xs k n (omega arith), len-last start xs k) in
+    ∙ passed.code es (length-extent_of h.shape n) in
+    let at : new.at ≡ place j (n + 1) = omega (arith, passed.place, so_far.at, place-next j n, place-push start xs k n (omega arith), len-last start xs k) in
     let Is : List ℕ → Type 0 = λ zs. AreRead h (record { start = start; lens = zs }) s in
     record {
       count = size ∙ ap (λ m. m + 1) so_far.count;
-      all = passed.1.passed.all ∙ so_far.all;
+      all = passed.all ∙ so_far.all;
       at = at ∙ ap (place j) (sym size) ∙ ap (λ (zs : List ℕ). place (record { start = start; lens = zs }) (length ys)) (sym is);
       read = subst Is (sym is) (one_more h s start xs k so_far.read read);
       whole = ap length (take_at c.pass_code.new.block (drop (length c.pass_code.new.block) c.loop-b.block.items) c.loop-b.block.len (c.pass_code.ensures.whole ∙ sym so_far.whole ∙ sym c.loop-b.block.ok.0)) ∙ c.pass_code.ensures.whole;

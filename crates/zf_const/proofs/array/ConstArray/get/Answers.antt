@@ -36,9 +36,16 @@ get_read-requires g c =
     let s = c.self.inside in
     let b = c.place-b.result.0 in
     let k = c.place-b.result.1 in
-    let at = c.place-b.ensures.at in
-    (lit< tt, (c.self.invariant.fits, (has_blocks g.T.Lane.value g.T.Lane.width g.row.D s.codes s.cache c.self.invariant,
-        (inside s.codes c.header.result c.header.ensures.value b k _ at, (c.self.invariant.clean, place_inside s.codes c.header.result c.header.ensures.value b k _ g.row.D c.self.invariant.dims at)))))
+    let at = c.place-b.ensures.at in (
+      lit< tt,
+      (
+        c.self.invariant.fits,
+        (
+          has_blocks g.T.Lane.value g.T.Lane.width g.row.D s.codes s.cache c.self.invariant,
+          (inside s.codes c.header.result c.header.ensures.value b k _ at, (c.self.invariant.clean, place_inside s.codes c.header.result c.header.ensures.value b k _ g.row.D c.self.invariant.dims at)),
+        ),
+      ),
+    )
 
 pub invariant_of-self : goal.invariant_of-self
 invariant_of-self g c =

@@ -37,7 +37,7 @@ returns-clause-ok g c =
     let d = c.relined_read.new.self in
     let n = c.raised.result in
     on_ok_weaker c.relined_read.result (λ is.
-        step g.T.Lane.value g.T.Lane.width g.row.D s.codes s.cache c.self.invariant now c.self.view_is s.codes d refl
-        (empty_fits g.T.Lane.value (format_of s.codes) (code_at s.codes) d n is.0) (clean_empty d n is.0)
-        (λ f u. relined f u n) (relined_clean g.T.Lane.value (format_of s.codes) (code_at s.codes) s.cache d n c.self.invariant.clean c.self.invariant.fits is.0 is.1)
-        ∙ ap (relined (format now) (state now)) c.raised.ensures.value) c.relined_read.ensures.ok
+    step g.T.Lane.value g.T.Lane.width g.row.D s.codes s.cache c.self.invariant now c.self.view_is s.codes d refl
+    (empty_fits g.T.Lane.value (format_of s.codes) (code_at s.codes) d n is.0) (clean_empty d n is.0)
+    (λ f u. relined f u n) (relined_clean g.T.Lane.value (format_of s.codes) (code_at s.codes) s.cache d n c.self.invariant.clean c.self.invariant.fits is.0 is.1)
+    ∙ ap (relined (format now) (state now)) c.raised.ensures.value) c.relined_read.ensures.ok
