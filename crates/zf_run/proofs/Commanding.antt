@@ -12,7 +12,7 @@ use Rattle.zf_cached.specs.Commands.{Command}
 use Rattle.zf_cached.specs.Replies.{Refusal, Reply}
 use Rattle.zf_spec.specs.Grid.{upto, blocks}
 use Rattle.zf_base.specs.Formats.{Format}
-use Rattle.zf_cached.specs.Changes.{flush, discard, raised, relined}
+use Rattle.zf_cached.specs.Changes.{flush, discard}
 use Rattle.zf_cached.specs.Arrays.{array_format}
 use Rattle.zf_cached.specs.Runs.{array_setting, read_step}
 use Rattle.zf_cached.specs.State.{Counts}

@@ -1,5 +1,5 @@
 -- How the run of a script ends. What a sink tells of its bytes is `Some`, else `None`.
-use Rattle.std.specs.Prelude.{ℕ, zero, suc, ◌≡◌, ◌+◌, ◌≤◌, ◌<◌, Bool, List, [], ◌∷◌, ◌++◌, length, take, count_by, Option}
+use Rattle.std.specs.Prelude.{ℕ, zero, suc, ◌≡◌, ◌+◌, ◌≤◌, ◌<◌, List, [], ◌∷◌, ◌++◌, length, take, count_by, Option}
 use Rattle.std.specs.Int.{Width}
 use Rattle.zf_dev.specs.Sink.{Appends}
 use Rattle.zf_cached.specs.State.{State}

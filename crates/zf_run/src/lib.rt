@@ -19,4 +19,6 @@ pub use looks::look;
 pub use runs::run;
 
 #[cfg(test)]
+mod look_tests;
+#[cfg(test)]
 mod tests;

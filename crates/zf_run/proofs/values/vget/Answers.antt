@@ -1,4 +1,4 @@
-use Rattle.std.proofs.Common.{◌∙◌, refl, sym, subst, ◌^◌, length, lit<, arith}
+use Rattle.std.proofs.Common.{◌∙◌, refl, sym, subst, ◌^◌, length, arith}
 use Rattle.std.proofs.lemmas.Bool.{false≢true}
 use Rattle.zf_base.specs.Positions.{used_axes, IsPosition}
 use Rattle.zf_cached.specs.Commands.{Command}

@@ -1,4 +1,3 @@
-use Rattle.std.proofs.Common.{◌∙◌}
 use Rattle.zf_array.specs.Standing.{block_at}
 use Rattle.zf_run.proofs.Sessions.{touched_is}
 use Rattle.zf_run.proofs.arrays.ArrayTarget.number.Goals as goal
