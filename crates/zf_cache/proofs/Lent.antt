@@ -5,7 +5,7 @@ use Rattle.std.proofs.lemmas.List.{get_or-map, set-set, length-replicate}
 use Rattle.zf_base.specs.Formats.{Format, existing_of}
 use Rattle.zf_base.proofs.Formats.{get_or-existing_of_exists}
 use Rattle.zf_cached.specs.State.{State}
-use Rattle.zf_cached.specs.Touch.{hit, soiled, with_values}
+use Rattle.zf_cached.specs.Touch.{soiled, with_values}
 use Rattle.zf_cached.specs.Changes.{flush, relined}
 use Rattle.zf_lines.specs.Rows.{line_at, over, with_line}
 use Rattle.zf_lines.proofs.Sizes.{length-over}

@@ -1,5 +1,5 @@
 -- The cache in which each block has one line: what is proved of its parts, in the words of its contracts.
-use Rattle.std.proofs.Common.{◌≡◌, refl, sym, ap, subst, ◌∙◌, ℕ, ◌%◌, ◌+◌, ◌/◌, ◌<◌, ℤ, List, map}
+use Rattle.std.proofs.Common.{◌≡◌, refl, sym, ap, subst, ◌∙◌, ℕ, ℤ, List, map}
 use Rattle.zf_base.specs.Formats.{Format, existing_of}
 use Rattle.zf_cached.specs.State.{State}
 use Rattle.zf_cached.specs.Touch.{touch, touch_for_writing, soiled, with_values}
@@ -13,7 +13,7 @@ use Rattle.zf_cache.specs.Standing.{state_at, state_of, Fits}
 use Rattle.zf_cache.specs.Steps.{touch_in, with_value, put}
 use Rattle.zf_cache.specs.Loans.{StandsFor, LendsBlock, lent_block}
 use Rattle.zf_cache.proofs.Touches.{one_line_state, one_line_touch}
-use Rattle.zf_cache.proofs.Lent.{state_now, fits_now, row_held, lent_state, lent_fits}
+use Rattle.zf_cache.proofs.Lent.{fits_now, row_held, lent_state, lent_fits}
 
 module _ {X Code : Type 0} (value : X → ℤ) (f h : Format Code) (k j : ℕ → Code) (c d : Kept X) where
   abbrev s : State Code

@@ -1,6 +1,6 @@
 -- What becomes of the state that a cache and its backing stand for, when a line changes. The number of lines is n, and the line of
 -- block b is `place n tags b`.
-use Rattle.std.proofs.Common.{◌≡◌, ◌≢◌, ◌⊎◌, inl, inr, refl, sym, ap, subst, ◌∙◌, ℕ, ◌+◌, ◌*◌, ◌/◌, ◌<◌, ◌==◌, ℤ, Bool, true, false, Option, Some, None, List, [], map, length, set, eq-eqb, arith}
+use Rattle.std.proofs.Common.{◌≡◌, ◌≢◌, ◌⊎◌, inl, inr, refl, sym, ap, subst, ◌∙◌, ℕ, ◌+◌, ◌/◌, ◌<◌, ◌==◌, ℤ, Bool, true, false, Option, Some, None, List, [], map, length, set, eq-eqb, arith}
 use Rattle.std.proofs.lemmas.Bool.{ne_eqb}
 use Rattle.std.proofs.lemmas.List.{get_or-set_same, get_or-set_other}
 use Rattle.zf_base.specs.Formats.{Format, existing_of, meant, encoded, with_at}
@@ -424,10 +424,13 @@ module _ (place : ℕ → List ℕ → ℕ → ℕ) {X Code : Type 0} (value : X
 
           pub fits_taken : b < f.blocks → Fit rows tags' k
           fits_taken below = record {
-            own = λ m a e. (placed-taken m a e, elim (same_or_not m l) [
-              | inl at ↦ subst (λ j. j < f.blocks) (sym (only-in a (ap (λ j. block_in (tag_at tags' j)) (sym at) ∙ e))) below
-              | inr off ↦ (fit.own m a (before m a off e)).1
-            ]);
+            own = λ m a e. (
+              placed-taken m a e,
+              elim (same_or_not m l) [
+                | inl at ↦ subst (λ j. j < f.blocks) (sym (only-in a (ap (λ j. block_in (tag_at tags' j)) (sym at) ∙ e))) below
+                | inr off ↦ (fit.own m a (before m a off e)).1
+              ],
+            );
             clean = λ m a e. elim (same_or_not m l) [
               | inl at ↦ let tag : clean_tag b ≡ clean_tag a = sym tag-same ∙ ap (tag_at tags') (sym at) ∙ e in let is : b ≡ a = omega (arith, tag) in
                   ap (λ j. in_line rows j a) at ∙ subst (λ j. in_line rows l j ≡ meant f j (k j)) is in-after

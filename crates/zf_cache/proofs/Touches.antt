@@ -1,10 +1,10 @@
 -- Touches, flush and discard, from the changes of single lines.
-use Rattle.std.proofs.Common.{◌≡◌, ◌≢◌, inl, inr, refl, sym, ap, ◌∙◌, ℕ, zero, suc, ◌%◌, ◌<◌, ◌≤◌, ◌==◌, ℤ, Bool, true, false, cond, nat_lt, Option, Some, None, List, length, replicate, eq-eqb, arith}
-use Rattle.std.proofs.lemmas.Bool.{ne_eqb, cases_lt, lt-ltb, le-ltb}
+use Rattle.std.proofs.Common.{◌≡◌, ◌≢◌, inl, inr, refl, sym, ap, ◌∙◌, ℕ, zero, suc, ◌%◌, ◌<◌, ◌≤◌, ℤ, Bool, true, false, cond, nat_lt, Option, Some, None, List, length, replicate, eq-eqb, arith}
+use Rattle.std.proofs.lemmas.Bool.{cases_lt, lt-ltb, le-ltb}
 use Rattle.std.proofs.lemmas.List.{length-replicate, get_or-replicate, get_or_past}
 use Rattle.zf_base.specs.Formats.{Format, meant, with_at}
 use Rattle.zf_base.proofs.Formats.{with_at-same, with_at-other}
-use Rattle.zf_cached.specs.State.{Counts, State, own_line}
+use Rattle.zf_cached.specs.State.{Counts, State}
 use Rattle.zf_cached.specs.Touch.{write_back, write_back_dirty, write_back_line, hit, miss, touch}
 use Rattle.zf_cached.specs.Changes.{write_back_lines, emptied, flush, discard}
 use Rattle.zf_cached.proofs.States.{same_state}

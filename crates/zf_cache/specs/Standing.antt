@@ -1,6 +1,6 @@
 -- The state that a cache and the backing under it stand for, and when the two fit.
 --     `place n tags b` is the line of block b in a cache of n lines with these tags. A value of the program is seen as a whole number.
-use Rattle.std.specs.Prelude.{◌≡◌, ℕ, ◌%◌, ◌<◌, ◌==◌, ℤ, true, false, List, length, map, Some, None}
+use Rattle.std.specs.Prelude.{◌≡◌, ℕ, ◌<◌, ◌==◌, ℤ, true, false, List, length, map, Some, None}
 use Rattle.zf_base.specs.Formats.{Format, existing_of, meant, with_at}
 use Rattle.zf_cached.specs.State.{State, is_block}
 use Rattle.zf_cached.specs.Touch.{write_back_line}

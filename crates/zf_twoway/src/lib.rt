@@ -4,6 +4,7 @@
 pub mod laws;
 pub mod laws_of_touches;
 mod skewed;
+pub mod tables;
 #[cfg(test)]
 mod tests;
 mod twoway;

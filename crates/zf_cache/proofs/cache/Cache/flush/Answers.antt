@@ -10,5 +10,5 @@ pub returns-clause-state : goal.returns-clause-state
 returns-clause-state g c =
     let f = g.B.Reading.format c.args.back.now in let k = g.B.Reading.codes c.args.back.now in let value = g.T.Lane.value in
     let h = g.B.Reading.format c.flush.new.back in let j = g.B.Reading.codes c.flush.new.back in
-    flushes value f h k j (kept_of c.self.inside.body) (kept_of c.flush.new.self)  c.flush.ensures.state
+    flushes value f h k j (kept_of c.self.inside.body) (kept_of c.flush.new.self) c.flush.ensures.state
     ∙ ap (λ (q : Kept g.row.T.Denot). flush f (state_of value q f k)) c.self.view_is
