@@ -1,5 +1,5 @@
 //! The codes of one block: the reversible code, from which its values come back exactly, and the codes at a fixed rate and at a fixed precision, from which
-//! they come back rounded.
+//! they come back rounded; and how much of a block a code at a fixed rate has whole.
 #![tactic(auto)]
 
 mod block_code;
@@ -11,11 +11,13 @@ mod rate;
 mod reversible;
 mod scratch;
 mod uncut;
+mod whole;
 
 pub use precision::{decode_prec, encode_prec};
 pub use rate::{decode_rate, encode_rate};
 pub use reversible::{decode_rev, encode_rev};
 pub use scratch::Scratch;
+pub use whole::whole_planes;
 
 #[cfg(test)]
 mod tests;

@@ -55,8 +55,8 @@ pub fn decode_rate<T: Lane>(d: u8, bits: u32, reader: &mut BitReader<'_>, block:
 
 /// All planes, as far as so many bits reach.
 #[derive(Clone, Copy)]
-struct Rate {
-    bits: u32,
+pub(crate) struct Rate {
+    pub(crate) bits: u32,
 }
 
 impl<T: Lane> BlockCode<T> for Rate {

@@ -52,14 +52,14 @@ fn reversible_both_ways<T: Lane>(
     Ok((out.len(), digest(out.words())))
 }
 
-/// The same at a rate. The answer is the digest of the code.
+/// The same at a rate. The answer is the digest of the code, and the least plane that it has whole.
 fn rate_both_ways<T: Lane>(
     rt: &impl Abort,
     alloc: Global,
     shape: &Shape,
     bits: u32,
     block: &mut [T],
-) -> Result<u64, Fail>
+) -> Result<(u64, u32), Fail>
     requires { length block.old ≡ 4 ^ length shape.now }
 {
     let d = shape.dims();
@@ -75,7 +75,10 @@ fn rate_both_ways<T: Lane>(
     clear(block);
     decode_rate(d, bits, &mut reader, block);
     assert_eq!(rt; reader.left(), 0);
-    Ok(digest(out.words()))
+    reader.seek(0);
+    let plane = whole_planes(d, bits, &mut reader, &mut s);
+    assert_eq!(rt; reader.left(), 0);
+    Ok((digest(out.words()), plane))
 }
 
 /// The same at a precision. The answer is the length of the code and its digest.
@@ -111,16 +114,21 @@ const ROWS: [(u64, [i32; 4], [i32; 4], u64, u64); 6] = [
     (4, [0, 0, 0, 1], [0, 0, 0, 1], 40, 0x10_0000_001f),
 ];
 
-/// Of whole blocks of one dimension: the rate, the block, its code and what it comes back as.
-const RATE_ROWS: [(u32, [i32; 4], u64, [i32; 4]); 3] = [
-    (64, [1, 0, 0, 0], 0, [0, 0, 0, 0]),
-    (1, [-1073741824; 4], 1, [i32::MIN; 4]),
+/// Of whole blocks of one dimension: the rate, the block, its code, the least plane that the code has whole, and what it comes back as.
+///
+/// The planes of 1 2 3 4 have codes of 39 bits together: one bit fewer, and the lowest plane is cut.
+const RATE_ROWS: [(u32, [i32; 4], u64, u32, [i32; 4]); 5] = [
+    (64, [1, 0, 0, 0], 0, 0, [0, 0, 0, 0]),
+    (1, [-1073741824; 4], 1, 32, [i32::MIN; 4]),
     (
         2,
         [805306368, -805306368, -805306368, 805306368],
         1,
+        32,
         [1073741824, -1073741824, 1073741824, -1073741824],
     ),
+    (39, [1, 2, 3, 4], 0x27_6000_0000, 0, [0, 2, 2, 4]),
+    (38, [1, 2, 3, 4], 0x27_6000_0000, 1, [0, 2, 2, 4]),
 ];
 
 #[test]
@@ -136,13 +144,13 @@ fn rows_of_the_format(rt: HostRuntime) -> Result<(), Fail> {
         );
         assert_eq!(rt; block, padded, "of {code}");
     }
-    for (bits, values, code, back) in RATE_ROWS {
+    for (bits, values, code, plane, back) in RATE_ROWS {
         let shape = Shape::new(1, 4, 1, 1, 1).ok().ok_or("a shape")?;
         let mut block: [i32; 4] = values;
         assert_eq!(rt; shape.dims(), 1);
         assert_eq!(rt;
             rate_both_ways(&rt, rt.alloc(), &shape, bits, &mut block)?,
-            code,
+            (code, plane),
             "of {bits} bits"
         );
         assert_eq!(rt; block, back, "of {bits} bits");
@@ -156,8 +164,8 @@ struct Row {
     sizes: [u64; 4],
     // the length and the digest of the reversible code, and the digest of the padded block
     reversible: (u64, u64, u64),
-    // a rate, and the digests of the code and of the block that comes back
-    rate: (u32, u64, u64),
+    // a rate, the digest of the code, the least plane that it has whole, and the digest of the block that comes back
+    rate: (u32, u64, u32, u64),
     // a precision, the length and the digest of the code, and the digest of the block that comes back
     precision: (u32, u64, u64, u64),
 }
@@ -182,28 +190,28 @@ const NARROW: [Row; 4] = [
         dims: 1,
         sizes: [3, 1, 1, 1],
         reversible: (134, 1956684627123463394, 56895915491206),
-        rate: (50, 823235889384005, 56880726540288),
+        rate: (50, 823235889384005, 20, 56880726540288),
         precision: (11, 44, 13995331340869, 56928006832128),
     },
     Row {
         dims: 2,
         sizes: [2, 4, 1, 1],
         reversible: (526, 8180852763865897717, 1168924164681503008),
-        rate: (333, 16062405351034088947, 9245308262622429184),
+        rate: (333, 16062405351034088947, 12, 9245308262622429184),
         precision: (32, 513, 7952811603220003963, 4576349796101694208),
     },
     Row {
         dims: 3,
         sizes: [4, 1, 3, 1],
         reversible: (1728, 366808261792705798, 2828002446868736084),
-        rate: (1000, 11222649400793745473, 3913482336453263360),
+        rate: (1000, 11222649400793745473, 17, 3913482336453263360),
         precision: (1, 42, 1102732859393, 8492031877639569408),
     },
     Row {
         dims: 4,
         sizes: [3, 4, 2, 1],
         reversible: (6779, 5535070232925048690, 12105165861853044184),
-        rate: (4000, 11513085565700210130, 3429952307855360000),
+        rate: (4000, 11513085565700210130, 17, 3429952307855360000),
         precision: (20, 5006, 12818770991516045988, 15858529641455157248),
     },
 ];
@@ -213,28 +221,28 @@ const WIDE: [Row; 4] = [
         dims: 1,
         sizes: [3, 1, 1, 1],
         reversible: (263, 7798388890627055335, 13792055133801348998),
-        rate: (150, 2868955736345504138, 13792054927964504064),
+        rate: (150, 2868955736345504138, 27, 13792054927964504064),
         precision: (128, 256, 12456549694190536489, 13792055133801319208),
     },
     Row {
         dims: 2,
         sizes: [2, 4, 1, 1],
         reversible: (1023, 1403586650123146815, 4589244254436856096),
-        rate: (700, 14451455868105715484, 17936751867790884864),
+        rate: (700, 14451455868105715484, 20, 17936751867790884864),
         precision: (33, 524, 3708915322248773883, 7210988131338682368),
     },
     Row {
         dims: 3,
         sizes: [4, 1, 3, 1],
         reversible: (3436, 11565787277790241821, 17932441797335443540),
-        rate: (1999, 11042142440065275650, 3143995912703967232),
+        rate: (1999, 11042142440065275650, 33, 3143995912703967232),
         precision: (63, 4025, 4731865045780366094, 6078856052316671248),
     },
     Row {
         dims: 4,
         sizes: [3, 4, 2, 1],
         reversible: (13530, 6635918160429931472, 12719662604011675096),
-        rate: (9000, 9621338582435006963, 13582226909105750016),
+        rate: (9000, 9621338582435006963, 21, 13582226909105750016),
         precision: (2, 248, 1151233903701985218, 0),
     },
 ];
@@ -256,11 +264,11 @@ fn codes_are<T: Lane>(
         row.reversible,
         "in {dims} dimensions"
     );
-    let (bits, code, back) = row.rate;
+    let (bits, code, plane, back) = row.rate;
     fill(block);
     assert_eq!(rt;
         rate_both_ways(rt, alloc, shape, bits, block)?,
-        code,
+        (code, plane),
         "in {dims} dimensions"
     );
     assert_eq!(rt; digest_of(block), back, "in {dims} dimensions");

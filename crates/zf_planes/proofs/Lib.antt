@@ -6,6 +6,7 @@
 --     Budgets      a list that is written in parts, as far as a budget reaches
 --     Zeros        the code of zeros and of a run as numbers
 --     Unpacking    the digits that planes hold in words
+--     Tops         the top planes, with one plane more
 --     Digits       the digits of a plane as bits of its words, and its ones
 --     Filling      a list that is filled from its front
 --     Placing      a plane whose digits are put in from its front on
@@ -21,6 +22,7 @@ pub mod Lengths
 pub mod Budgets
 pub mod Zeros
 pub mod Unpacking
+pub mod Tops
 pub mod Digits
 pub mod Filling
 pub mod Placing

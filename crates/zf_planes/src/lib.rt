@@ -9,7 +9,8 @@ mod words;
 
 pub use decoding::{decode, read_planes};
 pub use encoding::{encode, write_planes};
-pub use measuring::{code_len, planes_len, planes_used, used_planes};
+pub use measuring::{code_len, planes_len, planes_used, planes_within, used_planes};
+pub use words::clear;
 
 #[cfg(test)]
 mod tests;

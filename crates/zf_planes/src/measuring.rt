@@ -1,6 +1,6 @@
 //! How long the code of planes is, and how many planes it needs.
 
-ghost use Rattle.std.specs.Prelude.{◌≡◌, ◌+◌, ◌*◌, ◌≤◌, ◌⊎◌, count_by, length, map, take, drop};
+ghost use Rattle.std.specs.Prelude.{◌≡◌, ◌+◌, ◌*◌, ◌<◌, ◌≤◌, ◌⊎◌, count_by, length, map, take, drop};
 ghost use Rattle.zf_spec.specs.Grid.{IsBlockSize};
 ghost use Rattle.zf_spec.specs.Planes.{reach, plane_code, code, needed_planes};
 ghost use Rattle.zf_spec.specs.HeldPlanes.{digits_held, planes_held};
@@ -58,6 +58,33 @@ pub fn code_len(prec: u32, size: usize, planes: &[[u64; 4]]) -> u64
     ensures most { result ≤ size * prec + size }
 {
     planes_len(prec, size, planes)
+}
+
+/// How many planes from the top one down have codes of at most `budget` bits together, each plane whole.
+///
+/// `planes[k]` holds digit k of each coefficient by rank, and bits from rank `size` on are not looked at.
+pub fn planes_within<P: Plane>(budget: u64, size: usize, planes: &[P]) -> u32
+    requires size { size ≤ 256 }
+    requires words { size ≤ 64 * P.word_count }
+    requires planes { length planes.now ≤ 64 }
+    ensures most { result ≤ length planes.now }
+    ensures within { length (code (take result (planes_held size (map P.words planes.now)))) ≤ budget }
+    ensures no_more { result < length planes.now
+        → budget < length (code (take (result + 1) (planes_held size (map P.words planes.now)))) }
+{
+    let mut left = budget;
+    let mut above = 0;
+    for i in 0..planes.len() {
+        let plane = &planes[planes.len() - 1 - i];
+        let end = reach_in(plane, size);
+        let len = plane_len(above, size, end, plane) as u64;
+        if left < len {
+            return i as u32;
+        }
+        left -= len;
+        above = above.max(end);
+    }
+    planes.len() as u32
 }
 
 /// How many planes there are from the top one down to the lowest that has a one; 0 where none has.

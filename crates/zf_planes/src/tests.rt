@@ -238,3 +238,18 @@ fn one_word_a_plane_does_the_same(rt: HostRuntime) -> Result<(), Fail> {
     }
     Ok(())
 }
+
+#[test]
+fn planes_that_fit_whole(rt: HostRuntime) -> Result<(), Fail> {
+    // the codes of the planes have 5, 4 and 4 bits
+    let planes = planes_with(&rt, SIZE_4.ones);
+    for (budget, count) in [(0, 0), (4, 0), (5, 1), (8, 1), (9, 2), (12, 2), (13, 3)] {
+        assert_eq!(rt; planes_within(budget, 4, &planes), count, "{budget} bits");
+    }
+    // 133, 132 and 203
+    let planes = planes_with(&rt, SIZE_256.ones);
+    for (budget, count) in [(132, 0), (133, 1), (264, 1), (265, 2), (467, 2), (u64::MAX, 3)] {
+        assert_eq!(rt; planes_within(budget, 256, &planes), count, "{budget} bits");
+    }
+    Ok(())
+}

@@ -69,7 +69,7 @@ pub(crate) fn ones_from<P: Plane>(plane: &P, n: usize, size: usize) -> usize
 }
 
 /// Makes all planes zero.
-pub(crate) fn clear<P: Plane>(planes: &mut [P])
+pub fn clear<P: Plane>(planes: &mut [P])
     ensures { map P.words planes.new ≡ replicate (length planes.old) (replicate P.word_count 0) }
 {
     for plane in planes.iter_mut() {

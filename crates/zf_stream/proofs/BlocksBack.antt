@@ -38,7 +38,7 @@ cond_twice true v = refl
 cond_twice false v = refl
 
 -- it has no value where no place exists
-existing_values-block_of : (ns : List ℕ) (values : List ℤ) (b : ℕ) → existing_values (extent_of ns b) (block_of ns values b) ≡ block_of ns values b
+pub existing_values-block_of : (ns : List ℕ) (values : List ℤ) (b : ℕ) → existing_values (extent_of ns b) (block_of ns values b) ≡ block_of ns values b
 existing_values-block_of ns values b =
     let cs = coordinates (grid ns) b in
     let es = extent_of ns b in

@@ -1,0 +1,133 @@
+-- A plane that a budget cuts has a code that is too long for the bits that were left, as its whole plane has.
+use Rattle.std.proofs.Common.{◌≡◌, refl, sym, ap, ◌∙◌, ℕ, zero, suc, ◌+◌, ◌-◌, ◌<◌, ◌≤◌, min, max, Bool, true, false, cond, ◌&&◌, ltb, List, [], ◌∷◌, ◌++◌, length, take, drop, replicate, All, ⊎_elim, arith}
+use Rattle.std.proofs.lemmas.Bool.{cases_lt}
+use Rattle.std.proofs.lemmas.List.{length-append, length-take, length-drop, length-replicate, take_at, drop_at}
+use Rattle.std.proofs.lemmas.List.Elements.{All-head, All-tail}
+use Rattle.zf_spec.specs.Planes.{has_one, reach, code_from_run, tail, plane_code, code_from, code}
+use Rattle.zf_spec.specs.Kept.{zeros, kept_group, kept_run, kept_tail, cut_plane, kept_plane, kept_planes_from, kept_planes}
+use Rattle.zf_spec.proofs.Full.{code_from_run-true, code_from_run-false, tail-some}
+use Rattle.zf_spec.proofs.KeptCases.{kept_tail-one}
+use Rattle.zf_spec.proofs.KeptSame.{kept_whole, kept_cut}
+use Rattle.zf_spec.proofs.PlaneCode.{tail-zeros}
+use Rattle.zf_spec.proofs.Reach.{reach_within}
+
+-- ---- how many digits are kept
+
+length-zeros : (ds : List Bool) → length (zeros ds) ≡ length ds
+length-zeros ds = length-replicate (length ds) false
+
+length-kept_group : (left : ℕ) (ds run : List Bool) → length run ≡ length ds → length (kept_group left ds run) ≡ length ds
+length-kept_group left ds run long = by (ltb 0 left && has_one ds)
+  where
+    by : (t : Bool) → length (cond t run (zeros ds)) ≡ length ds
+    by true = long
+    by false = length-zeros ds
+
+length-kept_run : (behind : ℕ) (ds : List Bool) → length (kept_run behind ds) ≡ length ds
+length-kept_run behind [] = refl
+length-kept_run zero (d ∷ ds) = ap suc (length-zeros ds)
+length-kept_run (suc behind) (d ∷ []) = refl
+length-kept_run (suc left) (true ∷ e ∷ ds) = ap suc (length-kept_group left (e ∷ ds) (kept_run (left - 1) (e ∷ ds)) (length-kept_run (left - 1) (e ∷ ds)))
+length-kept_run (suc behind) (false ∷ e ∷ ds) = ap suc (length-kept_run behind (e ∷ ds))
+
+length-kept_tail : (left : ℕ) (ds : List Bool) → length (kept_tail left ds) ≡ length ds
+length-kept_tail left ds = length-kept_group left ds (kept_run (left - 1) ds) (length-kept_run (left - 1) ds)
+
+-- a run with a one keeps a one
+kept_run-has_one : (behind : ℕ) (ds : List Bool) → has_one ds ≡ true → has_one (kept_run behind ds) ≡ true
+kept_run-has_one behind [] one = one
+kept_run-has_one zero (d ∷ ds) one = refl
+kept_run-has_one (suc behind) (d ∷ []) one = refl
+kept_run-has_one (suc left) (true ∷ e ∷ ds) one = refl
+kept_run-has_one (suc behind) (false ∷ e ∷ ds) one = kept_run-has_one behind (e ∷ ds) one
+
+-- ---- what is kept of a run or a tail has a code that is too long where the whole one has
+
+abbrev RunIsCut : List Bool → Type 0
+RunIsCut ds = (behind : ℕ) → behind < length (code_from_run ds) → behind < length (code_from_run (kept_run behind ds))
+
+cut_tail_of : (r : ℕ) (ds : List Bool) → RunIsCut ds → r < length (tail ds) → r < length (tail (kept_tail r ds))
+cut_tail_of r [] run more = absurd (omega arith)
+cut_tail_of zero (d ∷ ds) run more = let one = ap length (tail-zeros (length ds)) in omega arith
+cut_tail_of (suc r) (d ∷ ds) run more = by (has_one (d ∷ ds)) refl more
+  where
+    by : (t : Bool) → has_one (d ∷ ds) ≡ t → suc r < length (cond t (true ∷ code_from_run (d ∷ ds)) (false ∷ [])) → suc r < length (tail (kept_tail (suc r) (d ∷ ds)))
+    by true one more =
+        let left : suc r - 1 ≡ r = omega arith in
+        let kept : kept_tail (suc r) (d ∷ ds) ≡ kept_run r (d ∷ ds) = kept_tail-one (suc r) (d ∷ ds) (omega arith) one ∙ ap (λ n. kept_run n (d ∷ ds)) left in
+        let code = ap (λ ks. length (tail ks)) kept ∙ ap length (tail-some (kept_run r (d ∷ ds)) (kept_run-has_one r (d ∷ ds) one)) in
+        omega (arith, code, run r (omega (arith, more)))
+    by false none more = absurd (omega arith)
+
+cut_run : (ds : List Bool) → RunIsCut ds
+cut_run [] behind more = absurd (omega arith)
+cut_run (d ∷ []) behind more = absurd (omega arith)
+cut_run (d ∷ e ∷ ds) zero more = let code = ap length (code_from_run-true (zeros (e ∷ ds)) (omega (arith, length-zeros (e ∷ ds)))) in omega arith
+cut_run (true ∷ e ∷ ds) (suc left) more =
+    let whole = ap length (code_from_run-true (e ∷ ds) (omega arith)) in
+    let code = ap length (code_from_run-true (kept_tail left (e ∷ ds)) (omega (arith, length-kept_tail left (e ∷ ds)))) in
+    omega (arith, code, cut_tail_of left (e ∷ ds) (cut_run (e ∷ ds)) (omega (arith, whole, more)))
+cut_run (false ∷ e ∷ ds) (suc behind) more =
+    let code = ap length (code_from_run-false (kept_run behind (e ∷ ds)) (omega (arith, length-kept_run behind (e ∷ ds)))) in
+    omega (arith, code, cut_run (e ∷ ds) behind (omega (arith, more)))
+
+cut_tail : (r : ℕ) (ds : List Bool) → r < length (tail ds) → r < length (tail (kept_tail r ds))
+cut_tail r ds more = cut_tail_of r ds (cut_run ds) more
+
+-- ---- of a plane
+
+cut_plane_code : (r n : ℕ) (ds : List Bool) → n ≤ length ds → r < length (plane_code n ds) → r < length (plane_code n (cut_plane r n ds))
+cut_plane_code r n ds within more = ⊎_elim
+    (λ few. omega (arith, code, few))
+    (λ enough.
+    let q : min n r ≡ n = omega arith in
+    let behind = ap (λ k. length (tail (kept_tail (r - k) (drop n ds)))) q in
+    let kept = cut_tail (r - n) (drop n ds) (omega (arith, more, whole)) in
+    omega (arith, code, behind, kept))
+    (cases_lt r n)
+  where
+    front : List Bool
+    front = take (min n r) ds ++ zeros (drop (min n r) (take n ds))
+
+    behind : List Bool
+    behind = kept_tail (r - min n r) (drop n ds)
+
+    long : length (take (min n r) ds ++ zeros (drop (min n r) (take n ds))) ≡ n
+    long = omega (arith, length-append (take (min n r) ds) (zeros (drop (min n r) (take n ds))), length-zeros (drop (min n r) (take n ds)), length-take (min n r) ds, length-drop (min n r) (take n ds), length-take n ds)
+
+    whole : length (plane_code n ds) ≡ n + length (tail (drop n ds))
+    whole = omega (arith, length-append (take n ds) (tail (drop n ds)), length-take n ds)
+
+    code : length (plane_code n (front ++ behind)) ≡ n + length (tail (kept_tail (r - min n r) (drop n ds)))
+    code =
+        length-append (take n (front ++ behind)) (tail (drop n (front ++ behind)))
+        ∙ ap (λ ks. length ks + length (tail (drop n (front ++ behind)))) (take_at front behind n long)
+        ∙ ap (λ ks. length front + length (tail ks)) (drop_at front behind n long)
+        ∙ ap (λ k. k + length (tail behind)) long
+
+-- ---- of planes: where the codes of the top ones are too long for a budget, those of what it keeps are too
+
+planes_cut : (size r n : ℕ) (ps : List (List Bool)) (m : ℕ) → n ≤ size → All (λ ds. length ds ≡ size) ps → r < length (code_from n (take m ps))
+    → r < length (code_from n (take m (kept_planes_from r n ps)))
+planes_cut size r n ps zero within all more = absurd (omega arith)
+planes_cut size r n [] (suc m) within all more = absurd (omega arith)
+planes_cut size r n (ds ∷ ps) (suc m) within all more =
+    let c = plane_code n ds in
+    let above = max n (reach ds) in
+    let rest = take m (kept_planes_from (r - length c) above ps) in
+    let long : length ds ≡ size = All-head (λ ds. length ds ≡ size) ds ps all in
+    ⊎_elim
+    (λ few.
+    let kept = kept_plane r n ds in
+    let own = ap (λ k. length (plane_code n k)) (kept_cut r n ds few) in
+    omega (arith, length-append (plane_code n kept) (code_from (max n (reach kept)) rest), own, cut_plane_code r n ds (omega (arith, within, long)) few))
+    (λ fits.
+    let same = ap (λ k. length (code_from n (k ∷ rest))) (kept_whole r n ds fits) in
+    let next = planes_cut size (r - length c) above ps m (reach_within size n ds within long) (All-tail (λ ds. length ds ≡ size) ds ps all)
+    (omega (arith, more, length-append c (code_from above (take m ps)), fits)) in
+    omega (arith, same, length-append c (code_from above rest), next))
+    (cases_lt r (length c))
+
+pub kept_planes-too_long : (size budget : ℕ) (ps : List (List Bool)) (m : ℕ) → All (λ ds. length ds ≡ size) ps → budget < length (code (take m ps))
+    → budget < length (code (take m (kept_planes budget ps)))
+kept_planes-too_long size budget ps m all more = planes_cut size budget 0 ps m (omega arith) all more

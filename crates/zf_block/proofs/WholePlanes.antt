@@ -1,0 +1,198 @@
+-- How far down a code at a fixed rate has its planes whole.
+use Rattle.std.proofs.Common.{◌≡◌, refl, sym, ap, subst, ◌∙◌, ℕ, zero, suc, ◌+◌, ◌-◌, ◌^◌, ◌<◌, ◌≤◌, max, Bool, true, false, not, ltb, leb, ℤ, List, [], ◌∷◌, ◌++◌, length, take, drop, get_or, replicate, All, ⊎_elim, take-take, append-nil, append_assoc, arith}
+use Rattle.std.proofs.lemmas.Bool.{cases_lt, leb-true, lt-leb, le-leb, true≢false}
+use Rattle.std.proofs.lemmas.List.{length-append, length-take, length-replicate}
+use Rattle.std.proofs.lemmas.List.Elements.{All-take}
+use Rattle.std.proofs.lemmas.List.Sums.{fails_before_first, passes_at_first, prefix_len-le-length}
+use Rattle.std.specs.List.{position_or_len}
+use Rattle.std.specs.Int.{Width}
+use mir.Val.{bits}
+use Rattle.zf_spec.specs.Grid.{upto}
+use Rattle.zf_spec.specs.Lift.{lift}
+use Rattle.zf_spec.specs.Padding.{pad}
+use Rattle.zf_spec.specs.Planes.{reach, plane_code, code_from, code}
+use Rattle.zf_spec.specs.Kept.{kept_planes_from, kept_planes}
+use Rattle.zf_spec.specs.ReadPlanes.{first_bits, Begins, planes_in_from, planes_in}
+use Rattle.zf_spec.specs.Codes.{planes, rate}
+use Rattle.zf_spec.proofs.Beginnings.{length-first_bits, begins_is_first, begins_from_first, begins_front, begins_itself, first_bits-first_bits}
+use Rattle.zf_spec.proofs.Counting.{length-upto, get_or-upto}
+use Rattle.zf_spec.proofs.Full.{full_begins, full_only, length-planes_in, planes_in-length}
+use Rattle.zf_spec.proofs.KeptSame.{kept_whole}
+use Rattle.zf_spec.proofs.PlaneDigits.{length-planes, planes-length}
+use Rattle.zf_block.specs.WholePlanes.{planes_from, whole_from, rate_whole_from}
+use Rattle.zf_block.proofs.CutCodes.{kept_planes-too_long}
+
+-- ---- the least plane from which on the codes fit a budget
+
+-- whether they do from plane k on
+abbrev fits_from : ℕ → List (List Bool) → ℕ → Bool
+fits_from budget ps k = leb (length (code (planes_from k ps))) budget
+
+at_place : (budget : ℕ) (ps : List (List Bool)) (k : ℕ) → k < length ps → fits_from budget ps (get_or (upto (length ps)) k 0) ≡ fits_from budget ps k
+at_place budget ps k below = ap (fits_from budget ps) (get_or-upto (length ps) k 0 below)
+
+pub whole_from-le : (budget : ℕ) (ps : List (List Bool)) → whole_from budget ps ≤ length ps
+unfolding whole_from
+whole_from-le budget ps =
+    let first : position_or_len (fits_from budget ps) (upto (length ps)) ≤ length (upto (length ps)) = prefix_len-le-length (λ k. not (fits_from budget ps k)) (upto (length ps)) in
+    omega (arith, first, length-upto (length ps))
+
+pub whole_from-fits : (budget : ℕ) (ps : List (List Bool)) → length (code (planes_from (whole_from budget ps) ps)) ≤ budget
+unfolding whole_from planes_from
+whole_from-fits budget ps = ⊎_elim
+    (λ below. leb-true (length (code (planes_from k ps))) budget (sym (at_place budget ps k below) ∙ passes_at_first (fits_from budget ps) (upto (length ps)) 0 (omega (arith, below, length-upto (length ps)))))
+    (λ past. let none : length ps - k ≡ 0 = omega arith in omega (arith, ap (λ n. length (code (take n ps))) none))
+    (cases_lt k (length ps))
+  where
+    k : ℕ
+    k = position_or_len (fits_from budget ps) (upto (length ps))
+
+pub whole_from-least : (budget : ℕ) (ps : List (List Bool)) (k : ℕ) → k < whole_from budget ps → budget < length (code (planes_from k ps))
+unfolding whole_from
+whole_from-least budget ps k below = ⊎_elim
+    (λ more. more)
+    (λ fits. absurd (true≢false (sym (le-leb (length (code (planes_from k ps))) budget fits) ∙ sym (at_place budget ps k there) ∙ fails)))
+    (cases_lt budget (length (code (planes_from k ps))))
+  where
+    there : k < length ps
+    there = omega (arith, below, whole_from-le budget ps)
+
+    fails : fits_from budget ps (get_or (upto (length ps)) k 0) ≡ false
+    fails = fails_before_first (fits_from budget ps) (upto (length ps)) k 0 below
+
+pub whole_from-only : (budget : ℕ) (ps : List (List Bool)) (k : ℕ) → k ≤ length ps → length (code (planes_from k ps)) ≤ budget
+    → ((j : ℕ) → j < k → budget < length (code (planes_from j ps))) → k ≡ whole_from budget ps
+whole_from-only budget ps k within fits least = ⊎_elim
+    (λ more. absurd (omega (arith, whole_from-least budget ps k more, fits)))
+    (λ some. ⊎_elim (λ less. absurd (omega (arith, least (whole_from budget ps) less, whole_from-fits budget ps))) (λ no_less. omega arith) (cases_lt (whole_from budget ps) k))
+    (cases_lt k (whole_from budget ps))
+
+-- ---- the code of the top planes begins the code of all
+
+code_from-front : (n : ℕ) (ps : List (List Bool)) (m : ℕ) → (rest : List Bool) × (code_from n ps ≡ code_from n (take m ps) ++ rest)
+code_from-front n ps zero = (code_from n ps, refl)
+code_from-front n [] (suc m) = ([], refl)
+code_from-front n (ds ∷ ps) (suc m) =
+    let next = code_from-front (max n (reach ds)) ps m in
+    (next.0, ap (λ bs. plane_code n ds ++ bs) next.1 ∙ sym (append_assoc (plane_code n ds) (code_from (max n (reach ds)) (take m ps)) next.0))
+
+code_front_begins : (ps : List (List Bool)) (m : ℕ) (s : List Bool) → Begins (code ps) s → Begins (code (take m ps)) s
+code_front_begins ps m s begins =
+    let split = code_from-front 0 ps m in
+    begins_front (code (take m ps)) split.0 s (subst (λ bs. Begins bs s) split.1 begins)
+
+length-code_take-le : (ps : List (List Bool)) (m n : ℕ) → m ≤ n → length (code (take m ps)) ≤ length (code (take n ps))
+length-code_take-le ps m n less =
+    let split = code_from-front 0 (take n ps) m in
+    let top : take m (take n ps) ≡ take m ps = take-take m n ps less in
+    let same = ap (λ qs. length (code qs)) top in
+    omega (arith, ap length split.1, length-append (code (take m (take n ps))) split.0, same)
+
+-- ---- planes whose codes fit a budget are kept as they are
+
+kept_from_top : (r n : ℕ) (ps : List (List Bool)) (m : ℕ) → length (code_from n (take m ps)) ≤ r → take m (kept_planes_from r n ps) ≡ take m ps
+kept_from_top r n ps zero fits = refl
+kept_from_top r n [] (suc m) fits = refl
+kept_from_top r n (ds ∷ ps) (suc m) fits =
+    let c = plane_code n ds in
+    let above = max n (reach ds) in
+    let long = length-append c (code_from above (take m ps)) in
+    ap (λ k. k ∷ take m (kept_planes_from (r - length c) above ps)) (kept_whole r n ds (omega (arith, long, fits)))
+    ∙ ap (λ ks. ds ∷ ks) (kept_from_top (r - length c) above ps m (omega (arith, long, fits)))
+
+kept_top : (budget : ℕ) (ps : List (List Bool)) (m : ℕ) → length (code (take m ps)) ≤ budget → take m (kept_planes budget ps) ≡ take m ps
+kept_top budget ps m fits = kept_from_top budget 0 ps m fits
+
+length-kept_from : (r n : ℕ) (ps : List (List Bool)) → length (kept_planes_from r n ps) ≡ length ps
+length-kept_from r n [] = refl
+length-kept_from r n (ds ∷ ps) = ap suc (length-kept_from (r - length (plane_code n ds)) (max n (reach ds)) ps)
+
+pub length-kept_planes : (budget : ℕ) (ps : List (List Bool)) → length (kept_planes budget ps) ≡ length ps
+length-kept_planes budget ps = length-kept_from budget 0 ps
+
+-- ---- how many of the planes that are kept have codes that fit says which is the least plane
+
+pub whole_from-kept : (size budget : ℕ) (ps : List (List Bool)) (m : ℕ) → All (λ ds. length ds ≡ size) ps → m ≤ length ps → length (code (take m (kept_planes budget ps))) ≤ budget
+    → (m < length ps → budget < length (code (take (m + 1) (kept_planes budget ps)))) → length ps - m ≡ whole_from budget ps
+unfolding planes_from
+whole_from-kept size budget ps m all within fits no_more =
+    whole_from-only budget ps (length ps - m) (omega arith) (omega (arith, own_fits, ap (λ k. length (code (take k ps))) top)) least
+  where
+    top : length ps - (length ps - m) ≡ m
+    top = omega arith
+
+    own_fits : length (code (take m ps)) ≤ budget
+    own_fits = ⊎_elim
+        (λ more. absurd (omega (arith, kept_planes-too_long size budget ps m all more, fits)))
+        (λ less. less)
+        (cases_lt budget (length (code (take m ps))))
+
+    one_more : m < length ps → budget < length (code (take (m + 1) ps))
+    one_more below = ⊎_elim
+        (λ more. more)
+        (λ less. absurd (omega (arith, no_more below, ap (λ qs. length (code qs)) (kept_top budget ps (m + 1) less), less)))
+        (cases_lt budget (length (code (take (m + 1) ps))))
+
+    least : (j : ℕ) → j < length ps - m → budget < length (code (planes_from j ps))
+    least j below = omega (arith, one_more (omega (arith, below)), length-code_take-le ps (m + 1) (length ps - j) (omega (arith, below)))
+
+-- the same of planes that are held, with planes of zeros below or none
+pub whole_from-held : (size budget : ℕ) (ps held : List (List Bool)) (n m : ℕ) → All (λ ds. length ds ≡ size) ps → held ≡ kept_planes budget ps ++ replicate n (replicate size false)
+    → length held ≡ length ps → m ≤ length ps → length (code (take m held)) ≤ budget → (m < length ps → budget < length (code (take (m + 1) held))) → length ps - m ≡ whole_from budget ps
+whole_from-held size budget ps held n m all is long within fits no_more =
+    let zeros = replicate n (replicate size false) in
+    let none : n ≡ 0 = omega (arith, ap length is, length-append (kept_planes budget ps) zeros, length-kept_planes budget ps, length-replicate n (replicate size false), long) in
+    let same : held ≡ kept_planes budget ps = is ∙ ap (λ k. kept_planes budget ps ++ replicate k (replicate size false)) none ∙ append-nil (kept_planes budget ps) in
+    whole_from-kept size budget ps m all within (subst (λ qs. length (code (take m qs)) ≤ budget) same fits)
+    (λ below. subst (λ qs. budget < length (code (take (m + 1) qs))) same (no_more below))
+
+-- ---- whatever planes have this code: those from the least plane on are kept as they are
+
+module _ (size budget : ℕ) (ps : List (List Bool)) (all : All (λ ds. length ds ≡ size) ps) where
+  abbrev s : List Bool
+  s = first_bits budget (code ps)
+
+  -- the planes that the code stands for
+  abbrev qs : List (List Bool)
+  qs = planes_in (length ps) size (first_bits budget (code ps))
+
+  -- the top ones that fit the budget are those that it was made of
+  tops_same : (m : ℕ) → m ≤ length ps → length (code (take m qs)) ≤ budget → take m qs ≡ take m ps
+  tops_same m within fits =
+      let read = take m qs in
+      let begins = begins_is_first (code read) s (code_front_begins qs m s (full_begins (length ps) size s)) in
+      let count : length read ≡ m = omega (arith, length-take m qs, length-planes_in (length ps) size s, within) in
+      let own_count : length (take m ps) ≡ m = omega (arith, length-take m ps, within) in
+      let itself : Begins (code ps) (code ps) = rw append-nil at (begins_itself (code ps) []) in
+      full_only size read (code ps) (All-take (λ ds. length ds ≡ size) m qs (planes_in-length (length ps) size s))
+      (begins_from_first (code read) (code ps) (begins ∙ first_bits-first_bits (length (code read)) budget (code ps) fits))
+      ∙ ap (λ p. planes_in p size (code ps)) (count ∙ sym own_count)
+      ∙ sym (full_only size (take m ps) (code ps) (All-take (λ ds. length ds ≡ size) m ps all) (code_front_begins ps m (code ps) itself))
+
+  kept_from : (k : ℕ) → whole_from budget qs ≤ k → planes_from k (kept_planes budget ps) ≡ planes_from k ps
+  unfolding planes_from
+  kept_from k from =
+      let m = length ps - k in
+      let count = length-planes_in (length ps) size s in
+      let fits : length (code (take m qs)) ≤ budget =
+      omega (arith, whole_from-fits budget qs, length-code_take-le qs m (length qs - whole_from budget qs) (omega (arith, from, count))) in
+      let same = tops_same m (omega arith) fits in
+      ap (λ n. take (n - k) (kept_planes budget ps)) (length-kept_planes budget ps)
+      ∙ kept_top budget ps m (omega (arith, ap (λ (rs : List (List Bool)). length (code rs)) same, fits))
+
+-- the planes of the coefficients of a block
+abbrev pub block_planes : Width → List ℕ → List ℤ → List (List Bool)
+block_planes w es block = planes w (length es) (lift w (length es) (pad es block))
+
+pub planes_kept_from : (w : Width) (budget : ℕ) (es : List ℕ) (block : List ℤ) (k : ℕ) → rate_whole_from w (length es) (rate w budget es block) ≤ k
+    → planes_from k (kept_planes budget (block_planes w es block)) ≡ planes_from k (block_planes w es block)
+unfolding rate rate_whole_from
+planes_kept_from w budget es block k from =
+    let d = length es in
+    let c = lift w d (pad es block) in
+    let ps = planes w d c in
+    let s = first_bits budget (code ps) in
+    let whole : whole_from (length s) (planes_in (bits w) (4 ^ d) s) ≡ whole_from budget (planes_in (length ps) (4 ^ d) s) =
+    ap (λ n. whole_from n (planes_in (bits w) (4 ^ d) s)) (length-first_bits budget (code ps))
+    ∙ ap (λ p. whole_from budget (planes_in p (4 ^ d) s)) (sym (length-planes w d c)) in
+    kept_from (4 ^ d) budget ps (planes-length w d c) k (omega (arith, whole, from))

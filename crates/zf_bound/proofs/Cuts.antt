@@ -1,0 +1,36 @@
+-- A code that is cut from bits, and the plane of the codes of an index.
+use Rattle.std.proofs.Common.{◌≡◌, refl, sym, ap, subst, ◌∙◌, ℕ, zero, suc, ◌+◌, ◌-◌, ◌*◌, ◌<◌, ◌≤◌, max, Bool, List, [], ◌∷◌, ◌++◌, map, length, take, drop, map-append, take-take, add-one, arith}
+use Rattle.std.specs.Int.{Width}
+use Rattle.std.proofs.lemmas.List.{length-take-le, length-drop, drop-take}
+use Rattle.zf_spec.specs.Grid.{upto}
+use Rattle.zf_spec.proofs.Counting.{count_from-add}
+use Rattle.zf_bits.specs.Reader.{Reader, rest}
+use Rattle.zf_block.specs.WholePlanes.{rate_whole_from}
+use Rattle.zf_index.specs.Spans.{Index, place, len_at, code_in, codes_in}
+use Rattle.zf_bound.specs.Bounds.{plane_of}
+
+-- ---- a reader that ends where the code does, and stands where it begins
+module _ (bits : List Bool) (at len : ℕ) (first r : Reader) (made : first ≡ record { all = take (at + len) bits; at = 0 }) (stands : r ≡ record first { at = at }) (inside : at + len ≤ length bits) where
+  pub first_long : at ≤ length first.all
+  first_long = omega (arith, ap (λ (s : Reader). length s.all) made, length-take-le (at + len) bits inside)
+
+  code_left : rest r ≡ take len (drop at bits)
+  code_left = ap (λ (s : Reader). rest s) stands ∙ ap (λ (s : Reader). drop at s.all) made ∙ drop-take at len bits
+
+  pub code_enough : len ≤ length (rest r)
+  code_enough = omega (arith, ap length code_left, length-take-le len (drop at bits) (omega (arith, length-drop at bits)))
+
+  pub code_is : take len (rest r) ≡ take len (drop at bits)
+  code_is = ap (take len) code_left ∙ take-take len len (drop at bits) (omega arith)
+
+-- ---- the greatest plane over codes
+
+plane_of-append : (w : Width) (d : ℕ) (cs : List (List Bool)) (c : List Bool) → plane_of w d (cs ++ c ∷ []) ≡ max (plane_of w d cs) (rate_whole_from w d c)
+plane_of-append w d [] c = omega arith
+plane_of-append w d (b ∷ cs) c = let rest = plane_of-append w d cs c in omega arith
+
+pub plane_of-more : (w : Width) (d : ℕ) (code : ℕ → List Bool) (n k : ℕ) → k ≡ plane_of w d (map code (upto n)) → max k (rate_whole_from w d (code n)) ≡ plane_of w d (map code (upto (n + 1)))
+plane_of-more w d code n k is =
+    let more : upto (n + 1) ≡ upto n ++ n ∷ [] = count_from-add 0 n 1 ∙ ap (λ i. upto n ++ i ∷ []) (let e : 0 + n ≡ n = omega arith in e) in
+    ap (λ j. max j (rate_whole_from w d (code n))) is
+    ∙ sym (ap (plane_of w d) (ap (map code) more ∙ map-append code (upto n) (n ∷ [])) ∙ plane_of-append w d (map code (upto n)) (code n))

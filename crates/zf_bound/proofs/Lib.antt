@@ -1,0 +1,19 @@
+-- Lemmas on the error.
+--     WholeLines   a line and its lift over whole numbers, where nothing wraps, and how far what comes back is from it
+--     NoWrap       where nothing wraps, the line of the type is that of whole numbers
+--     Lines        the two facts of a line
+--     Members      the places of a line in a block
+--     Axes         along all axes: how large coefficients are, and how far what comes back is from the block
+--     LostDigits   what the digits below a plane come to
+--     Blocks       how far what a fixed rate makes of a block is from it
+--     Streams      how far the values of a stream are from whatever contents have its codes
+--     Cuts         codes that are cut from bits, and the plane of the codes of an index
+pub mod WholeLines
+pub mod NoWrap
+pub mod Lines
+pub mod Members
+pub mod Axes
+pub mod LostDigits
+pub mod Blocks
+pub mod Streams
+pub mod Cuts

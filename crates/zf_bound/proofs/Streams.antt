@@ -1,0 +1,170 @@
+-- How far the values of a stream are from whatever contents have its codes.
+use Rattle.std.proofs.Common.{◌≡◌, refl, sym, ap, subst, ◌∙◌, ℕ, zero, suc, ◌+◌, ◌-◌, ◌*◌, ◌^◌, ◌<◌, ◌≤◌, max, Bool, true, false, cond, ℤ, pos, List, [], ◌∷◌, map, length, get_or, take, All, ⊎_elim, arith}
+use Rattle.std.specs.Int.RustNames.{unsigned_abs}
+use Rattle.std.specs.Int.{Width}
+use Rattle.std.proofs.lemmas.Bool.{cases_lt}
+use Rattle.std.proofs.lemmas.List.{get_or_past, length-map}
+use mir.Val.{bits}
+use Rattle.zf_spec.specs.Grid.{IsShape, product, grid, blocks, coordinates, raster, is_inside, indices, extents, extent_of, position_in, value_at, block_of, blocks_of, upto}
+use Rattle.zf_spec.specs.Kept.{kept_planes}
+use Rattle.zf_spec.specs.Padding.{pad}
+use Rattle.zf_spec.specs.Lift.{lift}
+use Rattle.zf_spec.specs.Codes.{planes, existing_values, rate, round, read_rate}
+use Rattle.zf_spec.specs.Stream as stream
+use Rattle.zf_spec.specs.ReadPlanes.{planes_in}
+use Rattle.zf_spec.proofs.Full.{length-planes_in}
+use Rattle.zf_spec.proofs.Counting.{length-map-upto, get_or-map-upto}
+use Rattle.zf_spec.proofs.BlockReading.{read_rate-rate}
+use Rattle.zf_spec.proofs.PlaneDigits.{length-planes}
+use Rattle.zf_base.specs.Widths.{width_of}
+use Rattle.zf_base.specs.Places.{block_number, place_of}
+use Rattle.zf_base.proofs.Extents.{length-extent_of}
+use Rattle.zf_pad.proofs.Blocks.{all_extents}
+use Rattle.zf_header.specs.declared.header.Header.{Header}
+use Rattle.zf_header.specs.declared.header.Mode.TheVariants.{Rate}
+use Rattle.zf_header.specs.HeaderBits.{coding}
+use Rattle.zf_block.specs.WholePlanes.{planes_from, rate_whole_from, whole_from}
+use Rattle.zf_block.proofs.WholePlanes.{planes_kept_from, block_planes, length-kept_planes, whole_from-le}
+use Rattle.zf_stream.specs.Parsing.{values_of_blocks}
+use Rattle.zf_stream.proofs.Joined.{values_of_blocks-blocks}
+use Rattle.zf_stream.proofs.BlocksBack.{existing_values-block_of}
+use Rattle.zf_bound.specs.Errors.{AreWithin, AreClose, lost_below, grown, IsSmallEnough}
+use Rattle.zf_bound.specs.Bounds.{plane_of, error_of, AreContents}
+use Rattle.zf_bound.proofs.Lines.{IsNear, zero_within}
+use Rattle.zf_bound.proofs.Blocks.{round_close}
+
+-- ---- the plane of a stream
+
+-- no block's is greater
+pub plane_of-most : (w : Width) (d : ℕ) (codes : List (List Bool)) (b : ℕ) → b < length codes → rate_whole_from w d (get_or codes b []) ≤ plane_of w d codes
+plane_of-most w d [] b h = absurd (omega arith)
+plane_of-most w d (code ∷ codes) zero h = omega arith
+plane_of-most w d (code ∷ codes) (suc b) h = let rest = plane_of-most w d codes b (omega arith) in omega arith
+
+pub rate_whole_from-le : (w : Width) (d : ℕ) (code : List Bool) → rate_whole_from w d code ≤ bits w
+unfolding rate_whole_from
+rate_whole_from-le w d code = omega (arith, whole_from-le (length code) (planes_in (bits w) (4 ^ d) code), length-planes_in (bits w) (4 ^ d) code)
+
+-- it is at most the width of the type
+pub plane_of-le : (w : Width) (d : ℕ) (codes : List (List Bool)) → plane_of w d codes ≤ bits w
+plane_of-le w d [] = omega arith
+plane_of-le w d (code ∷ codes) = let rest = plane_of-le w d codes in let first = rate_whole_from-le w d code in omega arith
+
+-- ---- a block of contents
+
+-- planes that are kept, counted from the top
+tops_kept : (w : Width) (budget : ℕ) (es : List ℕ) (block : List ℤ) (k : ℕ) → rate_whole_from w (length es) (rate w budget es block) ≤ k
+    → take (bits w - k) (kept_planes budget (block_planes w es block)) ≡ take (bits w - k) (block_planes w es block)
+unfolding planes_from
+tops_kept w budget es block k from =
+    let ps = block_planes w es block in
+    let long = length-planes w (length es) (lift w (length es) (pad es block)) in
+    let long_kept = length-kept_planes budget ps ∙ long in
+    ap (λ n. take (n - k) (kept_planes budget ps)) (sym long_kept) ∙ planes_kept_from w budget es block k from ∙ ap (λ n. take (n - k) ps) long
+
+block_within : (ns : List ℕ) (values : List ℤ) (b m : ℕ) → AreWithin m values → AreWithin m (block_of ns values b)
+block_within ns values b m small p = ⊎_elim
+    (λ inside. subst (λ v. unsigned_abs v ≤ m) (sym (get_or-map-upto (value_at ns values cs) size p (pos 0) inside)) (by (is_inside (extents ns cs) (indices (length ns) p))))
+    (λ past. subst (λ v. unsigned_abs v ≤ m) (sym (get_or_past (block_of ns values b) p (pos 0) (omega (arith, past, length-map-upto (value_at ns values cs) size)))) (zero_within m))
+    (cases_lt p (4 ^ length ns))
+  where
+    cs : List ℕ
+    cs = coordinates (grid ns) b
+
+    size : ℕ
+    size = 4 ^ length ns
+
+    by : (t : Bool) → unsigned_abs (cond t (get_or values (raster ns (position_in (coordinates (grid ns) b) (indices (length ns) p))) (pos 0)) (pos 0)) ≤ m
+    by true = small (raster ns (position_in (coordinates (grid ns) b) (indices (length ns) p)))
+    by false = zero_within m
+
+-- what is read of its code is close to it
+block_close : (w : Width) (budget : ℕ) (ns : List ℕ) (values : List ℤ) (b m k : ℕ) → IsShape ns → b < blocks ns → AreWithin m values
+    → rate_whole_from w (length ns) (rate w budget (extent_of ns b) (block_of ns values b)) ≤ k → k ≤ bits w → IsSmallEnough (bits w) m (error_of (length ns) k)
+    → AreClose (error_of (length ns) k) (block_of ns values b) (read_rate w (extent_of ns b) (rate w budget (extent_of ns b) (block_of ns values b)))
+block_close w budget ns values b m k shape below small from inside premise =
+    let es = extent_of ns b in
+    let block = block_of ns values b in
+    let dims : length es ≡ length ns = length-extent_of ns b in
+    let near = round_close w budget es block m k (omega (arith, dims, shape.four_at_most)) (all_extents ns b shape below) inside
+        (subst (λ d. IsSmallEnough (bits w) m (error_of d k)) (sym dims) premise) (block_within ns values b m small)
+        (tops_kept w budget es block k (subst (λ d. rate_whole_from w d (rate w budget es block) ≤ k) (sym dims) from)) in
+    subst (λ d. AreClose (error_of d k) block (read_rate w es (rate w budget es block))) dims
+    (subst (λ (vs : List ℤ). AreClose (error_of (length es) k) vs (read_rate w es (rate w budget es block))) (existing_values-block_of ns values b)
+    (subst (λ (vs : List ℤ). AreClose (error_of (length es) k) (existing_values es block) vs) (sym (read_rate-rate w budget es block)) near))
+
+-- ---- all blocks
+
+nothing : (k : ℕ) → get_or {A = ℤ} [] k (pos 0) ≡ pos 0
+nothing zero = refl
+nothing (suc k) = refl
+
+-- blocks that are close make values that are close
+joined_close : (ns : List ℕ) (e : ℕ) (as' bs : List (List ℤ)) → ((b : ℕ) → AreClose e (get_or as' b []) (get_or bs b [])) → AreClose e (values_of_blocks ns as') (values_of_blocks ns bs)
+joined_close ns e as' bs near k = ⊎_elim
+    (λ inside.
+    subst (λ v. IsNear e v (get_or (values_of_blocks ns bs) k (pos 0))) (sym (get_or-map-upto (value as') (product ns) k (pos 0) inside))
+    (subst (λ v. IsNear e (value as' k) v) (sym (get_or-map-upto (value bs) (product ns) k (pos 0) inside))
+    (near (block_number ns (coordinates ns k)) (place_of (coordinates ns k)))))
+    (λ past.
+    subst (λ v. IsNear e v (get_or (values_of_blocks ns bs) k (pos 0))) (sym (get_or_past (values_of_blocks ns as') k (pos 0) (omega (arith, past, length-map-upto (value as') (product ns)))))
+    (subst (λ v. IsNear e (pos 0) v) (sym (get_or_past (values_of_blocks ns bs) k (pos 0) (omega (arith, past, length-map-upto (value bs) (product ns))))) (zero_within e)))
+    (cases_lt k (product ns))
+  where
+    value : List (List ℤ) → ℕ → ℤ
+    value found k = get_or (get_or found (block_number ns (coordinates ns k)) []) (place_of (coordinates ns k)) (pos 0)
+
+-- the blocks that are read of codes, one of each
+abbrev pub blocks_read : Header → List (List Bool) → List (List ℤ)
+blocks_read h codes = map (λ b. read_rate (width_of h.ty) (extent_of h.shape b) (get_or codes b [])) (upto (blocks h.shape))
+
+-- the values of a stream are close to whatever contents have its codes
+pub stream_close : (h : Header) (budget m : ℕ) (codes : List (List Bool)) (contents : List ℤ) → IsShape h.shape → h.mode ≡ Rate budget → AreContents h codes m contents
+    → let k = plane_of (width_of h.ty) (length h.shape) codes in
+    IsSmallEnough (bits (width_of h.ty)) m (error_of (length h.shape) k) → AreClose (error_of (length h.shape) k) contents (values_of_blocks h.shape (blocks_read h codes))
+stream_close h budget m codes contents shape is these premise =
+    subst (λ (vs : List ℤ). AreClose e vs (values_of_blocks ns (blocks_read h codes))) (values_of_blocks-blocks ns contents these.count)
+    (joined_close ns e (blocks_of ns contents) (blocks_read h codes) each)
+  where
+    w : Width
+    w = width_of h.ty
+
+    ns : List ℕ
+    ns = h.shape
+
+    k : ℕ
+    k = plane_of (width_of h.ty) (length h.shape) codes
+
+    e : ℕ
+    e = error_of (length h.shape) (plane_of (width_of h.ty) (length h.shape) codes)
+
+    code : ℕ → List Bool
+    code b = rate (width_of h.ty) budget (extent_of h.shape b) (block_of h.shape contents b)
+
+    codes_are : map code (upto (blocks h.shape)) ≡ codes
+    codes_are = subst (λ mode. stream.codes (width_of h.ty) h.shape (coding mode) contents ≡ codes) is these.codes_are
+
+    code_is : (b : ℕ) → b < blocks h.shape → get_or codes b [] ≡ code b
+    code_is b below = ap (λ (cs : List (List Bool)). get_or cs b []) (sym codes_are) ∙ get_or-map-upto code (blocks h.shape) b [] below
+
+    count : length codes ≡ blocks h.shape
+    count = ap length (sym codes_are) ∙ length-map-upto code (blocks h.shape)
+
+    whole : (b : ℕ) → b < blocks h.shape → rate_whole_from w (length h.shape) (code b) ≤ k
+    whole b below = subst (λ c. rate_whole_from w (length h.shape) c ≤ k) (code_is b below) (plane_of-most w (length h.shape) codes b (omega (arith, below, count)))
+
+    back : ℕ → List ℤ
+    back b = read_rate (width_of h.ty) (extent_of h.shape b) (get_or codes b [])
+
+    each : (b : ℕ) → AreClose e (get_or (blocks_of h.shape contents) b []) (get_or (blocks_read h codes) b [])
+    each b = ⊎_elim
+        (λ below.
+        subst (λ (vs : List ℤ). AreClose e vs (get_or (blocks_read h codes) b [])) (sym (get_or-map-upto (block_of h.shape contents) (blocks h.shape) b [] below))
+        (subst (λ (vs : List ℤ). AreClose e (block_of h.shape contents b) vs)
+        (sym (get_or-map-upto back (blocks h.shape) b [] below ∙ ap (read_rate w (extent_of h.shape b)) (code_is b below)))
+        (block_close w budget h.shape contents b m k shape below these.small (whole b below) (plane_of-le w (length h.shape) codes) premise)))
+        (λ past.
+        subst (λ (vs : List ℤ). AreClose e vs (get_or (blocks_read h codes) b [])) (sym (get_or_past (blocks_of h.shape contents) b [] (omega (arith, past, length-map-upto (block_of h.shape contents) (blocks h.shape)))))
+        (subst (λ (vs : List ℤ). AreClose e [] vs) (sym (get_or_past (blocks_read h codes) b [] (omega (arith, past, length-map-upto back (blocks h.shape)))))
+        (λ p. subst (λ v. IsNear e v v) (sym (nothing p)) (zero_within e))))
+        (cases_lt b (blocks h.shape))

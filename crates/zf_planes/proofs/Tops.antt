@@ -1,0 +1,45 @@
+-- The top planes, with one plane more.
+use Rattle.std.proofs.Common.{◌≡◌, ℕ, zero, suc, ◌+◌, ◌-◌, ◌<◌, ◌≤◌, max, Bool, List, [], ◌∷◌, ◌++◌, length, map, take, get_or, refl, sym, ap, ◌∙◌, arith}
+use Rattle.std.proofs.lemmas.List.{length-append, length-map, get_or-map}
+use Rattle.zf_spec.specs.Planes.{code, code_from, plane_code, reach, reach_of_all}
+use Rattle.zf_spec.specs.HeldPlanes.{digits_held, planes_held}
+use Rattle.zf_spec.proofs.HeldPlanes.{get_or-planes_held}
+
+-- how far their ones reach
+pub reach_of_all-more : (ps : List (List Bool)) (k : ℕ) → k < length ps → reach_of_all (take (suc k) ps) ≡ max (reach_of_all (take k ps)) (reach (get_or ps k []))
+reach_of_all-more [] k below = absurd (omega arith)
+reach_of_all-more (ds ∷ ps) zero below = omega arith
+reach_of_all-more (ds ∷ ps) (suc k) below = omega (arith, reach_of_all-more ps k (omega arith))
+
+-- how long their code is
+code_from-more : (n : ℕ) (ps : List (List Bool)) (k : ℕ) → k < length ps
+    → length (code_from n (take (suc k) ps)) ≡ length (code_from n (take k ps)) + length (plane_code (max n (reach_of_all (take k ps))) (get_or ps k []))
+code_from-more n [] k below = absurd (omega arith)
+code_from-more n (ds ∷ ps) zero below =
+    let first : max n 0 ≡ n = omega arith in
+    let same = ap (λ m. length (plane_code m ds)) first in
+    omega (arith, length-append (plane_code n ds) [], same)
+code_from-more n (ds ∷ ps) (suc k) below =
+    let c = plane_code n ds in
+    let m = max n (reach ds) in
+    let r = reach_of_all (take k ps) in
+    let above : max m r ≡ max n (max (reach ds) r) = omega arith in
+    let same = ap (λ a. length (plane_code a (get_or ps k []))) above in
+    omega (arith, length-append c (code_from m (take (suc k) ps)), length-append c (code_from m (take k ps)), code_from-more m ps k (omega arith), same)
+
+pub code-more : (ps : List (List Bool)) (k : ℕ) → k < length ps
+    → length (code (take (suc k) ps)) ≡ length (code (take k ps)) + length (plane_code (reach_of_all (take k ps)) (get_or ps k []))
+code-more ps k below =
+    let r = reach_of_all (take k ps) in
+    let same : max 0 r ≡ r = omega arith in
+    omega (arith, code_from-more 0 ps k below, ap (λ a. length (plane_code a (get_or ps k []))) same)
+
+-- the plane of this number from the top, of planes of any type that has words
+pub plane_held : {A : Type 0} (words : A → List ℕ) (size i : ℕ) (planes : List A) (plane : A) → plane ≡ get_or planes (length planes - 1 - i) plane → i < length planes
+    → get_or (planes_held size (map words planes)) i [] ≡ digits_held size (words plane)
+plane_held words size i planes plane is below =
+    let all = map words planes in
+    let long = length-map planes words in
+    let place : length all - 1 - i ≡ length planes - 1 - i = omega arith in
+    get_or-planes_held size all i [] (omega arith)
+    ∙ ap (digits_held size) (ap (λ k. get_or all k []) place ∙ get_or-map words planes (length planes - 1 - i) plane [] (omega arith) ∙ ap words (sym is))
