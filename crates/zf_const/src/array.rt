@@ -99,7 +99,8 @@ impl<T: Lane, const D: usize> ConstArray<T, D> {
         ensures size { length result.now ≡ 4 ^ D }
         ensures state { state (touched self.old b) ≡ touch (format self.old) (state self.old) b }
     {
-        self.cache.block_read(&mut self.codes, b)
+        self.cache.touch_read(&mut self.codes, b);
+        self.cache.line(b)
     }
 
     /// This number of lines, raised to a power of two; none holds a block, and the counts go on. The memory is taken first: after

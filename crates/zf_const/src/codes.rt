@@ -94,6 +94,8 @@ impl<T: Lane, const D: usize> Reading<T> for Codes<T, D> {
     fn load(&mut self, b: u64, line: &mut [T]) {
         let mut reader = BitReader::new(&self.words, self.bits);
         reader.seek(self.index.span(b).at);
-        zf_stream::read_code(&self.header, &mut reader, line).unwrap();
+        let Some(()) = zf_stream::read_code(&self.header, &mut reader, line) else {
+            unreachable!()
+        };
     }
 }
