@@ -27,6 +27,9 @@ bits_less_one w32 = refl
 bits_less_one w64 = refl
 bits_less_one w128 = refl
 
+pub power_half : (w : Width) → 2 ^ hbits w ≡ 2 ^ (bits w - 1)
+power_half w = ap (λ n. 2 ^ n) (bits_less_one w)
+
 pub small_enough : (w : Width) (m e : ℕ) → IsSmallEnough (bits w) m e → 8 * (m + e + 17) < 2 ^ hbits w
 small_enough w m e h = rw bits_less_one h
 

@@ -1,19 +1,18 @@
 -- A code that is cut from bits, and the plane of the codes of an index.
-use Rattle.std.proofs.Common.{◌≡◌, refl, sym, ap, subst, ◌∙◌, ℕ, zero, suc, ◌+◌, ◌-◌, ◌*◌, ◌<◌, ◌≤◌, max, Bool, List, [], ◌∷◌, ◌++◌, map, length, take, drop, map-append, take-take, add-one, arith}
+use Rattle.std.proofs.Common.{◌≡◌, sym, ap, ◌∙◌, ℕ, ◌+◌, ◌≤◌, max, Bool, List, [], ◌∷◌, ◌++◌, map, length, take, drop, take-take, arith}
 use Rattle.std.specs.Int.{Width}
-use Rattle.std.proofs.lemmas.List.{length-take-le, length-drop, drop-take}
+use Rattle.std.proofs.lemmas.List.{length-take-le, length-drop, drop-take, map-append}
 use Rattle.zf_spec.specs.Grid.{upto}
 use Rattle.zf_spec.proofs.Counting.{count_from-add}
 use Rattle.zf_bits.specs.Reader.{Reader, rest}
 use Rattle.zf_block.specs.WholePlanes.{rate_whole_from}
-use Rattle.zf_index.specs.Spans.{Index, place, len_at, code_in, codes_in}
 use Rattle.zf_bound.specs.Bounds.{plane_of}
 
 -- ---- a reader that ends where the code does, and stands where it begins
-module _ (bits : List Bool) (at len : ℕ) (first r : Reader) (made : first ≡ record { all = take (at + len) bits; at = 0 }) (stands : r ≡ record first { at = at }) (inside : at + len ≤ length bits) where
-  pub first_long : at ≤ length first.all
-  first_long = omega (arith, ap (λ (s : Reader). length s.all) made, length-take-le (at + len) bits inside)
+pub first_long : (bits : List Bool) (at len : ℕ) (first : Reader) → first ≡ record { all = take (at + len) bits; at = 0 } → at + len ≤ length bits → at ≤ length first.all
+first_long bits at len first made inside = omega (arith, ap (λ (s : Reader). length s.all) made, length-take-le (at + len) bits inside)
 
+module _ (bits : List Bool) (at len : ℕ) (first r : Reader) (made : first ≡ record { all = take (at + len) bits; at = 0 }) (stands : r ≡ record first { at = at }) (inside : at + len ≤ length bits) where
   code_left : rest r ≡ take len (drop at bits)
   code_left = ap (λ (s : Reader). rest s) stands ∙ ap (λ (s : Reader). drop at s.all) made ∙ drop-take at len bits
 

@@ -8,6 +8,10 @@
 --     Blocks       how far what a fixed rate makes of a block is from it
 --     Streams      how far the values of a stream are from whatever contents have its codes
 --     Cuts         codes that are cut from bits, and the plane of the codes of an index
+--     Indexed      what is certified of a file whose codes an index has
+--     LineLaws     the two facts of a line, as the laws state them
+--     Certificates what is certified is there once its parts are
+--     Growth       how large the error is at most
 pub mod WholeLines
 pub mod NoWrap
 pub mod Lines
@@ -17,3 +21,7 @@ pub mod LostDigits
 pub mod Blocks
 pub mod Streams
 pub mod Cuts
+pub mod Indexed
+pub mod Growth
+pub mod LineLaws
+pub mod Certificates

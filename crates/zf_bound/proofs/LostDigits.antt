@@ -1,14 +1,14 @@
 -- What the digits below a plane come to: where digits from the plane up are the same, values differ by less than 2^k.
-use Rattle.std.proofs.Common.{◌≡◌, refl, sym, ap, subst, ◌∙◌, ℕ, zero, suc, ◌+◌, ◌-◌, ◌*◌, ◌^◌, ◌<◌, ◌≤◌, Bool, true, false, ℤ, pos, negsuc, ◌+ℤ◌, ◌-ℤ◌, ◌*ℤ◌, FitsSigned, List, [], ◌∷◌, map, length, get_or, take, ⊎_elim, get_or-take, pow-suc, pow_pos, arith}
+use Rattle.std.proofs.Common.{◌≡◌, refl, sym, ap, subst, ◌∙◌, ℕ, zero, suc, ◌+◌, ◌-◌, ◌^◌, ◌<◌, ◌≤◌, Bool, true, false, ℤ, pos, negsuc, ◌+ℤ◌, ◌-ℤ◌, ◌*ℤ◌, List, [], ◌∷◌, map, length, get_or, take, ⊎_elim, get_or-take, pow-suc, arith}
 use Rattle.std.specs.Int.RustNames.{unsigned_abs}
 use Rattle.std.specs.Int.{Width}
 use Rattle.std.proofs.lemmas.Bool.{cases_lt}
-use Rattle.std.proofs.lemmas.List.{get_or_past, get_or-map, length-map}
+use Rattle.std.proofs.lemmas.List.{get_or_past, get_or-map}
 use Rattle.std.proofs.lemmas.Int.{ints}
 use Rattle.std.proofs.Math.Nat.{one-le-pow}
 use mir.Val.{bits, hbits}
-use Rattle.zf_spec.specs.Numbers.{wrap, IsSameModulo, digit_value, digits_sum, digits, value_of}
-use Rattle.zf_spec.specs.Ranks.{by_rank, order}
+use Rattle.zf_spec.specs.Numbers.{IsSameModulo, digit_value, digits_sum, digits, value_of}
+use Rattle.zf_spec.specs.Ranks.{by_rank}
 use Rattle.zf_spec.specs.Codes.{planes, coefficients_of}
 use Rattle.zf_spec.proofs.Wrapping.{same_modulo_refl, same_modulo_add, wrap_from_same}
 use Rattle.zf_spec.proofs.Negabinary.{length-digits, digits_sum-digits}

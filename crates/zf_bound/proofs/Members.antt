@@ -1,10 +1,10 @@
 -- The places of a line, in a block that is made of whole groups of lines.
-use Rattle.std.proofs.Common.{◌≡◌, ℕ, ◌+◌, ◌-◌, ◌*◌, ◌/◌, ◌%◌, ◌<◌, ◌≤◌, ℤ, pos, List, length, get_or, ap, ◌∙◌, ◌⊎◌, inl, inr, arith}
+use Rattle.std.proofs.Common.{◌≡◌, ℕ, ◌+◌, ◌*◌, ◌/◌, ◌%◌, ◌<◌, ◌≤◌, ℤ, pos, List, length, get_or, ap, ◌∙◌, ◌⊎◌, inl, inr, arith}
 use Rattle.std.proofs.lemmas.Bool.{cases_lt}
 use Rattle.std.proofs.lemmas.Nat.{div-mul-add}
 use Rattle.std.proofs.Math.Nat.{mul-le-mul_left, mod-lt}
-use Rattle.zf_spec.specs.Lift.{line_value, along}
-use Rattle.zf_axes.proofs.Strides.{line_start, line_start-is, line_start-member, groups_are_whole, group_inside, place-of_line}
+use Rattle.zf_spec.specs.Lift.{along}
+use Rattle.zf_axes.proofs.Strides.{line_start, line_start-is, line_start-member, groups_are_whole, group_inside}
 use Rattle.zf_axes.proofs.LineByLine.{get_or-along}
 
 module _ (s p n : ℕ) (some : 0 < s) (groups : n % (4 * s) ≡ 0) (inside : p < n) where

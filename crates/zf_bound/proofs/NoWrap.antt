@@ -1,5 +1,5 @@
 -- Where values are small enough nothing wraps: the lift of a line and the way back are those over whole numbers.
-use Rattle.std.proofs.Common.{◌≡◌, refl, ap, sym, subst, ◌∙◌, ℕ, ◌+◌, ◌*◌, ◌^◌, ◌<◌, ◌≤◌, ℤ, pos, ◌+ℤ◌, ◌-ℤ◌, ◌*ℤ◌, FitsSigned, List, [], ◌∷◌, lt_of_le_of_lt, arith}
+use Rattle.std.proofs.Common.{◌≡◌, refl, ap, sym, subst, ◌∙◌, ℕ, ◌+◌, ◌*◌, ◌^◌, ◌<◌, ◌≤◌, ℤ, pos, ◌+ℤ◌, ◌-ℤ◌, ◌*ℤ◌, [], ◌∷◌, lt_of_le_of_lt, arith}
 use Rattle.std.specs.Int.RustNames.{unsigned_abs}
 use Rattle.std.specs.Int.{Width}
 use Rattle.std.proofs.lemmas.Int.{ints, fits_signed_from_abs}
@@ -95,12 +95,28 @@ lifted n x y z w m room x_small y_small z_small w_small =
     let b = wrap n (y2 -ℤ half_d) in
     let b_is : b ≡ y2 -ℤ half_d = whole n (y2 -ℤ half_d) (difference_fits y2 half_d m (m + m) _ (omega (arith, room)) y2_small half_d_small) in
     record {
-      a = a; b = b; c = c; d = d;
+      a = a;
+      b = b;
+      c = c;
+      d = d;
       line = refl;
       lifts = record {
-        x1 = x1; w1 = w1; z1 = z1; y1 = y1; w2 = w2; y2 = y2; half_y = half_y; half_d = half_d;
-        outer = outer; inner = inner; sums = sums; rests = rests;
-        half_y_is = half_y_is; d_is = d_is; half_d_is = half_d_is; b_is = b_is;
+        x1 = x1;
+        w1 = w1;
+        z1 = z1;
+        y1 = y1;
+        w2 = w2;
+        y2 = y2;
+        half_y = half_y;
+        half_d = half_d;
+        outer = outer;
+        inner = inner;
+        sums = sums;
+        rests = rests;
+        half_y_is = half_y_is;
+        d_is = d_is;
+        half_d_is = half_d_is;
+        b_is = b_is;
       };
     }
 
@@ -170,11 +186,31 @@ unlifted n a b c d m room a_small b_small c_small d_small =
     let x = wrap n (wrap n (pos 2 *ℤ x1) -ℤ w) in
     let x_is : x ≡ (x1 +ℤ x1) -ℤ w = doubled_less n x1 w2 w (m + m) (m + (m + m) + (m + m)) (omega (arith, room)) (omega (arith, room)) w_is x1_small w2_small in
     record {
-      x = x; y = y; z = z; w = w;
+      x = x;
+      y = y;
+      z = z;
+      w = w;
       line = refl;
       unlifts = record {
-        half_d = half_d; y1 = y1; half_y = half_y; w1 = w1; y2 = y2; w2 = w2; z1 = z1; x1 = x1;
-        half_d_is = half_d_is; y1_is = y1_is; half_y_is = half_y_is; w1_is = w1_is; y2_is = y2_is; w2_is = w2_is; z1_is = z1_is; x1_is = x1_is;
-        y_is = y_is; z_is = z_is; w_is = w_is; x_is = x_is;
+        half_d = half_d;
+        y1 = y1;
+        half_y = half_y;
+        w1 = w1;
+        y2 = y2;
+        w2 = w2;
+        z1 = z1;
+        x1 = x1;
+        half_d_is = half_d_is;
+        y1_is = y1_is;
+        half_y_is = half_y_is;
+        w1_is = w1_is;
+        y2_is = y2_is;
+        w2_is = w2_is;
+        z1_is = z1_is;
+        x1_is = x1_is;
+        y_is = y_is;
+        z_is = z_is;
+        w_is = w_is;
+        x_is = x_is;
       };
     }

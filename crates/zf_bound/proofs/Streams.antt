@@ -1,15 +1,15 @@
 -- How far the values of a stream are from whatever contents have its codes.
-use Rattle.std.proofs.Common.{◌≡◌, refl, sym, ap, subst, ◌∙◌, ℕ, zero, suc, ◌+◌, ◌-◌, ◌*◌, ◌^◌, ◌<◌, ◌≤◌, max, Bool, true, false, cond, ℤ, pos, List, [], ◌∷◌, map, length, get_or, take, All, ⊎_elim, arith}
+use Rattle.std.proofs.Common.{◌≡◌, refl, sym, ap, subst, ◌∙◌, ℕ, zero, suc, ◌-◌, ◌^◌, ◌<◌, ◌≤◌, Bool, true, false, cond, ℤ, pos, List, [], ◌∷◌, map, length, get_or, take, All, ⊎_elim, arith}
 use Rattle.std.specs.Int.RustNames.{unsigned_abs}
 use Rattle.std.specs.Int.{Width}
 use Rattle.std.proofs.lemmas.Bool.{cases_lt}
-use Rattle.std.proofs.lemmas.List.{get_or_past, length-map}
+use Rattle.std.proofs.lemmas.List.{get_or_past}
 use mir.Val.{bits}
 use Rattle.zf_spec.specs.Grid.{IsShape, product, grid, blocks, coordinates, raster, is_inside, indices, extents, extent_of, position_in, value_at, block_of, blocks_of, upto}
 use Rattle.zf_spec.specs.Kept.{kept_planes}
 use Rattle.zf_spec.specs.Padding.{pad}
 use Rattle.zf_spec.specs.Lift.{lift}
-use Rattle.zf_spec.specs.Codes.{planes, existing_values, rate, round, read_rate}
+use Rattle.zf_spec.specs.Codes.{existing_values, rate, round, read_rate}
 use Rattle.zf_spec.specs.Stream as stream
 use Rattle.zf_spec.specs.ReadPlanes.{planes_in}
 use Rattle.zf_spec.proofs.Full.{length-planes_in}
@@ -23,12 +23,12 @@ use Rattle.zf_pad.proofs.Blocks.{all_extents}
 use Rattle.zf_header.specs.declared.header.Header.{Header}
 use Rattle.zf_header.specs.declared.header.Mode.TheVariants.{Rate}
 use Rattle.zf_header.specs.HeaderBits.{coding}
-use Rattle.zf_block.specs.WholePlanes.{planes_from, rate_whole_from, whole_from}
+use Rattle.zf_block.specs.WholePlanes.{planes_from, rate_whole_from}
 use Rattle.zf_block.proofs.WholePlanes.{planes_kept_from, block_planes, length-kept_planes, whole_from-le}
 use Rattle.zf_stream.specs.Parsing.{values_of_blocks}
 use Rattle.zf_stream.proofs.Joined.{values_of_blocks-blocks}
 use Rattle.zf_stream.proofs.BlocksBack.{existing_values-block_of}
-use Rattle.zf_bound.specs.Errors.{AreWithin, AreClose, lost_below, grown, IsSmallEnough}
+use Rattle.zf_bound.specs.Errors.{AreWithin, AreClose, IsSmallEnough}
 use Rattle.zf_bound.specs.Bounds.{plane_of, error_of, AreContents}
 use Rattle.zf_bound.proofs.Lines.{IsNear, zero_within}
 use Rattle.zf_bound.proofs.Blocks.{round_close}
@@ -62,6 +62,14 @@ tops_kept w budget es block k from =
     let long_kept = length-kept_planes budget ps ∙ long in
     ap (λ n. take (n - k) (kept_planes budget ps)) (sym long_kept) ∙ planes_kept_from w budget es block k from ∙ ap (λ n. take (n - k) ps) long
 
+-- what a fixed rate makes of a block, by the plane of its code
+pub round_of_code : (w : Width) (budget : ℕ) (es : List ℕ) (block : List ℤ) (m : ℕ) → length es ≤ 4 → All (λ e. (1 ≤ e) × (e ≤ 4)) es → AreWithin m block
+    → let k = rate_whole_from w (length es) (rate w budget es block) in
+    IsSmallEnough (bits w) m (error_of (length es) k) → AreClose (error_of (length es) k) (existing_values es block) (round w budget es block)
+round_of_code w budget es block m few sizes small premise =
+    let k = rate_whole_from w (length es) (rate w budget es block) in
+    round_close w budget es block m k few sizes (rate_whole_from-le w (length es) (rate w budget es block)) premise small (tops_kept w budget es block k (omega arith))
+
 block_within : (ns : List ℕ) (values : List ℤ) (b m : ℕ) → AreWithin m values → AreWithin m (block_of ns values b)
 block_within ns values b m small p = ⊎_elim
     (λ inside. subst (λ v. unsigned_abs v ≤ m) (sym (get_or-map-upto (value_at ns values cs) size p (pos 0) inside)) (by (is_inside (extents ns cs) (indices (length ns) p))))
@@ -87,8 +95,8 @@ block_close w budget ns values b m k shape below small from inside premise =
     let block = block_of ns values b in
     let dims : length es ≡ length ns = length-extent_of ns b in
     let near = round_close w budget es block m k (omega (arith, dims, shape.four_at_most)) (all_extents ns b shape below) inside
-        (subst (λ d. IsSmallEnough (bits w) m (error_of d k)) (sym dims) premise) (block_within ns values b m small)
-        (tops_kept w budget es block k (subst (λ d. rate_whole_from w d (rate w budget es block) ≤ k) (sym dims) from)) in
+    (subst (λ d. IsSmallEnough (bits w) m (error_of d k)) (sym dims) premise) (block_within ns values b m small)
+    (tops_kept w budget es block k (subst (λ d. rate_whole_from w d (rate w budget es block) ≤ k) (sym dims) from)) in
     subst (λ d. AreClose (error_of d k) block (read_rate w es (rate w budget es block))) dims
     (subst (λ (vs : List ℤ). AreClose (error_of (length es) k) vs (read_rate w es (rate w budget es block))) (existing_values-block_of ns values b)
     (subst (λ (vs : List ℤ). AreClose (error_of (length es) k) (existing_values es block) vs) (sym (read_rate-rate w budget es block)) near))

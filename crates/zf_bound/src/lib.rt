@@ -3,9 +3,10 @@
 
 mod bounding;
 mod certified;
+pub mod laws;
 mod planes;
-
-
+#[cfg(test)]
+mod tests;
 
 pub use bounding::bound;
 pub use certified::Certified;

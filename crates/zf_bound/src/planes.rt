@@ -29,7 +29,10 @@ pub(crate) fn stream_plane<T: Lane>(
 {
     let mut plane = 0;
     for b in 0..h.shape.blocks() {
-        plane = plane.max(code_plane(h.shape.dims(), index.span(b), words, room));
+        let own = code_plane(h.shape.dims(), index.span(b), words, room);
+        if plane < own {
+            plane = own;
+        }
     }
     plane
 }

@@ -1,0 +1,26 @@
+-- What is certified is there once its parts are.
+use Rattle.std.proofs.Common.{◌≡◌, ap, ◌∙◌, ℕ, ◌+◌, ◌-◌, ◌*◌, ◌^◌, Bool, ltb, List, length}
+use Rattle.std.specs.Prelude.{◌↔◌, IsTrue}
+use Rattle.std.proofs.lemmas.Bool.{ltb_from_iff}
+use mir.Val.{bits}
+use Rattle.zf_base.specs.Widths.{width_of}
+use Rattle.zf_header.specs.declared.header.Header.{Header}
+use Rattle.zf_bound.specs.declared.certified.Certified.{Certified}
+use Rattle.zf_bound.specs.Errors.{IsSmallEnough}
+use Rattle.zf_bound.specs.Bounds.{plane_of, error_of, certified_of}
+
+made : ℕ → ℕ → Bool → Certified
+made plane error holds = record { plane = plane; error = error; holds = holds }
+
+made_same : (c : Certified) (k e : ℕ) (t : Bool) → c.plane ≡ k → c.error ≡ e → c.holds ≡ t → c ≡ record { plane = k; error = e; holds = t }
+unfolding made
+made_same c k e t f g h = ap (λ n. made n c.error c.holds) f ∙ ap (λ n. made k n c.holds) g ∙ ap (made k e) h
+
+pub certified_is : (h : Header) (cs : List (List Bool)) (m : ℕ) (c : Certified) → c.plane ≡ plane_of (width_of h.ty) (length h.shape) cs → c.error ≡ error_of (length h.shape) c.plane
+    → (IsTrue c.holds ↔ IsSmallEnough (bits (width_of h.ty)) m c.error) → c ≡ certified_of h cs m
+certified_is h cs m c plane error holds =
+    let k = plane_of (width_of h.ty) (length h.shape) cs in
+    let exact : c.error ≡ error_of (length h.shape) k = error ∙ ap (error_of (length h.shape)) plane in
+    let test : c.holds ≡ ltb (8 * (m + c.error + 17)) (2 ^ (bits (width_of h.ty) - 1)) = ltb_from_iff holds in
+    made_same c k (error_of (length h.shape) k) (ltb (8 * (m + error_of (length h.shape) k + 17)) (2 ^ (bits (width_of h.ty) - 1))) plane exact
+    (test ∙ ap (λ e. ltb (8 * (m + e + 17)) (2 ^ (bits (width_of h.ty) - 1))) exact)
