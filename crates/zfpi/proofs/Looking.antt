@@ -27,7 +27,7 @@ use Rattle.zfpi.specs.World.{seen}
 use Rattle.zfpi.specs.Headline.{Behaves}
 use Rattle.zfpi.proofs.Opening.{stream_in-said}
 use Rattle.zfpi.proofs.Loading.{ComesFirst-index, Behaves-unopened}
-use Rattle.zfpi.proofs.Scripting.{IsScripted-look, Behaves-lines, Behaves-cut_script}
+use Rattle.zfpi.proofs.Scripting.{lines_status-some, IsScripted-look, Behaves-lines, Behaves-cut_script}
 
 -- the array that was opened is that of the file
 pub HoldsStream-opened : (known : Option Files) (name : List ℕ) (lines : Option ℕ) (w : Width) (bytes : List ℕ) (h : Header) (a : Held) (count : ℕ) → HoldsFile known name bytes → IsOpened bytes h a → w ≡ width_of h.ty
@@ -68,6 +68,11 @@ module _ (name : List ℕ) (lines : Option ℕ) where
     Behaves-look after n out out_now ran =
         Behaves-lines (Look name lines) name lines stream_in look_replies (IsScripted-look name lines) known now holds.bytes (said a) holds.file holds.stream kept script wants most src rest takes end
         n out out_now now (ran.refused_is ∙ ap (count_by is_refusal) replies_are) (ap (count_by is_want) (sym replies_are) ∙ ran.wanted) (subst (Appends out out_now) (ap replies_text replies_are) ran.written) kept
+
+    -- and some of them were refused
+    pub Behaves-some : (after : Held) (n : ℕ) (out out_now : Option (List ℕ)) → 1 ≤ n → FinishesLook w a after script wants out out_now n → Behaves (Look name lines) (statuses.Lines n) (seen src out known) (seen rest out_now now)
+    Behaves-some after n out out_now some ran =
+        subst (λ status. Behaves (Look name lines) status (seen src out known) (seen rest out_now now)) (lines_status-some n some) (Behaves-look after n out out_now ran)
 
     -- a reply was not written whole
     pub Behaves-cut_look : (after : Held) (out out_now : Option (List ℕ)) → StopsLook w a after script wants out out_now → Behaves (Look name lines) statuses.WriteFault (seen src out known) (seen rest out_now now)

@@ -1,5 +1,5 @@
 -- What a file is opened as, by what is known of its header and of the stream.
-use Rattle.std.proofs.Common.{◌≡◌, ℕ, ℤ, List, length, Option, Some, None, Result, Ok, Err, refl, ap, sym, ◌∙◌}
+use Rattle.std.proofs.Common.{◌≡◌, ℕ, ℤ, Bool, List, length, Option, Some, None, Result, Ok, Err, refl, ap, sym, ◌∙◌}
 use Rattle.zf_spec.specs.Grid.{blocks}
 use Rattle.zf_spec.specs.Stream.{to_bits, mode_number}
 use Rattle.zf_header.specs.declared.header.Header.{Header}
@@ -46,17 +46,22 @@ no_rate (Precision p) answer not = refl
 pub array_in-no_rate : (bytes : List ℕ) (h : Header) (number : ℕ) → header_fault bytes ≡ None → h ≡ header_of bytes → ((b : ℕ) → h.mode ≡ Rate b → ⊥) → number ≡ mode_number (coding h.mode) → array_in bytes ≡ Err (statuses.NotRate number)
 array_in-no_rate bytes h number good is not number_is = array_in-good bytes h good is ∙ (no_rate h.mode (parse bytes) not ∙ ap (λ n. Err (statuses.NotRate n)) (sym number_is))
 
+-- the header of what is said, or else another
+header_in_said : Header → Result Said StreamFault → Header
+header_in_said other (Ok said) = said.header
+header_in_said other (Err e) = other
+
+header_in_said-with : (h : Header) (cs : List (List Bool)) (values : Result (List ℤ) StreamFault) → header_in_said h (said_with h cs values) ≡ h
+unfolding header_in_said
+header_in_said-with h cs (Ok values) = refl
+header_in_said-with h cs (Err e) = refl
+
 -- what a stream says has the header that it begins with
 pub header_said : (bytes : List ℕ) (said : Said) → parse bytes ≡ Ok said → said.header ≡ header_of bytes
-unfolding parse
-header_said bytes said is = by (values_said bytes) is
-  where
-    ok_same : {a b : Said} → Ok a ≡ Ok b → a ≡ b
-    ok_same same = cc
-
-    by : (values : Result (List ℤ) StreamFault) → said_with (header_of bytes) (codes_said (header_of bytes) 0 (blocks (header_of bytes).shape) (code_bits bytes)) values ≡ Ok said → said.header ≡ header_of bytes
-    by (Ok values) same = ap (λ s. s.header) (sym (ok_same same))
-    by (Err e) same = absurd (cc)
+unfolding parse header_in_said
+header_said bytes said is =
+    let h = header_of bytes in
+    sym (ap (header_in_said h) is) ∙ header_in_said-with h (codes_said h 0 (blocks h.shape) (code_bits bytes)) (values_said bytes)
 
 -- it is a stream
 pub stream_in-said : (bytes : List ℕ) (answer : Result Said StreamFault) → parse bytes ≡ answer → stream_in bytes ≡ said_or_status answer

@@ -92,7 +92,13 @@ fn look_typed<S: Source, O: Sink>(
         (counts (S.faults src.old) (O.faults out.old) shelf) (counts (S.faults src.new) (O.faults out.new) shelf)
         ⊥ ⊥ (S.never_fails src.old) (S.never_fails src.new) }
 {
-    in_kind!(header.ty, header.shape, look_stream, [S, O], (alloc, name, lines, header, file, src, out))
+    in_kind!(
+        header.ty,
+        header.shape,
+        look_stream,
+        [S, O],
+        (alloc, name, lines, header, file, src, out)
+    )
 }
 
 // The same in the type and the number of dimensions: opens the stream.
