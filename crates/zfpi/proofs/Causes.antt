@@ -1,12 +1,11 @@
 -- Faults of a command and their causes.
-use Rattle.std.proofs.Common.{◌≡◌, ◌≢◌, ℕ, ◌≤◌, ◌||◌, List, Option, refl, arith}
+use Rattle.std.proofs.Common.{◌≡◌, ◌≢◌, ℕ, ◌≤◌, ◌||◌, Bool, true, false, refl, arith}
 use Rattle.zf_dev.specs.Faults.{Rose, HasCause}
 use Rattle.zf_dev.specs.declared.faults.LoadError.{LoadError}
 use Rattle.zf_dev.specs.declared.faults.LoadError.TheVariants as loading
 use Rattle.zfpi.specs.declared.status.Status.{Status}
 use Rattle.zfpi.specs.declared.status.Status.TheVariants.{ReadFault, WriteFault, LoadFault, SaveFault}
 use Rattle.zfpi.specs.declared.command.Command.{Command}
-use Rattle.zfpi.specs.declared.command.Command.TheVariants.{Run}
 use Rattle.zfpi.specs.Faults.{load_status}
 use Rattle.zfpi.specs.World.{Counts, counts}
 use Rattle.zfpi.specs.Answer.{uses}
@@ -79,17 +78,22 @@ HasCauses-taken c status src src_now out out_now shelf shelf_now kept idle still
   sure = λ sure. ((causes.sure tt).0, still sure);
 }
 
--- a run whose file was not loaded
-pub HasCauses-unloaded : {F : Type 0} (loads : F → F → Type 0) (faults : F → ℕ) (before now : F) (name : List ℕ) (lines : Option ℕ) (e : LoadError) (src out : ℕ) {Saving Sure : Type 0} → loads before now → HasCause (e ≡ loading.Failed) (faults before) (faults now)
-    → HasCauses (Run name lines) (load_status e) (counts src out (faults before)) (counts src out (faults now)) (FailedLoad loads faults before now) Saving Sure Sure
-HasCauses-unloaded {F} loads faults before now name lines e src out {Saving} {Sure} step cause = record {
+-- no count rose of a device, used or not
+IsIdle-same : (used : Bool) (n : ℕ) → IsIdle used n n
+IsIdle-same true n = tt
+IsIdle-same false n = refl
+
+-- a command whose file was not loaded
+pub HasCauses-unloaded : (c : Command) {F : Type 0} (loads : F → F → Type 0) (faults : F → ℕ) (before now : F) (e : LoadError) (src out : ℕ) {Saving Sure : Type 0} → IsIdle ((uses c).loads || (uses c).saves) (faults before) (faults now) → loads before now → HasCause (e ≡ loading.Failed) (faults before) (faults now)
+    → HasCauses c (load_status e) (counts src out (faults before)) (counts src out (faults now)) (FailedLoad loads faults before now) Saving Sure Sure
+HasCauses-unloaded c {F} loads faults before now e src out {Saving} {Sure} idle step cause = record {
   reading = (omega arith, λ is. absurd (no_read e is));
   writing = (omega arith, λ is. absurd (no_write e is));
   shelf_kept = cause.0;
   shelving = by e cause.1;
-  no_reading = tt;
-  no_writing = tt;
-  no_shelving = tt;
+  no_reading = IsIdle-same (uses c).reads src;
+  no_writing = IsIdle-same (uses c).writes out;
+  no_shelving = idle;
   sure = λ sure. (no_read e, sure);
 }
   where

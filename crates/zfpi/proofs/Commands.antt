@@ -12,13 +12,15 @@ use Rattle.zf_header.specs.declared.header.Mode.{Mode}
 use Rattle.zf_header.specs.declared.header.Mode.TheVariants.{Reversible, Rate, Precision}
 use Rattle.zf_header.specs.HeaderBits.{IsMode}
 use Rattle.zfpi.specs.declared.command.Command.{Command}
-use Rattle.zfpi.specs.declared.command.Command.TheVariants.{Compress, Restore, Info, New, Run, Sample}
+use Rattle.zfpi.specs.declared.command.Command.TheVariants.{Compress, Restore, Info, New, Run, Look, Bound, Sample}
 use Rattle.zfpi.specs.declared.words.Task.{Task}
 use Rattle.zfpi.specs.declared.words.Task.TheVariants as tasks
+use Rattle.zfpi.specs.declared.words.Script.{Script}
+use Rattle.zfpi.specs.declared.words.Script.TheVariants as scripts
 use Rattle.zfpi.specs.declared.words.Stage.{Stage}
 use Rattle.zfpi.specs.declared.words.Stage.TheVariants as stages
-use Rattle.zfpi.specs.Words.{type_word, shape_word, mode_words, compress_words, IsLines, lines_words, sample_words, IsAskable, IsSpelled, BeginsCommand, IsUsage}
-use Rattle.zfpi.specs.Stages.{LeadsTo, IsBegun, task_words, IsRateWord, IsLinesWord, IsPrecisionWord}
+use Rattle.zfpi.specs.Words.{type_word, shape_word, mode_words, compress_words, IsLines, lines_words, IsOnScript, sample_words, IsAskable, IsSpelled, BeginsCommand, IsUsage}
+use Rattle.zfpi.specs.Stages.{LeadsTo, IsBegun, task_words, script_word, script_command, IsRateWord, IsLinesWord, IsPrecisionWord}
 use Rattle.zfpi.proofs.ShapeWords.{parts_of-shape, decimals_injective, sizes_small}
 use Rattle.zfpi.proofs.Completed.{header_with, BeginsCommand-reached}
 
@@ -70,6 +72,8 @@ first_word Restore = codes "restore"
 first_word Info = codes "info"
 first_word (New name ty ns b) = codes "new"
 first_word (Run name lines) = codes "run"
+first_word (Look name lines) = codes "look"
+first_word (Bound name most) = codes "bound"
 first_word (Sample h seed) = codes "sample"
 
 begins_with : (c : Command) (words : List (List ℕ)) → IsSpelled c words → (rest : List (List ℕ)) × (words ≡ first_word c ∷ rest)
@@ -79,6 +83,8 @@ begins_with Restore words spelled = ([], spelled)
 begins_with Info words spelled = ([], spelled)
 begins_with (New name ty ns b) words spelled = (name ∷ type_word ty ∷ shape_word ns ∷ decimal b ∷ [], spelled.words_are)
 begins_with (Run name lines) words spelled = (name ∷ lines_words lines, spelled.words_are)
+begins_with (Look name lines) words spelled = (name ∷ lines_words lines, spelled.words_are)
+begins_with (Bound name most) words spelled = (name ∷ decimal most ∷ [], spelled.words_are)
 begins_with (Sample h seed) words spelled = (type_word h.ty ∷ shape_word h.shape ∷ decimal seed ∷ mode_words h.mode, spelled.words_are)
 
 -- the first words differ in their length or in their first letter
@@ -90,6 +96,14 @@ mark_of c words word rest is spelled = ap mark (heads_same (sym (begins_with c w
 
 same_mark : (c d : Command) (words : List (List ℕ)) → IsSpelled c words → IsSpelled d words → mark (first_word c) ≡ mark (first_word d)
 same_mark c d words a b = let other = begins_with d words b in mark_of c words (first_word d) other.0 other.1 a
+
+-- the words of a command on a script tell the name and the lines
+same_script : (first : List ℕ) (n m : List ℕ) (k l : Option ℕ) (words : List (List ℕ)) → IsOnScript first n k words → IsOnScript first m l words → (n ≡ m) × (k ≡ l)
+same_script first n m k l words a b =
+    let same : first ∷ n ∷ lines_words k ≡ first ∷ m ∷ lines_words l = sym a.words_are ∙ b.words_are in
+    let named : n ≡ m = cc in
+    let behind : lines_words k ≡ lines_words l = cc in
+    (named, lines_words_injective k l a.lines_are b.lines_are behind)
 
 -- words are those of one command at most
 pub one_command : (words : List (List ℕ)) (c d : Command) → IsSpelled c words → IsSpelled d words → c ≡ d
@@ -119,11 +133,13 @@ one_command words (Sample g n) (Sample h m) a b =
     let same_shape = shape_word_injective g.shape h.shape a.asked.header.shape b.asked.header.shape shape in
     let same_mode = mode_words_injective g.mode h.mode a.asked.header.mode b.asked.header.mode mode in
     ap (λ x. Sample x n) (same_header g h (type_word_injective g.ty h.ty ty) same_shape same_mode) ∙ ap (Sample h) (decimal_injective n m a.small b.small text)
-one_command words (Run name l) (Run name' l') a d =
-    let same : codes "run" ∷ name ∷ lines_words l ≡ codes "run" ∷ name' ∷ lines_words l' = sym a.words_are ∙ d.words_are in
-    let named : name ≡ name' = cc in
-    let behind : lines_words l ≡ lines_words l' = cc in
-    ap (λ n. Run n l) named ∙ ap (Run name') (lines_words_injective l l' a.lines_are d.lines_are behind)
+one_command words (Run n k) (Run m l) a b = let same = same_script (codes "run") n m k l words a b in ap (λ name. Run name k) same.0 ∙ ap (Run m) same.1
+one_command words (Look n k) (Look m l) a b = let same = same_script (codes "look") n m k l words a b in ap (λ name. Look name k) same.0 ∙ ap (Look m) same.1
+one_command words (Bound n k) (Bound m l) a b =
+    let same : codes "bound" ∷ n ∷ decimal k ∷ [] ≡ codes "bound" ∷ m ∷ decimal l ∷ [] = sym a.words_are ∙ b.words_are in
+    let named : n ≡ m = cc in
+    let text : decimal k ≡ decimal l = cc in
+    ap (λ name. Bound name k) named ∙ ap (Bound m) (decimal_injective k l a.small b.small text)
 one_command words Restore Restore a b = refl
 one_command words Info Info a b = refl
 one_command words c d a b = absurd (omega (arith, same_mark c d words a b))
@@ -173,10 +189,10 @@ record IsAsked (ty : Ty) (ns : List ℕ) (behind : List (List ℕ)) : Type 0 whe
   askable : IsAskable (header_with ty ns mode)
   behind_is : behind ≡ mode_words mode
 
-asked : (h : Header) (ty : Ty) (ns : List ℕ) (behind : List (List ℕ)) → IsAskable h → IsShape ns → type_word h.ty ≡ type_word ty → shape_word h.shape ≡ shape_word ns → behind ≡ mode_words h.mode → IsAsked ty ns behind
-asked h ty ns behind askable shape type_text shape_text is = record {
+asked : (h : Header) (ty : Ty) (ns : List ℕ) (behind : List (List ℕ)) → IsAskable h → IsShape ns → h.ty ≡ ty → shape_word h.shape ≡ shape_word ns → behind ≡ mode_words h.mode → IsAsked ty ns behind
+asked h ty ns behind askable shape same_type shape_text is = record {
   mode = h.mode;
-  askable = subst IsAskable (same_header h (header_with ty ns h.mode) (type_word_injective h.ty ty type_text) (shape_word_injective h.shape ns askable.header.shape shape shape_text) refl) askable;
+  askable = subst IsAskable (same_header h (header_with ty ns h.mode) same_type (shape_word_injective h.shape ns askable.header.shape shape shape_text) refl) askable;
   behind_is = is;
 }
 
@@ -188,13 +204,13 @@ IsAsked-begun tasks.Compress ty ns behind words (Compress h) begun spelled =
     let type_text : type_word h.ty ≡ type_word ty = cc in
     let shape_text : shape_word h.shape ≡ shape_word ns = cc in
     let is : behind ≡ mode_words h.mode = cc in
-    asked h ty ns behind spelled.0 begun.shape_is type_text shape_text is
+    asked h ty ns behind spelled.0 begun.shape_is (type_word_injective h.ty ty type_text) shape_text is
 IsAsked-begun (tasks.Sample n) ty ns behind words (Sample h seed) begun spelled =
     let whole : codes "sample" ∷ type_word ty ∷ shape_word ns ∷ decimal n ∷ behind ≡ sample_words h seed = sym begun.words_are ∙ spelled.words_are in
     let type_text : type_word h.ty ≡ type_word ty = cc in
     let shape_text : shape_word h.shape ≡ shape_word ns = cc in
     let is : behind ≡ mode_words h.mode = cc in
-    asked h ty ns behind spelled.asked begun.shape_is type_text shape_text is
+    asked h ty ns behind spelled.asked begun.shape_is (type_word_injective h.ty ty type_text) shape_text is
 IsAsked-begun tasks.Compress ty ns behind words c begun spelled = absurd (omega (arith, mark_of c words (codes "compress") (type_word ty ∷ shape_word ns ∷ behind) begun.words_are spelled))
 IsAsked-begun (tasks.Sample n) ty ns behind words c begun spelled = absurd (omega (arith, mark_of c words (codes "sample") (type_word ty ∷ shape_word ns ∷ decimal n ∷ behind) begun.words_are spelled))
 
@@ -221,6 +237,8 @@ fewest Restore = 1
 fewest Info = 1
 fewest (New name ty ns b) = 5
 fewest (Run name lines) = 2
+fewest (Look name lines) = 2
+fewest (Bound name most) = 3
 fewest (Sample h seed) = 5
 
 enough_words : (c : Command) (words : List (List ℕ)) → IsSpelled c words → fewest c ≤ length words
@@ -235,6 +253,8 @@ enough_words Restore words spelled = omega (arith, ap length spelled)
 enough_words Info words spelled = omega (arith, ap length spelled)
 enough_words (New name ty ns b) words spelled = omega (arith, ap length spelled.words_are)
 enough_words (Run name lines) words spelled = omega (arith, ap length spelled.words_are)
+enough_words (Look name lines) words spelled = omega (arith, ap length spelled.words_are)
+enough_words (Bound name most) words spelled = omega (arith, ap length spelled.words_are)
 enough_words (Sample h seed) words spelled = by h.mode spelled.words_are
   where
     by : (m : Mode) → words ≡ codes "sample" ∷ type_word h.ty ∷ shape_word h.shape ∷ decimal seed ∷ mode_words m → 5 ≤ length words
@@ -252,38 +272,51 @@ unfolding first_word mark fewest
 few_new rest words (New n t s k) is few spelled = omega (arith, enough_words (New n t s k) words spelled, ap length is)
 few_new rest words c is few spelled = omega (arith, mark_of c words (codes "new") rest is spelled)
 
-few_run : (words : List (List ℕ)) (c : Command) → words ≡ codes "run" ∷ [] → IsSpelled c words → ⊥
+few_script : (script : Script) (words : List (List ℕ)) (c : Command) → words ≡ script_word script ∷ [] → IsSpelled c words → ⊥
 unfolding first_word mark fewest
-few_run words (Run name lines) is spelled = omega (arith, enough_words (Run name lines) words spelled, ap length is)
-few_run words c is spelled = omega (arith, mark_of c words (codes "run") [] is spelled)
+few_script scripts.Run words (Run n l) is spelled = omega (arith, enough_words (Run n l) words spelled, ap length is)
+few_script scripts.Look words (Look n l) is spelled = omega (arith, enough_words (Look n l) words spelled, ap length is)
+few_script scripts.Run words c is spelled = omega (arith, mark_of c words (codes "run") [] is spelled)
+few_script scripts.Look words c is spelled = omega (arith, mark_of c words (codes "look") [] is spelled)
 
--- what is behind `run` and a name where they begin a whole command: a number of lines, or nothing
-record IsRunning (behind : List (List ℕ)) : Type 0 where
+-- what is behind the name of a script's file where the words begin a whole command: a number of lines, or nothing
+record HasLines (behind : List (List ℕ)) : Type 0 where
   lines : Option ℕ
   lines_are : IsLines lines
   behind_is : behind ≡ lines_words lines
 
-IsRunning-begun : (name : List ℕ) (behind words : List (List ℕ)) (c : Command) → words ≡ codes "run" ∷ name ∷ behind → IsSpelled c words → IsRunning behind
-unfolding first_word mark
-IsRunning-begun name behind words (Run n l) is spelled =
-    let whole : codes "run" ∷ name ∷ behind ≡ codes "run" ∷ n ∷ lines_words l = sym is ∙ spelled.words_are in
+HasLines-spelled : (first name : List ℕ) (behind words : List (List ℕ)) (n : List ℕ) (l : Option ℕ) → words ≡ first ∷ name ∷ behind → IsOnScript first n l words → HasLines behind
+HasLines-spelled first name behind words n l is spelled =
+    let whole : first ∷ name ∷ behind ≡ first ∷ n ∷ lines_words l = sym is ∙ spelled.words_are in
     let same : behind ≡ lines_words l = cc in
     record { lines = l; lines_are = spelled.lines_are; behind_is = same }
-IsRunning-begun name behind words c is spelled = absurd (omega (arith, mark_of c words (codes "run") (name ∷ behind) is spelled))
 
--- a word behind `run` and a name, where a command goes on, is `lines`, and the next one is a number of lines
-pub lines_begun : (name : List ℕ) (words : List (List ℕ)) (word : List ℕ) → words ≡ codes "run" ∷ name ∷ [] → BeginsCommand (words ++ word ∷ []) → word ≡ codes "lines"
-lines_begun name words word is (c, rest, spelled) =
-    let r = IsRunning-begun name (word ∷ rest) ((words ++ word ∷ []) ++ rest) c (ap (λ front. (front ++ word ∷ []) ++ rest) is) spelled in
+HasLines-begun : (script : Script) (name : List ℕ) (behind words : List (List ℕ)) (c : Command) → words ≡ script_word script ∷ name ∷ behind → IsSpelled c words → HasLines behind
+unfolding first_word mark
+HasLines-begun scripts.Run name behind words (Run n l) is spelled = HasLines-spelled (codes "run") name behind words n l is spelled
+HasLines-begun scripts.Look name behind words (Look n l) is spelled = HasLines-spelled (codes "look") name behind words n l is spelled
+HasLines-begun scripts.Run name behind words c is spelled = absurd (omega (arith, mark_of c words (codes "run") (name ∷ behind) is spelled))
+HasLines-begun scripts.Look name behind words c is spelled = absurd (omega (arith, mark_of c words (codes "look") (name ∷ behind) is spelled))
+
+-- the words of a whole command on a script
+script_spelled : (script : Script) (name : List ℕ) (lines : Option ℕ) (words : List (List ℕ)) → IsSpelled (script_command script name lines) words → IsOnScript (script_word script) name lines words
+script_spelled scripts.Run name lines words spelled = spelled
+script_spelled scripts.Look name lines words spelled = spelled
+
+-- a word behind the name of a script's file, where a command goes on, is `lines`, and the next one is a number of lines
+pub lines_begun : (script : Script) (name : List ℕ) (words : List (List ℕ)) (word : List ℕ) → IsSpelled (script_command script name None) words → BeginsCommand (words ++ word ∷ []) → word ≡ codes "lines"
+lines_begun script name words word whole (c, rest, spelled) =
+    let is = (script_spelled script name None words whole).words_are in
+    let r = HasLines-begun script name (word ∷ rest) ((words ++ word ∷ []) ++ rest) c (ap (λ front. (front ++ word ∷ []) ++ rest) is) spelled in
     by r.lines r.behind_is
   where
     by : (l : Option ℕ) → word ∷ rest ≡ lines_words l → word ≡ codes "lines"
     by None same = absurd (cc)
     by (Some l) same = heads_same same
 
-pub IsLinesWord-begun : (name : List ℕ) (words : List (List ℕ)) (word : List ℕ) → words ≡ codes "run" ∷ name ∷ codes "lines" ∷ [] → BeginsCommand (words ++ word ∷ []) → (l : ℕ) × IsLinesWord l word
-IsLinesWord-begun name words word is (c, rest, spelled) =
-    let r = IsRunning-begun name (codes "lines" ∷ word ∷ rest) ((words ++ word ∷ []) ++ rest) c (ap (λ front. (front ++ word ∷ []) ++ rest) is) spelled in
+pub IsLinesWord-begun : (script : Script) (name : List ℕ) (words : List (List ℕ)) (word : List ℕ) → words ≡ script_word script ∷ name ∷ codes "lines" ∷ [] → BeginsCommand (words ++ word ∷ []) → (l : ℕ) × IsLinesWord l word
+IsLinesWord-begun script name words word is (c, rest, spelled) =
+    let r = HasLines-begun script name (codes "lines" ∷ word ∷ rest) ((words ++ word ∷ []) ++ rest) c (ap (λ front. (front ++ word ∷ []) ++ rest) is) spelled in
     by r.lines r.lines_are r.behind_is
   where
     by : (l : Option ℕ) → IsLines l → codes "lines" ∷ word ∷ rest ≡ lines_words l → (n : ℕ) × IsLinesWord n word
@@ -293,6 +326,11 @@ IsLinesWord-begun name words word is (c, rest, spelled) =
 -- the number of such a word
 pub IsLinesWord-number : (l n : ℕ) (word : List ℕ) → IsLinesWord l word → n < 2 ^ 64 → word ≡ decimal n → l ≡ n
 IsLinesWord-number l n word is small text = decimal_injective l n (omega (arith, is.lines.1)) small (sym is.text ∙ text)
+
+few_bound : (rest words : List (List ℕ)) (c : Command) → words ≡ codes "bound" ∷ rest → length rest ≤ 1 → IsSpelled c words → ⊥
+unfolding first_word mark fewest
+few_bound rest words (Bound n k) is few spelled = omega (arith, enough_words (Bound n k) words spelled, ap length is)
+few_bound rest words c is few spelled = omega (arith, mark_of c words (codes "bound") rest is spelled)
 
 few_sample : (rest words : List (List ℕ)) (c : Command) → words ≡ codes "sample" ∷ rest → length rest ≤ 2 → IsSpelled c words → ⊥
 unfolding first_word mark fewest
@@ -314,13 +352,15 @@ whole_at_end words stages.Making c leads spelled = absurd (few_new [] words c le
 whole_at_end words (stages.Named name) c leads spelled = absurd (few_new (name ∷ []) words c leads.1 (omega arith) spelled)
 whole_at_end words (stages.NamedTyped name ty) c leads spelled = absurd (few_new (name ∷ type_word ty ∷ []) words c leads.1 (omega arith) spelled)
 whole_at_end words (stages.NamedShaped name ty ns) c leads spelled = absurd (few_new (name ∷ type_word ty ∷ shape_word ns ∷ []) words c leads.2 (omega arith) spelled)
-whole_at_end words stages.Running c leads spelled = absurd (few_run words c leads spelled)
-whole_at_end words (stages.AtLines name) c leads spelled =
-    let r = IsRunning-begun name (codes "lines" ∷ []) words c leads.1 spelled in absurd (by r.lines r.behind_is)
+whole_at_end words (stages.Scripting script) c leads spelled = absurd (few_script script words c leads spelled)
+whole_at_end words (stages.AtLines script name) c leads spelled =
+    let r = HasLines-begun script name (codes "lines" ∷ []) words c leads.1 spelled in absurd (by r.lines r.behind_is)
   where
     by : (l : Option ℕ) → codes "lines" ∷ [] ≡ lines_words l → ⊥
     by None same = cc
     by (Some l) same = cc
+whole_at_end words stages.Bounding c leads spelled = absurd (few_bound [] words c leads (omega arith) spelled)
+whole_at_end words (stages.AtMost name) c leads spelled = absurd (few_bound (name ∷ []) words c leads.1 (omega arith) spelled)
 whole_at_end words (stages.Whole d) c leads spelled = (d, refl)
 
 pub IsUsage-ended : (words : List (List ℕ)) (n : ℕ) (stage : Stage) → n ≡ length words → LeadsTo words stage → ((d : Command) → stage ≡ stages.Whole d → ⊥) → IsUsage words n
@@ -418,25 +458,35 @@ task_ends task ty ns m words word begun (c, rest, spelled) =
     let is = IsAsked-begun task ty ns (mode_words m ++ word ∷ rest) ((words ++ word ∷ []) ++ rest) c (IsBegun-more task ty ns (mode_words m) words word rest begun) spelled in
     mode_ends m is.mode word rest is.behind_is
 
--- with a word more, only a run begins a command
-pub whole_ends : (c : Command) (words : List (List ℕ)) (word : List ℕ) → IsSpelled c words → ((name : List ℕ) → c ≡ Run name None → ⊥) → BeginsCommand (words ++ word ∷ []) → ⊥
-unfolding first_word mark
-whole_ends (Compress h) words word spelled not_run begins =
-    task_ends tasks.Compress h.ty h.shape h.mode words word (record { task_is = tt; shape_is = spelled.0.header.shape; words_are = spelled.1 }) begins
-whole_ends (Sample h seed) words word spelled not_run begins =
-    task_ends (tasks.Sample seed) h.ty h.shape h.mode words word (record { task_is = spelled.small; shape_is = spelled.asked.header.shape; words_are = spelled.words_are }) begins
-whole_ends Restore words word spelled not_run (Restore, rest, more) = omega (arith, ap length (sym (ap (λ front. (front ++ word ∷ []) ++ rest) spelled) ∙ more))
-whole_ends Info words word spelled not_run (Info, rest, more) = omega (arith, ap length (sym (ap (λ front. (front ++ word ∷ []) ++ rest) spelled) ∙ more))
-whole_ends (New n t s k) words word spelled not_run (New n' t' s' k', rest, more) =
-    omega (arith, ap length (sym (ap (λ front. (front ++ word ∷ []) ++ rest) spelled.words_are) ∙ more.words_are))
-whole_ends (Run name None) words word spelled not_run begins = not_run name refl
-whole_ends (Run name (Some l)) words word spelled not_run (d, rest, more) =
-    let r = IsRunning-begun name (codes "lines" ∷ decimal l ∷ word ∷ rest) ((words ++ word ∷ []) ++ rest) d (ap (λ front. (front ++ word ∷ []) ++ rest) spelled.words_are) more in
+-- with a word more behind its lines, no command on a script begins one
+lines_end : (script : Script) (name : List ℕ) (l : ℕ) (words : List (List ℕ)) (word : List ℕ) → IsSpelled (script_command script name (Some l)) words → BeginsCommand (words ++ word ∷ []) → ⊥
+lines_end script name l words word whole (d, rest, more) =
+    let is = (script_spelled script name (Some l) words whole).words_are in
+    let r = HasLines-begun script name (codes "lines" ∷ decimal l ∷ word ∷ rest) ((words ++ word ∷ []) ++ rest) d (ap (λ front. (front ++ word ∷ []) ++ rest) is) more in
     by r.lines r.behind_is
   where
     by : (m : Option ℕ) → codes "lines" ∷ decimal l ∷ word ∷ rest ≡ lines_words m → ⊥
     by None same = omega (arith, ap length same)
     by (Some m) same = omega (arith, ap length same)
-whole_ends c words word spelled not_run (d, rest, more) =
+
+-- with a word more, only a script that has no number of lines begins a command
+pub whole_ends : (c : Command) (words : List (List ℕ)) (word : List ℕ) → IsSpelled c words → ((name : List ℕ) → c ≡ Run name None → ⊥) → ((name : List ℕ) → c ≡ Look name None → ⊥)
+    → BeginsCommand (words ++ word ∷ []) → ⊥
+unfolding first_word mark
+whole_ends (Compress h) words word spelled not_run not_look begins =
+    task_ends tasks.Compress h.ty h.shape h.mode words word (record { task_is = tt; shape_is = spelled.0.header.shape; words_are = spelled.1 }) begins
+whole_ends (Sample h seed) words word spelled not_run not_look begins =
+    task_ends (tasks.Sample seed) h.ty h.shape h.mode words word (record { task_is = spelled.small; shape_is = spelled.asked.header.shape; words_are = spelled.words_are }) begins
+whole_ends Restore words word spelled not_run not_look (Restore, rest, more) = omega (arith, ap length (sym (ap (λ front. (front ++ word ∷ []) ++ rest) spelled) ∙ more))
+whole_ends Info words word spelled not_run not_look (Info, rest, more) = omega (arith, ap length (sym (ap (λ front. (front ++ word ∷ []) ++ rest) spelled) ∙ more))
+whole_ends (New n t s k) words word spelled not_run not_look (New n' t' s' k', rest, more) =
+    omega (arith, ap length (sym (ap (λ front. (front ++ word ∷ []) ++ rest) spelled.words_are) ∙ more.words_are))
+whole_ends (Bound n k) words word spelled not_run not_look (Bound m l, rest, more) =
+    omega (arith, ap length (sym (ap (λ front. (front ++ word ∷ []) ++ rest) spelled.words_are) ∙ more.words_are))
+whole_ends (Run name None) words word spelled not_run not_look begins = not_run name refl
+whole_ends (Look name None) words word spelled not_run not_look begins = not_look name refl
+whole_ends (Run name (Some l)) words word spelled not_run not_look begins = lines_end scripts.Run name l words word spelled begins
+whole_ends (Look name (Some l)) words word spelled not_run not_look begins = lines_end scripts.Look name l words word spelled begins
+whole_ends c words word spelled not_run not_look (d, rest, more) =
     let first = begins_with c words spelled in
     omega (arith, mark_of d ((words ++ word ∷ []) ++ rest) (first_word c) ((first.0 ++ word ∷ []) ++ rest) (ap (λ front. (front ++ word ∷ []) ++ rest) first.1) more)

@@ -1,5 +1,5 @@
 -- Each stage that is reached can be completed to a command.
-use Rattle.std.proofs.Common.{◌≡◌, ℕ, ◌≤◌, List, [], ◌∷◌, ◌++◌, Some, None, codes, decimal, refl, ap, sym, subst, ◌∙◌, arith, lit≤, lit<, append_assoc}
+use Rattle.std.proofs.Common.{◌≡◌, ℕ, ◌≤◌, List, [], ◌∷◌, ◌++◌, Option, Some, None, codes, decimal, refl, ap, sym, subst, ◌∙◌, arith, lit≤, lit<, append_assoc}
 use Rattle.std.proofs.lemmas.List.{append-nil}
 use Rattle.zf_base.specs.declared.lane.Ty.{Ty}
 use Rattle.zf_base.specs.declared.lane.Ty.TheVariants.{I32}
@@ -11,13 +11,15 @@ use Rattle.zf_header.specs.declared.header.Mode.TheVariants.{Reversible, Rate, P
 use Rattle.zf_header.specs.HeaderBits.{rate_bytes_of}
 use Rattle.zf_header.proofs.Parts.{length-header_bits}
 use Rattle.zfpi.specs.Names.{IsName}
-use Rattle.zfpi.specs.declared.command.Command.TheVariants.{Compress, New, Run, Sample}
+use Rattle.zfpi.specs.declared.command.Command.TheVariants.{Compress, New, Bound, Sample}
 use Rattle.zfpi.specs.declared.words.Task.{Task}
 use Rattle.zfpi.specs.declared.words.Task.TheVariants as tasks
+use Rattle.zfpi.specs.declared.words.Script.{Script}
+use Rattle.zfpi.specs.declared.words.Script.TheVariants as scripts
 use Rattle.zfpi.specs.declared.words.Stage.{Stage}
 use Rattle.zfpi.specs.declared.words.Stage.TheVariants as stages
-use Rattle.zfpi.specs.Words.{type_word, shape_word, mode_words, compress_words, IsAskable, IsSpelled, BeginsCommand}
-use Rattle.zfpi.specs.Stages.{IsTask, IsBegun, task_words, command_of, LeadsTo}
+use Rattle.zfpi.specs.Words.{type_word, shape_word, mode_words, compress_words, IsLines, lines_words, IsAskable, IsSpelled, BeginsCommand}
+use Rattle.zfpi.specs.Stages.{IsTask, IsBegun, task_words, command_of, script_word, script_command, LeadsTo}
 
 -- a header by its parts
 abbrev pub header_with : Ty → List ℕ → Mode → Header
@@ -69,6 +71,11 @@ made_of_one_bit name ty ns words named shape is = record { named = named; shape 
 sampled : (ty : Ty) (ns : List ℕ) (words : List (List ℕ)) → IsShape ns → words ≡ codes "sample" ∷ type_word ty ∷ shape_word ns ∷ decimal 0 ∷ codes "reversible" ∷ [] → IsSpelled (Sample (header_with ty ns Reversible) 0) words
 sampled ty ns words shape is = record { asked = askable_reversible ty ns shape; small = lit< tt; words_are = is }
 
+-- a script can be run on a file, or looks at it
+pub IsSpelled-script : (script : Script) (name : List ℕ) (lines : Option ℕ) (words : List (List ℕ)) → IsName name → IsLines lines → words ≡ script_word script ∷ name ∷ lines_words lines → IsSpelled (script_command script name lines) words
+IsSpelled-script scripts.Run name lines words named in_range is = record { named = named; lines_are = in_range; words_are = is }
+IsSpelled-script scripts.Look name lines words named in_range is = record { named = named; lines_are = in_range; words_are = is }
+
 -- the words that lead to a stage begin a command
 pub BeginsCommand-reached : (words : List (List ℕ)) (stage : Stage) → LeadsTo words stage → BeginsCommand words
 BeginsCommand-reached words stages.Start is =
@@ -108,9 +115,16 @@ BeginsCommand-reached words (stages.NamedTyped name ty) leads =
 BeginsCommand-reached words (stages.NamedShaped name ty ns) leads =
     let rest = decimal 1 ∷ [] in
     (New name ty ns 1, rest, made_of_one_bit name ty ns (words ++ rest) leads.0 leads.1 (ap (λ front. front ++ rest) leads.2))
-BeginsCommand-reached words stages.Running is =
+BeginsCommand-reached words (stages.Scripting script) is =
     let rest = (97 ∷ []) ∷ [] in
-    (Run (97 ∷ []) None, rest, record { named = one_letter; lines_are = tt; words_are = ap (λ front. front ++ rest) is })
-BeginsCommand-reached words (stages.AtLines name) leads =
-    (Run name (Some 1), decimal 1 ∷ [], record { named = leads.0; lines_are = (lit≤ tt, lit≤ tt); words_are = ap (λ front. front ++ decimal 1 ∷ []) leads.1 })
+    (script_command script (97 ∷ []) None, rest, IsSpelled-script script (97 ∷ []) None (words ++ rest) one_letter tt (ap (λ front. front ++ rest) is))
+BeginsCommand-reached words (stages.AtLines script name) leads =
+    let rest = decimal 1 ∷ [] in
+    (script_command script name (Some 1), rest, IsSpelled-script script name (Some 1) (words ++ rest) leads.0 (lit≤ tt, lit≤ tt) (ap (λ front. front ++ rest) leads.1))
+BeginsCommand-reached words stages.Bounding is =
+    let rest = (97 ∷ []) ∷ decimal 0 ∷ [] in
+    (Bound (97 ∷ []) 0, rest, record { named = one_letter; small = lit< tt; words_are = ap (λ front. front ++ rest) is })
+BeginsCommand-reached words (stages.AtMost name) leads =
+    let rest = decimal 0 ∷ [] in
+    (Bound name 0, rest, record { named = leads.0; small = lit< tt; words_are = ap (λ front. front ++ rest) leads.1 })
 BeginsCommand-reached words (stages.Whole c) spelled = (c, [], subst (IsSpelled c) (sym (append-nil words)) spelled)

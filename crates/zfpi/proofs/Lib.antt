@@ -9,4 +9,9 @@ mod Causes
 mod Promises
 pub mod Making
 mod Sampling
+mod Opening
+mod Loading
+mod Scripting
 mod Running
+mod Looking
+mod Certifying

@@ -18,13 +18,16 @@ use Rattle.zf_stream.proofs.OwnFaults.{is_foreign, blames_foreign, own_answer}
 use Rattle.zf_run.specs.Steps.{is_refusal}
 use Rattle.zf_stream.proofs.StreamsBack.{answer-stream_text, text-reversible_text}
 use Rattle.zfpi.specs.declared.status.Status.{Status}
-use Rattle.zfpi.specs.declared.status.Status.TheVariants.{Done, Usage, ScriptLong, FileLong, ReadFault, WriteFault, LoadFault, SaveFault, Memory}
+use Rattle.zfpi.specs.declared.status.Status.TheVariants as statuses
+use Rattle.zfpi.specs.declared.status.Status.TheVariants.{Done, Lines, Usage, NotRate, Missing, ScriptLong, FileLong, ReadFault, WriteFault, LoadFault, SaveFault, Memory}
 use Rattle.zfpi.specs.declared.command.Command.{Command}
-use Rattle.zfpi.specs.declared.command.Command.TheVariants.{Compress, Restore, Info, New, Run, Sample}
+use Rattle.zfpi.specs.declared.command.Command.TheVariants.{Compress, Restore, Info, New, Run, Look, Bound, Sample}
 use Rattle.zfpi.specs.Words.{IsSpelled}
 use Rattle.zfpi.specs.World.{World, Seen, Counts, TellsInput}
-use Rattle.zfpi.specs.Scripts.{array_in, opened, said_at_rate, array_behind, replies_for, lines_status, run_status}
-use Rattle.zfpi.specs.Answer.{CanRun, TakesMemory, MayFail, IsPossible, CompressEnds, RestoreEnds, InfoEnds, RunEnds, status_of, header_status, status_for, restore_draft}
+use Rattle.zfpi.specs.Certified.{certified_status}
+use Rattle.zfpi.specs.Opened.{array_in, stream_in, opened, said_or_status, said_at_rate, array_behind}
+use Rattle.zfpi.specs.Scripts.{Answering, run_replies, look_replies, lines_status, script_status}
+use Rattle.zfpi.specs.Answer.{CanRun, TakesMemory, MayFail, IsPossible, CompressEnds, RestoreEnds, InfoEnds, FileEnds, LookEnds, RunEnds, BoundEnds, status_of, header_status, status_for, restore_draft}
 use Rattle.zfpi.specs.Headline.{OfCommand, RefusesWords, IsOfCommand, Writes, Behaves, HasCauses, AreQuiet, IsComplete, IsFromOutside, IsCausedOnShelf, FailedLoad, FailedSave, GivesBack}
 use Rattle.zfpi.proofs.Commands.{one_command}
 
@@ -35,6 +38,8 @@ CanRun-spelled Restore words spelled = tt
 CanRun-spelled Info words spelled = tt
 CanRun-spelled (New name ty ns b) words spelled = (spelled.shape, spelled.rate)
 CanRun-spelled (Run name lines) words spelled = spelled.lines_are
+CanRun-spelled (Look name lines) words spelled = spelled.lines_are
+CanRun-spelled (Bound name most) words spelled = tt
 CanRun-spelled (Sample h seed) words spelled = spelled.asked.header.mode
 
 -- what holds of one command that the words are holds of each
@@ -96,11 +101,18 @@ possible_fault ReadFault Restore w wants may = tt
 possible_fault ReadFault Info w wants may = tt
 possible_fault WriteFault (Compress h) w wants may = tt
 possible_fault WriteFault Restore w wants may = tt
+possible_fault WriteFault (Bound name most) w wants may = tt
+possible_fault LoadFault (Bound name most) w wants may = tt
+possible_fault Memory (Bound name most) w wants may = tt
 possible_fault WriteFault Info w wants may = tt
 possible_fault WriteFault (Sample h seed) w wants may = tt
 possible_fault ReadFault (Run name l) w wants may = tt
 possible_fault WriteFault (Run name l) w wants may = tt
 possible_fault LoadFault (Run name l) w wants may = tt
+possible_fault ReadFault (Look name l) w wants may = tt
+possible_fault WriteFault (Look name l) w wants may = tt
+possible_fault LoadFault (Look name l) w wants may = tt
+possible_fault Memory (Look name l) w wants may = tt
 possible_fault SaveFault (New name ty ns b) w wants may = tt
 possible_fault SaveFault (Run name l) w wants may = tt
 possible_fault Memory (Run name l) w wants may = tt
@@ -133,27 +145,57 @@ info_ends : (fault : Option HeaderFault) → InfoEnds (header_status fault)
 info_ends None = tt
 info_ends (Some f) = tt
 
--- a file that is no array's ends a run with one of its statuses
-IsRefusal : Result Said Status → Type 0
-IsRefusal (Ok said) = Unit {0}
-IsRefusal (Err status) = RunEnds status
+-- a file that is not opened ends a command with one of these statuses
+IsRefusal : (Status → Type 0) → Result Said Status → Type 0
+IsRefusal Ends (Ok said) = Unit {0}
+IsRefusal Ends (Err status) = Ends status
+
+said_ends : (answer : Result Said StreamFault) → blames_foreign (without_said answer) ≡ false → IsRefusal FileEnds (said_or_status answer)
+unfolding blames_foreign is_foreign IsRefusal
+said_ends (Ok said) own = tt
+said_ends (Err (faults.RawShort m)) own = absurd (cc)
+said_ends (Err faults.RawLong) own = absurd (cc)
+said_ends (Err (faults.Header f)) own = tt
+said_ends (Err (faults.Truncated c)) own = tt
+said_ends (Err faults.Pad) own = tt
+said_ends (Err faults.Trailing) own = tt
+said_ends (Err faults.Read) own = absurd (cc)
+said_ends (Err faults.Write) own = absurd (cc)
+said_ends (Err faults.Memory) own = tt
+
+-- what ends a file ends a look, and what ends a look ends a run
+FileEnds-look : (status : Status) → FileEnds status → LookEnds status
+FileEnds-look Done ends = absurd ends
+FileEnds-look (Lines n) ends = absurd ends
+FileEnds-look ScriptLong ends = tt
+FileEnds-look ReadFault ends = tt
+FileEnds-look WriteFault ends = tt
+FileEnds-look status ends = ends
+
+LookEnds-run : (status : Status) → LookEnds status → RunEnds status
+LookEnds-run (NotRate m) ends = tt
+LookEnds-run SaveFault ends = tt
+LookEnds-run status ends = ends
+
+FileEnds-bound : (status : Status) → FileEnds status → BoundEnds status
+FileEnds-bound Done ends = absurd ends
+FileEnds-bound (NotRate m) ends = tt
+FileEnds-bound WriteFault ends = tt
+FileEnds-bound status ends = ends
+
+refusal_of : (Ends Others : Status → Type 0) → ((status : Status) → Ends status → Others status) → (file : Result Said Status) → IsRefusal Ends file → IsRefusal Others file
+unfolding IsRefusal
+refusal_of Ends Others more (Ok said) ends = tt
+refusal_of Ends Others more (Err status) ends = more status ends
 
 -- it is no array's for one of these reasons
-array_ends : (fault : Option HeaderFault) (mode : Mode) (answer : Result Said StreamFault) → blames_foreign (without_said answer) ≡ false → IsRefusal (array_behind fault (said_at_rate mode answer))
-unfolding blames_foreign is_foreign IsRefusal
-array_ends (Some f) mode answer own = tt
-array_ends None Reversible answer own = tt
-array_ends None (Precision p) answer own = tt
-array_ends None (Rate b) (Ok said) own = tt
-array_ends None (Rate b) (Err (faults.RawShort m)) own = absurd (cc)
-array_ends None (Rate b) (Err faults.RawLong) own = absurd (cc)
-array_ends None (Rate b) (Err (faults.Header f)) own = tt
-array_ends None (Rate b) (Err (faults.Truncated c)) own = tt
-array_ends None (Rate b) (Err faults.Pad) own = tt
-array_ends None (Rate b) (Err faults.Trailing) own = tt
-array_ends None (Rate b) (Err faults.Read) own = absurd (cc)
-array_ends None (Rate b) (Err faults.Write) own = absurd (cc)
-array_ends None (Rate b) (Err faults.Memory) own = tt
+array_ends : (Ends : Status → Type 0) → ((f : HeaderFault) → Ends (statuses.Header f)) → ((m : ℕ) → Ends (NotRate m)) → ((status : Status) → FileEnds status → Ends status) → (fault : Option HeaderFault) (mode : Mode) (answer : Result Said StreamFault) → blames_foreign (without_said answer) ≡ false
+    → IsRefusal Ends (array_behind fault (said_at_rate mode answer))
+unfolding IsRefusal
+array_ends Ends header no_rate more (Some f) mode answer own = header f
+array_ends Ends header no_rate more None Reversible answer own = no_rate _
+array_ends Ends header no_rate more None (Precision p) answer own = no_rate _
+array_ends Ends header no_rate more None (Rate b) answer own = refusal_of FileEnds Ends more (said_or_status answer) (said_ends answer own)
 
 without_same : (h : Header) (cs : List (List Bool)) (said : Result (List ℤ) StreamFault) → without_values said ≡ without_said (said_with h cs said)
 without_same h cs (Ok values) = refl
@@ -165,24 +207,45 @@ own_said bytes =
     let h = header_of bytes in
     subst (λ answer. blames_foreign answer ≡ false) (without_same h (codes_said h 0 (blocks h.shape) (code_bits bytes)) (values_said bytes)) (own_answer bytes)
 
-opened_ends : (file : Option (List ℕ)) → IsRefusal (opened file)
-unfolding array_in IsRefusal
-opened_ends None = tt
-opened_ends (Some bytes) = by (ltb 1200000000 (length bytes))
-  where
-    by : (long : Bool) → IsRefusal (cond long (Err FileLong) (array_in bytes))
-    by true = tt
-    by false = array_ends (header_fault bytes) (header_of bytes).mode (parse bytes) (own_said bytes)
+array_in-ends : (bytes : List ℕ) → IsRefusal RunEnds (array_in bytes)
+unfolding array_in
+array_in-ends bytes = array_ends RunEnds (λ f. tt) (λ m. tt) (λ status ends. LookEnds-run status (FileEnds-look status ends)) (header_fault bytes) (header_of bytes).mode (parse bytes) (own_said bytes)
 
-run_ends : (l : Option ℕ) (array : Result Said Status) → IsRefusal array → (wants script : List ℕ) → RunEnds (run_status l array wants script)
+array_in-certified : (bytes : List ℕ) → IsRefusal BoundEnds (array_in bytes)
+unfolding array_in
+array_in-certified bytes = array_ends BoundEnds (λ f. tt) (λ m. tt) FileEnds-bound (header_fault bytes) (header_of bytes).mode (parse bytes) (own_said bytes)
+
+certified_ends : (file : Result Said Status) → IsRefusal BoundEnds file → BoundEnds (certified_status file)
 unfolding IsRefusal
-run_ends l (Err status) refusal wants script = refusal
-run_ends l (Ok said) refusal wants script = by (ltb 16777216 (length script)) (count_by is_refusal (replies_for l said wants script))
+certified_ends (Ok said) refusal = tt
+certified_ends (Err status) refusal = refusal
+
+stream_in-ends : (bytes : List ℕ) → IsRefusal LookEnds (stream_in bytes)
+unfolding stream_in
+stream_in-ends bytes = refusal_of FileEnds LookEnds FileEnds-look (said_or_status (parse bytes)) (said_ends (parse bytes) (own_said bytes))
+
+opened_ends : (Ends : Status → Type 0) (reading : List ℕ → Result Said Status) → Ends Missing → Ends FileLong → ((bytes : List ℕ) → IsRefusal Ends (reading bytes)) → (file : Option (List ℕ)) → IsRefusal Ends (opened reading file)
+unfolding IsRefusal
+opened_ends Ends reading missing long ends None = missing
+opened_ends Ends reading missing long ends (Some bytes) = by (ltb 1200000000 (length bytes))
   where
-    by : (long : Bool) (refused : ℕ) → RunEnds (cond long ScriptLong (lines_status refused))
-    by true refused = tt
-    by false zero = tt
-    by false (suc n) = omega arith
+    by : (is_long : Bool) → IsRefusal Ends (cond is_long (Err FileLong) (reading bytes))
+    by true = long
+    by false = ends bytes
+
+script_ends : (Ends : Status → Type 0) (replies : Answering) → Ends ScriptLong → ((n : ℕ) → Ends (lines_status n)) → (l : Option ℕ) (file : Result Said Status) → IsRefusal Ends file → (wants script : List ℕ) → Ends (script_status replies l file wants script)
+unfolding IsRefusal
+script_ends Ends replies long ends l (Err status) refusal wants script = refusal
+script_ends Ends replies long ends l (Ok said) refusal wants script = by (ltb 16777216 (length script)) (count_by is_refusal (replies l said wants script))
+  where
+    by : (is_long : Bool) (refused : ℕ) → Ends (cond is_long ScriptLong (lines_status refused))
+    by true refused = long
+    by false refused = ends refused
+
+-- some lines are refused, or none
+lines_end : (n : ℕ) → LookEnds (lines_status n)
+lines_end zero = tt
+lines_end (suc n) = omega arith
 
 possible_status : (c : Command) (w : World) (wants : List ℕ) → IsPossible c (status_for c w wants)
 possible_status (Compress h) w wants =
@@ -191,7 +254,11 @@ possible_status (Compress h) w wants =
 possible_status Restore w wants = restore_ends (restore_answer w.input) (own_answer w.input)
 possible_status Info w wants = info_ends (header_fault (take 19 w.input))
 possible_status (New name ty ns b) w wants = tt
-possible_status (Run name l) w wants = run_ends l (opened (w.files name)) (opened_ends (w.files name)) wants w.input
+possible_status (Run name l) w wants =
+    script_ends RunEnds run_replies tt (λ n. LookEnds-run (lines_status n) (lines_end n)) l (opened array_in (w.files name)) (opened_ends RunEnds array_in tt tt array_in-ends (w.files name)) wants w.input
+possible_status (Look name l) w wants =
+    script_ends LookEnds look_replies tt lines_end l (opened stream_in (w.files name)) (opened_ends LookEnds stream_in tt tt stream_in-ends (w.files name)) wants w.input
+possible_status (Bound name most) w wants = certified_ends (opened array_in (w.files name)) (opened_ends BoundEnds array_in tt tt array_in-certified (w.files name))
 possible_status (Sample h seed) w wants = tt
 
 pub IsPossible-behaves : (c : Command) (status : Status) (before now : Seen) → Behaves c status before now → IsPossible c status

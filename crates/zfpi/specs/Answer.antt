@@ -5,12 +5,12 @@ use Rattle.zf_header.specs.HeaderBits.{IsMode}
 use Rattle.zf_header.specs.HeaderFaults.{header_fault}
 use Rattle.zf_stream.specs.declared.fault.StreamFault.{StreamFault}
 use Rattle.zf_stream.specs.Raw.{raw_len, compress_answer, stream_text}
-use Rattle.zf_stream.specs.Parsing.{restore_answer, restored_text}
+use Rattle.zf_stream.specs.Parsing.{Said, restore_answer, restored_text}
 use Rattle.zfpi.specs.Faults.{fault_status}
 use Rattle.zfpi.specs.declared.status.Status.{Status}
 use Rattle.zfpi.specs.declared.status.Status.TheVariants as statuses
 use Rattle.zfpi.specs.declared.command.Command.{Command}
-use Rattle.zfpi.specs.declared.command.Command.TheVariants.{Compress, Restore, Info, New, Run, Sample}
+use Rattle.zfpi.specs.declared.command.Command.TheVariants.{Compress, Restore, Info, New, Run, Look, Bound, Sample}
 use Rattle.zf_header.specs.declared.header.Mode.TheVariants.{Rate}
 use Rattle.zf_header.specs.HeaderBits.{IsRate}
 use Rattle.zf_spec.specs.Grid.{IsShape}
@@ -18,7 +18,9 @@ use Rattle.zf_store.specs.Stored.{file_of, zeros}
 use Rattle.zfpi.specs.World.{World}
 use Rattle.zfpi.specs.Words.{IsLines}
 use Rattle.zfpi.specs.Info.{info_text}
-use Rattle.zfpi.specs.Scripts.{opened, max_script, run_status, run_text_of, saved_of, AreWants}
+use Rattle.zfpi.specs.Opened.{array_in, stream_in, opened}
+use Rattle.zfpi.specs.Scripts.{max_script, run_replies, look_replies, script_status, script_text, saved_of, AreWants}
+use Rattle.zfpi.specs.Certified.{certified_text, certified_status}
 use Rattle.zfpi.specs.Sample.{sample_text}
 
 -- the status of a fault of a header, or of none
@@ -38,6 +40,8 @@ CanRun Restore = Unit {0}
 CanRun Info = Unit {0}
 CanRun (New name ty ns b) = IsShape ns × IsRate (Rate b)
 CanRun (Run name lines) = IsLines lines
+CanRun (Look name lines) = IsLines lines
+CanRun (Bound name most) = Unit {0}
 CanRun (Sample h seed) = IsMode h.mode
 
 -- the bytes that the longest header lies in
@@ -50,7 +54,9 @@ status_for (Compress h) w wants = status_of (compress_answer h w.input)
 status_for Restore w wants = status_of (restore_answer w.input)
 status_for Info w wants = header_status (header_fault (take header_bytes w.input))
 status_for (New name ty ns b) w wants = statuses.Done
-status_for (Run name lines) w wants = run_status lines (opened (w.files name)) wants w.input
+status_for (Run name lines) w wants = script_status run_replies lines (opened array_in (w.files name)) wants w.input
+status_for (Look name lines) w wants = script_status look_replies lines (opened stream_in (w.files name)) wants w.input
+status_for (Bound name most) w wants = certified_status (opened array_in (w.files name))
 status_for (Sample h seed) w wants = statuses.Done
 
 -- what is written where the whole work was done
@@ -59,7 +65,9 @@ text_for (Compress h) w wants = stream_text h w.input
 text_for Restore w wants = restored_text w.input
 text_for Info w wants = info_text (take header_bytes w.input)
 text_for (New name ty ns b) w wants = []
-text_for (Run name lines) w wants = run_text_of lines (opened (w.files name)) wants w.input
+text_for (Run name lines) w wants = script_text run_replies lines (opened array_in (w.files name)) wants w.input
+text_for (Look name lines) w wants = script_text look_replies lines (opened stream_in (w.files name)) wants w.input
+text_for (Bound name most) w wants = certified_text most (opened array_in (w.files name))
 text_for (Sample h seed) w wants = sample_text h seed
 
 -- nothing after want of memory, which comes before the first write
@@ -84,7 +92,9 @@ draft_for (Compress h) status w wants taken = compress_draft status (stream_text
 draft_for Restore status w wants taken = restore_draft status (restored_text taken)
 draft_for Info status w wants taken = cut_draft status (info_text taken)
 draft_for (New name ty ns b) status w wants taken = []
-draft_for (Run name lines) status w wants taken = cut_draft status (run_text_of lines (opened (w.files name)) wants w.input)
+draft_for (Run name lines) status w wants taken = cut_draft status (script_text run_replies lines (opened array_in (w.files name)) wants w.input)
+draft_for (Look name lines) status w wants taken = cut_draft status (script_text look_replies lines (opened stream_in (w.files name)) wants w.input)
+draft_for (Bound name most) status w wants taken = cut_draft status (certified_text most (opened array_in (w.files name)))
 draft_for (Sample h seed) status w wants taken = cut_draft status (sample_text h seed)
 
 -- what is saved, and under which name
@@ -93,7 +103,9 @@ saved_for (Compress h) w wants = None
 saved_for Restore w wants = None
 saved_for Info w wants = None
 saved_for (New name ty ns b) w wants = Some (name, file_of (zeros ty ns b))
-saved_for (Run name lines) w wants = saved_of name lines (opened (w.files name)) wants w.input
+saved_for (Run name lines) w wants = saved_of name lines (opened array_in (w.files name)) wants w.input
+saved_for (Look name lines) w wants = None
+saved_for (Bound name most) w wants = None
 saved_for (Sample h seed) w wants = None
 
 -- after Done the whole input was taken
@@ -106,7 +118,7 @@ abbrev pub TakesHeader : Status → List ℕ → List ℕ → Type 0
 TakesHeader statuses.ReadFault input taken = length taken ≤ header_bytes
 TakesHeader status input taken = taken ≡ take header_bytes input
 
--- a script is taken whole before its first line is run, and only once the array is opened
+-- a script is taken whole before its first line is run, and only once the file is opened
 abbrev pub TakesScript : Status → List ℕ → List ℕ → Type 0
 TakesScript statuses.Done input taken = taken ≡ input
 TakesScript (statuses.Lines n) input taken = taken ≡ input
@@ -124,6 +136,8 @@ IsExtent Restore status input taken = TakesWhole status input taken
 IsExtent Info status input taken = TakesHeader status input taken
 IsExtent (New name ty ns b) status input taken = taken ≡ []
 IsExtent (Run name lines) status input taken = TakesScript status input taken
+IsExtent (Look name lines) status input taken = TakesScript status input taken
+IsExtent (Bound name most) status input taken = taken ≡ []
 IsExtent (Sample h seed) status input taken = taken ≡ []
 
 -- this holds where the whole of a script was run
@@ -139,7 +153,9 @@ HasWants (Compress h) status w wants = wants ≡ []
 HasWants Restore status w wants = wants ≡ []
 HasWants Info status w wants = wants ≡ []
 HasWants (New name ty ns b) status w wants = wants ≡ []
-HasWants (Run name lines) status w wants = OnWholeScript status (AreWants lines (opened (w.files name)) wants w.input)
+HasWants (Run name lines) status w wants = OnWholeScript status (AreWants run_replies lines (opened array_in (w.files name)) wants w.input)
+HasWants (Look name lines) status w wants = OnWholeScript status (AreWants look_replies lines (opened stream_in (w.files name)) wants w.input)
+HasWants (Bound name most) status w wants = wants ≡ []
 HasWants (Sample h seed) status w wants = wants ≡ []
 
 -- which devices a command uses
@@ -155,6 +171,8 @@ uses Restore = record { reads = true; writes = true; loads = false; saves = fals
 uses Info = record { reads = true; writes = true; loads = false; saves = false }
 uses (New name ty ns b) = record { reads = false; writes = false; loads = false; saves = true }
 uses (Run name lines) = record { reads = true; writes = true; loads = true; saves = true }
+uses (Look name lines) = record { reads = true; writes = true; loads = true; saves = false }
+uses (Bound name most) = record { reads = false; writes = true; loads = true; saves = false }
 uses (Sample h seed) = record { reads = false; writes = true; loads = false; saves = false }
 
 -- the command takes memory in this world
@@ -164,11 +182,13 @@ TakesMemory Restore w = header_fault w.input ≡ None
 TakesMemory Info w = ⊥
 TakesMemory (New name ty ns b) w = Unit {0}
 TakesMemory (Run name lines) w = Unit {0}
+TakesMemory (Look name lines) w = Unit {0}
+TakesMemory (Bound name most) w = Unit {0}
 TakesMemory (Sample h seed) w = Unit {0}
 
--- the file of this name is an array, and the input a script
-abbrev pub IsRunnable : List ℕ → World → Type 0
-IsRunnable name w = IsOk (opened (w.files name)) × (length w.input ≤ max_script)
+-- the file is opened so, and the input a script
+abbrev pub IsRunnable : Result Said Status → World → Type 0
+IsRunnable file w = IsOk file × (length w.input ≤ max_script)
 
 -- the command reads the source, writes to the sink, loads and saves in this world
 abbrev pub MayRead : Command → World → Type 0
@@ -176,7 +196,9 @@ MayRead (Compress h) w = Unit {0}
 MayRead Restore w = Unit {0}
 MayRead Info w = Unit {0}
 MayRead (New name ty ns b) w = ⊥
-MayRead (Run name lines) w = IsOk (opened (w.files name))
+MayRead (Run name lines) w = IsOk (opened array_in (w.files name))
+MayRead (Look name lines) w = IsOk (opened stream_in (w.files name))
+MayRead (Bound name most) w = ⊥
 MayRead (Sample h seed) w = ⊥
 
 abbrev pub MayWrite : Command → World → Type 0
@@ -184,7 +206,9 @@ MayWrite (Compress h) w = Unit {0}
 MayWrite Restore w = Unit {0}
 MayWrite Info w = Unit {0}
 MayWrite (New name ty ns b) w = ⊥
-MayWrite (Run name lines) w = IsRunnable name w
+MayWrite (Run name lines) w = IsRunnable (opened array_in (w.files name)) w
+MayWrite (Look name lines) w = IsRunnable (opened stream_in (w.files name)) w
+MayWrite (Bound name most) w = IsOk (opened array_in (w.files name))
 MayWrite (Sample h seed) w = Unit {0}
 
 abbrev pub MayLoad : Command → World → Type 0
@@ -193,6 +217,8 @@ MayLoad Restore w = ⊥
 MayLoad Info w = ⊥
 MayLoad (New name ty ns b) w = ⊥
 MayLoad (Run name lines) w = Unit {0}
+MayLoad (Look name lines) w = Unit {0}
+MayLoad (Bound name most) w = Unit {0}
 MayLoad (Sample h seed) w = ⊥
 
 abbrev pub MaySave : Command → World → Type 0
@@ -200,7 +226,9 @@ MaySave (Compress h) w = ⊥
 MaySave Restore w = ⊥
 MaySave Info w = ⊥
 MaySave (New name ty ns b) w = Unit {0}
-MaySave (Run name lines) w = IsRunnable name w
+MaySave (Run name lines) w = IsRunnable (opened array_in (w.files name)) w
+MaySave (Look name lines) w = ⊥
+MaySave (Bound name most) w = ⊥
 MaySave (Sample h seed) w = ⊥
 
 -- the statuses that no world determines: faults of the devices that a command comes to, and want of memory where it takes any
@@ -249,24 +277,39 @@ NewEnds statuses.SaveFault = Unit {0}
 NewEnds statuses.Memory = Unit {0}
 NewEnds status = ⊥
 
+-- those of a file that is not opened
+abbrev pub FileEnds : Status → Type 0
+FileEnds statuses.Missing = Unit {0}
+FileEnds statuses.FileLong = Unit {0}
+FileEnds statuses.LoadFault = Unit {0}
+FileEnds (statuses.Header fault) = Unit {0}
+FileEnds (statuses.Truncated b) = Unit {0}
+FileEnds statuses.Pad = Unit {0}
+FileEnds statuses.Trailing = Unit {0}
+FileEnds statuses.Memory = Unit {0}
+FileEnds status = ⊥
+
+-- those of `look`
+abbrev pub LookEnds : Status → Type 0
+LookEnds statuses.Done = Unit {0}
+LookEnds (statuses.Lines n) = 1 ≤ n
+LookEnds statuses.ScriptLong = Unit {0}
+LookEnds statuses.ReadFault = Unit {0}
+LookEnds statuses.WriteFault = Unit {0}
+LookEnds status = FileEnds status
+
 -- those of `run`
 abbrev pub RunEnds : Status → Type 0
-RunEnds statuses.Done = Unit {0}
-RunEnds (statuses.Lines n) = 1 ≤ n
-RunEnds (statuses.Header fault) = Unit {0}
-RunEnds (statuses.Truncated b) = Unit {0}
-RunEnds statuses.Pad = Unit {0}
-RunEnds statuses.Trailing = Unit {0}
 RunEnds (statuses.NotRate m) = Unit {0}
-RunEnds statuses.Missing = Unit {0}
-RunEnds statuses.ScriptLong = Unit {0}
-RunEnds statuses.FileLong = Unit {0}
-RunEnds statuses.ReadFault = Unit {0}
-RunEnds statuses.WriteFault = Unit {0}
-RunEnds statuses.LoadFault = Unit {0}
 RunEnds statuses.SaveFault = Unit {0}
-RunEnds statuses.Memory = Unit {0}
-RunEnds status = ⊥
+RunEnds status = LookEnds status
+
+-- those of `bound`
+abbrev pub BoundEnds : Status → Type 0
+BoundEnds statuses.Done = Unit {0}
+BoundEnds (statuses.NotRate m) = Unit {0}
+BoundEnds statuses.WriteFault = Unit {0}
+BoundEnds status = FileEnds status
 
 -- those of `sample`
 abbrev pub SampleEnds : Status → Type 0
@@ -282,4 +325,6 @@ IsPossible Restore status = RestoreEnds status
 IsPossible Info status = InfoEnds status
 IsPossible (New name ty ns b) status = NewEnds status
 IsPossible (Run name lines) status = RunEnds status
+IsPossible (Look name lines) status = LookEnds status
+IsPossible (Bound name most) status = BoundEnds status
 IsPossible (Sample h seed) status = SampleEnds status

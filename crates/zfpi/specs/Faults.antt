@@ -5,6 +5,8 @@ use Rattle.zf_dev.specs.declared.faults.TakeError.{TakeError}
 use Rattle.zf_dev.specs.declared.faults.TakeError.TheVariants as taking
 use Rattle.zf_stream.specs.declared.fault.StreamFault.{StreamFault}
 use Rattle.zf_stream.specs.declared.fault.StreamFault.TheVariants as faults
+use Rattle.zf_index.specs.declared.fault.IndexFault.{IndexFault}
+use Rattle.zf_index.specs.Files as index
 use Rattle.zf_store.specs.declared.fault.StoreFault.{StoreFault}
 use Rattle.zf_store.specs.Files.{stream_fault}
 use Rattle.zfpi.specs.declared.status.Status.{Status}
@@ -32,6 +34,10 @@ load_status loading.Memory = statuses.Memory
 -- the status of a file that is no array's
 abbrev pub store_status : StoreFault → Status
 store_status e = fault_status (stream_fault e)
+
+-- the status of a file that is no stream
+abbrev pub index_status : IndexFault → Status
+index_status e = fault_status (index.stream_fault e)
 
 -- the status of a script that was not read to its end
 abbrev pub take_status : TakeError → Status

@@ -6,10 +6,12 @@
 --     Faults      the status of each fault that a call answers
 --     Info        the line that `info` writes
 --     Sample      the line that `sample` writes
---     Scripts     what `run` does with a file and a script
+--     Opened      what the file of a name is opened as
+--     Scripts     what `run` and `look` do with it and a script
+--     Certified   the line that `bound` writes
 --     World       what a call works on, and what is seen of its devices
 --     Answer      what each command does: one case for each command
---     Loaded      what a run has loaded, and how it is saved
+--     Loaded      what a command has loaded, and how a run is saved
 --     Headline    what the program promises of every command
 pub mod Names
 pub mod Words
@@ -18,7 +20,9 @@ pub mod Statuses
 pub mod Faults
 pub mod Info
 pub mod Sample
+pub mod Opened
 pub mod Scripts
+pub mod Certified
 pub mod World
 pub mod Answer
 pub mod Loaded

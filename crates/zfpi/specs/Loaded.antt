@@ -1,4 +1,4 @@
--- What a run has loaded, the file of the shelf and the array of it, and how it is saved.
+-- What a command has loaded, the file of the shelf and the array or the stream of it, and how a run is saved.
 use Rattle.std.specs.Prelude.{◌≡◌, ℕ, ◌≤◌, ◌⊎◌, List, length, Option, Ok}
 use Rattle.std.specs.Int.{Width}
 use Rattle.zf_base.specs.Widths.{width_of}
@@ -7,9 +7,12 @@ use Rattle.zf_header.specs.HeaderBits.{block_bits}
 use Rattle.zf_cached.specs.Arrays.{open_array, max_file}
 use Rattle.zf_store.specs.Files.{said}
 use Rattle.zf_array.specs.Standing.{Held, stored, state}
+use Rattle.zf_const.specs.Standing as streams
+use Rattle.zf_const.specs.Files as contents
 use Rattle.zfpi.specs.declared.status.Status.{Status}
 use Rattle.zfpi.specs.declared.status.Status.TheVariants.{SaveFault}
-use Rattle.zfpi.specs.Scripts.{array_in, lines_for}
+use Rattle.zfpi.specs.Opened.{array_in, stream_in}
+use Rattle.zfpi.specs.Scripts.{lines_for}
 
 -- the file of this name has these bytes, and not more than a file may have
 pub record HoldsFile (known : Option Files) (name bytes : List ℕ) : Type 0 where
@@ -28,3 +31,11 @@ pub record HoldsArray (known : Option Files) (name : List ℕ) (lines : Option �
 abbrev pub SavesOrFails : Option Files → Option Files → List ℕ → List ℕ → Status → Status → Type 0 → Type 0
 SavesOrFails before now name bytes status ended Saving =
     ((ended ≡ status) × SavesFile before now name bytes) ⊎ ((ended ≡ SaveFault) × KeepsOthers before now name × Saving)
+
+-- the stream is that of the file of this name, has values of this width, and a cache of as many lines as are asked for or suit it
+pub record HoldsStream (known : Option Files) (name : List ℕ) (lines : Option ℕ) (w : Width) (a : streams.Held) : Type 0 where
+  pub bytes : List ℕ
+  pub file : HoldsFile known name bytes
+  pub stream : stream_in bytes ≡ Ok (contents.said a)
+  pub same_type : w ≡ width_of a.header.ty
+  pub state_is : streams.state a ≡ streams.open_stream a.header a.codes (lines_for lines a.header.shape)

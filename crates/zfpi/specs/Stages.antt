@@ -1,5 +1,5 @@
 -- How far a list of words has come on the way to a command.
-use Rattle.std.specs.Prelude.{ℕ, ◌≡◌, ◌<◌, ◌≤◌, ◌^◌, List, [], ◌∷◌, ◌++◌, Some, codes, decimal}
+use Rattle.std.specs.Prelude.{ℕ, ◌≡◌, ◌<◌, ◌≤◌, ◌^◌, List, [], ◌∷◌, ◌++◌, Option, Some, codes, decimal}
 use Rattle.zf_spec.specs.Grid.{IsShape}
 use Rattle.zf_base.specs.declared.lane.Ty.{Ty}
 use Rattle.zf_header.specs.declared.header.Header.{Header}
@@ -10,6 +10,8 @@ use Rattle.zfpi.specs.declared.command.Command.{Command}
 use Rattle.zfpi.specs.declared.command.Command.TheVariants as commands
 use Rattle.zfpi.specs.declared.words.Task.{Task}
 use Rattle.zfpi.specs.declared.words.Task.TheVariants as tasks
+use Rattle.zfpi.specs.declared.words.Script.{Script}
+use Rattle.zfpi.specs.declared.words.Script.TheVariants as scripts
 use Rattle.zfpi.specs.declared.words.Stage.{Stage}
 use Rattle.zfpi.specs.declared.words.Stage.TheVariants as stages
 use Rattle.zfpi.specs.Words.{type_word, shape_word, max_file, IsLines, IsSpelled}
@@ -28,6 +30,16 @@ task_words (tasks.Sample seed) ty shape = codes "sample" ∷ type_word ty ∷ sh
 abbrev pub command_of : Task → Header → Command
 command_of tasks.Compress h = commands.Compress h
 command_of (tasks.Sample seed) h = commands.Sample h seed
+
+-- the first word of a command on a script
+abbrev pub script_word : Script → List ℕ
+script_word scripts.Run = codes "run"
+script_word scripts.Look = codes "look"
+
+-- the command on a script with the file of this name
+abbrev pub script_command : Script → List ℕ → Option ℕ → Command
+script_command scripts.Run name lines = commands.Run name lines
+script_command scripts.Look name lines = commands.Look name lines
 
 -- these words begin a task for arrays of this type and shape, and then those behind follow
 pub record IsBegun (task : Task) (ty : Ty) (shape : List ℕ) (behind : List (List ℕ)) (words : List (List ℕ)) : Type 0 where
@@ -50,8 +62,10 @@ LeadsTo words stages.Making = words ≡ codes "new" ∷ []
 LeadsTo words (stages.Named name) = IsName name × (words ≡ codes "new" ∷ name ∷ [])
 LeadsTo words (stages.NamedTyped name ty) = IsName name × (words ≡ codes "new" ∷ name ∷ type_word ty ∷ [])
 LeadsTo words (stages.NamedShaped name ty shape) = IsName name × IsShape shape × (words ≡ codes "new" ∷ name ∷ type_word ty ∷ shape_word shape ∷ [])
-LeadsTo words stages.Running = words ≡ codes "run" ∷ []
-LeadsTo words (stages.AtLines name) = IsName name × (words ≡ codes "run" ∷ name ∷ codes "lines" ∷ [])
+LeadsTo words (stages.Scripting script) = words ≡ script_word script ∷ []
+LeadsTo words (stages.AtLines script name) = IsName name × (words ≡ script_word script ∷ name ∷ codes "lines" ∷ [])
+LeadsTo words stages.Bounding = words ≡ codes "bound" ∷ []
+LeadsTo words (stages.AtMost name) = IsName name × (words ≡ codes "bound" ∷ name ∷ [])
 LeadsTo words (stages.Whole c) = IsSpelled c words
 
 -- the word is the bits of a block, and the stream of such an array is not too long

@@ -10,7 +10,7 @@ use Rattle.zf_header.specs.declared.header.Mode.TheVariants.{Reversible, Rate, P
 use Rattle.zf_header.specs.HeaderBits.{IsHeader, IsRate, rate_bytes_of}
 use Rattle.zfpi.specs.Names.{IsName}
 use Rattle.zfpi.specs.declared.command.Command.{Command}
-use Rattle.zfpi.specs.declared.command.Command.TheVariants.{Compress, Restore, Info, New, Run, Sample}
+use Rattle.zfpi.specs.declared.command.Command.TheVariants.{Compress, Restore, Info, New, Run, Look, Bound, Sample}
 
 -- the word of a type
 abbrev pub type_word : Ty → List ℕ
@@ -64,11 +64,17 @@ abbrev pub lines_words : Option ℕ → List (List ℕ)
 lines_words None = []
 lines_words (Some l) = codes "lines" ∷ decimal l ∷ []
 
--- `run NAME` or `run NAME lines L`
-pub record IsRun (name : List ℕ) (lines : Option ℕ) (words : List (List ℕ)) : Type 0 where
+-- the first word of a command on a script, and then `NAME` or `NAME lines L`
+pub record IsOnScript (first : List ℕ) (name : List ℕ) (lines : Option ℕ) (words : List (List ℕ)) : Type 0 where
   pub named : IsName name
   pub lines_are : IsLines lines
-  pub words_are : words ≡ codes "run" ∷ name ∷ lines_words lines
+  pub words_are : words ≡ first ∷ name ∷ lines_words lines
+
+-- `bound NAME M`
+pub record IsBound (name : List ℕ) (most : ℕ) (words : List (List ℕ)) : Type 0 where
+  pub named : IsName name
+  pub small : most < 2 ^ 64
+  pub words_are : words ≡ codes "bound" ∷ name ∷ decimal most ∷ []
 
 -- `sample TYPE SHAPE SEED` and a mode
 abbrev pub sample_words : Header → ℕ → List (List ℕ)
@@ -86,7 +92,9 @@ IsSpelled (Compress h) words = IsAskable h × (words ≡ compress_words h)
 IsSpelled Restore words = words ≡ codes "restore" ∷ []
 IsSpelled Info words = words ≡ codes "info" ∷ []
 IsSpelled (New name ty ns b) words = IsNew name ty ns b words
-IsSpelled (Run name lines) words = IsRun name lines words
+IsSpelled (Run name lines) words = IsOnScript (codes "run") name lines words
+IsSpelled (Look name lines) words = IsOnScript (codes "look") name lines words
+IsSpelled (Bound name most) words = IsBound name most words
 IsSpelled (Sample h seed) words = IsSample h seed words
 
 -- some command begins with these words

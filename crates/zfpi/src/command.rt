@@ -26,6 +26,18 @@ pub enum Command {
         name: Name,
         lines: Option<u32>,
     },
+    /// The file of this name is a stream, and a script from the source that only reads looks at its values over such a cache; replies to the
+    /// sink, and no file changes.
+    Look {
+        name: Name,
+        lines: Option<u32>,
+    },
+    /// The file of this name is a stream of a fixed rate; a line that says how far its values are at most from whatever was stored in it, if
+    /// that had magnitudes up to `most`, to the sink.
+    Bound {
+        name: Name,
+        most: u64,
+    },
     /// An array made from a number, which becomes the stream that has this header and is restored from it; a line that says what
     /// became of it to the sink.
     Sample(Header, u64),

@@ -4,6 +4,7 @@ ghost use Rattle.std.specs.Prelude.{◌≡◌, ◌+◌, ◌≤◌, ◌++◌, len
 ghost use Rattle.zf_header.specs.declared.header.HeaderFault.{HeaderFault};
 ghost use Rattle.arrayvec.specs.ArrayString.{array_string_len};
 ghost use Rattle.zf_header.specs.HeaderBits.{header_bits};
+ghost use Rattle.zf_bound.specs.Bounds.{bound_text};
 ghost use Rattle.zfpi.specs.Words.{type_word, shape_word};
 ghost use Rattle.zfpi.specs.Info.{mode_text, info_line};
 ghost use Rattle.zfpi.specs.Sample.{summary_line};
@@ -13,6 +14,7 @@ use crate::status::Status;
 use arrayvec::ArrayString;
 use itoa::Buffer;
 use zf_base::{Shape, Ty};
+use zf_bound::Certified;
 use zf_header::{Header, HeaderFault, Mode};
 use zf_sample::Summary;
 
@@ -62,6 +64,24 @@ pub fn info_line(header: &Header, bits: u32) -> Line
     push_number(header.shape.blocks(), &mut line);
     line.push_str(" header ");
     push_number(u64::from(bits), &mut line);
+    line.push_str("\n");
+    line
+}
+
+/// The line of `bound`.
+pub fn bound_line(certified: &Certified) -> Line
+    ensures { result.bytes ≡ bound_text certified.now }
+{
+    let mut line = Line::new();
+    line.push_str("plane ");
+    push_number(u64::from(certified.plane), &mut line);
+    if certified.holds {
+        let mut digits = Buffer::new();
+        line.push_str(" bound ");
+        line.push_str(digits.format(certified.error));
+    } else {
+        line.push_str(" no bound");
+    }
     line.push_str("\n");
     line
 }

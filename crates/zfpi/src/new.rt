@@ -9,6 +9,7 @@ ghost use Rattle.zfpi.specs.World.{seen, counts};
 ghost use Rattle.zfpi.specs.Answer.{CanRun};
 ghost use Rattle.zfpi.specs.Headline.{Behaves, HasCauses, FailedLoad, FailedSave};
 
+use crate::kinds::in_kind;
 use crate::name::Name;
 use crate::status::Status;
 use std::alloc::{AllocError, Global};
@@ -47,16 +48,7 @@ fn file_of_zeros(alloc: Global, ty: Ty, shape: Shape, bits: u32) -> Result<Vec<u
     requires { IsRate (Rate bits) }
     ensures { IfOk result (λ file. file.items ≡ file_of (zeros ty shape bits)) }
 {
-    match (ty, shape.dims()) {
-        (Ty::I32, 1) => file_of_store::<i32, 1>(alloc, shape, bits),
-        (Ty::I32, 2) => file_of_store::<i32, 2>(alloc, shape, bits),
-        (Ty::I32, 3) => file_of_store::<i32, 3>(alloc, shape, bits),
-        (Ty::I32, _) => file_of_store::<i32, 4>(alloc, shape, bits),
-        (Ty::I64, 1) => file_of_store::<i64, 1>(alloc, shape, bits),
-        (Ty::I64, 2) => file_of_store::<i64, 2>(alloc, shape, bits),
-        (Ty::I64, 3) => file_of_store::<i64, 3>(alloc, shape, bits),
-        (Ty::I64, _) => file_of_store::<i64, 4>(alloc, shape, bits),
-    }
+    in_kind!(ty, shape, file_of_store, [], (alloc, shape, bits))
 }
 
 // The same in the type and the number of dimensions.

@@ -6,10 +6,12 @@ ghost use Rattle.zfpi.specs.World.{seen, counts};
 ghost use Rattle.zfpi.specs.Answer.{CanRun, IsPossible};
 ghost use Rattle.zfpi.specs.Headline.{OfCommand, OnUsage, RefusesWords, Behaves, HasCauses, FailedLoad, FailedSave, AreQuiet, IsComplete, GivesBack, Sends};
 
+use crate::bound::bound;
 use crate::command::Command;
 use crate::compress::compress;
 use crate::info::info;
 use crate::line::error_line;
+use crate::look::look;
 use crate::new::new;
 use crate::restore::restore;
 use crate::run::run;
@@ -109,6 +111,8 @@ fn do_command<S: Source, O: Sink, F: Shelf>(
             bits,
         } => new(alloc, &name, ty, shape, bits, shelf),
         Command::Run { name, lines } => run(alloc, &name, lines, src, out, shelf),
+        Command::Look { name, lines } => look(alloc, &name, lines, src, out, shelf),
+        Command::Bound { name, most } => bound(alloc, &name, most, out, shelf),
         Command::Sample(header, seed) => sample(alloc, header, seed, out),
     }
 }

@@ -1,6 +1,6 @@
 //! `run`: a script on the array of a file.
 
-ghost use Rattle.std.specs.Prelude.{◌≡◌, ℕ, List, Option, ◌≤◌, ◌<◌, ◌^◌, length};
+ghost use Rattle.std.specs.Prelude.{◌≡◌, ℕ, List, Option, ◌≤◌, length};
 ghost use Rattle.zf_base.specs.Widths.{width_of};
 ghost use Rattle.zf_dev.specs.Shelf.{Files, KeepsFiles};
 ghost use Rattle.zf_dev.specs.Source.{Takes, IsAtEnd};
@@ -9,22 +9,20 @@ ghost use Rattle.zfpi.specs.declared.command.Command.TheVariants.{Run};
 ghost use Rattle.zfpi.specs.Words.{IsLines};
 ghost use Rattle.zfpi.specs.World.{seen, counts};
 ghost use Rattle.zfpi.specs.Answer.{CanRun};
-ghost use Rattle.zfpi.specs.Scripts.{lines_for, max_script};
+ghost use Rattle.zfpi.specs.Scripts.{max_script};
 ghost use Rattle.zfpi.specs.Loaded.{HoldsFile, HoldsArray, SavesOrFails};
 ghost use Rattle.zfpi.specs.Headline.{Behaves, HasCauses, FailedLoad, FailedSave};
 
+use crate::kinds::in_kind;
 use crate::name::Name;
+use crate::scripts::{MAX_SCRIPT, line_count};
 use crate::status::Status;
 use std::alloc::Global;
 use zf_array::Array;
-use zf_base::{Lane, Shape, Ty};
-use zf_cache::default_lines;
+use zf_base::{Lane, Ty};
 use zf_dev::{Shelf, Sink, Source, take_all};
 use zf_header::{Header, MAX_FILE, Mode, mode_number};
 use zf_run::RunEnd;
-
-/// The most bytes of a script.
-const MAX_SCRIPT: u64 = 1 << 24;
 
 /// Loads the file of this name, which is an array, reads a script to its end and runs it, with a cache of `lines` lines or of as many as suit the
 /// array, writes the replies, and saves the array under the same name.
@@ -101,32 +99,13 @@ fn run_typed<S: Source, O: Sink, F: Shelf>(
         (counts (S.faults src.new) (O.faults out.new) (F.faults shelf.new))
         ⊥ (FailedSave F.saves F.faults shelf.old shelf.new) (S.never_fails src.old) (S.never_fails src.new) }
 {
-    match (header.ty, header.shape.dims()) {
-        (Ty::I32, 1) => run_array::<i32, 1, S, O, F>(
-            alloc, name, lines, header, file, src, out, shelf,
-        ),
-        (Ty::I32, 2) => run_array::<i32, 2, S, O, F>(
-            alloc, name, lines, header, file, src, out, shelf,
-        ),
-        (Ty::I32, 3) => run_array::<i32, 3, S, O, F>(
-            alloc, name, lines, header, file, src, out, shelf,
-        ),
-        (Ty::I32, _) => run_array::<i32, 4, S, O, F>(
-            alloc, name, lines, header, file, src, out, shelf,
-        ),
-        (Ty::I64, 1) => run_array::<i64, 1, S, O, F>(
-            alloc, name, lines, header, file, src, out, shelf,
-        ),
-        (Ty::I64, 2) => run_array::<i64, 2, S, O, F>(
-            alloc, name, lines, header, file, src, out, shelf,
-        ),
-        (Ty::I64, 3) => run_array::<i64, 3, S, O, F>(
-            alloc, name, lines, header, file, src, out, shelf,
-        ),
-        (Ty::I64, _) => run_array::<i64, 4, S, O, F>(
-            alloc, name, lines, header, file, src, out, shelf,
-        ),
-    }
+    in_kind!(
+        header.ty,
+        header.shape,
+        run_array,
+        [S, O, F],
+        (alloc, name, lines, header, file, src, out, shelf)
+    )
 }
 
 // The same in the type and the number of dimensions: opens the array.
@@ -156,18 +135,6 @@ fn run_array<T: Lane, const D: usize, S: Source, O: Sink, F: Shelf>(
     match Array::<T, D>::from_file(alloc, header, file, count) {
         Ok(array) => run_script(alloc, name, array, src, out, shelf),
         Err(fault) => Status::from(fault),
-    }
-}
-
-// The number of lines that is asked for, or else the one that suits an array of this shape.
-fn line_count(lines: Option<u32>, shape: &Shape) -> u32
-    requires { IsLines lines }
-    ensures value { result ≡ lines_for lines shape.now }
-    ensures bound { (0 < result) × (result ≤ 2 ^ 16) }
-{
-    match lines {
-        Some(count) => count,
-        None => default_lines(shape),
     }
 }
 

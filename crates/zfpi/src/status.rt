@@ -1,11 +1,12 @@
 //! How the program ends.
 
 ghost use Rattle.std.specs.Prelude.{◌≡◌};
-ghost use Rattle.zfpi.specs.Faults.{fault_status, load_status, store_status, take_status};
+ghost use Rattle.zfpi.specs.Faults.{fault_status, load_status, store_status, index_status, take_status};
 ghost use Rattle.zfpi.specs.Statuses.{code_of};
 
 use zf_dev::{LoadError, TakeError};
 use zf_header::HeaderFault;
+use zf_index::IndexFault;
 use zf_store::StoreFault;
 use zf_stream::StreamFault;
 
@@ -115,6 +116,19 @@ impl From<StoreFault> for Status {
             StoreFault::Pad => Status::Pad,
             StoreFault::Trailing => Status::Trailing,
             StoreFault::Memory => Status::Memory,
+        }
+    }
+}
+
+impl From<IndexFault> for Status {
+    ghost from_gives = { λ fault status. status ≡ index_status fault };
+
+    fn from(fault: IndexFault) -> Status {
+        match fault {
+            IndexFault::Truncated(block) => Status::Truncated(block),
+            IndexFault::Pad => Status::Pad,
+            IndexFault::Trailing => Status::Trailing,
+            IndexFault::Memory => Status::Memory,
         }
     }
 }

@@ -1,29 +1,8 @@
 //! `new` over a shelf in memory.
 
-use crate::program::zfpi;
+use crate::calls::{Devices, WHOLE, call};
 use crate::status::Status;
-use std::alloc::{AllocError, Global};
 use std::test::Fail;
-use zf_dev::{MemShelf, MemSink, MemSource, Shelf};
-
-// Calls the program over a shelf that holds one file, and whose loads and saves fail at these numbers, that of the file being 0.
-fn call(
-    alloc: Global,
-    words: &str,
-    shelf_fails: &[u64],
-) -> Result<(Status, MemSink, MemShelf), AllocError> {
-    let mut all = Vec::new(alloc);
-    for word in words.split_whitespace() {
-        all.push(String::from_str(alloc, word)?)?;
-    }
-    let mut src = MemSource::new(Vec::new(alloc), Vec::new(alloc), 1);
-    let mut out = MemSink::new(alloc, Vec::new(alloc), 1);
-    let mut err = MemSink::new(alloc, Vec::new(alloc), 1);
-    let mut shelf = MemShelf::new(alloc, Vec::from_slice(alloc, shelf_fails)?);
-    let _ = shelf.save("kept", b"abc");
-    let status = zfpi(alloc, &all, &mut src, &mut out, &mut err, &mut shelf);
-    Ok((status, err, shelf))
-}
 
 // A command, the name, and the front of its file and how many bytes it has, behind which all are zero.
 const FILES: [(&str, &str, &[u8], usize); 10] = [
@@ -76,12 +55,12 @@ const FILES: [(&str, &str, &[u8], usize); 10] = [
 
 #[test]
 fn zeros_are_saved(rt: HostRuntime) -> Result<(), Fail> {
-    for (words, name, front, len) in FILES {
-        let (status, err, shelf) = call(rt.alloc(), words, &[])?;
-        assert_eq!(rt; status, Status::Done, "{words}");
-        assert_eq!(rt; err.bytes(), b"".as_slice(), "{words}");
-        let file = shelf.file(name).ok_or("a file")?;
-        assert_eq!(rt; file.len(), len, "{words}");
+    for (words, name, front, len) in FILES.iter() {
+        let ended = call(rt.alloc(), words, b"", b"before", &WHOLE)?;
+        assert_eq!(rt; ended.status, Status::Done, "{words}");
+        assert_eq!(rt; ended.err.bytes().len(), 0, "{words}");
+        let file = ended.shelf.file(name).ok_or("a file")?;
+        assert_eq!(rt; file.len(), *len, "{words}");
         assert!(rt; file.starts_with(front), "{words}");
         assert!(rt;
             file[front.len().min(file.len())..]
@@ -93,18 +72,26 @@ fn zeros_are_saved(rt: HostRuntime) -> Result<(), Fail> {
     Ok(())
 }
 
+// The save fails.
+const UNSAVED: Devices = Devices {
+    piece: 1,
+    reads: &[],
+    writes: &[],
+    shelf: &[2],
+};
+
 #[test]
 fn a_save_that_fails_is_told(rt: HostRuntime) -> Result<(), Fail> {
-    let (status, err, shelf) = call(rt.alloc(), "new a int32 8 64", &[1])?;
-    assert_eq!(rt; status, Status::SaveFault);
-    assert_eq!(rt; status.code(), 12);
-    assert_eq!(rt; err.bytes(), b"zfpi: save fault\n".as_slice());
-    assert_eq!(rt; shelf.file("kept"), Some(b"abc".as_slice()));
+    let ended = call(rt.alloc(), "new b int32 8 64", b"", b"before", &UNSAVED)?;
+    assert_eq!(rt; ended.status, Status::SaveFault);
+    assert_eq!(rt; ended.status.code(), 12);
+    assert_eq!(rt; ended.err.bytes(), b"zfpi: save fault\n".as_slice());
+    assert!(rt; ended.holds(b"before"));
     Ok(())
 }
 
 // Words that are no command, and how many of them begin one.
-const REFUSED: [(&str, u64); 12] = [
+const REFUSED: [(&str, u64); 14] = [
     ("new", 1),
     ("new .a int32 8 64", 1),
     ("new -a int32 8 64", 1),
@@ -117,18 +104,22 @@ const REFUSED: [(&str, u64); 12] = [
     ("new a int32 8 32769", 4),
     ("new a int32 134217728 287", 4),
     ("new a int32 8 64 x", 5),
+    (
+        "new 1234567890123456789012345678901234567890123456789012345678901234 int32 8",
+        4,
+    ),
+    (
+        "new 12345678901234567890123456789012345678901234567890123456789012345 int32 8",
+        1,
+    ),
 ];
 
 #[test]
 fn other_words_save_nothing(rt: HostRuntime) -> Result<(), Fail> {
-    for (words, number) in REFUSED {
-        let (status, _, shelf) = call(rt.alloc(), words, &[])?;
-        assert_eq!(rt; status, Status::Usage(number), "{words}");
-        assert_eq!(rt; shelf.file("a"), None, "{words}");
+    for (words, number) in REFUSED.iter() {
+        let ended = call(rt.alloc(), words, b"", b"before", &WHOLE)?;
+        assert_eq!(rt; ended.status, Status::Usage(*number), "{words}");
+        assert!(rt; ended.holds(b"before"), "{words}");
     }
-    let long = "new 1234567890123456789012345678901234567890123456789012345678901234 int32 8";
-    assert_eq!(rt; call(rt.alloc(), long, &[])?.0, Status::Usage(4));
-    let longer = "new 12345678901234567890123456789012345678901234567890123456789012345 int32 8";
-    assert_eq!(rt; call(rt.alloc(), longer, &[])?.0, Status::Usage(1));
     Ok(())
 }

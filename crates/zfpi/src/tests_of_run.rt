@@ -1,36 +1,9 @@
 //! `run` over devices in memory.
 
-use crate::program::zfpi;
+use crate::calls::{Devices, WHOLE, call};
 use crate::status::Status;
-use std::alloc::{AllocError, Global};
 use std::test::Fail;
-use zf_dev::{MemShelf, MemSink, MemSource, Shelf};
 use zf_header::HeaderFault;
-
-// Calls the program on a shelf; its status, and what it wrote to the output and to the error output. The source gives and the sink takes large
-// pieces, and fail at these calls.
-fn call(
-    alloc: Global,
-    shelf: &mut MemShelf,
-    words: &str,
-    script: &[u8],
-    read_fails: &[u64],
-    write_fails: &[u64],
-) -> Result<(Status, MemSink, MemSink), AllocError> {
-    let mut all = Vec::new(alloc);
-    for word in words.split_whitespace() {
-        all.push(String::from_str(alloc, word)?)?;
-    }
-    let mut src = MemSource::new(
-        Vec::from_slice(alloc, script)?,
-        Vec::from_slice(alloc, read_fails)?,
-        1 << 20,
-    );
-    let mut out = MemSink::new(alloc, Vec::from_slice(alloc, write_fails)?, 1 << 20);
-    let mut err = MemSink::new(alloc, Vec::new(alloc), 1000);
-    let status = zfpi(alloc, &all, &mut src, &mut out, &mut err, shelf);
-    Ok((status, out, err))
-}
 
 // The file of eight zeros of int32 with 64 bits a block; with the first block 1 2 3 4; with bits that no value needs.
 const ZEROS: &[u8] = b"zfp\x05\x70\0\0\0\0\0\xf0\x03\0\0\0\0\0\0\0\0\0\0\0\0\0\0\0\0\0\0\0\0";
@@ -175,19 +148,15 @@ const ROWS: [Row; 14] = [
 #[test]
 fn scripts_are_run_and_the_array_is_saved(rt: HostRuntime) -> Result<(), Fail> {
     for (number, row) in ROWS.iter().enumerate() {
-        let mut shelf = MemShelf::new(rt.alloc(), Vec::new(rt.alloc()));
-        let _ = shelf.save("a", row.before);
-        let _ = shelf.save("kept", b"abc");
-        let (status, out, err) = call(rt.alloc(), &mut shelf, row.words, row.script, &[], &[])?;
-        assert_eq!(rt; status, row.status, "{number}");
-        assert_eq!(rt; out.bytes(), row.replies, "{number}");
-        assert_eq!(rt; shelf.file("a"), Some(row.after), "{number}");
-        assert_eq!(rt; shelf.file("kept"), Some(b"abc".as_slice()), "{number}");
+        let ended = call(rt.alloc(), row.words, row.script, row.before, &WHOLE)?;
+        assert_eq!(rt; ended.status, row.status, "{number}");
+        assert_eq!(rt; ended.out.bytes(), row.replies, "{number}");
+        assert!(rt; ended.holds(row.after), "{number}");
         let line = match row.status {
             Status::Lines(lines) => format!(in rt.alloc(); "zfpi: {lines} lines refused\n")?,
             _ => String::new(rt.alloc()),
         };
-        assert_eq!(rt; err.bytes(), line.as_bytes(), "{number}");
+        assert_eq!(rt; ended.err.bytes(), line.as_bytes(), "{number}");
     }
     Ok(())
 }
@@ -238,38 +207,42 @@ const FILES: [NoArray; 7] = [
 ];
 
 // The first read fails, so that one is seen.
-const FIRST: &[u64] = &[0];
+const UNREADABLE: Devices = Devices {
+    piece: 1000,
+    reads: &[0],
+    writes: &[],
+    shelf: &[],
+};
 
 #[test]
 fn other_files_are_left_alone(rt: HostRuntime) -> Result<(), Fail> {
     for row in FILES.iter() {
-        let mut shelf = MemShelf::new(rt.alloc(), Vec::new(rt.alloc()));
-        let _ = shelf.save("a", row.file);
-        let (status, out, err) = call(rt.alloc(), &mut shelf, "run a", b"get 0\n", FIRST, &[])?;
-        assert_eq!(rt; status, row.status);
-        assert_eq!(rt; out.bytes().len(), 0);
-        assert_eq!(rt; err.bytes(), row.line);
-        assert_eq!(rt; shelf.file("a"), Some(row.file));
+        let ended = call(rt.alloc(), "run a", b"get 0\n", row.file, &UNREADABLE)?;
+        assert_eq!(rt; ended.status, row.status);
+        assert_eq!(rt; ended.out.bytes().len(), 0);
+        assert_eq!(rt; ended.err.bytes(), row.line);
+        assert!(rt; ended.holds(row.file));
     }
     Ok(())
 }
 
 #[test]
 fn a_missing_file_and_a_long_script_are_told(rt: HostRuntime) -> Result<(), Fail> {
-    let mut shelf = MemShelf::new(rt.alloc(), Vec::new(rt.alloc()));
-    let (status, _, err) = call(rt.alloc(), &mut shelf, "run nosuch", b"get 0\n", &[], &[])?;
-    assert_eq!(rt; (status, status.code()), (Status::Missing, 7));
-    assert_eq!(rt; err.bytes(), b"zfpi: no such file\n".as_slice());
-    let _ = shelf.save("a", ZEROS);
+    let ended = call(rt.alloc(), "run nosuch", b"get 0\n", ZEROS, &WHOLE)?;
+    assert_eq!(rt; (ended.status, ended.status.code()), (Status::Missing, 7));
+    assert_eq!(rt; ended.err.bytes(), b"zfpi: no such file\n".as_slice());
     let script = vec![in rt.alloc(); b'\n'; 16_777_217]?;
-    let (status, _, err) = call(rt.alloc(), &mut shelf, "run a", &script, &[], &[])?;
-    assert_eq!(rt; (status, status.code()), (Status::ScriptLong, 8));
-    assert_eq!(rt; err.bytes(), b"zfpi: script too long\n".as_slice());
-    assert_eq!(rt; shelf.file("a"), Some(ZEROS));
+    let ended = call(rt.alloc(), "run a", &script, ZEROS, &WHOLE)?;
+    assert_eq!(rt;
+        (ended.status, ended.status.code()),
+        (Status::ScriptLong, 8)
+    );
+    assert_eq!(rt; ended.err.bytes(), b"zfpi: script too long\n".as_slice());
+    assert!(rt; ended.holds(ZEROS));
     Ok(())
 }
 
-// Reads, writes and calls of the shelf that fail, how a run ends then, its replies, and its line. The file is saved by the shelf's call 0.
+// Reads, writes and calls of the shelf that fail, how a run ends then, its replies, and its line. The files are saved by the shelf's calls 0 and 1.
 const FAULTS: [(&[u64], &[u64], &[u64], Status, &[u8], &[u8]); 4] = [
     (
         &[0],
@@ -290,7 +263,7 @@ const FAULTS: [(&[u64], &[u64], &[u64], Status, &[u8], &[u8]); 4] = [
     (
         &[],
         &[],
-        &[1],
+        &[2],
         Status::LoadFault,
         b"",
         b"zfpi: load fault\n",
@@ -298,7 +271,7 @@ const FAULTS: [(&[u64], &[u64], &[u64], Status, &[u8], &[u8]); 4] = [
     (
         &[],
         &[],
-        &[2],
+        &[3],
         Status::SaveFault,
         b"1\n0\nhits 1 misses 2 writes 1\n",
         b"zfpi: save fault\n",
@@ -307,21 +280,18 @@ const FAULTS: [(&[u64], &[u64], &[u64], Status, &[u8], &[u8]); 4] = [
 
 #[test]
 fn a_device_that_fails_is_told(rt: HostRuntime) -> Result<(), Fail> {
-    for (reads, writes, shelf_fails, wanted, replies, line) in FAULTS {
-        let mut shelf = MemShelf::new(rt.alloc(), Vec::from_slice(rt.alloc(), shelf_fails)?);
-        let _ = shelf.save("a", ZEROS);
-        let script = b"set 0 1\nget 0\nflush\nget 0\nstats\n";
-        let (status, out, err) = call(
-            rt.alloc(),
-            &mut shelf,
-            "run a lines 1",
-            script,
+    for (reads, writes, shelf, status, replies, line) in FAULTS.iter() {
+        let devices = Devices {
+            piece: 1000,
             reads,
             writes,
-        )?;
-        assert_eq!(rt; status, wanted);
-        assert_eq!(rt; (out.bytes(), err.bytes()), (replies, line));
-        assert!(rt; status == Status::SaveFault || shelf.file("a") == Some(ZEROS));
+            shelf,
+        };
+        let script = b"set 0 1\nget 0\nflush\nget 0\nstats\n";
+        let ended = call(rt.alloc(), "run a lines 1", script, ZEROS, &devices)?;
+        assert_eq!(rt; ended.status, *status);
+        assert_eq!(rt; (ended.out.bytes(), ended.err.bytes()), (*replies, *line));
+        assert!(rt; *status == Status::SaveFault || ended.holds(ZEROS));
     }
     Ok(())
 }
@@ -340,33 +310,24 @@ const REFUSED: [(&str, u64); 8] = [
 
 #[test]
 fn other_words_run_nothing(rt: HostRuntime) -> Result<(), Fail> {
-    for (words, number) in REFUSED {
-        let mut shelf = MemShelf::new(rt.alloc(), Vec::new(rt.alloc()));
-        let _ = shelf.save("a", ZEROS);
-        let (status, out, _) = call(rt.alloc(), &mut shelf, words, b"set 0 9\nget 0\n", &[], &[])?;
-        assert_eq!(rt; status, Status::Usage(number), "{words}");
-        assert_eq!(rt; out.bytes().len(), 0, "{words}");
-        assert_eq!(rt; shelf.file("a"), Some(ZEROS), "{words}");
+    for (words, number) in REFUSED.iter() {
+        let ended = call(rt.alloc(), words, b"set 0 9\nget 0\n", ZEROS, &WHOLE)?;
+        assert_eq!(rt; ended.status, Status::Usage(*number), "{words}");
+        assert_eq!(rt; ended.out.bytes().len(), 0, "{words}");
+        assert!(rt; ended.holds(ZEROS), "{words}");
     }
     Ok(())
 }
 
 #[test]
 fn a_large_array_is_made_and_run(rt: HostRuntime) -> Result<(), Fail> {
-    let mut shelf = MemShelf::new(rt.alloc(), Vec::new(rt.alloc()));
-    let (made, _, _) = call(
-        rt.alloc(),
-        &mut shelf,
-        "new g int32 256x256 512",
-        b"",
-        &[],
-        &[],
-    )?;
-    assert_eq!(rt; made, Status::Done);
+    let made = call(rt.alloc(), "new a int32 256x256 512", b"", b"", &WHOLE)?;
+    assert_eq!(rt; made.status, Status::Done);
+    let file = made.shelf.file("a").ok_or("a file")?;
     let script = b"fill 3\nsum\nstats\nset 255,255 -5\nget 255,255\nstats\n";
-    let (status, out, _) = call(rt.alloc(), &mut shelf, "run g", script, &[], &[])?;
-    assert_eq!(rt; status, Status::Done);
+    let ended = call(rt.alloc(), "run a", script, file, &WHOLE)?;
+    assert_eq!(rt; ended.status, Status::Done);
     let replies = b"196608\nhits 0 misses 8192 writes 4096\n-5\nhits 2 misses 8192 writes 4096\n";
-    assert_eq!(rt; out.bytes(), replies.as_slice());
+    assert_eq!(rt; ended.out.bytes(), replies.as_slice());
     Ok(())
 }

@@ -1,28 +1,8 @@
 //! `sample` over devices in memory.
 
-use crate::program::zfpi;
+use crate::calls::{Devices, call};
 use crate::status::Status;
-use std::alloc::{AllocError, Global};
 use std::test::Fail;
-use zf_dev::{MemShelf, MemSink, MemSource};
-
-// Calls the program with nothing to read, and an output whose writes fail at these numbers.
-fn call(
-    alloc: Global,
-    words: &str,
-    write_fails: &[u64],
-) -> Result<(Status, MemSink, MemSink), AllocError> {
-    let mut all = Vec::new(alloc);
-    for word in words.split_whitespace() {
-        all.push(String::from_str(alloc, word)?)?;
-    }
-    let mut src = MemSource::new(Vec::new(alloc), [0].to_vec(alloc)?, 1);
-    let mut out = MemSink::new(alloc, Vec::from_slice(alloc, write_fails)?, 100);
-    let mut err = MemSink::new(alloc, Vec::new(alloc), 100);
-    let mut shelf = MemShelf::new(alloc, Vec::new(alloc));
-    let status = zfpi(alloc, &all, &mut src, &mut out, &mut err, &mut shelf);
-    Ok((status, out, err))
-}
 
 // Words, and the line that they write.
 const LINES: [(&str, &[u8]); 9] = [
@@ -64,21 +44,37 @@ const LINES: [(&str, &[u8]); 9] = [
     ),
 ];
 
+// The first read would fail, and so would the first write.
+const UNREADABLE: Devices = Devices {
+    piece: 100,
+    reads: &[0],
+    writes: &[],
+    shelf: &[],
+};
+
+const UNWRITABLE: Devices = Devices {
+    piece: 100,
+    reads: &[0],
+    writes: &[0],
+    shelf: &[],
+};
+
 #[test]
 fn a_sample_is_summed_up(rt: HostRuntime) -> Result<(), Fail> {
-    for (words, line) in LINES {
+    for (words, line) in LINES.iter() {
         // At each run the same.
         for _ in 0..2 {
-            let (status, out, err) = call(rt.alloc(), words, &[])?;
-            assert_eq!(rt; status, Status::Done, "{words}");
-            assert_eq!(rt; out.bytes(), line, "{words}");
-            assert_eq!(rt; err.bytes().len(), 0, "{words}");
+            let ended = call(rt.alloc(), words, b"", b"", &UNREADABLE)?;
+            assert_eq!(rt; ended.status, Status::Done, "{words}");
+            assert_eq!(rt; ended.out.bytes(), *line, "{words}");
+            assert_eq!(rt; ended.err.bytes().len(), 0, "{words}");
         }
     }
-    let (status, out, err) = call(rt.alloc(), "sample int32 1 0 reversible", &[0])?;
-    assert_eq!(rt; status, Status::WriteFault);
-    assert_eq!(rt; err.bytes(), b"zfpi: write fault\n".as_slice());
-    assert_eq!(rt; out.bytes().len(), 0);
+    let words = "sample int32 1 0 reversible";
+    let ended = call(rt.alloc(), words, b"", b"", &UNWRITABLE)?;
+    assert_eq!(rt; ended.status, Status::WriteFault);
+    assert_eq!(rt; ended.err.bytes(), b"zfpi: write fault\n".as_slice());
+    assert_eq!(rt; ended.out.bytes().len(), 0);
     Ok(())
 }
 
@@ -101,10 +97,10 @@ const REFUSED: [(&str, u64); 13] = [
 
 #[test]
 fn other_words_make_no_sample(rt: HostRuntime) -> Result<(), Fail> {
-    for (words, number) in REFUSED {
-        let (status, out, _) = call(rt.alloc(), words, &[])?;
-        assert_eq!(rt; status, Status::Usage(number), "{words}");
-        assert_eq!(rt; out.bytes().len(), 0, "{words}");
+    for (words, number) in REFUSED.iter() {
+        let ended = call(rt.alloc(), words, b"", b"", &UNREADABLE)?;
+        assert_eq!(rt; ended.status, Status::Usage(*number), "{words}");
+        assert_eq!(rt; ended.out.bytes().len(), 0, "{words}");
     }
     Ok(())
 }

@@ -1,10 +1,10 @@
 //! The words of the command line.
 
-ghost use Rattle.std.specs.Prelude.{◌≡◌, ◌≢◌, ◌↔◌, ℕ, List, [], ◌∷◌, ◌++◌, map, Some, IfSome, IfNone, IfOk, IfErr, IsTrue, string_bytes};
+ghost use Rattle.std.specs.Prelude.{◌≡◌, ◌≢◌, ◌↔◌, ℕ, List, [], ◌∷◌, ◌++◌, map, Some, None, IfSome, IfNone, IfOk, IfErr, IsTrue, string_bytes};
 ghost use Rattle.zf_base.specs.declared.lane.Ty.{Ty};
 ghost use Rattle.zf_header.specs.HeaderBits.{IsRate, IsMode};
 ghost use Rattle.zfpi.specs.Words.{type_word, IsLines, IsSpelled, BeginsCommand, IsUsage};
-ghost use Rattle.zfpi.specs.Stages.{LeadsTo, IsRateWord, IsLinesWord, IsPrecisionWord, command_of};
+ghost use Rattle.zfpi.specs.Stages.{LeadsTo, IsRateWord, IsLinesWord, IsPrecisionWord, command_of, script_command};
 
 use crate::command::Command;
 use crate::name::Name;
@@ -20,6 +20,13 @@ const MOST_LINES: u32 = 1 << 16;
 enum Task {
     Compress,
     Sample(u64),
+}
+
+// What is done with a script: it is run on an array, which is saved then, or it looks at a stream.
+#[derive(Clone, Copy, Debug)]
+enum Script {
+    Run,
+    Look,
 }
 
 // How far the words have come.
@@ -38,8 +45,10 @@ enum Stage {
     Named(Name),
     NamedTyped(Name, Ty),
     NamedShaped(Name, Ty, Shape),
-    Running,
-    AtLines(Name),
+    Scripting(Script),
+    AtLines(Script, Name),
+    Bounding,
+    AtMost(Name),
     Whole(Command),
 }
 
@@ -70,6 +79,18 @@ impl Task {
         match self {
             Task::Compress => Command::Compress(header),
             Task::Sample(seed) => Command::Sample(header, seed),
+        }
+    }
+}
+
+impl Script {
+    // The command that does it with the file of this name.
+    fn command(self, name: Name, lines: Option<u32>) -> Command
+        ensures { result ≡ script_command self name lines }
+    {
+        match self {
+            Script::Run => Command::Run { name, lines },
+            Script::Look => Command::Look { name, lines },
         }
     }
 }
@@ -113,13 +134,15 @@ impl Stage {
                     bits,
                 }))
             }
-            Stage::Running => {
-                let name = Name::new(word)?;
-                Some(Stage::Whole(Command::Run { name, lines: None }))
-            }
-            Stage::AtLines(name) => {
+            Stage::Scripting(script) => Some(Stage::Whole(script.command(Name::new(word)?, None))),
+            Stage::AtLines(script, name) => {
                 let lines = Some(lines_in(word)?);
-                Some(Stage::Whole(Command::Run { name, lines }))
+                Some(Stage::Whole(script.command(name, lines)))
+            }
+            Stage::Bounding => Some(Stage::AtMost(Name::new(word)?)),
+            Stage::AtMost(name) => {
+                let most = number_in(word)?;
+                Some(Stage::Whole(Command::Bound { name, most }))
             }
             Stage::Whole(command) => behind_whole(command, word),
         }
@@ -136,7 +159,9 @@ fn first(word: &str) -> Option<Stage>
         "restore" => Some(Stage::Whole(Command::Restore)),
         "info" => Some(Stage::Whole(Command::Info)),
         "new" => Some(Stage::Making),
-        "run" => Some(Stage::Running),
+        "run" => Some(Stage::Scripting(Script::Run)),
+        "look" => Some(Stage::Scripting(Script::Look)),
+        "bound" => Some(Stage::Bounding),
         "sample" => Some(Stage::Sampling),
         _ => None,
     }
@@ -172,7 +197,7 @@ fn behind_shape(task: Task, ty: Ty, shape: Shape, word: &str) -> Option<Stage>
     }
 }
 
-// The stage that a word behind a whole command leads to: only a run can go on with a number of lines.
+// The stage that a word behind a whole command leads to: only a script can go on with a number of lines.
 fn behind_whole(command: Command, word: &str) -> Option<Stage>
     ensures leads { IfSome result (λ next. (words : List (List ℕ)) → LeadsTo words (Stage.Whole command)
         → LeadsTo (words ++ word.now ∷ []) next) }
@@ -180,10 +205,21 @@ fn behind_whole(command: Command, word: &str) -> Option<Stage>
         → BeginsCommand (words ++ word.now ∷ []) → ⊥) }
 {
     match command {
-        Command::Run { name, lines: None } => match word {
-            "lines" => Some(Stage::AtLines(name)),
-            _ => None,
-        },
+        Command::Run { name, lines: None } => behind_file(Script::Run, name, word),
+        Command::Look { name, lines: None } => behind_file(Script::Look, name, word),
+        _ => None,
+    }
+}
+
+// The stage that a word behind the file of a script leads to.
+fn behind_file(script: Script, name: Name, word: &str) -> Option<Stage>
+    ensures leads { IfSome result (λ next. (words : List (List ℕ)) → LeadsTo words (Stage.Whole (script_command script name None))
+        → LeadsTo (words ++ word.now ∷ []) next) }
+    ensures none { IfNone result ((words : List (List ℕ)) → LeadsTo words (Stage.Whole (script_command script name None))
+        → BeginsCommand (words ++ word.now ∷ []) → ⊥) }
+{
+    match word {
+        "lines" => Some(Stage::AtLines(script, name)),
         _ => None,
     }
 }

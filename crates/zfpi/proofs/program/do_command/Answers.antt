@@ -36,3 +36,15 @@ returns-in-Run-clause-behaves g c = rw c.in-Run.is c.run.ensures.behaves
 
 pub returns-in-Run-clause-causes : goal.returns-in-Run-clause-causes
 returns-in-Run-clause-causes g c = rw c.in-Run.is c.run.ensures.causes
+
+pub returns-in-Look-clause-behaves : goal.returns-in-Look-clause-behaves
+returns-in-Look-clause-behaves g c = rw c.in-Look.is c.look.ensures.behaves
+
+pub returns-in-Look-clause-causes : goal.returns-in-Look-clause-causes
+returns-in-Look-clause-causes g c = rw c.in-Look.is c.look.ensures.causes
+
+pub returns-in-Bound-clause-behaves : goal.returns-in-Bound-clause-behaves
+returns-in-Bound-clause-behaves g c = rw c.in-Bound.is (c.bound.ensures.behaves _)
+
+pub returns-in-Bound-clause-causes : goal.returns-in-Bound-clause-causes
+returns-in-Bound-clause-causes g c = rw c.in-Bound.is (HasCauses-sure _ _ _ _ (c.bound.ensures.causes _))

@@ -1,6 +1,9 @@
 use Rattle.std.proofs.Common.{ap, Err}
 use Rattle.zfpi.proofs.Causes.{HasCauses-after_load, HasCauses-unloaded}
-use Rattle.zfpi.proofs.Running.{Behaves-unloaded}
+use Rattle.zfpi.specs.declared.command.Command.TheVariants.{Run}
+use Rattle.zfpi.specs.Opened.{array_in}
+use Rattle.zfpi.proofs.Loading.{Behaves-unloaded}
+use Rattle.zfpi.proofs.Scripting.{IsScripted-run}
 use Rattle.zfpi.proofs.run.run.Goals as goal
 
 pub returns-in-Ok-clause-behaves : goal.returns-in-Ok-clause-behaves
@@ -15,9 +18,10 @@ returns-in-Ok-clause-causes g c =
 pub returns-in-Err-clause-behaves : goal.returns-in-Err-clause-behaves
 returns-in-Err-clause-behaves g c =
     let why = rw c.as_str.ensures at c.in-Err.ensures.err in
-    rw c.from.ensures (Behaves-unloaded c.args.name.now c.args.lines c.in-Err.error _ _ _ _ why c.load.ensures.files_stay)
+    let name = c.args.name.now in
+    rw c.from.ensures (Behaves-unloaded (Run name c.args.lines) name array_in (IsScripted-run name c.args.lines).loading c.in-Err.error _ _ _ _ why c.load.ensures.files_stay)
 
 pub returns-in-Err-clause-causes : goal.returns-in-Err-clause-causes
 returns-in-Err-clause-causes g c =
-    rw c.from.ensures (HasCauses-unloaded g.F.Shelf.loads g.F.Shelf.faults c.args.shelf.now c.load.new.self c.args.name.now c.args.lines c.in-Err.error _ _ c.load.ensures.step
+    rw c.from.ensures (HasCauses-unloaded (Run c.args.name.now c.args.lines) g.F.Shelf.loads g.F.Shelf.faults c.args.shelf.now c.load.new.self c.in-Err.error _ _ tt c.load.ensures.step
     (c.in-Err.ensures.cause.0, λ is. c.in-Err.ensures.cause.1 (ap Err is)))

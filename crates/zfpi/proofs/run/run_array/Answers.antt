@@ -1,4 +1,4 @@
-use Rattle.zfpi.proofs.Running.{Behaves-unopened, HoldsArray-opened}
+use Rattle.zfpi.proofs.Running.{Behaves-no_array, HoldsArray-opened}
 use Rattle.zfpi.proofs.run.run_array.Goals as goal
 
 pub returns-in-Ok-clause-behaves : goal.returns-in-Ok-clause-behaves
@@ -12,4 +12,4 @@ returns-in-Ok-clause-causes g c = c.run_script.ensures.causes c.args.lines
 
 pub returns-in-Err-clause-behaves : goal.returns-in-Err-clause-behaves
 returns-in-Err-clause-behaves g c = λ known holds kept.
-    rw c.from.ensures (Behaves-unopened c.args.name.now c.args.lines c.in-Err.fault c.args.file.items c.args.header.now _ _ known _ holds kept c.requires.header c.in-Err.ensures.fault)
+    rw c.from.ensures (Behaves-no_array c.args.name.now c.args.lines c.in-Err.fault c.args.file.items c.args.header.now _ _ known _ holds kept c.requires.header c.in-Err.ensures.fault)

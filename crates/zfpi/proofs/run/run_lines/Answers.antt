@@ -1,6 +1,7 @@
 use Rattle.std.proofs.Common.{refl}
 use Rattle.zfpi.specs.declared.status.Status.TheVariants.{Done, Lines}
-use Rattle.zfpi.proofs.Running.{Behaves-run, Behaves-cut_run, lines_status-some}
+use Rattle.zfpi.proofs.Scripting.{lines_status-some}
+use Rattle.zfpi.proofs.Running.{Behaves-run, Behaves-cut_run}
 use Rattle.zfpi.proofs.run.run_lines.Goals as goal
 
 pub returns-in-Done-clause-behaves : goal.returns-in-Done-clause-behaves

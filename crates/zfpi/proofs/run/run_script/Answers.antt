@@ -1,7 +1,10 @@
 use Rattle.std.proofs.Common.{◌≤◌, length, Err, ap, sym, subst}
 use Rattle.zf_dev.specs.Source.{Takes}
 use Rattle.zfpi.proofs.Causes.{HasCauses-taken}
-use Rattle.zfpi.proofs.Running.{Behaves-untaken}
+use Rattle.zfpi.specs.declared.command.Command.TheVariants.{Run}
+use Rattle.zfpi.specs.Opened.{array_in}
+use Rattle.zfpi.specs.Scripts.{run_replies}
+use Rattle.zfpi.proofs.Scripting.{IsScripted-run, Behaves-untaken}
 use Rattle.zfpi.proofs.run.run_script.Goals as goal
 
 pub returns-in-Ok-clause-behaves : goal.returns-in-Ok-clause-behaves
@@ -15,4 +18,5 @@ returns-in-Ok-clause-causes g c = λ lines.
 
 pub returns-in-Err-clause-behaves : goal.returns-in-Err-clause-behaves
 returns-in-Err-clause-behaves g c = λ known lines holds kept.
-    rw c.from.ensures (Behaves-untaken c.args.name.now lines known _ g.T.Lane.width c.args.array holds kept c.in-Err.error _ _ _ (λ long. c.in-Err.ensures.long (ap Err long)) c.take_all.ensures.taken)
+    let name = c.args.name.now in
+    rw c.from.ensures (Behaves-untaken (Run name lines) name lines array_in run_replies (IsScripted-run name lines) known _ holds.bytes _ holds.file holds.array kept c.in-Err.error _ _ _ (λ long. c.in-Err.ensures.long (ap Err long)) c.take_all.ensures.taken)

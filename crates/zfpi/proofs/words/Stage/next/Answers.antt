@@ -1,5 +1,6 @@
-use Rattle.std.proofs.Common.{subst}
-use Rattle.zfpi.specs.Stages.{LeadsTo}
+use Rattle.std.proofs.Common.{◌≡◌, ◌++◌, ◌∷◌, [], None, ap, sym, subst, ◌∙◌}
+use Rattle.zfpi.specs.Stages.{script_word, LeadsTo}
+use Rattle.zfpi.proofs.Completed.{IsSpelled-script}
 use Rattle.zfpi.proofs.Commands.{IsRateWord-begun, IsRateWord-begun_new, IsPrecisionWord-begun, IsLinesWord-begun}
 use Rattle.zfpi.proofs.words.Stage.next.Goals as goal
 
@@ -29,8 +30,17 @@ pub returns-in_err-lines_in-in-AtLines-clause-none : goal.returns-in_err-lines_i
 returns-in_err-lines_in-in-AtLines-clause-none c =
     rw c.from_residual-in_err-lines_in-in-AtLines.ensures (λ words leads begins.
     let led = subst (LeadsTo words) c.in-AtLines.is leads in
-    let lines = IsLinesWord-begun c.in-AtLines.name words c.args.word.now led.1 begins in
+    let lines = IsLinesWord-begun c.in-AtLines.script c.in-AtLines.name words c.args.word.now led.1 begins in
     c.in_err-lines_in-in-AtLines.ensures.none lines.0 lines.1)
 
 pub returns-in-Whole-clause-none : goal.returns-in-Whole-clause-none
 returns-in-Whole-clause-none c = rw c.in-Whole.is c.behind_whole.ensures.none
+
+pub returns-in_ok-new-in-Scripting-clause-leads : goal.returns-in_ok-new-in-Scripting-clause-leads
+returns-in_ok-new-in-Scripting-clause-leads c = λ words leads.
+    let script = c.in-Scripting.script in
+    let name = c.in_ok-new-in-Scripting.field-0 in
+    let named = c.in_ok-new-in-Scripting.ensures.name in
+    let first : words ≡ script_word script ∷ [] = subst (LeadsTo words) c.in-Scripting.is leads in
+    rw c.command-in-Scripting.ensures (IsSpelled-script script name None (words ++ c.args.word.now ∷ []) named.0 tt
+    (ap (λ front. front ++ c.args.word.now ∷ []) first ∙ ap (λ word. script_word script ∷ word ∷ []) (sym named.1)))

@@ -1,0 +1,111 @@
+-- What `bound` does, from what its calls answer.
+use Rattle.std.proofs.Common.{◌≡◌, ℕ, ◌↔◌, IsTrue, List, [], length, Option, Some, None, Result, Ok, Err, IsOk, IfOk, ◌⊎◌, inl, inr, refl, ap, sym, subst, ◌∙◌}
+use Rattle.std.specs.Int.{Width}
+use mir.Val.{bits}
+use Rattle.zf_base.specs.Widths.{width_of}
+use Rattle.zf_dev.specs.Shelf.{Files, KeepsFiles}
+use Rattle.zf_dev.specs.Sink.{Appends, AppendsFront}
+use Rattle.zf_header.specs.declared.header.Header.{Header}
+use Rattle.zf_header.specs.HeaderBits.{IsRate}
+use Rattle.zf_stream.specs.declared.fault.StreamFault.{StreamFault}
+use Rattle.zf_stream.specs.declared.fault.StreamFault.TheVariants as faults
+use Rattle.zf_stream.specs.Parsing.{Said, header_of, parse, without_said}
+use Rattle.zf_stream.specs.ReadStreams.{IsFault}
+use Rattle.zf_index.specs.declared.fault.IndexFault.{IndexFault}
+use Rattle.zf_index.specs.declared.fault.IndexFault.TheVariants as index
+use Rattle.zf_index.specs.Files.{HasHeader, stream_fault}
+use Rattle.zf_bound.specs.declared.certified.Certified.{Certified}
+use Rattle.zf_bound.specs.Errors.{IsSmallEnough}
+use Rattle.zf_bound.specs.Bounds.{plane_of, error_of, certified_of, bound_text}
+use Rattle.zf_bound.proofs.Certificates.{certified_is}
+use Rattle.zfpi.specs.declared.status.Status.{Status}
+use Rattle.zfpi.specs.declared.status.Status.TheVariants as statuses
+use Rattle.zfpi.specs.declared.command.Command.TheVariants.{Bound}
+use Rattle.zfpi.specs.Faults.{index_status}
+use Rattle.zfpi.specs.Opened.{array_in, opened}
+use Rattle.zfpi.specs.Certified.{certified_text, certified_status}
+use Rattle.zfpi.specs.Loaded.{HoldsFile}
+use Rattle.zfpi.specs.World.{seen}
+use Rattle.zfpi.specs.Headline.{Behaves}
+use Rattle.zfpi.proofs.Told.{some_input, Takes-none}
+use Rattle.zfpi.proofs.Opening.{array_in-rate, header_said}
+use Rattle.zfpi.proofs.Loading.{ComesFirst-index, Behaves-unopened, world_with, files_with, TellsFiles-with, opened-held, IsLoading}
+
+-- what is certified of whatever the stream says, where there was memory
+pub certified_all : (w : Width) (h : Header) (m : ℕ) (r : Result Certified IndexFault) (answer : Result Said StreamFault) → w ≡ width_of h.ty → IfOk r (λ c. IfOk answer (λ said. c.plane ≡ plane_of w (length h.shape) said.codes))
+    → IfOk r (λ c. c.error ≡ error_of (length h.shape) c.plane) → IfOk r (λ c. IsTrue c.holds ↔ IsSmallEnough (bits w) m c.error) → IfOk r (λ c. IfOk answer (λ said. c ≡ certified_of h said.codes m))
+certified_all w h m (Ok c) (Ok said) same plane error holds =
+    certified_is h said.codes m c (plane ∙ ap (λ v. plane_of v (length h.shape) said.codes) same) error (subst (λ v. IsTrue c.holds ↔ IsSmallEnough (bits v) m c.error) same holds)
+certified_all w h m (Ok c) (Err e) same plane error holds = tt
+certified_all w h m (Err e) answer same plane error holds = tt
+
+-- a good answer says something
+pub said_good : (answer : Result Said StreamFault) → without_said answer ≡ Ok tt → (said : Said) × (answer ≡ Ok said)
+said_good (Ok said) good = (said, refl)
+said_good (Err e) good = absurd (cc)
+
+module _ (name : List ℕ) (most : ℕ) where
+  pub IsLoading-bound : IsLoading (Bound name most) name array_in
+  IsLoading-bound = record {
+    refuses = λ w status none. sym (ap certified_status none);
+    wanted = λ w status first. refl;
+    extent = λ input status first. refl;
+    draft = λ w status taken. refl;
+    loads = λ w. tt;
+    starves = λ w. tt;
+  }
+
+  -- the file is no stream
+  pub Behaves-no_codes : (e : IndexFault) (bytes : List ℕ) (h : Header) (src out : Option (List ℕ)) (known now : Option Files) → HoldsFile known name bytes → KeepsFiles known now → HasHeader bytes h → IsRate h.mode → IsFault (parse bytes) (stream_fault e)
+      → Behaves (Bound name most) (index_status e) (seen src out known) (seen src out now)
+  Behaves-no_codes e bytes h src out known now holds kept has rate why =
+      Behaves-unopened (Bound name most) name array_in IsLoading-bound (stream_fault e) bytes src out known now (ComesFirst-index e)
+      (elim why [ inl is ↦ inl (array_in-rate bytes h (Err (stream_fault e)) has.good has.header rate is) | inr memory ↦ inr memory ]) holds kept
+
+  module _ (bytes : List ℕ) (h : Header) (said : Said) (known now : Option Files) (holds : HoldsFile known name bytes) (kept : KeepsFiles known now) (has : HasHeader bytes h) (rate : IsRate h.mode) (parsed : parse bytes ≡ Ok said) where
+    is_array : opened array_in (files_with known bytes name) ≡ Ok said
+    is_array = opened-held array_in known name bytes holds ∙ array_in-rate bytes h (Ok said) has.good has.header rate parsed
+
+    -- the line is that of the file
+    line_is : (c : Certified) (line : List ℕ) → c ≡ certified_of h said.codes most → line ≡ bound_text c → line ≡ certified_text most (opened array_in (files_with known bytes name))
+    line_is c line certified text =
+        let header : h ≡ said.header = has.header ∙ sym (header_said bytes said parsed) in
+        text ∙ (ap bound_text (certified ∙ ap (λ g. certified_of g said.codes most) header) ∙ sym (ap (certified_text most) is_array))
+
+    -- the line was written
+    pub Behaves-certified : (c : Certified) (line : List ℕ) (src out out_now : Option (List ℕ)) → c ≡ certified_of h said.codes most → line ≡ bound_text c → Appends out out_now line
+        → Behaves (Bound name most) statuses.Done (seen src out known) (seen src out_now now)
+    Behaves-certified c line src out out_now certified text written =
+        let some = some_input src in
+        record {
+          ends = tt;
+          world = world_with known bytes some.0;
+          told = record { input = some.1; files = TellsFiles-with known bytes };
+          wants = [];
+          wanted = refl;
+          stated = inl (sym (ap certified_status is_array));
+          taken = [];
+          takes = Takes-none src;
+          extent = refl;
+          written = subst (Appends out out_now) (line_is c line certified text) written;
+          saved = kept;
+        }
+
+    -- a front of the line was
+    pub Behaves-cut_certified : (c : Certified) (line : List ℕ) (src out out_now : Option (List ℕ)) → c ≡ certified_of h said.codes most → line ≡ bound_text c → AppendsFront out out_now line
+        → Behaves (Bound name most) statuses.WriteFault (seen src out known) (seen src out_now now)
+    Behaves-cut_certified c line src out out_now certified text written =
+        let some = some_input src in
+        record {
+          ends = tt;
+          world = world_with known bytes some.0;
+          told = record { input = some.1; files = TellsFiles-with known bytes };
+          wants = [];
+          wanted = refl;
+          stated = inr (subst IsOk (sym is_array) refl);
+          taken = [];
+          takes = Takes-none src;
+          extent = refl;
+          written = subst (AppendsFront out out_now) (line_is c line certified text) written;
+          saved = kept;
+        }
