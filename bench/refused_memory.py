@@ -158,12 +158,15 @@ def main():
         bench.tries("new a int32 8 64")
         made = bench.run("new a int32 8 64", b"", {}, 0)[0][3]
         bench.tries("run a lines 2", LONG_SCRIPT, made)
+        bench.tries("look a lines 2", b"get 0\nlines 4\nsum\nstats\n", {"a": ONE})
+        bench.tries("bound a 100", b"", made)
         bench.tries("sample int32 4x4 1 rate 64")
         for dims in range(1, 5):
             shape = "x".join(["5"] * dims)
             bench.tries(words_of_dimension(dims), bytes(8 * 5**dims))
             stream = bench.run(words_of_dimension(dims), bytes(range(8)) * 5**dims, {}, 0)[0][1]
             bench.tries("restore", stream)
+            bench.tries("look a", script_of_dimension(dims), {"a": stream})
             files = bench.run(f"new a int64 {shape} 100", b"", {}, 0)[0][3]
             bench.tries("run a", script_of_dimension(dims), files)
             bench.tries(f"sample int64 {shape} 7 precision 20")
