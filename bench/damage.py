@@ -5,7 +5,7 @@
 
 PROGRAM is the built program, by default crates/zfpi/out/zfpi; RUNS how many, by default 10,000. Needs the program time (Debian's package of this name).
 
-Of each run: it ends within the time below; its exit code is one that the command can have, and standard error has the one line of that code, or
+The commands are all but `new` and `sample`, which read nothing. Of each run: it ends within the time below; its exit code is one that the command can have, and standard error has the one line of that code, or
 nothing after 0; it holds no more memory than a slab, or a file, and a fixed room ask for. What `restore` writes is a front of what it writes for the
 same bytes continued with zeros. A file that `run` was given stays as it is at every code but 0 and 1, and other files stay always.
 """
@@ -33,7 +33,14 @@ LINES = {
     9: r"file too long",
     20: r"out of memory",
 }
-CODES = {"compress": {0, 3}, "restore": {0, 4, 5, 20}, "info": {0, 4}, "run": {0, 1, 4, 5, 6, 20}}
+CODES = {
+    "compress": {0, 3},
+    "restore": {0, 4, 5, 20},
+    "info": {0, 4},
+    "run": {0, 1, 4, 5, 6, 20},
+    "look": {0, 1, 4, 5, 20},
+    "bound": {0, 4, 5, 6, 20},
+}
 WORDS = ["get", "set", "add", "fill", "sum", "view", "slice", "vget", "vset", "vsum", "flush", "discard", "lines", "resize", "stats", "split", ""]
 
 
@@ -127,6 +134,22 @@ def streams(rng, check):
         _, out = check.run(["restore"], broken, slab)
         _, text = check.run(["restore"], broken + bytes(zeros), slab)
         assert text.startswith(out), (words, len(out), len(text))
+        reads(rng, check, broken, shape.count("x") + 1)
+
+
+def reads(rng, check, stream, dims):
+    """What only reads a stream leaves it as it is, and answers as `restore` does."""
+    name = check.folder / "s"
+    name.write_bytes(stream)
+    whole = check.run(["restore"], stream, 3 * len(stream) // 1000 + 20_000)[0]
+    code, out = check.run(["look", "s"], script_of(rng, dims), 3 * len(stream) // 1000)
+    assert code in (0, 1) if whole == 0 else code == whole, (code, whole)
+    assert whole == 0 or out == b"", out
+    code, out = check.run(["bound", "s", str(rng.getrandbits(40))], b"", 3 * len(stream) // 1000)
+    assert code in (0, 6) if whole == 0 else code in (whole, 6), (code, whole)
+    assert code == 0 or out == b"", out
+    assert name.read_bytes() == stream
+    name.unlink()
 
 
 def script_of(rng, dims):
@@ -157,6 +180,8 @@ def scripts(rng, check):
     assert out.count(b"\n! ") + out.startswith(b"! ") > 0 if code == 1 else b"! " not in out, (code, out)
     assert code in (0, 1) or name.read_bytes() == file, code
     assert other.read_bytes() == b"other" and len(list(check.folder.iterdir())) == 2
+    name.unlink()
+    other.unlink()
 
 
 def main():
