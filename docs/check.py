@@ -74,6 +74,15 @@ def page(file, known):
     return count, wrong
 
 
+def contracts():
+    """Whether the contracts that CALLING quotes are others than those of the code."""
+    quoted = run("python3 docs/calling.py", TOP, os.environ)
+    if (TOP / "docs/CALLING.md").read_text().endswith(quoted):
+        return 0
+    print("CALLING.md: the contracts are others; python3 docs/calling.py --write")
+    return 1
+
+
 def manual():
     """What mandoc finds in the manual page."""
     if shutil.which("mandoc") is None:
@@ -89,7 +98,7 @@ def main():
         shutil.copy(program, pathlib.Path(name) / "zfpi")
         known = {**os.environ, "PATH": f"{name}:{os.environ['PATH']}", "ZFPI": str(program), "LC_ALL": "C"}
         counts = [page(file, known) for file in [TOP / "README.md", *sorted((TOP / "docs").glob("*.md"))]]
-    wrong = sum(bad for _, bad in counts) + manual()
+    wrong = sum(bad for _, bad in counts) + contracts() + manual()
     print(f"{sum(count for count, _ in counts)} commands and tables, {wrong} wrong")
     sys.exit(1 if wrong else 0)
 
