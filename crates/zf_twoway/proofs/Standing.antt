@@ -1,18 +1,21 @@
 -- Two-way caches that fit, and a touch of them, in the words of their contracts.
-use Rattle.std.proofs.Common.{◌≡◌, ◌⊎◌, inl, inr, refl, sym, ap, subst, ◌∙◌, ℕ, zero, suc, ◌+◌, ◌*◌, ◌/◌, ◌%◌, ◌<◌, ◌==◌, Bool, true, false, not, ◌||◌, ℤ, Option, Some, None, List, map, length, is_none, eq-eqb, arith}
+use Rattle.std.proofs.Common.{◌≡◌, ◌⊎◌, inl, inr, refl, sym, ap, subst, ◌∙◌, ℕ, zero, suc, ◌+◌, ◌*◌, ◌/◌, ◌%◌, ◌<◌, ◌==◌, Bool, true, false, not, ◌||◌, ℤ, Option, Some, None, List, map, length, replicate, is_none, eq-eqb, arith}
 use Rattle.std.proofs.lemmas.Bool.{ne_eqb}
 use Rattle.zf_base.specs.Formats.{Format, existing_of, meant}
-use Rattle.zf_cached.specs.State.{State, is_block}
+use Rattle.std.proofs.lemmas.List.{length-replicate}
+use Rattle.zf_cached.specs.State.{State, no_counts, is_block}
 use Rattle.zf_cached.specs.Touch.{hit, miss, soiled, with_values}
-use Rattle.zf_cached.specs.Changes.{flush, relined}
+use Rattle.zf_cached.specs.Changes.{opened}
+use Rattle.zf_cached.proofs.States.{same_state}
 use Rattle.zf_lines.specs.Rows.{line_at, over}
 use Rattle.zf_cache.specs.declared.body.Body.{Body}
-use Rattle.zf_cache.specs.Kept.{Kept, OnlyLine, IsIn, IsAway, tag_at, block_in, dirty_of, dirty_tag, line_by, written_in}
+use Rattle.zf_cache.specs.Kept.{Kept, OnlyLine, IsEmpty, IsIn, IsAway, tag_at, block_in, dirty_of, dirty_tag, line_by, written_in}
 use Rattle.zf_cache.specs.Bodies.{IsWhole, IsSound, kept_of}
 use Rattle.zf_cache.specs.Standing.{line_values, state_at, FitsAt}
 use Rattle.zf_cache.specs.Steps.{touch_in, with_value}
 use Rattle.zf_cache.proofs.Tags.{names-dirty, is_or_not, is_block-same, is_block-other, named}
-use Rattle.zf_cache.proofs.Stands.{vals-in, vals-out, dirty-in, dirty-out}
+use Rattle.zf_cache.proofs.Stands.{standing_at, vals-in, vals-out, dirty-in, dirty-out}
+use Rattle.zf_cache.proofs.Touches.{no_tag, state_stands, all_meant_at}
 use Rattle.zf_cache.proofs.Lent.{state_now, fits_now, row_held, lent_state, lent_fits}
 use Rattle.zf_twoway.specs.Touch.{first_line, second_line, choice, is_clean_line, is_here, goes_to, touch, touch_for_writing, put}
 use Rattle.zf_twoway.specs.Placing.{place_by, taking_line, skewed, either, skewed-first, skewed-second, IsOneOfTwo, skewed_rule}
@@ -172,6 +175,21 @@ module _ {X Code : Type 0} (value : X → ℤ) (c : Kept X) (f : Format Code) (k
           ∙ (λ i. sym (not_dirty one b out) i || sym (not_dirty two b none) i)
     ]
   ]
+-- ---- an empty cache
+
+pub opens : {X Code : Type 0} (value : X → ℤ) (c : Kept X) (f : Format Code) (k : ℕ → Code) (n : ℕ) → IsEmpty c n → c.counts ≡ no_counts → state_of value c f k ≡ opened f k n
+unfolding opened
+opens {X} {Code} value c f k n empty counts =
+    let none : ℕ = 0 in
+    state_stands skewed value f c k n (ap length empty ∙ length-replicate n none)
+    ∙ (λ i. standing_at skewed value f n c.lines (empty i) (counts i) k)
+    ∙ same_state (standing_at skewed value f n c.lines (replicate n 0) no_counts k) (opened f k n) refl
+    (λ l. ap block_in (no_tag n l)) (λ b. dirty-out skewed value f n (replicate n 0) b (nowhere b))
+    (λ b. all_meant_at skewed value f n c.lines no_counts k b) (λ b. refl) refl
+  where
+    nowhere : (b : ℕ) → IsIn (replicate n 0) (skewed n (replicate n 0) b) b → ⊥
+    nowhere b e = let both : None ≡ Some b = sym (ap block_in (no_tag n (skewed n (replicate n 0) b))) ∙ e in cc
+
 -- ---- steps
 
 module _ {X Code : Type 0} (value : X → ℤ) (f h : Format Code) (k j : ℕ → Code) (c d : Kept X) (fits : Fits value c f k) where

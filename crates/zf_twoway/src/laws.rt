@@ -2,7 +2,8 @@
 
 ghost use Rattle.std.specs.Prelude.{◌≡◌, ℕ, ◌==◌, ◌||◌, false, length};
 ghost use Rattle.zf_base.specs.Formats.{meant};
-ghost use Rattle.zf_cached.specs.Changes.{discard};
+ghost use Rattle.zf_cached.specs.State.{no_counts};
+ghost use Rattle.zf_cached.specs.Changes.{discard, opened};
 ghost use Rattle.zf_cache.specs.Kept.{Kept, IsEmpty, IsIn, IsAway, tag_at, dirty_tag};
 ghost use Rattle.zf_cache.specs.Standing.{line_values};
 ghost use Rattle.zf_twoway.specs.Touch.{first_line, second_line};
@@ -13,6 +14,12 @@ use zf_base::{Lane, Reading};
 /// An empty cache fits every backing.
 pub fn empty_caches_fit<T: Lane, B: Reading<T>>()
     ensures { (c : Kept T) (n : ℕ) (back : B) → IsEmpty c n → Fits T.value c (B.format back) (B.codes back) }
+{}
+
+/// An empty cache, with counts of 0, stands with its backing for an array as it is opened.
+pub fn empty_caches_open<T: Lane, B: Reading<T>>()
+    ensures { (c : Kept T) (n : ℕ) (back : B) → IsEmpty c n → c.counts ≡ no_counts
+        → state_of T.value c (B.format back) (B.codes back) ≡ opened (B.format back) (B.codes back) n }
 {}
 
 /// What `discard` does is the discard of the state that cache and backing stand for.
