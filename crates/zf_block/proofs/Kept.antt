@@ -1,6 +1,6 @@
 -- Planes that a budget keeps whole, and planes that are missing below.
-use Rattle.std.proofs.Common.{◌≡◌, refl, sym, ap, ◌∙◌, ℕ, zero, suc, ◌-◌, ◌^◌, ◌<◌, ◌≤◌, max, Bool, false, List, [], ◌∷◌, ◌++◌, length, get_or, replicate, ext_get_or, arith}
-use Rattle.std.proofs.lemmas.List.{length-append}
+use Rattle.std.proofs.Common.{◌≡◌, refl, sym, ap, ◌∙◌, ℕ, zero, suc, ◌-◌, ◌^◌, ◌<◌, ◌≤◌, max, Bool, false, List, [], ◌∷◌, ◌++◌, length, take, get_or, replicate, ext_get_or, arith}
+use Rattle.std.proofs.lemmas.List.{length-append, take_all}
 use Rattle.std.specs.Int.{Width}
 use mir.Val.{bits}
 use Rattle.zf_spec.specs.Numbers.{value_of}
@@ -12,19 +12,35 @@ use Rattle.zf_spec.proofs.Counting.{map-upto_same}
 use Rattle.zf_spec.proofs.KeptSame.{kept_whole}
 use Rattle.zf_spec.proofs.PlaneDigits.{digits_at, length-digits_at, get_or-digits_at, coefficients_of-is, get_or-blanks}
 
--- ---- a budget that is no less than the code
+-- ---- planes whose codes fit a budget are kept as they are
 
-kept_planes_from-whole : (r n : ℕ) (ps : List (List Bool)) → length (code_from n ps) ≤ r → kept_planes_from r n ps ≡ ps
-kept_planes_from-whole r n [] fits = refl
-kept_planes_from-whole r n (ds ∷ ps) fits =
+length-kept_from : (r n : ℕ) (ps : List (List Bool)) → length (kept_planes_from r n ps) ≡ length ps
+length-kept_from r n [] = refl
+length-kept_from r n (ds ∷ ps) = ap suc (length-kept_from (r - length (plane_code n ds)) (max n (reach ds)) ps)
+
+pub length-kept_planes : (budget : ℕ) (ps : List (List Bool)) → length (kept_planes budget ps) ≡ length ps
+length-kept_planes budget ps = length-kept_from budget 0 ps
+
+kept_from-top : (r n : ℕ) (ps : List (List Bool)) (m : ℕ) → length (code_from n (take m ps)) ≤ r → take m (kept_planes_from r n ps) ≡ take m ps
+kept_from-top r n ps zero fits = refl
+kept_from-top r n [] (suc m) fits = refl
+kept_from-top r n (ds ∷ ps) (suc m) fits =
     let c = plane_code n ds in
     let above = max n (reach ds) in
-    let long = length-append c (code_from above ps) in
-    ap (λ k. k ∷ kept_planes_from (r - length c) above ps) (kept_whole r n ds (omega (arith, long)))
-    ∙ ap (λ ks. ds ∷ ks) (kept_planes_from-whole (r - length c) above ps (omega (arith, long)))
+    let long = length-append c (code_from above (take m ps)) in
+    ap (λ k. k ∷ take m (kept_planes_from (r - length c) above ps)) (kept_whole r n ds (omega (arith, long, fits)))
+    ∙ ap (λ ks. ds ∷ ks) (kept_from-top (r - length c) above ps m (omega (arith, long, fits)))
 
+-- the top ones
+pub kept_planes-top : (budget : ℕ) (ps : List (List Bool)) (m : ℕ) → length (code (take m ps)) ≤ budget → take m (kept_planes budget ps) ≡ take m ps
+kept_planes-top budget ps m fits = kept_from-top budget 0 ps m fits
+
+-- all
 pub kept_planes-whole : (r : ℕ) (ps : List (List Bool)) → length (code ps) ≤ r → kept_planes r ps ≡ ps
-kept_planes-whole r ps fits = kept_planes_from-whole r 0 ps fits
+kept_planes-whole r ps fits =
+    let n = length ps in
+    let all = take_all n ps (omega arith) in
+    sym (take_all n (kept_planes r ps) (omega (arith, length-kept_planes r ps))) ∙ kept_planes-top r ps n (omega (arith, ap (λ qs. length (code qs)) all, fits)) ∙ all
 
 -- ---- planes of zeros below
 

@@ -20,6 +20,7 @@ use Rattle.zf_spec.proofs.Full.{full_begins, full_only, length-planes_in, planes
 use Rattle.zf_spec.proofs.KeptSame.{kept_whole}
 use Rattle.zf_spec.proofs.PlaneDigits.{length-planes, planes-length}
 use Rattle.zf_block.specs.WholePlanes.{planes_from, whole_from, rate_whole_from}
+use Rattle.zf_block.proofs.Kept.{length-kept_planes, kept_planes-top}
 use Rattle.zf_block.proofs.CutCodes.{kept_planes-too_long}
 
 -- ---- the least plane from which on the codes fit a budget
@@ -88,28 +89,6 @@ length-code_take-le ps m n less =
     let same = ap (λ qs. length (code qs)) top in
     omega (arith, ap length split.1, length-append (code (take m (take n ps))) split.0, same)
 
--- ---- planes whose codes fit a budget are kept as they are
-
-kept_from_top : (r n : ℕ) (ps : List (List Bool)) (m : ℕ) → length (code_from n (take m ps)) ≤ r → take m (kept_planes_from r n ps) ≡ take m ps
-kept_from_top r n ps zero fits = refl
-kept_from_top r n [] (suc m) fits = refl
-kept_from_top r n (ds ∷ ps) (suc m) fits =
-    let c = plane_code n ds in
-    let above = max n (reach ds) in
-    let long = length-append c (code_from above (take m ps)) in
-    ap (λ k. k ∷ take m (kept_planes_from (r - length c) above ps)) (kept_whole r n ds (omega (arith, long, fits)))
-    ∙ ap (λ ks. ds ∷ ks) (kept_from_top (r - length c) above ps m (omega (arith, long, fits)))
-
-kept_top : (budget : ℕ) (ps : List (List Bool)) (m : ℕ) → length (code (take m ps)) ≤ budget → take m (kept_planes budget ps) ≡ take m ps
-kept_top budget ps m fits = kept_from_top budget 0 ps m fits
-
-length-kept_from : (r n : ℕ) (ps : List (List Bool)) → length (kept_planes_from r n ps) ≡ length ps
-length-kept_from r n [] = refl
-length-kept_from r n (ds ∷ ps) = ap suc (length-kept_from (r - length (plane_code n ds)) (max n (reach ds)) ps)
-
-pub length-kept_planes : (budget : ℕ) (ps : List (List Bool)) → length (kept_planes budget ps) ≡ length ps
-length-kept_planes budget ps = length-kept_from budget 0 ps
-
 -- ---- how many of the planes that are kept have codes that fit says which is the least plane
 
 pub whole_from-kept : (size budget : ℕ) (ps : List (List Bool)) (m : ℕ) → All (λ ds. length ds ≡ size) ps → m ≤ length ps → length (code (take m (kept_planes budget ps))) ≤ budget
@@ -130,7 +109,7 @@ whole_from-kept size budget ps m all within fits no_more =
     one_more : m < length ps → budget < length (code (take (m + 1) ps))
     one_more below = ⊎_elim
         (λ more. more)
-        (λ less. absurd (omega (arith, no_more below, ap (λ qs. length (code qs)) (kept_top budget ps (m + 1) less), less)))
+        (λ less. absurd (omega (arith, no_more below, ap (λ qs. length (code qs)) (kept_planes-top budget ps (m + 1) less), less)))
         (cases_lt budget (length (code (take (m + 1) ps))))
 
     least : (j : ℕ) → j < length ps - m → budget < length (code (planes_from j ps))
@@ -178,7 +157,7 @@ module _ (size budget : ℕ) (ps : List (List Bool)) (all : All (λ ds. length d
       omega (arith, whole_from-fits budget qs, length-code_take-le qs m (length qs - whole_from budget qs) (omega (arith, from, count))) in
       let same = tops_same m (omega arith) fits in
       ap (λ n. take (n - k) (kept_planes budget ps)) (length-kept_planes budget ps)
-      ∙ kept_top budget ps m (omega (arith, ap (λ (rs : List (List Bool)). length (code rs)) same, fits))
+      ∙ kept_planes-top budget ps m (omega (arith, ap (λ (rs : List (List Bool)). length (code rs)) same, fits))
 
 -- the planes of the coefficients of a block
 abbrev pub block_planes : Width → List ℕ → List ℤ → List (List Bool)
