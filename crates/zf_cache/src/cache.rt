@@ -259,6 +259,24 @@ impl<T: Lane, const D: usize> Cache<T, D> {
         self.body.lines.line(l)[p]
     }
 
+    /// As `touch`, over a backing that is only read. Nothing is dirty.
+    #[inline]
+    pub fn touch_read<B: Reading<T>>(&mut self, back: &mut B, b: u64)
+        requires fits { Fits T.value self.old (B.format back.old) (B.codes back.old) }
+        requires blocks { HasBlocks (B.format back.old) D }
+        requires block { b < (B.format back.old).blocks }
+        requires clean { IsClean self.old }
+        ensures fits { Fits T.value self.new (B.format back.new) (B.codes back.new) }
+        ensures state { state_of T.value self.new (B.format back.new) (B.codes back.new)
+            ≡ touch (B.format back.old) (state_of T.value self.old (B.format back.old) (B.codes back.old)) b }
+        ensures clean { IsClean self.new }
+        ensures here { Holds self.new b }
+        ensures format { B.format back.new ≡ B.format back.old }
+        ensures kept { B.kept back.new ≡ B.kept back.old }
+    {
+        self.body.touch_read(back, b);
+    }
+
     /// As `block`, over a backing that is only read. Nothing is dirty.
     #[inline]
     pub fn block_read<B: Reading<T>>(&mut self, back: &mut B, b: u64) -> &[T]

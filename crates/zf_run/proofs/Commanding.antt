@@ -3,29 +3,29 @@ use Rattle.std.proofs.Common.{◌≡◌, refl, sym, ap, subst, ◌∙◌, ℕ, z
 use Rattle.std.proofs.lemmas.Bool.{and_from, and_parts}
 use Rattle.std.specs.Int.{Width}
 use Rattle.zf_spec.specs.Numbers.{wrap}
-use Rattle.zf_spec.specs.Grid.{is_inside}
+use Rattle.zf_spec.specs.Grid.{IsShape, is_inside}
 use Rattle.zf_base.specs.declared.position.Pos.{Pos}
 use Rattle.zf_base.specs.Positions.{used_axes, with_unused, IsPosition}
 use Rattle.zf_base.specs.Places.{block_number}
 use Rattle.zf_base.proofs.Extents.{length-used_axes, used_axes-with_unused}
-use Rattle.zf_cached.specs.State.{Counts}
 use Rattle.zf_cached.specs.Commands.{Command}
-use Rattle.zf_cached.specs.Replies.{Reply}
+use Rattle.zf_cached.specs.Replies.{Refusal, Reply}
 use Rattle.zf_spec.specs.Grid.{upto, blocks}
 use Rattle.zf_base.specs.Formats.{Format}
-use Rattle.zf_cached.specs.Changes.{flush, discard, raised, relined}
+use Rattle.zf_cached.specs.Changes.{flush, discard}
 use Rattle.zf_cached.specs.Arrays.{array_format}
-use Rattle.zf_cached.specs.Runs.{array_setting}
-use Rattle.zf_cached.specs.Touch.{touch, touch_for_writing, with_values}
+use Rattle.zf_cached.specs.Runs.{array_setting, read_step}
+use Rattle.zf_cached.specs.State.{Counts}
+use Rattle.zf_cached.specs.Touch.{touch_for_writing, with_values}
 use Rattle.zf_cached.specs.Windows.{Window, LiesIn, mapped, sliced, has_place, positions, is_window, none_zero, lies_in}
-use Rattle.zf_cached.specs.Steps.{Session, touched, changed_at, filled_below, summed, total, format_of, value_there, is_of_type, is_line_count, done}
+use Rattle.zf_cached.specs.Steps.{Setting, Session, touched, changed_at, filled_below, summed, total, format_of, value_there, is_of_type, is_line_count, step, done}
 use Rattle.zf_cached.proofs.Windows.{length-mapped, LiesIn-sliced}
 use Rattle.zf_array.specs.Standing.{Held, shape, state, format, block_at, place_at}
 use Rattle.zf_view.specs.declared.window.ViewFault.{ViewFault}
 use Rattle.zf_view.specs.WindowFields.{view_fault}
 use Rattle.zf_run.specs.Sessions.{setting_of, session_of, IsArray}
-use Rattle.zf_run.specs.Steps.{Does}
-use Rattle.zf_run.proofs.Sessions.{format_is, session_is, touched_is, changed_is}
+use Rattle.zf_run.specs.Steps.{Does, HasWindow, Takes, wanted}
+use Rattle.zf_run.proofs.Sessions.{format_is, session_is, changed_is}
 use Rattle.zf_run.proofs.Stepping.{accepted}
 
 -- ---- tests
@@ -68,52 +68,112 @@ outside_window ns w p lies unused away =
 pub within : (ns : List ℕ) (w : Window) → LiesIn ns w → (p : Pos) → IsPosition w.size p → is_inside w.size (used_axes (length ns) p) ≡ true
 within ns w lies p at = subst (λ k. is_inside w.size (used_axes k p) ≡ true) lies.sizes at.inside
 
--- an array that is as it was
-pub same_array : (w : Width) (c : Command) (a b : Held) (v : Window) (reply : Option Reply) → b ≡ a → Does w c a v a v reply → Does w c a v b v reply
-same_array w c a b v reply same does = subst (λ x. Does w c a v x v reply) (sym same) does
+-- the numbers of the position of the array that a position of the window is
+pub numbers_there : (ns : List ℕ) (v : Window) → IsShape ns → LiesIn ns v → (p : Pos) → used_axes (length ns) (with_unused 0 (mapped v (used_axes (length v.size) p))) ≡ mapped v (used_axes (length ns) p)
+numbers_there ns v sizes lies p =
+    let ps = used_axes (length v.size) p in
+    let ms = mapped v ps in
+    let four = sizes.four_at_most in
+    let long = length-used_axes (length v.size) p (omega (arith, lies.sizes, four)) in
+    let mapped_long = length-mapped ns v ps lies long in
+    ap (λ k. used_axes k (with_unused 0 ms)) (sym mapped_long) ∙ used_axes-with_unused 0 ms (omega (arith, mapped_long, four)) ∙ ap (λ k. mapped v (used_axes k p)) lies.sizes
 
-module _ (w : Width) (a : Held) (v : Window) (lies : LiesIn (shape a) v) where
-  pub counted : (h m n : ℕ) → record { hits = h; misses = m; writes = n } ≡ a.counts → Does w Command.stats a v a v (Some (Reply.counts h m n))
-  unfolding done state
+-- a command that is allowed is taken
+pub taken : {Code : Type 0} (setting : Setting Code) (c : Command) (s t : Session Code) (reply told : Option Reply) → setting.allows c ≡ true → Does setting c s t reply → told ≡ reply
+    → Takes setting s c t told
+unfolding read_step
+taken setting c s t reply told allowed does same =
+    subst (λ r. read_step setting s (Some c) (wanted r) ≡ (t, r)) (sym same)
+    (ap (λ x. elim x [ true ↦ step setting s c (wanted reply) | false ↦ (s, Some (Reply.refused Refusal.word)) ]) allowed ∙ does.step_is)
+
+-- ---- commands that only read, in any setting
+
+module _ {Code : Type 0} (setting : Setting Code) (s : Session Code) (lies : HasWindow s) where
+  pub counted : (h m n : ℕ) → record { hits = h; misses = m; writes = n } ≡ s.state.counts → Does setting Command.stats s s (Some (Reply.counts h m n))
+  unfolding done
   counted h m n is =
-      accepted w Command.stats a v lies refl refl refl a v (Some (Reply.counts h m n)) refl
-      (ap (λ (k : Counts). (session_of a v, Some (Reply.counts k.hits k.misses k.writes))) (sym is))
-      lies refl refl
+      accepted setting Command.stats s lies refl refl refl s (Some (Reply.counts h m n)) refl
+      (ap (λ (k : Counts). (s, Some (Reply.counts k.hits k.misses k.writes))) (sym is)) lies
 
-  pub viewed : (origin size step : List ℕ) (u : Window) → u ≡ record { origin = origin; size = size; step = step } → LiesIn (shape a) u → Does w (Command.view origin size step) a v a u None
+  pub viewed : (origin size step : List ℕ) (u : Window) → u ≡ record { origin = origin; size = size; step = step } → LiesIn s.shape u
+      → Does setting (Command.view origin size step) s (record s { window = u }) None
   unfolding done
   viewed origin size step u is inside =
-      accepted w (Command.view origin size step) a v lies (ap not (subst (λ x. is_window (shape a) x ≡ true) is inside.inside)) refl refl a u None refl
-      (ap (λ x. (session_of a x, None)) (sym is)) inside refl refl
+      accepted setting (Command.view origin size step) s lies (ap not (subst (λ x. is_window s.shape x ≡ true) is inside.inside)) refl refl (record s { window = u }) None refl
+      (ap (λ x. (record s { window = x }, None)) (sym is)) inside
 
-  pub cut : (axis at : ℕ) (u : Window) → has_place v axis at ≡ true → u ≡ sliced v axis at → Does w (Command.slice axis at) a v a u None
+  pub cut : (axis at : ℕ) (u : Window) → has_place s.window axis at ≡ true → u ≡ sliced s.window axis at → Does setting (Command.slice axis at) s (record s { window = u }) None
   unfolding done
   cut axis at u there is =
-      accepted w (Command.slice axis at) a v lies refl (ap not there) refl a u None refl
-      (ap (λ x. (session_of a x, None)) (sym is)) (subst (LiesIn (shape a)) (sym is) (LiesIn-sliced (shape a) v axis at lies there)) refl refl
+      accepted setting (Command.slice axis at) s lies refl (ap not there) refl (record s { window = u }) None refl
+      (ap (λ x. (record s { window = x }, None)) (sym is)) (subst (LiesIn s.shape) (sym is) (LiesIn-sliced s.shape s.window axis at lies there))
+
+  -- a touch keeps the window in the array
+  stays : (k : ℕ) (t : Session Code) → touched setting s k ≡ t → HasWindow t
+  unfolding touched
+  stays k t is = subst HasWindow is lies
+
+  module _ (t : Session Code) where
+    pub got : (p : Pos) → IsPosition s.shape p → (n : ℤ) → touched setting s (block_number s.shape (used_axes (length s.shape) p)) ≡ t
+        → n ≡ value_there (used_axes (length s.shape) p) (t.state.values (block_number s.shape (used_axes (length s.shape) p)))
+        → Does setting (Command.get (used_axes (length s.shape) p)) s t (Some (Reply.number n))
+    unfolding done
+    got p at n touches value =
+        let ps = used_axes (length s.shape) p in
+        let k = block_number s.shape ps in
+        accepted setting (Command.get ps) s lies refl (ap not at.inside) refl t (Some (Reply.number n)) refl
+        (ap (λ (x : Session Code). (x, Some (Reply.number (value_there ps (x.state.values k))))) touches ∙ ap (λ m. (t, Some (Reply.number m))) (sym value))
+        (stays k t touches)
+
+    -- position r of the array is position p of the window
+    pub got_there : IsShape s.shape → (p : Pos) → IsPosition s.window.size p → (r : Pos) (n : ℤ) → r ≡ with_unused 0 (mapped s.window (used_axes (length s.window.size) p))
+        → touched setting s (block_number s.shape (used_axes (length s.shape) r)) ≡ t
+        → n ≡ value_there (used_axes (length s.shape) r) (t.state.values (block_number s.shape (used_axes (length s.shape) r)))
+        → Does setting (Command.vget (used_axes (length s.shape) p)) s t (Some (Reply.number n))
+    unfolding done
+    got_there sizes p at r n same touches value =
+        let ps = used_axes (length s.shape) p in
+        let Get : List ℕ → Session Code × Option Reply = λ ms. let k = block_number s.shape ms in let x = touched setting s k in (x, Some (Reply.number (value_there ms (x.state.values k)))) in
+        let rs = used_axes (length s.shape) r in
+        let k = block_number s.shape rs in
+        let is_r : rs ≡ mapped s.window ps = ap (used_axes (length s.shape)) same ∙ numbers_there s.shape s.window sizes lies p in
+        accepted setting (Command.vget ps) s lies refl (ap not (within s.shape s.window lies p at)) refl t (Some (Reply.number n)) refl
+        (ap Get (sym is_r) ∙ ap (λ (x : Session Code). (x, Some (Reply.number (value_there rs (x.state.values k))))) touches ∙ ap (λ m. (t, Some (Reply.number m))) (sym value))
+        (stays k t touches)
+
+    module _ (inside : HasWindow t) (n m : ℤ) (same : n ≡ m) where
+      pub sum_is : summed setting (λ b. b) (λ b values. total values) (upto (blocks s.shape)) s ≡ (t, m) → Does setting Command.sum s t (Some (Reply.number n))
+      unfolding done array_format
+      sum_is sums =
+          accepted setting Command.sum s lies refl refl refl t (Some (Reply.number n)) refl
+          (ap (λ (r : Session Code × ℤ). (r.0, Some (Reply.number r.1))) sums ∙ ap (λ x. (t, Some (Reply.number x))) (sym same)) inside
+
+      pub vsum_is : summed setting (block_number s.shape) value_there (positions s.window) s ≡ (t, m) → Does setting Command.vsum s t (Some (Reply.number n))
+      unfolding done
+      vsum_is sums =
+          accepted setting Command.vsum s lies refl refl refl t (Some (Reply.number n)) refl
+          (ap (λ (r : Session Code × ℤ). (r.0, Some (Reply.number r.1))) sums ∙ ap (λ x. (t, Some (Reply.number x))) (sym same)) inside
+
+    pub lined : (n : ℕ) → is_line_count n ≡ true → done setting s (Command.lines n) ≡ (t, None) → Does setting (Command.lines n) s t None
+    unfolding done
+    lined n counts is =
+        accepted setting (Command.lines n) s lies (ap not counts) refl refl t None refl is (subst HasWindow (ap (λ (r : Session Code × Option Reply). r.0) is) lies)
+
+-- ---- commands that change an array
+
+-- an array that is as it was
+pub same_array : (w : Width) (c : Command) (a b : Held) (v : Window) (reply : Option Reply) → b ≡ a → Does (setting_of w a) c (session_of a v) (session_of a v) reply
+    → Does (setting_of w a) c (session_of a v) (session_of b v) reply
+same_array w c a b v reply same does = subst (λ x. Does (setting_of w a) c (session_of a v) (session_of x v) reply) (sym same) does
 
 module _ (w : Width) (a : Held) (dim : ℕ) (is : IsArray w dim a) where
-  four : length (shape a) ≤ 4
-  four = is.sizes.four_at_most
-
   module _ (v : Window) (lies : LiesIn (shape a) v) (b : Held) (head : b.header ≡ a.header) where
-    stays : LiesIn (shape b) v
-    stays = subst (λ ns. LiesIn ns v) (ap (λ h. h.shape) (sym head)) lies
+    in_window : LiesIn (shape b) v
+    in_window = subst (λ ns. LiesIn ns v) (ap (λ h. h.shape) (sym head)) lies
 
     -- ---- one value
 
     module _ (p : Pos) (at : IsPosition (shape a) p) where
-      pub got : (n : ℤ) → state b ≡ touch (format a) (state a) (block_at a p) → n ≡ get_or ((state b).values (block_at a p)) (place_at a p) (pos 0)
-          → Does w (Command.get (used_axes (length (shape a)) p)) a v b v (Some (Reply.number n))
-      unfolding done
-      got n touches value =
-          let ps = used_axes (length (shape a)) p in
-          let k = block_number (shape a) ps in
-          accepted w (Command.get ps) a v lies refl (ap not at.inside) refl b v (Some (Reply.number n)) refl
-          (ap (λ (t : Session (List Bool)). (t, Some (Reply.number (value_there ps (t.state.values k))))) (touched_is w a is.same_type v b k touches head)
-          ∙ ap (λ m. (session_of b v, Some (Reply.number m))) (sym value))
-          stays (ap (λ h. h.ty) head) (ap (λ h. h.mode) head)
-
       -- what changes a value at a position changes its block
       change_at : (change : ℤ → ℤ) → state b ≡ (let t = touch_for_writing (format a) (state a) (block_at a p) in with_values t (block_at a p) (set (t.values (block_at a p)) (place_at a p) (change (get_or (t.values (block_at a p)) (place_at a p) (pos 0)))))
           → changed_at (setting_of w a) (session_of a v) (used_axes (length (shape a)) p) change ≡ session_of b v
@@ -122,116 +182,64 @@ module _ (w : Width) (a : Held) (dim : ℕ) (is : IsArray w dim a) where
 
       pub put : (n m : ℤ) → m ≡ n → is_of_type w n ≡ true
           → state b ≡ (let t = touch_for_writing (format a) (state a) (block_at a p) in with_values t (block_at a p) (set (t.values (block_at a p)) (place_at a p) m))
-          → Does w (Command.set (used_axes (length (shape a)) p) n) a v b v None
+          → Does (setting_of w a) (Command.set (used_axes (length (shape a)) p) n) (session_of a v) (session_of b v) None
       unfolding done array_setting
       put n m same of_type changes =
           let ps = used_axes (length (shape a)) p in
-          accepted w (Command.set ps n) a v lies refl (ap not at.inside) (ap not of_type) b v None refl
+          accepted (setting_of w a) (Command.set ps n) (session_of a v) lies refl (ap not at.inside) (ap not of_type) (session_of b v) None refl
           (ap (λ (t : Session (List Bool)). (t, None)) (ap (λ x. changed_at (setting_of w a) (session_of a v) ps (λ old. x)) (sym same) ∙ change_at (λ old. m) changes))
-          stays (ap (λ h. h.ty) head) (ap (λ h. h.mode) head)
+          in_window
 
       pub added : (n m : ℤ) → m ≡ n → is_of_type w n ≡ true
           → state b ≡ (let t = touch_for_writing (format a) (state a) (block_at a p) in let old = t.values (block_at a p) in
           with_values t (block_at a p) (set old (place_at a p) (wrap w (get_or old (place_at a p) (pos 0) +ℤ m))))
-          → Does w (Command.add (used_axes (length (shape a)) p) n) a v b v None
+          → Does (setting_of w a) (Command.add (used_axes (length (shape a)) p) n) (session_of a v) (session_of b v) None
       unfolding done array_setting
       added n m same of_type changes =
           let ps = used_axes (length (shape a)) p in
-          accepted w (Command.add ps n) a v lies refl (ap not at.inside) (ap not of_type) b v None refl
+          accepted (setting_of w a) (Command.add ps n) (session_of a v) lies refl (ap not at.inside) (ap not of_type) (session_of b v) None refl
           (ap (λ (t : Session (List Bool)). (t, None)) (ap (λ x. changed_at (setting_of w a) (session_of a v) ps (λ old. wrap w (old +ℤ x))) (sym same) ∙ change_at (λ old. wrap w (old +ℤ m)) changes))
-          stays (ap (λ h. h.ty) head) (ap (λ h. h.mode) head)
+          in_window
 
     -- ---- one value of the window
 
     module _ (p : Pos) (at : IsPosition v.size p) where
-      -- the position of the array
-      abbrev q : Pos
-      q = with_unused 0 (mapped v (used_axes (length v.size) p))
-
-      long : length (used_axes (length v.size) p) ≡ length v.size
-      long = length-used_axes (length v.size) p (omega (arith, lies.sizes, four))
-
-      mapped_long : length (mapped v (used_axes (length v.size) p)) ≡ length (shape a)
-      mapped_long = length-mapped (shape a) v (used_axes (length v.size) p) lies long
-
-      -- its numbers
-      numbers : used_axes (length (shape a)) q ≡ mapped v (used_axes (length (shape a)) p)
-      numbers =
-          let ms = mapped v (used_axes (length v.size) p) in
-          ap (λ k. used_axes k (with_unused 0 ms)) (sym mapped_long) ∙ used_axes-with_unused 0 ms (omega (arith, mapped_long, four)) ∙ ap (λ k. mapped v (used_axes k p)) lies.sizes
-
-      pub got_there : (r : Pos) (n : ℤ) → r ≡ q → state b ≡ touch (format a) (state a) (block_at a r) → n ≡ get_or ((state b).values (block_at a r)) (place_at a r) (pos 0)
-          → Does w (Command.vget (used_axes (length (shape a)) p)) a v b v (Some (Reply.number n))
-      unfolding done
-      got_there r n same touches value =
-          let ps = used_axes (length (shape a)) p in
-          let Get : List ℕ → Session (List Bool) × Option Reply = λ ms. let k = block_number (shape a) ms in let t = touched (setting_of w a) (session_of a v) k in (t, Some (Reply.number (value_there ms (t.state.values k)))) in
-          let k = block_at a r in
-          let is_r : used_axes (length (shape a)) r ≡ mapped v ps = ap (used_axes (length (shape a))) same ∙ numbers in
-          accepted w (Command.vget ps) a v lies refl (ap not (within (shape a) v lies p at)) refl b v (Some (Reply.number n)) refl
-          (ap Get (sym is_r)
-          ∙ ap (λ (t : Session (List Bool)). (t, Some (Reply.number (value_there (used_axes (length (shape a)) r) (t.state.values k))))) (touched_is w a is.same_type v b k touches head)
-          ∙ ap (λ m. (session_of b v, Some (Reply.number m))) (sym value))
-          stays (ap (λ h. h.ty) head) (ap (λ h. h.mode) head)
-
-      pub put_there : (r : Pos) (n m : ℤ) → r ≡ q → m ≡ n → is_of_type w n ≡ true
+      pub put_there : (r : Pos) (n m : ℤ) → r ≡ with_unused 0 (mapped v (used_axes (length v.size) p)) → m ≡ n → is_of_type w n ≡ true
           → state b ≡ (let t = touch_for_writing (format a) (state a) (block_at a r) in with_values t (block_at a r) (set (t.values (block_at a r)) (place_at a r) m))
-          → Does w (Command.vset (used_axes (length (shape a)) p) n) a v b v None
+          → Does (setting_of w a) (Command.vset (used_axes (length (shape a)) p) n) (session_of a v) (session_of b v) None
       unfolding done changed_at array_setting
       put_there r n m same value of_type changes =
           let ps = used_axes (length (shape a)) p in
-          let is_r : used_axes (length (shape a)) r ≡ mapped v ps = ap (used_axes (length (shape a))) same ∙ numbers in
-          accepted w (Command.vset ps n) a v lies refl (ap not (within (shape a) v lies p at)) (ap not of_type) b v None refl
+          let is_r : used_axes (length (shape a)) r ≡ mapped v ps = ap (used_axes (length (shape a))) same ∙ numbers_there (shape a) v is.sizes lies p in
+          accepted (setting_of w a) (Command.vset ps n) (session_of a v) lies refl (ap not (within (shape a) v lies p at)) (ap not of_type) (session_of b v) None refl
           (ap (λ (t : Session (List Bool)). (t, None))
           ((λ i. changed_at (setting_of w a) (session_of a v) (sym is_r i) (λ old. sym value i))
           ∙ changed_is w a is.same_type v b (block_at a r) (λ values. set values (place_at a r) m) changes head))
-          stays (ap (λ h. h.ty) head) (ap (λ h. h.mode) head)
+          in_window
 
     -- ---- all blocks
 
-    pub filled : (n m : ℤ) → m ≡ n → is_of_type w n ≡ true → session_of b v ≡ filled_below (setting_of w a) (session_of a v) m (upto (blocks (shape a))) → Does w (Command.fill n) a v b v None
+    pub filled : (n m : ℤ) → m ≡ n → is_of_type w n ≡ true → session_of b v ≡ filled_below (setting_of w a) (session_of a v) m (upto (blocks (shape a))) → Does (setting_of w a) (Command.fill n) (session_of a v) (session_of b v) None
     unfolding done array_format array_setting
     filled n m same of_type fills =
-        accepted w (Command.fill n) a v lies refl refl (ap not of_type) b v None refl
+        accepted (setting_of w a) (Command.fill n) (session_of a v) lies refl refl (ap not of_type) (session_of b v) None refl
         (ap (λ (t : Session (List Bool)). (t, None)) (ap (λ x. filled_below (setting_of w a) (session_of a v) x (upto (blocks (shape a)))) (sym same) ∙ sym fills))
-        stays (ap (λ h. h.ty) head) (ap (λ h. h.mode) head)
-
-    pub sum_is : (n m : ℤ) → n ≡ m → summed (setting_of w a) (λ b. b) (λ b values. total values) (upto (blocks (shape a))) (session_of a v) ≡ (session_of b v, m) → Does w Command.sum a v b v (Some (Reply.number n))
-    unfolding done array_format
-    sum_is n m same sums =
-        accepted w Command.sum a v lies refl refl refl b v (Some (Reply.number n)) refl
-        (ap (λ (r : Session (List Bool) × ℤ). (r.0, Some (Reply.number r.1))) sums ∙ ap (λ x. (session_of b v, Some (Reply.number x))) (sym same))
-        stays (ap (λ h. h.ty) head) (ap (λ h. h.mode) head)
-
-    pub vsum_is : (n m : ℤ) → n ≡ m → summed (setting_of w a) (block_number (shape a)) value_there (positions v) (session_of a v) ≡ (session_of b v, m) → Does w Command.vsum a v b v (Some (Reply.number n))
-    unfolding done
-    vsum_is n m same sums =
-        accepted w Command.vsum a v lies refl refl refl b v (Some (Reply.number n)) refl
-        (ap (λ (r : Session (List Bool) × ℤ). (r.0, Some (Reply.number r.1))) sums ∙ ap (λ x. (session_of b v, Some (Reply.number x))) (sym same))
-        stays (ap (λ h. h.ty) head) (ap (λ h. h.mode) head)
+        in_window
 
     -- ---- the whole array
 
-    pub flushed : state b ≡ flush (format a) (state a) → Does w Command.flush a v b v None
+    pub flushed : state b ≡ flush (format a) (state a) → Does (setting_of w a) Command.flush (session_of a v) (session_of b v) None
     unfolding done
     flushed flushes =
-        accepted w Command.flush a v lies refl refl refl b v None refl
+        accepted (setting_of w a) Command.flush (session_of a v) lies refl refl refl (session_of b v) None refl
         (ap (λ (t : Session (List Bool)). (t, None))
         (session_is w a is.same_type v b (flush (format_of (setting_of w a) (session_of a v)) (state a)) (ap (λ (f : Format (List Bool)). flush f (state a)) (format_is w a is.same_type v) ∙ sym flushes) head))
-        stays (ap (λ h. h.ty) head) (ap (λ h. h.mode) head)
+        in_window
 
-    pub discarded : state b ≡ discard (format a) (state a) → Does w Command.discard a v b v None
+    pub discarded : state b ≡ discard (format a) (state a) → Does (setting_of w a) Command.discard (session_of a v) (session_of b v) None
     unfolding done
     discarded discards =
-        accepted w Command.discard a v lies refl refl refl b v None refl
+        accepted (setting_of w a) Command.discard (session_of a v) lies refl refl refl (session_of b v) None refl
         (ap (λ (t : Session (List Bool)). (t, None))
         (session_is w a is.same_type v b (discard (format_of (setting_of w a) (session_of a v)) (state a)) (ap (λ (f : Format (List Bool)). discard f (state a)) (format_is w a is.same_type v) ∙ sym discards) head))
-        stays (ap (λ h. h.ty) head) (ap (λ h. h.mode) head)
-
-    pub lined : (n : ℕ) → is_line_count n ≡ true → state b ≡ relined (format a) (state a) (raised n) → Does w (Command.lines n) a v b v None
-    unfolding done
-    lined n counts relines =
-        accepted w (Command.lines n) a v lies (ap not counts) refl refl b v None refl
-        (ap (λ (t : Session (List Bool)). (t, None))
-        (session_is w a is.same_type v b (relined (format_of (setting_of w a) (session_of a v)) (state a) (raised n)) (ap (λ (f : Format (List Bool)). relined f (state a) (raised n)) (format_is w a is.same_type v) ∙ sym relines) head))
-        stays (ap (λ h. h.ty) head) (ap (λ h. h.mode) head)
+        in_window

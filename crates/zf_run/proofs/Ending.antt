@@ -1,5 +1,5 @@
 -- How a run over an array ends.
-use Rattle.std.proofs.Common.{◌≡◌, refl, sym, ap, subst, ◌∙◌, ℕ, zero, suc, ◌≤◌, Bool, List, Option, arith}
+use Rattle.std.proofs.Common.{◌≡◌, refl, sym, ap, subst, ◌∙◌, ℕ, zero, suc, Bool, List, Option, arith}
 use Rattle.std.specs.Int.{Width}
 use Rattle.zf_base.specs.Widths.{width_of}
 use Rattle.zf_base.specs.Formats.{Format}
@@ -10,21 +10,22 @@ use Rattle.zf_header.specs.HeaderBits.{block_bits}
 use Rattle.zf_cached.specs.Changes.{flush}
 use Rattle.zf_cached.specs.Windows.{Window, whole}
 use Rattle.zf_cached.specs.Steps.{Session, format_of}
-use Rattle.zf_cached.specs.Runs.{array_setting, run_script, run}
+use Rattle.zf_cached.specs.Runs.{array_setting, run_script, run, look}
 use Rattle.zf_array.specs.Standing.{Held, shape, state, format}
 use Rattle.zf_run.specs.declared.end.RunEnd.{RunEnd}
-use Rattle.zf_run.specs.declared.end.RunEnd.TheVariants.{Done, Lines}
-use Rattle.zf_run.specs.Sessions.{setting_of, session_of}
-use Rattle.zf_run.specs.Ends.{RunsAll, AllRun, Finishes, IsEnd, Runs}
+use Rattle.zf_run.specs.declared.end.RunEnd.TheVariants.{Write}
+use Rattle.zf_const.specs.Standing as read
+use Rattle.zf_run.specs.Sessions.{session, setting_of, session_of, kind, look_setting_of, look_start_of, stream_of}
+use Rattle.zf_run.specs.Ends.{RunsAll, StopsAt, AllRun, HasStopped, Finishes, Stops, IsEnd, end_of, Runs, FinishesLook, StopsLook, Looks}
 use Rattle.zf_run.proofs.Sessions.{format_is}
 
--- its type and its mode
-abbrev pub kind : Held → Ty × Mode
-kind a = (a.header.ty, a.header.mode)
-
-pub some_refused : (n : ℕ) → (n ≡ 0 → ⊥) → 1 ≤ n
-some_refused zero none = absurd (none refl)
-some_refused (suc n) none = omega arith
+-- an end says that all lines were run
+pub ends_all : (all : ℕ → Type 0) (stopped : Type 0) (n : ℕ) (end : RunEnd) → end ≡ end_of n → all n → IsEnd all stopped end
+ends_all all stopped n end is h = subst (IsEnd all stopped) (sym is) (by n h)
+  where
+    by : (n : ℕ) → all n → IsEnd all stopped (end_of n)
+    by zero h = h
+    by (suc n) h = (omega arith, h)
 
 module _ (w : Width) (a mid b : Held) (v u : Window) (script : List ℕ) (old new : Option (List ℕ)) (n : ℕ) (same : w ≡ width_of a.header.ty) (from : v ≡ whole (shape a))
     (all : AllRun (array_setting w (block_bits a.header.mode)) script (session_of a v) (session_of mid u) old new n) (kept : kind mid ≡ kind a)
@@ -51,17 +52,48 @@ module _ (w : Width) (a mid b : Held) (v u : Window) (script : List ℕ) (old ne
     written = ran.written;
   }
 
-  module _ (end : RunEnd) (ended : IsEnd w a b script all.0 old new end) where
-    ends : Runs w a b script old new end
-    ends = record {
-      wants = all.0;
-      ended = ended;
-      same_type = ap (λ (h : Header). h.ty) head ∙ ty;
-      same_mode = ap (λ (h : Header). h.mode) head ∙ mode;
+  pub runs_all : (end : RunEnd) → end ≡ end_of n → Runs w a b script old new end
+  runs_all end is = record {
+    wants = all.0;
+    ended = ends_all (Finishes w a b script all.0 old new) (Stops w a b script all.0 old new) n end is finished;
+    same_type = ap (λ (h : Header). h.ty) head ∙ ty;
+    same_mode = ap (λ (h : Header). h.mode) head ∙ mode;
+  }
+
+-- ---- a look
+
+module _ (w : Width) (a b : read.Held) (v u : Window) (script : List ℕ) (old new : Option (List ℕ)) (from : v ≡ whole (read.shape a)) (kept : stream_of b ≡ stream_of a) where
+  module _ (n : ℕ) (all : AllRun (look_setting_of w a.header) script (session (read.shape a) (read.state a) v) (session (read.shape b) (read.state b) u) old new n) where
+    looked : RunsAll (look_setting_of w a.header) all.0 script (look_start_of a) (session (read.shape b) (read.state b) u) old new n
+    looked = subst (λ x. RunsAll (look_setting_of w a.header) all.0 script (session (read.shape a) (read.state a) x) (session (read.shape b) (read.state b) u) old new n) from all.1
+
+    completed : FinishesLook w a b script all.0 old new n
+    unfolding look run_script
+    completed = record {
+      shape_is = ap (λ (s : Session (List Bool)). s.shape) looked.session;
+      state_is = ap (λ (s : Session (List Bool)). s.state) looked.session;
+      wanted = looked.wanted;
+      refused_is = looked.refused_is;
+      written = looked.written;
     }
 
-  pub ends_done : n ≡ 0 → Runs w a b script old new Done
-  ends_done none = ends Done (subst (Finishes w a b script all.0 old new) none finished)
+    pub looks_all : (end : RunEnd) → end ≡ end_of n → Looks w a b script old new end
+    looks_all end is = record {
+      wants = all.0;
+      ended = ends_all (FinishesLook w a b script all.0 old new) (StopsLook w a b script all.0 old new) n end is completed;
+      same_header = ap (λ (k : Header × List (List Bool)). k.0) kept;
+      same_codes = ap (λ (k : Header × List (List Bool)). k.1) kept;
+    }
 
-  pub ends_refused : 1 ≤ n → Runs w a b script old new (Lines n)
-  ends_refused some = ends (Lines n) (some, finished)
+  pub looks_stopped : HasStopped (look_setting_of w a.header) script (session (read.shape a) (read.state a) v) (session (read.shape b) (read.state b) u) old new → Looks w a b script old new Write
+  looks_stopped stopped = record {
+    wants = stopped.0;
+    ended = record {
+      session = session (read.shape b) (read.state b) u;
+      at_line = subst (λ x. StopsAt (look_setting_of w a.header) stopped.0 script (session (read.shape a) (read.state a) x) (session (read.shape b) (read.state b) u) old new) from stopped.1;
+      shape_is = refl;
+      state_is = refl;
+    };
+    same_header = ap (λ (k : Header × List (List Bool)). k.0) kept;
+    same_codes = ap (λ (k : Header × List (List Bool)). k.1) kept;
+  }

@@ -3,6 +3,7 @@
 --     Lining     a line as it is read
 --     Folding    lines one after the other, with the replies that are written
 --     Sessions   an array after a call as a session
+--     Looking    a read-only array after a call as a session
 --     Wide       values as numbers of 128 bits
 --     Stepping   the steps of commands that are refused and of those that are not
 --     Resizing   shapes that an array may be resized to
@@ -14,6 +15,7 @@ pub mod Cutting
 pub mod Lining
 pub mod Folding
 pub mod Sessions
+pub mod Looking
 pub mod Wide
 pub mod Stepping
 pub mod Commanding

@@ -14,11 +14,12 @@ use Rattle.zf_base.specs.Widths.{width_of}
 use Rattle.zf_base.specs.Formats.{Format, existing_of}
 use Rattle.zf_cached.specs.State.{State}
 use Rattle.zf_cached.specs.Touch.{touch_for_writing, with_values}
-use Rattle.zf_cached.specs.Windows.{Window}
-use Rattle.zf_cached.specs.Arrays.{array_format}
+use Rattle.zf_cached.specs.Windows.{Window, whole}
+use Rattle.zf_cached.specs.Arrays.{Coding, array_format}
 use Rattle.zf_cached.specs.Steps.{Setting, Session, touched, changed, filled_below, summed, total, format_of}
 use Rattle.zf_array.specs.Standing.{Held, shape, state, format, array_of}
-use Rattle.zf_run.specs.Sessions.{setting_of, session_of, IsArray}
+use Rattle.zf_run.specs.Sessions.{session, setting_of, session_of, IsArray}
+use Rattle.zf_run.specs.Steps.{Touches}
 use Rattle.zf_base.specs.declared.position.Extent.{Extent}
 use Rattle.zf_base.specs.Positions.{axes, used_axes, IsExtent}
 use Rattle.zf_header.specs.declared.header.Header.{Header}
@@ -116,9 +117,6 @@ module _ (w : Width) (dim : ℕ) (a now next : Held) (is : IsArray w dim a) (hea
   setting_kept : setting_of w now ≡ setting_of w a
   setting_kept = ap (λ h. array_setting w (block_bits h.mode)) head
 
-  pub touched_on : (k : ℕ) → session_of next u ≡ touched (setting_of w now) (session_of now u) k → touched (setting_of w a) (session_of now u) k ≡ session_of next u
-  touched_on k is_next = ap (λ s. touched s (session_of now u) k) (sym setting_kept) ∙ sym is_next
-
   -- one block more is filled
   pub fill_on : (k n : ℕ) (x : ℤ) → k < n
       → session_of next u ≡ changed (setting_of w now) (session_of now u) k (λ values. existing_of (format now) k (replicate (format now).block_len x))
@@ -135,6 +133,17 @@ module _ (w : Width) (dim : ℕ) (a now next : Held) (is : IsArray w dim a) (hea
 pub filled_all : {Code : Type 0} (setting : Setting Code) (s t : Session Code) (x : ℤ) (k n : ℕ) → n ≤ k → filled_below setting s x (count_from k (n - k)) ≡ t → s ≡ t
 unfolding filled_below
 filled_all setting s t x k n past is = let none : 0 ≡ n - k = omega arith in ap (λ m. filled_below setting s x (count_from k m)) none ∙ is
+
+-- ---- sums over touches, in any setting
+
+-- a touch changes no sizes
+pub shape_kept : {Code : Type 0} (setting : Setting Code) (k : ℕ) (ns ms : List ℕ) (s t : State Code) → Touches setting k (session ns s) (session ms t) → ms ≡ ns
+unfolding touched
+shape_kept setting k ns ms s t touches = ap (λ (x : Session _). x.shape) (sym (touches (whole ns)))
+
+-- what does not change says the setting
+pub touched_on : {Code Kept : Type 0} (setting : Kept → Setting Code) (now first : Kept) → now ≡ first → (k : ℕ) (s t : Session Code) → touched (setting now) s k ≡ t → touched (setting first) s k ≡ t
+touched_on setting now first same k s t is = ap (λ x. touched (setting x) s k) (sym same) ∙ is
 
 -- a sum so far, and what is still to be touched
 abbrev pub sum_from : {Code X : Type 0} → Setting Code → (X → ℕ) → (X → List ℤ → ℤ) → List X → Session Code → ℤ → Session Code × ℤ
@@ -160,16 +169,16 @@ module _ {Code X : Type 0} (setting : Setting Code) (block : X → ℕ) (found :
 -- ---- the places of a block that exist
 
 -- those that lie within its extents
-pub within_is : (w : Width) (dim : ℕ) (a : Held) (b : ℕ) (e : Extent) (vs : List ℤ) → IsArray w dim a → IsExtent (length (shape a)) e → used_axes (length (shape a)) e.size ≡ extent_of (shape a) b → length vs ≡ 4 ^ dim
-    → within e.size vs ≡ existing_of (format a) b vs
+pub within_is : {Code : Type 0} (coding : Coding Code) (ns : List ℕ) (dim b : ℕ) (e : Extent) (vs : List ℤ) → IsShape ns → length ns ≡ dim → IsExtent (length ns) e
+    → used_axes (length ns) e.size ≡ extent_of ns b → length vs ≡ 4 ^ dim → within e.size vs ≡ existing_of (array_format coding ns) b vs
 unfolding existing_of array_format place_indices
-within_is w dim a b e vs is extent used long =
-    let d = length (shape a) in
-    let many : length vs ≡ 4 ^ d = long ∙ ap (λ k. 4 ^ k) (sym is.dims) in
-    let exists : (p : ℕ) → p < 4 ^ d → is_inside (axes e.size) (indices 4 p) ≡ is_inside (extent_of (shape a) b) (indices d p) =
-    λ p lt. has_place d e is.sizes.four_at_most extent p lt ∙ ap (λ es. is_inside es (indices d p)) used in
+within_is coding ns dim b e vs sizes dims extent used long =
+    let d = length ns in
+    let many : length vs ≡ 4 ^ d = long ∙ ap (λ k. 4 ^ k) (sym dims) in
+    let exists : (p : ℕ) → p < 4 ^ d → is_inside (axes e.size) (indices 4 p) ≡ is_inside (extent_of ns b) (indices d p) =
+    λ p lt. has_place d e sizes.four_at_most extent p lt ∙ ap (λ es. is_inside es (indices d p)) used in
     ap (λ n. map (value_within e.size vs) (upto n)) many
-    ∙ map-upto_same (value_within e.size vs) (λ p. if is_inside (extent_of (shape a) b) (indices d p) then get_or vs p (pos 0) else pos 0) (4 ^ d)
+    ∙ map-upto_same (value_within e.size vs) (λ p. if is_inside (extent_of ns b) (indices d p) then get_or vs p (pos 0) else pos 0) (4 ^ d)
     (λ p lt. ap (λ t. if t then get_or vs p (pos 0) else pos 0) (exists p lt))
 
 -- an array after a touch
@@ -178,8 +187,8 @@ unfolding array_of
 header_after h s = refl
 
 -- a block has 256 places at most
-pub block_room : (w : Width) (dim : ℕ) (a : Held) → IsArray w dim a → (n : ℕ) → n ≡ 4 ^ dim → n ≤ 256
-block_room w dim a is n many = by (length (shape a)) is.sizes.four_at_most (many ∙ ap (λ d. 4 ^ d) (sym is.dims))
+pub block_room : (ns : List ℕ) (dim : ℕ) → IsShape ns → length ns ≡ dim → (n : ℕ) → n ≡ 4 ^ dim → n ≤ 256
+block_room ns dim sizes dims n many = by (length ns) sizes.four_at_most (many ∙ ap (λ d. 4 ^ d) (sym dims))
   where
     by : (d : ℕ) → d ≤ 4 → n ≡ 4 ^ d → n ≤ 256
     by zero four e = omega (arith, e)

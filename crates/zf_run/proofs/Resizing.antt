@@ -17,7 +17,7 @@ use Rattle.zf_cached.specs.Windows.{Window, LiesIn, whole}
 use Rattle.zf_cached.specs.Steps.{Setting, Session, is_new_shape, done}
 use Rattle.zf_cached.specs.Runs.{array_setting}
 use Rattle.zf_array.specs.Standing.{Held, shape, state, format}
-use Rattle.zf_run.specs.Sessions.{setting_of, session_of, start_of, IsArray}
+use Rattle.zf_run.specs.Sessions.{setting_of, session_of, start_of, kind, IsArray}
 use Rattle.zf_run.specs.Steps.{Does}
 use Rattle.zf_run.proofs.Stepping.{accepted}
 
@@ -68,7 +68,7 @@ module _ (w : Width) (a : Held) (dim : ℕ) (is : IsArray w dim a) (v : Window) 
   coded = ap (array_format (rate_coding w (block_bits a.header.mode))) (sym same) ∙ ap (λ u. array_format (rate_coding u (block_bits a.header.mode)) ms) is.same_type
       ∙ sym (ap (λ (h : Header). array_format (rate_coding (width_of h.ty) (block_bits h.mode)) h.shape) head)
 
-  pub resizes : state b ≡ resized (format b) (replicate (block_bits a.header.mode) false) (state a) → (u : Window) → u ≡ whole ms → LiesIn ms u → Does w (Command.resize ns) a v b u None
+  pub resizes : state b ≡ resized (format b) (replicate (block_bits a.header.mode) false) (state a) → (u : Window) → u ≡ whole ms → LiesIn ms u → Does (setting_of w a) (Command.resize ns) (session_of a v) (session_of b u) None
   unfolding done array_setting rate_coding
   resizes now u whole_is inside =
       let zero = replicate (block_bits a.header.mode) false in
@@ -77,6 +77,10 @@ module _ (w : Width) (a : Held) (dim : ℕ) (is : IsArray w dim a) (v : Window) 
       let view : whole ns ≡ u = ap whole (sym same) ∙ sym whole_is in
       let end : record { shape = ns; state = resized (array_format (rate_coding w (block_bits a.header.mode)) ns) zero (state a); window = whole ns } ≡ session_of b u =
       λ i. record { shape = sizes i; state = there i; window = view i } in
-      accepted w (Command.resize ns) a v lies (ap not new) refl refl b u None refl
+      accepted (setting_of w a) (Command.resize ns) (session_of a v) lies (ap not new) refl refl (session_of b u) None refl
       (ap (λ (t : Session (List Bool)). (t, None)) end)
-      (subst (λ ks. LiesIn ks u) (sym (ap (λ (h : Header). h.shape) head)) inside) (ap (λ (h : Header). h.ty) head) (ap (λ (h : Header). h.mode) head ∙ sym rate)
+      (subst (λ ks. LiesIn ks u) (sym (ap (λ (h : Header). h.shape) head)) inside)
+
+  -- of the type and the mode as before
+  pub resized_kind : kind b ≡ kind a
+  resized_kind = λ i. ((head i).ty, (ap (λ (h : Header). h.mode) head ∙ sym rate) i)

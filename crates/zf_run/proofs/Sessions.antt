@@ -1,5 +1,5 @@
 -- An array after a call as a session.
-use Rattle.std.proofs.Common.{◌≡◌, sym, ap, ◌∙◌, ℕ, ℤ, Bool, List}
+use Rattle.std.proofs.Common.{◌≡◌, sym, ap, ◌∙◌, ℕ, ℤ, Bool, List, None}
 use Rattle.std.specs.Int.{Width}
 use Rattle.zf_base.specs.Widths.{width_of}
 use Rattle.zf_base.specs.Formats.{Format}
@@ -8,7 +8,9 @@ use Rattle.zf_cached.specs.State.{State}
 use Rattle.zf_cached.specs.Touch.{touch, touch_for_writing, with_values}
 use Rattle.zf_cached.specs.Arrays.{rate_coding, array_format}
 use Rattle.zf_cached.specs.Windows.{Window}
-use Rattle.zf_cached.specs.Steps.{format_of, touched, changed}
+use Rattle.zf_cached.specs.Changes.{raised, relined}
+use Rattle.zf_cached.specs.Commands.{Command}
+use Rattle.zf_cached.specs.Steps.{Session, format_of, touched, changed, done}
 use Rattle.zf_cached.specs.Runs.{array_setting}
 use Rattle.zf_array.specs.Standing.{Held, shape, state, format}
 use Rattle.zf_run.specs.Sessions.{setting_of, session_of}
@@ -35,3 +37,10 @@ module _ (w : Width) (a : Held) (same : w ≡ width_of a.header.ty) (v : Window)
   changed_is b k change is head =
       let End = λ (f : Format (List Bool)). let t = touch_for_writing f (state a) k in with_values t k (change (t.values k)) in
       session_is b (End (format_of (setting_of w a) (session_of a v))) (ap End format_is ∙ sym is) head
+
+  -- another number of lines
+  pub lined_is : (b : Held) (n : ℕ) → state b ≡ relined (format a) (state a) (raised n) → b.header ≡ a.header → done (setting_of w a) (session_of a v) (Command.lines n) ≡ (session_of b v, None)
+  unfolding done
+  lined_is b n is head =
+      ap (λ (t : Session (List Bool)). (t, None))
+      (session_is b (relined (format_of (setting_of w a) (session_of a v)) (state a) (raised n)) (ap (λ (f : Format (List Bool)). relined f (state a) (raised n)) format_is ∙ sym is) head)

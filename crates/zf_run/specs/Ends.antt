@@ -1,14 +1,16 @@
 -- How the run of a script ends. What a sink tells of its bytes is `Some`, else `None`.
-use Rattle.std.specs.Prelude.{ℕ, ◌≡◌, ◌+◌, ◌≤◌, ◌<◌, Bool, List, [], ◌∷◌, ◌++◌, length, take, count_by, Option}
+use Rattle.std.specs.Prelude.{ℕ, zero, suc, ◌≡◌, ◌+◌, ◌≤◌, ◌<◌, List, [], ◌∷◌, ◌++◌, length, take, count_by, Option}
 use Rattle.std.specs.Int.{Width}
 use Rattle.zf_dev.specs.Sink.{Appends}
+use Rattle.zf_cached.specs.State.{State}
 use Rattle.zf_cached.specs.Replies.{Reply, reply_text}
 use Rattle.zf_cached.specs.Steps.{Setting, Session}
 use Rattle.zf_cached.specs.Runs.{lines_of, run_lines, replies_text}
 use Rattle.zf_array.specs.Standing.{Held, shape, state}
 use Rattle.zf_run.specs.declared.end.RunEnd.{RunEnd}
 use Rattle.zf_run.specs.declared.end.RunEnd.TheVariants.{Done, Lines, Write}
-use Rattle.zf_run.specs.Sessions.{setting_of, start_of, run_of}
+use Rattle.zf_const.specs.Standing as read
+use Rattle.zf_run.specs.Sessions.{setting_of, start_of, run_of, look_setting_of, look_start_of, look_of}
 use Rattle.zf_run.specs.Steps.{is_refusal, is_want}
 
 -- memory was wanting at as many lines as say so
@@ -47,31 +49,65 @@ AllRun setting script start now old new refused = (wants : List ℕ) × RunsAll 
 abbrev pub HasStopped : {Code : Type 0} → Setting Code → List ℕ → Session Code → Session Code → Option (List ℕ) → Option (List ℕ) → Type 0
 HasStopped setting script start now old new = (wants : List ℕ) × StopsAt setting wants script start now old new
 
+-- ---- what is left: an array of these sizes, in this state
+
+module _ {Code : Type 0} (ns : List ℕ) (s : State Code) (wants : List ℕ) (old new : Option (List ℕ)) where
+  -- all lines were run and each reply was written, where the lines lead to a session and replies; so many replies are refusals
+  pub record Completes (ran : Session Code × List Reply) (refused : ℕ) : Type 0 where
+    pub shape_is : ns ≡ ran.0.shape
+    pub state_is : s ≡ ran.0.state
+    pub wanted : AreWants wants ran.1
+    pub refused_is : refused ≡ count_by is_refusal ran.1
+    pub written : Appends old new (replies_text ran.1)
+
+  -- a line's reply was not written whole: no later line was run
+  pub record Halts (setting : Setting Code) (start : Session Code) (script : List ℕ) : Type 0 where
+    pub session : Session Code
+    pub at_line : StopsAt setting wants script start session old new
+    pub shape_is : ns ≡ session.shape
+    pub state_is : s ≡ session.state
+
+-- what an end says: all lines were run, with so many refusals, or they were not
+abbrev pub IsEnd : (ℕ → Type 0) → Type 0 → RunEnd → Type 0
+IsEnd all stopped Done = all 0
+IsEnd all stopped (Lines n) = (1 ≤ n) × all n
+IsEnd all stopped Write = stopped
+
+-- the end where all lines were run
+abbrev pub end_of : ℕ → RunEnd
+end_of zero = Done
+end_of (suc n) = Lines (suc n)
+
+-- ---- a run over an array that is read and written
+
 module _ (w : Width) (before now : Held) (script wants : List ℕ) (old new : Option (List ℕ)) where
-  -- all lines were run, each reply was written, and then the array was flushed; so many replies are refusals
-  pub record Finishes (refused : ℕ) : Type 0 where
-    pub shape_is : shape now ≡ (run_of w before wants script).0.shape
-    pub state_is : state now ≡ (run_of w before wants script).0.state
-    pub wanted : AreWants wants (run_of w before wants script).1
-    pub refused_is : refused ≡ count_by is_refusal (run_of w before wants script).1
-    pub written : Appends old new (replies_text (run_of w before wants script).1)
+  -- all lines were run, each reply was written, and then the array was flushed
+  abbrev pub Finishes : ℕ → Type 0
+  Finishes refused = Completes (shape now) (state now) wants old new (run_of w before wants script) refused
 
-  -- a line's reply was not written whole: no later line was run, and the array was not flushed
-  pub record Stops : Type 0 where
-    pub session : Session (List Bool)
-    pub at_line : StopsAt (setting_of w before) wants script (start_of before) session old new
-    pub shape_is : shape now ≡ session.shape
-    pub state_is : state now ≡ session.state
-
-  -- what an end says
-  abbrev pub IsEnd : RunEnd → Type 0
-  IsEnd Done = Finishes 0
-  IsEnd (Lines n) = (1 ≤ n) × Finishes n
-  IsEnd Write = Stops
+  -- a line's reply was not written whole, and the array was not flushed
+  abbrev pub Stops : Type 0
+  Stops = Halts (shape now) (state now) wants old new (setting_of w before) (start_of before) script
 
 -- a script was run over an array; memory was wanting at the lines with these numbers
 pub record Runs (w : Width) (before now : Held) (script : List ℕ) (old new : Option (List ℕ)) (end : RunEnd) : Type 0 where
   pub wants : List ℕ
-  pub ended : IsEnd w before now script wants old new end
+  pub ended : IsEnd (Finishes w before now script wants old new) (Stops w before now script wants old new) end
   pub same_type : now.header.ty ≡ before.header.ty
   pub same_mode : now.header.mode ≡ before.header.mode
+
+-- ---- a look at an array that is only read
+
+module _ (w : Width) (before now : read.Held) (script wants : List ℕ) (old new : Option (List ℕ)) where
+  abbrev pub FinishesLook : ℕ → Type 0
+  FinishesLook refused = Completes (read.shape now) (read.state now) wants old new (look_of w before wants script) refused
+
+  abbrev pub StopsLook : Type 0
+  StopsLook = Halts (read.shape now) (read.state now) wants old new (look_setting_of w before.header) (look_start_of before) script
+
+-- a script was run over an array that is only read; memory was wanting at the lines with these numbers
+pub record Looks (w : Width) (before now : read.Held) (script : List ℕ) (old new : Option (List ℕ)) (end : RunEnd) : Type 0 where
+  pub wants : List ℕ
+  pub ended : IsEnd (FinishesLook w before now script wants old new) (StopsLook w before now script wants old new) end
+  pub same_header : now.header ≡ before.header
+  pub same_codes : now.codes ≡ before.codes

@@ -1,10 +1,12 @@
 -- What the contracts of zf_run cite.
 --     Sessions    an array and a window as what a script works on
+--     Allowed     the commands that arrays allow
 --     Steps       what a line leads to, and what it answers
 --     Lines       a line and the reply that is written
 --     Sums        sums of the values of a block
 --     Ends        how the run of a script ends
 pub mod Sessions
+pub mod Allowed
 pub mod Steps
 pub mod Lines
 pub mod Sums

@@ -3,12 +3,23 @@ use Rattle.std.specs.Prelude.{ℕ, ◌≡◌, Bool, List, length}
 use Rattle.std.specs.Int.{Width}
 use Rattle.zf_spec.specs.Grid.{IsShape}
 use Rattle.zf_base.specs.Widths.{width_of}
+use Rattle.zf_base.specs.declared.lane.Ty.{Ty}
+use Rattle.zf_header.specs.declared.header.Header.{Header}
+use Rattle.zf_header.specs.declared.header.Mode.{Mode}
 use Rattle.zf_header.specs.HeaderBits.{block_bits}
+use Rattle.zf_cached.specs.State.{State}
 use Rattle.zf_cached.specs.Windows.{Window, whole}
 use Rattle.zf_cached.specs.Steps.{Setting, Session}
 use Rattle.zf_cached.specs.Replies.{Reply}
-use Rattle.zf_cached.specs.Runs.{array_setting, run}
+use Rattle.zf_cached.specs.Runs.{array_setting, run, look_setting, look}
 use Rattle.zf_array.specs.Standing.{Held, shape, state}
+use Rattle.zf_const.specs.Standing as read
+
+-- an array with these sizes and this state, seen through a window
+abbrev pub session : {Code : Type 0} → List ℕ → State Code → Window → Session Code
+session ns s window = record { shape = ns; state = s; window = window }
+
+-- ---- an array that is read and written
 
 -- what a script doesn't change about an array: the type of its values and the bits of a block
 abbrev pub setting_of : Width → Held → Setting (List Bool)
@@ -16,7 +27,11 @@ setting_of w a = array_setting w (block_bits a.header.mode)
 
 -- what it does change
 abbrev pub session_of : Held → Window → Session (List Bool)
-session_of a window = record { shape = shape a; state = state a; window = window }
+session_of a window = session (shape a) (state a) window
+
+-- the type of its values and its mode
+abbrev pub kind : Held → Ty × Mode
+kind a = (a.header.ty, a.header.mode)
 
 -- what it begins with
 abbrev pub start_of : Held → Session (List Bool)
@@ -31,3 +46,21 @@ pub record IsArray (w : Width) (d : ℕ) (a : Held) : Type 0 where
   pub same_type : w ≡ width_of a.header.ty
   pub sizes : IsShape (shape a)
   pub dims : length (shape a) ≡ d
+
+-- ---- an array that is only read
+
+-- what a script doesn't change about it: the type of its values and how its blocks are coded
+abbrev pub look_setting_of : Width → Header → Setting (List Bool)
+look_setting_of w h = look_setting w (read.coding_of h)
+
+-- what it begins with
+abbrev pub look_start_of : read.Held → Session (List Bool)
+look_start_of a = session (read.shape a) (read.state a) (whole (read.shape a))
+
+-- the look of a script at it
+abbrev pub look_of : Width → read.Held → List ℕ → List ℕ → Session (List Bool) × List Reply
+look_of w a wants script = look (look_setting_of w a.header) wants (read.shape a) (read.state a) script
+
+-- its header and its codes
+abbrev pub stream_of : read.Held → Header × List (List Bool)
+stream_of a = (a.header, a.codes)

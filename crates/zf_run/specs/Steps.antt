@@ -1,17 +1,14 @@
 -- What a line of a script leads to, and what it answers.
 use Rattle.std.specs.Prelude.{ℕ, ◌≡◌, Bool, true, false, List, Option, Some, None, Result, Ok, Err}
 use Rattle.std.specs.Option.{option_map}
-use Rattle.std.specs.Int.{Width}
 use Rattle.zf_cached.specs.Replies as script
 use Rattle.zf_cached.specs.Windows.{Window, LiesIn}
 use Rattle.zf_cached.specs.Commands.{Command}
-use Rattle.zf_cached.specs.Steps.{Setting, Session, step}
+use Rattle.zf_cached.specs.Steps.{Setting, Session, touched, step}
 use Rattle.zf_cached.specs.Runs.{read_step, line_step}
 use Rattle.zf_script.specs.declared.reply.Refusal.{Refusal}
 use Rattle.zf_script.specs.declared.reply.Reply.{Reply}
 use Rattle.zf_script.specs.Seen.{refusal_of, reply_of}
-use Rattle.zf_array.specs.Standing.{Held, shape}
-use Rattle.zf_run.specs.Sessions.{setting_of, session_of}
 
 -- the reply is a refusal
 abbrev pub is_refusal : script.Reply → Bool
@@ -49,13 +46,15 @@ Takes setting s c t reply = read_step setting s (Some c) (wanted reply) ≡ (t, 
 abbrev pub LeadsTo : {Code : Type 0} → Setting Code → Session Code → List ℕ → Session Code → Option script.Reply → Type 0
 LeadsTo setting s line t reply = line_step setting s line (wanted reply) ≡ (t, reply)
 
--- a command leads from an array and a window to others, and this is its answer; the type and the mode stay
-pub record Does (w : Width) (c : Command) (a : Held) (v : Window) (b : Held) (u : Window) (reply : Option script.Reply) : Type 0 where
-  pub step_is : step (setting_of w a) (session_of a v) c (wanted reply) ≡ (session_of b u, reply)
-  pub inside : LiesIn (shape b) u
-  pub same_type : b.header.ty ≡ a.header.ty
-  pub same_mode : b.header.mode ≡ a.header.mode
+-- a command leads from one session to another, whether or not it is allowed, and this is its answer
+pub record Does {Code : Type 0} (setting : Setting Code) (c : Command) (s t : Session Code) (reply : Option script.Reply) : Type 0 where
+  pub step_is : step setting s c (wanted reply) ≡ (t, reply)
+  pub inside : HasWindow t
 
--- a command that does not look at the window, and keeps it
-abbrev pub DoesAlone : Width → Command → Held → Held → Option script.Reply → Type 0
-DoesAlone w c a b reply = (v : Window) → LiesIn (shape a) v → Does w c a v b v reply
+-- a command that does not look at the window, and keeps it: an array through each window before, and the array after
+abbrev pub DoesAlone : {Code : Type 0} → Setting Code → Command → (Window → Session Code) → (Window → Session Code) → Option script.Reply → Type 0
+DoesAlone setting c before after reply = (v : Window) → HasWindow (before v) → Does setting c (before v) (after v) reply
+
+-- a touch of block b leads from an array, through each window, to another
+abbrev pub Touches : {Code : Type 0} → Setting Code → ℕ → (Window → Session Code) → (Window → Session Code) → Type 0
+Touches setting b before after = (v : Window) → touched setting (before v) b ≡ after v

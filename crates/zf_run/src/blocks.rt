@@ -8,11 +8,12 @@ ghost use Rattle.zf_cached.specs.Commands.{Command};
 ghost use Rattle.zf_cached.specs.Windows.{Window as Part};
 ghost use Rattle.zf_cached.specs.Steps.{touched, changed, filled_below, summed, total};
 ghost use Rattle.zf_array.specs.Standing.{shape, state, format};
-ghost use Rattle.zf_run.specs.Sessions.{setting_of, session_of, IsArray};
+ghost use Rattle.zf_run.specs.Sessions.{session, setting_of, session_of, kind, IsArray};
 ghost use Rattle.zf_run.specs.Sums.{value_within, within, IsUpTo};
 ghost use Rattle.zf_run.specs.Steps.{DoesAlone, answer};
 
 use crate::commands::Answer;
+use crate::target::Target;
 use crate::values::of_type;
 use zf_array::Array;
 use zf_base::{Lane, Pos};
@@ -21,7 +22,8 @@ use zf_script::{Refusal, Reply};
 /// `fill v`: makes all values be `v`.
 pub(crate) fn fill<T: Lane, const D: usize>(a: &mut Array<T, D>, v: i128) -> Answer
     requires { IsArray T.width D a.old }
-    ensures { DoesAlone T.width (Command.fill v) a.old a.new (answer result) }
+    ensures does { DoesAlone (setting_of T.width a.old) (Command.fill v) (session_of a.old) (session_of a.new) (answer result) }
+    ensures kept { kind a.new ≡ kind a.old }
 {
     let Some(v) = of_type(v) else {
         return Err(Refusal::Value);
@@ -31,9 +33,9 @@ pub(crate) fn fill<T: Lane, const D: usize>(a: &mut Array<T, D>, v: i128) -> Ans
 }
 
 /// `sum`: the sum of all values.
-pub(crate) fn sum<T: Lane, const D: usize>(a: &mut Array<T, D>) -> Answer
-    requires { IsArray T.width D a.old }
-    ensures { DoesAlone T.width Command.sum a.old a.new (answer result) }
+pub(crate) fn sum<A: Target>(a: &mut A) -> Answer
+    ensures does { DoesAlone (A.setting (A.kept a.old)) Command.sum (session (A.shape a.old) (A.state a.old)) (session (A.shape a.new) (A.state a.new)) (answer result) }
+    ensures kept { A.kept a.new ≡ A.kept a.old }
 {
     Ok(Some(Reply::Number(sum_blocks(a))))
 }
@@ -71,22 +73,22 @@ fn fill_line<T: Lane>(line: &mut [T], v: T)
 }
 
 // The sum of all values as the touches of their blocks find them. At most 2^27 blocks of 256 values of 64 bits have a sum far below 2^127.
-fn sum_blocks<T: Lane, const D: usize>(a: &mut Array<T, D>) -> i128
-    requires { IsArray T.width D a.old }
-    ensures sum { (u : Part) → summed (setting_of T.width a.old) (λ b. b) (λ b values. total values) (upto (blocks (shape a.old)))
-        (session_of a.old u) ≡ (session_of a.new u, result) }
+fn sum_blocks<A: Target>(a: &mut A) -> i128
+    ensures sum { (u : Part) → summed (A.setting (A.kept a.old)) (λ b. b) (λ b values. total values) (upto (blocks (A.shape a.old)))
+        (session (A.shape a.old) (A.state a.old) u) ≡ (session (A.shape a.new) (A.state a.new) u, result) }
     ensures bound { IsUpTo (2 ^ 100) result }
-    ensures header { a.new.header ≡ a.old.header }
+    ensures shape { A.shape a.new ≡ A.shape a.old }
+    ensures kept { A.kept a.new ≡ A.kept a.old }
 {
     let mut sum = 0;
-    for b in 0..a.shape().blocks() {
-        sum += sum_block(a, b);
+    for b in 0..a.sizes().blocks() {
+        sum += a.sum_of_block(b);
     }
     sum
 }
 
-// The sum of the values of block `b` as a touch finds them.
-fn sum_block<T: Lane, const D: usize>(a: &mut Array<T, D>, b: u64) -> i128
+/// The sum of the values of block `b` as a touch finds them.
+pub(crate) fn sum_block<T: Lane, const D: usize>(a: &mut Array<T, D>, b: u64) -> i128
     requires array { IsArray T.width D a.old }
     requires block { b < blocks (shape a.old) }
     ensures touched { (u : Part) → session_of a.new u ≡ touched (setting_of T.width a.old) (session_of a.old u) b }
@@ -98,8 +100,8 @@ fn sum_block<T: Lane, const D: usize>(a: &mut Array<T, D>, b: u64) -> i128
     sum_within(a.block(b), &size)
 }
 
-// The sum of the values of a block at the places that lie within these sizes.
-fn sum_within<T: Lane>(block: &[T], size: &Pos) -> i128
+/// The sum of the values of a block at the places that lie within these sizes.
+pub(crate) fn sum_within<T: Lane>(block: &[T], size: &Pos) -> i128
     requires { length block.now ≤ 256 }
     ensures sum { result ≡ total (within size.now (map T.value block.now)) }
     ensures bound { IsUpTo (2 ^ 71) result }

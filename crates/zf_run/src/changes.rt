@@ -7,10 +7,11 @@ ghost use Rattle.zf_cached.specs.Commands.{Command};
 ghost use Rattle.zf_cached.specs.Windows.{LiesIn};
 ghost use Rattle.zf_cached.specs.Steps.{is_new_shape};
 ghost use Rattle.zf_array.specs.Standing.{shape};
-ghost use Rattle.zf_run.specs.Sessions.{setting_of, start_of, IsArray};
+ghost use Rattle.zf_run.specs.Sessions.{session, setting_of, session_of, start_of, kind, IsArray};
 ghost use Rattle.zf_run.specs.Steps.{Does, DoesAlone, answer};
 
 use crate::commands::Answer;
+use crate::target::Target;
 use zf_array::Array;
 use zf_base::{Lane, Pos, Shape};
 use zf_header::{Header, MAX_FILE, Mode, rate_bytes};
@@ -23,7 +24,8 @@ const MAX_LINES: u64 = 65536;
 /// `flush`: writes back what is dirty, and empties the cache.
 pub(crate) fn flush<T: Lane, const D: usize>(a: &mut Array<T, D>) -> Answer
     requires { IsArray T.width D a.old }
-    ensures { DoesAlone T.width Command.flush a.old a.new (answer result) }
+    ensures does { DoesAlone (setting_of T.width a.old) Command.flush (session_of a.old) (session_of a.new) (answer result) }
+    ensures kept { kind a.new ≡ kind a.old }
 {
     a.flush();
     Ok(None)
@@ -32,21 +34,22 @@ pub(crate) fn flush<T: Lane, const D: usize>(a: &mut Array<T, D>) -> Answer
 /// `discard`: empties the cache, and writes nothing back.
 pub(crate) fn discard<T: Lane, const D: usize>(a: &mut Array<T, D>) -> Answer
     requires { IsArray T.width D a.old }
-    ensures { DoesAlone T.width Command.discard a.old a.new (answer result) }
+    ensures does { DoesAlone (setting_of T.width a.old) Command.discard (session_of a.old) (session_of a.new) (answer result) }
+    ensures kept { kind a.new ≡ kind a.old }
 {
     a.discard();
     Ok(None)
 }
 
 /// `lines L`: another number of lines of the cache.
-pub(crate) fn lines<T: Lane, const D: usize>(a: &mut Array<T, D>, count: u64) -> Answer
-    requires { IsArray T.width D a.old }
-    ensures { DoesAlone T.width (Command.lines count) a.old a.new (answer result) }
+pub(crate) fn lines<A: Target>(a: &mut A, count: u64) -> Answer
+    ensures does { DoesAlone (A.setting (A.kept a.old)) (Command.lines count) (session (A.shape a.old) (A.state a.old)) (session (A.shape a.new) (A.state a.new)) (answer result) }
+    ensures kept { A.kept a.new ≡ A.kept a.old }
 {
     if count == 0 || count > MAX_LINES {
         return Err(Refusal::Size);
     }
-    match a.set_lines(count as u32) {
+    match a.use_lines(count as u32) {
         Ok(()) => Ok(None),
         Err(_) => Err(Refusal::Memory),
     }
@@ -62,7 +65,9 @@ pub(crate) fn resize<T: Lane, const D: usize>(
     requires array { IsArray T.width D a.old }
     requires inside { LiesIn (shape a.old) window.old }
     requires count { length (used_axes count sizes) ≡ count }
-    ensures { Does T.width (Command.resize (used_axes count sizes)) a.old window.old a.new window.new (answer result) }
+    ensures does { Does (setting_of T.width a.old) (Command.resize (used_axes count sizes))
+        (session_of a.old window.old) (session_of a.new window.new) (answer result) }
+    ensures kept { kind a.new ≡ kind a.old }
 {
     let Some(shape) = new_shape(a, count, sizes) else {
         return Err(Refusal::Size);
@@ -102,8 +107,9 @@ fn new_shape<T: Lane, const D: usize>(a: &Array<T, D>, count: u8, sizes: Pos) ->
 }
 
 /// `stats`: the counts of the cache.
-pub(crate) fn stats<T: Lane, const D: usize>(a: &mut Array<T, D>) -> Answer
-    ensures { DoesAlone T.width Command.stats a.old a.new (answer result) }
+pub(crate) fn stats<A: Target>(a: &mut A) -> Answer
+    ensures does { DoesAlone (A.setting (A.kept a.old)) Command.stats (session (A.shape a.old) (A.state a.old)) (session (A.shape a.new) (A.state a.new)) (answer result) }
+    ensures kept { A.kept a.new ≡ A.kept a.old }
 {
-    Ok(Some(Reply::Counts(a.stats())))
+    Ok(Some(Reply::Counts(a.counts())))
 }

@@ -1,77 +1,71 @@
-//! Commands on an array.
+//! Commands, on an array whether or not it can be changed.
 
-ghost use Rattle.std.specs.Prelude.{◌≡◌, Bool, List, length};
-ghost use Rattle.std.specs.Int.{Width};
-ghost use Rattle.zf_base.specs.declared.lane.Ty.{Ty};
-ghost use Rattle.zf_header.specs.declared.header.Mode.{Mode};
-ghost use Rattle.zf_header.specs.HeaderBits.{block_bits};
-ghost use Rattle.zf_cached.specs.Windows.{LiesIn};
-ghost use Rattle.zf_cached.specs.Runs.{array_setting};
+ghost use Rattle.std.specs.Prelude.{◌≡◌, true, false, length, IfSome, OnSome, IfNone};
+ghost use Rattle.zf_spec.specs.Grid.{IsShape};
+ghost use Rattle.zf_cached.specs.Runs.{only_reads, read_step};
 ghost use Rattle.zf_script.specs.Seen.{command_of, cmd_of};
-ghost use Rattle.zf_array.specs.Standing.{shape};
-ghost use Rattle.zf_run.specs.Sessions.{session_of, IsArray};
-ghost use Rattle.zf_run.specs.Steps.{Does, answer};
+ghost use Rattle.zf_run.specs.Sessions.{session};
+ghost use Rattle.zf_run.specs.Steps.{HasWindow, Takes, Does, said, answer};
 
-use crate::blocks::{fill, sum};
-use crate::changes::{discard, flush, lines, resize, stats};
+use crate::blocks::sum;
+use crate::changes::{lines, stats};
 use crate::target::Target;
-use crate::values::{add, get, set, vget, vset};
+use crate::values::{get, vget};
 use crate::windows::{slice, view, vsum};
-use zf_array::Array;
-use zf_base::Lane;
 use zf_script::{Cmd, Refusal, Reply};
 use zf_view::Window;
 
 /// The reply of a command, if any, or why it is refused.
 pub(crate) type Answer = Result<Option<Reply>, Refusal>;
 
-impl<T: Lane, const D: usize> Target for Array<T, D> {
-    ghost Code = { List Bool };
-
-    ghost Kept = { Ty × Mode };
-
-    ghost kept = { λ a. (a.header.ty, a.header.mode) };
-
-    ghost setting = { λ k. array_setting T.width (block_bits k.1) };
-
-    ghost session = { session_of };
-
-    fn dims(&self) -> u8 {
-        self.shape().dims()
-    }
-
-    fn command(&mut self, window: &mut Window, cmd: Cmd) -> Option<Reply> {
-        // an array has a shape
-        let _dims = self.shape().dims();
-        match answer(self, window, cmd) {
-            Ok(reply) => reply,
-            Err(why) => Some(Reply::Refused(why)),
-        }
+/// Does what a command asks for; its reply, if any. A command that is refused changes nothing.
+pub(crate) fn command<A: Target>(a: &mut A, window: &mut Window, cmd: Cmd) -> Option<Reply>
+    requires window { HasWindow (session (A.shape a.old) (A.state a.old) window.old) }
+    requires numbers { cmd ≡ cmd_of (command_of (length (A.shape a.old)) cmd) }
+    ensures step { Takes (A.setting (A.kept a.old)) (session (A.shape a.old) (A.state a.old) window.old)
+        (command_of (length (A.shape a.old)) cmd) (session (A.shape a.new) (A.state a.new) window.new) (said result) }
+    ensures window { HasWindow (session (A.shape a.new) (A.state a.new) window.new) }
+    ensures kept { A.kept a.new ≡ A.kept a.old }
+{
+    // Known by this call: the sizes are those of a shape.
+    let _dims = a.sizes().dims();
+    match read(a, window, cmd) {
+        Some(done) => spoken(done),
+        None => a.change(window, cmd),
     }
 }
 
-// What a command of each kind does. Each tests what it is refused for in the order of size, range, value and memory.
-fn answer<T: Lane, const D: usize>(a: &mut Array<T, D>, window: &mut Window, cmd: Cmd) -> Answer
-    requires array { IsArray T.width D a.old }
-    requires inside { LiesIn (shape a.old) window.old }
-    requires numbers { cmd ≡ cmd_of (command_of (length (shape a.old)) cmd) }
-    ensures { Does T.width (command_of (length (shape a.old)) cmd) a.old window.old a.new window.new (answer result) }
+/// The reply, or that a command is refused, as a reply.
+pub(crate) fn spoken(done: Answer) -> Option<Reply>
+    ensures { said result ≡ answer done }
+{
+    match done {
+        Ok(reply) => reply,
+        Err(why) => Some(Reply::Refused(why)),
+    }
+}
+
+// What a command that only reads does; nothing where the command is another. Each tests what it is refused for in the order of size, range, value and memory.
+fn read<A: Target>(a: &mut A, window: &mut Window, cmd: Cmd) -> Option<Answer>
+    requires sizes { IsShape (A.shape a.old) }
+    requires window { HasWindow (session (A.shape a.old) (A.state a.old) window.old) }
+    requires numbers { cmd ≡ cmd_of (command_of (length (A.shape a.old)) cmd) }
+    ensures does { IfSome result (λ r. Does (A.setting (A.kept a.old)) (command_of (length (A.shape a.old)) cmd)
+        (session (A.shape a.old) (A.state a.old) window.old) (session (A.shape a.new) (A.state a.new) window.new) (answer r)) }
+    ensures reads { OnSome result (only_reads (command_of (length (A.shape a.old)) cmd) ≡ true) }
+    ensures writes { IfNone result (only_reads (command_of (length (A.shape a.old)) cmd) ≡ false) }
+    ensures unchanged { IfNone result ((a.new ≡ a.old) × (window.new ≡ window.old)) }
+    ensures kept { A.kept a.new ≡ A.kept a.old }
 {
     match cmd {
-        Cmd::Get(p) => get(a, p),
-        Cmd::Set(p, v) => set(a, p, v),
-        Cmd::Add(p, v) => add(a, p, v),
-        Cmd::Fill(v) => fill(a, v),
-        Cmd::Sum => sum(a),
-        Cmd::View(origin, size, step) => view(a, window, origin, size, step),
-        Cmd::Slice(axis, at) => slice(a, window, axis, at),
-        Cmd::VGet(p) => vget(a, window, p),
-        Cmd::VSet(p, v) => vset(a, window, p, v),
-        Cmd::VSum => vsum(a, window),
-        Cmd::Flush => flush(a),
-        Cmd::Discard => discard(a),
-        Cmd::Lines(count) => lines(a, count),
-        Cmd::Resize(count, sizes) => resize(a, window, count, sizes),
-        Cmd::Stats => stats(a),
+        Cmd::Get(p) => Some(get(a, p)),
+        Cmd::Sum => Some(sum(a)),
+        Cmd::View(origin, size, step) => Some(view(a, window, origin, size, step)),
+        Cmd::Slice(axis, at) => Some(slice(a, window, axis, at)),
+        Cmd::VGet(p) => Some(vget(a, window, p)),
+        Cmd::VSum => Some(vsum(a, window)),
+        Cmd::Lines(count) => Some(lines(a, count)),
+        Cmd::Stats => Some(stats(a)),
+        _ => None,
     }
 }

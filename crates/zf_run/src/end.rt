@@ -1,5 +1,8 @@
 //! How a run ends.
 
+ghost use Rattle.std.specs.Prelude.{◌≡◌};
+ghost use Rattle.zf_run.specs.Ends.{end_of};
+
 /// How the run of a script ended.
 #[derive(Clone, Copy, Debug, PartialEq, Eq)]
 pub enum RunEnd {
@@ -9,4 +12,15 @@ pub enum RunEnd {
     Lines(u64),
     /// A reply was not written whole. No later line was run.
     Write,
+}
+
+/// The end where all lines were run, and so many of them were refused.
+pub(crate) fn end_of(refused: u64) -> RunEnd
+    ensures { result ≡ end_of refused }
+{
+    if refused == 0 {
+        RunEnd::Done
+    } else {
+        RunEnd::Lines(refused)
+    }
 }

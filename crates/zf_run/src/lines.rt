@@ -3,9 +3,11 @@
 ghost use Rattle.std.specs.Prelude.{◌≡◌, ◌<◌, [], ◌∷◌, length, IfSome, IfNone, IfOk, OnErr, OnOk, IsErr};
 ghost use Rattle.zf_dev.specs.Faults.{HasCause};
 ghost use Rattle.zf_cached.specs.Runs.{lines_of};
+ghost use Rattle.zf_run.specs.Sessions.{session};
 ghost use Rattle.zf_run.specs.Steps.{HasWindow, LeadsTo, said};
 ghost use Rattle.zf_run.specs.Lines.{Replies, Breaks};
 
+use crate::commands::command;
 use crate::target::Target;
 use memchr::memchr;
 use zf_dev::{Failed, Sink, write_all};
@@ -29,12 +31,12 @@ pub(crate) fn run_line<A: Target, O: Sink>(
     line: &[u8],
     out: &mut O,
 ) -> Result<bool, Failed>
-    requires { HasWindow (A.session a.old window.old) }
-    ensures ok { IfOk result (Replies (A.setting (A.kept a.old)) (A.session a.old window.old) line.now
-        (A.session a.new window.new) (O.contents out.old) (O.contents out.new)) }
-    ensures err { OnErr result (Breaks (A.setting (A.kept a.old)) (A.session a.old window.old) line.now
-        (A.session a.new window.new) (O.contents out.old) (O.contents out.new)) }
-    ensures window { HasWindow (A.session a.new window.new) }
+    requires { HasWindow (session (A.shape a.old) (A.state a.old) window.old) }
+    ensures ok { IfOk result (Replies (A.setting (A.kept a.old)) (session (A.shape a.old) (A.state a.old) window.old) line.now
+        (session (A.shape a.new) (A.state a.new) window.new) (O.contents out.old) (O.contents out.new)) }
+    ensures err { OnErr result (Breaks (A.setting (A.kept a.old)) (session (A.shape a.old) (A.state a.old) window.old) line.now
+        (session (A.shape a.new) (A.state a.new) window.new) (O.contents out.old) (O.contents out.new)) }
+    ensures window { HasWindow (session (A.shape a.new) (A.state a.new) window.new) }
     ensures kept { A.kept a.new ≡ A.kept a.old }
     ensures unchanged { OnOk result (O.faults out.new ≡ O.faults out.old) }
     ensures cause { HasCause (IsErr result) (O.faults out.old) (O.faults out.new) }
@@ -49,17 +51,17 @@ pub(crate) fn run_line<A: Target, O: Sink>(
 
 // What a line leads to, and its reply, if any. An empty line has none.
 fn reply_to<A: Target>(a: &mut A, window: &mut Window, line: &[u8]) -> Option<Reply>
-    requires { HasWindow (A.session a.old window.old) }
-    ensures step { LeadsTo (A.setting (A.kept a.old)) (A.session a.old window.old) line.now
-        (A.session a.new window.new) (said result) }
-    ensures window { HasWindow (A.session a.new window.new) }
+    requires { HasWindow (session (A.shape a.old) (A.state a.old) window.old) }
+    ensures step { LeadsTo (A.setting (A.kept a.old)) (session (A.shape a.old) (A.state a.old) window.old) line.now
+        (session (A.shape a.new) (A.state a.new) window.new) (said result) }
+    ensures window { HasWindow (session (A.shape a.new) (A.state a.new) window.new) }
     ensures kept { A.kept a.new ≡ A.kept a.old }
 {
     if line.is_empty() {
         return None;
     }
-    match parse_line(a.dims(), line) {
-        Ok(cmd) => a.command(window, cmd),
+    match parse_line(a.sizes().dims(), line) {
+        Ok(cmd) => command(a, window, cmd),
         Err(why) => Some(Reply::Refused(why)),
     }
 }

@@ -2,10 +2,11 @@
 
 ghost use Rattle.std.specs.Prelude.{◌≡◌, ◌≢◌, IfOk, OnErr, OnOk, IsErr};
 ghost use Rattle.zf_dev.specs.Faults.{HasCause};
+ghost use Rattle.zf_run.specs.Sessions.{session};
 ghost use Rattle.zf_run.specs.Steps.{HasWindow};
 ghost use Rattle.zf_run.specs.Ends.{Runs, AllRun, HasStopped};
 
-use crate::end::RunEnd;
+use crate::end::{RunEnd, end_of};
 use crate::lines::{cut_line, run_line};
 use crate::target::Target;
 use zf_array::Array;
@@ -30,29 +31,25 @@ pub fn run<T: Lane, const D: usize, O: Sink>(
     match run_lines(a, &mut window, script, out) {
         Ok(refused) => {
             a.flush();
-            if refused == 0 {
-                RunEnd::Done
-            } else {
-                RunEnd::Lines(refused)
-            }
+            end_of(refused)
         }
         Err(_) => RunEnd::Write,
     }
 }
 
-// Runs all lines, each on what those before left, and counts those that are refused.
-fn run_lines<A: Target, O: Sink>(
+/// Runs all lines, each on what those before left, and counts those that are refused.
+pub(crate) fn run_lines<A: Target, O: Sink>(
     a: &mut A,
     window: &mut Window,
     script: &[u8],
     out: &mut O,
 ) -> Result<u64, Failed>
-    requires { HasWindow (A.session a.old window.old) }
-    ensures ok { IfOk result (AllRun (A.setting (A.kept a.old)) script.now (A.session a.old window.old)
-        (A.session a.new window.new) (O.contents out.old) (O.contents out.new)) }
-    ensures err { OnErr result (HasStopped (A.setting (A.kept a.old)) script.now (A.session a.old window.old)
-        (A.session a.new window.new) (O.contents out.old) (O.contents out.new)) }
-    ensures window { HasWindow (A.session a.new window.new) }
+    requires { HasWindow (session (A.shape a.old) (A.state a.old) window.old) }
+    ensures ok { IfOk result (AllRun (A.setting (A.kept a.old)) script.now (session (A.shape a.old) (A.state a.old) window.old)
+        (session (A.shape a.new) (A.state a.new) window.new) (O.contents out.old) (O.contents out.new)) }
+    ensures err { OnErr result (HasStopped (A.setting (A.kept a.old)) script.now (session (A.shape a.old) (A.state a.old) window.old)
+        (session (A.shape a.new) (A.state a.new) window.new) (O.contents out.old) (O.contents out.new)) }
+    ensures window { HasWindow (session (A.shape a.new) (A.state a.new) window.new) }
     ensures kept { A.kept a.new ≡ A.kept a.old }
     ensures unchanged { OnOk result (O.faults out.new ≡ O.faults out.old) }
     ensures cause { HasCause (IsErr result) (O.faults out.old) (O.faults out.new) }

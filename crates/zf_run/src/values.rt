@@ -1,37 +1,41 @@
 //! Commands on one value, at a position of the array or of the window.
 
 ghost use Rattle.std.specs.Prelude.{◌≡◌, true, false, length, IfSome, IfNone};
+ghost use Rattle.zf_spec.specs.Grid.{IsShape};
 ghost use Rattle.zf_base.specs.Positions.{used_axes, with_unused};
 ghost use Rattle.zf_cached.specs.Commands.{Command};
 ghost use Rattle.zf_cached.specs.Windows.{LiesIn};
 ghost use Rattle.zf_cached.specs.Steps.{is_of_type};
 ghost use Rattle.zf_array.specs.Standing.{shape};
-ghost use Rattle.zf_run.specs.Sessions.{IsArray};
+ghost use Rattle.zf_run.specs.Sessions.{session, setting_of, session_of, kind, IsArray};
 ghost use Rattle.zf_run.specs.Steps.{Does, DoesAlone, answer};
 
 use crate::commands::Answer;
+use crate::target::Target;
 use zf_array::Array;
 use zf_base::{Lane, Pos};
 use zf_script::{Refusal, Reply};
 use zf_view::Window;
 
 /// `get P`: the value at a position.
-pub(crate) fn get<T: Lane, const D: usize>(a: &mut Array<T, D>, p: Pos) -> Answer
-    requires array { IsArray T.width D a.old }
-    requires unused { p ≡ with_unused 0 (used_axes (length (shape a.old)) p) }
-    ensures { DoesAlone T.width (Command.get (used_axes (length (shape a.old)) p)) a.old a.new (answer result) }
+pub(crate) fn get<A: Target>(a: &mut A, p: Pos) -> Answer
+    requires unused { p ≡ with_unused 0 (used_axes (length (A.shape a.old)) p) }
+    ensures does { DoesAlone (A.setting (A.kept a.old)) (Command.get (used_axes (length (A.shape a.old)) p))
+        (session (A.shape a.old) (A.state a.old)) (session (A.shape a.new) (A.state a.new)) (answer result) }
+    ensures kept { A.kept a.new ≡ A.kept a.old }
 {
-    if !a.shape().contains(p) {
+    if !a.sizes().contains(p) {
         return Err(Refusal::Range);
     }
-    Ok(Some(Reply::Number(a.get(p).to_wide())))
+    Ok(Some(Reply::Number(a.number(p))))
 }
 
 /// `set P v`: makes the value at a position be `v`.
 pub(crate) fn set<T: Lane, const D: usize>(a: &mut Array<T, D>, p: Pos, v: i128) -> Answer
     requires array { IsArray T.width D a.old }
     requires unused { p ≡ with_unused 0 (used_axes (length (shape a.old)) p) }
-    ensures { DoesAlone T.width (Command.set (used_axes (length (shape a.old)) p) v) a.old a.new (answer result) }
+    ensures does { DoesAlone (setting_of T.width a.old) (Command.set (used_axes (length (shape a.old)) p) v) (session_of a.old) (session_of a.new) (answer result) }
+    ensures kept { kind a.new ≡ kind a.old }
 {
     if !a.shape().contains(p) {
         return Err(Refusal::Range);
@@ -47,7 +51,8 @@ pub(crate) fn set<T: Lane, const D: usize>(a: &mut Array<T, D>, p: Pos, v: i128)
 pub(crate) fn add<T: Lane, const D: usize>(a: &mut Array<T, D>, p: Pos, v: i128) -> Answer
     requires array { IsArray T.width D a.old }
     requires unused { p ≡ with_unused 0 (used_axes (length (shape a.old)) p) }
-    ensures { DoesAlone T.width (Command.add (used_axes (length (shape a.old)) p) v) a.old a.new (answer result) }
+    ensures does { DoesAlone (setting_of T.width a.old) (Command.add (used_axes (length (shape a.old)) p) v) (session_of a.old) (session_of a.new) (answer result) }
+    ensures kept { kind a.new ≡ kind a.old }
 {
     if !a.shape().contains(p) {
         return Err(Refusal::Range);
@@ -60,16 +65,18 @@ pub(crate) fn add<T: Lane, const D: usize>(a: &mut Array<T, D>, p: Pos, v: i128)
 }
 
 /// `vget P`: the value at a position of the window.
-pub(crate) fn vget<T: Lane, const D: usize>(a: &mut Array<T, D>, window: &Window, p: Pos) -> Answer
-    requires array { IsArray T.width D a.old }
-    requires inside { LiesIn (shape a.old) window.now }
-    requires unused { p ≡ with_unused 0 (used_axes (length (shape a.old)) p) }
-    ensures { Does T.width (Command.vget (used_axes (length (shape a.old)) p)) a.old window.now a.new window.now (answer result) }
+pub(crate) fn vget<A: Target>(a: &mut A, window: &Window, p: Pos) -> Answer
+    requires sizes { IsShape (A.shape a.old) }
+    requires inside { LiesIn (A.shape a.old) window.now }
+    requires unused { p ≡ with_unused 0 (used_axes (length (A.shape a.old)) p) }
+    ensures does { Does (A.setting (A.kept a.old)) (Command.vget (used_axes (length (A.shape a.old)) p))
+        (session (A.shape a.old) (A.state a.old) window.now) (session (A.shape a.new) (A.state a.new) window.now) (answer result) }
+    ensures kept { A.kept a.new ≡ A.kept a.old }
 {
     if !window.contains(p) {
         return Err(Refusal::Range);
     }
-    Ok(Some(Reply::Number(a.get(window.map(p)).to_wide())))
+    Ok(Some(Reply::Number(a.number(window.map(p)))))
 }
 
 /// `vset P v`: makes the value at a position of the window be `v`.
@@ -82,7 +89,9 @@ pub(crate) fn vset<T: Lane, const D: usize>(
     requires array { IsArray T.width D a.old }
     requires inside { LiesIn (shape a.old) window.now }
     requires unused { p ≡ with_unused 0 (used_axes (length (shape a.old)) p) }
-    ensures { Does T.width (Command.vset (used_axes (length (shape a.old)) p) v) a.old window.now a.new window.now (answer result) }
+    ensures does { Does (setting_of T.width a.old) (Command.vset (used_axes (length (shape a.old)) p) v)
+        (session_of a.old window.now) (session_of a.new window.now) (answer result) }
+    ensures kept { kind a.new ≡ kind a.old }
 {
     if !window.contains(p) {
         return Err(Refusal::Range);

@@ -37,7 +37,7 @@ record Reads (found : Option (List ℤ × ℕ)) (most : ℕ) : Type 0 where
   is : found ≡ Some code
   fits : code.1 ≤ most
 
-planes_fit : (p size n : ℕ) (s : List Bool) → p ≤ n → length (code (planes_in p size s)) ≤ size * (n + 1)
+pub planes_fit : (p size n : ℕ) (s : List Bool) → p ≤ n → length (code (planes_in p size s)) ≤ size * (n + 1)
 planes_fit p size n s few =
     let same = length-planes_in p size s in
     let bound = length-code-le size (planes_in p size s) (planes_in-length p size s) in
@@ -51,7 +51,7 @@ number_small k s =
     let count : length (take k s) ≤ k = omega (arith, length-take k s) in
     omega (arith, number-lt (take k s), pow-le-pow_right {n = 2} (omega arith) count)
 
-count_fits : (ty : Ty) (s : List Bool) → (number (take (count_bits (width_of ty)) s) + 1 ≤ bits (width_of ty)) × (count_bits (width_of ty) ≤ 6)
+pub count_fits : (ty : Ty) (s : List Bool) → (number (take (count_bits (width_of ty)) s) + 1 ≤ bits (width_of ty)) × (count_bits (width_of ty) ≤ 6)
 count_fits I32 s = (omega (arith, number_small 5 s), omega arith)
 count_fits I64 s = (omega (arith, number_small 6 s), omega arith)
 

@@ -39,17 +39,17 @@ pub mod Slabwise
 pub mod FrontsOfStreams
 pub mod Answering
 mod Fill
-mod Joining
+pub mod Joining
 pub mod Windows
 pub mod SlabsBack
 pub mod Restored
 pub mod RestoredAll
 pub mod FromFront
-mod Parsed
+pub mod Parsed
 pub mod OwnFaults
 mod Refusals
 pub mod TextOfParse
-mod Enough
+pub mod Enough
 pub mod Joined
 pub mod ParseOfStream
 pub mod RateStreams

@@ -103,7 +103,7 @@ read_codes-cut h budget b (suc n) s is some short = by (ltb (length s) budget) r
 abbrev pub behind_codes : Header → ℕ → ℕ → List ℕ → List Bool
 behind_codes h len budget bytes = drop (blocks h.shape * budget) (drop len (to_bits bytes))
 
-parse_err : (bytes : List ℕ) (e : StreamFault) → values_said bytes ≡ Err e → parse bytes ≡ Err e
+pub parse_err : (bytes : List ℕ) (e : StreamFault) → values_said bytes ≡ Err e → parse bytes ≡ Err e
 unfolding parse
 parse_err bytes e is =
     let h = header_of bytes in ap (λ (r : Result (List ℤ) StreamFault). said_with h (codes_said h 0 (blocks h.shape) (code_bits bytes)) r) is

@@ -87,8 +87,10 @@ fn read_block<T: Lane>(
     Some(())
 }
 
-/// Reads the code of a block, or answers `None` where the bits end too early.
-fn read_code<T: Lane>(h: &Header, reader: &mut BitReader<'_>, block: &mut [T]) -> Option<()>
+/// Reads the code of a block of an array with this header, or answers `None` where the bits end too early.
+///
+/// `block` gets `4^d` values, x fastest. A code does not tell which of them exist; at places that do not, the values mean nothing.
+pub fn read_code<T: Lane>(h: &Header, reader: &mut BitReader<'_>, block: &mut [T]) -> Option<()>
     requires whole { length block.old ≡ 4 ^ length h.now.shape }
     ensures some { OnSome result (ReadsCode T.width h.now.mode (length h.now.shape) reader.old reader.new (map T.value block.new)) }
     ensures none { IfNone result (LacksCode T.width h.now.mode (length h.now.shape) reader.old) }
@@ -116,8 +118,8 @@ fn read_rate<T: Lane>(d: u8, bits: u32, reader: &mut BitReader<'_>, block: &mut 
     Some(())
 }
 
-/// Reads the fill, which is to be zero, and behind which nothing is to be.
-pub(crate) fn check_fill(h: &Header, reader: &mut BitReader<'_>) -> Result<(), StreamFault>
+/// Reads the fill behind the codes of an array with this header: it is to be zero, and nothing is to be behind it.
+pub fn check_fill(h: &Header, reader: &mut BitReader<'_>) -> Result<(), StreamFault>
     ensures { result ≡ fill_answer h.now reader.old.at (rest reader.old) }
 {
     let left = reader.left();

@@ -19,6 +19,7 @@ mod window;
 mod writing;
 
 pub use compressing::compress;
+pub use decoding::{check_fill, read_code};
 pub use fault::StreamFault;
 pub use header::read_header;
 pub use restoring::restore;

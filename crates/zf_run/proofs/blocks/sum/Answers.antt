@@ -1,6 +1,14 @@
+use Rattle.std.proofs.Common.{sym, subst}
+use Rattle.zf_cached.specs.Windows.{LiesIn}
+use Rattle.zf_run.specs.Sessions.{session}
 use Rattle.zf_run.proofs.Commanding.{sum_is}
 use Rattle.zf_run.proofs.Passing.{small_is}
 use Rattle.zf_run.proofs.blocks.sum.Goals as goal
 
-pub returns : goal.returns
-returns g c v lies = sum_is g.T.Lane.width c.args.a.now g.row.D c.requires v lies c.sum_blocks.new.a c.sum_blocks.ensures.header _ c.sum_blocks.result (small_is c.sum_blocks.result c.sum_blocks.ensures.bound) (c.sum_blocks.ensures.sum v)
+pub returns-clause-does : goal.returns-clause-does
+returns-clause-does g c v lies =
+    let a = c.args.a.now in
+    let b = c.sum_blocks.new.a in
+    sum_is (g.A.Target.setting (g.A.Target.kept a)) (session (g.A.Target.shape a) (g.A.Target.state a) v) lies (session (g.A.Target.shape b) (g.A.Target.state b) v)
+    (subst (λ ns. LiesIn ns v) (sym c.sum_blocks.ensures.shape) lies) _ c.sum_blocks.result
+    (small_is c.sum_blocks.result c.sum_blocks.ensures.bound) (c.sum_blocks.ensures.sum v)

@@ -6,14 +6,14 @@ use Rattle.zf_base.specs.Positions.{used_axes, IsExtent}
 use Rattle.zf_spec.specs.Grid.{extent_of}
 use Rattle.zf_cached.specs.Touch.{touch}
 use Rattle.zf_cached.specs.Steps.{total}
-use Rattle.zf_array.specs.Standing.{state, format, array_of}
+use Rattle.zf_array.specs.Standing.{shape, state, format, array_of}
 use Rattle.zf_run.specs.Sessions.{session_of}
 use Rattle.zf_run.proofs.Sessions.{touched_is}
 use Rattle.zf_run.proofs.Passing.{within_is, block_room, header_after, up_to_fits, up_to_less}
 use Rattle.zf_run.proofs.blocks.sum_block.Goals as goal
 
 pub sum_within-requires : goal.sum_within-requires
-sum_within-requires g c = block_room g.T.Lane.width g.row.D c.args.a.now c.requires.array (length c.block.result.now) c.block.ensures.size
+sum_within-requires g c = block_room (shape c.args.a.now) g.row.D c.requires.array.sizes c.requires.array.dims (length c.block.result.now) c.block.ensures.size
 
 pub returns-clause-touched : goal.returns-clause-touched
 returns-clause-touched g c u =
@@ -38,5 +38,5 @@ returns-clause-sum g c =
     let used = subst Q c.shape.ensures.value c.extent.ensures.used_size in
     let long = length-map c.block.result.now g.T.Lane.value ∙ c.block.ensures.size in
     to_z-of_z w128 c.sum_within.result (up_to_fits c.sum_within.result (up_to_less (2 ^ 71) (2 ^ 100) c.sum_within.result (omega arith) c.sum_within.ensures.bound))
-    ∙ c.sum_within.ensures.sum ∙ ap total (within_is g.T.Lane.width g.row.D now c.args.b e vs c.requires.array extent used long ∙ c.block.ensures.value)
+    ∙ c.sum_within.ensures.sum ∙ ap total (within_is _ (shape now) g.row.D c.args.b e vs c.requires.array.sizes c.requires.array.dims extent used long ∙ c.block.ensures.value)
     ∙ ap (λ s. total (s.values c.args.b)) (sym c.block.ensures.state) ∙ ap (λ a. total ((state a).values c.args.b)) (sym c.block.follows.holds-at-none)

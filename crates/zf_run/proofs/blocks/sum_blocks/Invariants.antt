@@ -2,16 +2,16 @@ use Rattle.std.proofs.Common.{◌≡◌, ◌-◌, ◌*◌, ◌^◌}
 use Rattle.zf_spec.specs.Grid.{upto, count_from, blocks}
 use Rattle.zf_cached.specs.Windows.{Window as Part}
 use Rattle.zf_cached.specs.Steps.{summed, total}
-use Rattle.zf_array.specs.Standing.{shape}
 use Rattle.zf_run.specs.Sums.{IsUpTo}
-use Rattle.zf_run.specs.Sessions.{setting_of, session_of}
+use Rattle.zf_run.specs.Sessions.{session}
 use Rattle.zf_run.proofs.Passing.{sum_from}
 use Rattle.zf_run.proofs.blocks.sum_blocks.Given as goal
 
 abbrev pub invariant-loop-b : goal.invariant-loop-b
 invariant-loop-b g l =
-    let setting = setting_of g.T.Lane.width l.fn.a in
-    let n = blocks (shape l.fn.a) in
-    (l.a.header ≡ l.fn.a.header) × IsUpTo (2 ^ 71 * l.b) l.sum
-    × ((u : Part) → summed setting (λ b. b) (λ b values. total values) (upto n) (session_of l.fn.a u)
-    ≡ sum_from setting (λ b. b) (λ b values. total values) (count_from l.b (n - l.b)) (session_of l.a u) l.sum)
+    let setting = g.A.Target.setting (g.A.Target.kept l.fn.a) in
+    let ns = g.A.Target.shape l.fn.a in
+    let n = blocks ns in
+    (g.A.Target.kept l.a ≡ g.A.Target.kept l.fn.a) × (g.A.Target.shape l.a ≡ ns) × IsUpTo (2 ^ 71 * l.b) l.sum
+    × ((u : Part) → summed setting (λ b. b) (λ b values. total values) (upto n) (session ns (g.A.Target.state l.fn.a) u)
+    ≡ sum_from setting (λ b. b) (λ b values. total values) (count_from l.b (n - l.b)) (session (g.A.Target.shape l.a) (g.A.Target.state l.a) u) l.sum)

@@ -1,5 +1,6 @@
 use Rattle.std.proofs.Common.{refl, ap, subst, ◌∙◌, ◌+◌, [], arith}
 use Rattle.zf_cached.specs.Runs.{lines_of}
+use Rattle.zf_run.specs.Sessions.{session}
 use Rattle.zf_run.specs.Lines.{Replies, Breaks}
 use Rattle.zf_run.proofs.Folding.{none_run, run_on, stop_here, all_run, one_or_none, at_most_one, of_error}
 use Rattle.zf_run.proofs.runs.run_lines.Goals as goal
@@ -14,9 +15,9 @@ pub returns-in_err-run_line-clause-err : goal.returns-in_err-run_line-clause-err
 returns-in_err-run_line-clause-err g c =
     let inv = c.loop-line.invariant in
     let S = g.A.Target.setting in
-    let start = g.A.Target.session c.args.a.now c.args.window.now in
-    let now = g.A.Target.session c.loop-line.a c.loop-line.window in
-    let next = g.A.Target.session c.run_line.new.a c.run_line.new.window in
+    let start = session (g.A.Target.shape c.args.a.now) (g.A.Target.state c.args.a.now) c.args.window.now in
+    let now = session (g.A.Target.shape c.loop-line.a) (g.A.Target.state c.loop-line.a) c.loop-line.window in
+    let next = session (g.A.Target.shape c.run_line.new.a) (g.A.Target.state c.run_line.new.a) c.run_line.new.window in
     let old = g.O.Sink.contents c.args.out.now in
     let mid = g.O.Sink.contents c.loop-line.out in
     let new = g.O.Sink.contents c.run_line.new.out in
@@ -35,9 +36,9 @@ pub loop-line-preserved : goal.loop-line-preserved
 loop-line-preserved g c =
     let inv = c.loop-line.invariant in
     let S = g.A.Target.setting in
-    let start = g.A.Target.session c.args.a.now c.args.window.now in
-    let now = g.A.Target.session c.loop-line.a c.loop-line.window in
-    let next = g.A.Target.session c.run_line.new.a c.run_line.new.window in
+    let start = session (g.A.Target.shape c.args.a.now) (g.A.Target.state c.args.a.now) c.args.window.now in
+    let now = session (g.A.Target.shape c.loop-line.a) (g.A.Target.state c.loop-line.a) c.loop-line.window in
+    let next = session (g.A.Target.shape c.run_line.new.a) (g.A.Target.state c.run_line.new.a) c.run_line.new.window in
     let old = g.O.Sink.contents c.args.out.now in
     let mid = g.O.Sink.contents c.loop-line.out in
     let new = g.O.Sink.contents c.run_line.new.out in
@@ -59,9 +60,9 @@ pub returns-in_err-run_line-2-clause-err : goal.returns-in_err-run_line-2-clause
 returns-in_err-run_line-2-clause-err g c =
     let inv = c.loop-line.invariant in
     let S = g.A.Target.setting in
-    let start = g.A.Target.session c.args.a.now c.args.window.now in
-    let now = g.A.Target.session c.loop-line.a c.loop-line.window in
-    let next = g.A.Target.session c.run_line-2.new.a c.run_line-2.new.window in
+    let start = session (g.A.Target.shape c.args.a.now) (g.A.Target.state c.args.a.now) c.args.window.now in
+    let now = session (g.A.Target.shape c.loop-line.a) (g.A.Target.state c.loop-line.a) c.loop-line.window in
+    let next = session (g.A.Target.shape c.run_line-2.new.a) (g.A.Target.state c.run_line-2.new.a) c.run_line-2.new.window in
     let old = g.O.Sink.contents c.args.out.now in
     let mid = g.O.Sink.contents c.loop-line.out in
     let new = g.O.Sink.contents c.run_line-2.new.out in
@@ -77,9 +78,9 @@ pub returns-clause-ok : goal.returns-clause-ok
 returns-clause-ok g c =
     let inv = c.loop-line.invariant in
     let S = g.A.Target.setting in
-    let start = g.A.Target.session c.args.a.now c.args.window.now in
-    let now = g.A.Target.session c.loop-line.a c.loop-line.window in
-    let next = g.A.Target.session c.run_line-2.new.a c.run_line-2.new.window in
+    let start = session (g.A.Target.shape c.args.a.now) (g.A.Target.state c.args.a.now) c.args.window.now in
+    let now = session (g.A.Target.shape c.loop-line.a) (g.A.Target.state c.loop-line.a) c.loop-line.window in
+    let next = session (g.A.Target.shape c.run_line-2.new.a) (g.A.Target.state c.run_line-2.new.a) c.run_line-2.new.window in
     let old = g.O.Sink.contents c.args.out.now in
     let mid = g.O.Sink.contents c.loop-line.out in
     let new = g.O.Sink.contents c.run_line-2.new.out in

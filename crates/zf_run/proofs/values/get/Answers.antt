@@ -1,23 +1,24 @@
-use Rattle.std.proofs.Common.{◌∙◌, refl, sym, subst, length}
+use Rattle.std.proofs.Common.{◌∙◌, refl, sym, subst, ◌^◌, length, arith}
 use Rattle.std.proofs.lemmas.Bool.{false≢true}
-use Rattle.zf_base.specs.Positions.{IsPosition}
+use Rattle.zf_base.specs.Positions.{used_axes, IsPosition}
 use Rattle.zf_cached.specs.Commands.{Command}
-use Rattle.zf_base.specs.Positions.{used_axes}
-use Rattle.zf_array.specs.Standing.{shape}
-use Rattle.zf_run.proofs.Wide.{wide}
+use Rattle.zf_run.specs.Sessions.{session}
+use Rattle.zf_run.proofs.Passing.{up_to_less, small_is}
 use Rattle.zf_run.proofs.Stepping.{refused_range}
 use Rattle.zf_run.proofs.Commanding.{outside, got}
 use Rattle.zf_run.proofs.values.get.Goals as goal
 
-pub returns-then-not-contains : goal.returns-then-not-contains
-returns-then-not-contains g c v lies =
-    let ns = shape c.args.a.now in
-    refused_range g.T.Lane.width (Command.get (used_axes (length ns) c.args.p)) c.args.a.now v lies refl
-    (outside ns c.args.p c.requires.unused (λ at. false≢true (sym c.if-not-contains.true ∙ c.contains.ensures.1 (subst (λ ms. IsPosition ms c.args.p) (sym c.shape.ensures.value) at))))
+pub returns-then-not-contains-clause-does : goal.returns-then-not-contains-clause-does
+returns-then-not-contains-clause-does g c v lies =
+    let a = c.args.a.now in
+    let ns = g.A.Target.shape a in
+    refused_range (g.A.Target.setting (g.A.Target.kept a)) (Command.get (used_axes (length ns) c.args.p)) (session ns (g.A.Target.state a) v) lies refl
+    (outside ns c.args.p c.requires.unused (λ at. false≢true (sym c.if-not-contains.true ∙ c.contains.ensures.1 (subst (λ ms. IsPosition ms c.args.p) (sym c.sizes.ensures) at))))
 
-pub returns : goal.returns
-returns g c v lies =
-    let now = c.args.a.now in
-    got g.T.Lane.width now g.row.D c.requires.array v lies c.get.new.self c.get.ensures.header c.args.p
-    (subst (λ ms. IsPosition ms c.args.p) c.shape.ensures.value (c.contains.ensures.0 c.if-not-contains.false)) _ c.get.ensures.state
-    (wide g.T.Lane.width g.met.T.Lane.two_widths c.to_wide.result (g.T.Lane.value c.get.result) c.to_wide.ensures.value (g.met.T.Lane.in_range_fits (g.T.Lane.value c.get.result)) c.to_wide.ensures.operand ∙ c.get.ensures.value)
+pub returns-clause-does : goal.returns-clause-does
+returns-clause-does g c v lies =
+    let a = c.args.a.now in
+    let b = c.number.new.self in
+    got (g.A.Target.setting (g.A.Target.kept a)) (session (g.A.Target.shape a) (g.A.Target.state a) v) lies (session (g.A.Target.shape b) (g.A.Target.state b) v) c.args.p
+    (subst (λ ms. IsPosition ms c.args.p) c.sizes.ensures (c.contains.ensures.0 c.if-not-contains.false)) _ (c.number.ensures.touched v)
+    (small_is c.number.result (up_to_less (2 ^ 63) (2 ^ 100) c.number.result (omega arith) c.number.ensures.bound) ∙ c.number.ensures.value)

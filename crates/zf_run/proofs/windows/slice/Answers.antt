@@ -2,14 +2,18 @@ use Rattle.std.proofs.Common.{refl}
 use Rattle.std.proofs.lemmas.Bool.{false≢true}
 use Rattle.zf_cached.specs.Windows.{has_place}
 use Rattle.zf_cached.specs.Commands.{Command}
+use Rattle.zf_run.specs.Sessions.{session}
 use Rattle.zf_run.proofs.Stepping.{refused_range}
 use Rattle.zf_run.proofs.Commanding.{is_not, cut}
 use Rattle.zf_run.proofs.windows.slice.Goals as goal
 
-pub returns-in_default : goal.returns-in_default
-returns-in_default g c =
-    refused_range g.T.Lane.width (Command.slice c.args.axis c.args.at) c.args.a.now c.args.window.now c.requires refl
+pub returns-in_default-clause-does : goal.returns-in_default-clause-does
+returns-in_default-clause-does g c =
+    let a = c.args.a.now in
+    refused_range (g.A.Target.setting (g.A.Target.kept a)) (Command.slice c.args.axis c.args.at) (session (g.A.Target.shape a) (g.A.Target.state a) c.args.window.now) c.requires refl
     (is_not (has_place c.args.window.now c.args.axis c.args.at) (λ e. false≢true (c.in_default.ensures.found.1 e)))
 
-pub returns : goal.returns
-returns g c = cut g.T.Lane.width c.args.a.now c.args.window.now c.requires c.args.axis c.args.at c.in-Some.part (c.in-Some.ensures.found.0 refl) c.in-Some.ensures.some
+pub returns-clause-does : goal.returns-clause-does
+returns-clause-does g c =
+    let a = c.args.a.now in
+    cut (g.A.Target.setting (g.A.Target.kept a)) (session (g.A.Target.shape a) (g.A.Target.state a) c.args.window.now) c.requires c.args.axis c.args.at c.in-Some.part (c.in-Some.ensures.found.0 refl) c.in-Some.ensures.some

@@ -1,0 +1,10 @@
+//! Read-only arrays: the codes of a stream in any mode, an index of them, and a cache of blocks.
+#![tactic(auto)]
+
+mod array;
+mod codes;
+mod index;
+#[cfg(test)]
+mod tests;
+
+pub use array::ConstArray;

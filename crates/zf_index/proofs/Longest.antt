@@ -1,0 +1,59 @@
+-- How many bits a code has at most.
+use Rattle.std.proofs.Common.{◌≡◌, sym, ap, ◌∙◌, ℕ, ◌+◌, ◌*◌, ◌^◌, ◌≤◌, min, Bool, true, false, cond, ltb, ℤ, Option, Some, None, List, length, take, drop, mul-le-mul_left, arith}
+use Rattle.std.proofs.Math.Nat.{pow-le-pow_right, mul-le-mul}
+use mir.Val.{bits}
+use Rattle.zf_spec.specs.Numbers.{number}
+use Rattle.zf_spec.specs.Planes.{code}
+use Rattle.zf_spec.specs.ReadPlanes.{planes_in}
+use Rattle.zf_spec.specs.Codes.{count_bits, read_rev, read_prec}
+use Rattle.zf_base.specs.declared.lane.Ty.{Ty}
+use Rattle.zf_base.specs.declared.lane.Ty.TheVariants.{I32, I64}
+use Rattle.zf_base.specs.Widths.{width_of}
+use Rattle.zf_header.specs.declared.header.Mode.{Mode}
+use Rattle.zf_header.specs.declared.header.Mode.TheVariants.{Reversible, Rate, Precision}
+use Rattle.zf_header.specs.HeaderBits.{IsMode}
+use Rattle.zf_stream.specs.Parsing.{read_code}
+use Rattle.zf_stream.proofs.Enough.{planes_fit, count_fits}
+
+-- what is found where enough bits are there
+found_some : {A : Type 0} (short : Bool) (n k : ℕ) (a b : A) → cond {A = Option (A × ℕ)} short None (Some (a, n)) ≡ Some (b, k) → n ≡ k
+found_some true n k a b e = absurd cc
+found_some {A} false n k a b e =
+    let same : (a, n) ≡ (b, k) = cc in
+    ap (λ (c : A × ℕ). c.1) same
+
+narrow : (ty : Ty) → bits (width_of ty) ≤ 64
+narrow I32 = omega arith
+narrow I64 = omega arith
+
+-- the planes of a block have few bits
+few : (ty : Ty) (d : ℕ) → d ≤ 4 → 4 ^ d * (bits (width_of ty) + 1) ≤ 16640
+few ty d le =
+    let size : 4 ^ d ≤ 4 ^ 4 = pow-le-pow_right (omega arith) le in
+    let count : bits (width_of ty) + 1 ≤ 65 = omega (arith, narrow ty) in
+    omega (arith, mul-le-mul size count)
+
+rev_few : (ty : Ty) (es : List ℕ) (s : List Bool) (block : List ℤ) (k : ℕ) → length es ≤ 4 → read_rev (width_of ty) es s ≡ Some (block, k) → k ≤ 32768
+unfolding read_rev
+rev_few ty es s block k le e =
+    let w = width_of ty in
+    let count = count_fits ty s in
+    let ps = planes_in (number (take (count_bits w) s) + 1) (4 ^ length es) (drop (count_bits w) s) in
+    let fit = planes_fit (number (take (count_bits w) s) + 1) (4 ^ length es) (bits w) (drop (count_bits w) s) count.0 in
+    let same = found_some (ltb (length s) (count_bits w + length (code ps))) (count_bits w + length (code ps)) k _ block e in
+    omega (arith, same, fit, count.1, few ty (length es) le)
+
+prec_few : (ty : Ty) (p : ℕ) (es : List ℕ) (s : List Bool) (block : List ℤ) (k : ℕ) → length es ≤ 4 → read_prec (width_of ty) p es s ≡ Some (block, k) → k ≤ 32768
+unfolding read_prec
+prec_few ty p es s block k le e =
+    let w = width_of ty in
+    let ps = planes_in (min p (bits w)) (4 ^ length es) s in
+    let fit = planes_fit (min p (bits w)) (4 ^ length es) (bits w) s (omega arith) in
+    let same = found_some (ltb (length s) (length (code ps))) (length (code ps)) k _ block e in
+    omega (arith, same, fit, few ty (length es) le)
+
+-- no code has more than 32768 bits
+pub code_few : (ty : Ty) (mode : Mode) (es : List ℕ) (s : List Bool) (block : List ℤ) (k : ℕ) → IsMode mode → length es ≤ 4 → read_code (width_of ty) mode es s ≡ Some (block, k) → k ≤ 32768
+code_few ty Reversible es s block k is le e = rev_few ty es s block k le e
+code_few ty (Rate b) es s block k is le e = let same = found_some (ltb (length s) b) b k _ block e in omega (arith, same, is.1)
+code_few ty (Precision p) es s block k is le e = prec_few ty p es s block k le e

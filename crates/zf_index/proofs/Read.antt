@@ -1,0 +1,169 @@
+-- Codes that are read where they begin, and what a stream of them says.
+use Rattle.std.proofs.Common.{◌≡◌, refl, sym, ap, subst, ◌∙◌, inl, inr, ⊎_elim, ℕ, zero, suc, ◌+◌, ◌-◌, ◌*◌, ◌^◌, ◌<◌, ◌≤◌, Bool, ℤ, Option, Some, None, Result, Ok, Err, List, [], ◌∷◌, ◌++◌, map, length, get_or, take, drop, length-append, length-drop, arith}
+use Rattle.std.proofs.lemmas.Bool.{cases_lt}
+use Rattle.std.proofs.lemmas.Simd.{map-map}
+use Rattle.std.proofs.lemmas.List.{drop-drop, length-take-le}
+use Rattle.zf_spec.specs.Grid.{count_from, upto, grid, blocks, extent_of}
+use Rattle.zf_spec.specs.Stream.{to_bits}
+use Rattle.zf_spec.proofs.Counting.{length-map-upto, get_or-map-upto, from_places}
+use Rattle.zf_base.specs.Widths.{width_of}
+use Rattle.zf_base.specs.Positions.{with_unused}
+use Rattle.zf_base.proofs.Sizes.{grid_of_shape}
+use Rattle.zf_bits.specs.Reader.{Reader, rest}
+use Rattle.zf_header.specs.declared.header.Header.{Header}
+use Rattle.zf_header.specs.HeaderBits.{header_bits, IsHeader}
+use Rattle.zf_header.proofs.Good.{good}
+use Rattle.zf_header.proofs.Found.{read_is_header}
+use Rattle.zf_stream.specs.declared.fault.StreamFault.{StreamFault}
+use Rattle.zf_stream.specs.declared.fault.StreamFault.TheVariants as faults
+use Rattle.zf_stream.specs.Parsing.{read_code, read_codes, read_next, with_block, codes_said, code_before, Said, said_with, parse, values_said, values_of_blocks, values_or_fault, fill_answer, codes_answer, header_of, code_bits}
+use Rattle.zf_stream.specs.ReadStreams.{BeginsWithHeader, IsFault}
+use Rattle.zf_stream.proofs.Parsed.{parse_is}
+use Rattle.zf_stream.proofs.RateStreams.{parse_err}
+use Rattle.zf_stream.proofs.Joining.{read_codes-cut}
+use Rattle.zf_index.specs.declared.fault.IndexFault.{IndexFault}
+use Rattle.zf_index.specs.Spans.{Index, len_at, place, code_in, codes_in}
+use Rattle.zf_index.specs.Files.{HasHeader, found, block_read, len_read, AreRead, blocks_found, IsIndexOf, stream_fault}
+use Rattle.zf_index.specs.Walks.{IsWalked, HasFault}
+use Rattle.zf_index.proofs.Places.{ends_within, place-push, len-push, len-last}
+
+-- what was read is its block and its length
+pub read_parts : (o : Option (List ℤ × ℕ)) (n : ℕ) → len_read o ≡ Some n → o ≡ Some (block_read o, n)
+read_parts None n e = absurd cc
+read_parts (Some code) n e = let same : code.1 ≡ n = cc in ap (λ k. Some (code.0, k)) same
+
+module _ (h : Header) (i : Index) (s : List Bool) (read : AreRead h i s) where
+  -- what is left behind a code
+  left : (b : ℕ) → drop (len_at i b) (drop (place i b) s) ≡ drop (place i (suc b)) s
+  left b = drop-drop (len_at i b) (place i b) s
+
+  here : (b : ℕ) → b < length i.lens → found h i s b ≡ Some (block_read (found h i s b), len_at i b)
+  here b lt = read_parts (found h i s b) (len_at i b) (read b lt)
+
+  -- the codes from block b on, bit for bit
+  codes_from : (b m : ℕ) → b + m ≤ length i.lens → codes_said h b m (drop (place i b) s) ≡ map (code_in i s) (count_from b m)
+  codes_from b zero le = refl
+  codes_from b (suc m) le =
+      ap (λ (c : Option (List ℤ × ℕ)). code_before (drop (place i b) s) c (codes_said h (suc b) m)) (here b (omega (arith, le)))
+      ∙ ap (λ (t : List Bool). code_in i s b ∷ codes_said h (suc b) m t) (left b)
+      ∙ ap (λ (cs : List (List Bool)). code_in i s b ∷ cs) (codes_from (suc b) m (omega (arith, le)))
+
+  -- and their blocks
+  blocks_from : (b m : ℕ) → b + m ≤ length i.lens → read_codes h b m (drop (place i b) s) ≡ Ok (map (λ k. block_read (found h i s k)) (count_from b m), drop (place i (b + m)) s)
+  blocks_from b zero le = let same : b ≡ b + 0 = omega arith in ap (λ k. Ok ([], drop (place i k) s)) same
+  blocks_from b (suc m) le =
+      let f = λ (k : ℕ). block_read (found h i s k) in
+      let behind = read_codes h (suc b) m in
+      let count : suc b + m ≡ b + suc m = omega arith in
+      ap (λ (c : Option (List ℤ × ℕ)). read_next b (drop (place i b) s) c behind) (here b (omega (arith, le)))
+      ∙ ap (λ (t : List Bool). with_block (f b) (behind t)) (left b)
+      ∙ ap (with_block (f b)) (blocks_from (suc b) m (omega (arith, le)))
+      ∙ ap (λ k. Ok (f b ∷ map f (count_from (suc b) m), drop (place i k) s)) count
+
+  pub codes_read : codes_said h 0 (length i.lens) (drop i.start s) ≡ codes_in i s
+  codes_read = codes_from 0 (length i.lens) (omega arith)
+
+  pub blocks_read : (n : ℕ) → n ≤ length i.lens → read_codes h 0 n (drop i.start s) ≡ Ok (map (λ k. block_read (found h i s k)) (upto n), drop (place i n) s)
+  blocks_read n le = blocks_from 0 n (omega (arith, le)) ∙ (let same : 0 + n ≡ n = omega arith in ap (λ k. Ok (map (λ j. block_read (found h i s j)) (upto n), drop (place i k) s)) same)
+
+  -- a code that ends too early
+  pub cut_behind : length i.lens < blocks h.shape → read_code (width_of h.ty) h.mode (extent_of h.shape (length i.lens)) (drop (place i (length i.lens)) s) ≡ None
+      → (all : ℕ) → codes_answer h all (read_codes h 0 (blocks h.shape) (drop i.start s)) ≡ Err (faults.Truncated (length i.lens))
+  cut_behind lt none all =
+      let n = length i.lens in
+      ap (codes_answer h all) (read_codes-cut h n (blocks h.shape) (drop i.start s) (drop (place i n) s) (map (λ k. block_read (found h i s k)) (upto n)) lt (blocks_read n (omega arith)) none)
+
+  -- all codes are there, so the answer is that of what stands behind them
+  module _ (count : length i.lens ≡ blocks h.shape) (within : place i (length i.lens) ≤ length s) where
+    pub answer_behind : codes_answer h (length s) (read_codes h 0 (blocks h.shape) (drop i.start s))
+        ≡ values_or_fault (values_of_blocks h.shape (blocks_found h i s)) (fill_answer h (place i (length i.lens)) (drop (place i (length i.lens)) s))
+    answer_behind =
+        let n = length i.lens in
+        let p = place i n in
+        let rest = drop p s in
+        let used : length s - length rest ≡ p = omega (arith, length-drop p s, within) in
+        ap (λ k. codes_answer h (length s) (read_codes h 0 k (drop i.start s))) (sym count)
+        ∙ ap (codes_answer h (length s)) (blocks_read n (omega arith))
+        ∙ ap (λ k. values_or_fault (values_of_blocks h.shape (blocks_found h i s)) (fill_answer h k rest)) used
+
+    -- what stands behind them is judged by one who is there
+    pub judged_behind : (r : Reader) → r.all ≡ s → r.at ≡ place i (length i.lens) → (e : StreamFault) → fill_answer h r.at (rest r) ≡ Err e
+        → codes_answer h (length s) (read_codes h 0 (blocks h.shape) (drop i.start s)) ≡ Err e
+    judged_behind r all at e bad =
+        let values = values_of_blocks h.shape (blocks_found h i s) in
+        let p = place i (length i.lens) in
+        let left : drop r.at r.all ≡ drop p s = ap (drop r.at) all ∙ ap (λ k. drop k s) at in
+        answer_behind ∙ ap (λ k. values_or_fault values (fill_answer h k (drop p s))) (sym at)
+        ∙ ap (λ (t : List Bool). values_or_fault values (fill_answer h r.at t)) (sym left) ∙ ap (values_or_fault values) bad
+
+-- one code more is read
+pub one_more : (h : Header) (s : List Bool) (start : ℕ) (xs : List ℕ) (n : ℕ) → AreRead h (record { start = start; lens = xs }) s
+    → len_read (found h (record { start = start; lens = xs }) s (length xs)) ≡ Some n → AreRead h (record { start = start; lens = xs ++ n ∷ [] }) s
+one_more h s start xs n read last b lt =
+    let i : Index = record { start = start; lens = xs } in
+    let j : Index = record { start = start; lens = xs ++ n ∷ [] } in
+    let Is : ℕ → Type 0 = λ k. len_read (found h j s k) ≡ Some (len_at j k) in
+    let there : (k : ℕ) → k ≤ length xs → found h j s k ≡ found h i s k =
+    λ k le. ap (λ p. read_code (width_of h.ty) h.mode (extent_of h.shape k) (drop p s)) (place-push start xs n k le) in
+    ⊎_elim
+    (λ below. ap len_read (there b (omega arith)) ∙ read b below ∙ ap Some (sym (len-push start xs n b below)))
+    (λ ge. let same : length xs ≡ b = omega (arith, lt, length-append xs (n ∷ [])) in
+        subst Is same (ap len_read (there (length xs) (omega arith)) ∙ last ∙ ap Some (sym (len-last start xs n))))
+    (cases_lt b (length xs))
+
+-- ---- what the bytes say
+
+module _ (bytes : List ℕ) (h : Header) (has : HasHeader bytes h) where
+  pub is_header : IsHeader h
+  is_header = subst IsHeader (sym has.header) (read_is_header bytes (good bytes (sym has.good)))
+
+  module _ (start : ℕ) (is : start ≡ length (header_bits h)) (inside : start ≤ 8 * length bytes) where
+    begun : BeginsWithHeader bytes h start
+    begun = record { good = has.good; header = has.header; bits_is = is; within = inside }
+
+    pub fault_is : (r : Reader) (e : IndexFault) → r.all ≡ to_bits bytes → r.at ≡ start → HasFault h r e → IsFault (parse bytes) (stream_fault e)
+    fault_is r e all at fault =
+        let bits = to_bits bytes in
+        let left : rest r ≡ drop start bits = ap (λ (s : List Bool). drop r.at s) all ∙ ap (λ k. drop k bits) at in
+        ⊎_elim
+        (λ said. inl (parse_err bytes (stream_fault e)
+            (parse_is bytes h start begun
+            ∙ ap (λ (s : List Bool). codes_answer h (length bits) (read_codes h 0 (blocks h.shape) s)) (sym left)
+            ∙ ap (λ (s : List Bool). codes_answer h (length s) (read_codes h 0 (blocks h.shape) (rest r))) (sym all) ∙ said)))
+        (λ wanting. inr (ap stream_fault wanting)) fault
+
+    pub index_is : (lens : List ℕ) → length (to_bits bytes) < 2 ^ 64 → IsWalked h (to_bits bytes) (record { start = start; lens = lens }) → IsIndexOf bytes h (record { start = start; lens = lens })
+    unfolding parse
+    index_is lens small walked =
+        let bits = to_bits bytes in
+        let i : Index = record { start = start; lens = lens } in
+        let cs = codes_in i bits in
+        let values = values_of_blocks h.shape (blocks_found h i bits) in
+        let Of : Header → Result Said StreamFault = λ g. said_with g (codes_said g 0 (blocks g.shape) (drop (length (header_bits g)) bits)) (values_said bytes) in
+        let good_values : values_said bytes ≡ Ok values =
+        parse_is bytes h start begun ∙ answer_behind h i bits walked.read walked.count walked.within ∙ ap (values_or_fault values) walked.fill in
+        let long : (b : ℕ) → b < length lens → length (code_in i bits b) ≡ len_at i b =
+        λ b lt. length-take-le (len_at i b) (drop (place i b) bits) (omega (arith, length-drop (place i b) bits, ends_within i b (length lens) lt, walked.within)) in
+        record {
+          start = is;
+          count = walked.count;
+          said = ap Of (sym has.header)
+              ∙ ap (λ k. said_with h (codes_said h 0 (blocks h.shape) (drop k bits)) (values_said bytes)) (sym is)
+              ∙ ap (λ k. said_with h (codes_said h 0 k (drop start bits)) (values_said bytes)) (sym walked.count)
+              ∙ ap (λ (ds : List (List Bool)). said_with h ds (values_said bytes)) (codes_read h i bits walked.read)
+              ∙ ap (said_with h cs) good_values;
+          lens = lens_are i bits long;
+          read = walked.read;
+          within = walked.within;
+          small = small;
+        }
+      where
+        lens_are : (i : Index) (bits : List Bool) → ((b : ℕ) → b < length i.lens → length (code_in i bits b) ≡ len_at i b) → map length (codes_in i bits) ≡ i.lens
+        lens_are i bits long = lengths (code_in i bits) i.lens (length i.lens) refl long
+          where
+            lengths : (f : ℕ → List Bool) (xs : List ℕ) (n : ℕ) → length xs ≡ n → ((b : ℕ) → b < n → length (f b) ≡ get_or xs b 0) → map length (map f (upto n)) ≡ xs
+            lengths f xs n long each = map-map length f (upto n) ∙ from_places (λ b. length (f b)) n 0 xs long (λ b lt. sym (each b lt))
+
+-- an array has a block
+pub blocks_some : (bytes : List ℕ) (h : Header) → HasHeader bytes h → 0 < blocks h.shape
+blocks_some bytes h has = (grid_of_shape h.shape (with_unused 1 (grid h.shape)) (is_header bytes h has).shape refl).some

@@ -1,0 +1,7 @@
+-- What the contracts of zf_index cite.
+--     Spans     codes that stand one after another: where each begins, and how long it is
+--     Files     the index of a stream, and why there is none
+--     Walks     what a walk over the codes of a stream finds
+pub mod Spans
+pub mod Files
+pub mod Walks

@@ -1,0 +1,21 @@
+-- What a walk over the codes of a stream finds.
+use Rattle.std.specs.Prelude.{ℕ, ◌≡◌, ◌+◌, ◌≤◌, ◌⊎◌, Bool, List, length, drop, Ok, Err}
+use Rattle.zf_spec.specs.Grid.{blocks}
+use Rattle.zf_bits.specs.Reader.{Reader, rest}
+use Rattle.zf_header.specs.declared.header.Header.{Header}
+use Rattle.zf_stream.specs.Parsing.{read_codes, codes_answer, fill_answer}
+use Rattle.zf_index.specs.declared.fault.IndexFault.{IndexFault}
+use Rattle.zf_index.specs.declared.fault.IndexFault.TheVariants.{Memory}
+use Rattle.zf_index.specs.Spans.{Index, place}
+use Rattle.zf_index.specs.Files.{AreRead, stream_fault}
+
+-- the codes of all blocks are read where they begin in these bits, and what stands behind them is good
+pub record IsWalked (h : Header) (s : List Bool) (i : Index) : Type 0 where
+  pub count : length i.lens ≡ blocks h.shape
+  pub read : AreRead h i s
+  pub within : place i (length i.lens) ≤ length s
+  pub fill : fill_answer h (place i (length i.lens)) (drop (place i (length i.lens)) s) ≡ Ok tt
+
+-- the fault of the codes and the fill from this place on, unless there was no memory
+abbrev pub HasFault : Header → Reader → IndexFault → Type 0
+HasFault h r e = (codes_answer h (length r.all) (read_codes h 0 (blocks h.shape) (rest r)) ≡ Err (stream_fault e)) ⊎ (e ≡ Memory)

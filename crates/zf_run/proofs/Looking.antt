@@ -1,0 +1,38 @@
+-- A read-only array after a call as a session.
+use Rattle.std.proofs.Common.{◌≡◌, refl, sym, ap, ℕ, Bool, true, false, Some, None}
+use Rattle.std.specs.Int.{Width}
+use Rattle.zf_cached.specs.Touch.{touch}
+use Rattle.zf_cached.specs.Changes.{raised, relined}
+use Rattle.zf_cached.specs.Commands.{Command}
+use Rattle.zf_cached.specs.Replies.{Refusal, Reply}
+use Rattle.zf_cached.specs.Windows.{Window}
+use Rattle.zf_cached.specs.Steps.{touched, step, done}
+use Rattle.zf_cached.specs.Runs.{look_setting, only_reads, read_step}
+use Rattle.zf_const.specs.Standing as read
+use Rattle.zf_const.specs.Standing.{Held, shape, state, format}
+use Rattle.zf_run.specs.Sessions.{session, look_setting_of, stream_of}
+
+-- the array after a touch has the same header and the same codes
+pub stream_after : (a : Held) (b : ℕ) → stream_of (read.touched a b) ≡ stream_of a
+unfolding read.touched
+stream_after a b = refl
+
+module _ (w : Width) (a : Held) (v : Window) where
+  -- a touch of block k
+  pub look_touched_is : (b : Held) (k : ℕ) → state b ≡ touch (format a) (state a) k → b.header ≡ a.header → touched (look_setting_of w a.header) (session (shape a) (state a) v) k ≡ session (shape b) (state b) v
+  unfolding touched look_setting
+  look_touched_is b k is head = λ i. record { shape = (sym head i).shape; state = sym is i; window = v }
+
+  -- another number of lines
+  pub look_lined_is : (b : Held) (n : ℕ) → state b ≡ relined (format a) (state a) (raised n) → b.header ≡ a.header
+      → done (look_setting_of w a.header) (session (shape a) (state a) v) (Command.lines n) ≡ (session (shape b) (state b) v, None)
+  unfolding done look_setting
+  look_lined_is b n is head = λ i. (record { shape = (sym head i).shape; state = sym is i; window = v }, None)
+
+  -- a command that does not only read
+  pub look_refuses : (c : Command) (wanting : Bool) → only_reads c ≡ false
+      → read_step (look_setting_of w a.header) (session (shape a) (state a) v) (Some c) wanting ≡ (session (shape a) (state a) v, Some (Reply.refused Refusal.word))
+  unfolding read_step look_setting
+  look_refuses c wanting writes =
+      let s = session (shape a) (state a) v in
+      ap (λ x. elim x [ true ↦ step (look_setting_of w a.header) s c wanting | false ↦ (s, Some (Reply.refused Refusal.word)) ]) writes

@@ -1,0 +1,12 @@
+use Rattle.std.proofs.Common.{length}
+use Rattle.zf_script.specs.Seen.{command_of}
+use Rattle.zf_run.specs.Sessions.{session}
+use Rattle.zf_run.proofs.Commanding.{taken}
+use Rattle.zf_run.proofs.commands.command.Goals as goal
+
+pub returns-in-Some-clause-step : goal.returns-in-Some-clause-step
+returns-in-Some-clause-step g c =
+    let a = c.args.a.now in
+    let cmd = command_of (length (g.A.Target.shape a)) c.args.cmd in
+    taken (g.A.Target.setting (g.A.Target.kept a)) cmd (session (g.A.Target.shape a) (g.A.Target.state a) c.args.window.now) _ _ _
+    (g.met.A.Target.reads (g.A.Target.kept a) cmd c.in-Some.ensures.reads) c.in-Some.ensures.does c.spoken.ensures
