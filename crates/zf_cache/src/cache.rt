@@ -274,7 +274,7 @@ impl<T: Lane, const D: usize> Cache<T, D> {
         ensures format { B.format back.new ≡ B.format back.old }
         ensures kept { B.kept back.new ≡ B.kept back.old }
     {
-        self.body.touch_read(back, b);
+        self.body.touch_read::<OneLine, B>(back, b);
     }
 
     /// As `block`, over a backing that is only read. Nothing is dirty.
