@@ -1,5 +1,5 @@
 -- Words that are a command are one command's.
-use Rattle.std.proofs.Common.{◌≡◌, ◌≢◌, ℕ, ◌+◌, ◌*◌, ◌<◌, ◌≤◌, ◌^◌, List, [], ◌∷◌, ◌++◌, map, length, get_or, take, drop, Option, Some, None, codes, decimal, refl, ap, sym, subst, ◌∙◌, arith, append_assoc}
+use Rattle.std.proofs.Common.{◌≡◌, ◌≢◌, ℕ, ◌+◌, ◌*◌, ◌<◌, ◌≤◌, ◌^◌, List, [], ◌∷◌, ◌++◌, map, length, get_or, ◌⊎◌, inl, inr, take, drop, Option, Some, None, codes, decimal, refl, ap, sym, subst, ◌∙◌, arith, append_assoc}
 use Rattle.std.specs.Str.{bytes_eq}
 use Rattle.std.proofs.lemmas.Bool.{true≢false}
 use Rattle.std.proofs.lemmas.Fmt.{decimal_injective}
@@ -11,6 +11,8 @@ use Rattle.zf_header.specs.declared.header.Header.{Header}
 use Rattle.zf_header.specs.declared.header.Mode.{Mode}
 use Rattle.zf_header.specs.declared.header.Mode.TheVariants.{Reversible, Rate, Precision}
 use Rattle.zf_header.specs.HeaderBits.{IsMode}
+use Rattle.zfpi.specs.declared.command.Caching.{Caching}
+use Rattle.zfpi.specs.declared.command.Caching.TheVariants.{Direct, TwoWay}
 use Rattle.zfpi.specs.declared.command.Command.{Command}
 use Rattle.zfpi.specs.declared.command.Command.TheVariants.{Compress, Restore, Info, New, Run, Look, Bound, Sample}
 use Rattle.zfpi.specs.declared.words.Task.{Task}
@@ -19,7 +21,7 @@ use Rattle.zfpi.specs.declared.words.Script.{Script}
 use Rattle.zfpi.specs.declared.words.Script.TheVariants as scripts
 use Rattle.zfpi.specs.declared.words.Stage.{Stage}
 use Rattle.zfpi.specs.declared.words.Stage.TheVariants as stages
-use Rattle.zfpi.specs.Words.{type_word, shape_word, mode_words, compress_words, IsLines, lines_words, IsOnScript, sample_words, IsAskable, IsSpelled, BeginsCommand, IsUsage}
+use Rattle.zfpi.specs.Words.{type_word, shape_word, mode_words, compress_words, IsLines, lines_words, IsCaching, caching_words, IsOnScript, sample_words, IsAskable, IsSpelled, BeginsCommand, IsUsage}
 use Rattle.zfpi.specs.Stages.{LeadsTo, IsBegun, task_words, script_word, script_command, IsRateWord, IsLinesWord, IsPrecisionWord}
 use Rattle.zfpi.proofs.ShapeWords.{parts_of-shape, decimals_injective, sizes_small}
 use Rattle.zfpi.proofs.Completed.{header_with, BeginsCommand-reached}
@@ -65,6 +67,16 @@ lines_words_injective (Some l) (Some m) a b same =
     let text : decimal l ≡ decimal m = cc in
     ap Some (decimal_injective l m (omega (arith, a.1)) (omega (arith, b.1)) text)
 
+pub caching_words_injective : (k l : Caching) → IsCaching k → IsCaching l → caching_words k ≡ caching_words l → k ≡ l
+caching_words_injective (Direct k) (Direct l) a b same = ap Direct (lines_words_injective k l a b same)
+caching_words_injective (Direct None) (TwoWay l) a b same = absurd (omega (arith, ap length same))
+caching_words_injective (Direct (Some k)) (TwoWay l) a b same = absurd (omega (arith, ap length (heads_same same)))
+caching_words_injective (TwoWay k) (Direct None) a b same = absurd (omega (arith, ap length same))
+caching_words_injective (TwoWay k) (Direct (Some l)) a b same = absurd (omega (arith, ap length (heads_same same)))
+caching_words_injective (TwoWay k) (TwoWay l) a b same =
+    let text : decimal k ≡ decimal l = cc in
+    ap TwoWay (decimal_injective k l (omega (arith, a.1)) (omega (arith, b.1)) text)
+
 -- ---- the first word tells a command from the others
 first_word : Command → List ℕ
 first_word (Compress h) = codes "compress"
@@ -82,7 +94,7 @@ begins_with (Compress h) words spelled = (type_word h.ty ∷ shape_word h.shape 
 begins_with Restore words spelled = ([], spelled)
 begins_with Info words spelled = ([], spelled)
 begins_with (New name ty ns b) words spelled = (name ∷ type_word ty ∷ shape_word ns ∷ decimal b ∷ [], spelled.words_are)
-begins_with (Run name lines) words spelled = (name ∷ lines_words lines, spelled.words_are)
+begins_with (Run name caching) words spelled = (name ∷ caching_words caching, spelled.words_are)
 begins_with (Look name lines) words spelled = (name ∷ lines_words lines, spelled.words_are)
 begins_with (Bound name most) words spelled = (name ∷ decimal most ∷ [], spelled.words_are)
 begins_with (Sample h seed) words spelled = (type_word h.ty ∷ shape_word h.shape ∷ decimal seed ∷ mode_words h.mode, spelled.words_are)
@@ -97,13 +109,17 @@ mark_of c words word rest is spelled = ap mark (heads_same (sym (begins_with c w
 same_mark : (c d : Command) (words : List (List ℕ)) → IsSpelled c words → IsSpelled d words → mark (first_word c) ≡ mark (first_word d)
 same_mark c d words a b = let other = begins_with d words b in mark_of c words (first_word d) other.0 other.1 a
 
--- the words of a command on a script tell the name and the lines
-same_script : (first : List ℕ) (n m : List ℕ) (k l : Option ℕ) (words : List (List ℕ)) → IsOnScript first n k words → IsOnScript first m l words → (n ≡ m) × (k ≡ l)
+-- the words of a command on a script tell the name and the cache
+same_script : (first : List ℕ) (n m : List ℕ) (k l : Caching) (words : List (List ℕ)) → IsOnScript first n k words → IsOnScript first m l words → (n ≡ m) × (k ≡ l)
 same_script first n m k l words a b =
-    let same : first ∷ n ∷ lines_words k ≡ first ∷ m ∷ lines_words l = sym a.words_are ∙ b.words_are in
+    let same : first ∷ n ∷ caching_words k ≡ first ∷ m ∷ caching_words l = sym a.words_are ∙ b.words_are in
     let named : n ≡ m = cc in
-    let behind : lines_words k ≡ lines_words l = cc in
-    (named, lines_words_injective k l a.lines_are b.lines_are behind)
+    let behind : caching_words k ≡ caching_words l = cc in
+    (named, caching_words_injective k l a.caching_is b.caching_is behind)
+
+-- a cache in which each block has one line, by its lines
+same_lines : (k l : Option ℕ) → Direct k ≡ Direct l → k ≡ l
+same_lines k l same = cc
 
 -- words are those of one command at most
 pub one_command : (words : List (List ℕ)) (c d : Command) → IsSpelled c words → IsSpelled d words → c ≡ d
@@ -134,7 +150,9 @@ one_command words (Sample g n) (Sample h m) a b =
     let same_mode = mode_words_injective g.mode h.mode a.asked.header.mode b.asked.header.mode mode in
     ap (λ x. Sample x n) (same_header g h (type_word_injective g.ty h.ty ty) same_shape same_mode) ∙ ap (Sample h) (decimal_injective n m a.small b.small text)
 one_command words (Run n k) (Run m l) a b = let same = same_script (codes "run") n m k l words a b in ap (λ name. Run name k) same.0 ∙ ap (Run m) same.1
-one_command words (Look n k) (Look m l) a b = let same = same_script (codes "look") n m k l words a b in ap (λ name. Look name k) same.0 ∙ ap (Look m) same.1
+one_command words (Look n k) (Look m l) a b =
+    let same = same_script (codes "look") n m (Direct k) (Direct l) words a b in
+    ap (λ name. Look name k) same.0 ∙ ap (Look m) (same_lines k l same.1)
 one_command words (Bound n k) (Bound m l) a b =
     let same : codes "bound" ∷ n ∷ decimal k ∷ [] ≡ codes "bound" ∷ m ∷ decimal l ∷ [] = sym a.words_are ∙ b.words_are in
     let named : n ≡ m = cc in
@@ -279,49 +297,80 @@ few_script scripts.Look words (Look n l) is spelled = omega (arith, enough_words
 few_script scripts.Run words c is spelled = omega (arith, mark_of c words (codes "run") [] is spelled)
 few_script scripts.Look words c is spelled = omega (arith, mark_of c words (codes "look") [] is spelled)
 
--- what is behind the name of a script's file where the words begin a whole command: a number of lines, or nothing
-record HasLines (behind : List (List ℕ)) : Type 0 where
-  lines : Option ℕ
-  lines_are : IsLines lines
-  behind_is : behind ≡ lines_words lines
+-- such a script can have this cache: only a run has one in which each block has two lines
+Has : Script → Caching → Type 0
+Has scripts.Run caching = Unit {0}
+Has scripts.Look (Direct lines) = Unit {0}
+Has scripts.Look (TwoWay l) = ⊥
 
-HasLines-spelled : (first name : List ℕ) (behind words : List (List ℕ)) (n : List ℕ) (l : Option ℕ) → words ≡ first ∷ name ∷ behind → IsOnScript first n l words → HasLines behind
-HasLines-spelled first name behind words n l is spelled =
-    let whole : first ∷ name ∷ behind ≡ first ∷ n ∷ lines_words l = sym is ∙ spelled.words_are in
-    let same : behind ≡ lines_words l = cc in
-    record { lines = l; lines_are = spelled.lines_are; behind_is = same }
+-- what is behind the name of a script's file where the words begin a whole command: the words of a cache
+record HasCaching (script : Script) (behind : List (List ℕ)) : Type 0 where
+  caching : Caching
+  caching_is : IsCaching caching
+  behind_is : behind ≡ caching_words caching
+  has : Has script caching
 
-HasLines-begun : (script : Script) (name : List ℕ) (behind words : List (List ℕ)) (c : Command) → words ≡ script_word script ∷ name ∷ behind → IsSpelled c words → HasLines behind
-unfolding first_word mark
-HasLines-begun scripts.Run name behind words (Run n l) is spelled = HasLines-spelled (codes "run") name behind words n l is spelled
-HasLines-begun scripts.Look name behind words (Look n l) is spelled = HasLines-spelled (codes "look") name behind words n l is spelled
-HasLines-begun scripts.Run name behind words c is spelled = absurd (omega (arith, mark_of c words (codes "run") (name ∷ behind) is spelled))
-HasLines-begun scripts.Look name behind words c is spelled = absurd (omega (arith, mark_of c words (codes "look") (name ∷ behind) is spelled))
+behind_name : (first name : List ℕ) (behind words : List (List ℕ)) (n : List ℕ) (caching : Caching) → words ≡ first ∷ name ∷ behind → IsOnScript first n caching words → behind ≡ caching_words caching
+behind_name first name behind words n caching is spelled =
+    let whole : first ∷ name ∷ behind ≡ first ∷ n ∷ caching_words caching = sym is ∙ spelled.words_are in
+    cc
+
+HasCaching-begun : (script : Script) (name : List ℕ) (behind words : List (List ℕ)) (c : Command) → words ≡ script_word script ∷ name ∷ behind → IsSpelled c words → HasCaching script behind
+unfolding first_word mark Has
+HasCaching-begun scripts.Run name behind words (Run n k) is spelled =
+    record { caching = k; caching_is = spelled.caching_is; behind_is = behind_name (codes "run") name behind words n k is spelled; has = tt }
+HasCaching-begun scripts.Look name behind words (Look n l) is spelled =
+    record { caching = Direct l; caching_is = spelled.caching_is; behind_is = behind_name (codes "look") name behind words n (Direct l) is spelled; has = tt }
+HasCaching-begun scripts.Run name behind words c is spelled = absurd (omega (arith, mark_of c words (codes "run") (name ∷ behind) is spelled))
+HasCaching-begun scripts.Look name behind words c is spelled = absurd (omega (arith, mark_of c words (codes "look") (name ∷ behind) is spelled))
 
 -- the words of a whole command on a script
-script_spelled : (script : Script) (name : List ℕ) (lines : Option ℕ) (words : List (List ℕ)) → IsSpelled (script_command script name lines) words → IsOnScript (script_word script) name lines words
+script_spelled : (script : Script) (name : List ℕ) (lines : Option ℕ) (words : List (List ℕ)) → IsSpelled (script_command script name lines) words → IsOnScript (script_word script) name (Direct lines) words
 script_spelled scripts.Run name lines words spelled = spelled
 script_spelled scripts.Look name lines words spelled = spelled
 
--- a word behind the name of a script's file, where a command goes on, is `lines`, and the next one is a number of lines
-pub lines_begun : (script : Script) (name : List ℕ) (words : List (List ℕ)) (word : List ℕ) → IsSpelled (script_command script name None) words → BeginsCommand (words ++ word ∷ []) → word ≡ codes "lines"
-lines_begun script name words word whole (c, rest, spelled) =
+-- a word behind the name of a script's file, where a command goes on, is the first one of a cache
+cache_begun : (script : Script) (name : List ℕ) (words : List (List ℕ)) (word : List ℕ) → IsSpelled (script_command script name None) words → BeginsCommand (words ++ word ∷ [])
+    → (word ≡ codes "lines") ⊎ ((word ≡ codes "twoway") × ((l : ℕ) × Has script (TwoWay l)))
+cache_begun script name words word whole (c, rest, spelled) =
     let is = (script_spelled script name None words whole).words_are in
-    let r = HasLines-begun script name (word ∷ rest) ((words ++ word ∷ []) ++ rest) c (ap (λ front. (front ++ word ∷ []) ++ rest) is) spelled in
-    by r.lines r.behind_is
+    let r = HasCaching-begun script name (word ∷ rest) ((words ++ word ∷ []) ++ rest) c (ap (λ front. (front ++ word ∷ []) ++ rest) is) spelled in
+    by r.caching r.behind_is r.has
   where
-    by : (l : Option ℕ) → word ∷ rest ≡ lines_words l → word ≡ codes "lines"
-    by None same = absurd (cc)
-    by (Some l) same = heads_same same
+    by : (k : Caching) → word ∷ rest ≡ caching_words k → Has script k → (word ≡ codes "lines") ⊎ ((word ≡ codes "twoway") × ((l : ℕ) × Has script (TwoWay l)))
+    by (Direct None) same has = absurd (cc)
+    by (Direct (Some l)) same has = inl (heads_same same)
+    by (TwoWay l) same has = inr (heads_same same, l, has)
 
+-- so no other word goes on
+pub no_cache_word : (script : Script) (name : List ℕ) (words : List (List ℕ)) (word : List ℕ) → word ≢ codes "lines" → word ≢ codes "twoway" → IsSpelled (script_command script name None) words → BeginsCommand (words ++ word ∷ []) → ⊥
+no_cache_word script name words word no_lines no_twoway whole begins = elim (cache_begun script name words word whole begins) [ inl is ↦ no_lines is | inr is ↦ no_twoway is.0 ]
+
+-- and a look has no two-way cache
+pub no_twoway_look : (name : List ℕ) (words : List (List ℕ)) → IsSpelled (script_command scripts.Look name None) words → BeginsCommand (words ++ codes "twoway" ∷ []) → ⊥
+unfolding Has
+no_twoway_look name words whole begins = elim (cache_begun scripts.Look name words (codes "twoway") whole begins) [ inl is ↦ omega (arith, ap length is) | inr is ↦ is.1.1 ]
+
+-- a word behind `lines` or `twoway`, where a command goes on, is a number of lines
 pub IsLinesWord-begun : (script : Script) (name : List ℕ) (words : List (List ℕ)) (word : List ℕ) → words ≡ script_word script ∷ name ∷ codes "lines" ∷ [] → BeginsCommand (words ++ word ∷ []) → (l : ℕ) × IsLinesWord l word
 IsLinesWord-begun script name words word is (c, rest, spelled) =
-    let r = HasLines-begun script name (codes "lines" ∷ word ∷ rest) ((words ++ word ∷ []) ++ rest) c (ap (λ front. (front ++ word ∷ []) ++ rest) is) spelled in
-    by r.lines r.lines_are r.behind_is
+    let r = HasCaching-begun script name (codes "lines" ∷ word ∷ rest) ((words ++ word ∷ []) ++ rest) c (ap (λ front. (front ++ word ∷ []) ++ rest) is) spelled in
+    by r.caching r.caching_is r.behind_is
   where
-    by : (l : Option ℕ) → IsLines l → codes "lines" ∷ word ∷ rest ≡ lines_words l → (n : ℕ) × IsLinesWord n word
-    by None in_range same = absurd (cc)
-    by (Some l) in_range same = let text : word ≡ decimal l = cc in (l, record { lines = in_range; text = text })
+    by : (k : Caching) → IsCaching k → codes "lines" ∷ word ∷ rest ≡ caching_words k → (n : ℕ) × IsLinesWord n word
+    by (Direct None) in_range same = absurd (cc)
+    by (Direct (Some l)) in_range same = let text : word ≡ decimal l = cc in (l, record { lines = in_range; text = text })
+    by (TwoWay l) in_range same = absurd (omega (arith, ap length (heads_same same)))
+
+pub IsLinesWord-begun_twoway : (name : List ℕ) (words : List (List ℕ)) (word : List ℕ) → words ≡ codes "run" ∷ name ∷ codes "twoway" ∷ [] → BeginsCommand (words ++ word ∷ []) → (l : ℕ) × IsLinesWord l word
+IsLinesWord-begun_twoway name words word is (c, rest, spelled) =
+    let r = HasCaching-begun scripts.Run name (codes "twoway" ∷ word ∷ rest) ((words ++ word ∷ []) ++ rest) c (ap (λ front. (front ++ word ∷ []) ++ rest) is) spelled in
+    by r.caching r.caching_is r.behind_is
+  where
+    by : (k : Caching) → IsCaching k → codes "twoway" ∷ word ∷ rest ≡ caching_words k → (n : ℕ) × IsLinesWord n word
+    by (Direct None) in_range same = absurd (cc)
+    by (Direct (Some l)) in_range same = absurd (omega (arith, ap length (heads_same same)))
+    by (TwoWay l) in_range same = let text : word ≡ decimal l = cc in (l, record { lines = in_range; text = text })
 
 -- the number of such a word
 pub IsLinesWord-number : (l n : ℕ) (word : List ℕ) → IsLinesWord l word → n < 2 ^ 64 → word ≡ decimal n → l ≡ n
@@ -354,11 +403,19 @@ whole_at_end words (stages.NamedTyped name ty) c leads spelled = absurd (few_new
 whole_at_end words (stages.NamedShaped name ty ns) c leads spelled = absurd (few_new (name ∷ type_word ty ∷ shape_word ns ∷ []) words c leads.2 (omega arith) spelled)
 whole_at_end words (stages.Scripting script) c leads spelled = absurd (few_script script words c leads spelled)
 whole_at_end words (stages.AtLines script name) c leads spelled =
-    let r = HasLines-begun script name (codes "lines" ∷ []) words c leads.1 spelled in absurd (by r.lines r.behind_is)
+    let r = HasCaching-begun script name (codes "lines" ∷ []) words c leads.1 spelled in absurd (by r.caching r.behind_is)
   where
-    by : (l : Option ℕ) → codes "lines" ∷ [] ≡ lines_words l → ⊥
-    by None same = cc
-    by (Some l) same = cc
+    by : (k : Caching) → codes "lines" ∷ [] ≡ caching_words k → ⊥
+    by (Direct None) same = omega (arith, ap length same)
+    by (Direct (Some l)) same = omega (arith, ap length same)
+    by (TwoWay l) same = omega (arith, ap length same)
+whole_at_end words (stages.AtTwoWay name) c leads spelled =
+    let r = HasCaching-begun scripts.Run name (codes "twoway" ∷ []) words c leads.1 spelled in absurd (by r.caching r.behind_is)
+  where
+    by : (k : Caching) → codes "twoway" ∷ [] ≡ caching_words k → ⊥
+    by (Direct None) same = omega (arith, ap length same)
+    by (Direct (Some l)) same = omega (arith, ap length same)
+    by (TwoWay l) same = omega (arith, ap length same)
 whole_at_end words stages.Bounding c leads spelled = absurd (few_bound [] words c leads (omega arith) spelled)
 whole_at_end words (stages.AtMost name) c leads spelled = absurd (few_bound (name ∷ []) words c leads.1 (omega arith) spelled)
 whole_at_end words (stages.Whole d) c leads spelled = (d, refl)
@@ -458,19 +515,19 @@ task_ends task ty ns m words word begun (c, rest, spelled) =
     let is = IsAsked-begun task ty ns (mode_words m ++ word ∷ rest) ((words ++ word ∷ []) ++ rest) c (IsBegun-more task ty ns (mode_words m) words word rest begun) spelled in
     mode_ends m is.mode word rest is.behind_is
 
--- with a word more behind its lines, no command on a script begins one
-lines_end : (script : Script) (name : List ℕ) (l : ℕ) (words : List (List ℕ)) (word : List ℕ) → IsSpelled (script_command script name (Some l)) words → BeginsCommand (words ++ word ∷ []) → ⊥
-lines_end script name l words word whole (d, rest, more) =
-    let is = (script_spelled script name (Some l) words whole).words_are in
-    let r = HasLines-begun script name (codes "lines" ∷ decimal l ∷ word ∷ rest) ((words ++ word ∷ []) ++ rest) d (ap (λ front. (front ++ word ∷ []) ++ rest) is) more in
-    by r.lines r.behind_is
+-- with a word more behind its cache, no command on a script begins one
+caching_ends : (script : Script) (name first number : List ℕ) (words : List (List ℕ)) (word : List ℕ) → words ≡ script_word script ∷ name ∷ first ∷ number ∷ [] → BeginsCommand (words ++ word ∷ []) → ⊥
+caching_ends script name first number words word is (d, rest, more) =
+    let r = HasCaching-begun script name (first ∷ number ∷ word ∷ rest) ((words ++ word ∷ []) ++ rest) d (ap (λ front. (front ++ word ∷ []) ++ rest) is) more in
+    by r.caching r.behind_is
   where
-    by : (m : Option ℕ) → codes "lines" ∷ decimal l ∷ word ∷ rest ≡ lines_words m → ⊥
-    by None same = omega (arith, ap length same)
-    by (Some m) same = omega (arith, ap length same)
+    by : (k : Caching) → first ∷ number ∷ word ∷ rest ≡ caching_words k → ⊥
+    by (Direct None) same = omega (arith, ap length same)
+    by (Direct (Some m)) same = omega (arith, ap length same)
+    by (TwoWay m) same = omega (arith, ap length same)
 
--- with a word more, only a script that has no number of lines begins a command
-pub whole_ends : (c : Command) (words : List (List ℕ)) (word : List ℕ) → IsSpelled c words → ((name : List ℕ) → c ≡ Run name None → ⊥) → ((name : List ℕ) → c ≡ Look name None → ⊥)
+-- with a word more, only a script whose words name no cache begins a command
+pub whole_ends : (c : Command) (words : List (List ℕ)) (word : List ℕ) → IsSpelled c words → ((name : List ℕ) → c ≡ Run name (Direct None) → ⊥) → ((name : List ℕ) → c ≡ Look name None → ⊥)
     → BeginsCommand (words ++ word ∷ []) → ⊥
 unfolding first_word mark
 whole_ends (Compress h) words word spelled not_run not_look begins =
@@ -483,10 +540,11 @@ whole_ends (New n t s k) words word spelled not_run not_look (New n' t' s' k', r
     omega (arith, ap length (sym (ap (λ front. (front ++ word ∷ []) ++ rest) spelled.words_are) ∙ more.words_are))
 whole_ends (Bound n k) words word spelled not_run not_look (Bound m l, rest, more) =
     omega (arith, ap length (sym (ap (λ front. (front ++ word ∷ []) ++ rest) spelled.words_are) ∙ more.words_are))
-whole_ends (Run name None) words word spelled not_run not_look begins = not_run name refl
+whole_ends (Run name (Direct None)) words word spelled not_run not_look begins = not_run name refl
 whole_ends (Look name None) words word spelled not_run not_look begins = not_look name refl
-whole_ends (Run name (Some l)) words word spelled not_run not_look begins = lines_end scripts.Run name l words word spelled begins
-whole_ends (Look name (Some l)) words word spelled not_run not_look begins = lines_end scripts.Look name l words word spelled begins
+whole_ends (Run name (Direct (Some l))) words word spelled not_run not_look begins = caching_ends scripts.Run name (codes "lines") (decimal l) words word spelled.words_are begins
+whole_ends (Run name (TwoWay l)) words word spelled not_run not_look begins = caching_ends scripts.Run name (codes "twoway") (decimal l) words word spelled.words_are begins
+whole_ends (Look name (Some l)) words word spelled not_run not_look begins = caching_ends scripts.Look name (codes "lines") (decimal l) words word spelled.words_are begins
 whole_ends c words word spelled not_run not_look (d, rest, more) =
     let first = begins_with c words spelled in
     omega (arith, mark_of d ((words ++ word ∷ []) ++ rest) (first_word c) ((first.0 ++ word ∷ []) ++ rest) (ap (λ front. (front ++ word ∷ []) ++ rest) first.1) more)

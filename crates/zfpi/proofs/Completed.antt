@@ -11,7 +11,8 @@ use Rattle.zf_header.specs.declared.header.Mode.TheVariants.{Reversible, Rate, P
 use Rattle.zf_header.specs.HeaderBits.{rate_bytes_of}
 use Rattle.zf_header.proofs.Parts.{length-header_bits}
 use Rattle.zfpi.specs.Names.{IsName}
-use Rattle.zfpi.specs.declared.command.Command.TheVariants.{Compress, New, Bound, Sample}
+use Rattle.zfpi.specs.declared.command.Caching.TheVariants.{Direct, TwoWay}
+use Rattle.zfpi.specs.declared.command.Command.TheVariants.{Compress, New, Run, Bound, Sample}
 use Rattle.zfpi.specs.declared.words.Task.{Task}
 use Rattle.zfpi.specs.declared.words.Task.TheVariants as tasks
 use Rattle.zfpi.specs.declared.words.Script.{Script}
@@ -73,8 +74,8 @@ sampled ty ns words shape is = record { asked = askable_reversible ty ns shape; 
 
 -- a script can be run on a file, or looks at it
 pub IsSpelled-script : (script : Script) (name : List ℕ) (lines : Option ℕ) (words : List (List ℕ)) → IsName name → IsLines lines → words ≡ script_word script ∷ name ∷ lines_words lines → IsSpelled (script_command script name lines) words
-IsSpelled-script scripts.Run name lines words named in_range is = record { named = named; lines_are = in_range; words_are = is }
-IsSpelled-script scripts.Look name lines words named in_range is = record { named = named; lines_are = in_range; words_are = is }
+IsSpelled-script scripts.Run name lines words named in_range is = record { named = named; caching_is = in_range; words_are = is }
+IsSpelled-script scripts.Look name lines words named in_range is = record { named = named; caching_is = in_range; words_are = is }
 
 -- the words that lead to a stage begin a command
 pub BeginsCommand-reached : (words : List (List ℕ)) (stage : Stage) → LeadsTo words stage → BeginsCommand words
@@ -121,6 +122,9 @@ BeginsCommand-reached words (stages.Scripting script) is =
 BeginsCommand-reached words (stages.AtLines script name) leads =
     let rest = decimal 1 ∷ [] in
     (script_command script name (Some 1), rest, IsSpelled-script script name (Some 1) (words ++ rest) leads.0 (lit≤ tt, lit≤ tt) (ap (λ front. front ++ rest) leads.1))
+BeginsCommand-reached words (stages.AtTwoWay name) leads =
+    let rest = decimal 1 ∷ [] in
+    (Run name (TwoWay 1), rest, record { named = leads.0; caching_is = (lit≤ tt, lit≤ tt); words_are = ap (λ front. front ++ rest) leads.1 })
 BeginsCommand-reached words stages.Bounding is =
     let rest = (97 ∷ []) ∷ decimal 0 ∷ [] in
     (Bound (97 ∷ []) 0, rest, record { named = one_letter; small = lit< tt; words_are = ap (λ front. front ++ rest) is })

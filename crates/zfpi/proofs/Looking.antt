@@ -66,7 +66,7 @@ module _ (name : List ℕ) (lines : Option ℕ) where
     -- all lines were run
     pub Behaves-look : (after : Held) (n : ℕ) (out out_now : Option (List ℕ)) → FinishesLook w a after script wants out out_now n → Behaves (Look name lines) (lines_status n) (seen src out known) (seen rest out_now now)
     Behaves-look after n out out_now ran =
-        Behaves-lines (Look name lines) name lines stream_in look_replies (IsScripted-look name lines) known now holds.bytes (said a) holds.file holds.stream kept script wants most src rest takes end
+        Behaves-lines (Look name lines) name stream_in (look_replies lines) (IsScripted-look name lines) known now holds.bytes (said a) holds.file holds.stream kept script wants most src rest takes end
         n out out_now now (ran.refused_is ∙ ap (count_by is_refusal) replies_are) (ap (count_by is_want) (sym replies_are) ∙ ran.wanted) (subst (Appends out out_now) (ap replies_text replies_are) ran.written) kept
 
     -- and some of them were refused
@@ -77,5 +77,5 @@ module _ (name : List ℕ) (lines : Option ℕ) where
     -- a reply was not written whole
     pub Behaves-cut_look : (after : Held) (out out_now : Option (List ℕ)) → StopsLook w a after script wants out out_now → Behaves (Look name lines) statuses.WriteFault (seen src out known) (seen rest out_now now)
     Behaves-cut_look after out out_now stops =
-        Behaves-cut_script (Look name lines) name lines stream_in look_replies (IsScripted-look name lines) known now holds.bytes (said a) holds.file holds.stream kept script wants most src rest takes end
+        Behaves-cut_script (Look name lines) name stream_in (look_replies lines) (IsScripted-look name lines) known now holds.bytes (said a) holds.file holds.stream kept script wants most src rest takes end
         (look_setting_of w a.header) (look_start_of a) lines_are stops.session out out_now stops.at_line

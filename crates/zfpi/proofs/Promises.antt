@@ -37,8 +37,8 @@ CanRun-spelled (Compress h) words spelled = spelled.0.header.mode
 CanRun-spelled Restore words spelled = tt
 CanRun-spelled Info words spelled = tt
 CanRun-spelled (New name ty ns b) words spelled = (spelled.shape, spelled.rate)
-CanRun-spelled (Run name lines) words spelled = spelled.lines_are
-CanRun-spelled (Look name lines) words spelled = spelled.lines_are
+CanRun-spelled (Run name caching) words spelled = spelled.caching_is
+CanRun-spelled (Look name lines) words spelled = spelled.caching_is
 CanRun-spelled (Bound name most) words spelled = tt
 CanRun-spelled (Sample h seed) words spelled = spelled.asked.header.mode
 
@@ -106,16 +106,16 @@ possible_fault LoadFault (Bound name most) w wants may = tt
 possible_fault Memory (Bound name most) w wants may = tt
 possible_fault WriteFault Info w wants may = tt
 possible_fault WriteFault (Sample h seed) w wants may = tt
-possible_fault ReadFault (Run name l) w wants may = tt
-possible_fault WriteFault (Run name l) w wants may = tt
-possible_fault LoadFault (Run name l) w wants may = tt
+possible_fault ReadFault (Run name caching) w wants may = tt
+possible_fault WriteFault (Run name caching) w wants may = tt
+possible_fault LoadFault (Run name caching) w wants may = tt
 possible_fault ReadFault (Look name l) w wants may = tt
 possible_fault WriteFault (Look name l) w wants may = tt
 possible_fault LoadFault (Look name l) w wants may = tt
 possible_fault Memory (Look name l) w wants may = tt
 possible_fault SaveFault (New name ty ns b) w wants may = tt
-possible_fault SaveFault (Run name l) w wants may = tt
-possible_fault Memory (Run name l) w wants may = tt
+possible_fault SaveFault (Run name caching) w wants may = tt
+possible_fault Memory (Run name caching) w wants may = tt
 possible_fault Memory (Compress h) w wants may = tt
 possible_fault Memory Restore w wants may = tt
 possible_fault Memory (New name ty ns b) w wants may = tt
@@ -233,10 +233,10 @@ opened_ends Ends reading missing long ends (Some bytes) = by (ltb 1200000000 (le
     by true = long
     by false = ends bytes
 
-script_ends : (Ends : Status → Type 0) (replies : Answering) → Ends ScriptLong → ((n : ℕ) → Ends (lines_status n)) → (l : Option ℕ) (file : Result Said Status) → IsRefusal Ends file → (wants script : List ℕ) → Ends (script_status replies l file wants script)
+script_ends : (Ends : Status → Type 0) (replies : Answering) → Ends ScriptLong → ((n : ℕ) → Ends (lines_status n)) → (file : Result Said Status) → IsRefusal Ends file → (wants script : List ℕ) → Ends (script_status replies file wants script)
 unfolding IsRefusal
-script_ends Ends replies long ends l (Err status) refusal wants script = refusal
-script_ends Ends replies long ends l (Ok said) refusal wants script = by (ltb 16777216 (length script)) (count_by is_refusal (replies l said wants script))
+script_ends Ends replies long ends (Err status) refusal wants script = refusal
+script_ends Ends replies long ends (Ok said) refusal wants script = by (ltb 16777216 (length script)) (count_by is_refusal (replies said wants script))
   where
     by : (is_long : Bool) (refused : ℕ) → Ends (cond is_long ScriptLong (lines_status refused))
     by true refused = long
@@ -254,10 +254,10 @@ possible_status (Compress h) w wants =
 possible_status Restore w wants = restore_ends (restore_answer w.input) (own_answer w.input)
 possible_status Info w wants = info_ends (header_fault (take 19 w.input))
 possible_status (New name ty ns b) w wants = tt
-possible_status (Run name l) w wants =
-    script_ends RunEnds run_replies tt (λ n. LookEnds-run (lines_status n) (lines_end n)) l (opened array_in (w.files name)) (opened_ends RunEnds array_in tt tt array_in-ends (w.files name)) wants w.input
+possible_status (Run name caching) w wants =
+    script_ends RunEnds (run_replies caching) tt (λ n. LookEnds-run (lines_status n) (lines_end n)) (opened array_in (w.files name)) (opened_ends RunEnds array_in tt tt array_in-ends (w.files name)) wants w.input
 possible_status (Look name l) w wants =
-    script_ends LookEnds look_replies tt lines_end l (opened stream_in (w.files name)) (opened_ends LookEnds stream_in tt tt stream_in-ends (w.files name)) wants w.input
+    script_ends LookEnds (look_replies l) tt lines_end (opened stream_in (w.files name)) (opened_ends LookEnds stream_in tt tt stream_in-ends (w.files name)) wants w.input
 possible_status (Bound name most) w wants = certified_ends (opened array_in (w.files name)) (opened_ends BoundEnds array_in tt tt array_in-certified (w.files name))
 possible_status (Sample h seed) w wants = tt
 

@@ -1,5 +1,5 @@
 -- What `run` does, from what its calls answer.
-use Rattle.std.proofs.Common.{◌≡◌, ℕ, zero, suc, ◌≤◌, List, [], length, Option, Some, None, Result, Ok, Err, ◌⊎◌, inl, inr, refl, ap, sym, subst, ◌∙◌}
+use Rattle.std.proofs.Common.{◌≡◌, ℕ, zero, suc, ◌≤◌, Bool, List, [], length, Option, Some, None, Result, Ok, Err, ◌⊎◌, inl, inr, refl, ap, sym, subst, ◌∙◌}
 use Rattle.std.specs.Prelude.{count_by}
 use Rattle.std.specs.Int.{Width}
 use Rattle.zf_spec.specs.Stream.{mode_number}
@@ -20,18 +20,23 @@ use Rattle.zf_stream.specs.ReadStreams.{IsFault}
 use Rattle.zf_store.specs.declared.fault.StoreFault.{StoreFault}
 use Rattle.zf_store.specs.declared.fault.StoreFault.TheVariants as stores
 use Rattle.zf_store.specs.Files.{HasHeader, IsOpened, said, stream_fault}
-use Rattle.zf_array.specs.Standing.{Held, stored, shape, state}
+use Rattle.zf_store.specs.Stored.{Stored}
 use Rattle.zf_cached.specs.Arrays.{open_array, saved_file}
-use Rattle.zf_cached.specs.Runs.{lines_of, run_lines, run_script, run, array_setting, replies_text, run_saved}
-use Rattle.zf_run.specs.Sessions.{setting_of, start_of, run_of}
+use Rattle.zf_cached.specs.State.{State}
+use Rattle.zf_cached.specs.Replies.{Reply}
+use Rattle.zf_cached.specs.Windows.{whole}
+use Rattle.zf_cached.specs.Steps.{Setting, Session}
+use Rattle.zf_cached.specs.Runs.{lines_of, run_lines, run_script, run, replies_text}
+use Rattle.zf_run.specs.Sessions.{session}
 use Rattle.zf_run.specs.Steps.{is_refusal, is_want}
-use Rattle.zf_run.specs.Ends.{Finishes, Stops}
+use Rattle.zf_run.specs.Ends.{Completes, Halts}
 use Rattle.zfpi.specs.declared.status.Status.{Status}
 use Rattle.zfpi.specs.declared.status.Status.TheVariants as statuses
+use Rattle.zfpi.specs.declared.command.Caching.{Caching}
 use Rattle.zfpi.specs.declared.command.Command.TheVariants.{Run}
 use Rattle.zfpi.specs.Faults.{store_status, fault_status}
 use Rattle.zfpi.specs.Opened.{said_or_status, said_at_rate, array_behind, array_in, opened}
-use Rattle.zfpi.specs.Scripts.{lines_for, run_replies, run_file, lines_status, saved_of}
+use Rattle.zfpi.specs.Scripts.{first_lines, setting_over, ran_over, run_replies, run_file, lines_status, saved_of}
 use Rattle.zfpi.specs.Loaded.{HoldsFile, HoldsArray, SavesOrFails}
 use Rattle.zfpi.specs.World.{seen}
 use Rattle.zfpi.specs.Headline.{Saves, Behaves}
@@ -63,88 +68,88 @@ ComesFirst-store stores.Trailing = tt
 ComesFirst-store stores.Memory = tt
 
 -- the array that was opened is that of the file
-pub HoldsArray-opened : (known : Option Files) (name : List ℕ) (lines : Option ℕ) (w : Width) (bytes : List ℕ) (h : Header) (a : Held) (count : ℕ) → HoldsFile known name bytes → HasHeader bytes h → IsOpened bytes h (stored a) → w ≡ width_of h.ty
-    → count ≡ lines_for lines h.shape → state a ≡ open_array w (block_bits h.mode) h.shape a.codes count → HoldsArray known name lines w a
-HoldsArray-opened known name lines w bytes h a count holds has opened same_type count_is state_is = record {
+pub HoldsArray-opened : (known : Option Files) (name : List ℕ) (caching : Caching) (w : Width) (bytes : List ℕ) (h : Header) (s : Stored) (start : State (List Bool)) (count : ℕ) → HoldsFile known name bytes → HasHeader bytes h → IsOpened bytes h s
+    → w ≡ width_of h.ty → count ≡ first_lines caching h.shape → start ≡ open_array w (block_bits h.mode) h.shape s.codes count → HoldsArray known name caching w s start
+HoldsArray-opened known name caching w bytes h s start count holds has opened same_type count_is state_is = record {
   bytes = bytes;
   file = holds;
-  array = array_in-rate bytes h (Ok (said (stored a))) has.good has.header has.rate opened.said_is;
+  array = array_in-rate bytes h (Ok (said s)) has.good has.header has.rate opened.said_is;
   same_type = same_type ∙ ap (λ g. width_of g.ty) (sym opened.header);
-  state_is = state_is ∙ (ap (open_array w (block_bits h.mode) h.shape a.codes) count_is ∙ ap (λ g. open_array w (block_bits g.mode) g.shape a.codes (lines_for lines g.shape)) (sym opened.header));
+  state_is = state_is ∙ (ap (open_array w (block_bits h.mode) h.shape s.codes) count_is ∙ ap (λ g. open_array w (block_bits g.mode) g.shape s.codes (first_lines caching g.shape)) (sym opened.header));
 }
 
-module _ (name : List ℕ) (lines : Option ℕ) where
+module _ (name : List ℕ) (caching : Caching) where
   -- the file is no array's
   pub Behaves-no_array : (e : StoreFault) (bytes : List ℕ) (h : Header) (src out : Option (List ℕ)) (known now : Option Files) → HoldsFile known name bytes → KeepsFiles known now → HasHeader bytes h → IsFault (parse bytes) (stream_fault e)
-      → Behaves (Run name lines) (store_status e) (seen src out known) (seen src out now)
+      → Behaves (Run name caching) (store_status e) (seen src out known) (seen src out now)
   Behaves-no_array e bytes h src out known now holds kept has why =
-      Behaves-unopened (Run name lines) name array_in (IsScripted-run name lines).loading (stream_fault e) bytes src out known now (ComesFirst-store e)
+      Behaves-unopened (Run name caching) name array_in (IsScripted-run name caching).loading (stream_fault e) bytes src out known now (ComesFirst-store e)
       (elim why [ inl is ↦ inl (array_in-rate bytes h (Err (stream_fault e)) has.good has.header has.rate is) | inr memory ↦ inr memory ]) holds kept
 
   -- the script is run on the array
-  module _ (known mid : Option Files) (w : Width) (a : Held) (holds : HoldsArray known name lines w a) (kept : KeepsFiles known mid) (script wants : List ℕ) (most : length script ≤ 16777216) where
-    the_said : Said
-    the_said = said (stored a)
+  module _ (known mid : Option Files) (w : Width) (s : Stored) (start : State (List Bool)) (holds : HoldsArray known name caching w s start) (kept : KeepsFiles known mid) (script wants : List ℕ) (most : length script ≤ 16777216) where
+    abbrev bits : ℕ
+    bits = block_bits s.header.mode
+
+    abbrev setting : Setting (List Bool)
+    setting = setting_over caching w bits
+
+    abbrev ran : Session (List Bool) × List Reply
+    ran = run setting wants s.header.shape start script
 
     -- the run of the array is the run of its file
-    run_is : run_of w a wants script ≡ run (array_setting (width_of a.header.ty) (block_bits a.header.mode)) wants a.header.shape (open_array (width_of a.header.ty) (block_bits a.header.mode) a.header.shape a.codes (lines_for lines a.header.shape)) script
-    run_is =
-        let b = block_bits a.header.mode in
-        let ns = a.header.shape in
-        ap (λ s. run (array_setting w b) wants ns s script) holds.state_is
-        ∙ ap (λ v. run (array_setting v b) wants ns (open_array v b ns a.codes (lines_for lines ns)) script) holds.same_type
+    ran_is : ran ≡ ran_over caching (said s) wants script
+    unfolding ran_over
+    ran_is =
+        let ns = s.header.shape in
+        ap (λ at. run setting wants ns at script) holds.state_is
+        ∙ ap (λ v. run (setting_over caching v bits) wants ns (open_array v bits ns s.codes (first_lines caching ns)) script) holds.same_type
 
-    replies_are : (run_of w a wants script).1 ≡ run_replies lines the_said wants script
-    unfolding run_replies the_said
-    replies_are = ap (λ r. r.1) run_is
+    replies_are : ran.1 ≡ run_replies caching (said s) wants script
+    replies_are = ap (λ r. r.1) ran_is
 
-    file_is : (now : Held) → shape now ≡ (run_of w a wants script).0.shape → state now ≡ (run_of w a wants script).0.state → now.header.mode ≡ a.header.mode
-        → saved_file w (block_bits now.header.mode) (shape now) (state now) ≡ run_file lines the_said wants script
-    unfolding run_file run_saved the_said
-    file_is now same_shape same_state same_mode =
-        ap (λ m. saved_file w (block_bits m) (shape now) (state now)) same_mode
-        ∙ (ap (λ ns. saved_file w (block_bits a.header.mode) ns (state now)) same_shape
-        ∙ (ap (λ s. saved_file w (block_bits a.header.mode) (run_of w a wants script).0.shape s) same_state
-        ∙ (ap (λ r. saved_file w (block_bits a.header.mode) r.0.shape r.0.state) run_is
-        ∙ ap (λ v. saved_file v (block_bits a.header.mode) (run (array_setting (width_of a.header.ty) (block_bits a.header.mode)) wants a.header.shape (open_array (width_of a.header.ty) (block_bits a.header.mode) a.header.shape a.codes (lines_for lines a.header.shape)) script).0.shape (run (array_setting (width_of a.header.ty) (block_bits a.header.mode)) wants a.header.shape (open_array (width_of a.header.ty) (block_bits a.header.mode) a.header.shape a.codes (lines_for lines a.header.shape)) script).0.state) holds.same_type)))
+    file_is : (ns : List ℕ) (now : State (List Bool)) (mode : Mode) → ns ≡ ran.0.shape → now ≡ ran.0.state → mode ≡ s.header.mode → saved_file w (block_bits mode) ns now ≡ run_file caching (said s) wants script
+    file_is ns now mode same_shape same_state same_mode =
+        ap (λ m. saved_file w (block_bits m) ns now) same_mode
+        ∙ (ap (λ ms. saved_file w bits ms now) same_shape
+        ∙ (ap (saved_file w bits ran.0.shape) same_state
+        ∙ (ap (λ r. saved_file w bits r.0.shape r.0.state) ran_is
+        ∙ ap (λ v. saved_file v bits (ran_over caching (said s) wants script).0.shape (ran_over caching (said s) wants script).0.state) holds.same_type)))
 
-    lines_are : (run_lines (setting_of w a) wants 0 (lines_of script) (start_of a)).1 ≡ run_replies lines the_said wants script
+    lines_are : (run_lines setting wants 0 (lines_of script) (session s.header.shape start (whole s.header.shape))).1 ≡ run_replies caching (said s) wants script
     unfolding run run_script
     lines_are = replies_are
 
     -- what is saved is this file
-    saved_is : saved_of name lines (opened array_in (files_with known holds.bytes name)) wants script ≡ Some (name, run_file lines the_said wants script)
-    unfolding the_said
-    saved_is = ap (λ file. saved_of name lines file wants script) (is_open (Run name lines) name lines array_in run_replies (IsScripted-run name lines) known mid holds.bytes (said (stored a)) holds.file holds.array kept)
+    saved_is : saved_of name (run_file caching) (opened array_in (files_with known holds.bytes name)) wants script ≡ Some (name, run_file caching (said s) wants script)
+    saved_is = ap (λ file. saved_of name (run_file caching) file wants script) (is_open (Run name caching) name array_in (run_replies caching) (IsScripted-run name caching) known mid holds.bytes (said s) holds.file holds.array kept)
 
     -- the whole script was run
-    pub Behaves-run : (now : Held) (refused : ℕ) (status ended : Status) (file : List ℕ) (src rest out out_now : Option (List ℕ)) (shelf : Option Files) (Saving : Type 0)
-        → Finishes w a now script wants out out_now refused → now.header.mode ≡ a.header.mode → file ≡ saved_file w (block_bits now.header.mode) (shape now) (state now)
+    pub Behaves-run : (ns : List ℕ) (now : State (List Bool)) (mode : Mode) (refused : ℕ) (status ended : Status) (file : List ℕ) (src rest out out_now : Option (List ℕ)) (shelf : Option Files) (Saving : Type 0)
+        → Completes ns now wants out out_now ran refused → mode ≡ s.header.mode → file ≡ saved_file w (block_bits mode) ns now
         → lines_status refused ≡ status → SavesOrFails mid shelf name file status ended Saving → Takes src rest script → IsAtEnd rest
-        → Behaves (Run name lines) ended (seen src out known) (seen rest out_now shelf)
-    unfolding the_said
-    Behaves-run now refused status ended file src rest out out_now shelf Saving done same_mode is status_same saves takes end =
+        → Behaves (Run name caching) ended (seen src out known) (seen rest out_now shelf)
+    Behaves-run ns now mode refused status ended file src rest out out_now shelf Saving done same_mode is status_same saves takes end =
         let wanted = ap (count_by is_want) (sym replies_are) ∙ done.wanted in
         let written = subst (Appends out out_now) (ap replies_text replies_are) done.written in
         elim saves [
           | inl good ↦
-              let file_saved = SavesFile-kept known mid shelf name _ kept (subst (SavesFile mid shelf name) (is ∙ file_is now done.shape_is done.state_is same_mode) good.1) in
+              let file_saved = SavesFile-kept known mid shelf name _ kept (subst (SavesFile mid shelf name) (is ∙ file_is ns now mode done.shape_is done.state_is same_mode) good.1) in
               let saved = subst (λ f. Saves f (lines_status refused) known shelf) (sym saved_is) (saves_lines refused name _ known shelf file_saved) in
-              subst (λ s. Behaves (Run name lines) s (seen src out known) (seen rest out_now shelf)) (status_same ∙ sym good.0)
-              (Behaves-lines (Run name lines) name lines array_in run_replies (IsScripted-run name lines) known mid holds.bytes (said (stored a)) holds.file holds.array kept script wants most src rest takes end
+              subst (λ s. Behaves (Run name caching) s (seen src out known) (seen rest out_now shelf)) (status_same ∙ sym good.0)
+              (Behaves-lines (Run name caching) name array_in (run_replies caching) (IsScripted-run name caching) known mid holds.bytes (said s) holds.file holds.array kept script wants most src rest takes end
               refused out out_now shelf (done.refused_is ∙ ap (count_by is_refusal) replies_are) wanted written saved)
           | inr bad ↦
               let saved = subst (λ f. Saves f statuses.SaveFault known shelf) (sym saved_is) (KeepsOthers-kept known mid shelf name kept bad.1) in
-              let may = runnable (Run name lines) name lines array_in run_replies (IsScripted-run name lines) known mid holds.bytes (said (stored a)) holds.file holds.array kept script wants most src rest takes end in
-              subst (λ s. Behaves (Run name lines) s (seen src out known) (seen rest out_now shelf)) (sym bad.0)
-              (Behaves-whole (Run name lines) name lines array_in run_replies (IsScripted-run name lines) known mid holds.bytes (said (stored a)) holds.file holds.array kept script wants most src rest takes end
+              let may = runnable (Run name caching) name array_in (run_replies caching) (IsScripted-run name caching) known mid holds.bytes (said s) holds.file holds.array kept script wants most src rest takes end in
+              subst (λ s. Behaves (Run name caching) s (seen src out known) (seen rest out_now shelf)) (sym bad.0)
+              (Behaves-whole (Run name caching) name array_in (run_replies caching) (IsScripted-run name caching) known mid holds.bytes (said s) holds.file holds.array kept script wants most src rest takes end
               statuses.SaveFault out out_now shelf tt (λ P p. p) refl (λ text draft all. all) (inr may) wanted written saved)
         ]
 
     -- a reply was not written whole
-    pub Behaves-cut_run : (now : Held) (src rest out out_now : Option (List ℕ)) → Stops w a now script wants out out_now → Takes src rest script → IsAtEnd rest
-        → Behaves (Run name lines) statuses.WriteFault (seen src out known) (seen rest out_now mid)
-    unfolding the_said
-    Behaves-cut_run now src rest out out_now stops takes end =
-        Behaves-cut_script (Run name lines) name lines array_in run_replies (IsScripted-run name lines) known mid holds.bytes (said (stored a)) holds.file holds.array kept script wants most src rest takes end
-        (setting_of w a) (start_of a) lines_are stops.session out out_now stops.at_line
+    pub Behaves-cut_run : (ns : List ℕ) (now : State (List Bool)) (src rest out out_now : Option (List ℕ)) → Halts ns now wants out out_now setting (session s.header.shape start (whole s.header.shape)) script
+        → Takes src rest script → IsAtEnd rest → Behaves (Run name caching) statuses.WriteFault (seen src out known) (seen rest out_now mid)
+    Behaves-cut_run ns now src rest out out_now stops takes end =
+        Behaves-cut_script (Run name caching) name array_in (run_replies caching) (IsScripted-run name caching) known mid holds.bytes (said s) holds.file holds.array kept script wants most src rest takes end
+        setting (session s.header.shape start (whole s.header.shape)) lines_are stops.session out out_now stops.at_line

@@ -20,6 +20,7 @@ use Rattle.zf_run.specs.Steps.{is_refusal, is_want}
 use Rattle.zf_run.specs.Ends.{StopsAt}
 use Rattle.zfpi.specs.declared.status.Status.{Status}
 use Rattle.zfpi.specs.declared.status.Status.TheVariants as statuses
+use Rattle.zfpi.specs.declared.command.Caching.{Caching}
 use Rattle.zfpi.specs.declared.command.Command.{Command}
 use Rattle.zfpi.specs.declared.command.Command.TheVariants.{Run, Look}
 use Rattle.zfpi.specs.Faults.{take_status}
@@ -38,20 +39,20 @@ lines_status-some zero some = absurd (omega arith)
 lines_status-some (suc n) some = refl
 
 -- a command that answers a script so, on what the file of this name is opened as
-pub record IsScripted (c : Command) (name : List ℕ) (lines : Option ℕ) (reading : List ℕ → Result Said Status) (replies : Answering) : Type 0 where
+pub record IsScripted (c : Command) (name : List ℕ) (reading : List ℕ → Result Said Status) (replies : Answering) : Type 0 where
   pub loading : IsLoading c name reading
-  pub status : (w : World) (wants : List ℕ) → status_for c w wants ≡ script_status replies lines (opened reading (w.files name)) wants w.input
-  pub text : (w : World) (wants : List ℕ) → text_for c w wants ≡ script_text replies lines (opened reading (w.files name)) wants w.input
+  pub status : (w : World) (wants : List ℕ) → status_for c w wants ≡ script_status replies (opened reading (w.files name)) wants w.input
+  pub text : (w : World) (wants : List ℕ) → text_for c w wants ≡ script_text replies (opened reading (w.files name)) wants w.input
   pub draft : (w : World) (wants : List ℕ) (status : Status) (taken : List ℕ) → draft_for c status w wants taken ≡ cut_draft status (text_for c w wants)
-  pub wanted : (w : World) (wants : List ℕ) (status : Status) → OnWholeScript status (AreWants replies lines (opened reading (w.files name)) wants w.input) → HasWants c status w wants
+  pub wanted : (w : World) (wants : List ℕ) (status : Status) → OnWholeScript status (AreWants replies (opened reading (w.files name)) wants w.input) → HasWants c status w wants
   pub extent : (status : Status) (input taken : List ℕ) → TakesScript status input taken → IsExtent c status input taken
   pub reads : (w : World) → IsOk (opened reading (w.files name)) → MayRead c w
   pub writes : (w : World) → IsRunnable (opened reading (w.files name)) w → MayWrite c w
 
-pub IsScripted-run : (name : List ℕ) (lines : Option ℕ) → IsScripted (Run name lines) name lines array_in run_replies
-IsScripted-run name lines = record {
+pub IsScripted-run : (name : List ℕ) (caching : Caching) → IsScripted (Run name caching) name array_in (run_replies caching)
+IsScripted-run name caching = record {
   loading = record {
-    refuses = λ w status none. sym (ap (λ file. script_status run_replies lines file [] w.input) none);
+    refuses = λ w status none. sym (ap (λ file. script_status (run_replies caching) file [] w.input) none);
     wanted = λ w status first. OnWholeScript-first _ status first;
     extent = TakesScript-first;
     draft = λ w status taken. refl;
@@ -67,10 +68,10 @@ IsScripted-run name lines = record {
   writes = λ w good. good;
 }
 
-pub IsScripted-look : (name : List ℕ) (lines : Option ℕ) → IsScripted (Look name lines) name lines stream_in look_replies
+pub IsScripted-look : (name : List ℕ) (lines : Option ℕ) → IsScripted (Look name lines) name stream_in (look_replies lines)
 IsScripted-look name lines = record {
   loading = record {
-    refuses = λ w status none. sym (ap (λ file. script_status look_replies lines file [] w.input) none);
+    refuses = λ w status none. sym (ap (λ file. script_status (look_replies lines) file [] w.input) none);
     wanted = λ w status first. OnWholeScript-first _ status first;
     extent = TakesScript-first;
     draft = λ w status taken. refl;
@@ -92,7 +93,7 @@ long_input None src_now bytes long takes = (bytes, tt, long)
 long_input (Some all) None bytes long takes = absurd takes
 long_input (Some all) (Some left) bytes long takes = (all, refl, omega (arith, ap length takes, length-append bytes left, long))
 
-module _ (c : Command) (name : List ℕ) (lines : Option ℕ) (reading : List ℕ → Result Said Status) (replies : Answering) (is : IsScripted c name lines reading replies) (known mid : Option Files) (bytes : List ℕ) (said : Said)
+module _ (c : Command) (name : List ℕ) (reading : List ℕ → Result Said Status) (replies : Answering) (is : IsScripted c name reading replies) (known mid : Option Files) (bytes : List ℕ) (said : Said)
     (holds : HoldsFile known name bytes) (opens : reading bytes ≡ Ok said) (kept : KeepsFiles known mid) where
   pub is_open : opened reading (files_with known bytes name) ≡ Ok said
   is_open = opened-held reading known name bytes holds ∙ opens
@@ -101,22 +102,22 @@ module _ (c : Command) (name : List ℕ) (lines : Option ℕ) (reading : List �
   open_ok = subst IsOk (sym is_open) refl
 
   -- the status of a script, by the number of its lines that are refused
-  status_is : (wants script : List ℕ) → length script ≤ 16777216 → lines_status (count_by is_refusal (replies lines said wants script)) ≡ status_for c (world_with known bytes script) wants
+  status_is : (wants script : List ℕ) → length script ≤ 16777216 → lines_status (count_by is_refusal (replies said wants script)) ≡ status_for c (world_with known bytes script) wants
   status_is wants script most =
-      sym (ap (λ t. cond t statuses.ScriptLong (lines_status (count_by is_refusal (replies lines said wants script)))) (le-ltb 16777216 (length script) most))
-      ∙ (sym (ap (λ file. script_status replies lines file wants script) is_open) ∙ sym (is.status (world_with known bytes script) wants))
+      sym (ap (λ t. cond t statuses.ScriptLong (lines_status (count_by is_refusal (replies said wants script)))) (le-ltb 16777216 (length script) most))
+      ∙ (sym (ap (λ file. script_status replies file wants script) is_open) ∙ sym (is.status (world_with known bytes script) wants))
 
   too_long : (input : List ℕ) → 16777216 < length input → statuses.ScriptLong ≡ status_for c (world_with known bytes input) []
   too_long input long =
       sym (ap (λ t. cond t statuses.ScriptLong (lines_status (count_by is_refusal (replies lines said [] input)))) (lt-ltb 16777216 (length input) long))
-      ∙ (sym (ap (λ file. script_status replies lines file [] input) is_open) ∙ sym (is.status (world_with known bytes input) []))
+      ∙ (sym (ap (λ file. script_status replies file [] input) is_open) ∙ sym (is.status (world_with known bytes input) []))
 
   -- its text
-  text_is : (wants script : List ℕ) → replies_text (replies lines said wants script) ≡ text_for c (world_with known bytes script) wants
-  text_is wants script = sym (ap (λ file. script_text replies lines file wants script) is_open) ∙ sym (is.text (world_with known bytes script) wants)
+  text_is : (wants script : List ℕ) → replies_text (replies said wants script) ≡ text_for c (world_with known bytes script) wants
+  text_is wants script = sym (ap (λ file. script_text replies file wants script) is_open) ∙ sym (is.text (world_with known bytes script) wants)
 
   -- no line was run, and nothing was written
-  unread : (status : Status) (src src_now out : Option (List ℕ)) (input taken : List ℕ) → IsOfCommand status → TellsInput src input → OnWholeScript status (AreWants replies lines (opened reading (files_with known bytes name)) [] input)
+  unread : (status : Status) (src src_now out : Option (List ℕ)) (input taken : List ℕ) → IsOfCommand status → TellsInput src input → OnWholeScript status (AreWants replies (opened reading (files_with known bytes name)) [] input)
       → (status ≡ status_for c (world_with known bytes input) []) ⊎ MayFail status c (world_with known bytes input) [] → Takes src src_now taken → TakesScript status input taken
       → ((text : List ℕ) → Writes status text (cut_draft status text) out out) → Unsaved status → Behaves c status (seen src out known) (seen src_now out mid)
   unread status src src_now out input taken ends told wanted stated takes extent written un = record {
@@ -158,14 +159,14 @@ module _ (c : Command) (name : List ℕ) (lines : Option ℕ) (reading : List �
     -- all its lines were run, and it ended so
     pub Behaves-whole : (status : Status) (out out_now : Option (List ℕ)) (shelf : Option Files) → IsOfCommand status → ((P : Type 0) → P → OnWholeScript status P) → TakesScript status script script
         → ((text draft : List ℕ) → Appends out out_now text → Writes status text draft out out_now) → (status ≡ status_for c (world_with known bytes script) wants) ⊎ MayFail status c (world_with known bytes script) wants
-        → count_by is_want (replies lines said wants script) ≡ length wants → Appends out out_now (replies_text (replies lines said wants script)) → Saves (saved_for c (world_with known bytes script) wants) status known shelf
+        → count_by is_want (replies said wants script) ≡ length wants → Appends out out_now (replies_text (replies said wants script)) → Saves (saved_for c (world_with known bytes script) wants) status known shelf
         → Behaves c status (seen src out known) (seen rest out_now shelf)
     Behaves-whole status out out_now shelf ends on_whole extent writes stated wanted written saved = record {
       ends = ends;
       world = world_with known bytes script;
       told = told_script out;
       wants = wants;
-      wanted = is.wanted (world_with known bytes script) wants status (on_whole _ (subst (λ file. AreWants replies lines file wants script) (sym is_open) wanted));
+      wanted = is.wanted (world_with known bytes script) wants status (on_whole _ (subst (λ file. AreWants replies file wants script) (sym is_open) wanted));
       stated = stated;
       taken = script;
       takes = takes;
@@ -175,17 +176,17 @@ module _ (c : Command) (name : List ℕ) (lines : Option ℕ) (reading : List �
     }
 
     -- so many lines were refused, or none
-    pub Behaves-lines : (n : ℕ) (out out_now : Option (List ℕ)) (shelf : Option Files) → n ≡ count_by is_refusal (replies lines said wants script) → count_by is_want (replies lines said wants script) ≡ length wants
-        → Appends out out_now (replies_text (replies lines said wants script)) → Saves (saved_for c (world_with known bytes script) wants) (lines_status n) known shelf → Behaves c (lines_status n) (seen src out known) (seen rest out_now shelf)
+    pub Behaves-lines : (n : ℕ) (out out_now : Option (List ℕ)) (shelf : Option Files) → n ≡ count_by is_refusal (replies said wants script) → count_by is_want (replies said wants script) ≡ length wants
+        → Appends out out_now (replies_text (replies said wants script)) → Saves (saved_for c (world_with known bytes script) wants) (lines_status n) known shelf → Behaves c (lines_status n) (seen src out known) (seen rest out_now shelf)
     Behaves-lines zero out out_now shelf refused wanted written saved =
         Behaves-whole statuses.Done out out_now shelf tt (λ P p. p) refl (λ text draft all. all) (inl (ap lines_status refused ∙ status_is wants script most)) wanted written saved
     Behaves-lines (suc n) out out_now shelf refused wanted written saved =
         Behaves-whole (statuses.Lines (suc n)) out out_now shelf tt (λ P p. p) refl (λ text draft all. all) (inl (ap lines_status refused ∙ status_is wants script most)) wanted written saved
 
     -- a reply was not written whole
-    module _ {Code : Type 0} (setting : Setting Code) (start : Session Code) (same : (run_lines setting wants 0 (lines_of script) start).1 ≡ replies lines said wants script) where
+    module _ {Code : Type 0} (setting : Setting Code) (start : Session Code) (same : (run_lines setting wants 0 (lines_of script) start).1 ≡ replies said wants script) where
       -- the text of the first lines is a front of the text of all
-      front_of_text : (n : ℕ) → (more : List ℕ) × (replies_text (replies lines said wants script) ≡ replies_text (run_lines setting wants 0 (take n (lines_of script)) start).1 ++ more)
+      front_of_text : (n : ℕ) → (more : List ℕ) × (replies_text (replies said wants script) ≡ replies_text (run_lines setting wants 0 (take n (lines_of script)) start).1 ++ more)
       front_of_text n =
           let all = lines_of script in
           let front = run_lines setting wants 0 (take n all) start in

@@ -16,10 +16,10 @@ use Rattle.zf_header.specs.HeaderBits.{IsRate}
 use Rattle.zf_spec.specs.Grid.{IsShape}
 use Rattle.zf_store.specs.Stored.{file_of, zeros}
 use Rattle.zfpi.specs.World.{World}
-use Rattle.zfpi.specs.Words.{IsLines}
+use Rattle.zfpi.specs.Words.{IsLines, IsCaching}
 use Rattle.zfpi.specs.Info.{info_text}
 use Rattle.zfpi.specs.Opened.{array_in, stream_in, opened}
-use Rattle.zfpi.specs.Scripts.{max_script, run_replies, look_replies, script_status, script_text, saved_of, AreWants}
+use Rattle.zfpi.specs.Scripts.{max_script, run_replies, run_file, look_replies, script_status, script_text, saved_of, AreWants}
 use Rattle.zfpi.specs.Certified.{certified_text, certified_status}
 use Rattle.zfpi.specs.Sample.{sample_text}
 
@@ -39,7 +39,7 @@ CanRun (Compress h) = IsMode h.mode
 CanRun Restore = Unit {0}
 CanRun Info = Unit {0}
 CanRun (New name ty ns b) = IsShape ns × IsRate (Rate b)
-CanRun (Run name lines) = IsLines lines
+CanRun (Run name caching) = IsCaching caching
 CanRun (Look name lines) = IsLines lines
 CanRun (Bound name most) = Unit {0}
 CanRun (Sample h seed) = IsMode h.mode
@@ -54,8 +54,8 @@ status_for (Compress h) w wants = status_of (compress_answer h w.input)
 status_for Restore w wants = status_of (restore_answer w.input)
 status_for Info w wants = header_status (header_fault (take header_bytes w.input))
 status_for (New name ty ns b) w wants = statuses.Done
-status_for (Run name lines) w wants = script_status run_replies lines (opened array_in (w.files name)) wants w.input
-status_for (Look name lines) w wants = script_status look_replies lines (opened stream_in (w.files name)) wants w.input
+status_for (Run name caching) w wants = script_status (run_replies caching) (opened array_in (w.files name)) wants w.input
+status_for (Look name lines) w wants = script_status (look_replies lines) (opened stream_in (w.files name)) wants w.input
 status_for (Bound name most) w wants = certified_status (opened array_in (w.files name))
 status_for (Sample h seed) w wants = statuses.Done
 
@@ -65,8 +65,8 @@ text_for (Compress h) w wants = stream_text h w.input
 text_for Restore w wants = restored_text w.input
 text_for Info w wants = info_text (take header_bytes w.input)
 text_for (New name ty ns b) w wants = []
-text_for (Run name lines) w wants = script_text run_replies lines (opened array_in (w.files name)) wants w.input
-text_for (Look name lines) w wants = script_text look_replies lines (opened stream_in (w.files name)) wants w.input
+text_for (Run name caching) w wants = script_text (run_replies caching) (opened array_in (w.files name)) wants w.input
+text_for (Look name lines) w wants = script_text (look_replies lines) (opened stream_in (w.files name)) wants w.input
 text_for (Bound name most) w wants = certified_text most (opened array_in (w.files name))
 text_for (Sample h seed) w wants = sample_text h seed
 
@@ -92,8 +92,8 @@ draft_for (Compress h) status w wants taken = compress_draft status (stream_text
 draft_for Restore status w wants taken = restore_draft status (restored_text taken)
 draft_for Info status w wants taken = cut_draft status (info_text taken)
 draft_for (New name ty ns b) status w wants taken = []
-draft_for (Run name lines) status w wants taken = cut_draft status (script_text run_replies lines (opened array_in (w.files name)) wants w.input)
-draft_for (Look name lines) status w wants taken = cut_draft status (script_text look_replies lines (opened stream_in (w.files name)) wants w.input)
+draft_for (Run name caching) status w wants taken = cut_draft status (script_text (run_replies caching) (opened array_in (w.files name)) wants w.input)
+draft_for (Look name lines) status w wants taken = cut_draft status (script_text (look_replies lines) (opened stream_in (w.files name)) wants w.input)
 draft_for (Bound name most) status w wants taken = cut_draft status (certified_text most (opened array_in (w.files name)))
 draft_for (Sample h seed) status w wants taken = cut_draft status (sample_text h seed)
 
@@ -103,7 +103,7 @@ saved_for (Compress h) w wants = None
 saved_for Restore w wants = None
 saved_for Info w wants = None
 saved_for (New name ty ns b) w wants = Some (name, file_of (zeros ty ns b))
-saved_for (Run name lines) w wants = saved_of name lines (opened array_in (w.files name)) wants w.input
+saved_for (Run name caching) w wants = saved_of name (run_file caching) (opened array_in (w.files name)) wants w.input
 saved_for (Look name lines) w wants = None
 saved_for (Bound name most) w wants = None
 saved_for (Sample h seed) w wants = None
@@ -135,7 +135,7 @@ IsExtent (Compress h) status input taken = TakesWhole status input taken
 IsExtent Restore status input taken = TakesWhole status input taken
 IsExtent Info status input taken = TakesHeader status input taken
 IsExtent (New name ty ns b) status input taken = taken ≡ []
-IsExtent (Run name lines) status input taken = TakesScript status input taken
+IsExtent (Run name caching) status input taken = TakesScript status input taken
 IsExtent (Look name lines) status input taken = TakesScript status input taken
 IsExtent (Bound name most) status input taken = taken ≡ []
 IsExtent (Sample h seed) status input taken = taken ≡ []
@@ -153,8 +153,8 @@ HasWants (Compress h) status w wants = wants ≡ []
 HasWants Restore status w wants = wants ≡ []
 HasWants Info status w wants = wants ≡ []
 HasWants (New name ty ns b) status w wants = wants ≡ []
-HasWants (Run name lines) status w wants = OnWholeScript status (AreWants run_replies lines (opened array_in (w.files name)) wants w.input)
-HasWants (Look name lines) status w wants = OnWholeScript status (AreWants look_replies lines (opened stream_in (w.files name)) wants w.input)
+HasWants (Run name caching) status w wants = OnWholeScript status (AreWants (run_replies caching) (opened array_in (w.files name)) wants w.input)
+HasWants (Look name lines) status w wants = OnWholeScript status (AreWants (look_replies lines) (opened stream_in (w.files name)) wants w.input)
 HasWants (Bound name most) status w wants = wants ≡ []
 HasWants (Sample h seed) status w wants = wants ≡ []
 
@@ -170,7 +170,7 @@ uses (Compress h) = record { reads = true; writes = true; loads = false; saves =
 uses Restore = record { reads = true; writes = true; loads = false; saves = false }
 uses Info = record { reads = true; writes = true; loads = false; saves = false }
 uses (New name ty ns b) = record { reads = false; writes = false; loads = false; saves = true }
-uses (Run name lines) = record { reads = true; writes = true; loads = true; saves = true }
+uses (Run name caching) = record { reads = true; writes = true; loads = true; saves = true }
 uses (Look name lines) = record { reads = true; writes = true; loads = true; saves = false }
 uses (Bound name most) = record { reads = false; writes = true; loads = true; saves = false }
 uses (Sample h seed) = record { reads = false; writes = true; loads = false; saves = false }
@@ -181,7 +181,7 @@ TakesMemory (Compress h) w = Unit {0}
 TakesMemory Restore w = header_fault w.input ≡ None
 TakesMemory Info w = ⊥
 TakesMemory (New name ty ns b) w = Unit {0}
-TakesMemory (Run name lines) w = Unit {0}
+TakesMemory (Run name caching) w = Unit {0}
 TakesMemory (Look name lines) w = Unit {0}
 TakesMemory (Bound name most) w = Unit {0}
 TakesMemory (Sample h seed) w = Unit {0}
@@ -196,7 +196,7 @@ MayRead (Compress h) w = Unit {0}
 MayRead Restore w = Unit {0}
 MayRead Info w = Unit {0}
 MayRead (New name ty ns b) w = ⊥
-MayRead (Run name lines) w = IsOk (opened array_in (w.files name))
+MayRead (Run name caching) w = IsOk (opened array_in (w.files name))
 MayRead (Look name lines) w = IsOk (opened stream_in (w.files name))
 MayRead (Bound name most) w = ⊥
 MayRead (Sample h seed) w = ⊥
@@ -206,7 +206,7 @@ MayWrite (Compress h) w = Unit {0}
 MayWrite Restore w = Unit {0}
 MayWrite Info w = Unit {0}
 MayWrite (New name ty ns b) w = ⊥
-MayWrite (Run name lines) w = IsRunnable (opened array_in (w.files name)) w
+MayWrite (Run name caching) w = IsRunnable (opened array_in (w.files name)) w
 MayWrite (Look name lines) w = IsRunnable (opened stream_in (w.files name)) w
 MayWrite (Bound name most) w = IsOk (opened array_in (w.files name))
 MayWrite (Sample h seed) w = Unit {0}
@@ -216,7 +216,7 @@ MayLoad (Compress h) w = ⊥
 MayLoad Restore w = ⊥
 MayLoad Info w = ⊥
 MayLoad (New name ty ns b) w = ⊥
-MayLoad (Run name lines) w = Unit {0}
+MayLoad (Run name caching) w = Unit {0}
 MayLoad (Look name lines) w = Unit {0}
 MayLoad (Bound name most) w = Unit {0}
 MayLoad (Sample h seed) w = ⊥
@@ -226,7 +226,7 @@ MaySave (Compress h) w = ⊥
 MaySave Restore w = ⊥
 MaySave Info w = ⊥
 MaySave (New name ty ns b) w = Unit {0}
-MaySave (Run name lines) w = IsRunnable (opened array_in (w.files name)) w
+MaySave (Run name caching) w = IsRunnable (opened array_in (w.files name)) w
 MaySave (Look name lines) w = ⊥
 MaySave (Bound name most) w = ⊥
 MaySave (Sample h seed) w = ⊥
@@ -324,7 +324,7 @@ IsPossible (Compress h) status = CompressEnds (raw_len h) status
 IsPossible Restore status = RestoreEnds status
 IsPossible Info status = InfoEnds status
 IsPossible (New name ty ns b) status = NewEnds status
-IsPossible (Run name lines) status = RunEnds status
+IsPossible (Run name caching) status = RunEnds status
 IsPossible (Look name lines) status = LookEnds status
 IsPossible (Bound name most) status = BoundEnds status
 IsPossible (Sample h seed) status = SampleEnds status

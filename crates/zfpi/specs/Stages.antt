@@ -6,6 +6,7 @@ use Rattle.zf_header.specs.declared.header.Header.{Header}
 use Rattle.zf_header.specs.declared.header.Mode.TheVariants.{Rate, Precision}
 use Rattle.zf_header.specs.HeaderBits.{IsRate, IsMode, rate_bytes_of}
 use Rattle.zfpi.specs.Names.{IsName}
+use Rattle.zfpi.specs.declared.command.Caching.TheVariants.{Direct}
 use Rattle.zfpi.specs.declared.command.Command.{Command}
 use Rattle.zfpi.specs.declared.command.Command.TheVariants as commands
 use Rattle.zfpi.specs.declared.words.Task.{Task}
@@ -36,9 +37,9 @@ abbrev pub script_word : Script → List ℕ
 script_word scripts.Run = codes "run"
 script_word scripts.Look = codes "look"
 
--- the command on a script with the file of this name
+-- the command on a script with the file of this name, where each block has one line
 abbrev pub script_command : Script → List ℕ → Option ℕ → Command
-script_command scripts.Run name lines = commands.Run name lines
+script_command scripts.Run name lines = commands.Run name (Direct lines)
 script_command scripts.Look name lines = commands.Look name lines
 
 -- these words begin a task for arrays of this type and shape, and then those behind follow
@@ -64,6 +65,7 @@ LeadsTo words (stages.NamedTyped name ty) = IsName name × (words ≡ codes "new
 LeadsTo words (stages.NamedShaped name ty shape) = IsName name × IsShape shape × (words ≡ codes "new" ∷ name ∷ type_word ty ∷ shape_word shape ∷ [])
 LeadsTo words (stages.Scripting script) = words ≡ script_word script ∷ []
 LeadsTo words (stages.AtLines script name) = IsName name × (words ≡ script_word script ∷ name ∷ codes "lines" ∷ [])
+LeadsTo words (stages.AtTwoWay name) = IsName name × (words ≡ codes "run" ∷ name ∷ codes "twoway" ∷ [])
 LeadsTo words stages.Bounding = words ≡ codes "bound" ∷ []
 LeadsTo words (stages.AtMost name) = IsName name × (words ≡ codes "bound" ∷ name ∷ [])
 LeadsTo words (stages.Whole c) = IsSpelled c words

@@ -9,6 +9,8 @@ use Rattle.zf_header.specs.declared.header.Mode.{Mode}
 use Rattle.zf_header.specs.declared.header.Mode.TheVariants.{Reversible, Rate, Precision}
 use Rattle.zf_header.specs.HeaderBits.{IsHeader, IsRate, rate_bytes_of}
 use Rattle.zfpi.specs.Names.{IsName}
+use Rattle.zfpi.specs.declared.command.Caching.{Caching}
+use Rattle.zfpi.specs.declared.command.Caching.TheVariants.{Direct, TwoWay}
 use Rattle.zfpi.specs.declared.command.Command.{Command}
 use Rattle.zfpi.specs.declared.command.Command.TheVariants.{Compress, Restore, Info, New, Run, Look, Bound, Sample}
 
@@ -64,11 +66,21 @@ abbrev pub lines_words : Option ℕ → List (List ℕ)
 lines_words None = []
 lines_words (Some l) = codes "lines" ∷ decimal l ∷ []
 
--- the first word of a command on a script, and then `NAME` or `NAME lines L`
-pub record IsOnScript (first : List ℕ) (name : List ℕ) (lines : Option ℕ) (words : List (List ℕ)) : Type 0 where
+-- a cache that can be asked for
+abbrev pub IsCaching : Caching → Type 0
+IsCaching (Direct lines) = IsLines lines
+IsCaching (TwoWay l) = IsLines (Some l)
+
+-- nothing, `lines L` or `twoway L`
+abbrev pub caching_words : Caching → List (List ℕ)
+caching_words (Direct lines) = lines_words lines
+caching_words (TwoWay l) = codes "twoway" ∷ decimal l ∷ []
+
+-- the first word of a command on a script, and then `NAME`, `NAME lines L` or `NAME twoway L`
+pub record IsOnScript (first : List ℕ) (name : List ℕ) (caching : Caching) (words : List (List ℕ)) : Type 0 where
   pub named : IsName name
-  pub lines_are : IsLines lines
-  pub words_are : words ≡ first ∷ name ∷ lines_words lines
+  pub caching_is : IsCaching caching
+  pub words_are : words ≡ first ∷ name ∷ caching_words caching
 
 -- `bound NAME M`
 pub record IsBound (name : List ℕ) (most : ℕ) (words : List (List ℕ)) : Type 0 where
@@ -92,8 +104,8 @@ IsSpelled (Compress h) words = IsAskable h × (words ≡ compress_words h)
 IsSpelled Restore words = words ≡ codes "restore" ∷ []
 IsSpelled Info words = words ≡ codes "info" ∷ []
 IsSpelled (New name ty ns b) words = IsNew name ty ns b words
-IsSpelled (Run name lines) words = IsOnScript (codes "run") name lines words
-IsSpelled (Look name lines) words = IsOnScript (codes "look") name lines words
+IsSpelled (Run name caching) words = IsOnScript (codes "run") name caching words
+IsSpelled (Look name lines) words = IsOnScript (codes "look") name (Direct lines) words
 IsSpelled (Bound name most) words = IsBound name most words
 IsSpelled (Sample h seed) words = IsSample h seed words
 

@@ -4,6 +4,15 @@ use crate::name::Name;
 use zf_base::{Shape, Ty};
 use zf_header::Header;
 
+/// The cache that a script runs over.
+#[derive(Clone, Copy, Debug)]
+pub enum Caching {
+    /// Each block has one line. There are so many lines, or as many as suit the array.
+    Direct(Option<u32>),
+    /// Each block has two lines, of so many.
+    TwoWay(u32),
+}
+
 /// What the program is asked to do.
 #[derive(Debug, Drop)]
 pub enum Command {
@@ -20,14 +29,14 @@ pub enum Command {
         shape: Shape,
         bits: u32,
     },
-    /// The file of this name is an array, and a script from the source runs on it over a cache of so many lines, or of as many as suit the
-    /// array; replies to the sink, and the array is saved under the same name.
+    /// The file of this name is an array, and a script from the source runs on it over such a cache; replies to the sink, and the array is
+    /// saved under the same name.
     Run {
         name: Name,
-        lines: Option<u32>,
+        caching: Caching,
     },
-    /// The file of this name is a stream, and a script from the source that only reads looks at its values over such a cache; replies to the
-    /// sink, and no file changes.
+    /// The file of this name is a stream, and a script from the source that only reads looks at its values over a cache of so many lines, or
+    /// of as many as suit the stream; replies to the sink, and no file changes.
     Look {
         name: Name,
         lines: Option<u32>,

@@ -110,7 +110,7 @@ fn do_command<S: Source, O: Sink, F: Shelf>(
             shape,
             bits,
         } => new(alloc, &name, ty, shape, bits, shelf),
-        Command::Run { name, lines } => run(alloc, &name, lines, src, out, shelf),
+        Command::Run { name, caching } => run(alloc, &name, caching, src, out, shelf),
         Command::Look { name, lines } => look(alloc, &name, lines, src, out, shelf),
         Command::Bound { name, most } => bound(alloc, &name, most, out, shelf),
         Command::Sample(header, seed) => sample(alloc, header, seed, out),

@@ -5,18 +5,22 @@ ghost use Rattle.zf_base.specs.Widths.{width_of};
 ghost use Rattle.zf_dev.specs.Shelf.{Files, KeepsFiles};
 ghost use Rattle.zf_dev.specs.Source.{Takes, IsAtEnd};
 ghost use Rattle.zf_store.specs.Files.{HasHeader};
+ghost use Rattle.zf_array.specs.Standing.{stored, state};
+ghost use Rattle.zfpi.specs.declared.command.Caching.TheVariants.{Direct};
 ghost use Rattle.zfpi.specs.declared.command.Command.TheVariants.{Run};
-ghost use Rattle.zfpi.specs.Words.{IsLines};
+ghost use Rattle.zfpi.specs.Words.{IsLines, IsCaching};
 ghost use Rattle.zfpi.specs.World.{seen, counts};
 ghost use Rattle.zfpi.specs.Answer.{CanRun};
 ghost use Rattle.zfpi.specs.Scripts.{max_script};
-ghost use Rattle.zfpi.specs.Loaded.{HoldsFile, HoldsArray, SavesOrFails};
+ghost use Rattle.zfpi.specs.Loaded.{HoldsFile, HoldsArray};
 ghost use Rattle.zfpi.specs.Headline.{Behaves, HasCauses, FailedLoad, FailedSave};
 
+use crate::command::Caching;
 use crate::kinds::in_kind;
 use crate::name::Name;
-use crate::scripts::{MAX_SCRIPT, line_count};
+use crate::scripts::{MAX_SCRIPT, line_count, save};
 use crate::status::Status;
+use crate::twoway;
 use std::alloc::Global;
 use zf_array::Array;
 use zf_base::{Lane, Ty};
@@ -24,28 +28,28 @@ use zf_dev::{Shelf, Sink, Source, take_all};
 use zf_header::{Header, MAX_FILE, Mode, mode_number};
 use zf_run::RunEnd;
 
-/// Loads the file of this name, which is an array, reads a script to its end and runs it, with a cache of `lines` lines or of as many as suit the
-/// array, writes the replies, and saves the array under the same name.
+/// Loads the file of this name, which is an array, reads a script to its end and runs it, over the cache that `caching`
+/// says, writes the replies, and saves the array under the same name.
 pub fn run<S: Source, O: Sink, F: Shelf>(
     alloc: Global,
     name: &Name,
-    lines: Option<u32>,
+    caching: Caching,
     src: &mut S,
     out: &mut O,
     shelf: &mut F,
 ) -> Status
-    requires { CanRun (Run name.now lines) }
-    ensures behaves { Behaves (Run name.now lines) result
+    requires { CanRun (Run name.now caching) }
+    ensures behaves { Behaves (Run name.now caching) result
         (seen (S.contents src.old) (O.contents out.old) (F.files shelf.old))
         (seen (S.contents src.new) (O.contents out.new) (F.files shelf.new)) }
-    ensures causes { HasCauses (Run name.now lines) result
+    ensures causes { HasCauses (Run name.now caching) result
         (counts (S.faults src.old) (O.faults out.old) (F.faults shelf.old))
         (counts (S.faults src.new) (O.faults out.new) (F.faults shelf.new))
         (FailedLoad F.loads F.faults shelf.old shelf.new) (FailedSave F.saves F.faults shelf.old shelf.new)
         (S.never_fails src.old) (S.never_fails src.new) }
 {
     match shelf.load(alloc, name.as_str(), MAX_FILE) {
-        Ok(file) => run_file(alloc, name, lines, file, src, out, shelf),
+        Ok(file) => run_file(alloc, name, caching, file, src, out, shelf),
         Err(error) => Status::from(error),
     }
 }
@@ -54,31 +58,60 @@ pub fn run<S: Source, O: Sink, F: Shelf>(
 fn run_file<S: Source, O: Sink, F: Shelf>(
     alloc: Global,
     name: &Name,
-    lines: Option<u32>,
+    caching: Caching,
     file: Vec<u8>,
     src: &mut S,
     out: &mut O,
     shelf: &mut F,
 ) -> Status
-    requires lines { IsLines lines }
+    requires caching { IsCaching caching }
     ensures behaves { (known : Option Files) → HoldsFile known name.now file.items → KeepsFiles known (F.files shelf.old)
-        → Behaves (Run name.now lines) result (seen (S.contents src.old) (O.contents out.old) known)
+        → Behaves (Run name.now caching) result (seen (S.contents src.old) (O.contents out.old) known)
         (seen (S.contents src.new) (O.contents out.new) (F.files shelf.new)) }
-    ensures causes { HasCauses (Run name.now lines) result
+    ensures causes { HasCauses (Run name.now caching) result
         (counts (S.faults src.old) (O.faults out.old) (F.faults shelf.old))
         (counts (S.faults src.new) (O.faults out.new) (F.faults shelf.new))
         ⊥ (FailedSave F.saves F.faults shelf.old shelf.new) (S.never_fails src.old) (S.never_fails src.new) }
 {
     match zf_header::read(&file) {
         Ok((header, _)) => match header.mode {
-            Mode::Rate(_) => run_typed(alloc, name, lines, &header, file, src, out, shelf),
+            Mode::Rate(_) => run_over(alloc, name, caching, &header, file, src, out, shelf),
             mode => Status::NotRate(mode_number(&mode)),
         },
         Err(fault) => Status::Header(fault),
     }
 }
 
-// The same, with the header of the file: chooses the type of its values and the number of its dimensions.
+// The same, with the header of the file: chooses the cache.
+fn run_over<S: Source, O: Sink, F: Shelf>(
+    alloc: Global,
+    name: &Name,
+    caching: Caching,
+    header: &Header,
+    file: Vec<u8>,
+    src: &mut S,
+    out: &mut O,
+    shelf: &mut F,
+) -> Status
+    requires caching { IsCaching caching }
+    requires header { HasHeader file.items header.now }
+    ensures behaves { (known : Option Files) → HoldsFile known name.now file.items → KeepsFiles known (F.files shelf.old)
+        → Behaves (Run name.now caching) result (seen (S.contents src.old) (O.contents out.old) known)
+        (seen (S.contents src.new) (O.contents out.new) (F.files shelf.new)) }
+    ensures causes { HasCauses (Run name.now caching) result
+        (counts (S.faults src.old) (O.faults out.old) (F.faults shelf.old))
+        (counts (S.faults src.new) (O.faults out.new) (F.faults shelf.new))
+        ⊥ (FailedSave F.saves F.faults shelf.old shelf.new) (S.never_fails src.old) (S.never_fails src.new) }
+{
+    match caching {
+        Caching::Direct(lines) => run_typed(alloc, name, lines, header, file, src, out, shelf),
+        Caching::TwoWay(lines) => {
+            twoway::run_typed(alloc, name, lines, header, file, src, out, shelf)
+        }
+    }
+}
+
+// The same over a cache in which each block has one line: chooses the type of its values and the number of its dimensions.
 fn run_typed<S: Source, O: Sink, F: Shelf>(
     alloc: Global,
     name: &Name,
@@ -92,9 +125,9 @@ fn run_typed<S: Source, O: Sink, F: Shelf>(
     requires lines { IsLines lines }
     requires header { HasHeader file.items header.now }
     ensures behaves { (known : Option Files) → HoldsFile known name.now file.items → KeepsFiles known (F.files shelf.old)
-        → Behaves (Run name.now lines) result (seen (S.contents src.old) (O.contents out.old) known)
+        → Behaves (Run name.now (Direct lines)) result (seen (S.contents src.old) (O.contents out.old) known)
         (seen (S.contents src.new) (O.contents out.new) (F.files shelf.new)) }
-    ensures causes { HasCauses (Run name.now lines) result
+    ensures causes { HasCauses (Run name.now (Direct lines)) result
         (counts (S.faults src.old) (O.faults out.old) (F.faults shelf.old))
         (counts (S.faults src.new) (O.faults out.new) (F.faults shelf.new))
         ⊥ (FailedSave F.saves F.faults shelf.old shelf.new) (S.never_fails src.old) (S.never_fails src.new) }
@@ -124,9 +157,9 @@ fn run_array<T: Lane, const D: usize, S: Source, O: Sink, F: Shelf>(
     requires same_type { T.width ≡ width_of header.now.ty }
     requires dims { length header.now.shape ≡ D }
     ensures behaves { (known : Option Files) → HoldsFile known name.now file.items → KeepsFiles known (F.files shelf.old)
-        → Behaves (Run name.now lines) result (seen (S.contents src.old) (O.contents out.old) known)
+        → Behaves (Run name.now (Direct lines)) result (seen (S.contents src.old) (O.contents out.old) known)
         (seen (S.contents src.new) (O.contents out.new) (F.files shelf.new)) }
-    ensures causes { HasCauses (Run name.now lines) result
+    ensures causes { HasCauses (Run name.now (Direct lines)) result
         (counts (S.faults src.old) (O.faults out.old) (F.faults shelf.old))
         (counts (S.faults src.new) (O.faults out.new) (F.faults shelf.new))
         ⊥ (FailedSave F.saves F.faults shelf.old shelf.new) (S.never_fails src.old) (S.never_fails src.new) }
@@ -147,11 +180,11 @@ fn run_script<T: Lane, const D: usize, S: Source, O: Sink, F: Shelf>(
     out: &mut O,
     shelf: &mut F,
 ) -> Status
-    ensures behaves { (known : Option Files) (lines : Option ℕ) → HoldsArray known name.now lines T.width array
+    ensures behaves { (known : Option Files) (lines : Option ℕ) → HoldsArray known name.now (Direct lines) T.width (stored array) (state array)
         → KeepsFiles known (F.files shelf.old)
-        → Behaves (Run name.now lines) result (seen (S.contents src.old) (O.contents out.old) known)
+        → Behaves (Run name.now (Direct lines)) result (seen (S.contents src.old) (O.contents out.old) known)
         (seen (S.contents src.new) (O.contents out.new) (F.files shelf.new)) }
-    ensures causes { (lines : Option ℕ) → HasCauses (Run name.now lines) result
+    ensures causes { (lines : Option ℕ) → HasCauses (Run name.now (Direct lines)) result
         (counts (S.faults src.old) (O.faults out.old) (F.faults shelf.old))
         (counts (S.faults src.new) (O.faults out.new) (F.faults shelf.new))
         ⊥ (FailedSave F.saves F.faults shelf.old shelf.new) (S.never_fails src.old) (S.never_fails src.new) }
@@ -171,11 +204,11 @@ fn run_lines<T: Lane, const D: usize, O: Sink, F: Shelf>(
     shelf: &mut F,
 ) -> Status
     ensures behaves { (known : Option Files) (lines : Option ℕ) (src rest : Option (List ℕ))
-        → HoldsArray known name.now lines T.width array → KeepsFiles known (F.files shelf.old)
+        → HoldsArray known name.now (Direct lines) T.width (stored array) (state array) → KeepsFiles known (F.files shelf.old)
         → Takes src rest script.now → IsAtEnd rest → length script.now ≤ max_script
-        → Behaves (Run name.now lines) result (seen src (O.contents out.old) known)
+        → Behaves (Run name.now (Direct lines)) result (seen src (O.contents out.old) known)
         (seen rest (O.contents out.new) (F.files shelf.new)) }
-    ensures causes { (lines : Option ℕ) (src : ℕ) → HasCauses (Run name.now lines) result
+    ensures causes { (lines : Option ℕ) (src : ℕ) → HasCauses (Run name.now (Direct lines)) result
         (counts src (O.faults out.old) (F.faults shelf.old)) (counts src (O.faults out.new) (F.faults shelf.new))
         ⊥ (FailedSave F.saves F.faults shelf.old shelf.new) (Unit {0}) (Unit {0}) }
 {
@@ -184,17 +217,5 @@ fn run_lines<T: Lane, const D: usize, O: Sink, F: Shelf>(
         RunEnd::Done => save(name, array.save_bytes(), Status::Done, shelf),
         RunEnd::Lines(count) => save(name, array.save_bytes(), Status::Lines(count), shelf),
         RunEnd::Write => Status::WriteFault,
-    }
-}
-
-// Saves a file; the status is this one, unless the save fails.
-fn save<F: Shelf>(name: &Name, file: &[u8], status: Status, shelf: &mut F) -> Status
-    ensures saved { SavesOrFails (F.files shelf.old) (F.files shelf.new) name.now file.now status result
-        (FailedSave F.saves F.faults shelf.old shelf.new) }
-    ensures kept { F.faults shelf.old ≤ F.faults shelf.new }
-{
-    match shelf.save(name.as_str(), file) {
-        Ok(()) => status,
-        Err(_) => Status::SaveFault,
     }
 }

@@ -3,9 +3,14 @@
 ghost use Rattle.std.specs.Prelude.{◌≡◌, ◌≤◌, ◌<◌, ◌^◌};
 ghost use Rattle.zfpi.specs.Words.{IsLines};
 ghost use Rattle.zfpi.specs.Scripts.{lines_for};
+ghost use Rattle.zfpi.specs.Loaded.{SavesOrFails};
+ghost use Rattle.zfpi.specs.Headline.{FailedSave};
 
+use crate::name::Name;
+use crate::status::Status;
 use zf_base::Shape;
 use zf_cache::default_lines;
+use zf_dev::Shelf;
 
 /// The most bytes of a script.
 pub const MAX_SCRIPT: u64 = 1 << 24;
@@ -19,5 +24,17 @@ pub fn line_count(lines: Option<u32>, shape: &Shape) -> u32
     match lines {
         Some(count) => count,
         None => default_lines(shape),
+    }
+}
+
+/// Saves a file; the status is this one, unless the save fails.
+pub fn save<F: Shelf>(name: &Name, file: &[u8], status: Status, shelf: &mut F) -> Status
+    ensures saved { SavesOrFails (F.files shelf.old) (F.files shelf.new) name.now file.now status result
+        (FailedSave F.saves F.faults shelf.old shelf.new) }
+    ensures kept { F.faults shelf.old ≤ F.faults shelf.new }
+{
+    match shelf.save(name.as_str(), file) {
+        Ok(()) => status,
+        Err(_) => Status::SaveFault,
     }
 }

@@ -1,12 +1,12 @@
 //! The words of the command line.
 
-ghost use Rattle.std.specs.Prelude.{◌≡◌, ◌≢◌, ◌↔◌, ℕ, List, [], ◌∷◌, ◌++◌, map, Some, None, IfSome, IfNone, IfOk, IfErr, IsTrue, string_bytes};
+ghost use Rattle.std.specs.Prelude.{◌≡◌, ◌≢◌, ◌↔◌, ℕ, List, [], ◌∷◌, ◌++◌, map, Some, None, IfSome, IfNone, IfOk, IfErr, IsTrue, codes, string_bytes};
 ghost use Rattle.zf_base.specs.declared.lane.Ty.{Ty};
 ghost use Rattle.zf_header.specs.HeaderBits.{IsRate, IsMode};
 ghost use Rattle.zfpi.specs.Words.{type_word, IsLines, IsSpelled, BeginsCommand, IsUsage};
 ghost use Rattle.zfpi.specs.Stages.{LeadsTo, IsRateWord, IsLinesWord, IsPrecisionWord, command_of, script_command};
 
-use crate::command::Command;
+use crate::command::{Caching, Command};
 use crate::name::Name;
 use crate::numbers::{number_in, shape_in};
 use zf_base::{Shape, Ty};
@@ -47,6 +47,7 @@ enum Stage {
     NamedShaped(Name, Ty, Shape),
     Scripting(Script),
     AtLines(Script, Name),
+    AtTwoWay(Name),
     Bounding,
     AtMost(Name),
     Whole(Command),
@@ -89,7 +90,10 @@ impl Script {
         ensures { result ≡ script_command self name lines }
     {
         match self {
-            Script::Run => Command::Run { name, lines },
+            Script::Run => {
+                let caching = Caching::Direct(lines);
+                Command::Run { name, caching }
+            }
             Script::Look => Command::Look { name, lines },
         }
     }
@@ -138,6 +142,10 @@ impl Stage {
             Stage::AtLines(script, name) => {
                 let lines = Some(lines_in(word)?);
                 Some(Stage::Whole(script.command(name, lines)))
+            }
+            Stage::AtTwoWay(name) => {
+                let caching = Caching::TwoWay(lines_in(word)?);
+                Some(Stage::Whole(Command::Run { name, caching }))
             }
             Stage::Bounding => Some(Stage::AtMost(Name::new(word)?)),
             Stage::AtMost(name) => {
@@ -197,7 +205,7 @@ fn behind_shape(task: Task, ty: Ty, shape: Shape, word: &str) -> Option<Stage>
     }
 }
 
-// The stage that a word behind a whole command leads to: only a script can go on with a number of lines.
+// The stage that a word behind a whole command leads to: only a script can go on, with its cache.
 fn behind_whole(command: Command, word: &str) -> Option<Stage>
     ensures leads { IfSome result (λ next. (words : List (List ℕ)) → LeadsTo words (Stage.Whole command)
         → LeadsTo (words ++ word.now ∷ []) next) }
@@ -205,7 +213,10 @@ fn behind_whole(command: Command, word: &str) -> Option<Stage>
         → BeginsCommand (words ++ word.now ∷ []) → ⊥) }
 {
     match command {
-        Command::Run { name, lines: None } => behind_file(Script::Run, name, word),
+        Command::Run {
+            name,
+            caching: Caching::Direct(None),
+        } => behind_file(Script::Run, name, word),
         Command::Look { name, lines: None } => behind_file(Script::Look, name, word),
         _ => None,
     }
@@ -220,7 +231,21 @@ fn behind_file(script: Script, name: Name, word: &str) -> Option<Stage>
 {
     match word {
         "lines" => Some(Stage::AtLines(script, name)),
+        "twoway" => behind_twoway(script, name),
         _ => None,
+    }
+}
+
+// The stage that the word `twoway` behind the file of a script leads to: only a run has such a cache.
+fn behind_twoway(script: Script, name: Name) -> Option<Stage>
+    ensures leads { IfSome result (λ next. (words : List (List ℕ)) → LeadsTo words (Stage.Whole (script_command script name None))
+        → LeadsTo (words ++ codes "twoway" ∷ []) next) }
+    ensures none { IfNone result ((words : List (List ℕ)) → LeadsTo words (Stage.Whole (script_command script name None))
+        → BeginsCommand (words ++ codes "twoway" ∷ []) → ⊥) }
+{
+    match script {
+        Script::Run => Some(Stage::AtTwoWay(name)),
+        Script::Look => None,
     }
 }
 

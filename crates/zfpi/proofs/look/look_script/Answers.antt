@@ -19,4 +19,4 @@ returns-in-Ok-clause-causes g c = λ lines shelf.
 pub returns-in-Err-clause-behaves : goal.returns-in-Err-clause-behaves
 returns-in-Err-clause-behaves g c = λ known now lines holds kept.
     let name = c.args.name.now in
-    rw c.from.ensures (Behaves-untaken (Look name lines) name lines stream_in look_replies (IsScripted-look name lines) known now holds.bytes _ holds.file holds.stream kept c.in-Err.error _ _ _ (λ long. c.in-Err.ensures.long (ap Err long)) c.take_all.ensures.taken)
+    rw c.from.ensures (Behaves-untaken (Look name lines) name stream_in (look_replies lines) (IsScripted-look name lines) known now holds.bytes _ holds.file holds.stream kept c.in-Err.error _ _ _ (λ long. c.in-Err.ensures.long (ap Err long)) c.take_all.ensures.taken)

@@ -19,9 +19,9 @@ pub returns-in-Err-clause-behaves : goal.returns-in-Err-clause-behaves
 returns-in-Err-clause-behaves g c =
     let why = rw c.as_str.ensures at c.in-Err.ensures.err in
     let name = c.args.name.now in
-    rw c.from.ensures (Behaves-unloaded (Run name c.args.lines) name array_in (IsScripted-run name c.args.lines).loading c.in-Err.error _ _ _ _ why c.load.ensures.files_stay)
+    rw c.from.ensures (Behaves-unloaded (Run name c.args.caching) name array_in (IsScripted-run name c.args.caching).loading c.in-Err.error _ _ _ _ why c.load.ensures.files_stay)
 
 pub returns-in-Err-clause-causes : goal.returns-in-Err-clause-causes
 returns-in-Err-clause-causes g c =
-    rw c.from.ensures (HasCauses-unloaded (Run c.args.name.now c.args.lines) g.F.Shelf.loads g.F.Shelf.faults c.args.shelf.now c.load.new.self c.in-Err.error _ _ tt c.load.ensures.step
+    rw c.from.ensures (HasCauses-unloaded (Run c.args.name.now c.args.caching) g.F.Shelf.loads g.F.Shelf.faults c.args.shelf.now c.load.new.self c.in-Err.error _ _ tt c.load.ensures.step
     (c.in-Err.ensures.cause.0, λ is. c.in-Err.ensures.cause.1 (ap Err is)))

@@ -1,6 +1,7 @@
 use Rattle.std.proofs.Common.{◌≤◌, length, Err, ap, sym, subst}
 use Rattle.zf_dev.specs.Source.{Takes}
 use Rattle.zfpi.proofs.Causes.{HasCauses-taken}
+use Rattle.zfpi.specs.declared.command.Caching.TheVariants.{Direct}
 use Rattle.zfpi.specs.declared.command.Command.TheVariants.{Run}
 use Rattle.zfpi.specs.Opened.{array_in}
 use Rattle.zfpi.specs.Scripts.{run_replies}
@@ -19,4 +20,4 @@ returns-in-Ok-clause-causes g c = λ lines.
 pub returns-in-Err-clause-behaves : goal.returns-in-Err-clause-behaves
 returns-in-Err-clause-behaves g c = λ known lines holds kept.
     let name = c.args.name.now in
-    rw c.from.ensures (Behaves-untaken (Run name lines) name lines array_in run_replies (IsScripted-run name lines) known _ holds.bytes _ holds.file holds.array kept c.in-Err.error _ _ _ (λ long. c.in-Err.ensures.long (ap Err long)) c.take_all.ensures.taken)
+    rw c.from.ensures (Behaves-untaken (Run name (Direct lines)) name array_in (run_replies (Direct lines)) (IsScripted-run name (Direct lines)) known _ holds.bytes _ holds.file holds.array kept c.in-Err.error _ _ _ (λ long. c.in-Err.ensures.long (ap Err long)) c.take_all.ensures.taken)

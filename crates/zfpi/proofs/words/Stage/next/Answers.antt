@@ -1,7 +1,7 @@
 use Rattle.std.proofs.Common.{◌≡◌, ◌++◌, ◌∷◌, [], None, ap, sym, subst, ◌∙◌}
 use Rattle.zfpi.specs.Stages.{script_word, LeadsTo}
 use Rattle.zfpi.proofs.Completed.{IsSpelled-script}
-use Rattle.zfpi.proofs.Commands.{IsRateWord-begun, IsRateWord-begun_new, IsPrecisionWord-begun, IsLinesWord-begun}
+use Rattle.zfpi.proofs.Commands.{IsRateWord-begun, IsRateWord-begun_new, IsPrecisionWord-begun, IsLinesWord-begun, IsLinesWord-begun_twoway}
 use Rattle.zfpi.proofs.words.Stage.next.Goals as goal
 
 pub returns-in_err-rate_in-in-AtRate-clause-none : goal.returns-in_err-rate_in-in-AtRate-clause-none
@@ -32,6 +32,13 @@ returns-in_err-lines_in-in-AtLines-clause-none c =
     let led = subst (LeadsTo words) c.in-AtLines.is leads in
     let lines = IsLinesWord-begun c.in-AtLines.script c.in-AtLines.name words c.args.word.now led.1 begins in
     c.in_err-lines_in-in-AtLines.ensures.none lines.0 lines.1)
+
+pub returns-in_err-lines_in-in-AtTwoWay-clause-none : goal.returns-in_err-lines_in-in-AtTwoWay-clause-none
+returns-in_err-lines_in-in-AtTwoWay-clause-none c =
+    rw c.from_residual-in_err-lines_in-in-AtTwoWay.ensures (λ words leads begins.
+    let led = subst (LeadsTo words) c.in-AtTwoWay.is leads in
+    let lines = IsLinesWord-begun_twoway c.in-AtTwoWay.name words c.args.word.now led.1 begins in
+    c.in_err-lines_in-in-AtTwoWay.ensures.none lines.0 lines.1)
 
 pub returns-in-Whole-clause-none : goal.returns-in-Whole-clause-none
 returns-in-Whole-clause-none c = rw c.in-Whole.is c.behind_whole.ensures.none

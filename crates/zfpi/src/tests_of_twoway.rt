@@ -1,0 +1,1 @@
+//! Runs over a two-way cache, over devices in memory.
