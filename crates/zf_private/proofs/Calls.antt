@@ -1,0 +1,99 @@
+-- What a call of the cache makes of a view.
+use Rattle.std.proofs.Common.{◌≡◌, refl, sym, ap, subst, ◌∙◌, ℕ, ◌+◌, ◌^◌, ◌<◌, ◌≤◌, ◌==◌, ℤ, pos, ◌+ℤ◌, Bool, true, false, eqb-true, Option, Some, List, [], ◌∷◌, ◌++◌, map, length, get_or, set, take, drop, arith}
+use Rattle.std.specs.Int.{Width}
+use Rattle.std.proofs.lemmas.List.{length-take-le, set_split, map-set, length-map, length-drop, get_or-map}
+use Rattle.zf_spec.specs.Numbers.{wrap}
+use Rattle.zf_spec.specs.Grid.{blocks}
+use Rattle.zf_base.specs.declared.position.Pos.{Pos}
+use Rattle.zf_base.specs.Positions.{used_axes, IsPosition}
+use Rattle.zf_base.specs.Places.{block_number, place_of, IsAt}
+use Rattle.zf_base.specs.Formats.{Format, existing_of, meant}
+use Rattle.zf_base.proofs.Formats.{existing_of-existing_of, existing_of-meant, existing_of-set}
+use Rattle.zf_base.proofs.Sizes.{blocks_le}
+use Rattle.zf_cached.specs.State.{State, is_block}
+use Rattle.zf_cached.specs.Touch.{touch, touch_for_writing, with_values}
+use Rattle.zf_cached.proofs.Caching.{touch-same}
+use Rattle.zf_lines.specs.Rows.{line_at, over_part}
+use Rattle.zf_cache.specs.Kept.{Kept, HasBlocks, tag_at, block_in, dirty_tag, line_of}
+use Rattle.zf_cache.specs.Standing.{state_of, values_of, line_values, Fits}
+use Rattle.zf_cache.specs.Steps.{with_value, put}
+use Rattle.zf_cache.proofs.Tags.{names-dirty}
+use Rattle.zf_private.specs.Acts.{Act}
+use Rattle.zf_private.specs.Views.{changed, acted, answered, IsWithin, HasOwn, AreAlike}
+use Rattle.zf_private.specs.Standing.{Held, Own, block_at, place_at, state, IsOver, HasPlaces, IsWhole}
+use Rattle.zf_private.proofs.Alike.{own-acted, stay-acted}
+
+module _ {X Code : Type 0} (value : X → ℤ) where
+  -- the values of a block are 0 where no place exists
+  pub values_whole : (c : Kept X) (f : Format Code) (k : ℕ → Code) (b : ℕ) → existing_of f b ((state_of value c f k).values b) ≡ (state_of value c f k).values b
+  unfolding state_of values_of
+  values_whole c f k b = by (is_block (block_in (tag_at c.tags (line_of c b))) b)
+    where
+      vals : Bool → List ℤ
+      vals t = elim t [ true ↦ line_values value c f (line_of c b) b | false ↦ meant f b (k b) ]
+
+      by : (t : Bool) → existing_of f b (vals t) ≡ vals t
+      by true = existing_of-existing_of f b (map value (line_at c.lines (line_of c b)))
+      by false = existing_of-meant f b (k b)
+
+  -- what a view that is whole has in its lines, or dirty, is its own
+  pub own_state : (d : ℕ) (v : Held X) (f : Format Code) (k : ℕ → Code) → IsWhole d v → HasOwn (Own v) (state value v f k)
+  unfolding state_of
+  own_state d v f k whole = record {
+    held = whole.own;
+    dirty = λ b e. let l = line_of v.cache b in whole.own l b (ap block_in (eqb-true (tag_at v.cache.tags l) (dirty_tag b) e) ∙ names-dirty b);
+  }
+
+  -- a value put at a place that exists
+  pub put-changed : (f : Format Code) (s : State Code) (b p : ℕ) (v : ℤ) → f.exists b p ≡ true → existing_of f b (s.values b) ≡ s.values b → put f s b p v ≡ changed f s b p (λ old. v)
+  unfolding put with_value touch_for_writing
+  put-changed f s b p v exists whole =
+      let t = touch_for_writing f s b in
+      let same : (touch f s b).values b ≡ s.values b = (touch-same f s b).1 in
+      let still : existing_of f b ((touch f s b).values b) ≡ (touch f s b).values b = ap (existing_of f b) same ∙ whole ∙ sym same in
+      ap (with_values t b) (existing_of-set f b ((touch f s b).values b) p v exists still)
+
+module _ {X Code : Type 0} (value : X → ℤ) (w : Width) (d : ℕ) (v now : Held X) (is : v ≡ now) (whole : IsWhole d v) (f : Format Code) (k : ℕ → Code) where
+  pub has_blocks : IsOver now f → HasBlocks f d
+  has_blocks over =
+      let mine : IsOver v f = subst (λ u. IsOver u f) (sym is) over in
+      (mine.1 ∙ ap (λ n. 4 ^ n) whole.dims, omega (arith, mine.0, blocks_le v.shape whole.shape.not_zero, whole.shape.not_too_large))
+
+  pub own_now : HasOwn (Own now) (state value now f k)
+  own_now = subst (λ u. HasOwn (Own u) (state value u f k)) is (own_state value d v f k whole)
+
+  module _ (p : Pos) (b place : ℕ) (block : b ≡ block_at v p) (at_place : place ≡ place_at v p) (at : IsAt v.shape (used_axes (length v.shape) p) b place) where
+    pub block_below : IsOver now f → b < f.blocks
+    block_below over = subst (λ n. b < n) (sym (subst (λ u. IsOver u f) (sym is) over).0) at.block_in_array
+
+    pub place_below : place < 4 ^ d
+    place_below = subst (λ n. place < 4 ^ n) whole.dims at.place_in_block
+
+    pub owned_block : Own now (block_at now p) → Own v b
+    owned_block own = subst (Own v) (sym block) (subst (λ u. Own u (block_at u p)) (sym is) own)
+
+    pub exists_there : HasPlaces now f → Own now (block_at now p) → f.exists b place ≡ true
+    exists_there places own = (subst (λ u. HasPlaces u f) (sym is) places) b place (owned_block own) ∙ at.exists
+
+    -- an act at the block and the place of the position
+    pub acts_at : (act : ℕ → ℕ → Act) (t : State Code) → t ≡ acted w f (state value v f k) (act b place) → t ≡ acted w f (state value now f k) (act (block_at now p) (place_at now p))
+    acts_at act t e =
+        e ∙ ap (λ n. acted w f (state value v f k) (act n place)) block ∙ ap (λ n. acted w f (state value v f k) (act (block_at v p) n)) at_place
+        ∙ ap (λ u. acted w f (state value u f k) (act (block_at u p) (place_at u p))) is
+
+  -- a step of the state leaves the other codes, and nothing but owned blocks in the lines
+  module _ (new : Kept X) (h : Format Code) (j : ℕ → Code) (a : Act) (step : state_of value new h j ≡ acted w f (state value now f k) a) where
+    pub others_stay : (b : ℕ) → (Own now b → ⊥) → j b ≡ k b
+    unfolding state_of
+    others_stay b not = ap (λ (t : State Code). t.codes b) step ∙ stay-acted f (Own now) w (state value now f k) a b own_now not
+
+    pub still_whole : (shape : List ℕ) (first count : ℕ) → v.shape ≡ shape → v.first ≡ first → v.count ≡ count → IsWithin (Own now) a
+        → IsWhole d (record { cache = new; shape = shape; first = first; count = count })
+    unfolding state_of
+    still_whole shape first count es ef ec within =
+        let own : HasOwn (Own now) (state_of value new h j) = subst (HasOwn (Own now)) (sym step) (own-acted f (Own now) w (state value now f k) a within own_now) in
+        let back : HasOwn (Own v) (state_of value new h j) = subst (λ u. HasOwn (Own u) (state_of value new h j)) (sym is) own in
+        subst (λ n. IsWhole d (record { cache = new; shape = n; first = first; count = count })) es
+        (subst (λ n. IsWhole d (record { cache = new; shape = v.shape; first = n; count = count })) ef
+        (subst (λ n. IsWhole d (record { cache = new; shape = v.shape; first = v.first; count = n })) ec
+        (record { dims = whole.dims; shape = whole.shape; some = whole.some; inside = whole.inside; own = back.held })))
