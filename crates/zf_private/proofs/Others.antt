@@ -1,8 +1,9 @@
 -- What the laws say of views over a backing, and of the parts of an array.
-use Rattle.std.proofs.Common.{◌≡◌, refl, sym, ap, subst, ◌∙◌, ◌⊎◌, inl, inr, ℕ, zero, suc, ◌+◌, ◌-◌, ◌*◌, ◌/◌, ◌<◌, ◌≤◌, ℤ, Bool, true, false, List, arith}
+use Rattle.std.proofs.Common.{◌≡◌, refl, sym, ap, subst, ◌∙◌, ◌⊎◌, inl, inr, ℕ, zero, suc, ◌+◌, ◌-◌, ◌*◌, ◌/◌, ◌<◌, ◌≤◌, ℤ, ◌+ℤ◌, Bool, true, false, List, arith}
 use Rattle.std.specs.Int.{Width}
 use Rattle.std.proofs.lemmas.Bool.{cases_lt}
-use Rattle.std.proofs.Math.Nat.{div-eq_of_lt-le, le-div_iff_mul-le, lt-mul-div-succ, mul-div-le}
+use Rattle.std.proofs.Math.Nat.{zero-div, mul-div_cancel_left}
+use Rattle.zf_spec.specs.Numbers.{wrap}
 use Rattle.zf_base.specs.Formats.{Format, meant}
 use Rattle.zf_cached.specs.State.{State, is_block}
 use Rattle.zf_cached.specs.Touch.{touch}
@@ -31,6 +32,10 @@ pub acted-set : {Code : Type 0} (w : Width) (f : Format Code) (s : State Code) (
 unfolding acted
 acted-set w f s b p v = refl
 
+pub acted-add : {Code : Type 0} (w : Width) (f : Format Code) (s : State Code) (b p : ℕ) (v : ℤ) → changed f s b p (λ old. wrap w (old +ℤ v)) ≡ acted w f s (Act.add b p v)
+unfolding acted
+acted-add w f s b p v = refl
+
 -- ---- codes that changed in the blocks of other views
 
 module _ {X Code : Type 0} (value : X → ℤ) (d : ℕ) (v : Held X) (f g : Format Code) (k j : ℕ → Code) (whole : IsWhole d v) (same : g ≡ f) (codes : (b : ℕ) → Own v b → j b ≡ k b) where
@@ -53,3 +58,20 @@ module _ {X Code : Type 0} (value : X → ℤ) (d : ℕ) (v : Held X) (f g : For
     where
       vals : ℕ → List ℤ → List ℤ
       vals b ms = elim (is_block (block_in (tag_at v.cache.tags (line_of v.cache b))) b) [ true ↦ line_values value v.cache f (line_of v.cache b) b | false ↦ ms ]
+
+-- ---- the parts of an array
+
+-- the view of a block, where the views below m own it
+pub owner_below : (n k b m : ℕ) → b < first_of n k m → (i : ℕ) × (i < m) × OwnsPart n k i b
+owner_below n k b zero h = let zero_times : 0 * n ≡ 0 = omega arith in let none : first_of n k 0 ≡ 0 = ap (λ m. m / k) zero_times ∙ zero-div k in absurd (omega (arith, h, none))
+owner_below n k b (suc m) h = by (cases_lt b (first_of n k m)) (owner_below n k b m)
+  where
+    by : (b < first_of n k m) ⊎ (first_of n k m ≤ b) → (b < first_of n k m → (i : ℕ) × (i < m) × OwnsPart n k i b) → (i : ℕ) × (i < suc m) × OwnsPart n k i b
+    by (inl lt) before = let r = before lt in (r.0, omega (arith, r.1), r.2)
+    by (inr ge) before =
+        let next : m + 1 ≡ suc m = omega arith in
+        let below : b < first_of n k (m + 1) = subst (λ i. b < first_of n k i) (sym next) h in
+        (m, omega arith, (ge, omega (arith, ge, below)))
+
+pub first_of-last : (n k : ℕ) → 1 ≤ k → first_of n k k ≡ n
+first_of-last n k some = mul-div_cancel_left n some

@@ -2,7 +2,7 @@ use Rattle.std.proofs.Common.{refl, ap, ◌∙◌, lit<}
 use Rattle.zf_cached.specs.Changes.{flush}
 use Rattle.zf_private.specs.Acts.{Act}
 use Rattle.zf_private.specs.Standing.{Held, state}
-use Rattle.zf_private.proofs.Calls.{has_blocks, others_stay}
+use Rattle.zf_private.proofs.Calls.{has_blocks, fits_mine, others_stay}
 use Rattle.zf_private.proofs.Others.{acted-flush}
 use Rattle.zf_private.proofs.private.Private.flush.Goals as goal
 
@@ -11,7 +11,7 @@ flush-requires g c =
     let o = c.self.inside in
     let v : Held g.row.T.Denot = record { cache = o.cache; shape = o.shape; first = o.first; count = o.count } in
     let f = g.B.Reading.format c.args.back.now in let k = g.B.Reading.codes c.args.back.now in
-    (lit< tt, (c.requires.fits, has_blocks g.T.Lane.value g.T.Lane.width g.row.D v c.args.self.now c.self.view_is c.self.invariant f k c.requires.blocks))
+    (lit< tt, (fits_mine g.T.Lane.value g.T.Lane.width g.row.D v c.args.self.now c.self.view_is c.self.invariant f k c.requires.fits, has_blocks g.T.Lane.value g.T.Lane.width g.row.D v c.args.self.now c.self.view_is c.self.invariant f k c.requires.blocks))
 
 pub returns-clause-state : goal.returns-clause-state
 returns-clause-state g c =
