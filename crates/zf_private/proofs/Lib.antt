@@ -1,0 +1,4 @@
+pub mod Alike
+pub mod Alone
+pub mod Calls
+pub mod Others
