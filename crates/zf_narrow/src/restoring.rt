@@ -7,10 +7,10 @@ ghost use Rattle.zf_stream.specs.declared.fault.StreamFault.TheVariants.{Read, W
 ghost use Rattle.zf_narrow.specs.declared.fault.NarrowFault.TheVariants.{Stream};
 ghost use Rattle.zf_narrow.specs.Texts.{AnswersNarrow, CanRefuseNarrow, RestoresNarrow, LeavesNarrowFront, IsBeforeWriting};
 
-use crate::{Narrow, NarrowFault};
 use crate::begun::Begun;
 use crate::demoted::Demoted;
 use crate::demotion::Demotion;
+use crate::{Narrow, NarrowFault};
 use std::alloc::Global;
 use std::marker::{Brand, PhantomData};
 use zf_base::Ty;
