@@ -1,5 +1,5 @@
 -- A code that is cut behind its last bit reads the same.
-use Rattle.std.proofs.Common.{◌≡◌, refl, sym, ap, subst, ◌∙◌, ℕ, ◌+◌, ◌-◌, ◌^◌, ◌<◌, ◌≤◌, min, Bool, true, false, cond, ltb, ℤ, Option, Some, None, List, [], ◌∷◌, ◌++◌, length, take, drop, length-drop, take-take, arith}
+use Rattle.std.proofs.Common.{◌≡◌, sym, ap, subst, ◌∙◌, ℕ, ◌+◌, ◌^◌, ◌≤◌, min, Bool, false, cond, ltb, ℤ, Option, Some, None, List, [], length, take, drop, length-drop, take-take, arith}
 use Rattle.std.specs.Int.{Width}
 use mir.Val.{bits}
 use Rattle.std.proofs.lemmas.Bool.{le-ltb, ltb-false}
@@ -9,7 +9,7 @@ use Rattle.zf_spec.specs.Planes.{code}
 use Rattle.zf_spec.specs.ReadPlanes.{Begins, first_bits, planes_in}
 use Rattle.zf_spec.specs.Lorenzo.{unlorenzo}
 use Rattle.zf_spec.specs.Lift.{unlift}
-use Rattle.zf_spec.specs.Codes.{count_bits, coefficients_of, existing_values, read_rev, read_rate, read_prec}
+use Rattle.zf_spec.specs.Codes.{count_bits, coefficients_of, existing_values, read_rev, read_prec}
 use Rattle.zf_spec.proofs.Beginnings.{begins_is_first, begins_itself, first_bits-append}
 use Rattle.zf_index.proofs.Longest.{found_some}
 use Rattle.zf_spec.proofs.Full.{length-planes_in, planes_in-length, full_begins, full_only}

@@ -1,17 +1,17 @@
 -- What is read of a stream is what its codes mean.
-use Rattle.std.proofs.Common.{◌≡◌, refl, sym, ap, ◌∙◌, ℕ, ◌<◌, ◌≤◌, ltb, ℤ, Bool, true, false, cond, Option, Some, None, List, length, take, drop, arith}
+use Rattle.std.proofs.Common.{◌≡◌, sym, ap, ◌∙◌, ℕ, ◌<◌, ltb, ℤ, Bool, Some, List, length, take, drop}
 use Rattle.std.specs.Int.{Width}
 use Rattle.zf_spec.specs.Grid.{extent_of}
 use Rattle.zf_spec.specs.Codes.{existing_values, read_rev, read_rate, read_prec}
 use Rattle.zf_spec.proofs.Counting.{get_or-map-upto}
 use Rattle.zf_spec.proofs.Padding.{existing_values-existing_values}
 use Rattle.zf_base.specs.Widths.{width_of}
-use Rattle.zf_base.specs.Formats.{existing_of, meant}
+use Rattle.zf_base.specs.Formats.{meant}
 use Rattle.zf_header.specs.declared.header.Header.{Header}
 use Rattle.zf_header.specs.declared.header.Mode.{Mode}
 use Rattle.zf_header.specs.declared.header.Mode.TheVariants.{Reversible, Rate, Precision}
 use Rattle.zf_header.specs.HeaderBits.{coding}
-use Rattle.zf_cached.specs.Arrays.{Coding, mode_coding, rate_coding, array_format, read_values}
+use Rattle.zf_cached.specs.Arrays.{mode_coding, rate_coding, array_format, read_values}
 use Rattle.zf_cached.proofs.Arrays.{existing_of-array}
 use Rattle.zf_stream.specs.Parsing.{read_code}
 use Rattle.zf_index.specs.Spans.{Index, len_at, place, code_in, codes_in}

@@ -1,5 +1,5 @@
 -- An array stands for the state of its cache and its codes.
-use Rattle.std.proofs.Common.{◌≡◌, ◌⊎◌, inl, inr, ⊎_elim, refl, sym, ap, subst, ◌∙◌, ℕ, ◌+◌, ◌*◌, ◌/◌, ◌%◌, ◌^◌, ◌<◌, ◌≤◌, ℤ, Bool, true, false, Option, Some, None, List, map, length, get_or, replicate, arith}
+use Rattle.std.proofs.Common.{◌≡◌, ◌⊎◌, inl, inr, refl, sym, ap, subst, ◌∙◌, ℕ, ◌%◌, ◌^◌, ℤ, Bool, true, false, Option, Some, None, List, map, length, arith}
 use Rattle.std.specs.Int.{Width}
 use Rattle.std.proofs.Math.ListN.{get_or-map}
 use Rattle.std.proofs.lemmas.Simd.{map-map}
@@ -12,16 +12,16 @@ use Rattle.zf_base.proofs.Sizes.{blocks_le}
 use Rattle.zf_base.specs.Widths.{width_of}
 use Rattle.zf_header.specs.declared.header.Header.{Header}
 use Rattle.zf_header.specs.HeaderBits.{IsHeader}
-use Rattle.zf_cached.specs.State.{Counts, State, no_counts, is_block}
+use Rattle.zf_cached.specs.State.{State, no_counts, is_block}
 use Rattle.zf_cached.specs.Touch.{touch}
 use Rattle.zf_cached.specs.Changes.{opened}
 use Rattle.zf_cached.specs.Arrays.{array_format}
 use Rattle.zf_cached.proofs.States.{same_state}
-use Rattle.zf_cache.specs.Kept.{Kept, HasBlocks, IsClean, IsEmpty, tag_at, block_in, line_of, is_dirty, dirty_tag, clean_tag}
+use Rattle.zf_cache.specs.Kept.{Kept, HasBlocks, IsClean, IsEmpty, tag_at, block_in, line_of, dirty_tag, clean_tag}
 use Rattle.zf_cache.specs.Standing.{state_of, values_of, line_values, Fits}
 use Rattle.zf_cache.proofs.Tags.{named}
 use Rattle.zf_cache.proofs.Touches.{no_tag}
-use Rattle.zf_const.specs.Standing.{Held, format, state, touched, shape}
+use Rattle.zf_const.specs.Standing.{Held, format, state, touched}
 use Rattle.zf_const.specs.Parts.{Coded, code_at, format_of, held_by, IsJoined}
 
 is_block-is : (o : Option ℕ) (b : ℕ) → is_block o b ≡ true → o ≡ Some b

@@ -1,5 +1,5 @@
 -- The values of an array are those of its stream, and stay.
-use Rattle.std.proofs.Common.{◌≡◌, refl, sym, ap, subst, ◌∙◌, ℕ, zero, suc, ◌<◌, ℤ, pos, Bool, true, false, Option, Some, None, Result, Ok, List, [], map, length, get_or}
+use Rattle.std.proofs.Common.{◌≡◌, refl, sym, ap, ◌∙◌, ℕ, zero, suc, ℤ, pos, Bool, true, Option, Some, None, Result, Ok, List, [], map, length, get_or}
 use Rattle.zf_spec.specs.Grid.{IsShape, upto, product, blocks, coordinates, raster, is_inside}
 use Rattle.zf_spec.proofs.Counting.{get_or-map-upto}
 use Rattle.zf_spec.proofs.Raster.{coordinates-raster, raster_below}
@@ -8,7 +8,6 @@ use Rattle.zf_base.specs.Positions.{used_axes, IsPosition}
 use Rattle.zf_base.specs.Places.{block_number, place_of}
 use Rattle.zf_base.proofs.Places.{IsAt-position}
 use Rattle.zf_base.proofs.Extents.{length-used_axes}
-use Rattle.zf_base.specs.Formats.{Format}
 use Rattle.zf_cached.specs.State.{State, own_line}
 use Rattle.zf_cached.proofs.Caching.{touch_by}
 use Rattle.zf_cached.specs.Touch.{write_back_line, hit, miss, touch}
@@ -18,7 +17,7 @@ use Rattle.zf_header.specs.declared.header.Header.{Header}
 use Rattle.zf_stream.specs.declared.fault.StreamFault.{StreamFault}
 use Rattle.zf_stream.specs.Parsing.{Said, parse, values_of_blocks}
 use Rattle.zf_const.specs.Standing.{Held, format, state, values_at, shape, block_at, place_at}
-use Rattle.zf_const.specs.Files.{IsOpened, said, values_of}
+use Rattle.zf_const.specs.Files.{IsOpened, said}
 
 -- the value of a position, among those of blocks
 value_there : (ns ps : List ℕ) (f : ℕ → List ℤ) → length ps ≡ length ns → is_inside ns ps ≡ true

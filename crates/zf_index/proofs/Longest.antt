@@ -1,5 +1,5 @@
 -- How many bits a code has at most.
-use Rattle.std.proofs.Common.{◌≡◌, refl, sym, ap, ◌∙◌, ℕ, ◌+◌, ◌*◌, ◌^◌, ◌≤◌, min, Bool, true, false, cond, ltb, ℤ, Option, Some, None, List, length, take, drop, mul-le-mul_left, arith}
+use Rattle.std.proofs.Common.{◌≡◌, refl, ap, ℕ, ◌+◌, ◌*◌, ◌^◌, ◌≤◌, min, Bool, true, false, cond, ltb, ℤ, Option, Some, None, List, length, take, drop, arith}
 use Rattle.std.proofs.Math.Nat.{pow-le-pow_right, mul-le-mul}
 use mir.Val.{bits}
 use Rattle.zf_spec.specs.Numbers.{number}

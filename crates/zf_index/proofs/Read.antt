@@ -1,11 +1,11 @@
 -- Codes that are read where they begin, and what a stream of them says.
-use Rattle.std.proofs.Common.{◌≡◌, refl, sym, ap, subst, ◌∙◌, inl, inr, ⊎_elim, ℕ, zero, suc, ◌+◌, ◌-◌, ◌*◌, ◌^◌, ◌<◌, ◌≤◌, Bool, ℤ, Option, Some, None, Result, Ok, Err, List, [], ◌∷◌, ◌++◌, map, length, get_or, take, drop, length-append, length-drop, arith}
+use Rattle.std.proofs.Common.{◌≡◌, refl, sym, ap, subst, ◌∙◌, inl, inr, ⊎_elim, ℕ, zero, suc, ◌+◌, ◌-◌, ◌*◌, ◌^◌, ◌<◌, ◌≤◌, Bool, ℤ, Option, Some, None, Result, Ok, Err, List, [], ◌∷◌, ◌++◌, map, length, get_or, drop, length-append, length-drop, arith}
 use Rattle.std.proofs.lemmas.Bool.{cases_lt}
 use Rattle.std.proofs.lemmas.Simd.{map-map}
 use Rattle.std.proofs.lemmas.List.{drop-drop, length-take-le}
 use Rattle.zf_spec.specs.Grid.{count_from, upto, grid, blocks, extent_of}
 use Rattle.zf_spec.specs.Stream.{to_bits}
-use Rattle.zf_spec.proofs.Counting.{length-map-upto, get_or-map-upto, from_places}
+use Rattle.zf_spec.proofs.Counting.{from_places}
 use Rattle.zf_base.specs.Widths.{width_of}
 use Rattle.zf_base.specs.Positions.{with_unused}
 use Rattle.zf_base.proofs.Sizes.{grid_of_shape}
@@ -16,7 +16,7 @@ use Rattle.zf_header.proofs.Good.{good}
 use Rattle.zf_header.proofs.Found.{read_is_header}
 use Rattle.zf_stream.specs.declared.fault.StreamFault.{StreamFault}
 use Rattle.zf_stream.specs.declared.fault.StreamFault.TheVariants as faults
-use Rattle.zf_stream.specs.Parsing.{read_code, read_codes, read_next, with_block, codes_said, code_before, Said, said_with, parse, values_said, values_of_blocks, values_or_fault, fill_answer, codes_answer, header_of, code_bits}
+use Rattle.zf_stream.specs.Parsing.{read_code, read_codes, read_next, with_block, codes_said, code_before, Said, said_with, parse, values_said, values_of_blocks, values_or_fault, fill_answer, codes_answer}
 use Rattle.zf_stream.specs.ReadStreams.{BeginsWithHeader, IsFault}
 use Rattle.zf_stream.proofs.Parsed.{parse_is}
 use Rattle.zf_stream.proofs.RateStreams.{parse_err}

@@ -1,6 +1,6 @@
 -- The places so far are those of the first codes so far, and where a code is left, its chunk comes next.
 use Rattle.std.proofs.Common.{◌≡◌, ◌-◌, ◌*◌, ◌<◌, ◌≤◌, ℕ, length, get_or}
-use Rattle.zf_index.specs.Spans.{Index, place}
+use Rattle.zf_index.specs.Spans.{place}
 use Rattle.zf_index.proofs.index.places_of.Given as goal
 
 pub record SoFar (l : goal.Live-loop-first) : Type 0 where

@@ -1,15 +1,14 @@
-use Rattle.std.proofs.Common.{◌≡◌, refl, sym, ap, subst, ◌∙◌, inl, ℕ, ◌+◌, ◌-◌, ◌<◌, ◌≤◌, Bool, ℤ, List, [], ◌∷◌, ◌++◌, Some, None, Err, length, drop, length-append, arith}
+use Rattle.std.proofs.Common.{◌≡◌, sym, ap, subst, ◌∙◌, inl, ℕ, ◌+◌, ◌<◌, ◌≤◌, Bool, List, [], ◌∷◌, ◌++◌, Some, None, Err, length, drop, length-append, arith}
 use Rattle.std.proofs.lemmas.List.{take_at}
 use Rattle.std.proofs.lemmas.Result.{err_from_is_err_and}
 use Rattle.zf_spec.specs.Grid.{blocks, extent_of}
 use Rattle.zf_base.specs.Widths.{width_of}
 use Rattle.zf_base.proofs.Extents.{length-extent_of}
 use Rattle.zf_bits.specs.Reader.{Reader, rest}
-use Rattle.zf_header.specs.declared.header.Header.{Header}
 use Rattle.zf_stream.specs.Parsing.{read_code}
 use Rattle.zf_index.specs.declared.fault.IndexFault.{IndexFault}
 use Rattle.zf_index.specs.declared.fault.IndexFault.TheVariants.{Truncated}
-use Rattle.zf_index.specs.Spans.{Index, len_at, place}
+use Rattle.zf_index.specs.Spans.{Index, place}
 use Rattle.zf_index.specs.Files.{len_read, AreRead, stream_fault}
 use Rattle.zf_index.specs.Walks.{HasFault}
 use Rattle.zf_index.proofs.Places.{place-next, place-push, len-last}

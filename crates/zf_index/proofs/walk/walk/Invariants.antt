@@ -1,6 +1,6 @@
 -- The codes so far were read where they begin.
-use Rattle.std.proofs.Common.{◌≡◌, ◌^◌, ◌≤◌, ℕ, length}
-use Rattle.zf_index.specs.Spans.{Index, place}
+use Rattle.std.proofs.Common.{◌≡◌, ◌^◌, length}
+use Rattle.zf_index.specs.Spans.{place}
 use Rattle.zf_index.specs.Files.{AreRead}
 use Rattle.zf_index.proofs.walk.walk.Given as goal
 

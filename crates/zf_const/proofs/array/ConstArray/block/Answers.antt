@@ -9,7 +9,7 @@ use Rattle.zf_cache.specs.Kept.{line_of}
 use Rattle.zf_cache.proofs.Sound.{values_here}
 use Rattle.zf_const.specs.Standing.{state}
 use Rattle.zf_const.specs.Parts.{Coded, code_at, format_of}
-use Rattle.zf_const.proofs.Standing.{state_held, has_blocks, header_now, format_now, joined_after, step, touched_is}
+use Rattle.zf_const.proofs.Standing.{state_held, has_blocks, header_now, format_now, step, touched_is}
 use Rattle.zf_const.proofs.array.ConstArray.block.Goals as goal
 
 below : (s : Coded) (h : Header) (b : ℕ) → h ≡ s.header → b < blocks h.shape → b < (format_of s).blocks

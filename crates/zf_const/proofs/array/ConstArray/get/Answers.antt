@@ -8,7 +8,7 @@ use Rattle.zf_cached.specs.State.{State}
 use Rattle.zf_cached.specs.Touch.{touch}
 use Rattle.zf_cached.specs.Arrays.{array_format}
 use Rattle.zf_cache.specs.Standing.{state_of}
-use Rattle.zf_const.specs.Standing.{Held, format, state, block_at, place_at}
+use Rattle.zf_const.specs.Standing.{format, state, block_at}
 use Rattle.zf_const.specs.Parts.{Coded, format_of, held_by}
 use Rattle.zf_const.proofs.Standing.{state_held, has_blocks, header_now, joined_after, header_after, codes_after, step}
 use Rattle.zf_const.proofs.array.ConstArray.get.Goals as goal

@@ -1,9 +1,7 @@
-use Rattle.std.proofs.Common.{◌≡◌, refl, sym, ap, subst, ◌∙◌, ℕ, ℤ, Bool, List, Result, Ok, Err}
+use Rattle.std.proofs.Common.{◌≡◌, refl, sym, ap, subst, ◌∙◌, ℕ, ℤ, Result, Ok, Err}
 use Rattle.std.specs.Prelude.{OnOk, OnErr}
 use Rattle.std.specs.Int.{Width}
 use Rattle.std.proofs.lemmas.Result.{on_ok_weaker}
-use Rattle.zf_base.specs.Formats.{Format}
-use Rattle.zf_cached.specs.State.{State}
 use Rattle.zf_cached.specs.Changes.{relined}
 use Rattle.zf_cache.proofs.Steps.{empty_fits, relined_clean}
 use Rattle.zf_const.specs.Standing.{format, state}

@@ -1,4 +1,4 @@
-use Rattle.std.proofs.Common.{◌≡◌, refl, sym, ap, subst, ◌∙◌, ℕ, ◌*◌, ◌<◌, ◌≤◌, ◌^◌, Bool, List, ◌++◌, length, take, arith}
+use Rattle.std.proofs.Common.{◌≡◌, refl, sym, ap, subst, ◌∙◌, ℕ, ◌*◌, Bool, List, length, take, arith}
 use Rattle.std.proofs.lemmas.List.{take_at}
 use Rattle.zf_spec.specs.Numbers.{word_bits}
 use Rattle.zf_spec.specs.Stream.{to_bits, with_fill, fill}

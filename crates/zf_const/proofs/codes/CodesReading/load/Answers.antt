@@ -1,9 +1,8 @@
-use Rattle.std.proofs.Common.{◌≡◌, refl, sym, ap, subst, ◌∙◌, ℕ, ◌-◌, ◌^◌, ◌<◌, ◌≤◌, ℤ, Bool, List, Option, Some, None, map, length, take, drop, arith}
+use Rattle.std.proofs.Common.{◌≡◌, sym, ap, subst, ◌∙◌, ℕ, ◌^◌, ◌<◌, ◌≤◌, ℤ, List, Option, Some, None, map, length, take, drop, arith}
 use Rattle.std.specs.Int.{Width}
 use Rattle.std.proofs.lemmas.List.{length-take-le}
 use Rattle.zf_spec.specs.Grid.{blocks, extent_of}
 use Rattle.zf_spec.specs.Numbers.{word_bits}
-use Rattle.zf_spec.specs.Codes.{existing_values}
 use Rattle.zf_spec.proofs.WordBits.{length-word_bits}
 use Rattle.zf_base.specs.Widths.{width_of}
 use Rattle.zf_base.specs.Formats.{existing_of, meant}
@@ -14,7 +13,6 @@ use Rattle.zf_cached.specs.Arrays.{array_format}
 use Rattle.zf_cached.proofs.Arrays.{existing_of-array}
 use Rattle.zf_stream.specs.Parsing.{read_code}
 use Rattle.zf_stream.specs.ReadStreams.{ReadsCode, LacksCode}
-use Rattle.zf_index.specs.Spans as spans
 use Rattle.zf_index.specs.Spans.{len_at, place, span_at}
 use Rattle.zf_index.specs.declared.span.Span.{Span}
 use Rattle.zf_index.specs.Files.{found, block_read}

@@ -1,5 +1,4 @@
-use Rattle.std.proofs.Common.{◌≡◌, refl, sym, ap, subst, ◌∙◌, ℕ, ◌*◌, ◌<◌, ◌^◌, List, [], ◌∷◌, ◌≤◌, length, get_or, arith}
-use Rattle.std.proofs.Math.Nat.{mul-pos}
+use Rattle.std.proofs.Common.{◌≡◌, sym, ap, subst, ◌∙◌, ℕ, ◌*◌, ◌<◌, ◌^◌, List, [], ◌∷◌, ◌≤◌, length, get_or, arith}
 use Rattle.zf_index.specs.Spans.{Index, index_of, place, ArePlaces}
 use Rattle.zf_index.specs.Files.{IsIndexOf}
 use Rattle.zf_index.proofs.Read.{blocks_some}

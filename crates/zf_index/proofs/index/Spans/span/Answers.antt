@@ -1,4 +1,4 @@
-use Rattle.std.proofs.Common.{◌≡◌, refl, sym, ap, ◌∙◌, ℕ, ◌+◌, ◌-◌, ◌*◌, ◌/◌, ◌%◌, ◌<◌, length, get_or, arith}
+use Rattle.std.proofs.Common.{◌≡◌, refl, ap, ◌∙◌, ◌-◌, ◌*◌, ◌/◌, ◌%◌, ◌<◌, length, arith}
 use Rattle.std.proofs.Math.Nat.{div-add-mod, lt_of_mul-lt-mul_left}
 use Rattle.std.proofs.lemmas.List.{get_or_read_under}
 use Rattle.zf_index.specs.Spans.{Index, index_of, len_at, place, span_at}
