@@ -28,12 +28,12 @@ module _ {Code : Type 0} (w : Width) (f : Format Code) (owns : ℕ → ℕ → T
   own-ran s (st ∷ steps) within own = own-ran (stepped w f s st) steps within.1 (own-stepped s st within.0 own)
 
   -- the view of a step, after it
-  there : (s : Views Code) (st : Step) → state_of_view (stepped w f s st) st.view ≡ acted w f (state_of_view s st.view) st.act
+  pub there : (s : Views Code) (st : Step) → state_of_view (stepped w f s st) st.view ≡ acted w f (state_of_view s st.view) st.act
   unfolding stepped
   there s st = let t = acted w f (state_of_view s st.view) st.act in ap (λ (v : View). with_codes v t.codes) (with_at-same s.view st.view (without_codes t))
 
   -- the code of a block that the view of a step does not own
-  stays : (s : Views Code) (st : Step) (b : ℕ) → AllOwn s → (owns st.view b → ⊥) → (stepped w f s st).codes b ≡ s.codes b
+  pub stays : (s : Views Code) (st : Step) (b : ℕ) → AllOwn s → (owns st.view b → ⊥) → (stepped w f s st).codes b ≡ s.codes b
   unfolding stepped
   stays s st b own not = stay-acted f (owns st.view) w (state_of_view s st.view) st.act b (own st.view) not
 
@@ -59,7 +59,7 @@ module _ {Code : Type 0} (w : Width) (f : Format Code) (owns : ℕ → ℕ → T
         subst P is by h
 
     -- and so does a step of another view in one of the two
-    alike-other : (s s' : Views Code) (st : Step) → st.view ≢ i → AllOwn s → Alike s s' → Alike (stepped w f s st) s'
+    pub alike-other : (s s' : Views Code) (st : Step) → st.view ≢ i → AllOwn s → Alike s s' → Alike (stepped w f s st) s'
     unfolding stepped
     alike-other s s' st not own h =
         let t = acted w f (state_of_view s st.view) st.act in

@@ -82,7 +82,7 @@ module _ {X Code : Type 0} (value : X → ℤ) (w : Width) (d : ℕ) (v now : He
     owned_block own = subst (Own v) (sym block) (subst (λ u. Own u (block_at u p)) (sym is) own)
 
     pub exists_there : HasPlaces now f → Own now (block_at now p) → f.exists b place ≡ true
-    exists_there places own = (subst (λ u. HasPlaces u f) (sym is) places) b place (owned_block own) ∙ at.exists
+    exists_there places own = (subst (λ u. HasPlaces u f) (sym is) places) b place (owned_block own) at.place_in_block ∙ at.exists
 
     -- what is read there
     pub answer_is : (new : Kept X) (h : Format Code) (j : ℕ → Code) (r : ℤ) → r ≡ get_or (values_of value new h j b) place (pos 0)

@@ -2,3 +2,4 @@ pub mod Alike
 pub mod Alone
 pub mod Calls
 pub mod Others
+pub mod Several

@@ -1,5 +1,5 @@
 -- What a view of the program is seen as, and when it and a backing fit.
-use Rattle.std.specs.Prelude.{ℕ, ◌≡◌, ◌+◌, ◌^◌, ◌≤◌, ℤ, List, length, Some, refl}
+use Rattle.std.specs.Prelude.{ℕ, ◌≡◌, ◌+◌, ◌^◌, ◌<◌, ◌≤◌, ℤ, List, length, Some, refl}
 use Rattle.std.specs.Coded.{Coded, code_by, coded×, coded_list, coded_ℕ}
 use Rattle.zf_spec.specs.Grid.{IsShape, blocks, is_inside, indices, extent_of}
 use Rattle.zf_base.specs.declared.position.Pos.{Pos}
@@ -45,7 +45,7 @@ module _ {X : Type 0} where
 
   -- the places that exist in the owned blocks are those of the array
   abbrev pub HasPlaces : Held X → {Code : Type 0} → Format Code → Type 0
-  HasPlaces v format = (b p : ℕ) → Own v b → format.exists b p ≡ is_inside (extent_of v.shape b) (indices (length v.shape) p)
+  HasPlaces v format = (b p : ℕ) → Own v b → p < 4 ^ length v.shape → format.exists b p ≡ is_inside (extent_of v.shape b) (indices (length v.shape) p)
 
   -- the same view of the same blocks, whatever is in its lines
   pub record IsSameView (v w : Held X) : Type 0 where

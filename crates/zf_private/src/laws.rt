@@ -1,15 +1,16 @@
 //! Laws of private views. Each is a function with no parameters and an empty body, whose contract is the theorem.
 
-ghost use Rattle.std.specs.Prelude.{◌≡◌, ℕ, ◌+◌, ◌<◌, ◌≤◌, length, List};
+ghost use Rattle.std.specs.Prelude.{◌≡◌, ◌≢◌, ℕ, ◌+◌, ◌<◌, ◌≤◌, length, List};
 ghost use Rattle.std.specs.Int.{Width};
 ghost use Rattle.zf_base.specs.Formats.{Format};
 ghost use Rattle.zf_cached.specs.State.{State};
 ghost use Rattle.zf_cache.specs.Kept.{IsEmpty};
 ghost use Rattle.zf_cache.specs.Standing.{Fits};
 ghost use Rattle.zf_private.specs.Acts.{Act};
-ghost use Rattle.zf_private.specs.Views.{Step, Views, acted, answered, state_of_view, ran, answers, steps_of, NoneShared, IsUnowned, IsWithin, AreWithin, HasOwn, AreAlike};
+ghost use Rattle.zf_private.specs.Views.{Step, Views, acted, answered, state_of_view, stepped, ran, answers, steps_of, NoneShared, IsUnowned, IsWithin, AreWithin, HasOwn, AreAlike};
 ghost use Rattle.zf_private.specs.Ownership.{Owns, OwnsPart, first_of, count_of};
-ghost use Rattle.zf_private.specs.Standing.{Held, Own, IsWhole, state};
+ghost use Rattle.zf_private.specs.Standing.{Held, Own, IsSameView, IsWhole, state};
+ghost use Rattle.zf_private.specs.Several.{AreReady, StandFor};
 
 use zf_base::{Lane, Reading};
 use zf_cached::coded::Coded;
@@ -53,6 +54,24 @@ pub fn other_views_keep_it<T: Lane, const D: usize, B: Reading<T>>()
         → ((b : ℕ) → Own v b → B.codes new b ≡ B.codes back b)
         → AreAlike (Own v) (state T.value v (B.format back) (B.codes back)) (state T.value v (B.format new) (B.codes new)) }
     ensures own { (v : Held T) (back : B) → IsWhole D v → HasOwn (Own v) (state T.value v (B.format back) (B.codes back)) }
+{}
+
+/// A call of view `i` of several that are over one backing is a step of the definition: the views are ready for the next call, whichever it is, stand for
+/// what the step leaves, and the answer is the step's. The clauses of a call are the premises; what it says of the other views follows.
+pub fn calls_are_steps<T: Lane, const D: usize, B: Reading<T>>()
+    ensures ready { (w : Width) (views news : ℕ → Held T) (back new : B) (i : ℕ) (a : Act)
+        → AreReady T.value D views (B.format back) (B.codes back)
+        → B.format new ≡ B.format back → ((m : ℕ) → m ≢ i → news m ≡ views m) → IsSameView (views i) (news i) → IsWithin (Own (views i)) a
+        → state T.value (news i) (B.format new) (B.codes new) ≡ acted w (B.format back) (state T.value (views i) (B.format back) (B.codes back)) a
+        → IsWhole D (news i) → Fits T.value (news i).cache (B.format new) (B.codes new)
+        → AreReady T.value D news (B.format new) (B.codes new) }
+    ensures step { (w : Width) (views news : ℕ → Held T) (back new : B) (i : ℕ) (a : Act) (s : Views B.Code)
+        → AreReady T.value D views (B.format back) (B.codes back) → StandFor T.value views (B.format back) (B.codes back) s
+        → B.format new ≡ B.format back → ((m : ℕ) → m ≢ i → news m ≡ views m) → IsSameView (views i) (news i) → IsWithin (Own (views i)) a
+        → state T.value (news i) (B.format new) (B.codes new) ≡ acted w (B.format back) (state T.value (views i) (B.format back) (B.codes back)) a
+        → let t = stepped w (B.format back) s (record { view = i; act = a }) in
+        StandFor T.value news (B.format new) (B.codes new) t
+        × (answered (state T.value (news i) (B.format new) (B.codes new)) a ≡ answered (state_of_view t i) a) }
 {}
 
 /// An empty view fits every backing, and what `discard` does is the discard of the state that it stands for.

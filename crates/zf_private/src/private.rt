@@ -7,7 +7,7 @@ ghost use Rattle.zf_cache.specs.Kept.{IsLineCount, IsEmpty};
 ghost use Rattle.zf_cache.specs.Standing.{Fits};
 ghost use Rattle.zf_private.specs.Acts.{Act};
 ghost use Rattle.zf_private.specs.Views.{acted, answered};
-ghost use Rattle.zf_private.specs.Standing.{Own, block_at, place_at, state, IsOver, HasPlaces, IsSameView};
+ghost use Rattle.zf_private.specs.Standing.{Own, block_at, place_at, state, IsOver, HasPlaces, IsSameView, IsWhole};
 
 use std::alloc::{AllocError, Global};
 use std::marker::Model;
@@ -58,6 +58,7 @@ impl<T: Lane, const D: usize> Private<T, D> {
         ensures empty { IfOk result (λ v. IsEmpty v.cache lines) }
         ensures counts { IfOk result (λ v. v.cache.counts ≡ no_counts) }
         ensures blocks { IfOk result (λ v. (v.shape ≡ shape) × (v.first ≡ first) × (v.count ≡ count)) }
+        ensures whole { IfOk result (IsWhole D) }
     {
         let cache = Cache::new(alloc, lines)?;
         Ok(Private {
@@ -97,6 +98,7 @@ impl<T: Lane, const D: usize> Private<T, D> {
             (Act.get (block_at self.old p) (place_at self.old p)) }
         ensures others { (b : ℕ) → (Own self.old b → ⊥) → B.codes back.new b ≡ B.codes back.old b }
         ensures same { IsSameView self.old self.new }
+        ensures whole { IsWhole D self.new }
         ensures format { B.format back.new ≡ B.format back.old }
         ensures kept { B.kept back.new ≡ B.kept back.old }
     {
@@ -117,6 +119,7 @@ impl<T: Lane, const D: usize> Private<T, D> {
             (Act.set (block_at self.old p) (place_at self.old p) (T.value v)) }
         ensures others { (b : ℕ) → (Own self.old b → ⊥) → B.codes back.new b ≡ B.codes back.old b }
         ensures same { IsSameView self.old self.new }
+        ensures whole { IsWhole D self.new }
         ensures format { B.format back.new ≡ B.format back.old }
         ensures kept { B.kept back.new ≡ B.kept back.old }
     {
@@ -137,6 +140,7 @@ impl<T: Lane, const D: usize> Private<T, D> {
             (Act.add (block_at self.old p) (place_at self.old p) (T.value v)) }
         ensures others { (b : ℕ) → (Own self.old b → ⊥) → B.codes back.new b ≡ B.codes back.old b }
         ensures same { IsSameView self.old self.new }
+        ensures whole { IsWhole D self.new }
         ensures format { B.format back.new ≡ B.format back.old }
         ensures kept { B.kept back.new ≡ B.kept back.old }
     {
@@ -156,6 +160,7 @@ impl<T: Lane, const D: usize> Private<T, D> {
         ensures others { (b : ℕ) → (Own self.old b → ⊥) → B.codes back.new b ≡ B.codes back.old b }
         ensures empty { IsEmpty self.new.cache (length self.old.cache.tags) }
         ensures same { IsSameView self.old self.new }
+        ensures whole { IsWhole D self.new }
         ensures format { B.format back.new ≡ B.format back.old }
         ensures kept { B.kept back.new ≡ B.kept back.old }
     {
@@ -167,6 +172,7 @@ impl<T: Lane, const D: usize> Private<T, D> {
         ensures empty { IsEmpty self.new.cache (length self.old.cache.tags) }
         ensures counts { self.new.cache.counts ≡ self.old.cache.counts }
         ensures same { IsSameView self.old self.new }
+        ensures whole { IsWhole D self.new }
     {
         self.cache.discard();
     }

@@ -67,3 +67,6 @@ returns-clause-fits g c =
     let h = g.B.Reading.format c.touch_mut.new.back in let j = g.B.Reading.codes c.touch_mut.new.back in
     let len = ap (λ q. q.block_len) c.touch_mut.ensures.format ∙ (has_blocks value w d v now is whole f k c.requires.blocks).0 in
     added_fits value w f h k j (state value v f k) c.touch_mut.new.self b place c.value_mut-value.result.now c.add.result c.args.v c.touch_mut.ensures.format c.touch_mut.ensures.state c.touch_mut.ensures.fits c.touch_mut.ensures.dirty (subst (λ n. HasSize c.touch_mut.new.self.lines (length c.touch_mut.new.self.tags) n) (sym len) c.value_mut-value.ensures.size) (subst (λ n. place < n) (sym len) (place_below value w d v now is whole f k p b place e.block e.place e.at)) (exists_there value w d v now is whole f k p b place e.block e.place e.at c.requires.places c.requires.owned) c.value_mut-value.ensures.value c.add.ensures.value
+
+pub returns-clause-whole : goal.returns-clause-whole
+returns-clause-whole g c = invariant_of-self g c

@@ -64,3 +64,6 @@ returns-clause-value g c =
     let read : value c.get.result ≡ get_or (values_of value new h j b) place (pos 0) =
     subst (λ t. OnTrue t (value c.get.result ≡ get_or (values_of value new h j b) place (pos 0))) exists c.get.ensures.value in
     answer_is value w d v now is whole f k p b place e.block e.place e.at new h j (value c.get.result) read
+
+pub returns-clause-whole : goal.returns-clause-whole
+returns-clause-whole g c = invariant_of-self g c

@@ -51,3 +51,6 @@ invariant_of-self g c =
     let h = g.B.Reading.format c.set.new.back in let j = g.B.Reading.codes c.set.new.back in let new = c.set.new.self in
     let step = acts_at value w d v now is whole f k p b place e.block e.place e.at (λ m n. Act.set m n (value c.args.v)) (state_of value new h j) (c.set.ensures.state ∙ put-changed value f (state value v f k) b place (value c.args.v) (exists_there value w d v now is whole f k p b place e.block e.place e.at c.requires.places c.requires.owned) (values_whole value v.cache f k b) ∙ acted-set w f (state value v f k) b place (value c.args.v)) in
     still_whole value w d v now is whole f k new h j (Act.set (block_at now p) (place_at now p) (value c.args.v)) step o.shape o.first o.count refl refl refl c.requires.owned
+
+pub returns-clause-whole : goal.returns-clause-whole
+returns-clause-whole g c = invariant_of-self g c
