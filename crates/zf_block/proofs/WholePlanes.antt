@@ -1,6 +1,6 @@
 -- How far down a code at a fixed rate has its planes whole.
-use Rattle.std.proofs.Common.{◌≡◌, refl, sym, ap, subst, ◌∙◌, ℕ, zero, suc, ◌+◌, ◌-◌, ◌^◌, ◌<◌, ◌≤◌, max, Bool, true, false, not, ltb, leb, ℤ, List, [], ◌∷◌, ◌++◌, length, take, drop, get_or, replicate, All, ⊎_elim, take-take, append-nil, append_assoc, arith}
-use Rattle.std.proofs.lemmas.Bool.{cases_lt, leb-true, lt-leb, le-leb, true≢false}
+use Rattle.std.proofs.Common.{◌≡◌, refl, sym, ap, subst, ◌∙◌, ℕ, zero, suc, ◌+◌, ◌-◌, ◌^◌, ◌<◌, ◌≤◌, max, Bool, false, not, leb, ℤ, List, [], ◌∷◌, ◌++◌, length, take, get_or, replicate, All, ⊎_elim, take-take, append-nil, append_assoc, arith}
+use Rattle.std.proofs.lemmas.Bool.{cases_lt, leb-true, le-leb, true≢false}
 use Rattle.std.proofs.lemmas.List.{length-append, length-take, length-replicate}
 use Rattle.std.proofs.lemmas.List.Elements.{All-take}
 use Rattle.std.proofs.lemmas.List.Sums.{fails_before_first, passes_at_first, prefix_len-le-length}
@@ -11,13 +11,12 @@ use Rattle.zf_spec.specs.Grid.{upto}
 use Rattle.zf_spec.specs.Lift.{lift}
 use Rattle.zf_spec.specs.Padding.{pad}
 use Rattle.zf_spec.specs.Planes.{reach, plane_code, code_from, code}
-use Rattle.zf_spec.specs.Kept.{kept_planes_from, kept_planes}
-use Rattle.zf_spec.specs.ReadPlanes.{first_bits, Begins, planes_in_from, planes_in}
+use Rattle.zf_spec.specs.Kept.{kept_planes}
+use Rattle.zf_spec.specs.ReadPlanes.{first_bits, Begins, planes_in}
 use Rattle.zf_spec.specs.Codes.{planes, rate}
 use Rattle.zf_spec.proofs.Beginnings.{length-first_bits, begins_is_first, begins_from_first, begins_front, begins_itself, first_bits-first_bits}
 use Rattle.zf_spec.proofs.Counting.{length-upto, get_or-upto}
 use Rattle.zf_spec.proofs.Full.{full_begins, full_only, length-planes_in, planes_in-length}
-use Rattle.zf_spec.proofs.KeptSame.{kept_whole}
 use Rattle.zf_spec.proofs.PlaneDigits.{length-planes, planes-length}
 use Rattle.zf_block.specs.WholePlanes.{planes_from, whole_from, rate_whole_from}
 use Rattle.zf_block.proofs.Kept.{length-kept_planes, kept_planes-top}

@@ -77,5 +77,5 @@ pub fn whole_planes_are_kept()
     ensures { (w : Width) (budget : ℕ) (es : List ℕ) (block : List ℤ) (k : ℕ)
         → rate_whole_from w (length es) (rate w budget es block) ≤ k
         → let ps = planes w (length es) (lift w (length es) (pad es block)) in
-          planes_from k (kept_planes budget ps) ≡ planes_from k ps }
+        planes_from k (kept_planes budget ps) ≡ planes_from k ps }
 {}

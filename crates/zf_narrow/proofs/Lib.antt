@@ -4,8 +4,10 @@
 --     Taken      what is read of a source, one piece behind another
 --     Stepping   one read of a source that promotes
 --     Reading    one read of a promotion, as the source sees it
+--     Demoting   one write of a demotion
 pub mod OneMore
 pub mod Taken
 pub mod Whole
 pub mod Stepping
 pub mod Reading
+pub mod Demoting

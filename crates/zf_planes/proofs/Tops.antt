@@ -1,5 +1,5 @@
 -- The top planes, with one plane more.
-use Rattle.std.proofs.Common.{◌≡◌, ℕ, zero, suc, ◌+◌, ◌-◌, ◌<◌, ◌≤◌, max, Bool, List, [], ◌∷◌, ◌++◌, length, map, take, get_or, refl, sym, ap, ◌∙◌, arith}
+use Rattle.std.proofs.Common.{◌≡◌, ℕ, zero, suc, ◌+◌, ◌-◌, ◌<◌, max, Bool, List, [], ◌∷◌, length, map, take, get_or, sym, ap, ◌∙◌, arith}
 use Rattle.std.proofs.lemmas.List.{length-append, length-map, get_or-map}
 use Rattle.zf_spec.specs.Planes.{code, code_from, plane_code, reach, reach_of_all}
 use Rattle.zf_spec.specs.HeldPlanes.{digits_held, planes_held}

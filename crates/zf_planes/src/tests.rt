@@ -248,7 +248,14 @@ fn planes_that_fit_whole(rt: HostRuntime) -> Result<(), Fail> {
     }
     // 133, 132 and 203
     let planes = planes_with(&rt, SIZE_256.ones);
-    for (budget, count) in [(132, 0), (133, 1), (264, 1), (265, 2), (467, 2), (u64::MAX, 3)] {
+    for (budget, count) in [
+        (132, 0),
+        (133, 1),
+        (264, 1),
+        (265, 2),
+        (467, 2),
+        (u64::MAX, 3),
+    ] {
         assert_eq!(rt; planes_within(budget, 256, &planes), count, "{budget} bits");
     }
     Ok(())

@@ -1,4 +1,4 @@
-use Rattle.std.proofs.Common.{◌≡◌, ℕ, ◌≤◌, map, length, take, arith}
+use Rattle.std.proofs.Common.{◌≤◌, map, length, take, arith}
 use Rattle.std.proofs.lemmas.List.{take_all, length-map}
 use Rattle.std.proofs.Math.Nat.{mul-le-mul_right}
 use Rattle.zf_spec.specs.Planes.{code}

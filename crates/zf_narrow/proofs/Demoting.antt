@@ -1,0 +1,89 @@
+-- One write of a demotion: the narrow bytes of the first values, and the byte that is owed of the last one.
+use Rattle.std.proofs.Common.{◌≡◌, refl, sym, ap, subst, ◌∙◌, ℕ, ◌+◌, ◌*◌, ◌/◌, ◌%◌, min, ◌≤◌, ◌<◌, List, [], ◌∷◌, ◌++◌, length, take, drop, get_or, Option, Some, None, append_assoc, append-nil, length-append, take-append-drop, take-take, arith}
+use Rattle.std.proofs.lemmas.List.{length-take, length-take-le, take-append-le, take_at, take_more}
+use Rattle.std.proofs.Math.Nat.{mul-le-mul_right}
+use Rattle.zf_narrow.specs.declared.narrow.Narrow.{Narrow}
+use Rattle.zf_narrow.specs.declared.narrow.Narrow.TheVariants.{I8, U8, I16, U16}
+use Rattle.zf_narrow.specs.Values.{size_of}
+use Rattle.zf_narrow.specs.RawNarrow.{demoted_bytes}
+use Rattle.zf_narrow.specs.Promoting.{listed}
+use Rattle.zf_narrow.proofs.Whole.{demoted_bytes-append, length-demoted_bytes}
+
+-- the values that are whole or begun in so many narrow bytes
+abbrev pub begun_values : Narrow → ℕ → ℕ
+begun_values n k = k / size_of n + min 1 (k % size_of n)
+
+-- there are enough of them, less than a byte too many, and no more than there were
+pub begun_values-bounds : (n : Narrow) (k count : ℕ) → k ≤ count * size_of n → (begun_values n k ≤ count) × (k ≤ begun_values n k * size_of n) × (begun_values n k * size_of n ≤ k + 1)
+begun_values-bounds I8 k count within = (omega arith, omega arith, omega arith)
+begun_values-bounds U8 k count within = (omega arith, omega arith, omega arith)
+begun_values-bounds I16 k count within = (omega arith, omega arith, omega arith)
+begun_values-bounds U16 k count within = (omega arith, omega arith, omega arith)
+
+pub begun_values-some : (n : Narrow) (k : ℕ) → 0 < k → 0 < begun_values n k
+begun_values-some I8 k some = omega arith
+begun_values-some U8 k some = omega arith
+begun_values-some I16 k some = omega arith
+begun_values-some U16 k some = omega arith
+
+-- the bytes of the first values are the first of the bytes
+pub front_demoted : (n : Narrow) (count values : ℕ) (raw given : List ℕ) → values ≤ count → count * 4 ≤ length raw → given ≡ demoted_bytes n (take (count * 4) raw) → take (values * size_of n) given ≡ demoted_bytes n (take (values * 4) raw)
+front_demoted n count values raw given few room is =
+    let s = take (count * 4) raw in
+    let a = values * 4 in
+    let within : a ≤ count * 4 = mul-le-mul_right 4 few in
+    let long : length s ≡ count * 4 = length-take-le (count * 4) raw room in
+    let front : take a s ≡ take a raw = take-take a (count * 4) raw within in
+    let front_long : length (take a s) ≡ a = length-take-le a s (omega (arith, long, within)) in
+    let whole : length (take a s) % 4 ≡ 0 = omega (arith, front_long) in
+    let parts : demoted_bytes n s ≡ demoted_bytes n (take a s) ++ demoted_bytes n (drop a s) = ap (demoted_bytes n) (sym (take-append-drop a s)) ∙ demoted_bytes-append n (take a s) (drop a s) whole in
+    let count_is : length (take a s) / 4 ≡ values = omega (arith, front_long) in
+    let bytes_long : length (demoted_bytes n (take a s)) ≡ values * size_of n = length-demoted_bytes n (take a s) ∙ ap (λ k. k * size_of n) count_is in
+    ap (take (values * size_of n)) (is ∙ parts) ∙ take_at (demoted_bytes n (take a s)) (demoted_bytes n (drop a s)) (values * size_of n) bytes_long ∙ ap (demoted_bytes n) front
+
+-- the bytes that were written, and the one that is owed
+pub with_owed : (k m : ℕ) (piece : List ℕ) (d : ℕ) → k < m → m ≤ k + 1 → k < length piece → take k piece ++ get_or piece k d ∷ [] ≡ take m piece
+with_owed k m piece d more most within =
+    let next : k + 1 ≡ m = omega arith in
+    sym (take_more piece k d within) ∙ ap (λ j. take j piece) next
+
+-- so many narrow bytes
+pub part_long : (n : Narrow) (count : ℕ) (raw part : List ℕ) → count * 4 ≤ length raw → part ≡ demoted_bytes n (take (count * 4) raw) → length part ≡ count * size_of n
+part_long n count raw part room is =
+    let s = take (count * 4) raw in
+    let long : length s ≡ count * 4 = length-take-le (count * 4) raw room in
+    let four : length s / 4 ≡ count = omega (arith, long) in
+    ap (λ (bs : List ℕ). length bs) is ∙ length-demoted_bytes n s ∙ ap (λ j. j * size_of n) four
+
+pub owes_one : (n : Narrow) (count values k len : ℕ) (raw part past : List ℕ) (d : ℕ) (owed : Option ℕ) → count * 4 ≤ length raw → part ≡ demoted_bytes n (take (count * 4) raw) → len ≡ size_of n → k ≤ count * size_of n → values ≡ begun_values n k
+    → owed ≡ Some (get_or (part ++ past) k d) → k < values * len → take k (part ++ past) ++ listed owed ≡ take (values * size_of n) (part ++ past)
+owes_one n count values k len raw part past d owed room is len_is within values_is owed_is some =
+    let same : begun_values n k * size_of n ≡ values * size_of n = ap (λ m. m * size_of n) (sym values_is) in
+    let place : values * len ≡ values * size_of n = ap (λ m. values * m) len_is in
+    let bounds = begun_values-bounds n k count within in
+    let all : values * size_of n ≤ count * size_of n = mul-le-mul_right (size_of n) (omega (arith, bounds.0, values_is)) in
+    ap (λ o. take k (part ++ past) ++ listed o) owed_is
+    ∙ with_owed k (values * size_of n) (part ++ past) d (omega (arith, some, place)) (omega (arith, bounds.2, same)) (omega (arith, length-append part past, part_long n count raw part room is, some, place, all))
+
+pub owes_none : (n : Narrow) (count values k len : ℕ) (bytes : List ℕ) (owed : Option ℕ) → len ≡ size_of n → k ≤ count * size_of n → values ≡ begun_values n k
+    → owed ≡ None → values * len ≤ k → take k bytes ++ listed owed ≡ take (values * size_of n) bytes
+owes_none n count values k len bytes owed len_is within values_is owed_is none =
+    let same : begun_values n k * size_of n ≡ values * size_of n = ap (λ m. m * size_of n) (sym values_is) in
+    let place : values * len ≡ values * size_of n = ap (λ m. values * m) len_is in
+    let bounds = begun_values-bounds n k count within in
+    let all : k ≡ values * size_of n = omega (arith, none, place, bounds.1, same) in
+    ap (λ o. take k bytes ++ listed o) owed_is ∙ append-nil (take k bytes) ∙ ap (λ j. take j bytes) all
+
+-- what is written and owed behind what was written before are the bytes of the values behind those from before
+pub written_is : (n : Narrow) (count values k : ℕ) (raw part past given taken owed : List ℕ) → values ≤ count → count * 4 ≤ length raw → part ≡ demoted_bytes n (take (count * 4) raw) → given ≡ demoted_bytes n taken → length taken % 4 ≡ 0
+    → take k (part ++ past) ++ owed ≡ take (values * size_of n) (part ++ past) → (given ++ take k (part ++ past)) ++ owed ≡ demoted_bytes n (taken ++ take (values * 4) raw)
+written_is n count values k raw part past given taken owed few room is before whole here =
+    let within : values * size_of n ≤ length part = omega (arith, part_long n count raw part room is, mul-le-mul_right (size_of n) few) in
+    append_assoc given (take k (part ++ past)) owed
+    ∙ ap (λ (bs : List ℕ). given ++ bs) (here ∙ take-append-le (values * size_of n) part past within ∙ front_demoted n count values raw part few room is)
+    ∙ ap (λ (bs : List ℕ). bs ++ demoted_bytes n (take (values * 4) raw)) before
+    ∙ sym (demoted_bytes-append n taken (take (values * 4) raw) whole)
+
+-- no more were written than there were
+pub within_front : (n : Narrow) (count k len : ℕ) (bytes : List ℕ) → len ≡ size_of n → k ≤ length (take (count * len) bytes) → k ≤ count * size_of n
+within_front n count k len bytes is within = omega (arith, within, length-take (count * len) bytes, ap (λ m. count * m) is)

@@ -1,0 +1,227 @@
+-- What an act on owned blocks needs and leaves: states that are alike in the owned blocks stay alike, and the codes of all other blocks stay.
+use Rattle.std.proofs.Common.{◌≡◌, ◌≢◌, refl, sym, ap, subst, ◌∙◌, ℕ, zero, suc, ◌%◌, ◌==◌, ℤ, pos, ◌+ℤ◌, Bool, true, false, cond, Option, Some, None, List, get_or, set, ◌⊎◌, inl, inr}
+use Rattle.std.proofs.lemmas.Bool.{cases_eq}
+use Rattle.std.specs.Int.{Width}
+use Rattle.zf_spec.specs.Numbers.{wrap}
+use Rattle.zf_base.specs.Formats.{Format, meant, encoded, with_at}
+use Rattle.zf_base.proofs.Formats.{with_at-same, with_at-other}
+use Rattle.zf_cached.specs.State.{State, risen, own_line, is_block, is_here}
+use Rattle.zf_cached.specs.Touch.{write_back, write_back_dirty, write_back_line, hit, miss, touch, soiled, touch_for_writing, with_values}
+use Rattle.zf_cached.specs.Changes.{write_back_lines, emptied, flush, discard}
+use Rattle.zf_cached.proofs.Caching.{true_is_not_false, at_change, write_back_line_by, write_back_line-held, write_back_line-other, touch_by, touch-left_away}
+use Rattle.zf_cache.proofs.Stands.{write_back_line-none, write_back_line-some, write_back_dirty-false, write_back_dirty-true}
+use Rattle.zf_private.specs.Acts.{Act}
+use Rattle.zf_private.specs.Views.{changed, acted, answered, IsWithin, HasOwn, AreAlike}
+
+-- functions that are changed alike
+with_at-alike : {A : Type 0} (f g : ℕ → A) (k : ℕ) (x y : A) (n : ℕ) → x ≡ y → (n ≢ k → f n ≡ g n) → with_at f k x n ≡ with_at g k y n
+with_at-alike f g k x y n here other = by (cases_eq n k)
+  where
+    by : (n ≡ k) ⊎ (n ≡ k → ⊥) → with_at f k x n ≡ with_at g k y n
+    by (inl e) = ap (with_at f k x) e ∙ with_at-same f k x ∙ here ∙ sym (with_at-same g k y) ∙ ap (with_at g k y) (sym e)
+    by (inr ne) = with_at-other f k x n ne ∙ other ne ∙ sym (with_at-other g k y n ne)
+
+module _ {Code : Type 0} (f : Format Code) (owned : ℕ → Type 0) where
+  -- ---- what is in the lines, or dirty, stays owned
+
+  own-write_back_line : (s : State Code) (l : ℕ) → HasOwn owned s → HasOwn owned (write_back_line f s l)
+  unfolding write_back
+  own-write_back_line s l h = write_back_line_by f s l (HasOwn owned)
+      (λ a held dirty. record {
+        held = h.held;
+        dirty = λ b. at_change (λ m d. d ≡ true → owned m) s.dirty a false b (λ e. absurd (cc)) (λ ne. h.dirty b);
+      })
+      (λ a held clean. h) (λ nothing. h)
+
+  own-write_back_lines : (s : State Code) (n : ℕ) → HasOwn owned s → HasOwn owned (write_back_lines f s n)
+  unfolding write_back_lines
+  own-write_back_lines s zero h = h
+  own-write_back_lines s (suc n) h = own-write_back_line (write_back_lines f s n) n (own-write_back_lines s n h)
+
+  own-touch : (s : State Code) (b : ℕ) → owned b → HasOwn owned s → HasOwn owned (touch f s b)
+  unfolding hit miss
+  own-touch s b own h = touch_by f s b (HasOwn owned)
+      (λ here. record { held = h.held; dirty = h.dirty })
+      (λ away. let k = own-write_back_line s (own_line s b) h in let t = write_back_line f s (own_line s b) in record {
+        held = λ l a. at_change (λ m o. o ≡ Some a → owned a) t.held (own_line s b) (Some b) l (λ e. let same : b ≡ a = cc in subst owned same own) (λ ne. k.held l a);
+        dirty = k.dirty;
+      })
+
+  own-changed : (s : State Code) (b p : ℕ) (change : ℤ → ℤ) → owned b → HasOwn owned s → HasOwn owned (changed f s b p change)
+  unfolding touch_for_writing soiled with_values
+  own-changed s b p change own h =
+      let k = own-touch s b own h in record {
+        held = k.held;
+        dirty = λ a. at_change (λ m d. d ≡ true → owned m) (touch f s b).dirty b true a (λ e. own) (λ ne. k.dirty a);
+      }
+
+  own-flush : (s : State Code) → HasOwn owned s → HasOwn owned (flush f s)
+  unfolding flush emptied
+  own-flush s h = let k = own-write_back_lines s s.lines h in record { held = λ l b e. absurd (cc); dirty = k.dirty }
+
+  own-discard : (s : State Code) → HasOwn owned (discard f s)
+  unfolding discard
+  own-discard s = record { held = λ l b e. absurd (cc); dirty = λ b e. absurd (cc) }
+
+  pub own-acted : (w : Width) (s : State Code) (a : Act) → IsWithin owned a → HasOwn owned s → HasOwn owned (acted w f s a)
+  unfolding acted
+  own-acted w s (Act.get b p) own h = own-touch s b own h
+  own-acted w s (Act.set b p v) own h = own-changed s b p (λ old. v) own h
+  own-acted w s (Act.add b p v) own h = own-changed s b p (λ old. wrap w (old +ℤ v)) own h
+  own-acted w s Act.flush own h = own-flush s h
+  own-acted w s Act.discard own h = own-discard s
+
+  -- ---- the codes of blocks that are not owned stay
+
+  stay-touch : (s : State Code) (a b : ℕ) → HasOwn owned s → (owned b → ⊥) → (touch f s a).codes b ≡ s.codes b
+  stay-touch s a b h not = let left = touch-left_away f s a b (λ e. not (h.held (own_line s a) b e)) in left.code
+
+  stay-write_back_lines : (s : State Code) (n b : ℕ) → HasOwn owned s → (owned b → ⊥) → (write_back_lines f s n).codes b ≡ s.codes b
+  unfolding write_back_lines
+  stay-write_back_lines s zero b h not = refl
+  stay-write_back_lines s (suc n) b h not =
+      let k = own-write_back_lines s n h in
+      (write_back_line-other f (write_back_lines f s n) n b (λ e. not (k.held n b e))).2 ∙ stay-write_back_lines s n b h not
+
+  pub stay-acted : (w : Width) (s : State Code) (a : Act) (b : ℕ) → HasOwn owned s → (owned b → ⊥) → (acted w f s a).codes b ≡ s.codes b
+  unfolding acted touch_for_writing soiled with_values flush emptied discard
+  stay-acted w s (Act.get a p) b h not = stay-touch s a b h not
+  stay-acted w s (Act.set a p v) b h not = stay-touch s a b h not
+  stay-acted w s (Act.add a p v) b h not = stay-touch s a b h not
+  stay-acted w s Act.flush b h not = stay-write_back_lines s s.lines b h not
+  stay-acted w s Act.discard b h not = refl
+
+  -- ---- states that are alike stay alike
+
+  alike-same : (s s' t t' : State Code) → s' ≡ s → t' ≡ t → AreAlike owned s t → AreAlike owned s' t'
+  alike-same s s' t t' es et h = subst (λ u. AreAlike owned u t') (sym es) (subst (AreAlike owned s) (sym et) h)
+
+  alike-write_back : (s t : State Code) (a : ℕ) → owned a → AreAlike owned s t → AreAlike owned (write_back f s a) (write_back f t a)
+  unfolding write_back
+  alike-write_back s t a own h =
+      let code : encoded f a (s.values a) ≡ encoded f a (t.values a) = ap (encoded f a) (h.values a own) in record {
+        lines = h.lines;
+        held = h.held;
+        dirty = ap (λ (d : ℕ → Bool). with_at d a false) h.dirty;
+        counts = λ i. record { hits = (h.counts i).hits; misses = (h.counts i).misses; writes = risen (h.counts i).writes };
+        values = λ b o. with_at-alike s.values t.values a _ _ b (ap (meant f a) code) (λ ne. h.values b o);
+        codes = λ b o. with_at-alike s.codes t.codes a _ _ b code (λ ne. h.codes b o);
+      }
+
+  alike-write_back_line : (s t : State Code) (l : ℕ) → HasOwn owned s → AreAlike owned s t → AreAlike owned (write_back_line f s l) (write_back_line f t l)
+  alike-write_back_line s t l own h = by (s.held l) refl
+    where
+      dirty_by : (b : ℕ) → owned b → (d : Bool) → s.dirty b ≡ d → AreAlike owned (write_back_dirty f s b) (write_back_dirty f t b)
+      dirty_by b o true e = alike-same (write_back f s b) (write_back_dirty f s b) (write_back f t b) (write_back_dirty f t b)
+          (write_back_dirty-true f s b e) (write_back_dirty-true f t b (sym (ap (λ (d : ℕ → Bool). d b) h.dirty) ∙ e)) (alike-write_back s t b o h)
+      dirty_by b o false e = alike-same s (write_back_dirty f s b) t (write_back_dirty f t b)
+          (write_back_dirty-false f s b e) (write_back_dirty-false f t b (sym (ap (λ (d : ℕ → Bool). d b) h.dirty) ∙ e)) h
+
+      by : (o : Option ℕ) → s.held l ≡ o → AreAlike owned (write_back_line f s l) (write_back_line f t l)
+      by None e = alike-same s (write_back_line f s l) t (write_back_line f t l)
+          (write_back_line-none f s l e) (write_back_line-none f t l (sym (ap (λ (g : ℕ → Option ℕ). g l) h.held) ∙ e)) h
+      by (Some b) e = alike-same (write_back_dirty f s b) (write_back_line f s l) (write_back_dirty f t b) (write_back_line f t l)
+          (write_back_line-some f s l b e) (write_back_line-some f t l b (sym (ap (λ (g : ℕ → Option ℕ). g l) h.held) ∙ e)) (dirty_by b (own.held l b e) (s.dirty b) refl)
+
+  alike-write_back_lines : (s t : State Code) (n : ℕ) → HasOwn owned s → AreAlike owned s t → AreAlike owned (write_back_lines f s n) (write_back_lines f t n)
+  unfolding write_back_lines
+  alike-write_back_lines s t zero own h = h
+  alike-write_back_lines s t (suc n) own h =
+      alike-write_back_line (write_back_lines f s n) (write_back_lines f t n) n (own-write_back_lines s n own) (alike-write_back_lines s t n own h)
+
+  alike-hit : (s t : State Code) → AreAlike owned s t → AreAlike owned (hit s) (hit t)
+  unfolding hit
+  alike-hit s t h = record {
+    lines = h.lines;
+    held = h.held;
+    dirty = h.dirty;
+    counts = λ i. record { hits = risen (h.counts i).hits; misses = (h.counts i).misses; writes = (h.counts i).writes };
+    values = h.values;
+    codes = h.codes;
+  }
+
+  alike-miss : (s t : State Code) (l b : ℕ) → HasOwn owned s → AreAlike owned s t → AreAlike owned (miss f s l b) (miss f t l b)
+  unfolding miss
+  alike-miss s t l b own h =
+      let k = alike-write_back_line s t l own h in record {
+        lines = k.lines;
+        held = ap (λ (g : ℕ → Option ℕ). with_at g l (Some b)) k.held;
+        dirty = k.dirty;
+        counts = λ i. record { hits = (k.counts i).hits; misses = risen (k.counts i).misses; writes = (k.counts i).writes };
+        values = k.values;
+        codes = k.codes;
+      }
+
+  alike-touch : (s t : State Code) (b : ℕ) → HasOwn owned s → AreAlike owned s t → AreAlike owned (touch f s b) (touch f t b)
+  unfolding touch
+  alike-touch s t b own h = by (is_here s b) refl
+    where
+      here : is_here s b ≡ is_here t b
+      here = λ i. is_block ((h.held i) (b % h.lines i)) b
+
+      at_line : AreAlike owned (miss f s (own_line s b) b) (miss f t (own_line t b) b)
+      at_line = subst (λ n. AreAlike owned (miss f s (own_line s b) b) (miss f t (b % n) b)) h.lines (alike-miss s t (own_line s b) b own h)
+
+      by : (d : Bool) → is_here s b ≡ d → AreAlike owned (elim (is_here s b) [ true ↦ hit s | false ↦ miss f s (own_line s b) b ]) (elim (is_here t b) [ true ↦ hit t | false ↦ miss f t (own_line t b) b ])
+      by true e = alike-same (hit s) _ (hit t) _
+          (ap (λ (d : Bool). elim d [ true ↦ hit s | false ↦ miss f s (own_line s b) b ]) e)
+          (ap (λ (d : Bool). elim d [ true ↦ hit t | false ↦ miss f t (own_line t b) b ]) (sym here ∙ e)) (alike-hit s t h)
+      by false e = alike-same (miss f s (own_line s b) b) _ (miss f t (own_line t b) b) _
+          (ap (λ (d : Bool). elim d [ true ↦ hit s | false ↦ miss f s (own_line s b) b ]) e)
+          (ap (λ (d : Bool). elim d [ true ↦ hit t | false ↦ miss f t (own_line t b) b ]) (sym here ∙ e)) at_line
+
+  alike-changed : (s t : State Code) (b p : ℕ) (change : ℤ → ℤ) → owned b → HasOwn owned s → AreAlike owned s t → AreAlike owned (changed f s b p change) (changed f t b p change)
+  unfolding touch_for_writing soiled with_values
+  alike-changed s t b p change o own h =
+      let k = alike-touch s t b own h in
+      let new : List ℤ → List ℤ = λ vs. set vs p (change (get_or vs p (pos 0))) in record {
+        lines = k.lines;
+        held = k.held;
+        dirty = ap (λ (d : ℕ → Bool). with_at d b true) k.dirty;
+        counts = k.counts;
+        values = λ a oa. with_at-alike (touch f s b).values (touch f t b).values b _ _ a (ap new (k.values b o)) (λ ne. k.values a oa);
+        codes = k.codes;
+      }
+
+  alike-flush : (s t : State Code) → HasOwn owned s → AreAlike owned s t → AreAlike owned (flush f s) (flush f t)
+  unfolding flush emptied
+  alike-flush s t own h =
+      let k = subst (λ n. AreAlike owned (write_back_lines f s s.lines) (write_back_lines f t n)) h.lines (alike-write_back_lines s t s.lines own h) in record {
+        lines = k.lines;
+        held = refl;
+        dirty = k.dirty;
+        counts = k.counts;
+        values = k.values;
+        codes = k.codes;
+      }
+
+  alike-discard : (s t : State Code) → AreAlike owned s t → AreAlike owned (discard f s) (discard f t)
+  unfolding discard
+  alike-discard s t h = record {
+    lines = h.lines;
+    held = refl;
+    dirty = refl;
+    counts = h.counts;
+    values = λ b o. λ i. cond (h.dirty i b) (meant f b (h.codes b o i)) (h.values b o i);
+    codes = h.codes;
+  }
+
+  pub alike-acted : (w : Width) (s t : State Code) (a : Act) → IsWithin owned a → HasOwn owned s → AreAlike owned s t → AreAlike owned (acted w f s a) (acted w f t a)
+  unfolding acted
+  alike-acted w s t (Act.get b p) o own h = alike-touch s t b own h
+  alike-acted w s t (Act.set b p v) o own h = alike-changed s t b p (λ old. v) o own h
+  alike-acted w s t (Act.add b p v) o own h = alike-changed s t b p (λ old. wrap w (old +ℤ v)) o own h
+  alike-acted w s t Act.flush o own h = alike-flush s t own h
+  alike-acted w s t Act.discard o own h = alike-discard s t h
+
+  -- states that are alike give the same answer
+  pub alike-answered : (s t : State Code) (a : Act) → IsWithin owned a → AreAlike owned s t → answered s a ≡ answered t a
+  unfolding answered
+  alike-answered s t (Act.get b p) o h = ap (λ vs. Some (get_or vs p (pos 0))) (h.values b o)
+  alike-answered s t (Act.set b p v) o h = refl
+  alike-answered s t (Act.add b p v) o h = refl
+  alike-answered s t Act.flush o h = refl
+  alike-answered s t Act.discard o h = refl
+
+  pub alike-refl : (s : State Code) → AreAlike owned s s
+  alike-refl s = record { lines = refl; held = refl; dirty = refl; counts = refl; values = λ b o. refl; codes = λ b o. refl }

@@ -1,0 +1,181 @@
+-- What a call of the cache makes of a view.
+use Rattle.std.proofs.Common.{◌≡◌, inl, inr, refl, sym, ap, subst, ◌∙◌, ℕ, suc, ◌+◌, ◌^◌, ◌<◌, ◌≤◌, ◌==◌, ℤ, pos, ◌+ℤ◌, Bool, true, false, eqb-true, Option, Some, List, [], ◌∷◌, ◌++◌, map, length, get_or, set, take, drop, arith}
+use Rattle.std.specs.Int.{Width}
+use Rattle.std.proofs.lemmas.Bool.{cases_lt}
+use Rattle.std.proofs.lemmas.List.{length-take-le, set_split, map-set, length-map, length-drop, drop-drop, get_or-map, get_or_past}
+use Rattle.zf_spec.specs.Numbers.{wrap}
+use Rattle.zf_spec.specs.Grid.{blocks}
+use Rattle.zf_base.specs.declared.position.Pos.{Pos}
+use Rattle.zf_base.specs.Positions.{used_axes, IsPosition}
+use Rattle.zf_base.specs.Places.{block_number, place_of, IsAt}
+use Rattle.zf_base.specs.Formats.{Format, existing_of, meant}
+use Rattle.zf_base.proofs.Formats.{existing_of-existing_of, existing_of-meant, existing_of-set, get_or-existing_of_exists}
+use Rattle.zf_base.proofs.Sizes.{blocks_le}
+use Rattle.zf_cached.specs.State.{State, is_block}
+use Rattle.zf_cached.specs.Touch.{touch, soiled, touch_for_writing, with_values}
+use Rattle.zf_cached.proofs.Caching.{touch-same}
+use Rattle.zf_lines.specs.Rows.{line_at, part, over_part, with_part, HasSize}
+use Rattle.zf_lines.proofs.Sizes.{over_same}
+use Rattle.zf_cache.specs.Kept.{Kept, HasBlocks, IsIn, IsDirty, tag_at, block_in, dirty_tag, line_of}
+use Rattle.zf_cache.specs.Standing.{state_of, values_of, line_values, Fits}
+use Rattle.zf_cache.specs.Steps.{with_value, put}
+use Rattle.zf_cache.proofs.Tags.{names-dirty, named}
+use Rattle.zf_cache.specs.Loans.{StandsFor}
+use Rattle.zf_cache.proofs.Steps.{part_written}
+use Rattle.zf_cache.proofs.Sound.{values_here}
+use Rattle.zf_cache.proofs.Sound as sound
+use Rattle.zf_private.specs.Acts.{Act}
+use Rattle.zf_private.specs.Views.{changed, acted, answered, IsWithin, HasOwn, AreAlike}
+use Rattle.zf_private.specs.Standing.{Held, Own, block_at, place_at, state, IsOver, HasPlaces, IsWhole}
+use Rattle.zf_private.proofs.Alike.{own-acted, stay-acted}
+
+module _ {X Code : Type 0} (value : X → ℤ) where
+  -- the values of a block are 0 where no place exists
+  pub values_whole : (c : Kept X) (f : Format Code) (k : ℕ → Code) (b : ℕ) → existing_of f b ((state_of value c f k).values b) ≡ (state_of value c f k).values b
+  unfolding state_of values_of
+  values_whole c f k b = by (is_block (block_in (tag_at c.tags (line_of c b))) b)
+    where
+      vals : Bool → List ℤ
+      vals t = elim t [ true ↦ line_values value c f (line_of c b) b | false ↦ meant f b (k b) ]
+
+      by : (t : Bool) → existing_of f b (vals t) ≡ vals t
+      by true = existing_of-existing_of f b (map value (line_at c.lines (line_of c b)))
+      by false = existing_of-meant f b (k b)
+
+  -- what a view that is whole has in its lines, or dirty, is its own
+  pub own_state : (d : ℕ) (v : Held X) (f : Format Code) (k : ℕ → Code) → IsWhole d v → HasOwn (Own v) (state value v f k)
+  unfolding state_of
+  own_state d v f k whole = record {
+    held = whole.own;
+    dirty = λ b e. let l = line_of v.cache b in whole.own l b (ap block_in (eqb-true (tag_at v.cache.tags l) (dirty_tag b) e) ∙ names-dirty b);
+  }
+
+  -- a value put at a place that exists
+  pub put-changed : (f : Format Code) (s : State Code) (b p : ℕ) (v : ℤ) → f.exists b p ≡ true → existing_of f b (s.values b) ≡ s.values b → put f s b p v ≡ changed f s b p (λ old. v)
+  unfolding put with_value touch_for_writing soiled
+  put-changed f s b p v exists whole =
+      let t = touch_for_writing f s b in
+      let same : (touch f s b).values b ≡ s.values b = (touch-same f s b).1 in
+      let still : existing_of f b ((touch f s b).values b) ≡ (touch f s b).values b = ap (existing_of f b) same ∙ whole ∙ sym same in
+      ap (with_values t b) (existing_of-set f b ((touch f s b).values b) p v exists still)
+
+module _ {X Code : Type 0} (value : X → ℤ) (w : Width) (d : ℕ) (v now : Held X) (is : v ≡ now) (whole : IsWhole d v) (f : Format Code) (k : ℕ → Code) where
+  pub has_blocks : IsOver now f → HasBlocks f d
+  has_blocks over =
+      let mine : IsOver v f = subst (λ u. IsOver u f) (sym is) over in
+      (mine.1 ∙ ap (λ n. 4 ^ n) whole.dims, omega (arith, mine.0, blocks_le v.shape whole.shape.not_zero, whole.shape.not_too_large))
+
+  pub fits_mine : Fits value now.cache f k → Fits value v.cache f k
+  fits_mine fits = subst (λ (u : Held X). Fits value u.cache f k) (sym is) fits
+
+  pub own_now : HasOwn (Own now) (state value now f k)
+  own_now = subst (λ u. HasOwn (Own u) (state value u f k)) is (own_state value d v f k whole)
+
+  module _ (p : Pos) (b place : ℕ) (block : b ≡ block_at v p) (at_place : place ≡ place_at v p) (at : IsAt v.shape (used_axes (length v.shape) p) b place) where
+    pub block_below : IsOver now f → b < f.blocks
+    block_below over = subst (λ n. b < n) (sym (subst (λ u. IsOver u f) (sym is) over).0) at.block_in_array
+
+    pub place_below : place < 4 ^ d
+    place_below = subst (λ n. place < 4 ^ n) whole.dims at.place_in_block
+
+    pub owned_block : Own now (block_at now p) → Own v b
+    owned_block own = subst (Own v) (sym block) (subst (λ u. Own u (block_at u p)) (sym is) own)
+
+    pub exists_there : HasPlaces now f → Own now (block_at now p) → f.exists b place ≡ true
+    exists_there places own = (subst (λ u. HasPlaces u f) (sym is) places) b place (owned_block own) at.place_in_block ∙ at.exists
+
+    -- what is read there
+    pub answer_is : (new : Kept X) (h : Format Code) (j : ℕ → Code) (r : ℤ) → r ≡ get_or (values_of value new h j b) place (pos 0)
+        → Some r ≡ answered (state_of value new h j) (Act.get (block_at now p) (place_at now p))
+    unfolding answered state_of
+    answer_is new h j r e =
+        ap Some (e ∙ ap (λ n. get_or (values_of value new h j n) place (pos 0)) (block ∙ ap (λ u. block_at u p) is)
+        ∙ ap (λ n. get_or (values_of value new h j (block_at now p)) n (pos 0)) (at_place ∙ ap (λ u. place_at u p) is))
+
+    -- an act at the block and the place of the position
+    pub acts_at : (act : ℕ → ℕ → Act) (t : State Code) → t ≡ acted w f (state value v f k) (act b place) → t ≡ acted w f (state value now f k) (act (block_at now p) (place_at now p))
+    acts_at act t e =
+        e ∙ ap (λ n. acted w f (state value v f k) (act n place)) block ∙ ap (λ n. acted w f (state value v f k) (act (block_at v p) n)) at_place
+        ∙ ap (λ u. acted w f (state value u f k) (act (block_at u p) (place_at u p))) is
+
+  -- a step of the state leaves the other codes, and nothing but owned blocks in the lines
+  module _ (new : Kept X) (h : Format Code) (j : ℕ → Code) (a : Act) (step : state_of value new h j ≡ acted w f (state value now f k) a) where
+    pub others_stay : (b : ℕ) → (Own now b → ⊥) → j b ≡ k b
+    unfolding state_of
+    others_stay b not = ap (λ (t : State Code). t.codes b) step ∙ stay-acted f (Own now) w (state value now f k) a b own_now not
+
+    pub still_whole : (shape : List ℕ) (first count : ℕ) → v.shape ≡ shape → v.first ≡ first → v.count ≡ count → IsWithin (Own now) a
+        → IsWhole d (record { cache = new; shape = shape; first = first; count = count })
+    unfolding state_of
+    still_whole shape first count es ef ec within =
+        let own : HasOwn (Own now) (state_of value new h j) = subst (HasOwn (Own now)) (sym step) (own-acted f (Own now) w (state value now f k) a within own_now) in
+        let back : HasOwn (Own v) (state_of value new h j) = subst (λ u. HasOwn (Own u) (state_of value new h j)) (sym is) own in
+        subst (λ n. IsWhole d (record { cache = new; shape = n; first = first; count = count })) es
+        (subst (λ n. IsWhole d (record { cache = new; shape = v.shape; first = n; count = count })) ef
+        (subst (λ n. IsWhole d (record { cache = new; shape = v.shape; first = v.first; count = n })) ec
+        (record { dims = whole.dims; shape = whole.shape; some = whole.some; inside = whole.inside; own = back.held })))
+
+-- a line with a tag is there
+tag_inside : (tags : List ℕ) (l t : ℕ) → tag_at tags l ≡ t → 0 < t → l < length tags
+tag_inside tags l t e some = elim (cases_lt l (length tags)) [ inl lt ↦ lt | inr ge ↦ let none = get_or_past tags l 0 ge in absurd (omega (arith, e, none)) ]
+
+-- a value of a dirty block is added to, through a loan
+module _ {X Code : Type 0} (value : X → ℤ) (w : Width) (f h : Format Code) (k j : ℕ → Code) (s : State Code) (c : Kept X) (b p : ℕ) (r sum v : X)
+    (same : h ≡ f) (state_is : state_of value c h j ≡ touch_for_writing f s b) (fits : Fits value c h j) (dirty : IsDirty c b) (size : HasSize c.lines (length c.tags) h.block_len)
+    (within : p < h.block_len) (exists : f.exists b p ≡ true) (read : get_or (line_at c.lines (line_of c b)) p r ≡ r) (added : value sum ≡ wrap w (value r +ℤ value v)) where
+  abbrev row : List X
+  row = line_at c.lines (line_of c b)
+
+  abbrev vals : List ℤ
+  vals = (touch_for_writing f s b).values b
+
+  here : IsIn c.tags (line_of c b) b
+  here = ap block_in dirty ∙ names-dirty b
+
+  long : length row ≡ h.block_len
+  long = size.1 (line_of c b) (tag_inside c.tags (line_of c b) (dirty_tag b) dirty (omega arith))
+
+  row_is : existing_of h b (map value row) ≡ vals
+  row_is = sym (values_here value h c j b (line_of c b) refl (named (tag_at c.tags (line_of c b)) b here)) ∙ ap (λ (t : State Code). t.values b) state_is
+
+  one_over : over_part row p 1 (sum ∷ []) ≡ set row p sum
+  one_over =
+      let in_row : p < length row = omega (arith, within, long) in
+      let one : length (part row p 1) ≡ 1 = length-take-le 1 (drop p row) (omega (arith, in_row, length-drop p row)) in
+      let next : p + 1 ≡ suc p = omega arith in
+      let rest : drop 1 (drop p row) ≡ drop (suc p) row = drop-drop 1 p row ∙ ap (λ n. drop n row) next in
+      let there : set row p sum ≡ take p row ++ sum ∷ drop (suc p) row = set_split row p sum in_row in
+      ap (λ ws. take p row ++ (ws ++ drop 1 (drop p row))) (over_same (part row p 1) (sum ∷ []) (sym one))
+      ∙ ap (λ ws. take p row ++ sum ∷ ws) rest ∙ sym there
+
+  was : value r ≡ get_or vals p (pos 0)
+  was =
+      let in_row : p < length row = omega (arith, within, long) in
+      ap value (sym read) ∙ sym (get_or-map value row p r (pos 0) in_row)
+      ∙ sym (get_or-existing_of_exists h b (map value row) p within (ap (λ (g : Format Code). g.exists b p) same ∙ exists)) ∙ ap (λ xs. get_or xs p (pos 0)) row_is
+
+  written : existing_of h b (map value (over_part row p 1 (sum ∷ []))) ≡ existing_of h b (set vals p (value sum))
+  written =
+      ap (λ ws. existing_of h b (map value ws)) one_over ∙ ap (existing_of h b) (map-set value row p sum)
+      ∙ sound.existing_of-set h b (map value row) p (value sum) (length-map row value ∙ long) within ∙ ap (λ xs. existing_of h b (set xs p (value sum))) row_is
+
+  abbrev lent : Kept X
+  lent = record c { lines = with_part c.lines (line_of c b) p 1 (sum ∷ []) }
+
+  stands : StandsFor value lent h j (with_values (state_of value c h j) b (existing_of h b (map value (over_part row p 1 (sum ∷ [])))))
+  stands = part_written value h j c b p 1 (sum ∷ []) fits dirty size.0
+
+  pub added_fits : Fits value lent h j
+  added_fits = stands.fits
+
+  pub added_state : existing_of f b vals ≡ vals → state_of value lent h j ≡ changed f s b p (λ old. wrap w (old +ℤ value v))
+  added_state whole =
+      stands.state ∙ ap (with_values (state_of value c h j) b) written ∙ (λ i. with_values (state_is i) b (existing_of (same i) b (set vals p (value sum))))
+      ∙ ap (with_values (touch_for_writing f s b) b) (existing_of-set f b vals p (value sum) exists whole
+      ∙ ap (set vals p) (added ∙ ap (λ x. wrap w (x +ℤ value v)) was))
+
+-- the values of a block that is touched for writing are whole where they were
+pub touched_whole : {Code : Type 0} (f : Format Code) (s : State Code) (b : ℕ) → existing_of f b (s.values b) ≡ s.values b
+    → existing_of f b ((touch_for_writing f s b).values b) ≡ (touch_for_writing f s b).values b
+unfolding touch_for_writing soiled
+touched_whole f s b whole = let same = (touch-same f s b).1 in ap (existing_of f b) same ∙ whole ∙ sym same

@@ -1,0 +1,5 @@
+pub mod Alike
+pub mod Alone
+pub mod Calls
+pub mod Others
+pub mod Several

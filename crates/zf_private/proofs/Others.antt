@@ -1,0 +1,77 @@
+-- What the laws say of views over a backing, and of the parts of an array.
+use Rattle.std.proofs.Common.{◌≡◌, refl, sym, ap, subst, ◌∙◌, ◌⊎◌, inl, inr, ℕ, zero, suc, ◌+◌, ◌-◌, ◌*◌, ◌/◌, ◌<◌, ◌≤◌, ℤ, ◌+ℤ◌, Bool, true, false, List, arith}
+use Rattle.std.specs.Int.{Width}
+use Rattle.std.proofs.lemmas.Bool.{cases_lt}
+use Rattle.std.proofs.Math.Nat.{zero-div, mul-div_cancel_left}
+use Rattle.zf_spec.specs.Numbers.{wrap}
+use Rattle.zf_base.specs.Formats.{Format, meant}
+use Rattle.zf_cached.specs.State.{State, is_block}
+use Rattle.zf_cached.specs.Touch.{touch}
+use Rattle.zf_cached.specs.Changes.{flush, discard}
+use Rattle.zf_cache.specs.Kept.{Kept, tag_at, block_in, line_of, clean_tag}
+use Rattle.zf_cache.specs.Standing.{state_of, values_of, line_values, Fits}
+use Rattle.zf_cache.proofs.Tags.{names-clean}
+use Rattle.zf_private.specs.Acts.{Act}
+use Rattle.zf_private.specs.Views.{changed, acted, AreAlike, NoneShared}
+use Rattle.zf_private.specs.Ownership.{Owns, OwnsPart, first_of, count_of}
+use Rattle.zf_private.specs.Standing.{Held, Own, state, IsWhole}
+
+pub acted-discard : {Code : Type 0} (w : Width) (f : Format Code) (s : State Code) → discard f s ≡ acted w f s Act.discard
+unfolding acted
+acted-discard w f s = refl
+
+pub acted-flush : {Code : Type 0} (w : Width) (f : Format Code) (s : State Code) → flush f s ≡ acted w f s Act.flush
+unfolding acted
+acted-flush w f s = refl
+
+pub acted-get : {Code : Type 0} (w : Width) (f : Format Code) (s : State Code) (b p : ℕ) → touch f s b ≡ acted w f s (Act.get b p)
+unfolding acted
+acted-get w f s b p = refl
+
+pub acted-set : {Code : Type 0} (w : Width) (f : Format Code) (s : State Code) (b p : ℕ) (v : ℤ) → changed f s b p (λ old. v) ≡ acted w f s (Act.set b p v)
+unfolding acted
+acted-set w f s b p v = refl
+
+pub acted-add : {Code : Type 0} (w : Width) (f : Format Code) (s : State Code) (b p : ℕ) (v : ℤ) → changed f s b p (λ old. wrap w (old +ℤ v)) ≡ acted w f s (Act.add b p v)
+unfolding acted
+acted-add w f s b p v = refl
+
+-- ---- codes that changed in the blocks of other views
+
+module _ {X Code : Type 0} (value : X → ℤ) (d : ℕ) (v : Held X) (f g : Format Code) (k j : ℕ → Code) (whole : IsWhole d v) (same : g ≡ f) (codes : (b : ℕ) → Own v b → j b ≡ k b) where
+  pub other_codes_fit : Fits value v.cache f k → Fits value v.cache g j
+  other_codes_fit fits = subst (λ h. Fits value v.cache h j) (sym same) (record {
+    own = fits.own;
+    clean = λ l b tag. fits.clean l b tag ∙ ap (meant f b) (sym (codes b (whole.own l b (ap block_in tag ∙ names-clean b))));
+  })
+
+  pub other_codes_alike : AreAlike (Own v) (state value v f k) (state value v g j)
+  unfolding state_of values_of
+  other_codes_alike = subst (λ h. AreAlike (Own v) (state value v f k) (state value v h j)) (sym same) (record {
+    lines = refl;
+    held = refl;
+    dirty = refl;
+    counts = refl;
+    values = λ b own. ap (λ code. vals b (meant f b code)) (sym (codes b own));
+    codes = λ b own. sym (codes b own);
+  })
+    where
+      vals : ℕ → List ℤ → List ℤ
+      vals b ms = elim (is_block (block_in (tag_at v.cache.tags (line_of v.cache b))) b) [ true ↦ line_values value v.cache f (line_of v.cache b) b | false ↦ ms ]
+
+-- ---- the parts of an array
+
+-- the view of a block, where the views below m own it
+pub owner_below : (n k b m : ℕ) → b < first_of n k m → (i : ℕ) × (i < m) × OwnsPart n k i b
+owner_below n k b zero h = let zero_times : 0 * n ≡ 0 = omega arith in let none : first_of n k 0 ≡ 0 = ap (λ m. m / k) zero_times ∙ zero-div k in absurd (omega (arith, h, none))
+owner_below n k b (suc m) h = by (cases_lt b (first_of n k m)) (owner_below n k b m)
+  where
+    by : (b < first_of n k m) ⊎ (first_of n k m ≤ b) → (b < first_of n k m → (i : ℕ) × (i < m) × OwnsPart n k i b) → (i : ℕ) × (i < suc m) × OwnsPart n k i b
+    by (inl lt) before = let r = before lt in (r.0, omega (arith, r.1), r.2)
+    by (inr ge) before =
+        let next : m + 1 ≡ suc m = omega arith in
+        let below : b < first_of n k (m + 1) = subst (λ i. b < first_of n k i) (sym next) h in
+        (m, omega arith, (ge, omega (arith, ge, below)))
+
+pub first_of-last : (n k : ℕ) → 1 ≤ k → first_of n k k ≡ n
+first_of-last n k some = mul-div_cancel_left n some

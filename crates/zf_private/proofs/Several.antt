@@ -1,0 +1,130 @@
+-- The calls of several views over one backing are the steps of the definition.
+use Rattle.std.proofs.Common.{◌≡◌, ◌≢◌, refl, sym, ap, subst, ◌∙◌, ◌⊎◌, inl, inr, ℕ, ◌+◌, ◌<◌, ◌≤◌, ℤ, Bool, Option, arith}
+use Rattle.std.specs.Int.{Width}
+use Rattle.std.proofs.lemmas.Bool.{cases_lt}
+use Rattle.zf_base.specs.Formats.{Format}
+use Rattle.zf_cached.specs.State.{State}
+use Rattle.zf_cache.specs.Standing.{state_of, Fits}
+use Rattle.zf_cache.proofs.Tags.{same_or_not}
+use Rattle.zf_private.specs.Acts.{Act}
+use Rattle.zf_private.specs.Views.{Views, Step, state_of_view, acted, answered, stepped, IsWithin, HasOwn, AreAlike}
+use Rattle.zf_private.specs.Standing.{Held, Own, IsSameView, IsWhole, state}
+use Rattle.zf_private.specs.Several.{AreReady, StandFor}
+use Rattle.zf_private.proofs.Alike.{stay-acted, alike-acted, alike-answered, alike-refl}
+use Rattle.zf_private.proofs.Alone.{AllOwn, there, stays, alike-other}
+use Rattle.zf_private.proofs.Calls.{own_state}
+use Rattle.zf_private.proofs.Others.{other_codes_fit, other_codes_alike}
+
+module _ {Code : Type 0} (owned : ℕ → Type 0) where
+  alike-of : (own : ℕ → Type 0) (s t : State Code) → ((b : ℕ) → own b → owned b) → AreAlike owned s t → AreAlike own s t
+  alike-of own s t less h = record { lines = h.lines; held = h.held; dirty = h.dirty; counts = h.counts; values = λ b o. h.values b (less b o); codes = λ b o. h.codes b (less b o) }
+
+  alike-sym : (s t : State Code) → AreAlike owned s t → AreAlike owned t s
+  alike-sym s t h = record { lines = sym h.lines; held = sym h.held; dirty = sym h.dirty; counts = sym h.counts; values = λ b o. sym (h.values b o); codes = λ b o. sym (h.codes b o) }
+
+  alike-trans : (s t u : State Code) → AreAlike owned s t → AreAlike owned t u → AreAlike owned s u
+  alike-trans s t u h k = record {
+    lines = h.lines ∙ k.lines;
+    held = h.held ∙ k.held;
+    dirty = h.dirty ∙ k.dirty;
+    counts = h.counts ∙ k.counts;
+    values = λ b o. h.values b o ∙ k.values b o;
+    codes = λ b o. h.codes b o ∙ k.codes b o;
+  }
+
+  own-alike : (s t : State Code) → AreAlike owned s t → HasOwn owned s → HasOwn owned t
+  own-alike s t h own = record {
+    held = λ l b e. own.held l b (ap (λ (g : ℕ → Option ℕ). g l) h.held ∙ e);
+    dirty = λ b e. own.dirty b (ap (λ (g : ℕ → Bool). g b) h.dirty ∙ e);
+  }
+
+own-or-not : {X : Type 0} (v : Held X) (b : ℕ) → Own v b ⊎ (Own v b → ⊥)
+own-or-not v b = by (cases_lt b v.first) (cases_lt b (v.first + v.count))
+  where
+    by : (b < v.first) ⊎ (v.first ≤ b) → (b < v.first + v.count) ⊎ (v.first + v.count ≤ b) → Own v b ⊎ (Own v b → ⊥)
+    by (inl lt) k = inr (λ o. omega (arith, lt, o.0))
+    by (inr ge) (inl lt) = inl (ge, lt)
+    by (inr ge) (inr past) = inr (λ o. omega (arith, past, o.1))
+
+-- a call of view i: the act a
+module _ {X Code : Type 0} (value : X → ℤ) (d : ℕ) (w : Width) (views news : ℕ → Held X) (f g : Format Code) (k j : ℕ → Code) (i : ℕ) (a : Act)
+    (ready : AreReady value d views f k) (same : g ≡ f) (others : (m : ℕ) → m ≢ i → news m ≡ views m) (kept : IsSameView (views i) (news i))
+    (within : IsWithin (Own (views i)) a) (step : state value (news i) g j ≡ acted w f (state value (views i) f k) a) where
+  abbrev owns : ℕ → ℕ → Type 0
+  owns m = Own (views m)
+
+  -- which blocks a view owns stays
+  own-before : (m b : ℕ) → Own (news m) b → Own (views m) b
+  own-before m b = by (same_or_not m i)
+    where
+      at_i : Own (news i) b → Own (views i) b
+      at_i o = (subst (λ n. n ≤ b) kept.first o.0, let far = o.1 in omega (arith, far, kept.first, kept.count))
+
+      by : (m ≡ i) ⊎ (m ≢ i) → Own (news m) b → Own (views m) b
+      by (inl e) = subst (λ n. Own (news n) b → Own (views n) b) (sym e) at_i
+      by (inr ne) = subst (λ (v : Held X). Own v b) (others m ne)
+
+  codes-stay : (b : ℕ) → (Own (views i) b → ⊥) → j b ≡ k b
+  unfolding state_of
+  codes-stay b not = ap (λ (t : State Code). t.codes b) step ∙ stay-acted f (Own (views i)) w (state value (views i) f k) a b (own_state value d (views i) f k (ready.whole i)) not
+
+  codes-of-other : (m b : ℕ) → m ≢ i → Own (views m) b → j b ≡ k b
+  codes-of-other m b ne o = codes-stay b (λ mine. ne (ready.apart m i b o mine))
+
+  pub still_ready : IsWhole d (news i) → Fits value (news i).cache g j → AreReady value d news g j
+  still_ready whole fits = record {
+    whole = λ m. whole_at m (same_or_not m i);
+    fits = λ m. fits_at m (same_or_not m i);
+    apart = λ m n b o p. ready.apart m n b (own-before m b o) (own-before n b p);
+  }
+    where
+      whole_at : (m : ℕ) → (m ≡ i) ⊎ (m ≢ i) → IsWhole d (news m)
+      whole_at m (inl e) = subst (λ n. IsWhole d (news n)) (sym e) whole
+      whole_at m (inr ne) = subst (IsWhole d) (sym (others m ne)) (ready.whole m)
+
+      fits_at : (m : ℕ) → (m ≡ i) ⊎ (m ≢ i) → Fits value (news m).cache g j
+      fits_at m (inl e) = subst (λ n. Fits value (news n).cache g j) (sym e) fits
+      fits_at m (inr ne) = subst (λ (v : Held X). Fits value v.cache g j) (sym (others m ne))
+          (other_codes_fit value d (views m) f g k j (ready.whole m) same (λ b o. codes-of-other m b ne o) (ready.fits m))
+
+  module _ (s : Views Code) (stand : StandFor value views f k s) where
+    abbrev pub st : Step
+    st = record { view = i; act = a }
+
+    own_all : (m : ℕ) → HasOwn (Own (views m)) (state_of_view s m)
+    own_all m = own-alike (Own (views m)) (state value (views m) f k) (state_of_view s m) (stand.alike m) (own_state value d (views m) f k (ready.whole m))
+
+    -- view i, by the definition
+    acts_alike : AreAlike (Own (views i)) (state value (news i) g j) (state_of_view (stepped w f s st) i)
+    acts_alike =
+        subst (AreAlike (Own (views i)) (state value (news i) g j)) (sym (there w f owns s st))
+        (subst (λ t. AreAlike (Own (views i)) t (acted w f (state_of_view s i) a)) (sym step)
+        (alike-acted f (Own (views i)) w (state value (views i) f k) (state_of_view s i) a within (own_state value d (views i) f k (ready.whole i)) (stand.alike i)))
+
+    other_alike : (m : ℕ) → m ≢ i → AreAlike (Own (views m)) (state value (news m) g j) (state_of_view (stepped w f s st) m)
+    other_alike m ne =
+        subst (λ (v : Held X). AreAlike (Own (views m)) (state value v g j) (state_of_view (stepped w f s st) m)) (sym (others m ne))
+        (alike-trans (Own (views m)) (state value (views m) g j) (state value (views m) f k) (state_of_view (stepped w f s st) m)
+        (alike-sym (Own (views m)) (state value (views m) f k) (state value (views m) g j) (other_codes_alike value d (views m) f g k j (ready.whole m) same (λ b o. codes-of-other m b ne o)))
+        (alike-trans (Own (views m)) (state value (views m) f k) (state_of_view s m) (state_of_view (stepped w f s st) m) (stand.alike m)
+        (alike-sym (Own (views m)) (state_of_view (stepped w f s st) m) (state_of_view s m)
+        (alike-other w f owns m ready.apart s s st (λ e. ne (sym e)) own_all (alike-refl f (Own (views m)) (state_of_view s m))))))
+
+    codes-stand : (b : ℕ) → j b ≡ (stepped w f s st).codes b
+    unfolding state_of
+    codes-stand b = by (own-or-not (views i) b)
+      where
+        by : Own (views i) b ⊎ (Own (views i) b → ⊥) → j b ≡ (stepped w f s st).codes b
+        by (inl o) = acts_alike.codes b o
+        by (inr not) = codes-stay b not ∙ stand.same_codes b ∙ sym (stays w f owns s st b own_all not)
+
+    pub stands_for : StandFor value news g j (stepped w f s st)
+    stands_for = record { same_codes = codes-stand; alike = λ m. by m (same_or_not m i) }
+      where
+        by : (m : ℕ) → (m ≡ i) ⊎ (m ≢ i) → AreAlike (Own (news m)) (state value (news m) g j) (state_of_view (stepped w f s st) m)
+        by m (inl e) = subst (λ n. AreAlike (Own (news n)) (state value (news n) g j) (state_of_view (stepped w f s st) n)) (sym e)
+            (alike-of (Own (views i)) (Own (news i)) (state value (news i) g j) (state_of_view (stepped w f s st) i) (own-before i) acts_alike)
+        by m (inr ne) = alike-of (Own (views m)) (Own (news m)) (state value (news m) g j) (state_of_view (stepped w f s st) m) (own-before m) (other_alike m ne)
+
+    pub same_answer : answered (state value (news i) g j) a ≡ answered (state_of_view (stepped w f s st) i) a
+    same_answer = alike-answered f (Own (views i)) (state value (news i) g j) (state_of_view (stepped w f s st) i) a within acts_alike

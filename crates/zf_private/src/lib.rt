@@ -1,0 +1,9 @@
+//! Private views: several write-back caches over one backing, each over blocks of its own.
+#![tactic(auto)]
+
+pub mod laws;
+mod private;
+#[cfg(test)]
+mod tests;
+
+pub use private::Private;
