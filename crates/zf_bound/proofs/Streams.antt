@@ -24,7 +24,8 @@ use Rattle.zf_header.specs.declared.header.Header.{Header}
 use Rattle.zf_header.specs.declared.header.Mode.TheVariants.{Rate}
 use Rattle.zf_header.specs.HeaderBits.{coding}
 use Rattle.zf_block.specs.WholePlanes.{planes_from, rate_whole_from}
-use Rattle.zf_block.proofs.WholePlanes.{planes_kept_from, block_planes, length-kept_planes, whole_from-le}
+use Rattle.zf_block.proofs.Kept.{length-kept_planes}
+use Rattle.zf_block.proofs.WholePlanes.{planes_kept_from, block_planes, whole_from-le}
 use Rattle.zf_stream.specs.Parsing.{values_of_blocks}
 use Rattle.zf_stream.proofs.Joined.{values_of_blocks-blocks}
 use Rattle.zf_stream.proofs.BlocksBack.{existing_values-block_of}
