@@ -9,6 +9,7 @@ mod const_arrays;
 mod end;
 mod lines;
 mod looks;
+mod pairs;
 mod runs;
 mod target;
 mod values;
