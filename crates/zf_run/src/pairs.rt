@@ -109,7 +109,10 @@ impl<'a, T: Lane, const D: usize> Changing<T> for Pair<'a, T, D> {
     }
 
     fn discard_all(&mut self) {
+        let store = &mut *self.store;
         let cache = &mut *self.cache;
+        // Known by this call: what holds of a store.
+        let _header = store.header();
         cache.discard();
     }
 }
