@@ -8,7 +8,8 @@ _zfpi() {
         compress/2 | new/3 | sample/2) words=($types) ;;
         compress/4 | sample/5) words=($modes) ;;
         run/2 | look/2 | bound/2) mapfile -t COMPREPLY < <(compgen -f -- "$word"); return ;;
-        run/3 | look/3) words=(lines) ;;
+        run/3) words=(lines twoway) ;;
+        look/3) words=(lines) ;;
     esac
     mapfile -t COMPREPLY < <(compgen -W "${words[*]}" -- "$word")
 }

@@ -340,7 +340,7 @@ cache_begun script name words word whole (c, rest, spelled) =
     by : (k : Caching) → word ∷ rest ≡ caching_words k → Has script k → (word ≡ codes "lines") ⊎ ((word ≡ codes "twoway") × ((l : ℕ) × Has script (TwoWay l)))
     by (Direct None) same has = absurd (cc)
     by (Direct (Some l)) same has = inl (heads_same same)
-    by (TwoWay l) same has = inr (heads_same same, l, has)
+    by (TwoWay l) same has = inr (heads_same same, (l, has))
 
 -- so no other word goes on
 pub no_cache_word : (script : Script) (name : List ℕ) (words : List (List ℕ)) (word : List ℕ) → word ≢ codes "lines" → word ≢ codes "twoway" → IsSpelled (script_command script name None) words → BeginsCommand (words ++ word ∷ []) → ⊥

@@ -14,4 +14,5 @@ mod Loading
 mod Scripting
 mod Running
 mod Looking
+mod TwoWays
 mod Certifying

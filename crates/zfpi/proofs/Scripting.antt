@@ -109,7 +109,7 @@ module _ (c : Command) (name : List ℕ) (reading : List ℕ → Result Said Sta
 
   too_long : (input : List ℕ) → 16777216 < length input → statuses.ScriptLong ≡ status_for c (world_with known bytes input) []
   too_long input long =
-      sym (ap (λ t. cond t statuses.ScriptLong (lines_status (count_by is_refusal (replies lines said [] input)))) (lt-ltb 16777216 (length input) long))
+      sym (ap (λ t. cond t statuses.ScriptLong (lines_status (count_by is_refusal (replies said [] input)))) (lt-ltb 16777216 (length input) long))
       ∙ (sym (ap (λ file. script_status replies file [] input) is_open) ∙ sym (is.status (world_with known bytes input) []))
 
   -- its text
