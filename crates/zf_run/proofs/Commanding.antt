@@ -18,7 +18,7 @@ use Rattle.zf_cached.specs.Runs.{array_setting, read_step}
 use Rattle.zf_cached.specs.State.{Counts}
 use Rattle.zf_cached.specs.Touch.{touch_for_writing, with_values}
 use Rattle.zf_cached.specs.Windows.{Window, LiesIn, mapped, sliced, has_place, positions, is_window, none_zero, lies_in}
-use Rattle.zf_cached.specs.Steps.{Setting, Session, touched, changed_at, filled_below, summed, total, format_of, value_there, is_of_type, is_line_count, step, done}
+use Rattle.zf_cached.specs.Steps.{Setting, Session, touched, changed, changed_at, filled_below, summed, total, format_of, value_there, is_of_type, is_line_count, step, done}
 use Rattle.zf_cached.proofs.Windows.{length-mapped, LiesIn-sliced}
 use Rattle.zf_array.specs.Standing.{Held, shape, state, format, block_at, place_at}
 use Rattle.zf_view.specs.declared.window.ViewFault.{ViewFault}
@@ -85,6 +85,11 @@ unfolding read_step
 taken setting c s t reply told allowed does same =
     subst (λ r. read_step setting s (Some c) (wanted r) ≡ (t, r)) (sym same)
     (ap (λ x. elim x [ true ↦ step setting s c (wanted reply) | false ↦ (s, Some (Reply.refused Refusal.word)) ]) allowed ∙ does.step_is)
+
+-- one that is not is refused
+pub not_taken : {Code : Type 0} (setting : Setting Code) (c : Command) (s : Session Code) → setting.allows c ≡ false → Takes setting s c s (Some (Reply.refused Refusal.word))
+unfolding read_step
+not_taken setting c s refused = ap (λ x. elim x [ true ↦ step setting s c false | false ↦ (s, Some (Reply.refused Refusal.word)) ]) refused
 
 -- ---- commands that only read, in any setting
 
@@ -159,6 +164,43 @@ module _ {Code : Type 0} (setting : Setting Code) (s : Session Code) (lies : Has
     lined n counts is =
         accepted setting (Command.lines n) s lies (ap not counts) refl refl t None refl is (subst HasWindow (ap (λ (r : Session Code × Option Reply). r.0) is) lies)
 
+    -- ---- commands that change it
+
+    -- a change keeps the window in the array
+    changed_stays : (ps : List ℕ) (change : ℤ → ℤ) → changed_at setting s ps change ≡ t → HasWindow t
+    unfolding changed_at changed touched
+    changed_stays ps change is = subst HasWindow is lies
+
+    module _ (p : Pos) (at : IsPosition s.shape p) (n m : ℤ) (same : m ≡ n) (of_type : is_of_type setting.width n ≡ true) where
+      abbrev ps : List ℕ
+      ps = used_axes (length s.shape) p
+
+      pub put : changed_at setting s ps (λ old. m) ≡ t → Does setting (Command.set ps n) s t None
+      unfolding done
+      put changes =
+          accepted setting (Command.set ps n) s lies refl (ap not at.inside) (ap not of_type) t None refl
+          (ap (λ (x : Session Code). (x, None)) (ap (λ x. changed_at setting s ps (λ old. x)) (sym same) ∙ changes)) (changed_stays ps (λ old. m) changes)
+
+      pub added : (w : Width) → setting.width ≡ w → changed_at setting s ps (λ old. wrap w (old +ℤ m)) ≡ t → Does setting (Command.add ps n) s t None
+      unfolding done
+      added w width changes =
+          accepted setting (Command.add ps n) s lies refl (ap not at.inside) (ap not of_type) t None refl
+          (ap (λ (x : Session Code). (x, None)) ((λ i. changed_at setting s ps (λ old. wrap (width i) (old +ℤ sym same i))) ∙ changes)) (changed_stays ps (λ old. wrap w (old +ℤ m)) changes)
+
+    pub filled : HasWindow t → (n m : ℤ) → m ≡ n → is_of_type setting.width n ≡ true → filled_below setting s m (upto (blocks s.shape)) ≡ t → Does setting (Command.fill n) s t None
+    unfolding done array_format
+    filled inside n m same of_type fills =
+        accepted setting (Command.fill n) s lies refl refl (ap not of_type) t None refl
+        (ap (λ (x : Session Code). (x, None)) (ap (λ x. filled_below setting s x (upto (blocks s.shape))) (sym same) ∙ fills)) inside
+
+    pub flushed : done setting s Command.flush ≡ (t, None) → Does setting Command.flush s t None
+    unfolding done
+    flushed is = accepted setting Command.flush s lies refl refl refl t None refl is (subst HasWindow (ap (λ (r : Session Code × Option Reply). r.0) is) lies)
+
+    pub discarded : done setting s Command.discard ≡ (t, None) → Does setting Command.discard s t None
+    unfolding done
+    discarded is = accepted setting Command.discard s lies refl refl refl t None refl is (subst HasWindow (ap (λ (r : Session Code × Option Reply). r.0) is) lies)
+
 -- ---- commands that change an array
 
 -- an array that is as it was
@@ -170,36 +212,6 @@ module _ (w : Width) (a : Held) (dim : ℕ) (is : IsArray w dim a) where
   module _ (v : Window) (lies : LiesIn (shape a) v) (b : Held) (head : b.header ≡ a.header) where
     in_window : LiesIn (shape b) v
     in_window = subst (λ ns. LiesIn ns v) (ap (λ h. h.shape) (sym head)) lies
-
-    -- ---- one value
-
-    module _ (p : Pos) (at : IsPosition (shape a) p) where
-      -- what changes a value at a position changes its block
-      change_at : (change : ℤ → ℤ) → state b ≡ (let t = touch_for_writing (format a) (state a) (block_at a p) in with_values t (block_at a p) (set (t.values (block_at a p)) (place_at a p) (change (get_or (t.values (block_at a p)) (place_at a p) (pos 0)))))
-          → changed_at (setting_of w a) (session_of a v) (used_axes (length (shape a)) p) change ≡ session_of b v
-      unfolding changed_at
-      change_at change changes = changed_is w a is.same_type v b (block_at a p) (λ values. set values (place_at a p) (change (get_or values (place_at a p) (pos 0)))) changes head
-
-      pub put : (n m : ℤ) → m ≡ n → is_of_type w n ≡ true
-          → state b ≡ (let t = touch_for_writing (format a) (state a) (block_at a p) in with_values t (block_at a p) (set (t.values (block_at a p)) (place_at a p) m))
-          → Does (setting_of w a) (Command.set (used_axes (length (shape a)) p) n) (session_of a v) (session_of b v) None
-      unfolding done array_setting
-      put n m same of_type changes =
-          let ps = used_axes (length (shape a)) p in
-          accepted (setting_of w a) (Command.set ps n) (session_of a v) lies refl (ap not at.inside) (ap not of_type) (session_of b v) None refl
-          (ap (λ (t : Session (List Bool)). (t, None)) (ap (λ x. changed_at (setting_of w a) (session_of a v) ps (λ old. x)) (sym same) ∙ change_at (λ old. m) changes))
-          in_window
-
-      pub added : (n m : ℤ) → m ≡ n → is_of_type w n ≡ true
-          → state b ≡ (let t = touch_for_writing (format a) (state a) (block_at a p) in let old = t.values (block_at a p) in
-          with_values t (block_at a p) (set old (place_at a p) (wrap w (get_or old (place_at a p) (pos 0) +ℤ m))))
-          → Does (setting_of w a) (Command.add (used_axes (length (shape a)) p) n) (session_of a v) (session_of b v) None
-      unfolding done array_setting
-      added n m same of_type changes =
-          let ps = used_axes (length (shape a)) p in
-          accepted (setting_of w a) (Command.add ps n) (session_of a v) lies refl (ap not at.inside) (ap not of_type) (session_of b v) None refl
-          (ap (λ (t : Session (List Bool)). (t, None)) (ap (λ x. changed_at (setting_of w a) (session_of a v) ps (λ old. wrap w (old +ℤ x))) (sym same) ∙ change_at (λ old. wrap w (old +ℤ m)) changes))
-          in_window
 
     -- ---- one value of the window
 
@@ -216,30 +228,3 @@ module _ (w : Width) (a : Held) (dim : ℕ) (is : IsArray w dim a) where
           ((λ i. changed_at (setting_of w a) (session_of a v) (sym is_r i) (λ old. sym value i))
           ∙ changed_is w a is.same_type v b (block_at a r) (λ values. set values (place_at a r) m) changes head))
           in_window
-
-    -- ---- all blocks
-
-    pub filled : (n m : ℤ) → m ≡ n → is_of_type w n ≡ true → session_of b v ≡ filled_below (setting_of w a) (session_of a v) m (upto (blocks (shape a))) → Does (setting_of w a) (Command.fill n) (session_of a v) (session_of b v) None
-    unfolding done array_format array_setting
-    filled n m same of_type fills =
-        accepted (setting_of w a) (Command.fill n) (session_of a v) lies refl refl (ap not of_type) (session_of b v) None refl
-        (ap (λ (t : Session (List Bool)). (t, None)) (ap (λ x. filled_below (setting_of w a) (session_of a v) x (upto (blocks (shape a)))) (sym same) ∙ sym fills))
-        in_window
-
-    -- ---- the whole array
-
-    pub flushed : state b ≡ flush (format a) (state a) → Does (setting_of w a) Command.flush (session_of a v) (session_of b v) None
-    unfolding done
-    flushed flushes =
-        accepted (setting_of w a) Command.flush (session_of a v) lies refl refl refl (session_of b v) None refl
-        (ap (λ (t : Session (List Bool)). (t, None))
-        (session_is w a is.same_type v b (flush (format_of (setting_of w a) (session_of a v)) (state a)) (ap (λ (f : Format (List Bool)). flush f (state a)) (format_is w a is.same_type v) ∙ sym flushes) head))
-        in_window
-
-    pub discarded : state b ≡ discard (format a) (state a) → Does (setting_of w a) Command.discard (session_of a v) (session_of b v) None
-    unfolding done
-    discarded discards =
-        accepted (setting_of w a) Command.discard (session_of a v) lies refl refl refl (session_of b v) None refl
-        (ap (λ (t : Session (List Bool)). (t, None))
-        (session_is w a is.same_type v b (discard (format_of (setting_of w a) (session_of a v)) (state a)) (ap (λ (f : Format (List Bool)). discard f (state a)) (format_is w a is.same_type v) ∙ sym discards) head))
-        in_window

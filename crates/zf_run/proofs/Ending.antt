@@ -1,5 +1,5 @@
 -- How a run over an array ends.
-use Rattle.std.proofs.Common.{◌≡◌, refl, sym, ap, subst, ◌∙◌, ℕ, zero, suc, Bool, List, Option, arith}
+use Rattle.std.proofs.Common.{◌≡◌, refl, sym, ap, subst, ◌∙◌, ℕ, zero, suc, Bool, List, Option, arith, ℤ, None}
 use Rattle.std.specs.Int.{Width}
 use Rattle.zf_base.specs.Widths.{width_of}
 use Rattle.zf_base.specs.Formats.{Format}
@@ -9,14 +9,22 @@ use Rattle.zf_header.specs.declared.header.Mode.{Mode}
 use Rattle.zf_header.specs.HeaderBits.{block_bits}
 use Rattle.zf_cached.specs.Changes.{flush}
 use Rattle.zf_cached.specs.Windows.{Window, whole}
-use Rattle.zf_cached.specs.Steps.{Session, format_of}
-use Rattle.zf_cached.specs.Runs.{array_setting, run_script, run, look}
+use Rattle.zf_cached.specs.Commands.{Command}
+use Rattle.zf_cached.specs.Replies.{Reply}
+use Rattle.zf_cached.specs.Steps.{Setting, Session, format_of, done}
+use Rattle.zf_cached.specs.Runs.{array_setting, run_lines, lines_of, replies_text, run_script, run, look}
 use Rattle.zf_array.specs.Standing.{Held, shape, state, format}
 use Rattle.zf_run.specs.declared.end.RunEnd.{RunEnd}
 use Rattle.zf_run.specs.declared.end.RunEnd.TheVariants.{Write}
 use Rattle.zf_const.specs.Standing as read
+use Rattle.std.specs.Prelude.{count_by}
+use Rattle.zf_dev.specs.Sink.{Appends}
+use Rattle.zf_cache.specs.Kept.{Kept}
+use Rattle.zf_store.specs.Stored.{Stored}
+use Rattle.zf_run.specs.Steps.{is_refusal}
+use Rattle.zf_run.specs.Pairs.{pair_state, PairFits, two_setting_of}
 use Rattle.zf_run.specs.Sessions.{session, setting_of, session_of, kind, look_setting_of, look_start_of, stream_of}
-use Rattle.zf_run.specs.Ends.{RunsAll, StopsAt, AllRun, HasStopped, Finishes, Stops, IsEnd, end_of, Runs, FinishesLook, StopsLook, Looks}
+use Rattle.zf_run.specs.Ends.{AreWants, RunsTwo, FinishesTwo, StopsTwo, two_start_of, RunsAll, StopsAt, AllRun, HasStopped, Finishes, Stops, IsEnd, end_of, Runs, FinishesLook, StopsLook, Looks}
 use Rattle.zf_run.proofs.Sessions.{format_is}
 
 -- an end says that all lines were run
@@ -96,4 +104,58 @@ module _ (w : Width) (a b : read.Held) (v u : Window) (script : List ℕ) (old n
     };
     same_header = ap (λ (k : Header × List (List Bool)). k.0) kept;
     same_codes = ap (λ (k : Header × List (List Bool)). k.1) kept;
+  }
+
+-- ---- a run over a store and a two-way cache
+
+module _ {X : Type 0} (value : X → ℤ) (w : Width) (s mid t : Stored) (c e d : Kept X) (v u : Window) (script : List ℕ) (old new : Option (List ℕ)) (from : v ≡ whole s.header.shape) (kept : mid.header ≡ s.header) where
+  abbrev S : Setting (List Bool)
+  S = two_setting_of w s.header
+
+  abbrev ended : Session (List Bool)
+  ended = session mid.header.shape (pair_state value mid e) u
+
+  module _ (n : ℕ) (all : AllRun S script (session s.header.shape (pair_state value s c) v) ended old new n)
+      (flushes : done (two_setting_of w mid.header) ended Command.flush ≡ (session t.header.shape (pair_state value t d) u, None)) (head : t.header ≡ mid.header) (fits : PairFits value t d) where
+    ran_two : RunsAll S all.0 script (two_start_of value w s t c d script all.0 old new) ended old new n
+    ran_two = subst (λ x. RunsAll S all.0 script (session s.header.shape (pair_state value s c) x) ended old new n) from all.1
+
+    at_end : (run S all.0 s.header.shape (pair_state value s c) script).0 ≡ session t.header.shape (pair_state value t d) u
+    unfolding run run_script done
+    at_end =
+        ap (λ (x : Session (List Bool)). record x { state = flush (format_of S x) x.state }) (sym ran_two.session)
+        ∙ ap (λ (h : Header). record ended { state = flush (format_of (two_setting_of w h) ended) ended.state }) (sym kept) ∙ ap (λ (r : Session (List Bool) × Option Reply). r.0) flushes
+
+    same_replies : (run S all.0 s.header.shape (pair_state value s c) script).1 ≡ (run_lines S all.0 0 (lines_of script) (two_start_of value w s t c d script all.0 old new)).1
+    unfolding run run_script
+    same_replies = refl
+
+    finished_two : FinishesTwo value w s t c d script all.0 old new n
+    finished_two = record {
+      shape_is = ap (λ (x : Session (List Bool)). x.shape) (sym at_end);
+      state_is = ap (λ (x : Session (List Bool)). x.state) (sym at_end);
+      wanted = subst (AreWants all.0) (sym same_replies) ran_two.wanted;
+      refused_is = ran_two.refused_is ∙ ap (count_by is_refusal) (sym same_replies);
+      written = subst (λ r. Appends old new (replies_text r)) (sym same_replies) ran_two.written;
+    }
+
+    pub two_all : (end : RunEnd) → end ≡ end_of n → RunsTwo value w s t c d script old new end
+    two_all end is = record {
+      wants = all.0;
+      ended = ends_all (FinishesTwo value w s t c d script all.0 old new) (StopsTwo value w s t c d script all.0 old new) n end is finished_two;
+      same_header = head ∙ kept;
+      fits = fits;
+    }
+
+  pub two_stopped : HasStopped S script (session s.header.shape (pair_state value s c) v) ended old new → PairFits value mid e → RunsTwo value w s mid c e script old new Write
+  two_stopped stopped fits = record {
+    wants = stopped.0;
+    ended = record {
+      session = ended;
+      at_line = subst (λ x. StopsAt S stopped.0 script (session s.header.shape (pair_state value s c) x) ended old new) from stopped.1;
+      shape_is = refl;
+      state_is = refl;
+    };
+    same_header = kept;
+    fits = fits;
   }

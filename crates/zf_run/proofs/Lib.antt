@@ -23,3 +23,4 @@ pub mod Passing
 pub mod Resizing
 pub mod Ending
 pub mod Rastering
+pub mod Pairing

@@ -1,5 +1,5 @@
 -- A read-only array after a call as a session.
-use Rattle.std.proofs.Common.{◌≡◌, refl, sym, ap, ℕ, Bool, true, false, Some, None}
+use Rattle.std.proofs.Common.{◌≡◌, refl, sym, ap, ◌∙◌, ℕ, Bool, true, false, List, Option, Some, None}
 use Rattle.std.specs.Int.{Width}
 use Rattle.zf_cached.specs.Touch.{touch}
 use Rattle.zf_cached.specs.Changes.{raised, relined}
@@ -29,10 +29,7 @@ module _ (w : Width) (a : Held) (v : Window) where
   unfolding done look_setting
   look_lined_is b n is head = λ i. (record { shape = (sym head i).shape; state = sym is i; window = v }, None)
 
-  -- a command that does not only read
-  pub look_refuses : (c : Command) (wanting : Bool) → only_reads c ≡ false
-      → read_step (look_setting_of w a.header) (session (shape a) (state a) v) (Some c) wanting ≡ (session (shape a) (state a) v, Some (Reply.refused Refusal.word))
-  unfolding read_step look_setting
-  look_refuses c wanting writes =
-      let s = session (shape a) (state a) v in
-      ap (λ x. elim x [ true ↦ step (look_setting_of w a.header) s c wanting | false ↦ (s, Some (Reply.refused Refusal.word)) ]) writes
+-- a command that does not only read is not allowed
+pub look_reads : (w : Width) (a : Held) (c : Command) → only_reads c ≡ false → (look_setting_of w a.header).allows c ≡ true → ⊥
+unfolding look_setting
+look_reads w a c writes allowed = let both : false ≡ true = sym writes ∙ allowed in cc

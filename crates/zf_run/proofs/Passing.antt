@@ -19,7 +19,7 @@ use Rattle.zf_cached.specs.Arrays.{Coding, array_format}
 use Rattle.zf_cached.specs.Steps.{Setting, Session, touched, changed, filled_below, summed, total, format_of}
 use Rattle.zf_array.specs.Standing.{Held, shape, state, format, array_of}
 use Rattle.zf_run.specs.Sessions.{session, setting_of, session_of, IsArray}
-use Rattle.zf_run.specs.Steps.{Touches}
+use Rattle.zf_run.specs.Steps.{Touches, Fills}
 use Rattle.zf_base.specs.declared.position.Extent.{Extent}
 use Rattle.zf_base.specs.Positions.{axes, used_axes, IsExtent}
 use Rattle.zf_header.specs.declared.header.Header.{Header}
@@ -39,7 +39,7 @@ all_alike (x ∷ xs) v same =
 refill_same : {X : Type 0} (xs ws : List X) → length ws ≡ length xs → refill (length xs) xs ws ≡ ws
 refill_same xs ws long = ap (λ n. take n (ws ++ drop (length ws) xs)) (sym long) ∙ take-append_seam ws (drop (length ws) xs)
 
-map-replicate : {X Y : Type 0} (f : X → Y) (n : ℕ) (x : X) → map f (replicate n x) ≡ replicate n (f x)
+pub map-replicate : {X Y : Type 0} (f : X → Y) (n : ℕ) (x : X) → map f (replicate n x) ≡ replicate n (f x)
 map-replicate f zero x = refl
 map-replicate f (suc n) x = ap (λ ys. f x ∷ ys) (map-replicate f n x)
 
@@ -113,26 +113,23 @@ is_array_kept w dim a b head is = record {
   dims = ap (λ h. length h.shape) head ∙ is.dims;
 }
 
-module _ (w : Width) (dim : ℕ) (a now next : Held) (is : IsArray w dim a) (head : now.header ≡ a.header) (u : Window) where
-  setting_kept : setting_of w now ≡ setting_of w a
-  setting_kept = ap (λ h. array_setting w (block_bits h.mode)) head
+-- one block more is filled
+pub fill_next : {Code : Type 0} (setting : Setting Code) (s t : Session Code) (k n : ℕ) (x : ℤ) → k < n
+    → changed setting s k (λ values. existing_of (format_of setting s) k (replicate (format_of setting s).block_len x)) ≡ t
+    → filled_below setting s x (count_from k (n - k)) ≡ filled_below setting t x (count_from (k + 1) (n - (k + 1)))
+unfolding filled_below
+fill_next setting s t k n x below is =
+    ap (filled_below setting s x) (count_from-below k n below) ∙ ap (λ u. filled_below setting u x (count_from (k + 1) (n - (k + 1)))) is
 
-  -- one block more is filled
-  pub fill_on : (k n : ℕ) (x : ℤ) → k < n
-      → session_of next u ≡ changed (setting_of w now) (session_of now u) k (λ values. existing_of (format now) k (replicate (format now).block_len x))
-      → filled_below (setting_of w a) (session_of next u) x (count_from (k + 1) (n - (k + 1))) ≡ filled_below (setting_of w a) (session_of now u) x (count_from k (n - k))
-  unfolding filled_below
-  fill_on k n x below is_next =
-      let same = (is_array_kept w dim a now head is).same_type in
-      let Fill = λ (s : Setting (List Bool)) (f : Format (List Bool)). changed s (session_of now u) k (λ values. existing_of f k (replicate f.block_len x)) in
-      let here : session_of next u ≡ Fill (setting_of w a) (format_of (setting_of w a) (session_of now u)) =
-      is_next ∙ ap (Fill (setting_of w now)) (sym (format_is w now same u)) ∙ ap (λ s. Fill s (format_of s (session_of now u))) setting_kept in
-      ap (λ t. filled_below (setting_of w a) t x (count_from (k + 1) (n - (k + 1)))) here ∙ sym (ap (filled_below (setting_of w a) (session_of now u) x) (count_from-below k n below))
+-- it changes no sizes
+pub shape_filled : {Code : Type 0} (setting : Setting Code) (k : ℕ) (x : ℤ) (ns ms : List ℕ) (s t : State Code) → Fills setting k x (session ns s) (session ms t) → ms ≡ ns
+unfolding changed touched
+shape_filled setting k x ns ms s t fills = ap (λ (u : Session _). u.shape) (sym (fills (whole ns)))
 
 -- at last none is left
-pub filled_all : {Code : Type 0} (setting : Setting Code) (s t : Session Code) (x : ℤ) (k n : ℕ) → n ≤ k → filled_below setting s x (count_from k (n - k)) ≡ t → s ≡ t
+pub filled_all : {Code : Type 0} (setting : Setting Code) (s : Session Code) (x : ℤ) (k n : ℕ) → n ≤ k → filled_below setting s x (count_from k (n - k)) ≡ s
 unfolding filled_below
-filled_all setting s t x k n past is = let none : 0 ≡ n - k = omega arith in ap (λ m. filled_below setting s x (count_from k m)) none ∙ is
+filled_all setting s x k n past = let none : n - k ≡ 0 = omega arith in ap (λ m. filled_below setting s x (count_from k m)) none
 
 -- ---- sums over touches, in any setting
 

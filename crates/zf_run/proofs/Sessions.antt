@@ -8,7 +8,7 @@ use Rattle.zf_cached.specs.State.{State}
 use Rattle.zf_cached.specs.Touch.{touch, touch_for_writing, with_values}
 use Rattle.zf_cached.specs.Arrays.{rate_coding, array_format}
 use Rattle.zf_cached.specs.Windows.{Window}
-use Rattle.zf_cached.specs.Changes.{raised, relined}
+use Rattle.zf_cached.specs.Changes.{flush, discard, raised, relined}
 use Rattle.zf_cached.specs.Commands.{Command}
 use Rattle.zf_cached.specs.Steps.{Session, format_of, touched, changed, done}
 use Rattle.zf_cached.specs.Runs.{array_setting}
@@ -44,3 +44,16 @@ module _ (w : Width) (a : Held) (same : w ≡ width_of a.header.ty) (v : Window)
   lined_is b n is head =
       ap (λ (t : Session (List Bool)). (t, None))
       (session_is b (relined (format_of (setting_of w a) (session_of a v)) (state a) (raised n)) (ap (λ (f : Format (List Bool)). relined f (state a) (raised n)) format_is ∙ sym is) head)
+
+  -- a flush, and a discard
+  pub flushed_is : (b : Held) → state b ≡ flush (format a) (state a) → b.header ≡ a.header → done (setting_of w a) (session_of a v) Command.flush ≡ (session_of b v, None)
+  unfolding done
+  flushed_is b is head =
+      ap (λ (t : Session (List Bool)). (t, None))
+      (session_is b (flush (format_of (setting_of w a) (session_of a v)) (state a)) (ap (λ (f : Format (List Bool)). flush f (state a)) format_is ∙ sym is) head)
+
+  pub discarded_is : (b : Held) → state b ≡ discard (format a) (state a) → b.header ≡ a.header → done (setting_of w a) (session_of a v) Command.discard ≡ (session_of b v, None)
+  unfolding done
+  discarded_is b is head =
+      ap (λ (t : Session (List Bool)). (t, None))
+      (session_is b (discard (format_of (setting_of w a) (session_of a v)) (state a)) (ap (λ (f : Format (List Bool)). discard f (state a)) format_is ∙ sym is) head)

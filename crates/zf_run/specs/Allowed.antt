@@ -14,3 +14,8 @@ array_allows w budget c = refl
 pub look_allows : {Code : Type 0} (w : Width) (coding : Coding Code) (c : Command) → only_reads c ≡ true → (look_setting w coding).allows c ≡ true
 unfolding look_setting
 look_allows w coding c only = only
+
+-- the values of one that is read and written are those of its type
+pub array_width : (w : Width) (budget : ℕ) → (array_setting w budget).width ≡ w
+unfolding array_setting
+array_width w budget = refl

@@ -1,16 +1,20 @@
 -- How the run of a script ends. What a sink tells of its bytes is `Some`, else `None`.
-use Rattle.std.specs.Prelude.{ℕ, zero, suc, ◌≡◌, ◌+◌, ◌≤◌, ◌<◌, List, [], ◌∷◌, ◌++◌, length, take, count_by, Option}
+use Rattle.std.specs.Prelude.{ℕ, zero, suc, ℤ, ◌≡◌, ◌+◌, ◌≤◌, ◌<◌, List, [], ◌∷◌, ◌++◌, length, take, count_by, Option, Bool}
 use Rattle.std.specs.Int.{Width}
 use Rattle.zf_dev.specs.Sink.{Appends}
 use Rattle.zf_cached.specs.State.{State}
+use Rattle.zf_cached.specs.Windows.{whole}
 use Rattle.zf_cached.specs.Replies.{Reply, reply_text}
 use Rattle.zf_cached.specs.Steps.{Setting, Session}
-use Rattle.zf_cached.specs.Runs.{lines_of, run_lines, replies_text}
+use Rattle.zf_cached.specs.Runs.{lines_of, run_lines, run, replies_text}
 use Rattle.zf_array.specs.Standing.{Held, shape, state}
 use Rattle.zf_run.specs.declared.end.RunEnd.{RunEnd}
 use Rattle.zf_run.specs.declared.end.RunEnd.TheVariants.{Done, Lines, Write}
 use Rattle.zf_const.specs.Standing as read
-use Rattle.zf_run.specs.Sessions.{setting_of, start_of, run_of, look_setting_of, look_start_of, look_of}
+use Rattle.zf_run.specs.Sessions.{session, setting_of, start_of, run_of, look_setting_of, look_start_of, look_of}
+use Rattle.zf_cache.specs.Kept.{Kept}
+use Rattle.zf_store.specs.Stored.{Stored}
+use Rattle.zf_run.specs.Pairs.{pair_state, PairFits, two_setting_of}
 use Rattle.zf_run.specs.Steps.{is_refusal, is_want}
 
 -- memory was wanting at as many lines as say so
@@ -111,3 +115,25 @@ pub record Looks (w : Width) (before now : read.Held) (script : List ℕ) (old n
   pub ended : IsEnd (FinishesLook w before now script wants old new) (StopsLook w before now script wants old new) end
   pub same_header : now.header ≡ before.header
   pub same_codes : now.codes ≡ before.codes
+
+-- ---- a run over a store and a two-way cache
+
+module _ {X : Type 0} (value : X → ℤ) (w : Width) (s t : Stored) (c d : Kept X) (script wants : List ℕ) (old new : Option (List ℕ)) where
+  -- what it begins with
+  abbrev pub two_start_of : Session (List Bool)
+  two_start_of = session s.header.shape (pair_state value s c) (whole s.header.shape)
+
+  -- all lines were run, each reply was written, and then the cache was flushed
+  abbrev pub FinishesTwo : ℕ → Type 0
+  FinishesTwo refused = Completes t.header.shape (pair_state value t d) wants old new (run (two_setting_of w s.header) wants s.header.shape (pair_state value s c) script) refused
+
+  -- a line's reply was not written whole, and the cache was not flushed
+  abbrev pub StopsTwo : Type 0
+  StopsTwo = Halts t.header.shape (pair_state value t d) wants old new (two_setting_of w s.header) two_start_of script
+
+-- a script was run over a store and a two-way cache; memory was wanting at the lines with these numbers
+pub record RunsTwo {X : Type 0} (value : X → ℤ) (w : Width) (s t : Stored) (c d : Kept X) (script : List ℕ) (old new : Option (List ℕ)) (end : RunEnd) : Type 0 where
+  pub wants : List ℕ
+  pub ended : IsEnd (FinishesTwo value w s t c d script wants old new) (StopsTwo value w s t c d script wants old new) end
+  pub same_header : t.header ≡ s.header
+  pub fits : PairFits value t d

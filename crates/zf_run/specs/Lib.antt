@@ -4,10 +4,12 @@
 --     Steps       what a line leads to, and what it answers
 --     Lines       a line and the reply that is written
 --     Sums        sums of the values of a block
+--     Pairs       a store and a two-way cache over it as what a script works on
 --     Ends        how the run of a script ends
 pub mod Sessions
 pub mod Allowed
 pub mod Steps
 pub mod Lines
 pub mod Sums
+pub mod Pairs
 pub mod Ends

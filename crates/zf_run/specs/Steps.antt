@@ -1,10 +1,11 @@
 -- What a line of a script leads to, and what it answers.
-use Rattle.std.specs.Prelude.{ℕ, ◌≡◌, Bool, true, false, List, Option, Some, None, Result, Ok, Err}
+use Rattle.std.specs.Prelude.{ℕ, ◌≡◌, ℤ, Bool, true, false, List, replicate, Option, Some, None, Result, Ok, Err}
 use Rattle.std.specs.Option.{option_map}
+use Rattle.zf_base.specs.Formats.{existing_of}
 use Rattle.zf_cached.specs.Replies as script
 use Rattle.zf_cached.specs.Windows.{Window, LiesIn}
 use Rattle.zf_cached.specs.Commands.{Command}
-use Rattle.zf_cached.specs.Steps.{Setting, Session, touched, step}
+use Rattle.zf_cached.specs.Steps.{Setting, Session, format_of, touched, changed, changed_at, step, done}
 use Rattle.zf_cached.specs.Runs.{read_step, line_step}
 use Rattle.zf_script.specs.declared.reply.Refusal.{Refusal}
 use Rattle.zf_script.specs.declared.reply.Reply.{Reply}
@@ -58,3 +59,16 @@ DoesAlone setting c before after reply = (v : Window) → HasWindow (before v) �
 -- a touch of block b leads from an array, through each window, to another
 abbrev pub Touches : {Code : Type 0} → Setting Code → ℕ → (Window → Session Code) → (Window → Session Code) → Type 0
 Touches setting b before after = (v : Window) → touched setting (before v) b ≡ after v
+
+-- the value at a position is changed, by a touch for writing: an array before, through each window, and the array after
+abbrev pub Changes : {Code : Type 0} → Setting Code → List ℕ → (ℤ → ℤ) → (Window → Session Code) → (Window → Session Code) → Type 0
+Changes setting ps change before after = (v : Window) → changed_at setting (before v) ps change ≡ after v
+
+-- block b is touched for writing, and its values become x where a place exists
+abbrev pub Fills : {Code : Type 0} → Setting Code → ℕ → ℤ → (Window → Session Code) → (Window → Session Code) → Type 0
+Fills setting b x before after = (v : Window) →
+    changed setting (before v) b (λ values. existing_of (format_of setting (before v)) b (replicate (format_of setting (before v)).block_len x)) ≡ after v
+
+-- a command that passes all tests, and has no reply
+abbrev pub Performs : {Code : Type 0} → Setting Code → Command → (Window → Session Code) → (Window → Session Code) → Type 0
+Performs setting c before after = (v : Window) → done setting (before v) c ≡ (after v, None)

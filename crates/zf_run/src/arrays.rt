@@ -8,14 +8,14 @@ ghost use Rattle.zf_cached.specs.Windows.{LiesIn};
 ghost use Rattle.zf_cached.specs.Runs.{array_setting, only_reads};
 ghost use Rattle.zf_script.specs.Seen.{command_of, cmd_of};
 ghost use Rattle.zf_array.specs.Standing as standing;
-ghost use Rattle.zf_run.specs.Allowed.{array_allows};
+ghost use Rattle.zf_run.specs.Allowed.{array_width};
 ghost use Rattle.zf_run.specs.Sessions.{setting_of, session_of, kind, IsArray};
 ghost use Rattle.zf_run.specs.Steps.{Does, answer};
 
-use crate::blocks::{fill, sum_block};
+use crate::blocks::{fill, fill_block, sum_block};
 use crate::changes::{discard, flush, resize};
 use crate::commands::{Answer, spoken};
-use crate::target::Target;
+use crate::target::{Changing, Scripted, Target};
 use crate::values::{add, set, vset};
 use std::alloc::AllocError;
 use zf_array::Array;
@@ -36,10 +36,14 @@ impl<T: Lane, const D: usize> Target for Array<T, D> {
 
     ghost state = { standing.state };
 
-    ghost reads = { λ k c only. array_allows T.width (block_bits k.1) c };
+    ghost sound = { λ a. Unit {0} };
 
     fn sizes(&self) -> Shape {
         self.shape()
+    }
+
+    fn allows(&self, _cmd: Cmd) -> bool {
+        true
     }
 
     fn number(&mut self, p: Pos) -> i128 {
@@ -64,11 +68,47 @@ impl<T: Lane, const D: usize> Target for Array<T, D> {
     fn counts(&self) -> Stats {
         self.stats()
     }
+}
 
+impl<T: Lane, const D: usize> Scripted for Array<T, D> {
     fn change(&mut self, window: &mut Window, cmd: Cmd) -> Option<Reply> {
         // Known by this call: the sizes are those of a shape.
         let _dims = self.shape().dims();
         spoken(write(self, window, cmd))
+    }
+}
+
+impl<T: Lane, const D: usize> Changing<T> for Array<T, D> {
+    ghost same_width = { λ k. array_width T.width (block_bits k.1) };
+
+    fn put(&mut self, p: Pos, v: T) {
+        // Known by this call: the type is that of the header.
+        let _shape = self.shape();
+        self.set(p, v);
+    }
+
+    fn increase(&mut self, p: Pos, v: T) {
+        // Known by this call: the type is that of the header.
+        let _shape = self.shape();
+        self.add(p, v);
+    }
+
+    fn fill_block(&mut self, b: u64, v: T) {
+        // Known by this call: the sizes are those of a shape.
+        let _dims = self.shape().dims();
+        fill_block(self, b, v);
+    }
+
+    fn flush_all(&mut self) {
+        // Known by this call: the type is that of the header.
+        let _shape = self.shape();
+        self.flush();
+    }
+
+    fn discard_all(&mut self) {
+        // Known by this call: the type is that of the header.
+        let _shape = self.shape();
+        self.discard();
     }
 }
 
@@ -83,12 +123,12 @@ fn write<T: Lane, const D: usize>(a: &mut Array<T, D>, window: &mut Window, cmd:
     ensures kept { kind a.new ≡ kind a.old }
 {
     match cmd {
-        Cmd::Set(p, v) => set(a, p, v),
-        Cmd::Add(p, v) => add(a, p, v),
-        Cmd::Fill(v) => fill(a, v),
+        Cmd::Set(p, v) => set::<T, _>(a, p, v),
+        Cmd::Add(p, v) => add::<T, _>(a, p, v),
+        Cmd::Fill(v) => fill::<T, _>(a, v),
         Cmd::VSet(p, v) => vset(a, window, p, v),
-        Cmd::Flush => flush(a),
-        Cmd::Discard => discard(a),
+        Cmd::Flush => flush::<T, _>(a),
+        Cmd::Discard => discard::<T, _>(a),
         Cmd::Resize(count, sizes) => resize(a, window, count, sizes),
         _ => unreachable!(),
     }

@@ -13,19 +13,21 @@ ghost use Rattle.zf_run.specs.Sums.{value_within, within, IsUpTo};
 ghost use Rattle.zf_run.specs.Steps.{DoesAlone, answer};
 
 use crate::commands::Answer;
-use crate::target::Target;
+use crate::target::{Changing, Target};
 use crate::values::of_type;
 use zf_array::Array;
 use zf_base::{Lane, Pos};
 use zf_script::{Refusal, Reply};
 
 /// `fill v`: makes all values be `v`.
-pub(crate) fn fill<T: Lane, const D: usize>(a: &mut Array<T, D>, v: i128) -> Answer
-    requires { IsArray T.width D a.old }
-    ensures does { DoesAlone (setting_of T.width a.old) (Command.fill v) (session_of a.old) (session_of a.new) (answer result) }
-    ensures kept { kind a.new ≡ kind a.old }
+pub(crate) fn fill<T: Lane, A: Changing<T>>(a: &mut A, v: i128) -> Answer
+    requires { A.sound a.old }
+    ensures does { DoesAlone (A.setting (A.kept a.old)) (Command.fill v)
+        (session (A.shape a.old) (A.state a.old)) (session (A.shape a.new) (A.state a.new)) (answer result) }
+    ensures sound { A.sound a.new }
+    ensures kept { A.kept a.new ≡ A.kept a.old }
 {
-    let Some(v) = of_type(v) else {
+    let Some(v) = of_type::<T>(v) else {
         return Err(Refusal::Value);
     };
     fill_blocks(a, v);
@@ -34,26 +36,30 @@ pub(crate) fn fill<T: Lane, const D: usize>(a: &mut Array<T, D>, v: i128) -> Ans
 
 /// `sum`: the sum of all values.
 pub(crate) fn sum<A: Target>(a: &mut A) -> Answer
+    requires sound { A.sound a.old }
     ensures does { DoesAlone (A.setting (A.kept a.old)) Command.sum (session (A.shape a.old) (A.state a.old)) (session (A.shape a.new) (A.state a.new)) (answer result) }
+    ensures sound { A.sound a.new }
     ensures kept { A.kept a.new ≡ A.kept a.old }
 {
     Ok(Some(Reply::Number(sum_blocks(a))))
 }
 
 // Makes all values of each block be `v`, by one touch for writing.
-fn fill_blocks<T: Lane, const D: usize>(a: &mut Array<T, D>, v: T)
-    requires { IsArray T.width D a.old }
-    ensures filled { (u : Part) → session_of a.new u
-        ≡ filled_below (setting_of T.width a.old) (session_of a.old u) (T.value v) (upto (blocks (shape a.old))) }
-    ensures header { a.new.header ≡ a.old.header }
+fn fill_blocks<T: Lane, A: Changing<T>>(a: &mut A, v: T)
+    requires { A.sound a.old }
+    ensures filled { (u : Part) → filled_below (A.setting (A.kept a.old)) (session (A.shape a.old) (A.state a.old) u) (T.value v) (upto (blocks (A.shape a.old)))
+        ≡ session (A.shape a.new) (A.state a.new) u }
+    ensures shape { A.shape a.new ≡ A.shape a.old }
+    ensures sound { A.sound a.new }
+    ensures kept { A.kept a.new ≡ A.kept a.old }
 {
-    for b in 0..a.shape().blocks() {
-        fill_block(a, b, v);
+    for b in 0..a.sizes().blocks() {
+        a.fill_block(b, v);
     }
 }
 
-// Makes all values of block `b` be `v`, by one touch for writing.
-fn fill_block<T: Lane, const D: usize>(a: &mut Array<T, D>, b: u64, v: T)
+/// Makes all values of block `b` be `v`, by one touch for writing.
+pub(crate) fn fill_block<T: Lane, const D: usize>(a: &mut Array<T, D>, b: u64, v: T)
     requires array { IsArray T.width D a.old }
     requires block { b < blocks (shape a.old) }
     ensures filled { (u : Part) → session_of a.new u ≡ changed (setting_of T.width a.old) (session_of a.old u) b
@@ -63,8 +69,8 @@ fn fill_block<T: Lane, const D: usize>(a: &mut Array<T, D>, b: u64, v: T)
     fill_line(a.block_mut(b), v);
 }
 
-// Makes all values of a line be `v`.
-fn fill_line<T: Lane>(line: &mut [T], v: T)
+/// Makes all values of a line be `v`.
+pub(crate) fn fill_line<T: Lane>(line: &mut [T], v: T)
     ensures { line.new ≡ replicate (length line.old) v }
 {
     for value in line.iter_mut() {
@@ -74,10 +80,12 @@ fn fill_line<T: Lane>(line: &mut [T], v: T)
 
 // The sum of all values as the touches of their blocks find them. At most 2^27 blocks of 256 values of 64 bits have a sum far below 2^127.
 fn sum_blocks<A: Target>(a: &mut A) -> i128
+    requires sound { A.sound a.old }
     ensures sum { (u : Part) → summed (A.setting (A.kept a.old)) (λ b. b) (λ b values. total values) (upto (blocks (A.shape a.old)))
         (session (A.shape a.old) (A.state a.old) u) ≡ (session (A.shape a.new) (A.state a.new) u, result) }
     ensures bound { IsUpTo (2 ^ 100) result }
     ensures shape { A.shape a.new ≡ A.shape a.old }
+    ensures sound { A.sound a.new }
     ensures kept { A.kept a.new ≡ A.kept a.old }
 {
     let mut sum = 0;

@@ -11,7 +11,7 @@ ghost use Rattle.zf_run.specs.Sessions.{session, setting_of, session_of, start_o
 ghost use Rattle.zf_run.specs.Steps.{Does, DoesAlone, answer};
 
 use crate::commands::Answer;
-use crate::target::Target;
+use crate::target::{Changing, Target};
 use zf_array::Array;
 use zf_base::{Lane, Pos, Shape};
 use zf_header::{Header, MAX_FILE, Mode, rate_bytes};
@@ -22,28 +22,34 @@ use zf_view::Window;
 const MAX_LINES: u64 = 65536;
 
 /// `flush`: writes back what is dirty, and empties the cache.
-pub(crate) fn flush<T: Lane, const D: usize>(a: &mut Array<T, D>) -> Answer
-    requires { IsArray T.width D a.old }
-    ensures does { DoesAlone (setting_of T.width a.old) Command.flush (session_of a.old) (session_of a.new) (answer result) }
-    ensures kept { kind a.new ≡ kind a.old }
+pub(crate) fn flush<T: Lane, A: Changing<T>>(a: &mut A) -> Answer
+    requires { A.sound a.old }
+    ensures does { DoesAlone (A.setting (A.kept a.old)) Command.flush
+        (session (A.shape a.old) (A.state a.old)) (session (A.shape a.new) (A.state a.new)) (answer result) }
+    ensures sound { A.sound a.new }
+    ensures kept { A.kept a.new ≡ A.kept a.old }
 {
-    a.flush();
+    a.flush_all();
     Ok(None)
 }
 
 /// `discard`: empties the cache, and writes nothing back.
-pub(crate) fn discard<T: Lane, const D: usize>(a: &mut Array<T, D>) -> Answer
-    requires { IsArray T.width D a.old }
-    ensures does { DoesAlone (setting_of T.width a.old) Command.discard (session_of a.old) (session_of a.new) (answer result) }
-    ensures kept { kind a.new ≡ kind a.old }
+pub(crate) fn discard<T: Lane, A: Changing<T>>(a: &mut A) -> Answer
+    requires { A.sound a.old }
+    ensures does { DoesAlone (A.setting (A.kept a.old)) Command.discard
+        (session (A.shape a.old) (A.state a.old)) (session (A.shape a.new) (A.state a.new)) (answer result) }
+    ensures sound { A.sound a.new }
+    ensures kept { A.kept a.new ≡ A.kept a.old }
 {
-    a.discard();
+    a.discard_all();
     Ok(None)
 }
 
 /// `lines L`: another number of lines of the cache.
 pub(crate) fn lines<A: Target>(a: &mut A, count: u64) -> Answer
+    requires sound { A.sound a.old }
     ensures does { DoesAlone (A.setting (A.kept a.old)) (Command.lines count) (session (A.shape a.old) (A.state a.old)) (session (A.shape a.new) (A.state a.new)) (answer result) }
+    ensures sound { A.sound a.new }
     ensures kept { A.kept a.new ≡ A.kept a.old }
 {
     if count == 0 || count > MAX_LINES {
@@ -108,7 +114,9 @@ fn new_shape<T: Lane, const D: usize>(a: &Array<T, D>, count: u8, sizes: Pos) ->
 
 /// `stats`: the counts of the cache.
 pub(crate) fn stats<A: Target>(a: &mut A) -> Answer
+    requires sound { A.sound a.old }
     ensures does { DoesAlone (A.setting (A.kept a.old)) Command.stats (session (A.shape a.old) (A.state a.old)) (session (A.shape a.new) (A.state a.new)) (answer result) }
+    ensures sound { A.sound a.new }
     ensures kept { A.kept a.new ≡ A.kept a.old }
 {
     Ok(Some(Reply::Counts(a.counts())))

@@ -1,17 +1,19 @@
 //! Commands, on an array whether or not it can be changed.
 
-ghost use Rattle.std.specs.Prelude.{◌≡◌, true, false, length, IfSome, OnSome, IfNone};
+ghost use Rattle.std.specs.Prelude.{◌≡◌, ℕ, true, false, length, IfSome, OnSome, IfNone};
 ghost use Rattle.zf_spec.specs.Grid.{IsShape};
 ghost use Rattle.zf_cached.specs.Runs.{only_reads, read_step};
+ghost use Rattle.zf_twoway.specs.Runs.{needs_no_window};
 ghost use Rattle.zf_script.specs.Seen.{command_of, cmd_of};
 ghost use Rattle.zf_run.specs.Sessions.{session};
-ghost use Rattle.zf_run.specs.Steps.{HasWindow, Takes, Does, said, answer};
+ghost use Rattle.zf_run.specs.Steps.{HasWindow, Takes, Does, DoesAlone, said, answer};
 
-use crate::blocks::sum;
-use crate::changes::{lines, stats};
-use crate::target::Target;
-use crate::values::{get, vget};
+use crate::blocks::{fill, sum};
+use crate::changes::{discard, flush, lines, stats};
+use crate::target::{Changing, Scripted, Target};
+use crate::values::{add, get, set, vget};
 use crate::windows::{slice, view, vsum};
+use zf_base::Lane;
 use zf_script::{Cmd, Refusal, Reply};
 use zf_view::Window;
 
@@ -19,19 +21,80 @@ use zf_view::Window;
 pub(crate) type Answer = Result<Option<Reply>, Refusal>;
 
 /// Does what a command asks for; its reply, if any. A command that is refused changes nothing.
-pub(crate) fn command<A: Target>(a: &mut A, window: &mut Window, cmd: Cmd) -> Option<Reply>
+pub(crate) fn command<A: Scripted>(a: &mut A, window: &mut Window, cmd: Cmd) -> Option<Reply>
+    requires sound { A.sound a.old }
     requires window { HasWindow (session (A.shape a.old) (A.state a.old) window.old) }
     requires numbers { cmd ≡ cmd_of (command_of (length (A.shape a.old)) cmd) }
     ensures step { Takes (A.setting (A.kept a.old)) (session (A.shape a.old) (A.state a.old) window.old)
         (command_of (length (A.shape a.old)) cmd) (session (A.shape a.new) (A.state a.new) window.new) (said result) }
     ensures window { HasWindow (session (A.shape a.new) (A.state a.new) window.new) }
+    ensures sound { A.sound a.new }
     ensures kept { A.kept a.new ≡ A.kept a.old }
 {
     // Known by this call: the sizes are those of a shape.
     let _dims = a.sizes().dims();
+    if !a.allows(cmd) {
+        return Some(Reply::Refused(Refusal::Word));
+    }
     match read(a, window, cmd) {
         Some(done) => spoken(done),
         None => a.change(window, cmd),
+    }
+}
+
+/// Whether a command only reads.
+pub(crate) fn is_reading(cmd: Cmd) -> bool
+    ensures { (d : ℕ) → result ≡ only_reads (command_of d cmd) }
+{
+    match cmd {
+        Cmd::Get(_) => true,
+        Cmd::Sum => true,
+        Cmd::View(_, _, _) => true,
+        Cmd::Slice(_, _) => true,
+        Cmd::VGet(_) => true,
+        Cmd::VSum => true,
+        Cmd::Lines(_) => true,
+        Cmd::Stats => true,
+        _ => false,
+    }
+}
+
+/// Whether a command needs no window, and no sizes.
+pub(crate) fn needs_no_window(cmd: Cmd) -> bool
+    ensures { (d : ℕ) → result ≡ needs_no_window (command_of d cmd) }
+{
+    match cmd {
+        Cmd::Get(_) => true,
+        Cmd::Set(_, _) => true,
+        Cmd::Add(_, _) => true,
+        Cmd::Fill(_) => true,
+        Cmd::Sum => true,
+        Cmd::Flush => true,
+        Cmd::Discard => true,
+        Cmd::Lines(_) => true,
+        Cmd::Stats => true,
+        _ => false,
+    }
+}
+
+/// What a command does that does not only read, and needs no window.
+pub(crate) fn plain<T: Lane, A: Changing<T>>(a: &mut A, cmd: Cmd) -> Answer
+    requires sound { A.sound a.old }
+    requires numbers { cmd ≡ cmd_of (command_of (length (A.shape a.old)) cmd) }
+    requires writes { only_reads (command_of (length (A.shape a.old)) cmd) ≡ false }
+    requires alone { needs_no_window (command_of (length (A.shape a.old)) cmd) ≡ true }
+    ensures does { DoesAlone (A.setting (A.kept a.old)) (command_of (length (A.shape a.old)) cmd)
+        (session (A.shape a.old) (A.state a.old)) (session (A.shape a.new) (A.state a.new)) (answer result) }
+    ensures sound { A.sound a.new }
+    ensures kept { A.kept a.new ≡ A.kept a.old }
+{
+    match cmd {
+        Cmd::Set(p, v) => set::<T, _>(a, p, v),
+        Cmd::Add(p, v) => add::<T, _>(a, p, v),
+        Cmd::Fill(v) => fill::<T, _>(a, v),
+        Cmd::Flush => flush::<T, _>(a),
+        Cmd::Discard => discard::<T, _>(a),
+        _ => unreachable!(),
     }
 }
 
@@ -47,6 +110,7 @@ pub(crate) fn spoken(done: Answer) -> Option<Reply>
 
 // What a command that only reads does; nothing where the command is another. Each tests what it is refused for in the order of size, range, value and memory.
 fn read<A: Target>(a: &mut A, window: &mut Window, cmd: Cmd) -> Option<Answer>
+    requires sound { A.sound a.old }
     requires sizes { IsShape (A.shape a.old) }
     requires window { HasWindow (session (A.shape a.old) (A.state a.old) window.old) }
     requires numbers { cmd ≡ cmd_of (command_of (length (A.shape a.old)) cmd) }
@@ -55,6 +119,7 @@ fn read<A: Target>(a: &mut A, window: &mut Window, cmd: Cmd) -> Option<Answer>
     ensures reads { OnSome result (only_reads (command_of (length (A.shape a.old)) cmd) ≡ true) }
     ensures writes { IfNone result (only_reads (command_of (length (A.shape a.old)) cmd) ≡ false) }
     ensures unchanged { IfNone result ((a.new ≡ a.old) × (window.new ≡ window.old)) }
+    ensures sound { A.sound a.new }
     ensures kept { A.kept a.new ≡ A.kept a.old }
 {
     match cmd {

@@ -6,17 +6,17 @@ ghost use Rattle.zf_header.specs.declared.header.Header.{Header};
 ghost use Rattle.zf_cached.specs.Windows.{Window as Part};
 ghost use Rattle.zf_cached.specs.Steps.{total};
 ghost use Rattle.zf_const.specs.Standing as read;
-ghost use Rattle.zf_run.specs.Allowed.{look_allows};
 ghost use Rattle.zf_run.specs.Sessions.{session, look_setting_of, stream_of};
 ghost use Rattle.zf_run.specs.Sums.{IsUpTo};
 ghost use Rattle.zf_run.specs.Steps.{Touches};
 
 use crate::blocks::sum_within;
-use crate::target::Target;
+use crate::commands::is_reading;
+use crate::target::{Scripted, Target};
 use std::alloc::AllocError;
 use zf_base::{Lane, Pos, Shape};
 use zf_const::ConstArray;
-use zf_script::{Cmd, Refusal, Reply, Stats};
+use zf_script::{Cmd, Reply, Stats};
 use zf_view::Window;
 
 impl<T: Lane, const D: usize> Target for ConstArray<T, D> {
@@ -32,10 +32,14 @@ impl<T: Lane, const D: usize> Target for ConstArray<T, D> {
 
     ghost state = { read.state };
 
-    ghost reads = { λ k c only. look_allows T.width (read.coding_of k.0) c only };
+    ghost sound = { λ a. Unit {0} };
 
     fn sizes(&self) -> Shape {
         self.shape()
+    }
+
+    fn allows(&self, cmd: Cmd) -> bool {
+        is_reading(cmd)
     }
 
     fn number(&mut self, p: Pos) -> i128 {
@@ -58,8 +62,10 @@ impl<T: Lane, const D: usize> Target for ConstArray<T, D> {
     fn counts(&self) -> Stats {
         self.stats()
     }
+}
 
+impl<T: Lane, const D: usize> Scripted for ConstArray<T, D> {
     fn change(&mut self, _window: &mut Window, _cmd: Cmd) -> Option<Reply> {
-        Some(Reply::Refused(Refusal::Word))
+        unreachable!()
     }
 }

@@ -9,14 +9,17 @@ mod const_arrays;
 mod end;
 mod lines;
 mod looks;
+mod pairs;
 mod runs;
 mod target;
+mod two_runs;
 mod values;
 mod windows;
 
 pub use end::RunEnd;
 pub use looks::look;
 pub use runs::run;
+pub use two_runs::run_two;
 
 #[cfg(test)]
 mod look_tests;

@@ -8,7 +8,7 @@ ghost use Rattle.zf_run.specs.Steps.{HasWindow, LeadsTo, said};
 ghost use Rattle.zf_run.specs.Lines.{Replies, Breaks};
 
 use crate::commands::command;
-use crate::target::Target;
+use crate::target::Scripted;
 use memchr::memchr;
 use zf_dev::{Failed, Sink, write_all};
 use zf_script::{Reply, parse_line, reply_text};
@@ -25,18 +25,20 @@ pub(crate) fn cut_line(lines: &[u8]) -> Option<(&[u8], &[u8])>
 }
 
 /// Runs a line and writes its reply, if any; whether the line was refused.
-pub(crate) fn run_line<A: Target, O: Sink>(
+pub(crate) fn run_line<A: Scripted, O: Sink>(
     a: &mut A,
     window: &mut Window,
     line: &[u8],
     out: &mut O,
 ) -> Result<bool, Failed>
-    requires { HasWindow (session (A.shape a.old) (A.state a.old) window.old) }
+    requires sound { A.sound a.old }
+    requires window { HasWindow (session (A.shape a.old) (A.state a.old) window.old) }
     ensures ok { IfOk result (Replies (A.setting (A.kept a.old)) (session (A.shape a.old) (A.state a.old) window.old) line.now
         (session (A.shape a.new) (A.state a.new) window.new) (O.contents out.old) (O.contents out.new)) }
     ensures err { OnErr result (Breaks (A.setting (A.kept a.old)) (session (A.shape a.old) (A.state a.old) window.old) line.now
         (session (A.shape a.new) (A.state a.new) window.new) (O.contents out.old) (O.contents out.new)) }
     ensures window { HasWindow (session (A.shape a.new) (A.state a.new) window.new) }
+    ensures sound { A.sound a.new }
     ensures kept { A.kept a.new ≡ A.kept a.old }
     ensures unchanged { OnOk result (O.faults out.new ≡ O.faults out.old) }
     ensures cause { HasCause (IsErr result) (O.faults out.old) (O.faults out.new) }
@@ -50,11 +52,13 @@ pub(crate) fn run_line<A: Target, O: Sink>(
 }
 
 // What a line leads to, and its reply, if any. An empty line has none.
-fn reply_to<A: Target>(a: &mut A, window: &mut Window, line: &[u8]) -> Option<Reply>
-    requires { HasWindow (session (A.shape a.old) (A.state a.old) window.old) }
+fn reply_to<A: Scripted>(a: &mut A, window: &mut Window, line: &[u8]) -> Option<Reply>
+    requires sound { A.sound a.old }
+    requires window { HasWindow (session (A.shape a.old) (A.state a.old) window.old) }
     ensures step { LeadsTo (A.setting (A.kept a.old)) (session (A.shape a.old) (A.state a.old) window.old) line.now
         (session (A.shape a.new) (A.state a.new) window.new) (said result) }
     ensures window { HasWindow (session (A.shape a.new) (A.state a.new) window.new) }
+    ensures sound { A.sound a.new }
     ensures kept { A.kept a.new ≡ A.kept a.old }
 {
     if line.is_empty() {

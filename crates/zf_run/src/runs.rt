@@ -8,7 +8,7 @@ ghost use Rattle.zf_run.specs.Ends.{Runs, AllRun, HasStopped};
 
 use crate::end::{RunEnd, end_of};
 use crate::lines::{cut_line, run_line};
-use crate::target::Target;
+use crate::target::Scripted;
 use zf_array::Array;
 use zf_base::Lane;
 use zf_dev::{Failed, Sink};
@@ -38,18 +38,20 @@ pub fn run<T: Lane, const D: usize, O: Sink>(
 }
 
 /// Runs all lines, each on what those before left, and counts those that are refused.
-pub(crate) fn run_lines<A: Target, O: Sink>(
+pub(crate) fn run_lines<A: Scripted, O: Sink>(
     a: &mut A,
     window: &mut Window,
     script: &[u8],
     out: &mut O,
 ) -> Result<u64, Failed>
-    requires { HasWindow (session (A.shape a.old) (A.state a.old) window.old) }
+    requires sound { A.sound a.old }
+    requires window { HasWindow (session (A.shape a.old) (A.state a.old) window.old) }
     ensures ok { IfOk result (AllRun (A.setting (A.kept a.old)) script.now (session (A.shape a.old) (A.state a.old) window.old)
         (session (A.shape a.new) (A.state a.new) window.new) (O.contents out.old) (O.contents out.new)) }
     ensures err { OnErr result (HasStopped (A.setting (A.kept a.old)) script.now (session (A.shape a.old) (A.state a.old) window.old)
         (session (A.shape a.new) (A.state a.new) window.new) (O.contents out.old) (O.contents out.new)) }
     ensures window { HasWindow (session (A.shape a.new) (A.state a.new) window.new) }
+    ensures sound { A.sound a.new }
     ensures kept { A.kept a.new ≡ A.kept a.old }
     ensures unchanged { OnOk result (O.faults out.new ≡ O.faults out.old) }
     ensures cause { HasCause (IsErr result) (O.faults out.old) (O.faults out.new) }

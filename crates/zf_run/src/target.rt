@@ -1,6 +1,8 @@
 //! What the lines of a script work on.
 
 ghost use Rattle.std.specs.Prelude.{◌≡◌, ℕ, List, ◌<◌, ◌≤◌, ◌^◌, true, false, None, OnOk, OnErr, length};
+ghost use Rattle.std.specs.Prelude.{◌+ℤ◌};
+ghost use Rattle.zf_spec.specs.Numbers.{wrap};
 ghost use Rattle.zf_spec.specs.Grid.{blocks};
 ghost use Rattle.zf_base.specs.Places.{block_number};
 ghost use Rattle.zf_base.specs.Positions.{used_axes, IsPosition};
@@ -12,10 +14,10 @@ ghost use Rattle.zf_cached.specs.Runs.{only_reads};
 ghost use Rattle.zf_script.specs.Seen.{command_of, cmd_of};
 ghost use Rattle.zf_run.specs.Sessions.{session};
 ghost use Rattle.zf_run.specs.Sums.{IsUpTo};
-ghost use Rattle.zf_run.specs.Steps.{HasWindow, said, Takes, Touches};
+ghost use Rattle.zf_run.specs.Steps.{HasWindow, said, Takes, Touches, Changes, Fills, Performs};
 
 use std::alloc::AllocError;
-use zf_base::{Pos, Shape};
+use zf_base::{Lane, Pos, Shape};
 use zf_script::{Cmd, Reply, Stats};
 use zf_view::Window;
 
@@ -31,6 +33,9 @@ pub(crate) trait Target {
 
     ghost setting: { Kept → Setting Code };
 
+    // What every call finds and leaves: of parts that stand beside one another, that they fit.
+    ghost sound: { Self → Type 0 };
+
     // What lines change, besides the window.
     ghost shape: { Self → List ℕ };
 
@@ -38,49 +43,112 @@ pub(crate) trait Target {
 
     /// The sizes.
     fn sizes(&self) -> Shape
+        requires { sound self.now }
         ensures { result ≡ shape self.now };
+
+    /// Whether a command is one of the language here.
+    fn allows(&self, cmd: Cmd) -> bool
+        ensures { result ≡ (setting (kept self.now)).allows (command_of (length (shape self.now)) cmd) };
 
     /// The value at a position, by one touch.
     fn number(&mut self, p: Pos) -> i128
-        requires { IsPosition (shape self.old) p }
+        requires sound { sound self.old }
+        requires position { IsPosition (shape self.old) p }
         ensures touched { Touches (setting (kept self.old)) (block_number (shape self.old) (used_axes (length (shape self.old)) p))
             (session (shape self.old) (state self.old)) (session (shape self.new) (state self.new)) }
         ensures value { result ≡ value_there (used_axes (length (shape self.old)) p)
             ((state self.new).values (block_number (shape self.old) (used_axes (length (shape self.old)) p))) }
         ensures bound { IsUpTo (2 ^ 63) result }
+        ensures sound { sound self.new }
         ensures kept { kept self.new ≡ kept self.old };
 
     /// The sum of the values of block `b`, by one touch.
     fn sum_of_block(&mut self, b: u64) -> i128
-        requires { b < blocks (shape self.old) }
+        requires sound { sound self.old }
+        requires block { b < blocks (shape self.old) }
         ensures touched { Touches (setting (kept self.old)) b
             (session (shape self.old) (state self.old)) (session (shape self.new) (state self.new)) }
         ensures sum { result ≡ total ((state self.new).values b) }
         ensures bound { IsUpTo (2 ^ 71) result }
+        ensures sound { sound self.new }
         ensures kept { kept self.new ≡ kept self.old };
 
     /// Another number of lines. The memory is taken first: after `AllocError` nothing has changed.
     fn use_lines(&mut self, count: u32) -> Result<(), AllocError>
-        requires { (0 < count) × (count ≤ 2 ^ 16) }
+        requires sound { sound self.old }
+        requires count { (0 < count) × (count ≤ 2 ^ 16) }
         ensures ok { OnOk result ((v : Part) → done (setting (kept self.old)) (session (shape self.old) (state self.old) v) (Command.lines count)
             ≡ (session (shape self.new) (state self.new) v, None)) }
         ensures err { OnErr result (self.new ≡ self.old) }
+        ensures sound { sound self.new }
         ensures kept { kept self.new ≡ kept self.old };
 
     /// The counts of the cache.
     fn counts(&self) -> Stats
         ensures { record { hits = result.hits; misses = result.misses; writes = result.writes } ≡ (state self.now).counts };
+}
 
+/// What the lines of a script change, too: an array of values of `T`.
+pub(crate) trait Changing<T: Lane>: Target {
+    /// Makes the value at a position be `v`, by one touch for writing.
+    fn put(&mut self, p: Pos, v: T)
+        requires sound { Self.sound self.old }
+        requires position { IsPosition (Self.shape self.old) p }
+        ensures changed { Changes (Self.setting (Self.kept self.old)) (used_axes (length (Self.shape self.old)) p) (λ old. T.value v)
+            (session (Self.shape self.old) (Self.state self.old)) (session (Self.shape self.new) (Self.state self.new)) }
+        ensures sound { Self.sound self.new }
+        ensures kept { Self.kept self.new ≡ Self.kept self.old };
+
+    /// Adds `v` to the value at a position, by one touch for writing. The sum wraps.
+    fn increase(&mut self, p: Pos, v: T)
+        requires sound { Self.sound self.old }
+        requires position { IsPosition (Self.shape self.old) p }
+        ensures changed { Changes (Self.setting (Self.kept self.old)) (used_axes (length (Self.shape self.old)) p) (λ old. wrap T.width (old +ℤ T.value v))
+            (session (Self.shape self.old) (Self.state self.old)) (session (Self.shape self.new) (Self.state self.new)) }
+        ensures sound { Self.sound self.new }
+        ensures kept { Self.kept self.new ≡ Self.kept self.old };
+
+    /// Makes all values of block `b` be `v`, by one touch for writing.
+    fn fill_block(&mut self, b: u64, v: T)
+        requires sound { Self.sound self.old }
+        requires block { b < blocks (Self.shape self.old) }
+        ensures filled { Fills (Self.setting (Self.kept self.old)) b (T.value v)
+            (session (Self.shape self.old) (Self.state self.old)) (session (Self.shape self.new) (Self.state self.new)) }
+        ensures sound { Self.sound self.new }
+        ensures kept { Self.kept self.new ≡ Self.kept self.old };
+
+    /// Writes back what is dirty, in the order of lines, and empties the cache.
+    fn flush_all(&mut self)
+        requires sound { Self.sound self.old }
+        ensures flushed { Performs (Self.setting (Self.kept self.old)) Command.flush
+            (session (Self.shape self.old) (Self.state self.old)) (session (Self.shape self.new) (Self.state self.new)) }
+        ensures sound { Self.sound self.new }
+        ensures kept { Self.kept self.new ≡ Self.kept self.old };
+
+    /// Empties the cache, and writes nothing back.
+    fn discard_all(&mut self)
+        requires sound { Self.sound self.old }
+        ensures discarded { Performs (Self.setting (Self.kept self.old)) Command.discard
+            (session (Self.shape self.old) (Self.state self.old)) (session (Self.shape self.new) (Self.state self.new)) }
+        ensures sound { Self.sound self.new }
+        ensures kept { Self.kept self.new ≡ Self.kept self.old };
+
+    // The values of a setting are those of the type.
+    ghost same_width: { (k : Self.Kept) → (Self.setting k).width ≡ T.width };
+}
+
+/// What a script runs on: a target, and what its commands do that do not only read.
+pub(crate) trait Scripted: Target {
     /// Does what a command that does not only read asks for; its reply, if any. A command that is refused changes nothing.
     fn change(&mut self, window: &mut Window, cmd: Cmd) -> Option<Reply>
-        requires window { HasWindow (session (shape self.old) (state self.old) window.old) }
-        requires numbers { cmd ≡ cmd_of (command_of (length (shape self.old)) cmd) }
-        requires writes { only_reads (command_of (length (shape self.old)) cmd) ≡ false }
-        ensures step { Takes (setting (kept self.old)) (session (shape self.old) (state self.old) window.old)
-            (command_of (length (shape self.old)) cmd) (session (shape self.new) (state self.new) window.new) (said result) }
-        ensures window { HasWindow (session (shape self.new) (state self.new) window.new) }
-        ensures kept { kept self.new ≡ kept self.old };
-
-    // Each command that only reads is allowed.
-    ghost reads: { (k : Kept) (c : Command) → only_reads c ≡ true → (setting k).allows c ≡ true };
+        requires sound { Self.sound self.old }
+        requires window { HasWindow (session (Self.shape self.old) (Self.state self.old) window.old) }
+        requires numbers { cmd ≡ cmd_of (command_of (length (Self.shape self.old)) cmd) }
+        requires writes { only_reads (command_of (length (Self.shape self.old)) cmd) ≡ false }
+        requires allowed { (Self.setting (Self.kept self.old)).allows (command_of (length (Self.shape self.old)) cmd) ≡ true }
+        ensures step { Takes (Self.setting (Self.kept self.old)) (session (Self.shape self.old) (Self.state self.old) window.old)
+            (command_of (length (Self.shape self.old)) cmd) (session (Self.shape self.new) (Self.state self.new) window.new) (said result) }
+        ensures window { HasWindow (session (Self.shape self.new) (Self.state self.new) window.new) }
+        ensures sound { Self.sound self.new }
+        ensures kept { Self.kept self.new ≡ Self.kept self.old };
 }

@@ -11,7 +11,7 @@ ghost use Rattle.zf_run.specs.Sessions.{session, setting_of, session_of, kind, I
 ghost use Rattle.zf_run.specs.Steps.{Does, DoesAlone, answer};
 
 use crate::commands::Answer;
-use crate::target::Target;
+use crate::target::{Changing, Target};
 use zf_array::Array;
 use zf_base::{Lane, Pos};
 use zf_script::{Refusal, Reply};
@@ -19,9 +19,11 @@ use zf_view::Window;
 
 /// `get P`: the value at a position.
 pub(crate) fn get<A: Target>(a: &mut A, p: Pos) -> Answer
+    requires sound { A.sound a.old }
     requires unused { p ≡ with_unused 0 (used_axes (length (A.shape a.old)) p) }
     ensures does { DoesAlone (A.setting (A.kept a.old)) (Command.get (used_axes (length (A.shape a.old)) p))
         (session (A.shape a.old) (A.state a.old)) (session (A.shape a.new) (A.state a.new)) (answer result) }
+    ensures sound { A.sound a.new }
     ensures kept { A.kept a.new ≡ A.kept a.old }
 {
     if !a.sizes().contains(p) {
@@ -31,46 +33,52 @@ pub(crate) fn get<A: Target>(a: &mut A, p: Pos) -> Answer
 }
 
 /// `set P v`: makes the value at a position be `v`.
-pub(crate) fn set<T: Lane, const D: usize>(a: &mut Array<T, D>, p: Pos, v: i128) -> Answer
-    requires array { IsArray T.width D a.old }
-    requires unused { p ≡ with_unused 0 (used_axes (length (shape a.old)) p) }
-    ensures does { DoesAlone (setting_of T.width a.old) (Command.set (used_axes (length (shape a.old)) p) v) (session_of a.old) (session_of a.new) (answer result) }
-    ensures kept { kind a.new ≡ kind a.old }
+pub(crate) fn set<T: Lane, A: Changing<T>>(a: &mut A, p: Pos, v: i128) -> Answer
+    requires sound { A.sound a.old }
+    requires unused { p ≡ with_unused 0 (used_axes (length (A.shape a.old)) p) }
+    ensures does { DoesAlone (A.setting (A.kept a.old)) (Command.set (used_axes (length (A.shape a.old)) p) v)
+        (session (A.shape a.old) (A.state a.old)) (session (A.shape a.new) (A.state a.new)) (answer result) }
+    ensures sound { A.sound a.new }
+    ensures kept { A.kept a.new ≡ A.kept a.old }
 {
-    if !a.shape().contains(p) {
+    if !a.sizes().contains(p) {
         return Err(Refusal::Range);
     }
-    let Some(v) = of_type(v) else {
+    let Some(v) = of_type::<T>(v) else {
         return Err(Refusal::Value);
     };
-    a.set(p, v);
+    a.put(p, v);
     Ok(None)
 }
 
 /// `add P v`: adds `v` to the value at a position; the sum wraps.
-pub(crate) fn add<T: Lane, const D: usize>(a: &mut Array<T, D>, p: Pos, v: i128) -> Answer
-    requires array { IsArray T.width D a.old }
-    requires unused { p ≡ with_unused 0 (used_axes (length (shape a.old)) p) }
-    ensures does { DoesAlone (setting_of T.width a.old) (Command.add (used_axes (length (shape a.old)) p) v) (session_of a.old) (session_of a.new) (answer result) }
-    ensures kept { kind a.new ≡ kind a.old }
+pub(crate) fn add<T: Lane, A: Changing<T>>(a: &mut A, p: Pos, v: i128) -> Answer
+    requires sound { A.sound a.old }
+    requires unused { p ≡ with_unused 0 (used_axes (length (A.shape a.old)) p) }
+    ensures does { DoesAlone (A.setting (A.kept a.old)) (Command.add (used_axes (length (A.shape a.old)) p) v)
+        (session (A.shape a.old) (A.state a.old)) (session (A.shape a.new) (A.state a.new)) (answer result) }
+    ensures sound { A.sound a.new }
+    ensures kept { A.kept a.new ≡ A.kept a.old }
 {
-    if !a.shape().contains(p) {
+    if !a.sizes().contains(p) {
         return Err(Refusal::Range);
     }
-    let Some(v) = of_type(v) else {
+    let Some(v) = of_type::<T>(v) else {
         return Err(Refusal::Value);
     };
-    a.add(p, v);
+    a.increase(p, v);
     Ok(None)
 }
 
 /// `vget P`: the value at a position of the window.
 pub(crate) fn vget<A: Target>(a: &mut A, window: &Window, p: Pos) -> Answer
+    requires sound { A.sound a.old }
     requires sizes { IsShape (A.shape a.old) }
     requires inside { LiesIn (A.shape a.old) window.now }
     requires unused { p ≡ with_unused 0 (used_axes (length (A.shape a.old)) p) }
     ensures does { Does (A.setting (A.kept a.old)) (Command.vget (used_axes (length (A.shape a.old)) p))
         (session (A.shape a.old) (A.state a.old) window.now) (session (A.shape a.new) (A.state a.new) window.now) (answer result) }
+    ensures sound { A.sound a.new }
     ensures kept { A.kept a.new ≡ A.kept a.old }
 {
     if !window.contains(p) {

@@ -1,29 +1,50 @@
-use Rattle.std.proofs.Common.{◌≡◌, ◌∙◌, sym, ap, ◌<◌, lit<, arith}
-use Rattle.zf_spec.specs.Grid.{blocks}
-use Rattle.zf_array.specs.Standing.{shape}
-use Rattle.zf_run.specs.Sessions.{setting_of, session_of}
-use Rattle.zf_run.proofs.Passing.{is_array_kept, fill_on, filled_all}
+use Rattle.std.proofs.Common.{◌≡◌, ◌∙◌, refl, sym, ap, subst, ◌-◌, ◌<◌, arith}
+use Rattle.zf_spec.specs.Grid.{blocks, count_from}
+use Rattle.zf_cached.specs.Windows.{Window as Part}
+use Rattle.zf_cached.specs.Steps.{filled_below}
+use Rattle.zf_run.specs.Sessions.{session}
+use Rattle.zf_run.specs.Steps.{Fills}
+use Rattle.zf_run.proofs.Passing.{fill_next, shape_filled, filled_all}
 use Rattle.zf_run.proofs.blocks.fill_blocks.Goals as goal
 
-pub fill_block-requires : goal.fill_block-requires
-fill_block-requires g c =
-    let inv = c.loop-b.invariant in
+pub loop-b-init : goal.loop-b-init
+loop-b-init g c =
     let a = c.args.a.now in
-    let n : c.blocks-b-end.result ≡ blocks (shape c.loop-b.a) = c.blocks-b-end.ensures.value ∙ ap blocks c.shape.ensures.value ∙ ap (λ h. blocks h.shape) (sym inv.0) in
-    (lit< tt, (is_array_kept g.T.Lane.width g.row.D a c.loop-b.a inv.0 c.requires, omega (arith, n, c.loop-b-test.true)))
+    let S = g.A.Target.setting (g.A.Target.kept a) in
+    let n = blocks (g.A.Target.shape a) in
+    let all : n ≡ n - 0 = omega arith in
+    (refl, refl, λ u. ap (λ m. filled_below S (session (g.A.Target.shape a) (g.A.Target.state a) u) (g.T.Lane.value c.args.v) (count_from 0 m)) all, c.requires)
+
+pub fill_block-requires-clause-block : goal.fill_block-requires-clause-block
+fill_block-requires-clause-block g c =
+    let n : c.blocks-b-end.result ≡ blocks (g.A.Target.shape c.loop-b.a) = c.blocks-b-end.ensures.value ∙ ap blocks (c.sizes.ensures ∙ sym c.loop-b.invariant.1) in
+    omega (arith, n, c.loop-b-test.true)
 
 pub loop-b-preserved : goal.loop-b-preserved
 loop-b-preserved g c =
     let inv = c.loop-b.invariant in
     let a = c.args.a.now in
-    let n = blocks (shape a) in
-    let below : c.loop-b.b < n = omega (arith, c.blocks-b-end.ensures.value, ap blocks c.shape.ensures.value, c.loop-b-test.true) in (
-      c.fill_block.ensures.header ∙ inv.0,
-      λ u. fill_on g.T.Lane.width g.row.D a c.loop-b.a c.fill_block.new.a c.requires inv.0 u c.loop-b.b n (g.T.Lane.value c.args.v) below (c.fill_block.ensures.filled u) ∙ inv.1 u,
+    let now = c.loop-b.a in
+    let next = c.fill_block.new.self in
+    let k = c.loop-b.b in
+    let n = blocks (g.A.Target.shape a) in
+    let x = g.T.Lane.value c.args.v in
+    let told = c.fill_block.ensures in
+    let S = g.A.Target.setting (g.A.Target.kept a) in
+    let below : k < n = omega (arith, c.blocks-b-end.ensures.value, ap blocks c.sizes.ensures, c.loop-b-test.true) in
+    let before = λ (u : Part). session (g.A.Target.shape now) (g.A.Target.state now) u in
+    let after = λ (u : Part). session (g.A.Target.shape next) (g.A.Target.state next) u in
+    let fills = subst (λ h. Fills (g.A.Target.setting h) k x before after) inv.0 told.filled in (
+      told.kept ∙ inv.0,
+      shape_filled S k x (g.A.Target.shape now) (g.A.Target.shape next) (g.A.Target.state now) (g.A.Target.state next) fills ∙ inv.1,
+      λ u. inv.2 u ∙ fill_next S (before u) (after u) k n x below (fills u),
+      told.sound,
     )
 
 pub returns-clause-filled : goal.returns-clause-filled
 returns-clause-filled g c u =
     let a = c.args.a.now in
-    filled_all (setting_of g.T.Lane.width a) (session_of c.loop-b.a u) _ (g.T.Lane.value c.args.v) c.loop-b.b (blocks (shape a))
-    (omega (arith, c.blocks-b-end.ensures.value, ap blocks c.shape.ensures.value, c.loop-b-test.false)) (c.loop-b.invariant.1 u)
+    let S = g.A.Target.setting (g.A.Target.kept a) in
+    let now = session (g.A.Target.shape c.loop-b.a) (g.A.Target.state c.loop-b.a) u in
+    c.loop-b.invariant.2 u
+    ∙ filled_all S now (g.T.Lane.value c.args.v) c.loop-b.b (blocks (g.A.Target.shape a)) (omega (arith, c.blocks-b-end.ensures.value, ap blocks c.sizes.ensures, c.loop-b-test.false))

@@ -2,12 +2,15 @@ use Rattle.std.proofs.Common.{◌≡◌, ◌-◌}
 use Rattle.zf_spec.specs.Grid.{upto, count_from, blocks}
 use Rattle.zf_cached.specs.Windows.{Window as Part}
 use Rattle.zf_cached.specs.Steps.{filled_below}
-use Rattle.zf_array.specs.Standing.{shape}
-use Rattle.zf_run.specs.Sessions.{setting_of, session_of}
+use Rattle.zf_run.specs.Sessions.{session}
 use Rattle.zf_run.proofs.blocks.fill_blocks.Given as goal
 
 abbrev pub invariant-loop-b : goal.invariant-loop-b
 invariant-loop-b g l =
-    (l.a.header ≡ l.fn.a.header)
-    × ((u : Part) → filled_below (setting_of g.T.Lane.width l.fn.a) (session_of l.a u) (g.T.Lane.value l.fn.v) (count_from l.b (blocks (shape l.fn.a) - l.b))
-    ≡ filled_below (setting_of g.T.Lane.width l.fn.a) (session_of l.fn.a u) (g.T.Lane.value l.fn.v) (upto (blocks (shape l.fn.a))))
+    let S = g.A.Target.setting (g.A.Target.kept l.fn.a) in
+    let ns = g.A.Target.shape l.fn.a in
+    let x = g.T.Lane.value l.fn.v in
+    (g.A.Target.kept l.a ≡ g.A.Target.kept l.fn.a) × (g.A.Target.shape l.a ≡ ns)
+    × ((u : Part) → filled_below S (session ns (g.A.Target.state l.fn.a) u) x (upto (blocks ns))
+    ≡ filled_below S (session (g.A.Target.shape l.a) (g.A.Target.state l.a) u) x (count_from l.b (blocks ns - l.b)))
+    × g.A.Target.sound l.a

@@ -21,10 +21,11 @@ loop-b-init g c =
       (omega (arith, ints), omega (arith, ints)),
       λ u. let s = session (g.A.Target.shape a) (g.A.Target.state a) u in
           sum_starts S (λ b. b) (λ b values. total values) (count_from 0 n) s ∙ ap (λ m. sum_from S (λ b. b) (λ b values. total values) (count_from 0 m) s (pos 0)) all,
+      c.requires.sound,
     )
 
-pub sum_of_block-sum-requires : goal.sum_of_block-sum-requires
-sum_of_block-sum-requires g c =
+pub sum_of_block-sum-requires-clause-block : goal.sum_of_block-sum-requires-clause-block
+sum_of_block-sum-requires-clause-block g c =
     let n : c.blocks-b-end.result ≡ blocks (g.A.Target.shape c.loop-b.a) = c.blocks-b-end.ensures.value ∙ ap blocks (c.sizes.ensures ∙ sym c.loop-b.invariant.1) in
     omega (arith, n, c.loop-b-test.true)
 
@@ -57,6 +58,7 @@ loop-b-preserved g c =
       λ u. inv.3 u ∙ ap (λ bs. sum_from S (λ b. b) (λ b values. total values) bs (before u) s) (count_from-below k n below)
           ∙ sum_on S (λ b. b) (λ b values. total values) k (count_from (k + 1) (n - (k + 1))) (before u) (after u)
           (touched_on g.A.Target.setting (g.A.Target.kept now) (g.A.Target.kept a) inv.0 k (before u) (after u) (told.touched u)) s x _ told.sum is,
+      told.sound,
     )
 
 pub returns-clause-sum : goal.returns-clause-sum

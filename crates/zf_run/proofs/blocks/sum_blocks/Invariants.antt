@@ -15,3 +15,4 @@ invariant-loop-b g l =
     (g.A.Target.kept l.a ≡ g.A.Target.kept l.fn.a) × (g.A.Target.shape l.a ≡ ns) × IsUpTo (2 ^ 71 * l.b) l.sum
     × ((u : Part) → summed setting (λ b. b) (λ b values. total values) (upto n) (session ns (g.A.Target.state l.fn.a) u)
     ≡ sum_from setting (λ b. b) (λ b values. total values) (count_from l.b (n - l.b)) (session (g.A.Target.shape l.a) (g.A.Target.state l.a) u) l.sum)
+    × g.A.Target.sound l.a

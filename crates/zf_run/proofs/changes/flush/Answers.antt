@@ -1,5 +1,9 @@
+use Rattle.zf_run.specs.Sessions.{session}
 use Rattle.zf_run.proofs.Commanding.{flushed}
 use Rattle.zf_run.proofs.changes.flush.Goals as goal
 
 pub returns-clause-does : goal.returns-clause-does
-returns-clause-does g c v lies = flushed g.T.Lane.width c.args.a.now g.row.D c.requires v lies c.flush.new.self c.flush.ensures.header c.flush.ensures.state
+returns-clause-does g c v lies =
+    let a = c.args.a.now in
+    let b = c.flush_all.new.self in
+    flushed (g.A.Target.setting (g.A.Target.kept a)) (session (g.A.Target.shape a) (g.A.Target.state a) v) lies (session (g.A.Target.shape b) (g.A.Target.state b) v) (c.flush_all.ensures.flushed v)

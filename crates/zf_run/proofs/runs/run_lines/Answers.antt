@@ -6,10 +6,13 @@ use Rattle.zf_run.proofs.Folding.{none_run, run_on, stop_here, all_run, one_or_n
 use Rattle.zf_run.proofs.runs.run_lines.Goals as goal
 
 pub loop-line-init : goal.loop-line-init
-loop-line-init g c = (none_run _ _ _ _, c.requires, refl, omega arith, refl)
+loop-line-init g c = (none_run _ _ _ _, c.requires.window, refl, omega arith, refl, c.requires.sound)
 
-pub run_line-requires : goal.run_line-requires
-run_line-requires g c = c.loop-line.invariant.1
+pub run_line-requires-clause-window : goal.run_line-requires-clause-window
+run_line-requires-clause-window g c = c.loop-line.invariant.1
+
+pub run_line-requires-clause-sound : goal.run_line-requires-clause-sound
+run_line-requires-clause-sound g c = c.loop-line.invariant.5
 
 pub returns-in_err-run_line-clause-err : goal.returns-in_err-run_line-clause-err
 returns-in_err-run_line-clause-err g c =
@@ -51,10 +54,14 @@ loop-line-preserved g c =
       told.kept ∙ inv.2,
       omega (arith, c.from.ensures, at_most_one t, c.in-Some.ensures.shorter, inv.3),
       told.unchanged ∙ inv.4,
+      told.sound,
     )
 
-pub run_line-requires-2 : goal.run_line-requires-2
-run_line-requires-2 g c = c.loop-line.invariant.1
+pub run_line-requires-2-clause-window : goal.run_line-requires-2-clause-window
+run_line-requires-2-clause-window g c = c.loop-line.invariant.1
+
+pub run_line-requires-2-clause-sound : goal.run_line-requires-2-clause-sound
+run_line-requires-2-clause-sound g c = c.loop-line.invariant.5
 
 pub returns-in_err-run_line-2-clause-err : goal.returns-in_err-run_line-2-clause-err
 returns-in_err-run_line-2-clause-err g c =

@@ -13,6 +13,7 @@ invariant-loop-line g l =
     × (g.A.Target.kept l.a ≡ g.A.Target.kept l.fn.a)
     × (l.refused + length l.lines ≤ length l.fn.script)
     × (g.O.Sink.faults l.out ≡ g.O.Sink.faults l.fn.out)
+    × g.A.Target.sound l.a
 
 abbrev pub decreases-loop-line : goal.decreases-loop-line
 decreases-loop-line g l = length l.lines

@@ -16,8 +16,8 @@ returns-then-not-contains-clause-does g c =
     refused_range (g.A.Target.setting (g.A.Target.kept a)) (Command.vget (used_axes (length ns) c.args.p)) (session ns (g.A.Target.state a) c.args.window.now) c.requires.inside refl
     (outside_window ns c.args.window.now c.args.p c.requires.inside c.requires.unused (λ at. false≢true (sym c.if-not-contains.true ∙ c.contains.ensures.1 at)))
 
-pub number-requires : goal.number-requires
-number-requires g c =
+pub number-requires-clause-position : goal.number-requires-clause-position
+number-requires-clause-position g c =
     let ns = g.A.Target.shape c.args.a.now in
     subst (IsPosition ns) (sym c.map.ensures) (position_at-inside ns c.args.window.now c.args.p c.requires.inside (c.contains.ensures.0 c.if-not-contains.false))
 

@@ -31,10 +31,11 @@ loop-number-init g c =
       (omega (arith, ints), omega (arith, ints)),
       λ u. let s = session (g.A.Target.shape a) (g.A.Target.state a) u in
           sum_starts S B value_there (ps (product w.size)) s ∙ ap (λ m. sum_from S B value_there (ps m) s (pos 0)) all,
+      c.requires.sound,
     )
 
-pub number-sum-requires : goal.number-sum-requires
-number-sum-requires g c =
+pub number-sum-requires-clause-position : goal.number-sum-requires-clause-position
+number-sum-requires-clause-position g c =
     let ns = g.A.Target.shape c.args.a.now in
     let w = c.args.window in
     let below : c.loop-number.number < product w.size = omega (arith, c.count-number-end.ensures.value, c.loop-number-test.true) in
@@ -80,6 +81,7 @@ loop-number-preserved g c =
           ∙ sum_on S (block_number ns) value_there (f k) (map f (count_from (k + 1) (n - (k + 1)))) (before u) (after u)
           (touched_there ns ks c.requires.sizes inv.1 w c.requires.inside k r c.raster_at.ensures S (before u) (after u)
           (touched_on g.A.Target.setting (g.A.Target.kept now) (g.A.Target.kept a) inv.0 b (before u) (after u) (told.touched u))) s x _ found is,
+      told.sound,
     )
 
 pub returns-clause-sum : goal.returns-clause-sum

@@ -17,3 +17,4 @@ invariant-loop-number g l =
     × ((v : Part) → summed setting (block_number ns) value_there (positions w) (session ns (g.A.Target.state l.fn.a) v)
     ≡ sum_from setting (block_number ns) value_there (map (λ k. mapped w (coordinates w.size k)) (count_from l.number (product w.size - l.number)))
     (session (g.A.Target.shape l.a) (g.A.Target.state l.a) v) l.sum)
+    × g.A.Target.sound l.a

@@ -5,7 +5,7 @@ use Rattle.zf_array.specs.Standing.{shape}
 use Rattle.zf_run.specs.Allowed.{array_allows}
 use Rattle.zf_run.specs.Sessions.{setting_of, session_of}
 use Rattle.zf_run.proofs.Commanding.{taken}
-use Rattle.zf_run.proofs.arrays.ArrayTarget.change.Goals as goal
+use Rattle.zf_run.proofs.arrays.ArrayScripted.change.Goals as goal
 
 pub returns-clause-step : goal.returns-clause-step
 returns-clause-step g c =

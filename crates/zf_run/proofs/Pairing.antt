@@ -1,0 +1,188 @@
+-- A store and a two-way cache after a call, as a session.
+use Rattle.std.proofs.Common.{◌≡◌, refl, sym, ap, subst, ◌∙◌, ℕ, ◌+◌, ◌^◌, ◌<◌, ◌≤◌, ℤ, pos, ◌+ℤ◌, Bool, true, false, List, map, length, get_or, set, replicate, None, [], Result, Ok, Err, ext_get_or, arith}
+use Rattle.std.specs.Int.{Width}
+use Rattle.std.specs.Result.{OnOk, OnErr}
+use Rattle.std.proofs.lemmas.List.{length-set, length-map, length-replicate, map-set, get_or-map}
+use Rattle.zf_spec.specs.Numbers.{wrap}
+use Rattle.zf_spec.specs.Grid.{blocks, is_inside, extent_of, indices}
+use Rattle.zf_base.specs.Widths.{width_of}
+use Rattle.zf_base.specs.Places.{block_number, place_of}
+use Rattle.zf_base.specs.Positions.{used_axes}
+use Rattle.zf_base.specs.Places.{IsAt}
+use Rattle.zf_base.specs.declared.position.Pos.{Pos}
+use Rattle.zf_base.specs.Formats.{Format, existing_of, meant}
+use Rattle.zf_base.proofs.Formats as formats
+use Rattle.zf_base.proofs.Sizes.{blocks_le}
+use Rattle.zf_header.specs.declared.header.Header.{Header}
+use Rattle.zf_header.specs.HeaderBits.{block_bits}
+use Rattle.zf_cached.specs.State.{State, is_block}
+use Rattle.zf_cached.specs.Touch.{soiled, with_values}
+use Rattle.zf_cached.specs.Changes.{flush, discard, raised, relined}
+use Rattle.zf_cached.specs.Arrays.{rate_coding, array_format}
+use Rattle.zf_cached.specs.Windows.{Window}
+use Rattle.zf_cached.specs.Commands.{Command}
+use Rattle.zf_cached.specs.Steps.{Setting, Session, format_of as format_in, touched, changed, changed_at, done}
+use Rattle.zf_lines.specs.Rows.{over}
+use Rattle.zf_lines.proofs.Sizes.{over_same}
+use Rattle.zf_cache.specs.Kept.{Kept, HasBlocks, tag_at, block_in, line_by}
+use Rattle.zf_cache.specs.Standing.{state_at}
+use Rattle.zf_cache.specs.Steps.{with_value}
+use Rattle.zf_cache.proofs.Sound.{existing_of-set}
+use Rattle.zf_store.specs.Stored.{Stored, Frame, IsStore, frame_of, rate_of, format_of, code_at}
+use Rattle.zf_store.proofs.Kept.{blocks_is, block_len_is}
+use Rattle.zf_twoway.specs.Touch.{touch, touch_for_writing, put}
+use Rattle.zf_twoway.specs.Placing.{skewed}
+use Rattle.zf_twoway.specs.Standing.{state_of}
+use Rattle.zf_twoway.specs.Runs.{twoway_setting}
+use Rattle.zf_twoway.proofs.Touches.{touch-left}
+use Rattle.zf_run.specs.Sessions.{session}
+use Rattle.zf_run.proofs.Passing.{map-replicate}
+use Rattle.zf_run.specs.Pairs.{pair_state, two_setting_of}
+
+module _ (w : Width) (d : ℕ) (s : Stored) (st : IsStore w d s) where
+  -- its blocks are such as a cache takes
+  pub two_blocks : HasBlocks (format_of s) d
+  two_blocks = (
+    block_len_is s ∙ ap (λ k. 4 ^ k) st.dims,
+    omega (arith, blocks_is s, blocks_le s.header.shape st.shape.not_zero, st.shape.not_too_large),
+  )
+
+  pub two_below : (b : ℕ) → b < blocks s.header.shape → b < (format_of s).blocks
+  two_below b lt = subst (λ n. b < n) (sym (blocks_is s)) lt
+
+  -- the block of a position and its place there
+  module _ (h : Header) (is : h ≡ s.header) (p : Pos) (b k : ℕ) (at : IsAt h.shape (used_axes (length h.shape) p) b k) where
+    pub block_below : b < (format_of s).blocks
+    block_below = two_below b (subst (λ (g : Header). b < blocks g.shape) is at.block_in_array)
+
+    pub place_below : k < 4 ^ d
+    place_below = subst (λ n. k < 4 ^ n) (ap (λ (g : Header). length g.shape) is ∙ st.dims) at.place_in_block
+
+    pub place_exists : (format_of s).exists b k ≡ true
+    unfolding array_format
+    place_exists = subst (λ (g : Header). is_inside (extent_of g.shape b) (indices (length g.shape) k) ≡ true) is at.exists
+
+pub block_there : (s : Stored) (h : Header) → h ≡ s.header → (p : Pos) (b : ℕ) → b ≡ block_number h.shape (used_axes (length h.shape) p) → b ≡ block_number s.header.shape (used_axes (length s.header.shape) p)
+block_there s h is p b e = e ∙ ap (λ (g : Header). block_number g.shape (used_axes (length g.shape) p)) is
+
+pub place_there : (s : Stored) (h : Header) → h ≡ s.header → (p : Pos) (k : ℕ) → k ≡ place_of (used_axes (length h.shape) p) → k ≡ place_of (used_axes (length s.header.shape) p)
+place_there s h is p k e = e ∙ ap (λ (g : Header). place_of (used_axes (length g.shape) p)) is
+
+-- ---- steps
+
+module _ (w : Width) (s : Stored) (same : w ≡ width_of s.header.ty) {X : Type 0} (value : X → ℤ) (c : Kept X) (v : Window) where
+  abbrev S : Setting (List Bool)
+  S = two_setting_of w s.header
+
+  abbrev now : Session (List Bool)
+  now = session s.header.shape (pair_state value s c) v
+
+  -- the codes of the session are the store's
+  pub format_two : format_in S now ≡ format_of s
+  unfolding twoway_setting
+  format_two = ap (λ (u : Width). array_format (rate_coding u (block_bits s.header.mode)) s.header.shape) same
+
+  module _ (t : Stored) (e : Kept X) (head : t.header ≡ s.header) where
+    abbrev next : Session (List Bool)
+    next = session t.header.shape (pair_state value t e) v
+
+    next_is : (u : State (List Bool)) → pair_state value t e ≡ u → record now { state = u } ≡ next
+    next_is u is = λ i. record { shape = (sym head i).shape; state = sym is i; window = v }
+
+    pub touched_two : (k : ℕ) → pair_state value t e ≡ touch (format_of s) (pair_state value s c) k → touched S now k ≡ next
+    unfolding touched twoway_setting
+    touched_two k is =
+        next_is (touch (format_in S now) (pair_state value s c) k) (is ∙ ap (λ (f : Format (List Bool)). touch f (pair_state value s c) k) (sym format_two))
+
+    pub changed_two : (k : ℕ) (change : List ℤ → List ℤ) → pair_state value t e ≡ (let u = touch_for_writing (format_of s) (pair_state value s c) k in with_values u k (change (u.values k)))
+        → changed S now k change ≡ next
+    unfolding touched changed twoway_setting touch_for_writing
+    changed_two k change is =
+        let End = λ (f : Format (List Bool)). let u = touch_for_writing f (pair_state value s c) k in with_values u k (change (u.values k)) in
+        next_is (End (format_in S now)) (is ∙ ap End (sym format_two))
+
+    pub lined_two : (n : ℕ) → pair_state value t e ≡ relined (format_of s) (pair_state value s c) (raised n) → done S now (Command.lines n) ≡ (next, None)
+    unfolding done
+    lined_two n is =
+        ap (λ (x : Session (List Bool)). (x, None))
+        (next_is (relined (format_in S now) (pair_state value s c) (raised n)) (is ∙ ap (λ (f : Format (List Bool)). relined f (pair_state value s c) (raised n)) (sym format_two)))
+
+    pub flushed_two : pair_state value t e ≡ flush (format_of s) (pair_state value s c) → done S now Command.flush ≡ (next, None)
+    unfolding done
+    flushed_two is =
+        ap (λ (x : Session (List Bool)). (x, None))
+        (next_is (flush (format_in S now) (pair_state value s c)) (is ∙ ap (λ (f : Format (List Bool)). flush f (pair_state value s c)) (sym format_two)))
+
+    pub discarded_two : pair_state value t e ≡ discard (format_of s) (pair_state value s c) → done S now Command.discard ≡ (next, None)
+    unfolding done
+    discarded_two is =
+        ap (λ (x : Session (List Bool)). (x, None))
+        (next_is (discard (format_in S now) (pair_state value s c)) (is ∙ ap (λ (f : Format (List Bool)). discard f (pair_state value s c)) (sym format_two)))
+
+-- ---- values
+
+module _ {X Code : Type 0} (value : X → ℤ) (f : Format Code) (c : Kept X) (k : ℕ → Code) (b : ℕ) where
+  -- a block has values at the places that exist alone
+  whole_now : existing_of f b ((state_of value c f k).values b) ≡ (state_of value c f k).values b
+  unfolding state_at
+  whole_now = by (is_block (block_in (tag_at c.tags (line_by skewed c b))) b)
+    where
+      by : (t : Bool) → existing_of f b (elim t [ true ↦ existing_of f b (map value (get_or c.lines (line_by skewed c b) [])) | false ↦ meant f b (k b) ])
+          ≡ elim t [ true ↦ existing_of f b (map value (get_or c.lines (line_by skewed c b) [])) | false ↦ meant f b (k b) ]
+      by true = formats.existing_of-existing_of f b (map value (get_or c.lines (line_by skewed c b) []))
+      by false = formats.existing_of-meant f b (k b)
+
+  abbrev written : State Code
+  written = touch_for_writing f (state_of value c f k) b
+
+  whole_written : existing_of f b (written.values b) ≡ written.values b
+  unfolding touch_for_writing soiled
+  whole_written = let left = touch-left f (state_of value c f k) b in subst (λ vs. existing_of f b vs ≡ vs) (sym left.values) whole_now
+
+  -- a value that is put where a place exists
+  pub put_two : (p : ℕ) (x : ℤ) → f.exists b p ≡ true → put f (state_of value c f k) b p x ≡ with_values written b (set (written.values b) p x)
+  unfolding put with_value
+  put_two p x exists = ap (with_values written b) (formats.existing_of-set f b (written.values b) p x exists whole_written)
+
+  -- a value that is added to through a loan of the block's line
+  pub increase_two : (row : List X) (p : ℕ) (r y x : X) (w : Width) → f.exists b p ≡ true → length row ≡ f.block_len → p < f.block_len
+      → existing_of f b (map value row) ≡ (touch f (state_of value c f k) b).values b → r ≡ get_or row p r → value y ≡ wrap w (value r +ℤ value x)
+      → with_values written b (existing_of f b (map value (over row (set row p y)))) ≡ with_values written b (set (written.values b) p (wrap w (get_or (written.values b) p (pos 0) +ℤ value x)))
+  unfolding touch_for_writing soiled
+  increase_two row p r y x w exists long below held read sum =
+      let vs = (touch f (state_of value c f k) b).values b in
+      let inside : p < length row = omega (arith, long, below) in
+      let found : value r ≡ get_or vs p (pos 0) =
+      ap value read ∙ sym (get_or-map value row p r (pos 0) inside) ∙ sym (formats.get_or-existing_of_exists f b (map value row) p below exists) ∙ ap (λ xs. get_or xs p (pos 0)) held in
+      ap (with_values written b)
+      (ap (λ xs. existing_of f b (map value xs)) (over_same row (set row p y) (length-set row p y))
+      ∙ ap (existing_of f b) (map-set value row p y)
+      ∙ existing_of-set f b (map value row) p (value y) (length-map row value ∙ long) below
+      ∙ ap (λ xs. existing_of f b (set xs p (value y))) held
+      ∙ formats.existing_of-set f b vs p (value y) exists whole_written
+      ∙ ap (set vs p) (sum ∙ ap (λ z. wrap w (z +ℤ value x)) found))
+
+-- a line that was filled
+pub filled_two : {X : Type 0} (value : X → ℤ) (row ws : List X) (v : X) (n : ℕ) → ws ≡ replicate (length row) v → length row ≡ n → map value (over row ws) ≡ replicate n (value v)
+filled_two value row ws v n is long =
+    ap (map value) (over_same row ws (ap length is ∙ length-replicate (length row) v) ∙ is) ∙ map-replicate value (length row) v ∙ ap (λ m. replicate m (value v)) long
+
+-- ---- answers
+
+pub on_ok : {A B : Type 0} (r : Result A B) {P Q : Type 0} → (P → Q) → OnOk r P → OnOk r Q
+on_ok (Ok a) f h = f h
+on_ok (Err e) f h = h
+
+pub on_err : {A B : Type 0} (r : Result A B) {P Q : Type 0} → (P → Q) → OnErr r P → OnErr r Q
+on_err (Ok a) f h = h
+on_err (Err e) f h = f h
+
+-- a store with the same header and the same codes
+pub same_store : (s t : Stored) → frame_of t ≡ frame_of s → ((b : ℕ) → code_at t b ≡ code_at s b) → t ≡ s
+same_store s t frame codes =
+    let head : t.header ≡ s.header = ap (λ (q : Frame). q.header) frame in
+    let count : length t.codes ≡ length s.codes = ap (λ (q : Frame). q.count) frame in
+    let d = replicate (rate_of s) false in
+    let same : t.codes ≡ s.codes = ext_get_or d t.codes s.codes count
+        (λ k lt. ap (λ (h : Header). get_or t.codes k (replicate (block_bits h.mode) false)) (sym head) ∙ codes k) in
+    λ i. record { header = head i; codes = same i }

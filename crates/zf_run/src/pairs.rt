@@ -1,0 +1,124 @@
+//! Commands on a store and a two-way cache over it.
+
+ghost use Rattle.std.specs.Prelude.{◌≡◌, Bool, List};
+ghost use Rattle.zf_header.specs.declared.header.Header.{Header};
+ghost use Rattle.zf_run.specs.Pairs.{pair_state, PairFits, two_setting_of, two_width};
+
+use crate::blocks::{fill_line, sum_within};
+use crate::commands::{needs_no_window, plain, spoken};
+use crate::target::{Changing, Scripted, Target};
+use std::alloc::AllocError;
+use zf_base::{Lane, Pos, Shape};
+use zf_cache::raised;
+use zf_script::{Cmd, Reply, Stats};
+use zf_store::Store;
+use zf_twoway::TwoWay;
+use zf_view::Window;
+
+/// A store and a two-way cache over it, as what the lines of a script work on.
+#[derive(Drop)]
+pub(crate) struct Pair<'a, T: Lane, const D: usize> {
+    pub(crate) store: &'a mut Store<T, D>,
+    pub(crate) cache: &'a mut TwoWay<T, D>,
+}
+
+impl<'a, T: Lane, const D: usize> Target for Pair<'a, T, D> {
+    ghost use base.Fml.{GName};
+
+    ghost Code = { List Bool };
+
+    ghost Kept = { Header × GName × GName };
+
+    ghost kept = { λ p. (p.store.now.header, p.store.ghost_name, p.cache.ghost_name) };
+
+    ghost setting = { λ k. two_setting_of T.width k.0 };
+
+    ghost sound = { λ p. PairFits T.value p.store.now p.cache.now };
+
+    ghost shape = { λ p. p.store.now.header.shape };
+
+    ghost state = { λ p. pair_state T.value p.store.now p.cache.now };
+
+    fn sizes(&self) -> Shape {
+        self.store.header().shape
+    }
+
+    fn allows(&self, cmd: Cmd) -> bool {
+        needs_no_window(cmd)
+    }
+
+    fn number(&mut self, p: Pos) -> i128 {
+        let store = &mut *self.store;
+        let cache = &mut *self.cache;
+        let (b, place) = store.header().shape.place(p);
+        cache.get(store, b, place).to_wide()
+    }
+
+    fn sum_of_block(&mut self, b: u64) -> i128 {
+        let store = &mut *self.store;
+        let cache = &mut *self.cache;
+        let size = store.header().shape.extent(b).size;
+        sum_within(cache.block(store, b), &size)
+    }
+
+    fn use_lines(&mut self, count: u32) -> Result<(), AllocError> {
+        let store = &mut *self.store;
+        let cache = &mut *self.cache;
+        // Known by this call: what holds of a store.
+        let _header = store.header();
+        cache.relined(store, raised(count))
+    }
+
+    fn counts(&self) -> Stats {
+        self.cache.stats()
+    }
+}
+
+impl<'a, T: Lane, const D: usize> Changing<T> for Pair<'a, T, D> {
+    ghost same_width = { λ k. two_width T.width k.0 };
+
+    fn put(&mut self, p: Pos, v: T) {
+        let store = &mut *self.store;
+        let cache = &mut *self.cache;
+        let (b, place) = store.header().shape.place(p);
+        cache.set(store, b, place, v);
+    }
+
+    fn increase(&mut self, p: Pos, v: T) {
+        let store = &mut *self.store;
+        let cache = &mut *self.cache;
+        let (b, place) = store.header().shape.place(p);
+        let line = cache.block_mut(store, b);
+        line[place] = line[place].add(v);
+    }
+
+    fn fill_block(&mut self, b: u64, v: T) {
+        let store = &mut *self.store;
+        let cache = &mut *self.cache;
+        // Known by this call: what holds of a store.
+        let _header = store.header();
+        fill_line(cache.block_mut(store, b), v);
+    }
+
+    fn flush_all(&mut self) {
+        let store = &mut *self.store;
+        let cache = &mut *self.cache;
+        // Known by this call: what holds of a store.
+        let _header = store.header();
+        cache.flush(store);
+    }
+
+    fn discard_all(&mut self) {
+        let store = &mut *self.store;
+        let cache = &mut *self.cache;
+        // Known by this call: what holds of a store.
+        let _header = store.header();
+        cache.discard();
+    }
+}
+
+impl<'a, T: Lane, const D: usize> Scripted for Pair<'a, T, D> {
+    fn change(&mut self, _window: &mut Window, cmd: Cmd) -> Option<Reply> {
+        spoken(plain::<T, _>(self, cmd))
+    }
+}
