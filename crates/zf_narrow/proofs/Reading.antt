@@ -64,6 +64,7 @@ half_read old mid new before now raw count all four unspent same takes none end 
     let To : Option (List ℕ) → Type 0 = λ t. Takes (told old before) t given in
     let Given : List ℕ → Type 0 = λ bs. Takes (told_by n false [] (listed old.half) before) (told_by n new.spent [] h now) bs in
     let is : told_by n new.spent [] h now ≡ told new now =
-    ap (λ m. told_by m new.spent [] h now) (sym (narrow ∙ same)) ∙ ap (λ o. told_by new.narrow new.spent [] (listed o) now) (sym half) ∙ sym (told_idle new now all' four') in
-    (subst To is (subst Of (sym (told_unspent old before all four unspent)) (subst Given (sym given_is) from)),
-      λ nothing. subst IsAtEnd is (none_comes n new.spent now h end (sym count_is ∙ nothing)))
+    ap (λ m. told_by m new.spent [] h now) (sym (narrow ∙ same)) ∙ ap (λ o. told_by new.narrow new.spent [] (listed o) now) (sym half) ∙ sym (told_idle new now all' four') in (
+      subst To is (subst Of (sym (told_unspent old before all four unspent)) (subst Given (sym given_is) from)),
+      λ nothing. subst IsAtEnd is (none_comes n new.spent now h end (sym count_is ∙ nothing)),
+    )

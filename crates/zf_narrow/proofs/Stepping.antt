@@ -54,9 +54,11 @@ half_given n (Some left) (Some rest) half half_now spent few takes end is =
     nothing U8 = refl
     nothing I16 = refl
     nothing U16 = refl
+
     none : (xs : List ℕ) → (0 < length xs → ⊥) → xs ≡ []
     none [] h = refl
     none (x ∷ xs) h = absurd (h (omega arith))
+
     by : (spent : Bool) → IsTrue spent ↔ (0 < length half_now) → replicate {A = ℕ} (length half_now) 0 ≡ replicate (length half_now) 0 ++ ([] ++ coming n spent half_now rest)
     by true is = sym (append-nil (replicate (length half_now) 0))
     by false is =

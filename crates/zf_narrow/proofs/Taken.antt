@@ -18,8 +18,8 @@ read_there (Ok k) before now piece buf past at within bound taken =
       bytes = take k buf;
       taken = taken;
       all_are =
-      ap (λ m. take (m + k) (take at piece ++ (buf ++ past))) (sym (length-take-le at piece within))
-      ∙ take-append-add (take at piece) (buf ++ past) k ∙ ap (λ bs. take at piece ++ bs) (take-append-le k buf past bound);
+          ap (λ m. take (m + k) (take at piece ++ (buf ++ past))) (sym (length-take-le at piece within))
+          ∙ take-append-add (take at piece) (buf ++ past) k ∙ ap (λ bs. take at piece ++ bs) (take-append-le k buf past bound);
       count_is = length-take-le k buf bound;
     }
 

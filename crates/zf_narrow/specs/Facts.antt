@@ -4,7 +4,6 @@ use Rattle.std.specs.Coded.{Unit-prop, Coded-set, coded_list, coded_ℕ}
 use Rattle.zf_dev.specs.Source.{Takes, IsAtEnd}
 use Rattle.zf_dev.specs.Sink.{Appends}
 
-
 pub IsAtEnd-prop : (known : Option (List ℕ)) → IsProp (IsAtEnd known)
 IsAtEnd-prop None = Unit-prop
 IsAtEnd-prop (Some left) = Coded-set (coded_list coded_ℕ) left []

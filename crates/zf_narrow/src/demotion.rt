@@ -134,7 +134,12 @@ impl Demotion {
         let len = size(self.narrow);
         let count = (raw.len() / 4).min(PIECE / 2);
         let mut piece = [0; PIECE];
-        put_demoted(self.narrow, count, &raw[..count * 4], &mut piece[..count * len]);
+        put_demoted(
+            self.narrow,
+            count,
+            &raw[..count * 4],
+            &mut piece[..count * len],
+        );
         let written = out.write(&piece[..count * len])?;
         let values = written.div_ceil(len);
         self.given.push(&piece[..written]);

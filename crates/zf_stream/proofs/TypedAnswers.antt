@@ -64,6 +64,7 @@ typed_same wanted known src front h len r taken begun same answers = by known sr
     outside : (r : Result (Unit {0}) StreamFault) → IsErrAnd r IsFromOutside → IsErrAnd (with_true r) IsFromOutside
     outside (Ok done) is = absurd is
     outside (Err e) is = is
+
     by : (known src : Option (List ℕ)) → Takes known src front → Answers r known restore_answer → Answers (with_true r) known (typed_answer wanted)
     by None src taken answers = tt
     by (Some all) None taken answers = absurd taken

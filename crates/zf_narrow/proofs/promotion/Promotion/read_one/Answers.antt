@@ -18,7 +18,7 @@ returns-then-count-eq0-clause-given g c =
     let four' : length c.give_half.new.self.value ≡ 4 = ap length (c.give_half.ensures.kept ∙ c.read_values.ensures.kept) ∙ four in
     let none : length (take c.in_ok-count.count c.read_values.new.buf) ≡ 0 = ap (λ k. length (take k c.read_values.new.buf)) c.if-count-eq0.true in
     (half_read c.args.self.now c.read_values.new.self c.give_half.new.self (g.S.Source.contents c.args.src.now) (g.S.Source.contents c.read_values.new.src) _ c.give_half.result c.requires.given four c.requires.unspent c.read_values.ensures.same_type c.in_ok-count.ensures.values none
-      (c.in_ok-count.ensures.end c.if-count-eq0.true) c.give_half.ensures.same_type c.give_half.ensures.half c.give_half.ensures.given four' c.give_half.ensures.count c.give_half.ensures.spent _ c.give_half.ensures.value).0
+    (c.in_ok-count.ensures.end c.if-count-eq0.true) c.give_half.ensures.same_type c.give_half.ensures.half c.give_half.ensures.given four' c.give_half.ensures.count c.give_half.ensures.spent _ c.give_half.ensures.value).0
 
 pub returns-then-count-eq0-clause-end : goal.returns-then-count-eq0-clause-end
 returns-then-count-eq0-clause-end g c =
@@ -26,7 +26,7 @@ returns-then-count-eq0-clause-end g c =
     let four' : length c.give_half.new.self.value ≡ 4 = ap length (c.give_half.ensures.kept ∙ c.read_values.ensures.kept) ∙ four in
     let none : length (take c.in_ok-count.count c.read_values.new.buf) ≡ 0 = ap (λ k. length (take k c.read_values.new.buf)) c.if-count-eq0.true in
     (half_read c.args.self.now c.read_values.new.self c.give_half.new.self (g.S.Source.contents c.args.src.now) (g.S.Source.contents c.read_values.new.src) _ c.give_half.result c.requires.given four c.requires.unspent c.read_values.ensures.same_type c.in_ok-count.ensures.values none
-      (c.in_ok-count.ensures.end c.if-count-eq0.true) c.give_half.ensures.same_type c.give_half.ensures.half c.give_half.ensures.given four' c.give_half.ensures.count c.give_half.ensures.spent _ c.give_half.ensures.value).1
+    (c.in_ok-count.ensures.end c.if-count-eq0.true) c.give_half.ensures.same_type c.give_half.ensures.half c.give_half.ensures.given four' c.give_half.ensures.count c.give_half.ensures.spent _ c.give_half.ensures.value).1
 
 pub returns-clause-given : goal.returns-clause-given
 returns-clause-given g c =
