@@ -175,6 +175,7 @@ module _ {X Code : Type 0} (value : X → ℤ) (c : Kept X) (f : Format Code) (k
           ∙ (λ i. sym (not_dirty one b out) i || sym (not_dirty two b none) i)
     ]
   ]
+
 -- ---- an empty cache
 
 pub opens : {X Code : Type 0} (value : X → ℤ) (c : Kept X) (f : Format Code) (k : ℕ → Code) (n : ℕ) → IsEmpty c n → c.counts ≡ no_counts → state_of value c f k ≡ opened f k n

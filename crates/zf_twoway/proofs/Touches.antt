@@ -132,8 +132,8 @@ module _ {Code : Type 0} where
     touch-spares one = touch_by format s a (λ t. IsLeft s t b) (λ here. record { dirty = refl; values = refl; code = refl }) (λ away.
         let l = goes_to s a in
         let h = write_back_line_by format s l (λ t. IsLeft s t b)
-            (λ c held dirty. true_is_not_false (is_clean_line s l) (goes-clean s a one) (soiled_line l c held dirty))
-            (λ c held clean. record { dirty = refl; values = refl; code = refl }) (λ nothing. record { dirty = refl; values = refl; code = refl }) in
+        (λ c held dirty. true_is_not_false (is_clean_line s l) (goes-clean s a one) (soiled_line l c held dirty))
+        (λ c held clean. record { dirty = refl; values = refl; code = refl }) (λ nothing. record { dirty = refl; values = refl; code = refl }) in
         record { dirty = h.dirty; values = h.values; code = h.code })
       where
         soiled_line : (l c : ℕ) → s.held l ≡ Some c → s.dirty c ≡ true → is_clean_line s l ≡ false

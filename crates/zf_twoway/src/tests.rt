@@ -26,7 +26,10 @@ fn an_empty_second_line_is_taken(rt: HostRuntime) -> Result<(), Fail> {
     let kept = cache.get(&mut back, 0, 0);
     assert_eq!(rt; (other, kept), (0, 1));
     assert_eq!(rt; cache.stats(), stats(1, 2, 0));
-    assert_eq!(rt; (cache.lines(), cache.is_dirty(0), cache.is_dirty(2)), (2, true, false));
+    assert_eq!(rt;
+        (cache.lines(), cache.is_dirty(0), cache.is_dirty(2)),
+        (2, true, false)
+    );
     assert_eq!(rt; (back.loads, back.stores), (2, 0));
     Ok(())
 }

@@ -22,8 +22,11 @@ returns g c =
     let h = g.B.Reading.format c.touch_for_writing-l.new.back in let j = g.B.Reading.codes c.touch_for_writing-l.new.back in
     let b = c.args.b in let l = c.touch_for_writing-l.result in
     let row = c.line_mut.result.now in let row_is = c.line_mut.ensures.value in (
-      (refl, λ w. lends skewed IsOneOfTwo skewed_rule value f h j o t b l e.format e.sound e.line e.others k e.dirty e.state row row_is w
-        ∙ lent_is value f h j o t b l e.format e.sound e.line e.others k fits e.dirty e.state row row_is w ∙ ap (λ (q : Kept g.row.T.Denot). lent_block value f k q b row w) is),
+      (
+        refl,
+        λ w. lends skewed IsOneOfTwo skewed_rule value f h j o t b l e.format e.sound e.line e.others k e.dirty e.state row row_is w
+            ∙ lent_is value f h j o t b l e.format e.sound e.line e.others k fits e.dirty e.state row row_is w ∙ ap (λ (q : Kept g.row.T.Denot). lent_block value f k q b row w) is,
+      ),
       record {
         writes_back = tt;
         loan = subst (λ (q : Kept g.row.T.Denot). LendsBlock value f k j q b row) is (loans value f h j o t b l e.format e.sound e.line e.others k fits e.dirty e.state row row_is);

@@ -11,8 +11,10 @@ use Rattle.zf_twoway.proofs.twoway.TwoWay.relined.Goals as goal
 
 pub flush-requires : goal.flush-requires
 flush-requires g c =
-    record { sound = sound_of g.T.Lane.value c.self.inside.body c.args.self.now (g.B.Reading.format c.args.back.now) (g.B.Reading.codes c.args.back.now) _
-    c.self.view_is c.self.invariant.0 c.requires.blocks.0 c.requires.fits }
+    record {
+      sound = sound_of g.T.Lane.value c.self.inside.body c.args.self.now (g.B.Reading.format c.args.back.now) (g.B.Reading.codes c.args.back.now) _
+          c.self.view_is c.self.invariant.0 c.requires.blocks.0 c.requires.fits;
+    }
 
 pub returns-clause-fits : goal.returns-clause-fits
 returns-clause-fits g c =
