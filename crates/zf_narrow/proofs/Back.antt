@@ -1,10 +1,10 @@
 -- Narrow values and what stands for them, there and back.
-use Rattle.std.proofs.Common.{rules, FitsSigned, ◌≡◌, refl, sym, ap, ◌∙◌, ℕ, zero, suc, ◌+◌, ◌*◌, ◌/◌, ◌^◌, ℤ, pos, negsuc, ◌+ℤ◌, ◌-ℤ◌, ◌*ℤ◌, ◌≤ℤ◌, arith}
+use Rattle.std.proofs.Common.{rules, FitsSigned, ◌≡◌, ap, ◌∙◌, ◌+◌, ◌*◌, ℤ, pos, negsuc, ◌+ℤ◌, ◌-ℤ◌, ◌*ℤ◌, arith}
 use Rattle.std.proofs.lemmas.Int.{ints, clamps}
 use Rattle.std.specs.Int.{w32}
 use Rattle.zf_narrow.specs.declared.narrow.Narrow.{Narrow}
 use Rattle.zf_narrow.specs.declared.narrow.Narrow.TheVariants.{I8, U8, I16, U16}
-use Rattle.zf_narrow.specs.Values.{IsNarrow, step_of, middle_of, least_of, greatest_of, promoted, floor_div, nearest, demoted}
+use Rattle.zf_narrow.specs.Values.{IsNarrow, step_of, middle_of, promoted, floor_div, nearest, demoted}
 
 -- a whole number of steps is that number of them, rounded down
 floor_div-times : (n : Narrow) (v : ℤ) → floor_div (v *ℤ pos (step_of n)) (step_of n) ≡ v

@@ -1,5 +1,4 @@
-use Rattle.std.proofs.Common.{rules, refl, ◌≡◌, ◌%◌, ◌*◌, ◌<◌, ◌≤◌, ◌++◌, [], length, take, drop, sym, ap, ◌∙◌, ℕ, ◌+◌, ◌/◌, min, List, append-nil, arith}
-use Rattle.std.proofs.lemmas.List.{length-take}
+use Rattle.std.proofs.Common.{◌≡◌, ◌%◌, ◌*◌, ◌≤◌, ◌++◌, length, sym, ap, ◌∙◌, ℕ, ◌+◌, ◌/◌, min, List, append-nil, arith}
 use Rattle.zf_narrow.specs.Values.{size_of}
 use Rattle.zf_narrow.specs.RawNarrow.{demoted_bytes}
 use Rattle.zf_narrow.specs.Promoting.{listed}
