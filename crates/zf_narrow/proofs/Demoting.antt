@@ -1,5 +1,5 @@
 -- One write of a demotion: the narrow bytes of the first values, and the byte that is owed of the last one.
-use Rattle.std.proofs.Common.{◌≡◌, refl, sym, ap, subst, ◌∙◌, ℕ, ◌+◌, ◌*◌, ◌/◌, ◌%◌, min, ◌≤◌, ◌<◌, List, [], ◌∷◌, ◌++◌, length, take, drop, get_or, Option, Some, None, append_assoc, append-nil, length-append, take-append-drop, take-take, arith}
+use Rattle.std.proofs.Common.{◌≡◌, sym, ap, ◌∙◌, ℕ, ◌+◌, ◌*◌, ◌/◌, ◌%◌, min, ◌≤◌, ◌<◌, List, [], ◌∷◌, ◌++◌, length, take, drop, get_or, Option, Some, None, append_assoc, append-nil, length-append, take-append-drop, take-take, arith}
 use Rattle.std.proofs.lemmas.List.{length-take, length-take-le, take-append-le, take_at, take_more}
 use Rattle.std.proofs.Math.Nat.{mul-le-mul_right}
 use Rattle.zf_narrow.specs.declared.narrow.Narrow.{Narrow}
@@ -19,12 +19,6 @@ begun_values-bounds I8 k count within = (omega arith, omega arith, omega arith)
 begun_values-bounds U8 k count within = (omega arith, omega arith, omega arith)
 begun_values-bounds I16 k count within = (omega arith, omega arith, omega arith)
 begun_values-bounds U16 k count within = (omega arith, omega arith, omega arith)
-
-pub begun_values-some : (n : Narrow) (k : ℕ) → 0 < k → 0 < begun_values n k
-begun_values-some I8 k some = omega arith
-begun_values-some U8 k some = omega arith
-begun_values-some I16 k some = omega arith
-begun_values-some U16 k some = omega arith
 
 -- the bytes of the first values are the first of the bytes
 pub front_demoted : (n : Narrow) (count values : ℕ) (raw given : List ℕ) → values ≤ count → count * 4 ≤ length raw → given ≡ demoted_bytes n (take (count * 4) raw) → take (values * size_of n) given ≡ demoted_bytes n (take (values * 4) raw)

@@ -5,9 +5,11 @@
 --     Stepping   one read of a source that promotes
 --     Reading    one read of a promotion, as the source sees it
 --     Demoting   one write of a demotion
+--     Back       narrow values and what stands for them, there and back
 pub mod OneMore
 pub mod Taken
 pub mod Whole
 pub mod Stepping
 pub mod Reading
 pub mod Demoting
+pub mod Back

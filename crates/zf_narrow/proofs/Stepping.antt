@@ -1,5 +1,5 @@
 -- One read of a source that promotes: what is given is gone from what is to come.
-use Rattle.std.proofs.Common.{◌≡◌, refl, sym, ap, subst, ◌∙◌, ℕ, zero, suc, ◌+◌, ◌%◌, ◌≤◌, ◌<◌, Bool, true, false, IsTrue, List, [], ◌∷◌, ◌++◌, length, take, drop, replicate, Option, Some, None, Result, Ok, Err, append_assoc, append-nil, arith}
+use Rattle.std.proofs.Common.{◌≡◌, refl, sym, ap, ◌∙◌, ℕ, zero, suc, ◌%◌, ◌≤◌, ◌<◌, Bool, true, false, IsTrue, List, [], ◌∷◌, ◌++◌, length, take, replicate, Option, Some, None, Result, Ok, Err, append_assoc, append-nil, arith}
 use Rattle.std.specs.Prelude.{IfOk, ◌↔◌}
 use Rattle.std.proofs.lemmas.List.{length-take-le}
 use Rattle.zf_dev.specs.Source.{Takes, IsAtEnd, EndsAt}
@@ -7,7 +7,7 @@ use Rattle.zf_narrow.specs.declared.narrow.Narrow.{Narrow}
 use Rattle.zf_narrow.specs.declared.narrow.Narrow.TheVariants.{I8, U8, I16, U16}
 use Rattle.zf_narrow.specs.Values.{size_of}
 use Rattle.zf_narrow.specs.RawNarrow.{promoted_bytes, promoted_all}
-use Rattle.zf_narrow.specs.Promoting.{listed, coming, told_by, TakesValues}
+use Rattle.zf_narrow.specs.Promoting.{coming, told_by, TakesValues}
 use Rattle.zf_narrow.proofs.Whole.{promoted_all-append, promoted_all-few}
 
 some_size : (n : Narrow) → 0 < size_of n
@@ -32,11 +32,6 @@ values_given n (Some left) None half half_now values first pending takes is = ab
 values_given n (Some left) (Some rest) half half_now values first pending takes is =
     values_then n half half_now values takes.bytes left rest takes.taken takes.parts takes.whole
     ∙ ap (λ bs. bs ++ promoted_all n (half_now ++ rest)) is ∙ append_assoc first pending (promoted_all n (half_now ++ rest))
-
--- the first of the pending bytes were given
-pub pending_given : (n : Narrow) (spent : Bool) (known : Option (List ℕ)) (half pending first rest : List ℕ) → pending ≡ first ++ rest → Takes (told_by n spent pending half known) (told_by n spent rest half known) first
-pending_given n spent None half pending first rest is = tt
-pending_given n spent (Some left) half pending first rest is = ap (λ bs. bs ++ coming n spent half left) is ∙ append_assoc first rest (coming n spent half left)
 
 -- at the end of the source a zero byte is given for half a value
 pub half_given : (n : Narrow) (before now : Option (List ℕ)) (half half_now : List ℕ) (spent : Bool) → length half_now < size_of n → TakesValues n before now half half_now [] → IsAtEnd now → IsTrue spent ↔ (0 < length half_now)
@@ -75,14 +70,6 @@ none_comes n spent None half end none = tt
 none_comes n true (Some left) half end none = refl
 none_comes n false (Some left) [] end none = ap (promoted_all n) end ∙ promoted_all-few n [] (some_size n)
 none_comes n false (Some left) (b ∷ half) end none = absurd (omega arith)
-
-pub spent_end : (n : Narrow) (spent : Bool) (known : Option (List ℕ)) (half : List ℕ) → IsTrue spent → IsAtEnd (told_by n spent [] half known)
-spent_end n spent None half is = tt
-spent_end n true (Some left) half is = refl
-spent_end n false (Some left) half is = absurd (false_is_not is)
-  where
-    false_is_not : IsTrue false → ⊥
-    false_is_not h = cc
 
 -- the end of a source that promotes is told by a read of nothing
 pub ends_at : {E : Type 0} (r : Result ℕ E) (old new : Option (List ℕ)) (buf : List ℕ) → IfOk r (λ k. Takes old new (take k buf)) → IfOk r (λ k. k ≤ length buf) → IfOk r (λ k. k ≡ 0 → IsAtEnd new) → IfOk r (λ k. EndsAt old new k)

@@ -1,7 +1,7 @@
 -- The bytes of whole values, and what follows them.
-use Rattle.std.proofs.Common.{◌≡◌, refl, sym, ap, subst, ◌∙◌, ℕ, zero, suc, ◌+◌, ◌*◌, ◌/◌, ◌%◌, ◌<◌, ℤ, List, [], ◌∷◌, ◌++◌, map, length, replicate, append_assoc, length-append, arith}
+use Rattle.std.proofs.Common.{◌≡◌, refl, sym, ap, ◌∙◌, ℕ, zero, suc, ◌+◌, ◌*◌, ◌/◌, ◌%◌, ◌<◌, ℤ, List, [], ◌∷◌, ◌++◌, map, length, replicate, append_assoc, length-append, arith}
 use Rattle.std.proofs.lemmas.List.{map-append, length-map}
-use Rattle.std.specs.Int.{Width, w32, byte_len}
+use Rattle.std.specs.Int.{w32}
 use Rattle.zf_spec.specs.Stream.{raw, values_from}
 use Rattle.zf_spec.proofs.RawValues.{length-raw, length-values_from}
 use Rattle.zf_stream.proofs.RawValues.{raw-append}
@@ -102,12 +102,6 @@ empty : (s : List ℕ) → length s ≡ 0 → s ≡ []
 empty [] e = refl
 empty (x ∷ xs) e = absurd (omega arith)
 
--- nothing comes of nothing alone
-pub promoted_all-none : (n : Narrow) (s : List ℕ) → promoted_all n s ≡ [] → s ≡ []
-promoted_all-none n s none =
-    let nothing : length s / size_of n * 4 + length s % size_of n ≡ 0 = sym (length-promoted_all n s) ∙ ap (λ (bs : List ℕ). length bs) none in
-    empty s (none_of_both n (length s) (omega arith) (omega arith))
-
 pub no_values : (n : Narrow) (values : List ℕ) → length values % size_of n ≡ 0 → length (promoted_bytes n values) ≡ 0 → values ≡ []
 no_values n values whole none = empty values (none_of_both n (length values) (omega (arith, length-promoted_bytes n values)) whole)
 
@@ -130,8 +124,3 @@ length-demoted_bytes n s =
     let vs = values_from w32 (length s / 4) s in
     length-raw (width_of n) (map (demoted n) vs) ∙ ap (λ k. length (map (demoted n) vs) * k) (size_is n)
     ∙ ap (λ m. m * size_of n) (length-map vs (demoted n) ∙ length-values_from w32 (length s / 4) s)
-
-pub demoted_bytes-few : (n : Narrow) (s : List ℕ) → length s < 4 → demoted_bytes n s ≡ []
-demoted_bytes-few n s few =
-    let none : length s / 4 ≡ 0 = omega arith in
-    ap (λ k. raw_narrow n (values_from w32 k s)) none

@@ -1,5 +1,5 @@
 -- The raw bytes of narrow values, and those of the int32 values that stand for them.
-use Rattle.std.specs.Prelude.{ℕ, ◌*◌, ◌/◌, ◌%◌, ℤ, pos, List, ◌++◌, map, length, replicate}
+use Rattle.std.specs.Prelude.{ℕ, ◌/◌, ◌%◌, ℤ, pos, List, ◌++◌, map, length, replicate}
 use Rattle.std.specs.Int.{w8, w16, w32, cast_unsigned, cast_signed, from_le_bytes, to_le_bytes}
 use Rattle.zf_spec.specs.Stream.{raw, values_from}
 use Rattle.zf_narrow.specs.declared.narrow.Narrow.{Narrow}

@@ -1,289 +1,168 @@
-//! Narrow streams against a program that was written from the definitions alone.
+//! Narrow values and the values that stand for them, one by one and between devices that give and take a byte at a time.
 
 use super::*;
+use crate::demotion::Demotion;
+use crate::promotion::Promotion;
+use crate::raw::{put_demoted, put_promoted};
 use std::test::Fail;
-use zf_base::{Shape, Ty};
 use zf_dev::{MemSink, MemSource};
-use zf_header::{Header, HeaderFault, Mode};
-use zf_stream::StreamFault;
-
-// The stream of one value, 0: what the middle of each type is promoted to.
-const ZERO: [u8; 16] = [
-    0x7a, 0x66, 0x70, 0x05, 0x00, 0x00, 0x00, 0x00, 0x00, 0x00, 0x00, 0x88, 0x00, 0x00, 0x00, 0x00,
-];
-
-// One value of int8, 1 and -128.
-const ONE: [u8; 16] = [
-    0x7a, 0x66, 0x70, 0x05, 0x00, 0x00, 0x00, 0x00, 0x00, 0x00, 0x00, 0x88, 0x08, 0xb0, 0x00, 0x00,
-];
-
-const LEAST: [u8; 16] = [
-    0x7a, 0x66, 0x70, 0x05, 0x00, 0x00, 0x00, 0x00, 0x00, 0x00, 0x00, 0x88, 0x61, 0x01, 0x00, 0x00,
-];
-
-// One value of int32, -2^31, which is beyond each narrow type.
-const BEYOND: [u8; 16] = [
-    0x7a, 0x66, 0x70, 0x05, 0x00, 0x00, 0x00, 0x00, 0x00, 0x00, 0x00, 0x88, 0x60, 0x00, 0x00, 0x00,
-];
-
-// One value of int32, 2^31 - 1.
-const ABOVE: [u8; 24] = [
-    0x7a, 0x66, 0x70, 0x05, 0x00, 0x00, 0x00, 0x00, 0x00, 0x00, 0x00, 0x88, 0x7f, 0x00, 0x00, 0x00,
-    0x00, 0x00, 0x00, 0x00, 0x14, 0x00, 0x00, 0x00,
-];
-
-// Five by seven zeros of int64.
-const WIDE: [u8; 16] = [
-    0x7a, 0x66, 0x70, 0x05, 0x45, 0x00, 0x00, 0x60, 0x00, 0x00, 0x00, 0x88, 0x00, 0x00, 0x00, 0x00,
-];
 
 #[derive(Drop)]
-struct Made {
+struct Stands {
     n: Narrow,
-    raw: &'static [u8],
-    // The answer, and what is written.
-    answer: Result<(), StreamFault>,
-    stream: &'static [u8],
+    value: i32,
+    number: i32,
 }
 
-const MADE: [Made; 9] = [
-    Made {
+// Values, and the numbers that they stand for: on a step, between two, and beyond the type.
+const STANDS: [Stands; 14] = [
+    Stands {
         n: Narrow::I8,
-        raw: &[0x01],
-        answer: Ok(()),
-        stream: &ONE,
+        value: 8388608,
+        number: 1,
     },
-    Made {
+    Stands {
         n: Narrow::I8,
-        raw: &[0x80],
-        answer: Ok(()),
-        stream: &LEAST,
+        value: 8388607,
+        number: 0,
     },
-    Made {
+    Stands {
+        n: Narrow::I8,
+        value: -1,
+        number: -1,
+    },
+    Stands {
+        n: Narrow::I8,
+        value: i32::MIN,
+        number: -128,
+    },
+    Stands {
+        n: Narrow::I8,
+        value: i32::MAX,
+        number: 127,
+    },
+    Stands {
         n: Narrow::U8,
-        raw: &[0x80],
-        answer: Ok(()),
-        stream: &ZERO,
+        value: 0,
+        number: 128,
     },
-    Made {
+    Stands {
+        n: Narrow::U8,
+        value: i32::MIN,
+        number: 0,
+    },
+    Stands {
+        n: Narrow::U8,
+        value: i32::MAX,
+        number: 255,
+    },
+    Stands {
+        n: Narrow::I16,
+        value: 65536,
+        number: 2,
+    },
+    Stands {
+        n: Narrow::I16,
+        value: i32::MIN,
+        number: -32768,
+    },
+    Stands {
+        n: Narrow::I16,
+        value: i32::MAX,
+        number: 32767,
+    },
+    Stands {
         n: Narrow::U16,
-        raw: &[0x00, 0x80],
-        answer: Ok(()),
-        stream: &ZERO,
+        value: -32768,
+        number: 32767,
     },
-    Made {
-        n: Narrow::I16,
-        raw: &[0x00, 0x00],
-        answer: Ok(()),
-        stream: &ZERO,
+    Stands {
+        n: Narrow::U16,
+        value: i32::MIN,
+        number: 0,
     },
-    Made {
-        n: Narrow::I16,
-        raw: &[0x00],
-        answer: Err(StreamFault::RawShort(1)),
-        stream: &[],
-    },
-    Made {
-        n: Narrow::I16,
-        raw: &[0x00, 0x00, 0x00],
-        answer: Err(StreamFault::RawLong),
-        stream: &[],
-    },
-    Made {
-        n: Narrow::U8,
-        raw: &[],
-        answer: Err(StreamFault::RawShort(0)),
-        stream: &[],
-    },
-    Made {
-        n: Narrow::U8,
-        raw: &[0x80, 0x80],
-        answer: Err(StreamFault::RawLong),
-        stream: &[],
+    Stands {
+        n: Narrow::U16,
+        value: i32::MAX,
+        number: 65535,
     },
 ];
-
-#[derive(Drop)]
-struct Back {
-    n: Narrow,
-    stream: &'static [u8],
-    answer: Result<(), NarrowFault>,
-    raw: &'static [u8],
-}
-
-const BACK: [Back; 15] = [
-    Back {
-        n: Narrow::I8,
-        stream: &ONE,
-        answer: Ok(()),
-        raw: &[0x01],
-    },
-    Back {
-        n: Narrow::I8,
-        stream: &LEAST,
-        answer: Ok(()),
-        raw: &[0x80],
-    },
-    Back {
-        n: Narrow::U8,
-        stream: &ZERO,
-        answer: Ok(()),
-        raw: &[0x80],
-    },
-    Back {
-        n: Narrow::U16,
-        stream: &ZERO,
-        answer: Ok(()),
-        raw: &[0x00, 0x80],
-    },
-    Back {
-        n: Narrow::I8,
-        stream: &BEYOND,
-        answer: Ok(()),
-        raw: &[0x80],
-    },
-    Back {
-        n: Narrow::U8,
-        stream: &BEYOND,
-        answer: Ok(()),
-        raw: &[0x00],
-    },
-    Back {
-        n: Narrow::I16,
-        stream: &BEYOND,
-        answer: Ok(()),
-        raw: &[0x00, 0x80],
-    },
-    Back {
-        n: Narrow::U16,
-        stream: &BEYOND,
-        answer: Ok(()),
-        raw: &[0x00, 0x00],
-    },
-    Back {
-        n: Narrow::I8,
-        stream: &ABOVE,
-        answer: Ok(()),
-        raw: &[0x7f],
-    },
-    Back {
-        n: Narrow::U16,
-        stream: &ABOVE,
-        answer: Ok(()),
-        raw: &[0xff, 0xff],
-    },
-    Back {
-        n: Narrow::I8,
-        stream: &WIDE,
-        answer: Err(NarrowFault::NotNarrow),
-        raw: &[],
-    },
-    Back {
-        n: Narrow::I8,
-        stream: &[],
-        answer: Err(NarrowFault::Stream(StreamFault::Header(HeaderFault::Short))),
-        raw: &[],
-    },
-    Back {
-        n: Narrow::U8,
-        stream: &[0x7a, 0x66, 0x70, 0x05, 0, 0, 0, 0, 0, 0, 0, 0x88],
-        answer: Err(NarrowFault::Stream(StreamFault::Truncated(0))),
-        raw: &[],
-    },
-    Back {
-        n: Narrow::U8,
-        stream: &[
-            0x7a, 0x66, 0x70, 0x05, 0, 0, 0, 0, 0, 0, 0, 0x88, 0, 0, 0, 0x80,
-        ],
-        answer: Err(NarrowFault::Stream(StreamFault::Pad)),
-        raw: &[0x80],
-    },
-    Back {
-        n: Narrow::U16,
-        stream: &[
-            0x7a, 0x66, 0x70, 0x05, 0, 0, 0, 0, 0, 0, 0, 0x88, 0, 0, 0, 0, 0,
-        ],
-        answer: Err(NarrowFault::Stream(StreamFault::Trailing)),
-        raw: &[0x00, 0x80],
-    },
-];
-
-// A line of so many values, reversible.
-fn line_of(count: u64) -> Result<Header, Fail> {
-    let shape = Shape::new(1, count, 1, 1, 1).ok().ok_or("a shape")?;
-    Ok(Header {
-        ty: Ty::I32,
-        shape,
-        mode: Mode::Reversible,
-    })
-}
 
 #[test]
-fn narrow_values_become_a_stream(rt: HostRuntime) -> Result<(), Fail> {
-    let alloc = rt.alloc();
-    for row in &MADE {
-        for piece in [1, 3, 1000] {
-            let h = line_of(1)?;
-            let mut src = MemSource::new(row.raw.to_vec(alloc)?, Vec::new(alloc), piece);
-            let mut out = MemSink::new(alloc, Vec::new(alloc), piece);
-            assert_eq!(rt;
-                compress_narrow(alloc, row.n, &h, &mut src, &mut out),
-                row.answer
-            );
-            if row.answer.is_ok() {
-                assert_eq!(rt; out.bytes(), row.stream);
-            }
-        }
+fn values_stand_for_numbers(rt: HostRuntime) -> Result<(), Fail> {
+    for row in &STANDS {
+        assert_eq!(rt; demote(row.n, row.value), row.number);
     }
     Ok(())
 }
 
 #[test]
-fn a_stream_becomes_narrow_values(rt: HostRuntime) -> Result<(), Fail> {
-    let alloc = rt.alloc();
-    for row in &BACK {
-        for piece in [1, 3, 1000] {
-            let mut src = MemSource::new(row.stream.to_vec(alloc)?, Vec::new(alloc), piece);
-            let mut out = MemSink::new(alloc, Vec::new(alloc), piece);
-            assert_eq!(rt;
-                restore_narrow(alloc, row.n, &mut src, &mut out),
-                row.answer
-            );
-            // After a fault the second byte of a value may be owed still.
-            if row.answer.is_ok() || piece > 1 {
-                assert_eq!(rt; out.bytes(), row.raw);
-            }
-        }
-    }
+fn numbers_lie_evenly_around_zero(rt: HostRuntime) -> Result<(), Fail> {
+    assert_eq!(rt; promote(Narrow::I8, -128), -1073741824);
+    assert_eq!(rt; promote(Narrow::I8, 127), 1065353216);
+    assert_eq!(rt; promote(Narrow::U8, 128), 0);
+    assert_eq!(rt; promote(Narrow::U8, 255), 1065353216);
+    assert_eq!(rt; promote(Narrow::I16, -32768), -1073741824);
+    assert_eq!(rt; promote(Narrow::U16, 32768), 0);
+    assert_eq!(rt; promote(Narrow::U16, 65535), 1073709056);
     Ok(())
 }
 
-// Every value of 8 bits, through one stream.
 #[test]
-fn every_value_of_8_bits_comes_back(rt: HostRuntime) -> Result<(), Fail> {
-    let alloc = rt.alloc();
-    let mut all = Vec::new(alloc);
+fn every_byte_comes_back(rt: HostRuntime) -> Result<(), Fail> {
+    let mut all = [0; 256];
     for byte in 0..=255u8 {
-        all.push(byte)?;
+        all[usize::from(byte)] = byte;
     }
-    for n in [Narrow::I8, Narrow::U8, Narrow::I16, Narrow::U16] {
-        for piece in [1, 3, 1000] {
-            let h = line_of(if n == Narrow::I8 || n == Narrow::U8 {
-                256
-            } else {
-                128
-            })?;
-            let mut src = MemSource::new(all.clone()?, Vec::new(alloc), piece);
-            let mut stream = MemSink::new(alloc, Vec::new(alloc), piece);
-            assert_eq!(rt;
-                compress_narrow(alloc, n, &h, &mut src, &mut stream),
-                Ok(())
-            );
-            let mut src = MemSource::new(stream.bytes().to_vec(alloc)?, Vec::new(alloc), piece);
-            let mut back = MemSink::new(alloc, Vec::new(alloc), piece);
-            assert_eq!(rt; restore_narrow(alloc, n, &mut src, &mut back), Ok(()));
-            assert_eq!(rt; back.bytes(), all.as_slice());
-        }
-    }
+    let mut raw = [0; 1024];
+    let mut back = [0; 256];
+    put_promoted(Narrow::I8, 256, &all, &mut raw);
+    put_demoted(Narrow::I8, 256, &raw, &mut back);
+    assert_eq!(rt; back, all);
+    put_promoted(Narrow::U8, 256, &all, &mut raw);
+    put_demoted(Narrow::U8, 256, &raw, &mut back);
+    assert_eq!(rt; back, all);
+    let mut wide = [0; 512];
+    put_promoted(Narrow::I16, 128, &all, &mut wide);
+    put_demoted(Narrow::I16, 128, &wide, &mut back);
+    assert_eq!(rt; back, all);
+    put_promoted(Narrow::U16, 128, &all, &mut wide);
+    put_demoted(Narrow::U16, 128, &wide, &mut back);
+    assert_eq!(rt; back, all);
+    Ok(())
+}
+
+// A value and a half of int16, a byte at a time: for the half a zero byte is given.
+#[test]
+fn half_a_value_gives_a_byte(rt: HostRuntime) -> Result<(), Fail> {
+    let alloc = rt.alloc();
+    let mut src = MemSource::new([0x01, 0x00, 0x02].to_vec(alloc)?, Vec::new(alloc), 1);
+    let mut promotion = Promotion::new(Narrow::I16);
+    let mut piece = [9; 3];
+    assert_eq!(rt; promotion.read(&mut src, &mut piece), Ok(3));
+    assert_eq!(rt; piece, [0x00, 0x80, 0x00]);
+    assert_eq!(rt; promotion.read(&mut src, &mut piece), Ok(1));
+    assert_eq!(rt; piece[0], 0x00);
+    piece[0] = 9;
+    assert_eq!(rt; promotion.read(&mut src, &mut piece), Ok(1));
+    assert_eq!(rt; piece[0], 0x00);
+    assert_eq!(rt; promotion.read(&mut src, &mut piece), Ok(0));
+    Ok(())
+}
+
+// Two values of int16, to a sink that takes a byte at a time; the second value comes in two parts.
+#[test]
+fn a_byte_is_owed(rt: HostRuntime) -> Result<(), Fail> {
+    let alloc = rt.alloc();
+    let mut out = MemSink::new(alloc, Vec::new(alloc), 1);
+    let mut demotion = Demotion::new(Narrow::I16);
+    assert_eq!(rt; demotion.write(&mut out, &[0x00, 0x80, 0x00, 0x00]), Ok(4));
+    assert_eq!(rt; out.bytes(), [0x01].as_slice());
+    assert_eq!(rt; demotion.write(&mut out, &[0x00]), Ok(1));
+    assert_eq!(rt; out.bytes(), [0x01, 0x00].as_slice());
+    assert_eq!(rt; demotion.write(&mut out, &[0x00, 0x01, 0x00, 0x07]), Ok(3));
+    assert_eq!(rt; out.bytes(), [0x01, 0x00, 0x02].as_slice());
+    assert_eq!(rt; demotion.settle(&mut out), Ok(()));
+    assert_eq!(rt; out.bytes(), [0x01, 0x00, 0x02, 0x00].as_slice());
     Ok(())
 }

@@ -3,7 +3,5 @@
 
 pub mod laws;
 mod private;
-#[cfg(test)]
-mod tests;
 
 pub use private::Private;

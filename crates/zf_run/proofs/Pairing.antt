@@ -184,5 +184,5 @@ same_store s t frame codes =
     let count : length t.codes ≡ length s.codes = ap (λ (q : Frame). q.count) frame in
     let d = replicate (rate_of s) false in
     let same : t.codes ≡ s.codes = ext_get_or d t.codes s.codes count
-        (λ k lt. ap (λ (h : Header). get_or t.codes k (replicate (block_bits h.mode) false)) (sym head) ∙ codes k) in
+    (λ k lt. ap (λ (h : Header). get_or t.codes k (replicate (block_bits h.mode) false)) (sym head) ∙ codes k) in
     λ i. record { header = head i; codes = same i }

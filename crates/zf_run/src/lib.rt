@@ -25,3 +25,5 @@ pub use two_runs::run_two;
 mod look_tests;
 #[cfg(test)]
 mod tests;
+#[cfg(test)]
+mod two_tests;

@@ -277,6 +277,51 @@ fn a_stream_is_judged_to_its_end(rt: HostRuntime) -> Result<(), Fail> {
     Ok(())
 }
 
+#[test]
+fn a_stream_of_another_type_is_left(rt: HostRuntime) -> Result<(), Fail> {
+    let alloc = rt.alloc();
+    // the bytes, the type wanted, the answer, and how many bytes of the value are written
+    let rows = [
+        (ONE_STREAM.as_slice(), Ty::I32, Ok(true), 4),
+        (ONE_STREAM.as_slice(), Ty::I64, Ok(false), 0),
+        (
+            &ONE_STREAM[..16],
+            Ty::I32,
+            Err(StreamFault::Truncated(0)),
+            0,
+        ),
+        (&ONE_STREAM[..16], Ty::I64, Ok(false), 0),
+        (
+            &ONE_STREAM[..20],
+            Ty::I32,
+            Err(StreamFault::Truncated(1)),
+            4,
+        ),
+        (
+            ONE_AND_A_BYTE.as_slice(),
+            Ty::I32,
+            Err(StreamFault::Trailing),
+            4,
+        ),
+        (ONE_AND_A_BYTE.as_slice(), Ty::I64, Ok(false), 0),
+        (
+            &ONE_STREAM[..11],
+            Ty::I64,
+            Err(StreamFault::Header(HeaderFault::Short)),
+            0,
+        ),
+    ];
+    for (stream, wanted, answer, written) in rows {
+        for piece in [1, 100] {
+            let mut src = MemSource::new(stream.to_vec(alloc)?, Vec::new(alloc), piece);
+            let mut out = MemSink::new(alloc, Vec::new(alloc), piece);
+            assert_eq!(rt; restore_where(alloc, wanted, &mut src, &mut out), answer);
+            assert_eq!(rt; out.bytes(), front(&[1, 0, 0, 0], written));
+        }
+    }
+    Ok(())
+}
+
 // Of several slabs and windows in each number of dimensions, type and mode, the last slab with fewer rows; the hashes of the stream and of what comes back.
 const SLABS: [(Ty, u8, [u64; 4], Mode, u64, u64); 24] = [
     (

@@ -1,7 +1,7 @@
-use Rattle.std.proofs.Common.{rules, FitsSigned, ◌≡◌, ℕ, ◌+◌, ◌-◌, ◌*◌, ◌≤◌, List, ◌++◌, map, length, take, drop, sym, ap, subst, ◌∙◌, arith}
+use Rattle.std.proofs.Common.{rules, FitsSigned, ◌≡◌, ℕ, ◌+◌, ◌-◌, ◌*◌, ◌≤◌, List, ◌++◌, length, take, drop, sym, ap, subst, ◌∙◌, arith}
 use Rattle.std.proofs.Math.Nat.{mul-le-mul_right}
 use Rattle.std.proofs.lemmas.Int.{to_z-of_z}
-use Rattle.std.specs.Int.{w32, to_le_bytes, from_le_bytes, cast_unsigned, cast_signed}
+use Rattle.std.specs.Int.{w32, from_le_bytes, cast_signed}
 use Rattle.zf_spec.specs.Stream.{values_from}
 use Rattle.zf_narrow.specs.Values.{size_of, demoted}
 use Rattle.zf_narrow.specs.RawNarrow.{narrow_bytes, raw_narrow}

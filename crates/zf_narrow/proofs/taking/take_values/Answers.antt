@@ -1,4 +1,4 @@
-use Rattle.std.proofs.Common.{◌≡◌, ◌+◌, ◌%◌, List, ℕ, take, sym, ap, ◌∙◌, subst, Option, arith}
+use Rattle.std.proofs.Common.{◌≡◌, ◌+◌, ◌%◌, List, ℕ, take, ap, ◌∙◌, subst, arith}
 use Rattle.std.proofs.lemmas.List.{length-take-le}
 use Rattle.zf_narrow.specs.Values.{size_of}
 use Rattle.zf_narrow.specs.Promoting.{ReadsBehind}

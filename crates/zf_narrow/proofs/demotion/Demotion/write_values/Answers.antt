@@ -1,5 +1,4 @@
-use Rattle.std.proofs.Common.{rules, refl, ◌≡◌, ◌%◌, ◌*◌, ◌<◌, ◌≤◌, ◌++◌, [], length, take, drop, sym, ap, ◌∙◌, ℕ, ◌+◌, ◌/◌, min, List, append-nil, arith}
-use Rattle.std.proofs.lemmas.List.{length-take}
+use Rattle.std.proofs.Common.{◌≡◌, ◌%◌, ◌*◌, ◌≤◌, ◌++◌, length, sym, ap, ◌∙◌, ℕ, ◌+◌, ◌/◌, min, List, append-nil, arith}
 use Rattle.zf_narrow.specs.Values.{size_of}
 use Rattle.zf_narrow.specs.RawNarrow.{demoted_bytes}
 use Rattle.zf_narrow.specs.Promoting.{listed}
@@ -26,6 +25,7 @@ invariant_of-self-clause-written g c =
     ap (λ (bs : List ℕ). bs ++ listed c.if-written-values.self) c.push.ensures
     ∙ written_is n count values k raw part _ c.args.self.now.given.bytes c.args.self.now.taken.bytes (listed c.if-written-values.self) few room c.put_demoted.ensures before c.args.self.now.whole
     (elim c.if-written-values.branch [
-      then-written-values w ↦ owes_one n count values k len raw part _ _ c.if-written-values.self room c.put_demoted.ensures len_is bound values_is w.self-is w.if-written-values.true
-      | else-written-values w ↦ owes_none n count values k len _ c.if-written-values.self len_is bound values_is w.self-is w.if-written-values.false ])
+      | then-written-values w ↦ owes_one n count values k len raw part _ _ c.if-written-values.self room c.put_demoted.ensures len_is bound values_is w.self-is w.if-written-values.true
+      | else-written-values w ↦ owes_none n count values k len _ c.if-written-values.self len_is bound values_is w.self-is w.if-written-values.false
+    ])
     ∙ ap (demoted_bytes n) (sym c.push-2.ensures)

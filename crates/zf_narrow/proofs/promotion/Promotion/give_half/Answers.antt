@@ -1,4 +1,4 @@
-use Rattle.std.proofs.Common.{ℕ, length, replicate, sym, ap, ◌∙◌}
+use Rattle.std.proofs.Common.{length, replicate, sym, ap, ◌∙◌}
 use Rattle.std.proofs.lemmas.List.{take_more_set}
 use Rattle.zf_narrow.specs.Promoting.{listed}
 use Rattle.zf_narrow.proofs.promotion.Promotion.give_half.Goals as goal

@@ -1,7 +1,6 @@
-use Rattle.std.proofs.Common.{rules, ◌≡◌, ◌∙◌, refl, ap, length, take, [], IsTrue, arith}
-use Rattle.std.proofs.lemmas.List.{length-take-le, take_all}
+use Rattle.std.proofs.Common.{rules, ◌≡◌, ◌∙◌, ap, length, take, [], IsTrue, arith}
 use Rattle.zf_stream.proofs.OnErrors.{on_err}
-use Rattle.zf_narrow.proofs.Reading.{all_given, first_given, half_read}
+use Rattle.zf_narrow.proofs.Reading.{all_given, half_read}
 use Rattle.zf_narrow.proofs.promotion.Promotion.read.Goals as goal
 
 pub returns-in_err-count-clause-ungiven : goal.returns-in_err-count-clause-ungiven

@@ -1,5 +1,5 @@
-use Rattle.std.proofs.Common.{rules, ◌≡◌, ◌∙◌, refl, ap, length, take, [], arith}
-use Rattle.std.proofs.lemmas.List.{length-take-le, take_all}
+use Rattle.std.proofs.Common.{rules, ◌≡◌, ◌∙◌, ap, length, take, [], arith}
+use Rattle.std.proofs.lemmas.List.{take_all}
 use Rattle.zf_stream.proofs.OnErrors.{on_err}
 use Rattle.zf_narrow.proofs.Reading.{all_given, first_given, half_read}
 use Rattle.zf_narrow.proofs.promotion.Promotion.read_one.Goals as goal

@@ -1,0 +1,54 @@
+-- Narrow values and what stands for them, there and back.
+use Rattle.std.proofs.Common.{rules, FitsSigned, ◌≡◌, ap, ◌∙◌, ◌+◌, ◌*◌, ℤ, pos, negsuc, ◌+ℤ◌, ◌-ℤ◌, ◌*ℤ◌, arith}
+use Rattle.std.proofs.lemmas.Int.{ints, clamps}
+use Rattle.std.specs.Int.{w32}
+use Rattle.zf_narrow.specs.declared.narrow.Narrow.{Narrow}
+use Rattle.zf_narrow.specs.declared.narrow.Narrow.TheVariants.{I8, U8, I16, U16}
+use Rattle.zf_narrow.specs.Values.{IsNarrow, step_of, middle_of, promoted, floor_div, nearest, demoted}
+
+-- a whole number of steps is that number of them, rounded down
+floor_div-times : (n : Narrow) (v : ℤ) → floor_div (v *ℤ pos (step_of n)) (step_of n) ≡ v
+floor_div-times I8 (pos m) = ap pos (omega arith)
+floor_div-times I8 (negsuc m) =
+    let below : negsuc m *ℤ pos 8388608 ≡ negsuc (m * 8388608 + 8388607) = omega (arith, ints) in
+    ap (λ z. floor_div z 8388608) below ∙ ap negsuc (omega arith)
+floor_div-times U8 (pos m) = ap pos (omega arith)
+floor_div-times U8 (negsuc m) =
+    let below : negsuc m *ℤ pos 8388608 ≡ negsuc (m * 8388608 + 8388607) = omega (arith, ints) in
+    ap (λ z. floor_div z 8388608) below ∙ ap negsuc (omega arith)
+floor_div-times I16 (pos m) = ap pos (omega arith)
+floor_div-times I16 (negsuc m) =
+    let below : negsuc m *ℤ pos 32768 ≡ negsuc (m * 32768 + 32767) = omega (arith, ints) in
+    ap (λ z. floor_div z 32768) below ∙ ap negsuc (omega arith)
+floor_div-times U16 (pos m) = ap pos (omega arith)
+floor_div-times U16 (negsuc m) =
+    let below : negsuc m *ℤ pos 32768 ≡ negsuc (m * 32768 + 32767) = omega (arith, ints) in
+    ap (λ z. floor_div z 32768) below ∙ ap negsuc (omega arith)
+
+pub nearest_narrow : (n : Narrow) (v : ℤ) → IsNarrow n (nearest n v)
+nearest_narrow I8 v = record { at_least = omega (arith, ints, clamps); at_most = omega (arith, ints, clamps) }
+nearest_narrow U8 v = record { at_least = omega (arith, ints, clamps); at_most = omega (arith, ints, clamps) }
+nearest_narrow I16 v = record { at_least = omega (arith, ints, clamps); at_most = omega (arith, ints, clamps) }
+nearest_narrow U16 v = record { at_least = omega (arith, ints, clamps); at_most = omega (arith, ints, clamps) }
+
+-- a number of the type is the nearest to itself
+nearest_itself : (n : Narrow) (v : ℤ) → IsNarrow n v → nearest n v ≡ v
+nearest_itself I8 v is = let low = is.at_least in let high = is.at_most in omega (arith, ints, clamps)
+nearest_itself U8 v is = let low = is.at_least in let high = is.at_most in omega (arith, ints, clamps)
+nearest_itself I16 v is = let low = is.at_least in let high = is.at_most in omega (arith, ints, clamps)
+nearest_itself U16 v is = let low = is.at_least in let high = is.at_most in omega (arith, ints, clamps)
+
+there_and_back : (a b : ℤ) → (a -ℤ b) +ℤ b ≡ a
+there_and_back a b = omega (arith, ints)
+
+pub demoted-promoted : (n : Narrow) (v : ℤ) → IsNarrow n v → demoted n (promoted n v) ≡ v
+demoted-promoted n v is =
+    ap (λ m. nearest n (m +ℤ middle_of n)) (floor_div-times n (v -ℤ middle_of n))
+    ∙ ap (nearest n) (there_and_back v (middle_of n))
+    ∙ nearest_itself n v is
+
+pub promoted_fits : (n : Narrow) (v : ℤ) → IsNarrow n v → FitsSigned w32 (promoted n v)
+promoted_fits I8 v is = let low = is.at_least in let high = is.at_most in search (rules, ints)
+promoted_fits U8 v is = let low = is.at_least in let high = is.at_most in search (rules, ints)
+promoted_fits I16 v is = let low = is.at_least in let high = is.at_most in search (rules, ints)
+promoted_fits U16 v is = let low = is.at_least in let high = is.at_most in search (rules, ints)
