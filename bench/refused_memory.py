@@ -158,6 +158,7 @@ def main():
         bench.tries("new a int32 8 64")
         made = bench.run("new a int32 8 64", b"", {}, 0)[0][3]
         bench.tries("run a lines 2", LONG_SCRIPT, made)
+        bench.tries("run a twoway 2", LONG_SCRIPT, made)
         bench.tries("look a lines 2", b"get 0\nlines 4\nsum\nstats\n", {"a": ONE})
         bench.tries("bound a 100", b"", made)
         bench.tries("sample int32 4x4 1 rate 64")
