@@ -5,13 +5,17 @@ use crate::status::Status;
 use std::test::Fail;
 
 // The file of sixteen zeros of int32 with 64 bits a block; with 0 0 0 0 5 in front; with 3 everywhere; with 2 in front.
-const ZEROS: &[u8] = b"zfp\x05\xf0\0\0\0\0\0\xf0\x03\0\0\0\0\0\0\0\0\0\0\0\0\0\0\0\0\0\0\0\0\0\0\0\0\0\0\0\0\0\0\0\0\0\0\0\0";
+const ZEROS: &[u8] =
+    b"zfp\x05\xf0\0\0\0\0\0\xf0\x03\0\0\0\0\0\0\0\0\0\0\0\0\0\0\0\0\0\0\0\0\0\0\0\0\0\0\0\0\0\0\0\0\0\0\0\0";
 
-const FIVE: &[u8] = b"zfp\x05\xf0\0\0\0\0\0\xf0\x03\0\0\0\0\0\0\0\0\0\0\0\xa0\x7c\x03\0\0\0\0\0\0\0\0\0\0\0\0\0\0\0\0\0\0\0\0\0\0";
+const FIVE: &[u8] =
+    b"zfp\x05\xf0\0\0\0\0\0\xf0\x03\0\0\0\0\0\0\0\0\0\0\0\xa0\x7c\x03\0\0\0\0\0\0\0\0\0\0\0\0\0\0\0\0\0\0\0\0\0\0";
 
-const THREES: &[u8] = b"zfp\x05\xf0\0\0\0\0\0\xf0\x03\0\0\0\x60\x05\0\0\0\0\0\0\x60\x05\0\0\0\0\0\0\x60\x05\0\0\0\0\0\0\x60\x05\0\0\0\0\0\0\0";
+const THREES: &[u8] =
+    b"zfp\x05\xf0\0\0\0\0\0\xf0\x03\0\0\0\x60\x05\0\0\0\0\0\0\x60\x05\0\0\0\0\0\0\x60\x05\0\0\0\0\0\0\x60\x05\0\0\0\0\0\0\0";
 
-const TWO: &[u8] = b"zfp\x05\xf0\0\0\0\0\0\xf0\x03\0\0\0\xa0\x0c\x01\0\0\0\0\0\0\0\0\0\0\0\0\0\0\0\0\0\0\0\0\0\0\0\0\0\0\0\0\0\0";
+const TWO: &[u8] =
+    b"zfp\x05\xf0\0\0\0\0\0\xf0\x03\0\0\0\xa0\x0c\x01\0\0\0\0\0\0\0\0\0\0\0\0\0\0\0\0\0\0\0\0\0\0\0\0\0\0\0\0\0\0";
 
 // Words, a script on the zeros, how it ends, the replies, and the file that is saved.
 const RUNS: [(&str, &[u8], Status, &[u8], &[u8]); 6] = [
@@ -77,7 +81,7 @@ const FAULTS: [(&[u64], &[u64], &[u64], Status, &[u8]); 4] = [
     (&[0], &[], &[], Status::ReadFault, b""),
     (&[], &[1], &[], Status::WriteFault, b"0\n"),
     (&[], &[], &[2], Status::LoadFault, b""),
-    (&[], &[], &[3], Status::SaveFault, b"0\n1\n"),
+    (&[], &[], &[3], Status::SaveFault, b"0\n0\n"),
 ];
 
 #[test]
