@@ -81,7 +81,7 @@ const FAULTS: [(&[u64], &[u64], &[u64], Status, &[u8]); 4] = [
     (&[0], &[], &[], Status::ReadFault, b""),
     (&[], &[1], &[], Status::WriteFault, b"0\n"),
     (&[], &[], &[2], Status::LoadFault, b""),
-    (&[], &[], &[3], Status::SaveFault, b"0\n1\n"),
+    (&[], &[], &[3], Status::SaveFault, b"0\n0\n"),
 ];
 
 #[test]
