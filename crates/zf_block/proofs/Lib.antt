@@ -6,7 +6,6 @@
 --     AfterReserve   room that was asked for before
 --     Answered    what follows of an answer that may be nothing
 --     ReadCodes   what reading a code is, from what was read of it
---     CutCodes    the codes of planes that a budget cuts
 --     WholePlanes  how far down a code at a fixed rate has its planes whole
 --     ReadBack    what is read back from the codes of a block
 pub mod Sizes
@@ -16,6 +15,5 @@ pub mod Zeros
 pub mod AfterReserve
 pub mod Answered
 pub mod ReadCodes
-pub mod CutCodes
 pub mod WholePlanes
 pub mod ReadBack

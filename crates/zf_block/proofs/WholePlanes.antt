@@ -20,7 +20,7 @@ use Rattle.zf_spec.proofs.Full.{full_begins, full_only, length-planes_in, planes
 use Rattle.zf_spec.proofs.PlaneDigits.{length-planes, planes-length}
 use Rattle.zf_block.specs.WholePlanes.{planes_from, whole_from, rate_whole_from}
 use Rattle.zf_block.proofs.Kept.{length-kept_planes, kept_planes-top}
-use Rattle.zf_block.proofs.CutCodes.{kept_planes-too_long}
+use Rattle.zf_spec.proofs.CutCodes.{kept_planes-too_long}
 
 -- ---- the least plane from which on the codes fit a budget
 

@@ -1,14 +1,11 @@
 -- How large the error is at most.
-use Rattle.std.proofs.Common.{◌≡◌, ap, ◌∙◌, ℕ, ◌+◌, ◌*◌, ◌^◌, ◌≤◌, pow-suc, add-one, arith}
+use Rattle.std.proofs.Common.{◌≡◌, ap, ℕ, ◌+◌, ◌*◌, ◌^◌, ◌≤◌, add-one, arith}
 use Rattle.std.proofs.Math.Nat.{pow-le-pow_right}
 use Rattle.zf_bound.specs.Bounds.{error_of}
 
 -- one axis more
 pub error_of-next : (d k : ℕ) → error_of (d + 1) k ≡ 4 * error_of d k + 4
 error_of-next d k = ap (λ n. error_of n k) (add-one d)
-
-pub power_next : (d : ℕ) → 4 ^ (d + 1) ≡ 4 * 4 ^ d
-power_next d = ap (λ n. 4 ^ n) (add-one d) ∙ pow-suc 4 d ∙ omega arith
 
 -- up to four axes, of planes of up to 64 bits
 pub power_most : (d : ℕ) → d ≤ 4 → 4 ^ d ≤ 256

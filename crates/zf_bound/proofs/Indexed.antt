@@ -14,6 +14,7 @@ use Rattle.zf_header.specs.declared.header.Header.{Header}
 use Rattle.zf_header.specs.declared.header.Mode.{Mode}
 use Rattle.zf_header.specs.declared.header.Mode.TheVariants.{Reversible, Rate, Precision}
 use Rattle.zf_header.specs.HeaderBits.{IsRate, block_bits}
+use Rattle.zf_header.proofs.Modes.{mode_is_rate, rate_is_some}
 use Rattle.zf_stream.specs.Parsing.{Said, parse, without_said, read_code, values_of_blocks}
 use Rattle.zf_index.specs.Spans.{Index, place, len_at, code_in, codes_in}
 use Rattle.zf_index.specs.Files.{IsIndexOf, found, block_read, len_read, blocks_found}
@@ -25,15 +26,6 @@ use Rattle.zf_bound.proofs.Streams.{blocks_read, stream_close}
 
 -- ---- a fixed rate
 
-pub rate_is : (m : Mode) → IsRate m → m ≡ Rate (block_bits m)
-rate_is Reversible h = absurd h
-rate_is (Rate b) h = refl
-rate_is (Precision p) h = absurd h
-
-pub rate_most : (m : Mode) → IsRate m → block_bits m ≤ 32768
-rate_most Reversible h = absurd h
-rate_most (Rate b) h = h.1
-rate_most (Precision p) h = absurd h
 
 some_same : (a b : ℕ) → Some a ≡ Some b → a ≡ b
 some_same a b e = cc
@@ -80,7 +72,7 @@ module _ (bytes : List ℕ) (h : Header) (i : Index) (index : IsIndexOf bytes h 
   module _ (rate : IsRate h.mode) where
     code_found : (b : ℕ) → b < length i.lens → (len_at i b ≡ block_bits h.mode) × (block_read (found h i (to_bits bytes) b) ≡ read_rate (width_of h.ty) (extent_of h.shape b) (code_in i (to_bits bytes) b))
     code_found b below =
-        let mode = rate_is h.mode rate in
+        let mode = mode_is_rate h.mode rate in
         let s = drop (place i b) (to_bits bytes) in
         let P : Mode → Type 0 = λ m. len_read (read_code (width_of h.ty) m (extent_of h.shape b) s) ≡ Some (len_at i b) in
         let Q : Mode → Type 0 = λ m. (len_at i b ≡ block_bits h.mode) × (block_read (read_code (width_of h.ty) m (extent_of h.shape b) s) ≡ read_rate (width_of h.ty) (extent_of h.shape b) (code_in i (to_bits bytes) b)) in
@@ -91,7 +83,7 @@ module _ (bytes : List ℕ) (h : Header) (i : Index) (index : IsIndexOf bytes h 
     are_inside bits is n long b below =
         let ends = ends_within i b (length i.lens) below in
         let whole : length (to_bits bytes) ≤ n = omega (arith, ap length is, length-append (to_bits bytes) (fill (to_bits bytes)), long) in
-        (omega (arith, ends, index.within, whole), omega (arith, ends, index.within, index.small), omega (arith, (code_found b below).0, rate_most h.mode rate))
+        (omega (arith, ends, index.within, whole), omega (arith, ends, index.within, index.small), omega (arith, (code_found b below).0, (rate_is_some h.mode rate).1))
 
     blocks_same : blocks_found h i (to_bits bytes) ≡ blocks_read h (codes_in i (to_bits bytes))
     blocks_same =
@@ -113,4 +105,4 @@ module _ (bytes : List ℕ) (h : Header) (i : Index) (index : IsIndexOf bytes h 
         is_said (λ said. IsBound h said.codes m e said.values)
         (subst (λ (bs : List (List ℤ)). IsBound h cs m e (values_of_blocks h.shape bs)) (sym blocks_same)
         (subst (λ f. IsBound h cs m f (values_of_blocks h.shape (blocks_read h cs))) (sym exact)
-        (λ contents these. stream_close h (block_bits h.mode) m cs contents shape (rate_is h.mode rate) these room)))
+        (λ contents these. stream_close h (block_bits h.mode) m cs contents shape (mode_is_rate h.mode rate) these room)))

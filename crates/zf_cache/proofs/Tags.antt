@@ -85,15 +85,6 @@ zeros_of (t ∷ tags) zero e zeros = absurd (omega (arith, e))
 zeros_of (t ∷ tags) (suc n) e zeros = let more : length tags ≡ n = omega (arith, e) in
     λ i. zeros zero (omega arith) i ∷ zeros_of tags n more (λ m lt. zeros (suc m) (omega arith)) i
 
--- a block has at most 256 values
-pub at_most_256 : (d : ℕ) → d ≤ 4 → 4 ^ d ≤ 256
-at_most_256 zero h = lit≤ tt
-at_most_256 (suc zero) h = lit≤ tt
-at_most_256 (suc (suc zero)) h = lit≤ tt
-at_most_256 (suc (suc (suc zero))) h = lit≤ tt
-at_most_256 (suc (suc (suc (suc zero)))) h = lit≤ tt
-at_most_256 (suc (suc (suc (suc (suc d))))) h = absurd (omega (arith, h))
-
 -- a number of lines is one that masks cut to
 pub counts_lines : (n : ℕ) → IsLineCount n → (0 < n) × (n ≤ 2 ^ 16)
 counts_lines n h = by h.0 n h.1 h.2

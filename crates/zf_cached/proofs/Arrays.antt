@@ -28,7 +28,7 @@ unfolding existing_of array_format existing_values
 existing_of-array coding ns b values =
     ap (λ d. map (λ p. cond (is_inside (extent_of ns b) (indices d p)) (get_or values p (pos 0)) (pos 0)) (upto (4 ^ d))) (sym (length-extent_of ns b))
 
-existing_values-read_rate : (w : Width) (es : List ℕ) (code : List Bool) → existing_values es (read_rate w es code) ≡ read_rate w es code
+pub existing_values-read_rate : (w : Width) (es : List ℕ) (code : List Bool) → existing_values es (read_rate w es code) ≡ read_rate w es code
 unfolding read_rate
 existing_values-read_rate w es code = existing_values-existing_values es _
 

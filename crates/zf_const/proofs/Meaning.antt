@@ -12,7 +12,7 @@ use Rattle.zf_header.specs.declared.header.Mode.{Mode}
 use Rattle.zf_header.specs.declared.header.Mode.TheVariants.{Reversible, Rate, Precision}
 use Rattle.zf_header.specs.HeaderBits.{coding}
 use Rattle.zf_cached.specs.Arrays.{mode_coding, rate_coding, array_format, read_values}
-use Rattle.zf_cached.proofs.Arrays.{existing_of-array}
+use Rattle.zf_cached.proofs.Arrays.{existing_of-array, existing_values-read_rate}
 use Rattle.zf_stream.specs.Parsing.{read_code}
 use Rattle.zf_index.specs.Spans.{Index, len_at, place, code_in, codes_in}
 use Rattle.zf_index.specs.Files.{AreRead, found, block_read}
@@ -42,10 +42,6 @@ rev_existing : (w : Width) (es : List ℕ) (s : List Bool) (block : List ℤ) (k
 unfolding read_rev
 rev_existing w es s block k e = let is = found_some _ _ block _ k e in ap (existing_values es) (sym is.same) ∙ existing_values-existing_values es _ ∙ is.same
 
-rate_existing : (w : Width) (es : List ℕ) (t : List Bool) → existing_values es (read_rate w es t) ≡ read_rate w es t
-unfolding read_rate
-rate_existing w es t = existing_values-existing_values es _
-
 prec_existing : (w : Width) (p : ℕ) (es : List ℕ) (s : List Bool) (block : List ℤ) (k : ℕ) → read_prec w p es s ≡ Some (block, k) → existing_values es block ≡ block
 unfolding read_prec
 prec_existing w p es s block k e = let is = found_some _ _ block _ k e in ap (existing_values es) (sym is.same) ∙ existing_values-existing_values es _ ∙ is.same
@@ -54,7 +50,7 @@ code_existing : (w : Width) (mode : Mode) (es : List ℕ) (s : List Bool) (block
 code_existing w Reversible es s block k e = rev_existing w es s block k e
 code_existing w (Rate b) es s block k e =
     let is = found_some (ltb (length s) b) (read_rate w es (take b s)) block b k e in
-    ap (existing_values es) (sym is.same) ∙ rate_existing w es (take b s) ∙ is.same
+    ap (existing_values es) (sym is.same) ∙ existing_values-read_rate w es (take b s) ∙ is.same
 code_existing w (Precision p) es s block k e = prec_existing w p es s block k e
 
 -- so a code of just so many bits means what is read

@@ -17,16 +17,13 @@ use Rattle.zf_cached.specs.Touch.{touch}
 use Rattle.zf_cached.specs.Changes.{opened}
 use Rattle.zf_cached.specs.Arrays.{array_format}
 use Rattle.zf_cached.proofs.States.{same_state}
+use Rattle.zf_cached.proofs.Caching.{is_block-true}
 use Rattle.zf_cache.specs.Kept.{Kept, HasBlocks, IsClean, IsEmpty, tag_at, block_in, line_of, dirty_tag, clean_tag}
 use Rattle.zf_cache.specs.Standing.{state_of, values_of, line_values, Fits}
 use Rattle.zf_cache.proofs.Tags.{named}
 use Rattle.zf_cache.proofs.Touches.{no_tag}
 use Rattle.zf_const.specs.Standing.{Held, format, state, touched}
 use Rattle.zf_const.specs.Parts.{Coded, code_at, format_of, held_by, IsJoined}
-
-is_block-is : (o : Option ℕ) (b : ℕ) → is_block o b ≡ true → o ≡ Some b
-is_block-is None b e = absurd cc
-is_block-is (Some a) b e = ap Some (eqb-true a b e)
 
 -- the blocks in the lines are those that the tags name
 lines_named : (tags : List ℕ) → map (λ l. block_in (tag_at tags l)) (upto (length tags)) ≡ map block_in tags
@@ -50,7 +47,7 @@ module _ {X : Type 0} (value : X → ℤ) (s : Coded) (c : Kept X) (fits : Fits 
 
       by : (is_block (block_in tag) b ≡ true) ⊎ (is_block (block_in tag) b ≡ false) → meant (format_of s) b (code_at s b) ≡ Of (is_block (block_in tag) b)
       by (inl e) =
-          let half = named tag b (is_block-is (block_in tag) b e) in
+          let half = named tag b (is_block-true (block_in tag) b e) in
           let even = clean (line_of c b) in
           let is : tag ≡ clean_tag b = omega (arith, half, even) in
           sym (ap Of e ∙ fits.clean (line_of c b) b is)

@@ -4,10 +4,21 @@ use Rattle.std.proofs.lemmas.Bool.{cases_lt, ne_eqb, lt-leb, and_from, and_left,
 use Rattle.zf_spec.specs.Stream.{mode_number}
 use Rattle.zf_header.specs.declared.header.Mode.{Mode}
 use Rattle.zf_header.specs.declared.header.Mode.TheVariants.{Reversible, Rate, Precision}
-use Rattle.zf_header.specs.HeaderBits.{coding, IsMode, IsRate}
+use Rattle.zf_header.specs.HeaderBits.{coding, IsMode, IsRate, block_bits}
 use Rattle.zf_header.specs.HeaderFields.{mode_in, long_rate_in, is_long_rate, mode_said, header_in}
 use Rattle.zf_header.proofs.Parts.{short_number, long_number}
 use Rattle.zf_header.proofs.Bits.{number_at_below}
+
+-- a mode of a fixed rate is that of its bits a block
+pub mode_is_rate : (m : Mode) → IsRate m → m ≡ Rate (block_bits m)
+mode_is_rate Reversible is = absurd is
+mode_is_rate (Rate b) is = refl
+mode_is_rate (Precision p) is = absurd is
+
+pub rate_is_some : (m : Mode) → IsRate m → (1 ≤ block_bits m) × (block_bits m ≤ 32768)
+rate_is_some Reversible is = absurd is
+rate_is_some (Rate b) is = is
+rate_is_some (Precision p) is = absurd is
 
 -- the test for the numbers of fixed precisions
 abbrev pub is_precision : ℕ → Bool

@@ -13,6 +13,7 @@ use Rattle.zf_header.specs.declared.header.Mode.{Mode}
 use Rattle.zf_header.specs.declared.header.Mode.TheVariants.{Reversible, Rate, Precision}
 use Rattle.zf_header.specs.HeaderBits.{IsMode}
 use Rattle.zf_stream.specs.Parsing.{read_code}
+use Rattle.zf_stream.proofs.BlocksBack.{width_at_most_64}
 use Rattle.zf_stream.proofs.Enough.{planes_fit, count_fits}
 
 -- what is found where enough bits are there
@@ -27,15 +28,11 @@ found_some {A} false a b n k e =
     let same : (a, n) ≡ (b, k) = cc in
     record { enough = refl; same = ap (λ (c : A × ℕ). c.0) same; count = ap (λ (c : A × ℕ). c.1) same }
 
-narrow : (ty : Ty) → bits (width_of ty) ≤ 64
-narrow I32 = omega arith
-narrow I64 = omega arith
-
 -- the planes of a block have few bits
 few : (ty : Ty) (d : ℕ) → d ≤ 4 → 4 ^ d * (bits (width_of ty) + 1) ≤ 16640
 few ty d le =
     let size : 4 ^ d ≤ 4 ^ 4 = pow-le-pow_right (omega arith) le in
-    let count : bits (width_of ty) + 1 ≤ 65 = omega (arith, narrow ty) in
+    let count : bits (width_of ty) + 1 ≤ 65 = omega (arith, width_at_most_64 ty) in
     omega (arith, mul-le-mul size count)
 
 rev_few : (ty : Ty) (es : List ℕ) (s : List Bool) (block : List ℤ) (k : ℕ) → length es ≤ 4 → read_rev (width_of ty) es s ≡ Some (block, k) → k ≤ 32768

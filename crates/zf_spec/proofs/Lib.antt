@@ -20,6 +20,7 @@
 --     Full             the only planes whose code begins a list of bits
 --     KeptCases        what a budget keeps of digits, by cases
 --     KeptSame         what a budget keeps is known from as many bits
+--     CutCodes         the codes of planes that a budget cuts
 --     BlockReading     what reading the code of a block gives, and how long it is
 --     Bytes            bytes of bits, and the bytes of numbers
 --     RawValues        values and their raw bytes, and the length of the header
@@ -47,6 +48,7 @@ pub mod Beginnings
 pub mod Full
 pub mod KeptCases
 pub mod KeptSame
+pub mod CutCodes
 pub mod BlockReading
 pub mod Bytes
 pub mod RawValues

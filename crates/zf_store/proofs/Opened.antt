@@ -20,6 +20,7 @@ use Rattle.zf_header.specs.declared.header.Mode.{Mode}
 use Rattle.zf_header.specs.declared.header.Mode.TheVariants.{Reversible, Rate, Precision}
 use Rattle.zf_header.specs.HeaderBits.{IsRate, IsHeader, BeginsWith, block_bits, header_bits, rate_bytes_of}
 use Rattle.zf_header.proofs.Good.{good}
+use Rattle.zf_header.proofs.Modes.{mode_is_rate, rate_is_some}
 use Rattle.zf_header.proofs.Parts.{length-header_bits, length-header_bits_le}
 use Rattle.zf_spec.specs.Grid.{IsShape}
 use Rattle.zf_header.proofs.Found.{read_is_spelled, read_is_header, begins_within}
@@ -35,16 +36,6 @@ use Rattle.zf_store.specs.Words.{codes_in, with_codes, all_bits, IsWholeFile}
 use Rattle.zf_store.proofs.Cut.{codes_in-front, get_or-codes_in, joined-codes_in, length-codes_in}
 
 -- ---- headers with a rate
-
-pub mode_is_rate : (m : Mode) → IsRate m → m ≡ Rate (block_bits m)
-mode_is_rate Reversible is = absurd is
-mode_is_rate (Rate b) is = refl
-mode_is_rate (Precision p) is = absurd is
-
-pub rate_is_some : (m : Mode) → IsRate m → (1 ≤ block_bits m) × (block_bits m ≤ 32768)
-rate_is_some Reversible is = absurd is
-rate_is_some (Rate b) is = is
-rate_is_some (Precision p) is = absurd is
 
 -- all codes have at most 2^42 bits
 pub all_bits_most : (h : Header) → IsShape h.shape → IsRate h.mode → all_bits h ≤ 2 ^ 42

@@ -57,9 +57,9 @@ existing_values-block_of ns values b =
 
 -- ---- its code
 
-narrow : (ty : Ty) → bits (width_of ty) ≤ 64
-narrow I32 = omega arith
-narrow I64 = omega arith
+pub width_at_most_64 : (ty : Ty) → bits (width_of ty) ≤ 64
+width_at_most_64 I32 = omega arith
+width_at_most_64 I64 = omega arith
 
 -- without loss the block comes back
 pub reads_reversible : (ty : Ty) (ns : List ℕ) (values : List ℤ) (b : ℕ) (more : List Bool) → IsShape ns → b < blocks ns → All (λ v. FitsSigned (width_of ty) v) values
@@ -69,7 +69,7 @@ reads_reversible ty ns values b more shape lt all =
     let w = width_of ty in
     let es = extent_of ns b in
     let block = block_of ns values b in
-    read_rev-rev w es block more (narrow ty) (all_extents ns b shape lt) (block_fits w ns values b all)
+    read_rev-rev w es block more (width_at_most_64 ty) (all_extents ns b shape lt) (block_fits w ns values b all)
     ∙ ap (λ (back : List ℤ). Some (back, length (rev w es block))) (existing_values-block_of ns values b)
 
 -- at a fixed rate what the rate makes of it
