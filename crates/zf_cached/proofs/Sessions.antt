@@ -1,5 +1,5 @@
 -- The steps of a script keep the array in a state that is reached, and the window in the array.
-use Rattle.std.proofs.Common.{◌≡◌, refl, sym, ap, subst, ◌∙◌, ℕ, zero, suc, ◌%◌, ℤ, Bool, true, false, not, ◌&&◌, eqb, eqb-true, List, [], ◌∷◌, length, replicate, Option, Some, None, is_none, is_some, arith}
+use Rattle.std.proofs.Common.{◌≡◌, refl, sym, ap, subst, ◌∙◌, ℕ, zero, suc, ◌%◌, ◌≤◌, ℤ, Bool, true, false, not, ◌&&◌, eqb, eqb-true, List, [], ◌∷◌, length, replicate, Option, Some, None, is_none, is_some, arith}
 use Rattle.std.proofs.lemmas.Bool.{and_parts, not-false}
 use Rattle.std.specs.List.{list_all}
 use Rattle.zf_spec.specs.Grid.{IsShape, upto, is_inside}
@@ -17,10 +17,10 @@ use Rattle.zf_cached.specs.Windows.{mapped, whole, has_place, is_window}
 use Rattle.zf_cached.specs.Commands.{Command}
 use Rattle.zf_cached.specs.Replies.{Refusal, Reply}
 use Rattle.zf_cached.specs.Grammar.{is_writable, has_axes, is_number, is_value}
-use Rattle.zf_cached.specs.Steps.{Setting, Session, format_of, touched, changed, changed_at, filled_below, summed, is_split, views_in, views_of, state_of_view, with_view, by_view, at_position, split_into, flushed_views, joined, refuses_split, refuses_size, refuses_range, refuses_value, takes_memory, is_new_shape, refusal, done, step}
+use Rattle.zf_cached.specs.Steps.{Setting, Session, format_of, touched, changed, changed_at, filled_below, summed, is_split, views_of, state_of_view, with_view, by_view, at_position, split_into, flushed_views, joined, refuses_split, refuses_size, refuses_range, refuses_value, takes_memory, is_new_shape, refusal, done, step}
 use Rattle.zf_cached.specs.Acts.{Act}
-use Rattle.zf_cached.specs.Views.{View, acted}
-use Rattle.zf_cached.specs.Splits.{recoded}
+use Rattle.zf_cached.specs.Views.{acted}
+use Rattle.zf_cached.specs.Splits.{coded}
 use Rattle.zf_cached.specs.Consistency.{IsConsistent, IsCached, IsEmpty, IsSound}
 use Rattle.zf_cached.proofs.Caching.{touch-consistent, touch-lines, touch-here, soiled-consistent, with_values-consistent}
 use Rattle.zf_cached.proofs.Flushing.{flush-consistent, flush-empty, discard-consistent, relined-consistent, resized-consistent}
@@ -96,46 +96,37 @@ summed-sound setting block found (x ∷ xs) s cached none h =
 -- ---- private views
 
 -- the values are those that the codes mean, and no block is in a line
-recoded-sound : {Code : Type 0} (format : Format Code) (s : State Code) (codes : ℕ → Code) → IsConsistent format s → IsEmpty s → IsConsistent format (recoded format s codes) × IsEmpty (recoded format s codes)
-unfolding recoded
-recoded-sound format s codes h empty = (
+coded-sound : {Code : Type 0} (format : Format Code) (s : State Code) (codes : ℕ → Code) → 1 ≤ s.lines → IsConsistent format (coded format s codes) × IsEmpty (coded format s codes)
+unfolding coded
+coded-sound format s codes some = (
   record {
-    some_line = h.some_line;
-    in_own_line = λ l b e. absurd (empty.none_held l b e);
-    dirty_is_here = λ b e. let clean = empty.none_dirty b in absurd (cc);
+    some_line = some;
+    in_own_line = λ l b e. absurd (cc);
+    dirty_is_here = λ b e. absurd (cc);
     clean_is_coded = λ b e. refl;
     whole = λ b. existing_of-meant format b (codes b);
   },
-  record { none_dirty = empty.none_dirty; none_held = empty.none_held },
+  record { none_dirty = λ b. refl; none_held = λ l b e. absurd (cc) },
 )
 
-by_view-sound : {Code : Type 0} (setting : Setting Code) (s : Session Code) (i : ℕ) (act : Act) → is_split s ≡ true → IsSound setting s → IsSound setting (by_view setting s i act).0
+by_view-sound : {Code : Type 0} (setting : Setting Code) (s : Session Code) (i : ℕ) (act : Act) → IsSound setting s → IsSound setting (by_view setting s i act).0
 unfolding by_view with_view
-by_view-sound setting s i act some h =
-    let k = recoded-sound (format_of setting s) s.state (acted setting.width (format_of setting s) (state_of_view s i) act).codes h.state (h.split some) in
+by_view-sound setting s i act h =
+    let k = coded-sound (format_of setting s) s.state (acted setting.width (format_of setting s) (state_of_view s i) act).codes h.state.some_line in
     record { shape = h.shape; state = k.0; window = h.window; split = λ e. k.1 }
 
-flushed_views-sound : {Code : Type 0} (setting : Setting Code) (s : Session Code) (n : ℕ) → is_split s ≡ true → IsSound setting s → IsSound setting (flushed_views setting s n) × (is_split (flushed_views setting s n) ≡ true)
-unfolding flushed_views by_view with_view
-flushed_views-sound setting s zero some h = (h, some)
-flushed_views-sound setting s (suc n) some h =
-    let k = flushed_views-sound setting s n some h in
-    (by_view-sound setting (flushed_views setting s n) n Act.flush k.1 k.0, refl)
+flushed_views-sound : {Code : Type 0} (setting : Setting Code) (s : Session Code) (n : ℕ) → IsSound setting s → IsSound setting (flushed_views setting s n)
+unfolding flushed_views
+flushed_views-sound setting s zero h = h
+flushed_views-sound setting s (suc n) h = by_view-sound setting (flushed_views setting s n) n Act.flush (flushed_views-sound setting s n h)
 
 -- a session without its split
 unsplit-sound : {Code : Type 0} (setting : Setting Code) (s : Session Code) → IsSound setting s → IsSound setting (record s { split = None })
 unsplit-sound setting s h = record { shape = h.shape; state = h.state; window = h.window; split = λ e. absurd (cc) }
 
 pub joined-sound : {Code : Type 0} (setting : Setting Code) (s : Session Code) → IsSound setting s → IsSound setting (joined setting s)
-unfolding joined flushed_views
-joined-sound setting s h = by s.split refl
-  where
-    by : (o : Option (List View)) → s.split ≡ o → IsSound setting (record (flushed_views setting s (length (views_of s))) { split = None })
-    by None e =
-        let none : length (views_of s) ≡ 0 = ap (λ o. length (views_in o)) e in
-        subst (λ n. IsSound setting (record (flushed_views setting s n) { split = None })) (sym none) (unsplit-sound setting s h)
-    by (Some views) e =
-        unsplit-sound setting (flushed_views setting s (length (views_of s))) (flushed_views-sound setting s (length (views_of s)) (ap is_some e) h).0
+unfolding joined
+joined-sound setting s h = unsplit-sound setting (flushed_views setting s (length (views_of s))) (flushed_views-sound setting s (length (views_of s)) h)
 
 split_into-sound : {Code : Type 0} (setting : Setting Code) (s : Session Code) (n lines : ℕ) → IsSound setting s → IsSound setting (split_into setting s n lines)
 unfolding split_into
@@ -146,14 +137,10 @@ split_into-sound setting s n lines h = record {
   split = λ e. flush-empty (format_of setting s) s.state h.state;
 }
 
--- a command that is not refused for a split: there is none, or it needs one
+-- a command that is not refused though it needs no split: there is none
 alone : (t : Bool) → elim t as (λ x. Bool) [ true ↦ true | false ↦ false ] ≡ false → t ≡ false
 alone true e = absurd (cc)
 alone false e = refl
-
-apart : (t : Bool) → elim t as (λ x. Bool) [ true ↦ false | false ↦ true ] ≡ false → t ≡ true
-apart true e = refl
-apart false e = absurd (cc)
 
 -- ---- commands
 
@@ -219,11 +206,11 @@ done-sound setting s (Command.resize ns) t cached h =
 done-sound setting s Command.stats t cached h = h
 done-sound setting s (Command.split n l) t cached h = split_into-sound setting s n (raised l) h
 done-sound setting s Command.join t cached h = joined-sound setting s h
-done-sound setting s (Command.pget i ps) t cached h = by_view-sound setting s i (at_position s Act.get ps) (apart (is_split s) t.split) h
-done-sound setting s (Command.pset i ps v) t cached h = by_view-sound setting s i (at_position s (λ b p. Act.set b p v) ps) (apart (is_split s) t.split) h
-done-sound setting s (Command.padd i ps v) t cached h = by_view-sound setting s i (at_position s (λ b p. Act.add b p v) ps) (apart (is_split s) t.split) h
-done-sound setting s (Command.pflush i) t cached h = by_view-sound setting s i Act.flush (apart (is_split s) t.split) h
-done-sound setting s (Command.pdiscard i) t cached h = by_view-sound setting s i Act.discard (apart (is_split s) t.split) h
+done-sound setting s (Command.pget i ps) t cached h = by_view-sound setting s i (at_position s Act.get ps) h
+done-sound setting s (Command.pset i ps v) t cached h = by_view-sound setting s i (at_position s (λ b p. Act.set b p v) ps) h
+done-sound setting s (Command.padd i ps v) t cached h = by_view-sound setting s i (at_position s (λ b p. Act.add b p v) ps) h
+done-sound setting s (Command.pflush i) t cached h = by_view-sound setting s i Act.flush h
+done-sound setting s (Command.pdiscard i) t cached h = by_view-sound setting s i Act.discard h
 done-sound setting s (Command.pstats i) t cached h = h
 
 -- ---- steps

@@ -37,6 +37,12 @@ no_view = record { lines = 0; held = empty_line; dirty = none_dirty; values = λ
 abbrev pub view_at : List View → ℕ → View
 view_at views i = slice_index_or views i no_view
 
--- the array while it is split, where these are the codes
-unfoldable pub recoded : {Code : Type 0} → Format Code → State Code → (ℕ → Code) → State Code
-recoded format s codes = record s { values = λ b. meant format b (codes b); codes = codes }
+-- an array that stands for these codes alone: no block is in a line, and each has the values that its code means. The number of lines and the counts stay
+unfoldable pub coded : {Code : Type 0} → Format Code → State Code → (ℕ → Code) → State Code
+coded format s codes =
+    record s {
+      held = empty_line;
+      dirty = none_dirty;
+      values = λ b. meant format b (codes b);
+      codes = codes;
+    }

@@ -17,7 +17,7 @@ use Rattle.zf_cached.specs.Commands.{Command}
 use Rattle.zf_cached.specs.Replies.{Refusal, Reply}
 use Rattle.zf_cached.specs.Acts.{Act}
 use Rattle.zf_cached.specs.Views.{View, with_codes, without_codes, acted, answered}
-use Rattle.zf_cached.specs.Splits.{is_view_count, is_owner, opened_views, view_at, recoded}
+use Rattle.zf_cached.specs.Splits.{is_view_count, is_owner, opened_views, view_at, coded}
 
 -- what a script doesn't change: the type of the values, how blocks are coded, whether an array of these sizes has room in a file,
 -- what a touch does, and which commands there are
@@ -101,7 +101,7 @@ state_of_view s i = with_codes (view_at (views_of s) i) s.state.codes
 unfoldable pub with_view : {Code : Type 0} → Setting Code → Session Code → ℕ → State Code → Session Code
 with_view setting s i t =
     record s {
-      state = recoded (format_of setting s) s.state t.codes;
+      state = coded (format_of setting s) s.state t.codes;
       split = Some (slice_set (views_of s) i (without_codes t));
     }
 
