@@ -9,14 +9,14 @@ use Rattle.zf_cached.specs.Arrays.{array_format}
 use Rattle.zf_cached.specs.Commands.{Command}
 use Rattle.zf_cached.specs.Replies.{Refusal, Reply}
 use Rattle.zf_cached.specs.Grammar.{read_line}
-use Rattle.zf_cached.specs.Steps.{Setting, Session, format_of, refuses_size, refuses_range, refuses_value, takes_memory, refusal, step}
+use Rattle.zf_cached.specs.Steps.{Setting, Session, joined, format_of, refuses_split, refuses_size, refuses_range, refuses_value, takes_memory, refusal, step}
 use Rattle.zf_cached.specs.Consistency.{IsConsistent, IsCached, IsEmpty, IsSound}
-use Rattle.zf_cached.specs.Runs.{lines_of, read_step, line_step, run_lines, run_script, run, array_setting}
+use Rattle.zf_cached.specs.Runs.{lines_of, read_step, line_step, run_lines, run_script, ended, run, array_setting}
 use Rattle.zf_cached.proofs.Flushing.{flush-consistent, flush-empty}
 use Rattle.zf_cached.proofs.Windows.{LiesIn-whole}
 use Rattle.zf_cached.proofs.Arrays.{meant-zeros}
 use Rattle.zf_cached.proofs.ReadLines.{read_line-Some}
-use Rattle.zf_cached.proofs.Sessions.{step_by, step-sound}
+use Rattle.zf_cached.proofs.Sessions.{first_refusal, step_by, step-sound, joined-sound}
 
 -- ---- lines
 
@@ -59,19 +59,27 @@ run_lines-append {Code} setting wants k (line ∷ lines) more s =
 pub run_script-sound : {Code : Type 0} (setting : Setting Code) (wants shape : List ℕ) (s : State Code) (script : List ℕ) → IsCached setting → IsShape shape → IsConsistent (array_format setting.coding shape) s → IsSound setting (run_script setting wants shape s script).0
 unfolding run_script
 run_script-sound setting wants shape s script cached is h =
-    run_lines-sound setting wants 0 (lines_of script) _ cached (record { shape = is; state = h; window = LiesIn-whole shape is.not_zero })
+    run_lines-sound setting wants 0 (lines_of script) _ cached (record { shape = is; state = h; window = LiesIn-whole shape is.not_zero; split = λ e. absurd (cc) })
+
+ended-sound : {Code : Type 0} (setting : Setting Code) (s : Session Code) → IsSound setting s → IsSound setting (ended setting s)
+unfolding ended joined
+ended-sound setting s h =
+    let t = joined setting s in
+    let k = joined-sound setting s h in
+    record { shape = k.shape; state = flush-consistent (format_of setting t) t.state k.state; window = k.window; split = λ e. absurd (cc) }
+
+ended-empty : {Code : Type 0} (setting : Setting Code) (s : Session Code) → IsSound setting s → IsEmpty (ended setting s).state
+unfolding ended
+ended-empty setting s h = let t = joined setting s in flush-empty (format_of setting t) t.state (joined-sound setting s h).state
 
 pub run-sound : {Code : Type 0} (setting : Setting Code) (wants shape : List ℕ) (s : State Code) (script : List ℕ) → IsCached setting → IsShape shape → IsConsistent (array_format setting.coding shape) s → IsSound setting (run setting wants shape s script).0
 unfolding run
-run-sound setting wants shape s script cached is h =
-    let k = run_script-sound setting wants shape s script cached is h in
-    record { shape = k.shape; state = flush-consistent (format_of setting (run_script setting wants shape s script).0) (run_script setting wants shape s script).0.state k.state; window = k.window }
+run-sound setting wants shape s script cached is h = ended-sound setting (run_script setting wants shape s script).0 (run_script-sound setting wants shape s script cached is h)
 
 -- nothing is dirty after a run
 pub run-empty : {Code : Type 0} (setting : Setting Code) (wants shape : List ℕ) (s : State Code) (script : List ℕ) → IsCached setting → IsShape shape → IsConsistent (array_format setting.coding shape) s → IsEmpty (run setting wants shape s script).0.state
 unfolding run
-run-empty setting wants shape s script cached is h =
-    flush-empty (format_of setting (run_script setting wants shape s script).0) (run_script setting wants shape s script).0.state (run_script-sound setting wants shape s script cached is h).state
+run-empty setting wants shape s script cached is h = ended-empty setting (run_script setting wants shape s script).0 (run_script-sound setting wants shape s script cached is h)
 
 -- ---- refusals
 
@@ -82,27 +90,28 @@ pub array_setting-cached : (w : Width) (budget : ℕ) → IsCached (array_settin
 unfolding array_setting
 array_setting-cached w budget = record { touches = refl; zero = meant-zeros w budget }
 
-refusal_memory : (a b v t m : Bool) → elim a as (λ x. Option Refusal) [ true ↦ Some Refusal.size | false ↦ elim b [ true ↦ Some Refusal.range | false ↦ elim v [ true ↦ Some Refusal.value | false ↦ elim (t && m) [ true ↦ Some Refusal.memory | false ↦ None ] ] ] ] ≡ Some Refusal.memory
-    → (t ≡ true) × (m ≡ true) × (elim a as (λ x. Option Refusal) [ true ↦ Some Refusal.size | false ↦ elim b [ true ↦ Some Refusal.range | false ↦ elim v [ true ↦ Some Refusal.value | false ↦ elim (t && false) [ true ↦ Some Refusal.memory | false ↦ None ] ] ] ] ≡ None)
-refusal_memory false false false true true e = (refl, refl, refl)
-refusal_memory false false false true false e = absurd (cc)
-refusal_memory false false false false true e = absurd (cc)
-refusal_memory false false false false false e = absurd (cc)
-refusal_memory false false true t m e = absurd (cc)
-refusal_memory false true v t m e = absurd (cc)
-refusal_memory true b v t m e = absurd (cc)
+refusal_memory : (p a b v t m : Bool) → first_refusal p a b v (t && m) ≡ Some Refusal.memory → (t ≡ true) × (m ≡ true) × (first_refusal p a b v (t && false) ≡ None)
+refusal_memory false false false false true true e = (refl, refl, refl)
+refusal_memory false false false false true false e = absurd (cc)
+refusal_memory false false false false false true e = absurd (cc)
+refusal_memory false false false false false false e = absurd (cc)
+refusal_memory false false false true t m e = absurd (cc)
+refusal_memory false false true v t m e = absurd (cc)
+refusal_memory false true b v t m e = absurd (cc)
+refusal_memory true a b v t m e = absurd (cc)
 
 pub refusal-memory : {Code : Type 0} (setting : Setting Code) (s : Session Code) (c : Command) (wanting : Bool) → refusal setting s c wanting ≡ Some Refusal.memory → (takes_memory c ≡ true) × (wanting ≡ true) × (refusal setting s c false ≡ None)
 unfolding refusal
-refusal-memory setting s c wanting e = refusal_memory (refuses_size setting s c) (refuses_range s c) (refuses_value setting.width c) (takes_memory c) wanting e
+refusal-memory setting s c wanting e = refusal_memory (refuses_split s c) (refuses_size setting s c) (refuses_range s c) (refuses_value setting.width c) (takes_memory c) wanting e
 
-refusal_word : (a b v m : Bool) → elim a as (λ x. Option Refusal) [ true ↦ Some Refusal.size | false ↦ elim b [ true ↦ Some Refusal.range | false ↦ elim v [ true ↦ Some Refusal.value | false ↦ elim m [ true ↦ Some Refusal.memory | false ↦ None ] ] ] ] ≡ Some Refusal.word → ⊥
-refusal_word false false false true e = cc
-refusal_word false false false false e = cc
-refusal_word false false true m e = cc
-refusal_word false true v m e = cc
-refusal_word true b v m e = cc
+refusal_word : (p a b v m : Bool) → first_refusal p a b v m ≡ Some Refusal.word → ⊥
+refusal_word false false false false true e = cc
+refusal_word false false false false false e = cc
+refusal_word false false false true m e = cc
+refusal_word false false true v m e = cc
+refusal_word false true b v m e = cc
+refusal_word true a b v m e = cc
 
 pub refusal-word : {Code : Type 0} (setting : Setting Code) (s : Session Code) (c : Command) (wanting : Bool) → refusal setting s c wanting ≡ Some Refusal.word → ⊥
 unfolding refusal
-refusal-word setting s c wanting e = refusal_word (refuses_size setting s c) (refuses_range s c) (refuses_value setting.width c) (takes_memory c && wanting) e
+refusal-word setting s c wanting e = refusal_word (refuses_split s c) (refuses_size setting s c) (refuses_range s c) (refuses_value setting.width c) (takes_memory c && wanting) e

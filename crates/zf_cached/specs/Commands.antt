@@ -22,3 +22,13 @@ pub data Command : Type 0 where
   lines : ℕ → Command
   resize : List ℕ → Command
   stats : Command
+  -- private views: how many, with how many lines each; the end of the split
+  split : ℕ → ℕ → Command
+  join : Command
+  -- on the view of this number: one value, its cache, its counts
+  pget : ℕ → List ℕ → Command
+  pset : ℕ → List ℕ → ℤ → Command
+  padd : ℕ → List ℕ → ℤ → Command
+  pflush : ℕ → Command
+  pdiscard : ℕ → Command
+  pstats : ℕ → Command

@@ -7,7 +7,7 @@ use Rattle.zf_cached.specs.Touch.{touch}
 use Rattle.zf_cached.specs.Changes.{zeros}
 use Rattle.zf_cached.specs.Arrays.{array_format}
 use Rattle.zf_cached.specs.Windows.{LiesIn}
-use Rattle.zf_cached.specs.Steps.{Setting, Session, format_of}
+use Rattle.zf_cached.specs.Steps.{Setting, Session, format_of, is_split}
 
 -- there is a line; a block in a line is in its own; a dirty block is in its line; a clean block has the values that its code
 -- means; and a block has as many values as it has places, 0 where no place exists
@@ -28,8 +28,10 @@ pub record IsCached {Code : Type 0} (setting : Setting Code) : Type 0 where
   pub touches : setting.touch ≡ touch
   pub zero : (ns : List ℕ) (b : ℕ) → meant (array_format setting.coding ns) b setting.coding.zero ≡ zeros (array_format setting.coding ns)
 
--- a run stands over an array of a shape, in a state that is reached, and its window lies in it
+-- a run stands over an array of a shape, in a state that is reached, and its window lies in it; while there is a split, no block is in
+-- a line of the array
 pub record IsSound {Code : Type 0} (setting : Setting Code) (s : Session Code) : Type 0 where
   pub shape : IsShape s.shape
   pub state : IsConsistent (format_of setting s) s.state
   pub window : LiesIn s.shape s.window
+  pub split : is_split s ≡ true → IsEmpty s.state

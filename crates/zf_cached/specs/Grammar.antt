@@ -1,7 +1,7 @@
 -- The language of scripts: which lines are which command in an array of d dimensions.
 --     Each command has one text: its words, with exactly one space between two of them.
 --     A line is read as the command whose text it is.
-use Rattle.std.specs.Prelude.{ℕ, ℤ, ◌^◌, ◌==◌, nat_lt, nat_le, unsigned_abs, Bool, true, ◌&&◌, List, [], ◌∷◌, length, map, find, slice_index_or, Option, bytes_eq, codes, decimal}
+use Rattle.std.specs.Prelude.{ℕ, ℤ, ◌^◌, ◌==◌, nat_lt, nat_le, unsigned_abs, Bool, true, ◌&&◌, List, [], ◌∷◌, ◌++◌, length, map, drop, find, slice_index_or, Option, bytes_eq, codes, decimal}
 use Rattle.std.specs.Fmt.{signed_decimal}
 use Rattle.std.specs.Int.{IsInRange}
 use Rattle.std.specs.List.{join_with_byte, slice_split, list_all}
@@ -26,6 +26,10 @@ IsNoDigit byte = ¬ IsInRange 48 57 byte
 abbrev pub numbers_text : ℕ → List ℕ → List ℕ
 numbers_text byte ns = join_with_byte byte (map decimal ns)
 
+-- the word of a view: its number directly behind `@`
+abbrev pub view_word : ℕ → List ℕ
+view_word i = codes "@" ++ decimal i
+
 -- the words of a command
 abbrev pub words_of : Command → List (List ℕ)
 words_of (Command.get p) = codes "get" ∷ numbers_text comma p ∷ []
@@ -44,6 +48,14 @@ words_of Command.discard = codes "discard" ∷ []
 words_of (Command.lines l) = codes "lines" ∷ decimal l ∷ []
 words_of (Command.resize s) = codes "resize" ∷ numbers_text letter_x s ∷ []
 words_of Command.stats = codes "stats" ∷ []
+words_of (Command.split n l) = codes "split" ∷ decimal n ∷ decimal l ∷ []
+words_of Command.join = codes "join" ∷ []
+words_of (Command.pget i p) = view_word i ∷ codes "get" ∷ numbers_text comma p ∷ []
+words_of (Command.pset i p v) = view_word i ∷ codes "set" ∷ numbers_text comma p ∷ signed_decimal v ∷ []
+words_of (Command.padd i p v) = view_word i ∷ codes "add" ∷ numbers_text comma p ∷ signed_decimal v ∷ []
+words_of (Command.pflush i) = view_word i ∷ codes "flush" ∷ []
+words_of (Command.pdiscard i) = view_word i ∷ codes "discard" ∷ []
+words_of (Command.pstats i) = view_word i ∷ codes "stats" ∷ []
 
 -- its text
 abbrev pub line_of : Command → List ℕ
@@ -81,6 +93,14 @@ is_writable d Command.discard = true
 is_writable d (Command.lines l) = is_number l
 is_writable d (Command.resize s) = has_sizes s
 is_writable d Command.stats = true
+is_writable d (Command.split n l) = is_number n && is_number l
+is_writable d Command.join = true
+is_writable d (Command.pget i p) = is_number i && has_axes d p
+is_writable d (Command.pset i p v) = is_number i && (has_axes d p && is_value v)
+is_writable d (Command.padd i p v) = is_number i && (has_axes d p && is_value v)
+is_writable d (Command.pflush i) = is_number i
+is_writable d (Command.pdiscard i) = is_number i
+is_writable d (Command.pstats i) = is_number i
 
 -- the parts of bytes between such a byte, and what numbers the parts of a word could be
 abbrev pub cut_at : ℕ → List ℕ → List (List ℕ)
@@ -95,6 +115,7 @@ candidates words =
     let first = slice_index_or words 1 [] in
     let second = slice_index_or words 2 [] in
     let third = slice_index_or words 3 [] in
+    let view = digits_value 10 (drop 1 (slice_index_or words 0 [])) in
     Command.get (numbers_in comma first)
     ∷ Command.set (numbers_in comma first) (signed_digits_value 10 second)
     ∷ Command.add (numbers_in comma first) (signed_digits_value 10 second)
@@ -110,6 +131,14 @@ candidates words =
     ∷ Command.lines (digits_value 10 first)
     ∷ Command.resize (numbers_in letter_x first)
     ∷ Command.stats
+    ∷ Command.split (digits_value 10 first) (digits_value 10 second)
+    ∷ Command.join
+    ∷ Command.pget view (numbers_in comma second)
+    ∷ Command.pset view (numbers_in comma second) (signed_digits_value 10 third)
+    ∷ Command.padd view (numbers_in comma second) (signed_digits_value 10 third)
+    ∷ Command.pflush view
+    ∷ Command.pdiscard view
+    ∷ Command.pstats view
     ∷ []
 
 -- a line is the text of the command, which is writable

@@ -4,6 +4,10 @@
 --     Changes      flush, discard, a new number of lines, resize, and an array as it is opened
 --     Arrays       the codes of an array of whole numbers, and its file
 --     Windows      windows of an array and their positions
+--     Acts         what is done with a private view
+--     Views        several views over one list of codes, their steps, and a view that is run alone
+--     Ownership    which blocks a view owns
+--     Splits       an array that is split into private views
 --     Commands     what a line of a script asks for
 --     Grammar      which lines are which command
 --     Replies      what a line answers, and the text of it
@@ -17,6 +21,10 @@ pub mod Touch
 pub mod Changes
 pub mod Arrays
 pub mod Windows
+pub mod Acts
+pub mod Views
+pub mod Ownership
+pub mod Splits
 pub mod Commands
 pub mod Grammar
 pub mod Replies

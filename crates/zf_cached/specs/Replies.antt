@@ -5,6 +5,7 @@ use Rattle.std.specs.Fmt.{signed_decimal}
 -- why a line is refused
 pub data Refusal : Type 0 where
   word : Refusal
+  split : Refusal
   size : Refusal
   range : Refusal
   value : Refusal
@@ -19,6 +20,7 @@ pub data Reply : Type 0 where
 -- the word of a refusal
 abbrev pub refusal_word : Refusal → List ℕ
 refusal_word Refusal.word = codes "word"
+refusal_word Refusal.split = codes "split"
 refusal_word Refusal.size = codes "size"
 refusal_word Refusal.range = codes "range"
 refusal_word Refusal.value = codes "value"

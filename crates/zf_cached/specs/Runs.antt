@@ -11,7 +11,7 @@ use Rattle.zf_cached.specs.Windows.{whole}
 use Rattle.zf_cached.specs.Commands.{Command}
 use Rattle.zf_cached.specs.Replies.{Refusal, Reply, reply_text}
 use Rattle.zf_cached.specs.Grammar.{read_line}
-use Rattle.zf_cached.specs.Steps.{Setting, Session, format_of, step}
+use Rattle.zf_cached.specs.Steps.{Setting, Session, format_of, joined, step}
 
 -- the lines of a script end with a line feed, which the last one may lack
 abbrev pub lines_of : List ℕ → List (List ℕ)
@@ -38,15 +38,20 @@ run_lines setting wants k (line ∷ lines) s =
 
 -- a script from the whole window on
 unfoldable pub run_script : {Code : Type 0} → Setting Code → List ℕ → List ℕ → State Code → List ℕ → Session Code × List Reply
-run_script setting wants shape s script = run_lines setting wants 0 (lines_of script) (record { shape = shape; state = s; window = whole shape })
+run_script setting wants shape s script = run_lines setting wants 0 (lines_of script) (record { shape = shape; state = s; window = whole shape; split = None })
 
--- a run flushes at the end
+-- the end of a run: a split ends, and then there is a flush
+unfoldable pub ended : {Code : Type 0} → Setting Code → Session Code → Session Code
+ended setting s =
+    let t = joined setting s in
+    record t { state = flush (format_of setting t) t.state }
+
 unfoldable pub run : {Code : Type 0} → Setting Code → List ℕ → List ℕ → State Code → List ℕ → Session Code × List Reply
 run setting wants shape s script =
     let r = run_script setting wants shape s script in
-    (record r.0 { state = flush (format_of setting r.0) r.0.state }, r.1)
+    (ended setting r.0, r.1)
 
--- a look does not
+-- a look has no such end
 unfoldable pub look : {Code : Type 0} → Setting Code → List ℕ → List ℕ → State Code → List ℕ → Session Code × List Reply
 look setting wants shape s script = run_script setting wants shape s script
 

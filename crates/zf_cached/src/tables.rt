@@ -80,6 +80,28 @@ pub fn refusals()
         ≡ codes "0\n! size\n! memory\n0\n" }
 {}
 
+/// Private views: each has a cache and counts of its own over its own blocks, and while there is a split there are no other lines.
+pub fn private_views()
+    ensures each { zeros_text w32 64 (8 ∷ []) 2
+        (codes "split 2 1\n@0 set 0 1\n@1 get 4\n@0 get 4\nget 0\n@1 set 4 7\n@0 flush\n@0 get 0\n@1 get 4\n@0 stats\njoin\nget 4\n")
+        ≡ codes "0\n! range\n! split\n0\n7\nhits 0 misses 2 writes 1\n6\n" }
+    ensures too_many { zeros_text w32 64 (8 ∷ []) 2 (codes "split 3 1\n@0 get 0\njoin\n") ≡ codes "! size\n! split\n! split\n" }
+    ensures parts { zeros_text w32 64 (20 ∷ []) 4
+        (codes "split 3 1\n@0 get 3\n@0 get 4\n@1 get 3\n@1 set 4 1\n@1 set 8 2\n@1 get 4\n@1 get 12\n@2 set 12 5\n@2 set 16 9\n@2 add 16 2147483647\n@2 get 16\n@1 discard\n@2 stats\njoin\nsum\nstats\n")
+        ≡ codes "0\n! range\n! range\n0\n! range\n-2147483640\nhits 2 misses 2 writes 1\n-2147483644\nhits 0 misses 5 writes 0\n" }
+    ensures order { zeros_text w32 64 (8 ∷ []) 1
+        (codes "set 0 1\nget 4\nsplit 2 1\nsplit 2 1\nsplit 0 0\n@2 stats\n@2 set 9 9999999999\n@0 set 4 9999999999\n@0 set 3 9999999999\n@1 stats\n@0 get 0\njoin\nstats\n")
+        ≡ codes "0\n! split\n! split\n! range\n! range\n! range\n! value\nhits 0 misses 0 writes 0\n0\nhits 0 misses 2 writes 1\n" }
+    ensures sizes { zeros_text w32 64 (8 ∷ []) 1
+        (codes "join\n@0 flush\nsplit 2 0\nsplit 2 65537\nsplit 0 1\nsplit 17 1\nsplit 1 1\n@0 set 4 7\n@0 discard\n@0 get 4\n@0 set 4 7\nflush\nlines 0\nstats\n@0 stats\n")
+        ≡ codes "! split\n! split\n! size\n! size\n! size\n! size\n0\n! split\n! split\n! split\nhits 1 misses 2 writes 0\n" }
+    ensures joined_at_the_end { zeros_saved w32 64 (8 ∷ []) 1 (codes "split 1 1\n@0 set 4 7\n")
+        ≡ 0x7a ∷ 0x66 ∷ 0x70 ∷ 0x05 ∷ 0x70 ∷ 0 ∷ 0 ∷ 0 ∷ 0 ∷ 0 ∷ 0xf0 ∷ 3 ∷ replicate 11 0 ++ 0xa0 ∷ 0xfc ∷ 3 ∷ replicate 6 0 }
+    ensures memory { run_text w32 64 (8 ∷ []) (replicate 64 false ∷ replicate 64 false ∷ []) 1 (1 ∷ 3 ∷ [])
+        (codes "set 0 1\nsplit 2 1\nget 0\nsplit 0 1\nstats\n")
+        ≡ codes "! memory\n1\n! size\nhits 1 misses 1 writes 0\n" }
+{}
+
 /// A look at a reversible stream of the values 1 and 2: only the lines that read are commands.
 pub fn looks()
     ensures { look_text w32 (mode_coding w32 reversible) (2 ∷ []) (rev w32 (2 ∷ []) (pos 1 ∷ pos 2 ∷ pos 0 ∷ pos 0 ∷ []) ∷ []) 1 []

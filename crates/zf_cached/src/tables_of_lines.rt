@@ -44,6 +44,39 @@ pub fn lines_of_one_word()
     ensures stats { read_line 1 (codes "stats") ≡ Some Command.stats }
 {}
 
+/// Lines on private views: the number of a view stands directly behind `@`.
+pub fn lines_on_views()
+    ensures split { read_line 1 (codes "split 2 1") ≡ Some (Command.split 2 1) }
+    ensures split_of_nothing { read_line 4 (codes "split 0 18446744073709551615") ≡ Some (Command.split 0 18446744073709551615) }
+    ensures join { read_line 2 (codes "join") ≡ Some Command.join }
+    ensures get { read_line 2 (codes "@0 get 3,40") ≡ Some (Command.pget 0 (3 ∷ 40 ∷ [])) }
+    ensures set { read_line 1 (codes "@15 set 7 -9") ≡ Some (Command.pset 15 (7 ∷ []) (negsuc 8)) }
+    ensures add { read_line 3 (codes "@1 add 1,2,3 4") ≡ Some (Command.padd 1 (1 ∷ 2 ∷ 3 ∷ []) (pos 4)) }
+    ensures flush { read_line 1 (codes "@7 flush") ≡ Some (Command.pflush 7) }
+    ensures discard { read_line 1 (codes "@18446744073709551615 discard") ≡ Some (Command.pdiscard 18446744073709551615) }
+    ensures stats { read_line 4 (codes "@10 stats") ≡ Some (Command.pstats 10) }
+{}
+
+/// Lines on private views that are no command.
+pub fn refused_views()
+    ensures space_behind { read_line 1 (codes "@ 0 get 0") ≡ None }
+    ensures no_number { read_line 1 (codes "@ get 0") ≡ None }
+    ensures leading_zero { read_line 1 (codes "@01 get 0") ≡ None }
+    ensures sign { read_line 1 (codes "@-1 get 0") ≡ None }
+    ensures too_great { read_line 1 (codes "@18446744073709551616 flush") ≡ None }
+    ensures no_verb { read_line 1 (codes "@0") ≡ None }
+    ensures no_more { read_line 1 (codes "@0 ") ≡ None }
+    ensures no_line_of_views { read_line 1 (codes "@0 sum") ≡ None }
+    ensures twice { read_line 1 (codes "@0 @0 get 0") ≡ None }
+    ensures joined { read_line 1 (codes "@0 join") ≡ None }
+    ensures number_missing { read_line 1 (codes "split 2") ≡ None }
+    ensures number_too_many { read_line 1 (codes "split 2 1 1") ≡ None }
+    ensures word_behind { read_line 1 (codes "join 0") ≡ None }
+    ensures position_missing { read_line 1 (codes "@0 get") ≡ None }
+    ensures coordinate_missing { read_line 2 (codes "@0 get 1") ≡ None }
+    ensures words_behind { read_line 1 (codes "@0 stats 0") ≡ None }
+{}
+
 /// Lines that are no command for their spaces and words.
 pub fn refused_words()
     ensures empty { read_line 1 [] ≡ None }
@@ -98,6 +131,7 @@ pub fn texts_of_replies()
     ensures counts { reply_text (Reply.counts 4031 65 18446744073709551615)
         ≡ codes "hits 4031 misses 65 writes 18446744073709551615\n" }
     ensures word { reply_text (Reply.refused Refusal.word) ≡ codes "! word\n" }
+    ensures split { reply_text (Reply.refused Refusal.split) ≡ codes "! split\n" }
     ensures size { reply_text (Reply.refused Refusal.size) ≡ codes "! size\n" }
     ensures range { reply_text (Reply.refused Refusal.range) ≡ codes "! range\n" }
     ensures value { reply_text (Reply.refused Refusal.value) ≡ codes "! value\n" }

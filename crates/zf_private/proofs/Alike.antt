@@ -10,8 +10,8 @@ use Rattle.zf_cached.specs.Touch.{write_back, write_back_dirty, write_back_line,
 use Rattle.zf_cached.specs.Changes.{write_back_lines, emptied, flush, discard}
 use Rattle.zf_cached.proofs.Caching.{true_is_not_false, at_change, write_back_line_by, write_back_line-held, write_back_line-other, touch_by, touch-left_away}
 use Rattle.zf_cache.proofs.Stands.{write_back_line-none, write_back_line-some, write_back_dirty-false, write_back_dirty-true}
-use Rattle.zf_private.specs.Acts.{Act}
-use Rattle.zf_private.specs.Views.{changed, acted, answered, IsWithin, HasOwn, AreAlike}
+use Rattle.zf_cached.specs.Acts.{Act}
+use Rattle.zf_cached.specs.Views.{changed, acted, answered, IsWithin, HasOwn, AreAlike}
 
 -- functions that are changed alike
 with_at-alike : {A : Type 0} (f g : ℕ → A) (k : ℕ) (x y : A) (n : ℕ) → x ≡ y → (n ≢ k → f n ≡ g n) → with_at f k x n ≡ with_at g k y n

@@ -6,8 +6,8 @@ use Rattle.zf_base.specs.Formats.{Format}
 use Rattle.zf_cached.specs.State.{State}
 use Rattle.zf_cache.specs.Standing.{state_of, Fits}
 use Rattle.zf_cache.proofs.Tags.{same_or_not}
-use Rattle.zf_private.specs.Acts.{Act}
-use Rattle.zf_private.specs.Views.{Views, Step, state_of_view, acted, answered, stepped, IsWithin, HasOwn, AreAlike}
+use Rattle.zf_cached.specs.Acts.{Act}
+use Rattle.zf_cached.specs.Views.{Views, Step, state_of_view, acted, answered, stepped, IsWithin, HasOwn, AreAlike}
 use Rattle.zf_private.specs.Standing.{Held, Own, IsSameView, IsWhole, state}
 use Rattle.zf_private.specs.Several.{AreReady, StandFor}
 use Rattle.zf_private.proofs.Alike.{stay-acted, alike-acted, alike-answered, alike-refl}

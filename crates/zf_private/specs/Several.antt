@@ -2,7 +2,7 @@
 use Rattle.std.specs.Prelude.{ℕ, ◌≡◌, ℤ}
 use Rattle.zf_base.specs.Formats.{Format}
 use Rattle.zf_cache.specs.Standing.{Fits}
-use Rattle.zf_private.specs.Views.{Views, AreAlike, state_of_view}
+use Rattle.zf_cached.specs.Views.{Views, AreAlike, state_of_view}
 use Rattle.zf_private.specs.Standing.{Held, Own, IsWhole, state}
 
 module _ {X Code : Type 0} (value : X → ℤ) where

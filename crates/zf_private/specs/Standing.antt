@@ -9,7 +9,7 @@ use Rattle.zf_base.specs.Formats.{Format}
 use Rattle.zf_cached.specs.State.{State}
 use Rattle.zf_cache.specs.Kept.{Kept, kept_code, tag_at, block_in}
 use Rattle.zf_cache.specs.Standing.{state_of}
-use Rattle.zf_private.specs.Ownership.{Owns}
+use Rattle.zf_cached.specs.Ownership.{Owns}
 
 -- a cache; the sizes of the array; the first of the owned blocks, and how many there are
 pub record Held (X : Type 0) : Type 0 where

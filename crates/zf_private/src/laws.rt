@@ -6,9 +6,9 @@ ghost use Rattle.zf_base.specs.Formats.{Format};
 ghost use Rattle.zf_cached.specs.State.{State};
 ghost use Rattle.zf_cache.specs.Kept.{IsEmpty};
 ghost use Rattle.zf_cache.specs.Standing.{Fits};
-ghost use Rattle.zf_private.specs.Acts.{Act};
-ghost use Rattle.zf_private.specs.Views.{Step, Views, acted, answered, state_of_view, stepped, ran, answers, steps_of, NoneShared, IsUnowned, IsWithin, AreWithin, HasOwn, AreAlike};
-ghost use Rattle.zf_private.specs.Ownership.{Owns, OwnsPart, first_of, count_of};
+ghost use Rattle.zf_cached.specs.Acts.{Act};
+ghost use Rattle.zf_cached.specs.Views.{Step, Views, acted, answered, state_of_view, stepped, ran, answers, steps_of, NoneShared, IsUnowned, IsWithin, AreWithin, HasOwn, AreAlike};
+ghost use Rattle.zf_cached.specs.Ownership.{Owns, OwnsPart, first_of, count_of};
 ghost use Rattle.zf_private.specs.Standing.{Held, Own, IsSameView, IsWhole, state};
 ghost use Rattle.zf_private.specs.Several.{AreReady, StandFor};
 

@@ -5,8 +5,8 @@ ghost use Rattle.zf_base.specs.Positions.{IsPosition};
 ghost use Rattle.zf_cached.specs.State.{no_counts};
 ghost use Rattle.zf_cache.specs.Kept.{IsLineCount, IsEmpty};
 ghost use Rattle.zf_cache.specs.Standing.{Fits};
-ghost use Rattle.zf_private.specs.Acts.{Act};
-ghost use Rattle.zf_private.specs.Views.{acted, answered};
+ghost use Rattle.zf_cached.specs.Acts.{Act};
+ghost use Rattle.zf_cached.specs.Views.{acted, answered};
 ghost use Rattle.zf_private.specs.Standing.{Own, block_at, place_at, state, IsOver, HasPlaces, IsSameView, IsWhole};
 
 use std::alloc::{AllocError, Global};

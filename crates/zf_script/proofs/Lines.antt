@@ -1,16 +1,16 @@
 -- Words of lines and the commands that they are.
-use Rattle.std.proofs.Common.{◌≡◌, ◌≢◌, ℕ, suc, ◌+◌, ◌<◌, ◌≤◌, ◌^◌, ℤ, pos, negsuc, List, [], ◌∷◌, length, get_or, false, bytes_eq, Option, Some, None, Result, IsTrue, IfSome, IfNone, IfOk, IfErr, FitsSigned, refl, ap, sym, ◌∙◌, arith, codes, decimal}
+use Rattle.std.proofs.Common.{◌≡◌, ◌≢◌, ℕ, suc, ◌+◌, ◌<◌, ◌≤◌, ◌^◌, ℤ, pos, negsuc, List, [], ◌∷◌, length, get_or, drop, ◌&&◌, ◌⊎◌, inl, inr, true, false, bytes_eq, Option, Some, None, Result, IsTrue, IfSome, IfNone, IfOk, IfErr, FitsSigned, refl, ap, sym, ◌∙◌, arith, codes, decimal}
 use Rattle.std.specs.Int.{w128}
 use Rattle.std.specs.Fmt.{signed_decimal}
 use Rattle.std.specs.List.{join_with_byte}
 use Rattle.std.specs.Option.{ok_or}
-use Rattle.std.proofs.lemmas.Bool.{lt-ltb, ltb-true, false≢true}
+use Rattle.std.proofs.lemmas.Bool.{lt-ltb, ltb-true, false≢true, and_parts, and_from}
 use Rattle.std.proofs.lemmas.Int.{ints}
 use Rattle.std.proofs.lemmas.Slice.Eq.{bytes_eq-Decides}
 use Rattle.zf_base.specs.declared.position.Pos.{Pos}
 use Rattle.zf_base.specs.Positions.{used_axes}
 use Rattle.zf_cached.specs.Commands.{Command}
-use Rattle.zf_cached.specs.Grammar.{space, comma, letter_x, numbers_text, words_of, line_of, is_value, has_axes, has_sizes, cut_at, read_line}
+use Rattle.zf_cached.specs.Grammar.{space, comma, letter_x, numbers_text, view_word, words_of, line_of, is_number, is_writable, is_value, has_axes, has_sizes, cut_at, read_line}
 use Rattle.zf_cached.proofs.Numerals.{HasNo}
 use Rattle.zf_cached.proofs.Cutting.{cut_at-one, joined-cut_at, one_word}
 use Rattle.zf_cached.proofs.ReadLines.{sizes-parts, position_no_space, sizes_no_space, value_no_space, number_no_space, cut_at-line_of, read_line_iff, read_line-None}
@@ -170,25 +170,58 @@ no_stats : (d : ℕ) (rest : List ℕ) → IsNoCommand d (codes "stats" ∷ cut_
 no_stats d rest Command.stats ok same = word_behind (codes "stats") rest same
 no_stats d rest c ok same = other_verb (codes "stats") c (cut_at space rest) refl same
 
--- a verb that stands alone has no words behind it
-pub no_words : (d : ℕ) (verb : Verb) (rest : List ℕ) → verb ≢ verbs.Get → verb ≢ verbs.Set → verb ≢ verbs.Add → verb ≢ verbs.Fill → verb ≢ verbs.View → verb ≢ verbs.Slice → verb ≢ verbs.VGet → verb ≢ verbs.VSet → verb ≢ verbs.Lines → verb ≢ verbs.Resize → IsNoCommand d (verb_word verb ∷ cut_at space rest)
-no_words d verbs.Get rest get set add fill view slice vget vset lines resize = absurd (get refl)
-no_words d verbs.Set rest get set add fill view slice vget vset lines resize = absurd (set refl)
-no_words d verbs.Add rest get set add fill view slice vget vset lines resize = absurd (add refl)
-no_words d verbs.Fill rest get set add fill view slice vget vset lines resize = absurd (fill refl)
-no_words d verbs.View rest get set add fill view slice vget vset lines resize = absurd (view refl)
-no_words d verbs.Slice rest get set add fill view slice vget vset lines resize = absurd (slice refl)
-no_words d verbs.VGet rest get set add fill view slice vget vset lines resize = absurd (vget refl)
-no_words d verbs.VSet rest get set add fill view slice vget vset lines resize = absurd (vset refl)
-no_words d verbs.Lines rest get set add fill view slice vget vset lines resize = absurd (lines refl)
-no_words d verbs.Resize rest get set add fill view slice vget vset lines resize = absurd (resize refl)
-no_words d verbs.Sum rest get set add fill view slice vget vset lines resize = no_sum d rest
-no_words d verbs.VSum rest get set add fill view slice vget vset lines resize = no_vsum d rest
-no_words d verbs.Flush rest get set add fill view slice vget vset lines resize = no_flush d rest
-no_words d verbs.Discard rest get set add fill view slice vget vset lines resize = no_discard d rest
-no_words d verbs.Stats rest get set add fill view slice vget vset lines resize = no_stats d rest
+no_join : (d : ℕ) (rest : List ℕ) → IsNoCommand d (codes "join" ∷ cut_at space rest)
+no_join d rest Command.join ok same = word_behind (codes "join") rest same
+no_join d rest c ok same = other_verb (codes "join") c (cut_at space rest) refl same
 
--- the verb of a command
+-- a verb that stands alone has no words behind it
+pub no_words : (d : ℕ) (verb : Verb) (rest : List ℕ) → verb ≢ verbs.Get → verb ≢ verbs.Set → verb ≢ verbs.Add → verb ≢ verbs.Fill → verb ≢ verbs.View → verb ≢ verbs.Slice → verb ≢ verbs.VGet → verb ≢ verbs.VSet → verb ≢ verbs.Lines → verb ≢ verbs.Resize → verb ≢ verbs.Split → IsNoCommand d (verb_word verb ∷ cut_at space rest)
+no_words d verbs.Get rest get set add fill view slice vget vset lines resize split = absurd (get refl)
+no_words d verbs.Set rest get set add fill view slice vget vset lines resize split = absurd (set refl)
+no_words d verbs.Add rest get set add fill view slice vget vset lines resize split = absurd (add refl)
+no_words d verbs.Fill rest get set add fill view slice vget vset lines resize split = absurd (fill refl)
+no_words d verbs.View rest get set add fill view slice vget vset lines resize split = absurd (view refl)
+no_words d verbs.Slice rest get set add fill view slice vget vset lines resize split = absurd (slice refl)
+no_words d verbs.VGet rest get set add fill view slice vget vset lines resize split = absurd (vget refl)
+no_words d verbs.VSet rest get set add fill view slice vget vset lines resize split = absurd (vset refl)
+no_words d verbs.Lines rest get set add fill view slice vget vset lines resize split = absurd (lines refl)
+no_words d verbs.Resize rest get set add fill view slice vget vset lines resize split = absurd (resize refl)
+no_words d verbs.Sum rest get set add fill view slice vget vset lines resize split = no_sum d rest
+no_words d verbs.VSum rest get set add fill view slice vget vset lines resize split = no_vsum d rest
+no_words d verbs.Flush rest get set add fill view slice vget vset lines resize split = no_flush d rest
+no_words d verbs.Discard rest get set add fill view slice vget vset lines resize split = no_discard d rest
+no_words d verbs.Stats rest get set add fill view slice vget vset lines resize split = no_stats d rest
+no_words d verbs.Split rest get set add fill view slice vget vset lines resize split = absurd (split refl)
+no_words d verbs.Join rest get set add fill view slice vget vset lines resize split = no_join d rest
+
+-- ---- words that are on a view
+-- the first word is that of a view, the second one a verb, and the others are these
+abbrev pub BeginsOnView : List ℕ → List (List ℕ) → Command → Type 0
+BeginsOnView verb rest (Command.pget i p) = (verb ≡ codes "get") × (rest ≡ numbers_text comma p ∷ [])
+BeginsOnView verb rest (Command.pset i p v) = (verb ≡ codes "set") × (rest ≡ numbers_text comma p ∷ signed_decimal v ∷ [])
+BeginsOnView verb rest (Command.padd i p v) = (verb ≡ codes "add") × (rest ≡ numbers_text comma p ∷ signed_decimal v ∷ [])
+BeginsOnView verb rest (Command.pflush i) = (verb ≡ codes "flush") × (rest ≡ [])
+BeginsOnView verb rest (Command.pdiscard i) = (verb ≡ codes "discard") × (rest ≡ [])
+BeginsOnView verb rest (Command.pstats i) = (verb ≡ codes "stats") × (rest ≡ [])
+BeginsOnView verb rest _ = ⊥
+
+other_view : (word : List ℕ) (c : Command) (rest : List (List ℕ)) → bytes_eq (64 ∷ word) (get_or (words_of c) 0 []) ≡ false → (64 ∷ word) ∷ rest ≡ words_of c → ⊥
+other_view word c rest differ same = other_verb (64 ∷ word) c rest differ same
+
+begins_on_view : (word verb : List ℕ) (rest : List (List ℕ)) (c : Command) → (64 ∷ word) ∷ verb ∷ rest ≡ words_of c → BeginsOnView verb rest c
+begins_on_view word verb rest (Command.pget i p) same = (ap (λ ws. get_or ws 1 []) same, ap (drop 2) same)
+begins_on_view word verb rest (Command.pset i p v) same = (ap (λ ws. get_or ws 1 []) same, ap (drop 2) same)
+begins_on_view word verb rest (Command.padd i p v) same = (ap (λ ws. get_or ws 1 []) same, ap (drop 2) same)
+begins_on_view word verb rest (Command.pflush i) same = (ap (λ ws. get_or ws 1 []) same, ap (drop 2) same)
+begins_on_view word verb rest (Command.pdiscard i) same = (ap (λ ws. get_or ws 1 []) same, ap (drop 2) same)
+begins_on_view word verb rest (Command.pstats i) same = (ap (λ ws. get_or ws 1 []) same, ap (drop 2) same)
+begins_on_view word verb rest c same = other_view word c (verb ∷ rest) refl same
+
+-- words that differ
+differ : (a b : List ℕ) → bytes_eq a b ≡ false → a ≡ b → ⊥
+differ a b apart same = false≢true (sym apart ∙ (bytes_eq-Decides a b).1 same)
+
+-- the verb of a command, or of one on a view the verb behind the view's word
 verb_of : Command → Verb
 verb_of (Command.get p) = verbs.Get
 verb_of (Command.set p v) = verbs.Set
@@ -205,29 +238,131 @@ verb_of Command.discard = verbs.Discard
 verb_of (Command.lines l) = verbs.Lines
 verb_of (Command.resize s) = verbs.Resize
 verb_of Command.stats = verbs.Stats
+verb_of (Command.split n l) = verbs.Split
+verb_of Command.join = verbs.Join
+verb_of (Command.pget i p) = verbs.Get
+verb_of (Command.pset i p v) = verbs.Set
+verb_of (Command.padd i p v) = verbs.Add
+verb_of (Command.pflush i) = verbs.Flush
+verb_of (Command.pdiscard i) = verbs.Discard
+verb_of (Command.pstats i) = verbs.Stats
 
-first_word : (c : Command) → get_or (words_of c) 0 [] ≡ verb_word (verb_of c)
+-- the first word of a command is its verb, or that of a view before another word
+pub record HasViewWord (c : Command) : Type 0 where
+  at_sign : get_or (get_or (words_of c) 0 []) 0 0 ≡ 64
+  more : 2 ≤ length (words_of c)
+  verb : get_or (words_of c) 1 [] ≡ verb_word (verb_of c)
+
+first_word : (c : Command) → (get_or (words_of c) 0 [] ≡ verb_word (verb_of c)) ⊎ HasViewWord c
 unfolding verb_of
-first_word (Command.get p) = refl
-first_word (Command.set p v) = refl
-first_word (Command.add p v) = refl
-first_word (Command.fill v) = refl
-first_word Command.sum = refl
-first_word (Command.view p s t) = refl
-first_word (Command.slice a i) = refl
-first_word (Command.vget p) = refl
-first_word (Command.vset p v) = refl
-first_word Command.vsum = refl
-first_word Command.flush = refl
-first_word Command.discard = refl
-first_word (Command.lines l) = refl
-first_word (Command.resize s) = refl
-first_word Command.stats = refl
+first_word (Command.get p) = inl refl
+first_word (Command.set p v) = inl refl
+first_word (Command.add p v) = inl refl
+first_word (Command.fill v) = inl refl
+first_word Command.sum = inl refl
+first_word (Command.view p s t) = inl refl
+first_word (Command.slice a i) = inl refl
+first_word (Command.vget p) = inl refl
+first_word (Command.vset p v) = inl refl
+first_word Command.vsum = inl refl
+first_word Command.flush = inl refl
+first_word Command.discard = inl refl
+first_word (Command.lines l) = inl refl
+first_word (Command.resize s) = inl refl
+first_word Command.stats = inl refl
+first_word (Command.split n l) = inl refl
+first_word Command.join = inl refl
+first_word (Command.pget i p) = inr (record { at_sign = refl; more = omega arith; verb = refl })
+first_word (Command.pset i p v) = inr (record { at_sign = refl; more = omega arith; verb = refl })
+first_word (Command.padd i p v) = inr (record { at_sign = refl; more = omega arith; verb = refl })
+first_word (Command.pflush i) = inr (record { at_sign = refl; more = omega arith; verb = refl })
+first_word (Command.pdiscard i) = inr (record { at_sign = refl; more = omega arith; verb = refl })
+first_word (Command.pstats i) = inr (record { at_sign = refl; more = omega arith; verb = refl })
 
--- words whose first one is no verb are no command
-pub no_verb : (d : ℕ) (word : List ℕ) (words rest : List (List ℕ)) → words ≡ word ∷ rest → ((verb : Verb) → word ≢ verb_word verb) → IsNoCommand d words
-no_verb d word words rest is none c ok same =
-    none (verb_of c) (ap (λ ws. get_or ws 0 []) (sym is ∙ same) ∙ first_word c)
+-- words whose first one is no verb, and does not begin with `@`, are no command
+pub no_verb : (d : ℕ) (word : List ℕ) (rest : List (List ℕ)) → get_or word 0 0 ≢ 64 → ((verb : Verb) → word ≢ verb_word verb) → IsNoCommand d (word ∷ rest)
+no_verb d word rest no_view none c ok same = elim (first_word c) [
+  | inl is ↦ none (verb_of c) (ap (λ ws. get_or ws 0 []) same ∙ is)
+  | inr view ↦ no_view (ap (λ ws. get_or (get_or ws 0 []) 0 0) same ∙ view.at_sign)
+]
+
+-- a word of no bytes does not
+pub nothing_first : (word : List ℕ) → length word < 1 → get_or word 0 0 ≢ 64
+nothing_first [] none e = omega (arith, e)
+nothing_first (b ∷ bs) none e = omega arith
+
+-- and so is a word alone that is no verb
+pub no_word : (d : ℕ) (words : List (List ℕ)) (word : List ℕ) → words ≡ word ∷ [] → ((verb : Verb) → word ≢ verb_word verb) → IsNoCommand d words
+no_word d words word is none c ok same = elim (first_word c) [
+  | inl first ↦ none (verb_of c) (ap (λ ws. get_or ws 0 []) (sym is ∙ same) ∙ first)
+  | inr view ↦ let many = view.more in omega (arith, many, ap length is, ap length same)
+]
+
+-- behind the word of a view a word that is no verb
+pub no_view_verb : (d i : ℕ) (word : List ℕ) (words rest : List (List ℕ)) → words ≡ word ∷ rest → ((verb : Verb) → word ≢ verb_word verb) → IsNoCommand d (view_word i ∷ words)
+no_view_verb d i word words rest is none c ok same = elim (first_word c) [
+  | inl first ↦ not_first c (sym first ∙ ap (λ ws. get_or ws 0 []) (sym same))
+  | inr view ↦ none (verb_of c) (ap (λ ws. get_or ws 0 []) (sym is) ∙ ap (λ ws. get_or ws 1 []) same ∙ view.verb)
+]
+  where
+    -- a view's word is no verb
+    not_first : (c : Command) → verb_word (verb_of c) ≡ view_word i → ⊥
+    not_first c e = at_sign (verb_of c) (ap (λ w. get_or w 0 0) e)
+      where
+        at_sign : (verb : Verb) → get_or (verb_word verb) 0 0 ≡ 64 → ⊥
+        at_sign verbs.Get e = omega (arith, e)
+        at_sign verb e = omega (arith, e)
+
+-- ---- commands on a view
+module _ (d i : ℕ) (small : i < 2 ^ 64) (rest : List ℕ) where
+  pub pget_command : (p : Pos) → IsAxesWord d comma 0 rest p → IsCommand d (view_word i ∷ codes "get" ∷ cut_at space rest) (cmds.PGet i p)
+  pget_command p axes = record {
+    writable = and_from (is_number i) (has_axes d (used_axes d p)) (lt-ltb i _ small) axes.numbers;
+    text = ap (λ last. view_word i ∷ codes "get" ∷ last) (last_word rest (numbers_text comma (used_axes d p)) axes.text (position_no_space d (used_axes d p) axes.numbers));
+    others = ap (cmds.PGet i) axes.others;
+  }
+
+-- ---- words on a view that are no command
+pub no_pget : (d i : ℕ) (rest : List ℕ) → ((ns : List ℕ) → IsTrue (has_axes d ns) → rest ≢ numbers_text comma ns) → IsNoCommand d (view_word i ∷ codes "get" ∷ cut_at space rest)
+no_pget d i rest none c ok same = by c ok (begins_on_view (decimal i) (codes "get") (cut_at space rest) c same)
+  where
+    by : (c : Command) → is_writable d c ≡ true → BeginsOnView (codes "get") (cut_at space rest) c → ⊥
+    by (Command.pget j p) ok h = none p (and_parts (is_number j) (has_axes d p) ok).1 (one_word space rest (numbers_text comma p) h.1)
+    by (Command.pset j p v) ok h = differ (codes "get") (codes "set") refl h.0
+    by (Command.padd j p v) ok h = differ (codes "get") (codes "add") refl h.0
+    by (Command.pflush j) ok h = differ (codes "get") (codes "flush") refl h.0
+    by (Command.pdiscard j) ok h = differ (codes "get") (codes "discard") refl h.0
+    by (Command.pstats j) ok h = differ (codes "get") (codes "stats") refl h.0
+    by c ok h = h
+
+-- the word of another verb
+not_get : (verb : Verb) → verb ≢ verbs.Get → bytes_eq (verb_word verb) (codes "get") ≡ false
+not_get verbs.Get other = absurd (other refl)
+not_get verb other = refl
+
+not_set : (verb : Verb) → verb ≢ verbs.Set → bytes_eq (verb_word verb) (codes "set") ≡ false
+not_set verbs.Set other = absurd (other refl)
+not_set verb other = refl
+
+not_add : (verb : Verb) → verb ≢ verbs.Add → bytes_eq (verb_word verb) (codes "add") ≡ false
+not_add verbs.Add other = absurd (other refl)
+not_add verb other = refl
+
+-- a verb that stands alone on a view, or is none of its verbs, has no words behind it
+pub no_pwords : (d i : ℕ) (verb : Verb) (rest : List ℕ) → verb ≢ verbs.Get → verb ≢ verbs.Set → verb ≢ verbs.Add → IsNoCommand d (view_word i ∷ verb_word verb ∷ cut_at space rest)
+no_pwords d i verb rest get set add c ok same = by c (begins_on_view (decimal i) (verb_word verb) (cut_at space rest) c same)
+  where
+    some : cut_at space rest ≡ [] → ⊥
+    some e = omega (arith, some_part space rest, ap length e)
+
+    by : (c : Command) → BeginsOnView (verb_word verb) (cut_at space rest) c → ⊥
+    by (Command.pget j p) h = differ (verb_word verb) (codes "get") (not_get verb get) h.0
+    by (Command.pset j p v) h = differ (verb_word verb) (codes "set") (not_set verb set) h.0
+    by (Command.padd j p v) h = differ (verb_word verb) (codes "add") (not_add verb add) h.0
+    by (Command.pflush j) h = some h.1
+    by (Command.pdiscard j) h = some h.1
+    by (Command.pstats j) h = some h.1
+    by c h = h
 
 -- ---- the words of a line
 pub read_some : (d : ℕ) (line : List ℕ) (cmd : Cmd) → 1 ≤ d → IsCommand d (cut_at space line) cmd → read_line d line ≡ Some (command_of d cmd)

@@ -28,6 +28,14 @@ command_of d cmds.Discard = Command.discard
 command_of d (cmds.Lines l) = Command.lines l
 command_of d (cmds.Resize count s) = Command.resize (used_axes count s)
 command_of d cmds.Stats = Command.stats
+command_of d (cmds.Split n l) = Command.split n l
+command_of d cmds.Join = Command.join
+command_of d (cmds.PGet i p) = Command.pget i (used_axes d p)
+command_of d (cmds.PSet i p v) = Command.pset i (used_axes d p) v
+command_of d (cmds.PAdd i p v) = Command.padd i (used_axes d p) v
+command_of d (cmds.PFlush i) = Command.pflush i
+command_of d (cmds.PDiscard i) = Command.pdiscard i
+command_of d (cmds.PStats i) = Command.pstats i
 
 -- a command in this form: coordinates along unused axes are 0, sizes and steps are 1
 abbrev pub cmd_of : Command → Cmd
@@ -46,6 +54,14 @@ cmd_of Command.discard = cmds.Discard
 cmd_of (Command.lines l) = cmds.Lines l
 cmd_of (Command.resize s) = cmds.Resize (length s) (with_unused 1 s)
 cmd_of Command.stats = cmds.Stats
+cmd_of (Command.split n l) = cmds.Split n l
+cmd_of Command.join = cmds.Join
+cmd_of (Command.pget i p) = cmds.PGet i (with_unused 0 p)
+cmd_of (Command.pset i p v) = cmds.PSet i (with_unused 0 p) v
+cmd_of (Command.padd i p v) = cmds.PAdd i (with_unused 0 p) v
+cmd_of (Command.pflush i) = cmds.PFlush i
+cmd_of (Command.pdiscard i) = cmds.PDiscard i
+cmd_of (Command.pstats i) = cmds.PStats i
 
 -- these are the words of the command in d dimensions
 pub record IsCommand (d : ℕ) (words : List (List ℕ)) (cmd : Cmd) : Type 0 where
@@ -60,6 +76,7 @@ IsNoCommand d words = (c : Command) → IsTrue (is_writable d c) → words ≡ w
 -- the refusal that this is
 abbrev pub refusal_of : Refusal → script.Refusal
 refusal_of refusals.Word = script.Refusal.word
+refusal_of refusals.Split = script.Refusal.split
 refusal_of refusals.Size = script.Refusal.size
 refusal_of refusals.Range = script.Refusal.range
 refusal_of refusals.Value = script.Refusal.value

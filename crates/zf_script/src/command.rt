@@ -35,4 +35,20 @@ pub enum Cmd {
     Resize(u8, Pos),
     /// The counts of the cache.
     Stats,
+    /// Split into private views: how many, and how many lines each has.
+    Split(u64, u64),
+    /// Flush the views in order, and end the split.
+    Join,
+    /// The value at a position, by this view.
+    PGet(u64, Pos),
+    /// Put a value at a position, by this view.
+    PSet(u64, Pos, i128),
+    /// Add to the value at a position, by this view.
+    PAdd(u64, Pos, i128),
+    /// Write back what is dirty in this view, and empty its cache.
+    PFlush(u64),
+    /// Empty the cache of this view, and write nothing back.
+    PDiscard(u64),
+    /// The counts of this view.
+    PStats(u64),
 }

@@ -7,6 +7,7 @@ mod parse;
 mod reply;
 mod text;
 mod verb;
+mod views;
 mod words;
 
 pub use command::Cmd;

@@ -11,6 +11,7 @@ use crate::command::Cmd;
 use crate::numbers::{axes_in, number_in, sizes_in, value_in};
 use crate::reply::Refusal;
 use crate::verb::{Verb, verb_in};
+use crate::views::on_view;
 use crate::words::cut;
 use zf_base::Pos;
 
@@ -32,7 +33,19 @@ fn command_in(dims: u8, line: &[u8]) -> Option<Cmd>
 {
     match cut(line, b' ') {
         None => alone(verb_in(line)?),
-        Some((verb, rest)) => with_words(dims, verb_in(verb)?, rest),
+        Some((first, rest)) => begun(dims, first, rest),
+    }
+}
+
+// The command that begins with a word and has the words behind its space. The word of a view is its number directly behind `@`.
+fn begun(dims: u8, first: &[u8], rest: &[u8]) -> Option<Cmd>
+    requires dimension { IsDimension dims }
+    ensures command { IfSome result (λ cmd. IsCommand dims (first.now ∷ cut_at space rest.now) cmd) }
+    ensures none { IfNone result (IsNoCommand dims (first.now ∷ cut_at space rest.now)) }
+{
+    match first {
+        [b'@', view @ ..] => on_view(dims, number_in(view)?, rest),
+        _ => with_words(dims, verb_in(first)?, rest),
     }
 }
 
@@ -47,6 +60,7 @@ fn alone(verb: Verb) -> Option<Cmd>
         Verb::Flush => Some(Cmd::Flush),
         Verb::Discard => Some(Cmd::Discard),
         Verb::Stats => Some(Cmd::Stats),
+        Verb::Join => Some(Cmd::Join),
         _ => None,
     }
 }
@@ -86,12 +100,16 @@ fn with_words(dims: u8, verb: Verb, rest: &[u8]) -> Option<Cmd>
             let (count, sizes) = sizes_in(b'x', 1, rest)?;
             Some(Cmd::Resize(count, sizes))
         }
+        Verb::Split => {
+            let (views, lines) = two_numbers_in(rest)?;
+            Some(Cmd::Split(views, lines))
+        }
         _ => None,
     }
 }
 
-// A position and a value.
-fn position_and_value_in(dims: u8, words: &[u8]) -> Option<(Pos, i128)>
+/// A position and a value.
+pub(crate) fn position_and_value_in(dims: u8, words: &[u8]) -> Option<(Pos, i128)>
     requires dimension { IsDimension dims }
     ensures both { IfSome result (λ r. IsPositionAndValue dims (cut_at space words.now) r.0 r.1) }
     ensures none { IfNone result (NoPositionAndValue dims (cut_at space words.now)) }

@@ -5,9 +5,11 @@
 pub enum Refusal {
     /// It is no line of the language.
     Word,
-    /// A size, a step or a number of lines that cannot be.
+    /// It needs a split where there is none, or there is one and it is on the whole array.
+    Split,
+    /// A size, a step, a number of lines or of views that cannot be.
     Size,
-    /// A position, an axis or a place outside.
+    /// A position, an axis or a place outside; a view that there is not, or a position that is not the view's.
     Range,
     /// A value that the type does not have.
     Value,

@@ -49,6 +49,7 @@ fn word_of(why: Refusal) -> &'static [u8]
 {
     match why {
         Refusal::Word => b"word",
+        Refusal::Split => b"split",
         Refusal::Size => b"size",
         Refusal::Range => b"range",
         Refusal::Value => b"value",

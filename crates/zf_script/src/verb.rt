@@ -4,7 +4,7 @@ ghost use Rattle.std.specs.Prelude.{◌≡◌, ◌≢◌, IfSome, IfNone};
 ghost use Rattle.zf_script.specs.declared.verb.Verb.{Verb};
 ghost use Rattle.zf_script.specs.Verbs.{verb_word};
 
-/// What the first word of a line says.
+/// What the first word of a line says, or the word behind a view's.
 #[derive(Clone, Copy, Debug, PartialEq, Eq)]
 pub(crate) enum Verb {
     Get,
@@ -22,6 +22,8 @@ pub(crate) enum Verb {
     Lines,
     Resize,
     Stats,
+    Split,
+    Join,
 }
 
 /// The verb that a word is.
@@ -45,6 +47,8 @@ pub(crate) fn verb_in(word: &[u8]) -> Option<Verb>
         b"lines" => Some(Verb::Lines),
         b"resize" => Some(Verb::Resize),
         b"stats" => Some(Verb::Stats),
+        b"split" => Some(Verb::Split),
+        b"join" => Some(Verb::Join),
         _ => None,
     }
 }

@@ -1,5 +1,5 @@
-use Rattle.zf_private.specs.Ownership.{Owns}
-use Rattle.zf_private.specs.Views.{acted}
+use Rattle.zf_cached.specs.Ownership.{Owns}
+use Rattle.zf_cached.specs.Views.{acted}
 use Rattle.zf_private.proofs.Alike.{alike-acted, alike-answered}
 use Rattle.zf_private.proofs.laws.acts_need_no_other_block.Goals as goal
 

@@ -49,4 +49,4 @@ returns-in_ok-count-in-Resize-clause-command c =
 pub returns-in_default-clause-none : goal.returns-in_default-clause-none
 returns-in_default-clause-none c =
     let no = c.in_default in
-    no_words c.args.dims c.args.verb c.args.rest.now no.not-Get no.not-Set no.not-Add no.not-Fill no.not-View no.not-Slice no.not-VGet no.not-VSet no.not-Lines no.not-Resize
+    no_words c.args.dims c.args.verb c.args.rest.now no.not-Get no.not-Set no.not-Add no.not-Fill no.not-View no.not-Slice no.not-VGet no.not-VSet no.not-Lines no.not-Resize no.not-Split

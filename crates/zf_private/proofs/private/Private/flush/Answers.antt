@@ -1,6 +1,6 @@
 use Rattle.std.proofs.Common.{refl, ap, ◌∙◌, lit<}
 use Rattle.zf_cached.specs.Changes.{flush}
-use Rattle.zf_private.specs.Acts.{Act}
+use Rattle.zf_cached.specs.Acts.{Act}
 use Rattle.zf_private.specs.Standing.{Held, state}
 use Rattle.zf_private.proofs.Calls.{has_blocks, fits_mine, others_stay}
 use Rattle.zf_private.proofs.Others.{acted-flush}

@@ -8,7 +8,7 @@ use Rattle.zf_base.specs.Formats.{Format, with_at}
 use Rattle.zf_cached.specs.State.{Counts, State}
 use Rattle.zf_cached.specs.Touch.{touch, touch_for_writing, with_values}
 use Rattle.zf_cached.specs.Changes.{flush, discard}
-use Rattle.zf_private.specs.Acts.{Act}
+use Rattle.zf_cached.specs.Acts.{Act}
 
 -- the block b with the value at its place p changed, by one touch for writing
 abbrev pub changed : {Code : Type 0} → Format Code → State Code → ℕ → ℕ → (ℤ → ℤ) → State Code
