@@ -14,30 +14,6 @@ pub fn pass<T: Lane, M: LineMap<T>>(line_map: &M, step: usize, block: &mut [T])
     requires whole { length block.old % (4 * step) ≡ 0 }
     ensures { map T.value block.new ≡ along (M.line line_map.now) step (map T.value block.old) }
 {
-    // Where the step and the length are constants, the compiler makes lanes of the lines beside one another, and needs no loop for few lines.
-    match (block.len(), step) {
-        (4, 1) => pass_by(line_map, 1, 4, block),
-        (16, 1) => pass_by(line_map, 1, 16, block),
-        (16, 4) => pass_by(line_map, 4, 16, block),
-        (64, 1) => pass_by(line_map, 1, 64, block),
-        (64, 4) => pass_by(line_map, 4, 64, block),
-        (64, 16) => pass_by(line_map, 16, 64, block),
-        (256, 1) => pass_by(line_map, 1, 256, block),
-        (256, 4) => pass_by(line_map, 4, 256, block),
-        (256, 16) => pass_by(line_map, 16, 256, block),
-        (256, 64) => pass_by(line_map, 64, 256, block),
-        _ => pass_any(line_map, step, block),
-    }
-}
-
-// The same of any length, which no block of one to four dimensions has.
-#[cold]
-#[inline(never)]
-fn pass_any<T: Lane, M: LineMap<T>>(line_map: &M, step: usize, block: &mut [T])
-    requires step { 0 < step }
-    requires whole { length block.old % (4 * step) ≡ 0 }
-    ensures { map T.value block.new ≡ along (M.line line_map.now) step (map T.value block.old) }
-{
     pass_by(line_map, step, block.len(), block);
 }
 
@@ -59,7 +35,37 @@ fn pass_by<T: Lane, M: LineMap<T>>(line_map: &M, step: usize, len: usize, block:
 }
 
 /// A pass along each axis of a block of `d` dimensions, along x first.
+#[inline]
 pub fn passes<T: Lane, M: LineMap<T>>(line_map: &M, d: u8, block: &mut [T])
+    requires { length block.old ≡ 4 ^ d }
+    ensures { map T.value block.new ≡ along_axes (M.line line_map.now) 1 d (map T.value block.old) }
+{
+    // Where the step and the length are constants, the compiler makes lanes of the lines beside one another, and needs no loop for few lines.
+    match d {
+        1 => pass_by(line_map, 1, 4, block),
+        2 => {
+            pass_by(line_map, 1, 16, block);
+            pass_by(line_map, 4, 16, block);
+        }
+        3 => {
+            pass_by(line_map, 1, 64, block);
+            pass_by(line_map, 4, 64, block);
+            pass_by(line_map, 16, 64, block);
+        }
+        4 => {
+            pass_by(line_map, 1, 256, block);
+            pass_by(line_map, 4, 256, block);
+            pass_by(line_map, 16, 256, block);
+            pass_by(line_map, 64, 256, block);
+        }
+        _ => passes_any(line_map, d, block),
+    }
+}
+
+// The same in any number of dimensions, which no block has but those of one to four.
+#[cold]
+#[inline(never)]
+fn passes_any<T: Lane, M: LineMap<T>>(line_map: &M, d: u8, block: &mut [T])
     requires { length block.old ≡ 4 ^ d }
     ensures { map T.value block.new ≡ along_axes (M.line line_map.now) 1 d (map T.value block.old) }
 {
@@ -69,7 +75,36 @@ pub fn passes<T: Lane, M: LineMap<T>>(line_map: &M, d: u8, block: &mut [T])
 }
 
 /// A pass along each axis of a block of `d` dimensions, along x last.
-pub fn passes_back<T: Lane, M: LineMap<T>>(line_map: &M, d: u8, block: &mut [T])
+#[inline]
+pub fn passes_back<T: Lane, M: LineMap<T>>(map_back: &M, d: u8, block: &mut [T])
+    requires { length block.old ≡ 4 ^ d }
+    ensures { map T.value block.new ≡ along_axes_back (M.line map_back.now) 1 d (map T.value block.old) }
+{
+    match d {
+        1 => pass_by(map_back, 1, 4, block),
+        2 => {
+            pass_by(map_back, 4, 16, block);
+            pass_by(map_back, 1, 16, block);
+        }
+        3 => {
+            pass_by(map_back, 16, 64, block);
+            pass_by(map_back, 4, 64, block);
+            pass_by(map_back, 1, 64, block);
+        }
+        4 => {
+            pass_by(map_back, 64, 256, block);
+            pass_by(map_back, 16, 256, block);
+            pass_by(map_back, 4, 256, block);
+            pass_by(map_back, 1, 256, block);
+        }
+        _ => passes_back_any(map_back, d, block),
+    }
+}
+
+// The same in any number of dimensions, which no block has but those of one to four.
+#[cold]
+#[inline(never)]
+fn passes_back_any<T: Lane, M: LineMap<T>>(line_map: &M, d: u8, block: &mut [T])
     requires { length block.old ≡ 4 ^ d }
     ensures { map T.value block.new ≡ along_axes_back (M.line line_map.now) 1 d (map T.value block.old) }
 {

@@ -12,7 +12,7 @@ ghost use Rattle.zf_bits.specs.Reader.{rest, Reads};
 
 use crate::Scratch;
 use crate::block_code::BlockCode;
-use crate::coefficients::{MOST_PLANES, copy_padded, from_planes, to_planes};
+use crate::coefficients::{copy_padded, from_planes, to_planes};
 use zf_base::{Extent, Lane};
 use zf_bits::{BitReader, BitWriter, Plane};
 
@@ -124,41 +124,69 @@ pub(crate) fn decode<C: BlockCode<T>, T: Lane>(
     ensures block { OnSome result (map T.value block.new
         ≡ C.back d (coefficients_of T.width d (C.planes_at code.now (4 ^ d) (rest reader.old)))) }
 {
-    // No more is cleared than a block of these dimensions needs.
-    let planes = T::WIDTH as usize;
     match d {
-        1 => read_block(
-            code,
-            d,
-            reader,
-            block,
-            &mut [0; 4],
-            &mut [0; MOST_PLANES][..planes],
-        ),
-        2 => read_block(
-            code,
-            d,
-            reader,
-            block,
-            &mut [0; 16],
-            &mut [0; MOST_PLANES][..planes],
-        ),
-        3 => read_block(
-            code,
-            d,
-            reader,
-            block,
-            &mut [0; 64],
-            &mut [0; MOST_PLANES][..planes],
-        ),
-        _ => read_block(
-            code,
-            d,
-            reader,
-            block,
-            &mut [0; 256],
-            &mut [[0; 4]; MOST_PLANES][..planes],
-        ),
+        1 => read_narrow(code, d, reader, block, &mut [0; 4]),
+        2 => read_narrow(code, d, reader, block, &mut [0; 16]),
+        3 => read_narrow(code, d, reader, block, &mut [0; 64]),
+        _ => read_wide(code, d, reader, block, &mut [0; 256]),
+    }
+}
+
+/// Reads the code of a block of up to 64 coefficients by way of these digits.
+#[inline(always)]
+fn read_narrow<C: BlockCode<T>, T: Lane>(
+    code: &C,
+    d: u8,
+    reader: &mut BitReader<'_>,
+    block: &mut [T],
+    digits: &mut [u64],
+) -> Option<()>
+    requires dimension { IsDimension d }
+    requires words { 4 ^ d ≤ 64 }
+    requires block { length block.old ≡ 4 ^ d }
+    requires digits { length digits.old ≡ 4 ^ d }
+    ensures short { IfNone result (length (rest reader.old) < C.len_at code.now (4 ^ d) (rest reader.old)) }
+    ensures unread { IfNone result (reader.new ≡ reader.old) }
+    ensures enough { OnSome result (C.len_at code.now (4 ^ d) (rest reader.old) ≤ length (rest reader.old)) }
+    ensures reads { OnSome result (Reads reader.old reader.new (take (C.len_at code.now (4 ^ d) (rest reader.old)) (rest reader.old))) }
+    ensures block { OnSome result (map T.value block.new
+        ≡ C.back d (coefficients_of T.width d (C.planes_at code.now (4 ^ d) (rest reader.old)))) }
+{
+    // No more planes are cleared than the values have digits.
+    let width = T::WIDTH;
+    if width == 32 {
+        read_block(code, d, reader, block, digits, &mut [0; 32])
+    } else {
+        read_block(code, d, reader, block, digits, &mut [0; 64])
+    }
+}
+
+/// The same of any block.
+#[inline(always)]
+fn read_wide<C: BlockCode<T>, T: Lane>(
+    code: &C,
+    d: u8,
+    reader: &mut BitReader<'_>,
+    block: &mut [T],
+    digits: &mut [u64],
+) -> Option<()>
+    requires dimension { IsDimension d }
+    requires words { 4 ^ d ≤ 256 }
+    requires block { length block.old ≡ 4 ^ d }
+    requires digits { length digits.old ≡ 4 ^ d }
+    ensures short { IfNone result (length (rest reader.old) < C.len_at code.now (4 ^ d) (rest reader.old)) }
+    ensures unread { IfNone result (reader.new ≡ reader.old) }
+    ensures enough { OnSome result (C.len_at code.now (4 ^ d) (rest reader.old) ≤ length (rest reader.old)) }
+    ensures reads { OnSome result (Reads reader.old reader.new (take (C.len_at code.now (4 ^ d) (rest reader.old)) (rest reader.old))) }
+    ensures block { OnSome result (map T.value block.new
+        ≡ C.back d (coefficients_of T.width d (C.planes_at code.now (4 ^ d) (rest reader.old)))) }
+{
+    // No more planes are cleared than the values have digits.
+    let width = T::WIDTH;
+    if width == 32 {
+        read_block(code, d, reader, block, digits, &mut [[0; 4]; 32])
+    } else {
+        read_block(code, d, reader, block, digits, &mut [[0; 4]; 64])
     }
 }
 

@@ -13,9 +13,6 @@ ghost use Rattle.zf_base.specs.Positions.{used_axes, IsExtent};
 use zf_base::{Extent, Lane};
 use zf_bits::Plane;
 
-/// The most planes of a block: one of `i64` has 64.
-pub(crate) const MOST_PLANES: usize = 64;
-
 /// Copies a block, padded.
 #[inline(always)]
 pub(crate) fn copy_padded<T: Lane>(d: u8, e: &Extent, block: &[T], values: &mut [T])

@@ -207,12 +207,46 @@ fn take_64<P: Plane>(planes: &[P], number: usize, digits: &mut [u64])
     requires digits { length digits.old ≡ 64 }
     ensures { IsOfGroup number (map P.words planes.now) digits.new }
 {
+    // A number of planes that is known needs no loop.
+    match planes.len() {
+        32 => join(&whole_half(planes, 0, number), &[0; 32], digits),
+        64 => join(
+            &whole_half(planes, 0, number),
+            &whole_half(planes, 32, number),
+            digits,
+        ),
+        _ => take_64_of(planes, number, digits),
+    }
+}
+
+/// The same of planes of any number.
+#[cold]
+#[inline(never)]
+fn take_64_of<P: Plane>(planes: &[P], number: usize, digits: &mut [u64])
+    requires number { number < P.word_count }
+    requires planes { length planes.now ≤ 64 }
+    requires digits { length digits.old ≡ 64 }
+    ensures { IsOfGroup number (map P.words planes.now) digits.new }
+{
     let low = half(planes, 0, number);
     if planes.len() > 32 {
         join(&low, &half(planes, 32, number), digits);
     } else {
         join(&low, &[0; 32], digits);
     }
+}
+
+/// The 32 planes from `from` on, turned.
+#[inline(always)]
+fn whole_half<P: Plane>(planes: &[P], from: usize, number: usize) -> [u64; 32]
+    requires number { number < P.word_count }
+    requires from { from + 32 ≤ length planes.now }
+    requires first { from ≤ 32 }
+    ensures { (j r : ℕ) → j < 32 → r < 64 → bit_of result j r ≡ bit_at (word_of (map P.words planes.now) number (from + r % 32)) (r - r % 32 + j) }
+{
+    let mut words = words_at(planes, from, number);
+    turn_32(&mut words);
+    words
 }
 
 /// The 32 planes from `from` on, turned. Planes past the end are zero.

@@ -1,7 +1,7 @@
 -- The places that exist: told by four axes, and by the used ones.
 use Rattle.std.proofs.Common.{◌≡◌, ℕ, zero, suc, ◌-◌, ◌/◌, ◌%◌, ◌^◌, ◌<◌, ◌≤◌, true, ◌&&◌, ltb, ltb-true, lt-ltb, List, [], ◌∷◌, ◌++◌, length, replicate, refl, ap, sym, subst, ◌∙◌, arith, lit<, pow-suc}
 use Rattle.std.proofs.lemmas.Bool.{and_parts, and_from}
-use Rattle.zf_spec.specs.Grid.{is_inside, indices}
+use Rattle.zf_spec.specs.Grid.{is_inside, fours, indices}
 use Rattle.zf_base.specs.declared.position.Extent.{Extent}
 use Rattle.zf_base.specs.Positions.{axes, used_axes, IsExtent}
 use Rattle.zf_pad.specs.declared.layout.Layout.{Layout}
@@ -39,6 +39,11 @@ inside_below (e ∷ es) k p h i =
     let powers = pow-suc 4 (length (es ++ ones k)) in
     omega (arith, inside_below es k (p / 4) (omega arith) parts.1)
 
+-- all places of a box of fours are inside
+inside_fours : (d p : ℕ) → is_inside (fours d) (indices d p) ≡ true
+inside_fours zero p = refl
+inside_fours (suc d) p = and_from (ltb (p % 4) 4) (is_inside (fours d) (indices d (p / 4))) (lt-ltb (p % 4) 4 (omega arith)) (inside_fours d (p / 4))
+
 module _ (d : ℕ) (e : Extent) (dims : d ≤ 4) (h : IsExtent d e) where
   -- a place that exists is one of the block's
   pub place_below : (p : ℕ) → HasPlace e p → p < 4 ^ d
@@ -57,6 +62,10 @@ module _ (d : ℕ) (e : Extent) (dims : d ≤ 4) (h : IsExtent d e) where
       let es = used_axes d e.size in
       let same = used_length d e dims h in
       ap (λ zs. is_inside zs (indices (length zs) p)) (size_axes d e dims h) ∙ inside-append_ones es (4 - d) p (subst (λ k. p < 4 ^ k) (sym same) lt) ∙ ap (λ k. is_inside es (indices k p)) same
+
+  -- and of a whole block each does
+  pub place_of_whole : (p : ℕ) → used_axes d e.size ≡ fours d → p < 4 ^ d → is_inside (axes e.size) (axes (place_indices p)) ≡ true
+  place_of_whole p all lt = has_place p lt ∙ ap (λ es. is_inside es (indices d p)) all ∙ inside_fours d p
 
   -- the first place exists
   pub first_place : HasPlace e 0

@@ -1,12 +1,13 @@
 //! Copies between a list of values and a block.
 
-ghost use Rattle.std.specs.Prelude.{◌≡◌, ◌<◌, ◌≤◌, ◌^◌, ◌↔◌, IsTrue, length, map};
-ghost use Rattle.zf_spec.specs.Grid.{is_inside};
-ghost use Rattle.zf_base.specs.Positions.{axes, IsExtent};
+ghost use Rattle.std.specs.Prelude.{◌≡◌, ◌<◌, ◌≤◌, ◌*◌, ◌^◌, ◌↔◌, IsTrue, length, map};
+ghost use Rattle.zf_spec.specs.Grid.{is_inside, fours};
+ghost use Rattle.zf_base.specs.Positions.{axes, used_axes, IsExtent};
 ghost use Rattle.zf_pad.specs.Layouts.{place_indices, HasWholeRows, LiesWithin, IsOneToOne};
 ghost use Rattle.zf_pad.specs.Copies.{IsGathered, IsScattered};
 
 use crate::layout::Layout;
+use crate::padding::is_whole;
 use zf_base::{Extent, Lane, Pos, block_len};
 
 /// Copies the values at the positions of the extent `e`, which stand where `layout` puts them, into a block of `d` dimensions.
@@ -20,10 +21,12 @@ pub fn gather<T: Lane>(layout: &Layout, e: &Extent, d: u8, values: &[T], block: 
     ensures { IsGathered layout.now e.now
         (map T.value values.now) (map T.value block.old) (map T.value block.new) }
 {
-    if has_whole_rows(layout, e) {
-        gather_rows(layout, e, d, values, block);
-    } else {
+    if !has_whole_rows(layout, e) {
         gather_places(layout, e, d, values, block);
+    } else if is_whole(&e.size, d) {
+        gather_whole(layout, e, d, values, block);
+    } else {
+        gather_rows(layout, e, d, values, block);
     }
 }
 
@@ -32,6 +35,56 @@ fn has_whole_rows(layout: &Layout, e: &Extent) -> bool
     ensures { IsTrue result ↔ HasWholeRows layout.now e.now }
 {
     layout.step.x == 1 && e.size.x == 4
+}
+
+// The same of a whole block.
+fn gather_whole<T: Lane>(layout: &Layout, e: &Extent, d: u8, values: &[T], block: &mut [T])
+    requires four_at_most { d ≤ 4 }
+    requires extent { IsExtent d e.now }
+    requires rows { HasWholeRows layout.now e.now }
+    requires whole { length block.old ≡ 4 ^ d }
+    requires all { used_axes d e.now.size ≡ fours d }
+    requires within { LiesWithin layout.now e.now (length values.now) }
+    ensures { IsGathered layout.now e.now
+        (map T.value values.now) (map T.value block.old) (map T.value block.new) }
+{
+    // A number of rows that is known needs no loop where it is small.
+    match d {
+        1 => gather_all_rows(layout, e, d, 1, values, block),
+        2 => gather_all_rows(layout, e, d, 4, values, block),
+        3 => gather_all_rows(layout, e, d, 16, values, block),
+        _ => gather_all_rows(layout, e, d, block_len(d) / 4, values, block),
+    }
+}
+
+// The same by so many rows.
+#[inline(always)]
+fn gather_all_rows<T: Lane>(
+    layout: &Layout,
+    e: &Extent,
+    d: u8,
+    rows: usize,
+    values: &[T],
+    block: &mut [T],
+)
+    requires four_at_most { d ≤ 4 }
+    requires extent { IsExtent d e.now }
+    requires beside { HasWholeRows layout.now e.now }
+    requires rows { 4 * rows ≡ 4 ^ d }
+    requires few { rows ≤ 64 }
+    requires whole { length block.old ≡ 4 ^ d }
+    requires all { used_axes d e.now.size ≡ fours d }
+    requires within { LiesWithin layout.now e.now (length values.now) }
+    ensures { IsGathered layout.now e.now
+        (map T.value values.now) (map T.value block.old) (map T.value block.new) }
+{
+    let from_origin = layout.counted_from(&e.origin);
+    for row in 0..rows {
+        let first = from_origin.index(&indices(4 * row)) as usize;
+        for k in 0..4 {
+            block[4 * row + k] = values[first + k];
+        }
+    }
 }
 
 // The same for whole rows, a row of four values at a time.
@@ -86,10 +139,63 @@ pub fn scatter<T: Lane>(layout: &Layout, e: &Extent, d: u8, block: &[T], values:
     ensures { IsScattered layout.now e.now
         (map T.value block.now) (map T.value values.old) (map T.value values.new) }
 {
-    if has_whole_rows(layout, e) {
-        scatter_rows(layout, e, d, block, values);
-    } else {
+    if !has_whole_rows(layout, e) {
         scatter_places(layout, e, d, block, values);
+    } else if is_whole(&e.size, d) {
+        scatter_whole(layout, e, d, block, values);
+    } else {
+        scatter_rows(layout, e, d, block, values);
+    }
+}
+
+// The same of a whole block.
+fn scatter_whole<T: Lane>(layout: &Layout, e: &Extent, d: u8, block: &[T], values: &mut [T])
+    requires four_at_most { d ≤ 4 }
+    requires extent { IsExtent d e.now }
+    requires rows { HasWholeRows layout.now e.now }
+    requires whole { length block.now ≡ 4 ^ d }
+    requires all { used_axes d e.now.size ≡ fours d }
+    requires within { LiesWithin layout.now e.now (length values.old) }
+    requires one_to_one { IsOneToOne layout.now e.now }
+    ensures { IsScattered layout.now e.now
+        (map T.value block.now) (map T.value values.old) (map T.value values.new) }
+{
+    match d {
+        1 => scatter_all_rows(layout, e, d, 1, block, values),
+        2 => scatter_all_rows(layout, e, d, 4, block, values),
+        3 => scatter_all_rows(layout, e, d, 16, block, values),
+        _ => scatter_all_rows(layout, e, d, block_len(d) / 4, block, values),
+    }
+}
+
+// The same by so many rows.
+#[inline(always)]
+fn scatter_all_rows<T: Lane>(
+    layout: &Layout,
+    e: &Extent,
+    d: u8,
+    rows: usize,
+    block: &[T],
+    values: &mut [T],
+)
+    requires four_at_most { d ≤ 4 }
+    requires extent { IsExtent d e.now }
+    requires beside { HasWholeRows layout.now e.now }
+    requires rows { 4 * rows ≡ 4 ^ d }
+    requires few { rows ≤ 64 }
+    requires whole { length block.now ≡ 4 ^ d }
+    requires all { used_axes d e.now.size ≡ fours d }
+    requires within { LiesWithin layout.now e.now (length values.old) }
+    requires one_to_one { IsOneToOne layout.now e.now }
+    ensures { IsScattered layout.now e.now
+        (map T.value block.now) (map T.value values.old) (map T.value values.new) }
+{
+    let from_origin = layout.counted_from(&e.origin);
+    for row in 0..rows {
+        let first = from_origin.index(&indices(4 * row)) as usize;
+        for k in 0..4 {
+            values[first + k] = block[4 * row + k];
+        }
     }
 }
 

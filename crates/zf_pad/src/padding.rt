@@ -31,7 +31,7 @@ pub fn pad<T: Lane>(e: &Extent, d: u8, block: &mut [T])
 }
 
 // Whether all places of a block of `d` dimensions exist.
-fn is_whole(size: &Pos, d: u8) -> bool
+pub(crate) fn is_whole(size: &Pos, d: u8) -> bool
     requires { d ≤ 4 }
     ensures { result ≡ true → used_axes d size.now ≡ fours d }
 {

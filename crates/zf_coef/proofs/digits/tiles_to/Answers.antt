@@ -1,4 +1,4 @@
-use Rattle.std.proofs.Common.{◌≡◌, ◌+◌, ◌-◌, ◌*◌, ◌/◌, ap, subst, ◌∙◌, map, length, replicate, arith}
+use Rattle.std.proofs.Common.{◌≡◌, ◌+◌, ◌-◌, ◌*◌, ◌/◌, ap, subst, ◌∙◌, map, replicate, arith}
 use Rattle.std.proofs.lemmas.List.{length-map, get_or-replicate}
 use Rattle.zf_coef.proofs.Tiles.{HasTilesFrom, tile_next, tiles_end, end_less, tiles_from_end, tile_before, tiles_from_start}
 use Rattle.zf_coef.proofs.digits.tiles_to.Goals as goal

@@ -1,7 +1,7 @@
 use Rattle.std.proofs.Common.{◌≡◌, ◌^◌, length, arith}
 use Rattle.zf_axes.proofs.Strides.{step_some, step_below, step_whole}
 use Rattle.zf_axes.proofs.AxisByAxis.{along_axes-next}
-use Rattle.zf_axes.proofs.axes.passes.Goals as goal
+use Rattle.zf_axes.proofs.axes.passes_any.Goals as goal
 
 pub step_along-requires : goal.step_along-requires
 step_along-requires g c = let inside = step_below c.loop-axis.axis c.args.d c.loop-axis-test.true in omega arith

@@ -1,7 +1,7 @@
 -- The passes along the axes to come make of the block now what all make of the block at the start.
 use Rattle.std.proofs.Common.{◌≡◌, ◌-◌, ◌^◌, map}
 use Rattle.zf_spec.specs.Lift.{along_axes}
-use Rattle.zf_axes.proofs.axes.passes.Given as goal
+use Rattle.zf_axes.proofs.axes.passes_any.Given as goal
 
 abbrev pub invariant-loop-axis : goal.invariant-loop-axis
 invariant-loop-axis g l =
