@@ -1,18 +1,14 @@
 -- An array as a list of codes that others read and write, while no block is in any of its lines.
 use Rattle.std.specs.Prelude.{ℕ, ◌≡◌, None}
 use Rattle.std.specs.Borrow.{GName, MutBor}
-use Rattle.zf_base.specs.Formats.{Format, meant}
 use Rattle.zf_header.specs.declared.header.Header.{Header}
-use Rattle.zf_cached.specs.State.{Counts, State, empty_line, none_dirty}
+use Rattle.zf_cached.specs.State.{Counts}
+unfoldable pub use Rattle.zf_cached.specs.Splits.{coded}
 use Rattle.zf_array.specs.Standing.{Held, format, state}
 
 -- no block is in any line
 abbrev pub HasEmptyLines : Held → Type 0
 HasEmptyLines a = (l : ℕ) → (state a).held l ≡ None
-
--- a state with these codes: no block is in any line, and each has the values that its code means; the number of lines and the counts stay
-unfoldable pub coded : {Code : Type 0} → Format Code → State Code → (ℕ → Code) → State Code
-coded format s codes = record s { held = empty_line; dirty = none_dirty; values = λ b. meant format b (codes b); codes = codes }
 
 -- the array stands for its codes alone
 abbrev pub IsCoded : Held → Type 0
