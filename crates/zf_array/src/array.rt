@@ -6,7 +6,7 @@ ghost use Rattle.zf_spec.specs.Grid.{blocks};
 ghost use Rattle.zf_spec.specs.Numbers.{wrap, word_bits};
 ghost use Rattle.zf_spec.specs.Stream.{with_fill};
 ghost use Rattle.std.specs.Borrow.{sem};
-ghost use Rattle.zf_base.specs.Formats.{existing_of};
+ghost use Rattle.zf_base.specs.Formats.{existing_of, meant, encoded, with_at};
 ghost use Rattle.zf_base.specs.Positions.{IsPosition};
 ghost use Rattle.zf_base.specs.Widths.{width_of};
 ghost use Rattle.zf_header.specs.HeaderBits.{IsRate, block_bits};
@@ -19,10 +19,11 @@ ghost use Rattle.zf_stream.specs.ReadStreams.{IsFault};
 ghost use Rattle.zf_store.specs.Stored.{file_of, zeros};
 ghost use Rattle.zf_store.specs.Files.{HasHeader, IsOpened, stream_fault};
 ghost use Rattle.zf_array.specs.Standing.{stored, format, state, array_of, shape, block_at, place_at};
+ghost use Rattle.zf_array.specs.Coded.{HasEmptyLines, IsCoded, coded};
 
 use std::alloc::{AllocError, Global};
 use std::marker::Model;
-use zf_base::{Lane, Pos, Shape, block_len};
+use zf_base::{Backing, Lane, Pos, Reading, Shape, block_len};
 use zf_cache::{Cache, raised};
 use zf_header::{Header, Mode, rate_bytes};
 use zf_script::Stats;
@@ -223,6 +224,7 @@ impl<T: Lane, const D: usize> Array<T, D> {
     /// Writes every dirty block back, in the order of lines; then no block is in any line.
     pub fn flush(&mut self)
         ensures state { state self.new ≡ flush (format self.old) (state self.old) }
+        ensures empty { HasEmptyLines self.new }
         ensures header { self.new.header ≡ self.old.header }
     {
         self.cache.flush(&mut self.store);
@@ -231,6 +233,7 @@ impl<T: Lane, const D: usize> Array<T, D> {
     /// Forgets what was not written back: no block is in any line, and each has the values that its code means.
     pub fn discard(&mut self)
         ensures state { state self.new ≡ discard (format self.old) (state self.old) }
+        ensures empty { HasEmptyLines self.new }
         ensures header { self.new.header ≡ self.old.header }
     {
         self.cache.discard();
@@ -261,6 +264,36 @@ impl<T: Lane, const D: usize> Array<T, D> {
         self.store = store;
         self.buffer = buffer;
         Ok(())
+    }
+
+    /// Puts the values that the code of block `b` means into `line`. No touch is made.
+    pub(crate) fn load_code(&mut self, b: u64, line: &mut [T])
+        requires block { b < (format self.old).blocks }
+        requires whole { length line.old ≡ (format self.old).block_len }
+        ensures value { existing_of (format self.old) b (map T.value line.new) ≡ meant (format self.old) b ((state self.old).codes b) }
+        ensures same { self.new ≡ self.old }
+    {
+        self.store.load(b, line);
+    }
+
+    /// Makes the code of block `b` that of the values in `line`. The array stands for its codes alone, before and after.
+    pub(crate) fn store_code(&mut self, b: u64, line: &[T])
+        requires is_coded { IsCoded self.old }
+        requires block { b < (format self.old).blocks }
+        requires whole { length line.now ≡ (format self.old).block_len }
+        ensures state { state self.new ≡ coded (format self.old) (state self.old)
+            (with_at (state self.old).codes b (encoded (format self.old) b (map T.value line.now))) }
+        ensures header { self.new.header ≡ self.old.header }
+    {
+        self.store.store(b, line);
+    }
+
+    /// Tells that an array with no block in any line stands for its codes alone.
+    pub(crate) fn see_coded(&self)
+        requires { HasEmptyLines self.now }
+        ensures { IsCoded self.now }
+    {
+        let _ = &self.store;
     }
 
     /// The words of the codes, as last written back: code `b` from bit `b * B` on, `B` being the bits of a block, and zeros to the whole word.

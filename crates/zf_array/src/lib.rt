@@ -2,7 +2,9 @@
 #![tactic(auto)]
 
 mod array;
+mod codes;
 #[cfg(test)]
 mod tests;
 
 pub use array::Array;
+pub use codes::Codes;

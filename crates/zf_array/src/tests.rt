@@ -7,7 +7,9 @@ use super::*;
 use std::alloc::Global;
 use std::process::Abort;
 use std::test::Fail;
-use zf_base::{Lane, Pos, Shape, Ty};
+use zf_base::{Lane, Pos, Reading, Shape, Ty};
+use zf_cache::Cache;
+use zf_cache::laws::empty_caches_fit;
 use zf_header::{Header, Mode};
 use zf_script::Stats;
 use zf_store::StoreFault;
@@ -201,5 +203,33 @@ fn blocks_and_parts_are_lent(rt: HostRuntime) -> Result<(), Fail> {
     assert_eq!(rt; a.shape().blocks(), 2);
     assert_eq!(rt; a.block(1), [5, 0, 0, -6].as_slice());
     assert_eq!(rt; a.stats(), stats(3, 2, 0));
+    Ok(())
+}
+
+const CODED: [u8; 32] = [
+    0x7a, 0x66, 0x70, 0x05, 0x70, 0, 0, 0, 0, 0, 0xf0, 0x03, 0, 0, 0, 0, 0, 0, 0, 0, 0, 0, 0, 0xa0,
+    0xfc, 0x03, 0, 0, 0, 0, 0, 0,
+];
+
+// What another cache writes through the codes is the array's, in code and in value; the array counts its own touches alone.
+#[test]
+fn another_cache_stands_on_the_codes(rt: HostRuntime) -> Result<(), Fail> {
+    let mut a = zeros(&rt, rt.alloc(), 2)?;
+    set(&rt, &mut a, 0, 1);
+    a.flush();
+    let mut other = Cache::<i32, 1>::new(rt.alloc(), 1)?;
+    let mut codes = Codes::bind(&mut a);
+    empty_caches_fit::<i32, Codes<'_, i32, 1>>();
+    assert_eq!(rt; codes.blocks(), 2);
+    assert_eq!(rt; codes.block_len(), 4);
+    other.set(&mut codes, 1, 0, 7);
+    let kept = other.get(&mut codes, 1, 0);
+    let zero = other.get(&mut codes, 0, 0);
+    let rounded = other.get(&mut codes, 1, 0);
+    assert_eq!(rt; (kept, zero, rounded), (7, 0, 6));
+    assert_eq!(rt; a.stats(), stats(0, 1, 1));
+    assert_eq!(rt; a.save_bytes(), CODED.as_slice());
+    assert_eq!(rt; (get(&rt, &mut a, 4), get(&rt, &mut a, 7)), (6, -2));
+    assert_eq!(rt; a.stats(), stats(1, 2, 1));
     Ok(())
 }

@@ -91,6 +91,38 @@ module _ {Code : Type 0} (f : Format Code) (owned : ℕ → Type 0) where
   stay-acted w s Act.flush b h not = stay-write_back_lines s s.lines b h not
   stay-acted w s Act.discard b h not = refl
 
+  -- ---- and so do the values that a view has of them, if it has any
+
+  quiet-touch : (s : State Code) (a b : ℕ) → HasOwn owned s → (owned b → ⊥) → (touch f s a).values b ≡ s.values b
+  quiet-touch s a b h not = let left = touch-left_away f s a b (λ e. not (h.held (own_line s a) b e)) in left.values
+
+  quiet-write_back_lines : (s : State Code) (n b : ℕ) → HasOwn owned s → (owned b → ⊥) → (write_back_lines f s n).values b ≡ s.values b
+  unfolding write_back_lines
+  quiet-write_back_lines s zero b h not = refl
+  quiet-write_back_lines s (suc n) b h not =
+      let k = own-write_back_lines s n h in
+      (write_back_line-other f (write_back_lines f s n) n b (λ e. not (k.held n b e))).1 ∙ quiet-write_back_lines s n b h not
+
+  quiet-changed : (s : State Code) (a p b : ℕ) (change : ℤ → ℤ) → owned a → HasOwn owned s → (owned b → ⊥) → (changed f s a p change).values b ≡ s.values b
+  unfolding touch_for_writing soiled with_values
+  quiet-changed s a p b change own h not = with_at-other (touch f s a).values a _ b (λ e. not (subst owned (sym e) own)) ∙ quiet-touch s a b h not
+
+  quiet-discard : (s : State Code) (b : ℕ) → HasOwn owned s → (owned b → ⊥) → (discard f s).values b ≡ s.values b
+  unfolding discard
+  quiet-discard s b h not = by (s.dirty b) refl
+    where
+      by : (t : Bool) → s.dirty b ≡ t → cond (s.dirty b) (meant f b (s.codes b)) (s.values b) ≡ s.values b
+      by true e = absurd (not (h.dirty b e))
+      by false e = ap (λ t. cond t (meant f b (s.codes b)) (s.values b)) e
+
+  pub quiet-acted : (w : Width) (s : State Code) (a : Act) (b : ℕ) → IsWithin owned a → HasOwn owned s → (owned b → ⊥) → (acted w f s a).values b ≡ s.values b
+  unfolding acted flush emptied
+  quiet-acted w s (Act.get a p) b own h not = quiet-touch s a b h not
+  quiet-acted w s (Act.set a p v) b own h not = quiet-changed s a p b (λ old. v) own h not
+  quiet-acted w s (Act.add a p v) b own h not = quiet-changed s a p b (λ old. wrap w (old +ℤ v)) own h not
+  quiet-acted w s Act.flush b own h not = quiet-write_back_lines s s.lines b h not
+  quiet-acted w s Act.discard b own h not = quiet-discard s b h not
+
   -- ---- states that are alike stay alike
 
   alike-same : (s s' t t' : State Code) → s' ≡ s → t' ≡ t → AreAlike owned s t → AreAlike owned s' t'

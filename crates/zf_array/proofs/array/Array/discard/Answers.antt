@@ -1,5 +1,6 @@
-use Rattle.std.proofs.Common.{refl, length}
+use Rattle.std.proofs.Common.{refl, ap, Bool, List, length}
 use Rattle.std.specs.Vec.{vec_len}
+use Rattle.zf_cached.specs.State.{State}
 use Rattle.zf_cached.specs.Changes.{discard}
 use Rattle.zf_store.specs.Stored.{code_at, format_of}
 use Rattle.zf_cache.proofs.Steps.{empty_fits, discarded}
@@ -13,6 +14,10 @@ returns-clause-state g c =
     let k = code_at s.store in
     let fits = empty_fits g.T.Lane.value f k c.discard.new.self (length s.cache.tags) c.discard.ensures.empty in
     step g.T.Lane.value g.T.Lane.width g.row.D s.store s.cache (vec_len s.buffer) c.self.invariant c.args.self.now c.self.view_is s.store c.discard.new.self refl fits (λ f u. discard f u) (discarded g.T.Lane.value f k s.cache c.discard.new.self c.self.invariant.fits c.discard.ensures.empty c.discard.ensures.counts)
+
+pub returns-clause-empty : goal.returns-clause-empty
+unfolding discard
+returns-clause-empty g c = λ l. ap (λ (s : State (List Bool)). s.held l) (returns-clause-state g c)
 
 pub returns-clause-header : goal.returns-clause-header
 returns-clause-header g c =

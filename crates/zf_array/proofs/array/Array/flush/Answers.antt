@@ -1,6 +1,7 @@
-use Rattle.std.proofs.Common.{lit<}
+use Rattle.std.proofs.Common.{ap, Bool, List, lit<}
 use Rattle.std.specs.Vec.{vec_len}
-use Rattle.zf_cached.specs.Changes.{flush}
+use Rattle.zf_cached.specs.State.{State}
+use Rattle.zf_cached.specs.Changes.{flush, emptied}
 use Rattle.zf_array.proofs.Standing.{has_blocks, joined_after}
 use Rattle.zf_array.proofs.Steps.{step, header_step}
 use Rattle.zf_array.proofs.array.Array.flush.Goals as goal
@@ -19,6 +20,10 @@ pub returns-clause-state : goal.returns-clause-state
 returns-clause-state g c =
     let s = c.self.inside in
     step g.T.Lane.value g.T.Lane.width g.row.D s.store s.cache (vec_len s.buffer) c.self.invariant c.args.self.now c.self.view_is c.flush.new.back c.flush.new.self c.flush.ensures.kept c.flush.ensures.fits (λ f u. flush f u) c.flush.ensures.state
+
+pub returns-clause-empty : goal.returns-clause-empty
+unfolding flush emptied
+returns-clause-empty g c = λ l. ap (λ (s : State (List Bool)). s.held l) (returns-clause-state g c)
 
 pub returns-clause-header : goal.returns-clause-header
 returns-clause-header g c =

@@ -1,0 +1,157 @@
+-- Arrays with no block in any line, and their codes.
+use Rattle.std.proofs.Common.{◌≡◌, refl, sym, ap, subst, ◌∙◌, ℕ, ◌<◌, ℤ, Bool, true, false, Some, None, List, length}
+use Rattle.std.proofs.lemmas.Bool.{ne_eqb}
+use Rattle.std.specs.Borrow.{GName}
+use Rattle.std.specs.Int.{Width}
+use Rattle.zf_base.specs.Formats.{Format, existing_of, meant, with_at, encoded}
+use Rattle.zf_cached.specs.State.{State, empty_line, none_dirty, is_block}
+use Rattle.zf_cached.proofs.States.{same_state}
+use Rattle.zf_header.specs.declared.header.Header.{Header}
+use Rattle.zf_cache.specs.Kept.{Kept, tag_at, block_in, line_of, clean_tag, dirty_tag}
+use Rattle.zf_cache.specs.Standing.{state_of, values_of, line_values, Fits}
+use Rattle.zf_cache.proofs.Tags.{names-clean, names-dirty}
+use Rattle.zf_store.specs.Stored.{Stored, code_at, format_of, frame_of}
+use Rattle.zf_array.specs.Standing.{Held, format, state, array_of}
+use Rattle.zf_array.specs.Coded.{HasEmptyLines, IsCoded, Frame, coded}
+use Rattle.zf_array.specs.Parts.{held_by, IsJoined}
+use Rattle.zf_array.proofs.Standing.{state_now, format_now, header_kept, state_after}
+
+-- ---- a cache with no block in any line
+
+module _ {X Code : Type 0} (value : X → ℤ) (f : Format Code) (c : Kept X) (k : ℕ → Code) (none : (l : ℕ) → block_in (tag_at c.tags l) ≡ None) where
+  no_block : (l b : ℕ) → block_in (tag_at c.tags l) ≡ Some b → ⊥
+  no_block l b is = let both : None ≡ Some b = sym (none l) ∙ is in cc
+
+  pub none_fits : Fits value c f k
+  none_fits = record {
+    own = λ l b is. absurd (no_block l b is);
+    clean = λ l b is. absurd (no_block l b (ap block_in is ∙ names-clean b));
+  }
+
+  pub none_coded : (s : State Code) → length c.tags ≡ s.lines → c.counts ≡ s.counts → state_of value c f k ≡ coded f s k
+  unfolding state_of values_of coded
+  none_coded s lines counts =
+      same_state (state_of value c f k) (coded f s k) lines none
+      (λ b. ne_eqb (tag_at c.tags (line_of c b)) (dirty_tag b) (λ is. no_block (line_of c b) b (ap block_in is ∙ names-dirty b)))
+      (λ b. ap (λ o. elim (is_block o b) [ true ↦ line_values value c f (line_of c b) b | false ↦ meant f b (k b) ]) (none (line_of c b)))
+      (λ b. refl) counts
+
+-- ---- an array with no block in any line
+
+module _ {X : Type 0} (value : X → ℤ) (w : Width) (d : ℕ) (s : Stored) (c : Kept X) (room : ℕ) (joined : IsJoined value w d s c room) (now : Held) (is : held_by value s c ≡ now) where
+  -- the state of the cache and the store
+  there : state now ≡ state_of value c (format_of s) (code_at s)
+  there = state_now value w d s c room joined now is
+
+  pub none_held : HasEmptyLines now → (l : ℕ) → block_in (tag_at c.tags l) ≡ None
+  unfolding state_of
+  none_held empty l = ap (λ (u : State (List Bool)). u.held l) (sym there) ∙ empty l
+
+  lines_there : length c.tags ≡ (state now).lines
+  unfolding state_of
+  lines_there = ap (λ (u : State (List Bool)). u.lines) (sym there)
+
+  counts_there : c.counts ≡ (state now).counts
+  unfolding state_of
+  counts_there = ap (λ (u : State (List Bool)). u.counts) (sym there)
+
+  pub codes_there : (state now).codes ≡ code_at s
+  unfolding state_of
+  codes_there = ap (λ (u : State (List Bool)). u.codes) there
+
+  -- a block, and a line of its values, are those of the store
+  pub block_there : (b : ℕ) → b < (format now).blocks → b < (format_of s).blocks
+  block_there b below = subst (λ (f : Format (List Bool)). b < f.blocks) (format_now value w d s c room joined now is) below
+
+  pub line_there : (n : ℕ) → n ≡ (format now).block_len → n ≡ (format_of s).block_len
+  line_there n whole = whole ∙ ap (λ (f : Format (List Bool)). f.block_len) (format_now value w d s c room joined now is)
+
+  -- what is loaded
+  pub loaded : (b : ℕ) (values : List ℤ) → existing_of (format_of s) b values ≡ meant (format_of s) b (code_at s b) → existing_of (format now) b values ≡ meant (format now) b ((state now).codes b)
+  loaded b values e =
+      let f = format_now value w d s c room joined now is in
+      ap (λ (g : Format (List Bool)). existing_of g b values) f ∙ e ∙ (λ i. meant (sym f i) b (sym codes_there i b))
+
+  -- a load leaves all as it is
+  module _ (t : Stored) (frame : frame_of t ≡ frame_of s) (same : format_of t ≡ format_of s) (codes : code_at t ≡ code_at s) where
+    pub fits_loaded : Fits value c (format_of t) (code_at t)
+    fits_loaded = subst (λ k. Fits value c (format_of t) k) (sym codes) (subst (λ f. Fits value c f (code_at s)) (sym same) joined.fits)
+
+    pub held_loaded : held_by value t c ≡ now
+    held_loaded = (λ i. array_of (header_kept value w d s c room joined t c frame i) (state_of value c (same i) (codes i))) ∙ is
+
+  -- it stands for its codes alone
+  pub empty_coded : HasEmptyLines now → IsCoded now
+  empty_coded empty =
+      there ∙ none_coded value (format_of s) c (code_at s) (none_held empty) (state now) lines_there counts_there
+      ∙ (λ i. coded (sym (format_now value w d s c room joined now is) i) (state now) (sym codes_there i))
+
+  -- and so it does with other codes
+  module _ (empty : HasEmptyLines now) (t : Stored) (frame : frame_of t ≡ frame_of s) (same : format_of t ≡ format_of s) where
+    pub fits_stored : Fits value c (format_of t) (code_at t)
+    fits_stored = none_fits value (format_of t) c (code_at t) (none_held empty)
+
+    pub stored_coded : (b : ℕ) (values : List ℤ) → code_at t ≡ with_at (code_at s) b (encoded (format_of s) b values)
+        → state (held_by value t c) ≡ coded (format now) (state now) (with_at (state now).codes b (encoded (format now) b values))
+    stored_coded b values codes =
+        state_after value w d s c room joined t c frame fits_stored
+        ∙ none_coded value (format_of t) c (code_at t) (none_held empty) (state now) lines_there counts_there
+        ∙ (λ i. coded (same i) (state now) (codes i))
+        ∙ (λ i. coded (sym (format_now value w d s c room joined now is) i) (state now) (with_at (sym codes_there i) b (encoded (sym (format_now value w d s c room joined now is) i) b values)))
+
+-- what stands for its codes alone has no block in any line
+pub coded_empty : (a : Held) → IsCoded a → HasEmptyLines a
+unfolding coded
+coded_empty a is l = ap (λ (u : State (List Bool)). u.held l) is
+
+-- ---- arrays whose codes were lent
+
+-- the format is told by the header
+same_format : (a n : Held) → n.header ≡ a.header → format n ≡ format a
+same_format a n header = ap (λ (h : Header). format_of (record { header = h; codes = n.codes })) header
+
+-- an array that stands for other codes alone
+pub coded_still : (a n : Held) (k : ℕ → List Bool) → n.header ≡ a.header → state n ≡ coded (format a) (state a) k → IsCoded n
+unfolding coded
+coded_still a n k header is =
+    let codes : (state n).codes ≡ k = ap (λ (u : State (List Bool)). u.codes) is in
+    is ∙ (λ i. record {
+      lines = sym (ap (λ (u : State (List Bool)). u.lines) is) i;
+      held = empty_line;
+      dirty = none_dirty;
+      values = λ b. meant (sym (same_format a n header) i) b (sym codes i b);
+      codes = sym codes i;
+      counts = sym (ap (λ (u : State (List Bool)). u.counts) is) i;
+    })
+
+pub codes_stored : (a n : Held) (k : ℕ → List Bool) → state n ≡ coded (format a) (state a) k → (state n).codes ≡ k
+unfolding coded
+codes_stored a n k is = ap (λ (u : State (List Bool)). u.codes) is
+
+abbrev pub frame : GName → Held → Frame
+frame name a = record { name = name; header = a.header; lines = (state a).lines; counts = (state a).counts }
+
+-- its lines and counts stay
+pub frame_stored : (a n : Held) (k : ℕ → List Bool) (name : GName) → n.header ≡ a.header → state n ≡ coded (format a) (state a) k
+    → frame name n ≡ frame name a
+unfolding coded
+frame_stored a n k name header is = λ i. record {
+  name = name;
+  header = header i;
+  lines = ap (λ (u : State (List Bool)). u.lines) is i;
+  counts = ap (λ (u : State (List Bool)). u.counts) is i;
+}
+
+-- an array that stands for its codes alone, with the sizes, lines and counts that another had
+pub coded_after : (a n : Held) → IsCoded n → n.header ≡ a.header → (state n).lines ≡ (state a).lines → (state n).counts ≡ (state a).counts
+    → state n ≡ coded (format a) (state a) (state n).codes
+unfolding coded
+coded_after a n is header lines counts =
+    is ∙ (λ i. record {
+      lines = lines i;
+      held = empty_line;
+      dirty = none_dirty;
+      values = λ b. meant (same_format a n header i) b ((state n).codes b);
+      codes = (state n).codes;
+      counts = counts i;
+    })
