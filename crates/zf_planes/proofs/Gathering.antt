@@ -49,9 +49,13 @@ small_behind len n a v small narrow =
     (omega (arith, pow-le-pow_right {n = 2} (lit< tt) order))
     (omega (arith, mod-le (v * 2 ^ len) (2 ^ 64), (rw place at (shl_below v n len narrow))))
 
+-- the digits of a plane in one word
+pub held_word : (size w : ℕ) (ws : List ℕ) → w ≡ get_or ws 0 0 → size ≤ 64 → size ≤ 64 * length ws → digits_held size ws ≡ field size w
+unfolding digits_held
+held_word size w ws is small long =
+    let one : w / 2 ^ 0 ≡ w = omega arith in
+    sym (take_all size (digits_held size ws) (omega (arith, length-digits_held size ws long))) ∙ sym (field_in_word size 0 size w ws is long (omega arith) (omega arith)) ∙ ap (field size) one
+
 -- the digits of a plane of four
 pub held_4 : (w : ℕ) (ws : List ℕ) → w ≡ get_or ws 0 0 → 4 ≤ 64 * length ws → digits_held 4 ws ≡ field 4 (w % 16)
-unfolding digits_held
-held_4 w ws is long =
-    let one : w / 2 ^ 0 ≡ w = omega arith in
-    sym (take_all 4 (digits_held 4 ws) (omega (arith, length-digits_held 4 ws long))) ∙ sym (field_in_word 4 0 4 w ws is long (omega arith) (omega arith)) ∙ ap (field 4) one ∙ sym (field-mod 4 w)
+held_4 w ws is long = held_word 4 w ws is (omega arith) long ∙ sym (field-mod 4 w)
