@@ -1,5 +1,5 @@
 -- Bits of several planes in one word.
-use Rattle.std.proofs.Common.{◌≡◌, ℕ, ◌+◌, ◌-◌, ◌*◌, ◌/◌, ◌%◌, ◌^◌, ◌<◌, ◌≤◌, ⊎_elim, min, Bool, List, ◌++◌, length, take, get_or, sym, ap, ◌∙◌, arith, lit<}
+use Rattle.std.proofs.Common.{◌≡◌, ℕ, ◌+◌, ◌-◌, ◌*◌, ◌/◌, ◌%◌, ◌^◌, ◌<◌, ◌≤◌, ⊎_elim, min, max, Bool, List, [], ◌++◌, append_assoc, length, take, drop, get_or, sym, ap, ◌∙◌, arith, lit<}
 use Rattle.std.specs.Int.Bits.{bit_or}
 use Rattle.std.proofs.Math.Nat.{pow-le-pow_right, mod-le}
 use Rattle.std.proofs.Math.Seq.{take-append-add}
@@ -7,7 +7,9 @@ use Rattle.std.proofs.lemmas.Bool.{cases_lt}
 use Rattle.std.proofs.lemmas.Nat.{or_lt, shl_below}
 use Rattle.std.proofs.lemmas.List.{take_all}
 use Rattle.zf_spec.specs.Numbers.{field}
-use Rattle.zf_spec.specs.HeldPlanes.{digits_held}
+use Rattle.zf_spec.specs.Planes.{plane_code, code_from, reach}
+use Rattle.zf_spec.specs.HeldPlanes.{digits_held, planes_held}
+use Rattle.zf_planes.proofs.Unpacking.{code_held}
 use Rattle.zf_spec.proofs.Fields.{length-field, field-mod}
 use Rattle.zf_spec.proofs.HeldPlanes.{length-digits_held}
 use Rattle.zf_bits.proofs.Fields.{take-field}
@@ -49,9 +51,57 @@ small_behind len n a v small narrow =
     (omega (arith, pow-le-pow_right {n = 2} (lit< tt) order))
     (omega (arith, mod-le (v * 2 ^ len) (2 ^ 64), (rw place at (shl_below v n len narrow))))
 
+-- ---- the code of planes goes on behind bits that were put together
+
+-- by one plane
+pub plane_joined : (prec k size a l v next l2 v2 j x : ℕ) (code ds : List Bool) (all : List (List ℕ)) → k < prec → prec ≤ length all
+    → code ≡ field l v ++ code_from a (drop k (take prec (planes_held size all)))
+    → ds ≡ get_or (planes_held size all) k [] → field l2 v2 ≡ plane_code a ds → next ≡ max a (reach ds) → field j x ≡ field l v ++ field l2 v2
+    → code ≡ field j x ++ code_from next (drop (k + 1) (take prec (planes_held size all)))
+plane_joined prec k size a l v next l2 v2 j x code ds all below within is digits two reached joined =
+    let rest = drop (k + 1) (take prec (planes_held size all)) in
+    is
+    ∙ ap (λ (bs : List Bool). field l v ++ bs)
+    (code_held a prec size k all below within
+    ∙ sym (ap (λ (es : List Bool). plane_code a es ++ code_from (max a (reach es)) rest) digits)
+    ∙ ap (λ (bs : List Bool). bs ++ code_from (max a (reach ds)) rest) (sym two)
+    ∙ ap (λ n. field l2 v2 ++ code_from n rest) (sym reached))
+    ∙ sym (append_assoc (field l v) (field l2 v2) (code_from next rest))
+    ∙ ap (λ (bs : List Bool). bs ++ code_from next rest) (sym joined)
+
+-- by two planes
+pub pair_joined : (prec k size a l v next l2 v2 j x : ℕ) (code ds es : List Bool) (all : List (List ℕ)) → k + 1 < prec → prec ≤ length all
+    → code ≡ field l v ++ code_from a (drop k (take prec (planes_held size all)))
+    → ds ≡ get_or (planes_held size all) k [] → es ≡ get_or (planes_held size all) (k + 1) []
+    → field l2 v2 ≡ plane_code a ds ++ plane_code (max a (reach ds)) es → next ≡ max (max a (reach ds)) (reach es) → field j x ≡ field l v ++ field l2 v2
+    → code ≡ field j x ++ code_from next (drop (k + 2) (take prec (planes_held size all)))
+pair_joined prec k size a l v next l2 v2 j x code ds es all below within is first second two reached joined =
+    let top = take prec (planes_held size all) in
+    let mid = max a (reach ds) in
+    let place : k + 1 + 1 ≡ k + 2 = omega arith in
+    let one : code_from a (drop k top) ≡ plane_code a ds ++ code_from mid (drop (k + 1) top) =
+    code_held a prec size k all (omega arith) within ∙ sym (ap (λ (xs : List Bool). plane_code a xs ++ code_from (max a (reach xs)) (drop (k + 1) top)) first) in
+    let other : code_from mid (drop (k + 1) top) ≡ plane_code mid es ++ code_from next (drop (k + 2) top) =
+    code_held mid prec size (k + 1) all below within
+    ∙ sym (ap (λ (xs : List Bool). plane_code mid xs ++ code_from (max mid (reach xs)) (drop (k + 1 + 1) top)) second)
+    ∙ ap (λ n. plane_code mid es ++ code_from n (drop (k + 1 + 1) top)) (sym reached)
+    ∙ ap (λ n. plane_code mid es ++ code_from next (drop n top)) place in
+    is
+    ∙ ap (λ (bs : List Bool). field l v ++ bs)
+    (one
+    ∙ ap (λ (bs : List Bool). plane_code a ds ++ bs) other
+    ∙ sym (append_assoc (plane_code a ds) (plane_code mid es) (code_from next (drop (k + 2) top)))
+    ∙ ap (λ (bs : List Bool). bs ++ code_from next (drop (k + 2) top)) (sym two))
+    ∙ sym (append_assoc (field l v) (field l2 v2) (code_from next (drop (k + 2) top)))
+    ∙ ap (λ (bs : List Bool). bs ++ code_from next (drop (k + 2) top)) (sym joined)
+
+-- the digits of a plane in one word
+pub held_word : (size w : ℕ) (ws : List ℕ) → w ≡ get_or ws 0 0 → size ≤ 64 → size ≤ 64 * length ws → digits_held size ws ≡ field size w
+unfolding digits_held
+held_word size w ws is small long =
+    let one : w / 2 ^ 0 ≡ w = omega arith in
+    sym (take_all size (digits_held size ws) (omega (arith, length-digits_held size ws long))) ∙ sym (field_in_word size 0 size w ws is long (omega arith) (omega arith)) ∙ ap (field size) one
+
 -- the digits of a plane of four
 pub held_4 : (w : ℕ) (ws : List ℕ) → w ≡ get_or ws 0 0 → 4 ≤ 64 * length ws → digits_held 4 ws ≡ field 4 (w % 16)
-unfolding digits_held
-held_4 w ws is long =
-    let one : w / 2 ^ 0 ≡ w = omega arith in
-    sym (take_all 4 (digits_held 4 ws) (omega (arith, length-digits_held 4 ws long))) ∙ sym (field_in_word 4 0 4 w ws is long (omega arith) (omega arith)) ∙ ap (field 4) one ∙ sym (field-mod 4 w)
+held_4 w ws is long = held_word 4 w ws is (omega arith) long ∙ sym (field-mod 4 w)

@@ -1,6 +1,7 @@
 -- Lemmas on planes and their code.
 --     Runs         a plane's tail n digits into it, as a group bit and a run
 --     Tables       tables of planes of four digits
+--     Doubled      the code of runs, and its tables
 --     Gathering    bits of several planes in one word
 --     Lengths      how long the tail of a plane is
 --     Budgets      a list that is written in parts, as far as a budget reaches
@@ -17,6 +18,7 @@
 --     Peeking      bits that were looked at and are not yet passed
 pub mod Runs
 pub mod Tables
+pub mod Doubled
 pub mod Gathering
 pub mod Lengths
 pub mod Budgets

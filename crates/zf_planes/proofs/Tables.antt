@@ -1,9 +1,9 @@
 -- Tables of planes of four digits, each entry of which is what the definitions say, by computation.
-use Rattle.std.proofs.Common.{◌≡◌, ℕ, zero, suc, ◌+◌, ◌*◌, ◌/◌, ◌%◌, ◌^◌, ◌<◌, ◌≤◌, ⊎_elim, max, Bool, true, false, ◌&&◌, eqb, ltb, List, [], ◌∷◌, get_or, refl, sym, ap, subst, ◌∙◌, arith}
+use Rattle.std.proofs.Common.{◌≡◌, ℕ, zero, suc, ◌+◌, ◌*◌, ◌/◌, ◌%◌, ◌^◌, ◌<◌, ◌≤◌, ⊎_elim, max, Bool, true, false, ◌&&◌, eqb, ltb, List, [], ◌∷◌, ◌++◌, get_or, refl, sym, ap, subst, ◌∙◌, arith}
 use Rattle.std.proofs.lemmas.Bool.{cases_lt, false≢true, and_parts, eqb-true, ltb-true}
 use Rattle.zf_spec.specs.Numbers.{field}
 use Rattle.zf_spec.specs.Planes.{plane_code, reach}
-use Rattle.zf_planes.specs.declared.four.TheConstants.{CODES, PLANES}
+use Rattle.zf_planes.specs.declared.four.TheConstants.{CODES, PAIRS, PLANES}
 
 -- ---- tests that compute
 
@@ -70,6 +70,48 @@ code_of_entry n digits e in_plane four is =
     let two = and_parts (ltb (e % 128) (2 ^ (e / 128 % 8))) _ one.1 in
     let three = and_parts (eqb (e / 1024) (max n (reach (field 4 digits)))) _ two.1 in
     record { bits = same_digits-true _ _ one.0; small = ltb-true _ _ two.0; above = eqb-true _ _ three.0; within = ltb-true _ _ three.1 }
+
+-- ---- codes of two planes
+
+-- an entry has the code of the digits of two planes, its length and how far the ones reach
+abbrev test_pair : ℕ → ℕ → ℕ → ℕ → Bool
+test_pair n first second e =
+    same_digits (field (e / 16384 % 16) (e % 16384)) (plane_code n (field 4 first) ++ plane_code (max n (reach (field 4 first))) (field 4 second))
+    && (ltb (e % 16384) (2 ^ (e / 16384 % 16)) && (ltb (e / 16384 % 16) 15 && (eqb (e / 262144) (max (max n (reach (field 4 first))) (reach (field 4 second))) && ltb (e / 262144) 5)))
+
+test_pairs : each_below (λ i. test_pair (i / 256) (i % 16) (i / 16 % 16) (get_or PAIRS i 0)) 1280 ≡ true
+test_pairs = refl
+
+pub record IsPair (n first second e : ℕ) : Type 0 where
+  pub bits : field (e / 16384 % 16) (e % 16384) ≡ plane_code n (field 4 first) ++ plane_code (max n (reach (field 4 first))) (field 4 second)
+  pub small : e % 16384 < 2 ^ (e / 16384 % 16)
+  pub len : e / 16384 % 16 < 15
+  pub above : e / 262144 ≡ max (max n (reach (field 4 first))) (reach (field 4 second))
+  pub within : e / 262144 < 5
+
+pub pair_of_entry : (n first second e : ℕ) → n ≤ 4 → first < 16 → second < 16 → e ≡ get_or PAIRS (256 * n + (first + 16 * second)) 0 → IsPair n first second e
+pair_of_entry n first second e in_plane four other is =
+    let i = 256 * n + (first + 16 * second) in
+    let front : i / 256 ≡ n = omega arith in
+    let low : i % 16 ≡ first = omega arith in
+    let high : i / 16 % 16 ≡ second = omega arith in
+    let test : test_pair n first second e ≡ true =
+    ap (λ k. test_pair k first second e) (sym front)
+    ∙ ap (λ k. test_pair (i / 256) k second e) (sym low)
+    ∙ ap (λ k. test_pair (i / 256) (i % 16) k e) (sym high)
+    ∙ ap (test_pair (i / 256) (i % 16) (i / 16 % 16)) is
+    ∙ each_below-true (λ j. test_pair (j / 256) (j % 16) (j / 16 % 16) (get_or PAIRS j 0)) 1280 i test_pairs (omega arith) in
+    let one = and_parts (same_digits (field (e / 16384 % 16) (e % 16384)) (plane_code n (field 4 first) ++ plane_code (max n (reach (field 4 first))) (field 4 second))) _ test in
+    let two = and_parts (ltb (e % 16384) (2 ^ (e / 16384 % 16))) _ one.1 in
+    let three = and_parts (ltb (e / 16384 % 16) 15) _ two.1 in
+    let four = and_parts (eqb (e / 262144) (max (max n (reach (field 4 first))) (reach (field 4 second)))) _ three.1 in
+    record {
+      bits = same_digits-true _ _ one.0;
+      small = ltb-true _ _ two.0;
+      len = ltb-true _ _ three.0;
+      above = eqb-true _ _ four.0;
+      within = ltb-true _ _ four.1;
+    }
 
 -- ---- planes
 

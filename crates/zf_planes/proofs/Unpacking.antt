@@ -54,6 +54,24 @@ code_next words above prec size i planes plane is below within =
     ap (λ k. get_or all k []) place ∙ get_or-map words planes (length planes - 1 - i) plane [] (omega arith) ∙ ap words (sym is) in
     ap (code_from above) (drop-top_held prec size all i below (omega arith) ∙ ap (λ (ws : List ℕ). digits_held size ws ∷ drop (i + 1) (take prec (planes_held size all))) same)
 
+-- the digits of the i-th plane
+pub held_at : {A : Type 0} (words : A → List ℕ) (size i : ℕ) (planes : List A) (plane : A) → plane ≡ get_or planes (length planes - 1 - i) plane → i < length planes
+    → get_or (planes_held size (map words planes)) i [] ≡ digits_held size (words plane)
+held_at words size i planes plane is below =
+    let all = map words planes in
+    let long = length-map planes words in
+    let place : length all - 1 - i ≡ length planes - 1 - i = omega arith in
+    get_or-planes_held size all i [] (omega arith)
+    ∙ ap (digits_held size) (ap (λ k. get_or all k []) place ∙ get_or-map words planes (length planes - 1 - i) plane [] (omega arith) ∙ ap words (sym is))
+
+-- the code from the i-th plane on begins with that of the plane
+pub code_held : (above prec size i : ℕ) (all : List (List ℕ)) → i < prec → prec ≤ length all
+    → code_from above (drop i (take prec (planes_held size all)))
+    ≡ plane_code above (get_or (planes_held size all) i []) ++ code_from (max above (reach (get_or (planes_held size all) i []))) (drop (i + 1) (take prec (planes_held size all)))
+code_held above prec size i all below within =
+    ap (code_from above)
+    (drop-top_held prec size all i below within ∙ ap (λ (ds : List Bool). ds ∷ drop (i + 1) (take prec (planes_held size all))) (sym (get_or-planes_held size all i [] (omega arith))))
+
 -- planes of four words are those of their words by number
 pub arrays_as_words : (planes : List (List ℕ)) → ((i : ℕ) → i < length planes → length (get_or planes i []) ≡ 4)
     → map (λ words. get_or words 0 0 ∷ get_or words 1 0 ∷ get_or words 2 0 ∷ get_or words 3 0 ∷ []) planes ≡ planes

@@ -2,6 +2,7 @@
 #![tactic(auto)]
 
 mod decoding;
+mod doubling;
 mod encoding;
 mod four;
 mod measuring;

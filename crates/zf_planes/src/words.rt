@@ -1,10 +1,23 @@
 //! Where the ones of a plane in words are.
 
-ghost use Rattle.std.specs.Prelude.{◌≡◌, ◌+◌, ◌*◌, ◌<◌, ◌≤◌, IsTrue, true, false, ◌∷◌, ◌++◌, count_by, length, map, drop, replicate};
+ghost use Rattle.std.specs.Prelude.{◌≡◌, ◌+◌, ◌*◌, ◌^◌, ◌<◌, ◌≤◌, IsTrue, true, false, ◌∷◌, ◌++◌, count_by, length, map, drop, replicate};
+ghost use Rattle.zf_spec.specs.Numbers.{field};
 ghost use Rattle.zf_spec.specs.Planes.{reach, has_one};
 ghost use Rattle.zf_spec.specs.HeldPlanes.{digits_held};
 
 use zf_bits::Plane;
+
+/// The digits of a plane that lies in one word, as a number.
+#[inline]
+pub(crate) fn first_word<P: Plane>(plane: &P, size: usize) -> u64
+    requires some { 0 < size }
+    requires size { size ≤ 64 }
+    requires words { size ≤ 64 * P.word_count }
+    ensures digits { field size result ≡ digits_held size (P.words plane.now) }
+    ensures small { result < 2 ^ size }
+{
+    plane.word(0) & u64::MAX >> (64 - size)
+}
 
 /// How many zeros follow from rank `n` on before the next one.
 #[inline]

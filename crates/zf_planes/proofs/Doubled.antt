@@ -1,0 +1,252 @@
+-- The code of runs: digits before others are doubled, and zeros behind the last one but the first make no difference.
+use Rattle.std.proofs.Common.{◌≡◌, ◌≢◌, ℕ, zero, suc, ◌+◌, ◌-◌, ◌*◌, ◌/◌, ◌%◌, ◌^◌, ◌<◌, ◌≤◌, ⊎_elim, Bool, true, false, cond, ◌&&◌, ◌||◌, ltb, eqb, List, [], ◌∷◌, ◌++◌, get_or, replicate, refl, sym, ap, ◌∙◌, arith, pow-suc, lit<, take, drop, append-nil}
+use Rattle.std.proofs.Math.Nat.{pow-le-pow_right, div-eq_of_lt}
+use Rattle.std.proofs.lemmas.Nat.{pow-add, shr_below}
+use Rattle.std.proofs.lemmas.Bool.{cases_lt, false≢true, and_parts, ltb-true, lt-ltb, eqb-false}
+use Rattle.std.proofs.lemmas.Bool.Decides.{nat_tests}
+use Rattle.zf_spec.specs.Numbers.{field, is_odd}
+use Rattle.zf_spec.specs.Planes.{has_one, code_from_run, tail, plane_code}
+use Rattle.zf_spec.proofs.Fields.{field-add, field-mod, field-zero}
+use Rattle.zf_spec.proofs.PlaneCode.{tail-zeros}
+use Rattle.zf_bits.proofs.Fields.{take-field, drop-field, field_more}
+use Rattle.zf_spec.proofs.Reach.{has_one-zeros}
+use Rattle.zf_planes.specs.Doubled.{doubled}
+use Rattle.zf_planes.specs.declared.doubling.TheConstants.{DOUBLED, RUNS}
+use Rattle.zf_planes.proofs.Tables.{same_digits, same_digits-true, each_below, each_below-true}
+
+-- ---- digits of a run before others
+
+pub has_one-behind : (xs ys : List Bool) → has_one ys ≡ true → has_one (xs ++ ys) ≡ true
+has_one-behind [] ys one = one
+has_one-behind (true ∷ xs) ys one = refl
+has_one-behind (false ∷ xs) ys one = has_one-behind xs ys one
+
+one_doubled : (ds : List Bool) → has_one ds ≡ true → code_from_run (true ∷ ds) ≡ true ∷ true ∷ code_from_run ds
+one_doubled [] one = absurd (false≢true one)
+one_doubled (d ∷ ds) one = ap (λ t. true ∷ cond t (true ∷ code_from_run (d ∷ ds)) (false ∷ [])) one
+
+zero_once : (ds : List Bool) → has_one ds ≡ true → code_from_run (false ∷ ds) ≡ false ∷ code_from_run ds
+zero_once [] one = absurd (false≢true one)
+zero_once (d ∷ ds) one = refl
+
+pub run_doubled : (xs ys : List Bool) → has_one ys ≡ true → code_from_run (xs ++ ys) ≡ doubled xs ++ code_from_run ys
+run_doubled [] ys one = refl
+run_doubled (true ∷ xs) ys one = one_doubled (xs ++ ys) (has_one-behind xs ys one) ∙ ap (λ bs. true ∷ true ∷ bs) (run_doubled xs ys one)
+run_doubled (false ∷ xs) ys one = zero_once (xs ++ ys) (has_one-behind xs ys one) ∙ ap (λ bs. false ∷ bs) (run_doubled xs ys one)
+
+-- a tail with a one is a group bit and a run
+pub tail_of_run : (ds : List Bool) → has_one ds ≡ true → tail ds ≡ true ∷ code_from_run ds
+tail_of_run [] one = absurd (false≢true one)
+tail_of_run (d ∷ ds) one = ap (λ t. cond t (true ∷ code_from_run (d ∷ ds)) (false ∷ [])) one
+
+-- ---- zeros behind
+
+zeros_end : (k : ℕ) → code_from_run (true ∷ replicate (suc k) false) ≡ true ∷ false ∷ []
+zeros_end k = ap (λ t. true ∷ cond t (true ∷ code_from_run (replicate (suc k) false)) (false ∷ [])) (has_one-zeros (suc k))
+
+has_one-zeros_behind : (ds : List Bool) (k : ℕ) → has_one (ds ++ replicate k false) ≡ has_one ds
+has_one-zeros_behind [] k = has_one-zeros k
+has_one-zeros_behind (true ∷ ds) k = refl
+has_one-zeros_behind (false ∷ ds) k = has_one-zeros_behind ds k
+
+run_ends : (es : List Bool) → has_one es ≡ false → (n : ℕ) → code_from_run (true ∷ (es ++ replicate (suc n) false)) ≡ true ∷ false ∷ []
+run_ends [] none n = zeros_end n
+run_ends (e ∷ es) none n = ap (λ t. true ∷ cond t (true ∷ code_from_run ((e ∷ es) ++ replicate (suc n) false)) (false ∷ [])) (has_one-zeros_behind (e ∷ es) (suc n) ∙ none)
+
+pub run_zeros_behind : (ds : List Bool) (k : ℕ) → has_one ds ≡ true → code_from_run (ds ++ replicate (suc k) false) ≡ code_from_run (ds ++ false ∷ [])
+run_zeros_behind [] k one = absurd (false≢true one)
+run_zeros_behind (false ∷ ds) k one =
+    zero_once (ds ++ replicate (suc k) false) (has_one-zeros_behind ds (suc k) ∙ one)
+    ∙ ap (λ bs. false ∷ bs) (run_zeros_behind ds k one)
+    ∙ sym (zero_once (ds ++ false ∷ []) (has_one-zeros_behind ds 1 ∙ one))
+run_zeros_behind (true ∷ ds) k one = by (has_one ds) refl (λ more. run_zeros_behind ds k more)
+  where
+    by : (t : Bool) → has_one ds ≡ t → (has_one ds ≡ true → code_from_run (ds ++ replicate (suc k) false) ≡ code_from_run (ds ++ false ∷ []))
+        → code_from_run (true ∷ (ds ++ replicate (suc k) false)) ≡ code_from_run (true ∷ (ds ++ false ∷ []))
+    by true more rest =
+        one_doubled (ds ++ replicate (suc k) false) (has_one-zeros_behind ds (suc k) ∙ more)
+        ∙ ap (λ bs. true ∷ true ∷ bs) (rest more)
+        ∙ sym (one_doubled (ds ++ false ∷ []) (has_one-zeros_behind ds 1 ∙ more))
+    by false none rest = run_ends ds none k ∙ sym (run_ends ds none 0)
+
+-- ---- a number below 2^n that is not 0 has a one among its n lowest bits
+
+pub has_one-field : (n v : ℕ) → 0 < v → v < 2 ^ n → has_one (field n v) ≡ true
+has_one-field zero v some small = absurd (omega arith)
+has_one-field (suc n) v some small = by (eqb (v % 2) 1) refl (λ more below. has_one-field n (v / 2) more below)
+  where
+    by : (t : Bool) → eqb (v % 2) 1 ≡ t → (0 < v / 2 → v / 2 < 2 ^ n → has_one (field n (v / 2)) ≡ true) → has_one (field (suc n) v) ≡ true
+    by true odd rest = ap (λ b. b || has_one (field n (v / 2))) odd
+    by false even rest =
+        let low : v % 2 ≢ 1 = eqb-false (v % 2) 1 even in
+        ap (λ b. b || has_one (field n (v / 2))) even ∙ rest (omega arith) (omega (arith, pow-suc 2 n))
+
+-- ---- the tables, by computation
+
+abbrev test_double : ℕ → ℕ → Bool
+test_double digits e = same_digits (field (e / 65536) (e % 65536)) (doubled (field 8 digits)) && (ltb (e % 65536) (2 ^ (e / 65536)) && ltb (e / 65536) 17)
+
+test_doubles : each_below (λ digits. test_double digits (get_or DOUBLED digits 0)) 256 ≡ true
+test_doubles = refl
+
+pub record IsDouble (digits e : ℕ) : Type 0 where
+  pub bits : field (e / 65536) (e % 65536) ≡ doubled (field 8 digits)
+  pub small : e % 65536 < 2 ^ (e / 65536)
+  pub len : e / 65536 < 17
+
+pub double_of_entry : (digits e : ℕ) → digits < 256 → e ≡ get_or DOUBLED digits 0 → IsDouble digits e
+double_of_entry digits e eight is =
+    let test : test_double digits e ≡ true = ap (test_double digits) is ∙ each_below-true (λ j. test_double j (get_or DOUBLED j 0)) 256 digits test_doubles eight in
+    let one = and_parts (same_digits (field (e / 65536) (e % 65536)) (doubled (field 8 digits))) _ test in
+    let two = and_parts (ltb (e % 65536) (2 ^ (e / 65536))) _ one.1 in
+    record { bits = same_digits-true _ _ one.0; small = ltb-true _ _ two.0; len = ltb-true _ _ two.1 }
+
+-- the one of the last digit has no bit, and nothing follows it
+abbrev pub implied : ℕ → ℕ → ℕ
+implied most digits = cond (eqb (digits / 2 ^ (most - 1)) 0) 0 2
+
+abbrev test_run : ℕ → ℕ → ℕ → Bool
+test_run most digits e =
+    cond (eqb digits 0) true (cond (ltb digits (2 ^ most)) (same_digits (field (e / 65536 - implied most digits) (e % 65536)) (code_from_run (field most digits)) && (ltb (e / 65536) 17 && ltb 1 (e / 65536))) true)
+
+test_runs : each_below (λ i. test_run (i / 256 + 1) (i % 256) (get_or RUNS (i % 256) 0)) 2304 ≡ true
+test_runs = refl
+
+pub record IsRunCode (most digits e : ℕ) : Type 0 where
+  pub bits : field (e / 65536 - implied most digits) (e % 65536) ≡ code_from_run (field most digits)
+  pub len : e / 65536 < 17
+  pub two : 1 < e / 65536
+
+run_of_entry_to_9 : (most digits e : ℕ) → 0 < most → most ≤ 9 → 0 < digits → digits < 256 → digits < 2 ^ most → e ≡ get_or RUNS digits 0 → IsRunCode most digits e
+run_of_entry_to_9 most digits e some nine one eight within is =
+    let i = 256 * (most - 1) + digits in
+    let front : i / 256 + 1 ≡ most = omega arith in
+    let low : i % 256 ≡ digits = omega arith in
+    let whole : test_run most digits e ≡ true =
+    ap (λ k. test_run k digits e) (sym front)
+    ∙ ap (λ k. test_run (i / 256 + 1) k e) (sym low)
+    ∙ ap (test_run (i / 256 + 1) (i % 256)) (is ∙ ap (λ k. get_or RUNS k 0) (sym low))
+    ∙ each_below-true (λ j. test_run (j / 256 + 1) (j % 256) (get_or RUNS (j % 256) 0)) 2304 i test_runs (omega arith) in
+    let there : eqb digits 0 ≡ false = grind (arith, nat_tests) in
+    let below : ltb digits (2 ^ most) ≡ true = lt-ltb digits (2 ^ most) within in
+    let test = rw (there, below) at whole in
+    let one = and_parts (same_digits (field (e / 65536 - implied most digits) (e % 65536)) (code_from_run (field most digits))) _ test in
+    let two = and_parts (ltb (e / 65536) 17) _ one.1 in
+    record { bits = same_digits-true _ _ one.0; len = ltb-true _ _ two.0; two = ltb-true _ _ two.1 }
+
+-- more digits make no difference, where they are zeros
+eight_of : (most digits : ℕ) → 9 ≤ most → digits < 256 → field most digits ≡ field 8 digits ++ replicate (suc (most - 9)) false
+eight_of most digits nine eight =
+    let parts : most ≡ 8 + suc (most - 9) = omega arith in
+    let none : digits / 2 ^ 8 ≡ 0 = omega arith in
+    ap (λ k. field k digits) parts
+    ∙ field-add 8 (suc (most - 9)) digits
+    ∙ ap (λ v. field 8 digits ++ field (suc (most - 9)) v) none
+    ∙ ap (λ (bs : List Bool). field 8 digits ++ bs) (field-zero (suc (most - 9)))
+
+nine_digits : (most digits : ℕ) → 9 ≤ most → 0 < digits → digits < 256 → code_from_run (field most digits) ≡ code_from_run (field 9 digits)
+nine_digits most digits nine one eight =
+    let some = has_one-field 8 digits one eight in
+    ap code_from_run (eight_of most digits nine eight)
+    ∙ run_zeros_behind (field 8 digits) (most - 9) some
+    ∙ sym (ap code_from_run (eight_of 9 digits (omega arith) eight))
+
+not_last : (most digits : ℕ) → 9 ≤ most → digits < 256 → implied most digits ≡ 0
+not_last most digits nine eight =
+    let none : digits / 2 ^ (most - 1) ≡ 0 = div-eq_of_lt (omega (arith, pow-le-pow_right {n = 2} (lit< tt) order)) in
+    ap (λ v. cond (eqb v 0) 0 2) none
+  where
+    order : 8 ≤ most - 1
+    order = omega arith
+
+pub run_of_entry : (most digits e : ℕ) → 0 < digits → digits < 256 → digits < 2 ^ most → e ≡ get_or RUNS digits 0 → IsRunCode most digits e
+run_of_entry most digits e one eight within is = ⊎_elim
+    (λ (few : most < 9). run_of_entry_to_9 most digits e (some most digits one within) (omega arith) one eight within is)
+    (λ (nine : 9 ≤ most).
+    let short = run_of_entry_to_9 9 digits e (omega arith) (omega arith) one eight (omega arith) is in
+    let all = not_last most digits nine eight in
+    let all_of_9 = not_last 9 digits (omega arith) eight in
+    record {
+      bits = ap (λ k. field (e / 65536 - k) (e % 65536)) (all ∙ sym all_of_9) ∙ short.bits ∙ sym (nine_digits most digits nine one eight);
+      len = short.len;
+      two = short.two;
+    })
+    (cases_lt most 9)
+  where
+    some : (m v : ℕ) → 0 < v → v < 2 ^ m → 0 < m
+    some zero v one below = absurd (omega arith)
+    some (suc m) v one below = omega arith
+
+-- ---- a run in a word
+
+-- eight digits, and the run goes on
+pub record RunGoesOn (most digits : ℕ) : Type 0 where
+  pub more : 8 < most
+  pub below : digits / 256 < 2 ^ (most - 8)
+  pub code : code_from_run (field most digits) ≡ doubled (field 8 (digits % 256)) ++ code_from_run (field (most - 8) (digits / 256))
+
+pub run_goes_on : (most digits : ℕ) → 255 < digits → digits < 2 ^ most → RunGoesOn most digits
+run_goes_on most digits some within =
+    let parts : most ≡ 8 + (most - 8) = omega (arith, long) in
+    let power : 2 ^ most ≡ 2 ^ 8 * 2 ^ (most - 8) = ap (λ k. 2 ^ k) parts ∙ pow-add 2 8 (most - 8) in
+    let below : digits / 256 < 2 ^ (most - 8) = omega (arith, power) in
+    record {
+      more = long;
+      below = below;
+      code =
+          ap (λ k. code_from_run (field k digits)) parts
+          ∙ ap code_from_run (field-add 8 (most - 8) digits)
+          ∙ run_doubled (field 8 digits) (field (most - 8) (digits / 256)) (has_one-field (most - 8) (digits / 256) (omega arith) below)
+          ∙ ap (λ (ds : List Bool). doubled ds ++ code_from_run (field (most - 8) (digits / 256))) (sym (field-mod 8 digits));
+    }
+  where
+    long : 8 < most
+    long = ⊎_elim
+        (λ (few : most < 9).
+        let order : most ≤ 8 = omega arith in
+        absurd (omega (arith, pow-le-pow_right {n = 2} (lit< tt) order)))
+        (λ (nine : 9 ≤ most). omega arith)
+        (cases_lt most 9)
+
+-- ---- a plane in a word
+
+pub word_front : (size n v : ℕ) → n ≤ size → take n (field size v) ≡ field n v
+word_front size n v within =
+    let parts : size ≡ n + (size - n) = omega arith in
+    ap (λ k. take n (field k v)) parts ∙ take-field n (size - n) v
+
+pub word_behind : (size n v : ℕ) → n ≤ size → drop n (field size v) ≡ field (size - n) (v / 2 ^ n)
+word_behind size n v within =
+    let parts : size ≡ n + (size - n) = omega arith in
+    ap (λ k. drop n (field k v)) parts ∙ drop-field n (size - n) v
+
+-- all ranks have had a one
+pub plane_whole : (size v : ℕ) → plane_code size (field size v) ≡ field size v
+plane_whole size v =
+    let none : size - size ≡ 0 = omega arith in
+    ap (λ (ds : List Bool). ds ++ tail (drop size (field size v))) (word_front size size v (omega arith))
+    ∙ ap (λ (ds : List Bool). field size v ++ tail ds) (word_behind size size v (omega arith) ∙ ap (λ k. field k (v / 2 ^ size)) none)
+    ∙ append-nil (field size v)
+
+-- no one follows
+pub plane_without : (size n v : ℕ) → n < size → v / 2 ^ n ≡ 0 → plane_code n (field size v) ≡ field (n + 1) v
+plane_without size n v within none =
+    let more : size - n ≡ suc (size - n - 1) = omega arith in
+    let last : is_odd (v / 2 ^ n) ≡ false = ap is_odd none in
+    ap (λ (ds : List Bool). ds ++ tail (drop n (field size v))) (word_front size n v (omega arith))
+    ∙ ap (λ (ds : List Bool). field n v ++ tail ds) (word_behind size n v (omega arith) ∙ ap (field (size - n)) none ∙ field-zero (size - n) ∙ ap (λ k. replicate k false) more)
+    ∙ ap (λ (bs : List Bool). field n v ++ bs) (tail-zeros (size - n - 1))
+    ∙ sym (field_more n v ∙ ap (λ b. field n v ++ b ∷ []) last)
+
+pub rest_small : (size n v : ℕ) → n ≤ size → v < 2 ^ size → v / 2 ^ n < 2 ^ (size - n)
+rest_small size n v within small =
+    let parts : size - n + n ≡ size = omega arith in
+    shr_below v (size - n) n (rw parts small)
+
+-- a one follows
+pub plane_with : (size n v : ℕ) → n ≤ size → 0 < v / 2 ^ n → v < 2 ^ size → plane_code n (field size v) ≡ field n v ++ true ∷ code_from_run (field (size - n) (v / 2 ^ n))
+plane_with size n v within some small =
+    let run = field (size - n) (v / 2 ^ n) in
+    ap (λ (ds : List Bool). ds ++ tail (drop n (field size v))) (word_front size n v within)
+    ∙ ap (λ (ds : List Bool). field n v ++ tail ds) (word_behind size n v within)
+    ∙ ap (λ (bs : List Bool). field n v ++ bs) (tail_of_run run (has_one-field (size - n) (v / 2 ^ n) some (rest_small size n v within small)))

@@ -1,0 +1,103 @@
+use Rattle.std.proofs.Common.{◌≡◌, ℕ, ◌-◌, ◌/◌, ◌%◌, ◌^◌, ◌<◌, Bool, List, [], ◌++◌, length, sym, ap, ◌∙◌, arith, append_assoc, append-nil, length-append}
+use Rattle.zf_bits.specs.Writer.{Writer}
+use Rattle.zf_spec.specs.Numbers.{field}
+use Rattle.zf_spec.specs.Planes.{code_from_run}
+use Rattle.zf_spec.proofs.Fields.{length-field}
+use Rattle.zf_planes.specs.Doubled.{doubled}
+use Rattle.zf_planes.proofs.Budgets.{Remains, Remains-start, Remains-same, Remains-fits, Remains-more, Remains-end}
+use Rattle.zf_planes.proofs.Doubled.{run_goes_on}
+use Rattle.zf_planes.proofs.doubling.write_run.Goals as goal
+
+pub loop-digits-init : goal.loop-digits-init
+loop-digits-init c =
+    let front = c.args.front in
+    let run = code_from_run (field c.args.most c.args.digits) in
+    record {
+      remains = Remains-start c.args.out.now c.args.left (field front.len front.bits ++ run) (omega (arith, c.requires.fits, length-append (field front.len front.bits) run, length-field front.len front.bits));
+      some = c.requires.some;
+      in_word = c.requires.in_word;
+      within = c.requires.within;
+      few = c.requires.few;
+      small = c.requires.small;
+    }
+
+pub overflow_sub-most : goal.overflow_sub-most
+overflow_sub-most c = let run = run_goes_on c.loop-digits.most c.loop-digits.digits c.loop-digits-test.true c.loop-digits.invariant.within in omega (arith, run.more)
+
+pub join-part-requires-clause-small : goal.join-part-requires-clause-small
+join-part-requires-clause-small c = c.loop-digits.invariant.small
+
+-- eight digits more were put behind the bits
+joined_on : {old now : Writer} {budget left : ℕ} {all : List Bool} (most digits k v l w j x : ℕ) → 255 < digits → digits < 2 ^ most
+    → Remains old now budget left all (field k v ++ code_from_run (field most digits)) → field l w ≡ doubled (field 8 (digits % 256)) → field j x ≡ field k v ++ field l w
+    → Remains old now budget left all (field j x ++ code_from_run (field (most - 8) (digits / 256)))
+joined_on most digits k v l w j x some within remains two joined =
+    let run = run_goes_on most digits some within in
+    let rest = code_from_run (field (most - 8) (digits / 256)) in
+    Remains-same remains
+    (ap (λ (bs : List Bool). field k v ++ bs) (run.code ∙ ap (λ (bs : List Bool). bs ++ rest) (sym two))
+    ∙ sym (append_assoc (field k v) (field l w) rest)
+    ∙ ap (λ (bs : List Bool). bs ++ rest) (sym joined))
+
+pub write_part-left-requires-clause-fits : goal.write_part-left-requires-clause-fits
+write_part-left-requires-clause-fits c =
+    let part = c.join-part.result in
+    omega (arith, Remains-fits (field part.len part.bits) _ (joined_on c.loop-digits.most c.loop-digits.digits _ c.loop-digits.part.bits _ c.double.result.bits _ c.join-part.result.bits c.loop-digits-test.true c.loop-digits.invariant.within c.loop-digits.invariant.remains c.double.ensures.bits c.join-part.ensures.bits), length-field part.len part.bits)
+
+pub loop-digits-preserved-then-part-gt40 : goal.loop-digits-preserved-then-part-gt40
+loop-digits-preserved-then-part-gt40 c =
+    let part = c.join-part.result in
+    let run = run_goes_on c.loop-digits.most c.loop-digits.digits c.loop-digits-test.true c.loop-digits.invariant.within in
+    let written = Remains-more (field part.len part.bits) _ (joined_on c.loop-digits.most c.loop-digits.digits _ c.loop-digits.part.bits _ c.double.result.bits _ c.join-part.result.bits c.loop-digits-test.true c.loop-digits.invariant.within c.loop-digits.invariant.remains c.double.ensures.bits c.join-part.ensures.bits) c.write_part-left.ensures.bits in
+    let spent : c.loop-digits.left - length (field part.len part.bits) ≡ c.write_part-left.result = omega (arith, length-field part.len part.bits, c.write_part-left.ensures.left) in
+    record {
+      remains = rw spent at written;
+      some = omega (arith, c.loop-digits-test.true);
+      in_word = omega (arith, c.loop-digits.invariant.in_word);
+      within = run.below;
+      few = omega arith;
+      small = omega arith;
+    }
+
+pub loop-digits-preserved : goal.loop-digits-preserved
+loop-digits-preserved c =
+    let run = run_goes_on c.loop-digits.most c.loop-digits.digits c.loop-digits-test.true c.loop-digits.invariant.within in
+    record {
+      remains = joined_on c.loop-digits.most c.loop-digits.digits _ c.loop-digits.part.bits _ c.double.result.bits _ c.join-part.result.bits c.loop-digits-test.true c.loop-digits.invariant.within c.loop-digits.invariant.remains c.double.ensures.bits c.join-part.ensures.bits;
+      some = omega (arith, c.loop-digits-test.true);
+      in_word = omega (arith, c.loop-digits.invariant.in_word);
+      within = run.below;
+      few = omega (arith, c.if-part-gt40.false);
+      small = c.join-part.ensures.small c.double.ensures.small;
+    }
+
+-- the rest of the run is in the last bits
+all_joined : {old now : Writer} {budget left : ℕ} {all : List Bool} (most digits k v l w j x : ℕ) → Remains old now budget left all (field k v ++ code_from_run (field most digits))
+    → field l w ≡ code_from_run (field most digits) → field j x ≡ field k v ++ field l w → Remains old now budget left all (field j x ++ [])
+all_joined most digits k v l w j x remains run joined =
+    Remains-same remains (ap (λ (bs : List Bool). field k v ++ bs) (sym run) ∙ sym joined ∙ sym (append-nil (field j x)))
+
+pub write_part-requires-clause-fits : goal.write_part-requires-clause-fits
+write_part-requires-clause-fits c =
+    let part = c.join.result in
+    omega (arith, Remains-fits (field part.len part.bits) [] (all_joined c.loop-digits.most c.loop-digits.digits _ c.loop-digits.part.bits _ c.short_run.result.bits _ c.join.result.bits c.loop-digits.invariant.remains c.short_run.ensures.bits c.join.ensures.bits), length-field part.len part.bits)
+
+pub returns-clause-bits : goal.returns-clause-bits
+returns-clause-bits c =
+    let part = c.join.result in
+    Remains-end (Remains-more (field part.len part.bits) [] (all_joined c.loop-digits.most c.loop-digits.digits _ c.loop-digits.part.bits _ c.short_run.result.bits _ c.join.result.bits c.loop-digits.invariant.remains c.short_run.ensures.bits c.join.ensures.bits) c.write_part.ensures.bits) (omega arith)
+
+pub returns-clause-left : goal.returns-clause-left
+returns-clause-left c =
+    let part = c.join.result in
+    let front = c.args.front in
+    let run = code_from_run (field c.args.most c.args.digits) in
+    omega (
+      arith,
+      c.write_part.ensures.left,
+      (all_joined c.loop-digits.most c.loop-digits.digits _ c.loop-digits.part.bits _ c.short_run.result.bits _ c.join.result.bits c.loop-digits.invariant.remains c.short_run.ensures.bits c.join.ensures.bits).spent,
+      length-append (field part.len part.bits) [],
+      length-field part.len part.bits,
+      length-append (field front.len front.bits) run,
+      length-field front.len front.bits,
+    )
