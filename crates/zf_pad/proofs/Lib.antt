@@ -6,3 +6,4 @@ pub mod Copying
 pub mod Rasters
 pub mod Blocks
 pub mod Slabs
+pub mod Lines

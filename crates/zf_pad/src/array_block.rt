@@ -1,15 +1,15 @@
 //! Block b of an array, between its raw values and a block.
 
-ghost use Rattle.std.specs.Prelude.{◌≡◌, ◌<◌, ◌^◌, length, map};
-ghost use Rattle.zf_spec.specs.Grid.{product, blocks, extent_of, block_of};
+ghost use Rattle.std.specs.Prelude.{◌≡◌, ◌<◌, ◌-◌, ◌*◌, ◌^◌, min, length, map};
+ghost use Rattle.zf_spec.specs.Grid.{product, grid, blocks, coordinates, extent_of, block_of};
 ghost use Rattle.zf_spec.specs.Codes.{existing_values};
-ghost use Rattle.zf_base.specs.Positions.{used_axes, IsExtent};
+ghost use Rattle.zf_base.specs.Positions.{used_axes, with_unused, IsExtent};
 ghost use Rattle.zf_pad.specs.Blocks.{WritesBlock};
 ghost use Rattle.zf_pad.specs.Rasters.{IsRaster};
 
 use crate::copies::{gather, scatter};
 use crate::layout::Layout;
-use zf_base::{Extent, Lane, Shape};
+use zf_base::{Extent, Lane, Pos, Shape};
 
 /// Copies block `b` out of the values of an array, whose layout is at hand, and answers which part of the block exists.
 ///
@@ -30,7 +30,7 @@ pub fn gather_block<T: Lane>(
     ensures extent { IsExtent (length shape.now) result }
     ensures size { used_axes (length shape.now) result.size ≡ extent_of shape.now b }
 {
-    let e = shape.extent(b);
+    let e = part_of(shape, b);
     gather(layout, &e, shape.dims(), values, block);
     e
 }
@@ -45,6 +45,48 @@ pub fn scatter_block<T: Lane>(layout: &Layout, shape: &Shape, b: u64, block: &[T
     requires whole { length block.now ≡ 4 ^ length shape.now }
     ensures { WritesBlock shape.now b (map T.value block.now) (map T.value values.old) (map T.value values.new) }
 {
-    let e = shape.extent(b);
+    let e = part_of(shape, b);
     scatter(layout, &e, shape.dims(), block, values);
+}
+
+/// The part of block `b` that lies in the array. In one dimension, where blocks are small and many, no coordinates are divided out.
+#[inline]
+fn part_of(shape: &Shape, b: u64) -> Extent
+    requires { b < blocks shape.now }
+    ensures origin { result.origin ≡ with_unused 0 (map (λ c. 4 * c) (coordinates (grid shape.now) b)) }
+    ensures size { result.size ≡ with_unused 1 (extent_of shape.now b) }
+    ensures extent { IsExtent (length shape.now) result }
+    ensures used_size { used_axes (length shape.now) result.size ≡ extent_of shape.now b }
+{
+    if shape.dims() == 1 {
+        part_of_line(shape.size(0), b)
+    } else {
+        shape.extent(b)
+    }
+}
+
+/// The same of a line of `n` values.
+#[inline]
+fn part_of_line(n: u64, b: u64) -> Extent
+    requires { 4 * b < n }
+    ensures { result ≡ record {
+      origin = record { x = 4 * b; y = 0; z = 0; w = 0 };
+      size = record { x = min 4 (n - 4 * b); y = 1; z = 1; w = 1 };
+    } }
+{
+    let first = 4 * b;
+    Extent {
+        origin: Pos {
+            x: first,
+            y: 0,
+            z: 0,
+            w: 0,
+        },
+        size: Pos {
+            x: (n - first).min(4),
+            y: 1,
+            z: 1,
+            w: 1,
+        },
+    }
 }
