@@ -69,6 +69,7 @@ impl Promotion {
         ensures taken { Logs self.old self.new (S.contents src.old) (S.contents src.new) }
         ensures at_end { IsTrue self.new.spent → IsAtEnd (S.contents src.new) }
         ensures unchanged { OnOk result (S.faults src.new ≡ S.faults src.old) }
+        ensures same_source { S.kept src.new ≡ S.kept src.old }
         ensures cause { HasCause (IsErr result) (S.faults src.old) (S.faults src.new) }
         ensures sure { S.never_fails src.old → IsOk result × S.never_fails src.new }
     {
@@ -102,6 +103,7 @@ impl Promotion {
         ensures taken { Logs self.old self.new (S.contents src.old) (S.contents src.new) }
         ensures at_end { IsTrue self.new.spent → IsAtEnd (S.contents src.new) }
         ensures unchanged { OnOk result (S.faults src.new ≡ S.faults src.old) }
+        ensures same_source { S.kept src.new ≡ S.kept src.old }
         ensures cause { HasCause (IsErr result) (S.faults src.old) (S.faults src.new) }
         ensures sure { S.never_fails src.old → IsOk result × S.never_fails src.new }
     {
@@ -133,6 +135,7 @@ impl Promotion {
         ensures end { IfOk result (λ k. k ≡ 0 → IsAtEnd (S.contents src.new)) }
         ensures err { OnErr result (TakesRaw self.old self.new (S.contents src.old) (S.contents src.new) []) }
         ensures unchanged { OnOk result (S.faults src.new ≡ S.faults src.old) }
+        ensures same_source { S.kept src.new ≡ S.kept src.old }
         ensures cause { HasCause (IsErr result) (S.faults src.old) (S.faults src.new) }
         ensures sure { S.never_fails src.old → IsOk result × S.never_fails src.new }
     {
