@@ -1,16 +1,18 @@
 -- Bits of several planes in one word.
-use Rattle.std.proofs.Common.{◌≡◌, ℕ, ◌+◌, ◌-◌, ◌*◌, ◌/◌, ◌%◌, ◌^◌, ◌<◌, ◌≤◌, ⊎_elim, min, max, Bool, List, [], ◌++◌, append_assoc, length, take, drop, get_or, sym, ap, ◌∙◌, arith, lit<}
+use Rattle.std.proofs.Common.{◌≡◌, ℕ, suc, false, set, replicate, refl, get_or-set_same, ◌∷◌, ◌+◌, ◌-◌, ◌*◌, ◌/◌, ◌%◌, ◌^◌, ◌<◌, ◌≤◌, ⊎_elim, min, max, Bool, List, [], ◌++◌, append_assoc, length, take, drop, get_or, sym, ap, ◌∙◌, arith, lit<}
 use Rattle.std.specs.Int.Bits.{bit_or}
 use Rattle.std.proofs.Math.Nat.{pow-le-pow_right, mod-le}
 use Rattle.std.proofs.Math.Seq.{take-append-add}
 use Rattle.std.proofs.lemmas.Bool.{cases_lt}
 use Rattle.std.proofs.lemmas.Nat.{or_lt, shl_below}
-use Rattle.std.proofs.lemmas.List.{take_all}
+use Rattle.std.proofs.lemmas.List.{take_all, length-set, length-replicate}
 use Rattle.zf_spec.specs.Numbers.{field}
 use Rattle.zf_spec.specs.Planes.{plane_code, code_from, reach}
-use Rattle.zf_spec.specs.HeldPlanes.{digits_held, planes_held}
-use Rattle.zf_planes.proofs.Unpacking.{code_held}
-use Rattle.zf_spec.proofs.Fields.{length-field, field-mod}
+use Rattle.zf_spec.specs.HeldPlanes.{digits_held, planes_held, IsClearFrom}
+use Rattle.zf_planes.proofs.Unpacking.{code_held, top_more}
+use Rattle.zf_planes.proofs.Placing.{clear_zeros, word_filled}
+use Rattle.zf_planes.specs.Fours.{fours}
+use Rattle.zf_spec.proofs.Fields.{length-field, field-add, field-zero, field-mod}
 use Rattle.zf_spec.proofs.HeldPlanes.{length-digits_held}
 use Rattle.zf_bits.proofs.Fields.{take-field}
 use Rattle.zf_bits.proofs.Words.{field_or}
@@ -53,22 +55,6 @@ small_behind len n a v small narrow =
 
 -- ---- the code of planes goes on behind bits that were put together
 
--- by one plane
-pub plane_joined : (prec k size a l v next l2 v2 j x : ℕ) (code ds : List Bool) (all : List (List ℕ)) → k < prec → prec ≤ length all
-    → code ≡ field l v ++ code_from a (drop k (take prec (planes_held size all)))
-    → ds ≡ get_or (planes_held size all) k [] → field l2 v2 ≡ plane_code a ds → next ≡ max a (reach ds) → field j x ≡ field l v ++ field l2 v2
-    → code ≡ field j x ++ code_from next (drop (k + 1) (take prec (planes_held size all)))
-plane_joined prec k size a l v next l2 v2 j x code ds all below within is digits two reached joined =
-    let rest = drop (k + 1) (take prec (planes_held size all)) in
-    is
-    ∙ ap (λ (bs : List Bool). field l v ++ bs)
-    (code_held a prec size k all below within
-    ∙ sym (ap (λ (es : List Bool). plane_code a es ++ code_from (max a (reach es)) rest) digits)
-    ∙ ap (λ (bs : List Bool). bs ++ code_from (max a (reach ds)) rest) (sym two)
-    ∙ ap (λ n. field l2 v2 ++ code_from n rest) (sym reached))
-    ∙ sym (append_assoc (field l v) (field l2 v2) (code_from next rest))
-    ∙ ap (λ (bs : List Bool). bs ++ code_from next rest) (sym joined)
-
 -- by two planes
 pub pair_joined : (prec k size a l v next l2 v2 j x : ℕ) (code ds es : List Bool) (all : List (List ℕ)) → k + 1 < prec → prec ≤ length all
     → code ≡ field l v ++ code_from a (drop k (take prec (planes_held size all)))
@@ -105,3 +91,40 @@ held_word size w ws is small long =
 -- the digits of a plane of four
 pub held_4 : (w : ℕ) (ws : List ℕ) → w ≡ get_or ws 0 0 → 4 ≤ 64 * length ws → digits_held 4 ws ≡ field 4 (w % 16)
 held_4 w ws is long = held_word 4 w ws is (omega arith) long ∙ sym (field-mod 4 w)
+
+-- ---- a plane of four digits that is put in
+
+pub record Written (n : ℕ) (ws : List ℕ) : Type 0 where
+  pub digits : digits_held 4 ws ≡ field 4 n
+  pub clear : IsClearFrom 4 ws
+
+pub written : (k digits : ℕ) (ws ws' : List ℕ) → 4 ≤ 64 * k → ws ≡ replicate k 0 → ws' ≡ set ws 0 digits → digits < 16 → Written digits ws'
+written k digits ws ws' enough blank is small =
+    let long : length ws ≡ k = ap length blank ∙ length-replicate k 0 in
+    let some : 0 < length ws = omega (arith, long) in
+    let here : digits ≡ get_or (set ws 0 digits) 0 0 = sym (get_or-set_same ws 0 digits 0 some) in
+    let low : digits % 16 ≡ digits = omega arith in
+    let none : digits / 2 ^ 4 ≡ 0 = omega arith in
+    let zeros : field 64 digits ≡ field 4 digits ++ replicate 60 false = field-add 4 60 digits ∙ ap (λ v. field 4 digits ++ field 60 v) none ∙ ap (λ (bs : List Bool). field 4 digits ++ bs) (field-zero 60) in
+    let clear : IsClearFrom 0 ws = rw blank (clear_zeros 0 k) in
+    rw is (record {
+      digits = held_4 digits (set ws 0 digits) here (omega (arith, length-set ws 0 digits, long)) ∙ ap (field 4) low;
+      clear = (word_filled ws 0 0 4 digits (field 4 digits) (omega arith) (omega arith) some zeros refl clear).1;
+    })
+
+-- several planes in one number, of which one more is put in
+pub fours-more : (k digits : ℕ) → fours (suc k) digits ≡ field 4 digits ∷ fours k (digits / 16)
+unfolding fours
+fours-more k digits = refl
+
+pub fours-none : (digits : ℕ) → fours 0 digits ≡ []
+unfolding fours
+fours-none digits = refl
+
+pub put_next : (planes : List (List ℕ)) (at k digits : ℕ) (ws : List ℕ) → at < length planes → digits_held 4 ws ≡ field 4 (digits % 16)
+    → take (at + 1) (planes_held 4 (set planes (length planes - 1 - at) ws)) ++ fours k (digits / 16) ≡ take at (planes_held 4 planes) ++ fours (suc k) digits
+put_next planes at k digits ws within is =
+    let front = take at (planes_held 4 planes) in
+    ap (λ (ps : List (List Bool)). ps ++ fours k (digits / 16)) (top_more 4 planes at ws within ∙ ap (λ (ds : List Bool). front ++ ds ∷ []) (is ∙ field-mod 4 digits))
+    ∙ append_assoc front (field 4 digits ∷ []) (fours k (digits / 16))
+    ∙ ap (λ (ps : List (List Bool)). front ++ ps) (sym (fours-more k digits))

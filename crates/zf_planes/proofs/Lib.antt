@@ -14,6 +14,7 @@
 --     Steps        one step of reading a tail
 --     PlaneAhead   what the decoder makes of one plane
 --     PlanesAhead  what the decoder makes of planes
+--     FoursAhead   several planes of four digits that are read at once
 --     Passing      a reader that passes the bits of a code in parts
 --     Peeking      bits that were looked at and are not yet passed
 pub mod Runs
@@ -31,5 +32,6 @@ pub mod Placing
 pub mod Steps
 pub mod PlaneAhead
 pub mod PlanesAhead
+pub mod FoursAhead
 pub mod Passing
 pub mod Peeking

@@ -1,14 +1,15 @@
 -- What the decoder makes of planes: one plane, and then those below.
-use Rattle.std.proofs.Common.{◌≡◌, ℕ, zero, suc, ◌⊎◌, ◌++◌, ◌+◌, ◌-◌, ◌<◌, ◌≤◌, ⊎_elim, min, max, Bool, false, List, [], ◌∷◌, length, take, drop, replicate, refl, sym, ap, ◌∙◌, arith}
+use Rattle.std.proofs.Common.{◌≡◌, ℕ, zero, suc, ◌⊎◌, ◌++◌, ◌+◌, ◌-◌, ◌<◌, ◌≤◌, ⊎_elim, min, max, Bool, false, List, [], ◌∷◌, length, take, drop, replicate, refl, sym, ap, subst, ◌∙◌, arith}
 use Rattle.std.proofs.lemmas.Bool.{cases_lt}
-use Rattle.std.proofs.lemmas.List.{length-append, length-replicate, drop-take}
-use Rattle.zf_spec.specs.Planes.{reach, plane_code, code_from}
+use Rattle.std.proofs.lemmas.List.{length-append, length-replicate, length-take, length-drop, drop-take, drop-drop, take-take, take_at, drop_at}
+use Rattle.std.proofs.lemmas.List.Elements.{All-head, All-tail}
+use Rattle.zf_spec.specs.Planes.{reach, reach_of_all, plane_code, code_from, AreOfSize}
 use Rattle.zf_spec.specs.Kept.{kept_plane, kept_planes_from}
 use Rattle.zf_spec.specs.ReadPlanes.{plane_in, planes_in_from}
 use Rattle.zf_spec.proofs.Reach.{reach_within, reach_none, has_one-zeros}
 use Rattle.zf_spec.proofs.KeptSame.{kept_whole, kept_planes_from-none}
 use Rattle.zf_spec.proofs.Full.{length-plane_in, length-planes_in_from, planes_in_from-length}
-use Rattle.zf_planes.proofs.PlaneAhead.{plane_ahead-is, plane_bits-is}
+use Rattle.zf_planes.proofs.PlaneAhead.{plane_ahead-is, plane_bits-is, whole_plane}
 use Rattle.zf_planes.proofs.Steps.{tail_end}
 use Rattle.zf_planes.specs.Decoding.{plane_ahead, plane_bits, planes_ahead, planes_bits}
 
@@ -145,3 +146,47 @@ zero_planes (suc k) r (suc p) size s t some within below e =
     let bits = rw less at more.0 in
     let digits = rw less at more.1 in
     rw fewer (omega (arith, one.0, bits), one.1 ∙ ap (λ (ps : List (List Bool)). zeros ∷ ps) digits)
+
+-- ---- planes whose code is there and in the budget are read whole
+
+-- several planes, and those below them
+pub record NextPlanes (r p size n : ℕ) (s : List Bool) (planes : List (List Bool)) (count : ℕ) : Type 0 where
+  pub bits : planes_bits r p size n s ≡ count + planes_bits (r - count) (p - length planes) size (max n (reach_of_all planes)) (drop count s)
+  pub digits : planes_ahead r p size n s ≡ planes ++ planes_ahead (r - count) (p - length planes) size (max n (reach_of_all planes)) (drop count s)
+
+pub whole_planes : (planes : List (List Bool)) (r p size n len : ℕ) (s : List Bool) → 1 ≤ size → n ≤ size → AreOfSize size planes → code_from n planes ≡ take len s → len ≤ length s → len ≤ r → length planes ≤ p
+    → NextPlanes r p size n s planes len
+whole_planes [] r p size n len s some within sizes code there fits few =
+    let none : len ≡ 0 = omega (arith, ap length code, length-take len s) in
+    let all : r - 0 ≡ r = omega arith in
+    let every : p - 0 ≡ p = omega arith in
+    let reached : max n 0 ≡ n = omega arith in
+    rw none (record { bits = rw (all, every, reached) (omega arith); digits = rw (all, every, reached) refl })
+whole_planes (ds ∷ planes) r zero size n len s some within sizes code there fits few = absurd (omega arith)
+whole_planes (ds ∷ planes) r (suc p) size n len s some within sizes code there fits few =
+    let first = plane_code n ds in
+    let k = length first in
+    let above = max n (reach ds) in
+    let more = code_from above planes in
+    let size_is : length ds ≡ size = All-head (λ es. length es ≡ size) ds planes sizes in
+    let sum : k + length more ≡ len = sym (length-append first more) ∙ ap length code ∙ omega (arith, length-take len s) in
+    let parts : len ≡ k + (len - k) = omega arith in
+    let front : first ≡ take k s = sym (take_at first more k refl) ∙ ap (take k) code ∙ take-take k len s (omega arith) in
+    let behind : more ≡ take (len - k) (drop k s) = sym (drop_at first more k refl) ∙ ap (drop k) code ∙ ap (λ m. drop k (take m s)) parts ∙ drop-take k (len - k) s in
+    let one = whole_plane r n k ds s (omega arith) front (omega arith) (omega arith) in
+    let is : plane_ahead r size n s ≡ ds = subst (λ m. plane_ahead r m n s ≡ ds) size_is one.1 in
+    let bits : plane_bits r size n s ≡ k = subst (λ m. plane_bits r m n s ≡ k) size_is one.0 in
+    let next = next_plane r p size n s some within (ap length is ∙ size_is) in
+    let next_bits = rw (is, bits) at next.bits in
+    let next_digits = rw (is, bits) at next.digits in
+    let rest = whole_planes planes (r - k) p size above (len - k) (drop k s) some (reach_within size n ds within size_is) (All-tail (λ es. length es ≡ size) ds planes sizes) behind (omega (arith, length-drop k s)) (omega arith) (omega arith) in
+    let spent : r - k - (len - k) ≡ r - len = omega arith in
+    let place : drop (len - k) (drop k s) ≡ drop len s = drop-drop (len - k) k s ∙ ap (λ m. drop m s) (sym parts) in
+    let reached : max above (reach_of_all planes) ≡ max n (max (reach ds) (reach_of_all planes)) = omega arith in
+    let fewer : suc p - suc (length planes) ≡ p - length planes = omega arith in
+    let rest_bits = rw (spent, place, reached) at rest.bits in
+    let rest_digits = rw (spent, place, reached) at rest.digits in
+    record {
+      bits = rw fewer (omega (arith, next_bits, rest_bits));
+      digits = rw fewer (next_digits ∙ ap (λ (ps : List (List Bool)). ds ∷ ps) rest_digits);
+    }

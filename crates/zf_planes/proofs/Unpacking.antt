@@ -1,6 +1,7 @@
 -- The digits that planes hold in words.
 use Rattle.std.proofs.Common.{◌≡◌, ℕ, zero, suc, map, ◌+◌, ◌-◌, ◌*◌, ◌<◌, ◌≤◌, ◌≢◌, ⊎_elim, Bool, false, max, List, [], ◌∷◌, ◌++◌, length, take, drop, get_or, set, replicate, refl, sym, ap, subst, ◌∙◌, arith, ext_get_or, length-set, get_or-set_same, get_or-set_other}
-use Rattle.std.proofs.lemmas.List.{length-map, get_or-map, get_or-take, length-take, drop_more, length-replicate, get_or-replicate}
+use Rattle.zf_planes.proofs.Filling.{behind_next}
+use Rattle.std.proofs.lemmas.List.{map-set, take_more_set, length-map, get_or-map, get_or-take, length-take, drop_more, length-replicate, get_or-replicate}
 use Rattle.std.proofs.lemmas.Bool.{cases_eq}
 use Rattle.std.specs.List.{All}
 use Rattle.zf_spec.proofs.Counting.{four_elements}
@@ -127,3 +128,26 @@ planes_held-zeros size n k within =
     ∙ ap (digits_held size) (get_or-replicate n (length (replicate n words) - 1 - j) words [] (omega (arith, long)))
     ∙ held_zeros size k within
     ∙ sym (get_or-replicate n j (replicate size false) [] below))
+
+-- the digits of planes, of which one more is written
+pub top_more : (size : ℕ) (planes : List (List ℕ)) (i : ℕ) (words : List ℕ) → i < length planes
+    → take (i + 1) (planes_held size (set planes (length planes - 1 - i) words)) ≡ take i (planes_held size planes) ++ digits_held size words ∷ []
+top_more size planes i words within =
+    ap (take (i + 1)) (planes_held-set size planes i words within) ∙ take_more_set (planes_held size planes) i (digits_held size words) (omega (arith, length-planes_held size planes))
+
+pub top_behind : (size : ℕ) (planes : List (List ℕ)) (i : ℕ) (words : List ℕ) → i < length planes → drop i (planes_held size planes) ≡ replicate (length planes - i) (replicate size false)
+    → drop (i + 1) (planes_held size (set planes (length planes - 1 - i) words)) ≡ replicate (length (set planes (length planes - 1 - i) words) - (i + 1)) (replicate size false)
+top_behind size planes i words within back =
+    let held = planes_held size planes in
+    let ds = digits_held size words in
+    let long = length-planes_held size planes in
+    let same : length (set held i ds) - (i + 1) ≡ length (set planes (length planes - 1 - i) words) - (i + 1) =
+    omega (arith, length-set held i ds, length-set planes (length planes - 1 - i) words) in
+    ap (drop (i + 1)) (planes_held-set size planes i words within)
+    ∙ behind_next held ds (replicate size false) i (back ∙ ap (λ n. replicate (n - i) (replicate size false)) (sym long))
+    ∙ ap (λ n. replicate n (replicate size false)) same
+
+-- a plane set among planes, as words
+pub set_words : {A : Type 0} (words : A → List ℕ) (planes : List A) (i : ℕ) (plane : A)
+    → map words (set planes (length planes - 1 - i) plane) ≡ set (map words planes) (length (map words planes) - 1 - i) (words plane)
+set_words words planes i plane = map-set words planes (length planes - 1 - i) plane ∙ ap (λ n. set (map words planes) (n - 1 - i) (words plane)) (sym (length-map planes words))

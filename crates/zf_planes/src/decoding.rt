@@ -1,6 +1,6 @@
 //! Reading planes from their code.
 
-ghost use Rattle.std.specs.Prelude.{◌≡◌, ◌+◌, ◌-◌, ◌*◌, ◌%◌, ◌<◌, ◌≤◌, ◌↔◌, ◌⊎◌, min, max, slice_set, true, false, ◌∷◌, ◌++◌, length, map, take, replicate, All, IsNone, IfNone, IfSome, OnSome};
+ghost use Rattle.std.specs.Prelude.{◌≡◌, ◌+◌, ◌-◌, ◌*◌, ◌%◌, ◌<◌, ◌≤◌, ◌↔◌, ◌⊎◌, min, max, slice_set, true, false, ◌∷◌, ◌++◌, length, map, take, drop, replicate, All, IsNone, IfNone, IfSome, OnSome};
 ghost use Rattle.zf_spec.specs.Grid.{IsBlockSize};
 ghost use Rattle.zf_spec.specs.Kept.{kept_planes};
 ghost use Rattle.zf_spec.specs.ReadPlanes.{first_bits};
@@ -8,9 +8,10 @@ ghost use Rattle.zf_spec.specs.HeldPlanes.{digits_held, planes_held, IsClearFrom
 ghost use Rattle.zf_spec.specs.Numbers.{field, word_bits};
 ghost use Rattle.zf_spec.specs.Planes.{reach};
 ghost use Rattle.zf_bits.specs.Reader.{rest, Reads};
+ghost use Rattle.zf_planes.specs.Fours.{fours};
 ghost use Rattle.zf_planes.specs.Decoding.{IsWindow, coded, coded_bits, tail_ahead, tail_bits, run_ahead, run_bits, plane_ahead, plane_bits, planes_ahead, planes_bits, Takes, Lacks};
 
-use crate::four::plane_of_4;
+use crate::four::{plane_of_4, planes_of_4};
 use crate::words::clear;
 use zf_bits::{BitReader, Plane};
 
@@ -364,6 +365,27 @@ fn pass_zero_planes(prec: u32, ahead: &mut Ahead, reader: &mut BitReader<'_>) ->
     count
 }
 
+/// Puts the digits of four planes from the i-th on, four bits each. They and those below them are zero before.
+#[inline]
+fn put_four<P: Plane>(i: usize, digits: u64, planes: &mut [P])
+    requires words { 4 ≤ 64 * P.word_count }
+    requires place { i + 4 ≤ length planes.old }
+    requires back { drop i (planes_held 4 (map P.words planes.old)) ≡ replicate (length planes.old - i) (replicate 4 false) }
+    requires clear { All (IsClearFrom 4) (map P.words planes.old) }
+    ensures digits { take (i + 4) (planes_held 4 (map P.words planes.new)) ≡ take i (planes_held 4 (map P.words planes.old)) ++ fours 4 digits }
+    ensures back { drop (i + 4) (planes_held 4 (map P.words planes.new)) ≡ replicate (length planes.new - (i + 4)) (replicate 4 false) }
+    ensures clear { All (IsClearFrom 4) (map P.words planes.new) }
+{
+    let mut rest = digits;
+    for j in 0..4 {
+        let mut plane = P::zero();
+        plane.set_word(0, rest % 16);
+        let k = planes.len() - 1 - (i + j);
+        planes[k] = plane;
+        rest /= 16;
+    }
+}
+
 /// Reads the code of the top `prec` planes. All are zero before, and the other planes stay so.
 fn read_top<P: Plane>(
     budget: u64,
@@ -387,6 +409,17 @@ fn read_top<P: Plane>(
     let mut i = pass_zero_planes(prec, &mut ahead, reader) as usize;
     let mut above = 0;
     while i < prec as usize && ahead.left > 0 {
+        // Several planes of four digits at once, where their code is in sight.
+        if size == 4 && prec as usize - i >= 4 {
+            let some = planes_of_4(above, ahead.bits % 256);
+            if some.len <= ahead.count {
+                put_four(i, some.digits, planes);
+                pass(some.len, &mut ahead, reader);
+                i += some.count;
+                above = some.above;
+                continue;
+            }
+        }
         let mut plane = P::zero();
         above = read_plane(above, size, &mut plane, &mut ahead, reader)?;
         let k = planes.len() - 1 - i;

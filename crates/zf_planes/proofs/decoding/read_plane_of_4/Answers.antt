@@ -1,15 +1,11 @@
-use Rattle.std.proofs.Common.{◌≡◌, ℕ, ◌+◌, ◌-◌, ◌*◌, ◌/◌, ◌%◌, ◌^◌, ◌<◌, ◌≤◌, max, Bool, false, List, ◌++◌, length, take, set, replicate, get_or, get_or-set_same, refl, sym, ap, ◌∙◌, arith}
-use Rattle.std.proofs.lemmas.List.{length-set, length-replicate}
+use Rattle.std.proofs.Common.{◌≡◌, ◌+◌, ◌-◌, ◌%◌, ◌≤◌, max, Bool, List, take, sym, ap, ◌∙◌, arith}
 use Rattle.zf_spec.specs.Numbers.{field}
 use Rattle.zf_spec.specs.Planes.{plane_code, reach}
-use Rattle.zf_spec.specs.HeldPlanes.{digits_held, IsClearFrom}
-use Rattle.zf_spec.proofs.Fields.{field-add, field-zero}
 use Rattle.zf_bits.specs.Reader.{rest}
 use Rattle.zf_bits.proofs.Fields.{field-mod}
 use Rattle.zf_planes.specs.Decoding.{plane_ahead, plane_bits}
-use Rattle.zf_planes.proofs.Gathering.{held_4}
+use Rattle.zf_planes.proofs.Gathering.{Written, written}
 use Rattle.zf_planes.proofs.Peeking.{window_front, window_long}
-use Rattle.zf_planes.proofs.Placing.{clear_zeros, word_filled}
 use Rattle.zf_planes.proofs.PlaneAhead.{whole_plane}
 use Rattle.zf_planes.proofs.decoding.read_plane_of_4.Given.{Over}
 use Rattle.zf_planes.proofs.decoding.read_plane_of_4.Goals as goal
@@ -29,25 +25,6 @@ read g c =
     let low : field next.len (ahead.bits % 128) ≡ field next.len ahead.bits = rw seven at (field-mod next.len (7 - next.len) ahead.bits) in
     let code : plane_code n (field 4 next.digits) ≡ take next.len s = c.plane_of_4-next.ensures.code ∙ low ∙ window_front s ahead.bits ahead.count next.len window.bits few in
     whole_plane c.args.ahead.now.left n next.len (field 4 next.digits) s c.requires.in_plane code (omega (arith, few, window_long s ahead.bits ahead.count window.bits)) (omega (arith, few, window.within, c.look_on.ensures.left))
-
--- the plane that is written
-record Written (n : ℕ) (ws : List ℕ) : Type 0 where
-  digits : digits_held 4 ws ≡ field 4 n
-  clear : IsClearFrom 4 ws
-
-written : (k digits : ℕ) (ws ws' : List ℕ) → 4 ≤ 64 * k → ws ≡ replicate k 0 → ws' ≡ set ws 0 digits → digits < 16 → Written digits ws'
-written k digits ws ws' enough blank is small =
-    let long : length ws ≡ k = ap length blank ∙ length-replicate k 0 in
-    let some : 0 < length ws = omega (arith, long) in
-    let here : digits ≡ get_or (set ws 0 digits) 0 0 = sym (get_or-set_same ws 0 digits 0 some) in
-    let low : digits % 16 ≡ digits = omega arith in
-    let none : digits / 2 ^ 4 ≡ 0 = omega arith in
-    let zeros : field 64 digits ≡ field 4 digits ++ replicate 60 false = field-add 4 60 digits ∙ ap (λ v. field 4 digits ++ field 60 v) none ∙ ap (λ (bs : List Bool). field 4 digits ++ bs) (field-zero 60) in
-    let clear : IsClearFrom 0 ws = rw blank (clear_zeros 0 k) in
-    rw is (record {
-      digits = held_4 digits (set ws 0 digits) here (omega (arith, length-set ws 0 digits, long)) ∙ ap (field 4) low;
-      clear = (word_filled ws 0 0 4 digits (field 4 digits) (omega arith) (omega arith) some zeros refl clear).1;
-    })
 
 here : (g : Over) (c : goal.After-pass g) → Written c.plane_of_4-next.result.digits (g.P.Plane.words c.set_word.new.self)
 here g c = written _ _ _ _ c.requires.words c.requires.blank c.set_word.ensures c.plane_of_4-next.ensures.digits

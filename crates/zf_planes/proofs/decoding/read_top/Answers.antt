@@ -1,17 +1,19 @@
-use Rattle.std.proofs.Common.{◌≡◌, ℕ, suc, ◌+◌, ◌-◌, ◌<◌, ◌≤◌, inl, inr, max, Bool, false, List, [], ◌∷◌, ◌++◌, length, map, take, drop, set, replicate, sym, ap, ◌∙◌, subst, arith, length-set}
-use Rattle.std.proofs.lemmas.List.{map-set, length-map, take_more_set, length-replicate, take-replicate, drop-replicate, append_assoc, take-append-drop, replicate-append-replicate}
+use Rattle.std.proofs.Common.{◌≡◌, ℕ, suc, ◌+◌, ◌-◌, ◌^◌, ◌<◌, ◌≤◌, inl, inr, max, Bool, false, List, [], ◌∷◌, ◌++◌, length, map, take, drop, replicate, sym, ap, ◌∙◌, subst, arith, length-set}
+use Rattle.std.proofs.lemmas.List.{length-map, length-replicate, take-replicate, drop-replicate, append_assoc, take-append-drop, replicate-append-replicate}
 use Rattle.std.proofs.lemmas.List.Elements.{All-set, All-replicate}
 use Rattle.zf_spec.specs.Planes.{reach}
 use Rattle.zf_spec.specs.HeldPlanes.{digits_held, planes_held, IsClearFrom}
 use Rattle.zf_spec.proofs.HeldPlanes.{length-planes_held, length-digits_held}
 use Rattle.zf_spec.proofs.Reach.{reach-le}
 use Rattle.zf_bits.specs.Reader.{Reader, rest}
+use Rattle.std.specs.List.{All}
+use Rattle.zf_planes.specs.Fours.{fours}
 use Rattle.zf_planes.specs.Decoding.{Takes, plane_ahead, plane_bits, planes_ahead, planes_bits}
-use Rattle.zf_planes.proofs.Filling.{behind_next}
 use Rattle.zf_planes.proofs.Passing.{Passes-start, Passes-part, Passes-end, Passes-lacks, Takes-rest, if_none}
 use Rattle.zf_planes.proofs.Placing.{clear_zeros}
+use Rattle.zf_planes.proofs.FoursAhead.{fours_read, put_in, above_of_fours}
 use Rattle.zf_planes.proofs.PlanesAhead.{next_plane, plane_bits-le, planes_over, zero_planes}
-use Rattle.zf_planes.proofs.Unpacking.{planes_held-set, planes_held-zeros}
+use Rattle.zf_planes.proofs.Unpacking.{planes_held-zeros, top_more, top_behind, set_words}
 use Rattle.zf_planes.proofs.decoding.read_top.Given.{Over}
 use Rattle.zf_planes.proofs.decoding.read_top.Goals as goal
 
@@ -82,29 +84,6 @@ returns-in_err-above-clause-short g c =
     let part = subst Part (sym planes) (plane_bits-le left (c.args.prec - (i + 1)) c.args.size c.loop-i.above s) in
     if_none _ (Passes-lacks c.loop-i.invariant.passes c.in_err-above.ensures.short part)
 
--- the digits of planes, of which one more is written
-held_more : (size : ℕ) (planes : List (List ℕ)) (i : ℕ) (words : List ℕ) → i < length planes
-    → take (i + 1) (planes_held size (set planes (length planes - 1 - i) words)) ≡ take i (planes_held size planes) ++ digits_held size words ∷ []
-held_more size planes i words within =
-    ap (take (i + 1)) (planes_held-set size planes i words within) ∙ take_more_set (planes_held size planes) i (digits_held size words) (omega (arith, length-planes_held size planes))
-
-held_behind : (size : ℕ) (planes : List (List ℕ)) (i : ℕ) (words : List ℕ) → i < length planes → drop i (planes_held size planes) ≡ replicate (length planes - i) (replicate size false)
-    → drop (i + 1) (planes_held size (set planes (length planes - 1 - i) words)) ≡ replicate (length (set planes (length planes - 1 - i) words) - (i + 1)) (replicate size false)
-held_behind size planes i words within back =
-    let held = planes_held size planes in
-    let ds = digits_held size words in
-    let long = length-planes_held size planes in
-    let same : length (set held i ds) - (i + 1) ≡ length (set planes (length planes - 1 - i) words) - (i + 1) =
-    omega (arith, length-set held i ds, length-set planes (length planes - 1 - i) words) in
-    ap (drop (i + 1)) (planes_held-set size planes i words within)
-    ∙ behind_next held ds (replicate size false) i (back ∙ ap (λ n. replicate (n - i) (replicate size false)) (sym long))
-    ∙ ap (λ n. replicate n (replicate size false)) same
-
--- a plane set among planes, as words
-set_words : {A : Type 0} (words : A → List ℕ) (planes : List A) (i : ℕ) (plane : A)
-    → map words (set planes (length planes - 1 - i) plane) ≡ set (map words planes) (length (map words planes) - 1 - i) (words plane)
-set_words words planes i plane = map-set words planes (length planes - 1 - i) plane ∙ ap (λ n. set (map words planes) (n - 1 - i) (words plane)) (sym (length-map planes words))
-
 pub loop-i-preserved : goal.loop-i-preserved
 loop-i-preserved g c =
     let i = c.loop-i.i in
@@ -131,8 +110,8 @@ loop-i-preserved g c =
           before.digits
           ∙ ap (λ (ps : List (List Bool)). take i held ++ ps) next.digits
           ∙ sym (append_assoc (take i held) (ds ∷ []) below)
-          ∙ ap (λ (ps : List (List Bool)). ps ++ below) (sym (ap (λ (ps : List (List ℕ)). take (i + 1) (planes_held size ps)) put ∙ held_more size planes i words within));
-      back = rw put (held_behind size planes i words within before.back);
+          ∙ ap (λ (ps : List (List Bool)). ps ++ below) (sym (ap (λ (ps : List (List ℕ)). take (i + 1) (planes_held size ps)) put ∙ top_more size planes i words within));
+      back = rw put (top_behind size planes i words within before.back);
       clear = rw put (All-set (IsClearFrom size) planes put_at words ok.clear before.clear);
       long = ap length put ∙ length-set planes put_at words ∙ before.long;
       above = omega (arith, ok.above, reach-le ds, before.above, long);
@@ -186,3 +165,50 @@ returns-after-loop-i-clause-digits g c =
 
 pub returns-after-loop-i-clause-clear : goal.returns-after-loop-i-clause-clear
 returns-after-loop-i-clause-clear g c = c.loop-i.invariant.clear
+
+-- ---- several planes of four digits
+
+-- the planes that are put in, as planes of this size
+put_in_size : (size i c n digits : ℕ) (planes planes' : List (List ℕ)) → size ≡ 4 → c ≤ 4 → i + 4 ≤ n → i ≤ length planes → digits < 16 ^ c
+    → take (i + 4) (planes_held 4 planes') ≡ take i (planes_held 4 planes) ++ fours 4 digits → drop (i + 4) (planes_held 4 planes') ≡ replicate (n - (i + 4)) (replicate 4 false)
+    → (take (i + c) (planes_held size planes') ≡ take i (planes_held size planes) ++ fours c digits) × (drop (i + c) (planes_held size planes') ≡ replicate (n - (i + c)) (replicate size false))
+put_in_size size i c n digits planes planes' four most room there small front back =
+    let put = put_in i c n digits (planes_held 4 planes) (planes_held 4 planes') most room (omega (arith, length-planes_held 4 planes)) small front back in
+    rw four (put.front, put.back)
+
+pub loop-i-preserved-then-some-ahead : goal.loop-i-preserved-then-some-ahead
+loop-i-preserved-then-some-ahead g c =
+    let i = c.loop-i.i in
+    let size = c.args.size in
+    let four : size ≡ 4 = c.if-size-eq4.true in
+    let before = c.loop-i.invariant in
+    let next = c.planes_of_4-some in
+    let k = next.result.count in
+    let planes = map g.P.Plane.words c.loop-i.planes in
+    let planes' = map g.P.Plane.words c.put_four.new.planes in
+    let n = length c.put_four.new.planes in
+    let long = length-map c.loop-i.planes g.P.Plane.words in
+    let long' = length-map c.put_four.new.planes g.P.Plane.words in
+    let taken = c.pass.ensures.taken in
+    let enough : i + k ≤ c.args.prec = omega (arith, c.if-prec-i-ge4.true, next.ensures.most) in
+    let read = fours_read c.args.prec i size c.loop-i.above k next.result.digits next.result.len c.loop-i.ahead.bits c.loop-i.ahead.count next.result.above four before.window before.above next.ensures.code next.ensures.len
+    c.if-some-ahead.true enough next.ensures.above taken in
+    let same : n ≡ length c.loop-i.planes = omega arith in
+    let put = put_in_size size i k n next.result.digits planes planes' four next.ensures.most (omega (arith, same, long, before.long, c.requires.planes, c.if-prec-i-ge4.true)) (omega (arith, long, before.long, before.within, c.requires.planes))
+    next.ensures.digits c.put_four.ensures.digits c.put_four.ensures.back in
+    let below = planes_ahead c.pass.new.ahead.left (c.args.prec - (i + k)) size next.result.above (rest c.pass.new.reader) in
+    let Clear : ℕ → Type 0 = λ m. All (IsClearFrom m) planes' in
+    record {
+      window = c.pass.ensures.window;
+      passes = Passes-part _ before.passes read.0 taken;
+      digits =
+          before.digits
+          ∙ ap (λ (ps : List (List Bool)). take i (planes_held size planes) ++ ps) read.1
+          ∙ sym (append_assoc (take i (planes_held size planes)) (fours k next.result.digits) below)
+          ∙ ap (λ (ps : List (List Bool)). ps ++ below) (sym put.0);
+      back = put.1 ∙ ap (λ m. replicate (m - (i + k)) (replicate size false)) (sym long');
+      clear = subst Clear (sym four) c.put_four.ensures.clear;
+      long = omega (arith, long', same, long, before.long);
+      above = omega (arith, next.ensures.above, above_of_fours k next.result.digits, before.above, four);
+      within = enough;
+    }
