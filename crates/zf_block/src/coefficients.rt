@@ -22,7 +22,9 @@ pub(crate) fn copy_padded<T: Lane>(d: u8, e: &Extent, block: &[T], values: &mut 
     requires values { length values.old ≡ 4 ^ d }
     ensures { map T.value values.new ≡ pad (used_axes d e.now.size) (map T.value block.now) }
 {
-    values.copy_from_slice(block);
+    // As many as there is room for, so that a copy into an array of a known length needs no call.
+    let size = values.len();
+    values.copy_from_slice(&block[..size]);
     zf_pad::pad(e, d, values);
 }
 

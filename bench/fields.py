@@ -1,0 +1,69 @@
+#!/usr/bin/env python3
+"""Makes the raw values of an array from a number, and writes them to a file.
+
+    python3 bench/fields.py FIELD WIDTH DIMENSIONS SIDE NUMBER FILE
+
+FIELD is waves or sample, WIDTH 32 or 64, NUMBER below 2^64. Needs numpy.
+
+waves looks like what a simulation puts out: along each axis two waves of parabolas, a long high one and a short low one, which begin where the
+number says, and some noise; all by whole-number arithmetic. sample is what `zfpi sample` makes of the number (docs/FORMAT.md): no two values have to
+do with one another.
+"""
+
+import sys
+
+import numpy
+
+RISE = 0x9E3779B97F4A7C15
+
+
+def words_of(number, count):
+    """The words of SplitMix64, begun with the number."""
+    state = numpy.arange(1, count + 1, dtype=numpy.uint64) * numpy.uint64(RISE) + numpy.uint64(number)
+    word = (state ^ (state >> numpy.uint64(30))) * numpy.uint64(0xBF58476D1CE4E5B9)
+    word = (word ^ (word >> numpy.uint64(27))) * numpy.uint64(0x94D049BB133111EB)
+    return word ^ (word >> numpy.uint64(31))
+
+
+def sample(width, dims, side, number):
+    word = words_of(number, side**dims)
+    if width == 32:
+        return word.astype(numpy.uint32).astype(numpy.int32) >> 16
+    return word.astype(numpy.int64) >> 32
+
+
+def wave(side, length, height, start):
+    """Parabolas of this length and height, above and below zero by turns."""
+    at = numpy.arange(side, dtype=numpy.int64) + start
+    t = at % length
+    sign = 1 - 2 * (at // length % 2)
+    return sign * (4 * t * (length - t) * height // (length * length))
+
+
+def waves(width, dims, side, number):
+    total = numpy.zeros([side] * dims, dtype=numpy.int64)
+    starts = words_of(number, 2 * dims) if number else numpy.zeros(2 * dims, dtype=numpy.uint64)
+    for axis in range(dims):
+        shape = [1] * dims
+        shape[dims - 1 - axis] = side
+        for k, (length, height) in enumerate(((max(side // 3, 4), 1 << 20), (max(side // 17, 4), 1 << 15))):
+            start = int(starts[2 * axis + k]) % (2 * length)
+            total += wave(side, length, height, start).reshape(shape)
+    noise = numpy.arange(total.size, dtype=numpy.uint64) * numpy.uint64(RISE)
+    noise = ((noise ^ (noise >> numpy.uint64(29))) * numpy.uint64(0xBF58476D1CE4E5B9)) >> numpy.uint64(58)
+    noise = noise.astype(numpy.int64).reshape(total.shape)
+    total += noise
+    if width == 64:
+        total = total * (1 << 24) + noise * 12345
+    return total
+
+
+def main():
+    name, width, dims, side, number, path = sys.argv[1:]
+    make = {"waves": waves, "sample": sample}[name]
+    values = make(int(width), int(dims), int(side), int(number))
+    values.astype("<i%d" % (int(width) // 8)).tofile(path)
+
+
+if __name__ == "__main__":
+    main()
