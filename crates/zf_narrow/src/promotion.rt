@@ -56,6 +56,14 @@ impl Promotion {
         }
     }
 
+    /// How many int32 bytes of a value are still to be given: less than a value.
+    pub(crate) fn pending(&self) -> usize
+        ensures count { result + self.now.at ≡ 4 }
+        ensures value { length self.now.value ≡ 4 }
+    {
+        4 - self.at
+    }
+
     /// Reads some of the next int32 bytes into the front of `buf`, and says how many, as a source does.
     pub(crate) fn read<S: Source>(&mut self, src: &mut S, buf: &mut [u8]) -> Result<usize, Failed>
         requires room { 0 < length buf.old }
