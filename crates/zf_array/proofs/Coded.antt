@@ -1,7 +1,7 @@
 -- Arrays with no block in any line, and their codes.
 use Rattle.std.proofs.Common.{◌≡◌, refl, sym, ap, subst, ◌∙◌, ℕ, ◌<◌, ℤ, Bool, true, false, Some, None, List, length}
 use Rattle.std.proofs.lemmas.Bool.{ne_eqb}
-use Rattle.std.specs.Borrow.{GName}
+use Rattle.std.specs.Borrow.{GName, MutBor}
 use Rattle.std.specs.Int.{Width}
 use Rattle.zf_base.specs.Formats.{Format, existing_of, meant, with_at, encoded}
 use Rattle.zf_cached.specs.State.{State, empty_line, none_dirty, is_block}
@@ -10,9 +10,10 @@ use Rattle.zf_header.specs.declared.header.Header.{Header}
 use Rattle.zf_cache.specs.Kept.{Kept, tag_at, block_in, line_of, clean_tag, dirty_tag}
 use Rattle.zf_cache.specs.Standing.{state_of, values_of, line_values, Fits}
 use Rattle.zf_cache.proofs.Tags.{names-clean, names-dirty}
-use Rattle.zf_store.specs.Stored.{Stored, code_at, format_of, frame_of}
+use Rattle.zf_store.specs.Stored as store
+use Rattle.zf_store.specs.Stored.{Stored, code_at, format_of}
 use Rattle.zf_array.specs.Standing.{Held, format, state, array_of}
-use Rattle.zf_array.specs.Coded.{HasEmptyLines, IsCoded, Frame, coded}
+use Rattle.zf_array.specs.Coded.{HasEmptyLines, IsCoded, Frame, frame_of, coded}
 use Rattle.zf_array.specs.Parts.{held_by, IsJoined}
 use Rattle.zf_array.proofs.Standing.{state_now, format_now, header_kept, state_after}
 
@@ -73,7 +74,7 @@ module _ {X : Type 0} (value : X → ℤ) (w : Width) (d : ℕ) (s : Stored) (c 
       ap (λ (g : Format (List Bool)). existing_of g b values) f ∙ e ∙ (λ i. meant (sym f i) b (sym codes_there i b))
 
   -- a load leaves all as it is
-  module _ (t : Stored) (frame : frame_of t ≡ frame_of s) (same : format_of t ≡ format_of s) (codes : code_at t ≡ code_at s) where
+  module _ (t : Stored) (frame : store.frame_of t ≡ store.frame_of s) (same : format_of t ≡ format_of s) (codes : code_at t ≡ code_at s) where
     pub fits_loaded : Fits value c (format_of t) (code_at t)
     fits_loaded = subst (λ k. Fits value c (format_of t) k) (sym codes) (subst (λ f. Fits value c f (code_at s)) (sym same) joined.fits)
 
@@ -87,7 +88,7 @@ module _ {X : Type 0} (value : X → ℤ) (w : Width) (d : ℕ) (s : Stored) (c 
       ∙ (λ i. coded (sym (format_now value w d s c room joined now is) i) (state now) (sym codes_there i))
 
   -- and so it does with other codes
-  module _ (empty : HasEmptyLines now) (t : Stored) (frame : frame_of t ≡ frame_of s) (same : format_of t ≡ format_of s) where
+  module _ (empty : HasEmptyLines now) (t : Stored) (frame : store.frame_of t ≡ store.frame_of s) (same : format_of t ≡ format_of s) where
     pub fits_stored : Fits value c (format_of t) (code_at t)
     fits_stored = none_fits value (format_of t) c (code_at t) (none_held empty)
 
@@ -155,3 +156,12 @@ coded_after a n is header lines counts =
       codes = (state n).codes;
       counts = counts i;
     })
+
+-- the same, as a caller has it whose array was lent to s, and is n when the loan has ended: r is what the calls over the codes have left
+pub lent_codes : (a n : Held) (r s : MutBor Held) → IsCoded r.now → frame_of r ≡ frame_of s → s.now ≡ a → n ≡ r.now → state n ≡ coded (format a) (state a) (state n).codes
+lent_codes a n r s is frame begins ends =
+    let P : Held → Type 0 = λ m. state m ≡ coded (format a) (state a) (state m).codes in
+    subst P (sym ends) (coded_after a r.now is
+    (ap (λ (f : Frame). f.header) frame ∙ ap (λ (m : Held). m.header) begins)
+    (ap (λ (f : Frame). f.lines) frame ∙ ap (λ m. (state m).lines) begins)
+    (ap (λ (f : Frame). f.counts) frame ∙ ap (λ m. (state m).counts) begins))

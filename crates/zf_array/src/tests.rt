@@ -2,6 +2,10 @@
 
 ghost use Rattle.std.specs.Prelude.{◌≡◌, IsTrue, length, map};
 ghost use Rattle.zf_header.specs.HeaderBits.{IsRate};
+ghost use Rattle.zf_cache.specs.Kept.{HasBlocks};
+ghost use Rattle.zf_cache.specs.Standing.{Fits};
+ghost use Rattle.zf_array.specs.Standing.{format, state};
+ghost use Rattle.zf_array.specs.Coded.{HasEmptyLines, coded};
 
 use super::*;
 use std::alloc::Global;
@@ -210,6 +214,18 @@ const CODED: [u8; 32] = [
     0x7a, 0x66, 0x70, 0x05, 0x70, 0, 0, 0, 0, 0, 0xf0, 0x03, 0, 0, 0, 0, 0, 0, 0, 0, 0, 0, 0, 0xa0,
     0xfc, 0x03, 0, 0, 0, 0, 0, 0,
 ];
+
+// What a caller knows of its array when another cache has written its blocks back.
+fn flush_through<T: Lane, const D: usize>(other: &mut Cache<T, D>, a: &mut Array<T, D>)
+    requires empty { HasEmptyLines a.old }
+    requires fits { Fits T.value other.old (format a.old) (state a.old).codes }
+    requires blocks { HasBlocks (format a.old) D }
+    ensures state { state a.new ≡ coded (format a.old) (state a.old) (state a.new).codes }
+    ensures header { a.new.header ≡ a.old.header }
+{
+    let mut codes = Codes::bind(a);
+    other.flush(&mut codes);
+}
 
 // What another cache writes through the codes is the array's, in code and in value; the array counts its own touches alone.
 #[test]
