@@ -387,7 +387,8 @@ fn put_four<P: Plane>(i: usize, digits: u64, planes: &mut [P])
 }
 
 /// Reads the code of the top `prec` planes. All are zero before, and the other planes stay so.
-fn read_top<P: Plane>(
+#[inline(always)]
+fn read_sized<P: Plane>(
     budget: u64,
     prec: u32,
     size: usize,
@@ -427,6 +428,31 @@ fn read_top<P: Plane>(
         i += 1;
     }
     Some(ahead.left)
+}
+
+/// The same, of which planes of four digits have a program of their own.
+fn read_top<P: Plane>(
+    budget: u64,
+    prec: u32,
+    size: usize,
+    reader: &mut BitReader<'_>,
+    planes: &mut [P],
+) -> Option<u64>
+    requires some { 0 < size }
+    requires size { size ≤ 256 }
+    requires words { size ≤ 64 * P.word_count }
+    requires planes { prec ≤ length planes.old }
+    requires blank { map P.words planes.old ≡ replicate (length planes.old) (replicate P.word_count 0) }
+    ensures short { IfNone result (Lacks reader.old reader.new (planes_bits budget prec size 0 (rest reader.old))) }
+    ensures bits { IfSome result (λ after. Takes reader.old reader.new budget after (planes_bits budget prec size 0 (rest reader.old))) }
+    ensures digits { OnSome result (planes_held size (map P.words planes.new)
+        ≡ planes_ahead budget prec size 0 (rest reader.old) ++ replicate (length planes.new - prec) (replicate size false)) }
+    ensures clear { OnSome result (All (IsClearFrom size) (map P.words planes.new)) }
+{
+    match size {
+        4 => read_sized(budget, prec, size, reader, planes),
+        _ => read_sized(budget, prec, size, reader, planes),
+    }
 }
 
 /// Reads the code of the top `prec` planes, of which `budget` bits were written, or all of it where it is shorter. The answer is the number of its bits.

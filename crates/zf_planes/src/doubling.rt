@@ -151,6 +151,7 @@ fn write_part(left: u64, part: Part, out: &mut BitWriter) -> u64
 }
 
 /// Appends bits and then the code of a run of so many digits, as far as `left` bits reach. The answer is the bits that are left.
+#[inline(always)]
 fn write_run(left: u64, front: Part, most: u64, digits: u64, out: &mut BitWriter) -> u64
     requires some { 0 < digits }
     requires in_word { most ≤ 64 }
@@ -180,6 +181,7 @@ fn write_run(left: u64, front: Part, most: u64, digits: u64, out: &mut BitWriter
 
 /// Appends the code of a plane of up to 64 digits in which the ranks below `n` have had a one above, as far as `left` bits reach. The answer is the bits
 /// that are left.
+#[inline(always)]
 pub(crate) fn write_plane_of_word(
     left: u64,
     n: u64,

@@ -86,6 +86,7 @@ fn write_tail<P: Plane>(
 }
 
 /// Appends the code of a plane in which the ranks below `n` have had a one above, and whose own ones end before rank `end`.
+#[inline(always)]
 fn write_plane<P: Plane>(
     left: u64,
     n: usize,
@@ -132,11 +133,9 @@ fn zero_planes<P: Plane>(prec: u32, size: usize, planes: &[P]) -> u32
     most
 }
 
-/// Appends the code of the top `prec` planes, or its first `budget` bits where it is longer. The answer is the number of bits appended.
-///
-/// `planes[k]` holds digit k of each coefficient by rank, and bits from rank `size` on are not looked at.
-/// Embedded coding as in the zfp 1.0 documentation, chapter Algorithm.
-pub fn write_planes<P: Plane>(
+/// Appends the code of the top `prec` planes, or its first `budget` bits where it is longer.
+#[inline(always)]
+fn write_sized<P: Plane>(
     budget: u64,
     prec: u32,
     size: usize,
@@ -167,6 +166,33 @@ pub fn write_planes<P: Plane>(
         i += 1;
     }
     budget - left
+}
+
+/// Appends the code of the top `prec` planes, or its first `budget` bits where it is longer. The answer is the number of bits appended.
+///
+/// `planes[k]` holds digit k of each coefficient by rank, and bits from rank `size` on are not looked at.
+/// Embedded coding as in the zfp 1.0 documentation, chapter Algorithm.
+pub fn write_planes<P: Plane>(
+    budget: u64,
+    prec: u32,
+    size: usize,
+    planes: &[P],
+    out: &mut BitWriter,
+) -> u64
+    requires size { size ≤ 256 }
+    requires words { size ≤ 64 * P.word_count }
+    requires planes { prec ≤ length planes.now }
+    requires fits { min budget (size * prec + size) ≤ out.old.room }
+    ensures bits { Appends out.old out.new (take budget (code (take prec (planes_held size (map P.words planes.now))))) }
+    ensures count { result ≡ min budget (length (code (take prec (planes_held size (map P.words planes.now))))) }
+{
+    // A size that is known makes its own program, without the others' steps.
+    match size {
+        4 => write_sized(budget, prec, size, planes, out),
+        16 => write_sized(budget, prec, size, planes, out),
+        64 => write_sized(budget, prec, size, planes, out),
+        _ => write_sized(budget, prec, size, planes, out),
+    }
 }
 
 /// Appends the code of the top `prec` planes, or its first `budget` bits where it is longer. The answer is the number of bits appended.

@@ -562,6 +562,7 @@ fn next_part<P: Plane>(left: u64, above: usize, i: &mut usize, prec: usize, plan
 
 /// Appends the code of the top `prec` planes of four digits from the one of number `from` on, above which no rank has had a one, as far as `left` bits
 /// reach. The answer is the bits that are left.
+#[inline(always)]
 pub(crate) fn write_planes_of_4<P: Plane>(
     left: u64,
     from: usize,

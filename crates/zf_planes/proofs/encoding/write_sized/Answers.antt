@@ -10,9 +10,9 @@ use Rattle.zf_spec.proofs.Fields.{field-zero}
 use Rattle.zf_bits.proofs.Appending.{Appends-same}
 use Rattle.zf_planes.proofs.Zeros.{take_zeros, zero_code}
 use Rattle.zf_planes.proofs.Unpacking.{length-top_held, code_next, each_long}
-use Rattle.zf_planes.proofs.encoding.write_planes.Given.{Over}
-use Rattle.zf_planes.proofs.encoding.write_planes.Goals as goal
-use Rattle.zf_planes.proofs.encoding.write_planes.Goals.{then-loop-i-test+else-left-gt0, else-loop-i-test}
+use Rattle.zf_planes.proofs.encoding.write_sized.Given.{Over}
+use Rattle.zf_planes.proofs.encoding.write_sized.Goals as goal
+use Rattle.zf_planes.proofs.encoding.write_sized.Goals.{then-loop-i-test+else-left-gt0, else-loop-i-test}
 
 -- what remains begins with the code of the next plane
 next_plane : {A : Type 0} {old now : Writer} {budget left : ℕ} {whole : List Bool} (words : A → List ℕ) (above prec size i : ℕ) (planes : List A) (plane : A)

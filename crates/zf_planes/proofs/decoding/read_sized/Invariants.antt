@@ -5,7 +5,7 @@ use Rattle.zf_spec.specs.HeldPlanes.{planes_held, IsClearFrom}
 use Rattle.zf_bits.specs.Reader.{rest}
 use Rattle.zf_planes.specs.Decoding.{IsWindow, planes_ahead, planes_bits}
 use Rattle.zf_planes.proofs.Passing.{Passes}
-use Rattle.zf_planes.proofs.decoding.read_top.Given as goal
+use Rattle.zf_planes.proofs.decoding.read_sized.Given as goal
 
 abbrev pub invariant-loop-i : goal.invariant-loop-i
 invariant-loop-i g l =

@@ -14,8 +14,8 @@ use Rattle.zf_planes.proofs.Placing.{clear_zeros}
 use Rattle.zf_planes.proofs.FoursAhead.{fours_read, put_in, above_of_fours}
 use Rattle.zf_planes.proofs.PlanesAhead.{next_plane, plane_bits-le, planes_over, zero_planes}
 use Rattle.zf_planes.proofs.Unpacking.{planes_held-zeros, top_more, top_behind, set_words}
-use Rattle.zf_planes.proofs.decoding.read_top.Given.{Over}
-use Rattle.zf_planes.proofs.decoding.read_top.Goals as goal
+use Rattle.zf_planes.proofs.decoding.read_sized.Given.{Over}
+use Rattle.zf_planes.proofs.decoding.read_sized.Goals as goal
 
 -- ---- the planes of zeros at the top
 
