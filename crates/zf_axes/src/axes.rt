@@ -75,7 +75,7 @@ fn passes_any<T: Lane, M: LineMap<T>>(line_map: &M, d: u8, block: &mut [T])
 }
 
 /// A pass along each axis of a block of `d` dimensions, along x last.
-#[inline]
+#[inline(always)]
 pub fn passes_back<T: Lane, M: LineMap<T>>(map_back: &M, d: u8, block: &mut [T])
     requires { length block.old ≡ 4 ^ d }
     ensures { map T.value block.new ≡ along_axes_back (M.line map_back.now) 1 d (map T.value block.old) }

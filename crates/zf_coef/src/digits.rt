@@ -27,6 +27,7 @@ pub fn from_planes(planes: &[[u64; 4]], digits: &mut [u64])
 }
 
 /// The same for planes of any number of words, so that blocks of up to 64 coefficients have one word a plane.
+#[inline(always)]
 pub fn digits_of_planes<P: Plane>(planes: &[P], digits: &mut [u64])
     requires planes { length planes.now ≤ 64 }
     requires digits { length digits.old ≤ 64 * P.word_count }

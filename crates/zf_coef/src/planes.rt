@@ -37,6 +37,7 @@ pub(crate) fn have_four_words(planes: &[[u64; 4]])
 }
 
 /// The same for planes of any number of words, so that blocks of up to 64 coefficients have one word a plane.
+#[inline(always)]
 pub fn planes_of_digits<P: Plane>(digits: &[u64], planes: &mut [P])
     requires digits { length digits.now ≤ 64 * P.word_count }
     requires planes { length planes.old ≤ 64 }

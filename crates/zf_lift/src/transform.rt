@@ -22,6 +22,7 @@ pub fn forward<T: Lane>(d: u8, block: &mut [T])
 }
 
 /// Makes values of the coefficients of a block: the steps of [`forward`] turned round, along the last axis first.
+#[inline(always)]
 pub fn inverse<T: Lane>(d: u8, block: &mut [T])
     requires dimension { IsDimension d }
     requires size { length block.old ≡ 4 ^ d }

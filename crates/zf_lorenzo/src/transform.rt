@@ -24,6 +24,7 @@ pub fn forward<T: Lane>(d: u8, block: &mut [T])
 }
 
 /// Undoes [`forward`]: the coefficients become the block again.
+#[inline(always)]
 pub fn inverse<T: Lane>(d: u8, block: &mut [T])
     requires dimension { IsDimension d }
     requires size { length block.old ≡ 4 ^ d }
