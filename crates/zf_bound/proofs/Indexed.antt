@@ -26,7 +26,6 @@ use Rattle.zf_bound.proofs.Streams.{blocks_read, stream_close}
 
 -- ---- a fixed rate
 
-
 some_same : (a b : ℕ) → Some a ≡ Some b → a ≡ b
 some_same a b e = cc
 
