@@ -23,3 +23,5 @@ pub use restoring::restore_narrow;
 
 #[cfg(test)]
 mod tests;
+#[cfg(test)]
+mod tests_of_streams;
