@@ -239,6 +239,70 @@ fn one_word_a_plane_does_the_same(rt: HostRuntime) -> Result<(), Fail> {
     Ok(())
 }
 
+// Eight planes of a size, the lowest first, their code as a number, and what budgets keep of them.
+#[derive(Clone, Copy)]
+struct Several {
+    size: usize,
+    planes: [u64; 8],
+    len: u64,
+    code: u64,
+    kept: [(u64, [u64; 8]); 5],
+}
+
+const SEVERAL: [Several; 2] = [
+    Several {
+        size: 4,
+        planes: [13, 6, 11, 3, 1, 0, 2, 1],
+        len: 28,
+        code: 0x0d67_6433,
+        kept: [
+            (10, [0, 0, 0, 0, 0, 0, 2, 1]),
+            (17, [0, 0, 1, 3, 1, 0, 2, 1]),
+            (23, [0, 6, 11, 3, 1, 0, 2, 1]),
+            (28, [13, 6, 11, 3, 1, 0, 2, 1]),
+            (40, [13, 6, 11, 3, 1, 0, 2, 1]),
+        ],
+    },
+    Several {
+        size: 16,
+        planes: [0x8a41, 0x1303, 0x0207, 0x0105, 3, 0, 0, 0],
+        len: 63,
+        code: 0x1520_a703_6074_1d78,
+        kept: [
+            (20, [0, 0, 0, 0x0105, 3, 0, 0, 0]),
+            (37, [0, 3, 0x0207, 0x0105, 3, 0, 0, 0]),
+            (52, [1, 0x1303, 0x0207, 0x0105, 3, 0, 0, 0]),
+            (63, [0x8a41, 0x1303, 0x0207, 0x0105, 3, 0, 0, 0]),
+            (200, [0x8a41, 0x1303, 0x0207, 0x0105, 3, 0, 0, 0]),
+        ],
+    },
+];
+
+#[test]
+fn several_planes_have_one_code(rt: HostRuntime) -> Result<(), Fail> {
+    for case in SEVERAL {
+        assert!(rt; 0 < case.size && case.size <= 16 && case.len <= 64);
+        for (budget, kept) in case.kept {
+            let mut writer = BitWriter::new(rt.alloc());
+            writer.reserve(256)?;
+            let count = write_planes(budget, 8, case.size, &case.planes, &mut writer);
+            assert_eq!(rt; count, case.len.min(budget), "{budget} bits");
+            assert!(rt; 0 < count && count <= 64);
+            let code = case.code & u64::MAX >> (64 - count);
+            assert_eq!(rt; writer.words(), [code].as_slice(), "{budget} bits");
+            let mut reader = BitReader::new(writer.words(), writer.len());
+            let mut again = [0; 8];
+            assert_eq!(rt;
+                read_planes(budget, 8, case.size, &mut reader, &mut again),
+                Some(count),
+                "{budget} bits"
+            );
+            assert_eq!(rt; again, kept, "{budget} bits");
+        }
+    }
+    Ok(())
+}
+
 #[test]
 fn planes_that_fit_whole(rt: HostRuntime) -> Result<(), Fail> {
     // the codes of the planes have 5, 4 and 4 bits
