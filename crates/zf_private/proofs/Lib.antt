@@ -4,3 +4,4 @@ pub mod Calls
 pub mod Others
 pub mod Several
 pub mod Ready
+pub mod Parts

@@ -19,10 +19,10 @@ module _ {Code : Type 0} (owned : ℕ → Type 0) where
   alike-of : (own : ℕ → Type 0) (s t : State Code) → ((b : ℕ) → own b → owned b) → AreAlike owned s t → AreAlike own s t
   alike-of own s t less h = record { lines = h.lines; held = h.held; dirty = h.dirty; counts = h.counts; values = λ b o. h.values b (less b o); codes = λ b o. h.codes b (less b o) }
 
-  alike-sym : (s t : State Code) → AreAlike owned s t → AreAlike owned t s
+  pub alike-sym : (s t : State Code) → AreAlike owned s t → AreAlike owned t s
   alike-sym s t h = record { lines = sym h.lines; held = sym h.held; dirty = sym h.dirty; counts = sym h.counts; values = λ b o. sym (h.values b o); codes = λ b o. sym (h.codes b o) }
 
-  alike-trans : (s t u : State Code) → AreAlike owned s t → AreAlike owned t u → AreAlike owned s u
+  pub alike-trans : (s t u : State Code) → AreAlike owned s t → AreAlike owned t u → AreAlike owned s u
   alike-trans s t u h k = record {
     lines = h.lines ∙ k.lines;
     held = h.held ∙ k.held;
