@@ -14,7 +14,8 @@ use Rattle.zf_spec.specs.Grid.{upto, blocks}
 use Rattle.zf_base.specs.Formats.{Format}
 use Rattle.zf_cached.specs.Changes.{flush, discard}
 use Rattle.zf_cached.specs.Arrays.{array_format}
-use Rattle.zf_cached.specs.Runs.{array_setting, read_step}
+use Rattle.zf_cached.specs.Runs.{read_step}
+use Rattle.zf_run.specs.Allowed.{whole_setting}
 use Rattle.zf_cached.specs.State.{Counts}
 use Rattle.zf_cached.specs.Touch.{touch_for_writing, with_values}
 use Rattle.zf_cached.specs.Windows.{Window, LiesIn, mapped, sliced, has_place, positions, is_window, none_zero, lies_in}
@@ -26,7 +27,7 @@ use Rattle.zf_view.specs.WindowFields.{view_fault}
 use Rattle.zf_run.specs.Sessions.{setting_of, session_of, IsArray}
 use Rattle.zf_run.specs.Steps.{Does, HasWindow, Takes, wanted}
 use Rattle.zf_run.proofs.Sessions.{format_is, session_is, changed_is}
-use Rattle.zf_run.proofs.Stepping.{accepted}
+use Rattle.zf_run.proofs.Stepping.{no_split, accepted}
 
 -- ---- tests
 
@@ -93,24 +94,24 @@ not_taken setting c s refused = ap (λ x. elim x [ true ↦ step setting s c fal
 
 -- ---- commands that only read, in any setting
 
-module _ {Code : Type 0} (setting : Setting Code) (s : Session Code) (lies : HasWindow s) where
+module _ {Code : Type 0} (setting : Setting Code) (s : Session Code) (lies : HasWindow s) (whole : s.split ≡ None) where
   pub counted : (h m n : ℕ) → record { hits = h; misses = m; writes = n } ≡ s.state.counts → Does setting Command.stats s s (Some (Reply.counts h m n))
   unfolding done
   counted h m n is =
-      accepted setting Command.stats s lies refl refl refl s (Some (Reply.counts h m n)) refl
+      accepted setting Command.stats s lies (no_split s Command.stats whole refl) refl refl refl s (Some (Reply.counts h m n)) refl
       (ap (λ (k : Counts). (s, Some (Reply.counts k.hits k.misses k.writes))) (sym is)) lies
 
   pub viewed : (origin size step : List ℕ) (u : Window) → u ≡ record { origin = origin; size = size; step = step } → LiesIn s.shape u
       → Does setting (Command.view origin size step) s (record s { window = u }) None
   unfolding done
   viewed origin size step u is inside =
-      accepted setting (Command.view origin size step) s lies (ap not (subst (λ x. is_window s.shape x ≡ true) is inside.inside)) refl refl (record s { window = u }) None refl
+      accepted setting (Command.view origin size step) s lies (no_split s (Command.view origin size step) whole refl) (ap not (subst (λ x. is_window s.shape x ≡ true) is inside.inside)) refl refl (record s { window = u }) None refl
       (ap (λ x. (record s { window = x }, None)) (sym is)) inside
 
   pub cut : (axis at : ℕ) (u : Window) → has_place s.window axis at ≡ true → u ≡ sliced s.window axis at → Does setting (Command.slice axis at) s (record s { window = u }) None
   unfolding done
   cut axis at u there is =
-      accepted setting (Command.slice axis at) s lies refl (ap not there) refl (record s { window = u }) None refl
+      accepted setting (Command.slice axis at) s lies (no_split s (Command.slice axis at) whole refl) refl (ap not there) refl (record s { window = u }) None refl
       (ap (λ x. (record s { window = x }, None)) (sym is)) (subst (LiesIn s.shape) (sym is) (LiesIn-sliced s.shape s.window axis at lies there))
 
   -- a touch keeps the window in the array
@@ -126,7 +127,7 @@ module _ {Code : Type 0} (setting : Setting Code) (s : Session Code) (lies : Has
     got p at n touches value =
         let ps = used_axes (length s.shape) p in
         let k = block_number s.shape ps in
-        accepted setting (Command.get ps) s lies refl (ap not at.inside) refl t (Some (Reply.number n)) refl
+        accepted setting (Command.get ps) s lies (no_split s (Command.get ps) whole refl) refl (ap not at.inside) refl t (Some (Reply.number n)) refl
         (ap (λ (x : Session Code). (x, Some (Reply.number (value_there ps (x.state.values k))))) touches ∙ ap (λ m. (t, Some (Reply.number m))) (sym value))
         (stays k t touches)
 
@@ -142,7 +143,7 @@ module _ {Code : Type 0} (setting : Setting Code) (s : Session Code) (lies : Has
         let rs = used_axes (length s.shape) r in
         let k = block_number s.shape rs in
         let is_r : rs ≡ mapped s.window ps = ap (used_axes (length s.shape)) same ∙ numbers_there s.shape s.window sizes lies p in
-        accepted setting (Command.vget ps) s lies refl (ap not (within s.shape s.window lies p at)) refl t (Some (Reply.number n)) refl
+        accepted setting (Command.vget ps) s lies (no_split s (Command.vget ps) whole refl) refl (ap not (within s.shape s.window lies p at)) refl t (Some (Reply.number n)) refl
         (ap Get (sym is_r) ∙ ap (λ (x : Session Code). (x, Some (Reply.number (value_there rs (x.state.values k))))) touches ∙ ap (λ m. (t, Some (Reply.number m))) (sym value))
         (stays k t touches)
 
@@ -150,19 +151,19 @@ module _ {Code : Type 0} (setting : Setting Code) (s : Session Code) (lies : Has
       pub sum_is : summed setting (λ b. b) (λ b values. total values) (upto (blocks s.shape)) s ≡ (t, m) → Does setting Command.sum s t (Some (Reply.number n))
       unfolding done array_format
       sum_is sums =
-          accepted setting Command.sum s lies refl refl refl t (Some (Reply.number n)) refl
+          accepted setting Command.sum s lies (no_split s Command.sum whole refl) refl refl refl t (Some (Reply.number n)) refl
           (ap (λ (r : Session Code × ℤ). (r.0, Some (Reply.number r.1))) sums ∙ ap (λ x. (t, Some (Reply.number x))) (sym same)) inside
 
       pub vsum_is : summed setting (block_number s.shape) value_there (positions s.window) s ≡ (t, m) → Does setting Command.vsum s t (Some (Reply.number n))
       unfolding done
       vsum_is sums =
-          accepted setting Command.vsum s lies refl refl refl t (Some (Reply.number n)) refl
+          accepted setting Command.vsum s lies (no_split s Command.vsum whole refl) refl refl refl t (Some (Reply.number n)) refl
           (ap (λ (r : Session Code × ℤ). (r.0, Some (Reply.number r.1))) sums ∙ ap (λ x. (t, Some (Reply.number x))) (sym same)) inside
 
     pub lined : (n : ℕ) → is_line_count n ≡ true → done setting s (Command.lines n) ≡ (t, None) → Does setting (Command.lines n) s t None
     unfolding done
     lined n counts is =
-        accepted setting (Command.lines n) s lies (ap not counts) refl refl t None refl is (subst HasWindow (ap (λ (r : Session Code × Option Reply). r.0) is) lies)
+        accepted setting (Command.lines n) s lies (no_split s (Command.lines n) whole refl) (ap not counts) refl refl t None refl is (subst HasWindow (ap (λ (r : Session Code × Option Reply). r.0) is) lies)
 
     -- ---- commands that change it
 
@@ -178,28 +179,28 @@ module _ {Code : Type 0} (setting : Setting Code) (s : Session Code) (lies : Has
       pub put : changed_at setting s ps (λ old. m) ≡ t → Does setting (Command.set ps n) s t None
       unfolding done
       put changes =
-          accepted setting (Command.set ps n) s lies refl (ap not at.inside) (ap not of_type) t None refl
+          accepted setting (Command.set ps n) s lies (no_split s (Command.set ps n) whole refl) refl (ap not at.inside) (ap not of_type) t None refl
           (ap (λ (x : Session Code). (x, None)) (ap (λ x. changed_at setting s ps (λ old. x)) (sym same) ∙ changes)) (changed_stays ps (λ old. m) changes)
 
       pub added : (w : Width) → setting.width ≡ w → changed_at setting s ps (λ old. wrap w (old +ℤ m)) ≡ t → Does setting (Command.add ps n) s t None
       unfolding done
       added w width changes =
-          accepted setting (Command.add ps n) s lies refl (ap not at.inside) (ap not of_type) t None refl
+          accepted setting (Command.add ps n) s lies (no_split s (Command.add ps n) whole refl) refl (ap not at.inside) (ap not of_type) t None refl
           (ap (λ (x : Session Code). (x, None)) ((λ i. changed_at setting s ps (λ old. wrap (width i) (old +ℤ sym same i))) ∙ changes)) (changed_stays ps (λ old. wrap w (old +ℤ m)) changes)
 
     pub filled : HasWindow t → (n m : ℤ) → m ≡ n → is_of_type setting.width n ≡ true → filled_below setting s m (upto (blocks s.shape)) ≡ t → Does setting (Command.fill n) s t None
     unfolding done array_format
     filled inside n m same of_type fills =
-        accepted setting (Command.fill n) s lies refl refl (ap not of_type) t None refl
+        accepted setting (Command.fill n) s lies (no_split s (Command.fill n) whole refl) refl refl (ap not of_type) t None refl
         (ap (λ (x : Session Code). (x, None)) (ap (λ x. filled_below setting s x (upto (blocks s.shape))) (sym same) ∙ fills)) inside
 
     pub flushed : done setting s Command.flush ≡ (t, None) → Does setting Command.flush s t None
     unfolding done
-    flushed is = accepted setting Command.flush s lies refl refl refl t None refl is (subst HasWindow (ap (λ (r : Session Code × Option Reply). r.0) is) lies)
+    flushed is = accepted setting Command.flush s lies (no_split s Command.flush whole refl) refl refl refl t None refl is (subst HasWindow (ap (λ (r : Session Code × Option Reply). r.0) is) lies)
 
     pub discarded : done setting s Command.discard ≡ (t, None) → Does setting Command.discard s t None
     unfolding done
-    discarded is = accepted setting Command.discard s lies refl refl refl t None refl is (subst HasWindow (ap (λ (r : Session Code × Option Reply). r.0) is) lies)
+    discarded is = accepted setting Command.discard s lies (no_split s Command.discard whole refl) refl refl refl t None refl is (subst HasWindow (ap (λ (r : Session Code × Option Reply). r.0) is) lies)
 
 -- ---- commands that change an array
 
@@ -219,11 +220,11 @@ module _ (w : Width) (a : Held) (dim : ℕ) (is : IsArray w dim a) where
       pub put_there : (r : Pos) (n m : ℤ) → r ≡ with_unused 0 (mapped v (used_axes (length v.size) p)) → m ≡ n → is_of_type w n ≡ true
           → state b ≡ (let t = touch_for_writing (format a) (state a) (block_at a r) in with_values t (block_at a r) (set (t.values (block_at a r)) (place_at a r) m))
           → Does (setting_of w a) (Command.vset (used_axes (length (shape a)) p) n) (session_of a v) (session_of b v) None
-      unfolding done changed_at array_setting
+      unfolding done changed_at whole_setting
       put_there r n m same value of_type changes =
           let ps = used_axes (length (shape a)) p in
           let is_r : used_axes (length (shape a)) r ≡ mapped v ps = ap (used_axes (length (shape a))) same ∙ numbers_there (shape a) v is.sizes lies p in
-          accepted (setting_of w a) (Command.vset ps n) (session_of a v) lies refl (ap not (within (shape a) v lies p at)) (ap not of_type) (session_of b v) None refl
+          accepted (setting_of w a) (Command.vset ps n) (session_of a v) lies refl refl (ap not (within (shape a) v lies p at)) (ap not of_type) (session_of b v) None refl
           (ap (λ (t : Session (List Bool)). (t, None))
           ((λ i. changed_at (setting_of w a) (session_of a v) (sym is_r i) (λ old. sym value i))
           ∙ changed_is w a is.same_type v b (block_at a r) (λ values. set values (place_at a r) m) changes head))

@@ -11,8 +11,9 @@ use Rattle.zf_cached.specs.Changes.{flush}
 use Rattle.zf_cached.specs.Windows.{Window, whole}
 use Rattle.zf_cached.specs.Commands.{Command}
 use Rattle.zf_cached.specs.Replies.{Reply}
-use Rattle.zf_cached.specs.Steps.{Setting, Session, format_of, done}
-use Rattle.zf_cached.specs.Runs.{array_setting, run_lines, lines_of, replies_text, run_script, run, look}
+use Rattle.zf_cached.specs.Steps.{Setting, Session, flushed_views, joined, format_of, done}
+use Rattle.zf_cached.specs.Runs.{run_lines, lines_of, replies_text, run_script, ended, run, look}
+use Rattle.zf_run.specs.Allowed.{whole_setting}
 use Rattle.zf_array.specs.Standing.{Held, shape, state, format}
 use Rattle.zf_run.specs.declared.end.RunEnd.{RunEnd}
 use Rattle.zf_run.specs.declared.end.RunEnd.TheVariants.{Write}
@@ -23,9 +24,9 @@ use Rattle.zf_cache.specs.Kept.{Kept}
 use Rattle.zf_store.specs.Stored.{Stored}
 use Rattle.zf_run.specs.Steps.{is_refusal}
 use Rattle.zf_run.specs.Pairs.{pair_state, PairFits, two_setting_of}
-use Rattle.zf_run.specs.Sessions.{session, setting_of, session_of, kind, look_setting_of, look_start_of, stream_of}
+use Rattle.zf_run.specs.Sessions.{session, setting_of, session_of, run_of, kind, look_setting_of, look_start_of, stream_of}
 use Rattle.zf_run.specs.Ends.{AreWants, RunsTwo, FinishesTwo, StopsTwo, two_start_of, RunsAll, StopsAt, AllRun, HasStopped, Finishes, Stops, IsEnd, end_of, Runs, FinishesLook, StopsLook, Looks}
-use Rattle.zf_run.proofs.Sessions.{format_is}
+use Rattle.zf_run.proofs.Sessions.{format_is, session_is}
 
 -- an end says that all lines were run
 pub ends_all : (all : ℕ → Type 0) (stopped : Type 0) (n : ℕ) (end : RunEnd) → end ≡ end_of n → all n → IsEnd all stopped end
@@ -35,8 +36,10 @@ ends_all all stopped n end is h = subst (IsEnd all stopped) (sym is) (by n h)
     by zero h = h
     by (suc n) h = (omega arith, h)
 
+-- ---- a run over an array
+
 module _ (w : Width) (a mid b : Held) (v u : Window) (script : List ℕ) (old new : Option (List ℕ)) (n : ℕ) (same : w ≡ width_of a.header.ty) (from : v ≡ whole (shape a))
-    (all : AllRun (array_setting w (block_bits a.header.mode)) script (session_of a v) (session_of mid u) old new n) (kept : kind mid ≡ kind a)
+    (all : AllRun (setting_of w a) script (session_of a v) (session_of mid u) old new n) (kept : kind mid ≡ kind a)
     (flushes : state b ≡ flush (format mid) (state mid)) (head : b.header ≡ mid.header) where
   ran : RunsAll (setting_of w a) all.0 script (session_of a (whole (shape a))) (session_of mid u) old new n
   ran = subst (λ x. RunsAll (setting_of w a) all.0 script (session_of a x) (session_of mid u) old new n) from all.1
@@ -47,14 +50,24 @@ module _ (w : Width) (a mid b : Held) (v u : Window) (script : List ℕ) (old ne
   mode : mid.header.mode ≡ a.header.mode
   mode = ap (λ (k : Ty × Mode). k.1) kept
 
-  coded : format mid ≡ format_of (setting_of w a) (session_of mid u)
-  coded = sym (format_is w mid (same ∙ ap width_of (sym ty)) u) ∙ ap (λ m. format_of (array_setting w (block_bits m)) (session_of mid u)) mode
+  same_mid : w ≡ width_of mid.header.ty
+  same_mid = same ∙ ap width_of (sym ty)
+
+  coded : format_of (setting_of w a) (session_of mid u) ≡ format mid
+  coded = ap (λ m. format_of (whole_setting w (block_bits m)) (session_of mid u)) (sym mode) ∙ format_is w mid same_mid u
+
+  at_end : (run_of w a all.0 script).0 ≡ session_of b u
+  unfolding run run_script ended joined flushed_views
+  at_end =
+      ap (ended (setting_of w a)) (sym ran.session)
+      ∙ ap (λ (f : Format (List Bool)). record (session_of mid u) { state = flush f (state mid) }) coded
+      ∙ session_is w mid same_mid u b (flush (format mid) (state mid)) (sym flushes) head
 
   finished : Finishes w a b script all.0 old new n
   unfolding run run_script
   finished = record {
-    shape_is = ap (λ (h : Header). h.shape) head ∙ ap (λ (s : Session (List Bool)). s.shape) ran.session;
-    state_is = flushes ∙ ap (λ (f : Format (List Bool)). flush f (state mid)) coded ∙ ap (λ (s : Session (List Bool)). flush (format_of (setting_of w a) s) s.state) ran.session;
+    shape_is = ap (λ (s : Session (List Bool)). s.shape) (sym at_end);
+    state_is = ap (λ (s : Session (List Bool)). s.state) (sym at_end);
     wanted = ran.wanted;
     refused_is = ran.refused_is;
     written = ran.written;
@@ -112,19 +125,19 @@ module _ {X : Type 0} (value : X → ℤ) (w : Width) (s mid t : Stored) (c e d 
   abbrev S : Setting (List Bool)
   S = two_setting_of w s.header
 
-  abbrev ended : Session (List Bool)
-  ended = session mid.header.shape (pair_state value mid e) u
+  abbrev final : Session (List Bool)
+  final = session mid.header.shape (pair_state value mid e) u
 
-  module _ (n : ℕ) (all : AllRun S script (session s.header.shape (pair_state value s c) v) ended old new n)
-      (flushes : done (two_setting_of w mid.header) ended Command.flush ≡ (session t.header.shape (pair_state value t d) u, None)) (head : t.header ≡ mid.header) (fits : PairFits value t d) where
-    ran_two : RunsAll S all.0 script (two_start_of value w s t c d script all.0 old new) ended old new n
-    ran_two = subst (λ x. RunsAll S all.0 script (session s.header.shape (pair_state value s c) x) ended old new n) from all.1
+  module _ (n : ℕ) (all : AllRun S script (session s.header.shape (pair_state value s c) v) final old new n)
+      (flushes : done (two_setting_of w mid.header) final Command.flush ≡ (session t.header.shape (pair_state value t d) u, None)) (head : t.header ≡ mid.header) (fits : PairFits value t d) where
+    ran_two : RunsAll S all.0 script (two_start_of value w s t c d script all.0 old new) final old new n
+    ran_two = subst (λ x. RunsAll S all.0 script (session s.header.shape (pair_state value s c) x) final old new n) from all.1
 
-    at_end : (run S all.0 s.header.shape (pair_state value s c) script).0 ≡ session t.header.shape (pair_state value t d) u
-    unfolding run run_script done
-    at_end =
-        ap (λ (x : Session (List Bool)). record x { state = flush (format_of S x) x.state }) (sym ran_two.session)
-        ∙ ap (λ (h : Header). record ended { state = flush (format_of (two_setting_of w h) ended) ended.state }) (sym kept) ∙ ap (λ (r : Session (List Bool) × Option Reply). r.0) flushes
+    at_two_end : (run S all.0 s.header.shape (pair_state value s c) script).0 ≡ session t.header.shape (pair_state value t d) u
+    unfolding run run_script ended joined flushed_views done
+    at_two_end =
+        ap (ended S) (sym ran_two.session)
+        ∙ ap (λ (h : Header). record final { state = flush (format_of (two_setting_of w h) final) final.state }) (sym kept) ∙ ap (λ (r : Session (List Bool) × Option Reply). r.0) flushes
 
     same_replies : (run S all.0 s.header.shape (pair_state value s c) script).1 ≡ (run_lines S all.0 0 (lines_of script) (two_start_of value w s t c d script all.0 old new)).1
     unfolding run run_script
@@ -132,8 +145,8 @@ module _ {X : Type 0} (value : X → ℤ) (w : Width) (s mid t : Stored) (c e d 
 
     finished_two : FinishesTwo value w s t c d script all.0 old new n
     finished_two = record {
-      shape_is = ap (λ (x : Session (List Bool)). x.shape) (sym at_end);
-      state_is = ap (λ (x : Session (List Bool)). x.state) (sym at_end);
+      shape_is = ap (λ (x : Session (List Bool)). x.shape) (sym at_two_end);
+      state_is = ap (λ (x : Session (List Bool)). x.state) (sym at_two_end);
       wanted = subst (AreWants all.0) (sym same_replies) ran_two.wanted;
       refused_is = ran_two.refused_is ∙ ap (count_by is_refusal) (sym same_replies);
       written = subst (λ r. Appends old new (replies_text r)) (sym same_replies) ran_two.written;
@@ -147,12 +160,12 @@ module _ {X : Type 0} (value : X → ℤ) (w : Width) (s mid t : Stored) (c e d 
       fits = fits;
     }
 
-  pub two_stopped : HasStopped S script (session s.header.shape (pair_state value s c) v) ended old new → PairFits value mid e → RunsTwo value w s mid c e script old new Write
+  pub two_stopped : HasStopped S script (session s.header.shape (pair_state value s c) v) final old new → PairFits value mid e → RunsTwo value w s mid c e script old new Write
   two_stopped stopped fits = record {
     wants = stopped.0;
     ended = record {
-      session = ended;
-      at_line = subst (λ x. StopsAt S stopped.0 script (session s.header.shape (pair_state value s c) x) ended old new) from stopped.1;
+      session = final;
+      at_line = subst (λ x. StopsAt S stopped.0 script (session s.header.shape (pair_state value s c) x) final old new) from stopped.1;
       shape_is = refl;
       state_is = refl;
     };

@@ -21,13 +21,13 @@ module _ (w : Width) (a : Held) (v : Window) where
   -- a touch of block k
   pub look_touched_is : (b : Held) (k : ℕ) → state b ≡ touch (format a) (state a) k → b.header ≡ a.header → touched (look_setting_of w a.header) (session (shape a) (state a) v) k ≡ session (shape b) (state b) v
   unfolding touched look_setting
-  look_touched_is b k is head = λ i. record { shape = (sym head i).shape; state = sym is i; window = v }
+  look_touched_is b k is head = λ i. record { shape = (sym head i).shape; state = sym is i; window = v; split = None }
 
   -- another number of lines
   pub look_lined_is : (b : Held) (n : ℕ) → state b ≡ relined (format a) (state a) (raised n) → b.header ≡ a.header
       → done (look_setting_of w a.header) (session (shape a) (state a) v) (Command.lines n) ≡ (session (shape b) (state b) v, None)
   unfolding done look_setting
-  look_lined_is b n is head = λ i. (record { shape = (sym head i).shape; state = sym is i; window = v }, None)
+  look_lined_is b n is head = λ i. (record { shape = (sym head i).shape; state = sym is i; window = v; split = None }, None)
 
 -- a command that does not only read is not allowed
 pub look_reads : (w : Width) (a : Held) (c : Command) → only_reads c ≡ false → (look_setting_of w a.header).allows c ≡ true → ⊥

@@ -87,7 +87,7 @@ module _ (w : Width) (s : Stored) (same : w ≡ width_of s.header.ty) {X : Type 
     next = session t.header.shape (pair_state value t e) v
 
     next_is : (u : State (List Bool)) → pair_state value t e ≡ u → record now { state = u } ≡ next
-    next_is u is = λ i. record { shape = (sym head i).shape; state = sym is i; window = v }
+    next_is u is = λ i. record { shape = (sym head i).shape; state = sym is i; window = v; split = None }
 
     pub touched_two : (k : ℕ) → pair_state value t e ≡ touch (format_of s) (pair_state value s c) k → touched S now k ≡ next
     unfolding touched twoway_setting

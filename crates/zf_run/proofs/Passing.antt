@@ -7,7 +7,7 @@ use Rattle.std.proofs.lemmas.List.{map-append}
 use Rattle.std.proofs.Math.Seq.{take-append_seam}
 use Rattle.zf_spec.specs.Grid.{IsShape, upto, count_from, is_inside, indices, extent_of}
 use Rattle.zf_header.specs.HeaderBits.{block_bits}
-use Rattle.zf_cached.specs.Runs.{array_setting}
+use Rattle.zf_run.specs.Allowed.{whole_setting}
 use Rattle.zf_spec.proofs.Counting.{count_from-add, map-upto_same}
 use Rattle.zf_view.proofs.BlockItems.{count_from-below}
 use Rattle.zf_base.specs.Widths.{width_of}

@@ -2,15 +2,16 @@
 
 ghost use Rattle.std.specs.Prelude.{◌≡◌, ℕ, true, false, length, IfSome, OnSome, IfNone};
 ghost use Rattle.zf_spec.specs.Grid.{IsShape};
-ghost use Rattle.zf_cached.specs.Runs.{only_reads, read_step};
+ghost use Rattle.zf_cached.specs.Runs.{only_reads};
 ghost use Rattle.zf_twoway.specs.Runs.{needs_no_window};
 ghost use Rattle.zf_script.specs.Seen.{command_of, cmd_of};
+ghost use Rattle.zf_run.specs.Allowed.{is_on_whole};
 ghost use Rattle.zf_run.specs.Sessions.{session};
-ghost use Rattle.zf_run.specs.Steps.{HasWindow, Takes, Does, DoesAlone, said, answer};
+ghost use Rattle.zf_run.specs.Steps.{HasWindow, Does, DoesAlone, said, answer};
 
 use crate::blocks::{fill, sum};
 use crate::changes::{discard, flush, lines, stats};
-use crate::target::{Changing, Scripted, Target};
+use crate::target::{Changing, Target};
 use crate::values::{add, get, set, vget};
 use crate::windows::{slice, view, vsum};
 use zf_base::Lane;
@@ -19,28 +20,6 @@ use zf_view::Window;
 
 /// The reply of a command, if any, or why it is refused.
 pub(crate) type Answer = Result<Option<Reply>, Refusal>;
-
-/// Does what a command asks for; its reply, if any. A command that is refused changes nothing.
-pub(crate) fn command<A: Scripted>(a: &mut A, window: &mut Window, cmd: Cmd) -> Option<Reply>
-    requires sound { A.sound a.old }
-    requires window { HasWindow (session (A.shape a.old) (A.state a.old) window.old) }
-    requires numbers { cmd ≡ cmd_of (command_of (length (A.shape a.old)) cmd) }
-    ensures step { Takes (A.setting (A.kept a.old)) (session (A.shape a.old) (A.state a.old) window.old)
-        (command_of (length (A.shape a.old)) cmd) (session (A.shape a.new) (A.state a.new) window.new) (said result) }
-    ensures window { HasWindow (session (A.shape a.new) (A.state a.new) window.new) }
-    ensures sound { A.sound a.new }
-    ensures kept { A.kept a.new ≡ A.kept a.old }
-{
-    // Known by this call: the sizes are those of a shape.
-    let _dims = a.sizes().dims();
-    if !a.allows(cmd) {
-        return Some(Reply::Refused(Refusal::Word));
-    }
-    match read(a, window, cmd) {
-        Some(done) => spoken(done),
-        None => a.change(window, cmd),
-    }
-}
 
 /// Whether a command only reads.
 pub(crate) fn is_reading(cmd: Cmd) -> bool
@@ -77,6 +56,23 @@ pub(crate) fn needs_no_window(cmd: Cmd) -> bool
     }
 }
 
+/// Whether a command is on the whole array: all but those of private views, which no run has yet.
+pub(crate) fn is_on_whole(cmd: Cmd) -> bool
+    ensures { (d : ℕ) → result ≡ is_on_whole (command_of d cmd) }
+{
+    match cmd {
+        Cmd::Split(_, _) => false,
+        Cmd::Join => false,
+        Cmd::PGet(_, _) => false,
+        Cmd::PSet(_, _, _) => false,
+        Cmd::PAdd(_, _, _) => false,
+        Cmd::PFlush(_) => false,
+        Cmd::PDiscard(_) => false,
+        Cmd::PStats(_) => false,
+        _ => true,
+    }
+}
+
 /// What a command does that does not only read, and needs no window.
 pub(crate) fn plain<T: Lane, A: Changing<T>>(a: &mut A, cmd: Cmd) -> Answer
     requires sound { A.sound a.old }
@@ -108,8 +104,8 @@ pub(crate) fn spoken(done: Answer) -> Option<Reply>
     }
 }
 
-// What a command that only reads does; nothing where the command is another. Each tests what it is refused for in the order of size, range, value and memory.
-fn read<A: Target>(a: &mut A, window: &mut Window, cmd: Cmd) -> Option<Answer>
+/// What a command that only reads does; nothing where the command is another. Each tests what it is refused for in the order of size, range, value and memory.
+pub(crate) fn read<A: Target>(a: &mut A, window: &mut Window, cmd: Cmd) -> Option<Answer>
     requires sound { A.sound a.old }
     requires sizes { IsShape (A.shape a.old) }
     requires window { HasWindow (session (A.shape a.old) (A.state a.old) window.old) }

@@ -1,6 +1,6 @@
 //! Commands on an array that is only read.
 
-ghost use Rattle.std.specs.Prelude.{◌≡◌, ◌<◌, ◌^◌, Bool, List};
+ghost use Rattle.std.specs.Prelude.{◌≡◌, ◌<◌, ◌^◌, Bool, List, None};
 ghost use Rattle.zf_spec.specs.Grid.{IsShape, blocks};
 ghost use Rattle.zf_header.specs.declared.header.Header.{Header};
 ghost use Rattle.zf_cached.specs.Windows.{Window as Part};
@@ -11,15 +11,15 @@ ghost use Rattle.zf_run.specs.Sums.{IsUpTo};
 ghost use Rattle.zf_run.specs.Steps.{Touches};
 
 use crate::blocks::sum_within;
-use crate::commands::is_reading;
-use crate::target::{Scripted, Target};
+use crate::commands::{is_reading, read, spoken};
+use crate::target::{Scripted, Subject, Target};
 use std::alloc::AllocError;
 use zf_base::{Lane, Pos, Shape};
 use zf_const::ConstArray;
-use zf_script::{Cmd, Reply, Stats};
+use zf_script::{Cmd, Refusal, Reply, Stats};
 use zf_view::Window;
 
-impl<T: Lane, const D: usize> Target for ConstArray<T, D> {
+impl<T: Lane, const D: usize> Subject for ConstArray<T, D> {
     ghost Code = { List Bool };
 
     ghost Kept = { Header × List (List Bool) };
@@ -37,11 +37,9 @@ impl<T: Lane, const D: usize> Target for ConstArray<T, D> {
     fn sizes(&self) -> Shape {
         self.shape()
     }
+}
 
-    fn allows(&self, cmd: Cmd) -> bool {
-        is_reading(cmd)
-    }
-
+impl<T: Lane, const D: usize> Target for ConstArray<T, D> {
     fn number(&mut self, p: Pos) -> i128 {
         self.get(p).to_wide()
     }
@@ -65,7 +63,17 @@ impl<T: Lane, const D: usize> Target for ConstArray<T, D> {
 }
 
 impl<T: Lane, const D: usize> Scripted for ConstArray<T, D> {
-    fn change(&mut self, _window: &mut Window, _cmd: Cmd) -> Option<Reply> {
-        unreachable!()
+    ghost split = { λ a. None };
+
+    fn obey(&mut self, window: &mut Window, cmd: Cmd) -> Option<Reply> {
+        if !is_reading(cmd) {
+            return Some(Reply::Refused(Refusal::Word));
+        }
+        // Known by this call: the sizes are those of a shape.
+        let _dims = self.shape().dims();
+        match read(self, window, cmd) {
+            Some(done) => spoken(done),
+            None => unreachable!(),
+        }
     }
 }

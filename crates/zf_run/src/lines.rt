@@ -3,11 +3,10 @@
 ghost use Rattle.std.specs.Prelude.{◌≡◌, ◌<◌, [], ◌∷◌, length, IfSome, IfNone, IfOk, OnErr, OnOk, IsErr};
 ghost use Rattle.zf_dev.specs.Faults.{HasCause};
 ghost use Rattle.zf_cached.specs.Runs.{lines_of};
-ghost use Rattle.zf_run.specs.Sessions.{session};
+ghost use Rattle.zf_run.specs.Sessions.{sitting};
 ghost use Rattle.zf_run.specs.Steps.{HasWindow, LeadsTo, said};
 ghost use Rattle.zf_run.specs.Lines.{Replies, Breaks};
 
-use crate::commands::command;
 use crate::target::Scripted;
 use memchr::memchr;
 use zf_dev::{Failed, Sink, write_all};
@@ -32,12 +31,12 @@ pub(crate) fn run_line<A: Scripted, O: Sink>(
     out: &mut O,
 ) -> Result<bool, Failed>
     requires sound { A.sound a.old }
-    requires window { HasWindow (session (A.shape a.old) (A.state a.old) window.old) }
-    ensures ok { IfOk result (Replies (A.setting (A.kept a.old)) (session (A.shape a.old) (A.state a.old) window.old) line.now
-        (session (A.shape a.new) (A.state a.new) window.new) (O.contents out.old) (O.contents out.new)) }
-    ensures err { OnErr result (Breaks (A.setting (A.kept a.old)) (session (A.shape a.old) (A.state a.old) window.old) line.now
-        (session (A.shape a.new) (A.state a.new) window.new) (O.contents out.old) (O.contents out.new)) }
-    ensures window { HasWindow (session (A.shape a.new) (A.state a.new) window.new) }
+    requires window { HasWindow (sitting (A.shape a.old) (A.state a.old) (A.split a.old) window.old) }
+    ensures ok { IfOk result (Replies (A.setting (A.kept a.old)) (sitting (A.shape a.old) (A.state a.old) (A.split a.old) window.old) line.now
+        (sitting (A.shape a.new) (A.state a.new) (A.split a.new) window.new) (O.contents out.old) (O.contents out.new)) }
+    ensures err { OnErr result (Breaks (A.setting (A.kept a.old)) (sitting (A.shape a.old) (A.state a.old) (A.split a.old) window.old) line.now
+        (sitting (A.shape a.new) (A.state a.new) (A.split a.new) window.new) (O.contents out.old) (O.contents out.new)) }
+    ensures window { HasWindow (sitting (A.shape a.new) (A.state a.new) (A.split a.new) window.new) }
     ensures sound { A.sound a.new }
     ensures kept { A.kept a.new ≡ A.kept a.old }
     ensures unchanged { OnOk result (O.faults out.new ≡ O.faults out.old) }
@@ -54,10 +53,10 @@ pub(crate) fn run_line<A: Scripted, O: Sink>(
 // What a line leads to, and its reply, if any. An empty line has none.
 fn reply_to<A: Scripted>(a: &mut A, window: &mut Window, line: &[u8]) -> Option<Reply>
     requires sound { A.sound a.old }
-    requires window { HasWindow (session (A.shape a.old) (A.state a.old) window.old) }
-    ensures step { LeadsTo (A.setting (A.kept a.old)) (session (A.shape a.old) (A.state a.old) window.old) line.now
-        (session (A.shape a.new) (A.state a.new) window.new) (said result) }
-    ensures window { HasWindow (session (A.shape a.new) (A.state a.new) window.new) }
+    requires window { HasWindow (sitting (A.shape a.old) (A.state a.old) (A.split a.old) window.old) }
+    ensures step { LeadsTo (A.setting (A.kept a.old)) (sitting (A.shape a.old) (A.state a.old) (A.split a.old) window.old) line.now
+        (sitting (A.shape a.new) (A.state a.new) (A.split a.new) window.new) (said result) }
+    ensures window { HasWindow (sitting (A.shape a.new) (A.state a.new) (A.split a.new) window.new) }
     ensures sound { A.sound a.new }
     ensures kept { A.kept a.new ≡ A.kept a.old }
 {
@@ -65,7 +64,7 @@ fn reply_to<A: Scripted>(a: &mut A, window: &mut Window, line: &[u8]) -> Option<
         return None;
     }
     match parse_line(a.sizes().dims(), line) {
-        Ok(cmd) => command(a, window, cmd),
+        Ok(cmd) => a.obey(window, cmd),
         Err(why) => Some(Reply::Refused(why)),
     }
 }

@@ -1,16 +1,16 @@
 //! Commands on a store and a two-way cache over it.
 
-ghost use Rattle.std.specs.Prelude.{◌≡◌, Bool, List};
+ghost use Rattle.std.specs.Prelude.{◌≡◌, Bool, List, None};
 ghost use Rattle.zf_header.specs.declared.header.Header.{Header};
 ghost use Rattle.zf_run.specs.Pairs.{pair_state, PairFits, two_setting_of, two_width};
 
 use crate::blocks::{fill_line, sum_within};
-use crate::commands::{needs_no_window, plain, spoken};
-use crate::target::{Changing, Scripted, Target};
+use crate::commands::{needs_no_window, plain, read, spoken};
+use crate::target::{Changing, Scripted, Subject, Target};
 use std::alloc::AllocError;
 use zf_base::{Lane, Pos, Shape};
 use zf_cache::raised;
-use zf_script::{Cmd, Reply, Stats};
+use zf_script::{Cmd, Refusal, Reply, Stats};
 use zf_store::Store;
 use zf_twoway::TwoWay;
 use zf_view::Window;
@@ -22,7 +22,7 @@ pub(crate) struct Pair<'a, T: Lane, const D: usize> {
     pub(crate) cache: &'a mut TwoWay<T, D>,
 }
 
-impl<'a, T: Lane, const D: usize> Target for Pair<'a, T, D> {
+impl<'a, T: Lane, const D: usize> Subject for Pair<'a, T, D> {
     ghost use base.Fml.{GName};
 
     ghost Code = { List Bool };
@@ -42,11 +42,9 @@ impl<'a, T: Lane, const D: usize> Target for Pair<'a, T, D> {
     fn sizes(&self) -> Shape {
         self.store.header().shape
     }
+}
 
-    fn allows(&self, cmd: Cmd) -> bool {
-        needs_no_window(cmd)
-    }
-
+impl<'a, T: Lane, const D: usize> Target for Pair<'a, T, D> {
     fn number(&mut self, p: Pos) -> i128 {
         let store = &mut *self.store;
         let cache = &mut *self.cache;
@@ -118,7 +116,17 @@ impl<'a, T: Lane, const D: usize> Changing<T> for Pair<'a, T, D> {
 }
 
 impl<'a, T: Lane, const D: usize> Scripted for Pair<'a, T, D> {
-    fn change(&mut self, _window: &mut Window, cmd: Cmd) -> Option<Reply> {
-        spoken(plain::<T, _>(self, cmd))
+    ghost split = { λ p. None };
+
+    fn obey(&mut self, window: &mut Window, cmd: Cmd) -> Option<Reply> {
+        if !needs_no_window(cmd) {
+            return Some(Reply::Refused(Refusal::Word));
+        }
+        // Known by this call: the sizes are those of a shape.
+        let _dims = self.sizes().dims();
+        match read(self, window, cmd) {
+            Some(done) => spoken(done),
+            None => spoken(plain::<T, _>(self, cmd)),
+        }
     }
 }

@@ -2,7 +2,7 @@
 
 ghost use Rattle.std.specs.Prelude.{◌≡◌, ◌≢◌, IfOk, OnErr, OnOk, IsErr};
 ghost use Rattle.zf_dev.specs.Faults.{HasCause};
-ghost use Rattle.zf_run.specs.Sessions.{session};
+ghost use Rattle.zf_run.specs.Sessions.{sitting};
 ghost use Rattle.zf_run.specs.Steps.{HasWindow};
 ghost use Rattle.zf_run.specs.Ends.{Runs, AllRun, HasStopped};
 
@@ -16,8 +16,8 @@ use zf_view::Window;
 
 /// Runs the lines of a script over an array and writes the reply of each as it comes; at the end it flushes the array.
 ///
-/// A line that is refused changes nothing, and the script goes on. After `Write`, `out` holds the replies before some line and a part
-/// of that line's reply; the array is as after that line, and is not flushed.
+/// A line that is refused changes nothing, and the script goes on. Lines on private views are refused as no lines of the language. After
+/// `Write`, `out` holds the replies before some line and a part of that line's reply; the array is as after that line, and is not flushed.
 pub fn run<T: Lane, const D: usize, O: Sink>(
     a: &mut Array<T, D>,
     script: &[u8],
@@ -45,12 +45,12 @@ pub(crate) fn run_lines<A: Scripted, O: Sink>(
     out: &mut O,
 ) -> Result<u64, Failed>
     requires sound { A.sound a.old }
-    requires window { HasWindow (session (A.shape a.old) (A.state a.old) window.old) }
-    ensures ok { IfOk result (AllRun (A.setting (A.kept a.old)) script.now (session (A.shape a.old) (A.state a.old) window.old)
-        (session (A.shape a.new) (A.state a.new) window.new) (O.contents out.old) (O.contents out.new)) }
-    ensures err { OnErr result (HasStopped (A.setting (A.kept a.old)) script.now (session (A.shape a.old) (A.state a.old) window.old)
-        (session (A.shape a.new) (A.state a.new) window.new) (O.contents out.old) (O.contents out.new)) }
-    ensures window { HasWindow (session (A.shape a.new) (A.state a.new) window.new) }
+    requires window { HasWindow (sitting (A.shape a.old) (A.state a.old) (A.split a.old) window.old) }
+    ensures ok { IfOk result (AllRun (A.setting (A.kept a.old)) script.now (sitting (A.shape a.old) (A.state a.old) (A.split a.old) window.old)
+        (sitting (A.shape a.new) (A.state a.new) (A.split a.new) window.new) (O.contents out.old) (O.contents out.new)) }
+    ensures err { OnErr result (HasStopped (A.setting (A.kept a.old)) script.now (sitting (A.shape a.old) (A.state a.old) (A.split a.old) window.old)
+        (sitting (A.shape a.new) (A.state a.new) (A.split a.new) window.new) (O.contents out.old) (O.contents out.new)) }
+    ensures window { HasWindow (sitting (A.shape a.new) (A.state a.new) (A.split a.new) window.new) }
     ensures sound { A.sound a.new }
     ensures kept { A.kept a.new ≡ A.kept a.old }
     ensures unchanged { OnOk result (O.faults out.new ≡ O.faults out.old) }

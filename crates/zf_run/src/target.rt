@@ -1,6 +1,6 @@
-//! What the lines of a script work on.
+//! What a script runs on, and what its lines work on.
 
-ghost use Rattle.std.specs.Prelude.{◌≡◌, ℕ, List, ◌<◌, ◌≤◌, ◌^◌, true, false, None, OnOk, OnErr, length};
+ghost use Rattle.std.specs.Prelude.{◌≡◌, ℕ, List, ◌<◌, ◌≤◌, ◌^◌, Option, None, OnOk, OnErr, length};
 ghost use Rattle.std.specs.Prelude.{◌+ℤ◌};
 ghost use Rattle.zf_spec.specs.Numbers.{wrap};
 ghost use Rattle.zf_spec.specs.Grid.{blocks};
@@ -10,9 +10,9 @@ ghost use Rattle.zf_cached.specs.State.{State};
 ghost use Rattle.zf_cached.specs.Commands.{Command};
 ghost use Rattle.zf_cached.specs.Windows.{Window as Part};
 ghost use Rattle.zf_cached.specs.Steps.{Setting, total, value_there, done};
-ghost use Rattle.zf_cached.specs.Runs.{only_reads};
+ghost use Rattle.zf_cached.specs.Views.{View};
 ghost use Rattle.zf_script.specs.Seen.{command_of, cmd_of};
-ghost use Rattle.zf_run.specs.Sessions.{session};
+ghost use Rattle.zf_run.specs.Sessions.{session, sitting};
 ghost use Rattle.zf_run.specs.Sums.{IsUpTo};
 ghost use Rattle.zf_run.specs.Steps.{HasWindow, said, Takes, Touches, Changes, Fills, Performs};
 
@@ -21,8 +21,8 @@ use zf_base::{Lane, Pos, Shape};
 use zf_script::{Cmd, Reply, Stats};
 use zf_view::Window;
 
-/// What the lines of a script work on, together with the current window: an array, read by touches. Whether it can be changed is its own affair.
-pub(crate) trait Target {
+/// What a script is about: an array.
+pub(crate) trait Subject {
     // The type of a block's code.
     ghost Code: { Type 0 };
 
@@ -45,47 +45,46 @@ pub(crate) trait Target {
     fn sizes(&self) -> Shape
         requires { sound self.now }
         ensures { result ≡ shape self.now };
+}
 
-    /// Whether a command is one of the language here.
-    fn allows(&self, cmd: Cmd) -> bool
-        ensures { result ≡ (setting (kept self.now)).allows (command_of (length (shape self.now)) cmd) };
-
+/// What the lines of a script work on, together with the current window: a whole array, read by touches. Whether it can be changed is its own affair.
+pub(crate) trait Target: Subject {
     /// The value at a position, by one touch.
     fn number(&mut self, p: Pos) -> i128
-        requires sound { sound self.old }
-        requires position { IsPosition (shape self.old) p }
-        ensures touched { Touches (setting (kept self.old)) (block_number (shape self.old) (used_axes (length (shape self.old)) p))
-            (session (shape self.old) (state self.old)) (session (shape self.new) (state self.new)) }
-        ensures value { result ≡ value_there (used_axes (length (shape self.old)) p)
-            ((state self.new).values (block_number (shape self.old) (used_axes (length (shape self.old)) p))) }
+        requires sound { Self.sound self.old }
+        requires position { IsPosition (Self.shape self.old) p }
+        ensures touched { Touches (Self.setting (Self.kept self.old)) (block_number (Self.shape self.old) (used_axes (length (Self.shape self.old)) p))
+            (session (Self.shape self.old) (Self.state self.old)) (session (Self.shape self.new) (Self.state self.new)) }
+        ensures value { result ≡ value_there (used_axes (length (Self.shape self.old)) p)
+            ((Self.state self.new).values (block_number (Self.shape self.old) (used_axes (length (Self.shape self.old)) p))) }
         ensures bound { IsUpTo (2 ^ 63) result }
-        ensures sound { sound self.new }
-        ensures kept { kept self.new ≡ kept self.old };
+        ensures sound { Self.sound self.new }
+        ensures kept { Self.kept self.new ≡ Self.kept self.old };
 
     /// The sum of the values of block `b`, by one touch.
     fn sum_of_block(&mut self, b: u64) -> i128
-        requires sound { sound self.old }
-        requires block { b < blocks (shape self.old) }
-        ensures touched { Touches (setting (kept self.old)) b
-            (session (shape self.old) (state self.old)) (session (shape self.new) (state self.new)) }
-        ensures sum { result ≡ total ((state self.new).values b) }
+        requires sound { Self.sound self.old }
+        requires block { b < blocks (Self.shape self.old) }
+        ensures touched { Touches (Self.setting (Self.kept self.old)) b
+            (session (Self.shape self.old) (Self.state self.old)) (session (Self.shape self.new) (Self.state self.new)) }
+        ensures sum { result ≡ total ((Self.state self.new).values b) }
         ensures bound { IsUpTo (2 ^ 71) result }
-        ensures sound { sound self.new }
-        ensures kept { kept self.new ≡ kept self.old };
+        ensures sound { Self.sound self.new }
+        ensures kept { Self.kept self.new ≡ Self.kept self.old };
 
     /// Another number of lines. The memory is taken first: after `AllocError` nothing has changed.
     fn use_lines(&mut self, count: u32) -> Result<(), AllocError>
-        requires sound { sound self.old }
+        requires sound { Self.sound self.old }
         requires count { (0 < count) × (count ≤ 2 ^ 16) }
-        ensures ok { OnOk result ((v : Part) → done (setting (kept self.old)) (session (shape self.old) (state self.old) v) (Command.lines count)
-            ≡ (session (shape self.new) (state self.new) v, None)) }
+        ensures ok { OnOk result ((v : Part) → done (Self.setting (Self.kept self.old)) (session (Self.shape self.old) (Self.state self.old) v) (Command.lines count)
+            ≡ (session (Self.shape self.new) (Self.state self.new) v, None)) }
         ensures err { OnErr result (self.new ≡ self.old) }
-        ensures sound { sound self.new }
-        ensures kept { kept self.new ≡ kept self.old };
+        ensures sound { Self.sound self.new }
+        ensures kept { Self.kept self.new ≡ Self.kept self.old };
 
     /// The counts of the cache.
     fn counts(&self) -> Stats
-        ensures { record { hits = result.hits; misses = result.misses; writes = result.writes } ≡ (state self.now).counts };
+        ensures { record { hits = result.hits; misses = result.misses; writes = result.writes } ≡ (Self.state self.now).counts };
 }
 
 /// What the lines of a script change, too: an array of values of `T`.
@@ -137,18 +136,19 @@ pub(crate) trait Changing<T: Lane>: Target {
     ghost same_width: { (k : Self.Kept) → (Self.setting k).width ≡ T.width };
 }
 
-/// What a script runs on: a target, and what its commands do that do not only read.
-pub(crate) trait Scripted: Target {
-    /// Does what a command that does not only read asks for; its reply, if any. A command that is refused changes nothing.
-    fn change(&mut self, window: &mut Window, cmd: Cmd) -> Option<Reply>
+/// What a script runs on: an array, whole or split into private views.
+pub(crate) trait Scripted: Subject {
+    // The views, while it is split.
+    ghost split: { Self → Option (List View) };
+
+    /// Does what a command asks for; its reply, if any. A command that is refused changes nothing.
+    fn obey(&mut self, window: &mut Window, cmd: Cmd) -> Option<Reply>
         requires sound { Self.sound self.old }
-        requires window { HasWindow (session (Self.shape self.old) (Self.state self.old) window.old) }
+        requires window { HasWindow (sitting (Self.shape self.old) (Self.state self.old) (split self.old) window.old) }
         requires numbers { cmd ≡ cmd_of (command_of (length (Self.shape self.old)) cmd) }
-        requires writes { only_reads (command_of (length (Self.shape self.old)) cmd) ≡ false }
-        requires allowed { (Self.setting (Self.kept self.old)).allows (command_of (length (Self.shape self.old)) cmd) ≡ true }
-        ensures step { Takes (Self.setting (Self.kept self.old)) (session (Self.shape self.old) (Self.state self.old) window.old)
-            (command_of (length (Self.shape self.old)) cmd) (session (Self.shape self.new) (Self.state self.new) window.new) (said result) }
-        ensures window { HasWindow (session (Self.shape self.new) (Self.state self.new) window.new) }
+        ensures step { Takes (Self.setting (Self.kept self.old)) (sitting (Self.shape self.old) (Self.state self.old) (split self.old) window.old)
+            (command_of (length (Self.shape self.old)) cmd) (sitting (Self.shape self.new) (Self.state self.new) (split self.new) window.new) (said result) }
+        ensures window { HasWindow (sitting (Self.shape self.new) (Self.state self.new) (split self.new) window.new) }
         ensures sound { Self.sound self.new }
         ensures kept { Self.kept self.new ≡ Self.kept self.old };
 }

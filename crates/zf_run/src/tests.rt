@@ -13,12 +13,12 @@ use zf_dev::MemSink;
 use zf_header::{Header, Mode};
 
 // A sink that takes large pieces and never fails.
-fn sink(alloc: Global) -> MemSink {
+pub(crate) fn sink(alloc: Global) -> MemSink {
     MemSink::new(alloc, Vec::new(alloc), 1 << 20)
 }
 
 // An array of zeros.
-fn zeros<T: Lane, const D: usize>(
+pub(crate) fn zeros<T: Lane, const D: usize>(
     rt: &impl Abort,
     alloc: Global,
     shape: Result<Shape, ShapeFault>,
@@ -33,7 +33,7 @@ fn zeros<T: Lane, const D: usize>(
 }
 
 // Runs a script over zeros, and compares what it writes, how it ends and, where a file is given, what is saved.
-fn check<T: Lane, const D: usize>(
+pub(crate) fn check<T: Lane, const D: usize>(
     rt: &impl Abort,
     alloc: Global,
     shape: Result<Shape, ShapeFault>,
@@ -53,7 +53,7 @@ fn check<T: Lane, const D: usize>(
     Ok(())
 }
 
-fn line_of_eight() -> Result<Shape, ShapeFault> {
+pub(crate) fn line_of_eight() -> Result<Shape, ShapeFault> {
     Shape::new(1, 8, 1, 1, 1)
 }
 

@@ -7,10 +7,10 @@ use Rattle.zf_run.proofs.blocks.fill_blocks.Given as goal
 
 abbrev pub invariant-loop-b : goal.invariant-loop-b
 invariant-loop-b g l =
-    let S = g.A.Target.setting (g.A.Target.kept l.fn.a) in
-    let ns = g.A.Target.shape l.fn.a in
+    let S = g.A.Subject.setting (g.A.Subject.kept l.fn.a) in
+    let ns = g.A.Subject.shape l.fn.a in
     let x = g.T.Lane.value l.fn.v in
-    (g.A.Target.kept l.a ≡ g.A.Target.kept l.fn.a) × (g.A.Target.shape l.a ≡ ns)
-    × ((u : Part) → filled_below S (session ns (g.A.Target.state l.fn.a) u) x (upto (blocks ns))
-    ≡ filled_below S (session (g.A.Target.shape l.a) (g.A.Target.state l.a) u) x (count_from l.b (blocks ns - l.b)))
-    × g.A.Target.sound l.a
+    (g.A.Subject.kept l.a ≡ g.A.Subject.kept l.fn.a) × (g.A.Subject.shape l.a ≡ ns)
+    × ((u : Part) → filled_below S (session ns (g.A.Subject.state l.fn.a) u) x (upto (blocks ns))
+    ≡ filled_below S (session (g.A.Subject.shape l.a) (g.A.Subject.state l.a) u) x (count_from l.b (blocks ns - l.b)))
+    × g.A.Subject.sound l.a

@@ -9,10 +9,10 @@ use Rattle.zf_run.proofs.blocks.sum_blocks.Given as goal
 
 abbrev pub invariant-loop-b : goal.invariant-loop-b
 invariant-loop-b g l =
-    let setting = g.A.Target.setting (g.A.Target.kept l.fn.a) in
-    let ns = g.A.Target.shape l.fn.a in
+    let setting = g.A.Subject.setting (g.A.Subject.kept l.fn.a) in
+    let ns = g.A.Subject.shape l.fn.a in
     let n = blocks ns in
-    (g.A.Target.kept l.a ≡ g.A.Target.kept l.fn.a) × (g.A.Target.shape l.a ≡ ns) × IsUpTo (2 ^ 71 * l.b) l.sum
-    × ((u : Part) → summed setting (λ b. b) (λ b values. total values) (upto n) (session ns (g.A.Target.state l.fn.a) u)
-    ≡ sum_from setting (λ b. b) (λ b values. total values) (count_from l.b (n - l.b)) (session (g.A.Target.shape l.a) (g.A.Target.state l.a) u) l.sum)
-    × g.A.Target.sound l.a
+    (g.A.Subject.kept l.a ≡ g.A.Subject.kept l.fn.a) × (g.A.Subject.shape l.a ≡ ns) × IsUpTo (2 ^ 71 * l.b) l.sum
+    × ((u : Part) → summed setting (λ b. b) (λ b values. total values) (upto n) (session ns (g.A.Subject.state l.fn.a) u)
+    ≡ sum_from setting (λ b. b) (λ b values. total values) (count_from l.b (n - l.b)) (session (g.A.Subject.shape l.a) (g.A.Subject.state l.a) u) l.sum)
+    × g.A.Subject.sound l.a

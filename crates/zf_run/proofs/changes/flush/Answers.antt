@@ -1,3 +1,4 @@
+use Rattle.std.proofs.Common.{refl}
 use Rattle.zf_run.specs.Sessions.{session}
 use Rattle.zf_run.proofs.Commanding.{flushed}
 use Rattle.zf_run.proofs.changes.flush.Goals as goal
@@ -6,4 +7,4 @@ pub returns-clause-does : goal.returns-clause-does
 returns-clause-does g c v lies =
     let a = c.args.a.now in
     let b = c.flush_all.new.self in
-    flushed (g.A.Target.setting (g.A.Target.kept a)) (session (g.A.Target.shape a) (g.A.Target.state a) v) lies (session (g.A.Target.shape b) (g.A.Target.state b) v) (c.flush_all.ensures.flushed v)
+    flushed (g.A.Subject.setting (g.A.Subject.kept a)) (session (g.A.Subject.shape a) (g.A.Subject.state a) v) lies refl (session (g.A.Subject.shape b) (g.A.Subject.state b) v) (c.flush_all.ensures.flushed v)

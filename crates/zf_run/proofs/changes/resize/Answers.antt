@@ -9,7 +9,7 @@ use Rattle.zf_run.proofs.changes.resize.Goals as goal
 
 pub returns-in_default-clause-does : goal.returns-in_default-clause-does
 returns-in_default-clause-does g c =
-    refused_size (setting_of g.T.Lane.width c.args.a.now) (Command.resize (used_axes c.args.count c.args.sizes)) (session_of c.args.a.now c.args.window.now) c.requires.inside (ap not c.in_default.ensures.none)
+    refused_size (setting_of g.T.Lane.width c.args.a.now) (Command.resize (used_axes c.args.count c.args.sizes)) (session_of c.args.a.now c.args.window.now) c.requires.inside refl (ap not c.in_default.ensures.none)
 
 pub returns-in-Ok-clause-does : goal.returns-in-Ok-clause-does
 returns-in-Ok-clause-does g c =
@@ -19,4 +19,4 @@ returns-in-Ok-clause-does g c =
 pub returns-in-Err-clause-does : goal.returns-in-Err-clause-does
 returns-in-Err-clause-does g c =
     same_array g.T.Lane.width (Command.resize (used_axes c.args.count c.args.sizes)) c.args.a.now c.resize.new.self c.args.window.now _ c.in-Err.ensures.err
-    (refused_memory (setting_of g.T.Lane.width c.args.a.now) (Command.resize (used_axes c.args.count c.args.sizes)) (session_of c.args.a.now c.args.window.now) c.requires.inside (ap not c.in-Some.ensures.some) refl refl refl)
+    (refused_memory (setting_of g.T.Lane.width c.args.a.now) (Command.resize (used_axes c.args.count c.args.sizes)) (session_of c.args.a.now c.args.window.now) c.requires.inside refl (ap not c.in-Some.ensures.some) refl refl refl)

@@ -1,19 +1,19 @@
 use Rattle.std.proofs.Common.{◌≡◌, ◌+◌, ◌≤◌, length}
 use Rattle.zf_cached.specs.Runs.{lines_of}
-use Rattle.zf_run.specs.Sessions.{session}
+use Rattle.zf_run.specs.Sessions.{sitting}
 use Rattle.zf_run.specs.Steps.{HasWindow}
 use Rattle.zf_run.proofs.Folding.{HasRun}
 use Rattle.zf_run.proofs.runs.run_lines.Given as goal
 
 abbrev pub invariant-loop-line : goal.invariant-loop-line
 invariant-loop-line g l =
-    HasRun (g.A.Target.setting (g.A.Target.kept l.fn.a)) (lines_of l.fn.script) (lines_of l.lines) (session (g.A.Target.shape l.fn.a) (g.A.Target.state l.fn.a) l.fn.window) (session (g.A.Target.shape l.a) (g.A.Target.state l.a) l.window)
+    HasRun (g.A.Subject.setting (g.A.Subject.kept l.fn.a)) (lines_of l.fn.script) (lines_of l.lines) (sitting (g.A.Subject.shape l.fn.a) (g.A.Subject.state l.fn.a) (g.A.Scripted.split l.fn.a) l.fn.window) (sitting (g.A.Subject.shape l.a) (g.A.Subject.state l.a) (g.A.Scripted.split l.a) l.window)
     (g.O.Sink.contents l.fn.out) (g.O.Sink.contents l.out) l.refused
-    × HasWindow (session (g.A.Target.shape l.a) (g.A.Target.state l.a) l.window)
-    × (g.A.Target.kept l.a ≡ g.A.Target.kept l.fn.a)
+    × HasWindow (sitting (g.A.Subject.shape l.a) (g.A.Subject.state l.a) (g.A.Scripted.split l.a) l.window)
+    × (g.A.Subject.kept l.a ≡ g.A.Subject.kept l.fn.a)
     × (l.refused + length l.lines ≤ length l.fn.script)
     × (g.O.Sink.faults l.out ≡ g.O.Sink.faults l.fn.out)
-    × g.A.Target.sound l.a
+    × g.A.Subject.sound l.a
 
 abbrev pub decreases-loop-line : goal.decreases-loop-line
 decreases-loop-line g l = length l.lines

@@ -7,7 +7,7 @@ use Rattle.zf_cached.specs.Commands.{Command}
 use Rattle.zf_cached.specs.Steps.{is_of_type}
 use Rattle.zf_array.specs.Standing.{shape}
 use Rattle.zf_view.proofs.Positions.{position_at-inside}
-use Rattle.zf_cached.specs.Runs.{array_setting}
+use Rattle.zf_run.specs.Allowed.{whole_setting}
 use Rattle.zf_run.specs.Sessions.{setting_of, session_of}
 use Rattle.zf_run.proofs.Stepping.{refused_range, refused_value}
 use Rattle.zf_run.proofs.Commanding.{outside_window, within, put_there}
@@ -16,14 +16,14 @@ use Rattle.zf_run.proofs.values.vset.Goals as goal
 pub returns-then-not-contains-clause-does : goal.returns-then-not-contains-clause-does
 returns-then-not-contains-clause-does g c =
     let now = c.args.a.now in
-    refused_range (setting_of g.T.Lane.width now) (Command.vset (used_axes (length (shape now)) c.args.p) c.args.v) (session_of now c.args.window.now) c.requires.inside refl
+    refused_range (setting_of g.T.Lane.width now) (Command.vset (used_axes (length (shape now)) c.args.p) c.args.v) (session_of now c.args.window.now) c.requires.inside refl refl
     (outside_window (shape now) c.args.window.now c.args.p c.requires.inside c.requires.unused (λ at. false≢true (sym c.if-not-contains.true ∙ c.contains.ensures.1 at)))
 
 pub returns-in_default-clause-does : goal.returns-in_default-clause-does
-unfolding array_setting
+unfolding whole_setting
 returns-in_default-clause-does g c =
     let now = c.args.a.now in
-    refused_value (setting_of g.T.Lane.width now) (Command.vset (used_axes (length (shape now)) c.args.p) c.args.v) (session_of now c.args.window.now) c.requires.inside refl
+    refused_value (setting_of g.T.Lane.width now) (Command.vset (used_axes (length (shape now)) c.args.p) c.args.v) (session_of now c.args.window.now) c.requires.inside refl refl
     (ap not (within (shape now) c.args.window.now c.requires.inside c.args.p (c.contains.ensures.0 c.if-not-contains.false)))
     (ap not (subst (λ x. is_of_type g.T.Lane.width x ≡ false) (to_z-of_z w128 c.args.v c.ranges.v) c.in_default.ensures.none))
 

@@ -10,10 +10,10 @@ use Rattle.zf_run.proofs.windows.slice.Goals as goal
 pub returns-in_default-clause-does : goal.returns-in_default-clause-does
 returns-in_default-clause-does g c =
     let a = c.args.a.now in
-    refused_range (g.A.Target.setting (g.A.Target.kept a)) (Command.slice c.args.axis c.args.at) (session (g.A.Target.shape a) (g.A.Target.state a) c.args.window.now) c.requires.inside refl
+    refused_range (g.A.Subject.setting (g.A.Subject.kept a)) (Command.slice c.args.axis c.args.at) (session (g.A.Subject.shape a) (g.A.Subject.state a) c.args.window.now) c.requires.inside refl refl
     (is_not (has_place c.args.window.now c.args.axis c.args.at) (λ e. false≢true (c.in_default.ensures.found.1 e)))
 
 pub returns-clause-does : goal.returns-clause-does
 returns-clause-does g c =
     let a = c.args.a.now in
-    cut (g.A.Target.setting (g.A.Target.kept a)) (session (g.A.Target.shape a) (g.A.Target.state a) c.args.window.now) c.requires.inside c.args.axis c.args.at c.in-Some.part (c.in-Some.ensures.found.0 refl) c.in-Some.ensures.some
+    cut (g.A.Subject.setting (g.A.Subject.kept a)) (session (g.A.Subject.shape a) (g.A.Subject.state a) c.args.window.now) c.requires.inside refl c.args.axis c.args.at c.in-Some.part (c.in-Some.ensures.found.0 refl) c.in-Some.ensures.some

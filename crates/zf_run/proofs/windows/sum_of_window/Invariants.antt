@@ -10,11 +10,11 @@ use Rattle.zf_run.proofs.windows.sum_of_window.Given as goal
 
 abbrev pub invariant-loop-number : goal.invariant-loop-number
 invariant-loop-number g l =
-    let setting = g.A.Target.setting (g.A.Target.kept l.fn.a) in
-    let ns = g.A.Target.shape l.fn.a in
+    let setting = g.A.Subject.setting (g.A.Subject.kept l.fn.a) in
+    let ns = g.A.Subject.shape l.fn.a in
     let w = l.fn.window in
-    (g.A.Target.kept l.a ≡ g.A.Target.kept l.fn.a) × (g.A.Target.shape l.a ≡ ns) × IsUpTo (2 ^ 63 * l.number) l.sum
-    × ((v : Part) → summed setting (block_number ns) value_there (positions w) (session ns (g.A.Target.state l.fn.a) v)
+    (g.A.Subject.kept l.a ≡ g.A.Subject.kept l.fn.a) × (g.A.Subject.shape l.a ≡ ns) × IsUpTo (2 ^ 63 * l.number) l.sum
+    × ((v : Part) → summed setting (block_number ns) value_there (positions w) (session ns (g.A.Subject.state l.fn.a) v)
     ≡ sum_from setting (block_number ns) value_there (map (λ k. mapped w (coordinates w.size k)) (count_from l.number (product w.size - l.number)))
-    (session (g.A.Target.shape l.a) (g.A.Target.state l.a) v) l.sum)
-    × g.A.Target.sound l.a
+    (session (g.A.Subject.shape l.a) (g.A.Subject.state l.a) v) l.sum)
+    × g.A.Subject.sound l.a

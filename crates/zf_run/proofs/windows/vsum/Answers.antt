@@ -1,4 +1,4 @@
-use Rattle.std.proofs.Common.{sym, subst}
+use Rattle.std.proofs.Common.{refl, sym, subst}
 use Rattle.zf_cached.specs.Windows.{LiesIn}
 use Rattle.zf_run.specs.Sessions.{session}
 use Rattle.zf_run.proofs.Commanding.{vsum_is}
@@ -10,6 +10,6 @@ returns-clause-does g c =
     let a = c.args.a.now in
     let b = c.sum_of_window.new.a in
     let v = c.args.window.now in
-    vsum_is (g.A.Target.setting (g.A.Target.kept a)) (session (g.A.Target.shape a) (g.A.Target.state a) v) c.requires.inside (session (g.A.Target.shape b) (g.A.Target.state b) v)
+    vsum_is (g.A.Subject.setting (g.A.Subject.kept a)) (session (g.A.Subject.shape a) (g.A.Subject.state a) v) c.requires.inside refl (session (g.A.Subject.shape b) (g.A.Subject.state b) v)
     (subst (λ ns. LiesIn ns v) (sym c.sum_of_window.ensures.shape) c.requires.inside) _ c.sum_of_window.result
     (small_is c.sum_of_window.result c.sum_of_window.ensures.bound) (c.sum_of_window.ensures.sum v)
