@@ -16,6 +16,7 @@ MARK = "<!-- contracts -->\n"
 
 CALLS = [
     ("Streams", "zf_stream", ["compress", "restore", "read_header"]),
+    ("Streams of narrow values", "zf_narrow", ["promote", "demote", "compress_narrow", "restore_narrow"]),
     ("A bound of the error", "zf_bound", ["bound"]),
     ("Where codes lie", "zf_index", ["build", "span"]),
     ("Arrays", "zf_array", ["new", "from_file", "get", "set", "add", "flush", "discard", "set_lines", "resize", "save_bytes"]),

@@ -77,11 +77,15 @@ impl MemSource {
 }
 
 impl Source for MemSource {
+    ghost Kept = { Unit {0} };
+
     ghost contents = { λ s. Some s.left };
 
     ghost faults = { λ s. s.faults };
 
     ghost never_fails = { λ s. s.fail ≡ [] };
+
+    ghost kept = { λ _. tt };
 
     fn read(&mut self, buf: &mut [u8]) -> Result<usize, Failed>
         requires { 0 < length buf.old }
@@ -192,9 +196,13 @@ impl MemSink {
 }
 
 impl Sink for MemSink {
+    ghost Kept = { Unit {0} };
+
     ghost contents = { λ s. Some s.written };
 
     ghost faults = { λ s. s.faults };
+
+    ghost kept = { λ _. tt };
 
     fn write(&mut self, bytes: &[u8]) -> Result<usize, Failed>
         requires { 0 < length bytes.now }

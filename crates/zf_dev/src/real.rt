@@ -42,11 +42,15 @@ impl<R> RealSource<R> {
 }
 
 impl<R: Read> Source for RealSource<R> {
+    ghost Kept = { Unit {0} };
+
     ghost contents = { λ s. R.remaining (source_stream s) };
 
     ghost faults = { λ s. source_faults s };
 
     ghost never_fails = { λ _. ⊥ };
+
+    ghost kept = { λ _. tt };
 
     fn read(&mut self, buf: &mut [u8]) -> Result<usize, Failed>
         requires { 0 < length buf.old }
@@ -95,9 +99,13 @@ impl<W> RealSink<W> {
 }
 
 impl<W: Write> Sink for RealSink<W> {
+    ghost Kept = { Unit {0} };
+
     ghost contents = { λ s. W.contents (sink_stream s) };
 
     ghost faults = { λ s. sink_faults s };
+
+    ghost kept = { λ _. tt };
 
     fn write(&mut self, bytes: &[u8]) -> Result<usize, Failed>
         requires { 0 < length bytes.now }

@@ -8,11 +8,16 @@ use crate::Failed;
 
 /// A stream of bytes that is written.
 pub trait Sink {
+    /// What every call leaves as it is: of a sink that borrows another, which one that is.
+    ghost Kept: { Type 0 };
+
     /// The bytes written, where the sink tells them.
     ghost contents: { Self → Option (List ℕ) };
 
     /// How many faults there were. It stands still at the last value of a `u64`.
     ghost faults: { Self → ℕ };
+
+    ghost kept: { Self → Kept };
 
     /// Writes the first of `bytes`, at least one, and says how many.
     fn write(&mut self, bytes: &[u8]) -> Result<usize, Failed>
@@ -22,6 +27,7 @@ pub trait Sink {
         ensures appended { IfOk result (λ n. Appends (contents self.old) (contents self.new) (take n bytes.now)) }
         ensures unwritten { OnErr result (Appends (contents self.old) (contents self.new) []) }
         ensures unchanged { OnOk result (faults self.new ≡ faults self.old) }
+        ensures kept { kept self.new ≡ kept self.old }
         ensures cause { HasCause (IsErr result) (faults self.old) (faults self.new) };
 }
 
@@ -31,6 +37,7 @@ pub fn write_all<O: Sink>(out: &mut O, bytes: &[u8]) -> Result<(), Failed>
     ensures part { OnErr result (AppendsPart (O.contents out.old) (O.contents out.new) bytes.now) }
     ensures front { AppendsFront (O.contents out.old) (O.contents out.new) bytes.now }
     ensures unchanged { OnOk result (O.faults out.new ≡ O.faults out.old) }
+    ensures same_sink { O.kept out.new ≡ O.kept out.old }
     ensures cause { HasCause (IsErr result) (O.faults out.old) (O.faults out.new) }
 {
     let mut written = 0;

@@ -8,6 +8,9 @@ use crate::Failed;
 
 /// A stream of bytes that is read up to its end.
 pub trait Source {
+    /// What every call leaves as it is: of a source that borrows another, which one that is.
+    ghost Kept: { Type 0 };
+
     /// The bytes still to come, where the source tells them.
     ghost contents: { Self → Option (List ℕ) };
 
@@ -16,6 +19,8 @@ pub trait Source {
 
     /// No call fails from here on.
     ghost never_fails: { Self → Type 0 };
+
+    ghost kept: { Self → Kept };
 
     /// Reads some of the next bytes into the front of `buf`, and says how many. 0 is the end of the stream.
     fn read(&mut self, buf: &mut [u8]) -> Result<usize, Failed>
@@ -26,6 +31,7 @@ pub trait Source {
         ensures end { IfOk result (λ n. EndsAt (contents self.old) (contents self.new) n) }
         ensures untaken { OnErr result (Takes (contents self.old) (contents self.new) []) }
         ensures unchanged { OnOk result (faults self.new ≡ faults self.old) }
+        ensures kept { kept self.new ≡ kept self.old }
         ensures cause { HasCause (IsErr result) (faults self.old) (faults self.new) }
         ensures sure { never_fails self.old → IsOk result × never_fails self.new };
 }
@@ -42,6 +48,7 @@ pub fn fill<S: Source>(src: &mut S, buf: &mut [u8]) -> Result<usize, Failed>
     // After a fault, some of the next bytes are gone, at most as many as there was room for.
     ensures lost { OnErr result (TakesAtMost (S.contents src.old) (S.contents src.new) (length buf.old)) }
     ensures unchanged { OnOk result (S.faults src.new ≡ S.faults src.old) }
+    ensures same_source { S.kept src.new ≡ S.kept src.old }
     ensures cause { HasCause (IsErr result) (S.faults src.old) (S.faults src.new) }
     ensures sure { S.never_fails src.old → IsOk result × S.never_fails src.new }
 {

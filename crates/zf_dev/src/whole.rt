@@ -20,6 +20,7 @@ pub fn take_all<S: Source>(alloc: Global, src: &mut S, max: u64) -> Result<Vec<u
     // After an error too, what is gone was the next to come.
     ensures taken { TakesSome (S.contents src.old) (S.contents src.new) }
     ensures unchanged { result ≢ Err taking.Failed → S.faults src.new ≡ S.faults src.old }
+    ensures same_source { S.kept src.new ≡ S.kept src.old }
     ensures cause { HasCause (result ≡ Err taking.Failed) (S.faults src.old) (S.faults src.new) }
     ensures sure { S.never_fails src.old → (result ≢ Err taking.Failed) × S.never_fails src.new }
 {

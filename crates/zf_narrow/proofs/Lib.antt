@@ -6,6 +6,12 @@
 --     Reading    one read of a promotion, as the source sees it
 --     Demoting   one write of a demotion
 --     Back       narrow values and what stands for them, there and back
+--     RoundTrip  raw narrow bytes, there and back
+--     Fronts     what the stream of raw bytes looks at
+--     Giving     what a source that promotes has given, of what it has read
+--     Compressed how a compression of narrow values ends
+--     Restored   how a restoration of narrow values ends
+--     StreamsBack  streams of narrow values, there and back
 pub mod OneMore
 pub mod Taken
 pub mod Whole
@@ -13,3 +19,9 @@ pub mod Stepping
 pub mod Reading
 pub mod Demoting
 pub mod Back
+pub mod RoundTrip
+pub mod Fronts
+pub mod Giving
+pub mod Compressed
+pub mod Restored
+pub mod StreamsBack

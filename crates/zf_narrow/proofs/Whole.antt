@@ -102,6 +102,12 @@ empty : (s : List ℕ) → length s ≡ 0 → s ≡ []
 empty [] e = refl
 empty (x ∷ xs) e = absurd (omega arith)
 
+-- nothing is given for no bytes alone
+pub no_bytes : (n : Narrow) (s : List ℕ) → promoted_all n s ≡ [] → s ≡ []
+no_bytes n s none =
+    let long : length s / size_of n * 4 + length s % size_of n ≡ 0 = sym (length-promoted_all n s) ∙ ap length none in
+    empty s (none_of_both n (length s) (omega (arith, long)) (omega (arith, long)))
+
 pub no_values : (n : Narrow) (values : List ℕ) → length values % size_of n ≡ 0 → length (promoted_bytes n values) ≡ 0 → values ≡ []
 no_values n values whole none = empty values (none_of_both n (length values) (omega (arith, length-promoted_bytes n values)) whole)
 

@@ -18,7 +18,6 @@ pub(crate) struct Demoted<'a, O: Sink, K: Begun> {
     pub(crate) out: &'a mut O,
     pub(crate) demotion: Demotion,
     pub(crate) begun: PhantomData<K>,
-    ghost same_sink: { out.ghost_name ≡ K.name },
     ghost same_type: { demotion.narrow ≡ K.narrow },
     ghost written: { Appends K.start (O.contents out.now) demotion.given.bytes } by { Appends-prop K.start (O.contents out.now) demotion.given.bytes },
 }
@@ -27,6 +26,7 @@ impl<'a, O: Sink, K: Begun> Demoted<'a, O, K> {
     /// Writes the byte that is owed, where one is.
     pub(crate) fn settle(&mut self) -> Result<(), Failed>
         ensures taken { taken_so_far self.new.demotion ≡ taken_so_far self.old.demotion }
+        ensures same_sink { (self.new.out.ghost_name ≡ self.old.out.ghost_name) × (O.kept self.new.out.now ≡ O.kept self.old.out.now) }
         ensures settled { OnOk result (self.new.demotion.owed ≡ None) }
         ensures unchanged { OnOk result (O.faults self.new.out.now ≡ O.faults self.old.out.now) }
         ensures cause { HasCause (IsErr result) (O.faults self.old.out.now) (O.faults self.new.out.now) }
@@ -36,9 +36,15 @@ impl<'a, O: Sink, K: Begun> Demoted<'a, O, K> {
 }
 
 impl<'a, O: Sink, K: Begun> Sink for Demoted<'a, O, K> {
+    ghost use base.Fml.{GName};
+
+    ghost Kept = { GName × O.Kept };
+
     ghost contents = { λ d. Some (taken_so_far d.demotion) };
 
     ghost faults = { λ d. O.faults d.out.now };
+
+    ghost kept = { λ d. (d.out.ghost_name, O.kept d.out.now) };
 
     fn write(&mut self, bytes: &[u8]) -> Result<usize, Failed> {
         self.demotion.write(&mut *self.out, bytes)

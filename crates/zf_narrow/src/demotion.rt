@@ -60,6 +60,7 @@ impl Demotion {
         ensures untaken { OnErr result (taken_so_far self.new ≡ taken_so_far self.old) }
         ensures given { Gives self.old self.new (O.contents out.old) (O.contents out.new) }
         ensures unchanged { OnOk result (O.faults out.new ≡ O.faults out.old) }
+        ensures same_sink { O.kept out.new ≡ O.kept out.old }
         ensures cause { HasCause (IsErr result) (O.faults out.old) (O.faults out.new) }
     {
         self.settle(out)?;
@@ -78,6 +79,7 @@ impl Demotion {
         ensures settled { OnOk result (self.new.owed ≡ None) }
         ensures given { Gives self.old self.new (O.contents out.old) (O.contents out.new) }
         ensures unchanged { OnOk result (O.faults out.new ≡ O.faults out.old) }
+        ensures same_sink { O.kept out.new ≡ O.kept out.old }
         ensures cause { HasCause (IsErr result) (O.faults out.old) (O.faults out.new) }
     {
         if let Some(byte) = self.owed {
@@ -100,6 +102,7 @@ impl Demotion {
         ensures untaken { OnErr result (taken_so_far self.new ≡ taken_so_far self.old) }
         ensures given { Gives self.old self.new (O.contents out.old) (O.contents out.new) }
         ensures unchanged { OnOk result (O.faults out.new ≡ O.faults out.old) }
+        ensures same_sink { O.kept out.new ≡ O.kept out.old }
         ensures cause { HasCause (IsErr result) (O.faults out.old) (O.faults out.new) }
     {
         let held = self.held;
@@ -129,6 +132,7 @@ impl Demotion {
         ensures untaken { OnErr result (self.new.taken.bytes ≡ self.old.taken.bytes) }
         ensures given { Gives self.old self.new (O.contents out.old) (O.contents out.new) }
         ensures unchanged { OnOk result (O.faults out.new ≡ O.faults out.old) }
+        ensures same_sink { O.kept out.new ≡ O.kept out.old }
         ensures cause { HasCause (IsErr result) (O.faults out.old) (O.faults out.new) }
     {
         let len = size(self.narrow);

@@ -1,9 +1,15 @@
 //! Laws of narrow values. Each is a function with no parameters and an empty body, whose contract is the theorem.
 
-ghost use Rattle.std.specs.Prelude.{◌≡◌, ℤ, FitsSigned};
+ghost use Rattle.std.specs.Prelude.{◌≡◌, ◌<◌, ◌%◌, ℕ, ℤ, List, length, Ok, All, FitsSigned};
 ghost use Rattle.std.specs.Int.{w32};
 ghost use Rattle.zf_narrow.specs.declared.narrow.Narrow.{Narrow};
-ghost use Rattle.zf_narrow.specs.Values.{IsNarrow, promoted, demoted};
+ghost use Rattle.zf_base.specs.declared.lane.Ty.TheVariants as types;
+ghost use Rattle.zf_header.specs.declared.header.Header.{Header};
+ghost use Rattle.zf_header.specs.declared.header.Mode.TheVariants.{Reversible};
+ghost use Rattle.zf_header.specs.HeaderBits.{IsHeader};
+ghost use Rattle.zf_narrow.specs.Values.{IsNarrow, size_of, promoted, demoted};
+ghost use Rattle.zf_narrow.specs.RawNarrow.{promoted_bytes, demoted_bytes};
+ghost use Rattle.zf_narrow.specs.Texts.{narrow_len, narrow_text, restore_narrow_answer, narrow_restored};
 
 /// Each number of a narrow type has a value of int32 that stands for it.
 pub fn a_promoted_value_fits()
@@ -18,4 +24,18 @@ pub fn a_demoted_value_is_narrow()
 /// The value that stands for a number stands for that one.
 pub fn demote_undoes_promote()
     ensures { (n : Narrow) (v : ℤ) → IsNarrow n v → demoted n (promoted n v) ≡ v }
+{}
+
+/// The raw bytes of whole narrow values come back of the values that stand for them.
+pub fn raw_bytes_come_back()
+    ensures { (n : Narrow) (bytes : List ℕ) → length bytes % size_of n ≡ 0 → All (λ b. b < 256) bytes
+        → demoted_bytes n (promoted_bytes n bytes) ≡ bytes }
+{}
+
+/// A reversible stream of narrow values is good, and restores exactly the bytes that it was made of.
+pub fn restore_narrow_undoes_compress_narrow()
+    ensures answer { (n : Narrow) (h : Header) (bytes : List ℕ) → IsHeader h → h.ty ≡ types.I32
+        → restore_narrow_answer (narrow_text n h bytes) ≡ Ok tt }
+    ensures reversible { (n : Narrow) (h : Header) (bytes : List ℕ) → IsHeader h → h.ty ≡ types.I32 → h.mode ≡ Reversible
+        → length bytes ≡ narrow_len n h → All (λ b. b < 256) bytes → narrow_restored n (narrow_text n h bytes) ≡ bytes }
 {}

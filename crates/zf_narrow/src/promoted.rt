@@ -20,18 +20,23 @@ pub(crate) struct Promoted<'a, S: Source, K: Begun> {
     pub(crate) src: &'a mut S,
     pub(crate) promotion: Promotion,
     pub(crate) begun: PhantomData<K>,
-    ghost same_source: { src.ghost_name ≡ K.name },
     ghost same_type: { promotion.narrow ≡ K.narrow },
     ghost at_end: { IsTrue promotion.spent → IsAtEnd (S.contents src.now) } by { →_prop (IsAtEnd-prop (S.contents src.now)) },
     ghost read: { Takes K.start (S.contents src.now) (read_so_far promotion) } by { Takes-prop K.start (S.contents src.now) (read_so_far promotion) },
 }
 
 impl<'a, S: Source, K: Begun> Source for Promoted<'a, S, K> {
+    ghost use base.Fml.{GName};
+
+    ghost Kept = { GName × S.Kept };
+
     ghost contents = { λ p. told p.promotion (S.contents p.src.now) };
 
     ghost faults = { λ p. S.faults p.src.now };
 
     ghost never_fails = { λ p. S.never_fails p.src.now };
+
+    ghost kept = { λ p. (p.src.ghost_name, S.kept p.src.now) };
 
     fn read(&mut self, buf: &mut [u8]) -> Result<usize, Failed> {
         self.promotion.read(&mut *self.src, buf)

@@ -56,6 +56,14 @@ impl Promotion {
         }
     }
 
+    /// How many int32 bytes of a value are still to be given: less than a value.
+    pub(crate) fn pending(&self) -> usize
+        ensures count { result + self.now.at ≡ 4 }
+        ensures value { length self.now.value ≡ 4 }
+    {
+        4 - self.at
+    }
+
     /// Reads some of the next int32 bytes into the front of `buf`, and says how many, as a source does.
     pub(crate) fn read<S: Source>(&mut self, src: &mut S, buf: &mut [u8]) -> Result<usize, Failed>
         requires room { 0 < length buf.old }
@@ -69,6 +77,7 @@ impl Promotion {
         ensures taken { Logs self.old self.new (S.contents src.old) (S.contents src.new) }
         ensures at_end { IsTrue self.new.spent → IsAtEnd (S.contents src.new) }
         ensures unchanged { OnOk result (S.faults src.new ≡ S.faults src.old) }
+        ensures same_source { S.kept src.new ≡ S.kept src.old }
         ensures cause { HasCause (IsErr result) (S.faults src.old) (S.faults src.new) }
         ensures sure { S.never_fails src.old → IsOk result × S.never_fails src.new }
     {
@@ -102,6 +111,7 @@ impl Promotion {
         ensures taken { Logs self.old self.new (S.contents src.old) (S.contents src.new) }
         ensures at_end { IsTrue self.new.spent → IsAtEnd (S.contents src.new) }
         ensures unchanged { OnOk result (S.faults src.new ≡ S.faults src.old) }
+        ensures same_source { S.kept src.new ≡ S.kept src.old }
         ensures cause { HasCause (IsErr result) (S.faults src.old) (S.faults src.new) }
         ensures sure { S.never_fails src.old → IsOk result × S.never_fails src.new }
     {
@@ -133,6 +143,7 @@ impl Promotion {
         ensures end { IfOk result (λ k. k ≡ 0 → IsAtEnd (S.contents src.new)) }
         ensures err { OnErr result (TakesRaw self.old self.new (S.contents src.old) (S.contents src.new) []) }
         ensures unchanged { OnOk result (S.faults src.new ≡ S.faults src.old) }
+        ensures same_source { S.kept src.new ≡ S.kept src.old }
         ensures cause { HasCause (IsErr result) (S.faults src.old) (S.faults src.new) }
         ensures sure { S.never_fails src.old → IsOk result × S.never_fails src.new }
     {

@@ -27,6 +27,7 @@ pub(crate) fn take_values<S: Source>(
     ensures err { OnErr result (TakesValues n (S.contents src.old) (S.contents src.new) (listed half.old) (listed half.new) []) }
     ensures half { length (listed half.new) < size_of n }
     ensures unchanged { OnOk result (S.faults src.new ≡ S.faults src.old) }
+    ensures same_source { S.kept src.new ≡ S.kept src.old }
     ensures cause { HasCause (IsErr result) (S.faults src.old) (S.faults src.new) }
     ensures sure { S.never_fails src.old → IsOk result × S.never_fails src.new }
 {
@@ -70,6 +71,7 @@ fn read_behind<S: Source>(src: &mut S, at: usize, piece: &mut [u8]) -> Result<us
     ensures end { IfOk result (λ k. k ≡ 0 → IsAtEnd (S.contents src.new)) }
     ensures err { OnErr result (ReadsBehind (S.contents src.old) (S.contents src.new) (take at piece.old) (take at piece.old) 0) }
     ensures unchanged { OnOk result (S.faults src.new ≡ S.faults src.old) }
+    ensures same_source { S.kept src.new ≡ S.kept src.old }
     ensures cause { HasCause (IsErr result) (S.faults src.old) (S.faults src.new) }
     ensures sure { S.never_fails src.old → IsOk result × S.never_fails src.new }
 {

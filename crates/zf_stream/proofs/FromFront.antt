@@ -20,9 +20,9 @@ use Rattle.zf_stream.specs.declared.fault.StreamFault.{StreamFault}
 use Rattle.zf_stream.specs.Raw.{raw_bytes}
 use Rattle.zf_stream.specs.Parsing.{read_codes, values_said, header_of, code_bits, codes_answer, blocks_text, longest_codes, restore_answer, restored_text, without_values}
 use Rattle.zf_stream.specs.ReadStreams.{BeginsWithHeader}
-use Rattle.zf_stream.specs.Outcomes.{Answers, IsRefusal, CanRefuse, Finishes, LeavesFront}
+use Rattle.zf_stream.specs.Outcomes.{Answers, IsRefusal, Finishes, LeavesFront}
 use Rattle.zf_stream.specs.Windows.{Window}
-use Rattle.zf_stream.specs.Restoring.{behind, still, stream_from, text_of_codes, answer_of_codes, LeavesRows, HasFault, Refuses, RestoresAll}
+use Rattle.zf_stream.specs.Restoring.{behind, FinishesBehind, CanRefuseBehind, still, stream_from, text_of_codes, answer_of_codes, LeavesRows, HasFault, Refuses, RestoresAll}
 use Rattle.zf_stream.proofs.Answering.{answer_of_refusal, answer_at_end}
 use Rattle.zf_stream.proofs.Parsed.{parse_is, begun_more}
 use Rattle.zf_stream.proofs.TextOfParse.{text_of_parse}
@@ -112,6 +112,10 @@ module _ (h : Header) (len : ℕ) (front : List ℕ) (begun : BeginsWithHeader f
         written = subst P same done.written;
       }
 
+  pub finishes_behind : {src now out0 out : Option (List ℕ)} → RestoresAll h src now out0 out w → FinishesBehind front src now out0 out
+  unfolding finishes
+  finishes_behind {src} {now} {out0} {out} all_done = record { done = finishes all_done; more = all_done.bytes; begins = refl }
+
   pub leaves_front : {src now out0 out : Option (List ℕ)} → LeavesRows h src now out0 out w → LeavesFront restored_text (behind front src) now out0 out
   leaves_front {src} {now} {out0} {out} left =
       let P : List ℕ → Type 0 = λ bs. AppendsFront out0 out bs in
@@ -124,9 +128,9 @@ module _ (h : Header) (len : ℕ) (front : List ℕ) (begun : BeginsWithHeader f
   fault_is : {src now : Option (List ℕ)} {e : StreamFault} (fault : HasFault h src now w e) → restore_answer (front ++ (fault.bytes ++ still now)) ≡ Err e
   fault_is {src} {now} {e} fault = ap without_values (sym (answer_is (fault.bytes ++ still now)) ∙ fault.answer)
 
-  pub can_refuse : (src now : Option (List ℕ)) (e : StreamFault) → Refuses h src now w e → CanRefuse restore_answer e
+  pub can_refuse : (src now : Option (List ℕ)) (e : StreamFault) → Refuses h src now w e → CanRefuseBehind front e
   can_refuse src now e refuses =
-      ⊎_elim (λ fault. inl (front ++ (fault.bytes ++ still now), fault_is fault)) (λ device. ⊎_elim (λ read. inr (inl read)) (λ write. inr (inr (inl write))) device) refuses
+      ⊎_elim (λ fault. inl (fault.bytes ++ still now, fault_is fault)) (λ device. ⊎_elim (λ read. inr (inl read)) (λ write. inr (inr (inl write))) device) refuses
 
   pub is_refusal : (src now : Option (List ℕ)) (e : StreamFault) → Refuses h src now w e → IsRefusal (behind front src) restore_answer e
   is_refusal None now e refuses = tt

@@ -12,10 +12,10 @@ use Rattle.zf_stream.specs.declared.fault.StreamFault.TheVariants as faults
 use Rattle.zf_stream.specs.Parsing.{header_of, header_or, restore_answer}
 use Rattle.zf_stream.specs.Outcomes.{Answers, IsFront, IsFromOutside}
 use Rattle.zf_stream.specs.ReadStreams.{BeginsWithHeader, IsFaultOf}
-use Rattle.zf_stream.specs.Restoring.{behind}
-use Rattle.zf_stream.specs.Typed.{with_true, answer_of_types, typed_answer}
+use Rattle.zf_stream.specs.Restoring.{behind, FinishesBehind, CanRefuseBehind}
+use Rattle.zf_stream.specs.Typed.{with_true, answer_of_types, typed_answer, CanRefuseTyped, RestoresTyped}
 use Rattle.zf_stream.proofs.Parsed.{begun_more, fault_first}
-use Rattle.zf_stream.proofs.FromFront.{Answers-known}
+use Rattle.zf_stream.proofs.FromFront.{Answers-known, Takes-known}
 
 same_types : (wanted ty : Ty) (answer : Result (Unit {0}) StreamFault) → ty ≡ wanted → answer_of_types wanted ty answer ≡ with_true answer
 same_types I32 ty answer is = ap (λ t. answer_of_types I32 t answer) is
@@ -73,3 +73,34 @@ typed_same wanted known src front h len r taken begun same answers = by known sr
         ap (typed_answer wanted) taken ∙ typed_by wanted front rest h len begun ∙ same_types wanted h.ty (restore_answer (front ++ rest)) same
         ∙ ap (λ bs. with_true (restore_answer bs)) (sym taken) in
         ⊎_elim (λ answer. inl (ap with_true answer ∙ sym is)) (λ out. inr (outside r out)) answers
+
+-- a good stream of the wanted type
+pub typed_done : (wanted : Ty) (known src now out0 out : Option (List ℕ)) (front : List ℕ) (h : Header) (len : ℕ) → Takes known src front → BeginsWithHeader front h len → h.ty ≡ wanted → FinishesBehind front src now out0 out
+    → RestoresTyped wanted known now out0 out
+typed_done wanted known src now out0 out front h len taken begun same fin =
+    let bytes = fin.done.bytes in
+    record {
+      bytes = bytes;
+      taken = Takes-known known src now front bytes taken fin.done.taken;
+      ended = fin.done.ended;
+      good =
+          ap (typed_answer wanted) fin.begins ∙ typed_by wanted front fin.more h len begun ∙ same_types wanted h.ty (restore_answer (front ++ fin.more)) same
+          ∙ ap (λ bs. with_true (restore_answer bs)) (sym fin.begins) ∙ ap with_true fin.done.good;
+      written = fin.done.written;
+    }
+
+-- a fault of a header is that of its bytes, and one behind it that of bytes behind it
+pub typed_possible_header : (wanted : Ty) (front : List ℕ) (e : StreamFault) → IsFaultOf front e → CanRefuseTyped wanted e
+typed_possible_header wanted front (faults.Header f) fault = inl (front, ap (λ o. header_or o (answer_of_types wanted (header_of front).ty (restore_answer front))) fault)
+typed_possible_header wanted front (faults.RawShort m) fault = absurd fault
+typed_possible_header wanted front faults.RawLong fault = absurd fault
+typed_possible_header wanted front (faults.Truncated m) fault = absurd fault
+typed_possible_header wanted front faults.Pad fault = absurd fault
+typed_possible_header wanted front faults.Trailing fault = absurd fault
+typed_possible_header wanted front faults.Read fault = absurd fault
+typed_possible_header wanted front faults.Write fault = absurd fault
+typed_possible_header wanted front faults.Memory fault = absurd fault
+
+pub typed_possible : (wanted : Ty) (front : List ℕ) (h : Header) (len : ℕ) (e : StreamFault) → BeginsWithHeader front h len → h.ty ≡ wanted → CanRefuseBehind front e → CanRefuseTyped wanted e
+typed_possible wanted front h len e begun same can =
+    ⊎_elim (λ is. inl (front ++ is.0, typed_by wanted front is.0 h len begun ∙ same_types wanted h.ty (restore_answer (front ++ is.0)) same ∙ ap with_true is.1)) (λ out. inr out) can

@@ -10,13 +10,24 @@ use Rattle.zf_dev.specs.Sink.{Appends, AppendsFront}
 use Rattle.zf_stream.specs.declared.fault.StreamFault.{StreamFault}
 use Rattle.zf_stream.specs.declared.fault.StreamFault.TheVariants as faults
 use Rattle.zf_stream.specs.Raw.{raw_bytes}
-use Rattle.zf_stream.specs.Parsing.{read_codes, codes_answer, blocks_text, longest_codes}
+use Rattle.zf_stream.specs.Parsing.{read_codes, codes_answer, blocks_text, longest_codes, restore_answer, restored_text}
+use Rattle.zf_stream.specs.Outcomes.{Finishes, IsFromOutside}
 use Rattle.zf_stream.specs.Windows.{Window, left_of, Goes}
 
 -- bytes in front of what is still to come of a device
 abbrev pub behind : List ℕ → Option (List ℕ) → Option (List ℕ)
 behind front None = None
 behind front (Some left) = Some (front ++ left)
+
+-- the input behind these bytes was read to its end; all of it is a good stream, whose text was written
+pub record FinishesBehind (front : List ℕ) (src_before src_now out_before out_now : Option (List ℕ)) : Type 0 where
+  pub done : Finishes restore_answer restored_text (behind front src_before) src_now out_before out_now
+  pub more : List ℕ
+  pub begins : done.bytes ≡ front ++ more
+
+-- some input behind these bytes has this refusal, or it comes from outside
+abbrev pub CanRefuseBehind : List ℕ → StreamFault → Type 0
+CanRefuseBehind front e = ((more : List ℕ) × (restore_answer (front ++ more) ≡ Err e)) ⊎ IsFromOutside e
 
 -- what is still to come, as far as the device tells it
 abbrev pub still : Option (List ℕ) → List ℕ

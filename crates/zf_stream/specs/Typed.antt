@@ -1,13 +1,14 @@
 -- A stream that is restored where its values are of one type.
-use Rattle.std.specs.Prelude.{ℕ, ◌≡◌, ◌≢◌, Bool, true, false, List, Option, Some, None, Result, Ok, Err}
+use Rattle.std.specs.Prelude.{ℕ, ◌≡◌, ◌≢◌, ◌⊎◌, Bool, true, false, List, Option, Some, None, Result, Ok, Err}
 use Rattle.zf_base.specs.declared.lane.Ty.{Ty}
 use Rattle.zf_base.specs.declared.lane.Ty.TheVariants.{I32, I64}
 use Rattle.zf_header.specs.declared.header.HeaderFault.{HeaderFault}
 use Rattle.zf_header.specs.HeaderFaults.{header_fault}
-use Rattle.zf_dev.specs.Source.{Takes}
+use Rattle.zf_dev.specs.Source.{Takes, IsAtEnd}
+use Rattle.zf_dev.specs.Sink.{Appends}
 use Rattle.zf_stream.specs.declared.fault.StreamFault.{StreamFault}
+use Rattle.zf_stream.specs.Outcomes.{IsFromOutside}
 use Rattle.zf_stream.specs.Parsing.{header_of, header_or, restore_answer, restored_text}
-use Rattle.zf_stream.specs.Outcomes.{Finishes}
 
 -- a good stream is of the wanted type
 abbrev pub with_true : Result (Unit {0}) StreamFault → Result Bool StreamFault
@@ -25,6 +26,18 @@ answer_of_types I64 I32 answer = Ok false
 abbrev pub typed_answer : Ty → List ℕ → Result Bool StreamFault
 typed_answer wanted bytes = header_or (header_fault bytes) (answer_of_types wanted (header_of bytes).ty (restore_answer bytes))
 
+-- some input has this refusal, or it comes from outside
+abbrev pub CanRefuseTyped : Ty → StreamFault → Type 0
+CanRefuseTyped wanted e = ((input : List ℕ) × (typed_answer wanted input ≡ Err e)) ⊎ IsFromOutside e
+
+-- the input was read to its end and is a good stream of the wanted type, and its text was written
+pub record RestoresTyped (wanted : Ty) (src_before src_now out_before out_now : Option (List ℕ)) : Type 0 where
+  pub bytes : List ℕ
+  pub taken : Takes src_before src_now bytes
+  pub ended : IsAtEnd src_now
+  pub good : typed_answer wanted bytes ≡ Ok true
+  pub written : Appends out_before out_now (restored_text bytes)
+
 -- some bytes were read that begin with a good header of another type, and nothing was written
 pub record HasOtherType (wanted : Ty) (src_before src_now out_before out_now : Option (List ℕ)) : Type 0 where
   pub bytes : List ℕ
@@ -35,5 +48,5 @@ pub record HasOtherType (wanted : Ty) (src_before src_now out_before out_now : O
 
 -- the stream is of the wanted type and was restored, or of the other
 abbrev pub RestoresWhere : Ty → Bool → Option (List ℕ) → Option (List ℕ) → Option (List ℕ) → Option (List ℕ) → Type 0
-RestoresWhere wanted true src_before src_now out_before out_now = Finishes restore_answer restored_text src_before src_now out_before out_now
+RestoresWhere wanted true src_before src_now out_before out_now = RestoresTyped wanted src_before src_now out_before out_now
 RestoresWhere wanted false src_before src_now out_before out_now = HasOtherType wanted src_before src_now out_before out_now

@@ -52,7 +52,9 @@ pub fn compress<S: Source, O: Sink>(
     ensures err { OnErr result (LeavesFront (stream_text h.now)
         (S.contents src.old) (S.contents src.new) (O.contents out.old) (O.contents out.new)) }
     ensures unwritten { result ≡ Err Memory → O.contents out.new ≡ O.contents out.old }
+    ensures same_source { S.kept src.new ≡ S.kept src.old }
     ensures read_cause { HasCause (result ≡ Err Read) (S.faults src.old) (S.faults src.new) }
+    ensures same_sink { O.kept out.new ≡ O.kept out.old }
     ensures write_cause { HasCause (result ≡ Err Write) (O.faults out.old) (O.faults out.new) }
     ensures sure { S.never_fails src.old → (result ≢ Err Read) × S.never_fails src.new }
 {
@@ -79,7 +81,9 @@ fn compress_as<T: Lane, S: Source, O: Sink>(
     ensures err { OnErr result (LeavesFront (stream_text h.now)
         (S.contents src.old) (S.contents src.new) (O.contents out.old) (O.contents out.new)) }
     ensures unwritten { result ≡ Err Memory → O.contents out.new ≡ O.contents out.old }
+    ensures same_source { S.kept src.new ≡ S.kept src.old }
     ensures read_cause { HasCause (result ≡ Err Read) (S.faults src.old) (S.faults src.new) }
+    ensures same_sink { O.kept out.new ≡ O.kept out.old }
     ensures write_cause { HasCause (result ≡ Err Write) (O.faults out.old) (O.faults out.new) }
     ensures sure { S.never_fails src.old → (result ≢ Err Read) × S.never_fails src.new }
 {
@@ -144,7 +148,9 @@ fn write_stream<T: Lane, S: Source, O: Sink>(
     ensures err { OnErr result (LeavesFront (stream_text h.now)
         (S.contents src.old) (S.contents src.new) (O.contents out.old) (O.contents out.new)) }
     ensures unwritten { result ≢ Err Memory }
+    ensures same_source { S.kept src.new ≡ S.kept src.old }
     ensures read_cause { HasCause (result ≡ Err Read) (S.faults src.old) (S.faults src.new) }
+    ensures same_sink { O.kept out.new ≡ O.kept out.old }
     ensures write_cause { HasCause (result ≡ Err Write) (O.faults out.old) (O.faults out.new) }
     ensures sure { S.never_fails src.old → (result ≢ Err Read) × S.never_fails src.new }
 {
@@ -191,7 +197,9 @@ fn write_slabs<T: Lane, S: Source, O: Sink>(
     ensures unwanted { IfErr result (λ e. e ≢ Memory) }
     ensures few { OnOk result (length codes.new.bits < most) }
     ensures room { OnOk result (length codes.old.bits + codes.old.room ≤ length codes.new.bits + codes.new.room) }
+    ensures same_source { S.kept src.new ≡ S.kept src.old }
     ensures read_cause { HasCause (result ≡ Err Read) (S.faults src.old) (S.faults src.new) }
+    ensures same_sink { O.kept out.new ≡ O.kept out.old }
     ensures write_cause { HasCause (result ≡ Err Write) (O.faults out.old) (O.faults out.new) }
     ensures sure { S.never_fails src.old → (result ≢ Err Read) × S.never_fails src.new }
 {
@@ -263,7 +271,9 @@ fn write_slab<T: Lane, S: Source, O: Sink>(
     ensures few { OnOk result (length codes.new.bits < most) }
     ensures room { OnOk result (length codes.old.bits + codes.old.room ≤ length codes.new.bits + codes.new.room) }
     ensures scratch { s.new ≡ s.old }
+    ensures same_source { S.kept src.new ≡ S.kept src.old }
     ensures read_cause { HasCause (result ≡ Err Read) (S.faults src.old) (S.faults src.new) }
+    ensures same_sink { O.kept out.new ≡ O.kept out.old }
     ensures write_cause { HasCause (result ≡ Err Write) (O.faults out.old) (O.faults out.new) }
     ensures sure { S.never_fails src.old → (result ≢ Err Read) × S.never_fails src.new }
 {

@@ -45,6 +45,7 @@ pub(crate) fn read_slab<T: Lane, S: Source>(
     ensures err { IfErr result (LacksSlab part.now first (S.contents src.old) (S.contents src.new) window.old) }
     ensures room { OnOk result (window.new.room ≡ window.old.room) }
     ensures ended { OnOk result (KnowsEnd window.new (S.contents src.new)) }
+    ensures same_source { S.kept src.new ≡ S.kept src.old }
     ensures cause { HasCause (result ≡ Err Read) (S.faults src.old) (S.faults src.new) }
     ensures sure { S.never_fails src.old → (result ≢ Err Read) × S.never_fails src.new }
 {

@@ -54,6 +54,7 @@ pub(crate) fn write_codes<T: Lane, O: Sink>(
     ensures few { OnOk result (length codes.new.bits < most) }
     ensures room { OnOk result (length codes.old.bits + codes.old.room ≤ length codes.new.bits + codes.new.room) }
     ensures scratch { s.new ≡ s.old }
+    ensures same_sink { O.kept out.new ≡ O.kept out.old }
     ensures cause { HasCause (result ≡ Err Write) (O.faults out.old) (O.faults out.new) }
 {
     for b in 0..h.shape.blocks() {
@@ -77,6 +78,7 @@ fn write_where_many<O: Sink>(
     ensures fault { IfErr result (λ e. e ≡ Write) }
     ensures few { OnOk result (length codes.new.bits < most) }
     ensures room { OnOk result (length codes.old.bits + codes.old.room ≤ length codes.new.bits + codes.new.room) }
+    ensures same_sink { O.kept out.new ≡ O.kept out.old }
     ensures cause { HasCause (result ≡ Err Write) (O.faults out.old) (O.faults out.new) }
 {
     if codes.len() < most {

@@ -16,6 +16,7 @@ use zf_header::{FULL_HEADER_BYTES, Header};
 pub fn read_header<S: Source>(src: &mut S) -> Result<(Header, u32), StreamFault>
     ensures ok { IfOk result (λ found. ReadsHeader (S.contents src.old) (S.contents src.new) found.0 found.1) }
     ensures err { IfErr result (LacksHeader (S.contents src.old) (S.contents src.new)) }
+    ensures same_source { S.kept src.new ≡ S.kept src.old }
     ensures cause { HasCause (result ≡ Err Read) (S.faults src.old) (S.faults src.new) }
     ensures sure { S.never_fails src.old → (result ≢ Err Read) × S.never_fails src.new }
 {

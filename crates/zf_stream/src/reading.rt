@@ -19,6 +19,7 @@ pub(crate) fn read_raw<S: Source>(
     requires fits { before + length raw.old < 2 ^ 64 }
     ensures ok { OnOk result (Takes (S.contents src.old) (S.contents src.new) raw.new) }
     ensures err { IfErr result (LacksRaw before (length raw.old) (S.contents src.old) (S.contents src.new)) }
+    ensures same_source { S.kept src.new ≡ S.kept src.old }
     ensures cause { HasCause (result ≡ Err Read) (S.faults src.old) (S.faults src.new) }
     ensures sure { S.never_fails src.old → (result ≢ Err Read) × S.never_fails src.new }
 {
@@ -33,6 +34,7 @@ pub(crate) fn read_raw<S: Source>(
 pub(crate) fn read_end<S: Source>(src: &mut S) -> Result<(), StreamFault>
     ensures ok { OnOk result (Takes (S.contents src.old) (S.contents src.new) [] × IsAtEnd (S.contents src.new)) }
     ensures err { IfErr result (GoesOn (S.contents src.old) (S.contents src.new)) }
+    ensures same_source { S.kept src.new ≡ S.kept src.old }
     ensures cause { HasCause (result ≡ Err Read) (S.faults src.old) (S.faults src.new) }
     ensures sure { S.never_fails src.old → (result ≢ Err Read) × S.never_fails src.new }
 {
@@ -52,6 +54,7 @@ pub(crate) fn read_into<S: Source>(src: &mut S, buf: &mut [u8]) -> Result<usize,
     ensures lost { OnErr result (TakesAtMost (S.contents src.old) (S.contents src.new) (length buf.old)) }
     ensures some { TakesSome (S.contents src.old) (S.contents src.new) }
     ensures fault { IfErr result (λ e. e ≡ Read) }
+    ensures same_source { S.kept src.new ≡ S.kept src.old }
     ensures cause { HasCause (result ≡ Err Read) (S.faults src.old) (S.faults src.new) }
     ensures sure { S.never_fails src.old → IsOk result × S.never_fails src.new }
 {

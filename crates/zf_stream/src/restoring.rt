@@ -8,11 +8,11 @@ ghost use Rattle.zf_dev.specs.Faults.{HasCause};
 ghost use Rattle.zf_dev.specs.Source.{IsAtEnd};
 ghost use Rattle.zf_stream.specs.Parsing.{restore_answer, restored_text, longest_code};
 ghost use Rattle.zf_stream.specs.Outcomes.{CanRefuse, Answers, Finishes, LeavesFront, IsBeforeWriting};
-ghost use Rattle.zf_stream.specs.Typed.{typed_answer, RestoresWhere};
+ghost use Rattle.zf_stream.specs.Typed.{typed_answer, CanRefuseTyped, RestoresWhere};
 ghost use Rattle.zf_stream.specs.ReadStreams.{BeginsWithHeader, HasGoodHeader};
 ghost use Rattle.zf_stream.specs.Rows.{ArePieces};
 ghost use Rattle.zf_stream.specs.Windows.{KnowsEnd};
-ghost use Rattle.zf_stream.specs.Restoring.{behind, Restores, LeavesRows, Refuses, RestoresAll};
+ghost use Rattle.zf_stream.specs.Restoring.{behind, FinishesBehind, CanRefuseBehind, Restores, LeavesRows, Refuses, RestoresAll};
 ghost use Rattle.zf_stream.specs.declared.fault.StreamFault.TheVariants.{Read, Write, Memory};
 
 use crate::StreamFault;
@@ -47,7 +47,9 @@ pub fn restore<S: Source, O: Sink>(
         (S.contents src.old) (S.contents src.new) (O.contents out.old) (O.contents out.new)) }
     ensures unwritten { IfErr result (λ e. IsBeforeWriting e → O.contents out.new ≡ O.contents out.old) }
     ensures memory { result ≡ Err Memory → HasGoodHeader (S.contents src.old) }
+    ensures same_source { S.kept src.new ≡ S.kept src.old }
     ensures read_cause { HasCause (result ≡ Err Read) (S.faults src.old) (S.faults src.new) }
+    ensures same_sink { O.kept out.new ≡ O.kept out.old }
     ensures write_cause { HasCause (result ≡ Err Write) (O.faults out.old) (O.faults out.new) }
     ensures sure { S.never_fails src.old → (result ≢ Err Read) × S.never_fails src.new }
 {
@@ -65,14 +67,16 @@ pub fn restore_where<S: Source, O: Sink>(
     out: &mut O,
 ) -> Result<bool, StreamFault>
     ensures answer { Answers result (S.contents src.old) (typed_answer wanted) }
-    ensures possible { IfErr result (CanRefuse restore_answer) }
+    ensures possible { IfErr result (CanRefuseTyped wanted) }
     ensures ok { IfOk result (λ is. RestoresWhere wanted is
         (S.contents src.old) (S.contents src.new) (O.contents out.old) (O.contents out.new)) }
     ensures err { OnErr result (LeavesFront restored_text
         (S.contents src.old) (S.contents src.new) (O.contents out.old) (O.contents out.new)) }
     ensures unwritten { IfErr result (λ e. IsBeforeWriting e → O.contents out.new ≡ O.contents out.old) }
     ensures memory { result ≡ Err Memory → HasGoodHeader (S.contents src.old) }
+    ensures same_source { S.kept src.new ≡ S.kept src.old }
     ensures read_cause { HasCause (result ≡ Err Read) (S.faults src.old) (S.faults src.new) }
+    ensures same_sink { O.kept out.new ≡ O.kept out.old }
     ensures write_cause { HasCause (result ≡ Err Write) (O.faults out.old) (O.faults out.new) }
     ensures sure { S.never_fails src.old → (result ≢ Err Read) × S.never_fails src.new }
 {
@@ -99,13 +103,15 @@ fn restore_behind<S: Source, O: Sink>(
     requires few { length front.now ≤ 24 }
     requires ended { length front.now < 24 → IsAtEnd (S.contents src.old) }
     ensures answer { Answers result (behind front.now (S.contents src.old)) restore_answer }
-    ensures possible { IfErr result (CanRefuse restore_answer) }
-    ensures ok { OnOk result (Finishes restore_answer restored_text
-        (behind front.now (S.contents src.old)) (S.contents src.new) (O.contents out.old) (O.contents out.new)) }
+    ensures possible { IfErr result (CanRefuseBehind front.now) }
+    ensures ok { OnOk result (FinishesBehind front.now
+        (S.contents src.old) (S.contents src.new) (O.contents out.old) (O.contents out.new)) }
     ensures err { OnErr result (LeavesFront restored_text
         (behind front.now (S.contents src.old)) (S.contents src.new) (O.contents out.old) (O.contents out.new)) }
     ensures unwritten { IfErr result (λ e. IsBeforeWriting e → O.contents out.new ≡ O.contents out.old) }
+    ensures same_source { S.kept src.new ≡ S.kept src.old }
     ensures read_cause { HasCause (result ≡ Err Read) (S.faults src.old) (S.faults src.new) }
+    ensures same_sink { O.kept out.new ≡ O.kept out.old }
     ensures write_cause { HasCause (result ≡ Err Write) (O.faults out.old) (O.faults out.new) }
     ensures sure { S.never_fails src.old → (result ≢ Err Read) × S.never_fails src.new }
 {
@@ -129,13 +135,15 @@ fn restore_as<T: Lane, S: Source, O: Sink>(
     requires few { length front.now ≤ 24 }
     requires ended { length front.now < 24 → IsAtEnd (S.contents src.old) }
     ensures answer { Answers result (behind front.now (S.contents src.old)) restore_answer }
-    ensures possible { IfErr result (CanRefuse restore_answer) }
-    ensures ok { OnOk result (Finishes restore_answer restored_text
-        (behind front.now (S.contents src.old)) (S.contents src.new) (O.contents out.old) (O.contents out.new)) }
+    ensures possible { IfErr result (CanRefuseBehind front.now) }
+    ensures ok { OnOk result (FinishesBehind front.now
+        (S.contents src.old) (S.contents src.new) (O.contents out.old) (O.contents out.new)) }
     ensures err { OnErr result (LeavesFront restored_text
         (behind front.now (S.contents src.old)) (S.contents src.new) (O.contents out.old) (O.contents out.new)) }
     ensures unwritten { IfErr result (λ e. IsBeforeWriting e → O.contents out.new ≡ O.contents out.old) }
+    ensures same_source { S.kept src.new ≡ S.kept src.old }
     ensures read_cause { HasCause (result ≡ Err Read) (S.faults src.old) (S.faults src.new) }
+    ensures same_sink { O.kept out.new ≡ O.kept out.old }
     ensures write_cause { HasCause (result ≡ Err Write) (O.faults out.old) (O.faults out.new) }
     ensures sure { S.never_fails src.old → (result ≢ Err Read) × S.never_fails src.new }
 {
@@ -187,7 +195,9 @@ fn restore_rows<T: Lane, S: Source, O: Sink>(
     ensures err { OnErr result (LeavesRows h.now
         (S.contents src.old) (S.contents src.new) (O.contents out.old) (O.contents out.new) window.old) }
     ensures refused { IfErr result (Refuses h.now (S.contents src.old) (S.contents src.new) window.old) }
+    ensures same_source { S.kept src.new ≡ S.kept src.old }
     ensures read_cause { HasCause (result ≡ Err Read) (S.faults src.old) (S.faults src.new) }
+    ensures same_sink { O.kept out.new ≡ O.kept out.old }
     ensures write_cause { HasCause (result ≡ Err Write) (O.faults out.old) (O.faults out.new) }
     ensures sure { S.never_fails src.old → (result ≢ Err Read) × S.never_fails src.new }
 {
@@ -224,7 +234,9 @@ fn restore_slabs<T: Lane, S: Source, O: Sink>(
     ensures refused { IfErr result (Refuses h.now (S.contents src.old) (S.contents src.new) window.old) }
     ensures room { OnOk result (window.new.room ≡ window.old.room) }
     ensures ended { OnOk result (KnowsEnd window.new (S.contents src.new)) }
+    ensures same_source { S.kept src.new ≡ S.kept src.old }
     ensures read_cause { HasCause (result ≡ Err Read) (S.faults src.old) (S.faults src.new) }
+    ensures same_sink { O.kept out.new ≡ O.kept out.old }
     ensures write_cause { HasCause (result ≡ Err Write) (O.faults out.old) (O.faults out.new) }
     ensures sure { S.never_fails src.old → (result ≢ Err Read) × S.never_fails src.new }
 {

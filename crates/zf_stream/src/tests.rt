@@ -106,11 +106,15 @@ struct Asked {
 impl Source for Asked {
     ghost use Rattle.std.specs.Prelude.{◌≡◌, [], Some};
 
+    ghost Kept = { Unit {0} };
+
     ghost contents = { λ s. Some s.inner.left };
 
     ghost faults = { λ s. s.inner.faults };
 
     ghost never_fails = { λ s. s.inner.fail ≡ [] };
+
+    ghost kept = { λ _. tt };
 
     fn read(&mut self, buf: &mut [u8]) -> Result<usize, Failed> {
         self.most = self.most.max(buf.len());

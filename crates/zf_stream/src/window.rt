@@ -98,6 +98,7 @@ impl Window {
         ensures enough { OnOk result (self.new.ended ≡ false → need ≤ length (left_of self.new)) }
         ensures fault { IfErr result (λ e. e ≡ Read) }
         ensures taken { OnErr result (TakesSome (S.contents src.old) (S.contents src.new)) }
+        ensures same_source { S.kept src.new ≡ S.kept src.old }
         ensures cause { HasCause (result ≡ Err Read) (S.faults src.old) (S.faults src.new) }
         ensures sure { S.never_fails src.old → (result ≢ Err Read) × S.never_fails src.new }
     {
@@ -144,6 +145,7 @@ impl Window {
         ensures more { OnOk result (self.new.ended ≡ false → length (left_of self.old) < length (left_of self.new)) }
         ensures fault { IfErr result (λ e. e ≡ Read) }
         ensures taken { OnErr result (TakesSome (S.contents src.old) (S.contents src.new)) }
+        ensures same_source { S.kept src.new ≡ S.kept src.old }
         ensures cause { HasCause (result ≡ Err Read) (S.faults src.old) (S.faults src.new) }
         ensures sure { S.never_fails src.old → (result ≢ Err Read) × S.never_fails src.new }
     {

@@ -26,6 +26,7 @@ pub(crate) fn write_whole_words<O: Sink>(
     ensures fault { IfErr result (λ e. e ≡ Write) }
     ensures few { OnOk result (length codes.new.bits < 64) }
     ensures room { OnOk result (length codes.old.bits + codes.old.room ≤ length codes.new.bits + codes.new.room) }
+    ensures same_sink { O.kept out.new ≡ O.kept out.old }
     ensures cause { HasCause (result ≡ Err Write) (O.faults out.old) (O.faults out.new) }
 {
     let len = codes.len();
@@ -45,6 +46,7 @@ fn write_words<O: Sink>(words: &[u64], piece: &mut [u8], out: &mut O) -> Result<
     ensures err { OnErr result (AppendsFront (O.contents out.old) (O.contents out.new) (bytes_in words.now)) }
     ensures words { All (λ v. v < 2 ^ 64) words.now }
     ensures fault { IfErr result (λ e. e ≡ Write) }
+    ensures same_sink { O.kept out.new ≡ O.kept out.old }
     ensures cause { HasCause (result ≡ Err Write) (O.faults out.old) (O.faults out.new) }
 {
     let most = piece.len() / 8;
@@ -63,6 +65,7 @@ pub(crate) fn write_bytes<O: Sink>(bytes: &[u8], out: &mut O) -> Result<(), Stre
     ensures ok { OnOk result (Appends (O.contents out.old) (O.contents out.new) bytes.now) }
     ensures err { OnErr result (AppendsFront (O.contents out.old) (O.contents out.new) bytes.now) }
     ensures fault { IfErr result (λ e. e ≡ Write) }
+    ensures same_sink { O.kept out.new ≡ O.kept out.old }
     ensures cause { HasCause (result ≡ Err Write) (O.faults out.old) (O.faults out.new) }
 {
     match write_all(out, bytes) {
@@ -81,6 +84,7 @@ pub(crate) fn write_values<T: Lane, O: Sink>(
     ensures ok { OnOk result (Appends (O.contents out.old) (O.contents out.new) (raw T.width (map T.value values.now))) }
     ensures err { OnErr result (AppendsFront (O.contents out.old) (O.contents out.new) (raw T.width (map T.value values.now))) }
     ensures fault { IfErr result (λ e. e ≡ Write) }
+    ensures same_sink { O.kept out.new ≡ O.kept out.old }
     ensures cause { HasCause (result ≡ Err Write) (O.faults out.old) (O.faults out.new) }
 {
     let len = value_len::<T>();

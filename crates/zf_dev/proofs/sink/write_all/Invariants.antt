@@ -7,6 +7,7 @@ invariant-loop-written g l = record {
   in_range : l.written ≤ length l.bytes;
   front : Appends (g.O.Sink.contents l.initial.out) (g.O.Sink.contents l.out) (take l.written l.bytes);
   same : g.O.Sink.faults l.out ≡ g.O.Sink.faults l.initial.out;
+  same_sink : g.O.Sink.kept l.out ≡ g.O.Sink.kept l.initial.out;
 }
 
 abbrev pub decreases-loop-written : goal.decreases-loop-written

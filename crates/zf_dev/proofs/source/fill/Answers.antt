@@ -17,5 +17,6 @@ loop-filled-preserved g c =
       taken = rw (take-put_mid_part buf part at (length buf - at) count in_buf in_part) (Takes-append _ _ _ _ _ c.loop-filled.invariant.taken c.in_ok-n.ensures.taken);
       rest = rest_more c.args.buf.now buf part at count in_buf in_part c.loop-filled.invariant.rest c.in_ok-n.ensures.rest;
       same = c.in_ok-n.ensures.unchanged ∙ c.loop-filled.invariant.same;
+      same_source = c.in_ok-n.ensures.kept ∙ c.loop-filled.invariant.same_source;
       sure = λ sure. (c.in_ok-n.ensures.sure (c.loop-filled.invariant.sure sure)).1;
     }

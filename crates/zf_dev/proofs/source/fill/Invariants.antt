@@ -8,6 +8,7 @@ invariant-loop-filled g l = record {
   taken : Takes (g.S.Source.contents l.initial.src) (g.S.Source.contents l.src) (take l.filled l.buf);
   rest : drop l.filled l.buf ≡ drop l.filled l.initial.buf;
   same : g.S.Source.faults l.src ≡ g.S.Source.faults l.initial.src;
+  same_source : g.S.Source.kept l.src ≡ g.S.Source.kept l.initial.src;
   sure : g.S.Source.never_fails l.initial.src → g.S.Source.never_fails l.src;
 }
 

@@ -7,6 +7,7 @@ invariant-loop-count g l = record {
   taken : Takes (g.S.Source.contents l.initial.src) (g.S.Source.contents l.src) l.bytes.items;
   within : l.left + length l.bytes.items ≡ l.max;
   same : g.S.Source.faults l.src ≡ g.S.Source.faults l.initial.src;
+  same_source : g.S.Source.kept l.src ≡ g.S.Source.kept l.initial.src;
   sure : g.S.Source.never_fails l.initial.src → g.S.Source.never_fails l.src;
 }
 

@@ -24,6 +24,7 @@ loop-b-init g c = record {
   whole = c.requires.whole;
   room = refl;
   ended = c.requires.ended;
+  same_source = refl;
   faults = omega arith;
   sure = λ sure. sure;
 }
@@ -88,6 +89,7 @@ loop-b-preserved g c =
       whole = c.read_block.auto.block ∙ so_far.whole;
       room = c.read_block.ensures.room ∙ refill.room ∙ so_far.room;
       ended = λ is. c.in_ok-reach.ensures.ended (sym c.read_block.ensures.ended ∙ is);
+      same_source = c.reach.ensures.same_source ∙ so_far.same_source;
       faults = omega (arith, so_far.faults, c.reach.ensures.cause.0);
       sure = λ sure. (c.reach.ensures.sure (so_far.sure sure)).1;
     }

@@ -14,6 +14,7 @@ pub record Decoded (g : goal.Over) (l : goal.Live-loop-b g) : Type 0 where
   pub whole : length l.block ≡ 4 ^ length l.part.shape
   pub room : l.window.room ≡ l.fn.window.room
   pub ended : KnowsEnd l.window (g.S.Source.contents l.src)
+  pub same_source : g.S.Source.kept l.src ≡ g.S.Source.kept l.fn.src
   pub faults : g.S.Source.faults l.fn.src ≤ g.S.Source.faults l.src
   pub sure : g.S.Source.never_fails l.fn.src → g.S.Source.never_fails l.src
 

@@ -52,5 +52,6 @@ loop-b-preserved g c =
       room = omega (arith, c.loop-b.invariant.room, c.in_ok-write_where_many.ensures.room, c.write_code.ensures.code.room, length-Appends c.write_code.ensures.code);
       scratch = c.write_code.ensures.scratch ∙ c.loop-b.invariant.scratch;
       whole = c.write_code.auto.block ∙ c.loop-b.invariant.whole;
+      same_sink = c.write_where_many.ensures.same_sink ∙ c.loop-b.invariant.same_sink;
       faults = omega (arith, c.loop-b.invariant.faults, c.write_where_many.ensures.cause.0);
     }

@@ -13,6 +13,7 @@ pub record Coded (g : goal.Over) (l : goal.Live-loop-b g) : Type 0 where
   pub room : length l.fn.codes.bits + l.fn.codes.room ≤ length l.codes.bits + l.codes.room
   pub scratch : l.s ≡ l.fn.s
   pub whole : length l.block ≡ 4 ^ length l.h.shape
+  pub same_sink : g.O.Sink.kept l.out ≡ g.O.Sink.kept l.fn.out
   pub faults : g.O.Sink.faults l.fn.out ≤ g.O.Sink.faults l.out
 
 abbrev pub invariant-loop-b : goal.invariant-loop-b

@@ -1,7 +1,8 @@
-use Rattle.std.proofs.Common.{◌≡◌, Err, arith}
-use Rattle.std.proofs.lemmas.Result.{err_from_is_err_and}
+use Rattle.std.proofs.Common.{◌≡◌, ◌++◌, inl, inr, ⊎_elim, Err, arith}
+use Rattle.std.proofs.lemmas.Result.{err_from_is_err_and, IfErr-weaker}
 use Rattle.zf_stream.specs.Parsing.{restore_answer}
-use Rattle.zf_stream.proofs.Answering.{answer_of_refusal}
+use Rattle.zf_stream.proofs.Answering.{answer_of_refusal, on_ok_weaker}
+use Rattle.zf_stream.proofs.FromFront.{Finishes-known}
 use Rattle.zf_stream.proofs.Parsed.{good_of_front, refusal_of_fault}
 use Rattle.zf_stream.proofs.Refusals.{CanRefuse-header}
 use Rattle.zf_stream.proofs.restoring.restore.Goals as goal
@@ -22,3 +23,12 @@ returns-in_err-h-clause-possible g c =
 
 pub returns-clause-memory : goal.returns-clause-memory
 returns-clause-memory g c = λ memory. good_of_front 24 (g.S.Source.contents c.args.src.now) _ (omega arith) c.in_ok-count.ensures.first.first c.in_ok-h.ensures.ok.good
+
+pub returns-clause-ok : goal.returns-clause-ok
+returns-clause-ok g c =
+    on_ok_weaker c.restore_behind.result c.restore_behind.ensures.ok
+    (λ fin. Finishes-known (g.S.Source.contents c.args.src.now) (g.S.Source.contents c.read_into.new.src) _ c.in_ok-count.ensures.first.taken fin.done)
+
+pub returns-clause-possible : goal.returns-clause-possible
+returns-clause-possible g c =
+    IfErr-weaker c.restore_behind.result _ _ (λ e can. ⊎_elim (λ is. inl (_, is.1)) (λ out. inr out) can) c.restore_behind.ensures.possible

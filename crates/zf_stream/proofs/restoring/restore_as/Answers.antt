@@ -5,7 +5,7 @@ use Rattle.zf_pad.proofs.Slabs.{product-with_rows}
 use Rattle.zf_stream.proofs.OnErrors.{on_err}
 use Rattle.zf_stream.proofs.OwnFaults.{refused_later}
 use Rattle.zf_stream.proofs.Answering.{after_err, on_ok_weaker}
-use Rattle.zf_stream.proofs.FromFront.{header_is, finishes, leaves_front, can_refuse, answers, nothing_taken}
+use Rattle.zf_stream.proofs.FromFront.{header_is, finishes_behind, leaves_front, can_refuse, answers, nothing_taken}
 use Rattle.zf_stream.proofs.Slabwise.{are_pieces}
 use Rattle.zf_stream.proofs.restoring.restore_as.Goals as goal
 
@@ -49,7 +49,7 @@ returns-clause-possible g c =
 pub returns-clause-ok : goal.returns-clause-ok
 returns-clause-ok g c =
     on_ok_weaker c.restore_rows.result c.restore_rows.ensures.ok
-    (λ done. finishes c.args.h.now c.args.header_len c.args.front.now c.requires.begun c.in_ok-window.window c.in_ok-window.ensures.bits (c.in_ok-window.ensures.place ∙ c.from.ensures) done)
+    (λ done. finishes_behind c.args.h.now c.args.header_len c.args.front.now c.requires.begun c.in_ok-window.window c.in_ok-window.ensures.bits (c.in_ok-window.ensures.place ∙ c.from.ensures) done)
 
 pub returns-clause-err : goal.returns-clause-err
 returns-clause-err g c =

@@ -10,6 +10,8 @@ pub record SoFar (g : goal.Over) (l : goal.Live-loop-row g) : Type 0 where
   pub first : l.first ≡ first_block l.h.shape ((l.row + 3) / 4)
   pub room : l.window.room ≡ l.fn.window.room
   pub ended : KnowsEnd l.window (g.S.Source.contents l.src)
+  pub same_source : g.S.Source.kept l.src ≡ g.S.Source.kept l.fn.src
+  pub same_sink : g.O.Sink.kept l.out ≡ g.O.Sink.kept l.fn.out
   pub reads : g.S.Source.faults l.fn.src ≤ g.S.Source.faults l.src
   pub writes : g.O.Sink.faults l.fn.out ≤ g.O.Sink.faults l.out
   pub sure : g.S.Source.never_fails l.fn.src → g.S.Source.never_fails l.src

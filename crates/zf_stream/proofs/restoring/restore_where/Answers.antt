@@ -5,8 +5,7 @@ use Rattle.zf_stream.specs.Parsing.{restore_answer}
 use Rattle.zf_stream.specs.Outcomes.{Answers}
 use Rattle.zf_stream.specs.Typed.{with_true, typed_answer}
 use Rattle.zf_stream.proofs.Parsed.{good_of_front}
-use Rattle.zf_stream.proofs.Refusals.{CanRefuse-header}
-use Rattle.zf_stream.proofs.TypedAnswers.{typed_fault, typed_other, typed_same}
+use Rattle.zf_stream.proofs.TypedAnswers.{typed_fault, typed_other, typed_same, typed_done, typed_possible_header, typed_possible}
 use Rattle.zf_stream.proofs.restoring.restore_where.Goals as goal
 
 pub returns-in_err-header-clause-answer : goal.returns-in_err-header-clause-answer
@@ -20,7 +19,7 @@ pub returns-in_err-header-clause-possible : goal.returns-in_err-header-clause-po
 returns-in_err-header-clause-possible g c =
     let e = c.in_err-header.field-0.0 in
     let p = err_from_is_err_and c.from_residual-in_err-header.result c.from_residual-in_err-header.ensures.1 in
-    rw (p.1, p.2) (CanRefuse-header 24 _ e (omega arith) c.in_ok-read.ensures.first.within c.in_err-header.ensures.err)
+    rw (p.1, p.2) (typed_possible_header c.args.wanted _ e c.in_err-header.ensures.err)
 
 pub returns-then-ne-clause-answer : goal.returns-then-ne-clause-answer
 returns-then-ne-clause-answer g c =
@@ -36,6 +35,13 @@ returns-in_err-restore_behind-clause-answer g c =
     let Of : Result Bool StreamFault → Type 0 = λ r. Answers r (g.S.Source.contents c.args.src.now) (typed_answer c.args.wanted) in
     subst Of (sym is) (typed_same c.args.wanted (g.S.Source.contents c.args.src.now) (g.S.Source.contents c.read_into.new.src) _ c.in_ok-header.header c.in_ok-header.len (Err e) c.in_ok-read.ensures.first.taken c.in_ok-header.ensures.ok same c.in_err-restore_behind.ensures.answer)
 
+pub returns-in_err-restore_behind-clause-possible : goal.returns-in_err-restore_behind-clause-possible
+returns-in_err-restore_behind-clause-possible g c =
+    let same : c.in_ok-header.header.ty ≡ c.args.wanted = search rules in
+    let e = c.in_err-restore_behind.field-0.0 in
+    let p = err_from_is_err_and c.from_residual-in_err-restore_behind.result c.from_residual-in_err-restore_behind.ensures.1 in
+    rw (p.1, p.2) (typed_possible c.args.wanted _ c.in_ok-header.header c.in_ok-header.len e c.in_ok-header.ensures.ok same c.in_err-restore_behind.ensures.possible)
+
 pub returns-in_err-restore_behind-clause-memory : goal.returns-in_err-restore_behind-clause-memory
 returns-in_err-restore_behind-clause-memory g c = λ memory. good_of_front 24 (g.S.Source.contents c.args.src.now) _ (omega arith) c.in_ok-read.ensures.first.first c.in_ok-header.ensures.ok.good
 
@@ -43,3 +49,9 @@ pub returns-clause-answer : goal.returns-clause-answer
 returns-clause-answer g c =
     let same : c.in_ok-header.header.ty ≡ c.args.wanted = search rules in
     typed_same c.args.wanted (g.S.Source.contents c.args.src.now) (g.S.Source.contents c.read_into.new.src) _ c.in_ok-header.header c.in_ok-header.len (Ok tt) c.in_ok-read.ensures.first.taken c.in_ok-header.ensures.ok same c.in_ok-restore_behind.ensures.answer
+
+pub returns-clause-ok : goal.returns-clause-ok
+returns-clause-ok g c =
+    let same : c.in_ok-header.header.ty ≡ c.args.wanted = search rules in
+    typed_done c.args.wanted (g.S.Source.contents c.args.src.now) (g.S.Source.contents c.read_into.new.src) (g.S.Source.contents c.restore_behind.new.src) (g.O.Sink.contents c.args.out.now) (g.O.Sink.contents c.restore_behind.new.out)
+    _ c.in_ok-header.header c.in_ok-header.len c.in_ok-read.ensures.first.taken c.in_ok-header.ensures.ok same c.in_ok-restore_behind.ensures.ok

@@ -74,5 +74,6 @@ loop-at-preserved g c =
     record {
       within = omega (arith, c.loop-at-test.true, c.min-n.ensures);
       written = subst P (bytes_more w value values at n (n * len) (at + n - at) len put rest c.put_raw.ensures count long) (Appends-append from mid to front here c.loop-at.invariant.written piece);
+      same_sink = c.write_bytes.ensures.same_sink ∙ c.loop-at.invariant.same_sink;
       faults = omega (arith, c.loop-at.invariant.faults, c.write_bytes.ensures.cause.0);
     }

@@ -58,6 +58,7 @@ loop-at-preserved g c =
     record {
       within = omega (arith, c.loop-at-test.true, c.min-n.ensures);
       written = subst P (sym (bytes_more words at n)) (Appends-append from mid to (bytes_in (take at words)) (bytes_in (take n (drop at words))) c.loop-at.invariant.written piece);
+      same_sink = c.write_bytes.ensures.same_sink ∙ c.loop-at.invariant.same_sink;
       faults = omega (arith, c.loop-at.invariant.faults, c.write_bytes.ensures.cause.0);
     }
 

@@ -1,0 +1,436 @@
+-- How a compression of narrow values ends, from how that of their int32 bytes does.
+use Rattle.std.proofs.Common.{◌≡◌, refl, sym, ap, subst, ◌∙◌, ℕ, ◌+◌, ◌*◌, ◌/◌, ◌%◌, ◌-◌, min, ◌≤◌, ◌<◌, ◌⊎◌, inl, inr, ⊎_elim, cond, ltb, lt-ltb, le-ltb, Bool, true, false, IsTrue, List, [], ◌++◌, length, take, drop, replicate, Option, Some, None, Result, Ok, Err, append-nil, length-append, arith}
+use Rattle.std.specs.Prelude.{IsErrAnd}
+use Rattle.std.proofs.lemmas.Bool.{cases_lt}
+use Rattle.std.proofs.lemmas.List.{append_cancel_right, drop_all, length-drop, length-replicate}
+use Rattle.std.specs.Int.{byte_len}
+use Rattle.zf_spec.specs.Grid.{product}
+use Rattle.zf_base.specs.Widths.{width_of}
+use Rattle.zf_base.specs.declared.lane.Ty.{Ty}
+use Rattle.zf_base.specs.declared.lane.Ty.TheVariants.{I32}
+use Rattle.zf_header.specs.declared.header.Header.{Header}
+use Rattle.zf_dev.specs.Source.{Takes, TakesMoreThan, IsAtEnd}
+use Rattle.zf_dev.specs.Sink.{AppendsFront}
+use Rattle.zf_dev.proofs.Taking.{Takes-to_end}
+use Rattle.zf_dev.proofs.Appending.{AppendsFront-none}
+use Rattle.zf_stream.specs.declared.fault.StreamFault.{StreamFault}
+use Rattle.zf_stream.specs.declared.fault.StreamFault.TheVariants as faults
+use Rattle.zf_stream.specs.Raw.{raw_len, length_answer, compress_answer, stream_text}
+use Rattle.zf_stream.specs.Outcomes.{Answers, CanRefuse, ShowsLength, Finishes, LeavesFront, IsFromOutside}
+use Rattle.zf_stream.proofs.RawRows.{good_answer}
+use Rattle.zf_narrow.specs.declared.narrow.Narrow.{Narrow}
+use Rattle.zf_narrow.specs.declared.narrow.Narrow.TheVariants.{I8, U8, I16, U16}
+use Rattle.zf_narrow.specs.Values.{size_of}
+use Rattle.zf_narrow.specs.RawNarrow.{promoted_bytes, promoted_all}
+use Rattle.zf_narrow.specs.declared.promotion.Promotion.{Promotion}
+use Rattle.zf_narrow.specs.Promoting.{listed, told_by}
+use Rattle.zf_narrow.specs.Promotions.{told, read_so_far}
+use Rattle.zf_narrow.specs.Texts.{narrow_len, narrow_count, narrow_fault, compress_narrow_answer, ArePromoted, ArePromotedAfter, CompressesNarrow, LeavesNarrow}
+use Rattle.zf_narrow.proofs.Whole.{length-promoted_bytes, length-promoted_all}
+use Rattle.zf_narrow.proofs.Fronts.{stream_text-zeros}
+use Rattle.zf_narrow.proofs.Reading.{told_unspent}
+use Rattle.zf_narrow.proofs.Giving.{Gave, gave, source_ended, Nearly, nearly, all_given_text}
+
+-- ---- lengths
+
+pub raw_len-int32 : (h : Header) → h.ty ≡ I32 → raw_len h ≡ 4 * product h.shape
+raw_len-int32 h int32 = ap (λ (ty : Ty). byte_len (width_of ty) * product h.shape) int32
+
+-- fewer, as many or more: the same of the narrow bytes as of their int32 bytes
+same_few : (n : Narrow) (l p : ℕ) → l / size_of n * 4 + l % size_of n < 4 * p → l < size_of n * p
+same_few I8 l p few = omega (arith, few)
+same_few U8 l p few = omega (arith, few)
+same_few I16 l p few = omega (arith, few)
+same_few U16 l p few = omega (arith, few)
+
+same_all : (n : Narrow) (l p : ℕ) → l / size_of n * 4 + l % size_of n ≡ 4 * p → (l ≡ size_of n * p) × (l % size_of n ≡ 0)
+same_all I8 l p all = (omega (arith, all), omega (arith, all))
+same_all U8 l p all = (omega (arith, all), omega (arith, all))
+same_all I16 l p all = (omega (arith, all), omega (arith, all))
+same_all U16 l p all = (omega (arith, all), omega (arith, all))
+
+same_many : (n : Narrow) (l p z : ℕ) → z ≤ l % size_of n → 4 * p < l / size_of n * 4 + z → size_of n * p < l
+same_many I8 l p z half many = omega (arith, half, many)
+same_many U8 l p z half many = omega (arith, half, many)
+same_many I16 l p z half many = omega (arith, half, many)
+same_many U16 l p z half many = omega (arith, half, many)
+
+count_back : (n : Narrow) (l : ℕ) → narrow_count n (l / size_of n * 4 + l % size_of n) ≡ l
+count_back I8 l = omega arith
+count_back U8 l = omega arith
+count_back I16 l = omega arith
+count_back U16 l = omega arith
+
+count_few : (n : Narrow) (k p : ℕ) → k < 4 * p → narrow_count n k < size_of n * p
+count_few I8 k p few = omega (arith, few)
+count_few U8 k p few = omega (arith, few)
+count_few I16 k p few = omega (arith, few)
+count_few U16 k p few = omega (arith, few)
+
+-- ---- answers
+
+short_answer : (wanted : ℕ) (bytes : List ℕ) → length bytes < wanted → length_answer wanted bytes ≡ Err (faults.RawShort (length bytes))
+short_answer wanted bytes few =
+    ap (λ t. cond t (Err (faults.RawShort (length bytes))) (cond (ltb wanted (length bytes)) (Err faults.RawLong) (Ok tt))) (lt-ltb (length bytes) wanted few)
+
+long_answer : (wanted : ℕ) (bytes : List ℕ) → wanted < length bytes → length_answer wanted bytes ≡ Err faults.RawLong
+long_answer wanted bytes many =
+    ap (λ t. cond t (Err (faults.RawShort (length bytes))) (cond (ltb wanted (length bytes)) (Err faults.RawLong) (Ok tt))) (le-ltb (length bytes) wanted (omega arith))
+    ∙ ap (λ t. cond t (Err faults.RawLong) (Ok tt)) (lt-ltb wanted (length bytes) many)
+
+-- each of them is the answer of some bytes
+can_be_short : (wanted k : ℕ) → k < wanted → CanRefuse (length_answer wanted) (faults.RawShort k)
+can_be_short wanted k few =
+    let long : length (replicate {A = ℕ} k 0) ≡ k = length-replicate k 0 in
+    inl (replicate k 0, short_answer wanted (replicate k 0) (omega (arith, few, long)) ∙ ap (λ j. Err (faults.RawShort j)) long)
+
+can_be_long : (wanted : ℕ) → CanRefuse (length_answer wanted) faults.RawLong
+can_be_long wanted =
+    let long : length (replicate {A = ℕ} (wanted + 1) 0) ≡ wanted + 1 = length-replicate (wanted + 1) 0 in
+    inl (replicate (wanted + 1) 0, long_answer wanted (replicate (wanted + 1) 0) (omega (arith, long)))
+
+-- what an answer on a length says
+abbrev LengthSays : ℕ → List ℕ → Result (Unit {0}) StreamFault → Type 0
+LengthSays wanted bytes (Ok done) = length bytes ≡ wanted
+LengthSays wanted bytes (Err (faults.RawShort k)) = (length bytes ≡ k) × (length bytes < wanted)
+LengthSays wanted bytes (Err faults.RawLong) = wanted < length bytes
+LengthSays wanted bytes (Err e) = ⊥
+
+length_says : (wanted : ℕ) (bytes : List ℕ) (r : Result (Unit {0}) StreamFault) → length_answer wanted bytes ≡ r → LengthSays wanted bytes r
+length_says wanted bytes r is = subst (LengthSays wanted bytes) is (says (cases_lt (length bytes) wanted) (cases_lt wanted (length bytes)))
+  where
+    says : (length bytes < wanted) ⊎ (wanted ≤ length bytes) → (wanted < length bytes) ⊎ (length bytes ≤ wanted) → LengthSays wanted bytes (length_answer wanted bytes)
+    says (inl few) more = subst (LengthSays wanted bytes) (sym (short_answer wanted bytes few)) (refl, few)
+    says (inr enough) (inl many) = subst (LengthSays wanted bytes) (sym (long_answer wanted bytes many)) many
+    says (inr enough) (inr no_more) =
+        let same : length bytes ≡ wanted = omega (arith, enough, no_more) in
+        subst (LengthSays wanted bytes) (sym (good_answer wanted bytes same)) same
+
+-- a refusal of int32 bytes as one of the narrow bytes
+abbrev narrow_result : Narrow → Result (Unit {0}) StreamFault → Result (Unit {0}) StreamFault
+narrow_result n (Ok done) = Ok done
+narrow_result n (Err e) = Err (narrow_fault n e)
+
+same_answer : (n : Narrow) (h : Header) (input : List ℕ) → h.ty ≡ I32 → narrow_result n (compress_answer h (promoted_all n input)) ≡ compress_narrow_answer n h input
+same_answer n h input int32 = by (cases_lt (length (promoted_all n input)) (raw_len h)) (cases_lt (raw_len h) (length (promoted_all n input)))
+  where
+    by : (length (promoted_all n input) < raw_len h) ⊎ (raw_len h ≤ length (promoted_all n input)) → (raw_len h < length (promoted_all n input)) ⊎ (length (promoted_all n input) ≤ raw_len h)
+        → narrow_result n (compress_answer h (promoted_all n input)) ≡ compress_narrow_answer n h input
+    by (inl few) more =
+        let all = promoted_all n input in
+        let long = length-promoted_all n input in
+        ap (narrow_result n) (short_answer (raw_len h) all few)
+        ∙ ap (λ k. Err (faults.RawShort k)) (ap (narrow_count n) long ∙ count_back n (length input))
+        ∙ sym (short_answer (narrow_len n h) input (same_few n (length input) (product h.shape) (omega (arith, few, long, raw_len-int32 h int32))))
+    by (inr enough) (inl many) =
+        let all = promoted_all n input in
+        let long = length-promoted_all n input in
+        ap (narrow_result n) (long_answer (raw_len h) all many)
+        ∙ sym (long_answer (narrow_len n h) input (same_many n (length input) (product h.shape) (length input % size_of n) (omega arith) (omega (arith, many, long, raw_len-int32 h int32))))
+    by (inr enough) (inr no_more) =
+        let all = promoted_all n input in
+        let same : length all ≡ raw_len h = omega (arith, enough, no_more) in
+        ap (narrow_result n) (good_answer (raw_len h) all same)
+        ∙ sym (good_answer (narrow_len n h) input (same_all n (length input) (product h.shape) (sym (length-promoted_all n input) ∙ same ∙ raw_len-int32 h int32)).0)
+
+short_not_outside : (k : ℕ) → IsFromOutside (faults.RawShort k) → ⊥
+short_not_outside k (inl e) = cc
+short_not_outside k (inr (inl e)) = cc
+short_not_outside k (inr (inr e)) = cc
+
+outside_still : (n : Narrow) (r : Result (Unit {0}) StreamFault) → IsErrAnd r IsFromOutside → IsErrAnd (narrow_result n r) IsFromOutside
+outside_still n (Ok done) is = absurd is
+outside_still n (Err (faults.RawShort k)) is = absurd (short_not_outside k is)
+outside_still n (Err faults.RawLong) is = is
+outside_still n (Err (faults.Header f)) is = is
+outside_still n (Err (faults.Truncated b)) is = is
+outside_still n (Err faults.Pad) is = is
+outside_still n (Err faults.Trailing) is = is
+outside_still n (Err faults.Read) is = is
+outside_still n (Err faults.Write) is = is
+outside_still n (Err faults.Memory) is = is
+
+narrow_answers : (n : Narrow) (h : Header) (known : Option (List ℕ)) (r : Result (Unit {0}) StreamFault) → h.ty ≡ I32 → Answers r (told_by n false [] [] known) (compress_answer h)
+    → Answers (narrow_result n r) known (compress_narrow_answer n h)
+narrow_answers n h None r int32 answers = tt
+narrow_answers n h (Some input) r int32 answers =
+    ⊎_elim (λ is. inl (ap (narrow_result n) is ∙ same_answer n h input int32)) (λ out. inr (outside_still n r out)) answers
+
+-- ---- refusals
+
+-- the refusals that a compression can have at all
+abbrev CanCome : StreamFault → Type 0
+CanCome (faults.Header f) = ⊥
+CanCome (faults.Truncated b) = ⊥
+CanCome faults.Pad = ⊥
+CanCome faults.Trailing = ⊥
+CanCome e = Unit {0}
+
+can_come : (h : Header) (e : StreamFault) → CanRefuse (compress_answer h) e → CanCome e
+can_come h (faults.Header f) (inl is) = absurd (length_says (raw_len h) is.0 (Err (faults.Header f)) is.1)
+can_come h (faults.Header f) (inr (inl e)) = cc
+can_come h (faults.Header f) (inr (inr (inl e))) = cc
+can_come h (faults.Header f) (inr (inr (inr e))) = cc
+can_come h (faults.Truncated b) (inl is) = absurd (length_says (raw_len h) is.0 (Err (faults.Truncated b)) is.1)
+can_come h (faults.Truncated b) (inr (inl e)) = cc
+can_come h (faults.Truncated b) (inr (inr (inl e))) = cc
+can_come h (faults.Truncated b) (inr (inr (inr e))) = cc
+can_come h faults.Pad (inl is) = absurd (length_says (raw_len h) is.0 (Err faults.Pad) is.1)
+can_come h faults.Pad (inr (inl e)) = cc
+can_come h faults.Pad (inr (inr (inl e))) = cc
+can_come h faults.Pad (inr (inr (inr e))) = cc
+can_come h faults.Trailing (inl is) = absurd (length_says (raw_len h) is.0 (Err faults.Trailing) is.1)
+can_come h faults.Trailing (inr (inl e)) = cc
+can_come h faults.Trailing (inr (inr (inl e))) = cc
+can_come h faults.Trailing (inr (inr (inr e))) = cc
+can_come h (faults.RawShort k) can = tt
+can_come h faults.RawLong can = tt
+can_come h faults.Read can = tt
+can_come h faults.Write can = tt
+can_come h faults.Memory can = tt
+
+pub fault_possible : (n : Narrow) (h : Header) (e : StreamFault) → h.ty ≡ I32 → CanRefuse (compress_answer h) e → CanRefuse (compress_narrow_answer n h) (narrow_fault n e)
+fault_possible n h (faults.RawShort k) int32 (inl is) =
+    let says = length_says (raw_len h) is.0 (Err (faults.RawShort k)) is.1 in
+    can_be_short (narrow_len n h) (narrow_count n k) (count_few n k (product h.shape) (omega (arith, says.0, says.1, raw_len-int32 h int32)))
+fault_possible n h (faults.RawShort k) int32 (inr out) = absurd (short_not_outside k out)
+fault_possible n h faults.RawLong int32 can = can_be_long (narrow_len n h)
+fault_possible n h faults.Read int32 can = inr (inl refl)
+fault_possible n h faults.Write int32 can = inr (inr (inl refl))
+fault_possible n h faults.Memory int32 can = inr (inr (inr refl))
+fault_possible n h (faults.Header f) int32 can = absurd (can_come h (faults.Header f) can)
+fault_possible n h (faults.Truncated b) int32 can = absurd (can_come h (faults.Truncated b) can)
+fault_possible n h faults.Pad int32 can = absurd (can_come h faults.Pad can)
+fault_possible n h faults.Trailing int32 can = absurd (can_come h faults.Trailing can)
+
+-- a fault that is not one of a length is handed on
+pub memory_back : (n : Narrow) (e : StreamFault) → narrow_fault n e ≡ faults.Memory → e ≡ faults.Memory
+memory_back n (faults.RawShort k) is = cc
+memory_back n faults.RawLong is = is
+memory_back n (faults.Header f) is = is
+memory_back n (faults.Truncated b) is = is
+memory_back n faults.Pad is = is
+memory_back n faults.Trailing is = is
+memory_back n faults.Read is = is
+memory_back n faults.Write is = is
+memory_back n faults.Memory is = is
+
+pub read_back : (n : Narrow) (e : StreamFault) → narrow_fault n e ≡ faults.Read → e ≡ faults.Read
+read_back n (faults.RawShort k) is = cc
+read_back n faults.RawLong is = is
+read_back n (faults.Header f) is = is
+read_back n (faults.Truncated b) is = is
+read_back n faults.Pad is = is
+read_back n faults.Trailing is = is
+read_back n faults.Read is = is
+read_back n faults.Write is = is
+read_back n faults.Memory is = is
+
+pub write_back : (n : Narrow) (e : StreamFault) → narrow_fault n e ≡ faults.Write → e ≡ faults.Write
+write_back n (faults.RawShort k) is = cc
+write_back n faults.RawLong is = is
+write_back n (faults.Header f) is = is
+write_back n (faults.Truncated b) is = is
+write_back n faults.Pad is = is
+write_back n faults.Trailing is = is
+write_back n faults.Read is = is
+write_back n faults.Write is = is
+write_back n faults.Memory is = is
+
+-- ---- what was read and written
+
+-- a promotion that began with nothing read, once some bytes were given: what was read, and what is to come
+pub record Promotes (n : Narrow) (known now : Option (List ℕ)) (spent : Bool) (pending half taken : List ℕ) : Type 0 where
+  pub whole : length taken % size_of n ≡ 0
+  pub less : length half < size_of n
+  pub few : length pending ≤ 3
+  pub all : IsTrue spent → pending ≡ []
+  pub spent_end : IsTrue spent → IsAtEnd now
+  pub read : Takes known now (taken ++ half)
+
+-- of a told source only one list can have been taken
+same_taken : (left : List ℕ) (now : Option (List ℕ)) (a b : List ℕ) → Takes (Some left) now a → Takes (Some left) now b → a ≡ b
+same_taken left None a b x y = absurd x
+same_taken left (Some rest) a b x y = append_cancel_right a b rest (sym x ∙ y)
+
+module _ (n : Narrow) (h : Header) (int32 : h.ty ≡ I32) (spent : Bool) (pending half taken : List ℕ) where
+  -- all that was read
+  abbrev bytes : List ℕ
+  bytes = taken ++ half
+
+  -- what a told source gave of what was read
+  gave_told : (input : List ℕ) (now : Option (List ℕ)) (raw : List ℕ) → Promotes n (Some input) now spent pending half taken → Takes (told_by n false [] [] (Some input)) (told_by n spent pending half now) raw → Gave n bytes raw
+  gave_told input None raw p given = absurd p.read
+  gave_told input (Some left) raw p given = gave n spent pending half taken input left raw p.read given p.whole p.less p.few p.all p.spent_end
+
+  -- at its end all was given
+  gave_all : (input : List ℕ) (now : Option (List ℕ)) (raw : List ℕ) → Promotes n (Some input) now spent pending half taken → Takes (told_by n false [] [] (Some input)) (told_by n spent pending half now) raw
+      → IsAtEnd (told_by n spent pending half now) → raw ≡ promoted_all n bytes
+  gave_all input now raw p given end =
+      sym (Takes-to_end (promoted_all n input) (told_by n spent pending half now) raw given end)
+      ∙ ap (promoted_all n) (Takes-to_end input now bytes p.read (source_ended n spent pending half now end p.spent_end))
+
+  -- all of the input was read and given, and its stream written
+  pub compresses : (known now out0 out1 : Option (List ℕ)) → Promotes n known now spent pending half taken
+      → Finishes (compress_answer h) (stream_text h) (told_by n false [] [] known) (told_by n spent pending half now) out0 out1 → CompressesNarrow n h known now out0 out1
+  compresses None now out0 out1 p fin = record {
+    bytes = replicate (narrow_len n h) 0;
+    taken = tt;
+    ended = source_ended n spent pending half now fin.ended p.spent_end;
+    good = good_answer (narrow_len n h) (replicate (narrow_len n h) 0) (length-replicate (narrow_len n h) 0);
+    raw = fin.bytes;
+    raw_is = tt;
+    written = fin.written;
+  }
+  compresses (Some input) now out0 out1 p fin =
+      let is : fin.bytes ≡ promoted_all n bytes = gave_all input now fin.bytes p fin.taken fin.ended in
+      let all : length fin.bytes ≡ raw_len h = length_says (raw_len h) fin.bytes (Ok tt) fin.good in
+      let counts = same_all n (length bytes) (product h.shape) (sym (length-promoted_all n bytes) ∙ sym (ap length is) ∙ all ∙ raw_len-int32 h int32) in
+      record {
+        bytes = bytes;
+        taken = p.read;
+        ended = source_ended n spent pending half now fin.ended p.spent_end;
+        good = good_answer (narrow_len n h) bytes counts.0;
+        raw = fin.bytes;
+        raw_is = is ∙ ap (λ k. promoted_bytes n bytes ++ replicate k 0) counts.1 ∙ append-nil (promoted_bytes n bytes);
+        written = fin.written;
+      }
+
+  -- how much was read where the length was refused
+  pub shows : (known now : Option (List ℕ)) (e : StreamFault) → Promotes n known now spent pending half taken
+      → ShowsLength (raw_len h) (told_by n false [] [] known) (told_by n spent pending half now) e → ShowsLength (narrow_len n h) known now (narrow_fault n e)
+  shows known now (faults.RawShort k) p shown = source_ended n spent pending half now shown p.spent_end
+  shows None now faults.RawLong p shown = (replicate (narrow_len n h + 1) 0, omega (arith, length-replicate {A = ℕ} (narrow_len n h + 1) 0), tt)
+  shows (Some input) now faults.RawLong p shown =
+      let g = gave_told input now shown.0 p shown.2 in
+      let long : length shown.0 + length g.pending ≡ length bytes / size_of n * 4 + g.zeros =
+      sym (length-append shown.0 g.pending) ∙ ap length g.parts ∙ length-append (promoted_bytes n bytes) (replicate g.zeros 0)
+      ∙ ap (λ k. k + length (replicate {A = ℕ} g.zeros 0)) (length-promoted_bytes n bytes) ∙ ap (λ k. length bytes / size_of n * 4 + k) (length-replicate g.zeros 0) in
+      (bytes, same_many n (length bytes) (product h.shape) g.zeros g.half (omega (arith, shown.1, long, raw_len-int32 h int32)), p.read)
+  shows known now (faults.Header f) p shown = tt
+  shows known now (faults.Truncated b) p shown = tt
+  shows known now faults.Pad p shown = tt
+  shows known now faults.Trailing p shown = tt
+  shows known now faults.Read p shown = tt
+  shows known now faults.Write p shown = tt
+  shows known now faults.Memory p shown = tt
+
+  -- of a source that tells nothing there is nothing to say
+  untold : (e : StreamFault) (bs raw : List ℕ) → ArePromotedAfter e n None bs raw
+  untold (faults.RawShort k) bs raw = tt
+  untold faults.RawLong bs raw = tt
+  untold (faults.Header f) bs raw = tt
+  untold (faults.Truncated b) bs raw = tt
+  untold faults.Pad bs raw = tt
+  untold faults.Trailing bs raw = tt
+  untold faults.Read bs raw = tt
+  untold faults.Write bs raw = tt
+  untold faults.Memory bs raw = tt
+
+  -- a part was read, and a front of the stream of its values written
+  pub leaves : (known now out0 out1 : Option (List ℕ)) (e : StreamFault) → Promotes n known now spent pending half taken → CanRefuse (compress_answer h) e
+      → ShowsLength (raw_len h) (told_by n false [] [] known) (told_by n spent pending half now) e → (e ≡ faults.Memory → out1 ≡ out0)
+      → LeavesFront (stream_text h) (told_by n false [] [] known) (told_by n spent pending half now) out0 out1 → LeavesNarrow (narrow_fault n e) n h known now out0 out1
+  leaves None now out0 out1 e p can shown unwritten left = record {
+    bytes = [];
+    taken = tt;
+    raw = left.bytes;
+    raw_is = untold (narrow_fault n e) [] left.bytes;
+    written = left.written;
+  }
+  leaves (Some input) now out0 out1 e p can shown unwritten left = by e can shown unwritten
+    where
+      g : Gave n bytes left.bytes
+      g = gave_told input now left.bytes p left.taken
+
+      near : Nearly n h bytes left.bytes
+      near = nearly n h bytes left.bytes g
+
+      all : stream_text h left.bytes ≡ stream_text h (promoted_bytes n bytes) → (e : StreamFault) → ArePromotedAfter e n (Some input) bytes (promoted_bytes n bytes) → LeavesNarrow e n h (Some input) now out0 out1
+      all same e are = record { bytes = bytes; taken = p.read; raw = promoted_bytes n bytes; raw_is = are; written = subst (λ text. AppendsFront out0 out1 text) same left.written }
+
+      part : (e : StreamFault) → ArePromotedAfter e n (Some input) bytes near.some → LeavesNarrow e n h (Some input) now out0 out1
+      part e are = record { bytes = bytes; taken = p.read; raw = near.some; raw_is = are; written = subst (λ text. AppendsFront out0 out1 text) near.same left.written }
+
+      -- a told source has given just these bytes
+      enough : TakesMoreThan (told_by n false [] [] (Some input)) (told_by n spent pending half now) (raw_len h) → raw_len h ≤ length left.bytes
+      enough shown = omega (arith, shown.1, ap length (same_taken (promoted_all n input) (told_by n spent pending half now) left.bytes shown.0 left.taken shown.2))
+
+      by : (e : StreamFault) → CanRefuse (compress_answer h) e → ShowsLength (raw_len h) (told_by n false [] [] (Some input)) (told_by n spent pending half now) e → (e ≡ faults.Memory → out1 ≡ out0)
+          → LeavesNarrow (narrow_fault n e) n h (Some input) now out0 out1
+      by (faults.RawShort k) can shown unwritten =
+          all (ap (stream_text h) (gave_all input now left.bytes p left.taken shown) ∙ stream_text-zeros h (promoted_bytes n bytes) (length bytes % size_of n)) (faults.RawShort (narrow_count n k)) refl
+      by faults.RawLong can shown unwritten = all (all_given_text n h bytes left.bytes g (enough shown)) faults.RawLong refl
+      by faults.Read can shown unwritten = part faults.Read (near.front, near.most)
+      by faults.Write can shown unwritten = part faults.Write (near.front, near.most)
+      by faults.Memory can shown unwritten = record {
+        bytes = bytes;
+        taken = p.read;
+        raw = promoted_bytes n bytes;
+        raw_is = refl;
+        written = subst (λ o. AppendsFront out0 o (stream_text h (promoted_bytes n bytes))) (sym (unwritten refl)) (AppendsFront-none out0 (stream_text h (promoted_bytes n bytes)));
+      }
+      by (faults.Header f) can shown unwritten = absurd (can_come h (faults.Header f) can)
+      by (faults.Truncated b) can shown unwritten = absurd (can_come h (faults.Truncated b) can)
+      by faults.Pad can shown unwritten = absurd (can_come h faults.Pad can)
+      by faults.Trailing can shown unwritten = absurd (can_come h faults.Trailing can)
+
+-- ---- the promotion that the source had when the call began, and the one that it has now
+
+pub record Runs (n : Narrow) (known now : Option (List ℕ)) (old new : Promotion) : Type 0 where
+  pub same_old : old.narrow ≡ n
+  pub at_old : old.at ≡ 4
+  pub four_old : length old.value ≡ 4
+  pub half_old : listed old.half ≡ []
+  pub unspent_old : IsTrue old.spent → ⊥
+  pub same : new.narrow ≡ n
+  pub four : length new.value ≡ 4
+  pub spent_end : IsTrue new.spent → IsAtEnd now
+  pub read : Takes known now (read_so_far new)
+
+module _ (n : Narrow) {known now : Option (List ℕ)} (old new : Promotion) (r : Runs n known now old new) where
+  told_old : told old known ≡ told_by n false [] [] known
+  told_old =
+      told_unspent old known r.at_old r.four_old r.unspent_old
+      ∙ ap (λ m. told_by m false [] (listed old.half) known) r.same_old ∙ ap (λ h. told_by n false [] h known) r.half_old
+
+  told_new : told new now ≡ told_by n new.spent (drop new.at new.value) (listed new.half) now
+  told_new = ap (λ m. told_by m new.spent (drop new.at new.value) (listed new.half) now) r.same
+
+  promotes : Promotes n known now new.spent (drop new.at new.value) (listed new.half) new.taken.bytes
+  promotes = record {
+    whole = subst (λ m. length new.taken.bytes % size_of m ≡ 0) r.same new.whole;
+    less = subst (λ m. length (listed new.half) < size_of m) r.same new.few;
+    few = omega (arith, length-drop new.at new.value, r.four, new.some_given);
+    all = λ spent. drop_all new.at new.value (omega (arith, r.four, new.all_given spent));
+    spent_end = r.spent_end;
+    read = r.read;
+  }
+
+  pub run_compresses : (h : Header) (out0 out1 : Option (List ℕ)) → h.ty ≡ I32 → Finishes (compress_answer h) (stream_text h) (told old known) (told new now) out0 out1 → CompressesNarrow n h known now out0 out1
+  run_compresses h out0 out1 int32 fin =
+      compresses n h int32 new.spent (drop new.at new.value) (listed new.half) new.taken.bytes known now out0 out1 promotes
+      (subst (λ b. Finishes (compress_answer h) (stream_text h) (told_by n false [] [] known) b out0 out1) told_new
+      (subst (λ a. Finishes (compress_answer h) (stream_text h) a (told new now) out0 out1) told_old fin))
+
+  shown_too : (h : Header) (e : StreamFault) → ShowsLength (raw_len h) (told old known) (told new now) e
+      → ShowsLength (raw_len h) (told_by n false [] [] known) (told_by n new.spent (drop new.at new.value) (listed new.half) now) e
+  shown_too h e shown =
+      subst (λ b. ShowsLength (raw_len h) (told_by n false [] [] known) b e) told_new
+      (subst (λ a. ShowsLength (raw_len h) a (told new now) e) told_old shown)
+
+  pub run_shows : (h : Header) (e : StreamFault) → h.ty ≡ I32 → ShowsLength (raw_len h) (told old known) (told new now) e → ShowsLength (narrow_len n h) known now (narrow_fault n e)
+  run_shows h e int32 shown = shows n h int32 new.spent (drop new.at new.value) (listed new.half) new.taken.bytes known now e promotes (shown_too h e shown)
+
+  pub run_leaves : (h : Header) (out0 out1 : Option (List ℕ)) (e : StreamFault) → h.ty ≡ I32 → CanRefuse (compress_answer h) e → ShowsLength (raw_len h) (told old known) (told new now) e → (e ≡ faults.Memory → out1 ≡ out0)
+      → LeavesFront (stream_text h) (told old known) (told new now) out0 out1 → LeavesNarrow (narrow_fault n e) n h known now out0 out1
+  run_leaves h out0 out1 e int32 can shown unwritten left =
+      leaves n h int32 new.spent (drop new.at new.value) (listed new.half) new.taken.bytes known now out0 out1 e promotes can (shown_too h e shown) unwritten
+      (subst (λ b. LeavesFront (stream_text h) (told_by n false [] [] known) b out0 out1) told_new
+      (subst (λ a. LeavesFront (stream_text h) a (told new now) out0 out1) told_old left))
+
+  pub run_good_answers : (h : Header) → h.ty ≡ I32 → Answers (Ok tt) (told old known) (compress_answer h) → Answers (Ok tt) known (compress_narrow_answer n h)
+  run_good_answers h int32 answers = narrow_answers n h known (Ok tt) int32 (subst (λ a. Answers (Ok tt) a (compress_answer h)) told_old answers)
+
+  pub run_fault_answers : (h : Header) (e : StreamFault) → h.ty ≡ I32 → Answers (Err e) (told old known) (compress_answer h) → Answers (Err (narrow_fault n e)) known (compress_narrow_answer n h)
+  run_fault_answers h e int32 answers = narrow_answers n h known (Err e) int32 (subst (λ a. Answers (Err e) a (compress_answer h)) told_old answers)

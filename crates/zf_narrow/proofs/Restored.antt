@@ -1,0 +1,191 @@
+-- How a restoration of narrow values ends, from how that of their int32 bytes does.
+use Rattle.std.proofs.Common.{◌≡◌, ◌≢◌, refl, sym, ap, subst, ◌∙◌, ℕ, ◌+◌, ◌*◌, ◌%◌, ◌≤◌, ◌⊎◌, inl, inr, ⊎_elim, cond, is_none, Bool, true, false, List, [], ◌∷◌, ◌++◌, length, take, drop, replicate, Option, Some, None, Result, Ok, Err, append_assoc, append-nil, length-append, take-append-drop, arith}
+use Rattle.std.specs.Prelude.{IsErrAnd}
+use Rattle.std.proofs.lemmas.List.{length-take}
+use Rattle.std.specs.Int.{byte_len}
+use Rattle.zf_spec.specs.Grid.{product, blocks}
+use Rattle.zf_base.specs.Widths.{width_of}
+use Rattle.zf_base.specs.declared.lane.Ty.{Ty}
+use Rattle.zf_base.specs.declared.lane.Ty.TheVariants.{I32, I64}
+use Rattle.zf_header.specs.declared.header.HeaderFault.{HeaderFault}
+use Rattle.zf_header.specs.HeaderFaults.{header_fault}
+use Rattle.zf_dev.specs.Sink.{Appends, AppendsFront}
+use Rattle.zf_dev.proofs.Appending.{AppendsFront-all, AppendsFront-more}
+use Rattle.zf_stream.specs.declared.fault.StreamFault.{StreamFault}
+use Rattle.zf_stream.specs.declared.fault.StreamFault.TheVariants as faults
+use Rattle.zf_stream.specs.Raw.{raw_len}
+use Rattle.zf_stream.specs.Parsing.{header_of, header_or, code_bits, read_codes, blocks_text, longest_codes, restore_answer, restored_text}
+use Rattle.zf_stream.specs.Outcomes.{Answers, LeavesFront}
+use Rattle.zf_stream.specs.Outcomes as outcomes
+use Rattle.zf_stream.specs.Typed.{answer_of_types, typed_answer, CanRefuseTyped, RestoresTyped, HasOtherType}
+use Rattle.zf_stream.specs.Restoring.{still}
+use Rattle.zf_stream.proofs.Enough.{length-restored_text}
+use Rattle.zf_narrow.specs.declared.narrow.Narrow.{Narrow}
+use Rattle.zf_narrow.specs.declared.fault.NarrowFault.{NarrowFault}
+use Rattle.zf_narrow.specs.declared.fault.NarrowFault.TheVariants.{NotNarrow, Stream}
+use Rattle.zf_narrow.specs.declared.demotion.Demotion.{Demotion}
+use Rattle.zf_narrow.specs.RawNarrow.{demoted_bytes}
+use Rattle.zf_narrow.specs.Promoting.{listed}
+use Rattle.zf_narrow.specs.Texts.{answer_behind, restore_narrow_answer, narrow_restored, IsFromOutside, AnswersNarrow, CanRefuseNarrow, RestoresNarrow, LeavesNarrowFront}
+use Rattle.zf_narrow.proofs.Whole.{demoted_bytes-append}
+
+-- ---- answers
+
+-- the answer of a restoration of int32 values as one of narrow values
+abbrev narrow_of : Result Bool StreamFault → Result (Unit {0}) NarrowFault
+narrow_of (Ok true) = Ok tt
+narrow_of (Ok false) = Err NotNarrow
+narrow_of (Err e) = Err (Stream e)
+
+-- both say the same of an input
+same_answer : (fault : Option HeaderFault) (ty : Ty) (answer : Result (Unit {0}) StreamFault) → narrow_of (header_or fault (answer_of_types I32 ty answer)) ≡ answer_behind fault ty answer
+same_answer (Some f) ty answer = refl
+same_answer None I32 (Ok done) = refl
+same_answer None I32 (Err e) = refl
+same_answer None I64 answer = refl
+
+answer_is : (input : List ℕ) → narrow_of (typed_answer I32 input) ≡ restore_narrow_answer input
+answer_is input = same_answer (header_fault input) (header_of input).ty (restore_answer input)
+
+outside_still : (r : Result Bool StreamFault) → IsErrAnd r outcomes.IsFromOutside → IsErrAnd (narrow_of r) IsFromOutside
+outside_still (Ok b) is = absurd is
+outside_still (Err e) is = is
+
+narrow_answers : (known : Option (List ℕ)) (r : Result Bool StreamFault) → Answers r known (typed_answer I32) → AnswersNarrow (narrow_of r) known
+narrow_answers None r answers = tt
+narrow_answers (Some input) r answers = ⊎_elim (λ is. inl (ap narrow_of is ∙ answer_is input)) (λ out. inr (outside_still r out)) answers
+
+pub good_answers : (known : Option (List ℕ)) → Answers (Ok true) known (typed_answer I32) → AnswersNarrow (Ok tt) known
+good_answers known answers = narrow_answers known (Ok true) answers
+
+pub other_answers : (known : Option (List ℕ)) → Answers (Ok false) known (typed_answer I32) → AnswersNarrow (Err NotNarrow) known
+other_answers known answers = narrow_answers known (Ok false) answers
+
+pub fault_answers : (known : Option (List ℕ)) (e : StreamFault) → Answers (Err e) known (typed_answer I32) → AnswersNarrow (Err (Stream e)) known
+fault_answers known e answers = narrow_answers known (Err e) answers
+
+pub write_answers : (known : Option (List ℕ)) → AnswersNarrow (Err (Stream faults.Write)) known
+write_answers None = tt
+write_answers (Some input) = inr (inr (inl refl))
+
+-- ---- refusals
+
+pub fault_possible : (e : StreamFault) → CanRefuseTyped I32 e → CanRefuseNarrow (Stream e)
+fault_possible e can = ⊎_elim (λ is. inl (is.0, sym (answer_is is.0) ∙ ap narrow_of is.1)) (λ out. inr out) can
+
+not_int32 : (fault : Option HeaderFault) (ty : Ty) (answer : Result (Unit {0}) StreamFault) → fault ≡ None → ty ≢ I32 → answer_behind fault ty answer ≡ Err NotNarrow
+not_int32 (Some f) ty answer good other = cc
+not_int32 None I32 answer good other = absurd (other refl)
+not_int32 None I64 answer good other = refl
+
+pub other_possible : {src0 src1 out0 out1 : Option (List ℕ)} → HasOtherType I32 src0 src1 out0 out1 → CanRefuseNarrow NotNarrow
+other_possible other = inl (other.bytes, not_int32 (header_fault other.bytes) (header_of other.bytes).ty (restore_answer other.bytes) other.good other.other)
+
+-- ---- what was written
+
+empty : (xs : List ℕ) → length xs ≡ 0 → xs ≡ []
+empty [] none = refl
+empty (x ∷ xs) none = absurd (omega (arith, none))
+
+front_empty : (xs ys : List ℕ) → xs ++ ys ≡ [] → xs ≡ []
+front_empty [] ys none = refl
+front_empty (x ∷ xs) ys none = absurd (omega (arith, ap (length {A = ℕ}) none))
+
+some_inj : {xs ys : List ℕ} → Some xs ≡ Some ys → xs ≡ ys
+some_inj same = ap still same
+
+-- the text is whole values
+whole_bytes : (ty : Ty) (count : ℕ) → (byte_len (width_of ty) * count) % 4 ≡ 0
+whole_bytes I32 count = omega arith
+whole_bytes I64 count = omega arith
+
+no_text : (bytes : List ℕ) (f : HeaderFault) → header_fault bytes ≡ Some f → restored_text bytes ≡ []
+unfolding restored_text
+no_text bytes f fault =
+    let h = header_of bytes in
+    ap (λ o. cond (is_none o) (blocks_text h (read_codes h 0 (blocks h.shape) (code_bits bytes ++ replicate (longest_codes h) false))) []) fault
+
+whole_text : (bytes : List ℕ) → length (restored_text bytes) % 4 ≡ 0
+whole_text bytes = by (header_fault bytes) refl
+  where
+    by : (o : Option HeaderFault) → header_fault bytes ≡ o → length (restored_text bytes) % 4 ≡ 0
+    by None good = ap (λ k. k % 4) (length-restored_text bytes good) ∙ whole_bytes (header_of bytes).ty (product (header_of bytes).shape)
+    by (Some f) fault = ap (λ (bs : List ℕ). length bs % 4) (no_text bytes f fault)
+
+-- a demotion that began with nothing taken, once some int32 bytes were taken
+pub record Demotes (n : Narrow) (start now : Option (List ℕ)) (given owed taken part : List ℕ) : Type 0 where
+  pub whole : length taken % 4 ≡ 0
+  pub few : length part ≤ 3
+  pub made : given ++ owed ≡ demoted_bytes n taken
+  pub written : Appends start now given
+
+pub demotes : (n : Narrow) (start now : Option (List ℕ)) (d : Demotion) → d.narrow ≡ n → Appends start now d.given.bytes → Demotes n start now d.given.bytes (listed d.owed) d.taken.bytes (take d.held d.value)
+demotes n start now d same written = record {
+  whole = d.whole;
+  few = omega (arith, d.within, length-take d.held d.value);
+  made = d.written ∙ ap (λ m. demoted_bytes m d.taken.bytes) same;
+  written = written;
+}
+
+module _ (n : Narrow) {start now : Option (List ℕ)} {given owed taken part : List ℕ} (d : Demotes n start now given owed taken part) where
+  -- of a front of the text a front was written
+  front_written : (text : List ℕ) → AppendsFront (Some []) (Some (taken ++ part)) text → AppendsFront start now (demoted_bytes n text)
+  front_written text front =
+      let rest = part ++ drop front.0 text in
+      let text_is : text ≡ taken ++ rest =
+      sym (take-append-drop front.0 text) ∙ ap (λ (bs : List ℕ). bs ++ drop front.0 text) (sym front.2) ∙ append_assoc taken part (drop front.0 text) in
+      let is : given ++ (owed ++ demoted_bytes n rest) ≡ demoted_bytes n text =
+      sym (append_assoc given owed (demoted_bytes n rest)) ∙ ap (λ (bs : List ℕ). bs ++ demoted_bytes n rest) d.made
+      ∙ sym (demoted_bytes-append n taken rest d.whole) ∙ ap (demoted_bytes n) (sym text_is) in
+      let Written : List ℕ → Type 0 = λ bs. AppendsFront start now bs in
+      subst Written is (AppendsFront-more start now given (owed ++ demoted_bytes n rest) (AppendsFront-all start now given d.written))
+
+  -- of all of it all, where no byte is owed
+  all_written : (text : List ℕ) → owed ≡ [] → taken ++ part ≡ text → length text % 4 ≡ 0 → Appends start now (demoted_bytes n text)
+  all_written text none all whole =
+      let long : length taken + length part ≡ length text = sym (length-append taken part) ∙ ap length all in
+      let no_part : part ≡ [] = empty part (omega (arith, long, whole, d.whole, d.few)) in
+      let is : given ≡ demoted_bytes n text =
+      sym (append-nil given) ∙ ap (λ (bs : List ℕ). given ++ bs) (sym none) ∙ d.made
+      ∙ ap (demoted_bytes n) (sym (append-nil taken) ∙ ap (λ (bs : List ℕ). taken ++ bs) (sym no_part) ∙ all) in
+      let Written : List ℕ → Type 0 = λ bs. Appends start now bs in
+      subst Written is d.written
+
+  -- of nothing nothing
+  pub nothing_written : taken ++ part ≡ [] → Appends start now []
+  nothing_written none =
+      let no_taken : taken ≡ [] = front_empty taken part none in
+      let no_given : given ≡ [] = front_empty given owed (d.made ∙ ap (demoted_bytes n) no_taken) in
+      let Written : List ℕ → Type 0 = λ bs. Appends start now bs in
+      subst Written no_given d.written
+
+  pub restores : {src0 src1 : Option (List ℕ)} → owed ≡ [] → RestoresTyped I32 src0 src1 (Some []) (Some (taken ++ part)) → RestoresNarrow n src0 src1 start now
+  restores {src0} {src1} none fin = record {
+    bytes = fin.bytes;
+    taken = fin.taken;
+    ended = fin.ended;
+    good = sym (answer_is fin.bytes) ∙ ap narrow_of fin.good;
+    written = all_written (restored_text fin.bytes) none fin.written (whole_text fin.bytes);
+  }
+
+  -- the last byte that is owed was not written
+  pub restores_but_one : {src0 src1 : Option (List ℕ)} → RestoresTyped I32 src0 src1 (Some []) (Some (taken ++ part)) → LeavesNarrowFront n src0 src1 start now
+  restores_but_one {src0} {src1} fin = record {
+    bytes = fin.bytes;
+    taken = fin.taken;
+    written = front_written (restored_text fin.bytes) (AppendsFront-all (Some []) (Some (taken ++ part)) (restored_text fin.bytes) fin.written);
+  }
+
+  pub leaves : {src0 src1 : Option (List ℕ)} → LeavesFront restored_text src0 src1 (Some []) (Some (taken ++ part)) → LeavesNarrowFront n src0 src1 start now
+  leaves {src0} {src1} left = record {
+    bytes = left.bytes;
+    taken = left.taken;
+    written = front_written (restored_text left.bytes) left.written;
+  }
+
+  pub leaves_other : {src0 src1 : Option (List ℕ)} → HasOtherType I32 src0 src1 (Some []) (Some (taken ++ part)) → LeavesNarrowFront n src0 src1 start now
+  leaves_other {src0} {src1} other = record {
+    bytes = other.bytes;
+    taken = other.taken;
+    written = (0, omega arith, nothing_written (some_inj other.unwritten));
+  }

@@ -1,0 +1,93 @@
+-- Raw narrow bytes and the values that stand for them, there and back.
+use Rattle.std.proofs.Common.{rules, FitsSigned, ◌≡◌, refl, sym, ap, ◌∙◌, ℕ, ◌*◌, ◌/◌, ◌%◌, ◌^◌, ◌<◌, ℤ, pos, negsuc, List, [], ◌∷◌, ◌++◌, All, map, length, arith}
+use Rattle.std.proofs.lemmas.Int.{ints}
+use Rattle.std.proofs.lemmas.List.{length-map}
+use Rattle.std.proofs.lemmas.List.Elements.{All-head, All-tail, All-nil, All-cons}
+use Rattle.std.specs.Int.{Width, w8, w16, w32, byte_len, to_le_bytes, cast_unsigned}
+use mir.Val.{bits}
+use Rattle.zf_spec.specs.Stream.{raw, first_bytes, values_from}
+use Rattle.zf_spec.proofs.Bytes.{first_bytes-all}
+use Rattle.zf_spec.proofs.RawValues.{length-raw, values_from_fit, values_from-raw, raw-values_from}
+use Rattle.zf_narrow.specs.declared.narrow.Narrow.{Narrow}
+use Rattle.zf_narrow.specs.declared.narrow.Narrow.TheVariants.{I8, U8, I16, U16}
+use Rattle.zf_narrow.specs.Values.{IsNarrow, width_of, size_of, promoted, demoted}
+use Rattle.zf_narrow.specs.RawNarrow.{of_signed, narrow_bytes, whole_values, promoted_bytes, raw_narrow, demoted_bytes}
+use Rattle.zf_narrow.proofs.OneMore.{size_is}
+use Rattle.zf_narrow.proofs.Whole.{whole_count}
+use Rattle.zf_narrow.proofs.Back.{demoted-promoted, promoted_fits}
+
+-- ---- one value
+
+byte_unsigned : (v : ℤ) → FitsSigned w8 v → cast_unsigned w8 v < 256
+byte_unsigned (pos m) fits = omega (arith, fits.sfits)
+byte_unsigned (negsuc m) fits = omega (arith, fits.sfits)
+
+word_unsigned : (v : ℤ) → FitsSigned w16 v → cast_unsigned w16 v < 65536
+word_unsigned (pos m) fits = omega (arith, fits.sfits)
+word_unsigned (negsuc m) fits = omega (arith, fits.sfits)
+
+-- what raw bytes say is a number of the type
+of_signed_narrow : (n : Narrow) (v : ℤ) → FitsSigned (width_of n) v → IsNarrow n (of_signed n v)
+of_signed_narrow I8 (pos m) fits = record { at_least = omega (arith, ints, fits.sfits); at_most = omega (arith, ints, fits.sfits) }
+of_signed_narrow I8 (negsuc m) fits = record { at_least = omega (arith, ints, fits.sfits); at_most = omega (arith, ints, fits.sfits) }
+of_signed_narrow U8 v fits = let below = byte_unsigned v fits in record { at_least = omega (arith, ints); at_most = omega (arith, ints) }
+of_signed_narrow I16 (pos m) fits = record { at_least = omega (arith, ints, fits.sfits); at_most = omega (arith, ints, fits.sfits) }
+of_signed_narrow I16 (negsuc m) fits = record { at_least = omega (arith, ints, fits.sfits); at_most = omega (arith, ints, fits.sfits) }
+of_signed_narrow U16 v fits = let below = word_unsigned v fits in record { at_least = omega (arith, ints); at_most = omega (arith, ints) }
+
+-- and has these bytes
+bytes_of_signed : (n : Narrow) (v : ℤ) → narrow_bytes n (of_signed n v) ≡ to_le_bytes (width_of n) (cast_unsigned (width_of n) v)
+bytes_of_signed I8 v = refl
+bytes_of_signed U8 v = refl
+bytes_of_signed I16 v = refl
+bytes_of_signed U16 v = refl
+
+-- ---- values
+
+all_narrow : (n : Narrow) (us : List ℤ) → All (λ u. FitsSigned (width_of n) u) us → All (IsNarrow n) (map (of_signed n) us)
+all_narrow n [] fit = All-nil (IsNarrow n)
+all_narrow n (u ∷ us) fit = All-cons (IsNarrow n) (of_signed n u) (map (of_signed n) us)
+    (of_signed_narrow n u (All-head (λ u. FitsSigned (width_of n) u) u us fit))
+    (all_narrow n us (All-tail (λ u. FitsSigned (width_of n) u) u us fit))
+
+all_fit : (n : Narrow) (vs : List ℤ) → All (IsNarrow n) vs → All (λ v. FitsSigned w32 v) (map (promoted n) vs)
+all_fit n [] are = All-nil (λ v. FitsSigned w32 v)
+all_fit n (v ∷ vs) are = All-cons (λ v. FitsSigned w32 v) (promoted n v) (map (promoted n) vs)
+    (promoted_fits n v (All-head (IsNarrow n) v vs are)) (all_fit n vs (All-tail (IsNarrow n) v vs are))
+
+map_back : (n : Narrow) (vs : List ℤ) → All (IsNarrow n) vs → map (demoted n) (map (promoted n) vs) ≡ vs
+map_back n [] are = refl
+map_back n (v ∷ vs) are =
+    ap (λ u. u ∷ map (demoted n) (map (promoted n) vs)) (demoted-promoted n v (All-head (IsNarrow n) v vs are))
+    ∙ ap (λ us. v ∷ us) (map_back n vs (All-tail (IsNarrow n) v vs are))
+
+raw_of_signed : (n : Narrow) (us : List ℤ) → raw (width_of n) (map (of_signed n) us) ≡ raw (width_of n) us
+raw_of_signed n [] = refl
+raw_of_signed n (u ∷ us) =
+    ap (λ bs. bs ++ raw (width_of n) (map (of_signed n) us)) (bytes_of_signed n u)
+    ∙ ap (λ bs. to_le_bytes (width_of n) (cast_unsigned (width_of n) u) ++ bs) (raw_of_signed n us)
+
+-- the raw int32 bytes of values that stand for narrow ones, as narrow bytes
+demoted_raw : (n : Narrow) (vs : List ℤ) → All (IsNarrow n) vs → demoted_bytes n (raw w32 (map (promoted n) vs)) ≡ raw (width_of n) vs
+demoted_raw n vs are =
+    let ps = map (promoted n) vs in
+    let count : length (raw w32 ps) / 4 ≡ length ps = omega (arith, length-raw w32 ps) in
+    ap (λ k. raw_narrow n (values_from w32 k (raw w32 ps))) count
+    ∙ ap (raw_narrow n) (values_from-raw w32 ps (all_fit n vs are))
+    ∙ ap (raw (width_of n)) (map_back n vs are)
+
+-- ---- bytes
+
+-- those of whole values come back
+pub demoted_bytes-promoted_bytes : (n : Narrow) (bytes : List ℕ) → length bytes % size_of n ≡ 0 → All (λ b. b < 256) bytes → demoted_bytes n (promoted_bytes n bytes) ≡ bytes
+demoted_bytes-promoted_bytes n bytes whole small =
+    let w = width_of n in
+    let k = length bytes / size_of n in
+    let us = values_from w k bytes in
+    let fit = values_from_fit w k bytes in
+    let count : k * byte_len w ≡ length bytes = ap (λ m. k * m) (size_is n) ∙ sym (whole_count n (length bytes) whole) in
+    demoted_raw n (map (of_signed n) us) (all_narrow n us fit)
+    ∙ raw_of_signed n us
+    ∙ raw-values_from w k bytes small
+    ∙ ap (λ m. first_bytes m bytes) count
+    ∙ first_bytes-all bytes

@@ -1,0 +1,110 @@
+//! From raw narrow values to a stream.
+
+ghost use Rattle.std.specs.Prelude.{◌≡◌, ◌≢◌, IfErr, OnOk, Err};
+ghost use Rattle.zf_base.specs.declared.lane.Ty.TheVariants as types;
+ghost use Rattle.zf_header.specs.HeaderBits.{IsMode};
+ghost use Rattle.zf_dev.specs.Faults.{HasCause};
+ghost use Rattle.zf_stream.specs.Outcomes.{CanRefuse, ShowsLength, Answers};
+ghost use Rattle.zf_stream.specs.declared.fault.StreamFault.TheVariants.{Read, Write, Memory};
+ghost use Rattle.zf_narrow.specs.Texts.{narrow_len, narrow_count, narrow_fault, compress_narrow_answer, CompressesNarrow, LeavesNarrow};
+
+use crate::Narrow;
+use crate::begun::Begun;
+use crate::promoted::Promoted;
+use crate::promotion::Promotion;
+use crate::raw::size;
+use std::alloc::Global;
+use std::marker::{Brand, PhantomData};
+use zf_dev::{Sink, Source};
+use zf_header::Header;
+use zf_stream::StreamFault;
+
+/// Reads raw narrow values, each little-endian in 1 or 2 bytes, x fastest, and writes the stream of the int32 values that stand for them.
+///
+/// The source is to give exactly the values of the header's shape: it is read to its end, and `RawShort` counts its bytes. `zf_stream::compress` says
+/// how much is held at a time.
+pub fn compress_narrow<S: Source, O: Sink>(
+    alloc: Global,
+    n: Narrow,
+    h: &Header,
+    src: &mut S,
+    out: &mut O,
+) -> Result<(), StreamFault>
+    requires mode { IsMode h.now.mode }
+    requires int32 { h.now.ty ≡ types.I32 }
+    ensures answer { Answers result (S.contents src.old) (compress_narrow_answer n h.now) }
+    ensures possible { IfErr result (CanRefuse (compress_narrow_answer n h.now)) }
+    ensures length { IfErr result (ShowsLength (narrow_len n h.now) (S.contents src.old) (S.contents src.new)) }
+    ensures ok { OnOk result (CompressesNarrow n h.now
+        (S.contents src.old) (S.contents src.new) (O.contents out.old) (O.contents out.new)) }
+    // After a fault of a device the raw int32 bytes of the last value read may be missing, three at most.
+    ensures err { IfErr result (λ e. LeavesNarrow e n h.now
+        (S.contents src.old) (S.contents src.new) (O.contents out.old) (O.contents out.new)) }
+    ensures unwritten { result ≡ Err Memory → O.contents out.new ≡ O.contents out.old }
+    ensures same_source { S.kept src.new ≡ S.kept src.old }
+    ensures same_sink { O.kept out.new ≡ O.kept out.old }
+    ensures read_cause { HasCause (result ≡ Err Read) (S.faults src.old) (S.faults src.new) }
+    ensures write_cause { HasCause (result ≡ Err Write) (O.faults out.old) (O.faults out.new) }
+    ensures sure { S.never_fails src.old → (result ≢ Err Read) × S.never_fails src.new }
+{
+    compress_begun::<S, O, Brand>(alloc, n, h, src, out)
+}
+
+// The same of a source that the call began with.
+fn compress_begun<S: Source, O: Sink, K: Begun>(
+    alloc: Global,
+    n: Narrow,
+    h: &Header,
+    src: &mut S,
+    out: &mut O,
+) -> Result<(), StreamFault>
+    requires narrow { K.narrow ≡ n }
+    requires start { K.start ≡ S.contents src.old }
+    requires mode { IsMode h.now.mode }
+    requires int32 { h.now.ty ≡ types.I32 }
+    ensures answer { Answers result (S.contents src.old) (compress_narrow_answer n h.now) }
+    ensures possible { IfErr result (CanRefuse (compress_narrow_answer n h.now)) }
+    ensures length { IfErr result (ShowsLength (narrow_len n h.now) (S.contents src.old) (S.contents src.new)) }
+    ensures ok { OnOk result (CompressesNarrow n h.now
+        (S.contents src.old) (S.contents src.new) (O.contents out.old) (O.contents out.new)) }
+    // After a fault of a device the raw int32 bytes of the last value read may be missing, three at most.
+    ensures err { IfErr result (λ e. LeavesNarrow e n h.now
+        (S.contents src.old) (S.contents src.new) (O.contents out.old) (O.contents out.new)) }
+    ensures unwritten { result ≡ Err Memory → O.contents out.new ≡ O.contents out.old }
+    ensures same_source { S.kept src.new ≡ S.kept src.old }
+    ensures same_sink { O.kept out.new ≡ O.kept out.old }
+    ensures read_cause { HasCause (result ≡ Err Read) (S.faults src.old) (S.faults src.new) }
+    ensures write_cause { HasCause (result ≡ Err Write) (O.faults out.old) (O.faults out.new) }
+    ensures sure { S.never_fails src.old → (result ≢ Err Read) × S.never_fails src.new }
+{
+    let mut source = Promoted::<S, K> {
+        src,
+        promotion: Promotion::new(n),
+        begun: PhantomData,
+    };
+    let answer = zf_stream::compress(alloc, h, &mut source, out);
+    // Known by this call: a value has four bytes.
+    let _pending = source.promotion.pending();
+    match answer {
+        Ok(()) => Ok(()),
+        Err(fault) => Err(in_narrow_bytes(n, fault)),
+    }
+}
+
+// A refusal of int32 bytes as one of the narrow bytes.
+fn in_narrow_bytes(n: Narrow, fault: StreamFault) -> StreamFault
+    ensures { result ≡ narrow_fault n fault }
+{
+    match fault {
+        StreamFault::RawShort(bytes) => StreamFault::RawShort(narrow_count(n, bytes)),
+        other => other,
+    }
+}
+
+// How many narrow bytes these are, of so many int32 bytes and a byte more where half a value is left over.
+fn narrow_count(n: Narrow, bytes: u64) -> u64
+    ensures { result ≡ narrow_count n bytes }
+{
+    let len = size(n) as u64;
+    bytes / 4 * len + (bytes % 4).min(len - 1)
+}
