@@ -33,7 +33,7 @@ use Rattle.zfpi.proofs.Told.{world_of, TellsFiles-same, KeepsFiles-none, TellsIn
 -- ---- commands on streams
 
 -- with this status a command ended whose work was not done
-IsCut : Status → Type 0
+pub IsCut : Status → Type 0
 IsCut statuses.Done = ⊥
 IsCut (statuses.Lines n) = ⊥
 IsCut (statuses.Usage k) = ⊥
