@@ -19,6 +19,7 @@ use Rattle.zf_stream.specs.Parsing.{Said, header_of, code_bits, codes_said, valu
 use Rattle.zf_stream.proofs.OwnFaults.{is_foreign, blames_foreign, own_answer}
 use Rattle.zf_run.specs.Steps.{is_refusal}
 use Rattle.zf_stream.proofs.StreamsBack.{answer-stream_text, text-reversible_text}
+use Rattle.zf_narrow.proofs.StreamsBack.{answer-narrow_text, text-narrow_text}
 use Rattle.zf_narrow.specs.Texts.{narrow_len, narrow_text, answer_behind, restore_narrow_answer, narrow_restored}
 use Rattle.zfpi.specs.Faults.{fault_status}
 use Rattle.zfpi.specs.declared.status.Status.{Status}
@@ -336,7 +337,7 @@ GivesBack-behaves words status before now command (Some n) h bytes holds =
     let held = narrow_text n h bytes in
     comes_back (RestoreNarrow n) status before now held bytes holds.stream (λ w may. may) (λ w may. may)
     (λ w wants input. (
-      ap (λ xs. narrow_status_of (restore_narrow_answer xs)) input ∙ ap narrow_status_of (TODO-answer n h bytes holds.header holds.typed),
-      λ raw. ap (narrow_restored n) input ∙ TODO-text n h bytes holds.header holds.typed holds.mode holds.whole holds.small,
+      ap (λ xs. narrow_status_of (restore_narrow_answer xs)) input ∙ ap narrow_status_of (answer-narrow_text n h bytes holds.header holds.typed),
+      λ raw. ap (narrow_restored n) input ∙ text-narrow_text n h bytes holds.header holds.typed holds.mode holds.whole holds.small,
     ))
     (command (RestoreNarrow n) holds.words_are)
