@@ -50,6 +50,7 @@ module _ (name : List ℕ) (most : ℕ) where
     refuses = λ w status none. sym (ap certified_status none);
     wanted = λ w status first. refl;
     extent = λ input status first. refl;
+    plain = λ status src taken. refl;
     draft = λ w status taken. refl;
     loads = λ w. tt;
     starves = λ w. tt;
@@ -87,6 +88,8 @@ module _ (name : List ℕ) (most : ℕ) where
           taken = [];
           takes = Takes-none src;
           extent = refl;
+          raw = [];
+          raw_is = refl;
           written = subst (Appends out out_now) (line_is c line certified text) written;
           saved = kept;
         }
@@ -106,6 +109,8 @@ module _ (name : List ℕ) (most : ℕ) where
           taken = [];
           takes = Takes-none src;
           extent = refl;
+          raw = [];
+          raw_is = refl;
           written = subst (AppendsFront out out_now) (line_is c line certified text) written;
           saved = kept;
         }

@@ -7,6 +7,8 @@ use Rattle.std.proofs.lemmas.List.{take-append-drop, take-take, take_all, take-m
 use Rattle.zf_base.specs.declared.lane.Ty.{Ty}
 use Rattle.zf_base.specs.declared.lane.Ty.TheVariants.{I32, I64}
 use Rattle.zf_spec.specs.Grid.{IsShape}
+use Rattle.zf_narrow.specs.declared.narrow.Narrow.{Narrow}
+use Rattle.zf_narrow.specs.declared.narrow.Narrow.TheVariants.{I8, U8, I16, U16}
 use Rattle.zf_header.specs.declared.header.Header.{Header}
 use Rattle.zf_header.specs.declared.header.Mode.{Mode}
 use Rattle.zf_header.specs.declared.header.Mode.TheVariants.{Reversible, Rate, Precision}
@@ -14,14 +16,14 @@ use Rattle.zf_header.specs.HeaderBits.{IsMode}
 use Rattle.zfpi.specs.declared.command.Caching.{Caching}
 use Rattle.zfpi.specs.declared.command.Caching.TheVariants.{Direct, TwoWay}
 use Rattle.zfpi.specs.declared.command.Command.{Command}
-use Rattle.zfpi.specs.declared.command.Command.TheVariants.{Compress, Restore, Info, New, Run, Look, Bound, Sample}
+use Rattle.zfpi.specs.declared.command.Command.TheVariants.{Compress, CompressNarrow, Restore, RestoreNarrow, Info, New, Run, Look, Bound, Sample}
 use Rattle.zfpi.specs.declared.words.Task.{Task}
 use Rattle.zfpi.specs.declared.words.Task.TheVariants as tasks
 use Rattle.zfpi.specs.declared.words.Script.{Script}
 use Rattle.zfpi.specs.declared.words.Script.TheVariants as scripts
 use Rattle.zfpi.specs.declared.words.Stage.{Stage}
 use Rattle.zfpi.specs.declared.words.Stage.TheVariants as stages
-use Rattle.zfpi.specs.Words.{type_word, shape_word, mode_words, compress_words, IsLines, lines_words, IsCaching, caching_words, IsOnScript, sample_words, IsAskable, IsSpelled, BeginsCommand, IsUsage}
+use Rattle.zfpi.specs.Words.{type_word, narrow_word, shape_word, mode_words, compress_words, compress_narrow_words, IsLines, lines_words, IsCaching, caching_words, IsOnScript, sample_words, IsAskable, IsSpelled, BeginsCommand, IsUsage}
 use Rattle.zfpi.specs.Stages.{LeadsTo, IsBegun, task_words, script_word, script_command, IsRateWord, IsLinesWord, IsPrecisionWord}
 use Rattle.zfpi.proofs.ShapeWords.{parts_of-shape, decimals_injective, sizes_small}
 use Rattle.zfpi.proofs.Completed.{header_with, BeginsCommand-reached}
@@ -32,6 +34,19 @@ type_word_injective I32 I32 same = refl
 type_word_injective I32 I64 same = absurd (true≢false (ap (bytes_eq (codes "int32")) same))
 type_word_injective I64 I32 same = absurd (true≢false (ap (bytes_eq (codes "int64")) same))
 type_word_injective I64 I64 same = refl
+
+-- the fourth letter tells the narrow types from the others, the length and the first letter tell them apart
+type_not_narrow : (ty : Ty) (n : Narrow) → type_word ty ≡ narrow_word n → ⊥
+type_not_narrow I32 I8 same = omega (arith, ap (λ word. get_or word 3 0) same)
+type_not_narrow I64 I8 same = omega (arith, ap (λ word. get_or word 3 0) same)
+type_not_narrow ty n same = omega (arith, ap (λ word. get_or word 3 0) same)
+
+narrow_word_injective : (m n : Narrow) → narrow_word m ≡ narrow_word n → m ≡ n
+narrow_word_injective I8 I8 same = refl
+narrow_word_injective U8 U8 same = refl
+narrow_word_injective I16 I16 same = refl
+narrow_word_injective U16 U16 same = refl
+narrow_word_injective m n same = absurd (omega (arith, ap length same, ap (λ word. get_or word 0 0) same))
 
 pub shape_word_injective : (ms ns : List ℕ) → IsShape ms → IsShape ns → shape_word ms ≡ shape_word ns → ms ≡ ns
 shape_word_injective ms ns m n same =
@@ -80,7 +95,9 @@ caching_words_injective (TwoWay k) (TwoWay l) a b same =
 -- ---- the first word tells a command from the others
 first_word : Command → List ℕ
 first_word (Compress h) = codes "compress"
+first_word (CompressNarrow n h) = codes "compress"
 first_word Restore = codes "restore"
+first_word (RestoreNarrow n) = codes "restore"
 first_word Info = codes "info"
 first_word (New name ty ns b) = codes "new"
 first_word (Run name lines) = codes "run"
@@ -91,7 +108,9 @@ first_word (Sample h seed) = codes "sample"
 begins_with : (c : Command) (words : List (List ℕ)) → IsSpelled c words → (rest : List (List ℕ)) × (words ≡ first_word c ∷ rest)
 unfolding first_word
 begins_with (Compress h) words spelled = (type_word h.ty ∷ shape_word h.shape ∷ mode_words h.mode, spelled.1)
+begins_with (CompressNarrow n h) words spelled = (narrow_word n ∷ shape_word h.shape ∷ mode_words h.mode, spelled.words_are)
 begins_with Restore words spelled = ([], spelled)
+begins_with (RestoreNarrow n) words spelled = (narrow_word n ∷ [], spelled)
 begins_with Info words spelled = ([], spelled)
 begins_with (New name ty ns b) words spelled = (name ∷ type_word ty ∷ shape_word ns ∷ decimal b ∷ [], spelled.words_are)
 begins_with (Run name caching) words spelled = (name ∷ caching_words caching, spelled.words_are)
@@ -130,6 +149,22 @@ one_command words (Compress g) (Compress h) a b =
     let shape : shape_word g.shape ≡ shape_word h.shape = cc in
     let mode : mode_words g.mode ≡ mode_words h.mode = cc in
     ap Compress (same_header g h (type_word_injective g.ty h.ty ty) (shape_word_injective g.shape h.shape a.0.header.shape b.0.header.shape shape) (mode_words_injective g.mode h.mode a.0.header.mode b.0.header.mode mode))
+one_command words (CompressNarrow m g) (CompressNarrow n h) a b =
+    let same : compress_narrow_words m g ≡ compress_narrow_words n h = sym a.words_are ∙ b.words_are in
+    let narrow : narrow_word m ≡ narrow_word n = cc in
+    let shape : shape_word g.shape ≡ shape_word h.shape = cc in
+    let mode : mode_words g.mode ≡ mode_words h.mode = cc in
+    let same_shape = shape_word_injective g.shape h.shape a.asked.header.shape b.asked.header.shape shape in
+    let same_mode = mode_words_injective g.mode h.mode a.asked.header.mode b.asked.header.mode mode in
+    ap (λ x. CompressNarrow x g) (narrow_word_injective m n narrow) ∙ ap (CompressNarrow n) (same_header g h (a.typed ∙ sym b.typed) same_shape same_mode)
+one_command words (Compress g) (CompressNarrow n h) a b =
+    let same : compress_words g ≡ compress_narrow_words n h = sym a.1 ∙ b.words_are in
+    let typed : type_word g.ty ≡ narrow_word n = cc in
+    absurd (type_not_narrow g.ty n typed)
+one_command words (CompressNarrow n g) (Compress h) a b =
+    let same : compress_words h ≡ compress_narrow_words n g = sym b.1 ∙ a.words_are in
+    let typed : type_word h.ty ≡ narrow_word n = cc in
+    absurd (type_not_narrow h.ty n typed)
 one_command words (New name ty ns b) (New name' ty' ns' b') a d =
     let same : codes "new" ∷ name ∷ type_word ty ∷ shape_word ns ∷ decimal b ∷ [] ≡ codes "new" ∷ name' ∷ type_word ty' ∷ shape_word ns' ∷ decimal b' ∷ [] = sym a.words_are ∙ d.words_are in
     let named : name ≡ name' = cc in
@@ -159,6 +194,12 @@ one_command words (Bound n k) (Bound m l) a b =
     let text : decimal k ≡ decimal l = cc in
     ap (λ name. Bound name k) named ∙ ap (Bound m) (decimal_injective k l a.small b.small text)
 one_command words Restore Restore a b = refl
+one_command words (RestoreNarrow m) (RestoreNarrow n) a b =
+    let same : codes "restore" ∷ narrow_word m ∷ [] ≡ codes "restore" ∷ narrow_word n ∷ [] = sym a ∙ b in
+    let narrow : narrow_word m ≡ narrow_word n = cc in
+    ap RestoreNarrow (narrow_word_injective m n narrow)
+one_command words Restore (RestoreNarrow n) a b = absurd (omega (arith, ap length (sym a ∙ b)))
+one_command words (RestoreNarrow m) Restore a b = absurd (omega (arith, ap length (sym a ∙ b)))
 one_command words Info Info a b = refl
 one_command words c d a b = absurd (omega (arith, same_mark c d words a b))
 
@@ -223,6 +264,19 @@ IsAsked-begun tasks.Compress ty ns behind words (Compress h) begun spelled =
     let shape_text : shape_word h.shape ≡ shape_word ns = cc in
     let is : behind ≡ mode_words h.mode = cc in
     asked h ty ns behind spelled.0 begun.shape_is (type_word_injective h.ty ty type_text) shape_text is
+IsAsked-begun (tasks.CompressNarrow n) ty ns behind words (CompressNarrow m h) begun spelled =
+    let whole : codes "compress" ∷ narrow_word n ∷ shape_word ns ∷ behind ≡ compress_narrow_words m h = sym begun.words_are ∙ spelled.words_are in
+    let shape_text : shape_word h.shape ≡ shape_word ns = cc in
+    let is : behind ≡ mode_words h.mode = cc in
+    asked h ty ns behind spelled.asked begun.shape_is (spelled.typed ∙ sym begun.task_is) shape_text is
+IsAsked-begun tasks.Compress ty ns behind words (CompressNarrow m h) begun spelled =
+    let whole : codes "compress" ∷ type_word ty ∷ shape_word ns ∷ behind ≡ compress_narrow_words m h = sym begun.words_are ∙ spelled.words_are in
+    let typed : type_word ty ≡ narrow_word m = cc in
+    absurd (type_not_narrow ty m typed)
+IsAsked-begun (tasks.CompressNarrow n) ty ns behind words (Compress h) begun spelled =
+    let whole : codes "compress" ∷ narrow_word n ∷ shape_word ns ∷ behind ≡ compress_words h = sym begun.words_are ∙ spelled.1 in
+    let typed : type_word h.ty ≡ narrow_word n = cc in
+    absurd (type_not_narrow h.ty n typed)
 IsAsked-begun (tasks.Sample n) ty ns behind words (Sample h seed) begun spelled =
     let whole : codes "sample" ∷ type_word ty ∷ shape_word ns ∷ decimal n ∷ behind ≡ sample_words h seed = sym begun.words_are ∙ spelled.words_are in
     let type_text : type_word h.ty ≡ type_word ty = cc in
@@ -230,6 +284,7 @@ IsAsked-begun (tasks.Sample n) ty ns behind words (Sample h seed) begun spelled 
     let is : behind ≡ mode_words h.mode = cc in
     asked h ty ns behind spelled.asked begun.shape_is (type_word_injective h.ty ty type_text) shape_text is
 IsAsked-begun tasks.Compress ty ns behind words c begun spelled = absurd (omega (arith, mark_of c words (codes "compress") (type_word ty ∷ shape_word ns ∷ behind) begun.words_are spelled))
+IsAsked-begun (tasks.CompressNarrow n) ty ns behind words c begun spelled = absurd (omega (arith, mark_of c words (codes "compress") (narrow_word n ∷ shape_word ns ∷ behind) begun.words_are spelled))
 IsAsked-begun (tasks.Sample n) ty ns behind words c begun spelled = absurd (omega (arith, mark_of c words (codes "sample") (type_word ty ∷ shape_word ns ∷ decimal n ∷ behind) begun.words_are spelled))
 
 -- one word more behind those that begin a task, and what follows it
@@ -251,7 +306,9 @@ no_words words c is spelled = let whole = begins_with c words spelled in let sam
 -- nor are those that begin a command and are fewer than it has
 fewest : Command → ℕ
 fewest (Compress h) = 4
+fewest (CompressNarrow n h) = 4
 fewest Restore = 1
+fewest (RestoreNarrow n) = 2
 fewest Info = 1
 fewest (New name ty ns b) = 5
 fewest (Run name lines) = 2
@@ -259,15 +316,17 @@ fewest (Look name lines) = 2
 fewest (Bound name most) = 3
 fewest (Sample h seed) = 5
 
+four_words : (typed shaped : List ℕ) (words : List (List ℕ)) (m : Mode) → words ≡ codes "compress" ∷ typed ∷ shaped ∷ mode_words m → 4 ≤ length words
+four_words typed shaped words Reversible is = omega (arith, ap length is)
+four_words typed shaped words (Rate b) is = omega (arith, ap length is)
+four_words typed shaped words (Precision p) is = omega (arith, ap length is)
+
 enough_words : (c : Command) (words : List (List ℕ)) → IsSpelled c words → fewest c ≤ length words
 unfolding fewest
-enough_words (Compress h) words spelled = by h.mode spelled.1
-  where
-    by : (m : Mode) → words ≡ codes "compress" ∷ type_word h.ty ∷ shape_word h.shape ∷ mode_words m → 4 ≤ length words
-    by Reversible is = omega (arith, ap length is)
-    by (Rate b) is = omega (arith, ap length is)
-    by (Precision p) is = omega (arith, ap length is)
+enough_words (Compress h) words spelled = four_words (type_word h.ty) (shape_word h.shape) words h.mode spelled.1
+enough_words (CompressNarrow n h) words spelled = four_words (narrow_word n) (shape_word h.shape) words h.mode spelled.words_are
 enough_words Restore words spelled = omega (arith, ap length spelled)
+enough_words (RestoreNarrow n) words spelled = omega (arith, ap length spelled)
 enough_words Info words spelled = omega (arith, ap length spelled)
 enough_words (New name ty ns b) words spelled = omega (arith, ap length spelled.words_are)
 enough_words (Run name lines) words spelled = omega (arith, ap length spelled.words_are)
@@ -283,6 +342,7 @@ enough_words (Sample h seed) words spelled = by h.mode spelled.words_are
 few_compress : (rest words : List (List ℕ)) (c : Command) → words ≡ codes "compress" ∷ rest → length rest ≤ 1 → IsSpelled c words → ⊥
 unfolding first_word mark fewest
 few_compress rest words (Compress h) is few spelled = omega (arith, enough_words (Compress h) words spelled, ap length is)
+few_compress rest words (CompressNarrow n h) is few spelled = omega (arith, enough_words (CompressNarrow n h) words spelled, ap length is)
 few_compress rest words c is few spelled = omega (arith, mark_of c words (codes "compress") rest is spelled)
 
 few_new : (rest words : List (List ℕ)) (c : Command) → words ≡ codes "new" ∷ rest → length rest ≤ 3 → IsSpelled c words → ⊥
@@ -391,6 +451,7 @@ whole_at_end : (words : List (List ℕ)) (stage : Stage) (c : Command) → Leads
 whole_at_end words stages.Start c leads spelled = absurd (no_words words c leads spelled)
 whole_at_end words stages.Compressing c leads spelled = absurd (few_compress [] words c leads (omega arith) spelled)
 whole_at_end words (stages.Typed ty) c leads spelled = absurd (few_compress (type_word ty ∷ []) words c leads (omega arith) spelled)
+whole_at_end words (stages.TypedNarrow n) c leads spelled = absurd (few_compress (narrow_word n ∷ []) words c leads (omega arith) spelled)
 whole_at_end words stages.Sampling c leads spelled = absurd (few_sample [] words c leads (omega arith) spelled)
 whole_at_end words (stages.SampleTyped ty) c leads spelled = absurd (few_sample (type_word ty ∷ []) words c leads (omega arith) spelled)
 whole_at_end words (stages.SampleShaped ty ns) c leads spelled = absurd (few_sample (type_word ty ∷ shape_word ns ∷ []) words c leads.1 (omega arith) spelled)
@@ -526,25 +587,54 @@ caching_ends script name first number words word is (d, rest, more) =
     by (Direct (Some m)) same = omega (arith, ap length same)
     by (TwoWay m) same = omega (arith, ap length same)
 
--- with a word more, only a script whose words name no cache begins a command
-pub whole_ends : (c : Command) (words : List (List ℕ)) (word : List ℕ) → IsSpelled c words → ((name : List ℕ) → c ≡ Run name (Direct None) → ⊥) → ((name : List ℕ) → c ≡ Look name None → ⊥)
+-- with a word more, only a script whose words name no cache begins a command, or `restore`
+pub whole_ends : (c : Command) (words : List (List ℕ)) (word : List ℕ) → IsSpelled c words → (c ≡ Restore → ⊥) → ((name : List ℕ) → c ≡ Run name (Direct None) → ⊥) → ((name : List ℕ) → c ≡ Look name None → ⊥)
     → BeginsCommand (words ++ word ∷ []) → ⊥
 unfolding first_word mark
-whole_ends (Compress h) words word spelled not_run not_look begins =
+whole_ends (Compress h) words word spelled not_restore not_run not_look begins =
     task_ends tasks.Compress h.ty h.shape h.mode words word (record { task_is = tt; shape_is = spelled.0.header.shape; words_are = spelled.1 }) begins
-whole_ends (Sample h seed) words word spelled not_run not_look begins =
+whole_ends (CompressNarrow n h) words word spelled not_restore not_run not_look begins =
+    task_ends (tasks.CompressNarrow n) h.ty h.shape h.mode words word (record { task_is = spelled.typed; shape_is = spelled.asked.header.shape; words_are = spelled.words_are }) begins
+whole_ends (Sample h seed) words word spelled not_restore not_run not_look begins =
     task_ends (tasks.Sample seed) h.ty h.shape h.mode words word (record { task_is = spelled.small; shape_is = spelled.asked.header.shape; words_are = spelled.words_are }) begins
-whole_ends Restore words word spelled not_run not_look (Restore, rest, more) = omega (arith, ap length (sym (ap (λ front. (front ++ word ∷ []) ++ rest) spelled) ∙ more))
-whole_ends Info words word spelled not_run not_look (Info, rest, more) = omega (arith, ap length (sym (ap (λ front. (front ++ word ∷ []) ++ rest) spelled) ∙ more))
-whole_ends (New n t s k) words word spelled not_run not_look (New n' t' s' k', rest, more) =
+whole_ends Restore words word spelled not_restore not_run not_look begins = not_restore refl
+whole_ends (RestoreNarrow n) words word spelled not_restore not_run not_look (Restore, rest, more) = omega (arith, ap length (sym (ap (λ front. (front ++ word ∷ []) ++ rest) spelled) ∙ more))
+whole_ends (RestoreNarrow n) words word spelled not_restore not_run not_look (RestoreNarrow m, rest, more) = omega (arith, ap length (sym (ap (λ front. (front ++ word ∷ []) ++ rest) spelled) ∙ more))
+whole_ends Info words word spelled not_restore not_run not_look (Info, rest, more) = omega (arith, ap length (sym (ap (λ front. (front ++ word ∷ []) ++ rest) spelled) ∙ more))
+whole_ends (New n t s k) words word spelled not_restore not_run not_look (New n' t' s' k', rest, more) =
     omega (arith, ap length (sym (ap (λ front. (front ++ word ∷ []) ++ rest) spelled.words_are) ∙ more.words_are))
-whole_ends (Bound n k) words word spelled not_run not_look (Bound m l, rest, more) =
+whole_ends (Bound n k) words word spelled not_restore not_run not_look (Bound m l, rest, more) =
     omega (arith, ap length (sym (ap (λ front. (front ++ word ∷ []) ++ rest) spelled.words_are) ∙ more.words_are))
-whole_ends (Run name (Direct None)) words word spelled not_run not_look begins = not_run name refl
-whole_ends (Look name None) words word spelled not_run not_look begins = not_look name refl
-whole_ends (Run name (Direct (Some l))) words word spelled not_run not_look begins = caching_ends scripts.Run name (codes "lines") (decimal l) words word spelled.words_are begins
-whole_ends (Run name (TwoWay l)) words word spelled not_run not_look begins = caching_ends scripts.Run name (codes "twoway") (decimal l) words word spelled.words_are begins
-whole_ends (Look name (Some l)) words word spelled not_run not_look begins = caching_ends scripts.Look name (codes "lines") (decimal l) words word spelled.words_are begins
-whole_ends c words word spelled not_run not_look (d, rest, more) =
+whole_ends (Run name (Direct None)) words word spelled not_restore not_run not_look begins = not_run name refl
+whole_ends (Look name None) words word spelled not_restore not_run not_look begins = not_look name refl
+whole_ends (Run name (Direct (Some l))) words word spelled not_restore not_run not_look begins = caching_ends scripts.Run name (codes "lines") (decimal l) words word spelled.words_are begins
+whole_ends (Run name (TwoWay l)) words word spelled not_restore not_run not_look begins = caching_ends scripts.Run name (codes "twoway") (decimal l) words word spelled.words_are begins
+whole_ends (Look name (Some l)) words word spelled not_restore not_run not_look begins = caching_ends scripts.Look name (codes "lines") (decimal l) words word spelled.words_are begins
+whole_ends c words word spelled not_restore not_run not_look (d, rest, more) =
     let first = begins_with c words spelled in
     omega (arith, mark_of d ((words ++ word ∷ []) ++ rest) (first_word c) ((first.0 ++ word ∷ []) ++ rest) (ap (λ front. (front ++ word ∷ []) ++ rest) first.1) more)
+
+-- a word behind `restore`, where a command goes on, is a narrow type's
+pub no_narrow_word : (words : List (List ℕ)) (word : List ℕ) → ((n : Narrow) → word ≢ narrow_word n) → IsSpelled Restore words → BeginsCommand (words ++ word ∷ []) → ⊥
+unfolding first_word mark
+no_narrow_word words word none is (Restore, rest, more) = omega (arith, ap length (sym (ap (λ front. (front ++ word ∷ []) ++ rest) is) ∙ more))
+no_narrow_word words word none is (RestoreNarrow n, rest, more) =
+    let whole : codes "restore" ∷ word ∷ rest ≡ codes "restore" ∷ narrow_word n ∷ [] = sym (ap (λ front. (front ++ word ∷ []) ++ rest) is) ∙ more in
+    let same : word ≡ narrow_word n = cc in
+    none n same
+no_narrow_word words word none is (c, rest, more) =
+    omega (arith, mark_of c ((words ++ word ∷ []) ++ rest) (codes "restore") (word ∷ rest) (ap (λ front. (front ++ word ∷ []) ++ rest) is) more)
+
+-- and one behind `compress` is a type's, or a narrow type's
+pub no_type_word : (words : List (List ℕ)) (word : List ℕ) → ((ty : Ty) → word ≢ type_word ty) → ((n : Narrow) → word ≢ narrow_word n) → LeadsTo words stages.Compressing → BeginsCommand (words ++ word ∷ []) → ⊥
+unfolding first_word mark
+no_type_word words word no_type no_narrow is (Compress h, rest, more) =
+    let whole : codes "compress" ∷ word ∷ rest ≡ compress_words h = sym (ap (λ front. (front ++ word ∷ []) ++ rest) is) ∙ more.1 in
+    let same : word ≡ type_word h.ty = cc in
+    no_type h.ty same
+no_type_word words word no_type no_narrow is (CompressNarrow n h, rest, more) =
+    let whole : codes "compress" ∷ word ∷ rest ≡ compress_narrow_words n h = sym (ap (λ front. (front ++ word ∷ []) ++ rest) is) ∙ more.words_are in
+    let same : word ≡ narrow_word n = cc in
+    no_narrow n same
+no_type_word words word no_type no_narrow is (c, rest, more) =
+    omega (arith, mark_of c ((words ++ word ∷ []) ++ rest) (codes "compress") (word ∷ rest) (ap (λ front. (front ++ word ∷ []) ++ rest) is) more)

@@ -12,7 +12,7 @@ use Rattle.zf_header.specs.HeaderBits.{rate_bytes_of}
 use Rattle.zf_header.proofs.Parts.{length-header_bits}
 use Rattle.zfpi.specs.Names.{IsName}
 use Rattle.zfpi.specs.declared.command.Caching.TheVariants.{Direct, TwoWay}
-use Rattle.zfpi.specs.declared.command.Command.TheVariants.{Compress, New, Run, Bound, Sample}
+use Rattle.zfpi.specs.declared.command.Command.TheVariants.{Compress, CompressNarrow, New, Run, Bound, Sample}
 use Rattle.zfpi.specs.declared.words.Task.{Task}
 use Rattle.zfpi.specs.declared.words.Task.TheVariants as tasks
 use Rattle.zfpi.specs.declared.words.Script.{Script}
@@ -51,8 +51,9 @@ askable_precision_one : (ty : Ty) (ns : List ℕ) → IsShape ns → IsAskable (
 askable_precision_one ty ns shape = record { header = record { shape = shape; mode = (lit≤ tt, lit≤ tt) }; fits = tt }
 
 -- the words of a task and of a mode are its command
-pub IsSpelled-task : (task : Task) (h : Header) (words : List (List ℕ)) → IsTask task → IsAskable h → words ≡ task_words task h.ty h.shape ++ mode_words h.mode → IsSpelled (command_of task h) words
+pub IsSpelled-task : (task : Task) (h : Header) (words : List (List ℕ)) → IsTask task h.ty → IsAskable h → words ≡ task_words task h.ty h.shape ++ mode_words h.mode → IsSpelled (command_of task h) words
 IsSpelled-task tasks.Compress h words task askable is = (askable, is)
+IsSpelled-task (tasks.CompressNarrow n) h words task askable is = record { asked = askable; typed = task; words_are = is }
 IsSpelled-task (tasks.Sample seed) h words task askable is = record { asked = askable; small = task; words_are = is }
 
 -- and so are words that begin a task, and those of a mode behind them
@@ -86,6 +87,9 @@ BeginsCommand-reached words stages.Compressing is =
     (Compress (header_with I32 (1 ∷ []) Reversible), codes "int32" ∷ shape_word (1 ∷ []) ∷ codes "reversible" ∷ [], (askable_reversible I32 (1 ∷ []) one_value, ap (λ front. front ++ codes "int32" ∷ shape_word (1 ∷ []) ∷ codes "reversible" ∷ []) is))
 BeginsCommand-reached words (stages.Typed ty) is =
     (Compress (header_with ty (1 ∷ []) Reversible), shape_word (1 ∷ []) ∷ codes "reversible" ∷ [], (askable_reversible ty (1 ∷ []) one_value, ap (λ front. front ++ shape_word (1 ∷ []) ∷ codes "reversible" ∷ []) is))
+BeginsCommand-reached words (stages.TypedNarrow n) is =
+    let rest = shape_word (1 ∷ []) ∷ codes "reversible" ∷ [] in
+    (CompressNarrow n (header_with I32 (1 ∷ []) Reversible), rest, record { asked = askable_reversible I32 (1 ∷ []) one_value; typed = refl; words_are = ap (λ front. front ++ rest) is })
 BeginsCommand-reached words stages.Sampling is =
     let rest = codes "int32" ∷ shape_word (1 ∷ []) ∷ decimal 0 ∷ codes "reversible" ∷ [] in
     (Sample (header_with I32 (1 ∷ []) Reversible) 0, rest, sampled I32 (1 ∷ []) (words ++ rest) one_value (ap (λ front. front ++ rest) is))

@@ -1,6 +1,8 @@
 -- From the promises of a command to those of the program.
 use Rattle.std.proofs.Common.{◌≡◌, ◌≢◌, ℕ, zero, suc, ℤ, ◌<◌, count_by, Bool, true, false, cond, ltb, length, take, inl, inr, List, Option, Some, None, Result, Ok, Err, refl, ap, sym, subst, ◌∙◌, arith}
 use Rattle.std.proofs.lemmas.Bool.{ltb-true}
+use Rattle.zf_base.specs.declared.lane.Ty.{Ty}
+use Rattle.zf_base.specs.declared.lane.Ty.TheVariants.{I32, I64}
 use Rattle.zf_dev.specs.Faults.{IsQuiet}
 use Rattle.zf_dev.specs.Sink.{Appends}
 use Rattle.zf_dev.proofs.Counts.{HasCause-quiet}
@@ -17,24 +19,29 @@ use Rattle.zf_stream.specs.Parsing.{Said, header_of, code_bits, codes_said, valu
 use Rattle.zf_stream.proofs.OwnFaults.{is_foreign, blames_foreign, own_answer}
 use Rattle.zf_run.specs.Steps.{is_refusal}
 use Rattle.zf_stream.proofs.StreamsBack.{answer-stream_text, text-reversible_text}
+use Rattle.zf_narrow.proofs.StreamsBack.{answer-narrow_text, text-narrow_text}
+use Rattle.zf_narrow.specs.Texts.{narrow_len, narrow_text, answer_behind, restore_narrow_answer, narrow_restored}
+use Rattle.zfpi.specs.Faults.{fault_status}
 use Rattle.zfpi.specs.declared.status.Status.{Status}
 use Rattle.zfpi.specs.declared.status.Status.TheVariants as statuses
 use Rattle.zfpi.specs.declared.status.Status.TheVariants.{Done, Lines, Usage, NotRate, Missing, ScriptLong, FileLong, ReadFault, WriteFault, LoadFault, SaveFault, Memory}
 use Rattle.zfpi.specs.declared.command.Command.{Command}
-use Rattle.zfpi.specs.declared.command.Command.TheVariants.{Compress, Restore, Info, New, Run, Look, Bound, Sample}
+use Rattle.zfpi.specs.declared.command.Command.TheVariants.{Compress, CompressNarrow, Restore, RestoreNarrow, Info, New, Run, Look, Bound, Sample}
 use Rattle.zfpi.specs.Words.{IsSpelled}
 use Rattle.zfpi.specs.World.{World, Seen, Counts, TellsInput}
 use Rattle.zfpi.specs.Certified.{certified_status}
 use Rattle.zfpi.specs.Opened.{array_in, stream_in, opened, said_or_status, said_at_rate, array_behind}
 use Rattle.zfpi.specs.Scripts.{Answering, run_replies, look_replies, lines_status, script_status}
-use Rattle.zfpi.specs.Answer.{CanRun, TakesMemory, MayFail, IsPossible, CompressEnds, RestoreEnds, InfoEnds, FileEnds, LookEnds, RunEnds, BoundEnds, status_of, header_status, status_for, restore_draft}
-use Rattle.zfpi.specs.Headline.{OfCommand, RefusesWords, IsOfCommand, Writes, Behaves, HasCauses, AreQuiet, IsComplete, IsFromOutside, IsCausedOnShelf, FailedLoad, FailedSave, GivesBack}
+use Rattle.zfpi.specs.Answer.{CanRun, TakesMemory, MayLoad, MaySave, MayFail, IsPossible, CompressEnds, RestoreEnds, RestoreNarrowEnds, InfoEnds, FileEnds, LookEnds, RunEnds, BoundEnds, status_of, narrow_status_of, header_status, status_for, text_for, draft_for}
+use Rattle.zfpi.specs.Headline.{OfCommand, RefusesWords, IsOfCommand, Writes, Behaves, HasCauses, AreQuiet, IsComplete, IsFromOutside, IsCausedOnShelf, FailedLoad, FailedSave, IsBack, GivesBack}
 use Rattle.zfpi.proofs.Commands.{one_command}
 
 -- what the words say can be run
 pub CanRun-spelled : (c : Command) (words : List (List ℕ)) → IsSpelled c words → CanRun c
 CanRun-spelled (Compress h) words spelled = spelled.0.header.mode
+CanRun-spelled (CompressNarrow n h) words spelled = (spelled.asked.header.mode, spelled.typed)
 CanRun-spelled Restore words spelled = tt
+CanRun-spelled (RestoreNarrow n) words spelled = tt
 CanRun-spelled Info words spelled = tt
 CanRun-spelled (New name ty ns b) words spelled = (spelled.shape, spelled.rate)
 CanRun-spelled (Run name caching) words spelled = spelled.caching_is
@@ -97,10 +104,14 @@ IsComplete-quiet c status before now old new Loading Saving Sure Still behaves c
 -- the statuses from outside that a command may end with are among those that it can end with
 possible_fault : (status : Status) (c : Command) (w : World) (wants : List ℕ) → MayFail status c w wants → IsPossible c status
 possible_fault ReadFault (Compress h) w wants may = tt
+possible_fault ReadFault (CompressNarrow n h) w wants may = tt
 possible_fault ReadFault Restore w wants may = tt
+possible_fault ReadFault (RestoreNarrow n) w wants may = tt
 possible_fault ReadFault Info w wants may = tt
 possible_fault WriteFault (Compress h) w wants may = tt
+possible_fault WriteFault (CompressNarrow n h) w wants may = tt
 possible_fault WriteFault Restore w wants may = tt
+possible_fault WriteFault (RestoreNarrow n) w wants may = tt
 possible_fault WriteFault (Bound name most) w wants may = tt
 possible_fault LoadFault (Bound name most) w wants may = tt
 possible_fault Memory (Bound name most) w wants may = tt
@@ -117,7 +128,9 @@ possible_fault SaveFault (New name ty ns b) w wants may = tt
 possible_fault SaveFault (Run name caching) w wants may = tt
 possible_fault Memory (Run name caching) w wants may = tt
 possible_fault Memory (Compress h) w wants may = tt
+possible_fault Memory (CompressNarrow n h) w wants may = tt
 possible_fault Memory Restore w wants may = tt
+possible_fault Memory (RestoreNarrow n) w wants may = tt
 possible_fault Memory (New name ty ns b) w wants may = tt
 possible_fault Memory (Sample h seed) w wants may = tt
 possible_fault status c w wants may = absurd (first_of (assumption may, cc))
@@ -140,6 +153,17 @@ restore_ends (Err faults.Trailing) own = tt
 restore_ends (Err faults.Read) own = absurd (cc)
 restore_ends (Err faults.Write) own = absurd (cc)
 restore_ends (Err faults.Memory) own = tt
+
+-- whatever the header says
+RestoreEnds-narrow : (status : Status) → RestoreEnds status → RestoreNarrowEnds status
+RestoreEnds-narrow statuses.NotNarrow ends = tt
+RestoreEnds-narrow status ends = ends
+
+narrow_ends : (fault : Option HeaderFault) (ty : Ty) (answer : Result (Unit {0}) StreamFault) → blames_foreign answer ≡ false → RestoreNarrowEnds (narrow_status_of (answer_behind fault ty answer))
+narrow_ends (Some f) ty answer own = tt
+narrow_ends None I64 answer own = tt
+narrow_ends None I32 (Ok done) own = tt
+narrow_ends None I32 (Err e) own = RestoreEnds-narrow (fault_status e) (restore_ends (Err e) own)
 
 info_ends : (fault : Option HeaderFault) → InfoEnds (header_status fault)
 info_ends None = tt
@@ -251,7 +275,12 @@ possible_status : (c : Command) (w : World) (wants : List ℕ) → IsPossible c 
 possible_status (Compress h) w wants =
     let n = length w.input in
     compress_ends (raw_len h) n (ltb n (raw_len h)) (ltb (raw_len h) n) (ltb-true n (raw_len h))
+possible_status (CompressNarrow n h) w wants =
+    let wanted = narrow_len n h in
+    let len = length w.input in
+    compress_ends wanted len (ltb len wanted) (ltb wanted len) (ltb-true len wanted)
 possible_status Restore w wants = restore_ends (restore_answer w.input) (own_answer w.input)
+possible_status (RestoreNarrow n) w wants = narrow_ends (header_fault w.input) (header_of w.input).ty (restore_answer w.input) (own_answer w.input)
 possible_status Info w wants = info_ends (header_fault (take 19 w.input))
 possible_status (New name ty ns b) w wants = tt
 possible_status (Run name caching) w wants =
@@ -267,30 +296,48 @@ IsPossible-behaves c status before now behaves = elim behaves.stated [
   | inr may ↦ possible_fault status c behaves.world behaves.wants may
 ]
 
-from_outside : (status : Status) (w : World) (wants : List ℕ) → MayFail status Restore w wants → IsFromOutside status
-from_outside ReadFault w wants may = inl refl
-from_outside WriteFault w wants may = inr (inl refl)
-from_outside Memory w wants may = inr (inr refl)
-from_outside status w wants may = absurd (first_of (assumption may, cc))
+from_outside : (status : Status) (c : Command) (w : World) (wants : List ℕ) → (MayLoad c w → ⊥) → (MaySave c w → ⊥) → MayFail status c w wants → IsFromOutside status
+from_outside ReadFault c w wants no_load no_save may = inl refl
+from_outside WriteFault c w wants no_load no_save may = inr (inl refl)
+from_outside Memory c w wants no_load no_save may = inr (inr refl)
+from_outside LoadFault c w wants no_load no_save may = absurd (no_load may)
+from_outside SaveFault c w wants no_load no_save may = absurd (no_save may)
+from_outside status c w wants no_load no_save may = absurd (first_of (assumption may, cc))
 
 -- a source that tells these bytes tells no other
 the_input : (known : Option (List ℕ)) (bytes input : List ℕ) → known ≡ Some bytes → TellsInput known input → input ≡ bytes
 the_input None bytes input is told = absurd (cc)
 the_input (Some all) bytes input is told = let same : all ≡ bytes = cc in sym told ∙ same
 
--- what `restore` does with a reversible stream
-pub GivesBack-behaves : (words : List (List ℕ)) (status : Status) (before now : Seen) → OfCommand words (λ c. Behaves c status before now) → GivesBack words status before now
-GivesBack-behaves words status before now command = λ h bytes holds.
-    let behaves = command Restore holds.words_are in
+-- these bytes are written by a command that is done over what the source holds
+comes_back : (c : Command) (status : Status) (before now : Seen) (held bytes : List ℕ) → before.src ≡ Some held → ((w : World) → MayLoad c w → ⊥) → ((w : World) → MaySave c w → ⊥)
+    → ((w : World) (wants : List ℕ) → w.input ≡ held → (status_for c w wants ≡ Done) × ((raw : List ℕ) → text_for c w wants raw ≡ bytes)) → Behaves c status before now → IsBack status before.out now.out bytes ⊎ IsFromOutside status
+comes_back c status before now held bytes holds no_load no_save gives behaves =
     let w = behaves.world in
-    let input : w.input ≡ stream_text h bytes = the_input before.src (stream_text h bytes) w.input holds.stream behaves.told.input in
+    let wants = behaves.wants in
+    let good = gives w wants (the_input before.src held w.input holds behaves.told.input) in
     elim behaves.stated [
       | inl same ↦
-          let done : status ≡ Done = same ∙ ap (λ xs. status_of (restore_answer xs)) input ∙ ap status_of (answer-stream_text h bytes holds.header) in
-          let text : restored_text w.input ≡ bytes = ap restored_text input ∙ text-reversible_text h bytes holds.header holds.mode holds.whole holds.small in
-          inl (record {
-            done = done;
-            written = subst (Appends before.out now.out) text (subst (λ s. Writes s (restored_text w.input) (restore_draft s (restored_text behaves.taken)) before.out now.out) done behaves.written);
-          })
-      | inr may ↦ inr (from_outside status w behaves.wants may)
+          let done : status ≡ Done = same ∙ good.0 in
+          let written = subst (λ s. Writes s (text_for c w wants behaves.raw) (draft_for c s w wants behaves.raw) before.out now.out) done behaves.written in
+          inl (record { done = done; written = subst (Appends before.out now.out) (good.1 behaves.raw) written })
+      | inr may ↦ inr (from_outside status c w wants (no_load w) (no_save w) may)
     ]
+
+-- what `restore` does with a reversible stream
+pub GivesBack-behaves : (words : List (List ℕ)) (status : Status) (before now : Seen) → OfCommand words (λ c. Behaves c status before now) → GivesBack words status before now
+GivesBack-behaves words status before now command None h bytes holds =
+    comes_back Restore status before now (stream_text h bytes) bytes holds.stream (λ w may. may) (λ w may. may)
+    (λ w wants input. (
+      ap (λ xs. status_of (restore_answer xs)) input ∙ ap status_of (answer-stream_text h bytes holds.header),
+      λ raw. ap restored_text input ∙ text-reversible_text h bytes holds.header holds.mode holds.whole holds.small,
+    ))
+    (command Restore holds.words_are)
+GivesBack-behaves words status before now command (Some n) h bytes holds =
+    let held = narrow_text n h bytes in
+    comes_back (RestoreNarrow n) status before now held bytes holds.stream (λ w may. may) (λ w may. may)
+    (λ w wants input. (
+      ap (λ xs. narrow_status_of (restore_narrow_answer xs)) input ∙ ap narrow_status_of (answer-narrow_text n h bytes holds.header holds.typed),
+      λ raw. ap (narrow_restored n) input ∙ text-narrow_text n h bytes holds.header holds.typed holds.mode holds.whole holds.small,
+    ))
+    (command (RestoreNarrow n) holds.words_are)

@@ -42,8 +42,8 @@ lines_status-some (suc n) some = refl
 pub record IsScripted (c : Command) (name : List ℕ) (reading : List ℕ → Result Said Status) (replies : Answering) : Type 0 where
   pub loading : IsLoading c name reading
   pub status : (w : World) (wants : List ℕ) → status_for c w wants ≡ script_status replies (opened reading (w.files name)) wants w.input
-  pub text : (w : World) (wants : List ℕ) → text_for c w wants ≡ script_text replies (opened reading (w.files name)) wants w.input
-  pub draft : (w : World) (wants : List ℕ) (status : Status) (taken : List ℕ) → draft_for c status w wants taken ≡ cut_draft status (text_for c w wants)
+  pub text : (w : World) (wants taken : List ℕ) → text_for c w wants taken ≡ script_text replies (opened reading (w.files name)) wants w.input
+  pub draft : (w : World) (wants : List ℕ) (status : Status) (taken : List ℕ) → draft_for c status w wants taken ≡ cut_draft status (text_for c w wants taken)
   pub wanted : (w : World) (wants : List ℕ) (status : Status) → OnWholeScript status (AreWants replies (opened reading (w.files name)) wants w.input) → HasWants c status w wants
   pub extent : (status : Status) (input taken : List ℕ) → TakesScript status input taken → IsExtent c status input taken
   pub reads : (w : World) → IsOk (opened reading (w.files name)) → MayRead c w
@@ -55,12 +55,13 @@ IsScripted-run name caching = record {
     refuses = λ w status none. sym (ap (λ file. script_status (run_replies caching) file [] w.input) none);
     wanted = λ w status first. OnWholeScript-first _ status first;
     extent = TakesScript-first;
+    plain = λ status src taken. refl;
     draft = λ w status taken. refl;
     loads = λ w. tt;
     starves = λ w. tt;
   };
   status = λ w wants. refl;
-  text = λ w wants. refl;
+  text = λ w wants taken. refl;
   draft = λ w wants status taken. refl;
   wanted = λ w wants status are. are;
   extent = λ status input taken is. is;
@@ -74,12 +75,13 @@ IsScripted-look name lines = record {
     refuses = λ w status none. sym (ap (λ file. script_status (look_replies lines) file [] w.input) none);
     wanted = λ w status first. OnWholeScript-first _ status first;
     extent = TakesScript-first;
+    plain = λ status src taken. refl;
     draft = λ w status taken. refl;
     loads = λ w. tt;
     starves = λ w. tt;
   };
   status = λ w wants. refl;
-  text = λ w wants. refl;
+  text = λ w wants taken. refl;
   draft = λ w wants status taken. refl;
   wanted = λ w wants status are. are;
   extent = λ status input taken is. is;
@@ -113,8 +115,8 @@ module _ (c : Command) (name : List ℕ) (reading : List ℕ → Result Said Sta
       ∙ (sym (ap (λ file. script_status replies file [] input) is_open) ∙ sym (is.status (world_with known bytes input) []))
 
   -- its text
-  text_is : (wants script : List ℕ) → replies_text (replies said wants script) ≡ text_for c (world_with known bytes script) wants
-  text_is wants script = sym (ap (λ file. script_text replies file wants script) is_open) ∙ sym (is.text (world_with known bytes script) wants)
+  text_is : (wants script taken : List ℕ) → replies_text (replies said wants script) ≡ text_for c (world_with known bytes script) wants taken
+  text_is wants script taken = sym (ap (λ file. script_text replies file wants script) is_open) ∙ sym (is.text (world_with known bytes script) wants taken)
 
   -- no line was run, and nothing was written
   unread : (status : Status) (src src_now out : Option (List ℕ)) (input taken : List ℕ) → IsOfCommand status → TellsInput src input → OnWholeScript status (AreWants replies (opened reading (files_with known bytes name)) [] input)
@@ -130,7 +132,9 @@ module _ (c : Command) (name : List ℕ) (reading : List ℕ → Result Said Sta
     taken = taken;
     takes = takes;
     extent = is.extent status input taken extent;
-    written = subst (λ draft. Writes status (text_for c (world_with known bytes input) []) draft out out) (sym (is.draft (world_with known bytes input) [] status taken)) (written (text_for c (world_with known bytes input) []));
+    raw = taken;
+    raw_is = is.loading.plain status src taken;
+    written = subst (λ draft. Writes status (text_for c (world_with known bytes input) [] taken) draft out out) (sym (is.draft (world_with known bytes input) [] status taken)) (written (text_for c (world_with known bytes input) [] taken));
     saved = Saves-unsaved (saved_for c (world_with known bytes input) []) status known mid un kept;
   }
 
@@ -171,7 +175,9 @@ module _ (c : Command) (name : List ℕ) (reading : List ℕ → Result Said Sta
       taken = script;
       takes = takes;
       extent = is.extent status script script extent;
-      written = writes _ _ (subst (Appends out out_now) (text_is wants script) written);
+      raw = script;
+      raw_is = is.loading.plain status src script;
+      written = writes _ _ (subst (Appends out out_now) (text_is wants script script) written);
       saved = saved;
     }
 
@@ -206,8 +212,8 @@ module _ (c : Command) (name : List ℕ) (reading : List ℕ → Result Said Sta
           let one : replies_text (stops.reply ∷ []) ≡ reply = append-nil reply in
           let replied : replies_text (run_lines setting wants 0 (take (stops.at + 1) (lines_of script)) start).1 ≡ first ++ reply =
           ap replies_text stops.replied ∙ (flat_map-append reply_text (run_lines setting wants 0 (take stops.at (lines_of script)) start).1 (stops.reply ∷ []) ∙ ap (λ r. first ++ r) one) in
-          let whole : (first ++ reply) ++ front.0 ≡ text_for c (world_with known bytes script) wants =
-          ap (λ text. text ++ front.0) (sym replied) ∙ (sym front.1 ∙ text_is wants script) in
+          let whole : (first ++ reply) ++ front.0 ≡ text_for c (world_with known bytes script) wants script =
+          ap (λ text. text ++ front.0) (sym replied) ∙ (sym front.1 ∙ text_is wants script script) in
           let part : AppendsFront out out_now (first ++ reply) =
           (length first + stops.count, omega (arith, length-append first reply, stops.not_whole), rw (take-append-add first reply stops.count) stops.written) in
           record {
@@ -220,6 +226,8 @@ module _ (c : Command) (name : List ℕ) (reading : List ℕ → Result Said Sta
             taken = script;
             takes = takes;
             extent = is.extent statuses.WriteFault script script refl;
+            raw = script;
+            raw_is = is.loading.plain statuses.WriteFault src script;
             written = subst (AppendsFront out out_now) (whole ∙ sym (is.draft (world_with known bytes script) wants statuses.WriteFault script)) (AppendsFront-more out out_now (first ++ reply) front.0 part);
             saved = Saves-unsaved (saved_for c (world_with known bytes script) wants) statuses.WriteFault known mid tt kept;
           }

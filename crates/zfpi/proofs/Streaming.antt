@@ -1,6 +1,7 @@
 -- From what a call on a stream promises to what a command promises that hands it on.
 use Rattle.std.proofs.Common.{◌≡◌, ℕ, ℤ, List, [], ◌∷◌, Option, Some, None, Result, Ok, Err, ◌⊎◌, inl, inr, refl, ap, sym, subst, ◌∙◌}
 use Rattle.zf_dev.specs.Shelf.{Files}
+use Rattle.zf_dev.specs.Source.{Takes, IsAtEnd}
 use Rattle.zf_dev.specs.Sink.{Appends, AppendsFront}
 use Rattle.zf_dev.proofs.Appending.{AppendsFront-none}
 use Rattle.zf_header.specs.declared.header.Header.{Header}
@@ -10,63 +11,241 @@ use Rattle.zf_header.specs.HeaderFaults.{header_fault}
 use Rattle.zf_base.specs.declared.lane.Ty.TheVariants.{I32}
 use Rattle.zf_stream.specs.declared.fault.StreamFault.{StreamFault}
 use Rattle.zf_stream.specs.declared.fault.StreamFault.TheVariants as faults
-use Rattle.zf_stream.specs.Raw.{stream_text, compress_answer}
-use Rattle.zf_stream.specs.Parsing.{values_said, header_or, without_values, restore_answer, restored_text}
+use Rattle.zf_stream.specs.Raw.{stream_text}
+use Rattle.zf_stream.specs.Parsing.{values_said, header_or, without_values, restore_answer}
 use Rattle.zf_stream.proofs.StreamsBack.{answer-stream_text}
 use Rattle.zf_stream.specs.Outcomes as streams
+use Rattle.zf_narrow.specs.declared.narrow.Narrow.{Narrow}
+use Rattle.zf_narrow.specs.declared.fault.NarrowFault.{NarrowFault}
+use Rattle.zf_narrow.specs.declared.fault.NarrowFault.TheVariants.{NotNarrow, Stream}
+use Rattle.zf_narrow.specs.Texts.{ArePromotedAfter, restore_narrow_answer, narrow_restored, IsFromOutside, IsBeforeWriting, AnswersNarrow, CanRefuseNarrow}
 use Rattle.zfpi.specs.declared.status.Status.{Status}
 use Rattle.zfpi.specs.declared.status.Status.TheVariants as statuses
 use Rattle.zfpi.specs.declared.command.Command.{Command}
-use Rattle.zfpi.specs.declared.command.Command.TheVariants.{Compress, Restore}
-use Rattle.zfpi.specs.Faults.{fault_status}
+use Rattle.zfpi.specs.declared.command.Command.TheVariants.{Compress, CompressNarrow, Restore, RestoreNarrow}
+use Rattle.zfpi.specs.Faults.{fault_status, narrow_status}
 use Rattle.zfpi.specs.World.{World, TellsInput, seen}
-use Rattle.zfpi.specs.Answer.{status_of, status_for, text_for, draft_for, saved_for, IsExtent, HasWants, TakesMemory, MayFail, compress_draft, restore_draft, TakesWhole}
+use Rattle.zfpi.specs.Answer.{status_of, narrow_status_of, status_for, text_for, draft_for, saved_for, IsRaw, IsNarrowRaw, IsExtent, HasWants, TakesMemory, MayRead, MayWrite, MayFail, compress_draft, restore_draft, TakesWhole}
 use Rattle.zfpi.specs.Headline.{IsOfCommand, Writes, Saves, Behaves}
 use Rattle.zfpi.proofs.Completed.{one_value}
-use Rattle.zfpi.proofs.Told.{files_of, world_of, TellsFiles-same, KeepsFiles-none, TellsInput-taken}
+use Rattle.zfpi.proofs.Told.{world_of, TellsFiles-same, KeepsFiles-none, TellsInput-taken}
 
--- a command that reads a stream to its end, writes its text and saves nothing
-pub record IsStreaming (c : Command) (answer : List ℕ → Result (Unit {0}) StreamFault) (text : List ℕ → List ℕ) : Type 0 where
-  pub status : (w : World) → status_for c w [] ≡ status_of (answer w.input)
-  pub text_is : (w : World) → text_for c w [] ≡ text w.input
+-- ---- commands on streams
+
+-- with this status a command ended whose work was not done
+pub IsCut : Status → Type 0
+IsCut statuses.Done = ⊥
+IsCut (statuses.Lines n) = ⊥
+IsCut (statuses.Usage k) = ⊥
+IsCut statuses.SaveFault = ⊥
+IsCut status = Unit {0}
+
+IsOfCommand-cut : (status : Status) → IsCut status → IsOfCommand status
+unfolding IsCut
+IsOfCommand-cut (statuses.Usage k) cut = absurd cut
+IsOfCommand-cut status cut = tt
+
+Writes-cut : (status : Status) (text draft : List ℕ) (before now : Option (List ℕ)) → IsCut status → AppendsFront before now draft → Writes status text draft before now
+unfolding IsCut
+Writes-cut statuses.Done text draft before now cut front = absurd cut
+Writes-cut (statuses.Lines n) text draft before now cut front = absurd cut
+Writes-cut statuses.SaveFault text draft before now cut front = absurd cut
+Writes-cut status text draft before now cut front = front
+
+TakesWhole-cut : (status : Status) (input taken : List ℕ) → IsCut status → TakesWhole status input taken
+unfolding IsCut
+TakesWhole-cut statuses.Done input taken cut = absurd cut
+TakesWhole-cut status input taken cut = tt
+
+-- a command that reads a stream to its end and saves nothing
+pub record IsStreaming (c : Command) : Type 0 where
   pub no_wants : (status : Status) (w : World) → HasWants c status w []
   pub nothing_saved : (w : World) → saved_for c w [] ≡ None
-  pub reads : (w : World) → MayFail statuses.ReadFault c w []
-  pub writes : (w : World) → MayFail statuses.WriteFault c w []
   pub to_end : (input : List ℕ) → IsExtent c statuses.Done input input
-  pub fault_extent : (e : StreamFault) (input taken : List ℕ) → IsExtent c (fault_status e) input taken
-  -- an input for which the command takes memory
-  pub memory_input : List ℕ
-  pub takes_memory : (files : Files) → TakesMemory c (record { input = memory_input; files = files })
+  pub cut_extent : (status : Status) (input taken : List ℕ) → IsCut status → IsExtent c status input taken
+  pub reads : (w : World) → MayRead c w
+  pub writes : (w : World) → MayWrite c w
 
-pub IsStreaming-compress : (h : Header) → IsStreaming (Compress h) (compress_answer h) (stream_text h)
+pub IsStreaming-compress : (h : Header) → IsStreaming (Compress h)
 IsStreaming-compress h = record {
-  status = λ w. refl;
-  text_is = λ w. refl;
   no_wants = λ status w. refl;
   nothing_saved = λ w. refl;
+  to_end = λ input. refl;
+  cut_extent = TakesWhole-cut;
   reads = λ w. tt;
   writes = λ w. tt;
-  to_end = λ input. refl;
-  fault_extent = TakesWhole-fault;
-  memory_input = [];
-  takes_memory = λ files. tt;
 }
+
+pub IsStreaming-compress_narrow : (n : Narrow) (h : Header) → IsStreaming (CompressNarrow n h)
+IsStreaming-compress_narrow n h = record {
+  no_wants = λ status w. refl;
+  nothing_saved = λ w. refl;
+  to_end = λ input. refl;
+  cut_extent = TakesWhole-cut;
+  reads = λ w. tt;
+  writes = λ w. tt;
+}
+
+pub IsStreaming-restore : IsStreaming Restore
+IsStreaming-restore = record {
+  no_wants = λ status w. refl;
+  nothing_saved = λ w. refl;
+  to_end = λ input. refl;
+  cut_extent = TakesWhole-cut;
+  reads = λ w. tt;
+  writes = λ w. tt;
+}
+
+pub IsStreaming-restore_narrow : (n : Narrow) → IsStreaming (RestoreNarrow n)
+IsStreaming-restore_narrow n = record {
+  no_wants = λ status w. refl;
+  nothing_saved = λ w. refl;
+  to_end = λ input. refl;
+  cut_extent = TakesWhole-cut;
+  reads = λ w. tt;
+  writes = λ w. tt;
+}
+
+-- ---- after Ok
+
+pub Behaves-done : (c : Command) (bytes raw : List ℕ) (src_before src_now out_before out_now : Option (List ℕ)) (shelf : Option Files) → IsStreaming c
+    → statuses.Done ≡ status_for c (world_of bytes shelf) [] → Takes src_before src_now bytes → IsAtEnd src_now → IsRaw c statuses.Done src_before bytes raw → Appends out_before out_now (text_for c (world_of bytes shelf) [] raw)
+    → Behaves c statuses.Done (seen src_before out_before shelf) (seen src_now out_now shelf)
+Behaves-done c bytes raw src_before src_now out_before out_now shelf is stated taken ended raw_is written =
+    let w = world_of bytes shelf in
+    record {
+      ends = tt;
+      world = w;
+      told = record { input = TellsInput-taken src_before src_now bytes taken ended; files = TellsFiles-same shelf };
+      wants = [];
+      wanted = is.no_wants statuses.Done w;
+      stated = inl stated;
+      taken = bytes;
+      takes = taken;
+      extent = is.to_end bytes;
+      raw = raw;
+      raw_is = raw_is;
+      written = written;
+      saved = subst (λ file. Saves file statuses.Done shelf shelf) (sym (is.nothing_saved w)) (KeepsFiles-none shelf);
+    }
+
+-- ---- after a fault
+
+-- the status is stated for this input, or comes from outside
+IsStated : Command → Status → Option Files → List ℕ → Type 0
+IsStated c status shelf input = (status ≡ status_for c (world_of input shelf) []) ⊎ MayFail status c (world_of input shelf) []
+
+-- an input that the source tells, and which explains the status
+record Explains (c : Command) (status : Status) (known : Option (List ℕ)) (shelf : Option Files) : Type 0 where
+  input : List ℕ
+  told : TellsInput known input
+  stated : IsStated c status shelf input
+
+explain : (c : Command) (status : Status) (known : Option (List ℕ)) (shelf : Option Files) → ((input : List ℕ) → known ≡ Some input → IsStated c status shelf input) → (input : List ℕ) × IsStated c status shelf input → Explains c status known shelf
+explain c status None shelf told some = record { input = some.0; told = tt; stated = some.1 }
+explain c status (Some input) shelf told some = record { input = input; told = refl; stated = told input refl }
+
+Behaves-cut : (c : Command) (status : Status) (taken raw : List ℕ) (src_before src_now out_before out_now : Option (List ℕ)) (shelf : Option Files) → IsStreaming c → IsCut status → Explains c status src_before shelf
+    → Takes src_before src_now taken → IsRaw c status src_before taken raw → ((w : World) → AppendsFront out_before out_now (draft_for c status w [] raw))
+    → Behaves c status (seen src_before out_before shelf) (seen src_now out_now shelf)
+unfolding IsStated
+Behaves-cut c status taken raw src_before src_now out_before out_now shelf is cut why takes raw_is front =
+    let w = world_of why.input shelf in
+    record {
+      ends = IsOfCommand-cut status cut;
+      world = w;
+      told = record { input = why.told; files = TellsFiles-same shelf };
+      wants = [];
+      wanted = is.no_wants status w;
+      stated = why.stated;
+      taken = taken;
+      takes = takes;
+      extent = is.cut_extent status why.input taken cut;
+      raw = raw;
+      raw_is = raw_is;
+      written = Writes-cut status (text_for c w [] raw) (draft_for c status w [] raw) out_before out_now cut (front w);
+      saved = subst (λ file. Saves file status shelf shelf) (sym (is.nothing_saved w)) (KeepsFiles-none shelf);
+    }
+
+-- ---- faults of a stream
+
+IsCut-fault : (e : StreamFault) → IsCut (fault_status e)
+unfolding IsCut
+IsCut-fault (faults.RawShort m) = tt
+IsCut-fault faults.RawLong = tt
+IsCut-fault (faults.Header f) = tt
+IsCut-fault (faults.Truncated b) = tt
+IsCut-fault faults.Pad = tt
+IsCut-fault faults.Trailing = tt
+IsCut-fault faults.Read = tt
+IsCut-fault faults.Write = tt
+IsCut-fault faults.Memory = tt
+
+may_outside : (c : Command) (e : StreamFault) (w : World) → IsStreaming c → (e ≡ faults.Memory → TakesMemory c w) → streams.IsFromOutside e → MayFail (fault_status e) c w []
+may_outside c e w is takes outside = elim outside [
+  | inl read ↦ subst (λ f. MayFail (fault_status f) c w []) (sym read) (is.reads w)
+  | inr others ↦ elim others [
+    | inl write ↦ subst (λ f. MayFail (fault_status f) c w []) (sym write) (is.writes w)
+    | inr memory ↦ subst (λ f. MayFail (fault_status f) c w []) (sym memory) (takes memory)
+  ]
+]
+
+-- a fault is the one that is stated for the input, or for some input where none is told. For this input the command takes memory
+pub Behaves-fault : (c : Command) (answer : List ℕ → Result (Unit {0}) StreamFault) (e : StreamFault) (large taken raw : List ℕ) (src_before src_now out_before out_now : Option (List ℕ)) (shelf : Option Files) → IsStreaming c
+    → ((w : World) → status_of (answer w.input) ≡ status_for c w []) → streams.Answers (Err e) src_before answer → streams.CanRefuse answer e
+    → TakesMemory c (world_of large shelf) → ((input : List ℕ) → src_before ≡ Some input → e ≡ faults.Memory → TakesMemory c (world_of input shelf))
+    → Takes src_before src_now taken → IsRaw c (fault_status e) src_before taken raw → ((w : World) → AppendsFront out_before out_now (draft_for c (fault_status e) w [] raw))
+    → Behaves c (fault_status e) (seen src_before out_before shelf) (seen src_now out_now shelf)
+unfolding IsStated
+Behaves-fault c answer e large taken raw src_before src_now out_before out_now shelf is status answers refuses has_room takes takes_bytes raw_is front =
+    Behaves-cut c (fault_status e) taken raw src_before src_now out_before out_now shelf is (IsCut-fault e) (explain c (fault_status e) src_before shelf told some) takes_bytes raw_is front
   where
-    TakesWhole-fault : (e : StreamFault) (input taken : List ℕ) → TakesWhole (fault_status e) input taken
-    TakesWhole-fault (faults.RawShort m) input taken = tt
-    TakesWhole-fault faults.RawLong input taken = tt
-    TakesWhole-fault (faults.Header f) input taken = tt
-    TakesWhole-fault (faults.Truncated b) input taken = tt
-    TakesWhole-fault faults.Pad input taken = tt
-    TakesWhole-fault faults.Trailing input taken = tt
-    TakesWhole-fault faults.Read input taken = tt
-    TakesWhole-fault faults.Write input taken = tt
-    TakesWhole-fault faults.Memory input taken = tt
+    told : (input : List ℕ) → src_before ≡ Some input → IsStated c (fault_status e) shelf input
+    told input is_told = elim (subst (λ known. streams.Answers (Err e) known answer) is_told answers) [
+      | inl same ↦ inl (ap status_of same ∙ status (world_of input shelf))
+      | inr outside ↦ inr (may_outside c e (world_of input shelf) is (takes input is_told) outside)
+    ]
+
+    some : (input : List ℕ) × IsStated c (fault_status e) shelf input
+    some = elim refuses [
+      | inl found ↦ (found.0, inl (ap status_of (sym found.1) ∙ status (world_of found.0 shelf)))
+      | inr outside ↦ (large, inr (may_outside c e (world_of large shelf) is (λ memory. has_room) outside))
+    ]
+
+-- where nothing was written, nothing is a front
+pub nothing_written : (before now : Option (List ℕ)) → now ≡ before → AppendsFront before now []
+nothing_written before now same = subst (λ out. AppendsFront before out []) (sym same) (AppendsFront-none before [])
+
+pub compress_front : (e : StreamFault) (text : List ℕ) (before now : Option (List ℕ)) → AppendsFront before now text → (e ≡ faults.Memory → now ≡ before) → AppendsFront before now (compress_draft (fault_status e) text)
+compress_front faults.Memory text before now front none = nothing_written before now (none refl)
+compress_front (faults.RawShort m) text before now front none = front
+compress_front faults.RawLong text before now front none = front
+compress_front (faults.Header f) text before now front none = front
+compress_front (faults.Truncated b) text before now front none = front
+compress_front faults.Pad text before now front none = front
+compress_front faults.Trailing text before now front none = front
+compress_front faults.Read text before now front none = front
+compress_front faults.Write text before now front none = front
+
+pub restore_front : (e : StreamFault) (text : List ℕ) (before now : Option (List ℕ)) → AppendsFront before now text → (streams.IsBeforeWriting e → AppendsFront before now []) → AppendsFront before now (restore_draft (fault_status e) text)
+restore_front (faults.Header f) text before now front none = none tt
+restore_front faults.Memory text before now front none = none tt
+restore_front (faults.RawShort m) text before now front none = front
+restore_front faults.RawLong text before now front none = front
+restore_front (faults.Truncated b) text before now front none = front
+restore_front faults.Pad text before now front none = front
+restore_front faults.Trailing text before now front none = front
+restore_front faults.Read text before now front none = front
+restore_front faults.Write text before now front none = front
+
+-- ---- an input for which `restore` takes memory
 
 -- the header of one value, and a stream that has it
 one_header : Header
 one_header = record { ty = I32; shape = 1 ∷ []; mode = Reversible }
+
+pub one_stream : List ℕ
+one_stream = stream_text one_header []
 
 -- where an input is a good stream, its header is one
 good_header : (bytes : List ℕ) → restore_answer bytes ≡ Ok tt → header_fault bytes ≡ None
@@ -77,143 +256,56 @@ good_header bytes good = by (header_fault bytes) _ good
     by None rest is = refl
     by (Some f) rest is = absurd (cc)
 
-pub IsStreaming-restore : IsStreaming Restore restore_answer restored_text
-unfolding one_header
-IsStreaming-restore = record {
-  status = λ w. refl;
-  text_is = λ w. refl;
-  no_wants = λ status w. refl;
-  nothing_saved = λ w. refl;
-  reads = λ w. tt;
-  writes = λ w. tt;
-  to_end = λ input. refl;
-  fault_extent = (IsStreaming-compress one_header).fault_extent;
-  memory_input = stream_text one_header [];
-  takes_memory = λ files. good_header (stream_text one_header []) (answer-stream_text one_header [] (record { shape = one_value; mode = tt }));
-}
+pub one_stream-good : header_fault one_stream ≡ None
+unfolding one_header one_stream
+one_stream-good = good_header (stream_text one_header []) (answer-stream_text one_header [] (record { shape = one_value; mode = tt }))
 
--- ---- after Ok
+-- ---- faults of a stream that is restored to narrow values
 
-pub Behaves-done : (c : Command) (answer : List ℕ → Result (Unit {0}) StreamFault) (text : List ℕ → List ℕ) (src_before src_now out_before out_now : Option (List ℕ)) (shelf : Option Files) → IsStreaming c answer text
-    → streams.Finishes answer text src_before src_now out_before out_now → Behaves c statuses.Done (seen src_before out_before shelf) (seen src_now out_now shelf)
-Behaves-done c answer text src_before src_now out_before out_now shelf is done =
-    let w = world_of done.bytes shelf in
-    record {
-      ends = tt;
-      world = w;
-      told = record { input = TellsInput-taken src_before src_now done.bytes done.taken done.ended; files = TellsFiles-same shelf };
-      wants = [];
-      wanted = is.no_wants statuses.Done w;
-      stated = inl (ap status_of (sym done.good) ∙ sym (is.status w));
-      taken = done.bytes;
-      takes = done.taken;
-      extent = is.to_end done.bytes;
-      written = subst (Appends out_before out_now) (sym (is.text_is w)) done.written;
-      saved = subst (λ file. Saves file statuses.Done shelf shelf) (sym (is.nothing_saved w)) (KeepsFiles-none shelf);
-    }
+-- the bytes of narrow values, from a fault of the stream on the raw bytes
+pub IsNarrowRaw-fault : (n : Narrow) (e : StreamFault) (src : Option (List ℕ)) (taken raw : List ℕ) → ArePromotedAfter e n src taken raw → IsNarrowRaw n (fault_status e) src taken raw
+IsNarrowRaw-fault n faults.Read src taken raw is = is
+IsNarrowRaw-fault n faults.Write src taken raw is = is
+IsNarrowRaw-fault n (faults.RawShort m) src taken raw is = is
+IsNarrowRaw-fault n faults.RawLong src taken raw is = is
+IsNarrowRaw-fault n (faults.Header f) src taken raw is = is
+IsNarrowRaw-fault n (faults.Truncated b) src taken raw is = is
+IsNarrowRaw-fault n faults.Pad src taken raw is = is
+IsNarrowRaw-fault n faults.Trailing src taken raw is = is
+IsNarrowRaw-fault n faults.Memory src taken raw is = is
 
--- ---- after a fault
+IsCut-narrow : (e : NarrowFault) → IsCut (narrow_status e)
+unfolding IsCut
+IsCut-narrow NotNarrow = tt
+IsCut-narrow (Stream e) = IsCut-fault e
 
--- an input that the source tells, and which explains the fault
-record Explains (c : Command) (e : StreamFault) (known : Option (List ℕ)) (files : Files) : Type 0 where
-  input : List ℕ
-  told : TellsInput known input
-  stated : (fault_status e ≡ status_for c (record { input = input; files = files }) []) ⊎ MayFail (fault_status e) c (record { input = input; files = files }) []
+pub narrow_front : (e : NarrowFault) (text : List ℕ) (before now : Option (List ℕ)) → AppendsFront before now text → (IsBeforeWriting e → AppendsFront before now []) → AppendsFront before now (restore_draft (narrow_status e) text)
+narrow_front NotNarrow text before now front none = none tt
+narrow_front (Stream e) text before now front none = restore_front e text before now front none
 
-may_outside : (c : Command) (answer : List ℕ → Result (Unit {0}) StreamFault) (text : List ℕ → List ℕ) (e : StreamFault) (w : World) → IsStreaming c answer text → streams.IsFromOutside e → (e ≡ faults.Memory → TakesMemory c w) → MayFail (fault_status e) c w []
-may_outside c answer text e w is outside takes = elim outside [
-  | inl read ↦ subst (λ f. MayFail (fault_status f) c w []) (sym read) (is.reads w)
-  | inr others ↦ elim others [
-    | inl write ↦ subst (λ f. MayFail (fault_status f) c w []) (sym write) (is.writes w)
-    | inr memory ↦ subst (λ f. MayFail (fault_status f) c w []) (sym memory) (takes memory)
-  ]
-]
+may_outside_narrow : (n : Narrow) (e : NarrowFault) (w : World) → (e ≡ Stream faults.Memory → TakesMemory (RestoreNarrow n) w) → IsFromOutside e → MayFail (narrow_status e) (RestoreNarrow n) w []
+may_outside_narrow n NotNarrow w takes outside = absurd outside
+may_outside_narrow n (Stream e) w takes outside = may_outside (RestoreNarrow n) e w (IsStreaming-restore_narrow n) (λ memory. takes (ap Stream memory)) outside
 
-explain : (c : Command) (answer : List ℕ → Result (Unit {0}) StreamFault) (text : List ℕ → List ℕ) (e : StreamFault) (known : Option (List ℕ)) (files : Files) → IsStreaming c answer text
-    → streams.Answers (Err e) known answer → streams.CanRefuse answer e → ((input : List ℕ) → known ≡ Some input → e ≡ faults.Memory → TakesMemory c (record { input = input; files = files })) → Explains c e known files
-explain c answer text e None files is answers refuses takes = elim refuses [
-  | inl some ↦ record { input = some.0; told = tt; stated = inl (ap status_of (sym some.1) ∙ sym (is.status (record { input = some.0; files = files }))) }
-  | inr outside ↦ record {
-    input = is.memory_input;
-    told = tt;
-    stated = inr (may_outside c answer text e (record { input = is.memory_input; files = files }) is outside (λ memory. is.takes_memory files));
-  }
-]
-explain c answer text e (Some input) files is answers refuses takes = record {
-  input = input;
-  told = refl;
-  stated = elim answers [
-    | inl same ↦ inl (ap status_of same ∙ sym (is.status (record { input = input; files = files })))
-    | inr outside ↦ inr (may_outside c answer text e (record { input = input; files = files }) is outside (takes input refl))
-  ];
-}
+pub Behaves-narrow_fault : (n : Narrow) (e : NarrowFault) (taken : List ℕ) (src_before src_now out_before out_now : Option (List ℕ)) (shelf : Option Files) → AnswersNarrow (Err e) src_before → CanRefuseNarrow e
+    → ((input : List ℕ) → src_before ≡ Some input → e ≡ Stream faults.Memory → TakesMemory (RestoreNarrow n) (world_of input shelf))
+    → Takes src_before src_now taken → AppendsFront out_before out_now (restore_draft (narrow_status e) (narrow_restored n taken))
+    → Behaves (RestoreNarrow n) (narrow_status e) (seen src_before out_before shelf) (seen src_now out_now shelf)
+unfolding IsStated
+Behaves-narrow_fault n e taken src_before src_now out_before out_now shelf answers refuses takes takes_bytes front =
+    Behaves-cut c (narrow_status e) taken taken src_before src_now out_before out_now shelf (IsStreaming-restore_narrow n) (IsCut-narrow e) (explain c (narrow_status e) src_before shelf told some) takes_bytes refl (λ w. front)
+  where
+    c : Command
+    c = RestoreNarrow n
 
--- after a fault a front of the draft was written, and nothing was saved
-IsOfCommand-fault : (e : StreamFault) → IsOfCommand (fault_status e)
-IsOfCommand-fault (faults.RawShort m) = tt
-IsOfCommand-fault faults.RawLong = tt
-IsOfCommand-fault (faults.Header f) = tt
-IsOfCommand-fault (faults.Truncated b) = tt
-IsOfCommand-fault faults.Pad = tt
-IsOfCommand-fault faults.Trailing = tt
-IsOfCommand-fault faults.Read = tt
-IsOfCommand-fault faults.Write = tt
-IsOfCommand-fault faults.Memory = tt
+    told : (input : List ℕ) → src_before ≡ Some input → IsStated c (narrow_status e) shelf input
+    told input is_told = elim (subst (λ known. AnswersNarrow (Err e) known) is_told answers) [
+      | inl same ↦ inl (ap narrow_status_of same)
+      | inr outside ↦ inr (may_outside_narrow n e (world_of input shelf) (takes input is_told) outside)
+    ]
 
-Writes-fault : (e : StreamFault) (text draft : List ℕ) (before now : Option (List ℕ)) → AppendsFront before now draft → Writes (fault_status e) text draft before now
-Writes-fault (faults.RawShort m) text draft before now front = front
-Writes-fault faults.RawLong text draft before now front = front
-Writes-fault (faults.Header f) text draft before now front = front
-Writes-fault (faults.Truncated b) text draft before now front = front
-Writes-fault faults.Pad text draft before now front = front
-Writes-fault faults.Trailing text draft before now front = front
-Writes-fault faults.Read text draft before now front = front
-Writes-fault faults.Write text draft before now front = front
-Writes-fault faults.Memory text draft before now front = front
-
--- where nothing was written, nothing is a front
-nothing_written : (before now : Option (List ℕ)) → now ≡ before → AppendsFront before now []
-nothing_written before now same = subst (λ out. AppendsFront before out []) (sym same) (AppendsFront-none before [])
-
-pub compress_front : (e : StreamFault) (text : List ℕ) (before now : Option (List ℕ)) → AppendsFront before now text → (e ≡ faults.Memory → now ≡ before) → AppendsFront before now (compress_draft (fault_status e) text)
-compress_front (faults.RawShort m) text before now front none = front
-compress_front faults.RawLong text before now front none = front
-compress_front (faults.Header f) text before now front none = front
-compress_front (faults.Truncated b) text before now front none = front
-compress_front faults.Pad text before now front none = front
-compress_front faults.Trailing text before now front none = front
-compress_front faults.Read text before now front none = front
-compress_front faults.Write text before now front none = front
-compress_front faults.Memory text before now front none = nothing_written before now (none refl)
-
-pub restore_front : (e : StreamFault) (text : List ℕ) (before now : Option (List ℕ)) → AppendsFront before now text → (streams.IsBeforeWriting e → now ≡ before) → AppendsFront before now (restore_draft (fault_status e) text)
-restore_front (faults.RawShort m) text before now front none = front
-restore_front faults.RawLong text before now front none = front
-restore_front (faults.Header f) text before now front none = nothing_written before now (none tt)
-restore_front (faults.Truncated b) text before now front none = front
-restore_front faults.Pad text before now front none = front
-restore_front faults.Trailing text before now front none = front
-restore_front faults.Read text before now front none = front
-restore_front faults.Write text before now front none = front
-restore_front faults.Memory text before now front none = nothing_written before now (none tt)
-
-pub Behaves-fault : (c : Command) (answer : List ℕ → Result (Unit {0}) StreamFault) (text : List ℕ → List ℕ) (e : StreamFault) (src_before src_now out_before out_now : Option (List ℕ)) (shelf : Option Files) → IsStreaming c answer text
-    → streams.Answers (Err e) src_before answer → streams.CanRefuse answer e → ((input : List ℕ) → src_before ≡ Some input → e ≡ faults.Memory → TakesMemory c (record { input = input; files = files_of shelf }))
-    → (left : streams.LeavesFront text src_before src_now out_before out_now) → ((w : World) → AppendsFront out_before out_now (draft_for c (fault_status e) w [] left.bytes))
-    → Behaves c (fault_status e) (seen src_before out_before shelf) (seen src_now out_now shelf)
-Behaves-fault c answer text e src_before src_now out_before out_now shelf is answers refuses takes left front =
-    let why = explain c answer text e src_before (files_of shelf) is answers refuses takes in
-    let w = world_of why.input shelf in
-    record {
-      ends = IsOfCommand-fault e;
-      world = w;
-      told = record { input = why.told; files = TellsFiles-same shelf };
-      wants = [];
-      wanted = is.no_wants (fault_status e) w;
-      stated = why.stated;
-      taken = left.bytes;
-      takes = left.taken;
-      extent = is.fault_extent e why.input left.bytes;
-      written = Writes-fault e (text_for c w []) (draft_for c (fault_status e) w [] left.bytes) out_before out_now (front w);
-      saved = subst (λ file. Saves file (fault_status e) shelf shelf) (sym (is.nothing_saved w)) (KeepsFiles-none shelf);
-    }
+    some : (input : List ℕ) × IsStated c (narrow_status e) shelf input
+    some = elim refuses [
+      | inl found ↦ (found.0, inl (ap narrow_status_of (sym found.1)))
+      | inr outside ↦ (one_stream, inr (may_outside_narrow n e (world_of one_stream shelf) (λ memory. one_stream-good) outside))
+    ]

@@ -5,15 +5,19 @@ use Rattle.zf_header.specs.HeaderBits.{IsMode}
 use Rattle.zf_header.specs.HeaderFaults.{header_fault}
 use Rattle.zf_stream.specs.declared.fault.StreamFault.{StreamFault}
 use Rattle.zf_stream.specs.Raw.{raw_len, compress_answer, stream_text}
-use Rattle.zf_stream.specs.Parsing.{Said, restore_answer, restored_text}
-use Rattle.zfpi.specs.Faults.{fault_status}
+use Rattle.zf_stream.specs.Parsing.{Said, header_of, restore_answer, restored_text}
+use Rattle.zf_narrow.specs.declared.fault.NarrowFault.{NarrowFault}
+use Rattle.zf_narrow.specs.declared.narrow.Narrow.{Narrow}
+use Rattle.zf_narrow.specs.Texts.{narrow_len, compress_narrow_answer, ArePromoted, ArePromotedNearly, restore_narrow_answer, narrow_restored}
+use Rattle.zfpi.specs.Faults.{fault_status, narrow_status}
 use Rattle.zfpi.specs.declared.status.Status.{Status}
 use Rattle.zfpi.specs.declared.status.Status.TheVariants as statuses
 use Rattle.zfpi.specs.declared.command.Command.{Command}
-use Rattle.zfpi.specs.declared.command.Command.TheVariants.{Compress, Restore, Info, New, Run, Look, Bound, Sample}
+use Rattle.zfpi.specs.declared.command.Command.TheVariants.{Compress, CompressNarrow, Restore, RestoreNarrow, Info, New, Run, Look, Bound, Sample}
 use Rattle.zf_header.specs.declared.header.Mode.TheVariants.{Rate}
 use Rattle.zf_header.specs.HeaderBits.{IsRate}
 use Rattle.zf_spec.specs.Grid.{IsShape}
+use Rattle.zf_base.specs.declared.lane.Ty.TheVariants.{I32}
 use Rattle.zf_store.specs.Stored.{file_of, zeros}
 use Rattle.zfpi.specs.World.{World}
 use Rattle.zfpi.specs.Words.{IsLines, IsCaching}
@@ -33,10 +37,17 @@ abbrev pub status_of : Result (Unit {0}) StreamFault → Status
 status_of (Ok done) = statuses.Done
 status_of (Err fault) = fault_status fault
 
+-- and of how one on a stream of narrow values did
+abbrev pub narrow_status_of : Result (Unit {0}) NarrowFault → Status
+narrow_status_of (Ok done) = statuses.Done
+narrow_status_of (Err fault) = narrow_status fault
+
 -- what a command asks of its caller
 abbrev pub CanRun : Command → Type 0
 CanRun (Compress h) = IsMode h.mode
+CanRun (CompressNarrow n h) = IsMode h.mode × (h.ty ≡ I32)
 CanRun Restore = Unit {0}
+CanRun (RestoreNarrow n) = Unit {0}
 CanRun Info = Unit {0}
 CanRun (New name ty ns b) = IsShape ns × IsRate (Rate b)
 CanRun (Run name caching) = IsCaching caching
@@ -51,7 +62,9 @@ header_bytes = 19
 -- the status in this world; the last list has the lines of the script that answered `! memory`
 abbrev pub status_for : Command → World → List ℕ → Status
 status_for (Compress h) w wants = status_of (compress_answer h w.input)
+status_for (CompressNarrow n h) w wants = status_of (compress_narrow_answer n h w.input)
 status_for Restore w wants = status_of (restore_answer w.input)
+status_for (RestoreNarrow n) w wants = narrow_status_of (restore_narrow_answer w.input)
 status_for Info w wants = header_status (header_fault (take header_bytes w.input))
 status_for (New name ty ns b) w wants = statuses.Done
 status_for (Run name caching) w wants = script_status (run_replies caching) (opened array_in (w.files name)) wants w.input
@@ -59,26 +72,40 @@ status_for (Look name lines) w wants = script_status (look_replies lines) (opene
 status_for (Bound name most) w wants = certified_status (opened array_in (w.files name))
 status_for (Sample h seed) w wants = statuses.Done
 
--- what is written where the whole work was done
-abbrev pub text_for : Command → World → List ℕ → List ℕ
-text_for (Compress h) w wants = stream_text h w.input
-text_for Restore w wants = restored_text w.input
-text_for Info w wants = info_text (take header_bytes w.input)
-text_for (New name ty ns b) w wants = []
-text_for (Run name caching) w wants = script_text (run_replies caching) (opened array_in (w.files name)) wants w.input
-text_for (Look name lines) w wants = script_text (look_replies lines) (opened stream_in (w.files name)) wants w.input
-text_for (Bound name most) w wants = certified_text most (opened array_in (w.files name))
-text_for (Sample h seed) w wants = sample_text h seed
+-- what the bytes that were read of narrow values stand for: int32 bytes, of which the last three may lack where a device failed
+abbrev pub IsNarrowRaw : Narrow → Status → Option (List ℕ) → List ℕ → List ℕ → Type 0
+IsNarrowRaw n statuses.ReadFault src taken raw = ArePromotedNearly n src taken raw
+IsNarrowRaw n statuses.WriteFault src taken raw = ArePromotedNearly n src taken raw
+IsNarrowRaw n status src taken raw = ArePromoted n src taken raw
+
+-- the raw bytes of what was read: as it is, but for narrow values, as far as the source tells them
+abbrev pub IsRaw : Command → Status → Option (List ℕ) → List ℕ → List ℕ → Type 0
+IsRaw (CompressNarrow n h) status src taken raw = IsNarrowRaw n status src taken raw
+IsRaw c status src taken raw = raw ≡ taken
+
+-- what is written where the whole work was done; the last list has the raw bytes of what was read
+abbrev pub text_for : Command → World → List ℕ → List ℕ → List ℕ
+text_for (Compress h) w wants raw = stream_text h w.input
+text_for (CompressNarrow n h) w wants raw = stream_text h raw
+text_for Restore w wants raw = restored_text w.input
+text_for (RestoreNarrow n) w wants raw = narrow_restored n w.input
+text_for Info w wants raw = info_text (take header_bytes w.input)
+text_for (New name ty ns b) w wants raw = []
+text_for (Run name caching) w wants raw = script_text (run_replies caching) (opened array_in (w.files name)) wants w.input
+text_for (Look name lines) w wants raw = script_text (look_replies lines) (opened stream_in (w.files name)) wants w.input
+text_for (Bound name most) w wants raw = certified_text most (opened array_in (w.files name))
+text_for (Sample h seed) w wants raw = sample_text h seed
 
 -- nothing after want of memory, which comes before the first write
 abbrev pub compress_draft : Status → List ℕ → List ℕ
 compress_draft statuses.Memory text = []
 compress_draft status text = text
 
--- nor after a fault of the header
+-- nor after a fault of the header, or of its type
 abbrev pub restore_draft : Status → List ℕ → List ℕ
 restore_draft statuses.Memory text = []
 restore_draft (statuses.Header fault) text = []
+restore_draft statuses.NotNarrow text = []
 restore_draft status text = text
 
 -- a line is written once all of it is known
@@ -86,21 +113,25 @@ abbrev pub cut_draft : Status → List ℕ → List ℕ
 cut_draft statuses.WriteFault text = text
 cut_draft status text = []
 
--- after each other status a front of this is written; the last list has the bytes that were taken
+-- after each other status a front of this is written; the last list has the raw bytes of what was read
 abbrev pub draft_for : Command → Status → World → List ℕ → List ℕ → List ℕ
-draft_for (Compress h) status w wants taken = compress_draft status (stream_text h taken)
-draft_for Restore status w wants taken = restore_draft status (restored_text taken)
-draft_for Info status w wants taken = cut_draft status (info_text taken)
-draft_for (New name ty ns b) status w wants taken = []
-draft_for (Run name caching) status w wants taken = cut_draft status (script_text (run_replies caching) (opened array_in (w.files name)) wants w.input)
-draft_for (Look name lines) status w wants taken = cut_draft status (script_text (look_replies lines) (opened stream_in (w.files name)) wants w.input)
-draft_for (Bound name most) status w wants taken = cut_draft status (certified_text most (opened array_in (w.files name)))
-draft_for (Sample h seed) status w wants taken = cut_draft status (sample_text h seed)
+draft_for (Compress h) status w wants raw = compress_draft status (stream_text h raw)
+draft_for (CompressNarrow n h) status w wants raw = compress_draft status (stream_text h raw)
+draft_for Restore status w wants raw = restore_draft status (restored_text raw)
+draft_for (RestoreNarrow n) status w wants raw = restore_draft status (narrow_restored n raw)
+draft_for Info status w wants raw = cut_draft status (info_text raw)
+draft_for (New name ty ns b) status w wants raw = []
+draft_for (Run name caching) status w wants raw = cut_draft status (script_text (run_replies caching) (opened array_in (w.files name)) wants w.input)
+draft_for (Look name lines) status w wants raw = cut_draft status (script_text (look_replies lines) (opened stream_in (w.files name)) wants w.input)
+draft_for (Bound name most) status w wants raw = cut_draft status (certified_text most (opened array_in (w.files name)))
+draft_for (Sample h seed) status w wants raw = cut_draft status (sample_text h seed)
 
 -- what is saved, and under which name
 abbrev pub saved_for : Command → World → List ℕ → Option (List ℕ × List ℕ)
 saved_for (Compress h) w wants = None
+saved_for (CompressNarrow n h) w wants = None
 saved_for Restore w wants = None
+saved_for (RestoreNarrow n) w wants = None
 saved_for Info w wants = None
 saved_for (New name ty ns b) w wants = Some (name, file_of (zeros ty ns b))
 saved_for (Run name caching) w wants = saved_of name (run_file caching) (opened array_in (w.files name)) wants w.input
@@ -132,7 +163,9 @@ TakesScript status input taken = taken ≡ []
 -- how far the input was taken
 abbrev pub IsExtent : Command → Status → List ℕ → List ℕ → Type 0
 IsExtent (Compress h) status input taken = TakesWhole status input taken
+IsExtent (CompressNarrow n h) status input taken = TakesWhole status input taken
 IsExtent Restore status input taken = TakesWhole status input taken
+IsExtent (RestoreNarrow n) status input taken = TakesWhole status input taken
 IsExtent Info status input taken = TakesHeader status input taken
 IsExtent (New name ty ns b) status input taken = taken ≡ []
 IsExtent (Run name caching) status input taken = TakesScript status input taken
@@ -150,7 +183,9 @@ OnWholeScript status P = Unit {0}
 -- only a script has lines that answer `! memory`
 abbrev pub HasWants : Command → Status → World → List ℕ → Type 0
 HasWants (Compress h) status w wants = wants ≡ []
+HasWants (CompressNarrow n h) status w wants = wants ≡ []
 HasWants Restore status w wants = wants ≡ []
+HasWants (RestoreNarrow n) status w wants = wants ≡ []
 HasWants Info status w wants = wants ≡ []
 HasWants (New name ty ns b) status w wants = wants ≡ []
 HasWants (Run name caching) status w wants = OnWholeScript status (AreWants (run_replies caching) (opened array_in (w.files name)) wants w.input)
@@ -167,7 +202,9 @@ pub record Uses : Type 0 where
 
 abbrev pub uses : Command → Uses
 uses (Compress h) = record { reads = true; writes = true; loads = false; saves = false }
+uses (CompressNarrow n h) = record { reads = true; writes = true; loads = false; saves = false }
 uses Restore = record { reads = true; writes = true; loads = false; saves = false }
+uses (RestoreNarrow n) = record { reads = true; writes = true; loads = false; saves = false }
 uses Info = record { reads = true; writes = true; loads = false; saves = false }
 uses (New name ty ns b) = record { reads = false; writes = false; loads = false; saves = true }
 uses (Run name caching) = record { reads = true; writes = true; loads = true; saves = true }
@@ -178,7 +215,9 @@ uses (Sample h seed) = record { reads = false; writes = true; loads = false; sav
 -- the command takes memory in this world
 abbrev pub TakesMemory : Command → World → Type 0
 TakesMemory (Compress h) w = Unit {0}
+TakesMemory (CompressNarrow n h) w = Unit {0}
 TakesMemory Restore w = header_fault w.input ≡ None
+TakesMemory (RestoreNarrow n) w = header_fault w.input ≡ None
 TakesMemory Info w = ⊥
 TakesMemory (New name ty ns b) w = Unit {0}
 TakesMemory (Run name caching) w = Unit {0}
@@ -193,7 +232,9 @@ IsRunnable file w = IsOk file × (length w.input ≤ max_script)
 -- the command reads the source, writes to the sink, loads and saves in this world
 abbrev pub MayRead : Command → World → Type 0
 MayRead (Compress h) w = Unit {0}
+MayRead (CompressNarrow n h) w = Unit {0}
 MayRead Restore w = Unit {0}
+MayRead (RestoreNarrow n) w = Unit {0}
 MayRead Info w = Unit {0}
 MayRead (New name ty ns b) w = ⊥
 MayRead (Run name caching) w = IsOk (opened array_in (w.files name))
@@ -203,7 +244,9 @@ MayRead (Sample h seed) w = ⊥
 
 abbrev pub MayWrite : Command → World → Type 0
 MayWrite (Compress h) w = Unit {0}
+MayWrite (CompressNarrow n h) w = Unit {0}
 MayWrite Restore w = Unit {0}
+MayWrite (RestoreNarrow n) w = Unit {0}
 MayWrite Info w = Unit {0}
 MayWrite (New name ty ns b) w = ⊥
 MayWrite (Run name caching) w = IsRunnable (opened array_in (w.files name)) w
@@ -213,7 +256,9 @@ MayWrite (Sample h seed) w = Unit {0}
 
 abbrev pub MayLoad : Command → World → Type 0
 MayLoad (Compress h) w = ⊥
+MayLoad (CompressNarrow n h) w = ⊥
 MayLoad Restore w = ⊥
+MayLoad (RestoreNarrow n) w = ⊥
 MayLoad Info w = ⊥
 MayLoad (New name ty ns b) w = ⊥
 MayLoad (Run name caching) w = Unit {0}
@@ -223,7 +268,9 @@ MayLoad (Sample h seed) w = ⊥
 
 abbrev pub MaySave : Command → World → Type 0
 MaySave (Compress h) w = ⊥
+MaySave (CompressNarrow n h) w = ⊥
 MaySave Restore w = ⊥
+MaySave (RestoreNarrow n) w = ⊥
 MaySave Info w = ⊥
 MaySave (New name ty ns b) w = Unit {0}
 MaySave (Run name caching) w = IsRunnable (opened array_in (w.files name)) w
@@ -261,6 +308,11 @@ RestoreEnds statuses.ReadFault = Unit {0}
 RestoreEnds statuses.WriteFault = Unit {0}
 RestoreEnds statuses.Memory = Unit {0}
 RestoreEnds status = ⊥
+
+-- those of `restore` of narrow values
+abbrev pub RestoreNarrowEnds : Status → Type 0
+RestoreNarrowEnds statuses.NotNarrow = Unit {0}
+RestoreNarrowEnds status = RestoreEnds status
 
 -- those of `info`
 abbrev pub InfoEnds : Status → Type 0
@@ -321,7 +373,9 @@ SampleEnds status = ⊥
 -- a command can end so at all, whatever its devices tell
 abbrev pub IsPossible : Command → Status → Type 0
 IsPossible (Compress h) status = CompressEnds (raw_len h) status
+IsPossible (CompressNarrow n h) status = CompressEnds (narrow_len n h) status
 IsPossible Restore status = RestoreEnds status
+IsPossible (RestoreNarrow n) status = RestoreNarrowEnds status
 IsPossible Info status = InfoEnds status
 IsPossible (New name ty ns b) status = NewEnds status
 IsPossible (Run name caching) status = RunEnds status

@@ -5,6 +5,8 @@ use Rattle.zf_dev.specs.declared.faults.TakeError.{TakeError}
 use Rattle.zf_dev.specs.declared.faults.TakeError.TheVariants as taking
 use Rattle.zf_stream.specs.declared.fault.StreamFault.{StreamFault}
 use Rattle.zf_stream.specs.declared.fault.StreamFault.TheVariants as faults
+use Rattle.zf_narrow.specs.declared.fault.NarrowFault.{NarrowFault}
+use Rattle.zf_narrow.specs.declared.fault.NarrowFault.TheVariants.{NotNarrow, Stream}
 use Rattle.zf_index.specs.declared.fault.IndexFault.{IndexFault}
 use Rattle.zf_index.specs.Files as index
 use Rattle.zf_store.specs.declared.fault.StoreFault.{StoreFault}
@@ -23,6 +25,11 @@ fault_status faults.Trailing = statuses.Trailing
 fault_status faults.Read = statuses.ReadFault
 fault_status faults.Write = statuses.WriteFault
 fault_status faults.Memory = statuses.Memory
+
+-- the status of a fault of a stream that is restored to narrow values
+abbrev pub narrow_status : NarrowFault → Status
+narrow_status NotNarrow = statuses.NotNarrow
+narrow_status (Stream e) = fault_status e
 
 -- the status of a file that was not loaded
 abbrev pub load_status : LoadError → Status

@@ -4,6 +4,9 @@ use Rattle.zf_header.specs.declared.header.Header.{Header}
 use Rattle.zf_header.specs.declared.header.Mode.TheVariants.{Reversible}
 use Rattle.zf_header.specs.HeaderBits.{IsHeader}
 use Rattle.zf_stream.specs.Raw.{raw_len, stream_text}
+use Rattle.zf_base.specs.declared.lane.Ty.TheVariants.{I32}
+use Rattle.zf_narrow.specs.declared.narrow.Narrow.{Narrow}
+use Rattle.zf_narrow.specs.Texts.{narrow_len, narrow_text}
 use Rattle.zf_dev.specs.Faults.{Rose, IsQuiet, HasCause}
 use Rattle.zf_dev.specs.Shelf.{Files, KeepsFiles, KeepsOthers, SavesFile}
 use Rattle.zf_dev.specs.Source.{Takes}
@@ -11,9 +14,9 @@ use Rattle.zf_dev.specs.Sink.{Appends, AppendsFront}
 use Rattle.zfpi.specs.declared.status.Status.{Status}
 use Rattle.zfpi.specs.declared.status.Status.TheVariants.{Done, Lines, Usage, ReadFault, WriteFault, LoadFault, SaveFault, Memory}
 use Rattle.zfpi.specs.declared.command.Command.{Command}
-use Rattle.zfpi.specs.Words.{IsSpelled, IsUsage}
+use Rattle.zfpi.specs.Words.{narrow_word, IsSpelled, IsUsage}
 use Rattle.zfpi.specs.World.{World, Seen, Counts, IsTold}
-use Rattle.zfpi.specs.Answer.{status_for, text_for, draft_for, saved_for, uses, IsExtent, HasWants, TakesMemory, MayFail}
+use Rattle.zfpi.specs.Answer.{status_for, text_for, draft_for, IsRaw, saved_for, uses, IsExtent, HasWants, TakesMemory, MayFail}
 
 -- this holds of the command that the words are, where they are one
 abbrev pub OfCommand : List (List ℕ) → (Command → Type 0) → Type 0
@@ -62,7 +65,10 @@ pub record Behaves (c : Command) (status : Status) (before now : Seen) : Type 0 
   pub taken : List ℕ
   pub takes : Takes before.src now.src taken
   pub extent : IsExtent c status world.input taken
-  pub written : Writes status (text_for c world wants) (draft_for c status world wants taken) before.out now.out
+  -- the raw bytes of these
+  pub raw : List ℕ
+  pub raw_is : IsRaw c status before.src taken raw
+  pub written : Writes status (text_for c world wants raw) (draft_for c status world wants raw) before.out now.out
   pub saved : Saves (saved_for c world wants) status before.shelf now.shelf
 
 -- a count rises only where the device is used
@@ -114,14 +120,34 @@ pub record IsComplete (c : Command) (status : Status) (before : Seen) : Type 0 w
   pub stated : (status ≡ status_for c world wants) ⊎ ((status ≡ Memory) × TakesMemory c world)
   pub no_fault : (status ≢ ReadFault) × (status ≢ WriteFault) × (status ≢ LoadFault) × (status ≢ SaveFault)
 
--- the words are `restore`, and the source holds the reversible stream of these raw bytes
-pub record HoldsReversible (words : List (List ℕ)) (src : Option (List ℕ)) (h : Header) (bytes : List ℕ) : Type 0 where
-  pub words_are : words ≡ codes "restore" ∷ []
+-- the words of `restore`, which writes raw values of the stream's own type or narrow ones
+abbrev pub restore_words : Option Narrow → List (List ℕ)
+restore_words None = codes "restore" ∷ []
+restore_words (Some n) = codes "restore" ∷ narrow_word n ∷ []
+
+-- only int32 values stand for narrow ones
+abbrev pub HasTypeOf : Option Narrow → Header → Type 0
+HasTypeOf None h = Unit {0}
+HasTypeOf (Some n) h = h.ty ≡ I32
+
+-- how many raw bytes there are, and their stream
+abbrev pub raw_len_of : Option Narrow → Header → ℕ
+raw_len_of None h = raw_len h
+raw_len_of (Some n) h = narrow_len n h
+
+abbrev pub stream_of : Option Narrow → Header → List ℕ → List ℕ
+stream_of None h bytes = stream_text h bytes
+stream_of (Some n) h bytes = narrow_text n h bytes
+
+-- the words are those of `restore`, and the source holds the reversible stream of these raw bytes
+pub record HoldsReversible (words : List (List ℕ)) (src : Option (List ℕ)) (kind : Option Narrow) (h : Header) (bytes : List ℕ) : Type 0 where
+  pub words_are : words ≡ restore_words kind
   pub header : IsHeader h
+  pub typed : HasTypeOf kind h
   pub mode : h.mode ≡ Reversible
-  pub whole : length bytes ≡ raw_len h
+  pub whole : length bytes ≡ raw_len_of kind h
   pub small : All (λ b. b < 256) bytes
-  pub stream : src ≡ Some (stream_text h bytes)
+  pub stream : src ≡ Some (stream_of kind h bytes)
 
 -- exactly these bytes were written, and the work was done
 pub record IsBack (status : Status) (before now : Option (List ℕ)) (bytes : List ℕ) : Type 0 where
@@ -130,7 +156,7 @@ pub record IsBack (status : Status) (before now : Option (List ℕ)) (bytes : Li
 
 -- what a reversible stream was made of comes back, unless a device failed or there was no memory
 abbrev pub GivesBack : List (List ℕ) → Status → Seen → Seen → Type 0
-GivesBack words status before now = (h : Header) (bytes : List ℕ) → HoldsReversible words before.src h bytes → IsBack status before.out now.out bytes ⊎ IsFromOutside status
+GivesBack words status before now = (kind : Option Narrow) (h : Header) (bytes : List ℕ) → HoldsReversible words before.src kind h bytes → IsBack status before.out now.out bytes ⊎ IsFromOutside status
 
 -- the text was sent, whole where the count of faults did not rise, and else a front of it
 pub record Sends (text : List ℕ) (before now : Option (List ℕ)) (faults_before faults_now : ℕ) : Type 0 where

@@ -2,6 +2,7 @@
 use Rattle.std.specs.Prelude.{ℕ, ◌≡◌, ◌<◌, ◌≤◌, ◌^◌, List, [], ◌∷◌, ◌++◌, Option, Some, codes, decimal}
 use Rattle.zf_spec.specs.Grid.{IsShape}
 use Rattle.zf_base.specs.declared.lane.Ty.{Ty}
+use Rattle.zf_base.specs.declared.lane.Ty.TheVariants.{I32}
 use Rattle.zf_header.specs.declared.header.Header.{Header}
 use Rattle.zf_header.specs.declared.header.Mode.TheVariants.{Rate, Precision}
 use Rattle.zf_header.specs.HeaderBits.{IsRate, IsMode, rate_bytes_of}
@@ -15,21 +16,24 @@ use Rattle.zfpi.specs.declared.words.Script.{Script}
 use Rattle.zfpi.specs.declared.words.Script.TheVariants as scripts
 use Rattle.zfpi.specs.declared.words.Stage.{Stage}
 use Rattle.zfpi.specs.declared.words.Stage.TheVariants as stages
-use Rattle.zfpi.specs.Words.{type_word, shape_word, max_file, IsLines, IsSpelled}
+use Rattle.zfpi.specs.Words.{type_word, narrow_word, shape_word, max_file, IsLines, IsSpelled}
 
--- the number that an array is made of has 64 bits
-abbrev pub IsTask : Task → Type 0
-IsTask tasks.Compress = Unit {0}
-IsTask (tasks.Sample seed) = seed < 2 ^ 64
+-- narrow values stand for int32 ones, and the number that an array is made of has 64 bits
+abbrev pub IsTask : Task → Ty → Type 0
+IsTask tasks.Compress ty = Unit {0}
+IsTask (tasks.CompressNarrow n) ty = ty ≡ I32
+IsTask (tasks.Sample seed) ty = seed < 2 ^ 64
 
 -- the words of a task before those of the mode
 abbrev pub task_words : Task → Ty → List ℕ → List (List ℕ)
 task_words tasks.Compress ty shape = codes "compress" ∷ type_word ty ∷ shape_word shape ∷ []
+task_words (tasks.CompressNarrow n) ty shape = codes "compress" ∷ narrow_word n ∷ shape_word shape ∷ []
 task_words (tasks.Sample seed) ty shape = codes "sample" ∷ type_word ty ∷ shape_word shape ∷ decimal seed ∷ []
 
 -- the command that does a task with the arrays of a header
 abbrev pub command_of : Task → Header → Command
 command_of tasks.Compress h = commands.Compress h
+command_of (tasks.CompressNarrow n) h = commands.CompressNarrow n h
 command_of (tasks.Sample seed) h = commands.Sample h seed
 
 -- the first word of a command on a script
@@ -44,7 +48,7 @@ script_command scripts.Look name lines = commands.Look name lines
 
 -- these words begin a task for arrays of this type and shape, and then those behind follow
 pub record IsBegun (task : Task) (ty : Ty) (shape : List ℕ) (behind : List (List ℕ)) (words : List (List ℕ)) : Type 0 where
-  pub task_is : IsTask task
+  pub task_is : IsTask task ty
   pub shape_is : IsShape shape
   pub words_are : words ≡ task_words task ty shape ++ behind
 
@@ -53,6 +57,7 @@ abbrev pub LeadsTo : List (List ℕ) → Stage → Type 0
 LeadsTo words stages.Start = words ≡ []
 LeadsTo words stages.Compressing = words ≡ codes "compress" ∷ []
 LeadsTo words (stages.Typed ty) = words ≡ codes "compress" ∷ type_word ty ∷ []
+LeadsTo words (stages.TypedNarrow n) = words ≡ codes "compress" ∷ narrow_word n ∷ []
 LeadsTo words stages.Sampling = words ≡ codes "sample" ∷ []
 LeadsTo words (stages.SampleTyped ty) = words ≡ codes "sample" ∷ type_word ty ∷ []
 LeadsTo words (stages.SampleShaped ty shape) = IsShape shape × (words ≡ codes "sample" ∷ type_word ty ∷ shape_word shape ∷ [])

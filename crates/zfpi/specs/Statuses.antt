@@ -3,7 +3,7 @@ use Rattle.std.specs.Prelude.{ℕ, List, [], ◌++◌, codes, decimal}
 use Rattle.zf_header.specs.declared.header.HeaderFault.{HeaderFault}
 use Rattle.zf_header.specs.declared.header.HeaderFault.TheVariants as headers
 use Rattle.zfpi.specs.declared.status.Status.{Status}
-use Rattle.zfpi.specs.declared.status.Status.TheVariants.{Done, Lines, Usage, RawShort, RawLong, Header, Truncated, Pad, Trailing, NotRate, Missing, ScriptLong, FileLong, ReadFault, WriteFault, LoadFault, SaveFault, Memory}
+use Rattle.zfpi.specs.declared.status.Status.TheVariants.{Done, Lines, Usage, RawShort, RawLong, Header, Truncated, Pad, Trailing, NotRate, NotNarrow, Missing, ScriptLong, FileLong, ReadFault, WriteFault, LoadFault, SaveFault, Memory}
 
 -- the exit code of the process
 abbrev pub code_of : Status → ℕ
@@ -24,6 +24,7 @@ code_of ReadFault = 10
 code_of WriteFault = 11
 code_of LoadFault = 12
 code_of SaveFault = 12
+code_of NotNarrow = 13
 code_of Memory = 20
 
 -- what is wrong with a header
@@ -52,6 +53,7 @@ error_line (Truncated b) = line (codes "stream ends in block " ++ decimal b)
 error_line Pad = line (codes "fill bit is one")
 error_line Trailing = line (codes "bytes after the stream")
 error_line (NotRate m) = line (codes "mode " ++ decimal m ++ codes " has no cached array")
+error_line NotNarrow = line (codes "type is not int32")
 error_line Missing = line (codes "no such file")
 error_line ScriptLong = line (codes "script too long")
 error_line FileLong = line (codes "file too long")

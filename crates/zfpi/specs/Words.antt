@@ -8,16 +8,25 @@ use Rattle.zf_header.specs.declared.header.Header.{Header}
 use Rattle.zf_header.specs.declared.header.Mode.{Mode}
 use Rattle.zf_header.specs.declared.header.Mode.TheVariants.{Reversible, Rate, Precision}
 use Rattle.zf_header.specs.HeaderBits.{IsHeader, IsRate, rate_bytes_of}
+use Rattle.zf_narrow.specs.declared.narrow.Narrow.{Narrow}
+use Rattle.zf_narrow.specs.declared.narrow.Narrow.TheVariants.{I8, U8, I16, U16}
 use Rattle.zfpi.specs.Names.{IsName}
 use Rattle.zfpi.specs.declared.command.Caching.{Caching}
 use Rattle.zfpi.specs.declared.command.Caching.TheVariants.{Direct, TwoWay}
 use Rattle.zfpi.specs.declared.command.Command.{Command}
-use Rattle.zfpi.specs.declared.command.Command.TheVariants.{Compress, Restore, Info, New, Run, Look, Bound, Sample}
+use Rattle.zfpi.specs.declared.command.Command.TheVariants.{Compress, CompressNarrow, Restore, RestoreNarrow, Info, New, Run, Look, Bound, Sample}
 
 -- the word of a type
 abbrev pub type_word : Ty → List ℕ
 type_word I32 = codes "int32"
 type_word I64 = codes "int64"
+
+-- the word of a narrow type
+abbrev pub narrow_word : Narrow → List ℕ
+narrow_word I8 = codes "int8"
+narrow_word U8 = codes "uint8"
+narrow_word I16 = codes "int16"
+narrow_word U16 = codes "uint16"
 
 -- the word of a shape: its sizes in decimal, x first, joined by the letter x
 abbrev pub shape_word : List ℕ → List ℕ
@@ -47,6 +56,16 @@ pub record IsAskable (h : Header) : Type 0 where
 -- `compress TYPE SHAPE reversible`, `compress TYPE SHAPE rate B` or `compress TYPE SHAPE precision P`
 abbrev pub compress_words : Header → List (List ℕ)
 compress_words h = codes "compress" ∷ type_word h.ty ∷ shape_word h.shape ∷ mode_words h.mode
+
+-- the same with the word of a narrow type
+abbrev pub compress_narrow_words : Narrow → Header → List (List ℕ)
+compress_narrow_words n h = codes "compress" ∷ narrow_word n ∷ shape_word h.shape ∷ mode_words h.mode
+
+-- what can be asked for of int32 values, which stand for narrow ones
+pub record IsCompressNarrow (n : Narrow) (h : Header) (words : List (List ℕ)) : Type 0 where
+  pub asked : IsAskable h
+  pub typed : h.ty ≡ I32
+  pub words_are : words ≡ compress_narrow_words n h
 
 -- `new NAME TYPE SHAPE B`: an array of this name, type and shape can be made, with so many bits a block
 pub record IsNew (name : List ℕ) (ty : Ty) (ns : List ℕ) (b : ℕ) (words : List (List ℕ)) : Type 0 where
@@ -101,7 +120,9 @@ pub record IsSample (h : Header) (seed : ℕ) (words : List (List ℕ)) : Type 0
 -- these words are the command
 abbrev pub IsSpelled : Command → List (List ℕ) → Type 0
 IsSpelled (Compress h) words = IsAskable h × (words ≡ compress_words h)
+IsSpelled (CompressNarrow n h) words = IsCompressNarrow n h words
 IsSpelled Restore words = words ≡ codes "restore" ∷ []
+IsSpelled (RestoreNarrow n) words = words ≡ codes "restore" ∷ narrow_word n ∷ []
 IsSpelled Info words = words ≡ codes "info" ∷ []
 IsSpelled (New name ty ns b) words = IsNew name ty ns b words
 IsSpelled (Run name caching) words = IsOnScript (codes "run") name caching words

@@ -3,6 +3,7 @@
 use crate::name::Name;
 use zf_base::{Shape, Ty};
 use zf_header::Header;
+use zf_narrow::Narrow;
 
 /// The cache that a script runs over.
 #[derive(Clone, Copy, Debug)]
@@ -18,8 +19,12 @@ pub enum Caching {
 pub enum Command {
     /// Raw values from the source; the stream that has this header to the sink.
     Compress(Header),
+    /// Raw narrow values from the source; the stream of the int32 values that stand for them, which has this header, to the sink.
+    CompressNarrow(Narrow, Header),
     /// A stream from the source; its raw values to the sink.
     Restore,
+    /// A stream of int32 values from the source; the raw narrow values that they stand for to the sink.
+    RestoreNarrow(Narrow),
     /// The header of a stream from the source; a line that says it to the sink.
     Info,
     /// An array of zeros, saved under this name; each block has this many bits.

@@ -38,6 +38,7 @@ pub fn error_line(status: &Status) -> Line
         Status::Pad => plain("fill bit is one"),
         Status::Trailing => plain("bytes after the stream"),
         Status::NotRate(number) => counted("mode ", u64::from(number), " has no cached array"),
+        Status::NotNarrow => plain("type is not int32"),
         Status::Missing => plain("no such file"),
         Status::ScriptLong => plain("script too long"),
         Status::FileLong => plain("file too long"),

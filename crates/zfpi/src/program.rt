@@ -9,11 +9,13 @@ ghost use Rattle.zfpi.specs.Headline.{OfCommand, OnUsage, RefusesWords, Behaves,
 use crate::bound::bound;
 use crate::command::Command;
 use crate::compress::compress;
+use crate::compress_narrow::compress_narrow;
 use crate::info::info;
 use crate::line::error_line;
 use crate::look::look;
 use crate::new::new;
 use crate::restore::restore;
+use crate::restore_narrow::restore_narrow;
 use crate::run::run;
 use crate::sample::sample;
 use crate::status::Status;
@@ -102,7 +104,11 @@ fn do_command<S: Source, O: Sink, F: Shelf>(
 {
     match command {
         Command::Compress(header) => compress(alloc, header, src, out),
+        Command::CompressNarrow(narrow, header) => {
+            compress_narrow(alloc, narrow, header, src, out)
+        }
         Command::Restore => restore(alloc, src, out),
+        Command::RestoreNarrow(narrow) => restore_narrow(alloc, narrow, src, out),
         Command::Info => info(src, out),
         Command::New {
             name,

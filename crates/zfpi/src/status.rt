@@ -1,12 +1,13 @@
 //! How the program ends.
 
 ghost use Rattle.std.specs.Prelude.{◌≡◌};
-ghost use Rattle.zfpi.specs.Faults.{fault_status, load_status, store_status, index_status, take_status};
+ghost use Rattle.zfpi.specs.Faults.{fault_status, narrow_status, load_status, store_status, index_status, take_status};
 ghost use Rattle.zfpi.specs.Statuses.{code_of};
 
 use zf_dev::{LoadError, TakeError};
 use zf_header::HeaderFault;
 use zf_index::IndexFault;
+use zf_narrow::NarrowFault;
 use zf_store::StoreFault;
 use zf_stream::StreamFault;
 
@@ -34,6 +35,8 @@ pub enum Status {
     Trailing,
     /// The file is a stream of the mode with this number, and no array's.
     NotRate(u16),
+    /// The values of the stream are not int32, and stand for no narrow ones.
+    NotNarrow,
     /// There is no file of that name.
     Missing,
     /// The script has more bytes than a script may have.
@@ -71,6 +74,7 @@ impl Status {
             Status::ReadFault => 10,
             Status::WriteFault => 11,
             Status::LoadFault | Status::SaveFault => 12,
+            Status::NotNarrow => 13,
             Status::Memory => 20,
         }
     }
@@ -90,6 +94,17 @@ impl From<StreamFault> for Status {
             StreamFault::Read => Status::ReadFault,
             StreamFault::Write => Status::WriteFault,
             StreamFault::Memory => Status::Memory,
+        }
+    }
+}
+
+impl From<NarrowFault> for Status {
+    ghost from_gives = { λ fault status. status ≡ narrow_status fault };
+
+    fn from(fault: NarrowFault) -> Status {
+        match fault {
+            NarrowFault::NotNarrow => Status::NotNarrow,
+            NarrowFault::Stream(fault) => Status::from(fault),
         }
     }
 }

@@ -2,8 +2,9 @@
 
 ghost use Rattle.std.specs.Prelude.{◌≡◌, ◌≢◌, ◌↔◌, ℕ, List, [], ◌∷◌, ◌++◌, map, Some, None, IfSome, IfNone, IfOk, IfErr, IsTrue, codes, string_bytes};
 ghost use Rattle.zf_base.specs.declared.lane.Ty.{Ty};
+ghost use Rattle.zf_narrow.specs.declared.narrow.Narrow.{Narrow};
 ghost use Rattle.zf_header.specs.HeaderBits.{IsRate, IsMode};
-ghost use Rattle.zfpi.specs.Words.{type_word, IsLines, IsSpelled, BeginsCommand, IsUsage};
+ghost use Rattle.zfpi.specs.Words.{type_word, narrow_word, IsLines, IsSpelled, BeginsCommand, IsUsage};
 ghost use Rattle.zfpi.specs.Stages.{LeadsTo, IsRateWord, IsLinesWord, IsPrecisionWord, command_of, script_command};
 
 use crate::command::{Caching, Command};
@@ -11,14 +12,16 @@ use crate::name::Name;
 use crate::numbers::{number_in, shape_in};
 use zf_base::{Shape, Ty};
 use zf_header::{Header, MAX_FILE, MAX_PRECISION, MAX_RATE, Mode, rate_bytes};
+use zf_narrow::Narrow;
 
 // The most lines of a cache.
 const MOST_LINES: u32 = 1 << 16;
 
-// What is done with the arrays of a header: raw values become their stream, or values are made from a number.
+// What is done with the arrays of a header: raw values, or narrow ones, become their stream, or values are made from a number.
 #[derive(Clone, Copy, Debug)]
 enum Task {
     Compress,
+    CompressNarrow(Narrow),
     Sample(u64),
 }
 
@@ -35,6 +38,7 @@ enum Stage {
     Start,
     Compressing,
     Typed(Ty),
+    TypedNarrow(Narrow),
     Sampling,
     SampleTyped(Ty),
     SampleShaped(Ty, Shape),
@@ -79,6 +83,7 @@ impl Task {
     {
         match self {
             Task::Compress => Command::Compress(header),
+            Task::CompressNarrow(narrow) => Command::CompressNarrow(narrow, header),
             Task::Sample(seed) => Command::Sample(header, seed),
         }
     }
@@ -109,8 +114,12 @@ impl Stage {
     {
         match self {
             Stage::Start => first(word),
-            Stage::Compressing => Some(Stage::Typed(type_in(word)?)),
+            Stage::Compressing => behind_compress(word),
             Stage::Typed(ty) => Some(Stage::Shaped(Task::Compress, ty, shape_in(word)?)),
+            Stage::TypedNarrow(narrow) => {
+                let task = Task::CompressNarrow(narrow);
+                Some(Stage::Shaped(task, Ty::I32, shape_in(word)?))
+            }
             Stage::Sampling => Some(Stage::SampleTyped(type_in(word)?)),
             Stage::SampleTyped(ty) => Some(Stage::SampleShaped(ty, shape_in(word)?)),
             Stage::SampleShaped(ty, shape) => {
@@ -187,6 +196,33 @@ fn type_in(word: &str) -> Option<Ty>
     }
 }
 
+// The narrow type that a word says.
+fn narrow_in(word: &str) -> Option<Narrow>
+    ensures narrow { IfSome result (λ n. word.now ≡ narrow_word n) }
+    ensures none { IfNone result ((n : Narrow) → word.now ≢ narrow_word n) }
+{
+    match word {
+        "int8" => Some(Narrow::I8),
+        "uint8" => Some(Narrow::U8),
+        "int16" => Some(Narrow::I16),
+        "uint16" => Some(Narrow::U16),
+        _ => None,
+    }
+}
+
+// The stage that the word of a type leads to behind `compress`.
+fn behind_compress(word: &str) -> Option<Stage>
+    ensures leads { IfSome result (λ next. (words : List (List ℕ)) → LeadsTo words Stage.Compressing
+        → LeadsTo (words ++ word.now ∷ []) next) }
+    ensures none { IfNone result ((words : List (List ℕ)) → LeadsTo words Stage.Compressing
+        → BeginsCommand (words ++ word.now ∷ []) → ⊥) }
+{
+    match type_in(word) {
+        Some(ty) => Some(Stage::Typed(ty)),
+        None => Some(Stage::TypedNarrow(narrow_in(word)?)),
+    }
+}
+
 // The stage that the first word of the mode leads to.
 fn behind_shape(task: Task, ty: Ty, shape: Shape, word: &str) -> Option<Stage>
     ensures leads { IfSome result (λ next. (words : List (List ℕ)) → LeadsTo words (Stage.Shaped task ty shape)
@@ -205,7 +241,7 @@ fn behind_shape(task: Task, ty: Ty, shape: Shape, word: &str) -> Option<Stage>
     }
 }
 
-// The stage that a word behind a whole command leads to: only a script can go on, with its cache.
+// The stage that a word behind a whole command leads to: only a script can go on, with its cache, and `restore`, with a narrow type.
 fn behind_whole(command: Command, word: &str) -> Option<Stage>
     ensures leads { IfSome result (λ next. (words : List (List ℕ)) → LeadsTo words (Stage.Whole command)
         → LeadsTo (words ++ word.now ∷ []) next) }
@@ -213,6 +249,7 @@ fn behind_whole(command: Command, word: &str) -> Option<Stage>
         → BeginsCommand (words ++ word.now ∷ []) → ⊥) }
 {
     match command {
+        Command::Restore => Some(Stage::Whole(Command::RestoreNarrow(narrow_in(word)?))),
         Command::Run {
             name,
             caching: Caching::Direct(None),

@@ -7,11 +7,23 @@ returns-in-Compress-clause-behaves g c = rw c.in-Compress.is (c.compress.ensures
 pub returns-in-Compress-clause-causes : goal.returns-in-Compress-clause-causes
 returns-in-Compress-clause-causes g c = rw c.in-Compress.is (HasCauses-more _ _ _ _ _ _ _ (c.compress.ensures.causes _))
 
+pub returns-in-CompressNarrow-clause-behaves : goal.returns-in-CompressNarrow-clause-behaves
+returns-in-CompressNarrow-clause-behaves g c = rw c.in-CompressNarrow.is (c.compress_narrow.ensures.behaves _)
+
+pub returns-in-CompressNarrow-clause-causes : goal.returns-in-CompressNarrow-clause-causes
+returns-in-CompressNarrow-clause-causes g c = rw c.in-CompressNarrow.is (HasCauses-more _ _ _ _ _ _ _ (c.compress_narrow.ensures.causes _))
+
 pub returns-in-Restore-clause-behaves : goal.returns-in-Restore-clause-behaves
 returns-in-Restore-clause-behaves g c = rw c.in-Restore.is (c.restore.ensures.behaves _)
 
 pub returns-in-Restore-clause-causes : goal.returns-in-Restore-clause-causes
 returns-in-Restore-clause-causes g c = rw c.in-Restore.is (HasCauses-more _ _ _ _ _ _ _ (c.restore.ensures.causes _))
+
+pub returns-in-RestoreNarrow-clause-behaves : goal.returns-in-RestoreNarrow-clause-behaves
+returns-in-RestoreNarrow-clause-behaves g c = rw c.in-RestoreNarrow.is (c.restore_narrow.ensures.behaves _)
+
+pub returns-in-RestoreNarrow-clause-causes : goal.returns-in-RestoreNarrow-clause-causes
+returns-in-RestoreNarrow-clause-causes g c = rw c.in-RestoreNarrow.is (HasCauses-more _ _ _ _ _ _ _ (c.restore_narrow.ensures.causes _))
 
 pub returns-in-Info-clause-behaves : goal.returns-in-Info-clause-behaves
 returns-in-Info-clause-behaves g c = rw c.in-Info.is (c.info.ensures.behaves _)

@@ -1,0 +1,31 @@
+//! `restore` of narrow values: a stream of int32 values to the raw values of 8 or 16 bits that they stand for.
+
+ghost use Rattle.std.specs.Prelude.{ℕ, Option};
+ghost use Rattle.zf_dev.specs.Shelf.{Files};
+ghost use Rattle.zfpi.specs.declared.command.Command.TheVariants.{RestoreNarrow};
+ghost use Rattle.zfpi.specs.World.{seen, counts};
+ghost use Rattle.zfpi.specs.Headline.{Behaves, HasCauses};
+
+use crate::status::Status;
+use std::alloc::Global;
+use zf_dev::{Sink, Source};
+use zf_narrow::Narrow;
+
+/// Reads a stream, and writes raw narrow values.
+pub fn restore_narrow<S: Source, O: Sink>(
+    alloc: Global,
+    narrow: Narrow,
+    src: &mut S,
+    out: &mut O,
+) -> Status
+    ensures behaves { (files : Option Files) → Behaves (RestoreNarrow narrow) result
+        (seen (S.contents src.old) (O.contents out.old) files) (seen (S.contents src.new) (O.contents out.new) files) }
+    ensures causes { (shelf : ℕ) → HasCauses (RestoreNarrow narrow) result
+        (counts (S.faults src.old) (O.faults out.old) shelf) (counts (S.faults src.new) (O.faults out.new) shelf)
+        ⊥ ⊥ (S.never_fails src.old) (S.never_fails src.new) }
+{
+    match zf_narrow::restore_narrow(alloc, narrow, src, out) {
+        Ok(()) => Status::Done,
+        Err(fault) => Status::from(fault),
+    }
+}
