@@ -3,3 +3,4 @@ pub mod Alone
 pub mod Calls
 pub mod Others
 pub mod Several
+pub mod Ready

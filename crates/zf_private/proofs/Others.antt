@@ -1,5 +1,5 @@
 -- What the laws say of views over a backing, and of the parts of an array.
-use Rattle.std.proofs.Common.{◌≡◌, refl, sym, ap, subst, ◌∙◌, ◌⊎◌, inl, inr, ℕ, zero, suc, ◌+◌, ◌-◌, ◌*◌, ◌/◌, ◌<◌, ◌≤◌, ℤ, ◌+ℤ◌, Bool, true, false, List, arith}
+use Rattle.std.proofs.Common.{◌≡◌, refl, sym, ap, subst, ◌∙◌, ◌⊎◌, inl, inr, ℕ, zero, suc, ◌+◌, ◌*◌, ◌/◌, ◌<◌, ◌≤◌, ℤ, ◌+ℤ◌, true, false, List, arith}
 use Rattle.std.specs.Int.{Width}
 use Rattle.std.proofs.lemmas.Bool.{cases_lt}
 use Rattle.std.proofs.Math.Nat.{zero-div, mul-div_cancel_left}
@@ -8,12 +8,12 @@ use Rattle.zf_base.specs.Formats.{Format, meant}
 use Rattle.zf_cached.specs.State.{State, is_block}
 use Rattle.zf_cached.specs.Touch.{touch}
 use Rattle.zf_cached.specs.Changes.{flush, discard}
-use Rattle.zf_cache.specs.Kept.{Kept, tag_at, block_in, line_of, clean_tag}
+use Rattle.zf_cache.specs.Kept.{tag_at, block_in, line_of}
 use Rattle.zf_cache.specs.Standing.{state_of, values_of, line_values, Fits}
 use Rattle.zf_cache.proofs.Tags.{names-clean}
 use Rattle.zf_private.specs.Acts.{Act}
-use Rattle.zf_private.specs.Views.{changed, acted, AreAlike, NoneShared}
-use Rattle.zf_private.specs.Ownership.{Owns, OwnsPart, first_of, count_of}
+use Rattle.zf_private.specs.Views.{changed, acted, AreAlike}
+use Rattle.zf_private.specs.Ownership.{OwnsPart, first_of}
 use Rattle.zf_private.specs.Standing.{Held, Own, state, IsWhole}
 
 pub acted-discard : {Code : Type 0} (w : Width) (f : Format Code) (s : State Code) → discard f s ≡ acted w f s Act.discard

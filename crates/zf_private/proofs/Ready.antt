@@ -1,0 +1,37 @@
+-- What a call of one view leaves of it, and of another over the same backing.
+use Rattle.std.proofs.Common.{◌≡◌, sym, subst, ℕ, ◌^◌, ◌<◌, ◌≤◌, ℤ, List, length, arith}
+use Rattle.zf_spec.specs.Grid.{blocks, is_inside, indices, extent_of}
+use Rattle.zf_base.specs.Formats.{Format}
+use Rattle.zf_cache.specs.Standing.{Fits}
+use Rattle.zf_private.specs.Ownership.{Owns}
+use Rattle.zf_private.specs.Standing.{Held, Own, IsOver, HasPlaces, IsSameView, IsWhole}
+use Rattle.zf_private.specs.Several.{IsReady}
+use Rattle.zf_private.proofs.Others.{other_codes_fit}
+
+-- the format of an array of these sizes, as far as a view of some blocks looks at it
+abbrev HasBlocksOf : {Code : Type 0} → Format Code → List ℕ × (ℕ × ℕ) → Type 0
+HasBlocksOf format t =
+    (format.blocks ≡ blocks t.0) × (format.block_len ≡ 4 ^ length t.0)
+    × ((b p : ℕ) → Owns t.1.0 t.1.1 b → p < 4 ^ length t.0 → format.exists b p ≡ is_inside (extent_of t.0 b) (indices (length t.0) p))
+
+module _ {X Code : Type 0} (value : X → ℤ) (d : ℕ) (f g : Format Code) (k j : ℕ → Code) (same : g ≡ f) where
+  -- a view that was called
+  pub ready_after : (v n : Held X) → IsReady value d v f k → IsSameView v n → IsWhole d n → Fits value n.cache g j → IsReady value d n g j
+  ready_after v n ready kept whole fits =
+      let of_view : HasBlocksOf f (v.shape, (v.first, v.count)) = (ready.over.0, ready.over.1, ready.places) in
+      let e : (v.shape, (v.first, v.count)) ≡ (n.shape, (n.first, n.count)) = λ i. (sym kept.shape i, (sym kept.first i, sym kept.count i)) in
+      let new : HasBlocksOf g (n.shape, (n.first, n.count)) = subst (λ (h : Format Code). HasBlocksOf h (n.shape, (n.first, n.count))) (sym same) (subst (HasBlocksOf f) e of_view) in
+      record { whole = whole; fits = fits; over = (new.0, new.1); places = new.2 }
+
+  -- another view
+  pub ready_beside : (v o : Held X) → IsReady value d o f k → ((b : ℕ) → (Own v b → ⊥) → j b ≡ k b) → ((b : ℕ) → Own v b → Own o b → ⊥) → IsReady value d o g j
+  ready_beside v o ready others apart = record {
+    whole = ready.whole;
+    fits = other_codes_fit value d o f g k j ready.whole same (λ b own. others b (λ mine. apart b mine own)) ready.fits;
+    over = subst (λ (h : Format Code). IsOver o h) (sym same) ready.over;
+    places = subst (λ (h : Format Code). HasPlaces o h) (sym same) ready.places;
+  }
+
+-- what a view owns stays
+pub own_before : {X : Type 0} (v n : Held X) → IsSameView v n → (b : ℕ) → Own n b → Own v b
+own_before v n kept b o = (subst (λ m. m ≤ b) kept.first o.0, let far = o.1 in omega (arith, far, kept.first, kept.count))
