@@ -1,5 +1,5 @@
 -- What an act on owned blocks needs and leaves: states that are alike in the owned blocks stay alike, and the codes of all other blocks stay.
-use Rattle.std.proofs.Common.{◌≡◌, ◌≢◌, refl, sym, ap, subst, ◌∙◌, ℕ, zero, suc, ◌%◌, ◌==◌, ℤ, pos, ◌+ℤ◌, Bool, true, false, cond, Option, Some, None, List, get_or, set, ◌⊎◌, inl, inr}
+use Rattle.std.proofs.Common.{◌≡◌, ◌≢◌, refl, sym, ap, subst, ◌∙◌, ℕ, zero, suc, ◌%◌, ℤ, pos, ◌+ℤ◌, Bool, true, false, cond, Option, Some, None, List, get_or, set, ◌⊎◌, inl, inr}
 use Rattle.std.proofs.lemmas.Bool.{cases_eq}
 use Rattle.std.specs.Int.{Width}
 use Rattle.zf_spec.specs.Numbers.{wrap}
@@ -8,7 +8,7 @@ use Rattle.zf_base.proofs.Formats.{with_at-same, with_at-other}
 use Rattle.zf_cached.specs.State.{State, risen, own_line, is_block, is_here}
 use Rattle.zf_cached.specs.Touch.{write_back, write_back_dirty, write_back_line, hit, miss, touch, soiled, touch_for_writing, with_values}
 use Rattle.zf_cached.specs.Changes.{write_back_lines, emptied, flush, discard}
-use Rattle.zf_cached.proofs.Caching.{true_is_not_false, at_change, write_back_line_by, write_back_line-held, write_back_line-other, touch_by, touch-left_away}
+use Rattle.zf_cached.proofs.Caching.{at_change, write_back_line_by, write_back_line-other, touch_by, touch-left_away}
 use Rattle.zf_cache.proofs.Stands.{write_back_line-none, write_back_line-some, write_back_dirty-false, write_back_dirty-true}
 use Rattle.zf_cached.specs.Acts.{Act}
 use Rattle.zf_cached.specs.Views.{changed, acted, answered, IsWithin, HasOwn, AreAlike}

@@ -3,7 +3,6 @@ use Rattle.std.proofs.Common.{◌≡◌, ◌≢◌, refl, sym, ap, subst, ◌∙
 use Rattle.std.specs.Int.{Width}
 use Rattle.zf_base.specs.Formats.{Format, with_at}
 use Rattle.zf_base.proofs.Formats.{with_at-same, with_at-other}
-use Rattle.zf_cached.specs.State.{State}
 use Rattle.zf_cached.proofs.Caching.{at_change}
 use Rattle.zf_cached.specs.Acts.{Act}
 use Rattle.zf_cached.specs.Views.{View, Views, Step, acted, answered, with_codes, without_codes, state_of_view, stepped, ran, answers, steps_of, NoneShared, IsUnowned, IsWithin, AreWithin, HasOwn, AreAlike}

@@ -1,13 +1,12 @@
 -- What a call of the cache makes of a view.
-use Rattle.std.proofs.Common.{◌≡◌, inl, inr, refl, sym, ap, subst, ◌∙◌, ℕ, suc, ◌+◌, ◌^◌, ◌<◌, ◌≤◌, ◌==◌, ℤ, pos, ◌+ℤ◌, Bool, true, false, eqb-true, Option, Some, List, [], ◌∷◌, ◌++◌, map, length, get_or, set, take, drop, arith}
+use Rattle.std.proofs.Common.{◌≡◌, inl, inr, refl, sym, ap, subst, ◌∙◌, ℕ, suc, ◌+◌, ◌^◌, ◌<◌, ℤ, pos, ◌+ℤ◌, Bool, true, false, eqb-true, Some, List, [], ◌∷◌, ◌++◌, map, length, get_or, set, take, drop, arith}
 use Rattle.std.specs.Int.{Width}
 use Rattle.std.proofs.lemmas.Bool.{cases_lt}
 use Rattle.std.proofs.lemmas.List.{length-take-le, set_split, map-set, length-map, length-drop, drop-drop, get_or-map, get_or_past}
 use Rattle.zf_spec.specs.Numbers.{wrap}
-use Rattle.zf_spec.specs.Grid.{blocks}
 use Rattle.zf_base.specs.declared.position.Pos.{Pos}
-use Rattle.zf_base.specs.Positions.{used_axes, IsPosition}
-use Rattle.zf_base.specs.Places.{block_number, place_of, IsAt}
+use Rattle.zf_base.specs.Positions.{used_axes}
+use Rattle.zf_base.specs.Places.{IsAt}
 use Rattle.zf_base.specs.Formats.{Format, existing_of, meant}
 use Rattle.zf_base.proofs.Formats.{existing_of-existing_of, existing_of-meant, existing_of-set, get_or-existing_of_exists}
 use Rattle.zf_base.proofs.Sizes.{blocks_le}

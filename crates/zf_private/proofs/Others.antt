@@ -1,5 +1,5 @@
 -- What the laws say of views over a backing, and of the parts of an array.
-use Rattle.std.proofs.Common.{◌≡◌, refl, sym, ap, subst, ◌∙◌, ◌⊎◌, inl, inr, ℕ, zero, suc, ◌+◌, ◌-◌, ◌*◌, ◌/◌, ◌<◌, ◌≤◌, ℤ, ◌+ℤ◌, Bool, true, false, List, arith}
+use Rattle.std.proofs.Common.{◌≡◌, refl, sym, ap, subst, ◌∙◌, ◌⊎◌, inl, inr, ℕ, zero, suc, ◌+◌, ◌*◌, ◌/◌, ◌<◌, ◌≤◌, ℤ, ◌+ℤ◌, true, false, List, arith}
 use Rattle.std.specs.Int.{Width}
 use Rattle.std.proofs.lemmas.Bool.{cases_lt}
 use Rattle.std.proofs.Math.Nat.{zero-div, mul-div_cancel_left}
@@ -8,7 +8,7 @@ use Rattle.zf_base.specs.Formats.{Format, meant}
 use Rattle.zf_cached.specs.State.{State, is_block}
 use Rattle.zf_cached.specs.Touch.{touch}
 use Rattle.zf_cached.specs.Changes.{flush, discard}
-use Rattle.zf_cache.specs.Kept.{Kept, tag_at, block_in, line_of, clean_tag}
+use Rattle.zf_cache.specs.Kept.{tag_at, block_in, line_of}
 use Rattle.zf_cache.specs.Standing.{state_of, values_of, line_values, Fits}
 use Rattle.zf_cache.proofs.Tags.{names-clean}
 use Rattle.zf_cached.specs.Acts.{Act}

@@ -1,5 +1,5 @@
 -- The calls of several views over one backing are the steps of the definition.
-use Rattle.std.proofs.Common.{◌≡◌, ◌≢◌, refl, sym, ap, subst, ◌∙◌, ◌⊎◌, inl, inr, ℕ, ◌+◌, ◌<◌, ◌≤◌, ℤ, Bool, Option, arith}
+use Rattle.std.proofs.Common.{◌≡◌, ◌≢◌, sym, ap, subst, ◌∙◌, ◌⊎◌, inl, inr, ℕ, ◌+◌, ◌<◌, ◌≤◌, ℤ, Bool, Option, arith}
 use Rattle.std.specs.Int.{Width}
 use Rattle.std.proofs.lemmas.Bool.{cases_lt}
 use Rattle.zf_base.specs.Formats.{Format}
@@ -11,9 +11,10 @@ use Rattle.zf_cached.specs.Views.{Views, Step, state_of_view, acted, answered, s
 use Rattle.zf_private.specs.Standing.{Held, Own, IsSameView, IsWhole, state}
 use Rattle.zf_private.specs.Several.{AreReady, StandFor}
 use Rattle.zf_private.proofs.Alike.{stay-acted, alike-acted, alike-answered, alike-refl}
-use Rattle.zf_private.proofs.Alone.{AllOwn, there, stays, alike-other}
+use Rattle.zf_private.proofs.Alone.{there, stays, alike-other}
 use Rattle.zf_private.proofs.Calls.{own_state}
 use Rattle.zf_private.proofs.Others.{other_codes_fit, other_codes_alike}
+use Rattle.zf_private.proofs.Ready.{own_before}
 
 module _ {Code : Type 0} (owned : ℕ → Type 0) where
   alike-of : (own : ℕ → Type 0) (s t : State Code) → ((b : ℕ) → own b → owned b) → AreAlike owned s t → AreAlike own s t
@@ -57,11 +58,8 @@ module _ {X Code : Type 0} (value : X → ℤ) (d : ℕ) (w : Width) (views news
   own-before : (m b : ℕ) → Own (news m) b → Own (views m) b
   own-before m b = by (same_or_not m i)
     where
-      at_i : Own (news i) b → Own (views i) b
-      at_i o = (subst (λ n. n ≤ b) kept.first o.0, let far = o.1 in omega (arith, far, kept.first, kept.count))
-
       by : (m ≡ i) ⊎ (m ≢ i) → Own (news m) b → Own (views m) b
-      by (inl e) = subst (λ n. Own (news n) b → Own (views n) b) (sym e) at_i
+      by (inl e) = subst (λ n. Own (news n) b → Own (views n) b) (sym e) (own_before (views i) (news i) kept b)
       by (inr ne) = subst (λ (v : Held X). Own v b) (others m ne)
 
   codes-stay : (b : ℕ) → (Own (views i) b → ⊥) → j b ≡ k b

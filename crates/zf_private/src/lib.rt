@@ -3,5 +3,7 @@
 
 pub mod laws;
 mod private;
+#[cfg(test)]
+mod tests;
 
 pub use private::Private;

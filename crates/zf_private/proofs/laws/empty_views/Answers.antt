@@ -1,4 +1,4 @@
-use Rattle.std.proofs.Common.{sym, ◌∙◌}
+use Rattle.std.proofs.Common.{◌∙◌}
 use Rattle.zf_cache.proofs.Steps.{empty_fits, discarded}
 use Rattle.zf_private.proofs.Others.{acted-discard}
 use Rattle.zf_private.specs.Standing.{state}

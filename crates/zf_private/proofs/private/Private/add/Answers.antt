@@ -1,5 +1,4 @@
-use Rattle.std.proofs.Common.{◌≡◌, refl, sym, ap, subst, ◌∙◌, ℕ, ◌<◌, ℤ, length, [], ◌∷◌, lit<}
-use Rattle.std.specs.Bool.{OnTrue}
+use Rattle.std.proofs.Common.{refl, sym, ap, subst, ◌∙◌, ◌<◌, length, [], ◌∷◌, lit<}
 use Rattle.zf_lines.specs.Rows.{with_part, HasSize}
 use Rattle.zf_cache.specs.Kept.{line_of}
 use Rattle.zf_cached.specs.State.{State}
@@ -7,9 +6,9 @@ use Rattle.zf_base.specs.Formats.{Format}
 use Rattle.zf_cached.specs.Acts.{Act}
 use Rattle.zf_cached.specs.Views.{acted}
 use Rattle.zf_private.specs.Standing.{Held, block_at, place_at, state}
-use Rattle.zf_cache.specs.Standing.{state_of, values_of}
-use Rattle.zf_private.proofs.Calls.{values_whole, put-changed, has_blocks, fits_mine, block_below, place_below, owned_block, exists_there, answer_is, acts_at, others_stay, still_whole, added_fits, added_state, touched_whole}
-use Rattle.zf_private.proofs.Others.{acted-get, acted-set, acted-add}
+use Rattle.zf_cache.specs.Standing.{state_of}
+use Rattle.zf_private.proofs.Calls.{values_whole, has_blocks, fits_mine, block_below, place_below, exists_there, acts_at, others_stay, still_whole, added_fits, added_state, touched_whole}
+use Rattle.zf_private.proofs.Others.{acted-add}
 use Rattle.zf_private.proofs.private.Private.add.Goals as goal
 
 pub touch_mut-requires : goal.touch_mut-requires

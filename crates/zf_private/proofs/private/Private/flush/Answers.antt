@@ -1,4 +1,4 @@
-use Rattle.std.proofs.Common.{refl, ap, ◌∙◌, lit<}
+use Rattle.std.proofs.Common.{ap, ◌∙◌, lit<}
 use Rattle.zf_cached.specs.Changes.{flush}
 use Rattle.zf_cached.specs.Acts.{Act}
 use Rattle.zf_private.specs.Standing.{Held, state}
