@@ -7,6 +7,7 @@ mod changes;
 mod commands;
 mod const_arrays;
 mod end;
+pub mod laws;
 mod lines;
 mod looks;
 mod pairs;

@@ -13,12 +13,12 @@ use zf_dev::MemSink;
 use zf_header::{Header, Mode};
 
 // A sink that takes large pieces and never fails.
-pub(crate) fn sink(alloc: Global) -> MemSink {
+fn sink(alloc: Global) -> MemSink {
     MemSink::new(alloc, Vec::new(alloc), 1 << 20)
 }
 
 // An array of zeros.
-pub(crate) fn zeros<T: Lane, const D: usize>(
+fn zeros<T: Lane, const D: usize>(
     rt: &impl Abort,
     alloc: Global,
     shape: Result<Shape, ShapeFault>,
@@ -33,7 +33,7 @@ pub(crate) fn zeros<T: Lane, const D: usize>(
 }
 
 // Runs a script over zeros, and compares what it writes, how it ends and, where a file is given, what is saved.
-pub(crate) fn check<T: Lane, const D: usize>(
+fn check<T: Lane, const D: usize>(
     rt: &impl Abort,
     alloc: Global,
     shape: Result<Shape, ShapeFault>,
@@ -53,7 +53,7 @@ pub(crate) fn check<T: Lane, const D: usize>(
     Ok(())
 }
 
-pub(crate) fn line_of_eight() -> Result<Shape, ShapeFault> {
+fn line_of_eight() -> Result<Shape, ShapeFault> {
     Shape::new(1, 8, 1, 1, 1)
 }
 
@@ -75,7 +75,7 @@ const SHORT: [u8; 24] = [
 // The number of lines, the script, what it writes, how it ends, and the file where one is compared.
 #[test]
 fn scripts_on_a_line_of_eight(rt: HostRuntime) -> Result<(), Fail> {
-    let rows: [(u32, &[u8], &[u8], RunEnd, &[u8]); 15] = [
+    let rows: [(u32, &[u8], &[u8], RunEnd, &[u8]); 16] = [
         (
             1,
             b"set 0 1\nget 0\nflush\nget 0\nstats\n",
@@ -132,6 +132,13 @@ fn scripts_on_a_line_of_eight(rt: HostRuntime) -> Result<(), Fail> {
             b"set 8 2147483648\nadd 0 -2147483649\nset 0 -2147483648\nstats",
             b"! range\n! value\nhits 0 misses 1 writes 0\n",
             RunEnd::Lines(2),
+            &[],
+        ),
+        (
+            2,
+            b"split 2 1\n@0 get 0\njoin\nget 0\n",
+            b"! word\n! word\n! word\n0\n",
+            RunEnd::Lines(3),
             &[],
         ),
         (
