@@ -46,4 +46,3 @@ look_allows w coding c only = only
 pub array_width : (w : Width) (budget : ℕ) → (whole_setting w budget).width ≡ w
 unfolding whole_setting
 array_width w budget = refl
-
