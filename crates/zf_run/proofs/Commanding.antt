@@ -1,5 +1,5 @@
 -- Each command that is not refused, and the refusals of each.
-use Rattle.std.proofs.Common.{◌≡◌, refl, sym, ap, subst, ◌∙◌, ℕ, zero, suc, ◌<◌, ◌≤◌, ℤ, pos, ◌+ℤ◌, Bool, true, false, not, ◌&&◌, ltb, lt-ltb, ltb-true, ◌⊎◌, inl, inr, List, length, get_or, set, Option, Some, None, if◌then◌else◌, arith}
+use Rattle.std.proofs.Common.{◌≡◌, refl, sym, ap, subst, ◌∙◌, ℕ, zero, suc, ◌<◌, ◌≤◌, ℤ, ◌+ℤ◌, Bool, true, false, not, ◌&&◌, ltb, lt-ltb, ltb-true, ◌⊎◌, inl, inr, List, length, set, Option, Some, None, if◌then◌else◌, arith}
 use Rattle.std.proofs.lemmas.Bool.{and_from, and_parts}
 use Rattle.std.specs.Int.{Width}
 use Rattle.zf_spec.specs.Numbers.{wrap}
@@ -11,22 +11,20 @@ use Rattle.zf_base.proofs.Extents.{length-used_axes, used_axes-with_unused}
 use Rattle.zf_cached.specs.Commands.{Command}
 use Rattle.zf_cached.specs.Replies.{Refusal, Reply}
 use Rattle.zf_spec.specs.Grid.{upto, blocks}
-use Rattle.zf_base.specs.Formats.{Format}
-use Rattle.zf_cached.specs.Changes.{flush, discard}
 use Rattle.zf_cached.specs.Arrays.{array_format}
 use Rattle.zf_cached.specs.Runs.{read_step}
 use Rattle.zf_run.specs.Allowed.{whole_setting}
 use Rattle.zf_cached.specs.State.{Counts}
 use Rattle.zf_cached.specs.Touch.{touch_for_writing, with_values}
 use Rattle.zf_cached.specs.Windows.{Window, LiesIn, mapped, sliced, has_place, positions, is_window, none_zero, lies_in}
-use Rattle.zf_cached.specs.Steps.{Setting, Session, touched, changed, changed_at, filled_below, summed, total, format_of, value_there, is_of_type, is_line_count, step, done}
+use Rattle.zf_cached.specs.Steps.{Setting, Session, touched, changed, changed_at, filled_below, summed, total, value_there, is_of_type, is_line_count, step, done}
 use Rattle.zf_cached.proofs.Windows.{length-mapped, LiesIn-sliced}
 use Rattle.zf_array.specs.Standing.{Held, shape, state, format, block_at, place_at}
 use Rattle.zf_view.specs.declared.window.ViewFault.{ViewFault}
 use Rattle.zf_view.specs.WindowFields.{view_fault}
 use Rattle.zf_run.specs.Sessions.{setting_of, session_of, IsArray}
 use Rattle.zf_run.specs.Steps.{Does, HasWindow, Takes, wanted}
-use Rattle.zf_run.proofs.Sessions.{format_is, session_is, changed_is}
+use Rattle.zf_run.proofs.Sessions.{changed_is}
 use Rattle.zf_run.proofs.Stepping.{no_split, accepted}
 
 -- ---- tests

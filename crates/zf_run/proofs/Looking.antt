@@ -1,13 +1,12 @@
 -- A read-only array after a call as a session.
-use Rattle.std.proofs.Common.{◌≡◌, refl, sym, ap, ◌∙◌, ℕ, Bool, true, false, List, Option, Some, None}
+use Rattle.std.proofs.Common.{◌≡◌, refl, sym, ◌∙◌, ℕ, true, false, None}
 use Rattle.std.specs.Int.{Width}
 use Rattle.zf_cached.specs.Touch.{touch}
 use Rattle.zf_cached.specs.Changes.{raised, relined}
 use Rattle.zf_cached.specs.Commands.{Command}
-use Rattle.zf_cached.specs.Replies.{Refusal, Reply}
 use Rattle.zf_cached.specs.Windows.{Window}
-use Rattle.zf_cached.specs.Steps.{touched, step, done}
-use Rattle.zf_cached.specs.Runs.{look_setting, only_reads, read_step}
+use Rattle.zf_cached.specs.Steps.{touched, done}
+use Rattle.zf_cached.specs.Runs.{look_setting, only_reads}
 use Rattle.zf_const.specs.Standing as read
 use Rattle.zf_const.specs.Standing.{Held, shape, state, format}
 use Rattle.zf_run.specs.Sessions.{session, look_setting_of, stream_of}

@@ -1,5 +1,5 @@
 -- A store and a two-way cache after a call, as a session.
-use Rattle.std.proofs.Common.{◌≡◌, refl, sym, ap, subst, ◌∙◌, ℕ, ◌+◌, ◌^◌, ◌<◌, ◌≤◌, ℤ, pos, ◌+ℤ◌, Bool, true, false, List, map, length, get_or, set, replicate, None, [], Result, Ok, Err, ext_get_or, arith}
+use Rattle.std.proofs.Common.{◌≡◌, sym, ap, subst, ◌∙◌, ℕ, ◌^◌, ◌<◌, ℤ, pos, ◌+ℤ◌, Bool, true, false, List, map, length, get_or, set, replicate, None, [], Result, Ok, Err, ext_get_or, arith}
 use Rattle.std.specs.Int.{Width}
 use Rattle.std.specs.Result.{OnOk, OnErr}
 use Rattle.std.proofs.lemmas.List.{length-set, length-map, length-replicate, map-set, get_or-map}
@@ -21,7 +21,7 @@ use Rattle.zf_cached.specs.Changes.{flush, discard, raised, relined}
 use Rattle.zf_cached.specs.Arrays.{rate_coding, array_format}
 use Rattle.zf_cached.specs.Windows.{Window}
 use Rattle.zf_cached.specs.Commands.{Command}
-use Rattle.zf_cached.specs.Steps.{Setting, Session, format_of as format_in, touched, changed, changed_at, done}
+use Rattle.zf_cached.specs.Steps.{Setting, Session, format_of as format_in, touched, changed, done}
 use Rattle.zf_lines.specs.Rows.{over}
 use Rattle.zf_lines.proofs.Sizes.{over_same}
 use Rattle.zf_cache.specs.Kept.{Kept, HasBlocks, tag_at, block_in, line_by}

@@ -6,12 +6,10 @@ use Rattle.std.proofs.lemmas.Int.{ints, to_z-of_z}
 use Rattle.std.proofs.lemmas.List.{map-append}
 use Rattle.std.proofs.Math.Seq.{take-append_seam}
 use Rattle.zf_spec.specs.Grid.{IsShape, upto, count_from, is_inside, indices, extent_of}
-use Rattle.zf_header.specs.HeaderBits.{block_bits}
-use Rattle.zf_run.specs.Allowed.{whole_setting}
 use Rattle.zf_spec.proofs.Counting.{count_from-add, map-upto_same}
 use Rattle.zf_view.proofs.BlockItems.{count_from-below}
 use Rattle.zf_base.specs.Widths.{width_of}
-use Rattle.zf_base.specs.Formats.{Format, existing_of}
+use Rattle.zf_base.specs.Formats.{existing_of}
 use Rattle.zf_cached.specs.State.{State}
 use Rattle.zf_cached.specs.Touch.{touch_for_writing, with_values}
 use Rattle.zf_cached.specs.Windows.{Window, whole}
@@ -26,7 +24,7 @@ use Rattle.zf_header.specs.declared.header.Header.{Header}
 use Rattle.zf_pad.specs.Layouts.{place_indices}
 use Rattle.zf_pad.proofs.Existing.{has_place}
 use Rattle.zf_run.specs.Sums.{IsUpTo, value_within, within}
-use Rattle.zf_run.proofs.Sessions.{format_is, changed_is}
+use Rattle.zf_run.proofs.Sessions.{changed_is}
 
 -- a list of one value alone
 pub all_alike : {X : Type 0} (xs : List X) (v : X) → ((k : ℕ) → k < length xs → get_or xs k v ≡ v) → xs ≡ replicate (length xs) v

@@ -1,4 +1,4 @@
-use Rattle.std.proofs.Common.{ℤ, pos, ◌+ℤ◌, List, get_or, set}
+use Rattle.std.proofs.Common.{pos, ◌+ℤ◌, get_or, set}
 use Rattle.zf_spec.specs.Numbers.{wrap}
 use Rattle.zf_cached.specs.Steps.{changed_at}
 use Rattle.zf_array.specs.Standing.{block_at, place_at}

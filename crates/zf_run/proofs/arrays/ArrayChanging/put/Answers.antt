@@ -1,5 +1,4 @@
-use Rattle.std.proofs.Common.{ℤ, pos, ◌+ℤ◌, List, get_or, set}
-use Rattle.zf_spec.specs.Numbers.{wrap}
+use Rattle.std.proofs.Common.{set}
 use Rattle.zf_cached.specs.Steps.{changed_at}
 use Rattle.zf_array.specs.Standing.{block_at, place_at}
 use Rattle.zf_run.proofs.Sessions.{changed_is}

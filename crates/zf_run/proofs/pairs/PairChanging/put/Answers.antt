@@ -1,4 +1,4 @@
-use Rattle.std.proofs.Common.{sym, ap, ◌∙◌, ℤ, List, set, lit<}
+use Rattle.std.proofs.Common.{sym, ap, ◌∙◌, set, lit<}
 use Rattle.zf_cached.specs.Steps.{changed, changed_at}
 use Rattle.zf_store.specs.Stored.{Frame, format_of, code_at}
 use Rattle.zf_run.specs.Sessions.{session}

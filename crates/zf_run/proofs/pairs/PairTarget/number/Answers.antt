@@ -1,7 +1,5 @@
-use Rattle.std.proofs.Common.{◌≡◌, sym, ap, ◌∙◌, ℤ, pos, List, length, get_or, lit<}
+use Rattle.std.proofs.Common.{sym, ap, ◌∙◌, ℤ, pos, List, get_or, lit<}
 use Rattle.std.proofs.lemmas.Bool.{OnTrue_at}
-use Rattle.zf_base.specs.Places.{block_number, place_of}
-use Rattle.zf_base.specs.Positions.{used_axes}
 use Rattle.zf_cached.specs.Steps.{touched}
 use Rattle.zf_store.specs.Stored.{Frame, format_of, code_at}
 use Rattle.zf_twoway.proofs.Standing.{values_stand}

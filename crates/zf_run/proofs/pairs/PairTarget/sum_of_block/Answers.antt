@@ -7,7 +7,7 @@ use Rattle.zf_base.specs.Positions.{used_axes, IsExtent}
 use Rattle.zf_base.specs.Formats.{Format}
 use Rattle.zf_header.specs.declared.header.Header.{Header}
 use Rattle.zf_cached.specs.Steps.{total}
-use Rattle.zf_store.specs.Stored.{Frame, format_of, code_at}
+use Rattle.zf_store.specs.Stored.{Frame, code_at}
 use Rattle.zf_twoway.specs.Standing.{state_of, Fits}
 use Rattle.zf_run.proofs.Passing.{within_is, block_room, up_to_fits, up_to_less}
 use Rattle.zf_run.proofs.Pairing.{two_blocks, two_below, touched_two}
