@@ -14,35 +14,72 @@ const LEAST: &[u8] = b"zfp\x05\0\0\0\0\0\0\0\x88\x60\0\0\0";
 
 const WIDE: &[u8] = b"zfp\x05\x45\0\0\x60\0\0\0\x88\0\0\0\0";
 
-// A call that is done.
-const fn done(words: &'static str, input: &'static [u8], out: &'static [u8]) -> Row {
+// Calls, and how they end.
+const ROWS: [Row; 9] = [
     Row {
         file: FILE,
-        words,
-        input,
+        words: "compress int8 1 reversible",
+        input: b"\x01",
         status: Status::Done,
-        out,
+        out: b"zfp\x05\0\0\0\0\0\0\0\x88\x08\xb0\0\0",
         line: b"",
-    }
-}
-
-const ROWS: [Row; 9] = [
-    done(
-        "compress int8 1 reversible",
-        b"\x01",
-        b"zfp\x05\0\0\0\0\0\0\0\x88\x08\xb0\0\0",
-    ),
-    done(
-        "compress int8 1 reversible",
-        b"\x80",
-        b"zfp\x05\0\0\0\0\0\0\0\x88\x61\x01\0\0",
-    ),
-    done("compress uint8 1 reversible", b"\x80", ZERO),
-    done("compress uint16 1 reversible", b"\0\x80", ZERO),
-    done("restore int8", LEAST, b"\x80"),
-    done("restore uint8", LEAST, b"\0"),
-    done("restore int16", LEAST, b"\0\x80"),
-    done("restore uint16", LEAST, b"\0\0"),
+    },
+    Row {
+        file: FILE,
+        words: "compress int8 1 reversible",
+        input: b"\x80",
+        status: Status::Done,
+        out: b"zfp\x05\0\0\0\0\0\0\0\x88\x61\x01\0\0",
+        line: b"",
+    },
+    Row {
+        file: FILE,
+        words: "compress uint8 1 reversible",
+        input: b"\x80",
+        status: Status::Done,
+        out: ZERO,
+        line: b"",
+    },
+    Row {
+        file: FILE,
+        words: "compress uint16 1 reversible",
+        input: b"\0\x80",
+        status: Status::Done,
+        out: ZERO,
+        line: b"",
+    },
+    Row {
+        file: FILE,
+        words: "restore int8",
+        input: LEAST,
+        status: Status::Done,
+        out: b"\x80",
+        line: b"",
+    },
+    Row {
+        file: FILE,
+        words: "restore uint8",
+        input: LEAST,
+        status: Status::Done,
+        out: b"\0",
+        line: b"",
+    },
+    Row {
+        file: FILE,
+        words: "restore int16",
+        input: LEAST,
+        status: Status::Done,
+        out: b"\0\x80",
+        line: b"",
+    },
+    Row {
+        file: FILE,
+        words: "restore uint16",
+        input: LEAST,
+        status: Status::Done,
+        out: b"\0\0",
+        line: b"",
+    },
     Row {
         file: FILE,
         words: "restore int8",
