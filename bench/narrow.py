@@ -151,14 +151,15 @@ def same_call(program, oracle, words, data):
 
 
 def fails(program, words, data, folder):
-    """Whether a call ends as it is to where its input is a folder, and where its output is full."""
+    """Whether a call ends as it is to where its input is a folder, and where its output is full. The first bytes of a stream are written before any value is read."""
     descriptor = os.open(folder, os.O_RDONLY)
-    unread = runs(program, words, None, stdin=descriptor)
+    unread, begun, why = runs(program, words, None, stdin=descriptor)
     os.close(descriptor)
-    code = runs(program, words, data)[0]
+    code, whole, _ = runs(program, words, data)
     with open("/dev/full", "wb", buffering=0) as full:
         unwritten, _, line = runs(program, words, data, stdout=full)
-    return unread == (10, b"", b"zfpi: read fault\n") and (line == b"zfpi: write fault\n" if unwritten == 11 else 0 != unwritten == code)
+    stopped = (unread, why) == (10, b"zfpi: read fault\n") and whole.startswith(begun)
+    return stopped and (line == b"zfpi: write fault\n" if unwritten == 11 else 0 != unwritten == code)
 
 
 def main():
