@@ -119,10 +119,11 @@ length-words_of s = length-words_from (div_ceil (length s) 8) s
 
 -- ---- one piece more
 
-first_bytes-append : (n : ℕ) (s t : List ℕ) → n ≤ length s → first_bytes n (s ++ t) ≡ first_bytes n s
-first_bytes-append zero s t fits = refl
-first_bytes-append (suc n) [] t fits = absurd (omega arith)
-first_bytes-append (suc n) (b ∷ s) t fits = ap (λ bs. b ∷ bs) (first_bytes-append n s t (omega arith))
+-- what follows enough bytes is not looked at
+pub first_bytes-more : (n : ℕ) (s more : List ℕ) → n ≤ length s → first_bytes n (s ++ more) ≡ first_bytes n s
+first_bytes-more zero s more fits = refl
+first_bytes-more (suc n) [] more fits = absurd (omega arith)
+first_bytes-more (suc n) (b ∷ s) more fits = ap (λ bs. b ∷ bs) (first_bytes-more n s more (omega arith))
 
 -- a whole word, and the bytes behind it
 words_of-whole : (piece rest : List ℕ) → length piece ≡ 8 → words_of (piece ++ rest) ≡ word_of piece ∷ words_of rest
@@ -130,7 +131,7 @@ unfolding word_of
 words_of-whole piece rest count =
     let n = div_ceil (length rest) 8 in
     let more : div_ceil (length (piece ++ rest)) 8 ≡ suc n = omega (arith, length-append piece rest) in
-    let front = first_bytes-append 8 piece rest (omega arith) in
+    let front = first_bytes-more 8 piece rest (omega arith) in
     let behind : drop 8 (piece ++ rest) ≡ rest = drop_at piece rest 8 count in
     rw (more, behind) (ap (λ bs. from_le_bytes w64 bs ∷ words_from n rest) front)
 

@@ -1,12 +1,12 @@
 -- What is read back from the codes of a block.
-use Rattle.std.proofs.Common.{◌≡◌, sym, ap, ◌∙◌, ℕ, zero, suc, ◌%◌, ◌/◌, ◌^◌, ◌<◌, Bool, true, lt-ltb, ltb, ℤ, pos, Some, List, ◌++◌, length, take, refl, ◌-◌, take_at, ext_get_or, arith}
-use Rattle.std.proofs.lemmas.Bool.{and_from}
+use Rattle.std.proofs.Common.{◌≡◌, sym, ap, ◌∙◌, ℕ, ◌^◌, ◌<◌, Bool, ℤ, pos, Some, List, ◌++◌, length, take, refl, ◌-◌, take_at, ext_get_or, arith}
 use Rattle.std.proofs.lemmas.Option.{none-some, some_pair_parts}
 use Rattle.std.specs.Int.{Width}
 use Rattle.zf_spec.specs.Grid.{fours, indices, is_inside}
 use Rattle.zf_spec.specs.Codes.{rev, rate, prec, round, round_prec, existing_values, read_rev, read_rate, read_prec}
 use Rattle.zf_spec.proofs.BlockReading.{read_rev-rev, read_rate-rate, read_prec-prec, length-rate}
 use Rattle.zf_spec.proofs.Padding.{length-existing_values, get_or-existing_inside}
+use Rattle.zf_pad.proofs.Existing.{inside_fours}
 use Rattle.zf_bits.specs.Reader.{Reader, rest, Reads}
 use Rattle.zf_bits.proofs.Reading.{Reads-same}
 use Rattle.zf_block.specs.Block.{IsBlock}
@@ -67,12 +67,6 @@ module _ (w : Width) (p : ℕ) (es : List ℕ) (block : List ℤ) (more : List B
 
 -- ---- whole blocks
 
-is_inside-fours : (d p : ℕ) → is_inside (fours d) (indices d p) ≡ true
-is_inside-fours zero p = refl
-is_inside-fours (suc d) p =
-    let below : p % 4 < 4 = omega arith in
-    and_from (ltb (p % 4) 4) (is_inside (fours d) (indices d (p / 4))) (lt-ltb (p % 4) 4 below) (is_inside-fours d (p / 4))
-
 pub existing_values-fours : (d : ℕ) (block : List ℤ) → length block ≡ 4 ^ d → existing_values (fours d) block ≡ block
 existing_values-fours d block long =
     let axes = length-fours d in
@@ -80,7 +74,7 @@ existing_values-fours d block long =
     ext_get_or (pos 0) (existing_values (fours d) block) block (count ∙ sym long)
     (λ p h.
     let below : p < 4 ^ length (fours d) = omega (arith, h, length-existing_values (fours d) block) in
-    get_or-existing_inside (fours d) block p below (ap (λ k. is_inside (fours d) (indices k p)) axes ∙ is_inside-fours d p))
+    get_or-existing_inside (fours d) block p below (ap (λ k. is_inside (fours d) (indices k p)) axes ∙ inside_fours d p))
 
 pub one_answer : (w : Width) (d : ℕ) (old new : Reader) (b : List ℤ) → ReadsRev w d old new b → ¬ LacksRev w d old
 one_answer w d old new b reads lacks = none-some _ (sym (lacks.code (fours d) (length-fours d)) ∙ reads.code (fours d) (length-fours d))

@@ -40,7 +40,7 @@ inside_below (e ∷ es) k p h i =
     omega (arith, inside_below es k (p / 4) (omega arith) parts.1)
 
 -- all places of a box of fours are inside
-inside_fours : (d p : ℕ) → is_inside (fours d) (indices d p) ≡ true
+pub inside_fours : (d p : ℕ) → is_inside (fours d) (indices d p) ≡ true
 inside_fours zero p = refl
 inside_fours (suc d) p = and_from (ltb (p % 4) 4) (is_inside (fours d) (indices d (p / 4))) (lt-ltb (p % 4) 4 (omega arith)) (inside_fours d (p / 4))
 

@@ -48,7 +48,7 @@ pub mod RestoredAll
 pub mod FromFront
 pub mod Parsed
 pub mod OwnFaults
-mod Refusals
+pub mod Refusals
 pub mod TextOfParse
 pub mod Enough
 pub mod Joined

@@ -1,5 +1,5 @@
 -- What the bits of bytes say, for the one who has their header.
-use Rattle.std.proofs.Common.{◌≡◌, ℕ, ◌≤◌, Bool, ℤ, List, ◌++◌, length, take, drop, Option, Some, None, Result, Err, sym, ap, ◌∙◌, subst, inl, length-append, take-take, arith}
+use Rattle.std.proofs.Common.{◌≡◌, ℕ, ◌≤◌, Bool, ℤ, List, ◌++◌, length, take, drop, Option, Some, None, Result, Ok, Err, refl, sym, ap, ◌∙◌, subst, inl, length-append, take-take, arith}
 use Rattle.std.proofs.lemmas.List.{take-append-le}
 use Rattle.std.proofs.lemmas.Grind.{flat_map-append}
 use Rattle.zf_spec.specs.Grid.{blocks}
@@ -66,6 +66,15 @@ unfolding values_said answer_of
 parse_fault n all front f within is fault =
     let known : header_fault all ≡ Some f = sym (fault_first n all within) ∙ ap header_fault (sym is) ∙ fault in
     ap (λ o. without_values (answer_of o (header_of all) all (code_bits all))) known
+
+-- where an input is a good stream, its header is one
+pub good_header : (bytes : List ℕ) → restore_answer bytes ≡ Ok tt → header_fault bytes ≡ None
+unfolding values_said
+good_header bytes good = by (header_fault bytes) _ good
+  where
+    by : (fault : Option HeaderFault) (rest : Result (List ℤ) StreamFault) → without_values (header_or fault rest) ≡ Ok tt → fault ≡ None
+    by None rest is = refl
+    by (Some f) rest is = absurd (cc)
 
 pub refusal_of_fault : (n : ℕ) (known : Option (List ℕ)) (front : List ℕ) (e : StreamFault) → 19 ≤ n → IsFront n known front → IsFaultOf front e → IsRefusal known restore_answer e
 refusal_of_fault n None front e within is fault = tt

@@ -11,11 +11,11 @@ use Rattle.zf_stream.specs.Outcomes.{IsRefusal, CanRefuse, ShowsLength}
 use Rattle.zf_stream.proofs.Refusals.{CanRefuse-short, CanRefuse-long}
 
 -- the answer for as many bytes
-short_answer : (wanted : ℕ) (bytes : List ℕ) → length bytes < wanted → length_answer wanted bytes ≡ Err (faults.RawShort (length bytes))
+pub short_answer : (wanted : ℕ) (bytes : List ℕ) → length bytes < wanted → length_answer wanted bytes ≡ Err (faults.RawShort (length bytes))
 short_answer wanted bytes few =
     ap (λ t. cond t (Err (faults.RawShort (length bytes))) (cond (ltb wanted (length bytes)) (Err faults.RawLong) (Ok tt))) (lt-ltb (length bytes) wanted few)
 
-long_answer : (wanted : ℕ) (bytes : List ℕ) → wanted < length bytes → length_answer wanted bytes ≡ Err faults.RawLong
+pub long_answer : (wanted : ℕ) (bytes : List ℕ) → wanted < length bytes → length_answer wanted bytes ≡ Err faults.RawLong
 long_answer wanted bytes many =
     ap (λ t. cond t (Err (faults.RawShort (length bytes))) (cond (ltb wanted (length bytes)) (Err faults.RawLong) (Ok tt))) (le-ltb (length bytes) wanted (omega arith))
     ∙ ap (λ t. cond t (Err faults.RawLong) (Ok tt)) (lt-ltb wanted (length bytes) many)

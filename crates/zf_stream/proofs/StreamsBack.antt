@@ -92,6 +92,10 @@ stream_text-values : (h : Header) (bytes : List ℕ) → stream_text h bytes ≡
 unfolding stream_text stream_of stream_of_bytes
 stream_text-values h bytes = refl
 
+pub header_of-stream_text : (h : Header) (bytes : List ℕ) → IsHeader h → header_of (stream_text h bytes) ≡ h
+header_of-stream_text h bytes is_header =
+    ap header_of (stream_text-values h bytes) ∙ header_of-stream_of h (values_from (width_of h.ty) (product h.shape) bytes) is_header
+
 module _ (h : Header) (bytes : List ℕ) (is_header : IsHeader h) where
   said-reversible_text : h.mode ≡ Reversible → values_said (stream_text h bytes) ≡ Ok (values_from (width_of h.ty) (product h.shape) bytes)
   said-reversible_text mode =
@@ -121,7 +125,7 @@ module _ (h : Header) (bytes : List ℕ) (is_header : IsHeader h) where
   text-parsed : (values : List ℤ) → values_said (stream_text h bytes) ≡ Ok values → restored_text (stream_text h bytes) ≡ raw_bytes h values
   text-parsed values parsed =
       text_of_parse (stream_text h bytes) values parsed
-      ∙ ap (λ g. raw_bytes g values) (ap header_of (stream_text-values h bytes) ∙ header_of-stream_of h (values_from (width_of h.ty) (product h.shape) bytes) is_header)
+      ∙ ap (λ g. raw_bytes g values) (header_of-stream_text h bytes is_header)
 
   pub text-rate_text : (budget : ℕ) → h.mode ≡ Rate budget
       → restored_text (stream_text h bytes) ≡ raw_bytes h (rounded h budget (values_from (width_of h.ty) (product h.shape) bytes))
