@@ -1,5 +1,5 @@
 -- How a compression of narrow values ends, from how that of their int32 bytes does.
-use Rattle.std.proofs.Common.{◌≡◌, refl, sym, ap, subst, ◌∙◌, ℕ, ◌+◌, ◌*◌, ◌/◌, ◌%◌, ◌-◌, min, ◌≤◌, ◌<◌, ◌⊎◌, inl, inr, ⊎_elim, cond, ltb, lt-ltb, le-ltb, Bool, true, false, IsTrue, List, [], ◌++◌, length, take, drop, replicate, Option, Some, None, Result, Ok, Err, append-nil, length-append, arith}
+use Rattle.std.proofs.Common.{◌≡◌, refl, sym, ap, subst, ◌∙◌, ℕ, ◌+◌, ◌*◌, ◌/◌, ◌%◌, ◌≤◌, ◌<◌, ◌⊎◌, inl, inr, ⊎_elim, Bool, false, IsTrue, List, [], ◌++◌, length, drop, replicate, Option, Some, None, Result, Ok, Err, append-nil, length-append, arith}
 use Rattle.std.specs.Prelude.{IsErrAnd}
 use Rattle.std.proofs.lemmas.Bool.{cases_lt}
 use Rattle.std.proofs.lemmas.List.{append_cancel_right, drop_all, length-drop, length-replicate}
@@ -17,7 +17,8 @@ use Rattle.zf_stream.specs.declared.fault.StreamFault.{StreamFault}
 use Rattle.zf_stream.specs.declared.fault.StreamFault.TheVariants as faults
 use Rattle.zf_stream.specs.Raw.{raw_len, length_answer, compress_answer, stream_text}
 use Rattle.zf_stream.specs.Outcomes.{Answers, CanRefuse, ShowsLength, Finishes, LeavesFront, IsFromOutside}
-use Rattle.zf_stream.proofs.RawRows.{good_answer}
+use Rattle.zf_stream.proofs.RawRows.{short_answer, long_answer, good_answer}
+use Rattle.zf_stream.proofs.Refusals.{CanRefuse-short, CanRefuse-long}
 use Rattle.zf_narrow.specs.declared.narrow.Narrow.{Narrow}
 use Rattle.zf_narrow.specs.declared.narrow.Narrow.TheVariants.{I8, U8, I16, U16}
 use Rattle.zf_narrow.specs.Values.{size_of}
@@ -25,7 +26,7 @@ use Rattle.zf_narrow.specs.RawNarrow.{promoted_bytes, promoted_all}
 use Rattle.zf_narrow.specs.declared.promotion.Promotion.{Promotion}
 use Rattle.zf_narrow.specs.Promoting.{listed, told_by}
 use Rattle.zf_narrow.specs.Promotions.{told, read_so_far}
-use Rattle.zf_narrow.specs.Texts.{narrow_len, narrow_count, narrow_fault, compress_narrow_answer, ArePromoted, ArePromotedAfter, CompressesNarrow, LeavesNarrow}
+use Rattle.zf_narrow.specs.Texts.{narrow_len, narrow_count, narrow_fault, compress_narrow_answer, ArePromotedAfter, CompressesNarrow, LeavesNarrow}
 use Rattle.zf_narrow.proofs.Whole.{length-promoted_bytes, length-promoted_all}
 use Rattle.zf_narrow.proofs.Fronts.{stream_text-zeros}
 use Rattle.zf_narrow.proofs.Reading.{told_unspent}
@@ -68,26 +69,6 @@ count_few I16 k p few = omega (arith, few)
 count_few U16 k p few = omega (arith, few)
 
 -- ---- answers
-
-short_answer : (wanted : ℕ) (bytes : List ℕ) → length bytes < wanted → length_answer wanted bytes ≡ Err (faults.RawShort (length bytes))
-short_answer wanted bytes few =
-    ap (λ t. cond t (Err (faults.RawShort (length bytes))) (cond (ltb wanted (length bytes)) (Err faults.RawLong) (Ok tt))) (lt-ltb (length bytes) wanted few)
-
-long_answer : (wanted : ℕ) (bytes : List ℕ) → wanted < length bytes → length_answer wanted bytes ≡ Err faults.RawLong
-long_answer wanted bytes many =
-    ap (λ t. cond t (Err (faults.RawShort (length bytes))) (cond (ltb wanted (length bytes)) (Err faults.RawLong) (Ok tt))) (le-ltb (length bytes) wanted (omega arith))
-    ∙ ap (λ t. cond t (Err faults.RawLong) (Ok tt)) (lt-ltb wanted (length bytes) many)
-
--- each of them is the answer of some bytes
-can_be_short : (wanted k : ℕ) → k < wanted → CanRefuse (length_answer wanted) (faults.RawShort k)
-can_be_short wanted k few =
-    let long : length (replicate {A = ℕ} k 0) ≡ k = length-replicate k 0 in
-    inl (replicate k 0, short_answer wanted (replicate k 0) (omega (arith, few, long)) ∙ ap (λ j. Err (faults.RawShort j)) long)
-
-can_be_long : (wanted : ℕ) → CanRefuse (length_answer wanted) faults.RawLong
-can_be_long wanted =
-    let long : length (replicate {A = ℕ} (wanted + 1) 0) ≡ wanted + 1 = length-replicate (wanted + 1) 0 in
-    inl (replicate (wanted + 1) 0, long_answer wanted (replicate (wanted + 1) 0) (omega (arith, long)))
 
 -- what an answer on a length says
 abbrev LengthSays : ℕ → List ℕ → Result (Unit {0}) StreamFault → Type 0
@@ -192,9 +173,9 @@ can_come h faults.Memory can = tt
 pub fault_possible : (n : Narrow) (h : Header) (e : StreamFault) → h.ty ≡ I32 → CanRefuse (compress_answer h) e → CanRefuse (compress_narrow_answer n h) (narrow_fault n e)
 fault_possible n h (faults.RawShort k) int32 (inl is) =
     let says = length_says (raw_len h) is.0 (Err (faults.RawShort k)) is.1 in
-    can_be_short (narrow_len n h) (narrow_count n k) (count_few n k (product h.shape) (omega (arith, says.0, says.1, raw_len-int32 h int32)))
+    CanRefuse-short (narrow_len n h) (narrow_count n k) (count_few n k (product h.shape) (omega (arith, says.0, says.1, raw_len-int32 h int32)))
 fault_possible n h (faults.RawShort k) int32 (inr out) = absurd (short_not_outside k out)
-fault_possible n h faults.RawLong int32 can = can_be_long (narrow_len n h)
+fault_possible n h faults.RawLong int32 can = CanRefuse-long (narrow_len n h)
 fault_possible n h faults.Read int32 can = inr (inl refl)
 fault_possible n h faults.Write int32 can = inr (inr (inl refl))
 fault_possible n h faults.Memory int32 can = inr (inr (inr refl))

@@ -4,6 +4,7 @@ use Rattle.std.specs.Int.{Width, byte_len, from_le_bytes, cast_signed}
 use Rattle.zf_spec.specs.Grid.{product}
 use Rattle.zf_spec.specs.Stream.{first_bytes, values_from, stream, stream_of_bytes}
 use Rattle.zf_spec.proofs.Bytes.{length-first_bytes, first_bytes-append, first_bytes-add}
+use Rattle.zf_bits.proofs.Packed.{first_bytes-more}
 use Rattle.zf_base.specs.Widths.{width_of}
 use Rattle.zf_header.specs.declared.header.Header.{Header}
 use Rattle.zf_header.specs.HeaderBits.{coding}
@@ -14,11 +15,6 @@ first_bytes-zeros zero s z = refl
 first_bytes-zeros (suc k) [] zero = refl
 first_bytes-zeros (suc k) [] (suc z) = ap (λ (bs : List ℕ). 0 ∷ bs) (first_bytes-zeros k [] z)
 first_bytes-zeros (suc k) (b ∷ s) z = ap (λ (bs : List ℕ). b ∷ bs) (first_bytes-zeros k s z)
-
-first_bytes-more : (k : ℕ) (s more : List ℕ) → k ≤ length s → first_bytes k (s ++ more) ≡ first_bytes k s
-first_bytes-more zero s more within = refl
-first_bytes-more (suc k) [] more within = absurd (omega arith)
-first_bytes-more (suc k) (b ∷ s) more within = ap (λ (bs : List ℕ). b ∷ bs) (first_bytes-more k s more (omega arith))
 
 -- values are those of so many bytes
 values_from-first : (w : Width) (n : ℕ) (s : List ℕ) → values_from w n (first_bytes (n * byte_len w) s) ≡ values_from w n s

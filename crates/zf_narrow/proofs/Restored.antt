@@ -1,7 +1,7 @@
 -- How a restoration of narrow values ends, from how that of their int32 bytes does.
-use Rattle.std.proofs.Common.{◌≡◌, ◌≢◌, refl, sym, ap, subst, ◌∙◌, ℕ, ◌+◌, ◌*◌, ◌%◌, ◌≤◌, ◌⊎◌, inl, inr, ⊎_elim, cond, is_none, Bool, true, false, List, [], ◌∷◌, ◌++◌, length, take, drop, replicate, Option, Some, None, Result, Ok, Err, append_assoc, append-nil, length-append, take-append-drop, arith}
+use Rattle.std.proofs.Common.{◌≡◌, ◌≢◌, refl, sym, ap, subst, ◌∙◌, ℕ, ◌+◌, ◌*◌, ◌%◌, ◌≤◌, inl, inr, ⊎_elim, cond, is_none, Bool, true, false, List, [], ◌∷◌, ◌++◌, length, take, drop, replicate, Option, Some, None, Result, Ok, Err, append_assoc, append-nil, length-append, take-append-drop, arith}
 use Rattle.std.specs.Prelude.{IsErrAnd}
-use Rattle.std.proofs.lemmas.List.{length-take}
+use Rattle.std.proofs.lemmas.List.{nil_from_length, length-take}
 use Rattle.std.specs.Int.{byte_len}
 use Rattle.zf_spec.specs.Grid.{product, blocks}
 use Rattle.zf_base.specs.Widths.{width_of}
@@ -13,7 +13,6 @@ use Rattle.zf_dev.specs.Sink.{Appends, AppendsFront}
 use Rattle.zf_dev.proofs.Appending.{AppendsFront-all, AppendsFront-more}
 use Rattle.zf_stream.specs.declared.fault.StreamFault.{StreamFault}
 use Rattle.zf_stream.specs.declared.fault.StreamFault.TheVariants as faults
-use Rattle.zf_stream.specs.Raw.{raw_len}
 use Rattle.zf_stream.specs.Parsing.{header_of, header_or, code_bits, read_codes, blocks_text, longest_codes, restore_answer, restored_text}
 use Rattle.zf_stream.specs.Outcomes.{Answers, LeavesFront}
 use Rattle.zf_stream.specs.Outcomes as outcomes
@@ -26,7 +25,7 @@ use Rattle.zf_narrow.specs.declared.fault.NarrowFault.TheVariants.{NotNarrow, St
 use Rattle.zf_narrow.specs.declared.demotion.Demotion.{Demotion}
 use Rattle.zf_narrow.specs.RawNarrow.{demoted_bytes}
 use Rattle.zf_narrow.specs.Promoting.{listed}
-use Rattle.zf_narrow.specs.Texts.{answer_behind, restore_narrow_answer, narrow_restored, IsFromOutside, AnswersNarrow, CanRefuseNarrow, RestoresNarrow, LeavesNarrowFront}
+use Rattle.zf_narrow.specs.Texts.{answer_behind, restore_narrow_answer, IsFromOutside, AnswersNarrow, CanRefuseNarrow, RestoresNarrow, LeavesNarrowFront}
 use Rattle.zf_narrow.proofs.Whole.{demoted_bytes-append}
 
 -- ---- answers
@@ -82,10 +81,6 @@ pub other_possible : {src0 src1 out0 out1 : Option (List ℕ)} → HasOtherType 
 other_possible other = inl (other.bytes, not_int32 (header_fault other.bytes) (header_of other.bytes).ty (restore_answer other.bytes) other.good other.other)
 
 -- ---- what was written
-
-empty : (xs : List ℕ) → length xs ≡ 0 → xs ≡ []
-empty [] none = refl
-empty (x ∷ xs) none = absurd (omega (arith, none))
 
 front_empty : (xs ys : List ℕ) → xs ++ ys ≡ [] → xs ≡ []
 front_empty [] ys none = refl
@@ -144,7 +139,7 @@ module _ (n : Narrow) {start now : Option (List ℕ)} {given owed taken part : L
   all_written : (text : List ℕ) → owed ≡ [] → taken ++ part ≡ text → length text % 4 ≡ 0 → Appends start now (demoted_bytes n text)
   all_written text none all whole =
       let long : length taken + length part ≡ length text = sym (length-append taken part) ∙ ap length all in
-      let no_part : part ≡ [] = empty part (omega (arith, long, whole, d.whole, d.few)) in
+      let no_part : part ≡ [] = nil_from_length part (omega (arith, long, whole, d.whole, d.few)) in
       let is : given ≡ demoted_bytes n text =
       sym (append-nil given) ∙ ap (λ (bs : List ℕ). given ++ bs) (sym none) ∙ d.made
       ∙ ap (demoted_bytes n) (sym (append-nil taken) ∙ ap (λ (bs : List ℕ). taken ++ bs) (sym no_part) ∙ all) in

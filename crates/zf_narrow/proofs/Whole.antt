@@ -1,6 +1,6 @@
 -- The bytes of whole values, and what follows them.
-use Rattle.std.proofs.Common.{◌≡◌, refl, sym, ap, ◌∙◌, ℕ, zero, suc, ◌+◌, ◌*◌, ◌/◌, ◌%◌, ◌<◌, ℤ, List, [], ◌∷◌, ◌++◌, map, length, replicate, append_assoc, length-append, arith}
-use Rattle.std.proofs.lemmas.List.{map-append, length-map}
+use Rattle.std.proofs.Common.{◌≡◌, refl, sym, ap, ◌∙◌, ℕ, zero, suc, ◌+◌, ◌*◌, ◌/◌, ◌%◌, ◌<◌, ℤ, List, [], ◌++◌, map, length, replicate, append_assoc, length-append, arith}
+use Rattle.std.proofs.lemmas.List.{nil_from_length, map-append, length-map}
 use Rattle.std.specs.Int.{w32}
 use Rattle.zf_spec.specs.Stream.{raw, values_from}
 use Rattle.zf_spec.proofs.RawValues.{length-raw, length-values_from}
@@ -98,18 +98,14 @@ length-promoted_all n s =
     ∙ ap (λ k. k + length (replicate {A = ℕ} (length s % size_of n) 0)) (length-promoted_bytes n s)
     ∙ ap (λ k. length s / size_of n * 4 + k) (length-zeros (length s % size_of n))
 
-empty : (s : List ℕ) → length s ≡ 0 → s ≡ []
-empty [] e = refl
-empty (x ∷ xs) e = absurd (omega arith)
-
 -- nothing is given for no bytes alone
 pub no_bytes : (n : Narrow) (s : List ℕ) → promoted_all n s ≡ [] → s ≡ []
 no_bytes n s none =
     let long : length s / size_of n * 4 + length s % size_of n ≡ 0 = sym (length-promoted_all n s) ∙ ap length none in
-    empty s (none_of_both n (length s) (omega (arith, long)) (omega (arith, long)))
+    nil_from_length s (none_of_both n (length s) (omega (arith, long)) (omega (arith, long)))
 
 pub no_values : (n : Narrow) (values : List ℕ) → length values % size_of n ≡ 0 → length (promoted_bytes n values) ≡ 0 → values ≡ []
-no_values n values whole none = empty values (none_of_both n (length values) (omega (arith, length-promoted_bytes n values)) whole)
+no_values n values whole none = nil_from_length values (none_of_both n (length values) (omega (arith, length-promoted_bytes n values)) whole)
 
 -- ---- int32 values as narrow bytes
 
