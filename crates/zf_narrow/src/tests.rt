@@ -3,133 +3,37 @@
 use super::*;
 use crate::demotion::Demotion;
 use crate::promotion::Promotion;
-use crate::raw::{put_demoted, put_promoted};
 use std::test::Fail;
 use zf_dev::{MemSink, MemSource};
 
-#[derive(Drop)]
-struct Stands {
-    n: Narrow,
-    value: i32,
-    number: i32,
-}
-
-// Values, and the numbers that they stand for: on a step, between two, and beyond the type.
-const STANDS: [Stands; 14] = [
-    Stands {
-        n: Narrow::I8,
-        value: 8388608,
-        number: 1,
-    },
-    Stands {
-        n: Narrow::I8,
-        value: 8388607,
-        number: 0,
-    },
-    Stands {
-        n: Narrow::I8,
-        value: -1,
-        number: -1,
-    },
-    Stands {
-        n: Narrow::I8,
-        value: i32::MIN,
-        number: -128,
-    },
-    Stands {
-        n: Narrow::I8,
-        value: i32::MAX,
-        number: 127,
-    },
-    Stands {
-        n: Narrow::U8,
-        value: 0,
-        number: 128,
-    },
-    Stands {
-        n: Narrow::U8,
-        value: i32::MIN,
-        number: 0,
-    },
-    Stands {
-        n: Narrow::U8,
-        value: i32::MAX,
-        number: 255,
-    },
-    Stands {
-        n: Narrow::I16,
-        value: 65536,
-        number: 2,
-    },
-    Stands {
-        n: Narrow::I16,
-        value: i32::MIN,
-        number: -32768,
-    },
-    Stands {
-        n: Narrow::I16,
-        value: i32::MAX,
-        number: 32767,
-    },
-    Stands {
-        n: Narrow::U16,
-        value: -32768,
-        number: 32767,
-    },
-    Stands {
-        n: Narrow::U16,
-        value: i32::MIN,
-        number: 0,
-    },
-    Stands {
-        n: Narrow::U16,
-        value: i32::MAX,
-        number: 65535,
-    },
+// Values, the numbers that they stand for, and the values of these numbers: on a step, between two, and beyond the type.
+const STANDS: [(Narrow, i32, i32, i32); 15] = [
+    (Narrow::I8, 8388608, 1, 8388608),
+    (Narrow::I8, 8388607, 0, 0),
+    (Narrow::I8, -1, -1, -8388608),
+    (Narrow::I8, i32::MIN, -128, -1073741824),
+    (Narrow::I8, i32::MAX, 127, 1065353216),
+    (Narrow::U8, 0, 128, 0),
+    (Narrow::U8, i32::MIN, 0, -1073741824),
+    (Narrow::U8, i32::MAX, 255, 1065353216),
+    (Narrow::I16, 65536, 2, 65536),
+    (Narrow::I16, i32::MIN, -32768, -1073741824),
+    (Narrow::I16, i32::MAX, 32767, 1073709056),
+    (Narrow::U16, -32768, 32767, -32768),
+    (Narrow::U16, 0, 32768, 0),
+    (Narrow::U16, i32::MIN, 0, -1073741824),
+    (Narrow::U16, i32::MAX, 65535, 1073709056),
 ];
 
 #[test]
-fn values_stand_for_numbers(rt: HostRuntime) -> Result<(), Fail> {
-    for row in &STANDS {
-        assert_eq!(rt; demote(row.n, row.value), row.number);
+fn values_stand_for_numbers(rt: HostRuntime) {
+    for (n, value, number, stands) in STANDS.iter() {
+        let found = demote(*n, *value);
+        assert!(rt;
+            found == *number && promote(*n, found) == *stands,
+            "{n:?} {value}"
+        );
     }
-    Ok(())
-}
-
-#[test]
-fn numbers_lie_evenly_around_zero(rt: HostRuntime) -> Result<(), Fail> {
-    assert_eq!(rt; promote(Narrow::I8, -128), -1073741824);
-    assert_eq!(rt; promote(Narrow::I8, 127), 1065353216);
-    assert_eq!(rt; promote(Narrow::U8, 128), 0);
-    assert_eq!(rt; promote(Narrow::U8, 255), 1065353216);
-    assert_eq!(rt; promote(Narrow::I16, -32768), -1073741824);
-    assert_eq!(rt; promote(Narrow::U16, 32768), 0);
-    assert_eq!(rt; promote(Narrow::U16, 65535), 1073709056);
-    Ok(())
-}
-
-#[test]
-fn every_byte_comes_back(rt: HostRuntime) -> Result<(), Fail> {
-    let mut all = [0; 256];
-    for byte in 0..=255u8 {
-        all[usize::from(byte)] = byte;
-    }
-    let mut raw = [0; 1024];
-    let mut back = [0; 256];
-    put_promoted(Narrow::I8, 256, &all, &mut raw);
-    put_demoted(Narrow::I8, 256, &raw, &mut back);
-    assert_eq!(rt; back, all);
-    put_promoted(Narrow::U8, 256, &all, &mut raw);
-    put_demoted(Narrow::U8, 256, &raw, &mut back);
-    assert_eq!(rt; back, all);
-    let mut wide = [0; 512];
-    put_promoted(Narrow::I16, 128, &all, &mut wide);
-    put_demoted(Narrow::I16, 128, &wide, &mut back);
-    assert_eq!(rt; back, all);
-    put_promoted(Narrow::U16, 128, &all, &mut wide);
-    put_demoted(Narrow::U16, 128, &wide, &mut back);
-    assert_eq!(rt; back, all);
-    Ok(())
 }
 
 // A value and a half of int16, a byte at a time: for the half a zero byte is given.
