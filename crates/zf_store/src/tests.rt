@@ -1,7 +1,6 @@
 //! The rows of a store, its fields, and every fault of a file.
 
-ghost use Rattle.std.specs.Prelude.{◌≡◌, ◌↔◌, IsTrue, length};
-ghost use Rattle.zf_base.specs.Widths.{width_of};
+ghost use Rattle.std.specs.Prelude.{◌≡◌, IsTrue};
 ghost use Rattle.zf_header.specs.HeaderBits.{IsRate};
 
 use super::*;
@@ -11,17 +10,12 @@ use std::test::Fail;
 use zf_base::{Backing, Lane, Reading, Shape, Ty};
 use zf_header::{Header, Mode, rate_bytes};
 
-// The header of a file of 8 values of int32 at 64 bits a block, and the bytes of its codes and its fill: zeros.
-const ZEROS: [u8; 32] = [
-    0x7a, 0x66, 0x70, 0x05, 0x70, 0, 0, 0, 0, 0, 0xf0, 0x03, 0, 0, 0, 0, 0, 0, 0, 0, 0, 0, 0, 0, 0,
-    0, 0, 0, 0, 0, 0, 0,
-];
+// The file of 8 zeros of int32 at 64 bits a block.
+const ZEROS: &[u8] = b"zfp\x05\x70\0\0\0\0\0\xf0\x03\0\0\0\0\0\0\0\0\0\0\0\0\0\0\0\0\0\0\0\0";
 
 // The same with ones among the bits of the first code that its values do not need.
-const UNUSED: [u8; 32] = [
-    0x7a, 0x66, 0x70, 0x05, 0x70, 0, 0, 0, 0, 0, 0xf0, 0x03, 0, 0, 0, 0, 0xff, 0xff, 0xff, 0xff, 0,
-    0, 0, 0, 0, 0, 0, 0, 0, 0, 0, 0,
-];
+const UNUSED: &[u8] =
+    b"zfp\x05\x70\0\0\0\0\0\xf0\x03\0\0\0\0\xff\xff\xff\xff\0\0\0\0\0\0\0\0\0\0\0\0";
 
 // Whether the header states a rate.
 fn is_rate(h: &Header) -> bool
@@ -46,9 +40,39 @@ fn open(
     Ok(Store::from_file(alloc, &h, file))
 }
 
+// A new store in one dimension or two.
+fn zeros<T: Lane, const D: usize>(
+    rt: &impl Abort,
+    alloc: Global,
+    dims: u8,
+    sizes: [u64; 2],
+    bits: u32,
+) -> Result<Store<T, D>, Fail> {
+    assert!(rt; 1 <= dims && dims <= 2 && 1 <= bits && bits <= 32768);
+    let shape = Shape::new(dims, sizes[0], sizes[1], 1, 1)
+        .ok()
+        .ok_or("a shape")?;
+    assert_eq!(rt; usize::from(shape.dims()), D);
+    Ok(Store::zeros(alloc, shape, bits)?)
+}
+
+fn put<T: Lane, const D: usize>(rt: &impl Abort, store: &mut Store<T, D>, b: u64, values: &[T]) {
+    assert!(rt; b < store.blocks());
+    assert_eq!(rt; values.len(), store.block_len());
+    store.store(b, values);
+}
+
+// Whether a block of int32 in one dimension has these values.
+fn has(rt: &impl Abort, store: &mut Store<i32, 1>, b: u64, values: [i32; 4]) -> bool {
+    assert!(rt; b < store.blocks());
+    assert_eq!(rt; store.block_len(), 4);
+    let mut line = [7; 4];
+    store.load(b, &mut line);
+    line == values
+}
+
 // Whether the file of a store has these bytes.
 fn saves<T: Lane, const D: usize>(
-    rt: &impl Abort,
     alloc: Global,
     store: &Store<T, D>,
     file: &[u8],
@@ -60,127 +84,90 @@ fn saves<T: Lane, const D: usize>(
 
 #[test]
 fn a_new_store_has_zeros(rt: HostRuntime) -> Result<(), Fail> {
-    let alloc = rt.alloc();
-    let shape = Shape::new(1, 8, 1, 1, 1).ok().ok_or("a shape")?;
-    assert_eq!(rt; shape.dims(), 1);
-    let mut store = Store::<i32, 1>::zeros(alloc, shape, 64)?;
-    assert!(rt; saves(&rt, alloc, &store, &ZEROS)?);
-    let mut line = [7; 4];
-    assert_eq!(rt; store.blocks(), 2);
-    assert_eq!(rt; store.block_len(), 4);
-    store.load(1, &mut line);
-    assert_eq!(rt; line, [0; 4]);
+    let mut store = zeros::<i32, 1>(&rt, rt.alloc(), 1, [8, 1], 64)?;
+    assert!(rt; saves(rt.alloc(), &store, ZEROS)?);
+    assert!(rt; has(&rt, &mut store, 1, [0; 4]));
     Ok(())
 }
 
 #[test]
 fn an_opened_file_keeps_each_bit(rt: HostRuntime) -> Result<(), Fail> {
-    let alloc = rt.alloc();
-    let mut store = open(&rt, alloc, &UNUSED)?.ok().ok_or("a store")?;
-    let mut line = [7; 4];
-    assert_eq!(rt; store.blocks(), 2);
-    assert_eq!(rt; store.block_len(), 4);
-    store.load(0, &mut line);
-    assert_eq!(rt; line, [0; 4]);
-    assert!(rt; saves(&rt, alloc, &store, &UNUSED)?);
-    store.store(0, &[1, 2, 3, 4]);
-    assert_eq!(rt; store.words(), [0x0000_0027_6000_0000, 0].as_slice());
-    store.load(0, &mut line);
-    assert_eq!(rt; line, [0, 2, 2, 4]);
+    let mut store = open(&rt, rt.alloc(), UNUSED)?.ok().ok_or("a store")?;
+    assert!(rt; has(&rt, &mut store, 0, [0; 4]));
+    assert!(rt; saves(rt.alloc(), &store, UNUSED)?);
+    put(&rt, &mut store, 0, &[1, 2, 3, 4]);
+    assert!(rt; store.words() == [0x0000_0027_6000_0000, 0].as_slice());
+    assert!(rt; has(&rt, &mut store, 0, [0, 2, 2, 4]));
     Ok(())
 }
 
-// Blocks that share words: each is stored as one value, or some, and the file is the reference program's.
+// Bits of a block, and the file of two blocks, of which the second is stored as one value, or some. The file is the reference program's.
+const SHARED: [(u32, &[u8]); 2] = [
+    (1, b"zfp\x05\x70\0\0\0\0\0\0\0\x02\0\0\0"),
+    (3, b"zfp\x05\x70\0\0\0\0\0\x20\0\x18\0\0\0"),
+];
+
 #[test]
 fn blocks_share_words(rt: HostRuntime) -> Result<(), Fail> {
-    let alloc = rt.alloc();
-    let line = Shape::new(1, 8, 1, 1, 1).ok().ok_or("a shape")?;
-    assert_eq!(rt; line.dims(), 1);
-    let rows = [
-        (
-            1,
-            [
-                0x7a, 0x66, 0x70, 0x05, 0x70, 0, 0, 0, 0, 0, 0x00, 0x00, 0x02, 0, 0, 0,
-            ],
-        ),
-        (
-            3,
-            [
-                0x7a, 0x66, 0x70, 0x05, 0x70, 0, 0, 0, 0, 0, 0x20, 0x00, 0x18, 0, 0, 0,
-            ],
-        ),
-    ];
-    for (bits, file) in rows {
-        assert!(rt; 1 <= bits && bits <= 32768);
-        let mut store = Store::<i32, 1>::zeros(alloc, line, bits)?;
-        assert_eq!(rt; store.blocks(), 2);
-        assert_eq!(rt; store.block_len(), 4);
-        store.store(1, &[-1073741824; 4]);
-        assert!(rt; saves(&rt, alloc, &store, &file)?, "{bits} bits");
-        let mut values = [7; 4];
-        store.load(1, &mut values);
-        assert_eq!(rt; values, [-2147483648; 4]);
-        store.load(0, &mut values);
-        assert_eq!(rt; values, [0; 4]);
+    for (bits, file) in SHARED.iter() {
+        let mut store = zeros::<i32, 1>(&rt, rt.alloc(), 1, [8, 1], *bits)?;
+        put(&rt, &mut store, 1, &[-1073741824; 4]);
+        assert!(rt; saves(rt.alloc(), &store, file)?, "{bits} bits");
+        assert!(rt; has(&rt, &mut store, 1, [-2147483648; 4]));
+        assert!(rt; has(&rt, &mut store, 0, [0; 4]));
     }
-    let sheet = Shape::new(2, 9, 5, 1, 1).ok().ok_or("a shape")?;
-    assert_eq!(rt; sheet.dims(), 2);
-    let mut store = Store::<i32, 2>::zeros(alloc, sheet, 3)?;
-    for b in 0..6 {
-        assert_eq!(rt; store.blocks(), 6);
-        assert_eq!(rt; store.block_len(), 16);
-        store.store(b, &[-1073741824; 16]);
-    }
-    let file = [
-        0x7a, 0x66, 0x70, 0x05, 0x84, 0, 0, 0x40, 0, 0, 0x20, 0x00, 0xdb, 0xb6, 0x01, 0x00,
-    ];
-    assert!(rt; saves(&rt, alloc, &store, &file)?);
     Ok(())
 }
+
+const SHEET: &[u8] = b"zfp\x05\x84\0\0\x40\0\0\x20\0\xdb\xb6\x01\0";
+
+#[test]
+fn blocks_of_a_sheet_share_words(rt: HostRuntime) -> Result<(), Fail> {
+    let mut store = zeros::<i32, 2>(&rt, rt.alloc(), 2, [9, 5], 3)?;
+    for b in 0..6 {
+        put(&rt, &mut store, b, &[-1073741824; 16]);
+    }
+    assert!(rt; saves(rt.alloc(), &store, SHEET)?);
+    Ok(())
+}
+
+const OVER_WORDS: &[u8] =
+    b"zfp\x05\x51\0\0\0\0\0\x50\x04\0\0\0\x78\x1f\xe3\xb9\xb2\x15\0\0\xc0\x05\x50\x55\x50\0\0\0\0";
 
 #[test]
 fn a_code_over_two_words(rt: HostRuntime) -> Result<(), Fail> {
-    let alloc = rt.alloc();
-    let shape = Shape::new(1, 6, 1, 1, 1).ok().ok_or("a shape")?;
-    assert_eq!(rt; shape.dims(), 1);
-    let mut store = Store::<i64, 1>::zeros(alloc, shape, 70)?;
-    assert_eq!(rt; store.blocks(), 2);
-    assert_eq!(rt; store.block_len(), 4);
-    store.store(1, &[0, -987654321987, 0, 0]);
-    store.store(0, &[123456789012, 5, 0, 0]);
-    let file = [
-        0x7a, 0x66, 0x70, 0x05, 0x51, 0, 0, 0, 0, 0, 0x50, 0x04, 0, 0, 0, 0x78, 0x1f, 0xe3, 0xb9,
-        0xb2, 0x15, 0, 0, 0xc0, 0x05, 0x50, 0x55, 0x50, 0, 0, 0, 0,
-    ];
-    assert!(rt; saves(&rt, alloc, &store, &file)?);
+    let mut store = zeros::<i64, 1>(&rt, rt.alloc(), 1, [6, 1], 70)?;
+    put(&rt, &mut store, 1, &[0, -987654321987, 0, 0]);
+    put(&rt, &mut store, 0, &[123456789012, 5, 0, 0]);
+    assert!(rt; saves(rt.alloc(), &store, OVER_WORDS)?);
     Ok(())
 }
 
+// How many bytes there are, the byte that is changed, and the fault.
+const FAULTS: [(usize, usize, u8, Option<StoreFault>); 12] = [
+    (32, 31, 0x00, None),
+    (12, 11, 0x03, Some(StoreFault::Truncated(0))),
+    (19, 11, 0x03, Some(StoreFault::Truncated(0))),
+    (20, 11, 0x03, Some(StoreFault::Truncated(1))),
+    (27, 11, 0x03, Some(StoreFault::Truncated(1))),
+    (28, 11, 0x03, Some(StoreFault::Truncated(2))),
+    (31, 28, 0x80, Some(StoreFault::Truncated(2))),
+    (32, 28, 0x01, Some(StoreFault::Pad)),
+    (32, 31, 0x80, Some(StoreFault::Pad)),
+    (33, 31, 0x80, Some(StoreFault::Pad)),
+    (33, 27, 0x80, Some(StoreFault::Trailing)),
+    (40, 33, 0x01, Some(StoreFault::Trailing)),
+];
+
 #[test]
 fn each_fault_of_a_file(rt: HostRuntime) -> Result<(), Fail> {
-    let alloc = rt.alloc();
-    // how many of the bytes there are, the byte that is changed, and the fault
-    let rows = [
-        (32, 31, 0x00, None),
-        (12, 11, 0x03, Some(StoreFault::Truncated(0))),
-        (19, 11, 0x03, Some(StoreFault::Truncated(0))),
-        (20, 11, 0x03, Some(StoreFault::Truncated(1))),
-        (27, 11, 0x03, Some(StoreFault::Truncated(1))),
-        (28, 11, 0x03, Some(StoreFault::Truncated(2))),
-        (31, 28, 0x80, Some(StoreFault::Truncated(2))),
-        (32, 28, 0x01, Some(StoreFault::Pad)),
-        (32, 31, 0x80, Some(StoreFault::Pad)),
-        (33, 31, 0x80, Some(StoreFault::Pad)),
-        (33, 27, 0x80, Some(StoreFault::Trailing)),
-        (40, 33, 0x01, Some(StoreFault::Trailing)),
-    ];
-    for (count, at, byte, fault) in rows {
-        let mut file = [0; 40];
-        file[..32].copy_from_slice(&ZEROS);
-        assert!(rt; at < 40 && count <= 40);
-        file[at] = byte;
-        let found = open(&rt, alloc, &file[..count])?;
-        assert_eq!(rt; found.err(), fault, "{count} bytes, byte {at} {byte}");
+    for (count, at, byte, fault) in FAULTS.iter() {
+        let mut file = ZEROS.to_vec(rt.alloc())?;
+        file.resize(*count, 0)?;
+        assert!(rt; *at < file.len());
+        file[*at] = *byte;
+        let found = open(&rt, rt.alloc(), &file)?.err();
+        assert!(rt; found == *fault, "{count} bytes, byte {at} {byte}");
     }
     Ok(())
 }
