@@ -1,24 +1,23 @@
 -- From what a call on a stream promises to what a command promises that hands it on.
-use Rattle.std.proofs.Common.{◌≡◌, ℕ, ℤ, List, [], ◌∷◌, Option, Some, None, Result, Ok, Err, ◌⊎◌, inl, inr, refl, ap, sym, subst, ◌∙◌}
+use Rattle.std.proofs.Common.{◌≡◌, ℕ, List, [], ◌∷◌, Option, Some, None, Result, Ok, Err, ◌⊎◌, inl, inr, refl, ap, sym, subst, ◌∙◌}
 use Rattle.zf_dev.specs.Shelf.{Files}
 use Rattle.zf_dev.specs.Source.{Takes, IsAtEnd}
 use Rattle.zf_dev.specs.Sink.{Appends, AppendsFront}
 use Rattle.zf_dev.proofs.Appending.{AppendsFront-none}
 use Rattle.zf_header.specs.declared.header.Header.{Header}
-use Rattle.zf_header.specs.declared.header.HeaderFault.{HeaderFault}
 use Rattle.zf_header.specs.declared.header.Mode.TheVariants.{Reversible}
 use Rattle.zf_header.specs.HeaderFaults.{header_fault}
 use Rattle.zf_base.specs.declared.lane.Ty.TheVariants.{I32}
 use Rattle.zf_stream.specs.declared.fault.StreamFault.{StreamFault}
 use Rattle.zf_stream.specs.declared.fault.StreamFault.TheVariants as faults
 use Rattle.zf_stream.specs.Raw.{stream_text}
-use Rattle.zf_stream.specs.Parsing.{values_said, header_or, without_values, restore_answer}
+use Rattle.zf_stream.proofs.Parsed.{good_header}
 use Rattle.zf_stream.proofs.StreamsBack.{answer-stream_text}
 use Rattle.zf_stream.specs.Outcomes as streams
 use Rattle.zf_narrow.specs.declared.narrow.Narrow.{Narrow}
 use Rattle.zf_narrow.specs.declared.fault.NarrowFault.{NarrowFault}
 use Rattle.zf_narrow.specs.declared.fault.NarrowFault.TheVariants.{NotNarrow, Stream}
-use Rattle.zf_narrow.specs.Texts.{ArePromotedAfter, restore_narrow_answer, narrow_restored, IsFromOutside, IsBeforeWriting, AnswersNarrow, CanRefuseNarrow}
+use Rattle.zf_narrow.specs.Texts.{ArePromotedAfter, narrow_restored, IsFromOutside, IsBeforeWriting, AnswersNarrow, CanRefuseNarrow}
 use Rattle.zfpi.specs.declared.status.Status.{Status}
 use Rattle.zfpi.specs.declared.status.Status.TheVariants as statuses
 use Rattle.zfpi.specs.declared.command.Command.{Command}
@@ -246,15 +245,6 @@ one_header = record { ty = I32; shape = 1 ∷ []; mode = Reversible }
 
 pub one_stream : List ℕ
 one_stream = stream_text one_header []
-
--- where an input is a good stream, its header is one
-good_header : (bytes : List ℕ) → restore_answer bytes ≡ Ok tt → header_fault bytes ≡ None
-unfolding values_said
-good_header bytes good = by (header_fault bytes) _ good
-  where
-    by : (fault : Option HeaderFault) (rest : Result (List ℤ) StreamFault) → without_values (header_or fault rest) ≡ Ok tt → fault ≡ None
-    by None rest is = refl
-    by (Some f) rest is = absurd (cc)
 
 pub one_stream-good : header_fault one_stream ≡ None
 unfolding one_header one_stream
