@@ -13,12 +13,12 @@ use zf_dev::MemSink;
 use zf_header::{Header, Mode};
 
 // A sink that takes large pieces and never fails.
-fn sink(alloc: Global) -> MemSink {
+pub(crate) fn sink(alloc: Global) -> MemSink {
     MemSink::new(alloc, Vec::new(alloc), 1 << 20)
 }
 
 // An array of zeros.
-fn zeros<T: Lane, const D: usize>(
+pub(crate) fn zeros<T: Lane, const D: usize>(
     rt: &impl Abort,
     alloc: Global,
     shape: Result<Shape, ShapeFault>,
@@ -33,7 +33,7 @@ fn zeros<T: Lane, const D: usize>(
 }
 
 // Runs a script over zeros, and compares what it writes, how it ends and, where a file is given, what is saved.
-fn check<T: Lane, const D: usize>(
+pub(crate) fn check<T: Lane, const D: usize>(
     rt: &impl Abort,
     alloc: Global,
     shape: Result<Shape, ShapeFault>,
@@ -45,7 +45,7 @@ fn check<T: Lane, const D: usize>(
 ) -> Result<(), Fail> {
     let mut array = zeros::<T, D>(rt, alloc, shape, rate.0, rate.1)?;
     let mut out = sink(alloc);
-    assert_eq!(rt; run(&mut array, script, &mut out), end);
+    assert_eq!(rt; run(alloc, &mut array, script, &mut out), end);
     assert_eq!(rt; out.bytes(), text);
     if !file.is_empty() {
         assert_eq!(rt; array.save_bytes(), file);
@@ -53,7 +53,7 @@ fn check<T: Lane, const D: usize>(
     Ok(())
 }
 
-fn line_of_eight() -> Result<Shape, ShapeFault> {
+pub(crate) fn line_of_eight() -> Result<Shape, ShapeFault> {
     Shape::new(1, 8, 1, 1, 1)
 }
 
@@ -136,9 +136,9 @@ fn scripts_on_a_line_of_eight(rt: HostRuntime) -> Result<(), Fail> {
         ),
         (
             2,
-            b"split 2 1\n@0 get 0\njoin\nget 0\n",
-            b"! word\n! word\n! word\n0\n",
-            RunEnd::Lines(3),
+            b"split 2 1\n@0 get 0\njoin\nget 0\n@ 0 get 0\n@0 sum\n",
+            b"0\n0\n! word\n! word\n",
+            RunEnd::Lines(2),
             &[],
         ),
         (
@@ -387,7 +387,7 @@ fn a_file_with_bits_that_no_value_needs_stays(rt: HostRuntime) -> Result<(), Fai
         .ok()
         .ok_or("an array")?;
     let mut out = sink(rt.alloc());
-    assert_eq!(rt; run(&mut array, b"get 0\nget 4\n", &mut out), RunEnd::Done);
+    assert_eq!(rt; run(rt.alloc(), &mut array, b"get 0\nget 4\n", &mut out), RunEnd::Done);
     assert_eq!(rt; out.bytes(), b"0\n0\n".as_slice());
     assert_eq!(rt; array.save_bytes(), file.as_slice());
     Ok(())
@@ -414,7 +414,7 @@ fn a_sink_fails(rt: HostRuntime) -> Result<(), Fail> {
         assert!(rt; 0 < piece);
         let mut out = MemSink::new(rt.alloc(), fail, piece);
         let script = b"set 0 1\nget 0\nflush\nget 0\nset 4 9\nstats\n";
-        assert_eq!(rt; run(&mut array, script, &mut out), RunEnd::Write);
+        assert_eq!(rt; run(rt.alloc(), &mut array, script, &mut out), RunEnd::Write);
         assert_eq!(rt; out.bytes(), text);
         // no later line was run, and nothing is flushed
         assert_eq!(rt; array.stats().writes, if call == 0 { 0 } else { 1 });

@@ -1,0 +1,4 @@
+use Rattle.zf_run.proofs.splits.Parted.finish.Goals as goal
+
+pub returns-clause-ended : goal.returns-clause-ended
+returns-clause-ended g c = ?
