@@ -1,6 +1,7 @@
 -- An array that may be split, as what a script runs on.
 use Rattle.std.proofs.Common.{◌≡◌, refl, sym, ap, subst, ◌∙◌, ℕ, zero, suc, ℤ, Bool, true, false, not, List, length, Option, Some, None, is_some}
 use Rattle.std.specs.Prelude.{Vec, IsSome}
+use mathlib.Core.Bool.{beq}
 use Rattle.zf_cached.specs.Commands.{Command}
 use Rattle.zf_cached.specs.Steps.{Setting, Session, is_split, views_of, with_view, by_view, flushed_views, joined, needs_split, refuses_split, done}
 use Rattle.zf_private.specs.Standing as private
@@ -48,14 +49,20 @@ none_parted None e = refl
 none_parted (Some views) e = absurd (cc)
 
 -- there is one and a command needs none, or the other way round
-pub refuses_is : {Code : Type 0} (s : Session Code) (c : Command) (p n : Bool) → is_split s ≡ p → needs_split c ≡ n → (p ≡ n → ⊥) → refuses_split s c ≡ true
+pub refuses_is : {Code : Type 0} (s : Session Code) (c : Command) (p n : Bool) → is_split s ≡ p → needs_split c ≡ n → not (beq p n) ≡ true → refuses_split s c ≡ true
 refuses_is s c p n e f other = (λ i. elim (e i) as (λ x. Bool) [ true ↦ not (f i) | false ↦ f i ]) ∙ by p n other
   where
-    by : (p n : Bool) → (p ≡ n → ⊥) → elim p as (λ x. Bool) [ true ↦ not n | false ↦ n ] ≡ true
-    by true true h = absurd (h refl)
+    by : (p n : Bool) → not (beq p n) ≡ true → elim p as (λ x. Bool) [ true ↦ not n | false ↦ n ] ≡ true
+    by true true h = absurd (cc)
     by true false h = refl
     by false true h = refl
-    by false false h = absurd (h refl)
+    by false false h = absurd (cc)
+
+-- there is none where none is needed
+pub none_needed : (p n : Bool) → not (beq p n) ≡ false → n ≡ false → p ≡ false
+none_needed true true h e = absurd (cc)
+none_needed true false h e = absurd (cc)
+none_needed false n h e = refl
 
 -- ---- the end of a split
 
