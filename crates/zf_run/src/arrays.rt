@@ -104,7 +104,11 @@ impl<T: Lane, const D: usize> Changing<T> for Array<T, D> {
 }
 
 /// What a command does that is on the whole array.
-pub(crate) fn on_array<T: Lane, const D: usize>(a: &mut Array<T, D>, window: &mut Window, cmd: Cmd) -> Answer
+pub(crate) fn on_array<T: Lane, const D: usize>(
+    a: &mut Array<T, D>,
+    window: &mut Window,
+    cmd: Cmd,
+) -> Answer
     requires array { IsArray T.width D a.old }
     requires inside { LiesIn (standing.shape a.old) window.old }
     requires numbers { cmd ≡ cmd_of (command_of (length (standing.shape a.old)) cmd) }

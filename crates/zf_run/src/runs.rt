@@ -32,10 +32,11 @@ pub fn run<T: Lane, const D: usize, O: Sink>(
     ensures cause { HasCause (result ≡ RunEnd.Write) (O.faults out.old) (O.faults out.new) }
 {
     let mut window = Window::whole(&a.shape());
+    let mut views = None;
     let mut parted = Parted {
         alloc,
         array: a,
-        views: None,
+        views: &mut views,
     };
     match run_lines(&mut parted, &mut window, script, out) {
         Ok(refused) => {

@@ -40,14 +40,14 @@ const MAX_LINES: u64 = 65536;
 pub(crate) struct Parted<'a, T: Lane, const D: usize> {
     pub(crate) alloc: Global,
     pub(crate) array: &'a mut Array<T, D>,
-    pub(crate) views: Option<Vec<Private<T, D>>>,
+    pub(crate) views: &'a mut Option<Vec<Private<T, D>>>,
 }
 
 impl<'a, T: Lane, const D: usize> Parted<'a, T, D> {
     /// The end of a run: a split ends, and then the array is flushed.
     pub(crate) fn finish(&mut self)
-        requires { FitTogether T.value D self.old.array.now (lists self.old.views) }
-        ensures ended { (v : Part) → ended (setting_of T.width self.old.array.now) (parted_session T.value self.old.array.now (lists self.old.views) v)
+        requires { FitTogether T.value D self.old.array.now (lists self.old.views.now) }
+        ensures ended { (v : Part) → ended (setting_of T.width self.old.array.now) (parted_session T.value self.old.array.now (lists self.old.views.now) v)
             ≡ session_of self.new.array.now v }
         ensures kept { kind self.new.array.now ≡ kind self.old.array.now }
         ensures same_array { self.new.array.ghost_name ≡ self.old.array.ghost_name }
@@ -61,15 +61,16 @@ impl<'a, T: Lane, const D: usize> Parted<'a, T, D> {
 
     // Flushes the views in order, and ends the split, if there is one.
     fn join(&mut self)
-        requires { FitTogether T.value D self.old.array.now (lists self.old.views) }
-        ensures joined { (v : Part) → joined (setting_of T.width self.old.array.now) (parted_session T.value self.old.array.now (lists self.old.views) v)
+        requires { FitTogether T.value D self.old.array.now (lists self.old.views.now) }
+        ensures joined { (v : Part) → joined (setting_of T.width self.old.array.now) (parted_session T.value self.old.array.now (lists self.old.views.now) v)
             ≡ session_of self.new.array.now v }
-        ensures whole { self.new.views ≡ None }
+        ensures whole { self.new.views.now ≡ None }
         ensures kept { kind self.new.array.now ≡ kind self.old.array.now }
         ensures same_array { self.new.array.ghost_name ≡ self.old.array.ghost_name }
     {
         let array = &mut *self.array;
-        let Some(mut views) = self.views.take() else {
+        let parts = &mut *self.views;
+        let Some(mut views) = parts.take() else {
             return;
         };
         flush_views(array, &mut views);
@@ -77,10 +78,10 @@ impl<'a, T: Lane, const D: usize> Parted<'a, T, D> {
 
     // `split N L`: that many views, each with so many lines. The memory is taken first; then the array is flushed.
     fn split(&mut self, count: u64, lines: u64) -> Answer
-        requires whole { self.old.views ≡ None }
+        requires whole { self.old.views.now ≡ None }
         ensures does { (v : Part) → HasWindow (session_of self.old.array.now v) → Does (setting_of T.width self.old.array.now) (Command.split count lines)
-            (session_of self.old.array.now v) (parted_session T.value self.new.array.now (lists self.new.views) v) (answer result) }
-        ensures sound { FitTogether T.value D self.new.array.now (lists self.new.views) }
+            (session_of self.old.array.now v) (parted_session T.value self.new.array.now (lists self.new.views.now) v) (answer result) }
+        ensures sound { FitTogether T.value D self.new.array.now (lists self.new.views.now) }
         ensures kept { kind self.new.array.now ≡ kind self.old.array.now }
         ensures same_array { self.new.array.ghost_name ≡ self.old.array.ghost_name }
     {
@@ -94,19 +95,20 @@ impl<'a, T: Lane, const D: usize> Parted<'a, T, D> {
         };
         array.flush();
         see_coded(array);
-        self.views = Some(views);
+        let parts = &mut *self.views;
+        *parts = Some(views);
         Ok(None)
     }
 
     // What a command does while the array is whole.
     fn obey_whole(&mut self, window: &mut Window, cmd: Cmd) -> Answer
-        requires whole { self.old.views ≡ None }
+        requires whole { self.old.views.now ≡ None }
         requires window { HasWindow (session_of self.old.array.now window.old) }
         requires numbers { cmd ≡ cmd_of (command_of (length (standing.shape self.old.array.now)) cmd) }
         requires alone { needs_split (command_of (length (standing.shape self.old.array.now)) cmd) ≡ false }
         ensures does { Does (setting_of T.width self.old.array.now) (command_of (length (standing.shape self.old.array.now)) cmd)
-            (session_of self.old.array.now window.old) (parted_session T.value self.new.array.now (lists self.new.views) window.new) (answer result) }
-        ensures sound { FitTogether T.value D self.new.array.now (lists self.new.views) }
+            (session_of self.old.array.now window.old) (parted_session T.value self.new.array.now (lists self.new.views.now) window.new) (answer result) }
+        ensures sound { FitTogether T.value D self.new.array.now (lists self.new.views.now) }
         ensures kept { kind self.new.array.now ≡ kind self.old.array.now }
         ensures same_array { self.new.array.ghost_name ≡ self.old.array.ghost_name }
     {
@@ -121,13 +123,13 @@ impl<'a, T: Lane, const D: usize> Parted<'a, T, D> {
 
     // What a command does while the array is split: it ends the split, or is on a view.
     fn obey_parted(&mut self, cmd: Cmd) -> Answer
-        requires sound { FitTogether T.value D self.old.array.now (lists self.old.views) }
-        requires parted { IsSome self.old.views }
+        requires sound { FitTogether T.value D self.old.array.now (lists self.old.views.now) }
+        requires parted { IsSome self.old.views.now }
         requires numbers { cmd ≡ cmd_of (command_of (length (standing.shape self.old.array.now)) cmd) }
         requires on_split { needs_split (command_of (length (standing.shape self.old.array.now)) cmd) ≡ true }
         ensures does { DoesAlone (setting_of T.width self.old.array.now) (command_of (length (standing.shape self.old.array.now)) cmd)
-            (parted_session T.value self.old.array.now (lists self.old.views)) (parted_session T.value self.new.array.now (lists self.new.views)) (answer result) }
-        ensures sound { FitTogether T.value D self.new.array.now (lists self.new.views) }
+            (parted_session T.value self.old.array.now (lists self.old.views.now)) (parted_session T.value self.new.array.now (lists self.new.views.now)) (answer result) }
+        ensures sound { FitTogether T.value D self.new.array.now (lists self.new.views.now) }
         ensures kept { kind self.new.array.now ≡ kind self.old.array.now }
         ensures same_array { self.new.array.ghost_name ≡ self.old.array.ghost_name }
     {
@@ -136,7 +138,7 @@ impl<'a, T: Lane, const D: usize> Parted<'a, T, D> {
             return Ok(None);
         }
         let array = &mut *self.array;
-        let Some(views) = &mut self.views else {
+        let Some(views) = &mut *self.views else {
             unreachable!()
         };
         on_view(array, views, cmd)
@@ -154,7 +156,7 @@ impl<'a, T: Lane, const D: usize> Subject for Parted<'a, T, D> {
 
     ghost setting = { λ k. array_setting T.width (block_bits k.0.1) };
 
-    ghost sound = { λ p. FitTogether T.value D p.array.now (lists p.views) };
+    ghost sound = { λ p. FitTogether T.value D p.array.now (lists p.views.now) };
 
     ghost shape = { λ p. standing.shape p.array.now };
 
@@ -166,7 +168,7 @@ impl<'a, T: Lane, const D: usize> Subject for Parted<'a, T, D> {
 }
 
 impl<'a, T: Lane, const D: usize> Scripted for Parted<'a, T, D> {
-    ghost split = { λ p. split_of T.value p.array.now (lists p.views) };
+    ghost split = { λ p. split_of T.value p.array.now (lists p.views.now) };
 
     fn obey(&mut self, window: &mut Window, cmd: Cmd) -> Option<Reply> {
         let needs = needs_split(cmd);

@@ -387,7 +387,10 @@ fn a_file_with_bits_that_no_value_needs_stays(rt: HostRuntime) -> Result<(), Fai
         .ok()
         .ok_or("an array")?;
     let mut out = sink(rt.alloc());
-    assert_eq!(rt; run(rt.alloc(), &mut array, b"get 0\nget 4\n", &mut out), RunEnd::Done);
+    assert_eq!(rt;
+        run(rt.alloc(), &mut array, b"get 0\nget 4\n", &mut out),
+        RunEnd::Done
+    );
     assert_eq!(rt; out.bytes(), b"0\n0\n".as_slice());
     assert_eq!(rt; array.save_bytes(), file.as_slice());
     Ok(())
@@ -414,7 +417,10 @@ fn a_sink_fails(rt: HostRuntime) -> Result<(), Fail> {
         assert!(rt; 0 < piece);
         let mut out = MemSink::new(rt.alloc(), fail, piece);
         let script = b"set 0 1\nget 0\nflush\nget 0\nset 4 9\nstats\n";
-        assert_eq!(rt; run(rt.alloc(), &mut array, script, &mut out), RunEnd::Write);
+        assert_eq!(rt;
+            run(rt.alloc(), &mut array, script, &mut out),
+            RunEnd::Write
+        );
         assert_eq!(rt; out.bytes(), text);
         // no later line was run, and nothing is flushed
         assert_eq!(rt; array.stats().writes, if call == 0 { 0 } else { 1 });

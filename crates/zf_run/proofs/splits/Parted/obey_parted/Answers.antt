@@ -13,8 +13,8 @@ returns-in-Join-clause-does g c v lies =
     let b = c.join.new.self.array.now in
     let value = g.T.Lane.value in
     let S = setting_of g.T.Lane.width a in
-    let s = parted_session value a (lists c.args.self.now.views) v in
-    let t = parted_session value b (lists c.join.new.self.views) v in
+    let s = parted_session value a (lists c.args.self.now.views.now) v in
+    let t = parted_session value b (lists c.join.new.self.views.now) v in
     subst (λ m. Does S (command_of (length (shape a)) m) s t None) (sym c.in-Join.is)
-    (has_joined S s t lies (some_parted value a c.args.self.now.views c.requires.parted)
+    (has_joined S s t lies (some_parted value a c.args.self.now.views.now c.requires.parted)
     (c.join.ensures.joined v ∙ ap (λ o. parted_session value b (lists o) v) (sym c.join.ensures.whole)))
