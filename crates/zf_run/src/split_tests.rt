@@ -102,13 +102,13 @@ fn views_of_other_arrays(rt: HostRuntime) -> Result<(), Fail> {
             0xd2, 0xa1, 0, 0, 0, 0, 0, 0, 0, 0, 0, 0,
         ],
     )?;
-    check::<i64, 2>(
+    check::<i32, 2>(
         &rt,
         rt.alloc(),
         Shape::new(2, 9, 7, 1, 1),
         (300, 1),
-        b"fill -5\nsplit 5 2\n@4 set 8,6 100\n@0 add 0,0 9223372036854775807\n@3 get 1,5\n@4 stats\n@2 get 4,4\n@5 flush\n@1 add 4,0 7\n@1 flush\n@1 get 4,0\n@0 get 0,0\njoin\nview 0,0 9x7 1,1\nvsum\nsplit 6 1\n@5 get 8,6\n@0 get 0,0",
-        b"-5\nhits 0 misses 1 writes 0\n! range\n! range\n0\n9223372036854775802\n-9223372036854775939\n99\n-9223372036854775808\n",
+        b"fill -5\nsplit 5 2\n@4 set 8,6 100\n@0 add 0,0 2147483647\n@3 get 1,5\n@4 stats\n@2 get 4,4\n@5 flush\n@1 add 4,0 7\n@1 flush\n@1 get 4,0\n@0 get 0,0\njoin\nview 0,0 9x7 1,1\nvsum\nsplit 6 1\n@5 get 8,6\n@0 get 0,0",
+        b"-5\nhits 0 misses 1 writes 0\n! range\n! range\n0\n2147483642\n-2147483779\n99\n-2147483648\n",
         RunEnd::Lines(2),
         &[],
     )?;
