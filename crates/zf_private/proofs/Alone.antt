@@ -4,9 +4,8 @@ use Rattle.std.specs.Int.{Width}
 use Rattle.zf_base.specs.Formats.{Format, with_at}
 use Rattle.zf_base.proofs.Formats.{with_at-same, with_at-other}
 use Rattle.zf_cached.proofs.Caching.{at_change}
-use Rattle.zf_cached.specs.Acts.{Act}
 use Rattle.zf_cached.specs.Views.{View, Views, Step, acted, answered, with_codes, without_codes, state_of_view, stepped, ran, answers, steps_of, NoneShared, IsUnowned, IsWithin, AreWithin, HasOwn, AreAlike}
-use Rattle.zf_private.proofs.Alike.{own-acted, stay-acted, alike-acted, alike-answered, alike-refl}
+use Rattle.zf_private.proofs.Alike.{own-acted, stay-acted, alike-acted, alike-answered}
 
 module _ {Code : Type 0} (w : Width) (f : Format Code) (owns : ℕ → ℕ → Type 0) where
   -- what is in the lines of each view, or dirty there, is its own

@@ -24,7 +24,7 @@ use Rattle.zf_cache.proofs.Steps.{part_written}
 use Rattle.zf_cache.proofs.Sound.{values_here}
 use Rattle.zf_cache.proofs.Sound as sound
 use Rattle.zf_cached.specs.Acts.{Act}
-use Rattle.zf_cached.specs.Views.{changed, acted, answered, IsWithin, HasOwn, AreAlike}
+use Rattle.zf_cached.specs.Views.{changed, acted, answered, IsWithin, HasOwn}
 use Rattle.zf_private.specs.Standing.{Held, Own, block_at, place_at, state, IsOver, HasPlaces, IsWhole}
 use Rattle.zf_private.proofs.Alike.{own-acted, stay-acted}
 

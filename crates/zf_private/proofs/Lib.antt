@@ -5,3 +5,4 @@ pub mod Others
 pub mod Several
 pub mod Ready
 pub mod Parts
+pub mod Scripts

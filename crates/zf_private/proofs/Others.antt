@@ -12,8 +12,8 @@ use Rattle.zf_cache.specs.Kept.{tag_at, block_in, line_of}
 use Rattle.zf_cache.specs.Standing.{state_of, values_of, line_values, Fits}
 use Rattle.zf_cache.proofs.Tags.{names-clean}
 use Rattle.zf_cached.specs.Acts.{Act}
-use Rattle.zf_cached.specs.Views.{changed, acted, AreAlike, NoneShared}
-use Rattle.zf_cached.specs.Ownership.{Owns, OwnsPart, first_of, count_of}
+use Rattle.zf_cached.specs.Views.{changed, acted, AreAlike}
+use Rattle.zf_cached.specs.Ownership.{OwnsPart, first_of}
 use Rattle.zf_private.specs.Standing.{Held, Own, state, IsWhole}
 
 pub acted-discard : {Code : Type 0} (w : Width) (f : Format Code) (s : State Code) → discard f s ≡ acted w f s Act.discard

@@ -1,5 +1,5 @@
 -- What a call of one view leaves of it, and of another over the same backing.
-use Rattle.std.proofs.Common.{◌≡◌, refl, sym, ap, subst, ◌∙◌, ℕ, ◌+◌, ◌^◌, ◌<◌, ◌≤◌, ℤ, true, List, length, arith}
+use Rattle.std.proofs.Common.{◌≡◌, sym, subst, ℕ, ◌^◌, ◌<◌, ◌≤◌, ℤ, List, length, arith}
 use Rattle.zf_spec.specs.Grid.{blocks, is_inside, indices, extent_of}
 use Rattle.zf_base.specs.Formats.{Format}
 use Rattle.zf_cache.specs.Standing.{Fits}

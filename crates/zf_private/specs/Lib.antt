@@ -2,5 +2,7 @@
 -- Ownership). One file for each subject:
 --     Standing     what a view of the program is seen as, and when it and a backing fit
 --     Several      several views of the program over one backing
+--     Scripts      what the lines of a script answer, and which of them are on which view
 pub mod Standing
 pub mod Several
+pub mod Scripts

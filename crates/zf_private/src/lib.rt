@@ -2,6 +2,7 @@
 #![tactic(auto)]
 
 pub mod laws;
+pub mod laws_of_scripts;
 mod private;
 #[cfg(test)]
 mod tests;

@@ -13,7 +13,7 @@ use Rattle.zf_cached.specs.Replies.{Refusal, Reply}
 use Rattle.zf_spec.specs.Grid.{upto, blocks}
 use Rattle.zf_cached.specs.Arrays.{array_format}
 use Rattle.zf_cached.specs.Runs.{read_step}
-use Rattle.zf_run.specs.Allowed.{whole_setting}
+use Rattle.zf_cached.specs.Runs.{array_setting}
 use Rattle.zf_cached.specs.State.{Counts}
 use Rattle.zf_cached.specs.Touch.{touch_for_writing, with_values}
 use Rattle.zf_cached.specs.Windows.{Window, LiesIn, mapped, sliced, has_place, positions, is_window, none_zero, lies_in}
@@ -218,7 +218,7 @@ module _ (w : Width) (a : Held) (dim : ℕ) (is : IsArray w dim a) where
       pub put_there : (r : Pos) (n m : ℤ) → r ≡ with_unused 0 (mapped v (used_axes (length v.size) p)) → m ≡ n → is_of_type w n ≡ true
           → state b ≡ (let t = touch_for_writing (format a) (state a) (block_at a r) in with_values t (block_at a r) (set (t.values (block_at a r)) (place_at a r) m))
           → Does (setting_of w a) (Command.vset (used_axes (length (shape a)) p) n) (session_of a v) (session_of b v) None
-      unfolding done changed_at whole_setting
+      unfolding done changed_at array_setting
       put_there r n m same value of_type changes =
           let ps = used_axes (length (shape a)) p in
           let is_r : used_axes (length (shape a)) r ≡ mapped v ps = ap (used_axes (length (shape a))) same ∙ numbers_there (shape a) v is.sizes lies p in

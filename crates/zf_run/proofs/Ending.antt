@@ -12,8 +12,7 @@ use Rattle.zf_cached.specs.Windows.{Window, whole}
 use Rattle.zf_cached.specs.Commands.{Command}
 use Rattle.zf_cached.specs.Replies.{Reply}
 use Rattle.zf_cached.specs.Steps.{Setting, Session, flushed_views, joined, format_of, done}
-use Rattle.zf_cached.specs.Runs.{run_lines, lines_of, replies_text, run_script, ended, run, look}
-use Rattle.zf_run.specs.Allowed.{whole_setting}
+use Rattle.zf_cached.specs.Runs.{array_setting, run_lines, lines_of, replies_text, run_script, ended, run, look}
 use Rattle.zf_array.specs.Standing.{Held, shape, state, format}
 use Rattle.zf_run.specs.declared.end.RunEnd.{RunEnd}
 use Rattle.zf_run.specs.declared.end.RunEnd.TheVariants.{Write}
@@ -24,9 +23,8 @@ use Rattle.zf_cache.specs.Kept.{Kept}
 use Rattle.zf_store.specs.Stored.{Stored}
 use Rattle.zf_run.specs.Steps.{is_refusal}
 use Rattle.zf_run.specs.Pairs.{pair_state, PairFits, two_setting_of}
-use Rattle.zf_run.specs.Sessions.{session, setting_of, session_of, run_of, kind, look_setting_of, look_start_of, stream_of}
+use Rattle.zf_run.specs.Sessions.{session, setting_of, session_of, kind, look_setting_of, look_start_of, stream_of}
 use Rattle.zf_run.specs.Ends.{AreWants, RunsTwo, FinishesTwo, StopsTwo, two_start_of, RunsAll, StopsAt, AllRun, HasStopped, Finishes, Stops, IsEnd, end_of, Runs, FinishesLook, StopsLook, Looks}
-use Rattle.zf_run.proofs.Sessions.{format_is, session_is}
 
 -- an end says that all lines were run
 pub ends_all : (all : ℕ → Type 0) (stopped : Type 0) (n : ℕ) (end : RunEnd) → end ≡ end_of n → all n → IsEnd all stopped end
@@ -36,49 +34,46 @@ ends_all all stopped n end is h = subst (IsEnd all stopped) (sym is) (by n h)
     by zero h = h
     by (suc n) h = (omega arith, h)
 
--- ---- a run over an array
+-- ---- a run over an array, in which it may be split
 
-module _ (w : Width) (a mid b : Held) (v u : Window) (script : List ℕ) (old new : Option (List ℕ)) (n : ℕ) (same : w ≡ width_of a.header.ty) (from : v ≡ whole (shape a))
-    (all : AllRun (setting_of w a) script (session_of a v) (session_of mid u) old new n) (kept : kind mid ≡ kind a)
-    (flushes : state b ≡ flush (format mid) (state mid)) (head : b.header ≡ mid.header) where
-  ran : RunsAll (setting_of w a) all.0 script (session_of a (whole (shape a))) (session_of mid u) old new n
-  ran = subst (λ x. RunsAll (setting_of w a) all.0 script (session_of a x) (session_of mid u) old new n) from all.1
+module _ (w : Width) (a mid : Held) (s : Session (List Bool)) (v : Window) (script : List ℕ) (old new : Option (List ℕ)) (from : v ≡ whole (shape a)) (kept : kind mid ≡ kind a) where
+  module _ (b : Held) (u : Window) (n : ℕ) (all : AllRun (setting_of w a) script (session_of a v) s old new n) (ends : ended (setting_of w mid) s ≡ session_of b u) (still : kind b ≡ kind mid) where
+    ran : RunsAll (setting_of w a) all.0 script (session_of a (whole (shape a))) s old new n
+    ran = subst (λ x. RunsAll (setting_of w a) all.0 script (session_of a x) s old new n) from all.1
 
-  ty : mid.header.ty ≡ a.header.ty
-  ty = ap (λ (k : Ty × Mode). k.0) kept
+    at_end : session_of b u ≡ ended (setting_of w a) (run_lines (setting_of w a) all.0 0 (lines_of script) (session_of a (whole (shape a)))).0
+    at_end = sym ends ∙ ap (λ (k : Ty × Mode). ended (array_setting w (block_bits k.1)) s) kept ∙ ap (ended (setting_of w a)) ran.session
 
-  mode : mid.header.mode ≡ a.header.mode
-  mode = ap (λ (k : Ty × Mode). k.1) kept
+    finished : Finishes w a b script all.0 old new n
+    unfolding run run_script
+    finished = record {
+      shape_is = ap (λ (x : Session (List Bool)). x.shape) at_end;
+      state_is = ap (λ (x : Session (List Bool)). x.state) at_end;
+      wanted = ran.wanted;
+      refused_is = ran.refused_is;
+      written = ran.written;
+    }
 
-  same_mid : w ≡ width_of mid.header.ty
-  same_mid = same ∙ ap width_of (sym ty)
+    pub runs_all : (end : RunEnd) → end ≡ end_of n → Runs w a b script old new end
+    runs_all end is = record {
+      wants = all.0;
+      ended = ends_all (Finishes w a b script all.0 old new) (Stops w a b script all.0 old new) n end is finished;
+      same_type = ap (λ (k : Ty × Mode). k.0) (still ∙ kept);
+      same_mode = ap (λ (k : Ty × Mode). k.1) (still ∙ kept);
+    }
 
-  coded : format_of (setting_of w a) (session_of mid u) ≡ format mid
-  coded = ap (λ m. format_of (whole_setting w (block_bits m)) (session_of mid u)) (sym mode) ∙ format_is w mid same_mid u
-
-  at_end : (run_of w a all.0 script).0 ≡ session_of b u
-  unfolding run run_script ended joined flushed_views
-  at_end =
-      ap (ended (setting_of w a)) (sym ran.session)
-      ∙ ap (λ (f : Format (List Bool)). record (session_of mid u) { state = flush f (state mid) }) coded
-      ∙ session_is w mid same_mid u b (flush (format mid) (state mid)) (sym flushes) head
-
-  finished : Finishes w a b script all.0 old new n
-  unfolding run run_script
-  finished = record {
-    shape_is = ap (λ (s : Session (List Bool)). s.shape) (sym at_end);
-    state_is = ap (λ (s : Session (List Bool)). s.state) (sym at_end);
-    wanted = ran.wanted;
-    refused_is = ran.refused_is;
-    written = ran.written;
-  }
-
-  pub runs_all : (end : RunEnd) → end ≡ end_of n → Runs w a b script old new end
-  runs_all end is = record {
-    wants = all.0;
-    ended = ends_all (Finishes w a b script all.0 old new) (Stops w a b script all.0 old new) n end is finished;
-    same_type = ap (λ (h : Header). h.ty) head ∙ ty;
-    same_mode = ap (λ (h : Header). h.mode) head ∙ mode;
+  -- a line was the last one: the array is as it is then, and views, if there are some, are dropped
+  pub runs_stopped : HasStopped (setting_of w a) script (session_of a v) s old new → s.shape ≡ shape mid → s.state ≡ state mid → Runs w a mid script old new Write
+  runs_stopped stopped shapes states = record {
+    wants = stopped.0;
+    ended = record {
+      session = s;
+      at_line = subst (λ x. StopsAt (setting_of w a) stopped.0 script (session_of a x) s old new) from stopped.1;
+      shape_is = sym shapes;
+      state_is = sym states;
+    };
+    same_type = ap (λ (k : Ty × Mode). k.0) kept;
+    same_mode = ap (λ (k : Ty × Mode). k.1) kept;
   }
 
 -- ---- a look

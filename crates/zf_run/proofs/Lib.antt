@@ -10,7 +10,12 @@
 --     Rastering  the touch of a position of a window
 --     Ending     how a run over an array ends
 --     Passing    passes over all blocks, and sums of the values of one
---     Commanding  each kind of command
+--     Commanding each kind of command
+--     Pairing    a store and a two-way cache over it, after a call
+--     Viewing    what a call of a view makes of an array that is split
+--     Lending    such a call over codes that were lent
+--     Splitting  how a split begins, and how it ends
+--     Parting    an array that may be split, as what a script runs on
 pub mod Cutting
 pub mod Lining
 pub mod Folding
@@ -24,3 +29,7 @@ pub mod Resizing
 pub mod Ending
 pub mod Rastering
 pub mod Pairing
+pub mod Viewing
+pub mod Lending
+pub mod Splitting
+pub mod Parting

@@ -15,7 +15,7 @@ use Rattle.zf_cached.specs.Changes.{resized}
 use Rattle.zf_cached.specs.Arrays.{rate_coding, array_format, max_file, file_bytes}
 use Rattle.zf_cached.specs.Windows.{Window, LiesIn, whole}
 use Rattle.zf_cached.specs.Steps.{Setting, Session, is_new_shape, done}
-use Rattle.zf_run.specs.Allowed.{whole_setting}
+use Rattle.zf_cached.specs.Runs.{array_setting}
 use Rattle.zf_array.specs.Standing.{Held, shape, state, format}
 use Rattle.zf_run.specs.Sessions.{setting_of, session_of, start_of, kind, IsArray}
 use Rattle.zf_run.specs.Steps.{Does}
@@ -54,11 +54,11 @@ module _ (w : Width) (a : Held) (ty : Ty) (ms ns : List ℕ) (b : ℕ) (same : m
   bytes = file_is w ty ms b of_type ∙ (λ i. file_bytes w (rate i) (same i))
 
   pub has_room_is : rate_bytes_of (record { ty = ty; shape = ms; mode = Rate b }) ≤ 1200000000 → (setting_of w a).has_room ns ≡ true
-  unfolding whole_setting
+  unfolding array_setting
   has_room_is small = le-leb (file_bytes w (block_bits a.header.mode) ns) max_file (omega (arith, small, bytes))
 
   pub has_no_room : 1200000000 < rate_bytes_of (record { ty = ty; shape = ms; mode = Rate b }) → (setting_of w a).has_room ns ≡ false
-  unfolding whole_setting
+  unfolding array_setting
   has_no_room large = not_le (file_bytes w (block_bits a.header.mode) ns) max_file (omega (arith, large, bytes))
 
 -- an array that was resized
@@ -69,7 +69,7 @@ module _ (w : Width) (a : Held) (dim : ℕ) (is : IsArray w dim a) (v : Window) 
       ∙ sym (ap (λ (h : Header). array_format (rate_coding (width_of h.ty) (block_bits h.mode)) h.shape) head)
 
   pub resizes : state b ≡ resized (format b) (replicate (block_bits a.header.mode) false) (state a) → (u : Window) → u ≡ whole ms → LiesIn ms u → Does (setting_of w a) (Command.resize ns) (session_of a v) (session_of b u) None
-  unfolding done whole_setting rate_coding
+  unfolding done array_setting rate_coding
   resizes now u whole_is inside =
       let zero = replicate (block_bits a.header.mode) false in
       let sizes : ns ≡ b.header.shape = sym same ∙ sym (ap (λ (h : Header). h.shape) head) in

@@ -11,14 +11,14 @@ use Rattle.zf_cached.specs.Windows.{Window}
 use Rattle.zf_cached.specs.Changes.{flush, discard, raised, relined}
 use Rattle.zf_cached.specs.Commands.{Command}
 use Rattle.zf_cached.specs.Steps.{Session, format_of, touched, changed, done}
-use Rattle.zf_run.specs.Allowed.{whole_setting}
+use Rattle.zf_cached.specs.Runs.{array_setting}
 use Rattle.zf_array.specs.Standing.{Held, shape, state, format}
 use Rattle.zf_run.specs.Sessions.{setting_of, session_of}
 
 module _ (w : Width) (a : Held) (same : w ≡ width_of a.header.ty) (v : Window) where
   -- the codes of the session are those of the array
   pub format_is : format_of (setting_of w a) (session_of a v) ≡ format a
-  unfolding whole_setting
+  unfolding array_setting
   format_is = ap (λ (u : Width). array_format (rate_coding u (block_bits a.header.mode)) (shape a)) same
 
   -- another state of the array
@@ -27,13 +27,13 @@ module _ (w : Width) (a : Held) (same : w ≡ width_of a.header.ty) (v : Window)
 
   -- a touch of block k
   pub touched_is : (b : Held) (k : ℕ) → state b ≡ touch (format a) (state a) k → b.header ≡ a.header → touched (setting_of w a) (session_of a v) k ≡ session_of b v
-  unfolding touched whole_setting
+  unfolding touched array_setting
   touched_is b k is head = session_is b (touch (format_of (setting_of w a) (session_of a v)) (state a) k) (ap (λ (f : Format (List Bool)). touch f (state a) k) format_is ∙ sym is) head
 
   -- a change of block k
   pub changed_is : (b : Held) (k : ℕ) (change : List ℤ → List ℤ) → state b ≡ (let t = touch_for_writing (format a) (state a) k in with_values t k (change (t.values k)))
       → b.header ≡ a.header → changed (setting_of w a) (session_of a v) k change ≡ session_of b v
-  unfolding touched changed whole_setting touch_for_writing
+  unfolding touched changed array_setting touch_for_writing
   changed_is b k change is head =
       let End = λ (f : Format (List Bool)). let t = touch_for_writing f (state a) k in with_values t k (change (t.values k)) in
       session_is b (End (format_of (setting_of w a) (session_of a v))) (ap End format_is ∙ sym is) head

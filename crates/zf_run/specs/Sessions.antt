@@ -13,7 +13,7 @@ use Rattle.zf_cached.specs.Views.{View}
 use Rattle.zf_cached.specs.Steps.{Setting, Session}
 use Rattle.zf_cached.specs.Replies.{Reply}
 use Rattle.zf_cached.specs.Runs.{run, look_setting, look}
-use Rattle.zf_run.specs.Allowed.{whole_setting}
+use Rattle.zf_cached.specs.Runs.{array_setting}
 use Rattle.zf_array.specs.Standing.{Held, shape, state}
 use Rattle.zf_const.specs.Standing as read
 
@@ -29,7 +29,7 @@ session ns s window = sitting ns s None window
 
 -- what a script doesn't change about an array: the type of its values and the bits of a block
 abbrev pub setting_of : Width → Held → Setting (List Bool)
-setting_of w a = whole_setting w (block_bits a.header.mode)
+setting_of w a = array_setting w (block_bits a.header.mode)
 
 -- what it does change
 abbrev pub session_of : Held → Window → Session (List Bool)

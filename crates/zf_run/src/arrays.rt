@@ -1,12 +1,12 @@
 //! Commands on an array that is read and written.
 
-ghost use Rattle.std.specs.Prelude.{◌≡◌, Bool, true, false, List, None, length};
+ghost use Rattle.std.specs.Prelude.{◌≡◌, Bool, true, false, List, length};
 ghost use Rattle.zf_base.specs.declared.lane.Ty.{Ty};
 ghost use Rattle.zf_header.specs.declared.header.Mode.{Mode};
 ghost use Rattle.zf_header.specs.HeaderBits.{block_bits};
 ghost use Rattle.zf_cached.specs.Windows.{LiesIn};
 ghost use Rattle.zf_cached.specs.Runs.{only_reads};
-ghost use Rattle.zf_run.specs.Allowed.{whole_setting};
+ghost use Rattle.zf_cached.specs.Runs.{array_setting};
 ghost use Rattle.zf_script.specs.Seen.{command_of, cmd_of};
 ghost use Rattle.zf_array.specs.Standing as standing;
 ghost use Rattle.zf_run.specs.Allowed.{array_width, is_on_whole};
@@ -15,13 +15,13 @@ ghost use Rattle.zf_run.specs.Steps.{Does, answer};
 
 use crate::blocks::{fill, fill_block, sum_block};
 use crate::changes::{discard, flush, resize};
-use crate::commands::{Answer, is_on_whole, read, spoken};
-use crate::target::{Changing, Scripted, Subject, Target};
+use crate::commands::{Answer, read};
+use crate::target::{Changing, Subject, Target};
 use crate::values::{add, set, vset};
 use std::alloc::AllocError;
 use zf_array::Array;
 use zf_base::{Lane, Pos, Shape};
-use zf_script::{Cmd, Refusal, Reply, Stats};
+use zf_script::{Cmd, Stats};
 use zf_view::Window;
 
 impl<T: Lane, const D: usize> Subject for Array<T, D> {
@@ -31,7 +31,7 @@ impl<T: Lane, const D: usize> Subject for Array<T, D> {
 
     ghost kept = { kind };
 
-    ghost setting = { λ k. whole_setting T.width (block_bits k.1) };
+    ghost setting = { λ k. array_setting T.width (block_bits k.1) };
 
     ghost shape = { standing.shape };
 
@@ -103,21 +103,12 @@ impl<T: Lane, const D: usize> Changing<T> for Array<T, D> {
     }
 }
 
-impl<T: Lane, const D: usize> Scripted for Array<T, D> {
-    ghost split = { λ a. None };
-
-    fn obey(&mut self, window: &mut Window, cmd: Cmd) -> Option<Reply> {
-        if !is_on_whole(cmd) {
-            return Some(Reply::Refused(Refusal::Word));
-        }
-        // Known by this call: the sizes are those of a shape.
-        let _dims = self.shape().dims();
-        spoken(on_array(self, window, cmd))
-    }
-}
-
-// What a command does that is on the whole array.
-fn on_array<T: Lane, const D: usize>(a: &mut Array<T, D>, window: &mut Window, cmd: Cmd) -> Answer
+/// What a command does that is on the whole array.
+pub(crate) fn on_array<T: Lane, const D: usize>(
+    a: &mut Array<T, D>,
+    window: &mut Window,
+    cmd: Cmd,
+) -> Answer
     requires array { IsArray T.width D a.old }
     requires inside { LiesIn (standing.shape a.old) window.old }
     requires numbers { cmd ≡ cmd_of (command_of (length (standing.shape a.old)) cmd) }

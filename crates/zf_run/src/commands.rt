@@ -5,7 +5,7 @@ ghost use Rattle.zf_spec.specs.Grid.{IsShape};
 ghost use Rattle.zf_cached.specs.Runs.{only_reads};
 ghost use Rattle.zf_twoway.specs.Runs.{needs_no_window};
 ghost use Rattle.zf_script.specs.Seen.{command_of, cmd_of};
-ghost use Rattle.zf_run.specs.Allowed.{is_on_whole};
+ghost use Rattle.zf_cached.specs.Steps.{needs_split};
 ghost use Rattle.zf_run.specs.Sessions.{session};
 ghost use Rattle.zf_run.specs.Steps.{HasWindow, Does, DoesAlone, said, answer};
 
@@ -56,20 +56,19 @@ pub(crate) fn needs_no_window(cmd: Cmd) -> bool
     }
 }
 
-/// Whether a command is on the whole array: all but those of private views, which no run has yet.
-pub(crate) fn is_on_whole(cmd: Cmd) -> bool
-    ensures { (d : ℕ) → result ≡ is_on_whole (command_of d cmd) }
+/// Whether a command ends a split, or is on a view. Where there is a split there are no others, and else these are none.
+pub(crate) fn needs_split(cmd: Cmd) -> bool
+    ensures { (d : ℕ) → result ≡ needs_split (command_of d cmd) }
 {
     match cmd {
-        Cmd::Split(_, _) => false,
-        Cmd::Join => false,
-        Cmd::PGet(_, _) => false,
-        Cmd::PSet(_, _, _) => false,
-        Cmd::PAdd(_, _, _) => false,
-        Cmd::PFlush(_) => false,
-        Cmd::PDiscard(_) => false,
-        Cmd::PStats(_) => false,
-        _ => true,
+        Cmd::Join => true,
+        Cmd::PGet(_, _) => true,
+        Cmd::PSet(_, _, _) => true,
+        Cmd::PAdd(_, _, _) => true,
+        Cmd::PFlush(_) => true,
+        Cmd::PDiscard(_) => true,
+        Cmd::PStats(_) => true,
+        _ => false,
     }
 }
 

@@ -7,14 +7,15 @@ mod changes;
 mod commands;
 mod const_arrays;
 mod end;
-pub mod laws;
 mod lines;
 mod looks;
 mod pairs;
 mod runs;
+mod splits;
 mod target;
 mod two_runs;
 mod values;
+mod views;
 mod windows;
 
 pub use end::RunEnd;
@@ -24,6 +25,8 @@ pub use two_runs::run_two;
 
 #[cfg(test)]
 mod look_tests;
+#[cfg(test)]
+mod split_tests;
 #[cfg(test)]
 mod tests;
 #[cfg(test)]

@@ -8,7 +8,9 @@ ghost use Rattle.zf_run.specs.Ends.{Runs, AllRun, HasStopped};
 
 use crate::end::{RunEnd, end_of};
 use crate::lines::{cut_line, run_line};
+use crate::splits::Parted;
 use crate::target::Scripted;
+use std::alloc::Global;
 use zf_array::Array;
 use zf_base::Lane;
 use zf_dev::{Failed, Sink};
@@ -16,9 +18,11 @@ use zf_view::Window;
 
 /// Runs the lines of a script over an array and writes the reply of each as it comes; at the end it flushes the array.
 ///
-/// A line that is refused changes nothing, and the script goes on. Lines on private views are refused as no lines of the language. After
-/// `Write`, `out` holds the replies before some line and a part of that line's reply; the array is as after that line, and is not flushed.
+/// A line that is refused changes nothing, and the script goes on. What is split at the end is joined before the flush. After `Write`,
+/// `out` holds the replies before some line and a part of that line's reply; the array is as after that line, not flushed, and its views are
+/// dropped as they are.
 pub fn run<T: Lane, const D: usize, O: Sink>(
+    alloc: Global,
     a: &mut Array<T, D>,
     script: &[u8],
     out: &mut O,
@@ -28,9 +32,15 @@ pub fn run<T: Lane, const D: usize, O: Sink>(
     ensures cause { HasCause (result ≡ RunEnd.Write) (O.faults out.old) (O.faults out.new) }
 {
     let mut window = Window::whole(&a.shape());
-    match run_lines(a, &mut window, script, out) {
+    let mut views = None;
+    let mut parted = Parted {
+        alloc,
+        array: a,
+        views: &mut views,
+    };
+    match run_lines(&mut parted, &mut window, script, out) {
         Ok(refused) => {
-            a.flush();
+            parted.finish();
             end_of(refused)
         }
         Err(_) => RunEnd::Write,

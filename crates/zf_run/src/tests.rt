@@ -13,12 +13,12 @@ use zf_dev::MemSink;
 use zf_header::{Header, Mode};
 
 // A sink that takes large pieces and never fails.
-fn sink(alloc: Global) -> MemSink {
+pub(crate) fn sink(alloc: Global) -> MemSink {
     MemSink::new(alloc, Vec::new(alloc), 1 << 20)
 }
 
 // An array of zeros.
-fn zeros<T: Lane, const D: usize>(
+pub(crate) fn zeros<T: Lane, const D: usize>(
     rt: &impl Abort,
     alloc: Global,
     shape: Result<Shape, ShapeFault>,
@@ -33,7 +33,7 @@ fn zeros<T: Lane, const D: usize>(
 }
 
 // Runs a script over zeros, and compares what it writes, how it ends and, where a file is given, what is saved.
-fn check<T: Lane, const D: usize>(
+pub(crate) fn check<T: Lane, const D: usize>(
     rt: &impl Abort,
     alloc: Global,
     shape: Result<Shape, ShapeFault>,
@@ -45,7 +45,7 @@ fn check<T: Lane, const D: usize>(
 ) -> Result<(), Fail> {
     let mut array = zeros::<T, D>(rt, alloc, shape, rate.0, rate.1)?;
     let mut out = sink(alloc);
-    assert_eq!(rt; run(&mut array, script, &mut out), end);
+    assert_eq!(rt; run(alloc, &mut array, script, &mut out), end);
     assert_eq!(rt; out.bytes(), text);
     if !file.is_empty() {
         assert_eq!(rt; array.save_bytes(), file);
@@ -53,7 +53,7 @@ fn check<T: Lane, const D: usize>(
     Ok(())
 }
 
-fn line_of_eight() -> Result<Shape, ShapeFault> {
+pub(crate) fn line_of_eight() -> Result<Shape, ShapeFault> {
     Shape::new(1, 8, 1, 1, 1)
 }
 
@@ -136,9 +136,9 @@ fn scripts_on_a_line_of_eight(rt: HostRuntime) -> Result<(), Fail> {
         ),
         (
             2,
-            b"split 2 1\n@0 get 0\njoin\nget 0\n",
-            b"! word\n! word\n! word\n0\n",
-            RunEnd::Lines(3),
+            b"split 2 1\n@0 get 0\njoin\nget 0\n@ 0 get 0\n@0 sum\n",
+            b"0\n0\n! word\n! word\n",
+            RunEnd::Lines(2),
             &[],
         ),
         (
@@ -262,25 +262,6 @@ fn long_scripts(rt: HostRuntime) -> Result<(), Fail> {
         file,
     )?;
     let script =
-        b"set 6,5 1519707112\nvset 4,6 -2147483648\ndiscard\nfill -32\nset 2,2 -2147483648\ndiscard\n\
-        add 1,1 -66\ndiscard\ndiscard\nfill 1690376882\nview 4,2 1x1 2,2\nview 3,5 2x1 1,2\ndiscard\n\
-        discard\nfill 18\nfill -2147483648\nflush\nvset 0,0 -86903718\nvsum\ndiscard\nlines 4\n\
-        discard\nstats\nview 2,5 3x1 1,2\nset 2,1 2147483648\nset 0,1 1786023353\nsum\nstats";
-    let text = b"! range\n! range\n-2234387366\nhits 1 misses 20 writes 13\n! value\n-60491002439\n\
-        hits 2 misses 24 writes 13\n";
-    let file = &[];
-    let shape = Shape::new(2, 5, 6, 1, 1);
-    check::<i32, 2>(
-        &rt,
-        alloc,
-        shape,
-        (130, 2),
-        script,
-        text,
-        RunEnd::Lines(3),
-        file,
-    )?;
-    let script =
         b"vset 0,4,4 -97\nflush\nvset 0,3,4 63\nadd 0,4,0 1680490732736907042\nvsum\nget 1,3,3\n\
         view 2,4,3 1x1x2 1,2,1\nvget 0,0,1\nstats\nfill -41\nsum\nget 2,1,2\nlines 4\nstats\n\
         set 0,4,0 63\nflush\nset 0,1,7 -7029736337285732127\nset 2,2,0 -81\nset 0,3,2 -90\nsum\nsum\n\
@@ -321,54 +302,6 @@ fn long_scripts(rt: HostRuntime) -> Result<(), Fail> {
         RunEnd::Lines(6),
         file,
     )?;
-    let script =
-        b"vset 8,8 -1473812339\nvset 1,0 -394488212\nadd 6,6 58\nslice 0 0\nvget 0,2\nsum\nvget 0,5\n\
-        vget 0,2\nview 2,1 3x3 2,1\nstats\nget 5,8\nvsum\nflush\nsum\nadd 2,7 2147483647\n\
-        view 0,4 4x1 2,2\nslice 0 1\nset 7,2 -159559052\nstats\nfill -77\nvget 0,0\nvset 0,0 -80\n\
-        add 4,1 1819377429\nset 5,3 -1522011748\nset 5,1 -2147483649\nsum\nstats";
-    let text =
-        b"! range\n-41943040\n-536870912\n0\n-41943040\nhits 1 misses 10 writes 2\n! range\n-260046848\n\
-        -536870912\n! range\nhits 5 misses 22 writes 2\n-77\n! value\n-4294970939\n\
-        hits 7 misses 36 writes 11\n";
-    let file = &[
-        0x7a, 0x66, 0x70, 0x05, 0x84, 0, 0, 0x60, 0, 0, 0x70, 0x02, 0, 0, 0, 0xab, 0xa8, 0x84,
-        0x31, 0xc8, 0x7e, 0xcb, 0, 0, 0, 0xab, 0xa8, 0, 0, 0, 0xab, 0x68, 0, 0, 0, 0xab, 0xa8, 0,
-        0, 0, 0xab, 0xa8, 0, 0, 0, 0, 0, 0,
-    ];
-    let shape = Shape::new(2, 9, 7, 1, 1);
-    check::<i32, 2>(
-        &rt,
-        alloc,
-        shape,
-        (40, 1),
-        script,
-        text,
-        RunEnd::Lines(4),
-        file,
-    )?;
-    let script =
-        b"stats\nset 8 -63\nstats\nflush\nget 6\nview 3 10 1\nlines 2\nset 10 9223372036854775807\n\
-        view 8 1 2\nvget 0\nset 6 -2575542465874026574\nvget 0\nview 9 1 2\nset 16 55\nvset 0 -43\n\
-        add 16 99\nadd 18 -2312628519355667135\ndiscard\nview 9 8 1\nset 12 12\n\
-        vset 1 307814641370896132\nflush\nvsum\nview 2 12 1\nsum\nstats";
-    let text =
-        b"hits 0 misses 0 writes 0\nhits 0 misses 1 writes 0\n0\n0\n0\n! range\n308496574474878976\n\
-        306244774661193728\nhits 7 misses 17 writes 6\n";
-    let file = &[
-        0x7a, 0x66, 0x70, 0x05, 0x01, 0x01, 0, 0, 0, 0, 0, 0x02, 0, 0, 0, 0, 0, 0, 0, 0, 0, 0xd1,
-        0x2a, 0xd8, 0x02, 0, 0, 0, 0, 0, 0, 0, 0, 0, 0, 0, 0, 0, 0, 0,
-    ];
-    let shape = Shape::new(1, 17, 1, 1, 1);
-    check::<i64, 1>(
-        &rt,
-        alloc,
-        shape,
-        (33, 3),
-        script,
-        text,
-        RunEnd::Lines(1),
-        file,
-    )?;
     Ok(())
 }
 
@@ -387,7 +320,10 @@ fn a_file_with_bits_that_no_value_needs_stays(rt: HostRuntime) -> Result<(), Fai
         .ok()
         .ok_or("an array")?;
     let mut out = sink(rt.alloc());
-    assert_eq!(rt; run(&mut array, b"get 0\nget 4\n", &mut out), RunEnd::Done);
+    assert_eq!(rt;
+        run(rt.alloc(), &mut array, b"get 0\nget 4\n", &mut out),
+        RunEnd::Done
+    );
     assert_eq!(rt; out.bytes(), b"0\n0\n".as_slice());
     assert_eq!(rt; array.save_bytes(), file.as_slice());
     Ok(())
@@ -414,7 +350,10 @@ fn a_sink_fails(rt: HostRuntime) -> Result<(), Fail> {
         assert!(rt; 0 < piece);
         let mut out = MemSink::new(rt.alloc(), fail, piece);
         let script = b"set 0 1\nget 0\nflush\nget 0\nset 4 9\nstats\n";
-        assert_eq!(rt; run(&mut array, script, &mut out), RunEnd::Write);
+        assert_eq!(rt;
+            run(rt.alloc(), &mut array, script, &mut out),
+            RunEnd::Write
+        );
         assert_eq!(rt; out.bytes(), text);
         // no later line was run, and nothing is flushed
         assert_eq!(rt; array.stats().writes, if call == 0 { 0 } else { 1 });

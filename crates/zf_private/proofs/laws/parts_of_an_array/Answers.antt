@@ -1,5 +1,4 @@
-use Rattle.std.proofs.Common.{◌≡◌, sym, subst, ◌<◌}
-use Rattle.zf_cached.specs.Ownership.{first_of}
+use Rattle.std.proofs.Common.{sym, subst, ◌<◌}
 use Rattle.zf_private.proofs.Others.{owner_below, first_of-last}
 use Rattle.zf_private.proofs.laws.parts_of_an_array.Goals as goal
 

@@ -7,7 +7,7 @@ use Rattle.zf_cached.specs.Commands.{Command}
 use Rattle.zf_cached.specs.Steps.{is_of_type}
 use Rattle.zf_array.specs.Standing.{shape}
 use Rattle.zf_view.proofs.Positions.{position_at-inside}
-use Rattle.zf_run.specs.Allowed.{whole_setting}
+use Rattle.zf_cached.specs.Runs.{array_setting}
 use Rattle.zf_run.specs.Sessions.{setting_of, session_of}
 use Rattle.zf_run.proofs.Stepping.{refused_range, refused_value}
 use Rattle.zf_run.proofs.Commanding.{outside_window, within, put_there}
@@ -20,7 +20,7 @@ returns-then-not-contains-clause-does g c =
     (outside_window (shape now) c.args.window.now c.args.p c.requires.inside c.requires.unused (λ at. false≢true (sym c.if-not-contains.true ∙ c.contains.ensures.1 at)))
 
 pub returns-in_default-clause-does : goal.returns-in_default-clause-does
-unfolding whole_setting
+unfolding array_setting
 returns-in_default-clause-does g c =
     let now = c.args.a.now in
     refused_value (setting_of g.T.Lane.width now) (Command.vset (used_axes (length (shape now)) c.args.p) c.args.v) (session_of now c.args.window.now) c.requires.inside refl refl

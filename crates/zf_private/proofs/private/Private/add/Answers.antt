@@ -1,10 +1,7 @@
 use Rattle.std.proofs.Common.{refl, sym, ap, subst, ◌∙◌, ◌<◌, length, [], ◌∷◌, lit<}
 use Rattle.zf_lines.specs.Rows.{with_part, HasSize}
 use Rattle.zf_cache.specs.Kept.{line_of}
-use Rattle.zf_cached.specs.State.{State}
-use Rattle.zf_base.specs.Formats.{Format}
 use Rattle.zf_cached.specs.Acts.{Act}
-use Rattle.zf_cached.specs.Views.{acted}
 use Rattle.zf_private.specs.Standing.{Held, block_at, place_at, state}
 use Rattle.zf_cache.specs.Standing.{state_of}
 use Rattle.zf_private.proofs.Calls.{values_whole, has_blocks, fits_mine, block_below, place_below, exists_there, acts_at, others_stay, still_whole, added_fits, added_state, touched_whole}

@@ -1,9 +1,6 @@
 use Rattle.std.proofs.Common.{◌≡◌, refl, subst, ◌∙◌, pos, get_or, lit<}
 use Rattle.std.specs.Bool.{OnTrue}
-use Rattle.zf_cached.specs.State.{State}
-use Rattle.zf_base.specs.Formats.{Format}
 use Rattle.zf_cached.specs.Acts.{Act}
-use Rattle.zf_cached.specs.Views.{acted}
 use Rattle.zf_private.specs.Standing.{Held, block_at, place_at, state}
 use Rattle.zf_cache.specs.Standing.{state_of, values_of}
 use Rattle.zf_private.proofs.Calls.{has_blocks, fits_mine, block_below, place_below, exists_there, answer_is, acts_at, others_stay, still_whole}

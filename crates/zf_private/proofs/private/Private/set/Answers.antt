@@ -1,9 +1,5 @@
-use Rattle.std.proofs.Common.{◌≡◌, refl, sym, ap, subst, ◌∙◌, ℕ, ℤ, lit<}
-use Rattle.std.specs.Bool.{OnTrue}
-use Rattle.zf_cached.specs.State.{State}
-use Rattle.zf_base.specs.Formats.{Format}
+use Rattle.std.proofs.Common.{refl, ◌∙◌, lit<}
 use Rattle.zf_cached.specs.Acts.{Act}
-use Rattle.zf_cached.specs.Views.{acted}
 use Rattle.zf_private.specs.Standing.{Held, block_at, place_at, state}
 use Rattle.zf_cache.specs.Standing.{state_of}
 use Rattle.zf_private.proofs.Calls.{values_whole, put-changed, has_blocks, fits_mine, block_below, place_below, exists_there, acts_at, others_stay, still_whole}

@@ -1,0 +1,99 @@
+-- A call of a view over the codes of an array, which were lent to it.
+use Rattle.std.proofs.Common.{◌≡◌, refl, sym, ap, subst, ◌∙◌, ℕ, ◌<◌, ◌^◌, ℤ, Bool, false, List, length, get_or, set, Option}
+use Rattle.std.specs.Borrow.{MutBor}
+use Rattle.std.specs.Int.{Width}
+use Rattle.std.specs.Option.{option_map}
+use Rattle.zf_spec.specs.Grid.{blocks}
+use Rattle.zf_base.specs.Widths.{width_of}
+use Rattle.zf_base.specs.Places.{block_number, place_of}
+use Rattle.zf_base.specs.Positions.{used_axes, IsPosition}
+use Rattle.zf_base.specs.declared.lane.Ty.{Ty}
+use Rattle.zf_base.specs.declared.position.Pos.{Pos}
+use Rattle.zf_header.specs.declared.header.Header.{Header}
+use Rattle.zf_header.specs.declared.header.Mode.{Mode}
+use Rattle.zf_cached.specs.Windows.{Window}
+use Rattle.zf_cached.specs.Commands.{Command}
+use Rattle.zf_cached.specs.Replies.{Reply}
+use Rattle.zf_cached.specs.Acts.{Act}
+use Rattle.zf_cached.specs.Views.{acted, answered, IsWithin}
+use Rattle.zf_cached.specs.State.{Counts}
+use Rattle.zf_cached.specs.Steps.{by_view, refuses_split, refuses_size, refuses_range, refuses_value, done}
+use Rattle.zf_cache.specs.Standing.{Fits}
+use Rattle.zf_private.specs.Standing as private
+use Rattle.zf_private.specs.Standing.{Own, IsSameView, IsWhole}
+use Rattle.zf_private.specs.Several.{IsReady}
+use Rattle.zf_array.specs.Standing.{Held, shape, state, format}
+use Rattle.zf_array.specs.Coded.{IsCoded, Frame, frame_of}
+use Rattle.zf_run.specs.Sessions.{setting_of, kind}
+use Rattle.zf_run.specs.Splits.{view_state, split_session, AreParts}
+use Rattle.zf_run.specs.Steps.{Does, HasWindow, wanted}
+use Rattle.zf_run.proofs.Viewing as viewing
+
+-- what the clauses of a call say: view v becomes n; the codes were lent to s, and r is what the call leaves of the loan
+pub record HasActed {X : Type 0} (value : X → ℤ) (w : Width) (d : ℕ) (v n : private.Held X) (s r : MutBor Held) (act : Act) : Type 0 where
+  pub is_coded : IsCoded r.now
+  pub frame : frame_of r ≡ frame_of s
+  pub step : view_state value r.now n ≡ acted w (format s.now) (view_state value s.now v) act
+  pub others : (k : ℕ) → (Own v k → ⊥) → (state r.now).codes k ≡ (state s.now).codes k
+  pub kept : IsSameView v n
+  pub whole : IsWhole d n
+  pub fits : Fits value n.cache (format r.now) (state r.now).codes
+
+module _ {X : Type 0} (value : X → ℤ) (d : ℕ) (a : Held) (views : List (private.Held X)) (i : ℕ) (v : private.Held X) (parts : AreParts value d a views) (lt : i < length views) (at : v ≡ get_or views i v) where
+  -- the view fits the codes as they were lent
+  pub lent_ready : (s : MutBor Held) → s.now ≡ a → IsReady value d v (format s.now) (state s.now).codes
+  lent_ready s begins = subst (λ x. IsReady value d v (format x) (state x).codes) (sym begins) (parts.each i v lt at).ready
+
+  -- a position, its block and its place are those of the array
+  pub position_there : (p : Pos) → IsPosition (shape a) p → IsPosition v.shape p
+  position_there p is = subst (λ ns. IsPosition ns p) (sym (parts.each i v lt at).shape_is) is
+
+  pub own_there : (p : Pos) → Own v (block_number (shape a) (used_axes (length (shape a)) p)) → Own v (private.block_at v p)
+  own_there p own = subst (λ ns. Own v (block_number ns (used_axes (length ns) p))) (sym (parts.each i v lt at).shape_is) own
+
+  pub act_there : (p : Pos) (act : ℕ → ℕ → Act)
+      → act (private.block_at v p) (private.place_at v p) ≡ act (block_number (shape a) (used_axes (length (shape a)) p)) (place_of (used_axes (length (shape a)) p))
+  act_there p act = ap (λ ns. act (block_number ns (used_axes (length ns) p)) (place_of (used_axes (length ns) p))) (parts.each i v lt at).shape_is
+
+  -- the array b after the call, and the views
+  module _ (w : Width) (b : Held) (n : private.Held X) (act : Act) (same : w ≡ width_of a.header.ty) (s r : MutBor Held) (begins : s.now ≡ a) (ends : b ≡ r.now)
+      (has : HasActed value w d v n s r act) (within : IsWithin (Own v) act) where
+    head : b.header ≡ a.header
+    head = ap (λ (m : Held). m.header) ends ∙ ap (λ (f : Frame). f.header) has.frame ∙ ap (λ (m : Held). m.header) begins
+
+    lines : (state b).lines ≡ (state a).lines
+    lines = ap (λ m. (state m).lines) ends ∙ ap (λ (f : Frame). f.lines) has.frame ∙ ap (λ m. (state m).lines) begins
+
+    counts : (state b).counts ≡ (state a).counts
+    counts = ap (λ m. (state m).counts) ends ∙ ap (λ (f : Frame). f.counts) has.frame ∙ ap (λ m. (state m).counts) begins
+
+    coded : IsCoded b
+    coded = subst IsCoded (sym ends) has.is_coded
+
+    step : view_state value b n ≡ acted w (format a) (view_state value a v) act
+    step = ap (λ m. view_state value m n) ends ∙ has.step ∙ ap (λ m. acted w (format m) (view_state value m v) act) begins
+
+    others : (k : ℕ) → (Own v k → ⊥) → (state b).codes k ≡ (state a).codes k
+    others k not = ap (λ m. (state m).codes k) ends ∙ has.others k not ∙ ap (λ m. (state m).codes k) begins
+
+    fits : Fits value n.cache (format b) (state b).codes
+    fits = subst (λ m. Fits value n.cache (format m) (state m).codes) (sym ends) has.fits
+
+    pub lent_kind : kind b ≡ kind a
+    lent_kind = ap (λ (h : Header). (h.ty, h.mode)) head
+
+    pub lent_acts : (u : Window) → (by_view (setting_of w a) (split_session value a views u) i act).0 ≡ split_session value b (set views i n) u
+    lent_acts = viewing.acts value w d a b views i v n act same parts lt at head lines counts coded step within others has.kept has.whole fits
+
+    pub lent_parts : AreParts value d b (set views i n)
+    lent_parts = viewing.still_parts value w d a b views i v n act same parts lt at head lines counts coded step within others has.kept has.whole fits
+
+    -- a command that asks for the act, and passes all tests. What is answered is what the view has afterwards
+    pub lent_takes : (u : Window) (c : Command) (reply : Option Reply) → HasWindow (split_session value a views u) → refuses_split (split_session value a views u) c ≡ false
+        → refuses_size (setting_of w a) (split_session value a views u) c ≡ false → refuses_range (split_session value a views u) c ≡ false → refuses_value (setting_of w a).width c ≡ false
+        → option_map Reply.number (answered (view_state value r.now n) act) ≡ reply → wanted reply ≡ false
+        → done (setting_of w a) (split_session value a views u) c ≡ by_view (setting_of w a) (split_session value a views u) i act
+        → Does (setting_of w a) c (split_session value a views u) (split_session value b (set views i n) u) reply
+    lent_takes u c reply lies split size range value_is replies none asks =
+        viewing.takes value w d a b views i v n act same parts lt at head lines counts coded step within others has.kept has.whole fits u
+        c reply lies split size range value_is (ap (λ m. option_map Reply.number (answered (view_state value m n) act)) ends ∙ replies) none asks

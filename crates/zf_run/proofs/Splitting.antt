@@ -1,0 +1,220 @@
+-- An array that is split into views, and the end of a split.
+use Rattle.std.proofs.Common.{◌≡◌, refl, sym, ap, subst, ◌∙◌, ◌⊎◌, inl, inr, ℕ, zero, suc, ◌+◌, ◌*◌, ◌^◌, ◌<◌, ◌≤◌, ◌%◌, ◌==◌, ℤ, Bool, true, false, not, ◌&&◌, ltb, leb, List, [], ◌∷◌, ◌++◌, map, length, length-append, get_or, replicate, add-mul, mul-le-mul, div-mul-le_self, Option, Some, None, if◌then◌else◌, arith}
+use Rattle.std.specs.Int.{Width}
+use Rattle.std.proofs.Math.Path.{fun_ext}
+use Rattle.std.proofs.lemmas.Bool.{and_from, ne_eqb, cases_lt}
+use Rattle.std.proofs.lemmas.List.{length-map, length-replicate, ext_get_or, get_or_append_left, get_or_push}
+use Rattle.std.proofs.lemmas.Nat.{le-div}
+use Rattle.zf_spec.specs.Grid.{upto, blocks, is_inside, indices, extent_of}
+use Rattle.zf_spec.proofs.Counting.{get_or-map-upto, length-upto}
+use Rattle.zf_base.specs.Widths.{width_of}
+use Rattle.zf_base.specs.Formats.{Format, meant}
+use Rattle.zf_base.specs.declared.lane.Ty.{Ty}
+use Rattle.zf_header.specs.declared.header.Header.{Header}
+use Rattle.zf_header.specs.declared.header.Mode.{Mode}
+use Rattle.zf_header.specs.HeaderBits.{block_bits}
+use Rattle.zf_cached.specs.State.{State, no_counts}
+use Rattle.zf_cached.specs.Changes.{flush, opened, raised}
+use Rattle.zf_cached.specs.Arrays.{rate_coding, array_format}
+use Rattle.zf_cached.specs.Windows.{Window}
+use Rattle.zf_cached.specs.Commands.{Command}
+use Rattle.zf_cached.specs.Replies.{Reply}
+use Rattle.zf_cached.specs.Acts.{Act}
+use Rattle.zf_cached.specs.Views.{View}
+use Rattle.zf_cached.specs.Ownership.{first_of, count_of}
+use Rattle.zf_cached.specs.Splits.{is_view_count, is_owner, opened_view, opened_views, no_view}
+use Rattle.zf_cached.specs.Steps.{Setting, Session, format_of, by_view, split_into, flushed_views, joined, is_line_count, done}
+use Rattle.zf_cached.specs.Runs.{array_setting, ended}
+use Rattle.zf_cached.proofs.States.{same_state}
+use Rattle.zf_cache.specs.Kept.{Kept, IsEmpty, tag_at, block_in, dirty_tag}
+use Rattle.zf_cache.specs.Standing.{state_of}
+use Rattle.zf_cache.proofs.Stands.{standing}
+use Rattle.zf_cache.proofs.Steps.{empty_fits}
+use Rattle.zf_cache.proofs.Touches.{state_is, no_tag, all_meant}
+use Rattle.zf_private.specs.Standing as private
+use Rattle.zf_private.proofs.Others.{first_of-last}
+use Rattle.zf_private.proofs.Parts.{rising}
+use Rattle.zf_array.specs.Standing.{Held, shape, state, format}
+use Rattle.zf_array.specs.Coded.{IsCoded}
+use Rattle.zf_run.specs.Sessions.{sitting, setting_of, session_of, kind}
+use Rattle.zf_run.specs.Steps.{Does, HasWindow}
+use Rattle.zf_run.specs.Splits.{owns_block, view_state, view_of, views_seen, split_session, IsPart, AreParts, IsNewPart, AreNewParts}
+use Rattle.zf_run.proofs.Sessions.{format_is}
+use Rattle.zf_run.proofs.Stepping.{accepted}
+use Rattle.zf_run.proofs.Viewing.{is_owner_is, seen_at}
+
+-- an item of a list
+item_at : {Y : Type 0} (ys : List Y) (i : ℕ) → i < length ys → (y : Y) × (y ≡ get_or ys i y)
+item_at [] i lt = absurd (omega arith)
+item_at (y ∷ ys) zero lt = (y, refl)
+item_at (y ∷ ys) (suc i) lt = item_at ys i (omega arith)
+
+-- ---- views as they are made
+
+-- of at least n blocks, each of n views has some, and the next view begins within the array
+module _ (count n i : ℕ) (some : 0 < n) (enough : n ≤ count) (lt : i < n) where
+  pub next_above : first_of count n i + 1 ≤ first_of count n (i + 1)
+  next_above = le-div (first_of count n i + 1) ((i + 1) * count) n some
+      (omega (arith, enough, div-mul-le_self (i * count) n, add-mul (first_of count n i) 1 n, add-mul i 1 count))
+
+  pub next_inside : first_of count n (i + 1) ≤ count
+  next_inside = subst (λ m. first_of count n (i + 1) ≤ m) (first_of-last count n some) (rising count n some (i + 1) n (omega (arith, lt)))
+
+-- a number of blocks before a view is far from the end of its type
+pub few_before : (i n count most : ℕ) → i ≤ n → n ≤ 16 → count ≤ most → i * count ≤ 16 * most
+few_before i n count most le few below = mul-le-mul (omega (arith, le, few)) below
+
+pub none_made : {X : Type 0} (d : ℕ) (ns : List ℕ) (n lines : ℕ) → AreNewParts {X = X} d ns n lines 0 []
+none_made d ns n lines = record { many = refl; each = λ i v lt at. absurd (omega arith) }
+
+pub one_made : {X : Type 0} (d : ℕ) (ns : List ℕ) (n lines k : ℕ) (views : List (private.Held X)) (x : private.Held X) → AreNewParts d ns n lines k views → IsNewPart d ns n lines k x
+    → AreNewParts d ns n lines (k + 1) (views ++ x ∷ [])
+one_made {X} d ns n lines k views x made new = record { many = many; each = λ i v lt at. by i v at lt (cases_lt i k) }
+  where
+    many : length (views ++ x ∷ []) ≡ k + 1
+    many = length-append views (x ∷ []) ∙ ap (λ m. m + 1) made.many
+
+    by : (i : ℕ) (v : private.Held X) → v ≡ get_or (views ++ x ∷ []) i v → i < length (views ++ x ∷ []) → (i < k) ⊎ (k ≤ i) → IsNewPart d ns n lines i v
+    by i v at lt (inl less) = let below : i < length views = omega (arith, less, made.many) in made.each i v below (at ∙ get_or_append_left views (x ∷ []) v i below)
+    by i v at lt (inr ge) =
+        let e : i ≡ k = omega (arith, ge, lt, many) in
+        let is : v ≡ x = at ∙ ap (λ m. get_or (views ++ x ∷ []) m v) e ∙ get_or_push views x v k made.many in
+        subst (λ (y : private.Held X). IsNewPart d ns n lines i y) (sym is) (subst (λ m. IsNewPart d ns n lines m x) (sym e) new)
+
+module _ {X : Type 0} (value : X → ℤ) where
+  -- an empty cache over codes stands for an array as it is opened
+  empty_state : (f : Format (List Bool)) (k : ℕ → List Bool) (c : Kept X) (n : ℕ) → IsEmpty c n → c.counts ≡ no_counts → state_of value c f k ≡ opened f k n
+  unfolding opened
+  empty_state f k c n empty counts =
+      let none : ℕ = 0 in
+      let long : length c.tags ≡ n = ap length empty ∙ length-replicate n none in
+      state_is value f c k n long ∙ (λ i. standing value f n c.lines (empty i) (counts i) k)
+      ∙ same_state (standing value f n c.lines (replicate n 0) no_counts k) (opened f k n) refl (λ l. ap block_in (no_tag n l)) (λ b. clean b) (λ b. all_meant value f n c.lines no_counts k b) (λ b. refl) refl
+    where
+      clean : (b : ℕ) → (tag_at (replicate n 0) (b % n) == dirty_tag b) ≡ false
+      clean b = ap (λ t. t == dirty_tag b) (no_tag n (b % n)) ∙ ne_eqb 0 (dirty_tag b) (λ e. omega (arith, e))
+
+  module _ (d : ℕ) (a : Held) (n lines : ℕ) (some : 0 < n) where
+    -- a view as it is made is one as it is opened
+    new_view : (i : ℕ) (v : private.Held X) → IsNewPart d (shape a) n lines i v → view_of value a v ≡ opened_view (format a) (state a).codes lines (is_owner (blocks (shape a)) n i)
+    unfolding opened_view opened
+    new_view i v new =
+        let e : view_state value a v ≡ opened (format a) (state a).codes lines = empty_state (format a) (state a).codes v.cache lines new.empty new.counts in
+        let o : (b : ℕ) → owns_block v b ≡ is_owner (blocks (shape a)) n i b = λ b. sym (is_owner_is (blocks (shape a)) n i v some new.first new.count b) in
+        λ j. record {
+          lines = (e j).lines;
+          held = (e j).held;
+          dirty = (e j).dirty;
+          values = fun_ext (λ b. λ m. if o b m then (e m).values b else []) j;
+          counts = (e j).counts;
+        }
+
+    pub new_views : (views : List (private.Held X)) → AreNewParts d (shape a) n lines n views → views_seen value a views ≡ opened_views (format a) (state a).codes lines n
+    unfolding opened_views array_format
+    new_views views new =
+        let made : ℕ → View = λ i. opened_view (format a) (state a).codes lines (is_owner (blocks (shape a)) n i) in
+        let long : length (views_seen value a views) ≡ length (map made (upto n)) = length-map views (view_of value a) ∙ new.many ∙ sym (length-map (upto n) made ∙ length-upto n) in
+        ext_get_or no_view (views_seen value a views) (map made (upto n)) long (λ i below. at_place i (subst (λ m. i < m) (length-map views (view_of value a)) below))
+      where
+        at_place : (i : ℕ) → i < length views → get_or (views_seen value a views) i no_view ≡ get_or (map (λ k. opened_view (format a) (state a).codes lines (is_owner (blocks (shape a)) n k)) (upto n)) i no_view
+        at_place i lt =
+            let v = item_at views i lt in
+            let made : ℕ → View = λ k. opened_view (format a) (state a).codes lines (is_owner (blocks (shape a)) n k) in
+            seen_at value a views i v.0 lt v.1 ∙ new_view i v.0 (new.each i v.0 lt v.1) ∙ sym (get_or-map-upto made n i no_view (omega (arith, lt, new.many)))
+
+  -- ---- a split
+
+  module _ (w : Width) (d : ℕ) (a b : Held) (views : List (private.Held X)) (n l lines : ℕ) (same : w ≡ width_of a.header.ty) (some : 0 < n)
+      (number : is_view_count (blocks (shape a)) n ≡ true) (counts : is_line_count l ≡ true) (raises : lines ≡ raised l)
+      (new : AreNewParts d (shape a) n lines n views) (flushes : state b ≡ flush (format a) (state a)) (head : b.header ≡ a.header) (is_coded : IsCoded b) where
+    abbrev S : Setting (List Bool)
+    S = setting_of w a
+
+    same_shape : shape b ≡ shape a
+    same_shape = ap (λ (h : Header). h.shape) head
+
+    formats : format b ≡ format a
+    formats = ap (λ (h : Header). array_format (rate_coding (width_of h.ty) (block_bits h.mode)) h.shape) head
+
+    splits : (u : Window) → split_into S (session_of a u) n (raised l) ≡ split_session value b views u
+    unfolding split_into
+    splits u =
+        let made : Format (List Bool) → State (List Bool) → ℕ → Session (List Bool) = λ g t m. record (session_of a u) { state = t; split = Some (opened_views g t.codes m n) } in
+        let there : views_seen value b views ≡ opened_views (format b) (state b).codes lines n = new_views d b n lines some views (subst (λ ns. AreNewParts d ns n lines n views) (sym same_shape) new) in
+        (λ i. made (format_is w a same u i) (flush (format_is w a same u i) (state a)) (sym raises i))
+        ∙ (λ i. made (sym formats i) (sym flushes i) lines)
+        ∙ (λ i. record { shape = sym same_shape i; state = state b; window = u; split = Some (sym there i) })
+
+    stays : (u : Window) → HasWindow (session_of a u) → HasWindow (split_into S (session_of a u) n (raised l))
+    unfolding split_into
+    stays u lies = lies
+
+    pub has_split : (u : Window) → HasWindow (session_of a u) → Does S (Command.split n l) (session_of a u) (split_session value b views u) None
+    unfolding done array_format
+    has_split u lies =
+        accepted S (Command.split n l) (session_of a u) lies refl (ap not (and_from (is_view_count (blocks (shape a)) n) (is_line_count l) number counts)) refl refl (split_session value b views u) None refl
+        (ap (λ (s : Session (List Bool)). (s, None)) (splits u)) (subst HasWindow (splits u) (stays u lies))
+
+    pub are_parts : AreParts value d b views
+    unfolding array_format
+    are_parts = record {
+      is_coded = is_coded;
+      number = subst (λ m. is_view_count (blocks (shape b)) m ≡ true) (sym new.many) (subst (λ ns. is_view_count (blocks ns) n ≡ true) (sym same_shape) number);
+      each = λ i v lt at. subst (λ m. IsPart value d b m i v) (sym new.many) (part i v (new.each i v lt at));
+    }
+      where
+        part : (i : ℕ) (v : private.Held X) → IsNewPart d (shape a) n lines i v → IsPart value d b n i v
+        part i v is =
+            let shapes : v.shape ≡ shape b = is.shape ∙ sym same_shape in
+            record {
+              ready = record {
+                whole = is.whole;
+                fits = empty_fits value (format b) (state b).codes v.cache lines is.empty;
+                over = (ap blocks (sym shapes), ap (λ (ns : List ℕ). 4 ^ length ns) (sym shapes));
+                places = λ k p own below. ap (λ (ns : List ℕ). is_inside (extent_of ns k) (indices (length ns) p)) (sym shapes);
+              };
+              shape_is = shapes;
+              first = is.first ∙ ap (λ ns. first_of (blocks ns) n i) (sym same_shape);
+              count = is.count ∙ ap (λ ns. count_of (blocks ns) n i) (sym same_shape);
+            }
+
+  -- ---- the end of a split
+
+  -- the views were flushed
+  pub joins : (w : Width) (a b : Held) (views news : List (private.Held X)) (u : Window) → flushed_views (setting_of w a) (split_session value a views u) (length views) ≡ split_session value b news u
+      → joined (setting_of w a) (split_session value a views u) ≡ session_of b u
+  unfolding joined
+  joins w a b views news u flushed =
+      let end : Session (List Bool) → Session (List Bool) = λ s. record s { split = None } in
+      ap (λ n. end (flushed_views (setting_of w a) (split_session value a views u) n)) (length-map views (view_of value a)) ∙ ap end flushed
+
+  pub none_flushed : (w : Width) (a : Held) (views : List (private.Held X)) (u : Window) → flushed_views (setting_of w a) (split_session value a views u) 0 ≡ split_session value a views u
+  unfolding flushed_views
+  none_flushed w a views u = refl
+
+  -- one view more
+  pub one_flushed : (w : Width) (a b c : Held) (views olds news : List (private.Held X)) (u : Window) (i : ℕ) → kind b ≡ kind a → flushed_views (setting_of w a) (split_session value a views u) i ≡ split_session value b olds u
+      → (by_view (setting_of w b) (split_session value b olds u) i Act.flush).0 ≡ split_session value c news u → flushed_views (setting_of w a) (split_session value a views u) (i + 1) ≡ split_session value c news u
+  unfolding flushed_views
+  one_flushed w a b c views olds news u i kept before acts =
+      let next : i + 1 ≡ suc i = omega arith in
+      ap (flushed_views (setting_of w a) (split_session value a views u)) next
+      ∙ ap (λ s. (by_view (setting_of w a) s i Act.flush).0) before
+      ∙ ap (λ (k : Ty × Mode). (by_view (array_setting w (block_bits k.1)) (split_session value b olds u) i Act.flush).0) (sym kept) ∙ acts
+
+-- a whole array has no split to end
+pub whole_joins : (w : Width) (a : Held) (u : Window) → joined (setting_of w a) (session_of a u) ≡ session_of a u
+unfolding joined flushed_views
+whole_joins w a u = refl
+
+-- ---- the end of a run
+
+pub ends : (w : Width) (a mid b : Held) (s : Session (List Bool)) (u : Window) → w ≡ width_of a.header.ty → kind mid ≡ kind a → joined (setting_of w a) s ≡ session_of mid u
+    → state b ≡ flush (format mid) (state mid) → b.header ≡ mid.header → ended (setting_of w a) s ≡ session_of b u
+unfolding ended
+ends w a mid b s u same kept joins flushes head =
+    let ended_at : Session (List Bool) → Session (List Bool) = λ t. record t { state = flush (format_of (setting_of w a) t) t.state } in
+    let ty : mid.header.ty ≡ a.header.ty = ap (λ (k : Ty × Mode). k.0) kept in
+    let coded : format_of (setting_of w a) (session_of mid u) ≡ format mid =
+    ap (λ (k : Ty × Mode). format_of (array_setting w (block_bits k.1)) (session_of mid u)) (sym kept) ∙ format_is w mid (same ∙ ap width_of (sym ty)) u in
+    ap ended_at joins ∙ (λ i. record { shape = (sym head i).shape; state = (ap (λ (f : Format (List Bool)). flush f (state mid)) coded ∙ sym flushes) i; window = u; split = None })

@@ -1,0 +1,360 @@
+-- What a call of a view makes of an array that is split.
+use Rattle.std.proofs.Common.{◌≡◌, ◌≢◌, ◌↔◌, refl, sym, ap, subst, ◌∙◌, ◌⊎◌, inl, inr, ℕ, zero, suc, ◌+◌, ◌-◌, ◌*◌, ◌/◌, ◌^◌, ◌<◌, ◌≤◌, ℤ, Bool, true, false, not, ◌&&◌, ltb, leb, List, [], ◌∷◌, map, length, get_or, set, Option, Some, None, if◌then◌else◌, arith}
+use Rattle.std.specs.Int.{Width}
+use Rattle.std.specs.Option.{option_map}
+use Rattle.std.proofs.Math.Path.{fun_ext}
+use Rattle.std.proofs.lemmas.Bool.{false≢true, and_from, and_parts, lt-ltb, ltb-true, ltb-false, le-leb, leb-true, cases_lt, cases_eq}
+use Rattle.std.proofs.lemmas.List.{get_or-map, get_or_default, map-set, length-map, length-set, get_or-set_other, get_or-set_same, ext_get_or}
+use Rattle.zf_spec.specs.Grid.{blocks, is_inside}
+use Rattle.zf_base.specs.Widths.{width_of}
+use Rattle.zf_base.specs.Places.{block_number, place_of}
+use Rattle.zf_base.specs.Positions.{used_axes, with_unused, IsPosition}
+use Rattle.zf_base.specs.declared.position.Pos.{Pos}
+use Rattle.zf_base.specs.Formats.{Format, meant}
+use Rattle.zf_header.specs.declared.header.Header.{Header}
+use Rattle.zf_header.specs.HeaderBits.{block_bits}
+use Rattle.zf_cached.specs.State.{Counts, State, empty_line, none_dirty}
+use Rattle.zf_cached.specs.Arrays.{rate_coding, array_format}
+use Rattle.zf_cached.specs.Windows.{Window, LiesIn}
+use Rattle.zf_cached.specs.Commands.{Command}
+use Rattle.zf_cached.specs.Replies.{Reply}
+use Rattle.zf_cached.specs.Acts.{Act}
+use Rattle.zf_cached.specs.Views.{View, with_codes, without_codes, acted, answered, IsWithin, HasOwn, AreAlike}
+use Rattle.zf_cached.specs.Ownership.{Owns, first_of, count_of}
+use Rattle.zf_cached.specs.Splits.{is_view_count, is_owner, no_view, view_at, coded}
+use Rattle.zf_cached.specs.Steps.{Setting, Session, format_of, views_of, state_of_view, with_view, by_view, has_view, view_has, refuses_split, refuses_size, refuses_range, refuses_value, done}
+use Rattle.zf_cached.specs.Runs.{array_setting}
+use Rattle.zf_cache.specs.Standing.{state_of, Fits}
+use Rattle.zf_private.specs.Standing as private
+use Rattle.zf_private.specs.Standing.{Own, IsSameView, IsWhole}
+use Rattle.zf_private.specs.Several.{IsReady}
+use Rattle.zf_private.proofs.Alike.{stay-acted, quiet-acted, alike-acted, alike-answered}
+use Rattle.zf_private.proofs.Calls.{own_state}
+use Rattle.zf_private.proofs.Others.{other_codes_alike}
+use Rattle.zf_private.proofs.Parts.{part_end, parts_apart}
+use Rattle.zf_private.proofs.Ready.{ready_after, ready_beside}
+use Rattle.zf_array.specs.Standing.{Held, shape, state, format}
+use Rattle.zf_array.specs.Coded.{IsCoded}
+use Rattle.zf_run.specs.Sessions.{setting_of}
+use Rattle.zf_run.specs.Splits.{owns_block, view_state, view_of, views_seen, split_session, IsPart, AreParts}
+use Rattle.zf_run.specs.Steps.{Does, HasWindow, wanted}
+use Rattle.zf_run.proofs.Sessions.{format_is}
+use Rattle.zf_run.proofs.Stepping.{accepted}
+
+-- ---- which blocks a view owns
+
+own-or-not : {X : Type 0} (v : private.Held X) (b : ℕ) → Own v b ⊎ (Own v b → ⊥)
+own-or-not v b = by (cases_lt b v.first) (cases_lt b (v.first + v.count))
+  where
+    by : (b < v.first) ⊎ (v.first ≤ b) → (b < v.first + v.count) ⊎ (v.first + v.count ≤ b) → Own v b ⊎ (Own v b → ⊥)
+    by (inl lt) k = inr (λ o. omega (arith, lt, o.0))
+    by (inr ge) (inl lt) = inl (ge, lt)
+    by (inr ge) (inr past) = inr (λ o. omega (arith, past, o.1))
+
+owned-true : {X : Type 0} (v : private.Held X) (b : ℕ) → Own v b → owns_block v b ≡ true
+owned-true v b o = and_from (leb v.first b) (ltb b (v.first + v.count)) (le-leb v.first b o.0) (lt-ltb b (v.first + v.count) o.1)
+
+true-owned : {X : Type 0} (v : private.Held X) (b : ℕ) → owns_block v b ≡ true → Own v b
+true-owned v b e = let parts = and_parts (leb v.first b) (ltb b (v.first + v.count)) e in (leb-true v.first b parts.0, ltb-true b (v.first + v.count) parts.1)
+
+owned-false : {X : Type 0} (v : private.Held X) (b : ℕ) → (Own v b → ⊥) → owns_block v b ≡ false
+owned-false v b not = by (owns_block v b) refl
+  where
+    by : (t : Bool) → owns_block v b ≡ t → t ≡ false
+    by true e = absurd (not (true-owned v b e))
+    by false e = refl
+
+pub same_owned : {X : Type 0} (v n : private.Held X) → IsSameView v n → (b : ℕ) → owns_block n b ≡ owns_block v b
+same_owned v n kept b = λ i. leb (kept.first i) b && ltb b (kept.first i + kept.count i)
+
+-- a view's block by the numbers of the split
+pub is_owner_is : {X : Type 0} (n k i : ℕ) (v : private.Held X) → 0 < k → v.first ≡ first_of n k i → v.count ≡ count_of n k i → (b : ℕ) → is_owner n k i b ≡ owns_block v b
+is_owner_is n k i v some first count b =
+    ap (λ m. leb (first_of n k i) b && ltb b m) (sym (part_end n k some i)) ∙ (λ j. leb (sym first j) b && ltb b (sym first j + sym count j))
+
+module _ {X : Type 0} (value : X → ℤ) where
+  -- ---- a view of the program as the language has it
+
+  -- its state over the codes is that of the language in the blocks of its own
+  seen_alike : (a : Held) (v : private.Held X) → AreAlike (Own v) (with_codes (view_of value a v) (state a).codes) (view_state value a v)
+  unfolding state_of
+  seen_alike a v = record {
+    lines = refl;
+    held = refl;
+    dirty = refl;
+    counts = refl;
+    values = λ b own. ap (λ t. if t then (view_state value a v).values b else []) (owned-true v b own);
+    codes = λ b own. refl;
+  }
+
+  seen_own : (d : ℕ) (a : Held) (v : private.Held X) → IsWhole d v → HasOwn (Own v) (with_codes (view_of value a v) (state a).codes)
+  seen_own d a v whole = let own = own_state value d v (format a) (state a).codes whole in record { held = own.held; dirty = own.dirty }
+
+  -- the view with a number
+  pub seen_at : (a : Held) (views : List (private.Held X)) (i : ℕ) (v : private.Held X) → i < length views → v ≡ get_or views i v → view_at (views_seen value a views) i ≡ view_of value a v
+  seen_at a views i v lt at = get_or-map (view_of value a) views i v no_view lt ∙ ap (view_of value a) (sym at)
+
+  -- of two arrays with the same codes of its blocks a view is the same
+  seen_same : (d : ℕ) (a b : Held) (o : private.Held X) → IsWhole d o → format b ≡ format a → ((k : ℕ) → Own o k → (state b).codes k ≡ (state a).codes k) → view_of value b o ≡ view_of value a o
+  unfolding state_of
+  seen_same d a b o whole same codes =
+      let alike = other_codes_alike value d o (format a) (format b) (state a).codes (state b).codes whole same codes in
+      λ i. record {
+        lines = (view_state value a o).lines;
+        held = (view_state value a o).held;
+        dirty = (view_state value a o).dirty;
+        values = fun_ext (λ k. at_block alike k (own-or-not o k)) i;
+        counts = (view_state value a o).counts;
+      }
+    where
+      at_block : AreAlike (Own o) (view_state value a o) (view_state value b o) → (k : ℕ) → Own o k ⊎ (Own o k → ⊥) → (view_of value b o).values k ≡ (view_of value a o).values k
+      at_block alike k (inl own) = ap (λ vs. if owns_block o k then vs else []) (sym (alike.values k own))
+      at_block alike k (inr not) =
+          ap (λ t. if t then (view_state value b o).values k else []) (owned-false o k not) ∙ sym (ap (λ t. if t then (view_state value a o).values k else []) (owned-false o k not))
+
+-- ---- a call of view i: the act
+
+module _ {X : Type 0} (value : X → ℤ) (w : Width) (d : ℕ) (a b : Held) (views : List (private.Held X)) (i : ℕ) (v n : private.Held X) (act : Act)
+    (same : w ≡ width_of a.header.ty) (parts : AreParts value d a views) (lt : i < length views) (at : v ≡ get_or views i v)
+    (head : b.header ≡ a.header) (lines : (state b).lines ≡ (state a).lines) (counts : (state b).counts ≡ (state a).counts) (is_coded : IsCoded b)
+    (step : view_state value b n ≡ acted w (format a) (view_state value a v) act) (within : IsWithin (Own v) act)
+    (others : (k : ℕ) → (Own v k → ⊥) → (state b).codes k ≡ (state a).codes k)
+    (kept : IsSameView v n) (whole : IsWhole d n) (fits : Fits value n.cache (format b) (state b).codes) where
+  abbrev f : Format (List Bool)
+  f = format a
+
+  part : IsPart value d a (length views) i v
+  part = parts.each i v lt at
+
+  formats : format b ≡ format a
+  formats = ap (λ (h : Header). array_format (rate_coding (width_of h.ty) (block_bits h.mode)) h.shape) head
+
+  some : 0 < length views
+  some = omega (arith, lt)
+
+  -- the state of the view as the language has it, before
+  abbrev seen : State (List Bool)
+  seen = with_codes (view_of value a v) (state a).codes
+
+  seen_is_own : HasOwn (Own v) seen
+  seen_is_own = seen_own value d a v part.ready.whole
+
+  -- and after
+  abbrev after : State (List Bool)
+  after = acted w f seen act
+
+  after_alike : AreAlike (Own v) after (view_state value b n)
+  after_alike = subst (AreAlike (Own v) after) (sym step) (alike-acted f (Own v) w seen (view_state value a v) act within seen_is_own (seen_alike value a v))
+
+  codes_are : (k : ℕ) → after.codes k ≡ (state b).codes k
+  unfolding state_of
+  codes_are k = by (own-or-not v k)
+    where
+      by : Own v k ⊎ (Own v k → ⊥) → after.codes k ≡ (state b).codes k
+      by (inl own) = after_alike.codes k own
+      by (inr not) = stay-acted f (Own v) w seen act k seen_is_own not ∙ sym (others k not)
+
+  values_are : (k : ℕ) → after.values k ≡ (view_of value b n).values k
+  values_are k = by (own-or-not v k)
+    where
+      by : Own v k ⊎ (Own v k → ⊥) → after.values k ≡ (view_of value b n).values k
+      by (inl own) = after_alike.values k own ∙ sym (ap (λ t. if t then (view_state value b n).values k else []) (same_owned v n kept k ∙ owned-true v k own))
+      by (inr not) =
+          quiet-acted f (Own v) w seen act k within seen_is_own not ∙ ap (λ t. if t then (view_state value a v).values k else []) (owned-false v k not)
+          ∙ sym (ap (λ t. if t then (view_state value b n).values k else []) (same_owned v n kept k ∙ owned-false v k not))
+
+  view_is : without_codes after ≡ view_of value b n
+  view_is = λ j. record {
+    lines = after_alike.lines j;
+    held = after_alike.held j;
+    dirty = after_alike.dirty j;
+    values = fun_ext values_are j;
+    counts = after_alike.counts j;
+  }
+
+  -- the array stands for the codes
+  state_is : coded f (state a) after.codes ≡ state b
+  unfolding coded
+  state_is =
+      let made : Format (List Bool) → ℕ → Counts → (ℕ → List Bool) → State (List Bool) =
+      λ g m c codes. record { lines = m; held = empty_line; dirty = none_dirty; values = λ k. meant g k (codes k); codes = codes; counts = c } in
+      (λ j. made (sym formats j) (sym lines j) (sym counts j) (fun_ext codes_are j)) ∙ sym is_coded
+
+  -- the other views are as they were
+  other_is : (k : ℕ) (o : private.Held X) → k < length views → o ≡ get_or views k o → k ≢ i → view_of value b o ≡ view_of value a o
+  other_is k o below there ne =
+      let p : IsPart value d a (length views) k o = parts.each k o below there in
+      seen_same value d a b o p.ready.whole formats (λ m own. others m (λ mine. parts_apart (blocks (shape a)) (length views) some k i m ne
+      (subst (λ x. Owns x (count_of (blocks (shape a)) (length views) k) m) p.first (subst (λ x. Owns o.first x m) p.count own))
+      (subst (λ x. Owns x (count_of (blocks (shape a)) (length views) i) m) part.first (subst (λ x. Owns v.first x m) part.count mine))))
+
+  views_are : set (views_seen value a views) i (without_codes after) ≡ views_seen value b (set views i n)
+  views_are =
+      let xs = views_seen value a views in
+      let ys = views_seen value b views in
+      let many : length xs ≡ length ys = length-map views (view_of value a) ∙ sym (length-map views (view_of value b)) in
+      let long : length (set xs i (view_of value b n)) ≡ length (set ys i (view_of value b n)) = length-set xs i (view_of value b n) ∙ many ∙ sym (length-set ys i (view_of value b n)) in
+      ap (set xs i) view_is
+      ∙ ext_get_or no_view (set xs i (view_of value b n)) (set ys i (view_of value b n)) long (λ k below. at_place k (subst (λ m. k < m) (length-set xs i (view_of value b n) ∙ length-map views (view_of value a)) below) (cases_eq k i))
+      ∙ sym (map-set (view_of value b) views i n)
+    where
+      at_place : (k : ℕ) → k < length views → (k ≡ i) ⊎ (k ≡ i → ⊥) → get_or (set (views_seen value a views) i (view_of value b n)) k no_view ≡ get_or (set (views_seen value b views) i (view_of value b n)) k no_view
+      at_place k below (inl e) =
+          let x = view_of value b n in
+          let first : get_or (set (views_seen value a views) i x) i no_view ≡ x = get_or-set_same (views_seen value a views) i x no_view (omega (arith, lt, length-map views (view_of value a))) in
+          let second : get_or (set (views_seen value b views) i x) i no_view ≡ x = get_or-set_same (views_seen value b views) i x no_view (omega (arith, lt, length-map views (view_of value b))) in
+          ap (λ m. get_or (set (views_seen value a views) i x) m no_view) e ∙ first ∙ sym second ∙ sym (ap (λ m. get_or (set (views_seen value b views) i x) m no_view) e)
+      at_place k below (inr ne) =
+          let x = view_of value b n in
+          let o = get_or views k v in
+          let there : o ≡ get_or views k o = get_or_default views k v o below in
+          get_or-set_other (views_seen value a views) i k x no_view ne ∙ seen_at value a views k o below there ∙ sym (other_is k o below there ne) ∙ sym (seen_at value b views k o below there)
+          ∙ sym (get_or-set_other (views_seen value b views) i k x no_view ne)
+
+  -- the array and its views are what the act makes of them
+  module _ (u : Window) where
+    abbrev S : Setting (List Bool)
+    S = setting_of w a
+
+    abbrev before : Session (List Bool)
+    before = split_session value a views u
+
+    acts_alike : acted S.width (format_of S before) (state_of_view before i) act ≡ after
+    unfolding array_setting
+    acts_alike = λ j. acted w (format_is w a same u j) (with_codes (seen_at value a views i v lt at j) (state a).codes) act
+
+    pub acts : (by_view S before i act).0 ≡ split_session value b (set views i n) u
+    unfolding by_view with_view
+    acts =
+        let come : State (List Bool) → Session (List Bool) = λ t. record before { state = coded (format_of S before) (state a) t.codes; split = Some (set (views_seen value a views) i (without_codes t)) } in
+        ap come acts_alike
+        ∙ (λ j. record { shape = (sym head j).shape; state = (ap (λ g. coded g (state a) after.codes) (format_is w a same u) ∙ state_is) j; window = u; split = Some (views_are j) })
+
+    pub answers : (by_view S before i act).1 ≡ option_map Reply.number (answered (view_state value b n) act)
+    unfolding by_view
+    answers = ap (λ t. option_map Reply.number (answered t act)) acts_alike ∙ ap (option_map Reply.number) (alike-answered f (Own v) after (view_state value b n) act within after_alike)
+
+    -- a command that asks for the act, and passes all tests
+    pub takes : (c : Command) (reply : Option Reply) → HasWindow before → refuses_split before c ≡ false → refuses_size S before c ≡ false → refuses_range before c ≡ false → refuses_value S.width c ≡ false
+        → option_map Reply.number (answered (view_state value b n) act) ≡ reply → wanted reply ≡ false → done S before c ≡ by_view S before i act → Does S c before (split_session value b (set views i n) u) reply
+    takes c reply lies split size range value_is replies none asks =
+        accepted S c before lies split size range value_is (split_session value b (set views i n) u) reply none
+        (asks ∙ (λ j. (acts j, (answers ∙ replies) j))) (subst (λ (h : Header). LiesIn h.shape u) (sym head) lies)
+
+  -- they are parts as before
+  pub still_parts : AreParts value d b (set views i n)
+  still_parts = record {
+    is_coded = is_coded;
+    number = subst (λ m. is_view_count (blocks (shape b)) m ≡ true) (sym (length-set views i n)) (subst (λ (h : Header). is_view_count (blocks h.shape) (length views) ≡ true) (sym head) parts.number);
+    each = λ k o below there. subst (λ m. IsPart value d b m k o) (sym (length-set views i n)) (part_at k o (subst (λ m. k < m) (length-set views i n) below) there (cases_eq k i));
+  }
+    where
+      same_shape : shape b ≡ shape a
+      same_shape = ap (λ (h : Header). h.shape) head
+
+      part_at : (k : ℕ) (o : private.Held X) → k < length views → o ≡ get_or (set views i n) k o → (k ≡ i) ⊎ (k ≡ i → ⊥) → IsPart value d b (length views) k o
+      part_at k o below there (inl e) =
+          let is : o ≡ n = there ∙ ap (λ m. get_or (set views i n) m o) e ∙ get_or-set_same views i n o lt in
+          subst (λ (x : private.Held X). IsPart value d b (length views) k x) (sym is) (subst (λ m. IsPart value d b (length views) m n) (sym e) (record {
+            ready = ready_after value d f (format b) (state a).codes (state b).codes formats v n part.ready kept whole fits;
+            shape_is = kept.shape ∙ part.shape_is ∙ sym same_shape;
+            first = kept.first ∙ part.first ∙ ap (λ m. first_of (blocks m) (length views) i) (sym same_shape);
+            count = kept.count ∙ part.count ∙ ap (λ m. count_of (blocks m) (length views) i) (sym same_shape);
+          }))
+      part_at k o below there (inr ne) =
+          let here : o ≡ get_or views k o = there ∙ get_or-set_other views i k n o ne in
+          let p : IsPart value d a (length views) k o = parts.each k o below here in record {
+            ready = ready_beside value d f (format b) (state a).codes (state b).codes formats v o p.ready others
+                (λ m mine own. parts_apart (blocks (shape a)) (length views) some k i m ne
+                (subst (λ x. Owns x (count_of (blocks (shape a)) (length views) k) m) p.first (subst (λ x. Owns o.first x m) p.count own))
+                (subst (λ x. Owns x (count_of (blocks (shape a)) (length views) i) m) part.first (subst (λ x. Owns v.first x m) part.count mine)));
+            shape_is = p.shape_is ∙ sym same_shape;
+            first = p.first ∙ ap (λ m. first_of (blocks m) (length views) k) (sym same_shape);
+            count = p.count ∙ ap (λ m. count_of (blocks m) (length views) k) (sym same_shape);
+          }
+
+-- ---- which view has a position
+
+and_false : (t : Bool) → (t && false) ≡ false
+and_false true = refl
+and_false false = refl
+
+not_less : (i n : ℕ) → n ≤ i → ltb i n ≡ false
+not_less i n le = by (ltb i n) refl
+  where
+    by : (t : Bool) → ltb i n ≡ t → t ≡ false
+    by true e = absurd (omega (arith, le, ltb-true i n e))
+    by false e = refl
+
+-- a position outside
+pub not_inside : (ns : List ℕ) (p : Pos) → p ≡ with_unused 0 (used_axes (length ns) p) → (IsPosition ns p → ⊥) → is_inside ns (used_axes (length ns) p) ≡ false
+not_inside ns p unused away = by (is_inside ns (used_axes (length ns) p)) refl
+  where
+    by : (t : Bool) → is_inside ns (used_axes (length ns) p) ≡ t → t ≡ false
+    by true e = absurd (away (record { inside = e; unused = unused }))
+    by false e = refl
+
+module _ {X : Type 0} (value : X → ℤ) (a : Held) (views : List (private.Held X)) (i : ℕ) (ps : List ℕ) where
+  abbrev owner : Bool
+  owner = is_owner (blocks (shape a)) (length views) i (block_number (shape a) ps)
+
+  has_is : (u : Window) → view_has (split_session value a views u) i ps ≡ (ltb i (length views) && (is_inside (shape a) ps && owner))
+  has_is u = ap (λ n. ltb i n && (is_inside (shape a) ps && is_owner (blocks (shape a)) n i (block_number (shape a) ps))) (length-map views (view_of value a))
+
+  pub view_is_none : (u : Window) → length views ≤ i → view_has (split_session value a views u) i ps ≡ false
+  view_is_none u many = has_is u ∙ ap (λ t. t && (is_inside (shape a) ps && owner)) (not_less i (length views) many)
+
+  pub position_is_none : (u : Window) → is_inside (shape a) ps ≡ false → view_has (split_session value a views u) i ps ≡ false
+  position_is_none u outside = has_is u ∙ ap (λ t. ltb i (length views) && (t && owner)) outside ∙ and_false (ltb i (length views))
+
+  module _ (d : ℕ) (v : private.Held X) (parts : AreParts value d a views) (lt : i < length views) (at : v ≡ get_or views i v) where
+    owner_is : (k : ℕ) → is_owner (blocks (shape a)) (length views) i k ≡ owns_block v k
+    owner_is k = let part = parts.each i v lt at in is_owner_is (blocks (shape a)) (length views) i v (omega (arith, lt)) part.first part.count k
+
+    pub block_is_none : (u : Window) → (Own v (block_number (shape a) ps) → ⊥) → view_has (split_session value a views u) i ps ≡ false
+    block_is_none u not =
+        has_is u ∙ ap (λ t. ltb i (length views) && (is_inside (shape a) ps && t)) (owner_is (block_number (shape a) ps) ∙ owned-false v (block_number (shape a) ps) not)
+        ∙ ap (λ t. ltb i (length views) && t) (and_false (is_inside (shape a) ps)) ∙ and_false (ltb i (length views))
+
+    pub view_is_owner : (u : Window) → is_inside (shape a) ps ≡ true → Own v (block_number (shape a) ps) → view_has (split_session value a views u) i ps ≡ true
+    view_is_owner u inside own =
+        has_is u ∙ and_from (ltb i (length views)) (is_inside (shape a) ps && owner) (lt-ltb i (length views) lt)
+        (and_from (is_inside (shape a) ps) owner inside (owner_is (block_number (shape a) ps) ∙ owned-true v (block_number (shape a) ps) own))
+
+    pub owner_owns : (u : Window) → view_has (split_session value a views u) i ps ≡ true → Own v (block_number (shape a) ps)
+    owner_owns u has =
+        let more = and_parts (ltb i (length views)) (is_inside (shape a) ps && owner) (sym (has_is u) ∙ has) in
+        true-owned v (block_number (shape a) ps) (sym (owner_is (block_number (shape a) ps)) ∙ (and_parts (is_inside (shape a) ps) owner more.1).1)
+
+    -- the view tells whether it owns the block
+    pub owns_is : (u : Window) (t : Bool) (b : ℕ) → b ≡ block_number (shape a) ps → is_inside (shape a) ps ≡ true → (t ≡ true) ↔ Own v b → t ≡ view_has (split_session value a views u) i ps
+    owns_is u true b e inside same = sym (view_is_owner u inside (subst (Own v) e (same.0 refl)))
+    owns_is u false b e inside same = sym (block_is_none u (λ own. false≢true (same.1 (subst (Own v) (sym e) own))))
+
+  -- what is told of one that has it
+  pub has_number : (u : Window) → view_has (split_session value a views u) i ps ≡ true → i < length views
+  has_number u has = ltb-true i (length views) (and_parts (ltb i (length views)) (is_inside (shape a) ps && owner) (sym (has_is u) ∙ has)).0
+
+  pub has_inside : (u : Window) → view_has (split_session value a views u) i ps ≡ true → is_inside (shape a) ps ≡ true
+  has_inside u has =
+      let more = and_parts (ltb i (length views)) (is_inside (shape a) ps && owner) (sym (has_is u) ∙ has) in
+      (and_parts (is_inside (shape a) ps) owner more.1).0
+
+-- a number of a view that there is, or is not
+pub has_view_is : {X : Type 0} (value : X → ℤ) (a : Held) (views : List (private.Held X)) (i : ℕ) (u : Window) → i < length views → has_view (split_session value a views u) i ≡ true
+has_view_is value a views i u lt = ap (ltb i) (length-map views (view_of value a)) ∙ lt-ltb i (length views) lt
+
+pub has_no_view : {X : Type 0} (value : X → ℤ) (a : Held) (views : List (private.Held X)) (i : ℕ) (u : Window) → length views ≤ i → has_view (split_session value a views u) i ≡ false
+has_no_view value a views i u many = ap (ltb i) (length-map views (view_of value a)) ∙ not_less i (length views) many
+
+-- the counts of a view
+pub counts_are : {X : Type 0} (value : X → ℤ) (a : Held) (views : List (private.Held X)) (i : ℕ) (v : private.Held X) → i < length views → v ≡ get_or views i v → (view_at (views_seen value a views) i).counts ≡ v.cache.counts
+unfolding state_of
+counts_are value a views i v lt at = ap (λ (x : View). x.counts) (seen_at value a views i v lt at)
+
+-- a view that there is is flushed
+pub flushes_view : {Code : Type 0} (S : Setting Code) (s t : Session Code) (i : ℕ) → HasWindow s → refuses_split s (Command.pflush i) ≡ false → has_view s i ≡ true → (by_view S s i Act.flush).0 ≡ t
+    → Does S (Command.pflush i) s t None
+unfolding done by_view with_view answered
+flushes_view S s t i lies there has acts =
+    accepted S (Command.pflush i) s lies there refl (ap not has) refl t None refl (ap (λ x. (x, None)) acts) (subst HasWindow acts lies)

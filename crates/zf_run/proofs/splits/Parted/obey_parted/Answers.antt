@@ -1,0 +1,20 @@
+use Rattle.std.proofs.Common.{sym, ap, subst, ◌∙◌, length, None}
+use Rattle.zf_script.specs.Seen.{command_of}
+use Rattle.zf_array.specs.Standing.{shape}
+use Rattle.zf_run.specs.Sessions.{setting_of}
+use Rattle.zf_run.specs.Splits.{lists, parted_session}
+use Rattle.zf_run.specs.Steps.{Does}
+use Rattle.zf_run.proofs.Parting.{some_parted, has_joined}
+use Rattle.zf_run.proofs.splits.Parted.obey_parted.Goals as goal
+
+pub returns-in-Join-clause-does : goal.returns-in-Join-clause-does
+returns-in-Join-clause-does g c v lies =
+    let a = c.args.self.now.array.now in
+    let b = c.join.new.self.array.now in
+    let value = g.T.Lane.value in
+    let S = setting_of g.T.Lane.width a in
+    let s = parted_session value a (lists c.args.self.now.views.now) v in
+    let t = parted_session value b (lists c.join.new.self.views.now) v in
+    subst (λ m. Does S (command_of (length (shape a)) m) s t None) (sym c.in-Join.is)
+    (has_joined S s t lies (some_parted value a c.args.self.now.views.now c.requires.parted)
+    (c.join.ensures.joined v ∙ ap (λ o. parted_session value b (lists o) v) (sym c.join.ensures.whole)))

@@ -1,0 +1,26 @@
+use Rattle.std.proofs.Common.{◌≡◌, sym, ap, subst, ◌∙◌, false, length}
+use Rattle.std.proofs.lemmas.Bool.{false≢true}
+use Rattle.zf_base.specs.Places.{block_number}
+use Rattle.zf_base.specs.Positions.{used_axes, IsPosition}
+use Rattle.zf_array.specs.Standing.{shape}
+use Rattle.zf_run.proofs.Viewing.{not_inside, view_is_none, position_is_none, owns_is}
+use Rattle.zf_run.proofs.views.has_position.Goals as goal
+
+pub returns-then-i-views-clause-has : goal.returns-then-i-views-clause-has
+returns-then-i-views-clause-has g c v =
+    let a = c.args.a.now in
+    sym (view_is_none g.T.Lane.value a c.args.views.now c.args.i (used_axes (length (shape a)) c.args.p) v c.if-i-views.true)
+
+pub returns-then-not-contains-clause-has : goal.returns-then-not-contains-clause-has
+returns-then-not-contains-clause-has g c v =
+    let a = c.args.a.now in
+    sym (position_is_none g.T.Lane.value a c.args.views.now c.args.i (used_axes (length (shape a)) c.args.p) v
+    (not_inside (shape a) c.args.p c.requires.unused
+    (λ at. false≢true (sym c.if-not-contains.true ∙ c.contains.ensures.1 (subst (λ ns. IsPosition ns c.args.p) (sym c.shape-shape.ensures.value) at)))))
+
+pub returns-clause-has : goal.returns-clause-has
+returns-clause-has g c v =
+    let a = c.args.a.now in
+    let at = subst (λ ns. IsPosition ns c.args.p) c.shape-shape.ensures.value (c.contains.ensures.0 c.if-not-contains.false) in
+    owns_is g.T.Lane.value a c.args.views.now c.args.i (used_axes (length (shape a)) c.args.p) g.row.D c.index-views-i.result c.requires.parts c.if-i-views.false c.index-views-i.is v
+    c.owns.result c.place-b.result.0 (c.place-b.ensures.block ∙ ap (λ ns. block_number ns (used_axes (length ns) c.args.p)) c.shape-shape.ensures.value) at.inside c.owns.ensures

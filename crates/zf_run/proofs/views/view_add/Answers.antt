@@ -1,0 +1,117 @@
+use Rattle.std.proofs.Common.{◌≡◌, refl, sym, ap, subst, ◌∙◌, not, true, false, length, get_or, Some, None, ℤ, lit<, lit≤, rules}
+use Rattle.std.specs.Int.{w128}
+use Rattle.std.specs.Option.{option_map}
+use Rattle.std.proofs.lemmas.Int.{to_z-of_z}
+use Rattle.zf_base.specs.Positions.{used_axes}
+use Rattle.zf_base.specs.Places.{block_number, place_of}
+use Rattle.zf_cached.specs.Windows.{Window, whole}
+use Rattle.zf_cached.specs.Commands.{Command}
+use Rattle.zf_cached.specs.Replies.{Reply}
+use Rattle.zf_cached.specs.Acts.{Act}
+use Rattle.zf_cached.specs.Views.{answered}
+use Rattle.zf_cached.specs.Steps.{by_view, view_has, is_of_type, done}
+use Rattle.zf_cached.specs.Runs.{array_setting}
+use Rattle.zf_private.specs.Standing as private
+use Rattle.zf_array.specs.Standing.{shape}
+use Rattle.zf_array.specs.Coded.{Frame}
+use Rattle.zf_array.proofs.Coded.{coded_empty}
+use Rattle.zf_run.specs.Sessions.{setting_of}
+use Rattle.zf_run.specs.Splits.{view_state, split_session}
+use Rattle.zf_run.proofs.Stepping.{refused_range, refused_value}
+use Rattle.zf_run.proofs.Viewing.{owner_owns, has_inside}
+use Rattle.zf_run.proofs.Lending.{HasActed, lent_ready, position_there, own_there, act_there, lent_takes, lent_parts}
+use Rattle.zf_run.proofs.Wide.{wide}
+use Rattle.zf_run.proofs.views.view_add.Goals as goal
+
+pub returns-then-not-has_position-clause-does : goal.returns-then-not-has_position-clause-does
+returns-then-not-has_position-clause-does g c v lies =
+    let a = c.args.a.now in
+    refused_range (setting_of g.T.Lane.width a) (Command.padd c.args.i (used_axes (length (shape a)) c.args.p) c.args.v) (split_session g.T.Lane.value a c.args.views.now v) lies refl refl
+    (ap not (sym (c.has_position.ensures.has v) ∙ c.if-not-has_position.true))
+
+pub returns-in_default-clause-does : goal.returns-in_default-clause-does
+unfolding array_setting
+returns-in_default-clause-does g c v lies =
+    let a = c.args.a.now in
+    refused_value (setting_of g.T.Lane.width a) (Command.padd c.args.i (used_axes (length (shape a)) c.args.p) c.args.v) (split_session g.T.Lane.value a c.args.views.now v) lies refl refl
+    (ap not (sym (c.has_position.ensures.has v) ∙ c.if-not-has_position.false))
+    (ap not (subst (λ x. is_of_type g.T.Lane.width x ≡ false) (to_z-of_z w128 c.args.v c.ranges.v) c.in_default.ensures.none))
+
+pub bind-requires : goal.bind-requires
+bind-requires g c = (lit≤ tt, (lit≤ tt, coded_empty c.args.a.now c.requires.parts.is_coded))
+
+pub add-requires : goal.add-requires
+add-requires g c =
+    let a = c.args.a.now in
+    let views = c.args.views.now in
+    let i = c.args.i in
+    let p = c.args.p in
+    let ps = used_axes (length (shape a)) p in
+    let value = g.T.Lane.value in
+    let x = get_or views i c.index-views-i.result in
+    let at = ap (get_or views i) c.index-views-i.is in
+    let lt = c.has_position.ensures.number c.if-not-has_position.false in
+    let has : (u : Window) → view_has (split_session value a views u) i ps ≡ true = λ u. sym (c.has_position.ensures.has u) ∙ c.if-not-has_position.false in
+    let own = own_there value g.row.D a views i x c.requires.parts lt at p (owner_owns value a views i ps g.row.D x c.requires.parts lt at (whole (shape a)) (has (whole (shape a)))) in
+    let ready = lent_ready value g.row.D a views i x c.requires.parts lt at c.bind.result.array c.bind.ensures.array in
+    let inside = has_inside value a views i ps (whole (shape a)) (has (whole (shape a))) in
+    (lit< tt, (ready.fits, (ready.over, (ready.places, (position_there value g.row.D a views i x c.requires.parts lt at p (record { inside = inside; unused = c.requires.unused }), own)))))
+
+pub returns-clause-does : goal.returns-clause-does
+unfolding done answered array_setting
+returns-clause-does g c v lies =
+    let a = c.args.a.now in
+    let views = c.args.views.now in
+    let i = c.args.i in
+    let p = c.args.p in
+    let ps = used_axes (length (shape a)) p in
+    let value = g.T.Lane.value in
+    let x = get_or views i c.index-views-i.result in
+    let at = ap (get_or views i) c.index-views-i.is in
+    let lt = c.has_position.ensures.number c.if-not-has_position.false in
+    let has : (u : Window) → view_has (split_session value a views u) i ps ≡ true = λ u. sym (c.has_position.ensures.has u) ∙ c.if-not-has_position.false in
+    let own = own_there value g.row.D a views i x c.requires.parts lt at p (owner_owns value a views i ps g.row.D x c.requires.parts lt at (whole (shape a)) (has (whole (shape a)))) in
+    let is = c.in-Some.ensures.value ∙ to_z-of_z w128 c.args.v c.ranges.v in
+    let back = c.add.new.back in
+    let name = ap (λ (f : Frame). f.name) c.add.ensures.kept ∙ c.bind.ensures.same_array in
+    lent_takes value g.row.D a views i x c.requires.parts lt at
+    g.T.Lane.width c.a-1.given.0 c.add.new.self (Act.add (private.block_at x p) (private.place_at x p) (value c.in-Some.v)) c.shape-shape.ensures.same_type c.bind.result.array back.array c.bind.ensures.array (search rules)
+    (record {
+      is_coded = back.is_coded;
+      frame = c.add.ensures.kept;
+      step = c.add.ensures.state;
+      others = c.add.ensures.others;
+      kept = c.add.ensures.same;
+      whole = c.add.ensures.whole;
+      fits = c.add.ensures.fits;
+    }) own
+    v (Command.padd i ps c.args.v) None lies refl refl (ap not (has v)) (ap not (subst (λ z. is_of_type g.T.Lane.width z ≡ true) (to_z-of_z w128 c.args.v c.ranges.v) c.in-Some.ensures.some)) refl refl
+    (ap (by_view (setting_of g.T.Lane.width a) (split_session value a views v) i)
+    (sym (act_there value g.row.D a views i x c.requires.parts lt at p (λ b q. Act.add b q (value c.in-Some.v)) ∙ ap (λ (z : ℤ). Act.add (block_number (shape a) ps) (place_of ps) z) is)))
+
+pub returns-clause-parts : goal.returns-clause-parts
+returns-clause-parts g c =
+    let a = c.args.a.now in
+    let views = c.args.views.now in
+    let i = c.args.i in
+    let p = c.args.p in
+    let ps = used_axes (length (shape a)) p in
+    let value = g.T.Lane.value in
+    let x = get_or views i c.index-views-i.result in
+    let at = ap (get_or views i) c.index-views-i.is in
+    let lt = c.has_position.ensures.number c.if-not-has_position.false in
+    let has : (u : Window) → view_has (split_session value a views u) i ps ≡ true = λ u. sym (c.has_position.ensures.has u) ∙ c.if-not-has_position.false in
+    let own = own_there value g.row.D a views i x c.requires.parts lt at p (owner_owns value a views i ps g.row.D x c.requires.parts lt at (whole (shape a)) (has (whole (shape a)))) in
+    let back = c.add.new.back in
+    let name = ap (λ (f : Frame). f.name) c.add.ensures.kept ∙ c.bind.ensures.same_array in
+    lent_parts value g.row.D a views i x c.requires.parts lt at
+    g.T.Lane.width c.a-1.given.0 c.add.new.self (Act.add (private.block_at x p) (private.place_at x p) (value c.in-Some.v)) c.shape-shape.ensures.same_type c.bind.result.array back.array c.bind.ensures.array (search rules)
+    (record {
+      is_coded = back.is_coded;
+      frame = c.add.ensures.kept;
+      step = c.add.ensures.state;
+      others = c.add.ensures.others;
+      kept = c.add.ensures.same;
+      whole = c.add.ensures.whole;
+      fits = c.add.ensures.fits;
+    }) own

@@ -1,0 +1,84 @@
+-- An array that is split into private views.
+use Rattle.std.specs.Prelude.{ℕ, ◌≡◌, ◌+◌, ◌<◌, nat_lt, nat_le, ℤ, Bool, true, ◌&&◌, List, [], map, length, slice_index_or, Option, None, Some, Vec, if◌then◌else◌}
+use Rattle.std.specs.Vec.{vec_items}
+use Rattle.zf_spec.specs.Grid.{blocks}
+use Rattle.zf_cached.specs.State.{State, no_counts}
+use Rattle.zf_cached.specs.Windows.{Window}
+use Rattle.zf_cached.specs.Views.{View}
+use Rattle.zf_cached.specs.Ownership.{first_of, count_of}
+use Rattle.zf_cached.specs.Splits.{is_view_count}
+use Rattle.zf_cached.specs.Steps.{Session}
+use Rattle.zf_cache.specs.Kept.{IsEmpty}
+use Rattle.zf_private.specs.Standing as private
+use Rattle.zf_private.specs.Several.{IsReady}
+use Rattle.zf_array.specs.Standing.{Held, shape, state, format}
+use Rattle.zf_array.specs.Coded.{IsCoded}
+use Rattle.zf_run.specs.Sessions.{sitting}
+
+-- the lists that vectors are seen as
+abbrev pub lists : {X Z : Type 0} → Option (Vec X Z) → Option (List X)
+lists None = None
+lists (Some views) = Some (vec_items views)
+
+-- block b is one of the view's
+abbrev pub owns_block : {X : Type 0} → private.Held X → ℕ → Bool
+owns_block v b = nat_le v.first b && nat_lt b (v.first + v.count)
+
+module _ {X : Type 0} (value : X → ℤ) where
+  -- the state of a view over the codes of an array
+  abbrev pub view_state : Held → private.Held X → State (List Bool)
+  view_state a v = private.state value v (format a) (state a).codes
+
+  -- a view as the language has it: of blocks that are not its own it says nothing
+  abbrev pub view_of : Held → private.Held X → View
+  view_of a v =
+      let s = view_state a v in
+      record { lines = s.lines; held = s.held; dirty = s.dirty; values = λ b. if owns_block v b then s.values b else []; counts = s.counts }
+
+  abbrev pub views_seen : Held → List (private.Held X) → List View
+  views_seen a views = map (view_of a) views
+
+  -- what an array is split into, if it is
+  abbrev pub split_of : Held → Option (List (private.Held X)) → Option (List View)
+  split_of a None = None
+  split_of a (Some views) = Some (views_seen a views)
+
+  -- an array and its views, if there are some, as what a script works on
+  abbrev pub parted_session : Held → Option (List (private.Held X)) → Window → Session (List Bool)
+  parted_session a views window = sitting (shape a) (state a) (split_of a views) window
+
+  -- an array that is split, and its views
+  abbrev pub split_session : Held → List (private.Held X) → Window → Session (List Bool)
+  split_session a views window = sitting (shape a) (state a) (Some (views_seen a views)) window
+
+  -- a view of the blocks of part i of n, which fits the codes of the array
+  pub record IsPart (d : ℕ) (a : Held) (n i : ℕ) (v : private.Held X) : Type 0 where
+    pub ready : IsReady value d v (format a) (state a).codes
+    pub shape_is : v.shape ≡ shape a
+    pub first : v.first ≡ first_of (blocks (shape a)) n i
+    pub count : v.count ≡ count_of (blocks (shape a)) n i
+
+  -- the array stands for its codes alone, and its blocks are parted among the views in order
+  pub record AreParts (d : ℕ) (a : Held) (views : List (private.Held X)) : Type 0 where
+    pub is_coded : IsCoded a
+    pub number : is_view_count (blocks (shape a)) (length views) ≡ true
+    pub each : (i : ℕ) (v : private.Held X) → i < length views → v ≡ slice_index_or views i v → IsPart d a (length views) i v
+
+  -- they are, where there are views
+  abbrev pub FitTogether : ℕ → Held → Option (List (private.Held X)) → Type 0
+  FitTogether d a None = Unit {0}
+  FitTogether d a (Some views) = AreParts d a views
+
+-- a view as it is made: nothing is in its lines, and nothing is counted
+pub record IsNewPart {X : Type 0} (d : ℕ) (ns : List ℕ) (n lines i : ℕ) (v : private.Held X) : Type 0 where
+  pub empty : IsEmpty v.cache lines
+  pub counts : v.cache.counts ≡ no_counts
+  pub shape : v.shape ≡ ns
+  pub first : v.first ≡ first_of (blocks ns) n i
+  pub count : v.count ≡ count_of (blocks ns) n i
+  pub whole : private.IsWhole d v
+
+-- the first k of n such views
+pub record AreNewParts {X : Type 0} (d : ℕ) (ns : List ℕ) (n lines k : ℕ) (views : List (private.Held X)) : Type 0 where
+  pub many : length views ≡ k
+  pub each : (i : ℕ) (v : private.Held X) → i < length views → v ≡ slice_index_or views i v → IsNewPart d ns n lines i v

@@ -1,0 +1,222 @@
+//! An array that may be split into private views.
+
+ghost use Rattle.std.specs.Prelude.{◌≡◌, ◌<◌, ◌≤◌, ◌&&◌, true, false, None, length, IsSome, IfOk, Bool, List};
+ghost use Rattle.zf_spec.specs.Grid.{blocks};
+ghost use Rattle.zf_base.specs.declared.lane.Ty.{Ty};
+ghost use Rattle.zf_header.specs.declared.header.Mode.{Mode};
+ghost use Rattle.zf_header.specs.HeaderBits.{block_bits};
+ghost use Rattle.zf_cached.specs.Commands.{Command};
+ghost use Rattle.zf_cached.specs.Windows.{Window as Part};
+ghost use Rattle.zf_cached.specs.Splits.{is_view_count};
+ghost use Rattle.zf_cached.specs.Steps.{joined, is_line_count, needs_split};
+ghost use Rattle.zf_cached.specs.Runs.{array_setting, ended};
+ghost use Rattle.zf_cache.specs.Kept.{IsLineCount};
+ghost use Rattle.zf_array.specs.Standing as standing;
+ghost use Rattle.zf_array.specs.Coded.{HasEmptyLines, IsCoded};
+ghost use Rattle.zf_script.specs.Seen.{command_of, cmd_of};
+ghost use Rattle.zf_run.specs.Sessions.{session_of, setting_of, kind};
+ghost use Rattle.zf_run.specs.Steps.{Does, DoesAlone, HasWindow, answer};
+ghost use Rattle.zf_run.specs.Splits.{lists, split_of, parted_session, FitTogether, AreNewParts};
+
+use crate::arrays::on_array;
+use crate::commands::{Answer, needs_split, spoken};
+use crate::target::{Scripted, Subject};
+use crate::views::{flush_views, on_view};
+use std::alloc::{AllocError, Global};
+use zf_array::{Array, Codes};
+use zf_base::{Lane, Shape};
+use zf_cache::raised;
+use zf_private::Private;
+use zf_script::{Cmd, Refusal, Reply};
+use zf_view::Window;
+
+// The most views, and the most lines of each.
+const MAX_VIEWS: u64 = 16;
+
+const MAX_LINES: u64 = 65536;
+
+/// An array, and its private views while it is split into some.
+#[derive(Drop)]
+pub(crate) struct Parted<'a, T: Lane, const D: usize> {
+    pub(crate) alloc: Global,
+    pub(crate) array: &'a mut Array<T, D>,
+    pub(crate) views: &'a mut Option<Vec<Private<T, D>>>,
+}
+
+impl<'a, T: Lane, const D: usize> Parted<'a, T, D> {
+    /// The end of a run: a split ends, and then the array is flushed.
+    pub(crate) fn finish(&mut self)
+        requires { FitTogether T.value D self.old.array.now (lists self.old.views.now) }
+        ensures ended { (v : Part) → ended (setting_of T.width self.old.array.now) (parted_session T.value self.old.array.now (lists self.old.views.now) v)
+            ≡ session_of self.new.array.now v }
+        ensures kept { kind self.new.array.now ≡ kind self.old.array.now }
+        ensures same_array { self.new.array.ghost_name ≡ self.old.array.ghost_name }
+    {
+        self.join();
+        let array = &mut *self.array;
+        // Known by this call: the type is that of the header.
+        let _shape = array.shape();
+        array.flush();
+    }
+
+    // Flushes the views in order, and ends the split, if there is one.
+    fn join(&mut self)
+        requires { FitTogether T.value D self.old.array.now (lists self.old.views.now) }
+        ensures joined { (v : Part) → joined (setting_of T.width self.old.array.now) (parted_session T.value self.old.array.now (lists self.old.views.now) v)
+            ≡ session_of self.new.array.now v }
+        ensures whole { self.new.views.now ≡ None }
+        ensures kept { kind self.new.array.now ≡ kind self.old.array.now }
+        ensures same_array { self.new.array.ghost_name ≡ self.old.array.ghost_name }
+    {
+        let array = &mut *self.array;
+        let parts = &mut *self.views;
+        let Some(mut views) = parts.take() else {
+            return;
+        };
+        flush_views(array, &mut views);
+    }
+
+    // `split N L`: that many views, each with so many lines. The memory is taken first; then the array is flushed.
+    fn split(&mut self, count: u64, lines: u64) -> Answer
+        requires whole { self.old.views.now ≡ None }
+        ensures does { (v : Part) → HasWindow (session_of self.old.array.now v) → Does (setting_of T.width self.old.array.now) (Command.split count lines)
+            (session_of self.old.array.now v) (parted_session T.value self.new.array.now (lists self.new.views.now) v) (answer result) }
+        ensures sound { FitTogether T.value D self.new.array.now (lists self.new.views.now) }
+        ensures kept { kind self.new.array.now ≡ kind self.old.array.now }
+        ensures same_array { self.new.array.ghost_name ≡ self.old.array.ghost_name }
+    {
+        let array = &mut *self.array;
+        let shape = array.shape();
+        if !may_split(shape.blocks(), count, lines) {
+            return Err(Refusal::Size);
+        }
+        let Ok(views) = new_views(self.alloc, shape, count, raised(lines as u32)) else {
+            return Err(Refusal::Memory);
+        };
+        array.flush();
+        see_coded(array);
+        let parts = &mut *self.views;
+        *parts = Some(views);
+        Ok(None)
+    }
+
+    // What a command does while the array is whole.
+    fn obey_whole(&mut self, window: &mut Window, cmd: Cmd) -> Answer
+        requires whole { self.old.views.now ≡ None }
+        requires window { HasWindow (session_of self.old.array.now window.old) }
+        requires numbers { cmd ≡ cmd_of (command_of (length (standing.shape self.old.array.now)) cmd) }
+        requires alone { needs_split (command_of (length (standing.shape self.old.array.now)) cmd) ≡ false }
+        ensures does { Does (setting_of T.width self.old.array.now) (command_of (length (standing.shape self.old.array.now)) cmd)
+            (session_of self.old.array.now window.old) (parted_session T.value self.new.array.now (lists self.new.views.now) window.new) (answer result) }
+        ensures sound { FitTogether T.value D self.new.array.now (lists self.new.views.now) }
+        ensures kept { kind self.new.array.now ≡ kind self.old.array.now }
+        ensures same_array { self.new.array.ghost_name ≡ self.old.array.ghost_name }
+    {
+        if let Cmd::Split(count, lines) = cmd {
+            return self.split(count, lines);
+        }
+        let array = &mut *self.array;
+        // Known by this call: the sizes are those of a shape.
+        let _dims = array.shape().dims();
+        on_array(array, window, cmd)
+    }
+
+    // What a command does while the array is split: it ends the split, or is on a view.
+    fn obey_parted(&mut self, cmd: Cmd) -> Answer
+        requires sound { FitTogether T.value D self.old.array.now (lists self.old.views.now) }
+        requires parted { IsSome self.old.views.now }
+        requires numbers { cmd ≡ cmd_of (command_of (length (standing.shape self.old.array.now)) cmd) }
+        requires on_split { needs_split (command_of (length (standing.shape self.old.array.now)) cmd) ≡ true }
+        ensures does { DoesAlone (setting_of T.width self.old.array.now) (command_of (length (standing.shape self.old.array.now)) cmd)
+            (parted_session T.value self.old.array.now (lists self.old.views.now)) (parted_session T.value self.new.array.now (lists self.new.views.now)) (answer result) }
+        ensures sound { FitTogether T.value D self.new.array.now (lists self.new.views.now) }
+        ensures kept { kind self.new.array.now ≡ kind self.old.array.now }
+        ensures same_array { self.new.array.ghost_name ≡ self.old.array.ghost_name }
+    {
+        if let Cmd::Join = cmd {
+            self.join();
+            return Ok(None);
+        }
+        let array = &mut *self.array;
+        let Some(views) = &mut *self.views else {
+            unreachable!()
+        };
+        on_view(array, views, cmd)
+    }
+}
+
+impl<'a, T: Lane, const D: usize> Subject for Parted<'a, T, D> {
+    ghost use base.Fml.{GName};
+
+    ghost Code = { List Bool };
+
+    ghost Kept = { (Ty × Mode) × GName };
+
+    ghost kept = { λ p. (kind p.array.now, p.array.ghost_name) };
+
+    ghost setting = { λ k. array_setting T.width (block_bits k.0.1) };
+
+    ghost sound = { λ p. FitTogether T.value D p.array.now (lists p.views.now) };
+
+    ghost shape = { λ p. standing.shape p.array.now };
+
+    ghost state = { λ p. standing.state p.array.now };
+
+    fn sizes(&self) -> Shape {
+        self.array.shape()
+    }
+}
+
+impl<'a, T: Lane, const D: usize> Scripted for Parted<'a, T, D> {
+    ghost split = { λ p. split_of T.value p.array.now (lists p.views.now) };
+
+    fn obey(&mut self, window: &mut Window, cmd: Cmd) -> Option<Reply> {
+        let needs = needs_split(cmd);
+        if self.views.is_some() != needs {
+            return Some(Reply::Refused(Refusal::Split));
+        }
+        if needs {
+            spoken(self.obey_parted(cmd))
+        } else {
+            spoken(self.obey_whole(window, cmd))
+        }
+    }
+}
+
+// Whether an array of so many blocks may be split into `count` views of so many lines.
+fn may_split(blocks: u64, count: u64, lines: u64) -> bool
+    ensures { result ≡ (is_view_count blocks count && is_line_count lines) }
+{
+    0 < count && count <= MAX_VIEWS && count <= blocks && 0 < lines && lines <= MAX_LINES
+}
+
+// Tells that an array with no block in any line stands for its codes alone.
+fn see_coded<T: Lane, const D: usize>(a: &mut Array<T, D>)
+    requires { HasEmptyLines a.old }
+    ensures coded { IsCoded a.new }
+    ensures same { a.new ≡ a.old }
+{
+    let _codes = Codes::bind(a);
+}
+
+// The views of an array of these sizes, as many as `count`, each with so many lines and nothing in them.
+fn new_views<T: Lane, const D: usize>(
+    alloc: Global,
+    shape: Shape,
+    count: u64,
+    lines: u32,
+) -> Result<Vec<Private<T, D>>, AllocError>
+    requires dims { length shape ≡ D }
+    requires count { (0 < count) × (count ≤ 16) × (count ≤ blocks shape) }
+    requires lines { IsLineCount lines }
+    ensures { IfOk result (λ v. AreNewParts D shape count lines count v.items) }
+{
+    let blocks = shape.blocks();
+    let mut views = Vec::new(alloc);
+    for i in 0..count {
+        let first = i * blocks / count;
+        let next = (i + 1) * blocks / count;
+        views.push(Private::new(alloc, shape, first, next - first, lines)?)?;
+    }
+    Ok(views)
+}

@@ -1,0 +1,222 @@
+//! Commands on the private views of an array that is split.
+
+ghost use Rattle.std.specs.Prelude.{◌≡◌, ◌<◌, true, length, IsTrue};
+ghost use Rattle.zf_base.specs.Positions.{used_axes, with_unused};
+ghost use Rattle.zf_cached.specs.Commands.{Command};
+ghost use Rattle.zf_cached.specs.Acts.{Act};
+ghost use Rattle.zf_cached.specs.Windows.{Window as Part};
+ghost use Rattle.zf_cached.specs.Steps.{by_view, flushed_views, view_has};
+ghost use Rattle.zf_script.specs.Seen.{command_of, cmd_of};
+ghost use Rattle.zf_array.specs.Standing.{shape};
+ghost use Rattle.zf_run.specs.Allowed.{is_on_view};
+ghost use Rattle.zf_run.specs.Sessions.{setting_of, kind};
+ghost use Rattle.zf_run.specs.Steps.{DoesAlone, answer};
+ghost use Rattle.zf_run.specs.Splits.{split_session, AreParts};
+
+use crate::commands::Answer;
+use crate::values::of_type;
+use zf_array::{Array, Codes};
+use zf_base::{Lane, Pos};
+use zf_private::Private;
+use zf_script::{Cmd, Refusal, Reply};
+
+/// What a command on one view does. Each tests what it is refused for in the order of range and value.
+pub(crate) fn on_view<T: Lane, const D: usize>(
+    a: &mut Array<T, D>,
+    views: &mut [Private<T, D>],
+    cmd: Cmd,
+) -> Answer
+    requires parts { AreParts T.value D a.old views.old }
+    requires numbers { cmd ≡ cmd_of (command_of (length (shape a.old)) cmd) }
+    requires view { is_on_view (command_of (length (shape a.old)) cmd) ≡ true }
+    ensures does { DoesAlone (setting_of T.width a.old) (command_of (length (shape a.old)) cmd)
+        (split_session T.value a.old views.old) (split_session T.value a.new views.new) (answer result) }
+    ensures parts { AreParts T.value D a.new views.new }
+    ensures kept { kind a.new ≡ kind a.old }
+{
+    match cmd {
+        Cmd::PGet(i, p) => view_get(a, views, i, p),
+        Cmd::PSet(i, p, v) => view_set(a, views, i, p, v),
+        Cmd::PAdd(i, p, v) => view_add(a, views, i, p, v),
+        Cmd::PFlush(i) => view_flush(a, views, i),
+        Cmd::PDiscard(i) => view_discard(a, views, i),
+        Cmd::PStats(i) => view_stats(a, views, i),
+        _ => unreachable!(),
+    }
+}
+
+/// Flushes the views in order.
+pub(crate) fn flush_views<T: Lane, const D: usize>(a: &mut Array<T, D>, views: &mut [Private<T, D>])
+    requires { AreParts T.value D a.old views.old }
+    ensures flushed { (v : Part) → flushed_views (setting_of T.width a.old) (split_session T.value a.old views.old v) (length views.old)
+        ≡ split_session T.value a.new views.new v }
+    ensures kept { kind a.new ≡ kind a.old }
+{
+    for i in 0..views.len() {
+        flush_view(a, views, i);
+    }
+}
+
+// `@V get P`: the value at a position, by one touch.
+fn view_get<T: Lane, const D: usize>(
+    a: &mut Array<T, D>,
+    views: &mut [Private<T, D>],
+    i: u64,
+    p: Pos,
+) -> Answer
+    requires parts { AreParts T.value D a.old views.old }
+    requires unused { p ≡ with_unused 0 (used_axes (length (shape a.old)) p) }
+    ensures does { DoesAlone (setting_of T.width a.old) (Command.pget i (used_axes (length (shape a.old)) p))
+        (split_session T.value a.old views.old) (split_session T.value a.new views.new) (answer result) }
+    ensures parts { AreParts T.value D a.new views.new }
+    ensures kept { kind a.new ≡ kind a.old }
+{
+    if !has_position(a, views, i, p) {
+        return Err(Refusal::Range);
+    }
+    // Known by this call: the type is that of the header.
+    let _shape = a.shape();
+    let value = views[i as usize].get(&mut Codes::bind(a), p);
+    Ok(Some(Reply::Number(value.to_wide())))
+}
+
+// `@V set P v`: makes the value at a position be `v`, by one touch for writing.
+fn view_set<T: Lane, const D: usize>(
+    a: &mut Array<T, D>,
+    views: &mut [Private<T, D>],
+    i: u64,
+    p: Pos,
+    v: i128,
+) -> Answer
+    requires parts { AreParts T.value D a.old views.old }
+    requires unused { p ≡ with_unused 0 (used_axes (length (shape a.old)) p) }
+    ensures does { DoesAlone (setting_of T.width a.old) (Command.pset i (used_axes (length (shape a.old)) p) v)
+        (split_session T.value a.old views.old) (split_session T.value a.new views.new) (answer result) }
+    ensures parts { AreParts T.value D a.new views.new }
+    ensures kept { kind a.new ≡ kind a.old }
+{
+    if !has_position(a, views, i, p) {
+        return Err(Refusal::Range);
+    }
+    let Some(v) = of_type(v) else {
+        return Err(Refusal::Value);
+    };
+    // Known by this call: the type is that of the header.
+    let _shape = a.shape();
+    views[i as usize].set(&mut Codes::bind(a), p, v);
+    Ok(None)
+}
+
+// `@V add P v`: adds `v` to the value at a position, by one touch for writing; the sum wraps.
+fn view_add<T: Lane, const D: usize>(
+    a: &mut Array<T, D>,
+    views: &mut [Private<T, D>],
+    i: u64,
+    p: Pos,
+    v: i128,
+) -> Answer
+    requires parts { AreParts T.value D a.old views.old }
+    requires unused { p ≡ with_unused 0 (used_axes (length (shape a.old)) p) }
+    ensures does { DoesAlone (setting_of T.width a.old) (Command.padd i (used_axes (length (shape a.old)) p) v)
+        (split_session T.value a.old views.old) (split_session T.value a.new views.new) (answer result) }
+    ensures parts { AreParts T.value D a.new views.new }
+    ensures kept { kind a.new ≡ kind a.old }
+{
+    if !has_position(a, views, i, p) {
+        return Err(Refusal::Range);
+    }
+    let Some(v) = of_type(v) else {
+        return Err(Refusal::Value);
+    };
+    // Known by this call: the type is that of the header.
+    let _shape = a.shape();
+    views[i as usize].add(&mut Codes::bind(a), p, v);
+    Ok(None)
+}
+
+// `@V flush`: writes back what is dirty in a view, and empties its cache.
+fn view_flush<T: Lane, const D: usize>(
+    a: &mut Array<T, D>,
+    views: &mut [Private<T, D>],
+    i: u64,
+) -> Answer
+    requires parts { AreParts T.value D a.old views.old }
+    ensures does { DoesAlone (setting_of T.width a.old) (Command.pflush i)
+        (split_session T.value a.old views.old) (split_session T.value a.new views.new) (answer result) }
+    ensures parts { AreParts T.value D a.new views.new }
+    ensures kept { kind a.new ≡ kind a.old }
+{
+    if i >= views.len() as u64 {
+        return Err(Refusal::Range);
+    }
+    flush_view(a, views, i as usize);
+    Ok(None)
+}
+
+// Writes back what is dirty in view `i`, and empties its cache.
+fn flush_view<T: Lane, const D: usize>(a: &mut Array<T, D>, views: &mut [Private<T, D>], i: usize)
+    requires parts { AreParts T.value D a.old views.old }
+    requires view { i < length views.old }
+    ensures acts { (v : Part) → (by_view (setting_of T.width a.old) (split_session T.value a.old views.old v) i Act.flush).0
+        ≡ split_session T.value a.new views.new v }
+    ensures parts { AreParts T.value D a.new views.new }
+    ensures kept { kind a.new ≡ kind a.old }
+{
+    // Known by this call: the type is that of the header.
+    let _shape = a.shape();
+    views[i].flush(&mut Codes::bind(a));
+}
+
+// `@V discard`: empties the cache of a view, and writes nothing back.
+fn view_discard<T: Lane, const D: usize>(
+    a: &Array<T, D>,
+    views: &mut [Private<T, D>],
+    i: u64,
+) -> Answer
+    requires parts { AreParts T.value D a.now views.old }
+    ensures does { DoesAlone (setting_of T.width a.now) (Command.pdiscard i)
+        (split_session T.value a.now views.old) (split_session T.value a.now views.new) (answer result) }
+    ensures parts { AreParts T.value D a.now views.new }
+{
+    if i >= views.len() as u64 {
+        return Err(Refusal::Range);
+    }
+    // Known by this call: the type is that of the header.
+    let _shape = a.shape();
+    views[i as usize].discard();
+    Ok(None)
+}
+
+// `@V stats`: the counts of a view.
+fn view_stats<T: Lane, const D: usize>(a: &Array<T, D>, views: &[Private<T, D>], i: u64) -> Answer
+    ensures { DoesAlone (setting_of T.width a.now) (Command.pstats i)
+        (split_session T.value a.now views.now) (split_session T.value a.now views.now) (answer result) }
+{
+    if i >= views.len() as u64 {
+        return Err(Refusal::Range);
+    }
+    Ok(Some(Reply::Counts(views[i as usize].stats())))
+}
+
+// Whether there is a view with this number and such a position, and the view owns its block.
+fn has_position<T: Lane, const D: usize>(
+    a: &Array<T, D>,
+    views: &[Private<T, D>],
+    i: u64,
+    p: Pos,
+) -> bool
+    requires parts { AreParts T.value D a.now views.now }
+    requires unused { p ≡ with_unused 0 (used_axes (length (shape a.now)) p) }
+    ensures has { (v : Part) → result ≡ view_has (split_session T.value a.now views.now v) i (used_axes (length (shape a.now)) p) }
+    ensures number { IsTrue result → i < length views.now }
+{
+    if i >= views.len() as u64 {
+        return false;
+    }
+    let shape = a.shape();
+    if !shape.contains(p) {
+        return false;
+    }
+    let (b, _) = shape.place(p);
+    views[i as usize].owns(b)
+}
