@@ -135,7 +135,7 @@ run_of_entry_to_9 most digits e some nine one eight within is =
     record { bits = same_digits-true _ _ one.0; len = ltb-true _ _ two.0; two = ltb-true _ _ two.1 }
 
 -- more digits make no difference, where they are zeros
-eight_of : (most digits : ℕ) → 9 ≤ most → digits < 256 → field most digits ≡ field 8 digits ++ replicate (suc (most - 9)) false
+pub eight_of : (most digits : ℕ) → 9 ≤ most → digits < 256 → field most digits ≡ field 8 digits ++ replicate (suc (most - 9)) false
 eight_of most digits nine eight =
     let parts : most ≡ 8 + suc (most - 9) = omega arith in
     let none : digits / 2 ^ 8 ≡ 0 = omega arith in
@@ -144,7 +144,7 @@ eight_of most digits nine eight =
     ∙ ap (λ v. field 8 digits ++ field (suc (most - 9)) v) none
     ∙ ap (λ (bs : List Bool). field 8 digits ++ bs) (field-zero (suc (most - 9)))
 
-nine_digits : (most digits : ℕ) → 9 ≤ most → 0 < digits → digits < 256 → code_from_run (field most digits) ≡ code_from_run (field 9 digits)
+pub nine_digits : (most digits : ℕ) → 9 ≤ most → 0 < digits → digits < 256 → code_from_run (field most digits) ≡ code_from_run (field 9 digits)
 nine_digits most digits nine one eight =
     let some = has_one-field 8 digits one eight in
     ap code_from_run (eight_of most digits nine eight)

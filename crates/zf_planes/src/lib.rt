@@ -6,6 +6,7 @@ mod doubling;
 mod encoding;
 mod four;
 mod measuring;
+mod tails;
 mod words;
 
 pub use decoding::{decode, read_planes};
