@@ -276,6 +276,8 @@ fn read_by_runs<P: Plane>(
     ensures above { IfSome result (λ above. above ≡ max n (reach (digits_held size (P.words plane.new)))) }
 {
     read_front(n, plane, ahead, reader)?;
+    // A tail whose runs are all in sight is read with no further look.
+    *ahead = look(ahead.left, reader);
     read_tail(n, size, plane, ahead, reader)
 }
 
@@ -424,8 +426,8 @@ fn read_plane_of_word<P: Plane>(
     ensures clear { OnSome result (IsClearFrom size (P.words plane.new)) }
     ensures above { IfSome result (λ above. above ≡ max n (reach (digits_held size (P.words plane.new)))) }
 {
-    // As many as the longest code of a plane of sixteen.
-    look_on(33, ahead, reader);
+    // The first digits, and as many behind them as most tails have.
+    look_on(n as u64 + 17, ahead, reader);
     // Each kind of plane has its own way, so that most of them need no table.
     if n == size {
         let all = plane_of_all(size, ahead.bits);
