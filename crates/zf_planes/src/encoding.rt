@@ -6,9 +6,9 @@ ghost use Rattle.zf_spec.specs.Planes.{plane_code, tail, code, reach};
 ghost use Rattle.zf_bits.specs.Writer.{Appends};
 ghost use Rattle.zf_spec.specs.HeldPlanes.{digits_held, planes_held};
 
-use crate::doubling::write_plane_of_word;
 use crate::four::write_planes_of_4;
-use crate::words::{first_word, reach_in, zeros_from};
+use crate::gathered::write_planes_of_word;
+use crate::words::{reach_in, zeros_from};
 use zf_bits::{BitWriter, Plane};
 
 /// Appends the digits of the ranks from `from` on and below `to` as they are, as far as `left` bits reach. The answer is the bits that are left.
@@ -103,10 +103,6 @@ fn write_plane<P: Plane>(
     ensures bits { Appends out.old out.new (take left (plane_code n (digits_held size (P.words plane.now)))) }
     ensures left { result ≡ left - length (plane_code n (digits_held size (P.words plane.now))) }
 {
-    if size > 0 && size <= 64 {
-        let digits = first_word(plane, size);
-        return write_plane_of_word(left, n as u64, size as u64, digits, out);
-    }
     let left = write_part(left, 0, n, plane, out);
     write_tail(left, n, size, end, plane, out)
 }
@@ -154,6 +150,10 @@ fn write_sized<P: Plane>(
     out.write_reserved(0, count as u32);
     if size == 4 {
         return budget - write_planes_of_4(budget - count, zeros as usize, prec, planes, out);
+    }
+    if size == 16 || size == 64 {
+        return budget
+            - write_planes_of_word(budget - count, zeros as usize, prec, size, planes, out);
     }
     let mut left = budget - count;
     let mut above = 0;

@@ -5,6 +5,7 @@ mod decoding;
 mod doubling;
 mod encoding;
 mod four;
+mod gathered;
 mod measuring;
 mod tails;
 mod words;
