@@ -8,6 +8,7 @@ use Rattle.zf_spec.specs.Numbers.{field, is_odd}
 use Rattle.zf_spec.specs.Planes.{has_one, code_from_run, tail, plane_code}
 use Rattle.zf_spec.proofs.Fields.{field-add, field-mod, field-zero}
 use Rattle.zf_spec.proofs.PlaneCode.{tail-zeros}
+use Rattle.zf_spec.proofs.Full.{tail-some}
 use Rattle.zf_bits.proofs.Fields.{take-field, drop-field, field_more}
 use Rattle.zf_spec.proofs.Reach.{has_one-zeros}
 use Rattle.zf_planes.specs.Doubled.{doubled}
@@ -33,11 +34,6 @@ pub run_doubled : (xs ys : List Bool) → has_one ys ≡ true → code_from_run 
 run_doubled [] ys one = refl
 run_doubled (true ∷ xs) ys one = one_doubled (xs ++ ys) (has_one-behind xs ys one) ∙ ap (λ bs. true ∷ true ∷ bs) (run_doubled xs ys one)
 run_doubled (false ∷ xs) ys one = zero_once (xs ++ ys) (has_one-behind xs ys one) ∙ ap (λ bs. false ∷ bs) (run_doubled xs ys one)
-
--- a tail with a one is a group bit and a run
-pub tail_of_run : (ds : List Bool) → has_one ds ≡ true → tail ds ≡ true ∷ code_from_run ds
-tail_of_run [] one = absurd (false≢true one)
-tail_of_run (d ∷ ds) one = ap (λ t. cond t (true ∷ code_from_run (d ∷ ds)) (false ∷ [])) one
 
 -- ---- zeros behind
 
@@ -249,4 +245,4 @@ plane_with size n v within some small =
     let run = field (size - n) (v / 2 ^ n) in
     ap (λ (ds : List Bool). ds ++ tail (drop n (field size v))) (word_front size n v within)
     ∙ ap (λ (ds : List Bool). field n v ++ tail ds) (word_behind size n v within)
-    ∙ ap (λ (bs : List Bool). field n v ++ bs) (tail_of_run run (has_one-field (size - n) (v / 2 ^ n) some (rest_small size n v within small)))
+    ∙ ap (λ (bs : List Bool). field n v ++ bs) (tail-some run (has_one-field (size - n) (v / 2 ^ n) some (rest_small size n v within small)))
