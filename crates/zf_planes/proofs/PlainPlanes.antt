@@ -1,5 +1,5 @@
 -- Planes that bring no new rank, and planes in one word that are written one after another.
-use Rattle.std.proofs.Common.{◌≡◌, ℕ, suc, ◌+◌, ◌-◌, ◌*◌, ◌/◌, ◌^◌, ◌<◌, ◌≤◌, ◌⊎◌, ⊎_elim, max, Bool, false, List, [], ◌∷◌, ◌++◌, length, map, take, drop, get_or, replicate, sym, ap, ◌∙◌, arith, lit<, pow_pos}
+use Rattle.std.proofs.Common.{◌≡◌, ℕ, ◌+◌, ◌-◌, ◌*◌, ◌/◌, ◌^◌, ◌<◌, ◌≤◌, ◌⊎◌, ⊎_elim, max, Bool, false, List, ◌++◌, length, map, take, drop, get_or, replicate, sym, ap, ◌∙◌, arith, lit<, pow_pos}
 use Rattle.std.proofs.Math.Nat.{pow-le-pow_right}
 use Rattle.zf_bits.specs.Writer.{Writer}
 use Rattle.zf_spec.specs.Numbers.{field}

@@ -1,9 +1,7 @@
 -- The top planes, with one plane more.
-use Rattle.std.proofs.Common.{◌≡◌, ℕ, zero, suc, ◌+◌, ◌-◌, ◌<◌, max, Bool, List, [], ◌∷◌, length, map, take, get_or, sym, ap, ◌∙◌, arith}
-use Rattle.std.proofs.lemmas.List.{length-append, length-map, get_or-map}
+use Rattle.std.proofs.Common.{◌≡◌, ℕ, zero, suc, ◌+◌, ◌<◌, max, Bool, List, [], ◌∷◌, length, take, get_or, ap, arith}
+use Rattle.std.proofs.lemmas.List.{length-append}
 use Rattle.zf_spec.specs.Planes.{code, code_from, plane_code, reach, reach_of_all}
-use Rattle.zf_spec.specs.HeldPlanes.{digits_held, planes_held}
-use Rattle.zf_spec.proofs.HeldPlanes.{get_or-planes_held}
 
 -- how far their ones reach
 pub reach_of_all-more : (ps : List (List Bool)) (k : ℕ) → k < length ps → reach_of_all (take (suc k) ps) ≡ max (reach_of_all (take k ps)) (reach (get_or ps k []))

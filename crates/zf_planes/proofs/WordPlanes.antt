@@ -1,10 +1,10 @@
 -- Planes in one word by the bits of their code, with a table of tails.
-use Rattle.std.proofs.Common.{◌≡◌, ℕ, zero, suc, ◌+◌, ◌-◌, ◌*◌, ◌/◌, ◌%◌, ◌^◌, ◌<◌, ◌≤◌, ⊎_elim, min, max, Bool, true, false, ◌&&◌, ◌||◌, ltb, eqb, List, [], ◌∷◌, ◌++◌, length, take, drop, get_or, replicate, refl, sym, ap, ◌∙◌, arith, lit<, take_at, drop_at, pow_pos}
+use Rattle.std.proofs.Common.{◌≡◌, ℕ, suc, ◌+◌, ◌-◌, ◌*◌, ◌/◌, ◌%◌, ◌^◌, ◌<◌, ◌≤◌, ⊎_elim, min, Bool, true, false, ◌&&◌, ◌||◌, ltb, eqb, List, [], ◌∷◌, ◌++◌, length, drop, get_or, replicate, refl, sym, ap, ◌∙◌, arith, lit<, take_at, drop_at, pow_pos}
 use Rattle.std.specs.Int.Bits.{bit_or}
 use Rattle.std.proofs.Math.Nat.{pow-le-pow_right, div-eq_of_lt}
-use Rattle.std.proofs.lemmas.Bool.{cases_lt, and_parts, ltb-true, eqb-true, lt-ltb}
+use Rattle.std.proofs.lemmas.Bool.{cases_lt, and_parts, ltb-true, eqb-true}
 use Rattle.zf_spec.specs.Numbers.{field, is_odd}
-use Rattle.zf_spec.specs.Planes.{has_one, reach, tail, code_from_run, plane_code}
+use Rattle.zf_spec.specs.Planes.{has_one, reach, tail, plane_code}
 use Rattle.zf_spec.proofs.Fields.{length-field, field-add, field-mod, field-zero}
 use Rattle.zf_spec.proofs.Reach.{reach_some, reach-le}
 use Rattle.zf_spec.proofs.Full.{tail-some}

@@ -11,7 +11,7 @@ mod tails;
 mod words;
 
 pub use decoding::{decode, read_planes};
-pub use encoding::{encode, write_planes};
+pub use encoding::{encode, write_planes, write_planes_below};
 pub use measuring::{code_len, planes_len, planes_used, planes_within, used_planes};
 pub use words::clear;
 

@@ -1,7 +1,6 @@
-use Rattle.std.proofs.Common.{◌≡◌, ◌+◌, ◌-◌, ◌%◌, ◌≤◌, ◌∙◌, arith}
+use Rattle.std.proofs.Common.{◌≡◌, ◌+◌, ◌-◌, ◌%◌, ◌∙◌, arith}
 use Rattle.zf_spec.specs.Numbers.{field}
 use Rattle.zf_bits.proofs.Fields.{field-mod}
-use Rattle.zf_planes.specs.WordPlanes.{IsReadAs}
 use Rattle.zf_planes.proofs.decoding.read_plane_of_4.Goals as goal
 
 pub put_plane-requires-clause-read : goal.put_plane-requires-clause-read

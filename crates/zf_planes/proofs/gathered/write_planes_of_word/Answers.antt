@@ -1,10 +1,10 @@
-use Rattle.std.proofs.Common.{◌≡◌, ℕ, ◌+◌, ◌-◌, ◌≤◌, min, max, Bool, List, [], ◌++◌, length, map, take, drop, sym, ap, ◌∙◌, arith, append_assoc, length-append}
+use Rattle.std.proofs.Common.{◌≡◌, ℕ, ◌+◌, ◌-◌, min, max, Bool, List, ◌++◌, length, map, take, drop, sym, ap, ◌∙◌, arith, append_assoc, length-append}
 use Rattle.std.proofs.lemmas.List.{drop_all, length-map}
 use Rattle.zf_spec.specs.Numbers.{field}
 use Rattle.zf_spec.specs.Planes.{plane_code, code_from, reach}
 use Rattle.zf_spec.specs.HeldPlanes.{planes_held}
 use Rattle.zf_spec.proofs.Fields.{length-field}
-use Rattle.zf_planes.proofs.Budgets.{Remains, Remains-start, Remains-same, Remains-fits, Remains-more, Remains-end}
+use Rattle.zf_planes.proofs.Budgets.{Remains-same, Remains-fits, Remains-more, Remains-end}
 use Rattle.zf_planes.proofs.Unpacking.{length-top_held}
 use Rattle.zf_planes.proofs.PlainPlanes.{next_word}
 use Rattle.zf_planes.proofs.gathered.write_planes_of_word.Given.{Over}

@@ -1,7 +1,6 @@
-use Rattle.std.proofs.Common.{◌≡◌, ◌+◌, ◌-◌, ◌*◌, ◌/◌, ◌%◌, ◌^◌, min, ap, ◌∙◌, arith}
+use Rattle.std.proofs.Common.{◌-◌, ◌/◌, ◌%◌, ◌^◌, arith}
 use Rattle.std.proofs.lemmas.Nat.{one_shl}
 use Rattle.zf_planes.proofs.WordPlanes.{IsEntry, tail_of_entry, read_with}
-use Rattle.zf_planes.specs.declared.tails.TheConstants.{TAILS}
 use Rattle.zf_planes.proofs.tails.plane_with.Goals as goal
 
 -- what the entry says
