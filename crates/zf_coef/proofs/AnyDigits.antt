@@ -1,17 +1,19 @@
 -- The digits that any coefficient has, and the planes that are needed.
-use Rattle.std.proofs.Common.{◌≡◌, refl, sym, ap, ◌∙◌, ℕ, ◌-◌, ◌/◌, ◌%◌, ◌^◌, ◌<◌, ◌≤◌, max, ⊎_elim, Bool, true, false, ◌||◌, eqb, List, [], ◌∷◌, ◌++◌, map, get_or, arith}
-use Rattle.std.specs.Int.{bit_at, trailing_zeros, w64}
+use Rattle.std.proofs.Common.{◌≡◌, refl, sym, ap, ◌∙◌, ℕ, ◌-◌, ◌/◌, ◌%◌, ◌^◌, ◌*◌, ◌+◌, ◌<◌, ◌≤◌, max, ⊎_elim, Bool, true, false, ◌||◌, eqb, List, [], ◌∷◌, ◌++◌, map, get_or, get_or-take, ext_get_or, length, take, replicate, mod-lt, arith}
+use Rattle.std.specs.Int.{bit_at, trailing_zeros, leading_zeros, w64}
 use Rattle.std.specs.Int.RustNames.{bit_or}
 use Rattle.std.specs.Int.Count.{trailing_of_zero}
 use Rattle.std.proofs.lemmas.Bool.{cases_lt, cases_eq}
-use Rattle.std.proofs.lemmas.List.{map-append, get_or_past}
-use Rattle.std.proofs.lemmas.Nat.Bits.{bit_at_or, bit_at-zero, bit_at-trailing_zeros}
+use Rattle.std.proofs.lemmas.List.{map-append, get_or_past, length-map, length-take, length-replicate, get_or-replicate}
+use Rattle.std.proofs.lemmas.Nat.Bits.{bit_at_or, bit_at-zero, bit_at-trailing_zeros, bit_at_above}
+use Rattle.std.proofs.lemmas.Nat.{leading_length, pow_pos}
 use Rattle.zf_spec.specs.Numbers.{field, is_odd}
 use Rattle.zf_spec.specs.Planes.{plane, planes_of, has_one, needed_planes}
 use Rattle.zf_spec.proofs.Fields.{get_or-field}
 use Rattle.zf_spec.proofs.PlaneDigits.{get_or-planes_of, length-planes_of}
-use Rattle.zf_spec.proofs.Reach.{used_only}
+use Rattle.zf_spec.proofs.Reach.{used_only, zeros_from_none}
 use Rattle.zf_coef.specs.HeldDigits.{digits_in}
+use Rattle.zf_coef.proofs.ShiftedBits.{bit_at-mod, bit_at-shl_high}
 
 has_one-last : (ds : List Bool) (d : Bool) → has_one (ds ++ d ∷ []) ≡ (has_one ds || d)
 has_one-last [] true = refl
@@ -76,3 +78,33 @@ needed-is any width digits within word is =
         (λ (none : any ≡ 0). let all : trailing_zeros w64 any ≡ 64 = ap (trailing_zeros w64) none ∙ trailing_of_zero 64 in absurd (omega arith))
         (λ some. (bit_at-trailing_zeros w64 any (omega arith) word).1)
         (cases_eq any 0)
+
+-- above the greatest digit that any has, no plane has a one
+pub leading_zero_planes : (any w r : ℕ) (digits : List ℕ) → w ≤ 64 → IsAny any digits → r ≤ w → r ≤ leading_zeros w64 (any * 2 ^ (64 - w) % 2 ^ 64)
+    → take r (planes_of w (digits_in w digits)) ≡ replicate r (replicate (length digits) false)
+leading_zero_planes any w r digits within is few zeros =
+    let coefficients = digits_in w digits in
+    let ps = planes_of w coefficients in
+    let blank = replicate (length digits) false in
+    ext_get_or [] (take r ps) (replicate r blank) (omega (arith, length-take r ps, length-planes_of w coefficients, length-replicate r blank))
+    (λ j low.
+    let below : j < r = omega (arith, length-take r ps) in
+    let k = w - 1 - j in
+    let one = plane k coefficients in
+    let long : length one ≡ length digits = length-map coefficients (λ ds. get_or ds k false) ∙ length-map digits (field w) in
+    let none : has_one one ≡ false = sym (is w k (omega arith)) ∙ ap (λ b. eqb b 1) (zero_at j below) in
+    get_or-take r ps j [] below
+    ∙ get_or-planes_of w coefficients j (omega arith)
+    ∙ zeros_from_none one none
+    ∙ ap (λ n. replicate n false) long
+    ∙ sym (get_or-replicate r j blank [] below))
+  where
+    zero_at : (j : ℕ) → j < r → bit_at any (w - 1 - j) ≡ 0
+    zero_at j below =
+        let s = 64 - w in
+        let i = 63 - j in
+        let a = any * 2 ^ s % 2 ^ 64 in
+        let top = leading_length 64 a (mod-lt (any * 2 ^ s) (pow_pos 64)) in
+        let sum : leading_zeros w64 a + top.0 ≡ 64 = top.1 in
+        let place : i - s ≡ w - 1 - j = omega arith in
+        ap (bit_at any) (sym place) ∙ sym (bit_at-mod (any * 2 ^ s) i (omega arith) ∙ bit_at-shl_high any s i (omega arith)) ∙ bit_at_above a top.0 i top.2 (omega arith)

@@ -131,18 +131,20 @@ fn kernels_are_the_plain_program(rt: HostRuntime) {
     }
 }
 
-// How many planes are needed: those above the lowest digit that any coefficient has.
+// How many planes are needed, those above the lowest digit that any coefficient has, and how many are zero above the greatest one.
 #[test]
 fn planes_are_needed_down_to_the_lowest_digit(rt: HostRuntime) {
-    let table: [(&[u64], u32, u32); 6] = [
-        (&[], 32, 0),
-        (&[0, 0, 0, 0], 32, 0),
-        (&[0, 1, 0, 0], 32, 32),
-        (&[0x8000_0000, 0, 0xc000_0000, 0], 32, 2),
-        (&[0x8000_0000_0000_0000, 0, 0, 0], 64, 1),
-        (&[12, 8, 0, 24], 64, 62),
+    let table: [(&[u64], u32, u32, u32); 6] = [
+        (&[], 32, 0, 32),
+        (&[0, 0, 0, 0], 32, 0, 32),
+        (&[0, 1, 0, 0], 32, 32, 31),
+        (&[0x8000_0000, 0, 0xc000_0000, 0], 32, 2, 0),
+        (&[0x8000_0000_0000_0000, 0, 0, 0], 64, 1, 0),
+        (&[12, 8, 0, 24], 64, 62, 59),
     ];
-    for (digits, width, needed) in table {
+    for (digits, width, needed, zeros) in table {
+        assert!(rt; 0 < width && width <= 64);
+        assert_eq!(rt; zero_planes(digits, width), zeros);
         assert_eq!(rt;
             needed_planes(digits, width),
             needed,

@@ -8,6 +8,7 @@ use Rattle.zf_spec.specs.Numbers.{field, is_odd}
 use Rattle.zf_spec.specs.Planes.{has_one, code_from_run, tail, plane_code}
 use Rattle.zf_spec.proofs.Fields.{field-add, field-mod, field-zero}
 use Rattle.zf_spec.proofs.PlaneCode.{tail-zeros}
+use Rattle.zf_spec.proofs.Full.{tail-some}
 use Rattle.zf_bits.proofs.Fields.{take-field, drop-field, field_more}
 use Rattle.zf_spec.proofs.Reach.{has_one-zeros}
 use Rattle.zf_planes.specs.Doubled.{doubled}
@@ -33,11 +34,6 @@ pub run_doubled : (xs ys : List Bool) → has_one ys ≡ true → code_from_run 
 run_doubled [] ys one = refl
 run_doubled (true ∷ xs) ys one = one_doubled (xs ++ ys) (has_one-behind xs ys one) ∙ ap (λ bs. true ∷ true ∷ bs) (run_doubled xs ys one)
 run_doubled (false ∷ xs) ys one = zero_once (xs ++ ys) (has_one-behind xs ys one) ∙ ap (λ bs. false ∷ bs) (run_doubled xs ys one)
-
--- a tail with a one is a group bit and a run
-pub tail_of_run : (ds : List Bool) → has_one ds ≡ true → tail ds ≡ true ∷ code_from_run ds
-tail_of_run [] one = absurd (false≢true one)
-tail_of_run (d ∷ ds) one = ap (λ t. cond t (true ∷ code_from_run (d ∷ ds)) (false ∷ [])) one
 
 -- ---- zeros behind
 
@@ -135,7 +131,7 @@ run_of_entry_to_9 most digits e some nine one eight within is =
     record { bits = same_digits-true _ _ one.0; len = ltb-true _ _ two.0; two = ltb-true _ _ two.1 }
 
 -- more digits make no difference, where they are zeros
-eight_of : (most digits : ℕ) → 9 ≤ most → digits < 256 → field most digits ≡ field 8 digits ++ replicate (suc (most - 9)) false
+pub eight_of : (most digits : ℕ) → 9 ≤ most → digits < 256 → field most digits ≡ field 8 digits ++ replicate (suc (most - 9)) false
 eight_of most digits nine eight =
     let parts : most ≡ 8 + suc (most - 9) = omega arith in
     let none : digits / 2 ^ 8 ≡ 0 = omega arith in
@@ -144,7 +140,7 @@ eight_of most digits nine eight =
     ∙ ap (λ v. field 8 digits ++ field (suc (most - 9)) v) none
     ∙ ap (λ (bs : List Bool). field 8 digits ++ bs) (field-zero (suc (most - 9)))
 
-nine_digits : (most digits : ℕ) → 9 ≤ most → 0 < digits → digits < 256 → code_from_run (field most digits) ≡ code_from_run (field 9 digits)
+pub nine_digits : (most digits : ℕ) → 9 ≤ most → 0 < digits → digits < 256 → code_from_run (field most digits) ≡ code_from_run (field 9 digits)
 nine_digits most digits nine one eight =
     let some = has_one-field 8 digits one eight in
     ap code_from_run (eight_of most digits nine eight)
@@ -249,4 +245,4 @@ plane_with size n v within some small =
     let run = field (size - n) (v / 2 ^ n) in
     ap (λ (ds : List Bool). ds ++ tail (drop n (field size v))) (word_front size n v within)
     ∙ ap (λ (ds : List Bool). field n v ++ tail ds) (word_behind size n v within)
-    ∙ ap (λ (bs : List Bool). field n v ++ bs) (tail_of_run run (has_one-field (size - n) (v / 2 ^ n) some (rest_small size n v within small)))
+    ∙ ap (λ (bs : List Bool). field n v ++ bs) (tail-some run (has_one-field (size - n) (v / 2 ^ n) some (rest_small size n v within small)))

@@ -1,7 +1,7 @@
 -- Bits of several planes in one word.
-use Rattle.std.proofs.Common.{◌≡◌, ℕ, suc, false, set, replicate, refl, get_or-set_same, ◌∷◌, ◌+◌, ◌-◌, ◌*◌, ◌/◌, ◌%◌, ◌^◌, ◌<◌, ◌≤◌, ⊎_elim, min, max, Bool, List, [], ◌++◌, append_assoc, length, take, drop, get_or, sym, ap, ◌∙◌, arith, lit<}
+use Rattle.std.proofs.Common.{◌≡◌, ℕ, suc, false, set, replicate, refl, get_or-set_same, ◌∷◌, ◌+◌, ◌-◌, ◌*◌, ◌/◌, ◌%◌, ◌^◌, ◌<◌, ◌≤◌, ⊎_elim, min, max, Bool, List, [], ◌++◌, append_assoc, length, take, drop, get_or, sym, ap, subst, ◌∙◌, arith, lit<}
 use Rattle.std.specs.Int.Bits.{bit_or}
-use Rattle.std.proofs.Math.Nat.{pow-le-pow_right, mod-le}
+use Rattle.std.proofs.Math.Nat.{pow-le-pow_right, mod-le, div-eq_of_lt}
 use Rattle.std.proofs.Math.Seq.{take-append-add}
 use Rattle.std.proofs.lemmas.Bool.{cases_lt}
 use Rattle.std.proofs.lemmas.Nat.{or_lt, shl_below}
@@ -92,24 +92,29 @@ held_word size w ws is small long =
 pub held_4 : (w : ℕ) (ws : List ℕ) → w ≡ get_or ws 0 0 → 4 ≤ 64 * length ws → digits_held 4 ws ≡ field 4 (w % 16)
 held_4 w ws is long = held_word 4 w ws is (omega arith) long ∙ sym (field-mod 4 w)
 
--- ---- a plane of four digits that is put in
+-- ---- a plane in one word that is put in
 
-pub record Written (n : ℕ) (ws : List ℕ) : Type 0 where
-  pub digits : digits_held 4 ws ≡ field 4 n
-  pub clear : IsClearFrom 4 ws
+pub record Written (size n : ℕ) (ws : List ℕ) : Type 0 where
+  pub digits : digits_held size ws ≡ field size n
+  pub clear : IsClearFrom size ws
 
-pub written : (k digits : ℕ) (ws ws' : List ℕ) → 4 ≤ 64 * k → ws ≡ replicate k 0 → ws' ≡ set ws 0 digits → digits < 16 → Written digits ws'
-written k digits ws ws' enough blank is small =
+pub written : (size k digits : ℕ) (ws ws' : List ℕ) → size ≤ 64 → size ≤ 64 * k → 0 < k → ws ≡ replicate k 0 → ws' ≡ set ws 0 digits → digits < 2 ^ size → Written size digits ws'
+written size k digits ws ws' narrow enough some blank is small =
     let long : length ws ≡ k = ap length blank ∙ length-replicate k 0 in
-    let some : 0 < length ws = omega (arith, long) in
-    let here : digits ≡ get_or (set ws 0 digits) 0 0 = sym (get_or-set_same ws 0 digits 0 some) in
-    let low : digits % 16 ≡ digits = omega arith in
-    let none : digits / 2 ^ 4 ≡ 0 = omega arith in
-    let zeros : field 64 digits ≡ field 4 digits ++ replicate 60 false = field-add 4 60 digits ∙ ap (λ v. field 4 digits ++ field 60 v) none ∙ ap (λ (bs : List Bool). field 4 digits ++ bs) (field-zero 60) in
+    let here : digits ≡ get_or (set ws 0 digits) 0 0 = sym (get_or-set_same ws 0 digits 0 (omega (arith, long))) in
+    let none : digits / 2 ^ size ≡ 0 = div-eq_of_lt small in
+    let parts : size + (64 - size) ≡ 64 = omega arith in
+    let zeros : field 64 digits ≡ field size digits ++ replicate (64 - size) false =
+    ap (λ n. field n digits) (sym parts)
+    ∙ field-add size (64 - size) digits
+    ∙ ap (λ v. field size digits ++ field (64 - size) v) none
+    ∙ ap (λ (bs : List Bool). field size digits ++ bs) (field-zero (64 - size)) in
     let clear : IsClearFrom 0 ws = rw blank (clear_zeros 0 k) in
+    let place : 0 + size ≡ size = omega arith in
+    let Clear : ℕ → Type 0 = λ m. IsClearFrom m (set ws 0 digits) in
     rw is (record {
-      digits = held_4 digits (set ws 0 digits) here (omega (arith, length-set ws 0 digits, long)) ∙ ap (field 4) low;
-      clear = (word_filled ws 0 0 4 digits (field 4 digits) (omega arith) (omega arith) some zeros refl clear).1;
+      digits = held_word size digits (set ws 0 digits) here narrow (omega (arith, length-set ws 0 digits, long));
+      clear = subst Clear place (word_filled ws 0 0 size digits (field size digits) (omega arith) narrow (omega (arith, long)) zeros (length-field size digits) clear).1;
     })
 
 -- several planes in one number, of which one more is put in

@@ -3,6 +3,8 @@
 --     Tables       tables of planes of four digits
 --     Doubled      the code of runs, and its tables
 --     Gathering    bits of several planes in one word
+--     PlainPlanes  planes that bring no new rank
+--     WordPlanes   planes in one word by the bits of their code
 --     Lengths      how long the tail of a plane is
 --     Budgets      a list that is written in parts, as far as a budget reaches
 --     Zeros        the code of zeros and of a run as numbers
@@ -21,6 +23,8 @@ pub mod Runs
 pub mod Tables
 pub mod Doubled
 pub mod Gathering
+pub mod PlainPlanes
+pub mod WordPlanes
 pub mod Lengths
 pub mod Budgets
 pub mod Zeros

@@ -1,9 +1,7 @@
 -- The top planes, with one plane more.
-use Rattle.std.proofs.Common.{◌≡◌, ℕ, zero, suc, ◌+◌, ◌-◌, ◌<◌, max, Bool, List, [], ◌∷◌, length, map, take, get_or, sym, ap, ◌∙◌, arith}
-use Rattle.std.proofs.lemmas.List.{length-append, length-map, get_or-map}
+use Rattle.std.proofs.Common.{◌≡◌, ℕ, zero, suc, ◌+◌, ◌<◌, max, Bool, List, [], ◌∷◌, length, take, get_or, ap, arith}
+use Rattle.std.proofs.lemmas.List.{length-append}
 use Rattle.zf_spec.specs.Planes.{code, code_from, plane_code, reach, reach_of_all}
-use Rattle.zf_spec.specs.HeldPlanes.{digits_held, planes_held}
-use Rattle.zf_spec.proofs.HeldPlanes.{get_or-planes_held}
 
 -- how far their ones reach
 pub reach_of_all-more : (ps : List (List Bool)) (k : ℕ) → k < length ps → reach_of_all (take (suc k) ps) ≡ max (reach_of_all (take k ps)) (reach (get_or ps k []))
@@ -33,13 +31,3 @@ code-more ps k below =
     let r = reach_of_all (take k ps) in
     let same : max 0 r ≡ r = omega arith in
     omega (arith, code_from-more 0 ps k below, ap (λ a. length (plane_code a (get_or ps k []))) same)
-
--- the plane of this number from the top, of planes of any type that has words
-pub plane_held : {A : Type 0} (words : A → List ℕ) (size i : ℕ) (planes : List A) (plane : A) → plane ≡ get_or planes (length planes - 1 - i) plane → i < length planes
-    → get_or (planes_held size (map words planes)) i [] ≡ digits_held size (words plane)
-plane_held words size i planes plane is below =
-    let all = map words planes in
-    let long = length-map planes words in
-    let place : length all - 1 - i ≡ length planes - 1 - i = omega arith in
-    get_or-planes_held size all i [] (omega arith)
-    ∙ ap (digits_held size) (ap (λ k. get_or all k []) place ∙ get_or-map words planes (length planes - 1 - i) plane [] (omega arith) ∙ ap words (sym is))

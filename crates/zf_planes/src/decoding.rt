@@ -1,17 +1,19 @@
 //! Reading planes from their code.
 
-ghost use Rattle.std.specs.Prelude.{◌≡◌, ◌+◌, ◌-◌, ◌*◌, ◌%◌, ◌<◌, ◌≤◌, ◌↔◌, ◌⊎◌, min, max, slice_set, true, false, ◌∷◌, ◌++◌, length, map, take, drop, replicate, All, IsNone, IfNone, IfSome, OnSome};
+ghost use Rattle.std.specs.Prelude.{◌≡◌, ◌+◌, ◌-◌, ◌*◌, ◌%◌, ◌^◌, ◌<◌, ◌≤◌, ◌↔◌, ◌⊎◌, min, max, slice_set, true, false, ◌∷◌, ◌++◌, length, map, take, drop, replicate, All, IsNone, IfNone, IfSome, OnSome};
 ghost use Rattle.zf_spec.specs.Grid.{IsBlockSize};
 ghost use Rattle.zf_spec.specs.Kept.{kept_planes};
 ghost use Rattle.zf_spec.specs.ReadPlanes.{first_bits};
 ghost use Rattle.zf_spec.specs.HeldPlanes.{digits_held, planes_held, IsClearFrom};
 ghost use Rattle.zf_spec.specs.Numbers.{field, word_bits};
 ghost use Rattle.zf_spec.specs.Planes.{reach};
+ghost use Rattle.zf_planes.specs.WordPlanes.{IsReadAs};
 ghost use Rattle.zf_bits.specs.Reader.{rest, Reads};
 ghost use Rattle.zf_planes.specs.Fours.{fours};
 ghost use Rattle.zf_planes.specs.Decoding.{IsWindow, coded, coded_bits, tail_ahead, tail_bits, run_ahead, run_bits, plane_ahead, plane_bits, planes_ahead, planes_bits, Takes, Lacks};
 
 use crate::four::{plane_of_4, planes_of_4};
+use crate::tails::{PlaneOfWord, plane_of_all, plane_with, plane_without};
 use crate::words::clear;
 use zf_bits::{BitReader, Plane};
 
@@ -274,21 +276,105 @@ fn read_by_runs<P: Plane>(
     ensures above { IfSome result (λ above. above ≡ max n (reach (digits_held size (P.words plane.new)))) }
 {
     read_front(n, plane, ahead, reader)?;
+    // A tail whose runs are all in sight is read with no further look.
+    *ahead = look(ahead.left, reader);
     read_tail(n, size, plane, ahead, reader)
 }
 
-/// Looks again where there may be more bits than those that are in sight.
+/// The same in a function of its own: the values of a loop that calls it stay in registers where its places are not handed on.
+#[inline(never)]
+fn read_apart<P: Plane>(
+    n: usize,
+    size: usize,
+    plane: &mut P,
+    ahead: &mut Ahead,
+    reader: &mut BitReader<'_>,
+) -> Option<usize>
+    requires size { size ≤ 256 }
+    requires words { size ≤ 64 * P.word_count }
+    requires in_plane { n ≤ size }
+    requires blank { P.words plane.old ≡ replicate P.word_count 0 }
+    requires window { IsWindow ahead.old.left ahead.old.bits ahead.old.count (rest reader.old) }
+    ensures short { IfNone result (Lacks reader.old reader.new (plane_bits ahead.old.left size n (rest reader.old))) }
+    ensures window { OnSome result (IsWindow ahead.new.left ahead.new.bits ahead.new.count (rest reader.new)) }
+    ensures taken { OnSome result (Takes reader.old reader.new ahead.old.left ahead.new.left (plane_bits ahead.old.left size n (rest reader.old))) }
+    ensures digits { OnSome result (digits_held size (P.words plane.new) ≡ plane_ahead ahead.old.left size n (rest reader.old)) }
+    ensures clear { OnSome result (IsClearFrom size (P.words plane.new)) }
+    ensures above { IfSome result (λ above. above ≡ max n (reach (digits_held size (P.words plane.new)))) }
+{
+    read_by_runs(n, size, plane, ahead, reader)
+}
+
+/// The same by way of copies, so that only they lie in memory.
+#[inline(always)]
+fn read_slowly<P: Plane>(
+    n: usize,
+    size: usize,
+    plane: &mut P,
+    ahead: &mut Ahead,
+    reader: &mut BitReader<'_>,
+) -> Option<usize>
+    requires size { size ≤ 256 }
+    requires words { size ≤ 64 * P.word_count }
+    requires in_plane { n ≤ size }
+    requires blank { P.words plane.old ≡ replicate P.word_count 0 }
+    requires window { IsWindow ahead.old.left ahead.old.bits ahead.old.count (rest reader.old) }
+    ensures short { IfNone result (Lacks reader.old reader.new (plane_bits ahead.old.left size n (rest reader.old))) }
+    ensures window { OnSome result (IsWindow ahead.new.left ahead.new.bits ahead.new.count (rest reader.new)) }
+    ensures taken { OnSome result (Takes reader.old reader.new ahead.old.left ahead.new.left (plane_bits ahead.old.left size n (rest reader.old))) }
+    ensures digits { OnSome result (digits_held size (P.words plane.new) ≡ plane_ahead ahead.old.left size n (rest reader.old)) }
+    ensures clear { OnSome result (IsClearFrom size (P.words plane.new)) }
+    ensures above { IfSome result (λ above. above ≡ max n (reach (digits_held size (P.words plane.new)))) }
+{
+    let mut digits = *plane;
+    let mut next = *ahead;
+    let above = read_apart(n, size, &mut digits, &mut next, reader)?;
+    *plane = digits;
+    *ahead = next;
+    Some(above)
+}
+
+/// Looks again where fewer bits are in sight than are wanted, and there may be more.
 #[inline]
-fn look_on(ahead: &mut Ahead, reader: &BitReader<'_>)
+fn look_on(wanted: u64, ahead: &mut Ahead, reader: &BitReader<'_>)
     requires window { IsWindow ahead.old.left ahead.old.bits ahead.old.count (rest reader.now) }
     ensures window { IsWindow ahead.new.left ahead.new.bits ahead.new.count (rest reader.now) }
     ensures left { ahead.new.left ≡ ahead.old.left }
-    ensures more { (7 ≤ ahead.new.count) ⊎ (ahead.new.count ≡ min ahead.new.left (length (rest reader.now))) }
 {
     // Where all that is left of the budget is in sight, there is no more to see.
-    if ahead.count < 7 && ahead.count < ahead.left {
+    if ahead.count < wanted && ahead.count < ahead.left {
         *ahead = look(ahead.left, reader);
     }
+}
+
+/// Passes the code of a plane that is known, and puts its digits in. The answer is how far its ones and those above reach.
+#[inline(always)]
+fn put_plane<P: Plane>(
+    n: usize,
+    size: usize,
+    next: PlaneOfWord,
+    plane: &mut P,
+    ahead: &mut Ahead,
+    reader: &mut BitReader<'_>,
+) -> usize
+    requires ranks { 0 < size }
+    requires size { size ≤ 64 }
+    requires words { size ≤ 64 * P.word_count }
+    requires in_plane { n ≤ size }
+    requires blank { P.words plane.old ≡ replicate P.word_count 0 }
+    requires window { IsWindow ahead.old.left ahead.old.bits ahead.old.count (rest reader.old) }
+    requires read { IsReadAs n size ahead.old.bits next.digits next.len next.above }
+    requires some { 0 < next.len }
+    requires there { next.len ≤ ahead.old.count }
+    ensures window { IsWindow ahead.new.left ahead.new.bits ahead.new.count (rest reader.new) }
+    ensures taken { Takes reader.old reader.new ahead.old.left ahead.new.left (plane_bits ahead.old.left size n (rest reader.old)) }
+    ensures digits { digits_held size (P.words plane.new) ≡ plane_ahead ahead.old.left size n (rest reader.old) }
+    ensures clear { IsClearFrom size (P.words plane.new) }
+    ensures above { result ≡ max n (reach (digits_held size (P.words plane.new))) }
+{
+    plane.set_word(0, next.digits);
+    pass(next.len, ahead, reader);
+    next.above
 }
 
 /// Reads the code of a plane of four digits in which the ranks below `n` have had a one above. The answer is how far the ones of both reach.
@@ -310,14 +396,54 @@ fn read_plane_of_4<P: Plane>(
     ensures clear { OnSome result (IsClearFrom 4 (P.words plane.new)) }
     ensures above { IfSome result (λ above. above ≡ max n (reach (digits_held 4 (P.words plane.new)))) }
 {
-    look_on(ahead, reader);
+    look_on(7, ahead, reader);
     let next = plane_of_4(n, ahead.bits % 128);
     if next.len <= ahead.count {
-        plane.set_word(0, next.digits);
-        pass(next.len, ahead, reader);
-        return Some(next.above);
+        return Some(put_plane(n, 4, next, plane, ahead, reader));
     }
     read_by_runs(n, 4, plane, ahead, reader)
+}
+
+/// Reads the code of a plane of up to 64 digits in which the ranks below `n` have had a one above. The answer is how far the ones of both reach.
+#[inline(always)]
+fn read_plane_of_word<P: Plane>(
+    n: usize,
+    size: usize,
+    plane: &mut P,
+    ahead: &mut Ahead,
+    reader: &mut BitReader<'_>,
+) -> Option<usize>
+    requires some { 0 < size }
+    requires small { size ≤ 64 }
+    requires words { size ≤ 64 * P.word_count }
+    requires in_plane { n ≤ size }
+    requires blank { P.words plane.old ≡ replicate P.word_count 0 }
+    requires window { IsWindow ahead.old.left ahead.old.bits ahead.old.count (rest reader.old) }
+    ensures short { IfNone result (Lacks reader.old reader.new (plane_bits ahead.old.left size n (rest reader.old))) }
+    ensures window { OnSome result (IsWindow ahead.new.left ahead.new.bits ahead.new.count (rest reader.new)) }
+    ensures taken { OnSome result (Takes reader.old reader.new ahead.old.left ahead.new.left (plane_bits ahead.old.left size n (rest reader.old))) }
+    ensures digits { OnSome result (digits_held size (P.words plane.new) ≡ plane_ahead ahead.old.left size n (rest reader.old)) }
+    ensures clear { OnSome result (IsClearFrom size (P.words plane.new)) }
+    ensures above { IfSome result (λ above. above ≡ max n (reach (digits_held size (P.words plane.new)))) }
+{
+    // The first digits, and as many behind them as most tails have.
+    look_on(n as u64 + 17, ahead, reader);
+    // Each kind of plane has its own way, so that most of them need no table.
+    if n == size {
+        let all = plane_of_all(size, ahead.bits);
+        if all.len <= ahead.count {
+            return Some(put_plane(n, size, all, plane, ahead, reader));
+        }
+    } else if (n as u64) < ahead.count && (ahead.bits >> n) % 2 == 0 {
+        let same = plane_without(n, size, ahead.bits);
+        return Some(put_plane(n, size, same, plane, ahead, reader));
+    } else {
+        let more = plane_with(n, size, ahead.bits);
+        if more.len <= ahead.count {
+            return Some(put_plane(n, size, more, plane, ahead, reader));
+        }
+    }
+    read_slowly(n, size, plane, ahead, reader)
 }
 
 /// Reads the code of a plane in which the ranks below `n` have had a one above. The answer is how far the ones of both reach.
@@ -343,6 +469,9 @@ fn read_plane<P: Plane>(
 {
     if size == 4 {
         return read_plane_of_4(n, plane, ahead, reader);
+    }
+    if size == 16 || size == 64 {
+        return read_plane_of_word(n, size, plane, ahead, reader);
     }
     read_by_runs(n, size, plane, ahead, reader)
 }
@@ -430,7 +559,7 @@ fn read_sized<P: Plane>(
     Some(ahead.left)
 }
 
-/// The same, of which planes of four digits have a program of their own.
+/// The same, of which planes of each size that a word holds have a program of their own.
 fn read_top<P: Plane>(
     budget: u64,
     prec: u32,
@@ -451,6 +580,8 @@ fn read_top<P: Plane>(
 {
     match size {
         4 => read_sized(budget, prec, size, reader, planes),
+        16 => read_sized(budget, prec, size, reader, planes),
+        64 => read_sized(budget, prec, size, reader, planes),
         _ => read_sized(budget, prec, size, reader, planes),
     }
 }

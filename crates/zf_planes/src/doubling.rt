@@ -1,6 +1,6 @@
 //! The code of planes in one word: the digits of a run are doubled, eight at a time, by a table.
 
-ghost use Rattle.std.specs.Prelude.{◌≡◌, ◌+◌, ◌-◌, ◌*◌, ◌^◌, ◌<◌, ◌≤◌, min, ◌++◌, length, take, slice_index_or};
+ghost use Rattle.std.specs.Prelude.{◌≡◌, ◌+◌, ◌-◌, ◌*◌, ◌/◌, ◌^◌, ◌<◌, ◌≤◌, min, ◌++◌, length, take, slice_index_or};
 ghost use Rattle.zf_spec.specs.Numbers.{field};
 ghost use Rattle.zf_spec.specs.Planes.{code_from_run, plane_code};
 ghost use Rattle.zf_bits.specs.Writer.{Appends};
@@ -62,11 +62,11 @@ static RUNS: [u32; 256] = [
 
 /// Bits of a code.
 #[derive(Clone, Copy)]
-struct Part {
+pub(crate) struct Part {
     /// The bits, the first one lowest.
-    bits: u64,
+    pub(crate) bits: u64,
     /// How many bits there are.
-    len: u64,
+    pub(crate) len: u64,
 }
 
 /// What the table says of these digits.
@@ -123,7 +123,7 @@ fn short_run(most: u64, digits: u64) -> Part
 
 /// Bits behind others.
 #[inline]
-fn join(front: Part, back: Part) -> Part
+pub(crate) fn join(front: Part, back: Part) -> Part
     requires some_left { front.len < 64 }
     requires within { front.len + back.len ≤ 64 }
     requires small { front.bits < 2 ^ front.len }
@@ -139,7 +139,7 @@ fn join(front: Part, back: Part) -> Part
 
 /// Appends bits, as far as `left` bits reach. The answer is the bits that are left.
 #[inline]
-fn write_part(left: u64, part: Part, out: &mut BitWriter) -> u64
+pub(crate) fn write_part(left: u64, part: Part, out: &mut BitWriter) -> u64
     requires in_word { part.len ≤ 64 }
     requires fits { min left part.len ≤ out.old.room }
     ensures bits { Appends out.old out.new (take left (field part.len part.bits)) }
@@ -179,47 +179,37 @@ fn write_run(left: u64, front: Part, most: u64, digits: u64, out: &mut BitWriter
     write_part(left, join(part, short_run(most, digits)), out)
 }
 
-/// Appends the code of a plane of up to 64 digits in which the ranks below `n` have had a one above, as far as `left` bits reach. The answer is the bits
-/// that are left.
+/// Appends bits that were put together, and the code of a plane of up to 64 digits in which the ranks below `n` have had a one above and a later one has its
+/// first, as far as `left` bits reach. The answer is the bits that are left.
 #[inline(always)]
-pub(crate) fn write_plane_of_word(
+pub(crate) fn write_with(
     left: u64,
+    part: Part,
     n: u64,
     size: u64,
     digits: u64,
     out: &mut BitWriter,
 ) -> u64
     requires size { size ≤ 64 }
-    requires in_plane { n ≤ size }
+    requires in_plane { n < size }
     requires digits { digits < 2 ^ size }
-    requires fits { min left (length (plane_code n (field size digits))) ≤ out.old.room }
-    ensures bits { Appends out.old out.new (take left (plane_code n (field size digits))) }
-    ensures left { result ≡ left - length (plane_code n (field size digits)) }
+    requires some { 0 < digits / 2 ^ n }
+    requires in_word { part.len ≤ 64 }
+    requires small { part.bits < 2 ^ part.len }
+    requires fits { min left (part.len + length (plane_code n (field size digits))) ≤ out.old.room }
+    ensures bits { Appends out.old out.new (take left (field part.len part.bits ++ plane_code n (field size digits))) }
+    ensures left { result ≡ left - (part.len + length (plane_code n (field size digits))) }
 {
-    if n == size {
-        let all = Part {
-            bits: digits,
-            len: size,
-        };
-        return write_part(left, all, out);
-    }
-    let rest = digits >> n;
-    if rest == 0 {
-        // The next bit, which is zero, is the group bit.
-        let all = Part {
-            bits: digits,
-            len: n + 1,
-        };
-        return write_part(left, all, out);
-    }
     let group = Part { bits: 1, len: 1 };
     let front = Part {
         bits: digits % (1 << n),
         len: n,
     };
-    if n < 40 {
-        return write_run(left, join(front, group), size - n, rest, out);
+    let rest = digits >> n;
+    if part.len + n < 40 {
+        return write_run(left, join(join(part, front), group), size - n, rest, out);
     }
+    let left = write_part(left, part, out);
     let left = write_part(left, front, out);
     write_run(left, group, size - n, rest, out)
 }

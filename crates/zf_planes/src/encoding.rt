@@ -6,9 +6,9 @@ ghost use Rattle.zf_spec.specs.Planes.{plane_code, tail, code, reach};
 ghost use Rattle.zf_bits.specs.Writer.{Appends};
 ghost use Rattle.zf_spec.specs.HeldPlanes.{digits_held, planes_held};
 
-use crate::doubling::write_plane_of_word;
 use crate::four::write_planes_of_4;
-use crate::words::{first_word, reach_in, zeros_from};
+use crate::gathered::write_planes_of_word;
+use crate::words::{reach_in, zeros_from};
 use zf_bits::{BitWriter, Plane};
 
 /// Appends the digits of the ranks from `from` on and below `to` as they are, as far as `left` bits reach. The answer is the bits that are left.
@@ -103,10 +103,6 @@ fn write_plane<P: Plane>(
     ensures bits { Appends out.old out.new (take left (plane_code n (digits_held size (P.words plane.now)))) }
     ensures left { result ≡ left - length (plane_code n (digits_held size (P.words plane.now))) }
 {
-    if size > 0 && size <= 64 {
-        let digits = first_word(plane, size);
-        return write_plane_of_word(left, n as u64, size as u64, digits, out);
-    }
     let left = write_part(left, 0, n, plane, out);
     write_tail(left, n, size, end, plane, out)
 }
@@ -133,15 +129,20 @@ fn zero_planes<P: Plane>(prec: u32, size: usize, planes: &[P]) -> u32
     most
 }
 
-/// Appends the code of the top `prec` planes, or its first `budget` bits where it is longer.
+/// Appends the code of the top `prec` planes, or its first `budget` bits where it is longer. The top `zeros` planes have no one.
 #[inline(always)]
 fn write_sized<P: Plane>(
+    zeros: u32,
     budget: u64,
     prec: u32,
     size: usize,
     planes: &[P],
     out: &mut BitWriter,
 ) -> u64
+    requires within { zeros ≤ prec }
+    requires in_word { zeros ≤ 64 }
+    requires some { (zeros ≡ 0) ⊎ (0 < size) }
+    requires zeros { take zeros (planes_held size (map P.words planes.now)) ≡ replicate zeros (replicate size false) }
     requires size { size ≤ 256 }
     requires words { size ≤ 64 * P.word_count }
     requires planes { prec ≤ length planes.now }
@@ -149,11 +150,14 @@ fn write_sized<P: Plane>(
     ensures bits { Appends out.old out.new (take budget (code (take prec (planes_held size (map P.words planes.now))))) }
     ensures count { result ≡ min budget (length (code (take prec (planes_held size (map P.words planes.now))))) }
 {
-    let zeros = zero_planes(prec, size, planes);
     let count = budget.min(u64::from(zeros));
     out.write_reserved(0, count as u32);
     if size == 4 {
         return budget - write_planes_of_4(budget - count, zeros as usize, prec, planes, out);
+    }
+    if size == 16 || size == 64 {
+        return budget
+            - write_planes_of_word(budget - count, zeros as usize, prec, size, planes, out);
     }
     let mut left = budget - count;
     let mut above = 0;
@@ -186,12 +190,36 @@ pub fn write_planes<P: Plane>(
     ensures bits { Appends out.old out.new (take budget (code (take prec (planes_held size (map P.words planes.now))))) }
     ensures count { result ≡ min budget (length (code (take prec (planes_held size (map P.words planes.now))))) }
 {
+    let zeros = zero_planes(prec, size, planes);
+    write_planes_below(zeros, budget, prec, size, planes, out)
+}
+
+/// The same, where it is known that the top `zeros` planes have no one.
+pub fn write_planes_below<P: Plane>(
+    zeros: u32,
+    budget: u64,
+    prec: u32,
+    size: usize,
+    planes: &[P],
+    out: &mut BitWriter,
+) -> u64
+    requires size { size ≤ 256 }
+    requires words { size ≤ 64 * P.word_count }
+    requires planes { prec ≤ length planes.now }
+    requires fits { min budget (size * prec + size) ≤ out.old.room }
+    requires within { zeros ≤ prec }
+    requires in_word { zeros ≤ 64 }
+    requires some { (zeros ≡ 0) ⊎ (0 < size) }
+    requires zeros { take zeros (planes_held size (map P.words planes.now)) ≡ replicate zeros (replicate size false) }
+    ensures bits { Appends out.old out.new (take budget (code (take prec (planes_held size (map P.words planes.now))))) }
+    ensures count { result ≡ min budget (length (code (take prec (planes_held size (map P.words planes.now))))) }
+{
     // A size that is known makes its own program, without the others' steps.
     match size {
-        4 => write_sized(budget, prec, size, planes, out),
-        16 => write_sized(budget, prec, size, planes, out),
-        64 => write_sized(budget, prec, size, planes, out),
-        _ => write_sized(budget, prec, size, planes, out),
+        4 => write_sized(zeros, budget, prec, size, planes, out),
+        16 => write_sized(zeros, budget, prec, size, planes, out),
+        64 => write_sized(zeros, budget, prec, size, planes, out),
+        _ => write_sized(zeros, budget, prec, size, planes, out),
     }
 }
 

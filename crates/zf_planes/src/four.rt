@@ -7,6 +7,7 @@ ghost use Rattle.zf_spec.specs.HeldPlanes.{planes_held};
 ghost use Rattle.zf_bits.specs.Writer.{Appends};
 ghost use Rattle.zf_planes.specs.Fours.{fours};
 
+use crate::tails::PlaneOfWord;
 use zf_bits::{BitWriter, Plane};
 
 /// The codes of planes of four digits: entry `16 * n + digits` is that of these digits behind `n` ranks that have had a one above. Its bits are the lowest
@@ -411,20 +412,9 @@ pub(crate) fn planes_of_4(n: usize, bits: u64) -> PlanesOf4
     }
 }
 
-/// A plane of four digits.
-#[derive(Clone, Copy)]
-pub(crate) struct PlaneOf4 {
-    /// Its digits, that of rank 0 lowest.
-    pub(crate) digits: u64,
-    /// How many bits its code has.
-    pub(crate) len: u64,
-    /// How far its ones reach, and those above them.
-    pub(crate) above: usize,
-}
-
 /// The plane of four digits whose code the next seven bits begin with, where the ranks below `n` have had a one above.
 #[inline]
-pub(crate) fn plane_of_4(n: usize, bits: u64) -> PlaneOf4
+pub(crate) fn plane_of_4(n: usize, bits: u64) -> PlaneOfWord
     requires in_plane { n ≤ 4 }
     requires bits { bits < 128 }
     ensures code { plane_code n (field 4 result.digits) ≡ field result.len bits }
@@ -434,7 +424,7 @@ pub(crate) fn plane_of_4(n: usize, bits: u64) -> PlaneOf4
     ensures above { result.above ≡ max n (reach (field 4 result.digits)) }
 {
     let entry = entry_of_bits(n, bits);
-    PlaneOf4 {
+    PlaneOfWord {
         digits: u64::from(entry % 16),
         len: u64::from(entry / 16 % 8),
         above: usize::from(entry / 128),

@@ -5,11 +5,13 @@ mod decoding;
 mod doubling;
 mod encoding;
 mod four;
+mod gathered;
 mod measuring;
+mod tails;
 mod words;
 
 pub use decoding::{decode, read_planes};
-pub use encoding::{encode, write_planes};
+pub use encoding::{encode, write_planes, write_planes_below};
 pub use measuring::{code_len, planes_len, planes_used, planes_within, used_planes};
 pub use words::clear;
 

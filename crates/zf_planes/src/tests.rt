@@ -122,16 +122,12 @@ fn check(rt: &impl Abort, alloc: Global, size: usize, case: Case) -> Result<(), 
         let mut writer = BitWriter::new(alloc);
         writer.reserve(1024)?;
         let count = encode(*budget, 3, size, &planes, &mut writer);
-        assert_eq!(rt; count, case.code_len.min(*budget), "{budget} bits");
-        assert_eq!(rt; writer.len(), count, "{budget} bits");
+        assert_eq!(rt; count, case.code_len.min(*budget));
+        assert_eq!(rt; writer.len(), count);
         let words = writer.words();
         let mut reader = BitReader::new(words, writer.len());
         for at in 0..count {
-            assert_eq!(rt;
-                reader.read_bit(),
-                Some(case.code.contains(&at)),
-                "bit {at}"
-            );
+            assert_eq!(rt; reader.read_bit(), Some(case.code.contains(&at)),);
         }
         reader.seek(0);
 
@@ -139,24 +135,15 @@ fn check(rt: &impl Abort, alloc: Global, size: usize, case: Case) -> Result<(), 
         assert_eq!(rt;
             decode(*budget, 3, size, &mut reader, &mut again),
             Some(count),
-            "{budget} bits"
         );
-        assert_eq!(rt; reader.at(), count, "{budget} bits");
-        assert_eq!(rt; again[0], [0; 4], "{budget} bits");
-        assert_eq!(rt;
-            &again[1..],
-            planes_with(rt, ones).as_slice(),
-            "{budget} bits"
-        );
+        assert_eq!(rt; reader.at(), count);
+        assert_eq!(rt; again[0], [0; 4]);
+        assert_eq!(rt; &again[1..], planes_with(rt, ones).as_slice(),);
 
         if !writer.is_empty() {
             let mut short = BitReader::new(words, writer.len() - 1);
-            assert_eq!(rt;
-                decode(*budget, 3, size, &mut short, &mut again),
-                None,
-                "{budget} bits"
-            );
-            assert_eq!(rt; short.at(), 0, "{budget} bits");
+            assert_eq!(rt; decode(*budget, 3, size, &mut short, &mut again), None,);
+            assert_eq!(rt; short.at(), 0);
         }
     }
     Ok(())
@@ -184,15 +171,10 @@ fn planes_have_their_codes(rt: HostRuntime) -> Result<(), Fail> {
         assert_eq!(rt;
             encode(64, 1, 4, &[[digits, 0, 0, 0]], &mut writer),
             code.len() as u64,
-            "{digits}"
         );
         let mut reader = BitReader::new(writer.words(), writer.len());
         for (at, bit) in code.bytes().enumerate() {
-            assert_eq!(rt;
-                reader.read_bit(),
-                Some(bit == b'1'),
-                "bit {at} of {digits}"
-            );
+            assert_eq!(rt; reader.read_bit(), Some(bit == b'1'),);
         }
     }
     Ok(())
@@ -210,15 +192,11 @@ fn one_word_a_plane_does_the_same(rt: HostRuntime) -> Result<(), Fail> {
             let mut writer = BitWriter::new(rt.alloc());
             writer.reserve(256)?;
             let count = write_planes(*budget, 3, size, &words, &mut writer);
-            assert_eq!(rt; count, case.code_len.min(*budget), "{budget} bits");
-            assert_eq!(rt; writer.len(), count, "{budget} bits");
+            assert_eq!(rt; count, case.code_len.min(*budget));
+            assert_eq!(rt; writer.len(), count);
             let mut reader = BitReader::new(writer.words(), writer.len());
             for at in 0..count {
-                assert_eq!(rt;
-                    reader.read_bit(),
-                    Some(case.code.contains(&at)),
-                    "bit {at}"
-                );
+                assert_eq!(rt; reader.read_bit(), Some(case.code.contains(&at)),);
             }
             reader.seek(0);
 
@@ -227,13 +205,8 @@ fn one_word_a_plane_does_the_same(rt: HostRuntime) -> Result<(), Fail> {
             assert_eq!(rt;
                 read_planes(*budget, 3, size, &mut reader, &mut again),
                 Some(count),
-                "{budget} bits"
             );
-            assert_eq!(rt;
-                again,
-                [0, kept[0][0], kept[1][0], kept[2][0]],
-                "{budget} bits"
-            );
+            assert_eq!(rt; again, [0, kept[0][0], kept[1][0], kept[2][0]],);
         }
     }
     Ok(())
@@ -286,18 +259,17 @@ fn several_planes_have_one_code(rt: HostRuntime) -> Result<(), Fail> {
             let mut writer = BitWriter::new(rt.alloc());
             writer.reserve(256)?;
             let count = write_planes(budget, 8, case.size, &case.planes, &mut writer);
-            assert_eq!(rt; count, case.len.min(budget), "{budget} bits");
+            assert_eq!(rt; count, case.len.min(budget));
             assert!(rt; 0 < count && count <= 64);
             let code = case.code & u64::MAX >> (64 - count);
-            assert_eq!(rt; writer.words(), [code].as_slice(), "{budget} bits");
+            assert_eq!(rt; writer.words(), [code].as_slice());
             let mut reader = BitReader::new(writer.words(), writer.len());
             let mut again = [0; 8];
             assert_eq!(rt;
                 read_planes(budget, 8, case.size, &mut reader, &mut again),
                 Some(count),
-                "{budget} bits"
             );
-            assert_eq!(rt; again, kept, "{budget} bits");
+            assert_eq!(rt; again, kept);
         }
     }
     Ok(())
@@ -308,7 +280,7 @@ fn planes_that_fit_whole(rt: HostRuntime) -> Result<(), Fail> {
     // the codes of the planes have 5, 4 and 4 bits
     let planes = planes_with(&rt, SIZE_4.ones);
     for (budget, count) in [(0, 0), (4, 0), (5, 1), (8, 1), (9, 2), (12, 2), (13, 3)] {
-        assert_eq!(rt; planes_within(budget, 4, &planes), count, "{budget} bits");
+        assert_eq!(rt; planes_within(budget, 4, &planes), count);
     }
     // 133, 132 and 203
     let planes = planes_with(&rt, SIZE_256.ones);
@@ -320,7 +292,7 @@ fn planes_that_fit_whole(rt: HostRuntime) -> Result<(), Fail> {
         (467, 2),
         (u64::MAX, 3),
     ] {
-        assert_eq!(rt; planes_within(budget, 256, &planes), count, "{budget} bits");
+        assert_eq!(rt; planes_within(budget, 256, &planes), count);
     }
     Ok(())
 }

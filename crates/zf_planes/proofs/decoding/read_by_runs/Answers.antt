@@ -4,6 +4,7 @@ use Rattle.zf_bits.specs.Reader.{Reader, rest}
 use Rattle.zf_planes.specs.Decoding.{Takes, tail_ahead, tail_bits, plane_ahead, plane_bits}
 use Rattle.zf_planes.proofs.Passing.{Passes-start, Passes-part, Passes-lacks, Takes-rest, Takes-sum, if_none, on_none, on_some}
 use Rattle.zf_planes.proofs.PlaneAhead.{plane_ahead-is, plane_bits-is}
+use Rattle.zf_planes.proofs.decoding.read_by_runs.Given.{Over}
 use Rattle.zf_planes.proofs.decoding.read_by_runs.Goals as goal
 
 -- the first n digits are read, and what reading makes of the plane goes on with its tail
@@ -25,22 +26,25 @@ returns-in_err-read_front-clause-short g c =
     let whole = plane_bits-is left c.args.size c.args.n (rest c.args.reader.now) c.requires.in_plane in
     if_none _ (Passes-lacks (Passes-start c.args.reader.now left (plane_bits left c.args.size c.args.n (rest c.args.reader.now))) c.in_err-read_front.ensures.short (omega (arith, whole)))
 
+-- looking again leaves what is left of the budget
+looked : (g : Over) (c : goal.After-read_tail g) → Takes c.args.reader.now c.read_front.new.reader c.args.ahead.now.left c.look.result.left (min c.args.n c.args.ahead.now.left)
+looked g c = rw c.look.ensures.left c.in_ok-read_front.ensures.taken
+
 pub returns-clause-short : goal.returns-clause-short
 returns-clause-short g c =
-    let front = c.in_ok-read_front.ensures in
-    let read = first_read c.args.size c.args.n c.requires.in_plane front.taken in
-    let passes = Passes-part _ (Passes-start c.args.reader.now c.args.ahead.now.left _) read.bits front.taken in
+    let taken = looked g c in
+    let read = first_read c.args.size c.args.n c.requires.in_plane taken in
+    let passes = Passes-part _ (Passes-start c.args.reader.now c.args.ahead.now.left _) read.bits taken in
     on_none c.read_tail.result c.read_tail.ensures.short (λ lacks. Passes-lacks passes lacks (omega arith))
 
 pub returns-clause-taken : goal.returns-clause-taken
 returns-clause-taken g c =
-    let front = c.in_ok-read_front.ensures in
-    let read = first_read c.args.size c.args.n c.requires.in_plane front.taken in
-    on_some c.read_tail.result c.read_tail.ensures.taken (λ takes. Takes-sum _ _ front.taken read.bits takes)
+    let taken = looked g c in
+    let read = first_read c.args.size c.args.n c.requires.in_plane taken in
+    on_some c.read_tail.result c.read_tail.ensures.taken (λ takes. Takes-sum _ _ taken read.bits takes)
 
 pub returns-clause-digits : goal.returns-clause-digits
 returns-clause-digits g c =
-    let front = c.in_ok-read_front.ensures in
-    let read = first_read c.args.size c.args.n c.requires.in_plane front.taken in
+    let read = first_read c.args.size c.args.n c.requires.in_plane (looked g c) in
     on_some c.read_tail.result c.read_tail.ensures.digits
-    (λ same. same ∙ ap (λ (bs : List Bool). bs ++ tail_ahead c.read_front.new.ahead.left (c.args.size - c.args.n) (rest c.read_front.new.reader)) front.digits ∙ sym read.digits)
+    (λ same. same ∙ ap (λ (bs : List Bool). bs ++ tail_ahead c.look.result.left (c.args.size - c.args.n) (rest c.read_front.new.reader)) c.in_ok-read_front.ensures.digits ∙ sym read.digits)

@@ -40,8 +40,8 @@ remains_all out words count budget prec size k planes long enough in_planes room
 
 pub write_reserved-requires-clause-fits : goal.write_reserved-requires-clause-fits
 write_reserved-requires-clause-fits g c =
-    let k = c.zero_planes-zeros.result in
-    let zeros = c.zero_planes-zeros.ensures in
+    let k = c.args.zeros in
+    let zeros = c.requires in
     let remains = remains_all c.args.out.now g.P.Plane.words _ c.args.budget c.args.prec c.args.size k c.args.planes.now g.met.P.Plane.long c.requires.words c.requires.planes c.requires.fits zeros.some zeros.within zeros.zeros in
     omega (arith, Remains-fits (replicate k false) _ remains, length-replicate k false, c.min-count.ensures, c.from.ensures)
 
@@ -58,8 +58,8 @@ zeros_written out words count budget prec size k bits planes long enough in_plan
 
 pub loop-i-init : goal.loop-i-init
 loop-i-init g c =
-    let k = c.zero_planes-zeros.result in
-    let zeros = c.zero_planes-zeros.ensures in
+    let k = c.args.zeros in
+    let zeros = c.requires in
     let count : c.min-count.result ≡ min c.args.budget k = omega (arith, c.min-count.ensures, c.from.ensures) in
     let remains = zeros_written c.args.out.now g.P.Plane.words _ c.args.budget c.args.prec c.args.size k c.min-count.result c.args.planes.now g.met.P.Plane.long c.requires.words c.requires.planes c.requires.fits
     zeros.some zeros.within zeros.zeros count c.write_reserved.ensures.bits in
@@ -69,8 +69,8 @@ loop-i-init g c =
 
 pub write_planes_of_4-requires-clause-fits : goal.write_planes_of_4-requires-clause-fits
 write_planes_of_4-requires-clause-fits g c =
-    let k = c.zero_planes-zeros.result in
-    let zeros = c.zero_planes-zeros.ensures in
+    let k = c.args.zeros in
+    let zeros = c.requires in
     let count : c.min-count.result ≡ min c.args.budget k = omega (arith, c.min-count.ensures, c.from.ensures) in
     let remains = zeros_written c.args.out.now g.P.Plane.words _ c.args.budget c.args.prec c.args.size k c.min-count.result c.args.planes.now g.met.P.Plane.long c.requires.words c.requires.planes c.requires.fits
     zeros.some zeros.within zeros.zeros count c.write_reserved.ensures.bits in
@@ -80,8 +80,8 @@ write_planes_of_4-requires-clause-fits g c =
 
 pub returns-then-size-eq4-clause-bits : goal.returns-then-size-eq4-clause-bits
 returns-then-size-eq4-clause-bits g c =
-    let k = c.zero_planes-zeros.result in
-    let zeros = c.zero_planes-zeros.ensures in
+    let k = c.args.zeros in
+    let zeros = c.requires in
     let count : c.min-count.result ≡ min c.args.budget k = omega (arith, c.min-count.ensures, c.from.ensures) in
     let remains = zeros_written c.args.out.now g.P.Plane.words _ c.args.budget c.args.prec c.args.size k c.min-count.result c.args.planes.now g.met.P.Plane.long c.requires.words c.requires.planes c.requires.fits
     zeros.some zeros.within zeros.zeros count c.write_reserved.ensures.bits in
@@ -92,14 +92,46 @@ returns-then-size-eq4-clause-bits g c =
 
 pub returns-then-size-eq4-clause-count : goal.returns-then-size-eq4-clause-count
 returns-then-size-eq4-clause-count g c =
-    let k = c.zero_planes-zeros.result in
-    let zeros = c.zero_planes-zeros.ensures in
+    let k = c.args.zeros in
+    let zeros = c.requires in
     let count : c.min-count.result ≡ min c.args.budget k = omega (arith, c.min-count.ensures, c.from.ensures) in
     let remains = zeros_written c.args.out.now g.P.Plane.words _ c.args.budget c.args.prec c.args.size k c.min-count.result c.args.planes.now g.met.P.Plane.long c.requires.words c.requires.planes c.requires.fits
     zeros.some zeros.within zeros.zeros count c.write_reserved.ensures.bits in
     let rest = λ (n : ℕ). code_from 0 (drop k (take c.args.prec (planes_held n (map g.P.Plane.words c.args.planes.now)))) in
     let same = ap (λ n. length (rest n)) c.if-size-eq4.true in
     omega (arith, remains.spent, remains.within, same, c.write_planes_of_4.ensures.left)
+
+-- ---- planes in one word each
+
+pub write_planes_of_word-requires-clause-fits : goal.write_planes_of_word-requires-clause-fits
+write_planes_of_word-requires-clause-fits g c =
+    let k = c.args.zeros in
+    let zeros = c.requires in
+    let count : c.min-count.result ≡ min c.args.budget k = omega (arith, c.min-count.ensures, c.from.ensures) in
+    let remains = zeros_written c.args.out.now g.P.Plane.words _ c.args.budget c.args.prec c.args.size k c.min-count.result c.args.planes.now g.met.P.Plane.long c.requires.words c.requires.planes c.requires.fits
+    zeros.some zeros.within zeros.zeros count c.write_reserved.ensures.bits in
+    omega (arith, remains.fits)
+
+pub returns-then-size-eq16-clause-bits : goal.returns-then-size-eq16-clause-bits
+returns-then-size-eq16-clause-bits g c =
+    let k = c.args.zeros in
+    let zeros = c.requires in
+    let count : c.min-count.result ≡ min c.args.budget k = omega (arith, c.min-count.ensures, c.from.ensures) in
+    let remains = zeros_written c.args.out.now g.P.Plane.words _ c.args.budget c.args.prec c.args.size k c.min-count.result c.args.planes.now g.met.P.Plane.long c.requires.words c.requires.planes c.requires.fits
+    zeros.some zeros.within zeros.zeros count c.write_reserved.ensures.bits in
+    let rest = code_from 0 (drop k (take c.args.prec (planes_held c.args.size (map g.P.Plane.words c.args.planes.now)))) in
+    Remains-end (Remains-more rest [] (Remains-same remains (sym (append-nil rest))) c.write_planes_of_word.ensures.bits) (omega arith)
+
+pub returns-then-size-eq16-clause-count : goal.returns-then-size-eq16-clause-count
+returns-then-size-eq16-clause-count g c =
+    let k = c.args.zeros in
+    let zeros = c.requires in
+    let count : c.min-count.result ≡ min c.args.budget k = omega (arith, c.min-count.ensures, c.from.ensures) in
+    let remains = zeros_written c.args.out.now g.P.Plane.words _ c.args.budget c.args.prec c.args.size k c.min-count.result c.args.planes.now g.met.P.Plane.long c.requires.words c.requires.planes c.requires.fits
+    zeros.some zeros.within zeros.zeros count c.write_reserved.ensures.bits in
+    omega (arith, remains.spent, remains.within, c.write_planes_of_word.ensures.left)
+
+-- ---- other planes
 
 pub write_plane-left-requires-clause-in_plane : goal.write_plane-left-requires-clause-in_plane
 write_plane-left-requires-clause-in_plane g c = c.loop-i.invariant.above

@@ -3,7 +3,8 @@ use Rattle.std.proofs.lemmas.List.{length-map}
 use Rattle.zf_spec.specs.Planes.{code, reach, plane_code, reach_of_all}
 use Rattle.zf_spec.specs.HeldPlanes.{planes_held, digits_held}
 use Rattle.zf_spec.proofs.HeldPlanes.{length-planes_held}
-use Rattle.zf_planes.proofs.Tops.{code-more, reach_of_all-more, plane_held}
+use Rattle.zf_planes.proofs.Unpacking.{held_at}
+use Rattle.zf_planes.proofs.Tops.{code-more, reach_of_all-more}
 use Rattle.zf_planes.proofs.measuring.planes_within.Goals as goal
 
 -- with the next plane the code has as many bits more as that plane's, and its ones reach as far as those of both
@@ -14,7 +15,7 @@ step : {A : Type 0} (words : A → List ℕ) (above size i : ℕ) (planes : List
 step words above size i planes plane is below far =
     let ps = planes_held size (map words planes) in
     let there : i < length ps = omega (arith, length-planes_held size (map words planes), length-map planes words) in
-    let held = plane_held words size i planes plane is below in
+    let held = held_at words size i planes plane is below in
     let next : i + 1 ≡ suc i = omega arith in
     let long = ap (λ k. length (code (take k ps))) next in
     let wide = ap (λ k. reach_of_all (take k ps)) next in

@@ -1,0 +1,7 @@
+use Rattle.std.proofs.Common.{arith}
+use Rattle.zf_coef.proofs.AnyDigits.{leading_zero_planes}
+use Rattle.zf_coef.proofs.needed.zero_planes.Goals as goal
+
+pub returns-clause-zeros : goal.returns-clause-zeros
+returns-clause-zeros c =
+    leading_zero_planes c.any_digits.result c.args.width c.min.result c.args.digits.now c.requires.in_word c.any_digits.ensures (omega (arith, c.min.ensures)) (omega (arith, c.min.ensures))

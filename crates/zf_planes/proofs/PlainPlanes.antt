@@ -1,0 +1,48 @@
+-- Planes that bring no new rank, and planes in one word that are written one after another.
+use Rattle.std.proofs.Common.{◌≡◌, ℕ, ◌+◌, ◌-◌, ◌*◌, ◌/◌, ◌^◌, ◌<◌, ◌≤◌, ◌⊎◌, ⊎_elim, max, Bool, false, List, ◌++◌, length, map, take, drop, get_or, replicate, sym, ap, ◌∙◌, arith, lit<, pow_pos}
+use Rattle.std.proofs.Math.Nat.{pow-le-pow_right}
+use Rattle.zf_bits.specs.Writer.{Writer}
+use Rattle.zf_spec.specs.Numbers.{field}
+use Rattle.zf_spec.specs.Planes.{plane_code, code_from, reach}
+use Rattle.zf_spec.specs.HeldPlanes.{digits_held, planes_held}
+use Rattle.zf_spec.proofs.Fields.{length-field, field-add, field-zero}
+use Rattle.zf_spec.proofs.Reach.{reach-le}
+use Rattle.zf_planes.proofs.Placing.{reach_behind}
+use Rattle.zf_planes.proofs.Budgets.{Remains, Remains-same}
+use Rattle.zf_planes.proofs.Unpacking.{code_next}
+use Rattle.zf_planes.proofs.Doubled.{plane_whole, plane_without}
+
+-- no one from rank n on
+pub reach_below : (n size v : ℕ) → n ≤ size → v / 2 ^ n ≡ 0 → reach (field size v) ≤ n
+reach_below n size v order none =
+    let parts : n + (size - n) ≡ size = omega arith in
+    let digits : field size v ≡ field n v ++ replicate (size - n) false =
+    ap (λ k. field k v) (sym parts) ∙ field-add n (size - n) v ∙ ap (λ u. field n v ++ field (size - n) u) none ∙ ap (λ (bs : List Bool). field n v ++ bs) (field-zero (size - n)) in
+    omega (arith, ap reach digits ∙ reach_behind (field n v) (size - n), reach-le (field n v), length-field n v)
+
+-- where ranks are left, a plane that brings none has no one there
+pub none_new : (n size v : ℕ) → (n ≡ size) ⊎ (v / 2 ^ n ≡ 0) → (n ≡ size → ⊥) → v / 2 ^ n ≡ 0
+none_new n size v plain other = ⊎_elim (λ (whole : n ≡ size). absurd (other whole)) (λ (none : v / 2 ^ n ≡ 0). none) plain
+
+pub whole_code : (n size v : ℕ) → n ≡ size → plane_code n (field size v) ≡ field size v
+whole_code n size v all = rw all (plane_whole size v)
+
+pub plain_code : (n size v : ℕ) → n ≤ size → (n ≡ size → ⊥) → v / 2 ^ n ≡ 0 → plane_code n (field size v) ≡ field (n + 1) v
+plain_code n size v within other none = plane_without size n v (omega arith) none
+
+pub plain_small : (n v : ℕ) → v / 2 ^ n ≡ 0 → v < 2 ^ (n + 1)
+plain_small n v none =
+    let order : n ≤ n + 1 = omega arith in
+    let parts : 2 ^ n * (v / 2 ^ n) ≡ 0 = ap (λ q. 2 ^ n * q) none ∙ omega arith in
+    omega (arith, none, parts, pow_pos n, pow-le-pow_right {n = 2} (lit< tt) order)
+
+-- behind bits that are not written yet comes the next plane, of which the digits are at hand
+pub next_word : {A : Type 0} {old now : Writer} {budget left : ℕ} {whole : List Bool} (words : A → List ℕ) (above prec size i len bits digits : ℕ) (planes : List A) (plane : A)
+    → Remains old now budget left whole (field len bits ++ code_from above (drop i (take prec (planes_held size (map words planes)))))
+    → plane ≡ get_or planes (length planes - 1 - i) plane → i < prec → prec ≤ length planes → field size digits ≡ digits_held size (words plane)
+    → Remains old now budget left whole (field len bits ++ (plane_code above (field size digits) ++ code_from (max above (reach (field size digits))) (drop (i + 1) (take prec (planes_held size (map words planes))))))
+next_word words above prec size i len bits digits planes plane remains is below within same =
+    let rest = drop (i + 1) (take prec (planes_held size (map words planes))) in
+    Remains-same remains
+    (ap (λ (bs : List Bool). field len bits ++ bs)
+    (code_next words above prec size i planes plane is below within ∙ sym (ap (λ (ds : List Bool). plane_code above ds ++ code_from (max above (reach ds)) rest) same)))

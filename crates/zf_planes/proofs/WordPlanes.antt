@@ -1,0 +1,177 @@
+-- Planes in one word by the bits of their code, with a table of tails.
+use Rattle.std.proofs.Common.{◌≡◌, ℕ, suc, ◌+◌, ◌-◌, ◌*◌, ◌/◌, ◌%◌, ◌^◌, ◌<◌, ◌≤◌, ⊎_elim, min, Bool, true, false, ◌&&◌, ◌||◌, ltb, eqb, List, [], ◌∷◌, ◌++◌, length, drop, get_or, replicate, refl, sym, ap, ◌∙◌, arith, lit<, take_at, drop_at, pow_pos}
+use Rattle.std.specs.Int.Bits.{bit_or}
+use Rattle.std.proofs.Math.Nat.{pow-le-pow_right, div-eq_of_lt}
+use Rattle.std.proofs.lemmas.Bool.{cases_lt, and_parts, ltb-true, eqb-true}
+use Rattle.zf_spec.specs.Numbers.{field, is_odd}
+use Rattle.zf_spec.specs.Planes.{has_one, reach, tail, plane_code}
+use Rattle.zf_spec.proofs.Fields.{length-field, field-add, field-mod, field-zero}
+use Rattle.zf_spec.proofs.Reach.{reach_some, reach-le}
+use Rattle.zf_spec.proofs.Full.{tail-some}
+use Rattle.zf_bits.proofs.Fields as wide
+use Rattle.zf_bits.proofs.Fields.{field_more}
+use Rattle.zf_planes.specs.WordPlanes.{IsReadAs}
+use Rattle.zf_planes.specs.declared.tails.TheConstants.{TAILS}
+use Rattle.zf_planes.proofs.Tables.{same_digits, same_digits-true, each_below, each_below-true}
+use Rattle.zf_planes.proofs.Placing.{reach_behind}
+use Rattle.zf_planes.proofs.Gathering.{bits_behind, small_behind}
+use Rattle.zf_planes.proofs.Doubled.{has_one-behind, has_one-field, eight_of, nine_digits, plane_whole, plane_without}
+
+-- ---- the table, by computation
+
+-- an entry is no tail, or the one of so many digits that these bits follow its group bit in
+abbrev test_tail : ℕ → ℕ → ℕ → Bool
+test_tail most bits e =
+    ltb 64 (e / 4096)
+    || (same_digits (tail (field most (e % 256))) (field (e / 4096) (2 * bits + 1))
+    && (ltb 0 (e % 256) && (ltb (e % 256) (2 ^ most) && (ltb (e / 4096) 10 && eqb (e / 256 % 16) (reach (field most (e % 256)))))))
+
+abbrev test_some : ℕ → Bool
+test_some e = ltb 0 (e / 4096)
+
+test_tails : each_below (λ i. test_tail (i / 256 + 1) (i % 256) (get_or TAILS i 0) && test_some (get_or TAILS i 0)) 2304 ≡ true
+test_tails = refl
+
+pub record IsTail (most bits e : ℕ) : Type 0 where
+  pub code : tail (field most (e % 256)) ≡ field (e / 4096) (2 * bits + 1)
+  pub some : 0 < e % 256
+  pub small : e % 256 < 2 ^ most
+  pub len : e / 4096 < 10
+  pub above : e / 256 % 16 ≡ reach (field most (e % 256))
+
+-- where the entry has a tail
+pub record IsEntry (most bits e : ℕ) : Type 0 where
+  pub some : 0 < e / 4096
+  pub tail : e / 4096 ≤ 64 → IsTail most bits e
+
+entry_to_9 : (most bits e : ℕ) → 0 < most → most ≤ 9 → bits < 256 → e ≡ get_or TAILS (256 * (most - 1) + bits) 0 → IsEntry most bits e
+entry_to_9 most bits e some nine eight is =
+    let i = 256 * (most - 1) + bits in
+    let front : i / 256 + 1 ≡ most = omega arith in
+    let low : i % 256 ≡ bits = omega arith in
+    let whole : test_tail most bits e && test_some e ≡ true =
+    ap (λ k. test_tail k bits e && test_some e) (sym front)
+    ∙ ap (λ k. test_tail (i / 256 + 1) k e && test_some e) (sym low)
+    ∙ ap (λ x. test_tail (i / 256 + 1) (i % 256) x && test_some x) is
+    ∙ each_below-true (λ j. test_tail (j / 256 + 1) (j % 256) (get_or TAILS j 0) && test_some (get_or TAILS j 0)) 2304 i test_tails (omega arith) in
+    let parts = and_parts (test_tail most bits e) (test_some e) whole in
+    record {
+      some = ltb-true _ _ parts.1;
+      tail = λ known. tail_by (ltb 64 (e / 4096)) refl known parts.0;
+    }
+  where
+    tail_by : (t : Bool) → ltb 64 (e / 4096) ≡ t → e / 4096 ≤ 64
+        → t || (same_digits (tail (field most (e % 256))) (field (e / 4096) (2 * bits + 1))
+        && (ltb 0 (e % 256) && (ltb (e % 256) (2 ^ most) && (ltb (e / 4096) 10 && eqb (e / 256 % 16) (reach (field most (e % 256))))))) ≡ true → IsTail most bits e
+    tail_by true far known test = absurd (omega (arith, ltb-true 64 (e / 4096) far))
+    tail_by false near known test =
+        let one = and_parts (same_digits (tail (field most (e % 256))) (field (e / 4096) (2 * bits + 1))) _ test in
+        let two = and_parts (ltb 0 (e % 256)) _ one.1 in
+        let three = and_parts (ltb (e % 256) (2 ^ most)) _ two.1 in
+        let four = and_parts (ltb (e / 4096) 10) _ three.1 in
+        record { code = same_digits-true _ _ one.0; some = ltb-true _ _ two.0; small = ltb-true _ _ three.0; len = ltb-true _ _ four.0; above = eqb-true _ _ four.1 }
+
+-- more digits make no difference, where they are zeros
+tail_of_nine : (most digits : ℕ) → 9 ≤ most → 0 < digits → digits < 256 → tail (field most digits) ≡ tail (field 9 digits)
+tail_of_nine most digits nine some eight =
+    let wide : digits < 2 ^ most = omega (arith, pow-le-pow_right {n = 2} (lit< tt) nine) in
+    tail-some (field most digits) (has_one-field most digits some wide)
+    ∙ ap (λ (bs : List Bool). true ∷ bs) (nine_digits most digits nine some eight)
+    ∙ sym (tail-some (field 9 digits) (has_one-field 9 digits some (omega arith)))
+
+reach_of_nine : (most digits : ℕ) → 9 ≤ most → digits < 256 → reach (field most digits) ≡ reach (field 9 digits)
+reach_of_nine most digits nine eight =
+    ap reach (eight_of most digits nine eight)
+    ∙ reach_behind (field 8 digits) (suc (most - 9))
+    ∙ sym (ap reach (eight_of 9 digits (omega arith) eight) ∙ reach_behind (field 8 digits) (suc (9 - 9)))
+
+pub tail_of_entry : (most bits e : ℕ) → 0 < most → bits < 256 → e ≡ get_or TAILS (256 * (min most 9 - 1) + bits) 0 → IsEntry most bits e
+tail_of_entry most bits e some eight is = ⊎_elim
+    (λ (few : most < 9). let all : min most 9 ≡ most = omega arith in entry_to_9 most bits e some (omega arith) eight (rw all at is))
+    (λ (nine : 9 ≤ most).
+    let all : min most 9 ≡ 9 = omega arith in
+    let entry = entry_to_9 9 bits e (omega arith) (omega arith) eight (rw all at is) in
+    record {
+      some = entry.some;
+      tail = λ known.
+          let found = entry.tail known in
+          let digits = e % 256 in
+          let low : digits < 256 = omega arith in
+          record {
+            code = tail_of_nine most digits nine found.some low ∙ found.code;
+            some = found.some;
+            small = omega (arith, pow-le-pow_right {n = 2} (lit< tt) nine);
+            len = found.len;
+            above = found.above ∙ sym (reach_of_nine most digits nine low);
+          };
+    })
+    (cases_lt most 9)
+
+-- ---- a plane of its first digits and a tail
+
+reach_behind_all : (xs ys : List Bool) → has_one ys ≡ true → reach (xs ++ ys) ≡ length xs + reach ys
+reach_behind_all [] ys one = omega arith
+reach_behind_all (x ∷ xs) ys one = reach_some x (xs ++ ys) (has_one-behind (x ∷ xs) ys one) ∙ omega (arith, reach_behind_all xs ys one)
+
+code_of_parts : (n : ℕ) (front rest : List Bool) → length front ≡ n → plane_code n (front ++ rest) ≡ front ++ tail rest
+code_of_parts n front rest long = ap (λ (ds : List Bool). ds ++ tail (drop n (front ++ rest))) (take_at front rest n long) ∙ ap (λ (ds : List Bool). front ++ tail ds) (drop_at front rest n long)
+
+pub read_with : (n size bits e : ℕ) → n < size → size ≤ 64 → bits / 2 ^ n % 2 ≡ 1 → IsTail (size - n) (bits / 2 ^ n / 2 % 256) e
+    → IsReadAs n size bits (bit_or (bits % 2 ^ n) (e % 256 * 2 ^ n % 2 ^ 64)) (n + e / 4096) (n + e / 256 % 16)
+read_with n size bits e within narrow odd found =
+    let t = e % 256 in
+    let len = e / 4096 in
+    let next = bits / 2 ^ n in
+    let v = bit_or (bits % 2 ^ n) (t * 2 ^ n % 2 ^ 64) in
+    let parts : n + (size - n) ≡ size = omega arith in
+    let front_small : bits % 2 ^ n < 2 ^ n = omega (arith, pow_pos n) in
+    let digits : field size v ≡ field n bits ++ field (size - n) t =
+    ap (λ k. field k v) (sym parts) ∙ bits_behind n (size - n) (bits % 2 ^ n) t (omega arith) front_small ∙ ap (λ (bs : List Bool). bs ++ field (size - n) t) (field-mod n bits) in
+    let nine : 9 ≡ len + (9 - len) = omega (arith, found.len) in
+    let low : 2 * (next / 2 % 256) + 1 ≡ next % 2 ^ 9 = omega arith in
+    let code : tail (field (size - n) t) ≡ field len next =
+    found.code ∙ ap (field len) (low ∙ ap (λ k. next % 2 ^ k) nine) ∙ wide.field-mod len (9 - len) next in
+    let one = has_one-field (size - n) t found.some found.small in
+    record {
+      code =
+          ap (plane_code n) digits
+          ∙ code_of_parts n (field n bits) (field (size - n) t) (length-field n bits)
+          ∙ ap (λ (bs : List Bool). field n bits ++ bs) code
+          ∙ sym (field-add n len bits);
+      small = rw parts at (small_behind n (size - n) (bits % 2 ^ n) t front_small found.small);
+      reached =
+          let reached = ap reach digits ∙ reach_behind_all (field n bits) (field (size - n) t) one in
+          omega (arith, reached, found.above, length-field n bits);
+    }
+
+-- no one follows
+pub read_without : (n size bits : ℕ) → n < size → bits / 2 ^ n % 2 ≡ 0 → IsReadAs n size bits (bits % 2 ^ n) (n + 1) n
+read_without n size bits within even =
+    let v = bits % 2 ^ n in
+    let small : v < 2 ^ n = omega (arith, pow_pos n) in
+    let none : v / 2 ^ n ≡ 0 = div-eq_of_lt small in
+    let parts : n + (size - n) ≡ size = omega arith in
+    let order : n ≤ size = omega arith in
+    let last : is_odd (v / 2 ^ n) ≡ is_odd (bits / 2 ^ n) = ap is_odd none ∙ sym (ap (λ b. eqb b 1) even) in
+    let digits : field size v ≡ field n v ++ replicate (size - n) false =
+    ap (λ k. field k v) (sym parts) ∙ field-add n (size - n) v ∙ ap (λ u. field n v ++ field (size - n) u) none ∙ ap (λ (bs : List Bool). field n v ++ bs) (field-zero (size - n)) in
+    record {
+      code =
+          plane_without size n v within none
+          ∙ field_more n v
+          ∙ ap (λ (bs : List Bool). bs ++ is_odd (v / 2 ^ n) ∷ []) (field-mod n bits)
+          ∙ ap (λ b. field n bits ++ b ∷ []) last
+          ∙ sym (field_more n bits);
+      small = omega (arith, pow-le-pow_right {n = 2} (lit< tt) order);
+      reached =
+          let reached = ap reach digits ∙ reach_behind (field n v) (size - n) in
+          omega (arith, reached, reach-le (field n v), length-field n v);
+    }
+
+-- all ranks have had a one
+pub read_all : (size bits : ℕ) → IsReadAs size size bits (bits % 2 ^ size) size size
+read_all size bits = record {
+  code = plane_whole size (bits % 2 ^ size) ∙ field-mod size bits;
+  small = omega (arith, pow_pos size);
+  reached = omega (arith, reach-le (field size (bits % 2 ^ size)), length-field size (bits % 2 ^ size));
+}

@@ -1,0 +1,106 @@
+use Rattle.std.proofs.Common.{◌≡◌, ℕ, ◌+◌, ◌-◌, ◌*◌, ◌/◌, ◌%◌, ◌^◌, ◌<◌, ◌≤◌, min, Bool, true, List, [], ◌∷◌, ◌++◌, length, take, sym, ap, ◌∙◌, arith, append_assoc, append-nil, length-append}
+use Rattle.std.proofs.lemmas.Nat.{one_shl}
+use Rattle.zf_spec.specs.Numbers.{field}
+use Rattle.zf_spec.specs.Planes.{code_from_run, plane_code}
+use Rattle.zf_spec.proofs.Fields.{length-field, field-mod}
+use Rattle.zf_bits.specs.Writer.{Writer, Appends}
+use Rattle.zf_bits.proofs.Appending.{Appends-same}
+use Rattle.zf_planes.proofs.Budgets.{Remains, Remains-start, Remains-same, Remains-more, Remains-end}
+use Rattle.zf_planes.proofs.Doubled.{plane_with, rest_small}
+use Rattle.zf_planes.proofs.doubling.write_with.Goals as goal
+
+-- the first digits, a group bit and the run
+with_long : (size n v : ℕ) → n < size → 0 < v / 2 ^ n → v < 2 ^ size → length (plane_code n (field size v)) ≡ n + (1 + length (code_from_run (field (size - n) (v / 2 ^ n))))
+with_long size n v within some small =
+    let run = code_from_run (field (size - n) (v / 2 ^ n)) in
+    omega (arith, ap length (plane_with size n v (omega arith) some small), length-append (field n v) (true ∷ run), length-field n v)
+
+-- the digits below n of a word
+low_digits : (n v : ℕ) → n < 64 → field n (v % (1 * 2 ^ n % 2 ^ 64)) ≡ field n v
+low_digits n v small =
+    let power : 1 * 2 ^ n % 2 ^ 64 ≡ 2 ^ n = one_shl n 64 small in
+    ap (λ k. field n (v % k)) power ∙ field-mod n v
+
+-- ---- all in one word
+
+joined : (size n v k a j b m x : ℕ) → n < size → size ≤ 64 → 0 < v / 2 ^ n → v < 2 ^ size → field j b ≡ field k a ++ field n (v % (1 * 2 ^ n % 2 ^ 64)) → field m x ≡ field j b ++ true ∷ []
+    → field m x ++ code_from_run (field (size - n) (v / 2 ^ n)) ≡ field k a ++ plane_code n (field size v)
+joined size n v k a j b m x within narrow some small first second =
+    let run = code_from_run (field (size - n) (v / 2 ^ n)) in
+    ap (λ (bs : List Bool). bs ++ run) (second ∙ ap (λ (bs : List Bool). bs ++ true ∷ []) (first ∙ ap (λ (bs : List Bool). field k a ++ bs) (low_digits n v (omega arith))))
+    ∙ append_assoc (field k a ++ field n v) (true ∷ []) run
+    ∙ append_assoc (field k a) (field n v) (true ∷ run)
+    ∙ ap (λ (bs : List Bool). field k a ++ bs) (sym (plane_with size n v (omega arith) some small))
+
+pub write_run-requires-clause-within : goal.write_run-requires-clause-within
+write_run-requires-clause-within c = rest_small c.args.size c.args.n c.args.digits (omega (arith, c.requires.in_plane)) c.requires.digits
+
+pub write_run-requires-clause-fits : goal.write_run-requires-clause-fits
+write_run-requires-clause-fits c =
+    omega (arith, c.requires.fits, with_long c.args.size c.args.n c.args.digits c.requires.in_plane c.requires.some c.requires.digits, c.join.ensures.len, c.join-then-part-n-lt40.ensures.len)
+
+pub returns-then-part-n-lt40-clause-bits : goal.returns-then-part-n-lt40-clause-bits
+returns-then-part-n-lt40-clause-bits c =
+    Appends-same c.write_run.ensures.bits
+    (ap (take c.args.left)
+    (joined c.args.size c.args.n c.args.digits c.args.part.len c.args.part.bits c.join.result.len c.join.result.bits c.join-then-part-n-lt40.result.len c.join-then-part-n-lt40.result.bits
+    c.requires.in_plane c.requires.size c.requires.some c.requires.digits c.join.ensures.bits c.join-then-part-n-lt40.ensures.bits))
+
+pub returns-then-part-n-lt40-clause-left : goal.returns-then-part-n-lt40-clause-left
+returns-then-part-n-lt40-clause-left c =
+    omega (arith, c.write_run.ensures.left, with_long c.args.size c.args.n c.args.digits c.requires.in_plane c.requires.some c.requires.digits, c.join.ensures.len, c.join-then-part-n-lt40.ensures.len)
+
+-- ---- one after another
+
+-- the bits that were put together are written, and the plane remains
+flushed : {old mid : Writer} (left after size n v k a : ℕ) → n < size → 0 < v / 2 ^ n → v < 2 ^ size → min left (k + length (plane_code n (field size v))) ≤ old.room → Appends old mid (take left (field k a)) → after ≡ left - k
+    → Remains old mid left after (field k a ++ plane_code n (field size v)) (field n v ++ true ∷ code_from_run (field (size - n) (v / 2 ^ n)))
+flushed {old} {mid} left after size n v k a within some small fits appends spent =
+    let code = plane_code n (field size v) in
+    let start = Remains-start old left (field k a ++ code) (omega (arith, fits, length-append (field k a) code, length-field k a)) in
+    let gone : left - length (field k a) ≡ after = omega (arith, spent, length-field k a) in
+    Remains-same (rw gone at (Remains-more (field k a) code start appends)) (plane_with size n v (omega arith) some small)
+
+-- and then its first digits
+begun : {old mid new : Writer} (left between after size n v : ℕ) {whole rest : List Bool} → n < 64 → Remains old mid left between whole (field n v ++ rest) → Appends mid new (take between (field n (v % (1 * 2 ^ n % 2 ^ 64)))) → after ≡ between - n
+    → Remains old new left after whole rest
+begun left between after size n v {whole} {rest} small remains appends spent =
+    let gone : between - length (field n v) ≡ after = omega (arith, spent, length-field n v) in
+    rw gone at (Remains-more (field n v) rest remains (Appends-same appends (ap (take between) (low_digits n v small))))
+
+pub write_part-left-requires-2-clause-fits : goal.write_part-left-requires-2-clause-fits
+write_part-left-requires-2-clause-fits c =
+    let n = c.args.n in
+    let v = c.args.digits in
+    let remains = flushed c.args.left c.write_part-left.result c.args.size n v c.args.part.len c.args.part.bits c.requires.in_plane c.requires.some c.requires.digits c.requires.fits c.write_part-left.ensures.bits c.write_part-left.ensures.left in
+    omega (arith, remains.fits, length-append (field n v) (true ∷ code_from_run (field (c.args.size - n) (v / 2 ^ n))), length-field n v)
+
+pub write_run-requires-2-clause-within : goal.write_run-requires-2-clause-within
+write_run-requires-2-clause-within c = rest_small c.args.size c.args.n c.args.digits (omega (arith, c.requires.in_plane)) c.requires.digits
+
+pub write_run-requires-2-clause-fits : goal.write_run-requires-2-clause-fits
+write_run-requires-2-clause-fits c =
+    let n = c.args.n in
+    let v = c.args.digits in
+    let remains = flushed c.args.left c.write_part-left.result c.args.size n v c.args.part.len c.args.part.bits c.requires.in_plane c.requires.some c.requires.digits c.requires.fits c.write_part-left.ensures.bits c.write_part-left.ensures.left in
+    let rest = begun c.args.left c.write_part-left.result c.write_part-left-2.result c.args.size n v (omega (arith, c.requires.in_plane, c.requires.size)) remains c.write_part-left-2.ensures.bits c.write_part-left-2.ensures.left in
+    omega (arith, rest.fits)
+
+pub returns-clause-bits : goal.returns-clause-bits
+returns-clause-bits c =
+    let n = c.args.n in
+    let v = c.args.digits in
+    let run = true ∷ code_from_run (field (c.args.size - n) (v / 2 ^ n)) in
+    let remains = flushed c.args.left c.write_part-left.result c.args.size n v c.args.part.len c.args.part.bits c.requires.in_plane c.requires.some c.requires.digits c.requires.fits c.write_part-left.ensures.bits c.write_part-left.ensures.left in
+    let rest = begun c.args.left c.write_part-left.result c.write_part-left-2.result c.args.size n v (omega (arith, c.requires.in_plane, c.requires.size)) remains c.write_part-left-2.ensures.bits c.write_part-left-2.ensures.left in
+    Remains-end (Remains-more run [] (Remains-same rest (sym (append-nil run))) c.write_run-2.ensures.bits) (omega arith)
+
+pub returns-clause-left : goal.returns-clause-left
+returns-clause-left c =
+    omega (
+      arith,
+      c.write_part-left.ensures.left,
+      c.write_part-left-2.ensures.left,
+      c.write_run-2.ensures.left,
+      with_long c.args.size c.args.n c.args.digits c.requires.in_plane c.requires.some c.requires.digits,
+    )

@@ -1,0 +1,88 @@
+//! The code of planes in one word each, whose bits are gathered before they are written.
+
+ghost use Rattle.std.specs.Prelude.{◌≡◌, ◌+◌, ◌-◌, ◌*◌, ◌/◌, ◌^◌, ◌<◌, ◌≤◌, ◌⊎◌, true, false, min, max, length, map, take, drop};
+ghost use Rattle.zf_spec.specs.Numbers.{field};
+ghost use Rattle.zf_spec.specs.Planes.{plane_code, code_from, reach};
+ghost use Rattle.zf_spec.specs.HeldPlanes.{planes_held};
+ghost use Rattle.zf_bits.specs.Writer.{Appends};
+
+use crate::doubling::{Part, join, write_part, write_with};
+use crate::words::{first_word, reach_in};
+use zf_bits::{BitWriter, Plane};
+
+/// Whether a plane has no one at ranks that have had none above, so that its code is its digits.
+#[inline(always)]
+fn is_plain(n: u64, size: u64, digits: u64) -> bool
+    requires in_plane { n ≤ size }
+    requires size { size ≤ 64 }
+    ensures plain { result ≡ true → (n ≡ size) ⊎ (digits / 2 ^ n ≡ 0) }
+    ensures new { result ≡ false → (n < size) × (0 < digits / 2 ^ n) }
+{
+    n == size || digits >> n == 0
+}
+
+/// The code of such a plane: its digits, and where ranks are left a group bit of zero.
+#[inline(always)]
+fn plain_plane(n: u64, size: u64, digits: u64) -> Part
+    requires some { 0 < size }
+    requires in_plane { n ≤ size }
+    requires size { size ≤ 64 }
+    requires digits { digits < 2 ^ size }
+    requires plain { (n ≡ size) ⊎ (digits / 2 ^ n ≡ 0) }
+    ensures code { plane_code n (field size digits) ≡ field result.len result.bits }
+    ensures small { result.bits < 2 ^ result.len }
+    ensures some { 0 < result.len }
+    ensures len { result.len ≤ 64 }
+    ensures same { max n (reach (field size digits)) ≡ n }
+{
+    Part {
+        bits: digits,
+        len: if n == size { size } else { n + 1 },
+    }
+}
+
+/// Appends the code of the top `prec` planes from the one of number `from` on, above which no rank has had a one, as far as `left` bits reach. The answer
+/// is the bits that are left.
+#[inline(always)]
+pub(crate) fn write_planes_of_word<P: Plane>(
+    left: u64,
+    from: usize,
+    prec: u32,
+    size: usize,
+    planes: &[P],
+    out: &mut BitWriter,
+) -> u64
+    requires some { 0 < size }
+    requires size { size ≤ 64 }
+    requires words { size ≤ 64 * P.word_count }
+    requires planes { prec ≤ length planes.now }
+    requires from { from ≤ prec }
+    requires fits { min left (length (code_from 0 (drop from (take prec (planes_held size (map P.words planes.now)))))) ≤ out.old.room }
+    ensures bits { Appends out.old out.new (take left (code_from 0 (drop from (take prec (planes_held size (map P.words planes.now)))))) }
+    ensures left { result ≡ left - length (code_from 0 (drop from (take prec (planes_held size (map P.words planes.now))))) }
+{
+    let mut left = left;
+    let mut part = Part { bits: 0, len: 0 };
+    let mut above: usize = 0;
+    let mut i = from;
+    while i < prec as usize && left > part.len {
+        let plane = &planes[planes.len() - 1 - i];
+        let digits = first_word(plane, size);
+        i += 1;
+        if is_plain(above as u64, size as u64, digits) {
+            let more = plain_plane(above as u64, size as u64, digits);
+            if part.len + more.len > 64 {
+                left = write_part(left, part, out);
+                part = more;
+            } else {
+                part = join(part, more);
+            }
+        } else {
+            left = write_with(left, part, above as u64, size as u64, digits, out);
+            part = Part { bits: 0, len: 0 };
+            let end = reach_in(plane, size);
+            above = above.max(end);
+        }
+    }
+    write_part(left, part, out)
+}
