@@ -17,6 +17,7 @@ use zf_base::{Extent, Lane};
 use zf_bits::{BitReader, BitWriter, Plane};
 
 /// Appends the code of a block in room that is there already.
+#[inline(always)]
 pub(crate) fn encode<C: BlockCode<T>, T: Lane>(
     code: &C,
     d: u8,
@@ -36,26 +37,8 @@ pub(crate) fn encode<C: BlockCode<T>, T: Lane>(
 {
     // Planes of up to 64 coefficients lie in one word each. Work room of a known size is faster where it is small.
     match d {
-        1 => write_block(
-            code,
-            d,
-            e,
-            block,
-            &mut [T::zero(); 4],
-            &mut [0; 4],
-            &mut s.planes,
-            out,
-        ),
-        2 => write_block(
-            code,
-            d,
-            e,
-            block,
-            &mut [T::zero(); 16],
-            &mut [0; 16],
-            &mut s.planes,
-            out,
-        ),
+        1 => write_small::<C, T, 4>(code, d, e, block, s, out),
+        2 => write_small::<C, T, 16>(code, d, e, block, s, out),
         3 => write_block(
             code,
             d,
@@ -77,6 +60,41 @@ pub(crate) fn encode<C: BlockCode<T>, T: Lane>(
             out,
         ),
     }
+}
+
+/// Appends the code of a block of `N` values by way of values and digits of its own.
+///
+/// They stand here, so that no block clears those of another size.
+#[inline(always)]
+fn write_small<C: BlockCode<T>, T: Lane, const N: usize>(
+    code: &C,
+    d: u8,
+    e: &Extent,
+    block: &[T],
+    s: &mut Scratch<T>,
+    out: &mut BitWriter,
+)
+    requires dimension { IsDimension d }
+    requires size { N ≡ 4 ^ d }
+    requires words { N ≤ 64 }
+    requires extent { IsExtent d e.now }
+    requires block { length block.now ≡ 4 ^ d }
+    requires scratch { s.old ≡ d }
+    requires fits { C.longest code.now (4 ^ d) ≤ out.old.room }
+    ensures code { Appends out.old out.new
+        (C.code_of code.now (codes.planes T.width d (C.forth d (pad (used_axes d e.now.size) (map T.value block.now))))) }
+    ensures scratch { s.new ≡ d }
+{
+    write_block(
+        code,
+        d,
+        e,
+        block,
+        &mut [T::zero(); N],
+        &mut [0; N],
+        &mut s.planes,
+        out,
+    );
 }
 
 /// Appends the code of a block by way of these values, digits and planes.
@@ -109,6 +127,7 @@ fn write_block<C: BlockCode<T>, T: Lane, P: Plane>(
 }
 
 /// Reads the code of a block, or answers `None` where the bits end before it does.
+#[inline(always)]
 pub(crate) fn decode<C: BlockCode<T>, T: Lane>(
     code: &C,
     d: u8,

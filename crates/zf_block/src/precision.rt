@@ -22,6 +22,7 @@ use zf_bits::{BitReader, BitWriter, Plane};
 ///
 /// `block` has `4^d` values, x fastest; those outside `e` are not looked at. `s` is work room for `d` dimensions. The precisions of the format are 1 to 128.
 /// `AllocError` means that there was no memory for the longest code; room for it can be reserved before. zfp's fixed precision (zfp 1.0 documentation).
+#[inline(always)]
 pub fn encode_prec<T: Lane>(
     d: u8,
     e: &Extent,
@@ -49,6 +50,7 @@ pub fn encode_prec<T: Lane>(
 /// stands where it stood, and the block holds anything.
 ///
 /// `block` gets `4^d` values, x fastest. A code does not tell which of them exist; at places that do not, the values mean nothing.
+#[inline(always)]
 pub fn decode_prec<T: Lane>(
     d: u8,
     prec: u32,

@@ -22,6 +22,7 @@ use zf_bits::{BitReader, BitWriter, Plane};
 ///
 /// `block` has `4^d` values, x fastest; those outside `e` are not looked at. `s` is work room for `d` dimensions. The rates of the format are 1 to 32768.
 /// Fixed rate as in Lindstrom 2014.
+#[inline(always)]
 pub fn encode_rate<T: Lane>(
     d: u8,
     e: &Extent,
@@ -44,6 +45,7 @@ pub fn encode_rate<T: Lane>(
 /// Reads the code of a block of `bits` bits, whatever they are.
 ///
 /// `block` gets `4^d` values, x fastest. A code does not tell which of them exist; at places that do not, the values mean nothing.
+#[inline(always)]
 pub fn decode_rate<T: Lane>(d: u8, bits: u32, reader: &mut BitReader<'_>, block: &mut [T])
     requires dimension { IsDimension d }
     requires block { length block.old ≡ 4 ^ d }

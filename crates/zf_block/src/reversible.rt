@@ -21,6 +21,7 @@ use zf_bits::{BitReader, BitWriter, Plane};
 ///
 /// `block` has `4^d` values, x fastest; those outside `e` are not looked at. `s` is work room for `d` dimensions. `AllocError` means that there was
 /// no memory for the longest code; room for it can be reserved before. The layout of the code, a count of planes and then the planes, is this project's own.
+#[inline(always)]
 pub fn encode_rev<T: Lane>(
     d: u8,
     e: &Extent,
@@ -47,6 +48,7 @@ pub fn encode_rev<T: Lane>(
 /// anything.
 ///
 /// `block` gets `4^d` values, x fastest. A code does not tell which of them exist; at places that do not, the values mean nothing.
+#[inline(always)]
 pub fn decode_rev<T: Lane>(d: u8, reader: &mut BitReader<'_>, block: &mut [T]) -> Option<()>
     requires dimension { IsDimension d }
     requires block { length block.old ≡ 4 ^ d }

@@ -95,6 +95,10 @@ module _ (ns : List ℕ) (b : ℕ) (layout : Layout) (e : Extent) (h : IsRasterB
       let is_position = IsPosition-with_unused ns ps h.shape.four_at_most same (IsAt-inside ns ps b p here) in
       ap (index_of layout) here_is ∙ h.raster_layout (with_unused 0 ps) is_position ∙ ap (raster ns) known
 
+  pub index_by_raster : (p : ℕ) → HasPlace e p → index_at layout e p ≡ raster ns (position_in (coordinates (grid ns) b) (indices (length ns) p))
+  unfolding position_of
+  index_by_raster = index_is
+
   -- the places lie within the raw values
   pub lies_within : (n : ℕ) → product ns ≤ n → LiesWithin layout e n
   lies_within n long = λ p at.

@@ -1,6 +1,6 @@
 //! Block b of an array, between its raw values and a block.
 
-ghost use Rattle.std.specs.Prelude.{◌≡◌, ◌<◌, ◌-◌, ◌*◌, ◌^◌, min, length, map};
+ghost use Rattle.std.specs.Prelude.{◌≡◌, ◌<◌, ◌≤◌, ◌+◌, ◌-◌, ◌*◌, ◌^◌, ◌++◌, min, length, map, take, drop};
 ghost use Rattle.zf_spec.specs.Grid.{product, grid, blocks, coordinates, extent_of, block_of};
 ghost use Rattle.zf_spec.specs.Codes.{existing_values};
 ghost use Rattle.zf_base.specs.Positions.{used_axes, with_unused, IsExtent};
@@ -14,6 +14,7 @@ use zf_base::{Extent, Lane, Pos, Shape};
 /// Copies block `b` out of the values of an array, whose layout is at hand, and answers which part of the block exists.
 ///
 /// `block` has `4^d` values, x fastest; those at places that do not exist stay.
+#[inline]
 pub fn gather_block<T: Lane>(
     layout: &Layout,
     shape: &Shape,
@@ -31,6 +32,10 @@ pub fn gather_block<T: Lane>(
     ensures size { used_axes (length shape.now) result.size ≡ extent_of shape.now b }
 {
     let e = part_of(shape, b);
+    if shape.dims() == 1 && e.size.x == 4 {
+        take_row(values, e.origin.x as usize, block);
+        return e;
+    }
     gather(layout, &e, shape.dims(), values, block);
     e
 }
@@ -38,6 +43,7 @@ pub fn gather_block<T: Lane>(
 /// Copies a block to the place of block `b` among the values of an array, whose layout is at hand.
 ///
 /// `block` has `4^d` values, x fastest; those at places that do not exist are not looked at.
+#[inline]
 pub fn scatter_block<T: Lane>(layout: &Layout, shape: &Shape, b: u64, block: &[T], values: &mut [T])
     requires raster { IsRaster shape.now layout.now }
     requires in_array { b < blocks shape.now }
@@ -46,7 +52,32 @@ pub fn scatter_block<T: Lane>(layout: &Layout, shape: &Shape, b: u64, block: &[T
     ensures { WritesBlock shape.now b (map T.value block.now) (map T.value values.old) (map T.value values.new) }
 {
     let e = part_of(shape, b);
+    if shape.dims() == 1 && e.size.x == 4 {
+        put_row(block, values, e.origin.x as usize);
+        return;
+    }
     scatter(layout, &e, shape.dims(), block, values);
+}
+
+/// Copies the four values from `first` on, which are a whole block of one dimension.
+#[inline]
+fn take_row<T: Lane>(values: &[T], first: usize, block: &mut [T])
+    requires within { first + 4 ≤ length values.now }
+    requires whole { length block.old ≡ 4 }
+    ensures { block.new ≡ take 4 (drop first values.now) }
+{
+    // four, so that the copy needs no call
+    block[..4].copy_from_slice(&values[first..first + 4]);
+}
+
+/// The same the other way.
+#[inline]
+fn put_row<T: Lane>(block: &[T], values: &mut [T], first: usize)
+    requires within { first + 4 ≤ length values.old }
+    requires whole { length block.now ≡ 4 }
+    ensures { values.new ≡ take first values.old ++ (block.now ++ drop (first + 4) values.old) }
+{
+    values[first..first + 4].copy_from_slice(&block[..4]);
 }
 
 /// The part of block `b` that lies in the array. In one dimension, where blocks are small and many, no coordinates are divided out.

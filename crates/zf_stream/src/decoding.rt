@@ -59,6 +59,7 @@ pub(crate) fn read_slab<T: Lane, S: Source>(
 }
 
 /// Reads the code of block `b` by way of `block`, or answers `None` where the bits that are held end too early.
+#[inline(always)]
 fn read_block<T: Lane>(
     layout: &Layout,
     part: &Header,
@@ -91,6 +92,7 @@ fn read_block<T: Lane>(
 /// Reads the code of a block of an array with this header, or answers `None` where the bits end too early.
 ///
 /// `block` gets `4^d` values, x fastest. A code does not tell which of them exist; at places that do not, the values mean nothing.
+#[inline(always)]
 pub fn read_code<T: Lane>(h: &Header, reader: &mut BitReader<'_>, block: &mut [T]) -> Option<()>
     requires whole { length block.old ≡ 4 ^ length h.now.shape }
     ensures some { OnSome result (ReadsCode T.width h.now.mode (length h.now.shape) reader.old reader.new (map T.value block.new)) }
@@ -105,6 +107,7 @@ pub fn read_code<T: Lane>(h: &Header, reader: &mut BitReader<'_>, block: &mut [T
 }
 
 /// Reads a code of `bits` bits, or answers `None` where fewer are left.
+#[inline(always)]
 fn read_rate<T: Lane>(d: u8, bits: u32, reader: &mut BitReader<'_>, block: &mut [T]) -> Option<()>
     requires some { 1 ≤ d }
     requires four_at_most { d ≤ 4 }

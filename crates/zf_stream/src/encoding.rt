@@ -88,6 +88,7 @@ fn write_where_many<O: Sink>(
 }
 
 /// Appends the code of block `b`, whose values are gathered in `block`.
+#[inline(always)]
 fn write_code<T: Lane>(
     layout: &Layout,
     h: &Header,
@@ -115,6 +116,7 @@ fn write_code<T: Lane>(
 }
 
 /// Appends the code of a block of which this part exists.
+#[inline(always)]
 fn encode<T: Lane>(h: &Header, e: &Extent, block: &[T], s: &mut Scratch<T>, codes: &mut BitWriter)
     requires same_type { T.width ≡ width_of h.now.ty }
     requires dimension { IsDimension (length h.now.shape) }

@@ -84,6 +84,7 @@ impl Window {
     }
 
     /// Sees to it that `need` bits are held that are not read yet, or all that the source still gives.
+    #[inline]
     pub(crate) fn reach<S: Source>(
         &mut self,
         need: u64,
@@ -103,10 +104,36 @@ impl Window {
         ensures sure { S.never_fails src.old → (result ≢ Err Read) × S.never_fails src.new }
     {
         if self.left() < need && !self.ended {
-            self.move_down();
-            while self.left() < need && !self.ended {
-                self.append(piece, src)?;
-            }
+            self.refill(need, piece, src)?;
+        }
+        Ok(())
+    }
+
+    // The same where the source may still give some. This happens once in many blocks, and stands apart so that the test before it costs no call.
+    #[cold]
+    #[inline(never)]
+    fn refill<S: Source>(
+        &mut self,
+        need: u64,
+        piece: &mut [u8],
+        src: &mut S,
+    ) -> Result<(), StreamFault>
+        requires going { self.old.ended ≡ false }
+        requires room { need + 64 ≤ 64 * self.old.room }
+        requires piece { 8 ≤ length piece.old }
+        requires ended { KnowsEnd self.old (S.contents src.old) }
+        ensures ok { OnOk result (Refills (S.contents src.old) (S.contents src.new) self.old self.new) }
+        ensures ended { OnOk result (KnowsEnd self.new (S.contents src.new)) }
+        ensures enough { OnOk result (self.new.ended ≡ false → need ≤ length (left_of self.new)) }
+        ensures fault { IfErr result (λ e. e ≡ Read) }
+        ensures taken { OnErr result (TakesSome (S.contents src.old) (S.contents src.new)) }
+        ensures same_source { S.kept src.new ≡ S.kept src.old }
+        ensures cause { HasCause (result ≡ Err Read) (S.faults src.old) (S.faults src.new) }
+        ensures sure { S.never_fails src.old → (result ≢ Err Read) × S.never_fails src.new }
+    {
+        self.move_down();
+        while self.left() < need && !self.ended {
+            self.append(piece, src)?;
         }
         Ok(())
     }

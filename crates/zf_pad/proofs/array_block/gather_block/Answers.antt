@@ -1,6 +1,9 @@
-use Rattle.std.proofs.Common.{arith}
+use Rattle.std.proofs.Common.{◌≡◌, take, drop, map, length, ap, sym, subst, ◌∙◌, arith}
+use Rattle.std.proofs.lemmas.List.{take-map, drop-map}
+use Rattle.zf_base.specs.Positions.{IsExtent}
 use Rattle.zf_pad.specs.Rasters.{IsRasterBlock}
 use Rattle.zf_pad.proofs.Blocks.{lies_within, gathered_block}
+use Rattle.zf_pad.proofs.Lines.{whole_within, line_taken}
 use Rattle.zf_pad.proofs.array_block.gather_block.Goals as goal
 
 pub gather-requires-clause-within : goal.gather-requires-clause-within
@@ -24,3 +27,31 @@ returns-clause-block g c =
       size = c.part_of-e.ensures.size;
     } in
     gathered_block _ _ _ _ here _ _ _ c.gather.ensures
+
+pub take_row-requires-clause-within : goal.take_row-requires-clause-within
+take_row-requires-clause-within g c =
+    let here : IsRasterBlock c.args.shape.now c.args.b c.args.layout.now c.part_of-e.result = record {
+      shape = c.dims.ensures.shape;
+      in_array = c.requires.in_array;
+      raster_layout = c.requires.raster;
+      origin = c.part_of-e.ensures.origin;
+      size = c.part_of-e.ensures.size;
+    } in
+    let one : length c.args.shape.now ≡ 1 = sym c.dims.ensures.value ∙ c.if-dims-eq1.true in
+    omega (arith, whole_within _ _ _ _ one here c.if-e-eq4.true)
+
+pub returns-then-e-eq4-clause-block : goal.returns-then-e-eq4-clause-block
+returns-then-e-eq4-clause-block g c =
+    let here : IsRasterBlock c.args.shape.now c.args.b c.args.layout.now c.part_of-e.result = record {
+      shape = c.dims.ensures.shape;
+      in_array = c.requires.in_array;
+      raster_layout = c.requires.raster;
+      origin = c.part_of-e.ensures.origin;
+      size = c.part_of-e.ensures.size;
+    } in
+    let one : length c.args.shape.now ≡ 1 = sym c.dims.ensures.value ∙ c.if-dims-eq1.true in
+    let value = g.T.Lane.value in
+    let first = c.part_of-e.result.origin.x in
+    let taken : map value c.take_row.new.block ≡ take 4 (drop first (map value c.args.values.now)) =
+    ap (map value) c.take_row.ensures ∙ sym (take-map value 4 (drop first c.args.values.now)) ∙ ap (take 4) (sym (drop-map value first c.args.values.now)) in
+    line_taken _ _ _ _ _ _ one (subst (λ d. IsExtent d c.part_of-e.result) one c.part_of-e.ensures.extent) here taken

@@ -2,7 +2,7 @@ use Rattle.std.proofs.Common.{refl, sym, ◌∙◌, arith}
 use Rattle.zf_dev.proofs.Taking.{Takes-append}
 use Rattle.zf_stream.proofs.OnErrors.{on_err}
 use Rattle.zf_stream.proofs.Windows.{Refills-next, Refills-moved}
-use Rattle.zf_stream.proofs.window.Window.reach.Goals as goal
+use Rattle.zf_stream.proofs.window.Window.refill.Goals as goal
 
 pub loop-self-init : goal.loop-self-init
 loop-self-init g c = record {

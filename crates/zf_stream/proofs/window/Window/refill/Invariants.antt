@@ -1,7 +1,7 @@
 -- What was read so far was put behind what was left.
 use Rattle.std.proofs.Common.{◌≡◌, ℕ, suc, ◌-◌, ◌*◌, ◌<◌, ◌≤◌, Bool, cond, length}
 use Rattle.zf_stream.specs.Windows.{left_of, KnowsEnd, Refills}
-use Rattle.zf_stream.proofs.window.Window.reach.Given as goal
+use Rattle.zf_stream.proofs.window.Window.refill.Given as goal
 
 pub record Filling (g : goal.Over) (l : goal.Live-loop-self g) : Type 0 where
   pub refills : Refills (g.S.Source.contents l.fn.src) (g.S.Source.contents l.src) l.fn.self l.self
