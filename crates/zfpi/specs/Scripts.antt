@@ -9,10 +9,9 @@ use Rattle.zf_cached.specs.Changes.{default_lines}
 use Rattle.zf_cached.specs.Arrays.{open_array, saved_file}
 use Rattle.zf_cached.specs.Replies.{Reply}
 use Rattle.zf_cached.specs.Steps.{Setting, Session}
-use Rattle.zf_cached.specs.Runs.{look_setting, run, look, replies_text}
+use Rattle.zf_cached.specs.Runs.{array_setting, look_setting, run, look, replies_text}
 use Rattle.zf_twoway.specs.Runs.{twoway_setting}
 use Rattle.zf_const.specs.Standing.{coding_of, open_stream}
-use Rattle.zf_run.specs.Allowed.{whole_setting}
 use Rattle.zf_run.specs.Steps.{is_refusal, is_want}
 use Rattle.zfpi.specs.declared.command.Caching.{Caching}
 use Rattle.zfpi.specs.declared.command.Caching.TheVariants.{Direct, TwoWay}
@@ -30,7 +29,7 @@ lines_for None ns = default_lines (blocks ns)
 
 -- what a run does not change about an array of values of this width and so many bits a block: the cache makes the difference
 abbrev pub setting_over : Caching → Width → ℕ → Setting (List Bool)
-setting_over (Direct lines) w bits = whole_setting w bits
+setting_over (Direct lines) w bits = array_setting w bits
 setting_over (TwoWay l) w bits = twoway_setting w bits
 
 -- how many lines the cache has at first

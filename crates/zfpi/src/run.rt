@@ -190,13 +190,14 @@ fn run_script<T: Lane, const D: usize, S: Source, O: Sink, F: Shelf>(
         ⊥ (FailedSave F.saves F.faults shelf.old shelf.new) (S.never_fails src.old) (S.never_fails src.new) }
 {
     match take_all(alloc, src, MAX_SCRIPT) {
-        Ok(script) => run_lines(name, array, &script, out, shelf),
+        Ok(script) => run_lines(alloc, name, array, &script, out, shelf),
         Err(error) => Status::from(error),
     }
 }
 
 // Runs a script on an array, and saves it.
 fn run_lines<T: Lane, const D: usize, O: Sink, F: Shelf>(
+    alloc: Global,
     name: &Name,
     array: Array<T, D>,
     script: &[u8],
@@ -213,7 +214,7 @@ fn run_lines<T: Lane, const D: usize, O: Sink, F: Shelf>(
         ⊥ (FailedSave F.saves F.faults shelf.old shelf.new) (Unit {0}) (Unit {0}) }
 {
     let mut array = array;
-    match zf_run::run(&mut array, script, out) {
+    match zf_run::run(alloc, &mut array, script, out) {
         RunEnd::Done => save(name, array.save_bytes(), Status::Done, shelf),
         RunEnd::Lines(count) => save(name, array.save_bytes(), Status::Lines(count), shelf),
         RunEnd::Write => Status::WriteFault,

@@ -50,10 +50,10 @@ const ROWS: [Row; 7] = [
     Row {
         file: RATE,
         words: "look a lines 1",
-        input: b"get 0\nget 4\nget 3\nstats\nflush\ndiscard\nfill 3\nresize 4\nadd 0 1\nvset 0 1\n\nget 8\nsum",
-        status: Status::Lines(7),
-        out: b"0\n0\n4\nhits 0 misses 3 writes 0\n! word\n! word\n! word\n! word\n! word\n! word\n! range\n8\n",
-        line: b"zfpi: 7 lines refused\n",
+        input: b"get 0\nget 4\nget 3\nstats\nflush\ndiscard\nfill 3\nresize 4\nadd 0 1\nvset 0 1\nsplit 2 1\n@0 get 0\njoin\n\nget 8\nsum",
+        status: Status::Lines(10),
+        out: b"0\n0\n4\nhits 0 misses 3 writes 0\n! word\n! word\n! word\n! word\n! word\n! word\n! word\n! word\n! word\n! range\n8\n",
+        line: b"zfpi: 10 lines refused\n",
     },
     Row {
         file: GRID,

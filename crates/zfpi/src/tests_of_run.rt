@@ -30,7 +30,7 @@ struct Row {
     after: &'static [u8],
 }
 
-const ROWS: [Row; 14] = [
+const ROWS: [Row; 16] = [
     Row {
         before: ZEROS,
         words: "run a lines 1",
@@ -142,6 +142,22 @@ const ROWS: [Row; 14] = [
         status: Status::Lines(1),
         replies: b"5\n9\n14\n9\n! range\n",
         after: b"zfp\x05\x34\0\0\x30\0\0\xf0\x07\0\0\0\x40\x93\xee\x3d\x03\0\0\0\0\0\0\0\0\0\0\0\0",
+    },
+    Row {
+        before: ZEROS,
+        words: "run a",
+        script: b"split 2 1\n@0 set 0 1\n@1 get 4\n@0 get 4\nget 0\n@1 set 4 7\n@0 flush\n@0 get 0\n@1 get 4\n@0 stats\njoin\nget 4\n",
+        status: Status::Lines(2),
+        replies: b"0\n! range\n! split\n0\n7\nhits 0 misses 2 writes 1\n6\n",
+        after: b"zfp\x05\x70\0\0\0\0\0\xf0\x03\0\0\0\0\0\0\0\0\0\0\0\xa0\xfc\x03\0\0\0\0\0\0",
+    },
+    Row {
+        before: ZEROS,
+        words: "run a",
+        script: b"split 3 1\n@0 get 0\njoin\n",
+        status: Status::Lines(3),
+        replies: b"! size\n! split\n! split\n",
+        after: ZEROS,
     },
 ];
 

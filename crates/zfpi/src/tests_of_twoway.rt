@@ -49,9 +49,9 @@ const RUNS: [(&str, &[u8], Status, &[u8], &[u8]); 6] = [
     ),
     (
         "run a twoway 2",
-        b"view 0 8 1\nslice 0 0\nvget 0\nvset 0 1\nvsum\nresize 8\n\nlines 0\nget 16\nfill 3\nsum\n",
-        Status::Lines(8),
-        b"! word\n! word\n! word\n! word\n! word\n! word\n! size\n! range\n48\n",
+        b"view 0 8 1\nslice 0 0\nvget 0\nvset 0 1\nvsum\nresize 8\nsplit 2 1\n@0 get 0\njoin\n\nlines 0\nget 16\nfill 3\nsum\n",
+        Status::Lines(11),
+        b"! word\n! word\n! word\n! word\n! word\n! word\n! word\n! word\n! word\n! size\n! range\n48\n",
         THREES,
     ),
     (
