@@ -58,7 +58,7 @@ pub(crate) fn line_of_eight() -> Result<Shape, ShapeFault> {
 }
 
 // Files of eight values of int32 at 64 bits a block, as they begin, and with a block of 0 2 2 4; and of four values of zero.
-const EMPTY: [u8; 32] = [
+pub(crate) const EMPTY: [u8; 32] = [
     0x7a, 0x66, 0x70, 0x05, 0x70, 0, 0, 0, 0, 0, 0xf0, 0x03, 0, 0, 0, 0, 0, 0, 0, 0, 0, 0, 0, 0, 0,
     0, 0, 0, 0, 0, 0, 0,
 ];
