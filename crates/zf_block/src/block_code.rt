@@ -47,6 +47,7 @@ pub(crate) trait BlockCode<T: Lane> {
         requires size { IsBlockSize size }
         requires words { size ≤ 64 * P.word_count }
         requires planes { length planes.now ≡ T.WIDTH }
+        requires coefficients { length digits.now ≡ size }
         requires digits { planes_held size (map P.words planes.now) ≡ planes_of T.WIDTH (digits_in T.WIDTH digits.now) }
         requires fits { longest self.now size ≤ out.old.room }
         ensures { Appends out.old out.new (code_of self.now (planes_held size (map P.words planes.now))) };

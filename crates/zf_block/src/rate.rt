@@ -82,9 +82,12 @@ impl<T: Lane> BlockCode<T> for Rate {
         zf_lift::inverse(d, block);
     }
 
-    fn write<P: Plane>(&self, size: usize, _digits: &[u64], planes: &[P], out: &mut BitWriter) {
+    fn write<P: Plane>(&self, size: usize, digits: &[u64], planes: &[P], out: &mut BitWriter) {
         let bits = u64::from(self.bits);
-        let written = zf_planes::write_planes(bits, T::WIDTH, size, planes, out);
+        let width = T::WIDTH;
+        // The digits tell at once how many planes at the top are zero.
+        let zeros = zf_coef::zero_planes(digits, width);
+        let written = zf_planes::write_planes_below(zeros, bits, width, size, planes, out);
         write_zeros(bits - written, out);
     }
 

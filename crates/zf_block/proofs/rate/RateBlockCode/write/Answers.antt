@@ -13,10 +13,10 @@ returns g c =
     let budget = c.from-bits.result in
     let all = map g.P.Plane.words c.args.planes.now in
     let planes = planes_held c.args.size all in
-    let bits = code (take c.WIDTH.result planes) in
-    let whole : take c.WIDTH.result planes ≡ planes = take_all c.WIDTH.result planes (omega (arith, length-planes_held c.args.size all, length-map c.args.planes.now g.P.Plane.words, c.requires.planes, c.WIDTH.ensures)) in
-    let left : budget - c.write_planes-written.result ≡ budget - length bits = omega (arith, c.write_planes-written.ensures.count) in
-    Appends-same (Appends-append c.write_planes-written.ensures.bits c.write_zeros.ensures)
+    let bits = code (take c.WIDTH-width.result planes) in
+    let whole : take c.WIDTH-width.result planes ≡ planes = take_all c.WIDTH-width.result planes (omega (arith, length-planes_held c.args.size all, length-map c.args.planes.now g.P.Plane.words, c.requires.planes, c.WIDTH-width.ensures)) in
+    let left : budget - c.write_planes_below-written.result ≡ budget - length bits = omega (arith, c.write_planes_below-written.ensures.count) in
+    Appends-same (Appends-append c.write_planes_below-written.ensures.bits c.write_zeros.ensures)
     (ap (λ n. take budget bits ++ replicate n false) left
     ∙ ap (λ ps. take budget (code ps) ++ replicate (budget - length (code ps)) false) whole
     ∙ sym (first_bits-take budget (code planes))
