@@ -108,6 +108,7 @@ fn write_plane<P: Plane>(
 }
 
 /// How many of the top `prec` planes have no one, down to the first one that has; at most 64.
+#[inline(always)]
 fn zero_planes<P: Plane>(prec: u32, size: usize, planes: &[P]) -> u32
     requires size { size ≤ 256 }
     requires words { size ≤ 64 * P.word_count }
@@ -190,8 +191,25 @@ pub fn write_planes<P: Plane>(
     ensures bits { Appends out.old out.new (take budget (code (take prec (planes_held size (map P.words planes.now))))) }
     ensures count { result ≡ min budget (length (code (take prec (planes_held size (map P.words planes.now))))) }
 {
-    let zeros = zero_planes(prec, size, planes);
-    write_planes_below(zeros, budget, prec, size, planes, out)
+    // A size that is known makes its own program, without the others' steps.
+    match size {
+        4 => {
+            let zeros = zero_planes(prec, size, planes);
+            write_sized(zeros, budget, prec, size, planes, out)
+        }
+        16 => {
+            let zeros = zero_planes(prec, size, planes);
+            write_sized(zeros, budget, prec, size, planes, out)
+        }
+        64 => {
+            let zeros = zero_planes(prec, size, planes);
+            write_sized(zeros, budget, prec, size, planes, out)
+        }
+        _ => {
+            let zeros = zero_planes(prec, size, planes);
+            write_sized(zeros, budget, prec, size, planes, out)
+        }
+    }
 }
 
 /// The same, where it is known that the top `zeros` planes have no one.
@@ -214,7 +232,6 @@ pub fn write_planes_below<P: Plane>(
     ensures bits { Appends out.old out.new (take budget (code (take prec (planes_held size (map P.words planes.now))))) }
     ensures count { result ≡ min budget (length (code (take prec (planes_held size (map P.words planes.now))))) }
 {
-    // A size that is known makes its own program, without the others' steps.
     match size {
         4 => write_sized(zeros, budget, prec, size, planes, out),
         16 => write_sized(zeros, budget, prec, size, planes, out),
