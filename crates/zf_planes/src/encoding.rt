@@ -193,23 +193,31 @@ pub fn write_planes<P: Plane>(
 {
     // A size that is known makes its own program, without the others' steps.
     match size {
-        4 => {
-            let zeros = zero_planes(prec, size, planes);
-            write_sized(zeros, budget, prec, size, planes, out)
-        }
-        16 => {
-            let zeros = zero_planes(prec, size, planes);
-            write_sized(zeros, budget, prec, size, planes, out)
-        }
-        64 => {
-            let zeros = zero_planes(prec, size, planes);
-            write_sized(zeros, budget, prec, size, planes, out)
-        }
-        _ => {
-            let zeros = zero_planes(prec, size, planes);
-            write_sized(zeros, budget, prec, size, planes, out)
-        }
+        4 => write_from_top(budget, prec, size, planes, out),
+        16 => write_from_top(budget, prec, size, planes, out),
+        64 => write_from_top(budget, prec, size, planes, out),
+        _ => write_from_top(budget, prec, size, planes, out),
     }
+}
+
+/// The same of any size: the planes at the top that have no one are looked for first.
+#[inline(always)]
+fn write_from_top<P: Plane>(
+    budget: u64,
+    prec: u32,
+    size: usize,
+    planes: &[P],
+    out: &mut BitWriter,
+) -> u64
+    requires size { size ≤ 256 }
+    requires words { size ≤ 64 * P.word_count }
+    requires planes { prec ≤ length planes.now }
+    requires fits { min budget (size * prec + size) ≤ out.old.room }
+    ensures bits { Appends out.old out.new (take budget (code (take prec (planes_held size (map P.words planes.now))))) }
+    ensures count { result ≡ min budget (length (code (take prec (planes_held size (map P.words planes.now))))) }
+{
+    let zeros = zero_planes(prec, size, planes);
+    write_sized(zeros, budget, prec, size, planes, out)
 }
 
 /// The same, where it is known that the top `zeros` planes have no one.
