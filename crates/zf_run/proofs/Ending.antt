@@ -1,8 +1,6 @@
 -- How a run over an array ends.
 use Rattle.std.proofs.Common.{◌≡◌, refl, sym, ap, subst, ◌∙◌, ℕ, zero, suc, Bool, List, Option, arith, ℤ, None}
 use Rattle.std.specs.Int.{Width}
-use Rattle.zf_base.specs.Widths.{width_of}
-use Rattle.zf_base.specs.Formats.{Format}
 use Rattle.zf_base.specs.declared.lane.Ty.{Ty}
 use Rattle.zf_header.specs.declared.header.Header.{Header}
 use Rattle.zf_header.specs.declared.header.Mode.{Mode}
@@ -13,7 +11,7 @@ use Rattle.zf_cached.specs.Commands.{Command}
 use Rattle.zf_cached.specs.Replies.{Reply}
 use Rattle.zf_cached.specs.Steps.{Setting, Session, flushed_views, joined, format_of, done}
 use Rattle.zf_cached.specs.Runs.{array_setting, run_lines, lines_of, replies_text, run_script, ended, run, look}
-use Rattle.zf_array.specs.Standing.{Held, shape, state, format}
+use Rattle.zf_array.specs.Standing.{Held, shape, state}
 use Rattle.zf_run.specs.declared.end.RunEnd.{RunEnd}
 use Rattle.zf_run.specs.declared.end.RunEnd.TheVariants.{Write}
 use Rattle.zf_const.specs.Standing as read

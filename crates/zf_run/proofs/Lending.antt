@@ -1,22 +1,18 @@
 -- A call of a view over the codes of an array, which were lent to it.
-use Rattle.std.proofs.Common.{◌≡◌, refl, sym, ap, subst, ◌∙◌, ℕ, ◌<◌, ◌^◌, ℤ, Bool, false, List, length, get_or, set, Option}
+use Rattle.std.proofs.Common.{◌≡◌, sym, ap, subst, ◌∙◌, ℕ, ◌<◌, ℤ, false, List, length, get_or, set, Option}
 use Rattle.std.specs.Borrow.{MutBor}
 use Rattle.std.specs.Int.{Width}
 use Rattle.std.specs.Option.{option_map}
-use Rattle.zf_spec.specs.Grid.{blocks}
 use Rattle.zf_base.specs.Widths.{width_of}
 use Rattle.zf_base.specs.Places.{block_number, place_of}
 use Rattle.zf_base.specs.Positions.{used_axes, IsPosition}
-use Rattle.zf_base.specs.declared.lane.Ty.{Ty}
 use Rattle.zf_base.specs.declared.position.Pos.{Pos}
 use Rattle.zf_header.specs.declared.header.Header.{Header}
-use Rattle.zf_header.specs.declared.header.Mode.{Mode}
 use Rattle.zf_cached.specs.Windows.{Window}
 use Rattle.zf_cached.specs.Commands.{Command}
 use Rattle.zf_cached.specs.Replies.{Reply}
 use Rattle.zf_cached.specs.Acts.{Act}
 use Rattle.zf_cached.specs.Views.{acted, answered, IsWithin}
-use Rattle.zf_cached.specs.State.{Counts}
 use Rattle.zf_cached.specs.Steps.{by_view, refuses_split, refuses_size, refuses_range, refuses_value, done}
 use Rattle.zf_cache.specs.Standing.{Fits}
 use Rattle.zf_private.specs.Standing as private

@@ -1,5 +1,5 @@
 -- An array that may be split, as what a script runs on.
-use Rattle.std.proofs.Common.{◌≡◌, refl, sym, ap, subst, ◌∙◌, ℕ, zero, suc, ℤ, Bool, true, false, not, List, length, Option, Some, None, is_some}
+use Rattle.std.proofs.Common.{◌≡◌, refl, ap, subst, ◌∙◌, ℕ, zero, suc, ℤ, Bool, true, false, not, length, Option, Some, None, is_some}
 use Rattle.std.specs.Prelude.{Vec, IsSome}
 use mathlib.Core.Bool.{beq}
 use Rattle.zf_cached.specs.Commands.{Command}

@@ -1,5 +1,5 @@
 -- An array that is split into views, and the end of a split.
-use Rattle.std.proofs.Common.{◌≡◌, refl, sym, ap, subst, ◌∙◌, ◌⊎◌, inl, inr, ℕ, zero, suc, ◌+◌, ◌*◌, ◌^◌, ◌<◌, ◌≤◌, ◌%◌, ◌==◌, ℤ, Bool, true, false, not, ◌&&◌, ltb, leb, List, [], ◌∷◌, ◌++◌, map, length, length-append, get_or, replicate, add-mul, mul-le-mul, div-mul-le_self, Option, Some, None, if◌then◌else◌, arith}
+use Rattle.std.proofs.Common.{◌≡◌, refl, sym, ap, subst, ◌∙◌, ◌⊎◌, inl, inr, ℕ, zero, suc, ◌+◌, ◌*◌, ◌^◌, ◌<◌, ◌≤◌, ◌%◌, ◌==◌, ℤ, Bool, true, false, not, List, [], ◌∷◌, ◌++◌, map, length, length-append, get_or, replicate, add-mul, mul-le-mul, div-mul-le_self, Some, None, if◌then◌else◌, arith}
 use Rattle.std.specs.Int.{Width}
 use Rattle.std.proofs.Math.Path.{fun_ext}
 use Rattle.std.proofs.lemmas.Bool.{and_from, ne_eqb, cases_lt}
@@ -8,7 +8,7 @@ use Rattle.std.proofs.lemmas.Nat.{le-div}
 use Rattle.zf_spec.specs.Grid.{upto, blocks, is_inside, indices, extent_of}
 use Rattle.zf_spec.proofs.Counting.{get_or-map-upto, length-upto}
 use Rattle.zf_base.specs.Widths.{width_of}
-use Rattle.zf_base.specs.Formats.{Format, meant}
+use Rattle.zf_base.specs.Formats.{Format}
 use Rattle.zf_base.specs.declared.lane.Ty.{Ty}
 use Rattle.zf_header.specs.declared.header.Header.{Header}
 use Rattle.zf_header.specs.declared.header.Mode.{Mode}
@@ -18,7 +18,6 @@ use Rattle.zf_cached.specs.Changes.{flush, opened, raised}
 use Rattle.zf_cached.specs.Arrays.{rate_coding, array_format}
 use Rattle.zf_cached.specs.Windows.{Window}
 use Rattle.zf_cached.specs.Commands.{Command}
-use Rattle.zf_cached.specs.Replies.{Reply}
 use Rattle.zf_cached.specs.Acts.{Act}
 use Rattle.zf_cached.specs.Views.{View}
 use Rattle.zf_cached.specs.Ownership.{first_of, count_of}
@@ -36,7 +35,7 @@ use Rattle.zf_private.proofs.Others.{first_of-last}
 use Rattle.zf_private.proofs.Parts.{rising}
 use Rattle.zf_array.specs.Standing.{Held, shape, state, format}
 use Rattle.zf_array.specs.Coded.{IsCoded}
-use Rattle.zf_run.specs.Sessions.{sitting, setting_of, session_of, kind}
+use Rattle.zf_run.specs.Sessions.{setting_of, session_of, kind}
 use Rattle.zf_run.specs.Steps.{Does, HasWindow}
 use Rattle.zf_run.specs.Splits.{owns_block, view_state, view_of, views_seen, split_session, IsPart, AreParts, IsNewPart, AreNewParts}
 use Rattle.zf_run.proofs.Sessions.{format_is}

@@ -1,13 +1,13 @@
 -- What a call of a view makes of an array that is split.
-use Rattle.std.proofs.Common.{◌≡◌, ◌≢◌, ◌↔◌, refl, sym, ap, subst, ◌∙◌, ◌⊎◌, inl, inr, ℕ, zero, suc, ◌+◌, ◌-◌, ◌*◌, ◌/◌, ◌^◌, ◌<◌, ◌≤◌, ℤ, Bool, true, false, not, ◌&&◌, ltb, leb, List, [], ◌∷◌, map, length, get_or, set, Option, Some, None, if◌then◌else◌, arith}
+use Rattle.std.proofs.Common.{◌≡◌, ◌≢◌, ◌↔◌, refl, sym, ap, subst, ◌∙◌, ◌⊎◌, inl, inr, ℕ, ◌+◌, ◌<◌, ◌≤◌, ℤ, Bool, true, false, not, ◌&&◌, ltb, leb, List, [], length, get_or, set, Option, Some, None, if◌then◌else◌, arith}
 use Rattle.std.specs.Int.{Width}
 use Rattle.std.specs.Option.{option_map}
 use Rattle.std.proofs.Math.Path.{fun_ext}
-use Rattle.std.proofs.lemmas.Bool.{false≢true, and_from, and_parts, lt-ltb, ltb-true, ltb-false, le-leb, leb-true, cases_lt, cases_eq}
+use Rattle.std.proofs.lemmas.Bool.{false≢true, and_from, and_parts, lt-ltb, ltb-true, le-leb, leb-true, cases_lt, cases_eq}
 use Rattle.std.proofs.lemmas.List.{get_or-map, get_or_default, map-set, length-map, length-set, get_or-set_other, get_or-set_same, ext_get_or}
 use Rattle.zf_spec.specs.Grid.{blocks, is_inside}
 use Rattle.zf_base.specs.Widths.{width_of}
-use Rattle.zf_base.specs.Places.{block_number, place_of}
+use Rattle.zf_base.specs.Places.{block_number}
 use Rattle.zf_base.specs.Positions.{used_axes, with_unused, IsPosition}
 use Rattle.zf_base.specs.declared.position.Pos.{Pos}
 use Rattle.zf_base.specs.Formats.{Format, meant}
@@ -22,12 +22,11 @@ use Rattle.zf_cached.specs.Acts.{Act}
 use Rattle.zf_cached.specs.Views.{View, with_codes, without_codes, acted, answered, IsWithin, HasOwn, AreAlike}
 use Rattle.zf_cached.specs.Ownership.{Owns, first_of, count_of}
 use Rattle.zf_cached.specs.Splits.{is_view_count, is_owner, no_view, view_at, coded}
-use Rattle.zf_cached.specs.Steps.{Setting, Session, format_of, views_of, state_of_view, with_view, by_view, has_view, view_has, refuses_split, refuses_size, refuses_range, refuses_value, done}
+use Rattle.zf_cached.specs.Steps.{Setting, Session, format_of, state_of_view, with_view, by_view, has_view, view_has, refuses_split, refuses_size, refuses_range, refuses_value, done}
 use Rattle.zf_cached.specs.Runs.{array_setting}
 use Rattle.zf_cache.specs.Standing.{state_of, Fits}
 use Rattle.zf_private.specs.Standing as private
 use Rattle.zf_private.specs.Standing.{Own, IsSameView, IsWhole}
-use Rattle.zf_private.specs.Several.{IsReady}
 use Rattle.zf_private.proofs.Alike.{stay-acted, quiet-acted, alike-acted, alike-answered}
 use Rattle.zf_private.proofs.Calls.{own_state}
 use Rattle.zf_private.proofs.Others.{other_codes_alike}

@@ -12,7 +12,8 @@ fn scripts_with_views(rt: HostRuntime) -> Result<(), Fail> {
     let rows: [(u32, &[u8], &[u8], RunEnd, &[u8]); 6] = [
         (
             2,
-            b"split 2 1\n@0 set 0 1\n@1 get 4\n@0 get 4\nget 0\n@1 set 4 7\n@0 flush\n@0 get 0\n@1 get 4\n@0 stats\njoin\nget 4\n",
+            b"split 2 1\n@0 set 0 1\n@1 get 4\n@0 get 4\nget 0\n@1 set 4 7\n@0 flush\n@0 get 0\n@1 get 4\n\
+              @0 stats\njoin\nget 4\n",
             b"0\n! range\n! split\n0\n7\nhits 0 misses 2 writes 1\n6\n",
             RunEnd::Lines(2),
             &[
@@ -32,8 +33,10 @@ fn scripts_with_views(rt: HostRuntime) -> Result<(), Fail> {
         ),
         (
             1,
-            b"set 0 1\nget 4\nsplit 2 1\nsplit 2 1\nsplit 0 0\n@2 stats\n@2 set 9 9999999999\n@0 set 4 9999999999\n@0 set 3 9999999999\n@1 stats\n@0 get 0\njoin\nstats\n",
-            b"0\n! split\n! split\n! range\n! range\n! range\n! value\nhits 0 misses 0 writes 0\n0\nhits 0 misses 2 writes 1\n",
+            b"set 0 1\nget 4\nsplit 2 1\nsplit 2 1\nsplit 0 0\n@2 stats\n@2 set 9 9999999999\n\
+              @0 set 4 9999999999\n@0 set 3 9999999999\n@1 stats\n@0 get 0\njoin\nstats\n",
+            b"0\n! split\n! split\n! range\n! range\n! range\n! value\nhits 0 misses 0 writes 0\n0\n\
+              hits 0 misses 2 writes 1\n",
             RunEnd::Lines(6),
             &[
                 0x7a, 0x66, 0x70, 0x05, 0x70, 0, 0, 0, 0, 0, 0xf0, 0x03, 0, 0, 0, 0, 0, 0, 0, 0, 0,
@@ -93,8 +96,10 @@ fn views_of_other_arrays(rt: HostRuntime) -> Result<(), Fail> {
         rt.alloc(),
         Shape::new(1, 20, 1, 1, 1),
         (64, 4),
-        b"split 3 1\n@0 get 3\n@0 get 4\n@1 get 3\n@1 set 4 1\n@1 set 8 2\n@1 get 4\n@1 get 12\n@2 set 12 5\n@2 set 16 9\n@2 add 16 2147483647\n@2 get 16\n@1 discard\n@2 stats\njoin\nsum\nstats\n",
-        b"0\n! range\n! range\n0\n! range\n-2147483640\nhits 2 misses 2 writes 1\n-2147483644\nhits 0 misses 5 writes 0\n",
+        b"split 3 1\n@0 get 3\n@0 get 4\n@1 get 3\n@1 set 4 1\n@1 set 8 2\n@1 get 4\n@1 get 12\n@2 set 12 5\n\
+          @2 set 16 9\n@2 add 16 2147483647\n@2 get 16\n@1 discard\n@2 stats\njoin\nsum\nstats\n",
+        b"0\n! range\n! range\n0\n! range\n-2147483640\nhits 2 misses 2 writes 1\n-2147483644\n\
+          hits 0 misses 5 writes 0\n",
         RunEnd::Lines(3),
         &[
             0x7a, 0x66, 0x70, 0x05, 0x30, 0x01, 0, 0, 0, 0, 0xf0, 0x03, 0, 0, 0, 0, 0, 0, 0, 0, 0,
@@ -107,7 +112,9 @@ fn views_of_other_arrays(rt: HostRuntime) -> Result<(), Fail> {
         rt.alloc(),
         Shape::new(2, 9, 7, 1, 1),
         (300, 1),
-        b"fill -5\nsplit 5 2\n@4 set 8,6 100\n@0 add 0,0 2147483647\n@3 get 1,5\n@4 stats\n@2 get 4,4\n@5 flush\n@1 add 4,0 7\n@1 flush\n@1 get 4,0\n@0 get 0,0\njoin\nview 0,0 9x7 1,1\nvsum\nsplit 6 1\n@5 get 8,6\n@0 get 0,0",
+        b"fill -5\nsplit 5 2\n@4 set 8,6 100\n@0 add 0,0 2147483647\n@3 get 1,5\n@4 stats\n@2 get 4,4\n\
+          @5 flush\n@1 add 4,0 7\n@1 flush\n@1 get 4,0\n@0 get 0,0\njoin\nview 0,0 9x7 1,1\nvsum\nsplit 6 1\n\
+          @5 get 8,6\n@0 get 0,0",
         b"-5\nhits 0 misses 1 writes 0\n! range\n! range\n0\n2147483642\n-2147483779\n99\n-2147483648\n",
         RunEnd::Lines(2),
         &[],

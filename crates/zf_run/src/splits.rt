@@ -47,7 +47,8 @@ impl<'a, T: Lane, const D: usize> Parted<'a, T, D> {
     /// The end of a run: a split ends, and then the array is flushed.
     pub(crate) fn finish(&mut self)
         requires { FitTogether T.value D self.old.array.now (lists self.old.views.now) }
-        ensures ended { (v : Part) → ended (setting_of T.width self.old.array.now) (parted_session T.value self.old.array.now (lists self.old.views.now) v)
+        ensures ended { (v : Part) → ended (setting_of T.width self.old.array.now)
+            (parted_session T.value self.old.array.now (lists self.old.views.now) v)
             ≡ session_of self.new.array.now v }
         ensures kept { kind self.new.array.now ≡ kind self.old.array.now }
         ensures same_array { self.new.array.ghost_name ≡ self.old.array.ghost_name }
@@ -62,7 +63,8 @@ impl<'a, T: Lane, const D: usize> Parted<'a, T, D> {
     // Flushes the views in order, and ends the split, if there is one.
     fn join(&mut self)
         requires { FitTogether T.value D self.old.array.now (lists self.old.views.now) }
-        ensures joined { (v : Part) → joined (setting_of T.width self.old.array.now) (parted_session T.value self.old.array.now (lists self.old.views.now) v)
+        ensures joined { (v : Part) → joined (setting_of T.width self.old.array.now)
+            (parted_session T.value self.old.array.now (lists self.old.views.now) v)
             ≡ session_of self.new.array.now v }
         ensures whole { self.new.views.now ≡ None }
         ensures kept { kind self.new.array.now ≡ kind self.old.array.now }
@@ -79,8 +81,9 @@ impl<'a, T: Lane, const D: usize> Parted<'a, T, D> {
     // `split N L`: that many views, each with so many lines. The memory is taken first; then the array is flushed.
     fn split(&mut self, count: u64, lines: u64) -> Answer
         requires whole { self.old.views.now ≡ None }
-        ensures does { (v : Part) → HasWindow (session_of self.old.array.now v) → Does (setting_of T.width self.old.array.now) (Command.split count lines)
-            (session_of self.old.array.now v) (parted_session T.value self.new.array.now (lists self.new.views.now) v) (answer result) }
+        ensures does { (v : Part) → HasWindow (session_of self.old.array.now v)
+            → Does (setting_of T.width self.old.array.now) (Command.split count lines) (session_of self.old.array.now v)
+            (parted_session T.value self.new.array.now (lists self.new.views.now) v) (answer result) }
         ensures sound { FitTogether T.value D self.new.array.now (lists self.new.views.now) }
         ensures kept { kind self.new.array.now ≡ kind self.old.array.now }
         ensures same_array { self.new.array.ghost_name ≡ self.old.array.ghost_name }
@@ -106,8 +109,9 @@ impl<'a, T: Lane, const D: usize> Parted<'a, T, D> {
         requires window { HasWindow (session_of self.old.array.now window.old) }
         requires numbers { cmd ≡ cmd_of (command_of (length (standing.shape self.old.array.now)) cmd) }
         requires alone { needs_split (command_of (length (standing.shape self.old.array.now)) cmd) ≡ false }
-        ensures does { Does (setting_of T.width self.old.array.now) (command_of (length (standing.shape self.old.array.now)) cmd)
-            (session_of self.old.array.now window.old) (parted_session T.value self.new.array.now (lists self.new.views.now) window.new) (answer result) }
+        ensures does { Does (setting_of T.width self.old.array.now)
+            (command_of (length (standing.shape self.old.array.now)) cmd) (session_of self.old.array.now window.old)
+            (parted_session T.value self.new.array.now (lists self.new.views.now) window.new) (answer result) }
         ensures sound { FitTogether T.value D self.new.array.now (lists self.new.views.now) }
         ensures kept { kind self.new.array.now ≡ kind self.old.array.now }
         ensures same_array { self.new.array.ghost_name ≡ self.old.array.ghost_name }
@@ -127,8 +131,10 @@ impl<'a, T: Lane, const D: usize> Parted<'a, T, D> {
         requires parted { IsSome self.old.views.now }
         requires numbers { cmd ≡ cmd_of (command_of (length (standing.shape self.old.array.now)) cmd) }
         requires on_split { needs_split (command_of (length (standing.shape self.old.array.now)) cmd) ≡ true }
-        ensures does { DoesAlone (setting_of T.width self.old.array.now) (command_of (length (standing.shape self.old.array.now)) cmd)
-            (parted_session T.value self.old.array.now (lists self.old.views.now)) (parted_session T.value self.new.array.now (lists self.new.views.now)) (answer result) }
+        ensures does { DoesAlone (setting_of T.width self.old.array.now)
+            (command_of (length (standing.shape self.old.array.now)) cmd)
+            (parted_session T.value self.old.array.now (lists self.old.views.now))
+            (parted_session T.value self.new.array.now (lists self.new.views.now)) (answer result) }
         ensures sound { FitTogether T.value D self.new.array.now (lists self.new.views.now) }
         ensures kept { kind self.new.array.now ≡ kind self.old.array.now }
         ensures same_array { self.new.array.ghost_name ≡ self.old.array.ghost_name }

@@ -48,7 +48,8 @@ pub(crate) fn on_view<T: Lane, const D: usize>(
 /// Flushes the views in order.
 pub(crate) fn flush_views<T: Lane, const D: usize>(a: &mut Array<T, D>, views: &mut [Private<T, D>])
     requires { AreParts T.value D a.old views.old }
-    ensures flushed { (v : Part) → flushed_views (setting_of T.width a.old) (split_session T.value a.old views.old v) (length views.old)
+    ensures flushed { (v : Part)
+        → flushed_views (setting_of T.width a.old) (split_session T.value a.old views.old v) (length views.old)
         ≡ split_session T.value a.new views.new v }
     ensures kept { kind a.new ≡ kind a.old }
 {
@@ -157,7 +158,8 @@ fn view_flush<T: Lane, const D: usize>(
 fn flush_view<T: Lane, const D: usize>(a: &mut Array<T, D>, views: &mut [Private<T, D>], i: usize)
     requires parts { AreParts T.value D a.old views.old }
     requires view { i < length views.old }
-    ensures acts { (v : Part) → (by_view (setting_of T.width a.old) (split_session T.value a.old views.old v) i Act.flush).0
+    ensures acts { (v : Part)
+        → (by_view (setting_of T.width a.old) (split_session T.value a.old views.old v) i Act.flush).0
         ≡ split_session T.value a.new views.new v }
     ensures parts { AreParts T.value D a.new views.new }
     ensures kept { kind a.new ≡ kind a.old }
@@ -207,7 +209,8 @@ fn has_position<T: Lane, const D: usize>(
 ) -> bool
     requires parts { AreParts T.value D a.now views.now }
     requires unused { p ≡ with_unused 0 (used_axes (length (shape a.now)) p) }
-    ensures has { (v : Part) → result ≡ view_has (split_session T.value a.now views.now v) i (used_axes (length (shape a.now)) p) }
+    ensures has { (v : Part)
+        → result ≡ view_has (split_session T.value a.now views.now v) i (used_axes (length (shape a.now)) p) }
     ensures number { IsTrue result → i < length views.now }
 {
     if i >= views.len() as u64 {

@@ -2,7 +2,7 @@ use Rattle.std.proofs.Common.{ap, ◌∙◌, get_or, lit<, lit≤, rules}
 use Rattle.zf_array.specs.Coded.{Frame}
 use Rattle.zf_array.proofs.Coded.{coded_empty}
 use Rattle.zf_cached.specs.Acts.{Act}
-use Rattle.zf_run.proofs.Lending.{HasActed, lent_ready, lent_acts, lent_parts}
+use Rattle.zf_run.proofs.Lending.{lent_ready, lent_acts, lent_parts}
 use Rattle.zf_run.proofs.views.flush_view.Goals as goal
 
 pub bind-requires : goal.bind-requires

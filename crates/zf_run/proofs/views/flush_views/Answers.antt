@@ -1,7 +1,4 @@
-use Rattle.std.proofs.Common.{◌≡◌, refl, sym, ap, ◌∙◌, length, arith}
-use Rattle.zf_cached.specs.Steps.{flushed_views}
-use Rattle.zf_run.specs.Sessions.{setting_of}
-use Rattle.zf_run.specs.Splits.{split_session}
+use Rattle.std.proofs.Common.{refl, ◌∙◌}
 use Rattle.zf_run.proofs.Splitting.{none_flushed, one_flushed}
 use Rattle.zf_run.proofs.views.flush_views.Goals as goal
 

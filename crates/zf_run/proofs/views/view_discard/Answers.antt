@@ -1,4 +1,4 @@
-use Rattle.std.proofs.Common.{◌≡◌, refl, ap, ◌∙◌, not, length, get_or, None}
+use Rattle.std.proofs.Common.{refl, ap, ◌∙◌, not, length, get_or, None}
 use Rattle.zf_cached.specs.Commands.{Command}
 use Rattle.zf_cached.specs.Acts.{Act}
 use Rattle.zf_cached.specs.Views.{answered}

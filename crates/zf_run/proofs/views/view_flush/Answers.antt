@@ -1,4 +1,4 @@
-use Rattle.std.proofs.Common.{◌≡◌, refl, ap, not}
+use Rattle.std.proofs.Common.{refl, ap, not}
 use Rattle.zf_cached.specs.Commands.{Command}
 use Rattle.zf_run.specs.Sessions.{setting_of}
 use Rattle.zf_run.specs.Splits.{split_session}

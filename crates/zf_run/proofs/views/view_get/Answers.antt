@@ -1,25 +1,22 @@
-use Rattle.std.proofs.Common.{◌≡◌, refl, sym, ap, subst, ◌∙◌, not, true, false, length, get_or, Some, None, ℤ, lit<, lit≤, rules}
-use Rattle.std.specs.Int.{w128}
+use Rattle.std.proofs.Common.{◌≡◌, refl, sym, ap, ◌∙◌, not, true, length, get_or, Some, lit<, lit≤, rules}
 use Rattle.std.specs.Option.{option_map}
-use Rattle.std.proofs.lemmas.Int.{to_z-of_z}
 use Rattle.zf_base.specs.Positions.{used_axes}
-use Rattle.zf_base.specs.Places.{block_number, place_of}
 use Rattle.zf_cached.specs.Windows.{Window, whole}
 use Rattle.zf_cached.specs.Commands.{Command}
 use Rattle.zf_cached.specs.Replies.{Reply}
 use Rattle.zf_cached.specs.Acts.{Act}
 use Rattle.zf_cached.specs.Views.{answered}
-use Rattle.zf_cached.specs.Steps.{by_view, view_has, is_of_type, done}
+use Rattle.zf_cached.specs.Steps.{by_view, view_has, done}
 use Rattle.zf_cached.specs.Runs.{array_setting}
 use Rattle.zf_private.specs.Standing as private
 use Rattle.zf_array.specs.Standing.{shape}
 use Rattle.zf_array.specs.Coded.{Frame}
 use Rattle.zf_array.proofs.Coded.{coded_empty}
 use Rattle.zf_run.specs.Sessions.{setting_of}
-use Rattle.zf_run.specs.Splits.{view_state, split_session}
-use Rattle.zf_run.proofs.Stepping.{refused_range, refused_value}
+use Rattle.zf_run.specs.Splits.{split_session}
+use Rattle.zf_run.proofs.Stepping.{refused_range}
 use Rattle.zf_run.proofs.Viewing.{owner_owns, has_inside}
-use Rattle.zf_run.proofs.Lending.{HasActed, lent_ready, position_there, own_there, act_there, lent_takes, lent_parts}
+use Rattle.zf_run.proofs.Lending.{lent_ready, position_there, own_there, act_there, lent_takes, lent_parts}
 use Rattle.zf_run.proofs.Wide.{wide}
 use Rattle.zf_run.proofs.views.view_get.Goals as goal
 

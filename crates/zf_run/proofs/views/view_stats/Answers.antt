@@ -1,4 +1,4 @@
-use Rattle.std.proofs.Common.{◌≡◌, refl, sym, ap, ◌∙◌, not, Some}
+use Rattle.std.proofs.Common.{refl, sym, ap, ◌∙◌, not, Some}
 use Rattle.zf_cached.specs.State.{Counts}
 use Rattle.zf_cached.specs.Commands.{Command}
 use Rattle.zf_cached.specs.Steps.{counts_reply, done}

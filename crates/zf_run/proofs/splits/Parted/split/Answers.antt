@@ -1,4 +1,4 @@
-use Rattle.std.proofs.Common.{◌≡◌, refl, sym, ap, subst, ◌∙◌, Bool, true, false, not, ◌&&◌, ltb, leb, ltb-true, Some}
+use Rattle.std.proofs.Common.{◌≡◌, refl, sym, ap, subst, ◌∙◌, true, false, not, ◌&&◌, ltb, leb, ltb-true, Some}
 use Rattle.std.proofs.lemmas.Bool.{and_parts}
 use Rattle.zf_spec.specs.Grid.{blocks}
 use Rattle.zf_cached.specs.Arrays.{array_format}
