@@ -37,6 +37,18 @@ impl<'a> BitReader<'a> {
         BitReader { words, bits, at: 0 }
     }
 
+    /// Another reader of the same bits, at the same place.
+    #[inline(always)]
+    pub fn another(&self) -> BitReader<'a>
+        ensures { result ≡ self.now }
+    {
+        BitReader {
+            words: self.words,
+            bits: self.bits,
+            at: self.at,
+        }
+    }
+
     /// The number of bits before the place.
     pub fn at(&self) -> u64
         ensures { result ≡ self.now.at }
@@ -151,6 +163,9 @@ mod tests {
         assert_eq!(rt; reader.read_bit(), Some(false));
         assert_eq!(rt; reader.read_bit(), None);
         reader.seek(32);
+        let mut other = reader.another();
+        assert_eq!(rt; other.read(64), Some(0x8800_0000_0000_0000));
+        assert_eq!(rt; reader.at(), 32);
         assert_eq!(rt; reader.peek(), 0x8800_0000_0000_0000);
         assert_eq!(rt; reader.read(64), Some(0x8800_0000_0000_0000));
         reader.seek(0);

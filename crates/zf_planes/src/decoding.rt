@@ -328,9 +328,11 @@ fn read_slowly<P: Plane>(
 {
     let mut digits = *plane;
     let mut next = *ahead;
-    let above = read_apart(n, size, &mut digits, &mut next, reader)?;
+    let mut place = reader.another();
+    let above = read_apart(n, size, &mut digits, &mut next, &mut place)?;
     *plane = digits;
     *ahead = next;
+    *reader = place;
     Some(above)
 }
 
@@ -578,12 +580,16 @@ fn read_top<P: Plane>(
         ≡ planes_ahead budget prec size 0 (rest reader.old) ++ replicate (length planes.new - prec) (replicate size false)) }
     ensures clear { OnSome result (All (IsClearFrom size) (map P.words planes.new)) }
 {
-    match size {
-        4 => read_sized(budget, prec, size, reader, planes),
-        16 => read_sized(budget, prec, size, reader, planes),
-        64 => read_sized(budget, prec, size, reader, planes),
-        _ => read_sized(budget, prec, size, reader, planes),
-    }
+    // The place of a reader of its own stays in a register.
+    let mut place = reader.another();
+    let left = match size {
+        4 => read_sized(budget, prec, size, &mut place, planes),
+        16 => read_sized(budget, prec, size, &mut place, planes),
+        64 => read_sized(budget, prec, size, &mut place, planes),
+        _ => read_sized(budget, prec, size, &mut place, planes),
+    }?;
+    *reader = place;
+    Some(left)
 }
 
 /// Reads the code of the top `prec` planes, of which `budget` bits were written, or all of it where it is shorter. The answer is the number of its bits.
