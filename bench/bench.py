@@ -8,17 +8,19 @@ waves, made from NUMBER, by default 0. Needs the programs zfp and time (Debian's
 
 The arrays are cubes of one to four dimensions, of int32 and int64. Each row has one array in one mode: bits a value of our stream; then of compress and
 of restore nanoseconds a value of processor time (user and system), how many times as fast ours is as zfp's, by processor time and by the clock on the
-wall, and the most memory that ours held. The least of three runs, ours and zfp's one after the other. Last, of both, the times a value at a quarter of
-the size and at four times it, as parts of that at once the size. Plain numbers: nothing is claimed of them.
+wall, and the most memory that ours held. The least of five runs, ours and zfp's by turns. Last, of both, the times a value at a quarter of the size and
+at four times it, as parts of that at once the size. Plain numbers: nothing is claimed of them.
 """
 
+import os
 import pathlib
 import subprocess
 import sys
 import tempfile
+import time
 from typing import NamedTuple
 
-RUNS = 3
+RUNS = 5
 SIZES = (0.25, 1, 4)
 HERE = pathlib.Path(__file__).resolve().parent
 
@@ -29,21 +31,27 @@ class Run(NamedTuple):
     megabytes: float
 
 
-def measured(words, given=None, made=None):
-    """Seconds of processor time and of wall time of a command, the least of some runs, and its most memory."""
-    runs = []
-    for _ in range(RUNS):
-        with tempfile.NamedTemporaryFile("r") as told:
-            # by a small process, so that this one's memory is not counted with the program's
-            command = ["/usr/bin/time", "-o", told.name, "-f", "%U %S %e %M", *words]
-            with open(given or "/dev/null", "rb") as source, open(made or "/dev/null", "wb") as sink:
-                done = subprocess.run(command, stdin=source, stdout=sink, stderr=subprocess.PIPE, check=False)
-            if done.returncode != 0:
-                sys.exit(f"{' '.join(words)}: {done.stderr.decode(errors='replace').strip()}")
-            user, system, wall, kibibytes = (float(number) for number in told.read().split())
-        # the least that time tells is a hundredth of a second
-        runs.append(Run(max(user + system, 0.01), max(wall, 0.01), kibibytes * 1024 / 1e6))
-    return Run(*(min(numbers) for numbers in zip(*runs)))
+def run_once(words, given=None, made=None):
+    """Seconds of processor time and of wall time of a command, and its most memory."""
+    with tempfile.NamedTemporaryFile("r") as told, tempfile.TemporaryFile("r") as said:
+        # by a small process, so that this one's memory is not counted with the program's
+        command = ["/usr/bin/time", "-o", told.name, "-f", "%M", *words]
+        with open(given or "/dev/null", "rb") as source, open(made or "/dev/null", "wb") as sink:
+            start = time.monotonic()
+            process = subprocess.Popen(command, stdin=source, stdout=sink, stderr=said)
+            _, status, used = os.wait4(process.pid, 0)
+            wall = time.monotonic() - start
+        process.returncode = os.waitstatus_to_exitcode(status)
+        if process.returncode != 0:
+            said.seek(0)
+            sys.exit(f"{' '.join(words)}: {said.read().strip()}")
+        return Run(used.ru_utime + used.ru_stime, wall, int(told.read()) * 1024 / 1e6)
+
+
+def measured(*commands):
+    """The least of some runs of each command. They take turns, so that a change of the machine's clock meets all of them."""
+    rounds = [[run_once(*command) for command in commands] for _ in range(RUNS)]
+    return [Run(*(min(numbers) for numbers in zip(*runs))) for runs in zip(*rounds)]
 
 
 class Array(NamedTuple):
@@ -64,32 +72,31 @@ class Array(NamedTuple):
         return words + (["-R"] if bits is None else ["-r", str(bits)])
 
 
-def both_ways(program, folder, array, bits):
-    """Ours both ways, and the bytes of the stream."""
-    stream, back = str(folder / "ours"), str(folder / "back")
-    compress = measured(array.ours(program, bits), array.raw, stream)
-    restore = measured([program, "restore"], stream, back)
+def both_ways(program, folder, array, bits, beside):
+    """Both ways, ours and where it is to stand beside ours zfp's, and the bytes of our stream."""
+    stream, theirs, back = (str(folder / name) for name in ("ours", "theirs", "back"))
+    compress = [(array.ours(program, bits), array.raw, stream)]
+    restore = [([program, "restore"], stream, back)]
+    if beside:
+        compress.append(([*array.theirs(bits), "-i", array.raw, "-z", theirs],))
+        restore.append(([*array.theirs(bits), "-z", theirs, "-o", str(folder / "theirs_back")],))
+    times = measured(*compress), measured(*restore)
     if bits is None and pathlib.Path(back).read_bytes() != pathlib.Path(array.raw).read_bytes():
         sys.exit("the values did not come back")
-    return compress, restore, pathlib.Path(stream).stat().st_size
+    return times, pathlib.Path(stream).stat().st_size
 
 
 def row(program, folder, arrays, bits):
     """The arrays of the sizes in one mode; `bits` is bits a value, or None without loss."""
-    times = {size: both_ways(program, folder, array, bits) for size, array in arrays.items()}
+    times = {size: both_ways(program, folder, array, bits, size == 1) for size, array in arrays.items()}
     array = arrays[1]
-    theirs = str(folder / "theirs")
-    zfp = (
-        measured([*array.theirs(bits), "-i", array.raw, "-z", theirs]),
-        measured([*array.theirs(bits), "-z", theirs, "-o", str(folder / "back")]),
-    )
     shape = "x".join([str(array.side)] * array.dims)
     parts = [f"int{array.width} {shape} " + ("reversible" if bits is None else f"{bits} bits a value")]
-    parts[0] = f"{parts[0]:36} {times[1][2] * 8 / array.values():5.2f} bits"
+    parts[0] = f"{parts[0]:36} {times[1][1] * 8 / array.values():5.2f} bits"
     for way, name in enumerate(("compress", "restore")):
-        run = times[1][way]
-        text = f"{name} {run.processor / array.values() * 1e9:6.2f} ns, {zfp[way].processor / run.processor:5.2f} times, wall {zfp[way].wall / run.wall:5.2f},"
-        grown = (times[size][way].processor / arrays[size].values() * array.values() / run.processor for size in SIZES if size != 1)
+        run, zfp = times[1][0][way]
+        text = f"{name} {run.processor / array.values() * 1e9:6.2f} ns, {zfp.processor / run.processor:5.2f} times, wall {zfp.wall / run.wall:5.2f},"
+        grown = (times[size][0][way][0].processor / arrays[size].values() * array.values() / run.processor for size in SIZES if size != 1)
         parts.append(f"{text} {run.megabytes:5.1f} MB, " + " ".join(f"{part:4.2f}" for part in grown))
     print(" | ".join(parts), flush=True)
 
