@@ -1,6 +1,7 @@
 -- Shapes that an array may be resized to, and the array of another shape.
 use Rattle.std.proofs.Common.{◌≡◌, refl, sym, ap, subst, ◌∙◌, ℕ, ◌+◌, ◌*◌, ◌<◌, ◌≤◌, Bool, true, false, not, ◌&&◌, eqb, eq-eqb, ne_eqb, leb, List, length, replicate, None, is_none, arith}
-use Rattle.std.proofs.lemmas.Bool.{and_from, le-leb, leb-true}
+use Rattle.std.proofs.Math.Bool.{and-false}
+use Rattle.std.proofs.lemmas.Bool.{and_from, le-leb, lt-leb}
 use Rattle.std.specs.Int.{Width, div_ceil}
 use Rattle.zf_spec.specs.Grid.{blocks}
 use Rattle.zf_spec.specs.Stream.{header, fixed_rate}
@@ -21,24 +22,13 @@ use Rattle.zf_run.specs.Sessions.{setting_of, session_of, start_of, kind, IsArra
 use Rattle.zf_run.specs.Steps.{Does}
 use Rattle.zf_run.proofs.Stepping.{accepted}
 
-and_false : (a : Bool) → (a && false) ≡ false
-and_false true = refl
-and_false false = refl
-
-not_le : (m n : ℕ) → n < m → leb m n ≡ false
-not_le m n lt = by (leb m n) refl
-  where
-    by : (t : Bool) → leb m n ≡ t → t ≡ false
-    by true e = absurd (omega (arith, leb-true m n e))
-    by false e = refl
-
 module _ {Code : Type 0} (setting : Setting Code) (s : Session Code) (ns : List ℕ) where
   pub not_as_many : (length ns ≡ length s.shape → ⊥) → is_new_shape setting s ns ≡ false
   not_as_many other = ap (λ t. t && (is_none (shape_fault ns) && setting.has_room ns)) (ne_eqb (length ns) (length s.shape) other)
 
   pub no_room : setting.has_room ns ≡ false → is_new_shape setting s ns ≡ false
   no_room none = ap (λ t. eqb (length ns) (length s.shape) && (is_none (shape_fault ns) && t)) none
-      ∙ ap (λ t. eqb (length ns) (length s.shape) && t) (and_false (is_none (shape_fault ns))) ∙ and_false (eqb (length ns) (length s.shape))
+      ∙ ap (λ t. eqb (length ns) (length s.shape) && t) (and-false (is_none (shape_fault ns))) ∙ and-false (eqb (length ns) (length s.shape))
 
   pub is_new : length ns ≡ length s.shape → shape_fault ns ≡ None → setting.has_room ns ≡ true → is_new_shape setting s ns ≡ true
   is_new many good room = and_from (eqb (length ns) (length s.shape)) (is_none (shape_fault ns) && setting.has_room ns) (eq-eqb (length ns) (length s.shape) many)
@@ -59,7 +49,7 @@ module _ (w : Width) (a : Held) (ty : Ty) (ms ns : List ℕ) (b : ℕ) (same : m
 
   pub has_no_room : 1200000000 < rate_bytes_of (record { ty = ty; shape = ms; mode = Rate b }) → (setting_of w a).has_room ns ≡ false
   unfolding array_setting
-  has_no_room large = not_le (file_bytes w (block_bits a.header.mode) ns) max_file (omega (arith, large, bytes))
+  has_no_room large = lt-leb (file_bytes w (block_bits a.header.mode) ns) max_file (omega (arith, large, bytes))
 
 -- an array that was resized
 module _ (w : Width) (a : Held) (dim : ℕ) (is : IsArray w dim a) (v : Window) (lies : LiesIn (shape a) v) (b : Held) (ns ms : List ℕ) (same : ms ≡ ns) (new : is_new_shape (setting_of w a) (start_of a) ns ≡ true)

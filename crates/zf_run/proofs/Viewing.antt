@@ -3,7 +3,8 @@ use Rattle.std.proofs.Common.{◌≡◌, ◌≢◌, ◌↔◌, refl, sym, ap, su
 use Rattle.std.specs.Int.{Width}
 use Rattle.std.specs.Option.{option_map}
 use Rattle.std.proofs.Math.Path.{fun_ext}
-use Rattle.std.proofs.lemmas.Bool.{false≢true, and_from, and_parts, lt-ltb, ltb-true, le-leb, leb-true, cases_lt, cases_eq}
+use Rattle.std.proofs.Math.Bool.{and-false}
+use Rattle.std.proofs.lemmas.Bool.{false≢true, and_from, and_parts, lt-ltb, ltb-true, le-ltb, le-leb, leb-true, cases_lt, cases_eq}
 use Rattle.std.proofs.lemmas.List.{get_or-map, get_or_default, map-set, length-map, length-set, get_or-set_other, get_or-set_same, ext_get_or}
 use Rattle.zf_spec.specs.Grid.{blocks, is_inside}
 use Rattle.zf_base.specs.Widths.{width_of}
@@ -274,17 +275,6 @@ module _ {X : Type 0} (value : X → ℤ) (w : Width) (d : ℕ) (a b : Held) (vi
 
 -- ---- which view has a position
 
-and_false : (t : Bool) → (t && false) ≡ false
-and_false true = refl
-and_false false = refl
-
-not_less : (i n : ℕ) → n ≤ i → ltb i n ≡ false
-not_less i n le = by (ltb i n) refl
-  where
-    by : (t : Bool) → ltb i n ≡ t → t ≡ false
-    by true e = absurd (omega (arith, le, ltb-true i n e))
-    by false e = refl
-
 -- a position outside
 pub not_inside : (ns : List ℕ) (p : Pos) → p ≡ with_unused 0 (used_axes (length ns) p) → (IsPosition ns p → ⊥) → is_inside ns (used_axes (length ns) p) ≡ false
 not_inside ns p unused away = by (is_inside ns (used_axes (length ns) p)) refl
@@ -301,10 +291,10 @@ module _ {X : Type 0} (value : X → ℤ) (a : Held) (views : List (private.Held
   has_is u = ap (λ n. ltb i n && (is_inside (shape a) ps && is_owner (blocks (shape a)) n i (block_number (shape a) ps))) (length-map views (view_of value a))
 
   pub view_is_none : (u : Window) → length views ≤ i → view_has (split_session value a views u) i ps ≡ false
-  view_is_none u many = has_is u ∙ ap (λ t. t && (is_inside (shape a) ps && owner)) (not_less i (length views) many)
+  view_is_none u many = has_is u ∙ ap (λ t. t && (is_inside (shape a) ps && owner)) (le-ltb i (length views) many)
 
   pub position_is_none : (u : Window) → is_inside (shape a) ps ≡ false → view_has (split_session value a views u) i ps ≡ false
-  position_is_none u outside = has_is u ∙ ap (λ t. ltb i (length views) && (t && owner)) outside ∙ and_false (ltb i (length views))
+  position_is_none u outside = has_is u ∙ ap (λ t. ltb i (length views) && (t && owner)) outside ∙ and-false (ltb i (length views))
 
   module _ (d : ℕ) (v : private.Held X) (parts : AreParts value d a views) (lt : i < length views) (at : v ≡ get_or views i v) where
     owner_is : (k : ℕ) → is_owner (blocks (shape a)) (length views) i k ≡ owns_block v k
@@ -313,7 +303,7 @@ module _ {X : Type 0} (value : X → ℤ) (a : Held) (views : List (private.Held
     pub block_is_none : (u : Window) → (Own v (block_number (shape a) ps) → ⊥) → view_has (split_session value a views u) i ps ≡ false
     block_is_none u not =
         has_is u ∙ ap (λ t. ltb i (length views) && (is_inside (shape a) ps && t)) (owner_is (block_number (shape a) ps) ∙ owned-false v (block_number (shape a) ps) not)
-        ∙ ap (λ t. ltb i (length views) && t) (and_false (is_inside (shape a) ps)) ∙ and_false (ltb i (length views))
+        ∙ ap (λ t. ltb i (length views) && t) (and-false (is_inside (shape a) ps)) ∙ and-false (ltb i (length views))
 
     pub view_is_owner : (u : Window) → is_inside (shape a) ps ≡ true → Own v (block_number (shape a) ps) → view_has (split_session value a views u) i ps ≡ true
     view_is_owner u inside own =
@@ -344,7 +334,7 @@ pub has_view_is : {X : Type 0} (value : X → ℤ) (a : Held) (views : List (pri
 has_view_is value a views i u lt = ap (ltb i) (length-map views (view_of value a)) ∙ lt-ltb i (length views) lt
 
 pub has_no_view : {X : Type 0} (value : X → ℤ) (a : Held) (views : List (private.Held X)) (i : ℕ) (u : Window) → length views ≤ i → has_view (split_session value a views u) i ≡ false
-has_no_view value a views i u many = ap (ltb i) (length-map views (view_of value a)) ∙ not_less i (length views) many
+has_no_view value a views i u many = ap (ltb i) (length-map views (view_of value a)) ∙ le-ltb i (length views) many
 
 -- the counts of a view
 pub counts_are : {X : Type 0} (value : X → ℤ) (a : Held) (views : List (private.Held X)) (i : ℕ) (v : private.Held X) → i < length views → v ≡ get_or views i v → (view_at (views_seen value a views) i).counts ≡ v.cache.counts
