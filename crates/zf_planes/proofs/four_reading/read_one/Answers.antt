@@ -1,8 +1,7 @@
-use Rattle.std.proofs.Common.{◌≡◌, ℕ, Bool, List, [], ◌∷◌, max, sym, ap, subst, ◌∙◌, arith}
+use Rattle.std.proofs.Common.{ℕ, Bool, List, [], ◌∷◌, max, sym, ap, subst, ◌∙◌}
 use Rattle.zf_spec.specs.Planes.{reach}
 use Rattle.zf_bits.specs.Reader.{rest}
-use Rattle.zf_planes.specs.Decoding.{Takes, plane_ahead, plane_bits}
-use Rattle.zf_planes.specs.Lanes.{low_planes, lanes_in}
+use Rattle.zf_planes.specs.Decoding.{Takes}
 use Rattle.zf_planes.proofs.LanesAhead.{one_in_sight}
 use Rattle.zf_planes.proofs.four_reading.read_one.Goals as goal
 

@@ -1,8 +1,6 @@
-use Rattle.std.proofs.Common.{◌≡◌, ℕ, suc, ◌+◌, ◌-◌, ◌≤◌, Bool, List, ◌++◌, length, sym, ap, subst, ◌∙◌, arith}
-use Rattle.zf_spec.proofs.Reach.{reach-le}
+use Rattle.std.proofs.Common.{◌≡◌, ℕ, suc, ◌-◌, ◌≤◌, sym, subst, arith}
 use Rattle.zf_bits.specs.Reader.{rest}
-use Rattle.zf_planes.specs.Decoding.{Takes, plane_ahead, plane_bits, planes_ahead, planes_bits}
-use Rattle.zf_planes.specs.Lanes.{low_planes, lanes_in}
+use Rattle.zf_planes.specs.Decoding.{Takes, plane_bits, planes_bits}
 use Rattle.zf_planes.proofs.Passing.{Passes-start, Passes-lacks, if_none}
 use Rattle.zf_planes.proofs.PlanesAhead.{plane_bits-le}
 use Rattle.zf_planes.proofs.LanesAhead.{SomeRead, at_end, in_sight, one_read, reach_of_one}
