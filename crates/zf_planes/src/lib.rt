@@ -21,5 +21,6 @@ pub use words::clear;
 
 #[cfg(test)]
 mod four_tests;
+mod four_reading_tests;
 #[cfg(test)]
 mod tests;
