@@ -20,7 +20,8 @@ pub use measuring::{code_len, planes_len, planes_used, planes_within, used_plane
 pub use words::clear;
 
 #[cfg(test)]
-mod four_tests;
 mod four_reading_tests;
+#[cfg(test)]
+mod four_tests;
 #[cfg(test)]
 mod tests;
