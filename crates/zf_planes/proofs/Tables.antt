@@ -2,9 +2,8 @@
 use Rattle.std.proofs.Common.{◌≡◌, ℕ, zero, suc, ◌+◌, ◌*◌, ◌/◌, ◌%◌, ◌^◌, ◌<◌, ◌≤◌, ⊎_elim, max, Bool, true, false, ◌&&◌, eqb, ltb, List, [], ◌∷◌, ◌++◌, get_or, refl, sym, ap, subst, ◌∙◌, arith}
 use Rattle.std.proofs.lemmas.Bool.{cases_lt, false≢true, and_parts, eqb-true, ltb-true}
 use Rattle.zf_spec.specs.Numbers.{field}
-use Rattle.zf_spec.specs.Planes.{plane_code, code_from, reach, reach_of_all}
-use Rattle.zf_planes.specs.Fours.{fours}
-use Rattle.zf_planes.specs.declared.four.TheConstants.{CODES, FOURS, PAIRS, PLANES}
+use Rattle.zf_spec.specs.Planes.{plane_code, reach}
+use Rattle.zf_planes.specs.declared.four.TheConstants.{CODES, PAIRS, PLANES}
 
 -- ---- tests that compute
 
@@ -142,50 +141,3 @@ plane_of_entry n bits e in_plane seven is =
     let one = and_parts (same_digits (plane_code n (field 4 (e % 16))) (field (e / 16 % 8) bits)) _ test in
     let two = and_parts (ltb 0 (e / 16 % 8)) _ one.1 in
     record { code = same_digits-true _ _ one.0; some = ltb-true _ _ two.0; above = eqb-true _ _ two.1 }
-
--- ---- several planes
-
--- an entry has planes whose code begins these bits, how many, the length of their code, and how far the ones reach
-abbrev test_fours : ℕ → ℕ → ℕ → Bool
-test_fours n bits e =
-    same_digits (code_from n (fours (e / 1048576 % 8) (e % 65536))) (field (e / 65536 % 16) bits)
-    && (ltb (e % 65536) (16 ^ (e / 1048576 % 8)) && (ltb 0 (e / 1048576 % 8) && (ltb (e / 1048576 % 8) 5 && (ltb 0 (e / 65536 % 16) && (ltb (e / 65536 % 16) 9 && eqb (e / 8388608) (max n (reach_of_all (fours (e / 1048576 % 8) (e % 65536)))))))))
-
-test_all_fours : each_below (λ i. test_fours (i / 256) (i % 256) (get_or FOURS i 0)) 1280 ≡ true
-unfolding fours
-test_all_fours = refl
-
-pub record IsFours (n bits e : ℕ) : Type 0 where
-  pub code : code_from n (fours (e / 1048576 % 8) (e % 65536)) ≡ field (e / 65536 % 16) bits
-  pub digits : e % 65536 < 16 ^ (e / 1048576 % 8)
-  pub some : 0 < e / 1048576 % 8
-  pub most : e / 1048576 % 8 < 5
-  pub bit : 0 < e / 65536 % 16
-  pub len : e / 65536 % 16 < 9
-  pub above : e / 8388608 ≡ max n (reach_of_all (fours (e / 1048576 % 8) (e % 65536)))
-
-pub fours_of_entry : (n bits e : ℕ) → n ≤ 4 → bits < 256 → e ≡ get_or FOURS (256 * n + bits) 0 → IsFours n bits e
-fours_of_entry n bits e in_plane eight is =
-    let i = 256 * n + bits in
-    let front : i / 256 ≡ n = omega arith in
-    let low : i % 256 ≡ bits = omega arith in
-    let test : test_fours n bits e ≡ true =
-    ap (λ k. test_fours k bits e) (sym front)
-    ∙ ap (λ k. test_fours (i / 256) k e) (sym low)
-    ∙ ap (test_fours (i / 256) (i % 256)) is
-    ∙ each_below-true (λ j. test_fours (j / 256) (j % 256) (get_or FOURS j 0)) 1280 i test_all_fours (omega arith) in
-    let one = and_parts (same_digits (code_from n (fours (e / 1048576 % 8) (e % 65536))) (field (e / 65536 % 16) bits)) _ test in
-    let two = and_parts (ltb (e % 65536) (16 ^ (e / 1048576 % 8))) _ one.1 in
-    let three = and_parts (ltb 0 (e / 1048576 % 8)) _ two.1 in
-    let four = and_parts (ltb (e / 1048576 % 8) 5) _ three.1 in
-    let five = and_parts (ltb 0 (e / 65536 % 16)) _ four.1 in
-    let six = and_parts (ltb (e / 65536 % 16) 9) _ five.1 in
-    record {
-      code = same_digits-true _ _ one.0;
-      digits = ltb-true _ _ two.0;
-      some = ltb-true _ _ three.0;
-      most = ltb-true _ _ four.0;
-      bit = ltb-true _ _ five.0;
-      len = ltb-true _ _ six.0;
-      above = eqb-true _ _ six.1;
-    }

@@ -9,10 +9,8 @@ ghost use Rattle.zf_spec.specs.Numbers.{field, word_bits};
 ghost use Rattle.zf_spec.specs.Planes.{reach};
 ghost use Rattle.zf_planes.specs.WordPlanes.{IsReadAs};
 ghost use Rattle.zf_bits.specs.Reader.{rest, Reads};
-ghost use Rattle.zf_planes.specs.Fours.{fours};
 ghost use Rattle.zf_planes.specs.Decoding.{IsWindow, coded, coded_bits, tail_ahead, tail_bits, run_ahead, run_bits, plane_ahead, plane_bits, planes_ahead, planes_bits, Takes, Lacks};
 
-use crate::four::{plane_of_4, planes_of_4};
 use crate::tails::{PlaneOfWord, plane_of_all, plane_with, plane_without};
 use crate::words::clear;
 use zf_bits::{BitReader, Plane};
@@ -256,7 +254,7 @@ fn read_tail<P: Plane>(
 
 /// Reads the code of a plane in which the ranks below `n` have had a one above, run by run. The answer is how far the ones of both reach.
 #[inline(always)]
-fn read_by_runs<P: Plane>(
+pub(crate) fn read_by_runs<P: Plane>(
     n: usize,
     size: usize,
     plane: &mut P,
@@ -379,33 +377,6 @@ fn put_plane<P: Plane>(
     next.above
 }
 
-/// Reads the code of a plane of four digits in which the ranks below `n` have had a one above. The answer is how far the ones of both reach.
-#[inline(always)]
-pub(crate) fn read_plane_of_4<P: Plane>(
-    n: usize,
-    plane: &mut P,
-    ahead: &mut Ahead,
-    reader: &mut BitReader<'_>,
-) -> Option<usize>
-    requires words { 4 ≤ 64 * P.word_count }
-    requires in_plane { n ≤ 4 }
-    requires blank { P.words plane.old ≡ replicate P.word_count 0 }
-    requires window { IsWindow ahead.old.left ahead.old.bits ahead.old.count (rest reader.old) }
-    ensures short { IfNone result (Lacks reader.old reader.new (plane_bits ahead.old.left 4 n (rest reader.old))) }
-    ensures window { OnSome result (IsWindow ahead.new.left ahead.new.bits ahead.new.count (rest reader.new)) }
-    ensures taken { OnSome result (Takes reader.old reader.new ahead.old.left ahead.new.left (plane_bits ahead.old.left 4 n (rest reader.old))) }
-    ensures digits { OnSome result (digits_held 4 (P.words plane.new) ≡ plane_ahead ahead.old.left 4 n (rest reader.old)) }
-    ensures clear { OnSome result (IsClearFrom 4 (P.words plane.new)) }
-    ensures above { IfSome result (λ above. above ≡ max n (reach (digits_held 4 (P.words plane.new)))) }
-{
-    look_on(7, ahead, reader);
-    let next = plane_of_4(n, ahead.bits % 128);
-    if next.len <= ahead.count {
-        return Some(put_plane(n, 4, next, plane, ahead, reader));
-    }
-    read_by_runs(n, 4, plane, ahead, reader)
-}
-
 /// Reads the code of a plane of up to 64 digits in which the ranks below `n` have had a one above. The answer is how far the ones of both reach.
 #[inline(always)]
 fn read_plane_of_word<P: Plane>(
@@ -469,10 +440,7 @@ fn read_plane<P: Plane>(
     ensures clear { OnSome result (IsClearFrom size (P.words plane.new)) }
     ensures above { IfSome result (λ above. above ≡ max n (reach (digits_held size (P.words plane.new)))) }
 {
-    if size == 4 {
-        return read_plane_of_4(n, plane, ahead, reader);
-    }
-    if size == 16 || size == 64 {
+    if size == 4 || size == 16 || size == 64 {
         return read_plane_of_word(n, size, plane, ahead, reader);
     }
     read_by_runs(n, size, plane, ahead, reader)
@@ -494,27 +462,6 @@ pub(crate) fn pass_zero_planes(prec: u32, ahead: &mut Ahead, reader: &mut BitRea
         pass(count, ahead, reader);
     }
     count
-}
-
-/// Puts the digits of four planes from the i-th on, four bits each. They and those below them are zero before.
-#[inline]
-fn put_four<P: Plane>(i: usize, digits: u64, planes: &mut [P])
-    requires words { 4 ≤ 64 * P.word_count }
-    requires place { i + 4 ≤ length planes.old }
-    requires back { drop i (planes_held 4 (map P.words planes.old)) ≡ replicate (length planes.old - i) (replicate 4 false) }
-    requires clear { All (IsClearFrom 4) (map P.words planes.old) }
-    ensures digits { take (i + 4) (planes_held 4 (map P.words planes.new)) ≡ take i (planes_held 4 (map P.words planes.old)) ++ fours 4 digits }
-    ensures back { drop (i + 4) (planes_held 4 (map P.words planes.new)) ≡ replicate (length planes.new - (i + 4)) (replicate 4 false) }
-    ensures clear { All (IsClearFrom 4) (map P.words planes.new) }
-{
-    let mut rest = digits;
-    for j in 0..4 {
-        let mut plane = P::zero();
-        plane.set_word(0, rest % 16);
-        let k = planes.len() - 1 - (i + j);
-        planes[k] = plane;
-        rest /= 16;
-    }
 }
 
 /// Reads the code of the top `prec` planes. All are zero before, and the other planes stay so.
@@ -541,17 +488,6 @@ fn read_sized<P: Plane>(
     let mut i = pass_zero_planes(prec, &mut ahead, reader) as usize;
     let mut above = 0;
     while i < prec as usize && ahead.left > 0 {
-        // Several planes of four digits at once, where their code is in sight.
-        if size == 4 && prec as usize - i >= 4 {
-            let some = planes_of_4(above, ahead.bits % 256);
-            if some.len <= ahead.count {
-                put_four(i, some.digits, planes);
-                pass(some.len, &mut ahead, reader);
-                i += some.count;
-                above = some.above;
-                continue;
-            }
-        }
         let mut plane = P::zero();
         above = read_plane(above, size, &mut plane, &mut ahead, reader)?;
         let k = planes.len() - 1 - i;

@@ -6,7 +6,6 @@ ghost use Rattle.zf_spec.specs.Planes.{plane_code, tail, code, reach};
 ghost use Rattle.zf_bits.specs.Writer.{Appends};
 ghost use Rattle.zf_spec.specs.HeldPlanes.{digits_held, planes_held};
 
-use crate::four::write_planes_of_4;
 use crate::gathered::write_planes_of_word;
 use crate::words::{reach_in, zeros_from};
 use zf_bits::{BitWriter, Plane};
@@ -153,10 +152,7 @@ fn write_sized<P: Plane>(
 {
     let count = budget.min(u64::from(zeros));
     out.write_reserved(0, count as u32);
-    if size == 4 {
-        return budget - write_planes_of_4(budget - count, zeros as usize, prec, planes, out);
-    }
-    if size == 16 || size == 64 {
+    if size == 4 || size == 16 || size == 64 {
         return budget
             - write_planes_of_word(budget - count, zeros as usize, prec, size, planes, out);
     }

@@ -8,7 +8,7 @@ ghost use Rattle.zf_bits.specs.Reader.{rest, Reads};
 ghost use Rattle.zf_planes.specs.Decoding.{IsWindow, coded, coded_bits, plane_ahead, plane_bits, planes_ahead, planes_bits, Takes, Lacks};
 ghost use Rattle.zf_planes.specs.Lanes.{low_planes, lanes_in, lanes_apart, AreBelow, IsGathered, gathered};
 
-use crate::decoding::{Ahead, look, look_on, pass, pass_zero_planes, read_plane_of_4};
+use crate::decoding::{Ahead, look, look_on, pass, pass_zero_planes, read_by_runs};
 use crate::four::plane_of_4;
 use zf_bits::BitReader;
 
@@ -447,7 +447,7 @@ fn read_one_apart(n: usize, ahead: &mut Ahead, reader: &mut BitReader<'_>) -> Op
 {
     let before = ahead.left;
     let mut plane = 0;
-    let above = read_plane_of_4::<u64>(n, &mut plane, ahead, reader)?;
+    let above = read_by_runs::<u64>(n, 4, &mut plane, ahead, reader)?;
     Some(PlanesInLanes {
         lanes: lanes_of_4(plane % 16),
         count: 1,

@@ -1,17 +1,14 @@
-use Rattle.std.proofs.Common.{◌≡◌, ℕ, suc, ◌+◌, ◌-◌, ◌^◌, ◌<◌, ◌≤◌, inl, inr, max, Bool, false, List, [], ◌∷◌, ◌++◌, length, map, take, drop, replicate, sym, ap, ◌∙◌, subst, arith, length-set}
+use Rattle.std.proofs.Common.{◌≡◌, ℕ, suc, ◌+◌, ◌-◌, ◌<◌, ◌≤◌, inl, inr, max, Bool, false, List, [], ◌∷◌, ◌++◌, length, map, take, drop, replicate, sym, ap, ◌∙◌, subst, arith, length-set}
 use Rattle.std.proofs.lemmas.List.{length-map, length-replicate, take-replicate, drop-replicate, append_assoc, take-append-drop, replicate-append-replicate}
 use Rattle.std.proofs.lemmas.List.Elements.{All-set, All-replicate}
 use Rattle.zf_spec.specs.Planes.{reach}
 use Rattle.zf_spec.specs.HeldPlanes.{digits_held, planes_held, IsClearFrom}
-use Rattle.zf_spec.proofs.HeldPlanes.{length-planes_held, length-digits_held}
+use Rattle.zf_spec.proofs.HeldPlanes.{length-digits_held}
 use Rattle.zf_spec.proofs.Reach.{reach-le}
 use Rattle.zf_bits.specs.Reader.{Reader, rest}
-use Rattle.std.specs.List.{All}
-use Rattle.zf_planes.specs.Fours.{fours}
 use Rattle.zf_planes.specs.Decoding.{Takes, plane_ahead, plane_bits, planes_ahead, planes_bits}
 use Rattle.zf_planes.proofs.Passing.{Passes-start, Passes-part, Passes-end, Passes-lacks, Takes-rest, if_none}
 use Rattle.zf_planes.proofs.Placing.{clear_zeros}
-use Rattle.zf_planes.proofs.FoursAhead.{fours_read, put_in, above_of_fours}
 use Rattle.zf_planes.proofs.PlanesAhead.{next_plane, plane_bits-le, planes_over, zero_planes}
 use Rattle.zf_planes.proofs.Unpacking.{planes_held-zeros, top_more, top_behind, set_words}
 use Rattle.zf_planes.proofs.decoding.read_sized.Given.{Over}
@@ -165,50 +162,3 @@ returns-after-loop-i-clause-digits g c =
 
 pub returns-after-loop-i-clause-clear : goal.returns-after-loop-i-clause-clear
 returns-after-loop-i-clause-clear g c = c.loop-i.invariant.clear
-
--- ---- several planes of four digits
-
--- the planes that are put in, as planes of this size
-put_in_size : (size i c n digits : ℕ) (planes planes' : List (List ℕ)) → size ≡ 4 → c ≤ 4 → i + 4 ≤ n → i ≤ length planes → digits < 16 ^ c
-    → take (i + 4) (planes_held 4 planes') ≡ take i (planes_held 4 planes) ++ fours 4 digits → drop (i + 4) (planes_held 4 planes') ≡ replicate (n - (i + 4)) (replicate 4 false)
-    → (take (i + c) (planes_held size planes') ≡ take i (planes_held size planes) ++ fours c digits) × (drop (i + c) (planes_held size planes') ≡ replicate (n - (i + c)) (replicate size false))
-put_in_size size i c n digits planes planes' four most room there small front back =
-    let put = put_in i c n digits (planes_held 4 planes) (planes_held 4 planes') most room (omega (arith, length-planes_held 4 planes)) small front back in
-    rw four (put.front, put.back)
-
-pub loop-i-preserved-then-some-ahead : goal.loop-i-preserved-then-some-ahead
-loop-i-preserved-then-some-ahead g c =
-    let i = c.loop-i.i in
-    let size = c.args.size in
-    let four : size ≡ 4 = c.if-size-eq4.true in
-    let before = c.loop-i.invariant in
-    let next = c.planes_of_4-some in
-    let k = next.result.count in
-    let planes = map g.P.Plane.words c.loop-i.planes in
-    let planes' = map g.P.Plane.words c.put_four.new.planes in
-    let n = length c.put_four.new.planes in
-    let long = length-map c.loop-i.planes g.P.Plane.words in
-    let long' = length-map c.put_four.new.planes g.P.Plane.words in
-    let taken = c.pass.ensures.taken in
-    let enough : i + k ≤ c.args.prec = omega (arith, c.if-prec-i-ge4.true, next.ensures.most) in
-    let read = fours_read c.args.prec i size c.loop-i.above k next.result.digits next.result.len c.loop-i.ahead.bits c.loop-i.ahead.count next.result.above four before.window before.above next.ensures.code next.ensures.len
-    c.if-some-ahead.true enough next.ensures.above taken in
-    let same : n ≡ length c.loop-i.planes = omega arith in
-    let put = put_in_size size i k n next.result.digits planes planes' four next.ensures.most (omega (arith, same, long, before.long, c.requires.planes, c.if-prec-i-ge4.true)) (omega (arith, long, before.long, before.within, c.requires.planes))
-    next.ensures.digits c.put_four.ensures.digits c.put_four.ensures.back in
-    let below = planes_ahead c.pass.new.ahead.left (c.args.prec - (i + k)) size next.result.above (rest c.pass.new.reader) in
-    let Clear : ℕ → Type 0 = λ m. All (IsClearFrom m) planes' in
-    record {
-      window = c.pass.ensures.window;
-      passes = Passes-part _ before.passes read.0 taken;
-      digits =
-          before.digits
-          ∙ ap (λ (ps : List (List Bool)). take i (planes_held size planes) ++ ps) read.1
-          ∙ sym (append_assoc (take i (planes_held size planes)) (fours k next.result.digits) below)
-          ∙ ap (λ (ps : List (List Bool)). ps ++ below) (sym put.0);
-      back = put.1 ∙ ap (λ m. replicate (m - (i + k)) (replicate size false)) (sym long');
-      clear = subst Clear (sym four) c.put_four.ensures.clear;
-      long = omega (arith, long', same, long, before.long);
-      above = omega (arith, next.ensures.above, above_of_fours k next.result.digits, before.above, four);
-      within = enough;
-    }

@@ -1,4 +1,4 @@
-use Rattle.std.proofs.Common.{◌≡◌, ℕ, ◌+◌, ◌-◌, ◌*◌, ◌<◌, ◌≤◌, ◌⊎◌, ⊎_elim, min, max, Bool, false, List, [], ◌++◌, length, map, take, drop, get_or, replicate, refl, sym, ap, subst, ◌∙◌, arith}
+use Rattle.std.proofs.Common.{◌≡◌, ℕ, ◌+◌, ◌-◌, ◌*◌, ◌<◌, ◌≤◌, ◌⊎◌, ⊎_elim, min, max, Bool, false, List, [], ◌++◌, length, map, take, drop, get_or, replicate, refl, sym, ap, ◌∙◌, arith}
 use Rattle.std.proofs.lemmas.List.{append-nil, drop_all, length-map, take-take, take-append-drop, length-replicate}
 use Rattle.zf_spec.specs.Planes.{code, code_from, plane_code, reach}
 use Rattle.zf_bits.specs.Writer.{Writer, Appends}
@@ -65,42 +65,6 @@ loop-i-init g c =
     zeros.some zeros.within zeros.zeros count c.write_reserved.ensures.bits in
     record { remains = remains; above = omega arith }
 
--- ---- planes of four digits
-
-pub write_planes_of_4-requires-clause-fits : goal.write_planes_of_4-requires-clause-fits
-write_planes_of_4-requires-clause-fits g c =
-    let k = c.args.zeros in
-    let zeros = c.requires in
-    let count : c.min-count.result ≡ min c.args.budget k = omega (arith, c.min-count.ensures, c.from.ensures) in
-    let remains = zeros_written c.args.out.now g.P.Plane.words _ c.args.budget c.args.prec c.args.size k c.min-count.result c.args.planes.now g.met.P.Plane.long c.requires.words c.requires.planes c.requires.fits
-    zeros.some zeros.within zeros.zeros count c.write_reserved.ensures.bits in
-    let rest = λ (n : ℕ). code_from 0 (drop k (take c.args.prec (planes_held n (map g.P.Plane.words c.args.planes.now)))) in
-    let same = ap (λ n. length (rest n)) c.if-size-eq4.true in
-    omega (arith, remains.fits, same)
-
-pub returns-then-size-eq4-clause-bits : goal.returns-then-size-eq4-clause-bits
-returns-then-size-eq4-clause-bits g c =
-    let k = c.args.zeros in
-    let zeros = c.requires in
-    let count : c.min-count.result ≡ min c.args.budget k = omega (arith, c.min-count.ensures, c.from.ensures) in
-    let remains = zeros_written c.args.out.now g.P.Plane.words _ c.args.budget c.args.prec c.args.size k c.min-count.result c.args.planes.now g.met.P.Plane.long c.requires.words c.requires.planes c.requires.fits
-    zeros.some zeros.within zeros.zeros count c.write_reserved.ensures.bits in
-    let rest = λ (n : ℕ). code_from 0 (drop k (take c.args.prec (planes_held n (map g.P.Plane.words c.args.planes.now)))) in
-    let Written : ℕ → Type 0 = λ n. Appends c.write_reserved.new.self c.write_planes_of_4.new.out (take (c.args.budget - c.min-count.result) (rest n)) in
-    let written = subst Written (sym c.if-size-eq4.true) c.write_planes_of_4.ensures.bits in
-    Remains-end (Remains-more (rest c.args.size) [] (Remains-same remains (sym (append-nil (rest c.args.size)))) written) (omega arith)
-
-pub returns-then-size-eq4-clause-count : goal.returns-then-size-eq4-clause-count
-returns-then-size-eq4-clause-count g c =
-    let k = c.args.zeros in
-    let zeros = c.requires in
-    let count : c.min-count.result ≡ min c.args.budget k = omega (arith, c.min-count.ensures, c.from.ensures) in
-    let remains = zeros_written c.args.out.now g.P.Plane.words _ c.args.budget c.args.prec c.args.size k c.min-count.result c.args.planes.now g.met.P.Plane.long c.requires.words c.requires.planes c.requires.fits
-    zeros.some zeros.within zeros.zeros count c.write_reserved.ensures.bits in
-    let rest = λ (n : ℕ). code_from 0 (drop k (take c.args.prec (planes_held n (map g.P.Plane.words c.args.planes.now)))) in
-    let same = ap (λ n. length (rest n)) c.if-size-eq4.true in
-    omega (arith, remains.spent, remains.within, same, c.write_planes_of_4.ensures.left)
-
 -- ---- planes in one word each
 
 pub write_planes_of_word-requires-clause-fits : goal.write_planes_of_word-requires-clause-fits
@@ -112,8 +76,8 @@ write_planes_of_word-requires-clause-fits g c =
     zeros.some zeros.within zeros.zeros count c.write_reserved.ensures.bits in
     omega (arith, remains.fits)
 
-pub returns-then-size-eq16-clause-bits : goal.returns-then-size-eq16-clause-bits
-returns-then-size-eq16-clause-bits g c =
+pub returns-then-size-eq4-clause-bits : goal.returns-then-size-eq4-clause-bits
+returns-then-size-eq4-clause-bits g c =
     let k = c.args.zeros in
     let zeros = c.requires in
     let count : c.min-count.result ≡ min c.args.budget k = omega (arith, c.min-count.ensures, c.from.ensures) in
@@ -122,8 +86,8 @@ returns-then-size-eq16-clause-bits g c =
     let rest = code_from 0 (drop k (take c.args.prec (planes_held c.args.size (map g.P.Plane.words c.args.planes.now)))) in
     Remains-end (Remains-more rest [] (Remains-same remains (sym (append-nil rest))) c.write_planes_of_word.ensures.bits) (omega arith)
 
-pub returns-then-size-eq16-clause-count : goal.returns-then-size-eq16-clause-count
-returns-then-size-eq16-clause-count g c =
+pub returns-then-size-eq4-clause-count : goal.returns-then-size-eq4-clause-count
+returns-then-size-eq4-clause-count g c =
     let k = c.args.zeros in
     let zeros = c.requires in
     let count : c.min-count.result ≡ min c.args.budget k = omega (arith, c.min-count.ensures, c.from.ensures) in
