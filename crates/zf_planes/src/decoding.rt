@@ -1,6 +1,6 @@
 //! Reading planes from their code.
 
-ghost use Rattle.std.specs.Prelude.{◌≡◌, ◌+◌, ◌-◌, ◌*◌, ◌%◌, ◌^◌, ◌<◌, ◌≤◌, ◌↔◌, ◌⊎◌, min, max, slice_set, true, false, ◌∷◌, ◌++◌, length, map, take, drop, replicate, All, IsNone, IfNone, IfSome, OnSome};
+ghost use Rattle.std.specs.Prelude.{◌≡◌, ◌+◌, ◌-◌, ◌*◌, ◌%◌, ◌<◌, ◌≤◌, ◌↔◌, min, max, slice_set, true, false, ◌∷◌, ◌++◌, length, map, take, replicate, All, IsNone, IfNone, IfSome, OnSome};
 ghost use Rattle.zf_spec.specs.Grid.{IsBlockSize};
 ghost use Rattle.zf_spec.specs.Kept.{kept_planes};
 ghost use Rattle.zf_spec.specs.ReadPlanes.{first_bits};

@@ -1,14 +1,10 @@
 //! Planes of four digits: their codes, by a table.
 
-ghost use Rattle.std.specs.Prelude.{◌≡◌, ◌+◌, ◌-◌, ◌*◌, ◌^◌, ◌<◌, ◌≤◌, min, max, [], ◌++◌, length, map, take, drop, slice_index_or};
+ghost use Rattle.std.specs.Prelude.{◌≡◌, ◌+◌, ◌-◌, ◌*◌, ◌^◌, ◌<◌, ◌≤◌, max, ◌++◌, length, slice_index_or};
 ghost use Rattle.zf_spec.specs.Numbers.{field};
-ghost use Rattle.zf_spec.specs.Planes.{plane_code, code_from, reach, reach_of_all};
-ghost use Rattle.zf_spec.specs.HeldPlanes.{planes_held};
-ghost use Rattle.zf_bits.specs.Writer.{Appends};
-ghost use Rattle.zf_planes.specs.Fours.{fours};
+ghost use Rattle.zf_spec.specs.Planes.{plane_code, reach};
 
 use crate::tails::PlaneOfWord;
-use zf_bits::{BitWriter, Plane};
 
 /// The codes of planes of four digits: entry `16 * n + digits` is that of these digits behind `n` ranks that have had a one above. Its bits are the lowest
 /// seven, its length the next three, and how far the ones reach then the three above them.
@@ -264,26 +260,6 @@ pub(crate) fn code_of_4(n: usize, digits: u64) -> Part
         bits: u64::from(entry % 128),
         len: u64::from(entry / 128 % 8),
         above: usize::from(entry / 1024),
-    }
-}
-
-/// The code of a plane of four digits in which the ranks below `n` have had a one above, and of the plane below it.
-#[inline]
-fn code_of_pair(n: usize, first: u64, second: u64) -> Part
-    requires in_plane { n ≤ 4 }
-    requires first { first < 16 }
-    requires second { second < 16 }
-    ensures bits { field result.len result.bits ≡ plane_code n (field 4 first) ++ plane_code (max n (reach (field 4 first))) (field 4 second) }
-    ensures small { result.bits < 2 ^ result.len }
-    ensures len { result.len ≤ 14 }
-    ensures above { result.above ≡ max (max n (reach (field 4 first))) (reach (field 4 second)) }
-    ensures within { result.above ≤ 4 }
-{
-    let entry = entry_of_pair(n, first + 16 * second);
-    Part {
-        bits: u64::from(entry % 16384),
-        len: u64::from(entry / 16384 % 16),
-        above: (entry / 262144) as usize,
     }
 }
 

@@ -1,6 +1,6 @@
 //! Reading the code of planes of four digits straight into the digits of the coefficients.
 
-ghost use Rattle.std.specs.Prelude.{◌≡◌, ◌+◌, ◌-◌, ◌*◌, ◌/◌, ◌%◌, ◌^◌, ◌<◌, ◌≤◌, ◌↔◌, min, max, false, [], ◌∷◌, ◌++◌, length, map, take, replicate, slice_index_or, All, IsNone, IfNone, IfSome, OnSome};
+ghost use Rattle.std.specs.Prelude.{◌≡◌, ◌+◌, ◌-◌, ◌*◌, ◌/◌, ◌%◌, ◌^◌, ◌<◌, ◌≤◌, ◌↔◌, max, false, [], ◌∷◌, ◌++◌, length, map, take, replicate, slice_index_or, All, IsNone, IfNone, IfSome, OnSome};
 ghost use Rattle.zf_spec.specs.Numbers.{field};
 ghost use Rattle.zf_spec.specs.Planes.{code_from, reach, reach_of_all, planes_of};
 ghost use Rattle.zf_spec.specs.Kept.{kept_planes};
