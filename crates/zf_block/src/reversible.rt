@@ -12,7 +12,7 @@ ghost use Rattle.zf_block.specs.ReadBlocks.{ReadsRev, LacksRev, rev_planes, rev_
 use crate::Scratch;
 use crate::block_code::BlockCode;
 use crate::codec::{decode, encode};
-use crate::uncut::{read_uncut, write_uncut};
+use crate::uncut::{read_uncut, write_uncut, zeros_above};
 use std::alloc::AllocError;
 use zf_base::{Extent, Lane};
 use zf_bits::{BitReader, BitWriter, Plane};
@@ -85,9 +85,11 @@ impl<T: Lane> BlockCode<T> for Reversible {
     }
 
     fn write<P: Plane>(&self, size: usize, digits: &[u64], planes: &[P], out: &mut BitWriter) {
-        let prec = zf_coef::needed_planes(digits, T::WIDTH).max(1);
+        let width = T::WIDTH;
+        let prec = zf_coef::needed_planes(digits, width).max(1);
         out.write_reserved(u64::from(prec - 1), count_bits::<T>());
-        write_uncut(prec, size, planes, out);
+        let zeros = zeros_above(prec, width, digits);
+        write_uncut(zeros, prec, size, planes, out);
     }
 
     fn read<P: Plane>(

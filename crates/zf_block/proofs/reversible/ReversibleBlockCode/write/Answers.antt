@@ -16,7 +16,7 @@ pub write_uncut-requires-clause-planes : goal.write_uncut-requires-clause-planes
 write_uncut-requires-clause-planes g c =
     let bounds = width_bounds g.T.Lane.width g.T.Lane.WIDTH g.met.T.Lane.two_widths g.met.T.Lane.bits_of_width in
     let all = map g.P.Plane.words c.args.planes.now in
-    let used : c.needed_planes.result ≡ needed_planes (planes_held c.args.size all) = c.needed_planes.ensures ∙ ap (λ n. needed_planes (planes_of n (digits_in n c.args.digits.now))) c.WIDTH.ensures ∙ ap needed_planes (sym c.requires.digits) in
+    let used : c.needed_planes.result ≡ needed_planes (planes_held c.args.size all) = c.needed_planes.ensures ∙ ap (λ n. needed_planes (planes_of n (digits_in n c.args.digits.now))) c.WIDTH-width.ensures ∙ ap needed_planes (sym c.requires.digits) in
     omega (arith, used, needed_planes-le (planes_held c.args.size all), length-planes_held c.args.size all, length-map c.args.planes.now g.P.Plane.words, bounds.0, c.requires.planes)
 
 pub write_uncut-requires-clause-fits : goal.write_uncut-requires-clause-fits
@@ -29,7 +29,7 @@ pub returns : goal.returns
 unfolding rev_of_planes
 returns g c =
     let ps = planes_held c.args.size (map g.P.Plane.words c.args.planes.now) in
-    let used : c.needed_planes.result ≡ needed_planes ps = c.needed_planes.ensures ∙ ap (λ n. needed_planes (planes_of n (digits_in n c.args.digits.now))) c.WIDTH.ensures ∙ ap needed_planes (sym c.requires.digits) in
+    let used : c.needed_planes.result ≡ needed_planes ps = c.needed_planes.ensures ∙ ap (λ n. needed_planes (planes_of n (digits_in n c.args.digits.now))) c.WIDTH-width.ensures ∙ ap needed_planes (sym c.requires.digits) in
     let prec : c.max-prec.result ≡ max 1 (needed_planes ps) = omega (arith, used) in
     let code_of = λ (n k p : ℕ). field n k ++ code (take p ps) in
     Appends-same (Appends-append c.write_reserved.ensures.bits c.write_uncut.ensures)
