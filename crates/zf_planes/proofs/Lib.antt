@@ -19,6 +19,8 @@
 --     FoursAhead   several planes of four digits that are read at once
 --     Passing      a reader that passes the bits of a code in parts
 --     Peeking      bits that were looked at and are not yet passed
+--     Strings      planes of four digits in one number, and their code
+--     TopPlanes    the top planes of words, and those of four words as a string
 pub mod Runs
 pub mod Tables
 pub mod Doubled
@@ -39,3 +41,5 @@ pub mod PlanesAhead
 pub mod FoursAhead
 pub mod Passing
 pub mod Peeking
+pub mod Strings
+pub mod TopPlanes

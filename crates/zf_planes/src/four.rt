@@ -433,18 +433,18 @@ pub(crate) fn plane_of_4(n: usize, bits: u64) -> PlaneOfWord
 
 /// Bits of the code of planes.
 #[derive(Clone, Copy)]
-struct Part {
+pub(crate) struct Part {
     /// The bits, the first one lowest, and zeros.
-    bits: u64,
+    pub(crate) bits: u64,
     /// How many bits there are.
-    len: u64,
+    pub(crate) len: u64,
     /// How far the ones of the planes reach, and of those above them.
-    above: usize,
+    pub(crate) above: usize,
 }
 
 /// The code of a plane of four digits in which the ranks below `n` have had a one above.
 #[inline]
-fn code_of_4(n: usize, digits: u64) -> Part
+pub(crate) fn code_of_4(n: usize, digits: u64) -> Part
     requires in_plane { n ≤ 4 }
     requires digits { digits < 16 }
     ensures bits { field result.len result.bits ≡ plane_code n (field 4 digits) }
@@ -463,7 +463,7 @@ fn code_of_4(n: usize, digits: u64) -> Part
 
 /// The code of a plane of four digits in which the ranks below `n` have had a one above, and of the plane below it.
 #[inline]
-fn code_of_pair(n: usize, first: u64, second: u64) -> Part
+pub(crate) fn code_of_pair(n: usize, first: u64, second: u64) -> Part
     requires in_plane { n ≤ 4 }
     requires first { first < 16 }
     requires second { second < 16 }
@@ -483,7 +483,7 @@ fn code_of_pair(n: usize, first: u64, second: u64) -> Part
 
 /// Bits of a part behind those of another, which are the code of planes above.
 #[inline]
-fn join(front: Part, back: Part) -> Part
+pub(crate) fn join(front: Part, back: Part) -> Part
     requires some_left { front.len < 64 }
     requires within { front.len + back.len ≤ 64 }
     requires small { front.bits < 2 ^ front.len }

@@ -1,0 +1,121 @@
+-- Strings: planes of four digits in one number, and their code.
+use Rattle.std.proofs.Common.{◌≡◌, ℕ, zero, suc, ◌+◌, ◌-◌, ◌*◌, ◌/◌, ◌%◌, ◌<◌, ◌≤◌, max, Bool, List, [], ◌∷◌, ◌++◌, append_assoc, take, ⊎_elim, refl, sym, ap, ◌∙◌, arith}
+use Rattle.std.proofs.lemmas.Bool.{cases_lt}
+use Rattle.zf_spec.specs.Numbers.{field}
+use Rattle.zf_spec.specs.Planes.{plane_code, code_from, reach, reach_of_all}
+use Rattle.zf_spec.proofs.Fields.{length-field, field-add, field-mod}
+use Rattle.zf_spec.proofs.Reach.{reach-le}
+use Rattle.zf_bits.specs.Writer.{Writer}
+use Rattle.zf_planes.specs.Fours.{fours}
+use Rattle.zf_planes.proofs.Doubled.{plane_whole}
+use Rattle.zf_planes.proofs.Budgets.{Remains, Remains-same}
+
+-- ---- the code of planes goes on behind bits that were put together
+
+-- behind some bits of the code of a string, with ranks below n that have had a one, its last k planes are coded with ranks below m
+pub record GoesOn (n : ℕ) (planes : List (List Bool)) (bits : List Bool) (m : ℕ) (rest : List (List Bool)) : Type 0 where
+  pub code : code_from n planes ≡ bits ++ code_from m rest
+  pub reached : max n (reach_of_all planes) ≡ max m (reach_of_all rest)
+
+pub GoesOn-more : {n m k : ℕ} {planes rest last : List (List Bool)} {front back : List Bool} (both : List Bool) → GoesOn n planes front m rest → GoesOn m rest back k last → both ≡ front ++ back
+    → GoesOn n planes both k last
+GoesOn-more {n} {m} {k} {planes} {rest} {last} {front} {back} both first second joined = record {
+  code =
+      first.code ∙ ap (λ (bs : List Bool). front ++ bs) second.code ∙ sym (append_assoc front back (code_from k last))
+      ∙ ap (λ (bs : List Bool). bs ++ code_from k last) (sym joined);
+  reached = first.reached ∙ second.reached;
+}
+
+-- by one plane
+pub plane_of_string : (n k string next : ℕ) (bits : List Bool) → bits ≡ plane_code n (field 4 (string % 16)) → next ≡ max n (reach (field 4 (string % 16)))
+    → GoesOn n (fours (suc k) string) bits next (fours k (string / 16))
+unfolding fours
+plane_of_string n k string next bits is reached =
+    let low : field 4 (string % 16) ≡ field 4 string = field-mod 4 string in
+    let far : next ≡ max n (reach (field 4 string)) = reached ∙ ap (λ (ds : List Bool). max n (reach ds)) low in
+    let rest = fours k (string / 16) in
+    record {
+      code =
+          ap (λ m. plane_code n (field 4 string) ++ code_from m rest) (sym far)
+          ∙ ap (λ (ds : List Bool). plane_code n ds ++ code_from next rest) (sym low)
+          ∙ ap (λ (bs : List Bool). bs ++ code_from next rest) (sym is);
+      reached = omega (arith, far);
+    }
+
+-- by two
+pub pair_of_string : (n k string next : ℕ) (bits : List Bool) → 1 < k
+    → bits ≡ plane_code n (field 4 (string % 16)) ++ plane_code (max n (reach (field 4 (string % 16)))) (field 4 (string / 16 % 16))
+    → next ≡ max (max n (reach (field 4 (string % 16)))) (reach (field 4 (string / 16 % 16)))
+    → GoesOn n (fours k string) bits next (fours (k - 2) (string / 256))
+pair_of_string n zero string next bits some is reached = absurd (omega arith)
+pair_of_string n (suc zero) string next bits some is reached = absurd (omega arith)
+pair_of_string n (suc (suc k)) string next bits some is reached =
+    let mid = max n (reach (field 4 (string % 16))) in
+    let left : suc (suc k) - 2 ≡ k = omega arith in
+    let below : string / 256 ≡ string / 16 / 16 = omega arith in
+    let first = plane_of_string n (suc k) string mid (plane_code n (field 4 (string % 16))) refl refl in
+    let second = plane_of_string mid k (string / 16) next (plane_code mid (field 4 (string / 16 % 16))) refl reached in
+    rw (left, below) (GoesOn-more bits first second is)
+
+-- no plane is left
+pub string_end : (planes above string : ℕ) → planes ≤ 0 → (code_from above (fours planes string) ≡ []) × (reach_of_all (fours planes string) ≡ 0)
+unfolding fours
+string_end zero above string none = (refl, refl)
+string_end (suc planes) above string none = absurd (omega arith)
+
+-- the first planes of a string
+pub take-fours : (m k string : ℕ) → take m (fours (m + k) string) ≡ fours m string
+unfolding fours
+take-fours zero k string = refl
+take-fours (suc m) k string =
+    let more : suc m + k ≡ suc (m + k) = omega arith in
+    ap (λ n. take (suc m) (fours n string)) more ∙ ap (λ (ps : List (List Bool)). field 4 string ∷ ps) (take-fours m k (string / 16))
+
+-- planes and those below them
+pub code_from-append : (n : ℕ) (planes below : List (List Bool)) → code_from n (planes ++ below) ≡ code_from n planes ++ code_from (max n (reach_of_all planes)) below
+code_from-append n [] below = let same : max n 0 ≡ n = omega arith in rw same refl
+code_from-append n (ds ∷ planes) below =
+    let far : max (max n (reach ds)) (reach_of_all planes) ≡ max n (max (reach ds) (reach_of_all planes)) = omega arith in
+    let rest = code_from (max n (reach ds)) planes in
+    ap (λ (bs : List Bool). plane_code n ds ++ bs) (code_from-append (max n (reach ds)) planes below ∙ ap (λ m. rest ++ code_from m below) far)
+    ∙ sym (append_assoc (plane_code n ds) rest (code_from (max n (max (reach ds) (reach_of_all planes))) below))
+
+-- ---- all ranks have had a one
+
+pub whole_string : (k string : ℕ) → code_from 4 (fours k string) ≡ field (4 * k) string
+unfolding fours
+whole_string zero string = refl
+whole_string (suc k) string =
+    let digits = field 4 string in
+    let far : max 4 (reach digits) ≡ 4 = omega (arith, reach-le digits, length-field 4 string) in
+    let whole : plane_code 4 digits ≡ digits = plane_whole 4 string in
+    let count : 4 * suc k ≡ 4 + 4 * k = omega arith in
+    ap (λ (bs : List Bool). bs ++ code_from (max 4 (reach digits)) (fours k (string / 16))) whole
+    ∙ ap (λ n. digits ++ code_from n (fours k (string / 16))) far
+    ∙ ap (λ (bs : List Bool). digits ++ bs) (whole_string k (string / 16))
+    ∙ sym (ap (λ n. field n string) count ∙ field-add 4 (4 * k) string)
+
+pub reach_of_string-le : (k string : ℕ) → reach_of_all (fours k string) ≤ 4
+unfolding fours
+reach_of_string-le zero string = omega arith
+reach_of_string-le (suc k) string = omega (arith, reach-le (field 4 string), length-field 4 string, reach_of_string-le k (string / 16))
+
+-- ---- what remains
+
+-- where no bit is left of the budget, no matter what is still to come
+pub Remains-none : {old now : Writer} {budget left : ℕ} {whole : List Bool} (rest rest' : List Bool) → left ≡ 0 → Remains old now budget left whole rest → Remains old now budget left whole rest'
+Remains-none {old} {now} {budget} {left} {whole} rest rest' none remains = record {
+  bits = ap (λ k. now.bits ++ take k rest') none ∙ sym (ap (λ k. now.bits ++ take k rest) none) ∙ remains.bits;
+  spent = omega (arith, remains.spent);
+  fits = omega arith;
+  room = omega (arith, remains.room);
+  within = remains.within;
+}
+
+-- how far the ones reach above counts only while bits are left
+pub Remains-above : {old now : Writer} {budget left : ℕ} {whole : List Bool} (m n : ℕ) (planes : List (List Bool)) → (0 < left → m ≡ n) → Remains old now budget left whole (code_from n planes)
+    → Remains old now budget left whole (code_from m planes)
+Remains-above {old} {now} {budget} {left} {whole} m n planes same remains = ⊎_elim
+    (λ (some : 0 < left). Remains-same remains (ap (λ k. code_from k planes) (sym (same some))))
+    (λ (none : left ≤ 0). Remains-none (code_from n planes) (code_from m planes) (omega arith) remains)
+    (cases_lt 0 left)

@@ -1,0 +1,252 @@
+-- The top planes of words: some and those below them, planes of fewer digits, and sixteen planes of four words as a string.
+use Rattle.std.proofs.Common.{◌≡◌, ℕ, zero, suc, ◌+◌, ◌-◌, ◌*◌, ◌/◌, ◌%◌, ◌^◌, ◌<◌, ◌≤◌, min, Bool, true, false, eqb, List, [], ◌∷◌, ◌++◌, length, map, take, drop, get_or, get_or-take, replicate, ⊎_elim, take-take, refl, sym, ap, ◌∙◌, arith, pow-suc, length-drop}
+use Rattle.std.proofs.lemmas.Bool.{eqb-true, cases_lt}
+use Rattle.std.proofs.lemmas.Nat.{shl-shr, shr-shr}
+use Rattle.std.proofs.lemmas.List.{length-map, get_or-map, map-append, get_or-drop, length-take, take_at, take-append-drop, append-nil, length-replicate}
+use Rattle.std.proofs.lemmas.Simd.{map-map}
+use Rattle.zf_spec.specs.Numbers.{field, number, is_odd, digit_value}
+use Rattle.zf_spec.specs.Grid.{count_from, upto}
+use Rattle.zf_spec.specs.Planes.{planes_of, code, code_from, AreOfSize}
+use Rattle.zf_spec.proofs.Fields.{field-mod, field-number, field-zero, get_or-field}
+use Rattle.zf_spec.proofs.Counting.{length-count_from, get_or-count_from, count_from-add, from_places, length-map-upto, four_elements}
+use Rattle.zf_spec.proofs.PlaneDigits.{length-planes_of, get_or-planes_of, planes_of-length}
+use Rattle.zf_spec.proofs.PlaneCode.{length-code-le}
+use Rattle.zf_bits.specs.Writer.{Writer, Appends}
+use Rattle.zf_bits.proofs.Appending.{Appends-same}
+use Rattle.zf_bits.proofs.Words.{shl_in_word}
+use Rattle.zf_planes.specs.Fours.{fours}
+use Rattle.zf_planes.specs.Spread.{top_digit, top_planes, spread}
+use Rattle.zf_planes.specs.declared.four_writing.TheConstants.{SPREAD}
+use Rattle.zf_planes.proofs.Tables.{each_below, each_below-true}
+use Rattle.zf_planes.proofs.Budgets.{Remains, Remains-start, Remains-same, Remains-more}
+use Rattle.zf_planes.proofs.Zeros.{take_zeros, zero_code}
+use Rattle.zf_planes.proofs.Strings.{take-fours}
+
+-- ---- digits of shifted words
+
+-- only the lowest bits count
+odd_low : (v j t : ℕ) → t < j → is_odd (v % 2 ^ j / 2 ^ t) ≡ is_odd (v / 2 ^ t)
+odd_low v j t below = sym (get_or-field j (v % 2 ^ j) t false below) ∙ ap (λ (bs : List Bool). get_or bs t false) (field-mod j v) ∙ get_or-field j v t false below
+
+-- what is below the top m digits
+abbrev pub below : ℕ → ℕ → ℕ
+below m word = word * 2 ^ m % 2 ^ 64
+
+top_digit-below : (word m i : ℕ) → m + i < 64 → top_digit (below m word) i ≡ top_digit word (m + i)
+top_digit-below word m i within =
+    let j = 64 - m in
+    let t = 63 - (m + i) in
+    let parts : 64 ≡ j + m = omega arith in
+    let place : 63 - i ≡ m + t = omega arith in
+    ap (λ k. is_odd (word * 2 ^ m % 2 ^ k / 2 ^ (63 - i))) parts
+    ∙ ap (λ v. is_odd (v / 2 ^ (63 - i))) (shl_in_word j m word)
+    ∙ ap (λ k. is_odd (word % 2 ^ j * 2 ^ m / 2 ^ k)) place
+    ∙ ap is_odd (sym (shr-shr (word % 2 ^ j * 2 ^ m) m t))
+    ∙ ap (λ v. is_odd (v / 2 ^ t)) (shl-shr (word % 2 ^ j) m)
+    ∙ odd_low word j t (omega arith)
+
+-- ---- the top planes and those below them
+
+-- the same of numbers from another one on
+map-from : {X : Type 0} (f g : ℕ → X) (m k : ℕ) (d : X) → ((i : ℕ) → i < k → f (m + i) ≡ g i) → map g (upto k) ≡ map f (count_from m k)
+map-from f g m k d same =
+    from_places g k d (map f (count_from m k)) (length-map (count_from m k) f ∙ length-count_from m k)
+    (λ i here. get_or-map f (count_from m k) i 0 d (omega (arith, length-count_from m k)) ∙ ap f (get_or-count_from m k i 0 here) ∙ same i here)
+
+map_each : {X Y : Type 0} (f g : X → Y) (xs : List X) → ((x : X) → f x ≡ g x) → map f xs ≡ map g xs
+map_each f g [] same = refl
+map_each f g (x ∷ xs) same = ap (λ y. y ∷ map f xs) (same x) ∙ ap (λ ys. g x ∷ ys) (map_each f g xs same)
+
+-- plane i of words whose top m digits are gone
+plane-below : (words : List ℕ) (m i : ℕ) → m + i < 64 → map (λ word. top_digit word (m + i)) words ≡ map (λ word. top_digit word i) (map (below m) words)
+plane-below words m i within =
+    map_each (λ word. top_digit word (m + i)) (λ word. top_digit (below m word) i) words (λ word. sym (top_digit-below word m i within))
+    ∙ sym (map-map (λ word. top_digit word i) (below m) words)
+
+pub top_planes-split : (k m : ℕ) (words : List ℕ) → m ≤ k → k ≤ 64 → top_planes k words ≡ top_planes m words ++ top_planes (k - m) (map (below m) words)
+unfolding top_planes
+top_planes-split k m words within most =
+    let f : ℕ → List Bool = λ i. map (λ word. top_digit word i) words in
+    let g : ℕ → List Bool = λ i. map (λ word. top_digit word i) (map (below m) words) in
+    let parts : k ≡ m + (k - m) = omega arith in
+    let from : 0 + m ≡ m = omega arith in
+    ap (λ n. map f (upto n)) parts
+    ∙ ap (map f) (count_from-add 0 m (k - m))
+    ∙ map-append f (upto m) (count_from (0 + m) (k - m))
+    ∙ ap (λ n. map f (upto m) ++ map f (count_from n (k - m))) from
+    ∙ ap (λ (ps : List (List Bool)). map f (upto m) ++ ps) (sym (map-from f g m (k - m) [] (λ i here. plane-below words m i (omega arith))))
+
+pub length-top_planes : (k : ℕ) (words : List ℕ) → length (top_planes k words) ≡ k
+unfolding top_planes
+length-top_planes k words = length-map-upto (λ i. map (λ word. top_digit word i) words) k
+
+pub no_top_planes : (k : ℕ) (words : List ℕ) → k ≤ 0 → top_planes k words ≡ []
+unfolding top_planes
+no_top_planes zero words none = refl
+no_top_planes (suc k) words none = absurd (omega arith)
+
+-- the planes of digits from the one of number z on are top planes
+pub planes-from : (w p z : ℕ) (words : List ℕ) → w ≤ 64 → p ≤ w → z ≤ p → drop z (take p (planes_of w (map (field w) words))) ≡ top_planes (p - z) (map (below (64 - w + z)) words)
+unfolding top_planes
+planes-from w p z words small within few =
+    let m = 64 - w + z in
+    let cs = map (field w) words in
+    let ps = planes_of w cs in
+    let g : ℕ → List Bool = λ i. map (λ word. top_digit word i) (map (below m) words) in
+    let long : length (drop z (take p ps)) ≡ p - z = omega (arith, length-drop z (take p ps), length-take p ps, length-planes_of w cs) in
+    sym (from_places g (p - z) [] (drop z (take p ps)) long
+    (λ i here.
+    let j = w - 1 - (z + i) in
+    let place : j ≡ 63 - (m + i) = omega arith in
+    get_or-drop z (take p ps) i []
+    ∙ get_or-take p ps (z + i) [] (omega arith)
+    ∙ get_or-planes_of w cs (z + i) (omega arith)
+    ∙ map-map (λ (ds : List Bool). get_or ds j false) (field w) words
+    ∙ map_each (λ word. get_or (field w word) j false) (λ word. top_digit word (m + i)) words (λ word. get_or-field w word j false (omega arith) ∙ ap (λ n. is_odd (word / 2 ^ n)) place)
+    ∙ plane-below words m i (omega arith)))
+
+-- ---- digits four bits apart
+
+spread_same : (k : ℕ) (f g : ℕ → Bool) → ((i : ℕ) → i < k → f i ≡ g i) → spread k f ≡ spread k g
+unfolding spread
+spread_same zero f g same = refl
+spread_same (suc k) f g same =
+    ap (λ d. digit_value d + 16 * spread k (λ i. f (suc i))) (same 0 (omega arith))
+    ∙ ap (λ n. digit_value (g 0) + 16 * n) (spread_same k (λ i. f (suc i)) (λ i. g (suc i)) (λ i here. same (suc i) (omega arith)))
+
+-- some digits and those behind them
+spread-add : (m k : ℕ) (f g : ℕ → Bool) → ((i : ℕ) → i < k → f (m + i) ≡ g i) → spread (m + k) f ≡ spread m f + 16 ^ m * spread k g
+unfolding spread
+spread-add zero k f g same =
+    let none : zero + k ≡ k = omega arith in
+    ap (λ n. spread n f) none
+    ∙ spread_same k f g (λ i here. let first : i ≡ zero + i = omega arith in ap f first ∙ same i here)
+    ∙ omega arith
+spread-add (suc m) k f g same =
+    let more : suc m + k ≡ suc (m + k) = omega arith in
+    let rest : spread (m + k) (λ i. f (suc i)) ≡ spread m (λ i. f (suc i)) + 16 ^ m * spread k g =
+    spread-add m k (λ i. f (suc i)) g (λ i here. let place : suc (m + i) ≡ suc m + i = omega arith in ap f place ∙ same i here) in
+    ap (λ n. spread n f) more
+    ∙ ap (λ n. digit_value (f 0) + 16 * n) rest
+    ∙ omega (arith, ap (λ p. p * spread k g) (pow-suc 16 m))
+
+digit_value-le : (d : Bool) → digit_value d ≤ 1
+digit_value-le d = grind arith
+
+pub spread-lt : (k : ℕ) (f : ℕ → Bool) → 15 * spread k f < 16 ^ k
+unfolding spread
+spread-lt zero f = omega arith
+spread-lt (suc k) f = omega (arith, digit_value-le (f 0), spread-lt k (λ i. f (suc i)), pow-suc 16 k)
+
+-- ---- the table, by computation
+
+test_spread : each_below (λ b. eqb (get_or SPREAD b 0) (spread 8 (λ i. is_odd (b / 2 ^ (7 - i))))) 256 ≡ true
+unfolding spread
+test_spread = refl
+
+spread_of_entry : (b e : ℕ) → b < 256 → e ≡ get_or SPREAD b 0 → e ≡ spread 8 (λ i. is_odd (b / 2 ^ (7 - i)))
+spread_of_entry b e eight is = is ∙ eqb-true _ _ (each_below-true (λ b. eqb (get_or SPREAD b 0) (spread 8 (λ i. is_odd (b / 2 ^ (7 - i))))) 256 b test_spread eight)
+
+-- the entries of the top two bytes of a word
+pub spread_of_entries : (word front back : ℕ) → word < 2 ^ 64 → front ≡ get_or SPREAD (word / 2 ^ 56) 0 → back ≡ get_or SPREAD (word / 2 ^ 48 % 2 ^ 8) 0
+    → front + 2 ^ 32 * back ≡ spread 16 (top_digit word)
+spread_of_entries word front back small is_front is_back =
+    let high : front ≡ spread 8 (top_digit word) =
+    spread_of_entry (word / 2 ^ 56) front (omega arith) is_front
+    ∙ spread_same 8 (λ i. is_odd (word / 2 ^ 56 / 2 ^ (7 - i))) (top_digit word)
+    (λ i here. let place : 56 + (7 - i) ≡ 63 - i = omega arith in ap is_odd (shr-shr word 56 (7 - i)) ∙ ap (λ n. is_odd (word / 2 ^ n)) place) in
+    let low = spread_of_entry (word / 2 ^ 48 % 2 ^ 8) back (omega arith) is_back in
+    let both : spread 16 (top_digit word) ≡ spread 8 (top_digit word) + 16 ^ 8 * spread 8 (λ i. is_odd (word / 2 ^ 48 % 2 ^ 8 / 2 ^ (7 - i))) =
+    spread-add 8 8 (top_digit word) (λ i. is_odd (word / 2 ^ 48 % 2 ^ 8 / 2 ^ (7 - i)))
+    (λ i here.
+    let place : 63 - (8 + i) ≡ 48 + (7 - i) = omega arith in
+    ap (λ n. is_odd (word / 2 ^ n)) place ∙ ap is_odd (sym (shr-shr word 48 (7 - i))) ∙ sym (odd_low (word / 2 ^ 48) 8 (7 - i) (omega arith))) in
+    omega (arith, high, low, both)
+
+-- ---- four words as a string
+
+spread-next : (k : ℕ) (f : ℕ → Bool) → spread (suc k) f ≡ digit_value (f 0) + 16 * spread k (λ i. f (suc i))
+unfolding spread
+spread-next k f = refl
+
+fours-next : (k v : ℕ) (ds : List Bool) (r : ℕ) → length ds ≡ 4 → v ≡ number ds + 16 * r → number ds < 16 → fours (suc k) v ≡ ds ∷ fours k r
+unfolding fours
+fours-next k v ds r four is small =
+    let low : v % 16 ≡ number ds = omega arith in
+    let high : v / 16 ≡ r = omega arith in
+    ap (λ (bs : List Bool). bs ∷ fours k (v / 16)) (sym (field-mod 4 v) ∙ ap (field 4) low ∙ field-number 4 ds four)
+    ∙ ap (λ n. ds ∷ fours k n) high
+
+string-is : (k : ℕ) (f g h e : ℕ → Bool) → fours k (spread k f + 2 * spread k g + 4 * spread k h + 8 * spread k e) ≡ map (λ i. f i ∷ g i ∷ h i ∷ e i ∷ []) (upto k)
+unfolding fours
+string-is zero f g h e = refl
+string-is (suc k) f g h e =
+    let next = λ (d : ℕ → Bool) (i : ℕ). d (suc i) in
+    let row : ℕ → List Bool = λ i. f i ∷ g i ∷ h i ∷ e i ∷ [] in
+    let row' : ℕ → List Bool = λ i. f (suc i) ∷ g (suc i) ∷ h (suc i) ∷ e (suc i) ∷ [] in
+    let r = spread k (next f) + 2 * spread k (next g) + 4 * spread k (next h) + 8 * spread k (next e) in
+    let small : number (row 0) < 16 = omega (arith, digit_value-le (f 0), digit_value-le (g 0), digit_value-le (h 0), digit_value-le (e 0)) in
+    let sum : spread (suc k) f + 2 * spread (suc k) g + 4 * spread (suc k) h + 8 * spread (suc k) e ≡ number (row 0) + 16 * r =
+    omega (arith, spread-next k f, spread-next k g, spread-next k h, spread-next k e) in
+    fours-next k _ (row 0) r refl sum small
+    ∙ ap (λ (ps : List (List Bool)). row 0 ∷ ps) (string-is k (next f) (next g) (next h) (next e))
+    ∙ ap (λ (ps : List (List Bool)). row 0 ∷ ps) (map-from row row' 1 k [] (λ i here. let place : 1 + i ≡ suc i = omega arith in ap row place))
+
+pub string_of_words : (k : ℕ) (words : List ℕ) → length words ≡ 4
+    → fours k (spread k (top_digit (get_or words 0 0)) + 2 * spread k (top_digit (get_or words 1 0)) + 4 * spread k (top_digit (get_or words 2 0)) + 8 * spread k (top_digit (get_or words 3 0))) ≡ top_planes k words
+unfolding top_planes
+string_of_words k words four =
+    string-is k (top_digit (get_or words 0 0)) (top_digit (get_or words 1 0)) (top_digit (get_or words 2 0)) (top_digit (get_or words 3 0))
+    ∙ ap (λ (ws : List ℕ). map (λ i. map (λ word. top_digit word i) ws) (upto k)) (four_elements words four)
+
+-- the planes of a string of sixteen, as many as there are, and those below them
+pub string-split : (planes count string : ℕ) (words : List ℕ) → planes ≤ 64 → count ≡ min planes 16 → fours 16 string ≡ top_planes 16 words
+    → top_planes planes words ≡ fours count string ++ top_planes (planes - count) (map (below 16) words)
+string-split planes count string words most is same = ⊎_elim
+    (λ (few : planes < 16).
+    let all : count ≡ planes = omega arith in
+    let parts : 16 ≡ planes + (16 - planes) = omega arith in
+    let first : fours planes string ≡ top_planes planes words =
+    sym (take-fours planes (16 - planes) string)
+    ∙ ap (λ n. take planes (fours n string)) (sym parts)
+    ∙ ap (take planes) (same ∙ top_planes-split 16 planes words (omega arith) (omega arith))
+    ∙ take_at (top_planes planes words) (top_planes (16 - planes) (map (below planes) words)) planes (length-top_planes planes words) in
+    let none : top_planes (planes - count) (map (below 16) words) ≡ [] = no_top_planes (planes - count) (map (below 16) words) (omega arith) in
+    sym (ap (λ (ps : List (List Bool)). fours count string ++ ps) none ∙ append-nil (fours count string) ∙ ap (λ n. fours n string) all ∙ first))
+    (λ (many : 16 ≤ planes).
+    let all : 16 ≡ count = omega arith in
+    top_planes-split planes 16 words many most
+    ∙ ap (λ (ps : List (List Bool)). ps ++ top_planes (planes - 16) (map (below 16) words)) (sym same)
+    ∙ ap (λ n. fours n string ++ top_planes (planes - n) (map (below 16) words)) all)
+    (cases_lt planes 16)
+
+-- ---- digits of four coefficients, behind planes without a one
+
+-- the code of the planes of four digits remains to be written, of which the first z have no one
+remains_all : (out : Writer) (budget w p z : ℕ) (words : List ℕ) → length words ≡ 4 → w ≤ 64 → p ≤ w → z ≤ p → take z (planes_of w (map (field w) words)) ≡ replicate z (replicate 4 false)
+    → min budget (4 * p + 4) ≤ out.room
+    → Remains out out budget budget (code (take p (planes_of w (map (field w) words)))) (replicate z false ++ code_from 0 (top_planes (p - z) (map (below (64 - w + z)) words)))
+remains_all out budget w p z words four small within few zeros room =
+    let cs = map (field w) words in
+    let ps = planes_of w cs in
+    let top = take p ps in
+    let long : length top ≡ p = omega (arith, length-take p ps, length-planes_of w cs) in
+    let wide : length cs ≡ 4 = length-map words (field w) ∙ four in
+    let sizes : AreOfSize 4 top =
+    λ k d here. ap length (get_or-take p ps k d (omega arith)) ∙ planes_of-length w cs k d (omega (arith, length-planes_of w cs)) ∙ wide in
+    let most = length-code-le 4 top sizes in
+    let first : take z top ≡ replicate z (replicate 4 false) = take-take z p ps few ∙ zeros in
+    Remains-same (Remains-start out budget (code top) (omega (arith, room, most, long)))
+    (ap code (sym (take-append-drop z top) ∙ ap (λ (qs : List (List Bool)). qs ++ drop z top) first)
+    ∙ zero_code z 4 (drop z top) (omega arith)
+    ∙ ap (λ (qs : List (List Bool)). replicate z false ++ code_from 0 qs) (planes-from w p z words small within few))
+
+-- once the zeros of the first z planes are written, that of the others remains
+pub zeros_written : {new : Writer} (out : Writer) (budget w p z count : ℕ) (words : List ℕ) → length words ≡ 4 → w ≤ 64 → p ≤ w → z ≤ p → take z (planes_of w (map (field w) words)) ≡ replicate z (replicate 4 false)
+    → min budget (4 * p + 4) ≤ out.room → count ≡ min budget z → Appends out new (field count 0)
+    → Remains out new budget (budget - count) (code (take p (planes_of w (map (field w) words)))) (code_from 0 (top_planes (p - z) (map (below (64 - w + z)) words)))
+zeros_written out budget w p z count words four small within few zeros room is written =
+    let remains = remains_all out budget w p z words four small within few zeros room in
+    let appends = Appends-same written (field-zero count ∙ ap (λ n. replicate n false) is ∙ sym (take_zeros budget z)) in
+    let spent : budget - length (replicate z false) ≡ budget - count = omega (arith, is, length-replicate z false) in
+    rw spent at (Remains-more (replicate z false) _ remains appends)
