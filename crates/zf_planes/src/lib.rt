@@ -18,4 +18,6 @@ pub use measuring::{code_len, planes_len, planes_used, planes_within, used_plane
 pub use words::clear;
 
 #[cfg(test)]
+mod four_tests;
+#[cfg(test)]
 mod tests;
