@@ -43,6 +43,25 @@ pub(crate) fn write_uncut<P: Plane>(
     zf_planes::write_planes_below(zeros, u64::MAX, prec, size, planes, out);
 }
 
+/// The same of the planes of four coefficients, from their digits.
+#[inline(always)]
+pub(crate) fn write_uncut_four(
+    zeros: u32,
+    prec: u32,
+    width: u32,
+    digits: &[u64; 4],
+    out: &mut BitWriter,
+)
+    requires width { width ≤ 64 }
+    requires planes { prec ≤ width }
+    requires fits { 4 * prec + 4 ≤ out.old.room }
+    requires within { zeros ≤ prec }
+    requires zeros { take zeros (planes_of width (digits_in width digits.now)) ≡ replicate zeros (replicate 4 false) }
+    ensures { Appends out.old out.new (code (take prec (planes_of width (digits_in width digits.now)))) }
+{
+    zf_planes::write_four(zeros, u64::MAX, prec, width, digits, out);
+}
+
 /// Reads the whole code of the top `prec` planes, or answers `None` where the bits end before it does. The planes below are zero.
 pub(crate) fn read_uncut<P: Plane>(
     prec: u32,
@@ -65,5 +84,28 @@ pub(crate) fn read_uncut<P: Plane>(
     // Known by this call: the greatest budget is more than what is left.
     let _left = reader.left();
     zf_planes::read_planes(u64::MAX, prec, size, reader, planes)?;
+    Some(())
+}
+
+/// The same of the planes of four coefficients, into their digits.
+#[inline(always)]
+pub(crate) fn read_uncut_four(
+    prec: u32,
+    width: u32,
+    reader: &mut BitReader<'_>,
+    digits: &mut [u64; 4],
+) -> Option<()>
+    requires width { width ≤ 64 }
+    requires planes { prec ≤ width }
+    ensures short { IfNone result (length (rest reader.old) < length (code (planes_in prec 4 (rest reader.old)))) }
+    ensures unread { IfNone result (reader.new ≡ reader.old) }
+    ensures enough { OnSome result (length (code (planes_in prec 4 (rest reader.old))) ≤ length (rest reader.old)) }
+    ensures reads { OnSome result (Reads reader.old reader.new
+        (take (length (code (planes_in prec 4 (rest reader.old)))) (rest reader.old))) }
+    ensures planes { OnSome result (AreAbove 4 (planes_in prec 4 (rest reader.old)) (planes_of width (digits_in width digits.new))) }
+{
+    // Known by this call: the greatest budget is more than what is left.
+    let _left = reader.left();
+    zf_planes::read_four(u64::MAX, prec, width, reader, digits)?;
     Some(())
 }
