@@ -17,6 +17,9 @@
 --     PlaneAhead   what the decoder makes of one plane
 --     PlanesAhead  what the decoder makes of planes
 --     FoursAhead   several planes of four digits that are read at once
+--     Lanes        digits of four coefficients in words, and in four lanes of one word
+--     LaneTables   tables of planes of four digits in lanes
+--     LanesAhead   planes of four digits that are read at once, in lanes
 --     Passing      a reader that passes the bits of a code in parts
 --     Peeking      bits that were looked at and are not yet passed
 --     Strings      planes of four digits in one number, and their code
@@ -39,6 +42,9 @@ pub mod Steps
 pub mod PlaneAhead
 pub mod PlanesAhead
 pub mod FoursAhead
+pub mod Lanes
+pub mod LaneTables
+pub mod LanesAhead
 pub mod Passing
 pub mod Peeking
 pub mod Strings

@@ -19,18 +19,18 @@ use zf_bits::{BitReader, Plane};
 
 /// What is left of a budget, and the bits that come next, as far as they were looked at.
 #[derive(Clone, Copy)]
-struct Ahead {
+pub(crate) struct Ahead {
     /// The bits that are left of the budget.
-    left: u64,
+    pub(crate) left: u64,
     /// The next bits, the first one lowest.
-    bits: u64,
+    pub(crate) bits: u64,
     /// How many of them are in the budget and are there.
-    count: u64,
+    pub(crate) count: u64,
 }
 
 /// Looks at the bits that come next.
 #[inline]
-fn look(left: u64, reader: &BitReader<'_>) -> Ahead
+pub(crate) fn look(left: u64, reader: &BitReader<'_>) -> Ahead
     ensures left { result.left ≡ left }
     ensures window { IsWindow result.left result.bits result.count (rest reader.now) }
     ensures most { result.count ≡ min 64 (min left (length (rest reader.now))) }
@@ -45,7 +45,7 @@ fn look(left: u64, reader: &BitReader<'_>) -> Ahead
 
 /// Passes bits that were looked at.
 #[inline]
-fn pass(n: u64, ahead: &mut Ahead, reader: &mut BitReader<'_>)
+pub(crate) fn pass(n: u64, ahead: &mut Ahead, reader: &mut BitReader<'_>)
     requires some { 0 < n }
     requires within { n ≤ ahead.old.count }
     requires window { IsWindow ahead.old.left ahead.old.bits ahead.old.count (rest reader.old) }
@@ -336,7 +336,7 @@ fn read_slowly<P: Plane>(
 
 /// Looks again where fewer bits are in sight than are wanted, and there may be more.
 #[inline]
-fn look_on(wanted: u64, ahead: &mut Ahead, reader: &BitReader<'_>)
+pub(crate) fn look_on(wanted: u64, ahead: &mut Ahead, reader: &BitReader<'_>)
     requires window { IsWindow ahead.old.left ahead.old.bits ahead.old.count (rest reader.now) }
     ensures window { IsWindow ahead.new.left ahead.new.bits ahead.new.count (rest reader.now) }
     ensures left { ahead.new.left ≡ ahead.old.left }
@@ -379,7 +379,7 @@ fn put_plane<P: Plane>(
 
 /// Reads the code of a plane of four digits in which the ranks below `n` have had a one above. The answer is how far the ones of both reach.
 #[inline(always)]
-fn read_plane_of_4<P: Plane>(
+pub(crate) fn read_plane_of_4<P: Plane>(
     n: usize,
     plane: &mut P,
     ahead: &mut Ahead,
@@ -478,7 +478,7 @@ fn read_plane<P: Plane>(
 
 /// Passes planes of zeros at the top, of which each has one bit.
 #[inline]
-fn pass_zero_planes(prec: u32, ahead: &mut Ahead, reader: &mut BitReader<'_>) -> u64
+pub(crate) fn pass_zero_planes(prec: u32, ahead: &mut Ahead, reader: &mut BitReader<'_>) -> u64
     requires window { IsWindow ahead.old.left ahead.old.bits ahead.old.count (rest reader.old) }
     ensures window { IsWindow ahead.new.left ahead.new.bits ahead.new.count (rest reader.new) }
     ensures within { result ≤ prec }

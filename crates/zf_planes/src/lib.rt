@@ -5,6 +5,7 @@ mod decoding;
 mod doubling;
 mod encoding;
 mod four;
+mod four_reading;
 mod four_writing;
 mod gathered;
 mod measuring;
@@ -13,10 +14,13 @@ mod words;
 
 pub use decoding::{decode, read_planes};
 pub use encoding::{encode, write_planes, write_planes_below};
+pub use four_reading::read_four;
 pub use four_writing::write_four;
 pub use measuring::{code_len, planes_len, planes_used, planes_within, used_planes};
 pub use words::clear;
 
+#[cfg(test)]
+mod four_reading_tests;
 #[cfg(test)]
 mod four_tests;
 #[cfg(test)]

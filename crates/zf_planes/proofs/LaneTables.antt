@@ -1,0 +1,180 @@
+-- Tables of planes of four digits in lanes, each entry of which is what the definitions say, by computation.
+use Rattle.std.proofs.Common.{◌≡◌, ℕ, suc, ◌+◌, ◌*◌, ◌/◌, ◌%◌, ◌^◌, ◌-◌, ◌<◌, ◌≤◌, max, Bool, true, false, ◌&&◌, eqb, ltb, List, [], ◌∷◌, get_or, refl, sym, ap, ◌∙◌, arith}
+use Rattle.std.proofs.lemmas.Nat.{shr_high, mod_low, mul-add-lt}
+use Rattle.std.proofs.lemmas.Bool.{false≢true, and_parts, eqb-true, ltb-true}
+use Rattle.zf_spec.specs.Numbers.{field}
+use Rattle.zf_spec.specs.Planes.{code_from, reach_of_all}
+use Rattle.zf_planes.specs.Decoding.{planes_ahead, planes_bits}
+use Rattle.zf_planes.specs.Lanes.{low_planes, lanes_in, AreBelow}
+use Rattle.zf_planes.proofs.Tables.{same_digits, same_digits-true, each_below, each_below-true}
+use Rattle.zf_planes.specs.declared.four_reading.TheConstants.{LANES, ENDS, LANES_OF_4}
+
+-- ---- tests that compute
+
+abbrev same_planes : List (List Bool) → List (List Bool) → Bool
+same_planes [] [] = true
+same_planes [] (q ∷ qs) = false
+same_planes (p ∷ ps) [] = false
+same_planes (p ∷ ps) (q ∷ qs) = same_digits p q && same_planes ps qs
+
+same_planes-true : (ps qs : List (List Bool)) → same_planes ps qs ≡ true → ps ≡ qs
+same_planes-true [] [] e = refl
+same_planes-true [] (q ∷ qs) e = absurd (false≢true e)
+same_planes-true (p ∷ ps) [] e = absurd (false≢true e)
+same_planes-true (p ∷ ps) (q ∷ qs) e =
+    let parts = and_parts (same_digits p q) (same_planes ps qs) e in
+    ap (λ (d : List Bool). d ∷ ps) (same_digits-true p q parts.0) ∙ ap (λ (rs : List (List Bool)). q ∷ rs) (same_planes-true ps qs parts.1)
+
+abbrev are_below : ℕ → List ℕ → Bool
+are_below c [] = true
+are_below c (u ∷ words) = ltb u (2 ^ c) && are_below c words
+
+are_below-true : (c : ℕ) (words : List ℕ) → are_below c words ≡ true → AreBelow c words
+unfolding AreBelow
+are_below-true c [] e = tt
+are_below-true c (u ∷ words) e =
+    let parts = and_parts (ltb u (2 ^ c)) (are_below c words) e in
+    (ltb-true u (2 ^ c) parts.0, are_below-true c words parts.1)
+
+-- ---- planes by the bits that come next
+
+-- c planes in these lanes, whose code of l bits begins these bits, and the ones reach to a
+abbrev test_lanes : ℕ → ℕ → ℕ → ℕ → ℕ → ℕ → Bool
+test_lanes n bits v l c a =
+    same_digits (code_from n (low_planes c (lanes_in 4 v))) (field l bits)
+    && (are_below c (lanes_in 4 v) && (ltb 0 c && (ltb c 5 && (ltb 0 l && (ltb l 9 && (eqb a (max n (reach_of_all (low_planes c (lanes_in 4 v)))) && ltb a 5))))))
+
+abbrev test_entry : ℕ → ℕ → ℕ → Bool
+test_entry n bits e = test_lanes n bits (e % 4503599627370496) (e / 4503599627370496 % 16) (e / 72057594037927936 % 8) (e / 576460752303423488)
+
+test_all_lanes : each_below (λ i. test_entry (i / 256) (i % 256) (get_or LANES i 0)) 1280 ≡ true
+unfolding low_planes lanes_in
+test_all_lanes = refl
+
+pub record AreLanes (n bits v l c a : ℕ) : Type 0 where
+  pub code : code_from n (low_planes c (lanes_in 4 v)) ≡ field l bits
+  pub small : AreBelow c (lanes_in 4 v)
+  pub some : 0 < c
+  pub most : c < 5
+  pub bit : 0 < l
+  pub len : l < 9
+  pub above : a ≡ max n (reach_of_all (low_planes c (lanes_in 4 v)))
+  pub within : a < 5
+
+lanes_tested : (n bits v l c a : ℕ) → test_lanes n bits v l c a ≡ true → AreLanes n bits v l c a
+lanes_tested n bits v l c a test =
+    let one = and_parts (same_digits (code_from n (low_planes c (lanes_in 4 v))) (field l bits)) _ test in
+    let two = and_parts (are_below c (lanes_in 4 v)) _ one.1 in
+    let three = and_parts (ltb 0 c) _ two.1 in
+    let four = and_parts (ltb c 5) _ three.1 in
+    let five = and_parts (ltb 0 l) _ four.1 in
+    let six = and_parts (ltb l 9) _ five.1 in
+    let seven = and_parts (eqb a (max n (reach_of_all (low_planes c (lanes_in 4 v))))) _ six.1 in
+    record {
+      code = same_digits-true _ _ one.0;
+      small = are_below-true c (lanes_in 4 v) two.0;
+      some = ltb-true _ _ three.0;
+      most = ltb-true _ _ four.0;
+      bit = ltb-true _ _ five.0;
+      len = ltb-true _ _ six.0;
+      above = eqb-true _ _ seven.0;
+      within = ltb-true _ _ seven.1;
+    }
+
+pub lanes_of_entry : (n bits e : ℕ) → n ≤ 4 → bits < 256 → e ≡ get_or LANES (256 * n + bits) 0
+    → AreLanes n bits (e % 4503599627370496) (e / 4503599627370496 % 16) (e / 72057594037927936 % 8) (e / 576460752303423488)
+lanes_of_entry n bits e in_plane eight is =
+    let i = 256 * n + bits in
+    let front : i / 256 ≡ n = omega arith in
+    let low : i % 256 ≡ bits = omega arith in
+    let test : test_entry n bits e ≡ true =
+    ap (λ k. test_entry k bits e) (sym front)
+    ∙ ap (λ k. test_entry (i / 256) k e) (sym low)
+    ∙ ap (test_entry (i / 256) (i % 256)) is
+    ∙ each_below-true (λ j. test_entry (j / 256) (j % 256) (get_or LANES j 0)) 1280 i test_all_lanes (omega arith) in
+    lanes_tested n bits (e % 4503599627370496) (e / 4503599627370496 % 16) (e / 72057594037927936 % 8) (e / 576460752303423488) test
+
+-- ---- planes by the last bits of a budget
+
+abbrev test_last : ℕ → ℕ → ℕ → ℕ → ℕ → ℕ → ℕ → Bool
+test_last n left bits v l c a =
+    same_planes (planes_ahead left c 4 n (field left bits)) (low_planes c (lanes_in 4 v))
+    && (eqb (planes_bits left c 4 n (field left bits)) l
+    && (are_below c (lanes_in 4 v) && (ltb 0 c && (ltb c 5 && (ltb 0 l && (eqb a (max n (reach_of_all (low_planes c (lanes_in 4 v)))) && ltb a 5))))))
+
+abbrev test_end : ℕ → ℕ → ℕ → ℕ → Bool
+test_end n left bits e = test_last n left bits (e % 4503599627370496) (e / 4503599627370496 % 16) (e / 72057594037927936 % 8) (e / 576460752303423488)
+
+-- of as many bits, each entry
+abbrev test_ends : ℕ → Bool
+test_ends left = each_below (λ i. test_end (i / 2 ^ left) left (i % 2 ^ left) (get_or ENDS (256 * (i / 2 ^ left) + (2 ^ left + i % 2 ^ left)) 0)) (5 * 2 ^ left)
+
+test_all_ends : each_below (λ k. test_ends (suc k)) 7 ≡ true
+unfolding low_planes lanes_in planes_ahead planes_bits
+test_all_ends = refl
+
+pub record AreLast (n left bits v l c a : ℕ) : Type 0 where
+  pub digits : planes_ahead left c 4 n (field left bits) ≡ low_planes c (lanes_in 4 v)
+  pub len : planes_bits left c 4 n (field left bits) ≡ l
+  pub small : AreBelow c (lanes_in 4 v)
+  pub some : 0 < c
+  pub most : c < 5
+  pub bit : 0 < l
+  pub above : a ≡ max n (reach_of_all (low_planes c (lanes_in 4 v)))
+  pub within : a < 5
+
+last_tested : (n left bits v l c a : ℕ) → test_last n left bits v l c a ≡ true → AreLast n left bits v l c a
+last_tested n left bits v l c a test =
+    let one = and_parts (same_planes (planes_ahead left c 4 n (field left bits)) (low_planes c (lanes_in 4 v))) _ test in
+    let two = and_parts (eqb (planes_bits left c 4 n (field left bits)) l) _ one.1 in
+    let three = and_parts (are_below c (lanes_in 4 v)) _ two.1 in
+    let four = and_parts (ltb 0 c) _ three.1 in
+    let five = and_parts (ltb c 5) _ four.1 in
+    let six = and_parts (ltb 0 l) _ five.1 in
+    let seven = and_parts (eqb a (max n (reach_of_all (low_planes c (lanes_in 4 v))))) _ six.1 in
+    record {
+      digits = same_planes-true _ _ one.0;
+      len = eqb-true _ _ two.0;
+      small = are_below-true c (lanes_in 4 v) three.0;
+      some = ltb-true _ _ four.0;
+      most = ltb-true _ _ five.0;
+      bit = ltb-true _ _ six.0;
+      above = eqb-true _ _ seven.0;
+      within = ltb-true _ _ seven.1;
+    }
+
+-- the entry of so many bits
+end_at : (n left bits p i e : ℕ) → p ≡ 2 ^ left → test_ends left ≡ true → n ≤ 4 → bits < p → i ≡ n * p + bits → i / p ≡ n → i % p ≡ bits → i < 5 * p → e ≡ get_or ENDS (256 * n + (p + bits)) 0 → test_end n left bits e ≡ true
+end_at n left bits p i e power tests in_plane small place front low below is =
+    let high : i / 2 ^ left ≡ n = ap (λ q. i / q) (sym power) ∙ front in
+    let back : i % 2 ^ left ≡ bits = ap (λ q. i % q) (sym power) ∙ low in
+    let here = each_below-true (λ j. test_end (j / 2 ^ left) left (j % 2 ^ left) (get_or ENDS (256 * (j / 2 ^ left) + (2 ^ left + j % 2 ^ left)) 0)) (5 * 2 ^ left) i tests (omega arith) in
+    ap (test_end n left bits) (is ∙ ap (λ q. get_or ENDS (256 * n + (q + bits)) 0) power)
+    ∙ ap (λ k. test_end n left k (get_or ENDS (256 * n + (2 ^ left + k)) 0)) (sym back)
+    ∙ ap (λ k. test_end k left (i % 2 ^ left) (get_or ENDS (256 * k + (2 ^ left + i % 2 ^ left)) 0)) (sym high)
+    ∙ here
+
+pub last_of_entry : (n left bits e : ℕ) → n ≤ 4 → 0 < left → left < 8 → bits < 2 ^ left → e ≡ get_or ENDS (256 * n + (2 ^ left + bits)) 0
+    → AreLast n left bits (e % 4503599627370496) (e / 4503599627370496 % 16) (e / 72057594037927936 % 8) (e / 576460752303423488)
+last_of_entry n left bits e in_plane some few small is =
+    let p = 2 ^ left in
+    let next : suc (left - 1) ≡ left = omega arith in
+    let tests : test_ends left ≡ true = ap test_ends (sym next) ∙ each_below-true (λ k. test_ends (suc k)) 7 (left - 1) test_all_ends (omega arith) in
+    let below : n * p + bits < p * 5 = mul-add-lt n p bits 5 (omega arith) small in
+    last_tested n left bits (e % 4503599627370496) (e / 4503599627370496 % 16) (e / 72057594037927936 % 8) (e / 576460752303423488)
+    (end_at n left bits p (n * p + bits) e refl tests in_plane small refl (shr_high n left bits small) (mod_low n left bits small) (omega arith) is)
+
+-- ---- one plane
+
+abbrev test_one : ℕ → ℕ → Bool
+test_one digits e = same_planes (low_planes 1 (lanes_in 4 e)) (field 4 digits ∷ []) && are_below 1 (lanes_in 4 e)
+
+test_all_ones : each_below (λ i. test_one i (get_or LANES_OF_4 i 0)) 16 ≡ true
+unfolding low_planes lanes_in
+test_all_ones = refl
+
+pub one_of_entry : (digits e : ℕ) → digits < 16 → e ≡ get_or LANES_OF_4 digits 0 → (low_planes 1 (lanes_in 4 e) ≡ field 4 digits ∷ []) × AreBelow 1 (lanes_in 4 e)
+one_of_entry digits e four is =
+    let test : test_one digits e ≡ true = ap (test_one digits) is ∙ each_below-true (λ i. test_one i (get_or LANES_OF_4 i 0)) 16 digits test_all_ones four in
+    let parts = and_parts (same_planes (low_planes 1 (lanes_in 4 e)) (field 4 digits ∷ [])) _ test in
+    (same_planes-true _ _ parts.0, are_below-true 1 (lanes_in 4 e) parts.1)

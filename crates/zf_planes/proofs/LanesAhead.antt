@@ -1,0 +1,166 @@
+-- Planes of four digits that are read at once, in lanes.
+use Rattle.std.proofs.Common.{◌≡◌, ℕ, zero, suc, ◌+◌, ◌-◌, ◌%◌, ◌<◌, ◌≤◌, min, max, Bool, List, [], ◌∷◌, ◌++◌, length, take, drop, refl, sym, ap, subst, ◌∙◌, arith}
+use Rattle.std.proofs.lemmas.List.{drop-drop, take-take}
+use Rattle.std.proofs.lemmas.List.Elements.{All-head, All-tail}
+use Rattle.zf_spec.specs.Numbers.{field}
+use Rattle.zf_spec.specs.Planes.{plane_code, code_from, reach, reach_of_all, AreOfSize}
+use Rattle.zf_spec.specs.Kept.{kept_planes_from}
+use Rattle.zf_spec.specs.ReadPlanes.{planes_in_from}
+use Rattle.zf_spec.proofs.Reach.{reach_within}
+use Rattle.zf_bits.proofs.Fields.{field-mod}
+use Rattle.zf_bits.specs.Reader.{Reader, rest}
+use Rattle.zf_planes.specs.Decoding.{IsWindow, Takes, plane_ahead, plane_bits, planes_ahead, planes_bits}
+use Rattle.zf_planes.specs.Lanes.{low_planes, lanes_in}
+use Rattle.zf_planes.proofs.Lanes.{length-low_planes, low_planes-sizes, length-lanes_in}
+use Rattle.zf_planes.proofs.Passing.{Takes-rest}
+use Rattle.zf_planes.proofs.Peeking.{window_front, window_long}
+use Rattle.zf_planes.proofs.PlaneAhead.{whole_plane}
+use Rattle.zf_planes.proofs.PlanesAhead.{whole_planes, next_plane, planes_ahead-none, planes_bits-none}
+
+-- ---- planes, and then those below them
+
+pub record PlanesThen (r m q size n : ℕ) (s : List Bool) (planes : List (List Bool)) (count : ℕ) : Type 0 where
+  pub bits : planes_bits r (m + q) size n s ≡ count + planes_bits (r - count) q size (max n (reach_of_all planes)) (drop count s)
+  pub digits : planes_ahead r (m + q) size n s ≡ planes ++ planes_ahead (r - count) q size (max n (reach_of_all planes)) (drop count s)
+
+-- the first of some planes
+first_ahead : (r m size n : ℕ) (s ds : List Bool) (planes : List (List Bool)) → planes_ahead r (suc m) size n s ≡ ds ∷ planes → plane_ahead r size n s ≡ ds
+unfolding planes_ahead plane_ahead
+first_ahead r m size n s ds planes is = cc
+
+not_empty : (r m size n : ℕ) (s : List Bool) → planes_ahead r (suc m) size n s ≡ [] → ⊥
+unfolding planes_ahead
+not_empty r m size n s is = cc
+
+pub planes_then : (m q r size n count : ℕ) (s : List Bool) (planes : List (List Bool)) → 1 ≤ size → n ≤ size → AreOfSize size planes → planes_ahead r m size n s ≡ planes → planes_bits r m size n s ≡ count
+    → PlanesThen r m q size n s planes count
+planes_then zero q r size n count s [] some within sizes is bits =
+    let none : count ≡ 0 = sym bits ∙ planes_bits-none r size n s in
+    let all : r - 0 ≡ r = omega arith in
+    let every : 0 + q ≡ q = omega arith in
+    let reached : max n 0 ≡ n = omega arith in
+    rw none (record { bits = rw (all, every, reached) (omega arith); digits = rw (all, every, reached) refl })
+planes_then zero q r size n count s (ds ∷ planes) some within sizes is bits = let none = sym (planes_ahead-none r size n s) ∙ is in cc
+planes_then (suc m) q r size n count s [] some within sizes is bits = absurd (not_empty r m size n s is)
+planes_then (suc m) q r size n count s (ds ∷ planes) some within sizes is bits =
+    let size_is : length ds ≡ size = All-head (λ es. length es ≡ size) ds planes sizes in
+    let first : plane_ahead r size n s ≡ ds = first_ahead r m size n s ds planes is in
+    let k = plane_bits r size n s in
+    let above = max n (reach ds) in
+    let long : length (plane_ahead r size n s) ≡ size = ap length first ∙ size_is in
+    let here = next_plane r m size n s some within long in
+    let more = next_plane r (m + q) size n s some within long in
+    let here_bits = rw first at here.bits in
+    let here_digits = rw first at here.digits in
+    let more_bits = rw first at more.bits in
+    let more_digits = rw first at more.digits in
+    let below : planes_ahead (r - k) m size above (drop k s) ≡ planes = tail_is (sym here_digits ∙ is) in
+    let low = planes_bits (r - k) m size above (drop k s) in
+    let rest = planes_then m q (r - k) size above low (drop k s) planes some (reach_within size n ds within size_is) (All-tail (λ es. length es ≡ size) ds planes sizes) below refl in
+    let sum : count ≡ k + low = omega arith in
+    let spent : r - k - low ≡ r - count = omega arith in
+    let place : drop low (drop k s) ≡ drop count s = drop-drop low k s ∙ ap (λ j. drop j s) (sym sum) in
+    let reached : max above (reach_of_all planes) ≡ max n (max (reach ds) (reach_of_all planes)) = omega arith in
+    let next : suc m + q ≡ suc (m + q) = omega arith in
+    let rest_bits = rw (spent, place, reached) at rest.bits in
+    let rest_digits = rw (spent, place, reached) at rest.digits in
+    record {
+      bits = rw next (omega (arith, more_bits, rest_bits));
+      digits = rw next (more_digits ∙ ap (λ (ps : List (List Bool)). ds ∷ ps) rest_digits);
+    }
+  where
+    tail_is : {d e : List Bool} {ps qs : List (List Bool)} → d ∷ ps ≡ e ∷ qs → ps ≡ qs
+    tail_is same = cc
+
+-- ---- in lanes
+
+sizes : (c v : ℕ) → AreOfSize 4 (low_planes c (lanes_in 4 v))
+sizes c v =
+    let P : ℕ → Type 0 = λ k. AreOfSize k (low_planes c (lanes_in 4 v)) in
+    subst P (length-lanes_in 4 v) (low_planes-sizes c (lanes_in 4 v))
+
+-- some planes were read, and the others are to come
+pub record SomeRead (now new : Reader) (left after most n c v len above : ℕ) : Type 0 where
+  pub bits : planes_bits left most 4 n (rest now) ≡ len + planes_bits after (most - c) 4 above (rest new)
+  pub digits : planes_ahead left most 4 n (rest now) ≡ low_planes c (lanes_in 4 v) ++ planes_ahead after (most - c) 4 above (rest new)
+
+-- planes whose code is in sight
+pub in_sight : {now new : Reader} {left after : ℕ} (most n c v len bits count above : ℕ) → IsWindow left bits count (rest now) → n ≤ 4
+    → code_from n (low_planes c (lanes_in 4 v)) ≡ field len (bits % 256) → len ≤ 8 → len ≤ count → c ≤ most → above ≡ max n (reach_of_all (low_planes c (lanes_in 4 v))) → Takes now new left after len
+    → SomeRead now new left after most n c v len above
+in_sight {now} {new} {left} {after} most n c v len bits count above window within code short few enough reached takes =
+    let s = rest now in
+    let planes = low_planes c (lanes_in 4 v) in
+    let eight : len + (8 - len) ≡ 8 = omega arith in
+    let low : field len (bits % 256) ≡ field len bits = rw eight at (field-mod len (8 - len) bits) in
+    let next : code_from n planes ≡ take len s = code ∙ low ∙ window_front s bits count len window.bits few in
+    let long = length-low_planes c (lanes_in 4 v) in
+    let whole = whole_planes planes left most 4 n len s (omega arith) within (sizes c v) next (omega (arith, window_long s bits count window.bits)) (omega (arith, window.within)) (omega (arith, long)) in
+    let spent : after ≡ left - len = omega (arith, takes.spent) in
+    record {
+      bits = rw (Takes-rest takes, spent, reached) (rw long at whole.bits);
+      digits = rw (Takes-rest takes, spent, reached) (rw long at whole.digits);
+    }
+
+-- planes are what the bits in the budget make of them
+same_ahead : (left m n : ℕ) (s t : List Bool) → take left s ≡ take left t → (planes_ahead left m 4 n s ≡ planes_ahead left m 4 n t) × (planes_bits left m 4 n s ≡ planes_bits left m 4 n t)
+unfolding planes_ahead planes_bits
+same_ahead left m n s t same = (ap (λ (bs : List Bool). kept_planes_from left n (planes_in_from m 4 n bs)) same, ap (λ (bs : List Bool). min left (length (code_from n (planes_in_from m 4 n bs)))) same)
+
+-- planes at the end of the budget
+pub at_end : {now new : Reader} {left after : ℕ} (most n c v len bits count above : ℕ) → IsWindow left bits count (rest now) → count ≡ left → n ≤ 4
+    → planes_ahead count c 4 n (field count bits) ≡ low_planes c (lanes_in 4 v) → planes_bits count c 4 n (field count bits) ≡ len → c ≤ most → above ≡ max n (reach_of_all (low_planes c (lanes_in 4 v))) → Takes now new left after len
+    → SomeRead now new left after most n c v len above
+at_end {now} {new} {left} {after} most n c v len bits count above window all within digits code enough reached takes =
+    let s = rest now in
+    let bits_are : field left bits ≡ take left s = ap (λ k. field k bits) (sym all) ∙ window.bits ∙ ap (λ k. take k s) all in
+    let same = same_ahead left c n s (field left bits) (sym (ap (take left) bits_are ∙ take-take left left s (omega arith))) in
+    let here : planes_ahead left c 4 n s ≡ low_planes c (lanes_in 4 v) = same.0 ∙ (rw all at digits) in
+    let here_bits : planes_bits left c 4 n s ≡ len = same.1 ∙ (rw all at code) in
+    let parts : c + (most - c) ≡ most = omega arith in
+    let next = planes_then c (most - c) left 4 n len s (low_planes c (lanes_in 4 v)) (omega arith) within (sizes c v) here here_bits in
+    let spent : after ≡ left - len = omega (arith, takes.spent) in
+    record {
+      bits = rw (Takes-rest takes, spent, reached) (rw parts at next.bits);
+      digits = rw (Takes-rest takes, spent, reached) (rw parts at next.digits);
+    }
+
+pub planes_bits-le : (r p size n : ℕ) (s : List Bool) → planes_bits r p size n s ≤ r
+unfolding planes_bits
+planes_bits-le r p size n s = omega arith
+
+-- one plane whose code is in sight
+pub one_in_sight : (left n digits len bits count : ℕ) (s : List Bool) → IsWindow left bits count s → n ≤ 4 → plane_code n (field 4 digits) ≡ field len (bits % 128) → len ≤ 7 → len ≤ count
+    → (plane_bits left 4 n s ≡ len) × (plane_ahead left 4 n s ≡ field 4 digits)
+one_in_sight left n digits len bits count s window within code short few =
+    let seven : len + (7 - len) ≡ 7 = omega arith in
+    let low : field len (bits % 128) ≡ field len bits = rw seven at (field-mod len (7 - len) bits) in
+    let next : plane_code n (field 4 digits) ≡ take len s = code ∙ low ∙ window_front s bits count len window.bits few in
+    whole_plane left n len (field 4 digits) s within next (omega (arith, window_long s bits count window.bits)) (omega (arith, window.within))
+
+-- one plane that was read, and the others are to come
+pub one_read : {now new : Reader} {left after : ℕ} (most n v len above : ℕ) → 0 < most → n ≤ 4 → low_planes 1 (lanes_in 4 v) ≡ plane_ahead left 4 n (rest now) ∷ [] → len ≡ plane_bits left 4 n (rest now)
+    → above ≡ max n (reach (plane_ahead left 4 n (rest now))) → Takes now new left after len → SomeRead now new left after most n 1 v len above
+one_read {now} {new} {left} {after} most n v len above some within is long reached takes =
+    let s = rest now in
+    let ds = plane_ahead left 4 n s in
+    let planes : most ≡ suc (most - 1) = omega arith in
+    let size : length ds ≡ 4 = only_size (rw is at (sizes 1 v)) in
+    let next = next_plane left (most - 1) 4 n s (omega arith) within size in
+    let spent : after ≡ left - len = omega (arith, takes.spent) in
+    let Bits : ℕ → Type 0 = λ p. planes_bits left p 4 n s ≡ len + planes_bits (left - len) (most - 1) 4 above (drop len s) in
+    let Digits : ℕ → Type 0 = λ p. planes_ahead left p 4 n s ≡ low_planes 1 (lanes_in 4 v) ++ planes_ahead (left - len) (most - 1) 4 above (drop len s) in
+    record {
+      bits = rw (Takes-rest takes, spent) (subst Bits (sym planes) (rw (long, reached) next.bits));
+      digits = rw (Takes-rest takes, spent) (subst Digits (sym planes) (rw (is, long, reached) next.digits));
+    }
+  where
+    only_size : {ds : List Bool} → AreOfSize 4 (ds ∷ []) → length ds ≡ 4
+    only_size {ds} all = All-head (λ es. length es ≡ 4) ds [] all
+
+-- how far the ones of one plane reach at most
+pub reach_of_one : (n v : ℕ) (ds : List Bool) → n ≤ 4 → low_planes 1 (lanes_in 4 v) ≡ ds ∷ [] → max n (reach ds) ≤ 4
+reach_of_one n v ds within is =
+    let all = rw is at (sizes 1 v) in
+    let size = All-head (λ es. length es ≡ 4) ds [] all in
+    reach_within 4 n ds within size

@@ -1,0 +1,48 @@
+use Rattle.std.proofs.Common.{◌≡◌, ◌+◌, ◌*◌, ◌/◌, ◌%◌, ◌^◌, Bool, List, get_or, sym, ap, ◌∙◌, arith}
+use Rattle.std.proofs.Math.Nat.{mod-lt}
+use Rattle.std.proofs.lemmas.Nat.{one_shl, pow_pos}
+use Rattle.zf_spec.specs.Numbers.{field}
+use Rattle.zf_spec.proofs.Fields.{field-mod}
+use Rattle.zf_planes.specs.Decoding.{planes_ahead, planes_bits}
+use Rattle.zf_planes.specs.declared.four_reading.TheConstants.{ENDS}
+use Rattle.zf_planes.proofs.LanesAhead.{planes_bits-le}
+use Rattle.zf_planes.proofs.LaneTables.{AreLast, last_of_entry}
+use Rattle.zf_planes.proofs.four_reading.planes_at_end.Goals as goal
+
+-- what the entry says
+entry : (c : goal.After-entry_of_end-entry) → AreLast c.args.n c.args.left (c.args.bits % 2 ^ c.args.left) (c.entry_of_end-entry.result % 4503599627370496) (c.entry_of_end-entry.result / 4503599627370496 % 16)
+    (c.entry_of_end-entry.result / 72057594037927936 % 8) (c.entry_of_end-entry.result / 576460752303423488)
+entry c =
+    let left = c.args.left in
+    let power : 1 * 2 ^ left % 2 ^ 64 ≡ 2 ^ left = one_shl left 64 (omega arith) in
+    last_of_entry c.args.n left (c.args.bits % 2 ^ left) c.entry_of_end-entry.result c.requires.in_plane c.requires.some c.requires.few (mod-lt c.args.bits (pow_pos left))
+    (c.entry_of_end-entry.ensures ∙ ap (λ p. get_or ENDS (256 * c.args.n + (p + c.args.bits % p)) 0) power)
+
+pub returns-clause-digits : goal.returns-clause-digits
+returns-clause-digits c = ap (λ (s : List Bool). planes_ahead c.args.left (c.entry_of_end-entry.result / 72057594037927936 % 8) 4 c.args.n s) (sym (field-mod c.args.left c.args.bits)) ∙ (entry c).digits
+
+pub returns-clause-bits : goal.returns-clause-bits
+returns-clause-bits c = ap (λ (s : List Bool). planes_bits c.args.left (c.entry_of_end-entry.result / 72057594037927936 % 8) 4 c.args.n s) (sym (field-mod c.args.left c.args.bits)) ∙ (entry c).len
+
+pub returns-clause-below : goal.returns-clause-below
+returns-clause-below c = (entry c).small
+
+pub returns-clause-some : goal.returns-clause-some
+returns-clause-some c = (entry c).some
+
+pub returns-clause-most : goal.returns-clause-most
+returns-clause-most c = omega (arith, (entry c).most)
+
+pub returns-clause-bit : goal.returns-clause-bit
+returns-clause-bit c = (entry c).bit
+
+pub returns-clause-len : goal.returns-clause-len
+returns-clause-len c =
+    let most = planes_bits-le c.args.left (c.entry_of_end-entry.result / 72057594037927936 % 8) 4 c.args.n (field c.args.left (c.args.bits % 2 ^ c.args.left)) in
+    omega (arith, (entry c).len, most)
+
+pub returns-clause-above : goal.returns-clause-above
+returns-clause-above c = (entry c).above
+
+pub returns-clause-within : goal.returns-clause-within
+returns-clause-within c = omega (arith, (entry c).within)

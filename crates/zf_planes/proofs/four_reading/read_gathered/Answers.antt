@@ -1,0 +1,106 @@
+use Rattle.std.proofs.Common.{◌≡◌, ℕ, ◌+◌, ◌-◌, inl, inr, Bool, false, List, [], ◌∷◌, ◌++◌, replicate, refl, sym, ap, ◌∙◌, arith}
+use Rattle.std.proofs.lemmas.List.{append_assoc}
+use Rattle.zf_bits.specs.Reader.{rest}
+use Rattle.zf_planes.specs.Decoding.{planes_ahead, planes_bits}
+use Rattle.zf_planes.specs.Lanes.{low_planes, lanes_in, gathered}
+use Rattle.zf_planes.proofs.Lanes.{gathered_words, low_planes-zeros, four_below, no_lanes_below}
+use Rattle.zf_planes.proofs.Passing.{Passes-start, Passes-part, Passes-end, Passes-lacks, if_none}
+use Rattle.zf_planes.proofs.PlanesAhead.{planes_over, zero_planes}
+use Rattle.zf_planes.proofs.four_reading.read_gathered.Goals as goal
+
+-- ---- the planes of zeros at the top
+
+pub loop-digits-init : goal.loop-digits-init
+loop-digits-init c =
+    let zeros = replicate 4 false in
+    let words : List ℕ = 0 ∷ 0 ∷ 0 ∷ 0 ∷ [] in
+    let passed = c.pass_zero_planes-zeros in
+    let k = passed.result in
+    let after = passed.new.ahead.left in
+    let behind = rest passed.new.reader in
+    let taken = rw c.look-ahead.ensures.left at passed.ensures.taken in
+    let spent : after ≡ c.args.budget - k = omega (arith, taken.spent) in
+    let first = rw (← spent) at (zero_planes k c.args.budget c.args.prec 4 (rest c.args.reader.now) behind (omega arith) (omega (arith, taken.spent)) passed.ensures.within passed.ensures.zeros) in
+    let all : k + 0 ≡ k = omega arith in
+    let held : gathered words k 0 0 ≡ replicate k zeros = gathered_words words k 0 0 refl ∙ low_planes-zeros k in
+    rw all (record {
+      window = passed.ensures.window;
+      passes = Passes-part _ (Passes-start c.args.reader.now c.args.budget _) first.0 taken;
+      put = record { four = refl; front = four_below k; back = no_lanes_below 0 4 };
+      planes = first.1 ∙ ap (λ (ps : List (List Bool)). ps ++ planes_ahead after (c.args.prec - k) 4 0 behind) (sym held);
+      within = passed.ensures.within;
+      few = omega arith;
+      high = omega arith;
+    })
+
+-- ---- some planes more
+
+pub overflow_add-digits : goal.overflow_add-digits
+overflow_add-digits c = omega (arith, c.loop-digits.invariant.within, c.requires.planes)
+
+pub read_some-requires-clause-in_plane : goal.read_some-requires-clause-in_plane
+read_some-requires-clause-in_plane c = c.loop-digits.invariant.high
+
+pub read_some-requires-clause-window : goal.read_some-requires-clause-window
+read_some-requires-clause-window c = c.loop-digits.invariant.window
+
+pub returns-in_err-some-clause-short : goal.returns-in_err-some-clause-short
+returns-in_err-some-clause-short c = if_none _ (Passes-lacks c.loop-digits.invariant.passes c.in_err-some.ensures.short (omega arith))
+
+pub loop-digits-preserved : goal.loop-digits-preserved
+loop-digits-preserved c =
+    let before = c.loop-digits.invariant in
+    let digits = c.loop-digits.digits in
+    let ok = c.in_ok-some.ensures in
+    let some = c.in_ok-some.some in
+    let added = c.add-digits in
+    let after = c.read_some.new.ahead.left in
+    let behind = rest c.read_some.new.reader in
+    let fewer : c.args.prec - (digits.done + digits.held) - some.count ≡ c.args.prec - (added.result.done + added.result.held) = omega (arith, added.ensures.sum) in
+    let bits = rw fewer at ok.bits in
+    let planes = rw fewer at ok.digits in
+    let below = planes_ahead after (c.args.prec - (added.result.done + added.result.held)) 4 some.above behind in
+    let front = gathered digits.words digits.done digits.lanes digits.held in
+    record {
+      window = ok.window;
+      passes = Passes-part (planes_bits after (c.args.prec - (added.result.done + added.result.held)) 4 some.above behind) before.passes bits ok.taken;
+      put = added.ensures.gathered;
+      planes =
+          before.planes
+          ∙ ap (λ (ps : List (List Bool)). front ++ ps) planes
+          ∙ sym (append_assoc front (low_planes some.count (lanes_in 4 some.lanes)) below)
+          ∙ ap (λ (ps : List (List Bool)). ps ++ below) (sym added.ensures.planes);
+      within = omega (arith, added.ensures.sum, ok.most, c.loop-digits-test.true);
+      few = added.ensures.held;
+      high = ok.within;
+    }
+
+-- ---- no bit or no plane is left
+
+no_bit_left : (c : goal.Else-ahead-gt0) → (planes_bits c.loop-digits.ahead.left (c.args.prec - (c.loop-digits.digits.done + c.loop-digits.digits.held)) 4 c.loop-digits.above (rest c.loop-digits.reader) ≡ 0)
+    × (planes_ahead c.loop-digits.ahead.left (c.args.prec - (c.loop-digits.digits.done + c.loop-digits.digits.held)) 4 c.loop-digits.above (rest c.loop-digits.reader)
+    ≡ replicate (c.args.prec - (c.loop-digits.digits.done + c.loop-digits.digits.held)) (replicate 4 false))
+no_bit_left c =
+    planes_over c.loop-digits.ahead.left (c.args.prec - (c.loop-digits.digits.done + c.loop-digits.digits.held)) 4 c.loop-digits.above (rest c.loop-digits.reader) (omega arith) c.loop-digits.invariant.high (inl (omega arith))
+
+pub returns-else-ahead-gt0-clause-bits : goal.returns-else-ahead-gt0-clause-bits
+returns-else-ahead-gt0-clause-bits c = Passes-end c.loop-digits.invariant.passes (no_bit_left c).0
+
+pub returns-else-ahead-gt0-clause-digits : goal.returns-else-ahead-gt0-clause-digits
+returns-else-ahead-gt0-clause-digits c =
+    let digits = c.loop-digits.digits in
+    c.loop-digits.invariant.planes ∙ ap (λ (ps : List (List Bool)). gathered digits.words digits.done digits.lanes digits.held ++ ps) (no_bit_left c).1
+
+no_plane_left : (c : goal.After-loop-digits) → (planes_bits c.loop-digits.ahead.left (c.args.prec - (c.loop-digits.digits.done + c.loop-digits.digits.held)) 4 c.loop-digits.above (rest c.loop-digits.reader) ≡ 0)
+    × (planes_ahead c.loop-digits.ahead.left (c.args.prec - (c.loop-digits.digits.done + c.loop-digits.digits.held)) 4 c.loop-digits.above (rest c.loop-digits.reader)
+    ≡ replicate (c.args.prec - (c.loop-digits.digits.done + c.loop-digits.digits.held)) (replicate 4 false))
+no_plane_left c =
+    planes_over c.loop-digits.ahead.left (c.args.prec - (c.loop-digits.digits.done + c.loop-digits.digits.held)) 4 c.loop-digits.above (rest c.loop-digits.reader) (omega arith) c.loop-digits.invariant.high (inr (omega arith))
+
+pub returns-after-loop-digits-clause-bits : goal.returns-after-loop-digits-clause-bits
+returns-after-loop-digits-clause-bits c = Passes-end c.loop-digits.invariant.passes (no_plane_left c).0
+
+pub returns-after-loop-digits-clause-digits : goal.returns-after-loop-digits-clause-digits
+returns-after-loop-digits-clause-digits c =
+    let digits = c.loop-digits.digits in
+    c.loop-digits.invariant.planes ∙ ap (λ (ps : List (List Bool)). gathered digits.words digits.done digits.lanes digits.held ++ ps) (no_plane_left c).1

@@ -1,0 +1,33 @@
+-- Digits of four coefficients in words, and in four lanes of one word.
+use Rattle.std.specs.Prelude.{ℕ, suc, zero, ◌≡◌, ◌+◌, ◌*◌, ◌/◌, ◌%◌, ◌^◌, ◌<◌, Bool, List, [], ◌∷◌, ◌++◌, length, map}
+use Rattle.zf_spec.specs.Numbers.{is_odd}
+
+-- the planes of the c lowest digits of each word, the greatest first
+unfoldable pub low_planes : ℕ → List ℕ → List (List Bool)
+low_planes zero words = []
+low_planes (suc c) words = map (λ u. is_odd (u / 2 ^ c)) words ∷ low_planes c words
+
+-- k lanes of 16 bits, the lowest first
+unfoldable pub lanes_in : ℕ → ℕ → List ℕ
+lanes_in zero v = []
+lanes_in (suc k) v = v % 65536 ∷ lanes_in k (v / 65536)
+
+-- each word has no digit from the c-th on
+unfoldable pub AreBelow : ℕ → List ℕ → Type 0
+AreBelow c [] = Unit {0}
+AreBelow c (u ∷ words) = (u < 2 ^ c) × AreBelow c words
+
+-- words with c more digits below
+unfoldable pub joined : ℕ → List ℕ → List ℕ → List ℕ
+joined c [] more = []
+joined c (u ∷ words) [] = []
+joined c (u ∷ words) (v ∷ more) = (u * 2 ^ c + v) ∷ joined c words more
+
+-- the first planes have their digits in words, a word for each coefficient, and those behind them in the lanes of one
+pub record IsGathered (words : List ℕ) (done lanes held : ℕ) : Type 0 where
+  pub four : length words ≡ 4
+  pub front : AreBelow done words
+  pub back : AreBelow held (lanes_in 4 lanes)
+
+unfoldable pub gathered : List ℕ → ℕ → ℕ → ℕ → List (List Bool)
+gathered words done lanes held = low_planes done words ++ low_planes held (lanes_in 4 lanes)
