@@ -1,5 +1,5 @@
 -- Digits of coefficients, and the planes that they have.
-use Rattle.std.proofs.Common.{◌≡◌, sym, ap, ◌∙◌, ℕ, ◌<◌, ◌≤◌, ◌^◌, ◌+◌, ◌*◌, ℤ, Bool, List, [], map, length, take, get_or, All, ext_get_or, arith}
+use Rattle.std.proofs.Common.{◌≡◌, sym, ap, ◌∙◌, ℕ, ◌<◌, ◌≤◌, ◌^◌, ◌+◌, ◌*◌, ℤ, List, [], map, length, take, get_or, All, ext_get_or, arith}
 use Rattle.std.proofs.lemmas.List.{length-map, get_or-map, length-take-le}
 use Rattle.std.proofs.lemmas.List.Elements.{All-take}
 use Rattle.std.specs.Int.{Width}

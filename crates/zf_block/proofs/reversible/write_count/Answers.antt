@@ -1,4 +1,4 @@
-use Rattle.std.proofs.Common.{◌≡◌, ap, ◌∙◌, ◌-◌, arith}
+use Rattle.std.proofs.Common.{◌≡◌, ap, ◌∙◌, arith}
 use Rattle.zf_spec.specs.Numbers.{field}
 use Rattle.zf_spec.specs.Codes.{count_bits}
 use Rattle.zf_spec.specs.Planes.{needed_planes, planes_of}
