@@ -1,6 +1,7 @@
 -- Lemmas on the codes of a block.
 --     Sizes       the sizes of blocks
 --     Widths      the widths of the two types
+--     Digits      digits of coefficients, and the planes that they have
 --     Kept        planes that a budget keeps whole, and planes that are missing below
 --     Zeros       zero bits that fill a code
 --     AfterReserve   room that was asked for before
@@ -10,6 +11,7 @@
 --     ReadBack    what is read back from the codes of a block
 pub mod Sizes
 pub mod Widths
+pub mod Digits
 pub mod Kept
 pub mod Zeros
 pub mod AfterReserve

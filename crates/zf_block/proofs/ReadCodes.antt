@@ -110,28 +110,34 @@ module _ (prec size : ℕ) (s : List Bool) (small : size ≤ 256) (few : prec �
 
 -- ---- a reversible code that is read in parts: the count of planes, and the code behind it
 
-module _ (w : Width) (size n v : ℕ) (old middle : Reader) (width : n ≡ count_bits w) (value : v ≡ number (take n (rest old))) (reads : Reads old middle (field n v)) where
+module _ (w : Width) (size p : ℕ) (old middle : Reader) (value : p ≡ number (take (count_bits w) (rest old)) + 1) (reads : Reads old middle (field (count_bits w) (p - 1))) where
+  abbrev count : List Bool
+  count = field (count_bits w) (p - 1)
+
+  long : length count ≡ count_bits w
+  long = length-field (count_bits w) (p - 1)
+
   -- its planes are those of the bits behind the count
-  pub planes-behind_count : planes_in (v + 1) size (rest middle) ≡ rev_planes w size (rest old)
+  pub planes-behind_count : planes_in p size (rest middle) ≡ rev_planes w size (rest old)
   unfolding rev_planes
   planes-behind_count =
-      ap (planes_in (v + 1) size) (rest-Reads n (field n v) (length-field n v) reads ∙ ap (λ k. drop k (rest old)) width)
-      ∙ ap (λ k. planes_in (k + 1) size (drop (count_bits w) (rest old))) (value ∙ ap (λ k. number (take k (rest old))) width)
+      ap (planes_in p size) (rest-Reads (count_bits w) count long reads)
+      ∙ ap (λ k. planes_in k size (drop (count_bits w) (rest old))) value
 
-  pub len-behind_count : n + length (code (planes_in (v + 1) size (rest middle))) ≡ rev_len w size (rest old)
+  pub len-behind_count : count_bits w + length (code (planes_in p size (rest middle))) ≡ rev_len w size (rest old)
   unfolding rev_len
-  len-behind_count = omega (arith, ap (λ ps. length (code ps)) planes-behind_count, width)
+  len-behind_count = omega (arith, ap (λ ps. length (code ps)) planes-behind_count)
 
-  pub length-behind_count : n + length (rest middle) ≡ length (rest old)
-  length-behind_count = omega (arith, ap length reads.next, length-append (field n v) (rest middle), length-field n v)
+  pub length-behind_count : count_bits w + length (rest middle) ≡ length (rest old)
+  length-behind_count = omega (arith, ap length reads.next, length-append count (rest middle), long)
 
   -- the count and the code were passed
-  pub Reads-behind_count : (new : Reader) → Reads middle new (take (length (code (planes_in (v + 1) size (rest middle)))) (rest middle)) → Reads old new (take (rev_len w size (rest old)) (rest old))
+  pub Reads-behind_count : (new : Reader) → Reads middle new (take (length (code (planes_in p size (rest middle)))) (rest middle)) → Reads old new (take (rev_len w size (rest old)) (rest old))
   Reads-behind_count new passed =
-      let k = length (code (planes_in (v + 1) size (rest middle))) in
-      let count : length (field n v) + k ≡ rev_len w size (rest old) = omega (arith, length-field n v, len-behind_count) in
+      let k = length (code (planes_in p size (rest middle))) in
+      let all : length count + k ≡ rev_len w size (rest old) = omega (arith, long, len-behind_count) in
       let Passed : ℕ → Type 0 = λ j. Reads old new (take j (rest old)) in
-      subst Passed count (Reads-part (field n v) k reads passed)
+      subst Passed all (Reads-part count k reads passed)
 
 -- the code is no shorter than its count of planes
 pub count_bits-le : (w : Width) (size : ℕ) (s : List Bool) → count_bits w ≤ rev_len w size s

@@ -1,6 +1,6 @@
--- Zero bits that fill a code.
-use Rattle.std.proofs.Common.{◌≡◌, refl, ap, ◌∙◌, ℕ, zero, suc, ◌+◌, ◌-◌, ◌≤◌, Bool, false, List, [], ◌∷◌, ◌++◌, length, take, replicate, arith}
-use Rattle.std.proofs.lemmas.List.{replicate-append-replicate}
+-- Zero bits that fill a code, and planes of zeros at the top.
+use Rattle.std.proofs.Common.{◌≡◌, refl, sym, ap, ◌∙◌, ℕ, zero, suc, ◌+◌, ◌-◌, ◌≤◌, Bool, false, List, [], ◌∷◌, ◌++◌, length, take, replicate, arith}
+use Rattle.std.proofs.lemmas.List.{replicate-append-replicate, take-take, take-replicate}
 use Rattle.zf_spec.specs.Numbers.{field}
 use Rattle.zf_spec.specs.ReadPlanes.{first_bits}
 use Rattle.zf_spec.proofs.Fields.{field-zero}
@@ -36,6 +36,10 @@ pub WritesZeros-end : {old now new : Writer} {count left : ℕ} → WritesZeros 
 WritesZeros-end {old} {now} {new} {count} {left} writes more =
     let sum : count - left + left ≡ count = omega (arith, writes.within) in
     Appends-same (zeros_more (count - left) left writes.bits more) (ap (λ n. replicate n false) sum)
+
+-- fewer than those that are known to be alike are alike
+pub alike_fewer : {A : Type 0} (m n : ℕ) (x : A) (xs : List A) → m ≤ n → take n xs ≡ replicate n x → take m xs ≡ replicate m x
+alike_fewer m n x xs less alike = sym (take-take m n xs less) ∙ ap (take m) alike ∙ take-replicate m n x less
 
 -- the first bits of a list that is continued with zeros
 pub first_bits-take : (n : ℕ) (s : List Bool) → first_bits n s ≡ take n s ++ replicate (n - length s) false

@@ -68,4 +68,18 @@ pub(crate) trait BlockCode<T: Lane> {
         ensures enough { OnSome result (len_at self.now size (rest reader.old) ≤ length (rest reader.old)) }
         ensures reads { OnSome result (Reads reader.old reader.new (take (len_at self.now size (rest reader.old)) (rest reader.old))) }
         ensures planes { OnSome result (AreAbove size (planes_at self.now size (rest reader.old)) (planes_held size (map P.words planes.new))) };
+
+    /// Appends the code of the planes of four coefficients, straight from their digits.
+    fn write_four(&self, digits: &[u64; 4], out: &mut BitWriter)
+        requires fits { longest self.now 4 ≤ out.old.room }
+        ensures { Appends out.old out.new (code_of self.now (planes_of T.WIDTH (digits_in T.WIDTH digits.now))) };
+
+    /// Reads the code of the planes of four coefficients straight into their digits, or answers `None` where the bits end before it does. The digits
+    /// below the planes that it has are zero.
+    fn read_four(&self, reader: &mut BitReader<'_>, digits: &mut [u64; 4]) -> Option<()>
+        ensures short { IfNone result (length (rest reader.old) < len_at self.now 4 (rest reader.old)) }
+        ensures unread { IfNone result (reader.new ≡ reader.old) }
+        ensures enough { OnSome result (len_at self.now 4 (rest reader.old) ≤ length (rest reader.old)) }
+        ensures reads { OnSome result (Reads reader.old reader.new (take (len_at self.now 4 (rest reader.old)) (rest reader.old))) }
+        ensures planes { OnSome result (AreAbove 4 (planes_at self.now 4 (rest reader.old)) (planes_of T.WIDTH (digits_in T.WIDTH digits.new))) };
 }

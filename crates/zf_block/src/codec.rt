@@ -12,7 +12,7 @@ ghost use Rattle.zf_bits.specs.Reader.{rest, Reads};
 
 use crate::Scratch;
 use crate::block_code::BlockCode;
-use crate::coefficients::{copy_padded, from_planes, to_planes};
+use crate::coefficients::{copy_padded, from_digits, from_planes, to_digits, to_planes};
 use zf_base::{Extent, Lane};
 use zf_bits::{BitReader, BitWriter, Plane};
 
@@ -35,10 +35,10 @@ pub(crate) fn encode<C: BlockCode<T>, T: Lane>(
         (C.code_of code.now (codes.planes T.width d (C.forth d (pad (used_axes d e.now.size) (map T.value block.now))))) }
     ensures scratch { s.new ≡ d }
 {
-    // Planes of up to 64 coefficients lie in one word each. Work room of a known size is faster where it is small.
+    // A row needs no planes. Planes of up to 64 coefficients lie in one word each. Work room of a known size is faster where it is small.
     match d {
-        1 => write_small::<C, T, 4>(code, d, e, block, s, out),
-        2 => write_small::<C, T, 16>(code, d, e, block, s, out),
+        1 => write_row(code, d, e, block, out),
+        2 => write_square(code, d, e, block, s, out),
         3 => write_block(
             code,
             d,
@@ -62,11 +62,36 @@ pub(crate) fn encode<C: BlockCode<T>, T: Lane>(
     }
 }
 
-/// Appends the code of a block of `N` values by way of values and digits of its own.
+/// Appends the code of a block of one dimension, straight from the digits of its coefficients.
+#[inline(always)]
+fn write_row<C: BlockCode<T>, T: Lane>(
+    code: &C,
+    d: u8,
+    e: &Extent,
+    block: &[T],
+    out: &mut BitWriter,
+)
+    requires dimension { IsDimension d }
+    requires size { 4 ≡ 4 ^ d }
+    requires extent { IsExtent d e.now }
+    requires block { length block.now ≡ 4 ^ d }
+    requires fits { C.longest code.now (4 ^ d) ≤ out.old.room }
+    ensures { Appends out.old out.new
+        (C.code_of code.now (codes.planes T.width d (C.forth d (pad (used_axes d e.now.size) (map T.value block.now))))) }
+{
+    let mut values = [T::zero(); 4];
+    let mut digits = [0; 4];
+    copy_padded(d, e, block, &mut values);
+    C::forward(d, &mut values);
+    to_digits(d, &values, &mut digits);
+    code.write_four(&digits, out);
+}
+
+/// Appends the code of a block of two dimensions by way of values and digits of its own.
 ///
 /// They stand here, so that no block clears those of another size.
 #[inline(always)]
-fn write_small<C: BlockCode<T>, T: Lane, const N: usize>(
+fn write_square<C: BlockCode<T>, T: Lane>(
     code: &C,
     d: u8,
     e: &Extent,
@@ -75,8 +100,7 @@ fn write_small<C: BlockCode<T>, T: Lane, const N: usize>(
     out: &mut BitWriter,
 )
     requires dimension { IsDimension d }
-    requires size { N ≡ 4 ^ d }
-    requires words { N ≤ 64 }
+    requires size { 16 ≡ 4 ^ d }
     requires extent { IsExtent d e.now }
     requires block { length block.now ≡ 4 ^ d }
     requires scratch { s.old ≡ d }
@@ -90,8 +114,8 @@ fn write_small<C: BlockCode<T>, T: Lane, const N: usize>(
         d,
         e,
         block,
-        &mut [T::zero(); N],
-        &mut [0; N],
+        &mut [T::zero(); 16],
+        &mut [0; 16],
         &mut s.planes,
         out,
     );
@@ -144,11 +168,36 @@ pub(crate) fn decode<C: BlockCode<T>, T: Lane>(
         ≡ C.back d (coefficients_of T.width d (C.planes_at code.now (4 ^ d) (rest reader.old)))) }
 {
     match d {
-        1 => read_narrow(code, d, reader, block, &mut [0; 4]),
+        1 => read_row(code, d, reader, block),
         2 => read_narrow(code, d, reader, block, &mut [0; 16]),
         3 => read_narrow(code, d, reader, block, &mut [0; 64]),
         _ => read_wide(code, d, reader, block, &mut [0; 256]),
     }
+}
+
+/// Reads the code of a block of one dimension, straight into the digits of its coefficients.
+#[inline(always)]
+fn read_row<C: BlockCode<T>, T: Lane>(
+    code: &C,
+    d: u8,
+    reader: &mut BitReader<'_>,
+    block: &mut [T],
+) -> Option<()>
+    requires dimension { IsDimension d }
+    requires size { 4 ≡ 4 ^ d }
+    requires block { length block.old ≡ 4 ^ d }
+    ensures short { IfNone result (length (rest reader.old) < C.len_at code.now (4 ^ d) (rest reader.old)) }
+    ensures unread { IfNone result (reader.new ≡ reader.old) }
+    ensures enough { OnSome result (C.len_at code.now (4 ^ d) (rest reader.old) ≤ length (rest reader.old)) }
+    ensures reads { OnSome result (Reads reader.old reader.new (take (C.len_at code.now (4 ^ d) (rest reader.old)) (rest reader.old))) }
+    ensures block { OnSome result (map T.value block.new
+        ≡ C.back d (coefficients_of T.width d (C.planes_at code.now (4 ^ d) (rest reader.old)))) }
+{
+    let mut digits = [0; 4];
+    code.read_four(reader, &mut digits)?;
+    from_digits(d, &digits, block);
+    C::inverse(d, block);
+    Some(())
 }
 
 /// Reads the code of a block of up to 64 coefficients by way of these digits.

@@ -1,4 +1,4 @@
-//! The padded values of a block, and the bit planes of its coefficients.
+//! The padded values of a block, and the digits and bit planes of its coefficients.
 
 ghost use Rattle.std.specs.Prelude.{◌≡◌, ◌≤◌, ◌*◌, ◌^◌, map, length};
 ghost use Rattle.zf_spec.specs.Grid.{IsDimension};
@@ -46,6 +46,28 @@ pub(crate) fn to_planes<T: Lane, P: Plane>(
 {
     zf_coef::ranked(d, coefficients, digits);
     zf_coef::planes_of_digits(digits, planes);
+}
+
+/// Makes the digits of coefficients, which are their planes too.
+#[inline(always)]
+pub(crate) fn to_digits<T: Lane>(d: u8, coefficients: &[T], digits: &mut [u64])
+    requires dimension { IsDimension d }
+    requires coefficients { length coefficients.now ≡ 4 ^ d }
+    requires digits { length digits.old ≡ 4 ^ d }
+    ensures { planes_of T.WIDTH (digits_in T.WIDTH digits.new) ≡ codes.planes T.width d (map T.value coefficients.now) }
+{
+    zf_coef::ranked(d, coefficients, digits);
+}
+
+/// Makes the coefficients that have these digits.
+#[inline(always)]
+pub(crate) fn from_digits<T: Lane>(d: u8, digits: &[u64], coefficients: &mut [T])
+    requires dimension { IsDimension d }
+    requires digits { length digits.now ≡ 4 ^ d }
+    requires coefficients { length coefficients.old ≡ 4 ^ d }
+    ensures { map T.value coefficients.new ≡ coefficients_of T.width d (planes_of T.WIDTH (digits_in T.WIDTH digits.now)) }
+{
+    zf_coef::unranked(d, digits, coefficients);
 }
 
 /// Makes the coefficients of which these are the planes, by way of their digits.

@@ -13,7 +13,7 @@ ghost use Rattle.zf_block.specs.ReadBlocks.{ReadsPrec, LacksPrec, prec_planes, p
 use crate::Scratch;
 use crate::block_code::BlockCode;
 use crate::codec::{decode, encode};
-use crate::uncut::{read_uncut, write_uncut};
+use crate::uncut::{read_uncut, read_uncut_four, write_uncut, write_uncut_four, zeros_above};
 use std::alloc::AllocError;
 use zf_base::{Extent, Lane};
 use zf_bits::{BitReader, BitWriter, Plane};
@@ -93,8 +93,11 @@ impl<T: Lane> BlockCode<T> for Precision {
         zf_lift::inverse(d, block);
     }
 
-    fn write<P: Plane>(&self, size: usize, _digits: &[u64], planes: &[P], out: &mut BitWriter) {
-        write_uncut(self.prec.min(T::WIDTH), size, planes, out);
+    fn write<P: Plane>(&self, size: usize, digits: &[u64], planes: &[P], out: &mut BitWriter) {
+        let width = T::WIDTH;
+        let prec = self.prec.min(width);
+        let zeros = zeros_above(prec, width, digits);
+        write_uncut(zeros, prec, size, planes, out);
     }
 
     fn read<P: Plane>(
@@ -104,5 +107,17 @@ impl<T: Lane> BlockCode<T> for Precision {
         planes: &mut [P],
     ) -> Option<()> {
         read_uncut(self.prec.min(T::WIDTH), size, reader, planes)
+    }
+
+    fn write_four(&self, digits: &[u64; 4], out: &mut BitWriter) {
+        let width = T::WIDTH;
+        let prec = self.prec.min(width);
+        let zeros = zeros_above(prec, width, digits);
+        write_uncut_four(zeros, prec, width, digits, out);
+    }
+
+    fn read_four(&self, reader: &mut BitReader<'_>, digits: &mut [u64; 4]) -> Option<()> {
+        let width = T::WIDTH;
+        read_uncut_four(self.prec.min(width), width, reader, digits)
     }
 }

@@ -106,6 +106,25 @@ impl<T: Lane> BlockCode<T> for Rate {
         reader.skip(bits - used);
         Some(())
     }
+
+    fn write_four(&self, digits: &[u64; 4], out: &mut BitWriter) {
+        let bits = u64::from(self.bits);
+        let width = T::WIDTH;
+        let zeros = zf_coef::zero_planes(digits, width);
+        let used = zf_planes::write_four(zeros, bits, width, width, digits, out);
+        write_zeros(bits - used, out);
+    }
+
+    fn read_four(&self, reader: &mut BitReader<'_>, digits: &mut [u64; 4]) -> Option<()> {
+        let bits = u64::from(self.bits);
+        if reader.left() < bits {
+            return None;
+        }
+        let width = T::WIDTH;
+        let used = zf_planes::read_four(bits, width, width, reader, digits)?;
+        reader.skip(bits - used);
+        Some(())
+    }
 }
 
 /// Appends zero bits, a word at a time.

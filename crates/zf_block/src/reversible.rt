@@ -1,18 +1,22 @@
 //! The reversible code of a block: its values come back exactly.
 
-ghost use Rattle.std.specs.Prelude.{◌≡◌, ◌≤◌, ◌<◌, ◌+◌, ◌*◌, ◌^◌, map, length, OnOk, OnErr, IfNone, OnSome};
+ghost use Rattle.std.specs.Prelude.{◌≡◌, ◌≤◌, ◌<◌, ◌+◌, ◌-◌, ◌*◌, ◌^◌, max, map, length, take, OnOk, OnErr, IfNone, IfSome, OnSome};
 ghost use Rattle.zf_spec.specs.Grid.{IsDimension};
+ghost use Rattle.zf_spec.specs.Numbers.{field, number};
+ghost use Rattle.zf_spec.specs.Planes.{planes_of, needed_planes};
+ghost use Rattle.zf_coef.specs.HeldDigits.{digits_in};
 ghost use Rattle.zf_spec.specs.Codes.{count_bits, rev_of_planes, rev};
 ghost use Rattle.zf_spec.specs.Lorenzo.{lorenzo, unlorenzo};
 ghost use Rattle.zf_base.specs.Positions.{used_axes, IsExtent};
 ghost use Rattle.zf_bits.specs.Writer.{Appends};
+ghost use Rattle.zf_bits.specs.Reader.{rest, Reads};
 ghost use Rattle.zf_block.specs.Room.{longest_rev};
 ghost use Rattle.zf_block.specs.ReadBlocks.{ReadsRev, LacksRev, rev_planes, rev_len};
 
 use crate::Scratch;
 use crate::block_code::BlockCode;
 use crate::codec::{decode, encode};
-use crate::uncut::{read_uncut, write_uncut};
+use crate::uncut::{read_uncut, read_uncut_four, write_uncut, write_uncut_four, zeros_above};
 use std::alloc::AllocError;
 use zf_base::{Extent, Lane};
 use zf_bits::{BitReader, BitWriter, Plane};
@@ -85,9 +89,9 @@ impl<T: Lane> BlockCode<T> for Reversible {
     }
 
     fn write<P: Plane>(&self, size: usize, digits: &[u64], planes: &[P], out: &mut BitWriter) {
-        let prec = zf_coef::needed_planes(digits, T::WIDTH).max(1);
-        out.write_reserved(u64::from(prec - 1), count_bits::<T>());
-        write_uncut(prec, size, planes, out);
+        let prec = write_count::<T>(digits, out);
+        let zeros = zeros_above(prec, T::WIDTH, digits);
+        write_uncut(zeros, prec, size, planes, out);
     }
 
     fn read<P: Plane>(
@@ -99,7 +103,7 @@ impl<T: Lane> BlockCode<T> for Reversible {
         let start = reader.at();
         // Known by this call: the start is within the bits, so that the reader can go back.
         let _left = reader.left();
-        let prec = reader.read(count_bits::<T>())? as u32 + 1;
+        let prec = read_count::<T>(reader)?;
         match read_uncut(prec, size, reader, planes) {
             Some(()) => Some(()),
             None => {
@@ -108,6 +112,54 @@ impl<T: Lane> BlockCode<T> for Reversible {
             }
         }
     }
+
+    fn write_four(&self, digits: &[u64; 4], out: &mut BitWriter) {
+        let width = T::WIDTH;
+        let prec = write_count::<T>(digits, out);
+        let zeros = zeros_above(prec, width, digits);
+        write_uncut_four(zeros, prec, width, digits, out);
+    }
+
+    fn read_four(&self, reader: &mut BitReader<'_>, digits: &mut [u64; 4]) -> Option<()> {
+        let start = reader.at();
+        // Known by this call: the start is within the bits, so that the reader can go back.
+        let _left = reader.left();
+        let prec = read_count::<T>(reader)?;
+        match read_uncut_four(prec, T::WIDTH, reader, digits) {
+            Some(()) => Some(()),
+            None => {
+                reader.seek(start);
+                None
+            }
+        }
+    }
+}
+
+/// Appends the count of the planes that are needed, at least one, and answers it.
+#[inline(always)]
+fn write_count<T: Lane>(digits: &[u64], out: &mut BitWriter) -> u32
+    requires fits { 6 ≤ out.old.room }
+    ensures bits { Appends out.old out.new (field (count_bits T.width) (result - 1)) }
+    ensures room { out.old.room ≤ out.new.room + 6 }
+    ensures value { result ≡ max 1 (needed_planes (planes_of T.WIDTH (digits_in T.WIDTH digits.now))) }
+    ensures within { result ≤ T.WIDTH }
+{
+    let prec = zf_coef::needed_planes(digits, T::WIDTH).max(1);
+    out.write_reserved(u64::from(prec - 1), count_bits::<T>());
+    prec
+}
+
+/// Reads the count of planes, or answers `None` where the bits end before it does.
+#[inline(always)]
+fn read_count<T: Lane>(reader: &mut BitReader<'_>) -> Option<u32>
+    ensures short { IfNone result (length (rest reader.old) < count_bits T.width) }
+    ensures unread { IfNone result (reader.new ≡ reader.old) }
+    ensures value { IfSome result (λ prec. prec ≡ number (take (count_bits T.width) (rest reader.old)) + 1) }
+    ensures within { IfSome result (λ prec. prec ≤ T.WIDTH) }
+    ensures reads { IfSome result (λ prec. Reads reader.old reader.new (field (count_bits T.width) (prec - 1))) }
+{
+    let count = reader.read(count_bits::<T>())?;
+    Some(count as u32 + 1)
 }
 
 /// How many bits hold the count of planes.

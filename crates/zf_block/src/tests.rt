@@ -208,6 +208,233 @@ fn rows_of_the_format(rt: HostRuntime) -> Result<(), Fail> {
     Ok(())
 }
 
+/// Whole rows of four values: the block, the code, its length and its digest, and what the block comes back as.
+type FourRow<T> = ([T; 4], Code, u64, u64, [T; 4]);
+
+/// Values that differ little: the first coefficient alone has ones in many planes.
+///
+/// Bits 36 to 39 of the code at a rate are those of plane 12: the digit that is known to come, a group bit, and a run.
+const SMOOTH: [i32; 4] = [268435456, 268437999, 268430001, 268435400];
+
+const FOURS: [FourRow<i32>; 11] = [
+    (
+        [1073741824, -1073741824, 536870912, 0],
+        Code::Reversible,
+        18,
+        206242,
+        [1073741824, -1073741824, 536870912, 0],
+    ),
+    (SMOOTH, Code::Reversible, 101, 14178882699262749366, SMOOTH),
+    (
+        SMOOTH,
+        Code::Rate(37, 13),
+        37,
+        24,
+        [268435456, 268435456, 268435456, 268435456],
+    ),
+    (
+        SMOOTH,
+        Code::Rate(38, 13),
+        38,
+        137438953496,
+        [268441600, 268437504, 268433408, 268429312],
+    ),
+    (
+        SMOOTH,
+        Code::Rate(39, 13),
+        39,
+        137438953496,
+        [268431360, 268439552, 268439552, 268431360],
+    ),
+    (
+        SMOOTH,
+        Code::Rate(40, 12),
+        40,
+        137438953496,
+        [268434432, 268440576, 268430336, 268436480],
+    ),
+    (
+        SMOOTH,
+        Code::Rate(47, 11),
+        47,
+        137576392425496,
+        [268436480, 268436480, 268430336, 268434432],
+    ),
+    (
+        SMOOTH,
+        Code::Rate(130, 0),
+        130,
+        15587799574177897871,
+        [268435457, 268437999, 268430001, 268435399],
+    ),
+    (SMOOTH, Code::Precision(1), 1, 0, [0, 0, 0, 0]),
+    (
+        SMOOTH,
+        Code::Precision(20),
+        40,
+        137438953496,
+        [268434432, 268440576, 268430336, 268436480],
+    ),
+    (
+        SMOOTH,
+        Code::Precision(21),
+        44,
+        14431090114584,
+        [268434944, 268433920, 268428800, 268435968],
+    ),
+];
+
+/// The same, wider: plane 31 has bits 63 to 68 of the code at a rate, over the end of a word.
+const WIDE_SMOOTH: [i64; 4] = [
+    -1152921504606846976,
+    -1152921504606000000,
+    -1152921504600000000,
+    -1152921500000000000,
+];
+
+const WIDE_FOURS: [FourRow<i64>; 12] = [
+    (
+        [
+            4611686018427387904,
+            -4611686018427387904,
+            2305843009213693952,
+            0,
+        ],
+        Code::Reversible,
+        19,
+        412482,
+        [
+            4611686018427387904,
+            -4611686018427387904,
+            2305843009213693952,
+            0,
+        ],
+    ),
+    ([0, 0, 0, 0], Code::Reversible, 7, 0, [0, 0, 0, 0]),
+    (
+        WIDE_SMOOTH,
+        Code::Reversible,
+        171,
+        15341465899098155738,
+        WIDE_SMOOTH,
+    ),
+    (
+        WIDE_SMOOTH,
+        Code::Rate(64, 32),
+        64,
+        44,
+        [
+            -1152921504606846976,
+            -1152921504606846976,
+            -1152921504606846976,
+            -1152921504606846976,
+        ],
+    ),
+    (
+        WIDE_SMOOTH,
+        Code::Rate(65, 32),
+        65,
+        75,
+        [
+            -1152921507828072448,
+            -1152921505680588800,
+            -1152921503533105152,
+            -1152921501385621504,
+        ],
+    ),
+    (
+        WIDE_SMOOTH,
+        Code::Rate(67, 32),
+        67,
+        261,
+        [
+            -1152921505680588800,
+            -1152921507828072448,
+            -1152921505680588800,
+            -1152921499238137856,
+        ],
+    ),
+    (
+        WIDE_SMOOTH,
+        Code::Rate(70, 31),
+        70,
+        1501,
+        [
+            -1152921504606846976,
+            -1152921506754330624,
+            -1152921504606846976,
+            -1152921498164396032,
+        ],
+    ),
+    (
+        WIDE_SMOOTH,
+        Code::Rate(130, 16),
+        130,
+        7439198764165655518,
+        [
+            -1152921504606896128,
+            -1152921504605945856,
+            -1152921504600014848,
+            -1152921500000010240,
+        ],
+    ),
+    (
+        WIDE_SMOOTH,
+        Code::Rate(300, 0),
+        300,
+        8891992746428449462,
+        WIDE_SMOOTH,
+    ),
+    (
+        WIDE_SMOOTH,
+        Code::Precision(3),
+        5,
+        12,
+        [
+            -2305843009213693952,
+            -2305843009213693952,
+            -2305843009213693952,
+            -2305843009213693952,
+        ],
+    ),
+    (
+        WIDE_SMOOTH,
+        Code::Precision(33),
+        69,
+        509,
+        [
+            -1152921505680588800,
+            -1152921507828072448,
+            -1152921505680588800,
+            -1152921499238137856,
+        ],
+    ),
+    (
+        WIDE_SMOOTH,
+        Code::Precision(64),
+        193,
+        8891992746428449462,
+        WIDE_SMOOTH,
+    ),
+];
+
+fn rows_are<T: Lane>(rt: &impl Abort, alloc: Global, rows: &[FourRow<T>]) -> Result<(), Fail> {
+    let shape = Shape::new(1, 4, 1, 1, 1).ok().ok_or("a shape")?;
+    assert!(rt; shape.dims() == 1);
+    for (values, code, len, digest, back) in rows.iter() {
+        let mut block: [T; 4] = *values;
+        let found = both_ways(rt, alloc, &shape, code, &mut block)?;
+        assert!(rt; found == (*len, *digest) && block == *back, "{len} bits");
+    }
+    Ok(())
+}
+
+#[test]
+fn rows_of_four(rt: HostRuntime) -> Result<(), Fail> {
+    rows_are::<i32>(&rt, rt.alloc(), &FOURS)?;
+    rows_are::<i64>(&rt, rt.alloc(), &WIDE_FOURS)
+}
+
 /// An array of one block, which is filled with values that follow no rule, and its codes: of each the length, the digest, and that of the block that
 /// comes back.
 struct Row {

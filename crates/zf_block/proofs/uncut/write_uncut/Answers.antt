@@ -20,4 +20,4 @@ returns g c =
     let digits = mul-le-mul_right prec small in
     -- a code is far shorter than the greatest budget
     let short : length (code (take prec (planes_held size all))) ≤ 18446744073709551615 = omega (arith, most, digits, c.requires.planes, c.requires.few) in
-    Appends-same c.write_planes.ensures.bits (take_all 18446744073709551615 (code (take prec (planes_held size all))) short)
+    Appends-same c.write_planes_below.ensures.bits (take_all 18446744073709551615 (code (take prec (planes_held size all))) short)

@@ -7,26 +7,26 @@ use Rattle.zf_block.proofs.reversible.ReversibleBlockCode.read.Goals as goal
 
 pub returns-in_err-prec-clause-short : goal.returns-in_err-prec-clause-short
 returns-in_err-prec-clause-short g c =
-    rw c.from_residual.ensures (omega (arith, c.in_err-prec.ensures.short, c.count_bits.ensures.value, count_bits-le g.T.Lane.width c.args.size (rest c.args.reader.now)))
+    rw c.from_residual.ensures (omega (arith, c.in_err-prec.ensures.short, count_bits-le g.T.Lane.width c.args.size (rest c.args.reader.now)))
 
 pub returns-in-Some-clause-enough : goal.returns-in-Some-clause-enough
 returns-in-Some-clause-enough g c =
-    let len = len-behind_count g.T.Lane.width c.args.size c.count_bits.result c.in_ok-prec.field-0 c.args.reader.now c.read.new.self c.count_bits.ensures.value c.in_ok-prec.ensures.value c.in_ok-prec.ensures.reads in
-    let all = length-behind_count g.T.Lane.width c.args.size c.count_bits.result c.in_ok-prec.field-0 c.args.reader.now c.read.new.self c.count_bits.ensures.value c.in_ok-prec.ensures.value c.in_ok-prec.ensures.reads in
+    let len = len-behind_count g.T.Lane.width c.args.size c.in_ok-prec.prec c.args.reader.now c.read_count.new.reader c.in_ok-prec.ensures.value c.in_ok-prec.ensures.reads in
+    let all = length-behind_count g.T.Lane.width c.args.size c.in_ok-prec.prec c.args.reader.now c.read_count.new.reader c.in_ok-prec.ensures.value c.in_ok-prec.ensures.reads in
     omega (arith, len, all, c.in-Some.ensures.enough)
 
 pub returns-in-Some-clause-reads : goal.returns-in-Some-clause-reads
 returns-in-Some-clause-reads g c =
-    Reads-behind_count g.T.Lane.width c.args.size c.count_bits.result c.in_ok-prec.field-0 c.args.reader.now c.read.new.self c.count_bits.ensures.value c.in_ok-prec.ensures.value c.in_ok-prec.ensures.reads c.read_uncut.new.reader c.in-Some.ensures.reads
+    Reads-behind_count g.T.Lane.width c.args.size c.in_ok-prec.prec c.args.reader.now c.read_count.new.reader c.in_ok-prec.ensures.value c.in_ok-prec.ensures.reads c.read_uncut.new.reader c.in-Some.ensures.reads
 
 pub returns-in-Some-clause-planes : goal.returns-in-Some-clause-planes
 returns-in-Some-clause-planes g c =
-    let same = planes-behind_count g.T.Lane.width c.args.size c.count_bits.result c.in_ok-prec.field-0 c.args.reader.now c.read.new.self c.count_bits.ensures.value c.in_ok-prec.ensures.value c.in_ok-prec.ensures.reads in
+    let same = planes-behind_count g.T.Lane.width c.args.size c.in_ok-prec.prec c.args.reader.now c.read_count.new.reader c.in_ok-prec.ensures.value c.in_ok-prec.ensures.reads in
     let P : List (List Bool) → Type 0 = λ ps. AreAbove c.args.size ps (planes_held c.args.size (map g.P.Plane.words c.read_uncut.new.planes)) in
     subst P same c.in-Some.ensures.planes
 
 pub returns-in-None-clause-short : goal.returns-in-None-clause-short
 returns-in-None-clause-short g c =
-    let len = len-behind_count g.T.Lane.width c.args.size c.count_bits.result c.in_ok-prec.field-0 c.args.reader.now c.read.new.self c.count_bits.ensures.value c.in_ok-prec.ensures.value c.in_ok-prec.ensures.reads in
-    let all = length-behind_count g.T.Lane.width c.args.size c.count_bits.result c.in_ok-prec.field-0 c.args.reader.now c.read.new.self c.count_bits.ensures.value c.in_ok-prec.ensures.value c.in_ok-prec.ensures.reads in
+    let len = len-behind_count g.T.Lane.width c.args.size c.in_ok-prec.prec c.args.reader.now c.read_count.new.reader c.in_ok-prec.ensures.value c.in_ok-prec.ensures.reads in
+    let all = length-behind_count g.T.Lane.width c.args.size c.in_ok-prec.prec c.args.reader.now c.read_count.new.reader c.in_ok-prec.ensures.value c.in_ok-prec.ensures.reads in
     omega (arith, len, all, c.in-None.ensures.short)
