@@ -497,6 +497,32 @@ fn read_sized<P: Plane>(
     Some(ahead.left)
 }
 
+/// The same by way of a reader of its own, whose place stays in a register.
+#[inline(always)]
+fn read_with_own_reader<P: Plane>(
+    budget: u64,
+    prec: u32,
+    size: usize,
+    reader: &mut BitReader<'_>,
+    planes: &mut [P],
+) -> Option<u64>
+    requires some { 0 < size }
+    requires size { size ≤ 256 }
+    requires words { size ≤ 64 * P.word_count }
+    requires planes { prec ≤ length planes.old }
+    requires blank { map P.words planes.old ≡ replicate (length planes.old) (replicate P.word_count 0) }
+    ensures short { IfNone result (Lacks reader.old reader.new (planes_bits budget prec size 0 (rest reader.old))) }
+    ensures bits { IfSome result (λ after. Takes reader.old reader.new budget after (planes_bits budget prec size 0 (rest reader.old))) }
+    ensures digits { OnSome result (planes_held size (map P.words planes.new)
+        ≡ planes_ahead budget prec size 0 (rest reader.old) ++ replicate (length planes.new - prec) (replicate size false)) }
+    ensures clear { OnSome result (All (IsClearFrom size) (map P.words planes.new)) }
+{
+    let mut place = reader.another();
+    let left = read_sized(budget, prec, size, &mut place, planes)?;
+    *reader = place;
+    Some(left)
+}
+
 /// The same, of which planes of each size that a word holds have a program of their own.
 fn read_top<P: Plane>(
     budget: u64,
@@ -516,16 +542,12 @@ fn read_top<P: Plane>(
         ≡ planes_ahead budget prec size 0 (rest reader.old) ++ replicate (length planes.new - prec) (replicate size false)) }
     ensures clear { OnSome result (All (IsClearFrom size) (map P.words planes.new)) }
 {
-    // The place of a reader of its own stays in a register.
-    let mut place = reader.another();
-    let left = match size {
-        4 => read_sized(budget, prec, size, &mut place, planes),
-        16 => read_sized(budget, prec, size, &mut place, planes),
-        64 => read_sized(budget, prec, size, &mut place, planes),
-        _ => read_sized(budget, prec, size, &mut place, planes),
-    }?;
-    *reader = place;
-    Some(left)
+    match size {
+        4 => read_with_own_reader(budget, prec, size, reader, planes),
+        16 => read_with_own_reader(budget, prec, size, reader, planes),
+        64 => read_with_own_reader(budget, prec, size, reader, planes),
+        _ => read_with_own_reader(budget, prec, size, reader, planes),
+    }
 }
 
 /// Reads the code of the top `prec` planes, of which `budget` bits were written, or all of it where it is shorter. The answer is the number of its bits.

@@ -481,8 +481,10 @@ fn read_one(n: usize, ahead: &mut Ahead, reader: &mut BitReader<'_>) -> Option<P
         });
     }
     let mut behind = *ahead;
-    let one = read_one_apart(n, &mut behind, reader)?;
+    let mut place = reader.another();
+    let one = read_one_apart(n, &mut behind, &mut place)?;
     *ahead = behind;
+    *reader = place;
     Some(one)
 }
 
@@ -660,13 +662,9 @@ fn read_gathered(budget: u64, prec: u32, reader: &mut BitReader<'_>) -> Option<R
     })
 }
 
-/// Reads the code of the top `prec` planes of four coefficients, of which `budget` bits were written, or all of it where it is shorter, into their digits.
-/// The answer is the number of its bits. `None` means that the bits end before the budget and the code do; then the reader stands where it stood, and the
-/// digits are anything.
-///
-/// Bit k of `digits[r]` is the digit of rank r in plane k, of `width` planes. Those below the ones read are zero.
-/// Embedded coding as in the zfp 1.0 documentation, chapter Algorithm.
-pub fn read_four(
+/// Reads the code of the top `prec` planes of four digits. `None` means that the bits end too early; then the reader stands where it stood.
+#[inline(always)]
+fn read_digits(
     budget: u64,
     prec: u32,
     width: u32,
@@ -700,4 +698,38 @@ pub fn read_four(
             None
         }
     }
+}
+
+/// Reads the code of the top `prec` planes of four coefficients, of which `budget` bits were written, or all of it where it is shorter, into their digits.
+/// The answer is the number of its bits. `None` means that the bits end before the budget and the code do; then the reader stands where it stood, and the
+/// digits are anything.
+///
+/// Bit k of `digits[r]` is the digit of rank r in plane k, of `width` planes. Those below the ones read are zero.
+/// Embedded coding as in the zfp 1.0 documentation, chapter Algorithm.
+pub fn read_four(
+    budget: u64,
+    prec: u32,
+    width: u32,
+    reader: &mut BitReader<'_>,
+    digits: &mut [u64; 4],
+) -> Option<u64>
+    requires width { width ≤ 64 }
+    requires planes { prec ≤ width }
+
+    ensures short { IsNone result ↔ (length (rest reader.old) < coded_bits budget prec 4 (rest reader.old)) }
+    ensures unread { IfNone result (reader.new ≡ reader.old) }
+
+    ensures count { IfSome result (λ count. count ≡ coded_bits budget prec 4 (rest reader.old)) }
+    ensures reads { IfSome result (λ count. Reads reader.old reader.new (take count (rest reader.old))) }
+
+    // The top planes are what the budget keeps; the others are zero.
+    ensures digits { OnSome result (planes_of width (map (field width) digits.new)
+        ≡ kept_planes budget (coded budget prec 4 (rest reader.old)) ++ replicate (width - prec) (replicate 4 false)) }
+    ensures below { OnSome result (All (λ u. u < 2 ^ width) digits.new) }
+{
+    // The place of a reader of its own stays in a register.
+    let mut place = reader.another();
+    let count = read_digits(budget, prec, width, &mut place, digits)?;
+    *reader = place;
+    Some(count)
 }

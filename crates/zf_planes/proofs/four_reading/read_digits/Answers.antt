@@ -6,7 +6,7 @@ use Rattle.zf_planes.specs.Decoding.{coded, coded_bits, planes_ahead, planes_bit
 use Rattle.zf_planes.specs.Lanes.{gathered}
 use Rattle.zf_planes.proofs.Lanes.{planes_of-words, each_below}
 use Rattle.zf_planes.proofs.Passing.{Takes-reads}
-use Rattle.zf_planes.proofs.four_reading.read_four.Goals as goal
+use Rattle.zf_planes.proofs.four_reading.read_digits.Goals as goal
 
 bits_are : (budget prec : ℕ) (s : List Bool) → planes_bits budget prec 4 0 s ≡ coded_bits budget prec 4 s
 unfolding planes_bits
