@@ -57,6 +57,12 @@ pair_of_string n (suc (suc k)) string next bits some is reached =
     let second = plane_of_string mid k (string / 16) next (plane_code mid (field 4 (string / 16 % 16))) refl reached in
     rw (left, below) (GoesOn-more bits first second is)
 
+-- the same of one plane
+pub next_of_string : (n k string next : ℕ) (bits : List Bool) → 0 < k → bits ≡ plane_code n (field 4 (string % 16)) → next ≡ max n (reach (field 4 (string % 16)))
+    → GoesOn n (fours k string) bits next (fours (k - 1) (string / 16))
+next_of_string n zero string next bits some is reached = absurd (omega arith)
+next_of_string n (suc k) string next bits some is reached = let left : suc k - 1 ≡ k = omega arith in rw left (plane_of_string n k string next bits is reached)
+
 -- no plane is left
 pub string_end : (planes above string : ℕ) → planes ≤ 0 → (code_from above (fours planes string) ≡ []) × (reach_of_all (fours planes string) ≡ 0)
 unfolding fours

@@ -349,7 +349,7 @@ fn entry_of_4(n: usize, digits: u64) -> u16
 
 /// What the table says of these digits of two planes.
 #[inline]
-fn entry_of_pair(n: usize, digits: u64) -> u32
+pub(crate) fn entry_of_pair(n: usize, digits: u64) -> u32
     requires in_plane { n ≤ 4 }
     requires digits { digits < 256 }
     ensures { result ≡ slice_index_or PAIRS (256 * n + digits) 0 }
@@ -463,7 +463,7 @@ pub(crate) fn code_of_4(n: usize, digits: u64) -> Part
 
 /// The code of a plane of four digits in which the ranks below `n` have had a one above, and of the plane below it.
 #[inline]
-pub(crate) fn code_of_pair(n: usize, first: u64, second: u64) -> Part
+fn code_of_pair(n: usize, first: u64, second: u64) -> Part
     requires in_plane { n ≤ 4 }
     requires first { first < 16 }
     requires second { second < 16 }

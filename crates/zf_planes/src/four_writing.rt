@@ -1,15 +1,15 @@
 //! Writing the code of planes of four digits from the digits themselves.
 
-ghost use Rattle.std.specs.Prelude.{◌≡◌, ◌+◌, ◌-◌, ◌*◌, ◌%◌, ◌^◌, ◌<◌, ◌≤◌, min, max, false, ◌++◌, length, map, take, replicate, slice_index_or};
+ghost use Rattle.std.specs.Prelude.{◌≡◌, ◌+◌, ◌-◌, ◌*◌, ◌/◌, ◌%◌, ◌^◌, ◌<◌, ◌≤◌, min, max, false, ◌++◌, length, map, take, replicate, slice_index_or};
 ghost use Rattle.zf_spec.specs.Numbers.{field};
-ghost use Rattle.zf_spec.specs.Planes.{planes_of, code, code_from, reach_of_all};
+ghost use Rattle.zf_spec.specs.Planes.{planes_of, plane_code, code, code_from, reach, reach_of_all};
 ghost use Rattle.zf_bits.specs.Writer.{Appends};
 ghost use Rattle.zf_planes.specs.Fours.{fours};
 ghost use Rattle.zf_planes.specs.Spread.{top_digit, top_planes, spread};
 
 use crate::doubling;
 use crate::doubling::write_part;
-use crate::four::{Part, code_of_4, code_of_pair, join};
+use crate::four::{Part, code_of_4, entry_of_pair, join};
 use zf_bits::BitWriter;
 
 /// Eight digits four bits apart, the greatest one lowest: entry `b` has bit `7 - k` of `b` in bit `4 * k`.
@@ -45,7 +45,7 @@ static SPREAD: [u32; 256] = [
 ];
 
 /// What the table says of these digits.
-#[inline]
+#[inline(always)]
 fn spread_entry(digits: u64) -> u32
     requires { digits < 256 }
     ensures { result ≡ slice_index_or SPREAD digits 0 }
@@ -54,7 +54,7 @@ fn spread_entry(digits: u64) -> u32
 }
 
 /// The top sixteen digits of a word four bits apart, the greatest one lowest.
-#[inline]
+#[inline(always)]
 fn spread_top(word: u64) -> u64
     ensures digits { result ≡ spread 16 (top_digit word) }
     ensures small { result ≤ 1229782938247303441 }
@@ -65,7 +65,7 @@ fn spread_top(word: u64) -> u64
 }
 
 /// The top sixteen planes of four words as one number, four bits each, the greatest plane lowest.
-#[inline]
+#[inline(always)]
 fn string_of(words: &[u64; 4]) -> u64
     ensures { fours 16 result ≡ top_planes 16 words.now }
 {
@@ -76,7 +76,7 @@ fn string_of(words: &[u64; 4]) -> u64
 }
 
 /// Four words without their top `count` digits.
-#[inline]
+#[inline(always)]
 fn below_top(count: u32, words: &[u64; 4]) -> [u64; 4]
     requires { count < 64 }
     ensures { result ≡ map (λ word. word * 2 ^ count % 2 ^ 64) words.now }
@@ -89,15 +89,31 @@ fn below_top(count: u32, words: &[u64; 4]) -> [u64; 4]
     ]
 }
 
-/// The code of the next planes of a string, as many as surely fit a word, and none that `left` bits don't reach. Once each rank has had a one, it stops: the
-/// planes that are left are their own code.
-#[inline]
-fn next_part(left: u64, above: usize, planes: &mut u32, string: &mut u64) -> Part
-    requires some_left { 0 < left }
-    requires some { 0 < planes.old }
-    requires few { planes.old ≤ 16 }
-    requires above { above < 4 }
-    ensures fewer { planes.new < planes.old }
+/// The code of the first two planes of a string, where the ranks below `n` have had a one above.
+#[inline(always)]
+fn code_of_two(n: usize, string: u64) -> Part
+    requires in_plane { n ≤ 4 }
+    ensures bits { field result.len result.bits
+        ≡ plane_code n (field 4 (string % 16)) ++ plane_code (max n (reach (field 4 (string % 16)))) (field 4 (string / 16 % 16)) }
+    ensures small { result.bits < 2 ^ result.len }
+    ensures len { result.len ≤ 14 }
+    ensures above { result.above ≡ max (max n (reach (field 4 (string % 16)))) (reach (field 4 (string / 16 % 16))) }
+    ensures within { result.above ≤ 4 }
+{
+    let entry = entry_of_pair(n, string % 256);
+    Part {
+        bits: u64::from(entry % 16384),
+        len: u64::from(entry / 16384 % 16),
+        above: (entry / 262144) as usize,
+    }
+}
+
+/// The code of the next pairs of planes of a string, as many as surely fit a word, and none that `left` bits don't reach. Once each rank has had a one, it
+/// stops: the planes that are left are their own code.
+#[inline(always)]
+fn next_pairs(left: u64, above: usize, planes: &mut u32, string: &mut u64) -> Part
+    requires above { above ≤ 4 }
+    ensures no_more { planes.new ≤ planes.old }
     ensures len { result.len ≤ 64 }
     ensures within { result.above ≤ 4 }
     ensures bits { code_from above (fours planes.old string.old) ≡ field result.len result.bits ++ code_from result.above (fours planes.new string.new) }
@@ -110,21 +126,50 @@ fn next_part(left: u64, above: usize, planes: &mut u32, string: &mut u64) -> Par
     };
     let mut k = *planes;
     let mut rest = *string;
-    while k > 1 && part.above < 4 && part.len <= 50 && part.len < left {
-        let pair = code_of_pair(part.above, rest % 16, rest / 16 % 16);
-        part = join(part, pair);
+    while part.above < 4 && k > 1 && part.len <= 50 && part.len < left {
+        part = join(part, code_of_two(part.above, rest));
         rest /= 256;
         k -= 2;
-    }
-    // The last plane may have no other beside it.
-    if k == 1 && part.len <= 57 && part.len < left {
-        part = join(part, code_of_4(part.above, rest % 16));
-        rest /= 16;
-        k = 0;
     }
     *planes = k;
     *string = rest;
     part
+}
+
+/// Appends the code of the planes of a string, as far as `left` bits reach: their digits, if each rank has had a one above, else plane by plane. The answer is
+/// the bits that are left; if there are any, `above` becomes how far the ones reach.
+#[inline(always)]
+fn write_rest(left: u64, above: &mut usize, planes: u32, string: u64, out: &mut BitWriter) -> u64
+    requires above { above.old ≤ 4 }
+    requires few { planes ≤ 16 }
+    requires fits { min left (length (code_from above.old (fours planes string))) ≤ out.old.room }
+    ensures bits { Appends out.old out.new (take left (code_from above.old (fours planes string))) }
+    ensures left { result ≡ left - length (code_from above.old (fours planes string)) }
+    ensures within { above.new ≤ 4 }
+    ensures reached { 0 < result → above.new ≡ max above.old (reach_of_all (fours planes string)) }
+{
+    if *above == 4 {
+        let digits = doubling::Part {
+            bits: string,
+            len: 4 * u64::from(planes),
+        };
+        return write_part(left, digits, out);
+    }
+    let mut left = left;
+    let mut planes = planes;
+    let mut string = string;
+    while planes > 0 && left > 0 {
+        let part = code_of_4(*above, string % 16);
+        *above = part.above;
+        let bits = doubling::Part {
+            bits: part.bits,
+            len: part.len,
+        };
+        left = write_part(left, bits, out);
+        string /= 16;
+        planes -= 1;
+    }
+    left
 }
 
 /// Appends the code of the planes of a string, as far as `left` bits reach, where the ranks below `above` have had a one above. The answer is the bits that
@@ -139,26 +184,19 @@ fn write_string(left: u64, above: &mut usize, planes: u32, string: u64, out: &mu
     ensures within { above.new ≤ 4 }
     ensures reached { 0 < result → above.new ≡ max above.old (reach_of_all (fours planes string)) }
 {
-    let mut left = left;
     let mut planes = planes;
     let mut string = string;
-    while planes > 0 && left > 0 {
-        if *above == 4 {
-            let digits = doubling::Part {
-                bits: string,
-                len: 4 * u64::from(planes),
-            };
-            return write_part(left, digits, out);
-        }
-        let part = next_part(left, *above, &mut planes, &mut string);
-        *above = part.above;
-        let bits = doubling::Part {
-            bits: part.bits,
-            len: part.len,
-        };
-        left = write_part(left, bits, out);
+    let part = next_pairs(left, *above, &mut planes, &mut string);
+    *above = part.above;
+    let bits = doubling::Part {
+        bits: part.bits,
+        len: part.len,
+    };
+    let left = write_part(left, bits, out);
+    if left == 0 {
+        return 0;
     }
-    left
+    write_rest(left, above, planes, string, out)
 }
 
 /// Appends the code of the top planes of four words, above which no rank has had a one, as far as `left` bits reach. The answer is the bits that are left.

@@ -1,72 +1,55 @@
-use Rattle.std.proofs.Common.{◌≡◌, ℕ, ◌-◌, ◌*◌, Bool, List, [], ◌++◌, length, sym, ap, ◌∙◌, arith, append-nil}
+use Rattle.std.proofs.Common.{◌≡◌, ℕ, ◌-◌, ◌≤◌, min, Bool, List, ◌++◌, take, [], length, sym, arith, append-nil}
 use Rattle.zf_spec.specs.Numbers.{field}
 use Rattle.zf_spec.specs.Planes.{code_from}
 use Rattle.zf_spec.proofs.Fields.{length-field}
-use Rattle.zf_bits.specs.Writer.{Writer}
+use Rattle.zf_bits.specs.Writer.{Writer, Appends}
 use Rattle.zf_planes.specs.Fours.{fours}
-use Rattle.zf_planes.proofs.Budgets.{Remains, Remains-same, Remains-fits, Remains-more, Remains-end}
-use Rattle.zf_planes.proofs.Strings.{whole_string, string_end, reach_of_string-le}
+use Rattle.zf_planes.proofs.Budgets.{Remains, Remains-start, Remains-same, Remains-fits, Remains-more, Remains-end}
 use Rattle.zf_planes.proofs.four_writing.write_string.Goals as goal
-
--- ---- all ranks have had a one
-
--- the planes that are left are their own code
-digits_left : {old now : Writer} {budget left : ℕ} {whole : List Bool} (above planes string len : ℕ) → above ≡ 4 → len ≡ 4 * planes → Remains old now budget left whole (code_from above (fours planes string))
-    → Remains old now budget left whole (field len string ++ [])
-digits_left above planes string len all count remains =
-    Remains-same remains (ap (λ n. code_from n (fours planes string)) all ∙ whole_string planes string ∙ ap (λ n. field n string) (sym count) ∙ sym (append-nil (field len string)))
-
-pub write_part-requires-clause-fits : goal.write_part-requires-clause-fits
-write_part-requires-clause-fits c =
-    let len = 4 * c.from.result in
-    let remains = digits_left c.loop-planes.above c.loop-planes.planes c.loop-planes.string len c.if-above-eq4.true (omega (arith, c.from.ensures)) c.loop-planes.invariant.remains in
-    omega (arith, Remains-fits (field len c.loop-planes.string) [] remains, length-field len c.loop-planes.string)
-
-pub returns-then-above-eq4-clause-bits : goal.returns-then-above-eq4-clause-bits
-returns-then-above-eq4-clause-bits c =
-    let len = 4 * c.from.result in
-    let remains = digits_left c.loop-planes.above c.loop-planes.planes c.loop-planes.string len c.if-above-eq4.true (omega (arith, c.from.ensures)) c.loop-planes.invariant.remains in
-    Remains-end (Remains-more (field len c.loop-planes.string) [] remains c.write_part.ensures.bits) (omega arith)
-
-pub returns-then-above-eq4-clause-left : goal.returns-then-above-eq4-clause-left
-returns-then-above-eq4-clause-left c =
-    let len = 4 * c.from.result in
-    let remains = digits_left c.loop-planes.above c.loop-planes.planes c.loop-planes.string len c.if-above-eq4.true (omega (arith, c.from.ensures)) c.loop-planes.invariant.remains in
-    omega (arith, (Remains-more (field len c.loop-planes.string) [] remains c.write_part.ensures.bits).spent, c.write_part.ensures.left, length-field len c.loop-planes.string)
-
-pub returns-then-above-eq4-clause-reached : goal.returns-then-above-eq4-clause-reached
-returns-then-above-eq4-clause-reached c = λ some. omega (arith, c.loop-planes.invariant.reached, c.if-above-eq4.true, reach_of_string-le c.loop-planes.planes c.loop-planes.string)
-
--- ---- the next planes
 
 pub write_part-left-requires-clause-fits : goal.write_part-left-requires-clause-fits
 write_part-left-requires-clause-fits c =
-    let part = c.next_part-part.result in
-    omega (arith, Remains-fits (field part.len part.bits) _ (Remains-same c.loop-planes.invariant.remains c.next_part-part.ensures.bits), length-field part.len part.bits)
+    let part = c.next_pairs-part.result in
+    omega (arith, Remains-fits (field part.len part.bits) _ (Remains-same (Remains-start c.args.out.now c.args.left _ c.requires.fits) c.next_pairs-part.ensures.bits), length-field part.len part.bits)
 
-pub loop-planes-preserved : goal.loop-planes-preserved
-loop-planes-preserved c =
-    let part = c.next_part-part.result in
-    let written = Remains-more (field part.len part.bits) _ (Remains-same c.loop-planes.invariant.remains c.next_part-part.ensures.bits) c.write_part-left.ensures.bits in
-    let spent : c.loop-planes.left - length (field part.len part.bits) ≡ c.write_part-left.result = omega (arith, length-field part.len part.bits, c.write_part-left.ensures.left) in
-    record {
-      remains = rw spent at written;
-      reached = c.loop-planes.invariant.reached ∙ c.next_part-part.ensures.reached;
-      above = c.next_part-part.ensures.within;
-      few = omega (arith, c.next_part-part.ensures.fewer, c.loop-planes.invariant.few);
-    }
+-- behind the pairs the other planes remain
+behind_pairs : {new : Writer} (out : Writer) (left after above n len bits : ℕ) (planes rest : List (List Bool)) → min left (length (code_from above planes)) ≤ out.room
+    → code_from above planes ≡ field len bits ++ code_from n rest → Appends out new (take left (field len bits)) → after ≡ left - len
+    → Remains out new left after (code_from above planes) (code_from n rest)
+behind_pairs out left after above n len bits planes rest room split written is =
+    let start = Remains-same (Remains-start out left (code_from above planes) room) split in
+    let spent : left - length (field len bits) ≡ after = omega (arith, length-field len bits, is) in
+    rw spent at (Remains-more (field len bits) (code_from n rest) start written)
 
-pub returns-after-loop-planes-clause-bits : goal.returns-after-loop-planes-clause-bits
-returns-after-loop-planes-clause-bits c =
-    let none = string_end c.loop-planes.planes c.loop-planes.above c.loop-planes.string c.loop-planes-test.false in
-    Remains-end c.loop-planes.invariant.remains (omega (arith, ap length none.0))
+pub returns-then-left-eq0-clause-bits : goal.returns-then-left-eq0-clause-bits
+returns-then-left-eq0-clause-bits c = Remains-end (behind_pairs c.args.out.now c.args.left c.write_part-left.result c.args.above.now c.next_pairs-part.result.above c.next_pairs-part.result.len c.next_pairs-part.result.bits (fours c.args.planes c.args.string)
+    (fours c.next_pairs-part.new.planes c.next_pairs-part.new.string) c.requires.fits c.next_pairs-part.ensures.bits c.write_part-left.ensures.bits c.write_part-left.ensures.left) (omega (arith, c.if-left-eq0.true))
 
-pub returns-after-loop-planes-clause-left : goal.returns-after-loop-planes-clause-left
-returns-after-loop-planes-clause-left c =
-    let none = string_end c.loop-planes.planes c.loop-planes.above c.loop-planes.string c.loop-planes-test.false in
-    omega (arith, c.loop-planes.invariant.remains.spent, ap length none.0)
+pub returns-then-left-eq0-clause-left : goal.returns-then-left-eq0-clause-left
+returns-then-left-eq0-clause-left c = omega (
+  arith,
+  (behind_pairs c.args.out.now c.args.left c.write_part-left.result c.args.above.now c.next_pairs-part.result.above c.next_pairs-part.result.len c.next_pairs-part.result.bits (fours c.args.planes c.args.string)
+      (fours c.next_pairs-part.new.planes c.next_pairs-part.new.string) c.requires.fits c.next_pairs-part.ensures.bits c.write_part-left.ensures.bits c.write_part-left.ensures.left).spent,
+  c.if-left-eq0.true,
+)
 
-pub returns-after-loop-planes-clause-reached : goal.returns-after-loop-planes-clause-reached
-returns-after-loop-planes-clause-reached c =
-    let none = string_end c.loop-planes.planes c.loop-planes.above c.loop-planes.string c.loop-planes-test.false in
-    λ some. omega (arith, c.loop-planes.invariant.reached, none.1)
+pub write_rest-requires-clause-fits : goal.write_rest-requires-clause-fits
+write_rest-requires-clause-fits c = (behind_pairs c.args.out.now c.args.left c.write_part-left.result c.args.above.now c.next_pairs-part.result.above c.next_pairs-part.result.len c.next_pairs-part.result.bits (fours c.args.planes c.args.string)
+    (fours c.next_pairs-part.new.planes c.next_pairs-part.new.string) c.requires.fits c.next_pairs-part.ensures.bits c.write_part-left.ensures.bits c.write_part-left.ensures.left).fits
+
+pub returns-clause-bits : goal.returns-clause-bits
+returns-clause-bits c =
+    let rest = code_from c.next_pairs-part.result.above (fours c.next_pairs-part.new.planes c.next_pairs-part.new.string) in
+    Remains-end (Remains-more rest [] (Remains-same (behind_pairs c.args.out.now c.args.left c.write_part-left.result c.args.above.now c.next_pairs-part.result.above c.next_pairs-part.result.len c.next_pairs-part.result.bits (fours c.args.planes c.args.string)
+    (fours c.next_pairs-part.new.planes c.next_pairs-part.new.string) c.requires.fits c.next_pairs-part.ensures.bits c.write_part-left.ensures.bits c.write_part-left.ensures.left) (sym (append-nil rest))) c.write_rest.ensures.bits) (omega arith)
+
+pub returns-clause-left : goal.returns-clause-left
+returns-clause-left c = omega (
+  arith,
+  (behind_pairs c.args.out.now c.args.left c.write_part-left.result c.args.above.now c.next_pairs-part.result.above c.next_pairs-part.result.len c.next_pairs-part.result.bits (fours c.args.planes c.args.string)
+      (fours c.next_pairs-part.new.planes c.next_pairs-part.new.string) c.requires.fits c.next_pairs-part.ensures.bits c.write_part-left.ensures.bits c.write_part-left.ensures.left).spent,
+  c.write_rest.ensures.left,
+)
+
+pub returns-clause-reached : goal.returns-clause-reached
+returns-clause-reached c = λ some. omega (arith, c.write_rest.ensures.reached some, c.next_pairs-part.ensures.reached)
