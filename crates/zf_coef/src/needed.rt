@@ -19,6 +19,7 @@ pub fn any_digits(digits: &[u64]) -> u64
 }
 
 /// How many of the `width` planes of these digits are needed: those from the greatest down to the lowest that has a one.
+#[inline]
 pub fn needed_planes(digits: &[u64], width: u32) -> u32
     requires { width ≤ 64 }
     ensures { result ≡ planes.needed_planes (planes_of width (digits_in width digits.now)) }
