@@ -16,6 +16,7 @@
 --     Steps        one step of reading a tail
 --     PlaneAhead   what the decoder makes of one plane
 --     PlanesAhead  what the decoder makes of planes
+--     PlanesRead   planes that are read from the greatest on
 --     Lanes        digits of four coefficients in words, and in four lanes of one word
 --     LaneTables   tables of planes of four digits in lanes
 --     LanesAhead   planes of four digits that are read at once, in lanes
@@ -40,6 +41,7 @@ pub mod Placing
 pub mod Steps
 pub mod PlaneAhead
 pub mod PlanesAhead
+pub mod PlanesRead
 pub mod Lanes
 pub mod LaneTables
 pub mod LanesAhead

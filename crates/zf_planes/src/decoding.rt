@@ -7,11 +7,10 @@ ghost use Rattle.zf_spec.specs.ReadPlanes.{first_bits};
 ghost use Rattle.zf_spec.specs.HeldPlanes.{digits_held, planes_held, IsClearFrom};
 ghost use Rattle.zf_spec.specs.Numbers.{field, word_bits};
 ghost use Rattle.zf_spec.specs.Planes.{reach};
-ghost use Rattle.zf_planes.specs.WordPlanes.{IsReadAs};
 ghost use Rattle.zf_bits.specs.Reader.{rest, Reads};
 ghost use Rattle.zf_planes.specs.Decoding.{IsWindow, coded, coded_bits, tail_ahead, tail_bits, run_ahead, run_bits, plane_ahead, plane_bits, planes_ahead, planes_bits, Takes, Lacks};
 
-use crate::tails::{PlaneOfWord, plane_of_all, plane_with, plane_without};
+use crate::word_reading::read_in_words;
 use crate::words::clear;
 use zf_bits::{BitReader, Plane};
 
@@ -96,7 +95,7 @@ fn read_word(n: u64, ahead: &mut Ahead, reader: &mut BitReader<'_>) -> Option<u6
 
 /// Reads the first `n` digits as they are, as far as the budget reaches; the others stay zero.
 #[inline(always)]
-fn read_front<P: Plane>(
+pub(crate) fn read_front<P: Plane>(
     n: usize,
     plane: &mut P,
     ahead: &mut Ahead,
@@ -305,7 +304,7 @@ fn read_apart<P: Plane>(
 
 /// The same by way of copies, so that only they lie in memory.
 #[inline(always)]
-fn read_slowly<P: Plane>(
+pub(crate) fn read_slowly<P: Plane>(
     n: usize,
     size: usize,
     plane: &mut P,
@@ -347,105 +346,6 @@ pub(crate) fn look_on(wanted: u64, ahead: &mut Ahead, reader: &BitReader<'_>)
     }
 }
 
-/// Passes the code of a plane that is known, and puts its digits in. The answer is how far its ones and those above reach.
-#[inline(always)]
-fn put_plane<P: Plane>(
-    n: usize,
-    size: usize,
-    next: PlaneOfWord,
-    plane: &mut P,
-    ahead: &mut Ahead,
-    reader: &mut BitReader<'_>,
-) -> usize
-    requires ranks { 0 < size }
-    requires size { size ≤ 64 }
-    requires words { size ≤ 64 * P.word_count }
-    requires in_plane { n ≤ size }
-    requires blank { P.words plane.old ≡ replicate P.word_count 0 }
-    requires window { IsWindow ahead.old.left ahead.old.bits ahead.old.count (rest reader.old) }
-    requires read { IsReadAs n size ahead.old.bits next.digits next.len next.above }
-    requires some { 0 < next.len }
-    requires there { next.len ≤ ahead.old.count }
-    ensures window { IsWindow ahead.new.left ahead.new.bits ahead.new.count (rest reader.new) }
-    ensures taken { Takes reader.old reader.new ahead.old.left ahead.new.left (plane_bits ahead.old.left size n (rest reader.old)) }
-    ensures digits { digits_held size (P.words plane.new) ≡ plane_ahead ahead.old.left size n (rest reader.old) }
-    ensures clear { IsClearFrom size (P.words plane.new) }
-    ensures above { result ≡ max n (reach (digits_held size (P.words plane.new))) }
-{
-    plane.set_word(0, next.digits);
-    pass(next.len, ahead, reader);
-    next.above
-}
-
-/// Reads the code of a plane of up to 64 digits in which the ranks below `n` have had a one above. The answer is how far the ones of both reach.
-#[inline(always)]
-fn read_plane_of_word<P: Plane>(
-    n: usize,
-    size: usize,
-    plane: &mut P,
-    ahead: &mut Ahead,
-    reader: &mut BitReader<'_>,
-) -> Option<usize>
-    requires some { 0 < size }
-    requires small { size ≤ 64 }
-    requires words { size ≤ 64 * P.word_count }
-    requires in_plane { n ≤ size }
-    requires blank { P.words plane.old ≡ replicate P.word_count 0 }
-    requires window { IsWindow ahead.old.left ahead.old.bits ahead.old.count (rest reader.old) }
-    ensures short { IfNone result (Lacks reader.old reader.new (plane_bits ahead.old.left size n (rest reader.old))) }
-    ensures window { OnSome result (IsWindow ahead.new.left ahead.new.bits ahead.new.count (rest reader.new)) }
-    ensures taken { OnSome result (Takes reader.old reader.new ahead.old.left ahead.new.left (plane_bits ahead.old.left size n (rest reader.old))) }
-    ensures digits { OnSome result (digits_held size (P.words plane.new) ≡ plane_ahead ahead.old.left size n (rest reader.old)) }
-    ensures clear { OnSome result (IsClearFrom size (P.words plane.new)) }
-    ensures above { IfSome result (λ above. above ≡ max n (reach (digits_held size (P.words plane.new)))) }
-{
-    // The first digits, and as many behind them as most tails have.
-    look_on(n as u64 + 17, ahead, reader);
-    // Each kind of plane has its own way, so that most of them need no table.
-    if n == size {
-        let all = plane_of_all(size, ahead.bits);
-        if all.len <= ahead.count {
-            return Some(put_plane(n, size, all, plane, ahead, reader));
-        }
-    } else if (n as u64) < ahead.count && (ahead.bits >> n) % 2 == 0 {
-        let same = plane_without(n, size, ahead.bits);
-        return Some(put_plane(n, size, same, plane, ahead, reader));
-    } else {
-        let more = plane_with(n, size, ahead.bits);
-        if more.len <= ahead.count {
-            return Some(put_plane(n, size, more, plane, ahead, reader));
-        }
-    }
-    read_slowly(n, size, plane, ahead, reader)
-}
-
-/// Reads the code of a plane in which the ranks below `n` have had a one above. The answer is how far the ones of both reach.
-#[inline(always)]
-fn read_plane<P: Plane>(
-    n: usize,
-    size: usize,
-    plane: &mut P,
-    ahead: &mut Ahead,
-    reader: &mut BitReader<'_>,
-) -> Option<usize>
-    requires size { size ≤ 256 }
-    requires words { size ≤ 64 * P.word_count }
-    requires in_plane { n ≤ size }
-    requires blank { P.words plane.old ≡ replicate P.word_count 0 }
-    requires window { IsWindow ahead.old.left ahead.old.bits ahead.old.count (rest reader.old) }
-    ensures short { IfNone result (Lacks reader.old reader.new (plane_bits ahead.old.left size n (rest reader.old))) }
-    ensures window { OnSome result (IsWindow ahead.new.left ahead.new.bits ahead.new.count (rest reader.new)) }
-    ensures taken { OnSome result (Takes reader.old reader.new ahead.old.left ahead.new.left (plane_bits ahead.old.left size n (rest reader.old))) }
-    ensures digits { OnSome result (digits_held size (P.words plane.new) ≡ plane_ahead ahead.old.left size n (rest reader.old)) }
-    ensures clear { OnSome result (IsClearFrom size (P.words plane.new)) }
-    ensures above { IfSome result (λ above. above ≡ max n (reach (digits_held size (P.words plane.new)))) }
-{
-    if size == 4 || size == 16 || size == 64 {
-        return read_plane_of_word(n, size, plane, ahead, reader);
-    }
-    read_by_runs(n, size, plane, ahead, reader)
-}
-
 /// Passes planes of zeros at the top, of which each has one bit.
 #[inline]
 pub(crate) fn pass_zero_planes(prec: u32, ahead: &mut Ahead, reader: &mut BitReader<'_>) -> u64
@@ -466,7 +366,7 @@ pub(crate) fn pass_zero_planes(prec: u32, ahead: &mut Ahead, reader: &mut BitRea
 
 /// Reads the code of the top `prec` planes. All are zero before, and the other planes stay so.
 #[inline(always)]
-fn read_sized<P: Plane>(
+fn read_by_planes<P: Plane>(
     budget: u64,
     prec: u32,
     size: usize,
@@ -489,7 +389,7 @@ fn read_sized<P: Plane>(
     let mut above = 0;
     while i < prec as usize && ahead.left > 0 {
         let mut plane = P::zero();
-        above = read_plane(above, size, &mut plane, &mut ahead, reader)?;
+        above = read_by_runs(above, size, &mut plane, &mut ahead, reader)?;
         let k = planes.len() - 1 - i;
         planes[k] = plane;
         i += 1;
@@ -518,7 +418,11 @@ fn read_with_own_reader<P: Plane>(
     ensures clear { OnSome result (All (IsClearFrom size) (map P.words planes.new)) }
 {
     let mut place = reader.another();
-    let left = read_sized(budget, prec, size, &mut place, planes)?;
+    let left = if size == 4 || size == 16 || size == 64 {
+        read_in_words(budget, prec, size, &mut place, planes)?
+    } else {
+        read_by_planes(budget, prec, size, &mut place, planes)?
+    };
     *reader = place;
     Some(left)
 }

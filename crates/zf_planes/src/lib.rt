@@ -10,6 +10,7 @@ mod four_writing;
 mod gathered;
 mod measuring;
 mod tails;
+mod word_reading;
 mod words;
 
 pub use decoding::{decode, read_planes};

@@ -227,6 +227,7 @@ pub(crate) fn plane_without(n: usize, size: usize, bits: u64) -> PlaneOfWord
     requires none { bits / 2 ^ n % 2 ≡ 0 }
     ensures read { IsReadAs n size bits result.digits result.len result.above }
     ensures len { result.len ≡ n + 1 }
+    ensures above { result.above ≡ n }
 {
     PlaneOfWord {
         digits: bits % (1 << n),

@@ -1,0 +1,76 @@
+use Rattle.std.proofs.Common.{◌≡◌, ℕ, suc, ◌+◌, ◌-◌, ◌*◌, ◌^◌, ◌/◌, ◌<◌, ◌≤◌, Bool, List, ◌∷◌, ◌++◌, length, map, take, drop, sym, ap, subst, ◌∙◌, arith, length-set}
+use Rattle.std.proofs.lemmas.List.{length-map, drop-drop}
+use Rattle.std.proofs.lemmas.List.Elements.{All-set}
+use Rattle.zf_spec.specs.Numbers.{field}
+use Rattle.zf_spec.specs.HeldPlanes.{digits_held, planes_held, IsClearFrom}
+use Rattle.zf_bits.specs.Reader.{rest}
+use Rattle.zf_planes.specs.Decoding.{planes_ahead, Takes}
+use Rattle.zf_planes.proofs.Gathering.{Written, written}
+use Rattle.zf_planes.proofs.Peeking.{window_long, window_passed, Takes-skip}
+use Rattle.zf_planes.proofs.PlanesRead.{NextKnown, next_known, one_more}
+use Rattle.zf_planes.proofs.Unpacking.{top_behind, set_words}
+use Rattle.zf_planes.proofs.word_reading.read_same.Given.{Over}
+use Rattle.zf_planes.proofs.word_reading.read_same.Goals as goal
+
+pub loop-i-preserved : goal.loop-i-preserved
+loop-i-preserved g c =
+    let size = c.args.size in
+    let n = c.args.n in
+    let i = c.loop-i.i in
+    let bits = c.loop-i.bits in
+    let count = c.loop-i.count in
+    let ahead = c.args.ahead.now in
+    let s = rest c.args.reader.now in
+    let before = c.loop-i.invariant in
+    let same = c.plane_without-same in
+    let digits = same.result.digits in
+    let len = same.result.len in
+    let passed = ahead.count - count in
+    let left = ahead.left - passed in
+    let p = c.args.to - (i + 1) in
+    let plane = c.set_word.new.self in
+    let planes = map g.P.Plane.words c.loop-i.planes in
+    let held = planes_held size planes in
+    let small : len ≤ count = omega (arith, same.ensures.len, c.if-n-count.true) in
+    let last : len - 1 ≡ n = omega (arith, same.ensures.len) in
+    let passed' : passed + len ≡ ahead.count - (count - len) = omega (arith, before.fewer, small) in
+    let left' : left - len ≡ ahead.left - (ahead.count - (count - len)) = omega (arith, before.fewer, small) in
+    let place : drop len (drop passed s) ≡ drop (ahead.count - (count - len)) s = drop-drop len passed s ∙ ap (λ k. drop k s) passed' in
+    let more : c.args.to - i ≡ suc p = omega (arith, c.loop-i-test.true) in
+    let known = rw same.ensures.above at (next_known left p size n bits count digits len same.result.above (drop passed s) (omega (arith, c.requires.in_plane)) (omega (arith, c.requires.in_plane)) before.window same.ensures.read small) in
+    let next_bits = rw (left', place) at known.bits in
+    let next_digits = rw (left', place) at known.digits in
+    let put = written size g.P.Plane.word_count digits (g.P.Plane.words c.zero-plane.result) (g.P.Plane.words plane) c.requires.size c.requires.words (omega (arith, c.requires.words, c.requires.in_plane)) c.zero-plane.ensures c.set_word.ensures same.ensures.read.small in
+    let within : i < length planes = omega (arith, length-map c.loop-i.planes g.P.Plane.words, before.long, c.requires.planes, c.loop-i-test.true) in
+    let below = planes_ahead (ahead.left - (ahead.count - (count - len))) p size n (drop (ahead.count - (count - len)) s) in
+    let set = set_words g.P.Plane.words c.loop-i.planes i plane in
+    let some : 0 < len = omega (arith, same.ensures.len) in
+    let window = rw (last, left', place) at (window_passed (drop passed s) left bits count len before.window some small) in
+    record {
+      window = window;
+      fewer = omega (arith, before.fewer);
+      bits = omega (arith, before.bits, (rw (← more) at next_bits), passed');
+      digits =
+          before.digits
+          ∙ ap (λ (ps : List (List Bool)). take i held ++ ps) (rw (← more) at next_digits ∙ ap (λ (ds : List Bool). ds ∷ below) (sym put.digits))
+          ∙ one_more g.P.Plane.words size i c.loop-i.planes plane below within;
+      behind = rw set (top_behind size planes i (g.P.Plane.words plane) within before.behind);
+      clear = rw set (All-set (IsClearFrom size) planes (length planes - 1 - i) (g.P.Plane.words plane) put.clear before.clear);
+      long = length-set c.loop-i.planes _ plane ∙ before.long;
+      begun = omega (arith, before.begun);
+      within = omega (arith, c.loop-i-test.true);
+      first = λ e. absurd (omega (arith, e, before.begun));
+    }
+
+pub skip-requires : goal.skip-requires
+skip-requires g c = omega (arith, window_long (rest c.args.reader.now) c.args.ahead.now.bits c.args.ahead.now.count c.requires.window.bits)
+
+pub returns-clause-taken : goal.returns-clause-taken
+returns-clause-taken g c =
+    let ahead = c.args.ahead.now in
+    let passed = ahead.count - c.loop-i.count in
+    let within : passed ≤ ahead.left = omega (arith, c.requires.window.within) in
+    let there : passed ≤ length (rest c.args.reader.now) = omega (arith, window_long (rest c.args.reader.now) ahead.bits ahead.count c.requires.window.bits) in
+    let count : passed ≡ ahead.left - (ahead.left - passed) = omega arith in
+    let Taken : ℕ → Type 0 = λ k. Takes c.args.reader.now c.skip.new.self ahead.left (ahead.left - passed) k in
+    subst Taken count (Takes-skip ahead.left passed within there c.skip.ensures)
