@@ -278,61 +278,6 @@ pub(crate) fn read_by_runs<P: Plane>(
     read_tail(n, size, plane, ahead, reader)
 }
 
-/// The same in a function of its own: the values of a loop that calls it stay in registers where its places are not handed on.
-#[inline(never)]
-fn read_apart<P: Plane>(
-    n: usize,
-    size: usize,
-    plane: &mut P,
-    ahead: &mut Ahead,
-    reader: &mut BitReader<'_>,
-) -> Option<usize>
-    requires size { size ≤ 256 }
-    requires words { size ≤ 64 * P.word_count }
-    requires in_plane { n ≤ size }
-    requires blank { P.words plane.old ≡ replicate P.word_count 0 }
-    requires window { IsWindow ahead.old.left ahead.old.bits ahead.old.count (rest reader.old) }
-    ensures short { IfNone result (Lacks reader.old reader.new (plane_bits ahead.old.left size n (rest reader.old))) }
-    ensures window { OnSome result (IsWindow ahead.new.left ahead.new.bits ahead.new.count (rest reader.new)) }
-    ensures taken { OnSome result (Takes reader.old reader.new ahead.old.left ahead.new.left (plane_bits ahead.old.left size n (rest reader.old))) }
-    ensures digits { OnSome result (digits_held size (P.words plane.new) ≡ plane_ahead ahead.old.left size n (rest reader.old)) }
-    ensures clear { OnSome result (IsClearFrom size (P.words plane.new)) }
-    ensures above { IfSome result (λ above. above ≡ max n (reach (digits_held size (P.words plane.new)))) }
-{
-    read_by_runs(n, size, plane, ahead, reader)
-}
-
-/// The same by way of copies, so that only they lie in memory.
-#[inline(always)]
-pub(crate) fn read_slowly<P: Plane>(
-    n: usize,
-    size: usize,
-    plane: &mut P,
-    ahead: &mut Ahead,
-    reader: &mut BitReader<'_>,
-) -> Option<usize>
-    requires size { size ≤ 256 }
-    requires words { size ≤ 64 * P.word_count }
-    requires in_plane { n ≤ size }
-    requires blank { P.words plane.old ≡ replicate P.word_count 0 }
-    requires window { IsWindow ahead.old.left ahead.old.bits ahead.old.count (rest reader.old) }
-    ensures short { IfNone result (Lacks reader.old reader.new (plane_bits ahead.old.left size n (rest reader.old))) }
-    ensures window { OnSome result (IsWindow ahead.new.left ahead.new.bits ahead.new.count (rest reader.new)) }
-    ensures taken { OnSome result (Takes reader.old reader.new ahead.old.left ahead.new.left (plane_bits ahead.old.left size n (rest reader.old))) }
-    ensures digits { OnSome result (digits_held size (P.words plane.new) ≡ plane_ahead ahead.old.left size n (rest reader.old)) }
-    ensures clear { OnSome result (IsClearFrom size (P.words plane.new)) }
-    ensures above { IfSome result (λ above. above ≡ max n (reach (digits_held size (P.words plane.new)))) }
-{
-    let mut digits = *plane;
-    let mut next = *ahead;
-    let mut place = reader.another();
-    let above = read_apart(n, size, &mut digits, &mut next, &mut place)?;
-    *plane = digits;
-    *ahead = next;
-    *reader = place;
-    Some(above)
-}
-
 /// Looks again where fewer bits are in sight than are wanted, and there may be more.
 #[inline]
 pub(crate) fn look_on(wanted: u64, ahead: &mut Ahead, reader: &BitReader<'_>)

@@ -10,7 +10,7 @@ ghost use Rattle.zf_planes.specs.WordPlanes.{IsReadAs};
 ghost use Rattle.zf_bits.specs.Reader.{rest};
 ghost use Rattle.zf_planes.specs.Decoding.{IsWindow, plane_ahead, plane_bits, planes_ahead, planes_bits, Takes, Lacks};
 
-use crate::decoding::{Ahead, look, look_on, pass, pass_zero_planes, read_by_runs, read_slowly};
+use crate::decoding::{Ahead, look, look_on, pass, pass_zero_planes, read_by_runs};
 use crate::tails::{PlaneOfWord, plane_of_all, plane_with, plane_without};
 use zf_bits::{BitReader, Plane};
 
@@ -129,11 +129,7 @@ fn read_more<P: Plane>(
     if more.len <= ahead.count {
         return Some(put_plane(n, size, more, plane, ahead, reader));
     }
-    // Few digits are soon read run by run.
-    if size == 16 {
-        return read_by_runs(n, size, plane, ahead, reader);
-    }
-    read_slowly(n, size, plane, ahead, reader)
+    read_by_runs(n, size, plane, ahead, reader)
 }
 
 /// Reads a plane in which all ranks have had a one above.
@@ -190,8 +186,10 @@ pub(crate) fn read_in_words<P: Plane>(
     let mut i = pass_zero_planes(prec, &mut ahead, reader) as usize;
     let mut above = 0;
     while i < prec as usize && ahead.left > 0 && above < size {
-        // The first digits, and as many behind them as most tails have.
-        look_on((above as u64 + 17).max(32), &mut ahead, reader);
+        // A plane of sixteen digits has no more than 32 bits; of one that may have more, the first digits are looked at, and as many bits behind them as
+        // most tails have.
+        let wanted = if size == 16 { 32 } else { above as u64 + 17 };
+        look_on(wanted, &mut ahead, reader);
         if (above as u64) < ahead.count && (ahead.bits >> above) % 2 == 0 {
             i = read_same(
                 above,
