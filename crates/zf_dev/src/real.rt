@@ -14,7 +14,7 @@ use std::io::{ErrorKind, Read, Write};
 use std::rt::{Stdin, Stdout};
 
 // How many bytes one read takes at most.
-const PIECE: usize = 4096;
+const PIECE: usize = 16384;
 
 /// Standard input as a source. It takes no more than it is asked for, so what is left is for the next program.
 ///

@@ -1,5 +1,5 @@
 -- Planes that are read from the greatest on, one after another.
-use Rattle.std.proofs.Common.{◌≡◌, ℕ, suc, ◌+◌, ◌-◌, ◌*◌, ◌<◌, ◌≤◌, ◌⊎◌, max, Bool, false, List, [], ◌∷◌, ◌++◌, length, map, take, drop, set, replicate, sym, ap, ◌∙◌, subst, arith, length-set}
+use Rattle.std.proofs.Common.{◌≡◌, ℕ, suc, ◌+◌, ◌-◌, ◌*◌, ◌<◌, ◌≤◌, ◌⊎◌, max, Bool, false, List, [], ◌∷◌, ◌++◌, length, map, take, drop, set, replicate, sym, ap, ◌∙◌, subst, arith}
 use Rattle.std.specs.List.{All}
 use Rattle.std.proofs.lemmas.List.{length-map, length-replicate, take-replicate, drop-replicate, append_assoc, take-append-drop, replicate-append-replicate}
 use Rattle.std.proofs.lemmas.List.Elements.{All-set, All-replicate}
@@ -10,7 +10,7 @@ use Rattle.zf_spec.proofs.Fields.{length-field}
 use Rattle.zf_spec.proofs.HeldPlanes.{length-digits_held}
 use Rattle.zf_spec.proofs.Reach.{reach-le}
 use Rattle.zf_bits.specs.Reader.{Reader, rest}
-use Rattle.zf_planes.specs.Decoding.{IsWindow, Takes, Lacks, plane_ahead, plane_bits, planes_ahead, planes_bits}
+use Rattle.zf_planes.specs.Decoding.{IsWindow, Takes, Lacks, plane_ahead, plane_bits, planes_ahead, planes_bits, ReadsTop}
 use Rattle.zf_planes.specs.WordPlanes.{IsReadAs}
 use Rattle.zf_planes.proofs.Passing.{Passes, Passes-start, Passes-part, Passes-end, Passes-lacks, Takes-rest}
 use Rattle.zf_planes.proofs.Peeking.{window_front, window_long}
@@ -148,20 +148,14 @@ all_planes i prec n size held whole rest_ahead within enough back is none =
     ∙ sym (append_assoc (take i held) rest_ahead (replicate (n - prec) zeros))
     ∙ ap (λ (ps : List (List Bool)). ps ++ replicate (n - prec) zeros) (sym is)
 
--- all is read
-pub record AllRead (start now : Reader) (budget left prec size n : ℕ) (planes : List (List ℕ)) : Type 0 where
-  pub taken : Takes start now budget left (planes_bits budget prec size 0 (rest start))
-  pub digits : planes_held size planes ≡ planes_ahead budget prec size 0 (rest start) ++ replicate (n - prec) (replicate size false)
-
-pub AreRead-over : {A : Type 0} (words : A → List ℕ) {start now : Reader} {budget left prec size above i : ℕ} (planes : List A) → AreRead start now budget left prec size above i (map words planes)
-    → 1 ≤ size → prec ≤ length planes → (left ≡ 0) ⊎ (prec - i ≡ 0) → AllRead start now budget left prec size (length planes) (map words planes)
-AreRead-over words {start} {now} {budget} {left} {prec} {size} {above} {i} planes read some enough none =
-    let all = map words planes in
-    let long = length-map planes words in
+pub AreRead-over : {start now : Reader} {budget left prec size above i : ℕ} (planes : List (List ℕ)) → AreRead start now budget left prec size above i planes
+    → 1 ≤ size → prec ≤ length planes → (left ≡ 0) ⊎ (prec - i ≡ 0) → ReadsTop budget prec size start now planes left
+AreRead-over {start} {now} {budget} {left} {prec} {size} {above} {i} planes read some enough none =
     let over = planes_over left (prec - i) size above (rest now) some read.ranks none in
     record {
       taken = Passes-end read.passes over.0;
-      digits = rw (← long) (all_planes i prec (length all) size (planes_held size all) _ _ read.within (omega arith) read.back read.digits over.1);
+      digits = all_planes i prec (length planes) size (planes_held size planes) _ _ read.within enough read.back read.digits over.1;
+      clear = read.clear;
     }
 
 -- ---- a plane that is known by the bits in sight

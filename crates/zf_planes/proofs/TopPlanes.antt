@@ -4,6 +4,7 @@ use Rattle.std.proofs.lemmas.Bool.{eqb-true, cases_lt}
 use Rattle.std.proofs.lemmas.Nat.{shl-shr, shr-shr}
 use Rattle.std.proofs.lemmas.List.{length-map, get_or-map, map-append, get_or-drop, length-take, take_at, take-append-drop, append-nil, length-replicate}
 use Rattle.std.proofs.lemmas.Simd.{map-map}
+use Rattle.zf_bits.proofs.Fields.{digit_value_le}
 use Rattle.zf_spec.specs.Numbers.{field, number, is_odd, digit_value}
 use Rattle.zf_spec.specs.Grid.{count_from, upto}
 use Rattle.zf_spec.specs.Planes.{planes_of, code, code_from, AreOfSize}
@@ -130,13 +131,10 @@ spread-add (suc m) k f g same =
     ∙ ap (λ n. digit_value (f 0) + 16 * n) rest
     ∙ omega (arith, ap (λ p. p * spread k g) (pow-suc 16 m))
 
-digit_value-le : (d : Bool) → digit_value d ≤ 1
-digit_value-le d = grind arith
-
 pub spread-lt : (k : ℕ) (f : ℕ → Bool) → 15 * spread k f < 16 ^ k
 unfolding spread
 spread-lt zero f = omega arith
-spread-lt (suc k) f = omega (arith, digit_value-le (f 0), spread-lt k (λ i. f (suc i)), pow-suc 16 k)
+spread-lt (suc k) f = omega (arith, digit_value_le (f 0), spread-lt k (λ i. f (suc i)), pow-suc 16 k)
 
 -- ---- the table, by computation
 
@@ -185,7 +183,7 @@ string-is (suc k) f g h e =
     let row : ℕ → List Bool = λ i. f i ∷ g i ∷ h i ∷ e i ∷ [] in
     let row' : ℕ → List Bool = λ i. f (suc i) ∷ g (suc i) ∷ h (suc i) ∷ e (suc i) ∷ [] in
     let r = spread k (next f) + 2 * spread k (next g) + 4 * spread k (next h) + 8 * spread k (next e) in
-    let small : number (row 0) < 16 = omega (arith, digit_value-le (f 0), digit_value-le (g 0), digit_value-le (h 0), digit_value-le (e 0)) in
+    let small : number (row 0) < 16 = omega (arith, digit_value_le (f 0), digit_value_le (g 0), digit_value_le (h 0), digit_value_le (e 0)) in
     let sum : spread (suc k) f + 2 * spread (suc k) g + 4 * spread (suc k) h + 8 * spread (suc k) e ≡ number (row 0) + 16 * r =
     omega (arith, spread-next k f, spread-next k g, spread-next k h, spread-next k e) in
     fours-next k _ (row 0) r refl sum small

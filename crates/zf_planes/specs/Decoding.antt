@@ -1,8 +1,9 @@
 -- What the decoder makes of the bits that are left, of which only as many count as the budget has.
-use Rattle.std.specs.Prelude.{ℕ, ◌≡◌, ◌+◌, ◌<◌, ◌≤◌, min, Bool, List, length, take}
+use Rattle.std.specs.Prelude.{ℕ, ◌≡◌, ◌+◌, ◌<◌, ◌≤◌, ◌-◌, min, All, Bool, false, List, ◌++◌, length, take, replicate}
 use Rattle.zf_spec.specs.Planes.{tail, code_from_run, plane_code, code, code_from}
 use Rattle.zf_spec.specs.Kept.{kept_tail, kept_run, kept_plane, kept_planes_from}
 use Rattle.zf_spec.specs.ReadPlanes.{tail_in, run_in, plane_in, planes_in_from, planes_in}
+use Rattle.zf_spec.specs.HeldPlanes.{planes_held, IsClearFrom}
 use Rattle.zf_spec.specs.Numbers.{field}
 use Rattle.zf_bits.specs.Reader.{Reader, rest}
 
@@ -57,6 +58,12 @@ pub record Takes (old new : Reader) (before after count : ℕ) : Type 0 where
 pub record Lacks (old new : Reader) (count : ℕ) : Type 0 where
   pub few : length (rest old) < count
   pub all : new.all ≡ old.all
+
+-- the code of the top p planes was read into words, the planes below are zero, and so much of the budget is left
+pub record ReadsTop (budget p size : ℕ) (old new : Reader) (planes : List (List ℕ)) (after : ℕ) : Type 0 where
+  pub taken : Takes old new budget after (planes_bits budget p size 0 (rest old))
+  pub digits : planes_held size planes ≡ planes_ahead budget p size 0 (rest old) ++ replicate (length planes - p) (replicate size false)
+  pub clear : All (IsClearFrom size) planes
 
 -- ---- bits that were looked at
 

@@ -8,7 +8,7 @@ ghost use Rattle.zf_spec.specs.HeldPlanes.{digits_held, planes_held, IsClearFrom
 ghost use Rattle.zf_spec.specs.Numbers.{field, word_bits};
 ghost use Rattle.zf_spec.specs.Planes.{reach};
 ghost use Rattle.zf_bits.specs.Reader.{rest, Reads};
-ghost use Rattle.zf_planes.specs.Decoding.{IsWindow, coded, coded_bits, tail_ahead, tail_bits, run_ahead, run_bits, plane_ahead, plane_bits, planes_ahead, planes_bits, Takes, Lacks};
+ghost use Rattle.zf_planes.specs.Decoding.{IsWindow, coded, coded_bits, tail_ahead, tail_bits, run_ahead, run_bits, plane_ahead, plane_bits, planes_ahead, planes_bits, Takes, Lacks, ReadsTop};
 
 use crate::word_reading::read_in_words;
 use crate::words::clear;
@@ -324,10 +324,7 @@ fn read_by_planes<P: Plane>(
     requires planes { prec ≤ length planes.old }
     requires blank { map P.words planes.old ≡ replicate (length planes.old) (replicate P.word_count 0) }
     ensures short { IfNone result (Lacks reader.old reader.new (planes_bits budget prec size 0 (rest reader.old))) }
-    ensures bits { IfSome result (λ after. Takes reader.old reader.new budget after (planes_bits budget prec size 0 (rest reader.old))) }
-    ensures digits { OnSome result (planes_held size (map P.words planes.new)
-        ≡ planes_ahead budget prec size 0 (rest reader.old) ++ replicate (length planes.new - prec) (replicate size false)) }
-    ensures clear { OnSome result (All (IsClearFrom size) (map P.words planes.new)) }
+    ensures read { IfSome result (λ left. ReadsTop budget prec size reader.old reader.new (map P.words planes.new) left) }
 {
     let mut ahead = look(budget, reader);
     let mut i = pass_zero_planes(prec, &mut ahead, reader) as usize;
@@ -357,10 +354,7 @@ fn read_with_own_reader<P: Plane>(
     requires planes { prec ≤ length planes.old }
     requires blank { map P.words planes.old ≡ replicate (length planes.old) (replicate P.word_count 0) }
     ensures short { IfNone result (Lacks reader.old reader.new (planes_bits budget prec size 0 (rest reader.old))) }
-    ensures bits { IfSome result (λ after. Takes reader.old reader.new budget after (planes_bits budget prec size 0 (rest reader.old))) }
-    ensures digits { OnSome result (planes_held size (map P.words planes.new)
-        ≡ planes_ahead budget prec size 0 (rest reader.old) ++ replicate (length planes.new - prec) (replicate size false)) }
-    ensures clear { OnSome result (All (IsClearFrom size) (map P.words planes.new)) }
+    ensures read { IfSome result (λ left. ReadsTop budget prec size reader.old reader.new (map P.words planes.new) left) }
 {
     let mut place = reader.another();
     let left = if size == 4 || size == 16 || size == 64 {
@@ -386,10 +380,7 @@ fn read_top<P: Plane>(
     requires planes { prec ≤ length planes.old }
     requires blank { map P.words planes.old ≡ replicate (length planes.old) (replicate P.word_count 0) }
     ensures short { IfNone result (Lacks reader.old reader.new (planes_bits budget prec size 0 (rest reader.old))) }
-    ensures bits { IfSome result (λ after. Takes reader.old reader.new budget after (planes_bits budget prec size 0 (rest reader.old))) }
-    ensures digits { OnSome result (planes_held size (map P.words planes.new)
-        ≡ planes_ahead budget prec size 0 (rest reader.old) ++ replicate (length planes.new - prec) (replicate size false)) }
-    ensures clear { OnSome result (All (IsClearFrom size) (map P.words planes.new)) }
+    ensures read { IfSome result (λ left. ReadsTop budget prec size reader.old reader.new (map P.words planes.new) left) }
 {
     match size {
         4 => read_with_own_reader(budget, prec, size, reader, planes),

@@ -8,7 +8,7 @@ ghost use Rattle.zf_spec.specs.HeldPlanes.{digits_held, planes_held, IsClearFrom
 ghost use Rattle.zf_spec.specs.Planes.{reach};
 ghost use Rattle.zf_planes.specs.WordPlanes.{IsReadAs};
 ghost use Rattle.zf_bits.specs.Reader.{rest};
-ghost use Rattle.zf_planes.specs.Decoding.{IsWindow, plane_ahead, plane_bits, planes_ahead, planes_bits, Takes, Lacks};
+ghost use Rattle.zf_planes.specs.Decoding.{IsWindow, plane_ahead, plane_bits, planes_ahead, planes_bits, Takes, Lacks, ReadsTop};
 
 use crate::decoding::{Ahead, look, look_on, pass, pass_zero_planes, read_by_runs};
 use crate::tails::{PlaneOfWord, plane_of_all, plane_with, plane_without};
@@ -177,10 +177,7 @@ pub(crate) fn read_in_words<P: Plane>(
     requires planes { prec ≤ length planes.old }
     requires blank { map P.words planes.old ≡ replicate (length planes.old) (replicate P.word_count 0) }
     ensures short { IfNone result (Lacks reader.old reader.new (planes_bits budget prec size 0 (rest reader.old))) }
-    ensures bits { IfSome result (λ after. Takes reader.old reader.new budget after (planes_bits budget prec size 0 (rest reader.old))) }
-    ensures digits { OnSome result (planes_held size (map P.words planes.new)
-        ≡ planes_ahead budget prec size 0 (rest reader.old) ++ replicate (length planes.new - prec) (replicate size false)) }
-    ensures clear { OnSome result (All (IsClearFrom size) (map P.words planes.new)) }
+    ensures read { IfSome result (λ left. ReadsTop budget prec size reader.old reader.new (map P.words planes.new) left) }
 {
     let mut ahead = look(budget, reader);
     let mut i = pass_zero_planes(prec, &mut ahead, reader) as usize;
@@ -191,15 +188,7 @@ pub(crate) fn read_in_words<P: Plane>(
         let wanted = if size == 16 { 32 } else { above as u64 + 17 };
         look_on(wanted, &mut ahead, reader);
         if (above as u64) < ahead.count && (ahead.bits >> above) % 2 == 0 {
-            i = read_same(
-                above,
-                size,
-                i,
-                prec as usize,
-                planes,
-                &mut ahead,
-                reader,
-            );
+            i = read_same(above, size, i, prec as usize, planes, &mut ahead, reader);
         } else {
             let mut plane = P::zero();
             above = read_more(above, size, &mut plane, &mut ahead, reader)?;

@@ -1,8 +1,7 @@
-use Rattle.std.proofs.Common.{◌≡◌, ℕ, ◌-◌, ◌*◌, ◌≤◌, inl, inr, length, map, ap, ◌∙◌, arith, length-set}
-use Rattle.zf_planes.specs.Decoding.{Takes}
+use Rattle.std.proofs.Common.{◌≤◌, inl, inr, length, map, ◌∙◌, arith, length-set}
+use Rattle.std.proofs.lemmas.List.{length-map}
 use Rattle.zf_planes.proofs.Passing.{if_none}
-use Rattle.zf_planes.proofs.PlanesRead.{AreRead-start, AreRead-more, AreRead-lacks, AreRead-over, AllRead}
-use Rattle.zf_planes.proofs.decoding.read_by_planes.Given.{Over}
+use Rattle.zf_planes.proofs.PlanesRead.{AreRead-start, AreRead-more, AreRead-lacks, AreRead-over}
 use Rattle.zf_planes.proofs.decoding.read_by_planes.Goals as goal
 
 pub loop-i-init : goal.loop-i-init
@@ -37,26 +36,14 @@ loop-i-preserved g c =
 
 -- ---- no bit or no plane is left
 
-no_bit_left : (g : Over) (c : goal.Else-ahead-gt0 g) → AllRead c.args.reader.now c.loop-i.reader c.args.budget c.loop-i.ahead.left c.args.prec c.args.size (length c.loop-i.planes) (map g.P.Plane.words c.loop-i.planes)
-no_bit_left g c = AreRead-over g.P.Plane.words c.loop-i.planes c.loop-i.invariant.read c.requires.some (omega (arith, c.loop-i.invariant.long, c.requires.planes)) (inl (omega arith))
+pub returns-else-ahead-gt0-clause-read : goal.returns-else-ahead-gt0-clause-read
+returns-else-ahead-gt0-clause-read g c =
+    let planes = map g.P.Plane.words c.loop-i.planes in
+    let enough : c.args.prec ≤ length planes = omega (arith, length-map c.loop-i.planes g.P.Plane.words, c.loop-i.invariant.long, c.requires.planes) in
+    AreRead-over planes c.loop-i.invariant.read c.requires.some enough (inl (omega arith))
 
-pub returns-else-ahead-gt0-clause-bits : goal.returns-else-ahead-gt0-clause-bits
-returns-else-ahead-gt0-clause-bits g c = (no_bit_left g c).taken
-
-pub returns-else-ahead-gt0-clause-digits : goal.returns-else-ahead-gt0-clause-digits
-returns-else-ahead-gt0-clause-digits g c = (no_bit_left g c).digits
-
-pub returns-else-ahead-gt0-clause-clear : goal.returns-else-ahead-gt0-clause-clear
-returns-else-ahead-gt0-clause-clear g c = c.loop-i.invariant.read.clear
-
-no_plane_left : (g : Over) (c : goal.After-loop-i g) → AllRead c.args.reader.now c.loop-i.reader c.args.budget c.loop-i.ahead.left c.args.prec c.args.size (length c.loop-i.planes) (map g.P.Plane.words c.loop-i.planes)
-no_plane_left g c = AreRead-over g.P.Plane.words c.loop-i.planes c.loop-i.invariant.read c.requires.some (omega (arith, c.loop-i.invariant.long, c.requires.planes)) (inr (omega arith))
-
-pub returns-after-loop-i-clause-bits : goal.returns-after-loop-i-clause-bits
-returns-after-loop-i-clause-bits g c = (no_plane_left g c).taken
-
-pub returns-after-loop-i-clause-digits : goal.returns-after-loop-i-clause-digits
-returns-after-loop-i-clause-digits g c = (no_plane_left g c).digits
-
-pub returns-after-loop-i-clause-clear : goal.returns-after-loop-i-clause-clear
-returns-after-loop-i-clause-clear g c = c.loop-i.invariant.read.clear
+pub returns-after-loop-i-clause-read : goal.returns-after-loop-i-clause-read
+returns-after-loop-i-clause-read g c =
+    let planes = map g.P.Plane.words c.loop-i.planes in
+    let enough : c.args.prec ≤ length planes = omega (arith, length-map c.loop-i.planes g.P.Plane.words, c.loop-i.invariant.long, c.requires.planes) in
+    AreRead-over planes c.loop-i.invariant.read c.requires.some enough (inr (omega arith))

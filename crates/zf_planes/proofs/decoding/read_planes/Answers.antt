@@ -1,4 +1,5 @@
 use Rattle.std.proofs.Common.{◌≡◌, ℕ, ◌-◌, Bool, true, false, List, ◌++◌, length, take, replicate, refl, ap, ◌∙◌, subst, arith}
+use Rattle.std.proofs.lemmas.List.{length-map}
 use Rattle.zf_spec.specs.Kept.{kept_planes}
 use Rattle.zf_bits.specs.Reader.{rest, Reads}
 use Rattle.zf_planes.specs.Decoding.{coded, coded_bits, planes_ahead, planes_bits, Takes}
@@ -19,7 +20,7 @@ planes_are budget prec size s = refl
 taken : (g : Over) (c : goal.In-Some g) → Takes c.args.reader.now c.read_top.new.reader c.args.budget c.in-Some.left (coded_bits c.args.budget c.args.prec c.args.size (rest c.args.reader.now))
 taken g c =
     let P : ℕ → Type 0 = λ n. Takes c.args.reader.now c.read_top.new.reader c.args.budget c.in-Some.left n in
-    subst P (bits_are c.args.budget c.args.prec c.args.size (rest c.args.reader.now)) c.in-Some.ensures.bits
+    subst P (bits_are c.args.budget c.args.prec c.args.size (rest c.args.reader.now)) c.in-Some.ensures.read.taken
 
 pub returns-in-Some-clause-short : goal.returns-in-Some-clause-short
 returns-in-Some-clause-short g c =
@@ -38,8 +39,9 @@ returns-in-Some-clause-reads g c =
 
 pub returns-in-Some-clause-digits : goal.returns-in-Some-clause-digits
 returns-in-Some-clause-digits g c =
-    let zeros = replicate (length c.read_top.new.planes - c.args.prec) (replicate c.args.size false) in
-    c.in-Some.ensures.digits ∙ ap (λ (ps : List (List Bool)). ps ++ zeros) (planes_are c.args.budget c.args.prec c.args.size (rest c.args.reader.now))
+    let planes = c.read_top.new.planes in
+    let zeros = replicate (length planes - c.args.prec) (replicate c.args.size false) in
+    (rw (length-map planes g.P.Plane.words) at c.in-Some.ensures.read.digits) ∙ ap (λ (ps : List (List Bool)). ps ++ zeros) (planes_are c.args.budget c.args.prec c.args.size (rest c.args.reader.now))
 
 -- ---- the bits are not there
 

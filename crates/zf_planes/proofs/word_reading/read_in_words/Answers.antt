@@ -1,11 +1,11 @@
-use Rattle.std.proofs.Common.{◌≡◌, ℕ, suc, ◌+◌, ◌-◌, ◌*◌, ◌<◌, ◌≤◌, ◌⊎◌, ⊎_elim, inl, inr, max, length, map, sym, ap, ◌∙◌, subst, arith, length-set}
+use Rattle.std.proofs.Common.{◌≡◌, ℕ, ◌*◌, ◌<◌, ◌≤◌, ◌⊎◌, ⊎_elim, inl, inr, max, length, map, sym, ◌∙◌, arith, length-set}
 use Rattle.zf_spec.specs.HeldPlanes.{digits_held}
 use Rattle.zf_spec.specs.Planes.{reach}
 use Rattle.zf_spec.proofs.HeldPlanes.{length-digits_held}
 use Rattle.zf_spec.proofs.Reach.{reach-le}
+use Rattle.std.proofs.lemmas.List.{length-map}
 use Rattle.zf_planes.proofs.Passing.{if_none}
-use Rattle.zf_planes.proofs.PlanesRead.{AreRead-start, AreRead-more, AreRead-ranks, AreRead-same, AreRead-lacks, AreRead-over, AllRead}
-use Rattle.zf_planes.proofs.word_reading.read_in_words.Given.{Over}
+use Rattle.zf_planes.proofs.PlanesRead.{AreRead-start, AreRead-more, AreRead-ranks, AreRead-lacks, AreRead-over}
 use Rattle.zf_planes.proofs.word_reading.read_in_words.Goals as goal
 
 -- ---- the planes of zeros at the top
@@ -67,20 +67,14 @@ loop-i-2-preserved g c =
       all = inl all;
     }
 
-no_bit_left : (g : Over) (c : goal.Else-ahead-gt0-2 g) → AllRead c.args.reader.now c.loop-i-2.reader c.args.budget c.loop-i-2.ahead.left c.args.prec c.args.size (length c.loop-i-2.planes) (map g.P.Plane.words c.loop-i-2.planes)
-no_bit_left g c = AreRead-over g.P.Plane.words c.loop-i-2.planes c.loop-i-2.invariant.read c.requires.some (omega (arith, c.loop-i-2.invariant.long, c.requires.planes)) (inl (omega arith))
+pub returns-else-ahead-gt0-2-clause-read : goal.returns-else-ahead-gt0-2-clause-read
+returns-else-ahead-gt0-2-clause-read g c =
+    let planes = map g.P.Plane.words c.loop-i-2.planes in
+    let enough : c.args.prec ≤ length planes = omega (arith, length-map c.loop-i-2.planes g.P.Plane.words, c.loop-i-2.invariant.long, c.requires.planes) in
+    AreRead-over planes c.loop-i-2.invariant.read c.requires.some enough (inl (omega arith))
 
-pub returns-else-ahead-gt0-2-clause-bits : goal.returns-else-ahead-gt0-2-clause-bits
-returns-else-ahead-gt0-2-clause-bits g c = (no_bit_left g c).taken
-
-pub returns-else-ahead-gt0-2-clause-digits : goal.returns-else-ahead-gt0-2-clause-digits
-returns-else-ahead-gt0-2-clause-digits g c = (no_bit_left g c).digits
-
-no_plane_left : (g : Over) (c : goal.After-loop-i-2 g) → AllRead c.args.reader.now c.loop-i-2.reader c.args.budget c.loop-i-2.ahead.left c.args.prec c.args.size (length c.loop-i-2.planes) (map g.P.Plane.words c.loop-i-2.planes)
-no_plane_left g c = AreRead-over g.P.Plane.words c.loop-i-2.planes c.loop-i-2.invariant.read c.requires.some (omega (arith, c.loop-i-2.invariant.long, c.requires.planes)) (inr (omega arith))
-
-pub returns-after-loop-i-2-clause-bits : goal.returns-after-loop-i-2-clause-bits
-returns-after-loop-i-2-clause-bits g c = (no_plane_left g c).taken
-
-pub returns-after-loop-i-2-clause-digits : goal.returns-after-loop-i-2-clause-digits
-returns-after-loop-i-2-clause-digits g c = (no_plane_left g c).digits
+pub returns-after-loop-i-2-clause-read : goal.returns-after-loop-i-2-clause-read
+returns-after-loop-i-2-clause-read g c =
+    let planes = map g.P.Plane.words c.loop-i-2.planes in
+    let enough : c.args.prec ≤ length planes = omega (arith, length-map c.loop-i-2.planes g.P.Plane.words, c.loop-i-2.invariant.long, c.requires.planes) in
+    AreRead-over planes c.loop-i-2.invariant.read c.requires.some enough (inr (omega arith))

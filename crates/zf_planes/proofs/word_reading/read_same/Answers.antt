@@ -1,15 +1,13 @@
-use Rattle.std.proofs.Common.{◌≡◌, ℕ, suc, ◌+◌, ◌-◌, ◌*◌, ◌^◌, ◌/◌, ◌<◌, ◌≤◌, Bool, List, ◌∷◌, ◌++◌, length, map, take, drop, sym, ap, subst, ◌∙◌, arith, length-set}
+use Rattle.std.proofs.Common.{◌≡◌, ℕ, suc, ◌+◌, ◌-◌, ◌<◌, ◌≤◌, Bool, List, ◌∷◌, ◌++◌, length, map, take, drop, sym, ap, subst, ◌∙◌, arith, length-set}
 use Rattle.std.proofs.lemmas.List.{length-map, drop-drop}
 use Rattle.std.proofs.lemmas.List.Elements.{All-set}
-use Rattle.zf_spec.specs.Numbers.{field}
-use Rattle.zf_spec.specs.HeldPlanes.{digits_held, planes_held, IsClearFrom}
+use Rattle.zf_spec.specs.HeldPlanes.{planes_held, IsClearFrom}
 use Rattle.zf_bits.specs.Reader.{rest}
 use Rattle.zf_planes.specs.Decoding.{planes_ahead, Takes}
-use Rattle.zf_planes.proofs.Gathering.{Written, written}
+use Rattle.zf_planes.proofs.Gathering.{written}
 use Rattle.zf_planes.proofs.Peeking.{window_long, window_passed, Takes-skip}
-use Rattle.zf_planes.proofs.PlanesRead.{NextKnown, next_known, one_more}
+use Rattle.zf_planes.proofs.PlanesRead.{next_known, one_more}
 use Rattle.zf_planes.proofs.Unpacking.{top_behind, set_words}
-use Rattle.zf_planes.proofs.word_reading.read_same.Given.{Over}
 use Rattle.zf_planes.proofs.word_reading.read_same.Goals as goal
 
 pub loop-i-preserved : goal.loop-i-preserved
