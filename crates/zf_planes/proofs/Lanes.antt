@@ -195,6 +195,27 @@ lanes_fit v e h c word more high low room =
     let none : above_lanes 4 (v * 2 ^ c + e) ≡ 0 = above_joined 4 v e h c high low room ∙ ap (λ a. a * 2 ^ c + above_lanes 4 e) none_v ∙ ap (λ a. 0 * 2 ^ c + a) none_e ∙ omega arith in
     within_lanes 4 (v * 2 ^ c + e) none
 
+-- one plane more behind planes in lanes, as it is computed in a word
+pub record IsLonger (h v e : ℕ) : Type 0 where
+  pub small : v * 2 % 2 ^ 64 + e < 2 ^ 64
+  pub below : AreBelow (h + 1) (lanes_in 4 (v * 2 % 2 ^ 64 + e))
+  pub planes : low_planes (h + 1) (lanes_in 4 (v * 2 % 2 ^ 64 + e)) ≡ low_planes h (lanes_in 4 v) ++ low_planes 1 (lanes_in 4 e)
+
+pub one_behind : (h v e : ℕ) → v < 2 ^ 64 → e < 2 ^ 64 → AreBelow h (lanes_in 4 v) → AreBelow 1 (lanes_in 4 e) → h + 1 ≤ 16 → IsLonger h v e
+one_behind h v e word more high low room =
+    let front = lanes_in 4 v in
+    let back = lanes_in 4 e in
+    let same : length front ≡ length back = length-lanes_in 4 v ∙ sym (length-lanes_in 4 e) in
+    let fits : v * 2 + e < 2 ^ 64 = lanes_fit v e h 1 word more high low room in
+    let none : v * 2 % 2 ^ 64 ≡ v * 2 = mod-eq_of_lt (omega arith) in
+    let is : lanes_in 4 (v * 2 % 2 ^ 64 + e) ≡ joined 1 front back = ap (λ n. lanes_in 4 (n + e)) none ∙ lanes_joined 4 v e h 1 high low room in
+    let Below : List ℕ → Type 0 = λ us. AreBelow (h + 1) us in
+    record {
+      small = omega arith;
+      below = subst Below (sym is) (joined_below h 1 front back same high low);
+      planes = ap (low_planes (h + 1)) is ∙ planes_joined h 1 front back same low;
+    }
+
 -- ---- digits in words and in lanes
 
 pub no_lanes_below : (c k : ℕ) → AreBelow c (lanes_in k 0)

@@ -1,18 +1,20 @@
 -- Planes of four digits that are read at once, in lanes.
-use Rattle.std.proofs.Common.{◌≡◌, ℕ, zero, suc, ◌+◌, ◌-◌, ◌%◌, ◌<◌, ◌≤◌, min, max, Bool, List, [], ◌∷◌, ◌++◌, length, take, drop, refl, sym, ap, subst, ◌∙◌, arith}
-use Rattle.std.proofs.lemmas.List.{drop-drop, take-take}
+use Rattle.std.proofs.Common.{◌≡◌, ℕ, zero, suc, ◌+◌, ◌-◌, ◌*◌, ◌/◌, ◌%◌, ◌<◌, ◌≤◌, min, max, Bool, List, [], ◌∷◌, ◌++◌, length, take, drop, refl, sym, ap, subst, ◌∙◌, arith}
+use Rattle.std.proofs.lemmas.List.{append_assoc, drop-drop, take-take}
 use Rattle.std.proofs.lemmas.List.Elements.{All-head, All-tail}
 use Rattle.zf_spec.specs.Numbers.{field}
 use Rattle.zf_spec.specs.Planes.{plane_code, code_from, reach, reach_of_all, AreOfSize}
 use Rattle.zf_spec.specs.Kept.{kept_planes_from}
 use Rattle.zf_spec.specs.ReadPlanes.{planes_in_from}
-use Rattle.zf_spec.proofs.Reach.{reach_within}
+use Rattle.zf_spec.proofs.Fields.{length-field, field-add}
+use Rattle.zf_spec.proofs.Reach.{reach-le, reach_within}
 use Rattle.zf_bits.proofs.Fields.{field-mod}
 use Rattle.zf_bits.specs.Reader.{Reader, rest}
 use Rattle.zf_planes.specs.Decoding.{IsWindow, Takes, plane_ahead, plane_bits, planes_ahead, planes_bits}
-use Rattle.zf_planes.specs.Lanes.{low_planes, lanes_in}
+use Rattle.zf_planes.specs.Lanes.{low_planes, lanes_in, IsGathered, gathered}
+use Rattle.zf_planes.proofs.Doubled.{plane_whole}
 use Rattle.zf_planes.proofs.Lanes.{length-low_planes, low_planes-sizes, length-lanes_in}
-use Rattle.zf_planes.proofs.Passing.{Takes-rest}
+use Rattle.zf_planes.proofs.Passing.{Passes, Passes-part, Takes-rest}
 use Rattle.zf_planes.proofs.Peeking.{window_front, window_long}
 use Rattle.zf_planes.proofs.PlaneAhead.{whole_plane}
 use Rattle.zf_planes.proofs.PlanesAhead.{whole_planes, next_plane, planes_ahead-none, planes_bits-none}
@@ -85,15 +87,13 @@ pub record SomeRead (now new : Reader) (left after most n c v len above : ℕ) :
   pub digits : planes_ahead left most 4 n (rest now) ≡ low_planes c (lanes_in 4 v) ++ planes_ahead after (most - c) 4 above (rest new)
 
 -- planes whose code is in sight
-pub in_sight : {now new : Reader} {left after : ℕ} (most n c v len bits count above : ℕ) → IsWindow left bits count (rest now) → n ≤ 4
-    → code_from n (low_planes c (lanes_in 4 v)) ≡ field len (bits % 256) → len ≤ 8 → len ≤ count → c ≤ most → above ≡ max n (reach_of_all (low_planes c (lanes_in 4 v))) → Takes now new left after len
+pub in_view : {now new : Reader} {left after : ℕ} (most n c v len bits count above : ℕ) → IsWindow left bits count (rest now) → n ≤ 4
+    → code_from n (low_planes c (lanes_in 4 v)) ≡ field len bits → len ≤ count → c ≤ most → above ≡ max n (reach_of_all (low_planes c (lanes_in 4 v))) → Takes now new left after len
     → SomeRead now new left after most n c v len above
-in_sight {now} {new} {left} {after} most n c v len bits count above window within code short few enough reached takes =
+in_view {now} {new} {left} {after} most n c v len bits count above window within code few enough reached takes =
     let s = rest now in
     let planes = low_planes c (lanes_in 4 v) in
-    let eight : len + (8 - len) ≡ 8 = omega arith in
-    let low : field len (bits % 256) ≡ field len bits = rw eight at (field-mod len (8 - len) bits) in
-    let next : code_from n planes ≡ take len s = code ∙ low ∙ window_front s bits count len window.bits few in
+    let next : code_from n planes ≡ take len s = code ∙ window_front s bits count len window.bits few in
     let long = length-low_planes c (lanes_in 4 v) in
     let whole = whole_planes planes left most 4 n len s (omega arith) within (sizes c v) next (omega (arith, window_long s bits count window.bits)) (omega (arith, window.within)) (omega (arith, long)) in
     let spent : after ≡ left - len = omega (arith, takes.spent) in
@@ -101,6 +101,42 @@ in_sight {now} {new} {left} {after} most n c v len bits count above window withi
       bits = rw (Takes-rest takes, spent, reached) (rw long at whole.bits);
       digits = rw (Takes-rest takes, spent, reached) (rw long at whole.digits);
     }
+
+-- by the first eight of the bits
+pub in_sight : {now new : Reader} {left after : ℕ} (most n c v len bits count above : ℕ) → IsWindow left bits count (rest now) → n ≤ 4
+    → code_from n (low_planes c (lanes_in 4 v)) ≡ field len (bits % 256) → len ≤ 8 → len ≤ count → c ≤ most → above ≡ max n (reach_of_all (low_planes c (lanes_in 4 v))) → Takes now new left after len
+    → SomeRead now new left after most n c v len above
+in_sight most n c v len bits count above window within code short few enough reached takes =
+    let eight : len + (8 - len) ≡ 8 = omega arith in
+    in_view most n c v len bits count above window within (code ∙ (rw eight at (field-mod len (8 - len) bits))) few enough reached takes
+
+-- where all ranks have had a one, no plane brings more
+pub reach_of_all-four : (c v : ℕ) → 4 ≡ max 4 (reach_of_all (low_planes c (lanes_in 4 v)))
+reach_of_all-four c v = omega (arith, reach_of_all-le (low_planes c (lanes_in 4 v)) (sizes c v))
+  where
+    reach_of_all-le : (planes : List (List Bool)) → AreOfSize 4 planes → reach_of_all planes ≤ 4
+    reach_of_all-le [] all = omega arith
+    reach_of_all-le (ds ∷ planes) all =
+        let here : length ds ≡ 4 = All-head (λ es. length es ≡ 4) ds planes all in
+        omega (arith, here, reach-le ds, reach_of_all-le planes (All-tail (λ es. length es ≡ 4) ds planes all))
+
+-- planes of which each has the next four digits
+abbrev pub planes_of_digits : ℕ → ℕ → List (List Bool)
+planes_of_digits zero v = []
+planes_of_digits (suc k) v = field 4 (v % 16) ∷ planes_of_digits k (v / 16)
+
+-- and then their code is these digits
+pub code_of_digits : (k v : ℕ) → code_from 4 (planes_of_digits k v) ≡ field (4 * k) v
+code_of_digits zero v = refl
+code_of_digits (suc k) v =
+    let ds = field 4 (v % 16) in
+    let four : max 4 (reach ds) ≡ 4 = omega (arith, reach-le ds, length-field 4 (v % 16)) in
+    let parts : 4 * suc k ≡ 4 + 4 * k = omega arith in
+    ap (λ n. plane_code 4 ds ++ code_from n (planes_of_digits k (v / 16))) four
+    ∙ ap (λ (bs : List Bool). bs ++ code_from 4 (planes_of_digits k (v / 16))) (plane_whole 4 (v % 16) ∙ field-mod 4 0 v)
+    ∙ ap (λ (bs : List Bool). field 4 v ++ bs) (code_of_digits k (v / 16))
+    ∙ sym (field-add 4 (4 * k) v)
+    ∙ ap (λ n. field n v) (sym parts)
 
 -- planes are what the bits in the budget make of them
 same_ahead : (left m n : ℕ) (s t : List Bool) → take left s ≡ take left t → (planes_ahead left m 4 n s ≡ planes_ahead left m 4 n t) × (planes_bits left m 4 n s ≡ planes_bits left m 4 n t)
@@ -164,3 +200,38 @@ reach_of_one n v ds within is =
     let all = rw is at (sizes 1 v) in
     let size = All-head (λ es. length es ≡ 4) ds [] all in
     reach_within 4 n ds within size
+
+-- ---- planes that are gathered from the greatest on
+
+-- the planes so far are gathered, and what reading makes of the rest is what it makes of the planes below
+pub record FoursRead (start now : Reader) (budget left prec above : ℕ) (words : List ℕ) (done lanes held : ℕ) : Type 0 where
+  pub passes : Passes start now budget left (planes_bits left (prec - (done + held)) 4 above (rest now)) (planes_bits budget prec 4 0 (rest start))
+  pub put : IsGathered words done lanes held
+  pub planes : planes_ahead budget prec 4 0 (rest start) ≡ gathered words done lanes held ++ planes_ahead left (prec - (done + held)) 4 above (rest now)
+  pub within : done + held ≤ prec
+  pub few : held ≤ 12
+  pub high : above ≤ 4
+
+-- some planes more
+pub FoursRead-more : {start now new : Reader} {budget left after prec n : ℕ} {words : List ℕ} {done lanes held : ℕ} (c v len above : ℕ) (words' : List ℕ) (done' lanes' held' : ℕ)
+    → FoursRead start now budget left prec n words done lanes held → SomeRead now new left after (prec - (done + held)) n c v len above → Takes now new left after len
+    → IsGathered words' done' lanes' held' → gathered words' done' lanes' held' ≡ gathered words done lanes held ++ low_planes c (lanes_in 4 v) → done' + held' ≡ done + held + c
+    → done + held + c ≤ prec → held' ≤ 12 → above ≤ 4 → FoursRead start new budget after prec above words' done' lanes' held'
+FoursRead-more {start} {now} {new} {budget} {left} {after} {prec} {n} {words} {done} {lanes} {held} c v len above words' done' lanes' held' before some taken put planes sum within few high =
+    let fewer : prec - (done + held) - c ≡ prec - (done' + held') = omega arith in
+    let bits = rw fewer at some.bits in
+    let digits = rw fewer at some.digits in
+    let below = planes_ahead after (prec - (done' + held')) 4 above (rest new) in
+    let front = gathered words done lanes held in
+    record {
+      passes = Passes-part (planes_bits after (prec - (done' + held')) 4 above (rest new)) before.passes bits taken;
+      put = put;
+      planes =
+          before.planes
+          ∙ ap (λ (ps : List (List Bool)). front ++ ps) digits
+          ∙ sym (append_assoc front (low_planes c (lanes_in 4 v)) below)
+          ∙ ap (λ (ps : List (List Bool)). ps ++ below) (sym planes);
+      within = omega arith;
+      few = few;
+      high = high;
+    }

@@ -1,6 +1,6 @@
 //! Reading the code of planes of four digits straight into the digits of the coefficients.
 
-ghost use Rattle.std.specs.Prelude.{◌≡◌, ◌+◌, ◌-◌, ◌*◌, ◌/◌, ◌%◌, ◌^◌, ◌<◌, ◌≤◌, ◌↔◌, max, false, [], ◌∷◌, ◌++◌, length, map, take, replicate, slice_index_or, All, IsNone, IfNone, IfSome, OnSome};
+ghost use Rattle.std.specs.Prelude.{true, ◌≡◌, ◌+◌, ◌-◌, ◌*◌, ◌/◌, ◌%◌, ◌^◌, ◌<◌, ◌≤◌, ◌↔◌, max, false, [], ◌∷◌, ◌++◌, length, map, take, replicate, slice_index_or, All, IsNone, IfNone, IfSome, OnSome};
 ghost use Rattle.zf_spec.specs.Numbers.{field};
 ghost use Rattle.zf_spec.specs.Planes.{code_from, reach, reach_of_all, planes_of};
 ghost use Rattle.zf_spec.specs.Kept.{kept_planes};
@@ -405,6 +405,27 @@ fn planes_in_sight(n: usize, bits: u64) -> PlanesInLanes
     }
 }
 
+/// The four planes whose digits these sixteen bits are, as they are where all ranks have had a one above.
+#[inline(always)]
+fn planes_of_digits(bits: u64) -> PlanesInLanes
+    requires bits { bits < 65536 }
+    ensures code { code_from 4 (low_planes 4 (lanes_in 4 result.lanes)) ≡ field 16 bits }
+    ensures below { AreBelow 4 (lanes_in 4 result.lanes) }
+    ensures count { result.count ≡ 4 }
+    ensures len { result.len ≡ 16 }
+    ensures above { result.above ≡ 4 }
+{
+    let one = lanes_of_4(bits % 16);
+    let two = (one << 1) + lanes_of_4(bits / 16 % 16);
+    let three = (two << 1) + lanes_of_4(bits / 256 % 16);
+    PlanesInLanes {
+        lanes: (three << 1) + lanes_of_4(bits / 4096),
+        count: 4,
+        len: 16,
+        above: 4,
+    }
+}
+
 /// The planes that the last bits of a budget stand for, or the first of them, where the ranks below `n` have had a one above.
 #[inline(always)]
 fn planes_at_end(n: usize, left: u64, bits: u64) -> PlanesInLanes
@@ -531,6 +552,37 @@ fn read_some(
     Some(one)
 }
 
+/// Whether so many bits are in sight, after another look where they are not at first.
+#[inline(always)]
+fn sees(n: u64, ahead: &mut Ahead, reader: &BitReader<'_>) -> bool
+    requires window { IsWindow ahead.old.left ahead.old.bits ahead.old.count (rest reader.now) }
+    ensures window { IsWindow ahead.new.left ahead.new.bits ahead.new.count (rest reader.now) }
+    ensures left { ahead.new.left ≡ ahead.old.left }
+    ensures there { result ≡ true → n ≤ ahead.new.count }
+{
+    look_on(n, ahead, reader);
+    n <= ahead.count
+}
+
+/// Reads four of `most` planes, in which all ranks have had a one above.
+#[inline(always)]
+fn read_verbatim(most: u32, ahead: &mut Ahead, reader: &mut BitReader<'_>) -> PlanesInLanes
+    requires four { 4 ≤ most }
+    requires there { 16 ≤ ahead.old.count }
+    requires window { IsWindow ahead.old.left ahead.old.bits ahead.old.count (rest reader.old) }
+    ensures window { IsWindow ahead.new.left ahead.new.bits ahead.new.count (rest reader.new) }
+    ensures count { result.count ≡ 4 }
+    ensures below { AreBelow 4 (lanes_in 4 result.lanes) }
+    ensures taken { Takes reader.old reader.new ahead.old.left ahead.new.left 16 }
+    ensures bits { planes_bits ahead.old.left most 4 4 (rest reader.old) ≡ 16 + planes_bits ahead.new.left (most - 4) 4 4 (rest reader.new) }
+    ensures digits { planes_ahead ahead.old.left most 4 4 (rest reader.old)
+        ≡ low_planes 4 (lanes_in 4 result.lanes) ++ planes_ahead ahead.new.left (most - 4) 4 4 (rest reader.new) }
+{
+    let four = planes_of_digits(ahead.bits % 65536);
+    pass(four.len, ahead, reader);
+    four
+}
+
 /// Digits that were read.
 #[derive(Clone, Copy)]
 struct Gathered {
@@ -655,6 +707,11 @@ fn read_gathered(budget: u64, prec: u32, reader: &mut BitReader<'_>) -> Option<R
         let some = read_some(planes, above, &mut ahead, reader)?;
         digits = add(digits, some);
         above = some.above;
+        while above == 4 && digits.done + digits.held + 4 <= prec && sees(16, &mut ahead, reader) {
+            let planes = prec - (digits.done + digits.held);
+            let four = read_verbatim(planes, &mut ahead, reader);
+            digits = add(digits, four);
+        }
     }
     Some(ReadDigits {
         digits,

@@ -4,6 +4,7 @@ use Rattle.zf_bits.specs.Reader.{rest}
 use Rattle.zf_planes.specs.Decoding.{planes_ahead, planes_bits}
 use Rattle.zf_planes.specs.Lanes.{low_planes, lanes_in, gathered}
 use Rattle.zf_planes.proofs.Lanes.{gathered_words, low_planes-zeros, four_below, no_lanes_below}
+use Rattle.zf_planes.proofs.LanesAhead.{FoursRead, FoursRead-more}
 use Rattle.zf_planes.proofs.Passing.{Passes-start, Passes-part, Passes-end, Passes-lacks, if_none}
 use Rattle.zf_planes.proofs.PlanesAhead.{planes_over, zero_planes}
 use Rattle.zf_planes.proofs.four_reading.read_gathered.Goals as goal
@@ -23,57 +24,61 @@ loop-digits-init c =
     let first = rw (← spent) at (zero_planes k c.args.budget c.args.prec 4 (rest c.args.reader.now) behind (omega arith) (omega (arith, taken.spent)) passed.ensures.within passed.ensures.zeros) in
     let all : k + 0 ≡ k = omega arith in
     let held : gathered words k 0 0 ≡ replicate k zeros = gathered_words words k 0 0 refl ∙ low_planes-zeros k in
-    rw all (record {
+    record {
       window = passed.ensures.window;
-      passes = Passes-part _ (Passes-start c.args.reader.now c.args.budget _) first.0 taken;
-      put = record { four = refl; front = four_below k; back = no_lanes_below 0 4 };
-      planes = first.1 ∙ ap (λ (ps : List (List Bool)). ps ++ planes_ahead after (c.args.prec - k) 4 0 behind) (sym held);
-      within = passed.ensures.within;
-      few = omega arith;
-      high = omega arith;
-    })
+      read = record {
+        passes = rw all (Passes-part _ (Passes-start c.args.reader.now c.args.budget _) first.0 taken);
+        put = record { four = refl; front = four_below k; back = no_lanes_below 0 4 };
+        planes = rw all (first.1 ∙ ap (λ (ps : List (List Bool)). ps ++ planes_ahead after (c.args.prec - k) 4 0 behind) (sym held));
+        within = omega (arith, passed.ensures.within);
+        few = omega arith;
+        high = omega arith;
+      };
+    }
 
 -- ---- some planes more
 
 pub overflow_add-digits : goal.overflow_add-digits
-overflow_add-digits c = omega (arith, c.loop-digits.invariant.within, c.requires.planes)
+overflow_add-digits c = omega (arith, c.loop-digits.invariant.read.within, c.requires.planes)
 
 pub read_some-requires-clause-in_plane : goal.read_some-requires-clause-in_plane
-read_some-requires-clause-in_plane c = c.loop-digits.invariant.high
+read_some-requires-clause-in_plane c = c.loop-digits.invariant.read.high
 
 pub read_some-requires-clause-window : goal.read_some-requires-clause-window
 read_some-requires-clause-window c = c.loop-digits.invariant.window
 
 pub returns-in_err-some-clause-short : goal.returns-in_err-some-clause-short
-returns-in_err-some-clause-short c = if_none _ (Passes-lacks c.loop-digits.invariant.passes c.in_err-some.ensures.short (omega arith))
+returns-in_err-some-clause-short c = if_none _ (Passes-lacks c.loop-digits.invariant.read.passes c.in_err-some.ensures.short (omega arith))
 
-pub loop-digits-preserved : goal.loop-digits-preserved
-loop-digits-preserved c =
-    let before = c.loop-digits.invariant in
-    let digits = c.loop-digits.digits in
+pub loop-ahead-init : goal.loop-ahead-init
+loop-ahead-init c =
     let ok = c.in_ok-some.ensures in
     let some = c.in_ok-some.some in
     let added = c.add-digits in
-    let after = c.read_some.new.ahead.left in
-    let behind = rest c.read_some.new.reader in
-    let fewer : c.args.prec - (digits.done + digits.held) - some.count ≡ c.args.prec - (added.result.done + added.result.held) = omega (arith, added.ensures.sum) in
-    let bits = rw fewer at ok.bits in
-    let planes = rw fewer at ok.digits in
-    let below = planes_ahead after (c.args.prec - (added.result.done + added.result.held)) 4 some.above behind in
-    let front = gathered digits.words digits.done digits.lanes digits.held in
     record {
       window = ok.window;
-      passes = Passes-part (planes_bits after (c.args.prec - (added.result.done + added.result.held)) 4 some.above behind) before.passes bits ok.taken;
-      put = added.ensures.gathered;
-      planes =
-          before.planes
-          ∙ ap (λ (ps : List (List Bool)). front ++ ps) planes
-          ∙ sym (append_assoc front (low_planes some.count (lanes_in 4 some.lanes)) below)
-          ∙ ap (λ (ps : List (List Bool)). ps ++ below) (sym added.ensures.planes);
-      within = omega (arith, added.ensures.sum, ok.most, c.loop-digits-test.true);
-      few = added.ensures.held;
-      high = ok.within;
+      read = FoursRead-more some.count some.lanes some.len some.above _ _ _ _ c.loop-digits.invariant.read (record { bits = ok.bits; digits = ok.digits }) ok.taken added.ensures.gathered added.ensures.planes added.ensures.sum (omega (arith, ok.most, c.loop-digits-test.true)) added.ensures.held ok.within;
+      more = omega arith;
     }
+
+pub loop-ahead-preserved : goal.loop-ahead-preserved
+loop-ahead-preserved c =
+    let before = c.loop-ahead.invariant in
+    let four = c.read_verbatim-four in
+    let added = c.add-digits-in-loop-ahead.ensures in
+    let left = c.sees.ensures.left in
+    let all : c.in_ok-some.some.above ≡ 4 = c.loop-ahead-test.true in
+    let planes = rw four.ensures.count at added.planes in
+    let taken = rw left at four.ensures.taken in
+    record {
+      window = four.ensures.window;
+      read = FoursRead-more 4 four.result.lanes 16 c.in_ok-some.some.above _ _ _ _ before.read (record { bits = rw (all, ← left) four.ensures.bits; digits = rw (all, ← left) four.ensures.digits }) taken
+          added.gathered planes (omega (arith, added.sum, four.ensures.count)) (omega (arith, c.if-digits-prec.true)) added.held (omega (arith, all));
+      more = omega (arith, before.more, added.sum);
+    }
+
+pub loop-digits-preserved : goal.loop-digits-preserved
+loop-digits-preserved c = record { window = c.loop-ahead.invariant.window; read = c.loop-ahead.invariant.read }
 
 -- ---- no bit or no plane is left
 
@@ -81,26 +86,26 @@ no_bit_left : (c : goal.Else-ahead-gt0) → (planes_bits c.loop-digits.ahead.lef
     × (planes_ahead c.loop-digits.ahead.left (c.args.prec - (c.loop-digits.digits.done + c.loop-digits.digits.held)) 4 c.loop-digits.above (rest c.loop-digits.reader)
     ≡ replicate (c.args.prec - (c.loop-digits.digits.done + c.loop-digits.digits.held)) (replicate 4 false))
 no_bit_left c =
-    planes_over c.loop-digits.ahead.left (c.args.prec - (c.loop-digits.digits.done + c.loop-digits.digits.held)) 4 c.loop-digits.above (rest c.loop-digits.reader) (omega arith) c.loop-digits.invariant.high (inl (omega arith))
+    planes_over c.loop-digits.ahead.left (c.args.prec - (c.loop-digits.digits.done + c.loop-digits.digits.held)) 4 c.loop-digits.above (rest c.loop-digits.reader) (omega arith) c.loop-digits.invariant.read.high (inl (omega arith))
 
 pub returns-else-ahead-gt0-clause-bits : goal.returns-else-ahead-gt0-clause-bits
-returns-else-ahead-gt0-clause-bits c = Passes-end c.loop-digits.invariant.passes (no_bit_left c).0
+returns-else-ahead-gt0-clause-bits c = Passes-end c.loop-digits.invariant.read.passes (no_bit_left c).0
 
 pub returns-else-ahead-gt0-clause-digits : goal.returns-else-ahead-gt0-clause-digits
 returns-else-ahead-gt0-clause-digits c =
     let digits = c.loop-digits.digits in
-    c.loop-digits.invariant.planes ∙ ap (λ (ps : List (List Bool)). gathered digits.words digits.done digits.lanes digits.held ++ ps) (no_bit_left c).1
+    c.loop-digits.invariant.read.planes ∙ ap (λ (ps : List (List Bool)). gathered digits.words digits.done digits.lanes digits.held ++ ps) (no_bit_left c).1
 
 no_plane_left : (c : goal.After-loop-digits) → (planes_bits c.loop-digits.ahead.left (c.args.prec - (c.loop-digits.digits.done + c.loop-digits.digits.held)) 4 c.loop-digits.above (rest c.loop-digits.reader) ≡ 0)
     × (planes_ahead c.loop-digits.ahead.left (c.args.prec - (c.loop-digits.digits.done + c.loop-digits.digits.held)) 4 c.loop-digits.above (rest c.loop-digits.reader)
     ≡ replicate (c.args.prec - (c.loop-digits.digits.done + c.loop-digits.digits.held)) (replicate 4 false))
 no_plane_left c =
-    planes_over c.loop-digits.ahead.left (c.args.prec - (c.loop-digits.digits.done + c.loop-digits.digits.held)) 4 c.loop-digits.above (rest c.loop-digits.reader) (omega arith) c.loop-digits.invariant.high (inr (omega arith))
+    planes_over c.loop-digits.ahead.left (c.args.prec - (c.loop-digits.digits.done + c.loop-digits.digits.held)) 4 c.loop-digits.above (rest c.loop-digits.reader) (omega arith) c.loop-digits.invariant.read.high (inr (omega arith))
 
 pub returns-after-loop-digits-clause-bits : goal.returns-after-loop-digits-clause-bits
-returns-after-loop-digits-clause-bits c = Passes-end c.loop-digits.invariant.passes (no_plane_left c).0
+returns-after-loop-digits-clause-bits c = Passes-end c.loop-digits.invariant.read.passes (no_plane_left c).0
 
 pub returns-after-loop-digits-clause-digits : goal.returns-after-loop-digits-clause-digits
 returns-after-loop-digits-clause-digits c =
     let digits = c.loop-digits.digits in
-    c.loop-digits.invariant.planes ∙ ap (λ (ps : List (List Bool)). gathered digits.words digits.done digits.lanes digits.held ++ ps) (no_plane_left c).1
+    c.loop-digits.invariant.read.planes ∙ ap (λ (ps : List (List Bool)). gathered digits.words digits.done digits.lanes digits.held ++ ps) (no_plane_left c).1
