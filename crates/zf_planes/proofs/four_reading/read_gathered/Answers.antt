@@ -1,10 +1,9 @@
 use Rattle.std.proofs.Common.{◌≡◌, ℕ, ◌+◌, ◌-◌, inl, inr, Bool, false, List, [], ◌∷◌, ◌++◌, replicate, refl, sym, ap, ◌∙◌, arith}
-use Rattle.std.proofs.lemmas.List.{append_assoc}
 use Rattle.zf_bits.specs.Reader.{rest}
 use Rattle.zf_planes.specs.Decoding.{planes_ahead, planes_bits}
-use Rattle.zf_planes.specs.Lanes.{low_planes, lanes_in, gathered}
+use Rattle.zf_planes.specs.Lanes.{gathered}
 use Rattle.zf_planes.proofs.Lanes.{gathered_words, low_planes-zeros, four_below, no_lanes_below}
-use Rattle.zf_planes.proofs.LanesAhead.{FoursRead, FoursRead-more}
+use Rattle.zf_planes.proofs.LanesAhead.{FoursRead-more}
 use Rattle.zf_planes.proofs.Passing.{Passes-start, Passes-part, Passes-end, Passes-lacks, if_none}
 use Rattle.zf_planes.proofs.PlanesAhead.{planes_over, zero_planes}
 use Rattle.zf_planes.proofs.four_reading.read_gathered.Goals as goal

@@ -1,8 +1,5 @@
-use Rattle.std.proofs.Common.{◌≡◌, ◌%◌, ◌≤◌, ◌∙◌, arith}
-use Rattle.zf_spec.specs.Planes.{reach_of_all}
-use Rattle.zf_spec.specs.Numbers.{field}
+use Rattle.std.proofs.Common.{◌∙◌, arith}
 use Rattle.zf_bits.proofs.Fields.{field-mod}
-use Rattle.zf_planes.specs.Decoding.{Takes}
 use Rattle.zf_planes.proofs.LanesAhead.{SomeRead, in_view, reach_of_all-four}
 use Rattle.zf_planes.proofs.four_reading.read_verbatim.Goals as goal
 
