@@ -7,6 +7,7 @@
 --     Codes          the codes of blocks, one after another; a code says of a block only what its padded block says
 --     Rows           the codes of an array, row by row
 --     RawRows        what is read of raw values
+--     ReadingValues  values that are read piece by piece
 --     Slabwise       an array that is compressed slab by slab
 --     FrontsOfStreams    what was written of a stream
 --     Answering      what an answer says of the input
@@ -36,6 +37,7 @@ pub mod Flowing
 mod Codes
 pub mod Rows
 pub mod RawRows
+pub mod ReadingValues
 pub mod Slabwise
 pub mod FrontsOfStreams
 pub mod Answering

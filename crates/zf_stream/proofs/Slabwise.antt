@@ -181,7 +181,6 @@ module _ (h : Header) (row here : ℕ) (next : IsNext h row here) (whole : IsSla
 -- ---- the sizes of a slab
 
 pub record SlabSizes (h : Header) (rows here count len : ℕ) (shape : List ℕ) : Type 0 where
-  pub bytes : count * len ≤ rows_len h rows
   pub bytes_are : count * len ≡ product shape * byte_len (width_of h.ty)
   pub bytes_len : count * len ≡ rows_len h here
   pub values : count ≤ row_len h.shape * rows
@@ -192,7 +191,6 @@ slab_sizes h rows here count len shape some few is count_is len_is =
     let size : count * len ≡ product shape * byte_len (width_of h.ty) = ap (λ n. n * len) count_is ∙ ap (λ n. product shape * n) len_is in
     let all : count * len ≡ rows_len h here = ap (λ n. n * len) many ∙ ap (λ n. row_len h.shape * here * n) len_is in
     record {
-      bytes = omega (arith, all, rows_len-le h here rows few);
       bytes_are = size;
       bytes_len = all;
       values = omega (arith, many, mul-le-mul_left (row_len h.shape) few);

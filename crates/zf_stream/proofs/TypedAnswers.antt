@@ -1,10 +1,9 @@
 -- What is answered where a stream is restored if its values are of one type.
-use Rattle.std.proofs.Common.{◌≡◌, ◌≢◌, refl, sym, ap, subst, ◌∙◌, ℕ, ◌≤◌, ◌⊎◌, inl, inr, ⊎_elim, Bool, true, false, List, ◌++◌, Option, Some, None, Result, Ok, Err}
+use Rattle.std.proofs.Common.{◌≡◌, ◌≢◌, refl, sym, ap, ◌∙◌, ℕ, ◌≤◌, inl, inr, ⊎_elim, Bool, false, List, ◌++◌, Option, Some, None, Result, Ok, Err}
 use Rattle.std.specs.Prelude.{IsErrAnd}
 use Rattle.zf_base.specs.declared.lane.Ty.{Ty}
 use Rattle.zf_base.specs.declared.lane.Ty.TheVariants.{I32, I64}
 use Rattle.zf_header.specs.declared.header.Header.{Header}
-use Rattle.zf_header.specs.declared.header.HeaderFault.{HeaderFault}
 use Rattle.zf_header.specs.HeaderFaults.{header_fault}
 use Rattle.zf_dev.specs.Source.{Takes}
 use Rattle.zf_stream.specs.declared.fault.StreamFault.{StreamFault}

@@ -1,8 +1,17 @@
 -- What is read of raw values.
-use Rattle.std.specs.Prelude.{ℕ, ◌≡◌, ◌+◌, ◌<◌, List, [], ◌∷◌, length, Option}
+use Rattle.std.specs.Prelude.{ℕ, ◌≡◌, ◌+◌, ◌*◌, ◌<◌, ℤ, List, [], ◌∷◌, length, Option}
+use Rattle.std.specs.Int.{Width, byte_len}
+use Rattle.zf_spec.specs.Stream.{values_from}
 use Rattle.zf_dev.specs.Source.{Takes, TakesSome, IsAtEnd}
 use Rattle.zf_stream.specs.declared.fault.StreamFault.{StreamFault}
 use Rattle.zf_stream.specs.declared.fault.StreamFault.TheVariants.{RawShort, RawLong, Read}
+
+-- the raw bytes of so many values were read, and these are the values
+pub record ReadsValues (w : Width) (count : ℕ) (old new : Option (List ℕ)) (values : List ℤ) : Type 0 where
+  pub bytes : List ℕ
+  pub taken : Takes old new bytes
+  pub long : length bytes ≡ count * byte_len w
+  pub are : values ≡ values_from w count bytes
 
 -- fewer bytes than are wanted were to come, behind those before: so many in all
 pub record EndsShort (before wanted : ℕ) (old new : Option (List ℕ)) (count : ℕ) : Type 0 where

@@ -12,15 +12,15 @@ ghost use Rattle.zf_dev.specs.Faults.{HasCause};
 ghost use Rattle.zf_dev.specs.Source.{TakesSome};
 ghost use Rattle.zf_stream.specs.Outcomes.{CanRefuse, ShowsLength, Answers, Finishes, LeavesFront, IsRefusal};
 ghost use Rattle.zf_stream.specs.Parsing.{longest_code};
-ghost use Rattle.zf_stream.specs.Rows.{ArePieces, rows_len, Compresses, Stops, WritesSlab, BreaksSlab};
+ghost use Rattle.zf_stream.specs.Rows.{ArePieces, Compresses, Stops, WritesSlab, BreaksSlab};
 ghost use Rattle.zf_stream.specs.declared.fault.StreamFault.TheVariants.{Read, Write, Memory};
 
 use crate::StreamFault;
 use crate::encoding::write_codes;
 use crate::longest::longest_code;
-use crate::reading::{read_end, read_raw};
+use crate::reading::{read_end, read_values};
 use crate::slabs::{most_rows, rows_of, with_rows};
-use crate::values::{put_values, value_len};
+use crate::values::value_len;
 use crate::writing::write_whole_words;
 use std::alloc::Global;
 use zf_base::{Lane, Ty, block_len};
@@ -30,8 +30,8 @@ use zf_dev::{Sink, Source};
 use zf_header::{Header, LONG_HEADER_BITS};
 use zf_pad::Layout;
 
-/// The most bytes that are read or written at a time.
-pub(crate) const PIECE: u64 = 1 << 16;
+/// The most bytes that are read or written at a time: so many that the system is seldom called, and few beside a large slab.
+pub(crate) const PIECE: u64 = 1 << 18;
 
 /// Reads raw values, each little-endian in 4 or 8 bytes, x fastest, and writes their stream.
 ///
@@ -93,7 +93,6 @@ fn compress_as<T: Lane, S: Source, O: Sink>(
     let count = slab.values() as usize;
     let longest = longest_code::<T>(h);
     let most = 64 + (8 * PIECE).min(slab.blocks() * longest);
-    let mut raw = vec![in alloc; 0; count * value_len::<T>()]?;
     let mut values = vec![in alloc; T::zero(); count]?;
     let mut block = vec![in alloc; T::zero(); block_len(dims)]?;
     let mut s = Scratch::new(alloc, dims)?;
@@ -104,7 +103,6 @@ fn compress_as<T: Lane, S: Source, O: Sink>(
     write_stream(
         h,
         rows,
-        &mut raw,
         &mut values,
         &mut block,
         &mut s,
@@ -120,7 +118,6 @@ fn compress_as<T: Lane, S: Source, O: Sink>(
 fn write_stream<T: Lane, S: Source, O: Sink>(
     h: &Header,
     rows: u64,
-    raw: &mut [u8],
     values: &mut [T],
     block: &mut [T],
     s: &mut Scratch<T>,
@@ -132,7 +129,6 @@ fn write_stream<T: Lane, S: Source, O: Sink>(
 ) -> Result<(), StreamFault>
     requires same_type { T.width ≡ width_of h.now.ty }
     requires rows { ArePieces h.now.shape rows }
-    requires raw { length raw.old ≡ rows_len h.now rows }
     requires values { length values.old ≡ row_len h.now.shape * rows }
     requires whole { length block.old ≡ 4 ^ length h.now.shape }
     requires scratch { s.old ≡ length h.now.shape }
@@ -157,7 +153,7 @@ fn write_stream<T: Lane, S: Source, O: Sink>(
     // Known by this call: there is an axis.
     let _dims = h.shape.dims();
     write_whole_words(codes, piece, out)?;
-    write_slabs(h, rows, raw, values, block, s, codes, most, piece, src, out)?;
+    write_slabs(h, rows, values, block, s, codes, most, piece, src, out)?;
     read_end(src)?;
     codes.pad_to_word();
     write_whole_words(codes, piece, out)
@@ -167,7 +163,6 @@ fn write_stream<T: Lane, S: Source, O: Sink>(
 fn write_slabs<T: Lane, S: Source, O: Sink>(
     h: &Header,
     rows: u64,
-    raw: &mut [u8],
     values: &mut [T],
     block: &mut [T],
     s: &mut Scratch<T>,
@@ -179,7 +174,6 @@ fn write_slabs<T: Lane, S: Source, O: Sink>(
 ) -> Result<(), StreamFault>
     requires same_type { T.width ≡ width_of h.now.ty }
     requires rows { ArePieces h.now.shape rows }
-    requires raw { length raw.old ≡ rows_len h.now rows }
     requires values { length values.old ≡ row_len h.now.shape * rows }
     requires whole { length block.old ≡ 4 ^ length h.now.shape }
     requires scratch { s.old ≡ length h.now.shape }
@@ -222,7 +216,6 @@ fn write_slabs<T: Lane, S: Source, O: Sink>(
             &layout,
             &part,
             taken,
-            &mut raw[..len],
             &mut values[..count],
             block,
             s,
@@ -243,7 +236,6 @@ fn write_slab<T: Lane, S: Source, O: Sink>(
     layout: &Layout,
     part: &Header,
     taken: u64,
-    raw: &mut [u8],
     values: &mut [T],
     block: &mut [T],
     s: &mut Scratch<T>,
@@ -254,7 +246,6 @@ fn write_slab<T: Lane, S: Source, O: Sink>(
     out: &mut O,
 ) -> Result<(), StreamFault>
     requires same_type { T.width ≡ width_of part.now.ty }
-    requires raw { length raw.old ≡ product part.now.shape * byte_len (width_of part.now.ty) }
     requires raster { IsRaster part.now.shape layout.now }
     requires values { length values.old ≡ product part.now.shape }
     requires whole { length block.old ≡ 4 ^ length part.now.shape }
@@ -263,7 +254,7 @@ fn write_slab<T: Lane, S: Source, O: Sink>(
     requires some { 64 ≤ most }
     requires few { length codes.old.bits < most }
     requires fits { most + longest_code part.now ≤ length codes.old.bits + codes.old.room }
-    requires taken { taken + length raw.old < 2 ^ 64 }
+    requires taken { taken + product part.now.shape * byte_len (width_of part.now.ty) < 2 ^ 64 }
     ensures ok { OnOk result (WritesSlab part.now
         (S.contents src.old) (S.contents src.new) (O.contents out.old) (O.contents out.new) codes.old.bits codes.new.bits) }
     ensures err { IfErr result (BreaksSlab part.now taken
@@ -277,7 +268,6 @@ fn write_slab<T: Lane, S: Source, O: Sink>(
     ensures write_cause { HasCause (result ≡ Err Write) (O.faults out.old) (O.faults out.new) }
     ensures sure { S.never_fails src.old → (result ≢ Err Read) × S.never_fails src.new }
 {
-    read_raw(taken, raw, src)?;
-    put_values(raw, values);
+    read_values(taken, values, piece, src)?;
     write_codes(layout, part, values, block, s, codes, most, piece, out)
 }

@@ -1,13 +1,16 @@
 //! Reading from a source: as many bytes as are wanted, and then the end.
 
-ghost use Rattle.std.specs.Prelude.{◌≡◌, ◌≢◌, ◌≤◌, ◌<◌, ◌+◌, ◌^◌, [], length, take, IsOk, Err, IfOk, IfErr, OnOk, OnErr};
+ghost use Rattle.std.specs.Prelude.{◌≡◌, ◌≢◌, ◌≤◌, ◌<◌, ◌*◌, ◌+◌, ◌^◌, [], map, length, take, IsOk, Err, IfOk, IfErr, OnOk, OnErr};
+ghost use Rattle.std.specs.Int.{byte_len};
 ghost use Rattle.zf_dev.specs.Source.{TakesSome, TakesAtMost, Takes, IsAtEnd};
 ghost use Rattle.zf_dev.specs.Faults.{HasCause};
 ghost use Rattle.zf_stream.specs.Outcomes.{TakesFirst};
-ghost use Rattle.zf_stream.specs.ReadRaw.{LacksRaw, GoesOn};
+ghost use Rattle.zf_stream.specs.ReadRaw.{ReadsValues, LacksRaw, GoesOn};
 ghost use Rattle.zf_stream.specs.declared.fault.StreamFault.TheVariants.{Read};
 
 use crate::StreamFault;
+use crate::values::{put_values, value_len};
+use zf_base::Lane;
 use zf_dev::{Source, fill};
 
 /// Fills `raw` with the next bytes, of which `before` came before.
@@ -26,6 +29,34 @@ pub(crate) fn read_raw<S: Source>(
     let count = read_into(src, raw)?;
     if count < raw.len() {
         return Err(StreamFault::RawShort(before + count as u64));
+    }
+    Ok(())
+}
+
+/// Reads values from their raw bytes, of which `before` came before, by way of `piece`.
+pub(crate) fn read_values<T: Lane, S: Source>(
+    before: u64,
+    values: &mut [T],
+    piece: &mut [u8],
+    src: &mut S,
+) -> Result<(), StreamFault>
+    requires piece { 8 ≤ length piece.old }
+    requires fits { before + length values.old * byte_len T.width < 2 ^ 64 }
+    ensures ok { OnOk result (ReadsValues T.width (length values.old)
+        (S.contents src.old) (S.contents src.new) (map T.value values.new)) }
+    ensures err { IfErr result (LacksRaw before (length values.old * byte_len T.width) (S.contents src.old) (S.contents src.new)) }
+    ensures same_source { S.kept src.new ≡ S.kept src.old }
+    ensures cause { HasCause (result ≡ Err Read) (S.faults src.old) (S.faults src.new) }
+    ensures sure { S.never_fails src.old → (result ≢ Err Read) × S.never_fails src.new }
+{
+    let len = value_len::<T>();
+    let most = piece.len() / len;
+    let mut at = 0;
+    while at < values.len() {
+        let n = (values.len() - at).min(most);
+        read_raw(before + (at * len) as u64, &mut piece[..n * len], src)?;
+        put_values(&piece[..n * len], &mut values[at..at + n]);
+        at += n;
     }
     Ok(())
 }

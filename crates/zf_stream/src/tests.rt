@@ -110,7 +110,7 @@ fn compressed(
     let mut src = source(rt, alloc, raw, devices)?;
     let mut out = sink(rt, alloc, devices)?;
     assert_eq!(rt; compress(alloc, &h, &mut src, &mut out), *answer);
-    assert!(rt; src.most <= 65536, "asked for {}", src.most);
+    assert!(rt; src.most <= 262144, "asked for {}", src.most);
     Ok(out)
 }
 
@@ -125,7 +125,7 @@ fn restored(
     let mut src = source(rt, alloc, stream, devices)?;
     let mut out = sink(rt, alloc, devices)?;
     assert_eq!(rt; restore(alloc, &mut src, &mut out), *answer);
-    assert!(rt; src.most <= 65536, "asked for {}", src.most);
+    assert!(rt; src.most <= 262144, "asked for {}", src.most);
     Ok(out)
 }
 

@@ -1,12 +1,11 @@
-use Rattle.std.proofs.Common.{ap, ◌∙◌, arith}
+use Rattle.std.proofs.Common.{ap, ◌∙◌}
 use Rattle.std.proofs.lemmas.Result.{err_from_is_err_and}
-use Rattle.std.specs.Int.{byte_len}
 use Rattle.zf_spec.specs.Grid.{product}
 use Rattle.zf_pad.proofs.Slabs.{product-with_rows}
 use Rattle.zf_stream.specs.Raw.{compress_answer, stream_text}
 use Rattle.zf_stream.proofs.OnErrors.{on_err}
 use Rattle.zf_stream.proofs.Answering.{answer_of_memory, nothing_left}
-use Rattle.zf_stream.proofs.Slabwise.{are_pieces, slab_sizes}
+use Rattle.zf_stream.proofs.Slabwise.{are_pieces}
 use Rattle.zf_stream.proofs.compressing.compress_as.Goals as goal
 
 pub with_rows-slab-requires-clause-some : goal.with_rows-slab-requires-clause-some
@@ -17,25 +16,17 @@ pub write_stream-requires-clause-rows : goal.write_stream-requires-clause-rows
 write_stream-requires-clause-rows g c =
     are_pieces c.args.h.now.shape c.min-rows.result c.most_rows.result c.rows_of.result c.dims-dims.ensures.shape c.min-rows.ensures c.rows_of.ensures c.most_rows.ensures.some c.most_rows.ensures.whole
 
-pub write_stream-requires-clause-raw : goal.write_stream-requires-clause-raw
-write_stream-requires-clause-raw g c =
-    let sizes = slab_sizes c.args.h.now c.min-rows.result c.min-rows.result c.values-count.result c.value_len.result c.with_rows-slab.result c.dims-dims.ensures.shape.some_dimension (omega arith) c.with_rows-slab.ensures c.values-count.ensures.value (c.value_len.ensures.value ∙ ap byte_len c.requires.same_type) in
-    c.deref_mut.ensures.len ∙ c.in_ok-raw.ensures.len ∙ sizes.bytes_len
-
 pub write_stream-requires-clause-values : goal.write_stream-requires-clause-values
 write_stream-requires-clause-values g c =
-    c.deref_mut-2.ensures.len ∙ c.in_ok-values.ensures.len ∙ c.values-count.ensures.value ∙ ap product c.with_rows-slab.ensures ∙ product-with_rows c.min-rows.result c.args.h.now.shape c.dims-dims.ensures.shape.some_dimension
+    c.deref_mut.ensures.len ∙ c.in_ok-values.ensures.len ∙ c.values-count.ensures.value ∙ ap product c.with_rows-slab.ensures ∙ product-with_rows c.min-rows.result c.args.h.now.shape c.dims-dims.ensures.shape.some_dimension
 
 pub returns-in_err-reserve-clause-answer : goal.returns-in_err-reserve-clause-answer
 returns-in_err-reserve-clause-answer g c =
     let p = err_from_is_err_and c.from_residual-in_err-reserve.result c.from_residual-in_err-reserve.ensures.1 in
     answer_of_memory c.from_residual-in_err-reserve.result p.0 (g.S.Source.contents c.args.src.now) (compress_answer c.args.h.now) p.1 p.2
 
-pub returns-in_err-raw-clause-err : goal.returns-in_err-raw-clause-err
-returns-in_err-raw-clause-err g c = on_err c.from_residual.result _ (nothing_left (stream_text c.args.h.now) (g.S.Source.contents c.args.src.now) (g.O.Sink.contents c.args.out.now))
-
 pub returns-in_err-values-clause-err : goal.returns-in_err-values-clause-err
-returns-in_err-values-clause-err g c = on_err c.from_residual-in_err-values.result _ (nothing_left (stream_text c.args.h.now) (g.S.Source.contents c.args.src.now) (g.O.Sink.contents c.args.out.now))
+returns-in_err-values-clause-err g c = on_err c.from_residual.result _ (nothing_left (stream_text c.args.h.now) (g.S.Source.contents c.args.src.now) (g.O.Sink.contents c.args.out.now))
 
 pub returns-in_err-block-clause-err : goal.returns-in_err-block-clause-err
 returns-in_err-block-clause-err g c = on_err c.from_residual-in_err-block.result _ (nothing_left (stream_text c.args.h.now) (g.S.Source.contents c.args.src.now) (g.O.Sink.contents c.args.out.now))

@@ -35,27 +35,12 @@ loop-row-init g c = record {
 pub slice_bounds-write_slab-end : goal.slice_bounds-write_slab-end
 slice_bounds-write_slab-end g c =
     let sizes = slab_sizes c.args.h.now c.args.rows c.min-here.result c.values-count.result c.value_len.result c.with_rows.result c.dims-dims.ensures.shape.some_dimension (omega (arith, c.min-here.ensures)) c.with_rows.ensures c.values-count.ensures.value (c.value_len.ensures.value ∙ ap byte_len c.requires.same_type) in
-    omega (arith, sizes.bytes, c.loop-row.auto.raw, c.requires.raw)
+    omega (arith, sizes.values, c.loop-row.auto.values, c.requires.values)
 
 pub slice_bounds-write_slab-end-in-loop-row : goal.slice_bounds-write_slab-end-in-loop-row
 slice_bounds-write_slab-end-in-loop-row g c =
     let sizes = slab_sizes c.args.h.now c.args.rows c.min-here.result c.values-count.result c.value_len.result c.with_rows.result c.dims-dims.ensures.shape.some_dimension (omega (arith, c.min-here.ensures)) c.with_rows.ensures c.values-count.ensures.value (c.value_len.ensures.value ∙ ap byte_len c.requires.same_type) in
-    sym (length-take-le _ c.loop-row.raw (omega (arith, sizes.bytes, c.loop-row.auto.raw, c.requires.raw)))
-
-pub slice_bounds-write_slab-end-in-loop-row-2 : goal.slice_bounds-write_slab-end-in-loop-row-2
-slice_bounds-write_slab-end-in-loop-row-2 g c =
-    let sizes = slab_sizes c.args.h.now c.args.rows c.min-here.result c.values-count.result c.value_len.result c.with_rows.result c.dims-dims.ensures.shape.some_dimension (omega (arith, c.min-here.ensures)) c.with_rows.ensures c.values-count.ensures.value (c.value_len.ensures.value ∙ ap byte_len c.requires.same_type) in
-    omega (arith, sizes.values, c.loop-row.auto.values, c.requires.values)
-
-pub slice_bounds-write_slab-end-in-loop-row-3 : goal.slice_bounds-write_slab-end-in-loop-row-3
-slice_bounds-write_slab-end-in-loop-row-3 g c =
-    let sizes = slab_sizes c.args.h.now c.args.rows c.min-here.result c.values-count.result c.value_len.result c.with_rows.result c.dims-dims.ensures.shape.some_dimension (omega (arith, c.min-here.ensures)) c.with_rows.ensures c.values-count.ensures.value (c.value_len.ensures.value ∙ ap byte_len c.requires.same_type) in
     sym (length-take-le _ c.loop-row.values (omega (arith, sizes.values, c.loop-row.auto.values, c.requires.values)))
-
-pub write_slab-requires-clause-raw : goal.write_slab-requires-clause-raw
-write_slab-requires-clause-raw g c =
-    let sizes = slab_sizes c.args.h.now c.args.rows c.min-here.result c.values-count.result c.value_len.result c.with_rows.result c.dims-dims.ensures.shape.some_dimension (omega (arith, c.min-here.ensures)) c.with_rows.ensures c.values-count.ensures.value (c.value_len.ensures.value ∙ ap byte_len c.requires.same_type) in
-    length-take-le _ c.loop-row.raw (omega (arith, sizes.bytes, c.loop-row.auto.raw, c.requires.raw)) ∙ sizes.bytes_are
 
 pub write_slab-requires-clause-values : goal.write_slab-requires-clause-values
 write_slab-requires-clause-values g c =
@@ -82,8 +67,7 @@ write_slab-requires-clause-taken g c =
     let here = c.min-here.result in
     let row = c.loop-row.row in
     let small = raw_small h c.value_len.result (row + here) c.dims-dims.ensures.shape.some_dimension (omega (arith, c.min-here.ensures, c.rows_of-all.ensures, c.loop-row-test.true)) c.dims-dims.ensures.shape.not_too_large c.value_len.ensures.bound (c.value_len.ensures.value ∙ ap byte_len c.requires.same_type) in
-    let long = length-take-le (c.values-count.result * c.value_len.result) c.loop-row.raw (omega (arith, sizes.bytes, c.loop-row.auto.raw, c.requires.raw)) in
-    omega (arith, long, sizes.bytes_len, c.loop-row.invariant.taken, rows_len-add h row here, small)
+    omega (arith, sizes.bytes_are, sizes.bytes_len, c.loop-row.invariant.taken, rows_len-add h row here, small)
 
 pub overflow_add-taken : goal.overflow_add-taken
 overflow_add-taken g c =

@@ -1,0 +1,48 @@
+-- Values that are read piece by piece: some were read, and then the next ones, or fewer bytes than these have.
+use Rattle.std.proofs.Common.{◌≡◌, ℕ, ◌+◌, ◌*◌, ◌≤◌, ℤ, List, ◌++◌, map, length, take, Option, sym, ap, ◌∙◌, length-append, arith}
+use Rattle.std.proofs.lemmas.List.{map-append}
+use Rattle.std.proofs.lemmas.Slice.{take-put_mid}
+use Rattle.std.proofs.Math.Nat.{add-mul}
+use Rattle.std.specs.Int.{Width, byte_len}
+use borrow.Rule.Slice.PartMut.{put_mid}
+use Rattle.zf_spec.specs.Stream.{values_from}
+use Rattle.zf_dev.specs.Source.{Takes}
+use Rattle.zf_dev.proofs.Taking.{Takes-append}
+use Rattle.zf_stream.specs.declared.fault.StreamFault.{StreamFault}
+use Rattle.zf_stream.specs.declared.fault.StreamFault.TheVariants as faults
+use Rattle.zf_stream.specs.ReadRaw.{ReadsValues, LacksRaw}
+use Rattle.zf_stream.proofs.Rows.{values_from-append}
+
+-- the values of the next bytes were put behind those that were read
+pub reads_more : {X : Type 0} (w : Width) (value : X → ℤ) (at n k : ℕ) (xs ys : List X) (old mid new : Option (List ℕ)) (more : List ℕ)
+    → at ≤ length xs → length ys ≡ n → length more ≡ n * byte_len w → map value ys ≡ values_from w n more
+    → ReadsValues w at old mid (map value (take at xs)) → Takes mid new more
+    → ReadsValues w (at + n) old new (map value (take (at + n) (put_mid at k xs ys)))
+reads_more w value at n k xs ys old mid new more within count long are done taken = record {
+  bytes = done.bytes ++ more;
+  taken = Takes-append old mid new done.bytes more done.taken taken;
+  long = omega (arith, length-append done.bytes more, done.long, long, add-mul at n (byte_len w));
+  are =
+      ap (map value) (take-put_mid at k xs ys (at + n) (omega arith) within) ∙ map-append value (take at xs) ys
+      ∙ ap (λ (vs : List ℤ). vs ++ map value ys) done.are ∙ ap (λ (vs : List ℤ). values_from w at done.bytes ++ vs) are
+      ∙ sym (values_from-append w at n done.bytes more done.long);
+}
+
+-- some bytes were read, and behind them fewer than are wanted there
+pub lacks_behind : (before at part wanted : ℕ) (old mid new : Option (List ℕ)) (bytes : List ℕ) (e : StreamFault)
+    → Takes old mid bytes → length bytes ≡ at → at + part ≤ wanted → LacksRaw (before + at) part mid new e → LacksRaw before wanted old new e
+lacks_behind before at part wanted old mid new bytes (faults.RawShort n) taken long within lacks = record {
+  bytes = bytes ++ lacks.bytes;
+  taken = Takes-append old mid new bytes lacks.bytes taken lacks.taken;
+  ended = lacks.ended;
+  few = omega (arith, length-append bytes lacks.bytes, lacks.few);
+  count_is = omega (arith, length-append bytes lacks.bytes, lacks.count_is);
+}
+lacks_behind before at part wanted old mid new bytes faults.Read taken long within lacks = (bytes ++ lacks.0, Takes-append old mid new bytes lacks.0 taken lacks.1)
+lacks_behind before at part wanted old mid new bytes faults.RawLong taken long within lacks = absurd lacks
+lacks_behind before at part wanted old mid new bytes (faults.Header f) taken long within lacks = absurd lacks
+lacks_behind before at part wanted old mid new bytes (faults.Truncated n) taken long within lacks = absurd lacks
+lacks_behind before at part wanted old mid new bytes faults.Pad taken long within lacks = absurd lacks
+lacks_behind before at part wanted old mid new bytes faults.Trailing taken long within lacks = absurd lacks
+lacks_behind before at part wanted old mid new bytes faults.Write taken long within lacks = absurd lacks
+lacks_behind before at part wanted old mid new bytes faults.Memory taken long within lacks = absurd lacks
