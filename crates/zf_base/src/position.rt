@@ -100,6 +100,7 @@ impl Pos {
     }
 
     /// The position with this number of a box of these sizes.
+    #[inline(always)]
     pub(crate) fn coordinates(&self, number: u64) -> Pos
         requires { AllByRecursion (λ n. 1 ≤ n) (axes self.now) }
         ensures value { axes result ≡ coordinates (axes self.now) number }
@@ -114,7 +115,7 @@ impl Pos {
 }
 
 // How often `len` is in a number, and what is left. Most numbers of blocks are below the first lengths, and then nothing is divided.
-#[inline]
+#[inline(always)]
 fn split(number: u64, len: u64) -> (u64, u64)
     requires { 1 ≤ len }
     ensures times { result.0 ≡ number / len }

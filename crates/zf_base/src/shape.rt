@@ -149,6 +149,7 @@ impl Shape {
     }
 
     /// The part of block `b` that lies in the array.
+    #[inline(always)]
     pub fn extent(&self, b: u64) -> Extent
         requires { b < blocks self.now }
         ensures origin { result.origin
@@ -174,6 +175,7 @@ impl Shape {
     }
 
     // How many blocks there are along each axis.
+    #[inline(always)]
     fn grid(&self) -> Pos
         ensures value { result ≡ with_unused 1 (grid self.now) }
         ensures shape { IsShape self.now }
@@ -197,6 +199,7 @@ fn most_along_axis(dims: u8) -> u64
 }
 
 // How many blocks there are along an axis of this size.
+#[inline(always)]
 fn blocks_along(size: u64) -> u64
     ensures { result ≡ (size + 3) / 4 }
 {
@@ -204,6 +207,7 @@ fn blocks_along(size: u64) -> u64
 }
 
 // How many values of a block that begins at `origin` exist along an axis of this size.
+#[inline(always)]
 fn extent_along(size: u64, origin: u64) -> u64
     requires { origin ≤ size }
     ensures { result ≡ min 4 (size - origin) }

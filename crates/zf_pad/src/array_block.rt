@@ -14,7 +14,7 @@ use zf_base::{Extent, Lane, Pos, Shape};
 /// Copies block `b` out of the values of an array, whose layout is at hand, and answers which part of the block exists.
 ///
 /// `block` has `4^d` values, x fastest; those at places that do not exist stay.
-#[inline(always)]
+#[inline]
 pub fn gather_block<T: Lane>(
     layout: &Layout,
     shape: &Shape,
@@ -43,7 +43,7 @@ pub fn gather_block<T: Lane>(
 /// Copies a block to the place of block `b` among the values of an array, whose layout is at hand.
 ///
 /// `block` has `4^d` values, x fastest; those at places that do not exist are not looked at.
-#[inline(always)]
+#[inline]
 pub fn scatter_block<T: Lane>(layout: &Layout, shape: &Shape, b: u64, block: &[T], values: &mut [T])
     requires raster { IsRaster shape.now layout.now }
     requires in_array { b < blocks shape.now }
@@ -60,7 +60,7 @@ pub fn scatter_block<T: Lane>(layout: &Layout, shape: &Shape, b: u64, block: &[T
 }
 
 /// Copies the four values from `first` on, which are a whole block of one dimension.
-#[inline(always)]
+#[inline]
 fn take_row<T: Lane>(values: &[T], first: usize, block: &mut [T])
     requires within { first + 4 ≤ length values.now }
     requires whole { length block.old ≡ 4 }
@@ -71,7 +71,7 @@ fn take_row<T: Lane>(values: &[T], first: usize, block: &mut [T])
 }
 
 /// The same the other way.
-#[inline(always)]
+#[inline]
 fn put_row<T: Lane>(block: &[T], values: &mut [T], first: usize)
     requires within { first + 4 ≤ length values.old }
     requires whole { length block.now ≡ 4 }
@@ -81,7 +81,7 @@ fn put_row<T: Lane>(block: &[T], values: &mut [T], first: usize)
 }
 
 /// The part of block `b` that lies in the array. In one dimension, where blocks are small and many, no coordinates are divided out.
-#[inline(always)]
+#[inline]
 fn part_of(shape: &Shape, b: u64) -> Extent
     requires { b < blocks shape.now }
     ensures origin { result.origin ≡ with_unused 0 (map (λ c. 4 * c) (coordinates (grid shape.now) b)) }
@@ -97,7 +97,7 @@ fn part_of(shape: &Shape, b: u64) -> Extent
 }
 
 /// The same of a line of `n` values.
-#[inline(always)]
+#[inline]
 fn part_of_line(n: u64, b: u64) -> Extent
     requires { 4 * b < n }
     ensures { result ≡ record {
