@@ -8,7 +8,7 @@ use Rattle.std.proofs.Math.Nat.{mod-eq_of_lt, mod-le}
 use Rattle.std.proofs.lemmas.Nat.{mod-mul-add}
 use Rattle.std.proofs.lemmas.Nat.Bits.{bit_at_or, bit_at-zero}
 use Rattle.zf_coef.specs.Turned.{bit_of, IsTurned}
-use Rattle.zf_coef.specs.Groups.{word_of, HoldsGroup, HoldsHalf, IsOfGroup, HoldsFrom, HoldsTiles, AreTiles}
+use Rattle.zf_coef.specs.Groups.{word_of, HoldsGroup, HoldsHalf, IsOfGroup, HoldsFrom, HoldsTiles, AreTiles, IsMoved}
 use Rattle.zf_coef.proofs.ShiftedBits.{bit_at-shr, bit_at-mod_pow, bit_at-mod_above, bit_at-mod, bit_at-shl_low, bit_at-shl_high}
 
 -- a tile has four rows or sixteen
@@ -266,6 +266,42 @@ digits_of_halves number planes low high digits long is_low is_high lower upper r
     at : (from i plane j rank : ℕ) → from + i % 32 ≡ plane → i - i % 32 + j ≡ rank
         → bit_at (word_of planes number (from + i % 32)) (i - i % 32 + j) ≡ bit_at (word_of planes number plane) rank
     at from i plane j rank a b = ap (λ p. bit_at (word_of planes number p) (i - i % 32 + j)) a ∙ ap (bit_at (word_of planes number plane)) b
+
+-- a window of 32 planes has all the ones
+pub digits_of_window : (number from : ℕ) (planes : List (List ℕ)) (words digits : List ℕ) → length digits ≡ 64
+    → ((k : ℕ) → k < from → word_of planes number k ≡ 0)
+    → ((k : ℕ) → from + 32 ≤ k → word_of planes number k ≡ 0)
+    → AreHalf number from planes words
+    → ((r : ℕ) → r < 32 → IsMoved 0 from (get_or words r 0) (get_or digits r 0))
+    → ((r : ℕ) → r < 32 → IsMoved 32 from (get_or words r 0) (get_or digits (32 + r) 0))
+    → IsOfGroup number planes digits
+unfolding IsOfGroup
+digits_of_window number from planes words digits long below above half lower upper r k h small = ⊎_elim
+    (λ (front : r < 32). digit 0 r r k front small (λ i less. omega arith) (λ i less. omega arith) (lower r front))
+    (λ (behind : 32 ≤ r).
+    let row : 32 + (r - 32) ≡ r = omega arith in
+    digit 32 (r - 32) r k (omega arith) small (λ i less. omega arith) (λ i less. omega arith)
+    (subst (λ j. IsMoved 32 from (get_or words (r - 32) 0) (get_or digits j 0)) row (upper (r - 32) (omega arith))))
+    (cases_lt r 32)
+  where
+    none : (r k : ℕ) → bit_of digits r k ≡ 0 → word_of planes number k ≡ 0 → bit_of digits r k ≡ bit_at (word_of planes number k) r
+    none r k zero_here zero_there = zero_here ∙ sym (bit_at-zero r) ∙ ap (λ w. bit_at w r) (sym zero_there)
+
+    digit : (start j r k : ℕ) → j < 32 → k < 64 → ((i : ℕ) → i < 32 → start + i < 64 × ((start + i) % 32 ≡ i)) → ((i : ℕ) → i < 32 → start + i - (start + i) % 32 + j ≡ r)
+        → IsMoved start from (get_or words j 0) (get_or digits r 0) → bit_of digits r k ≡ bit_at (word_of planes number k) r
+    digit start j r k less small column row moved = ⊎_elim
+        (λ (first : k < from). none r k (moved.below k first) (below k first))
+        (λ (later : from ≤ k). ⊎_elim
+        (λ (inside : k - from < 32).
+        let i = k - from in
+        let at : from + i ≡ k = omega arith in
+        ap (bit_of digits r) (sym at) ∙ moved.inside i inside ∙ half j (start + i) less (column i inside).0
+        ∙ ap (λ p. bit_at (word_of planes number (from + p)) (start + i - (start + i) % 32 + j)) (column i inside).1
+        ∙ ap (bit_at (word_of planes number (from + i))) (row i inside)
+        ∙ ap (λ p. bit_at (word_of planes number p) r) at)
+        (λ (past : 32 ≤ k - from). none r k (moved.above k (omega arith) small) (above k (omega arith)))
+        (cases_lt (k - from) 32))
+        (cases_lt k from)
 
 -- the first of more digits
 pub group_of_front : (number : ℕ) (planes : List (List ℕ)) (whole digits : List ℕ) → length digits ≤ length whole

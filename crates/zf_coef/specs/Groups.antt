@@ -41,3 +41,9 @@ pub record HoldsTiles (n number : ℕ) (words : List ℕ) (planes : List (List �
 -- bit b of word j is digit b mod n of the plane that is word j of the tile b lies in
 unfoldable pub AreTiles : ℕ → ℕ → List (List ℕ) → List ℕ → Type 0
 AreTiles n number planes words = (j b : ℕ) → j < n → b < 64 → bit_of words j b ≡ bit_at (word_of planes number (b - b % n + j)) (b % n)
+
+-- a word with 32 bits of another, those from bit `start` on, behind `from` zeros
+pub record IsMoved (start from old new : ℕ) : Type 0 where
+  pub inside : (i : ℕ) → i < 32 → bit_at new (from + i) ≡ bit_at old (start + i)
+  pub below : (i : ℕ) → i < from → bit_at new i ≡ 0
+  pub above : (i : ℕ) → from + 32 ≤ i → i < 64 → bit_at new i ≡ 0

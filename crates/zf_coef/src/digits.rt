@@ -1,11 +1,11 @@
 //! Bit planes become the digits of coefficients.
 
-ghost use Rattle.std.specs.Prelude.{◌≡◌, ℕ, ◌+◌, ◌-◌, ◌*◌, ◌%◌, ◌^◌, ◌<◌, ◌≤◌, ◌⊎◌, All, length, map, slice_index_or};
+ghost use Rattle.std.specs.Prelude.{◌≡◌, ℕ, ◌+◌, ◌-◌, ◌*◌, ◌%◌, ◌^◌, ◌<◌, ◌≤◌, ◌⊎◌, All, IsTrue, length, map, slice_index_or};
 ghost use Rattle.std.specs.Int.RustNames.{bit_or};
 ghost use Rattle.zf_spec.specs.Planes.{digits_in_planes};
 ghost use Rattle.zf_spec.specs.HeldPlanes.{planes_held};
 ghost use Rattle.zf_coef.specs.HeldDigits.{digits_in};
-ghost use Rattle.zf_coef.specs.Groups.{word_of, IsOfGroup, AreTiles};
+ghost use Rattle.zf_coef.specs.Groups.{word_of, IsOfGroup, AreTiles, IsMoved};
 ghost use Rattle.zf_coef.specs.Turned.{bit_of};
 ghost use Rattle.std.specs.Int.{bit_at};
 
@@ -211,13 +211,60 @@ fn take_64<P: Plane>(planes: &[P], number: usize, digits: &mut [u64])
     // A number of planes that is known needs no loop.
     match planes.len() {
         32 => join(&whole_half(planes, 0, number), &[0; 32], digits),
-        64 => join(
+        64 => take_64_of_64(planes, number, digits),
+        _ => take_64_of(planes, number, digits),
+    }
+}
+
+/// The same of 64 planes. Where 32 planes beside one another have all the ones, as a budget mostly leaves it, no others are turned.
+#[inline(always)]
+fn take_64_of_64<P: Plane>(planes: &[P], number: usize, digits: &mut [u64])
+    requires number { number < P.word_count }
+    requires planes { length planes.now ≡ 64 }
+    requires digits { length digits.old ≡ 64 }
+    ensures { IsOfGroup number (map P.words planes.now) digits.new }
+{
+    let from = zeros_below(planes, number);
+    if are_zeros(planes, from + 32, number) {
+        join_from(&whole_half(planes, from, number), from, digits);
+    } else {
+        join(
             &whole_half(planes, 0, number),
             &whole_half(planes, 32, number),
             digits,
-        ),
-        _ => take_64_of(planes, number, digits),
+        );
     }
+}
+
+/// How many of the lowest 32 planes have no one, up to the first that has.
+#[inline(always)]
+fn zeros_below<P: Plane>(planes: &[P], number: usize) -> usize
+    requires number { number < P.word_count }
+    requires planes { 32 ≤ length planes.now }
+    ensures within { result ≤ 32 }
+    ensures zeros { (k : ℕ) → k < result → word_of (map P.words planes.now) number k ≡ 0 }
+{
+    for k in 0..32 {
+        if planes[k].word(number) != 0 {
+            return k;
+        }
+    }
+    32
+}
+
+/// Whether no plane from this one on has a one.
+#[inline(always)]
+fn are_zeros<P: Plane>(planes: &[P], from: usize, number: usize) -> bool
+    requires number { number < P.word_count }
+    requires from { from ≤ length planes.now }
+    ensures { IsTrue result → (k : ℕ) → from ≤ k → word_of (map P.words planes.now) number k ≡ 0 }
+{
+    for k in from..planes.len() {
+        if planes[k].word(number) != 0 {
+            return false;
+        }
+    }
+    true
 }
 
 /// The same of planes of any number.
@@ -275,5 +322,20 @@ fn join(low: &[u64], high: &[u64], digits: &mut [u64])
     for r in 0..32 {
         digits[r] = (low[r] & 0xffff_ffff) | high[r] << 32;
         digits[r + 32] = (low[r] >> 32) | (high[r] >> 32) << 32;
+    }
+}
+
+/// The same of 32 digits alone, which stand behind `from` zeros.
+#[inline(always)]
+fn join_from(words: &[u64], from: usize, digits: &mut [u64])
+    requires words { length words.now ≡ 32 }
+    requires from { from ≤ 32 }
+    requires digits { length digits.old ≡ 64 }
+    ensures lower { (r : ℕ) → r < 32 → IsMoved 0 from (slice_index_or words.now r 0) (slice_index_or digits.new r 0) }
+    ensures upper { (r : ℕ) → r < 32 → IsMoved 32 from (slice_index_or words.now r 0) (slice_index_or digits.new (32 + r) 0) }
+{
+    for r in 0..32 {
+        digits[r] = (words[r] & 0xffff_ffff) << from;
+        digits[r + 32] = (words[r] >> 32) << from;
     }
 }

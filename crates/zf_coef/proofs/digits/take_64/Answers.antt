@@ -11,8 +11,3 @@ returns-in-32 g c =
     digits_of_halves c.args.number planes c.whole_half.result (replicate 32 0) c.join.new.digits (omega arith)
     c.whole_half.ensures (half_past c.args.number planes (replicate 32 0) (omega (arith, length-map c.args.planes.now g.P.Plane.words, c.in-32.is)) zeros)
     c.join.ensures.lower c.join.ensures.upper
-
-pub returns-in-64 : goal.returns-in-64
-returns-in-64 g c =
-    digits_of_halves c.args.number (map g.P.Plane.words c.args.planes.now) c.whole_half-in-64.result c.whole_half-in-64-2.result c.join-in-64.new.digits (omega arith)
-    c.whole_half-in-64.ensures c.whole_half-in-64-2.ensures c.join-in-64.ensures.lower c.join-in-64.ensures.upper
