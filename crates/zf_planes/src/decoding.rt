@@ -95,7 +95,7 @@ fn read_word(n: u64, ahead: &mut Ahead, reader: &mut BitReader<'_>) -> Option<u6
 
 /// Reads the first `n` digits as they are, as far as the budget reaches; the others stay zero.
 #[inline(always)]
-pub(crate) fn read_front<P: Plane>(
+fn read_front<P: Plane>(
     n: usize,
     plane: &mut P,
     ahead: &mut Ahead,

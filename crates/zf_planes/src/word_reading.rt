@@ -38,7 +38,6 @@ fn put_plane<P: Plane>(
     ensures digits { digits_held size (P.words plane.new) ≡ plane_ahead ahead.old.left size n (rest reader.old) }
     ensures clear { IsClearFrom size (P.words plane.new) }
     ensures above { result ≡ max n (reach (digits_held size (P.words plane.new))) }
-    ensures reached { result ≡ next.above }
 {
     plane.set_word(0, next.digits);
     pass(next.len, ahead, reader);
@@ -183,10 +182,8 @@ pub(crate) fn read_in_words<P: Plane>(
     let mut i = pass_zero_planes(prec, &mut ahead, reader) as usize;
     let mut above = 0;
     while i < prec as usize && ahead.left > 0 && above < size {
-        // A plane of sixteen digits has no more than 32 bits; of one that may have more, the first digits are looked at, and as many bits behind them as
-        // most tails have.
-        let wanted = if size == 16 { 32 } else { above as u64 + 17 };
-        look_on(wanted, &mut ahead, reader);
+        // The first digits of a plane, and as many bits behind them as most tails have.
+        look_on(above as u64 + 17, &mut ahead, reader);
         if (above as u64) < ahead.count && (ahead.bits >> above) % 2 == 0 {
             i = read_same(above, size, i, prec as usize, planes, &mut ahead, reader);
         } else {
