@@ -1,5 +1,8 @@
 -- Gathers and scatters, place by place.
-use Rattle.std.proofs.Common.{◌≡◌, ℕ, zero, suc, ◌+◌, ◌*◌, ◌/◌, ◌%◌, ◌^◌, ◌<◌, ◌≤◌, Bool, true, false, ◌&&◌, lt-ltb, ℤ, pos, List, [], ◌∷◌, length, get_or, set, ap, sym, subst, ◌∙◌, arith, pow-suc}
+use Rattle.std.proofs.Common.{◌≡◌, ℕ, zero, suc, ◌+◌, ◌*◌, ◌/◌, ◌%◌, ◌^◌, ◌-◌, ◌<◌, ◌≤◌, ◌≢◌, ⊎_elim, Bool, true, false, ◌&&◌, lt-ltb, ℤ, pos, List, [], ◌∷◌, ◌++◌, length, map, take, drop, get_or, set, refl, ap, sym, subst, ◌∙◌, arith, pow-suc}
+use Rattle.std.proofs.Math.ListN.{get_or-append}
+use Rattle.std.proofs.lemmas.Bool.{cases_lt}
+use Rattle.std.proofs.lemmas.List.{get_or-take, get_or-drop, get_or-append_right, length-take-le, length-drop, length-map, take-map, drop-map, map-append}
 use Rattle.zf_spec.specs.Grid.{is_inside}
 use Rattle.zf_base.specs.declared.position.Pos.{Pos}
 use Rattle.zf_base.specs.declared.position.Extent.{Extent}
@@ -7,7 +10,7 @@ use Rattle.zf_base.specs.Positions.{axes, IsExtent}
 use Rattle.zf_pad.specs.declared.layout.Layout.{Layout}
 use Rattle.zf_pad.specs.Layouts.{HasPlace, place_indices, moved, index_of, index_at, HasWholeRows, LiesWithin, IsOneToOne}
 use Rattle.zf_pad.specs.Copies.{IsGathered, IsScattered}
-use Rattle.zf_pad.proofs.Writes.{IsWritten, written_none, written_more, written_skip, written_skip_all}
+use Rattle.zf_pad.proofs.Writes.{IsWritten, written_none, written_more, written_skip, written_skip_all, written_row}
 use Rattle.zf_pad.proofs.Existing.{place_below}
 
 -- whether a place of a block exists
@@ -78,6 +81,47 @@ pub whole_rows : (d : ℕ) (e : Extent) → IsExtent d e → e.size.x ≡ 4 → 
 whole_rows zero e h four = absurd (omega (arith, ap (λ s. s.x) h.unused, four))
 whole_rows (suc d) e h four = omega (arith, pow-suc 4 d)
 
+-- four values that stand beside one another are copied, all others stay
+pub record IsRowCopied (from to : ℕ) (source old new : List ℤ) : Type 0 where
+  pub row : (k : ℕ) → k < 4 → get_or new (to + k) (pos 0) ≡ get_or source (from + k) (pos 0)
+  pub others : (i : ℕ) → ((k : ℕ) → k < 4 → i ≢ to + k) → get_or new i (pos 0) ≡ get_or old i (pos 0)
+
+copied_row : (from to : ℕ) (source old : List ℤ) → from + 4 ≤ length source → to + 4 ≤ length old
+    → IsRowCopied from to source old (take to old ++ (take 4 (drop from source) ++ drop (to + 4) old))
+copied_row from to source old there room =
+    let front : length (take to old) ≡ to = length-take-le to old (omega arith) in
+    let four : length (take 4 (drop from source)) ≡ 4 = length-take-le 4 (drop from source) (omega (arith, length-drop from source)) in
+    let rest = take 4 (drop from source) ++ drop (to + 4) old in
+    record {
+      row = λ k small.
+          let back : to + k - to ≡ k = omega arith in
+          get_or-append_right (take to old) rest to (to + k) (pos 0) front (omega arith)
+          ∙ ap (λ i. get_or rest i (pos 0)) back
+          ∙ get_or-append (take 4 (drop from source)) (drop (to + 4) old) (pos 0) k (omega (arith, four))
+          ∙ get_or-take 4 (drop from source) k (pos 0) small ∙ get_or-drop from source k (pos 0);
+      others = λ i free. ⊎_elim
+          (λ (before : i < to). get_or-append (take to old) rest (pos 0) i (omega (arith, front)) ∙ get_or-take to old i (pos 0) before)
+          (λ (from_there : to ≤ i). ⊎_elim
+          (λ (within : i < to + 4). absurd (free (i - to) (omega arith) (omega arith)))
+          (λ (behind : to + 4 ≤ i).
+          let place : to + 4 + (i - to - 4) ≡ i = omega arith in
+          get_or-append_right (take to old) rest to i (pos 0) front from_there
+          ∙ get_or-append_right (take 4 (drop from source)) (drop (to + 4) old) 4 (i - to) (pos 0) four (omega arith)
+          ∙ get_or-drop (to + 4) old (i - to - 4) (pos 0) ∙ ap (λ n. get_or old n (pos 0)) place)
+          (cases_lt i (to + 4)))
+          (cases_lt i to);
+    }
+
+-- the same of the numbers of values
+pub row_copied : {X : Type 0} (f : X → ℤ) (from to : ℕ) (source old new : List X) → from + 4 ≤ length source → to + 4 ≤ length old
+    → new ≡ take to old ++ (take 4 (drop from source) ++ drop (to + 4) old) → IsRowCopied from to (map f source) (map f old) (map f new)
+row_copied f from to source old new there room is =
+    subst (IsRowCopied from to (map f source) (map f old)) (sym (ap (map f) is ∙ parts))
+    (copied_row from to (map f source) (map f old) (omega (arith, length-map source f)) (omega (arith, length-map old f)))
+  where
+    parts : map f (take to old ++ (take 4 (drop from source) ++ drop (to + 4) old)) ≡ take to (map f old) ++ (take 4 (drop from (map f source)) ++ drop (to + 4) (map f old))
+    parts = simp (map-append, take-map, drop-map)
+
 -- ---- gathering
 
 module _ (layout : Layout) (e : Extent) (values old : List ℤ) where
@@ -102,6 +146,16 @@ module _ (layout : Layout) (e : Extent) (values old : List ℤ) where
   unfolding IsGatheredTo
   gathered_skip_row now r four none h =
       written_skip_all (exists e) (λ p. p) (λ p. get_or values (index_at layout e p) (pos 0)) old now (4 * r) 4 (λ k lt. row_exists e r k false lt four none) h
+
+  pub gathered_row : (now new : List ℤ) (r first : ℕ) → HasWholeRows layout e → exists e (4 * r) ≡ true → first ≡ index_at layout e (4 * r)
+      → IsRowCopied first (4 * r) values now new → IsGatheredTo now (4 * r) → IsGatheredTo new (4 * (r + 1))
+  unfolding IsGatheredTo
+  gathered_row now new r first rows here is copied h =
+      subst (IsWritten (exists e) (λ p. p) (λ p. get_or values (index_at layout e p) (pos 0)) old new) (omega arith)
+      (written_row (exists e) (λ p. p) (λ p. get_or values (index_at layout e p) (pos 0)) old now new (4 * r) (4 * r)
+      (λ k small. row_exists e r k true small rows.1 here) (λ k small. refl) (λ p k lt small w same. absurd (omega arith))
+      (λ k small. copied.row k small ∙ ap (λ i. get_or values i (pos 0)) (ap (λ i. i + k) is ∙ sym (row_index layout e r k small rows.0)))
+      copied.others h)
 
   pub gathered_all : (d n : ℕ) (now : List ℤ) → d ≤ 4 → IsExtent d e → n ≡ 4 ^ d → n ≤ 256 → IsGatheredTo now n → IsGathered layout e values old now
   unfolding IsGatheredTo
@@ -136,6 +190,18 @@ module _ (layout : Layout) (e : Extent) (block old : List ℤ) where
   unfolding IsScatteredTo
   scattered_skip_row now r four none h =
       written_skip_all (exists e) (index_at layout e) (λ p. get_or block p (pos 0)) old now (4 * r) 4 (λ k lt. row_exists e r k false lt four none) h
+
+  pub scattered_row : (now new : List ℤ) (r first : ℕ) → IsOneToOne layout e → 4 * r + 3 < 256 → HasWholeRows layout e → exists e (4 * r) ≡ true
+      → first ≡ index_at layout e (4 * r) → IsRowCopied (4 * r) first block now new → IsScatteredTo now (4 * r) → IsScatteredTo new (4 * (r + 1))
+  unfolding IsScatteredTo
+  scattered_row now new r first one below rows here is copied h =
+      subst (IsWritten (exists e) (index_at layout e) (λ p. get_or block p (pos 0)) old new) (omega arith)
+      (written_row (exists e) (index_at layout e) (λ p. get_or block p (pos 0)) old now new (4 * r) first
+      (λ k small. row_exists e r k true small rows.1 here) (λ k small. row_index layout e r k small rows.0 ∙ ap (λ i. i + k) (sym is))
+      (λ p k lt small w same.
+      let p_is = one p (4 * r + k) (record { in_block = omega arith; inside = w }) (record { in_block = omega arith; inside = row_exists e r k true small rows.1 here }) same in
+      absurd (omega (arith, p_is)))
+      copied.row copied.others h)
 
   pub scattered_all : (d n : ℕ) (now : List ℤ) → d ≤ 4 → IsExtent d e → n ≡ 4 ^ d → n ≤ 256 → IsScatteredTo now n → IsScattered layout e block old now
   unfolding IsScatteredTo

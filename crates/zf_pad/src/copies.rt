@@ -1,6 +1,6 @@
 //! Copies between a list of values and a block.
 
-ghost use Rattle.std.specs.Prelude.{◌≡◌, ◌<◌, ◌≤◌, ◌*◌, ◌^◌, ◌↔◌, IsTrue, length, map};
+ghost use Rattle.std.specs.Prelude.{◌≡◌, ◌+◌, ◌<◌, ◌≤◌, ◌*◌, ◌^◌, ◌++◌, ◌↔◌, IsTrue, length, map, take, drop};
 ghost use Rattle.zf_spec.specs.Grid.{is_inside, fours};
 ghost use Rattle.zf_base.specs.Positions.{axes, used_axes, IsExtent};
 ghost use Rattle.zf_pad.specs.Layouts.{place_indices, HasWholeRows, LiesWithin, IsOneToOne};
@@ -81,9 +81,7 @@ fn gather_all_rows<T: Lane>(
     let from_origin = layout.counted_from(&e.origin);
     for row in 0..rows {
         let first = from_origin.index(&indices(4 * row)) as usize;
-        for k in 0..4 {
-            block[4 * row + k] = values[first + k];
-        }
+        copy_row(values, first, block, 4 * row);
     }
 }
 
@@ -102,9 +100,7 @@ fn gather_rows<T: Lane>(layout: &Layout, e: &Extent, d: u8, values: &[T], block:
         let at = indices(4 * row);
         if is_inside(&e.size, &at) {
             let first = from_origin.index(&at) as usize;
-            for k in 0..4 {
-                block[4 * row + k] = values[first + k];
-            }
+            copy_row(values, first, block, 4 * row);
         }
     }
 }
@@ -193,9 +189,7 @@ fn scatter_all_rows<T: Lane>(
     let from_origin = layout.counted_from(&e.origin);
     for row in 0..rows {
         let first = from_origin.index(&indices(4 * row)) as usize;
-        for k in 0..4 {
-            values[first + k] = block[4 * row + k];
-        }
+        copy_row(block, 4 * row, values, first);
     }
 }
 
@@ -215,9 +209,7 @@ fn scatter_rows<T: Lane>(layout: &Layout, e: &Extent, d: u8, block: &[T], values
         let at = indices(4 * row);
         if is_inside(&e.size, &at) {
             let first = from_origin.index(&at) as usize;
-            for k in 0..4 {
-                values[first + k] = block[4 * row + k];
-            }
+            copy_row(block, 4 * row, values, first);
         }
     }
 }
@@ -239,6 +231,16 @@ fn scatter_places<T: Lane>(layout: &Layout, e: &Extent, d: u8, block: &[T], valu
             values[from_origin.index(&at) as usize] = block[place];
         }
     }
+}
+
+// Copies the four values from `from` on to the places from `to` on, in one step, as none is written before all are read.
+#[inline(always)]
+fn copy_row<T: Lane>(source: &[T], from: usize, target: &mut [T], to: usize)
+    requires there { from + 4 ≤ length source.now }
+    requires room { to + 4 ≤ length target.old }
+    ensures { target.new ≡ take to target.old ++ (take 4 (drop from source.now) ++ drop (to + 4) target.old) }
+{
+    target[to..to + 4].copy_from_slice(&source[from..from + 4]);
 }
 
 // The indices of a place along the axes.

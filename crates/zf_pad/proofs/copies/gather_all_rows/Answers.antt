@@ -1,7 +1,5 @@
-use Rattle.std.proofs.Common.{◌+◌, ◌*◌, true, pos, length, get_or, set, map, sym, ap, subst, ◌∙◌, arith}
-use Rattle.std.proofs.lemmas.List.{length-map, map-set}
-use Rattle.zf_base.proofs.Values.{number_at}
-use Rattle.zf_pad.proofs.Copying.{IsGatheredTo, index_here, row_exists, row_index, row_within, gathered_none, gathered_more, gathered_all}
+use Rattle.std.proofs.Common.{◌*◌, length, map, ◌∙◌, arith}
+use Rattle.zf_pad.proofs.Copying.{index_here, row_within, gathered_none, gathered_row, row_copied, gathered_all}
 use Rattle.zf_pad.proofs.Existing.{first_place, first_index, place_of_whole}
 use Rattle.zf_pad.proofs.copies.gather_all_rows.Goals as goal
 
@@ -19,63 +17,20 @@ index-first-requires g c =
 pub loop-row-init : goal.loop-row-init
 loop-row-init g c = gathered_none c.args.layout.now c.args.e.now (map g.T.Lane.value c.args.values.now) (map g.T.Lane.value c.args.block.now)
 
-pub loop-k-init : goal.loop-k-init
-loop-k-init g c =
-    let value = g.T.Lane.value in
-    subst
-    (IsGatheredTo c.args.layout.now c.args.e.now (map value c.args.values.now) (map value c.args.block.now) (map value c.loop-row.block))
-    (omega arith)
-    c.loop-row.invariant
-
-pub overflow_add-block : goal.overflow_add-block
-overflow_add-block g c =
-    let inside = row_within c.args.layout.now c.args.e.now c.loop-row.row c.loop-k.k (length c.args.values.now) c.index-first.result (omega arith) (omega arith) c.requires.beside c.requires.within
+pub copy_row-requires-clause-there : goal.copy_row-requires-clause-there
+copy_row-requires-clause-there g c =
+    let last = row_within c.args.layout.now c.args.e.now c.loop-row.row 3 (length c.args.values.now) c.index-first.result (omega arith) (omega arith) c.requires.beside c.requires.within
     (place_of_whole c.args.d c.args.e.now c.requires.four_at_most c.requires.extent (4 * c.loop-row.row) c.requires.all (omega arith))
     (c.index-first.ensures ∙ index_here c.args.layout.now c.counted_from-from_origin.result c.args.e.now (4 * c.loop-row.row) c.indices.result c.counted_from-from_origin.ensures c.indices.ensures) in
     omega arith
-
-pub offset_bounds-values-first : goal.offset_bounds-values-first
-offset_bounds-values-first g c =
-    let inside = row_within c.args.layout.now c.args.e.now c.loop-row.row c.loop-k.k (length c.args.values.now) c.index-first.result (omega arith) (omega arith) c.requires.beside c.requires.within
-    (place_of_whole c.args.d c.args.e.now c.requires.four_at_most c.requires.extent (4 * c.loop-row.row) c.requires.all (omega arith))
-    (c.index-first.ensures ∙ index_here c.args.layout.now c.counted_from-from_origin.result c.args.e.now (4 * c.loop-row.row) c.indices.result c.counted_from-from_origin.ensures c.indices.ensures) in
-    omega arith
-
-pub bounds-values-first : goal.bounds-values-first
-bounds-values-first g c =
-    row_within c.args.layout.now c.args.e.now c.loop-row.row c.loop-k.k (length c.args.values.now) c.index-first.result (omega arith) (omega arith) c.requires.beside c.requires.within
-    (place_of_whole c.args.d c.args.e.now c.requires.four_at_most c.requires.extent (4 * c.loop-row.row) c.requires.all (omega arith))
-    (c.index-first.ensures ∙ index_here c.args.layout.now c.counted_from-from_origin.result c.args.e.now (4 * c.loop-row.row) c.indices.result c.counted_from-from_origin.ensures c.indices.ensures)
-
-pub loop-k-preserved : goal.loop-k-preserved
-loop-k-preserved g c =
-    let value = g.T.Lane.value in
-    let layout = c.args.layout.now in
-    let e = c.args.e.now in
-    let row = c.loop-row.row in
-    let k = c.loop-k.k in
-    let block = c.loop-k.block in
-    let values = map value c.args.values.now in
-    let old = map value c.args.block.now in
-    let x = c.index-values-first.result in
-    let here = place_of_whole c.args.d c.args.e.now c.requires.four_at_most c.requires.extent (4 * c.loop-row.row) c.requires.all (omega arith) in
-    let index = ap (λ i. i + k) (c.index-first.ensures ∙ index_here c.args.layout.now c.counted_from-from_origin.result c.args.e.now (4 * c.loop-row.row) c.indices.result c.counted_from-from_origin.ensures c.indices.ensures) ∙ sym (row_index layout e row k (omega arith) c.requires.beside.0) in
-    let read = number_at value c.args.values.now (c.index-first.result + k) x (pos 0) (bounds-values-first g c.before) c.index-values-first.is ∙ ap (λ i. get_or values i (pos 0)) index in
-    subst
-    (λ b. IsGatheredTo layout e values old b (4 * row + (k + 1)))
-    (sym (map-set value block (4 * row + k) x))
-    (subst
-    (IsGatheredTo layout e values old (set (map value block) (4 * row + k) (value x)))
-    (omega arith)
-    (gathered_more layout e values old (map value block) (4 * row + k) (value x) (row_exists e row k true (omega arith) c.requires.beside.1 here) (omega (arith, length-map block value)) read c.loop-k.invariant))
 
 pub loop-row-preserved : goal.loop-row-preserved
 loop-row-preserved g c =
     let value = g.T.Lane.value in
-    subst
-    (IsGatheredTo c.args.layout.now c.args.e.now (map value c.args.values.now) (map value c.args.block.now) (map value c.loop-k.block))
-    (omega arith)
-    c.loop-k.invariant
+    gathered_row c.args.layout.now c.args.e.now (map value c.args.values.now) (map value c.args.block.now) (map value c.loop-row.block) (map value c.copy_row.new.target) c.loop-row.row c.index-first.result
+    c.requires.beside (place_of_whole c.args.d c.args.e.now c.requires.four_at_most c.requires.extent (4 * c.loop-row.row) c.requires.all (omega arith)) (c.index-first.ensures ∙ index_here c.args.layout.now c.counted_from-from_origin.result c.args.e.now (4 * c.loop-row.row) c.indices.result c.counted_from-from_origin.ensures c.indices.ensures)
+    (row_copied value c.index-first.result (4 * c.loop-row.row) c.args.values.now c.loop-row.block c.copy_row.new.target (copy_row-requires-clause-there g c.before.before) (omega arith) c.copy_row.ensures)
+    c.loop-row.invariant
 
 pub returns : goal.returns
 returns g c =

@@ -1,4 +1,4 @@
-use Rattle.std.proofs.Common.{◌+◌, ◌*◌, map}
+use Rattle.std.proofs.Common.{◌*◌, map}
 use Rattle.zf_pad.proofs.Copying.{IsGatheredTo}
 use Rattle.zf_pad.proofs.copies.gather_all_rows.Given as goal
 
@@ -7,9 +7,3 @@ abbrev pub invariant-loop-row : goal.invariant-loop-row
 invariant-loop-row g l =
     let value = g.T.Lane.value in
     IsGatheredTo l.layout l.e (map value l.values) (map value l.fn.block) (map value l.block) (4 * l.row)
-
--- and so are the places so far of this row
-abbrev pub invariant-loop-k : goal.invariant-loop-k
-invariant-loop-k g l =
-    let value = g.T.Lane.value in
-    IsGatheredTo l.layout l.e (map value l.values) (map value l.fn.block) (map value l.block) (4 * l.row + l.k)

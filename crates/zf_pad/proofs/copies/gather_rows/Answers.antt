@@ -1,10 +1,8 @@
-use Rattle.std.proofs.Common.{◌+◌, ◌*◌, true, false, pos, length, get_or, set, map, sym, ap, subst, ◌∙◌, arith}
-use Rattle.std.proofs.lemmas.List.{length-map, map-set}
-use Rattle.zf_base.proofs.Values.{number_at}
-use Rattle.zf_pad.proofs.Copying.{IsGatheredTo, exists_here, index_here, row_exists, row_index, row_within, whole_rows, gathered_none, gathered_more, gathered_skip_row, gathered_all}
+use Rattle.std.proofs.Common.{◌+◌, ◌*◌, true, false, length, map, sym, ap, subst, ◌∙◌, arith}
+use Rattle.zf_pad.proofs.Copying.{IsGatheredTo, exists_here, index_here, row_within, whole_rows, gathered_none, gathered_row, row_copied, gathered_skip_row, gathered_all}
 use Rattle.zf_pad.proofs.Existing.{first_place, first_index}
 use Rattle.zf_pad.proofs.copies.gather_rows.Goals as goal
-use Rattle.zf_pad.proofs.copies.gather_rows.Goals.{then-is_inside+else-loop-k-test, else-is_inside}
+use Rattle.zf_pad.proofs.copies.gather_rows.Goals.{then-is_inside, else-is_inside}
 
 pub counted_from-from_origin-requires : goal.counted_from-from_origin-requires
 counted_from-from_origin-requires g c =
@@ -14,55 +12,12 @@ counted_from-from_origin-requires g c =
 pub loop-row-init : goal.loop-row-init
 loop-row-init g c = gathered_none c.args.layout.now c.args.e.now (map g.T.Lane.value c.args.values.now) (map g.T.Lane.value c.args.block.now)
 
-pub loop-k-init : goal.loop-k-init
-loop-k-init g c =
-    let value = g.T.Lane.value in
-    subst
-    (IsGatheredTo c.args.layout.now c.args.e.now (map value c.args.values.now) (map value c.args.block.now) (map value c.loop-row.block))
-    (omega arith)
-    c.loop-row.invariant
-
-pub overflow_add-block : goal.overflow_add-block
-overflow_add-block g c =
-    let inside = row_within c.args.layout.now c.args.e.now c.loop-row.row c.loop-k.k (length c.args.values.now) c.index-first.result (omega arith) (omega arith) c.requires.rows c.requires.within
+pub copy_row-requires-clause-there : goal.copy_row-requires-clause-there
+copy_row-requires-clause-there g c =
+    let last = row_within c.args.layout.now c.args.e.now c.loop-row.row 3 (length c.args.values.now) c.index-first.result (omega arith) (omega arith) c.requires.rows c.requires.within
     (exists_here c.args.e.now (4 * c.loop-row.row) c.indices-at.result _ true c.indices-at.ensures c.is_inside.ensures c.if-is_inside.true)
     (c.index-first.ensures ∙ index_here c.args.layout.now c.counted_from-from_origin.result c.args.e.now (4 * c.loop-row.row) c.indices-at.result c.counted_from-from_origin.ensures c.indices-at.ensures) in
     omega arith
-
-pub offset_bounds-values-first : goal.offset_bounds-values-first
-offset_bounds-values-first g c =
-    let inside = row_within c.args.layout.now c.args.e.now c.loop-row.row c.loop-k.k (length c.args.values.now) c.index-first.result (omega arith) (omega arith) c.requires.rows c.requires.within
-    (exists_here c.args.e.now (4 * c.loop-row.row) c.indices-at.result _ true c.indices-at.ensures c.is_inside.ensures c.if-is_inside.true)
-    (c.index-first.ensures ∙ index_here c.args.layout.now c.counted_from-from_origin.result c.args.e.now (4 * c.loop-row.row) c.indices-at.result c.counted_from-from_origin.ensures c.indices-at.ensures) in
-    omega arith
-
-pub bounds-values-first : goal.bounds-values-first
-bounds-values-first g c =
-    row_within c.args.layout.now c.args.e.now c.loop-row.row c.loop-k.k (length c.args.values.now) c.index-first.result (omega arith) (omega arith) c.requires.rows c.requires.within
-    (exists_here c.args.e.now (4 * c.loop-row.row) c.indices-at.result _ true c.indices-at.ensures c.is_inside.ensures c.if-is_inside.true)
-    (c.index-first.ensures ∙ index_here c.args.layout.now c.counted_from-from_origin.result c.args.e.now (4 * c.loop-row.row) c.indices-at.result c.counted_from-from_origin.ensures c.indices-at.ensures)
-
-pub loop-k-preserved : goal.loop-k-preserved
-loop-k-preserved g c =
-    let value = g.T.Lane.value in
-    let layout = c.args.layout.now in
-    let e = c.args.e.now in
-    let row = c.loop-row.row in
-    let k = c.loop-k.k in
-    let block = c.loop-k.block in
-    let values = map value c.args.values.now in
-    let old = map value c.args.block.now in
-    let x = c.index-values-first.result in
-    let here = exists_here c.args.e.now (4 * c.loop-row.row) c.indices-at.result _ true c.indices-at.ensures c.is_inside.ensures c.if-is_inside.true in
-    let index = ap (λ i. i + k) (c.index-first.ensures ∙ index_here c.args.layout.now c.counted_from-from_origin.result c.args.e.now (4 * c.loop-row.row) c.indices-at.result c.counted_from-from_origin.ensures c.indices-at.ensures) ∙ sym (row_index layout e row k (omega arith) c.requires.rows.0) in
-    let read = number_at value c.args.values.now (c.index-first.result + k) x (pos 0) (bounds-values-first g c.before) c.index-values-first.is ∙ ap (λ i. get_or values i (pos 0)) index in
-    subst
-    (λ b. IsGatheredTo layout e values old b (4 * row + (k + 1)))
-    (sym (map-set value block (4 * row + k) x))
-    (subst
-    (IsGatheredTo layout e values old (set (map value block) (4 * row + k) (value x)))
-    (omega arith)
-    (gathered_more layout e values old (map value block) (4 * row + k) (value x) (row_exists e row k true (omega arith) c.requires.rows.1 here) (omega (arith, length-map block value)) read c.loop-k.invariant))
 
 pub loop-row-preserved : goal.loop-row-preserved
 loop-row-preserved g c =
@@ -73,11 +28,16 @@ loop-row-preserved g c =
     let values = map value c.args.values.now in
     let old = map value c.args.block.now in
     elim c.if-is_inside.branch [
-      | then-is_inside+else-loop-k-test w ↦
+      | then-is_inside w ↦
+          let here = exists_here e (4 * row) c.indices-at.result _ true c.indices-at.ensures c.is_inside.ensures w.if-is_inside.true in
+          let first = w.index-first.ensures ∙ index_here layout c.counted_from-from_origin.result e (4 * row) c.indices-at.result c.counted_from-from_origin.ensures c.indices-at.ensures in
+          let last = row_within layout e row 3 (length c.args.values.now) w.index-first.result (omega arith) (omega arith) c.requires.rows c.requires.within here first in
           subst
           (λ b. IsGatheredTo layout e values old b (4 * (row + 1)))
           (sym (ap (map value) w.block-is))
-          (subst (IsGatheredTo layout e values old (map value w.loop-k.block)) (omega arith) w.loop-k.invariant)
+          (gathered_row layout e values old (map value c.loop-row.block) (map value w.copy_row.new.target) row w.index-first.result c.requires.rows here first
+          (row_copied value w.index-first.result (4 * row) c.args.values.now c.loop-row.block w.copy_row.new.target (omega (arith, last)) (omega arith) w.copy_row.ensures)
+          c.loop-row.invariant)
       | else-is_inside w ↦
           let none = exists_here e (4 * row) c.indices-at.result _ false c.indices-at.ensures c.is_inside.ensures w.if-is_inside.false in
           subst

@@ -1,8 +1,5 @@
-use Rattle.std.proofs.Common.{◌+◌, ◌*◌, ◌<◌, true, pos, length, set, map, sym, ap, subst, ◌∙◌, rules, arith}
-use Rattle.std.proofs.lemmas.List.{length-map, map-set}
-use Rattle.zf_base.proofs.Values.{number_at}
-use Rattle.zf_pad.specs.Layouts.{index_at}
-use Rattle.zf_pad.proofs.Copying.{IsScatteredTo, index_here, row_exists, row_index, row_within, scattered_none, scattered_more, scattered_all}
+use Rattle.std.proofs.Common.{◌*◌, length, map, ◌∙◌, arith}
+use Rattle.zf_pad.proofs.Copying.{index_here, row_within, scattered_none, scattered_row, row_copied, scattered_all}
 use Rattle.zf_pad.proofs.Existing.{first_place, first_index, place_of_whole}
 use Rattle.zf_pad.proofs.copies.scatter_all_rows.Goals as goal
 
@@ -20,65 +17,20 @@ index-first-requires g c =
 pub loop-row-init : goal.loop-row-init
 loop-row-init g c = scattered_none c.args.layout.now c.args.e.now (map g.T.Lane.value c.args.block.now) (map g.T.Lane.value c.args.values.now)
 
-pub loop-k-init : goal.loop-k-init
-loop-k-init g c =
-    let value = g.T.Lane.value in
-    subst
-    (IsScatteredTo c.args.layout.now c.args.e.now (map value c.args.block.now) (map value c.args.values.now) (map value c.loop-row.values))
-    (omega arith)
-    c.loop-row.invariant
-
-pub overflow_add-first : goal.overflow_add-first
-overflow_add-first g c =
-    let inside = row_within c.args.layout.now c.args.e.now c.loop-row.row c.loop-k.k (length c.args.values.now) c.index-first.result (omega arith) (omega arith) c.requires.beside c.requires.within
+pub copy_row-requires-clause-room : goal.copy_row-requires-clause-room
+copy_row-requires-clause-room g c =
+    let last = row_within c.args.layout.now c.args.e.now c.loop-row.row 3 (length c.args.values.now) c.index-first.result (omega arith) (omega arith) c.requires.beside c.requires.within
     (place_of_whole c.args.d c.args.e.now c.requires.four_at_most c.requires.extent (4 * c.loop-row.row) c.requires.all (omega arith))
     (c.index-first.ensures ∙ index_here c.args.layout.now c.counted_from-from_origin.result c.args.e.now (4 * c.loop-row.row) c.indices.result c.counted_from-from_origin.ensures c.indices.ensures) in
     omega arith
-
-pub bounds-values-first : goal.bounds-values-first
-bounds-values-first g c =
-    let inside = row_within c.args.layout.now c.args.e.now c.loop-row.row c.loop-k.k (length c.args.values.now) c.index-first.result (omega arith) (omega arith) c.requires.beside c.requires.within
-    (place_of_whole c.args.d c.args.e.now c.requires.four_at_most c.requires.extent (4 * c.loop-row.row) c.requires.all (omega arith))
-    (c.index-first.ensures ∙ index_here c.args.layout.now c.counted_from-from_origin.result c.args.e.now (4 * c.loop-row.row) c.indices.result c.counted_from-from_origin.ensures c.indices.ensures) in
-    omega arith
-
-pub offset_bounds-values-first : goal.offset_bounds-values-first
-offset_bounds-values-first g c =
-    let below : c.index-first.result + c.loop-k.k < length c.loop-k.values = bounds-values-first g c in
-    search rules
-
-pub loop-k-preserved : goal.loop-k-preserved
-loop-k-preserved g c =
-    let value = g.T.Lane.value in
-    let layout = c.args.layout.now in
-    let e = c.args.e.now in
-    let row = c.loop-row.row in
-    let k = c.loop-k.k in
-    let values = c.loop-k.values in
-    let block = map value c.args.block.now in
-    let old = map value c.args.values.now in
-    let x = c.index-block-row.result in
-    let here = place_of_whole c.args.d c.args.e.now c.requires.four_at_most c.requires.extent (4 * c.loop-row.row) c.requires.all (omega arith) in
-    let index = ap (λ i. i + k) (c.index-first.ensures ∙ index_here c.args.layout.now c.counted_from-from_origin.result c.args.e.now (4 * c.loop-row.row) c.indices.result c.counted_from-from_origin.ensures c.indices.ensures) ∙ sym (row_index layout e row k (omega arith) c.requires.beside.0) in
-    let inside = row_within c.args.layout.now c.args.e.now c.loop-row.row c.loop-k.k (length c.args.values.now) c.index-first.result (omega arith) (omega arith) c.requires.beside c.requires.within
-    (place_of_whole c.args.d c.args.e.now c.requires.four_at_most c.requires.extent (4 * c.loop-row.row) c.requires.all (omega arith))
-    (c.index-first.ensures ∙ index_here c.args.layout.now c.counted_from-from_origin.result c.args.e.now (4 * c.loop-row.row) c.indices.result c.counted_from-from_origin.ensures c.indices.ensures) in
-    let read = number_at value c.args.block.now (4 * row + k) x (pos 0) (omega arith) c.index-block-row.is in
-    subst
-    (λ b. IsScatteredTo layout e block old b (4 * row + (k + 1)))
-    (sym (map-set value values (c.index-first.result + k) x ∙ ap (λ i. set (map value values) i (value x)) index))
-    (subst
-    (IsScatteredTo layout e block old (set (map value values) (index_at layout e (4 * row + k)) (value x)))
-    (omega arith)
-    (scattered_more layout e block old (map value values) (4 * row + k) (value x) c.requires.one_to_one (omega arith) (row_exists e row k true (omega arith) c.requires.beside.1 here) (omega (arith, inside, index, length-map values value)) read c.loop-k.invariant))
 
 pub loop-row-preserved : goal.loop-row-preserved
 loop-row-preserved g c =
     let value = g.T.Lane.value in
-    subst
-    (IsScatteredTo c.args.layout.now c.args.e.now (map value c.args.block.now) (map value c.args.values.now) (map value c.loop-k.values))
-    (omega arith)
-    c.loop-k.invariant
+    scattered_row c.args.layout.now c.args.e.now (map value c.args.block.now) (map value c.args.values.now) (map value c.loop-row.values) (map value c.copy_row.new.target) c.loop-row.row c.index-first.result
+    c.requires.one_to_one (omega arith) c.requires.beside (place_of_whole c.args.d c.args.e.now c.requires.four_at_most c.requires.extent (4 * c.loop-row.row) c.requires.all (omega arith)) (c.index-first.ensures ∙ index_here c.args.layout.now c.counted_from-from_origin.result c.args.e.now (4 * c.loop-row.row) c.indices.result c.counted_from-from_origin.ensures c.indices.ensures)
+    (row_copied value (4 * c.loop-row.row) c.index-first.result c.args.block.now c.loop-row.values c.copy_row.new.target (omega arith) (copy_row-requires-clause-room g c.before.before) c.copy_row.ensures)
+    c.loop-row.invariant
 
 pub returns : goal.returns
 returns g c =

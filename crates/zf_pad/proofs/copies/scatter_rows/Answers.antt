@@ -1,11 +1,8 @@
-use Rattle.std.proofs.Common.{◌+◌, ◌*◌, ◌<◌, true, false, pos, length, set, map, sym, ap, subst, ◌∙◌, rules, arith}
-use Rattle.std.proofs.lemmas.List.{length-map, map-set}
-use Rattle.zf_base.proofs.Values.{number_at}
-use Rattle.zf_pad.specs.Layouts.{index_at}
-use Rattle.zf_pad.proofs.Copying.{IsScatteredTo, exists_here, index_here, row_exists, row_index, row_within, whole_rows, scattered_none, scattered_more, scattered_skip_row, scattered_all}
+use Rattle.std.proofs.Common.{◌+◌, ◌*◌, true, false, length, map, sym, ap, subst, ◌∙◌, arith}
+use Rattle.zf_pad.proofs.Copying.{IsScatteredTo, exists_here, index_here, row_within, whole_rows, scattered_none, scattered_row, row_copied, scattered_skip_row, scattered_all}
 use Rattle.zf_pad.proofs.Existing.{first_place, first_index}
 use Rattle.zf_pad.proofs.copies.scatter_rows.Goals as goal
-use Rattle.zf_pad.proofs.copies.scatter_rows.Goals.{then-is_inside+else-loop-k-test, else-is_inside}
+use Rattle.zf_pad.proofs.copies.scatter_rows.Goals.{then-is_inside, else-is_inside}
 
 pub counted_from-from_origin-requires : goal.counted_from-from_origin-requires
 counted_from-from_origin-requires g c =
@@ -15,57 +12,12 @@ counted_from-from_origin-requires g c =
 pub loop-row-init : goal.loop-row-init
 loop-row-init g c = scattered_none c.args.layout.now c.args.e.now (map g.T.Lane.value c.args.block.now) (map g.T.Lane.value c.args.values.now)
 
-pub loop-k-init : goal.loop-k-init
-loop-k-init g c =
-    let value = g.T.Lane.value in
-    subst
-    (IsScatteredTo c.args.layout.now c.args.e.now (map value c.args.block.now) (map value c.args.values.now) (map value c.loop-row.values))
-    (omega arith)
-    c.loop-row.invariant
-
-pub overflow_add-first : goal.overflow_add-first
-overflow_add-first g c =
-    let inside = row_within c.args.layout.now c.args.e.now c.loop-row.row c.loop-k.k (length c.args.values.now) c.index-first.result (omega arith) (omega arith) c.requires.rows c.requires.within
+pub copy_row-requires-clause-room : goal.copy_row-requires-clause-room
+copy_row-requires-clause-room g c =
+    let last = row_within c.args.layout.now c.args.e.now c.loop-row.row 3 (length c.args.values.now) c.index-first.result (omega arith) (omega arith) c.requires.rows c.requires.within
     (exists_here c.args.e.now (4 * c.loop-row.row) c.indices-at.result _ true c.indices-at.ensures c.is_inside.ensures c.if-is_inside.true)
     (c.index-first.ensures ∙ index_here c.args.layout.now c.counted_from-from_origin.result c.args.e.now (4 * c.loop-row.row) c.indices-at.result c.counted_from-from_origin.ensures c.indices-at.ensures) in
     omega arith
-
-pub bounds-values-first : goal.bounds-values-first
-bounds-values-first g c =
-    let inside = row_within c.args.layout.now c.args.e.now c.loop-row.row c.loop-k.k (length c.args.values.now) c.index-first.result (omega arith) (omega arith) c.requires.rows c.requires.within
-    (exists_here c.args.e.now (4 * c.loop-row.row) c.indices-at.result _ true c.indices-at.ensures c.is_inside.ensures c.if-is_inside.true)
-    (c.index-first.ensures ∙ index_here c.args.layout.now c.counted_from-from_origin.result c.args.e.now (4 * c.loop-row.row) c.indices-at.result c.counted_from-from_origin.ensures c.indices-at.ensures) in
-    omega arith
-
-pub offset_bounds-values-first : goal.offset_bounds-values-first
-offset_bounds-values-first g c =
-    let below : c.index-first.result + c.loop-k.k < length c.loop-k.values = bounds-values-first g c in
-    search rules
-
-pub loop-k-preserved : goal.loop-k-preserved
-loop-k-preserved g c =
-    let value = g.T.Lane.value in
-    let layout = c.args.layout.now in
-    let e = c.args.e.now in
-    let row = c.loop-row.row in
-    let k = c.loop-k.k in
-    let values = c.loop-k.values in
-    let block = map value c.args.block.now in
-    let old = map value c.args.values.now in
-    let x = c.index-block-row.result in
-    let here = exists_here c.args.e.now (4 * c.loop-row.row) c.indices-at.result _ true c.indices-at.ensures c.is_inside.ensures c.if-is_inside.true in
-    let index = ap (λ i. i + k) (c.index-first.ensures ∙ index_here c.args.layout.now c.counted_from-from_origin.result c.args.e.now (4 * c.loop-row.row) c.indices-at.result c.counted_from-from_origin.ensures c.indices-at.ensures) ∙ sym (row_index layout e row k (omega arith) c.requires.rows.0) in
-    let inside = row_within c.args.layout.now c.args.e.now c.loop-row.row c.loop-k.k (length c.args.values.now) c.index-first.result (omega arith) (omega arith) c.requires.rows c.requires.within
-    (exists_here c.args.e.now (4 * c.loop-row.row) c.indices-at.result _ true c.indices-at.ensures c.is_inside.ensures c.if-is_inside.true)
-    (c.index-first.ensures ∙ index_here c.args.layout.now c.counted_from-from_origin.result c.args.e.now (4 * c.loop-row.row) c.indices-at.result c.counted_from-from_origin.ensures c.indices-at.ensures) in
-    let read = number_at value c.args.block.now (4 * row + k) x (pos 0) (omega arith) c.index-block-row.is in
-    subst
-    (λ b. IsScatteredTo layout e block old b (4 * row + (k + 1)))
-    (sym (map-set value values (c.index-first.result + k) x ∙ ap (λ i. set (map value values) i (value x)) index))
-    (subst
-    (IsScatteredTo layout e block old (set (map value values) (index_at layout e (4 * row + k)) (value x)))
-    (omega arith)
-    (scattered_more layout e block old (map value values) (4 * row + k) (value x) c.requires.one_to_one (omega arith) (row_exists e row k true (omega arith) c.requires.rows.1 here) (omega (arith, inside, index, length-map values value)) read c.loop-k.invariant))
 
 pub loop-row-preserved : goal.loop-row-preserved
 loop-row-preserved g c =
@@ -76,11 +28,16 @@ loop-row-preserved g c =
     let block = map value c.args.block.now in
     let old = map value c.args.values.now in
     elim c.if-is_inside.branch [
-      | then-is_inside+else-loop-k-test w ↦
+      | then-is_inside w ↦
+          let here = exists_here e (4 * row) c.indices-at.result _ true c.indices-at.ensures c.is_inside.ensures w.if-is_inside.true in
+          let first = w.index-first.ensures ∙ index_here layout c.counted_from-from_origin.result e (4 * row) c.indices-at.result c.counted_from-from_origin.ensures c.indices-at.ensures in
+          let last = row_within layout e row 3 (length c.args.values.now) w.index-first.result (omega arith) (omega arith) c.requires.rows c.requires.within here first in
           subst
           (λ b. IsScatteredTo layout e block old b (4 * (row + 1)))
           (sym (ap (map value) w.values-is))
-          (subst (IsScatteredTo layout e block old (map value w.loop-k.values)) (omega arith) w.loop-k.invariant)
+          (scattered_row layout e block old (map value c.loop-row.values) (map value w.copy_row.new.target) row w.index-first.result c.requires.one_to_one (omega arith) c.requires.rows here first
+          (row_copied value (4 * row) w.index-first.result c.args.block.now c.loop-row.values w.copy_row.new.target (omega arith) (omega (arith, last)) w.copy_row.ensures)
+          c.loop-row.invariant)
       | else-is_inside w ↦
           let none = exists_here e (4 * row) c.indices-at.result _ false c.indices-at.ensures c.is_inside.ensures w.if-is_inside.false in
           subst

@@ -1,4 +1,4 @@
-use Rattle.std.proofs.Common.{◌+◌, ◌*◌, map}
+use Rattle.std.proofs.Common.{◌*◌, map}
 use Rattle.zf_pad.proofs.Copying.{IsScatteredTo}
 use Rattle.zf_pad.proofs.copies.scatter_rows.Given as goal
 
@@ -7,9 +7,3 @@ abbrev pub invariant-loop-row : goal.invariant-loop-row
 invariant-loop-row g l =
     let value = g.T.Lane.value in
     IsScatteredTo l.layout l.e (map value l.block) (map value l.fn.values) (map value l.values) (4 * l.row)
-
--- and so are the places so far of this row
-abbrev pub invariant-loop-k : goal.invariant-loop-k
-invariant-loop-k g l =
-    let value = g.T.Lane.value in
-    IsScatteredTo l.layout l.e (map value l.block) (map value l.fn.values) (map value l.values) (4 * l.row + l.k)
