@@ -1,14 +1,15 @@
 #!/usr/bin/env python3
 """Times zfpi beside zfp, and shows how much memory zfpi holds and how its time grows.
 
-    python3 bench/bench.py [PROGRAM] [MEBIBYTES] [FIELD] [NUMBER]
+    python3 bench/bench.py [PROGRAM] [MEBIBYTES] [FIELD] [NUMBER] [RUNS]
 
 PROGRAM is the built program, by default crates/zfpi/out/zfpi; MEBIBYTES the size of each array, by default 64; FIELD one of bench/fields.py, by default
-waves, made from NUMBER, by default 0. Needs the programs zfp and time (Debian's packages of these names) and numpy.
+waves, made from NUMBER, by default 0; RUNS how often each is run, by default 5: more on a machine that others share. Needs the programs zfp and time
+(Debian's packages of these names) and numpy.
 
 The arrays are cubes of one to four dimensions, of int32 and int64. Each row has one array in one mode: bits a value of our stream; then of compress and
 of restore nanoseconds a value of processor time (user and system), how many times as fast ours is as zfp's, by processor time and by the clock on the
-wall, and the most memory that ours held. The least of five runs, ours and zfp's by turns. Last, of both, the times a value at a quarter of the size and
+wall, and the most memory that ours held. The least of the runs, ours and zfp's by turns. Last, of both, the times a value at a quarter of the size and
 at four times it, as parts of that at once the size. Plain numbers: nothing is claimed of them.
 """
 
@@ -20,7 +21,6 @@ import tempfile
 import time
 from typing import NamedTuple
 
-RUNS = 5
 SIZES = (0.25, 1, 4)
 HERE = pathlib.Path(__file__).resolve().parent
 
@@ -48,10 +48,10 @@ def run_once(words, given=None, made=None):
         return Run(used.ru_utime + used.ru_stime, wall, int(told.read()) * 1024 / 1e6)
 
 
-def measured(*commands):
-    """The least of some runs of each command. They take turns, so that a change of the machine's clock meets all of them."""
-    rounds = [[run_once(*command) for command in commands] for _ in range(RUNS)]
-    return [Run(*(min(numbers) for numbers in zip(*runs))) for runs in zip(*rounds)]
+def measured(runs, *commands):
+    """The least of so many runs of each command. They take turns, so that a change of the machine's clock meets all of them."""
+    rounds = [[run_once(*command) for command in commands] for _ in range(runs)]
+    return [Run(*(min(numbers) for numbers in zip(*each))) for each in zip(*rounds)]
 
 
 class Array(NamedTuple):
@@ -72,7 +72,7 @@ class Array(NamedTuple):
         return words + (["-R"] if bits is None else ["-r", str(bits)])
 
 
-def both_ways(program, folder, array, bits, beside):
+def both_ways(program, folder, array, bits, beside, runs):
     """Both ways, ours and where it is to stand beside ours zfp's, and the bytes of our stream."""
     stream, theirs, back = (str(folder / name) for name in ("ours", "theirs", "back"))
     compress = [(array.ours(program, bits), array.raw, stream)]
@@ -80,15 +80,15 @@ def both_ways(program, folder, array, bits, beside):
     if beside:
         compress.append(([*array.theirs(bits), "-i", array.raw, "-z", theirs],))
         restore.append(([*array.theirs(bits), "-z", theirs, "-o", str(folder / "theirs_back")],))
-    times = measured(*compress), measured(*restore)
+    times = measured(runs, *compress), measured(runs, *restore)
     if bits is None and pathlib.Path(back).read_bytes() != pathlib.Path(array.raw).read_bytes():
         sys.exit("the values did not come back")
     return times, pathlib.Path(stream).stat().st_size
 
 
-def row(program, folder, arrays, bits):
+def row(program, folder, arrays, bits, runs):
     """The arrays of the sizes in one mode; `bits` is bits a value, or None without loss."""
-    times = {size: both_ways(program, folder, array, bits, size == 1) for size, array in arrays.items()}
+    times = {size: both_ways(program, folder, array, bits, size == 1, runs) for size, array in arrays.items()}
     array = arrays[1]
     shape = "x".join([str(array.side)] * array.dims)
     parts = [f"int{array.width} {shape} " + ("reversible" if bits is None else f"{bits} bits a value")]
@@ -106,6 +106,7 @@ def main():
     mebibytes = int(sys.argv[2]) if len(sys.argv) > 2 else 64
     field = sys.argv[3] if len(sys.argv) > 3 else "waves"
     number = sys.argv[4] if len(sys.argv) > 4 else "0"
+    runs = int(sys.argv[5]) if len(sys.argv) > 5 else 5
     with tempfile.TemporaryDirectory() as name:
         folder = pathlib.Path(name)
         for width in (32, 64):
@@ -118,7 +119,7 @@ def main():
                     words = [sys.executable, str(HERE / "fields.py"), field, str(width), str(dims), str(side), number, arrays[size].raw]
                     subprocess.run(words, check=True)
                 for bits in (8, 16, None):
-                    row(program, folder, arrays, bits)
+                    row(program, folder, arrays, bits, runs)
 
 
 if __name__ == "__main__":
