@@ -169,9 +169,9 @@ pub(crate) fn decode<C: BlockCode<T>, T: Lane>(
 {
     match d {
         1 => read_row(code, d, reader, block),
-        2 => read_narrow(code, d, reader, block, &mut [0; 16]),
-        3 => read_narrow(code, d, reader, block, &mut [0; 64]),
-        _ => read_wide(code, d, reader, block, &mut [0; 256]),
+        2 => read_narrow::<C, T, 16>(code, d, reader, block),
+        3 => read_narrow::<C, T, 64>(code, d, reader, block),
+        _ => read_wide(code, d, reader, block),
     }
 }
 
@@ -200,19 +200,18 @@ fn read_row<C: BlockCode<T>, T: Lane>(
     Some(())
 }
 
-/// Reads the code of a block of up to 64 coefficients by way of these digits.
+/// Reads the code of a block of `N` coefficients, 64 at most.
 #[inline(always)]
-fn read_narrow<C: BlockCode<T>, T: Lane>(
+fn read_narrow<C: BlockCode<T>, T: Lane, const N: usize>(
     code: &C,
     d: u8,
     reader: &mut BitReader<'_>,
     block: &mut [T],
-    digits: &mut [u64],
 ) -> Option<()>
     requires dimension { IsDimension d }
-    requires words { 4 ^ d ≤ 64 }
+    requires size { N ≡ 4 ^ d }
+    requires words { N ≤ 64 }
     requires block { length block.old ≡ 4 ^ d }
-    requires digits { length digits.old ≡ 4 ^ d }
     ensures short { IfNone result (length (rest reader.old) < C.len_at code.now (4 ^ d) (rest reader.old)) }
     ensures unread { IfNone result (reader.new ≡ reader.old) }
     ensures enough { OnSome result (C.len_at code.now (4 ^ d) (rest reader.old) ≤ length (rest reader.old)) }
@@ -223,25 +222,23 @@ fn read_narrow<C: BlockCode<T>, T: Lane>(
     // No more planes are cleared than the values have digits.
     let width = T::WIDTH;
     if width == 32 {
-        read_block(code, d, reader, block, digits, &mut [0; 32])
+        read_block::<C, T, u64, N>(code, d, reader, block, &mut [0; 32])
     } else {
-        read_block(code, d, reader, block, digits, &mut [0; 64])
+        read_block::<C, T, u64, N>(code, d, reader, block, &mut [0; 64])
     }
 }
 
-/// The same of any block.
+/// The same of 256 coefficients.
 #[inline(always)]
 fn read_wide<C: BlockCode<T>, T: Lane>(
     code: &C,
     d: u8,
     reader: &mut BitReader<'_>,
     block: &mut [T],
-    digits: &mut [u64],
 ) -> Option<()>
     requires dimension { IsDimension d }
-    requires words { 4 ^ d ≤ 256 }
+    requires size { 256 ≡ 4 ^ d }
     requires block { length block.old ≡ 4 ^ d }
-    requires digits { length digits.old ≡ 4 ^ d }
     ensures short { IfNone result (length (rest reader.old) < C.len_at code.now (4 ^ d) (rest reader.old)) }
     ensures unread { IfNone result (reader.new ≡ reader.old) }
     ensures enough { OnSome result (C.len_at code.now (4 ^ d) (rest reader.old) ≤ length (rest reader.old)) }
@@ -252,26 +249,26 @@ fn read_wide<C: BlockCode<T>, T: Lane>(
     // No more planes are cleared than the values have digits.
     let width = T::WIDTH;
     if width == 32 {
-        read_block(code, d, reader, block, digits, &mut [[0; 4]; 32])
+        read_block::<C, T, [u64; 4], 256>(code, d, reader, block, &mut [[0; 4]; 32])
     } else {
-        read_block(code, d, reader, block, digits, &mut [[0; 4]; 64])
+        read_block::<C, T, [u64; 4], 256>(code, d, reader, block, &mut [[0; 4]; 64])
     }
 }
 
-/// Reads the code of a block by way of these digits and planes, which are zero.
+/// Reads the code of a block by way of these planes, which are zero.
 #[inline(always)]
-fn read_block<C: BlockCode<T>, T: Lane, P: Plane>(
+fn read_block<C: BlockCode<T>, T: Lane, P: Plane, const N: usize>(
     code: &C,
     d: u8,
     reader: &mut BitReader<'_>,
     block: &mut [T],
-    digits: &mut [u64],
     planes: &mut [P],
 ) -> Option<()>
     requires dimension { IsDimension d }
-    requires words { 4 ^ d ≤ 64 * P.word_count }
+    requires size { N ≡ 4 ^ d }
+    requires small { N ≤ 256 }
+    requires words { N ≤ 64 * P.word_count }
     requires block { length block.old ≡ 4 ^ d }
-    requires digits { length digits.old ≡ 4 ^ d }
     requires planes { length planes.old ≡ T.WIDTH }
     requires blank { map P.words planes.old ≡ replicate T.WIDTH (replicate P.word_count 0) }
     ensures short { IfNone result (length (rest reader.old) < C.len_at code.now (4 ^ d) (rest reader.old)) }
@@ -281,8 +278,10 @@ fn read_block<C: BlockCode<T>, T: Lane, P: Plane>(
     ensures block { OnSome result (map T.value block.new
         ≡ C.back d (coefficients_of T.width d (C.planes_at code.now (4 ^ d) (rest reader.old)))) }
 {
-    code.read(block.len(), reader, planes)?;
-    from_planes(d, planes, digits, block);
+    code.read(N, reader, planes)?;
+    // They stand here, behind the reading, so that no block clears those of another size.
+    let mut digits = [0; N];
+    from_planes(d, planes, &mut digits, block);
     C::inverse(d, block);
     Some(())
 }

@@ -9,7 +9,7 @@ use Rattle.zf_spec.specs.Numbers.{digits}
 use Rattle.zf_spec.specs.Ranks.{order, by_rank, by_place}
 use Rattle.zf_spec.proofs.Counting.{from_places}
 use Rattle.zf_spec.proofs.Ranking.{length-order, order_below, rank_of, rank_of_below, order-rank_of, rank_of-order, length-by_rank, get_or-by_rank}
-use Rattle.zf_coef.specs.HeldDigits.{ranked_digits}
+use Rattle.zf_coef.specs.HeldDigits.{ranked_digits, HasRanks}
 
 pub order_within : (d : ℕ) (ps : List ℕ) → ps ≡ order d → All (λ p. p < 4 ^ d) ps
 order_within d ps same =
@@ -23,13 +23,9 @@ pub get_or-ranked_digits : (w : Width) (d : ℕ) (block : List ℤ) (k : ℕ) �
 get_or-ranked_digits w d block k below =
     get_or-map (digits (bits w)) (by_rank d block) k (pos 0) [] (omega (arith, below, length-by_rank d block)) ∙ ap (digits (bits w)) (get_or-by_rank d block k below)
 
--- the places of the ranks below r have their values
-abbrev pub HasRanks : ℕ → List ℤ → List ℤ → ℕ → Type 0
-HasRanks d block values r = (k : ℕ) → k < r → get_or block (get_or (order d) k 0) (pos 0) ≡ get_or values k (pos 0)
-
 -- one rank more: its place is no other rank's
 pub ranks_more : (d : ℕ) (block values : List ℤ) (r : ℕ) (v : ℤ) → length block ≡ 4 ^ d → r < 4 ^ d
-    → HasRanks d block values r → v ≡ get_or values r (pos 0) → HasRanks d (set block (get_or (order d) r 0) v) values (r + 1)
+    → HasRanks d r values block → v ≡ get_or values r (pos 0) → HasRanks d (r + 1) values (set block (get_or (order d) r 0) v)
 ranks_more d block values r v long below before here k small =
     let place : get_or (order d) r 0 < length block = omega (arith, order_below d r below) in
     ⊎_elim
@@ -45,7 +41,7 @@ ranks_more d block values r v long below before here k small =
     ∙ ap (λ j. get_or values j (pos 0)) (sym same))
     (cases_lt k r)
 
-pub ranks_all : (d : ℕ) (block values : List ℤ) → length block ≡ 4 ^ d → HasRanks d block values (4 ^ d) → block ≡ by_place d values
+pub ranks_all : (d : ℕ) (block values : List ℤ) → length block ≡ 4 ^ d → HasRanks d (4 ^ d) values block → block ≡ by_place d values
 ranks_all d block values long has =
     sym (from_places (λ p. get_or values (rank_of d p) (pos 0)) (4 ^ d) (pos 0) block long
     (λ p below. ap (λ q. get_or block q (pos 0)) (sym (order-rank_of d p below)) ∙ has (rank_of d p) (rank_of_below d p below)))

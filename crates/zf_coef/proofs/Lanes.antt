@@ -1,11 +1,11 @@
 -- Words that are swapped in lanes of two.
-use Rattle.std.proofs.Common.{◌≡◌, refl, sym, ap, ◌∙◌, ℕ, ◌+◌, ◌-◌, ◌*◌, ◌/◌, ◌%◌, ◌^◌, ◌<◌, ◌≤◌, ◌≢◌, ⊎_elim, List, length, get_or, replicate, arith}
-use Rattle.std.proofs.lemmas.Bool.{cases_lt}
+use Rattle.std.proofs.Common.{◌≡◌, refl, sym, ap, ◌∙◌, ℕ, ◌+◌, ◌-◌, ◌*◌, ◌/◌, ◌%◌, ◌^◌, ◌<◌, ◌≤◌, ◌≢◌, ⊎_elim, List, [], ◌∷◌, length, get_or, replicate, arith}
+use Rattle.std.proofs.lemmas.Bool.{cases_lt, cases_eq}
 use Rattle.std.specs.Int.RustNames.{bit_xor}
 use lib.Bits.{bit_and}
 use lib.Lanes.{zip2, chunk, put_chunk}
 use Rattle.std.proofs.lemmas.Simd.{length-chunk, get_or-chunk, length-zip2, get_or-zip2, get_or-replicate, length-put_chunk, get_or-put_chunk_at, get_or-put_chunk_below, get_or-put_chunk_above}
-use Rattle.zf_coef.specs.Turned.{moved, swapped_low, swapped_high, IsSwapped}
+use Rattle.zf_coef.specs.Turned.{moved, swapped_low, swapped_high, IsSwapped, AreSwapped}
 
 -- the bits that are moved, of each lane
 abbrev pub moved_lanes : ℕ → ℕ → List ℕ → List ℕ → List ℕ
@@ -63,6 +63,16 @@ each_lane s m as' bs l long_a long_b h =
       long_upper = length-both bit_xor bs all long_b long_all;
     }
 
+-- where nothing was stored
+outside : (at : ℕ) (xs ys : List ℕ) (j : ℕ) → length ys ≡ 2 → ((l : ℕ) → l < 2 → j ≢ at + l) → get_or (put_chunk at xs ys) j 0 ≡ get_or xs j 0
+outside at xs ys j long apart = ⊎_elim
+    (λ before. get_or-put_chunk_below at xs ys j 0 before)
+    (λ from. ⊎_elim
+    (λ (inside : j < at + 2). absurd (apart (j - at) (omega arith) (omega arith)))
+    (λ behind. get_or-put_chunk_above at xs ys j 0 (omega arith))
+    (cases_lt j (at + 2)))
+    (cases_lt j at)
+
 -- two vectors that are stored where they were loaded
 pub lanes_swapped : (low high s m : ℕ) (words : List ℕ) → low + 2 ≤ high → high + 2 ≤ length words
     → IsSwapped 2 low high s m words
@@ -92,12 +102,41 @@ lanes_swapped low high s m words apart within =
       other = λ j not_low not_high.
           outside low mid down j first.long_lower not_low ∙ outside high words up j first.long_upper not_high;
     }
-  where
-    outside : (at : ℕ) (xs ys : List ℕ) (j : ℕ) → length ys ≡ 2 → ((l : ℕ) → l < 2 → j ≢ at + l) → get_or (put_chunk at xs ys) j 0 ≡ get_or xs j 0
-    outside at xs ys j long apart = ⊎_elim
-        (λ before. get_or-put_chunk_below at xs ys j 0 before)
-        (λ from. ⊎_elim
-        (λ (inside : j < at + 2). absurd (apart (j - at) (omega arith) (omega arith)))
-        (λ behind. get_or-put_chunk_above at xs ys j 0 (omega arith))
-        (cases_lt j (at + 2)))
-        (cases_lt j at)
+
+-- ---- words that stand next to each other
+
+-- a word and the one behind it
+next_swapped : (at m : ℕ) (words : List ℕ) (a b : ℕ) → at + 2 ≤ length words → a ≡ get_or words at 0 → b ≡ get_or words (at + 1) 0
+    → IsSwapped 1 at (at + 1) 1 m words (put_chunk at words (swapped_low 1 m a b ∷ swapped_high 1 m a b ∷ []))
+next_swapped at m words a b within is_a is_b =
+    let both : List ℕ = swapped_low 1 m a b ∷ swapped_high 1 m a b ∷ [] in
+    let new = put_chunk at words both in
+    let first : get_or new at 0 ≡ swapped_low 1 m a b = ap (λ j. get_or new j 0) (omega arith) ∙ get_or-put_chunk_at at words both 0 0 (omega arith) (omega arith) in
+    let second : get_or new (at + 1) 0 ≡ swapped_high 1 m a b = get_or-put_chunk_at at words both 1 0 (omega arith) (omega arith) in
+    let of_words : (f : ℕ → ℕ → ℕ) (l : ℕ) → l < 1 → f a b ≡ f (get_or words (at + l) 0) (get_or words (at + 1 + l) 0) =
+    λ f l h. ap (λ x. f x b) (is_a ∙ ap (λ j. get_or words j 0) (omega arith)) ∙ ap (f (get_or words (at + l) 0)) (is_b ∙ ap (λ j. get_or words j 0) (omega arith)) in
+    record {
+      long = length-put_chunk at words both;
+      lower = λ l h. ap (λ j. get_or new j 0) (omega arith) ∙ first ∙ of_words (swapped_low 1 m) l h;
+      upper = λ l h. ap (λ j. get_or new j 0) (omega arith) ∙ second ∙ of_words (swapped_high 1 m) l h;
+      other = λ j not_low not_high. outside at words both j refl (λ l h same. ⊎_elim
+          (λ (first : l ≡ 0). not_low 0 (omega arith) (omega arith))
+          (λ (second : l ≢ 0). not_high 0 (omega arith) (omega arith))
+          (cases_eq l 0));
+    }
+
+-- two such pairs, which are stored where they were loaded
+pub pairs_swapped : (at m : ℕ) (words : List ℕ) (a b c d : ℕ) → at + 4 ≤ length words
+    → a ≡ get_or words at 0 → b ≡ get_or words (at + 1) 0 → c ≡ get_or words (at + 2) 0 → d ≡ get_or words (at + 3) 0
+    → AreSwapped at m words
+    (put_chunk (at + 2) (put_chunk at words (swapped_low 1 m a b ∷ swapped_high 1 m a b ∷ [])) (swapped_low 1 m c d ∷ swapped_high 1 m c d ∷ []))
+pairs_swapped at m words a b c d within is_a is_b is_c is_d =
+    let both : List ℕ = swapped_low 1 m a b ∷ swapped_high 1 m a b ∷ [] in
+    let mid = put_chunk at words both in
+    let long : length mid ≡ length words = length-put_chunk at words both in
+    let behind : (k : ℕ) → 2 ≤ k → get_or mid (at + k) 0 ≡ get_or words (at + k) 0 = λ k h. get_or-put_chunk_above at words both (at + k) 0 (omega arith) in
+    record {
+      between = mid;
+      first = next_swapped at m words a b (omega arith) is_a is_b;
+      second = next_swapped (at + 2) m mid c d (omega arith) (is_c ∙ sym (behind 2 (omega arith))) (is_d ∙ sym (behind 3 (omega arith)) ∙ ap (λ j. get_or mid j 0) (omega arith));
+    }

@@ -27,6 +27,12 @@ pub record IsSwapped (lanes low high s m : ℕ) (old new : List ℕ) : Type 0 wh
   pub upper : (l : ℕ) → l < lanes → slice_index_or new (high + l) 0 ≡ swapped_high s m (slice_index_or old (low + l) 0) (slice_index_or old (high + l) 0)
   pub other : (j : ℕ) → ((l : ℕ) → l < lanes → j ≢ low + l) → ((l : ℕ) → l < lanes → j ≢ high + l) → slice_index_or new j 0 ≡ slice_index_or old j 0
 
+-- word `at` is swapped so with the one behind it, by one place, and then the two words behind these with one another
+pub record AreSwapped (at m : ℕ) (old new : List ℕ) : Type 0 where
+  pub between : List ℕ
+  pub first : IsSwapped 1 at (at + 1) 1 m old between
+  pub second : IsSwapped 1 (at + 2) (at + 2 + 1) 1 m between new
+
 -- ---- a step
 
 -- how far the words of a step in lanes stand apart

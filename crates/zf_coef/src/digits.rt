@@ -96,8 +96,8 @@ fn take_4<P: Plane>(planes: &[P], number: usize, digits: &mut [u64])
     digits.copy_from_slice(&words);
 }
 
-/// The same of sixteen digits.
-#[inline(never)]
+/// The same of sixteen digits. Where this is compiled into its caller, their words stay in registers.
+#[inline(always)]
 fn take_16<P: Plane>(planes: &[P], number: usize, digits: &mut [u64])
     requires number { number < P.word_count }
     requires planes { length planes.now ≤ 64 }

@@ -1,9 +1,11 @@
 //! The coefficients of a block by place, and their digits by rank.
 
-ghost use Rattle.std.specs.Prelude.{◌≡◌, ◌^◌, ◌<◌, ◌≤◌, All, length, map};
+ghost use Rattle.std.specs.Prelude.{◌≡◌, ◌^◌, ◌<◌, ◌≤◌, All, length, map, take};
+ghost use Rattle.std.specs.List.{AllWithin};
 ghost use mir.Val.{bits};
 ghost use Rattle.zf_spec.specs.Grid.{IsDimension};
-ghost use Rattle.zf_coef.specs.HeldDigits.{digits_in, ranked_digits, unranked_values};
+ghost use Rattle.zf_spec.specs.Numbers.{value_of};
+ghost use Rattle.zf_coef.specs.HeldDigits.{digits_in, ranked_digits, unranked_values, HasRanks};
 
 use crate::coefficient_order::order;
 use crate::negabinary::{from_digits, to_digits};
@@ -20,8 +22,33 @@ pub fn ranked<T: Lane>(d: u8, block: &[T], digits: &mut [u64])
     ensures digits { digits_in (bits T.width) digits.new ≡ ranked_digits T.width d (map T.value block.now) }
     ensures below { All (λ u. u < 2 ^ T.WIDTH) digits.new }
 {
-    for (rank, place) in order(d).iter().enumerate() {
-        digits[rank] = to_digits(block[*place as usize]);
+    // Sixteen ranks at a time have places that the compiler knows.
+    if d == 3 {
+        rank(d, 0, 16, block, digits);
+        rank(d, 16, 32, block, digits);
+        rank(d, 32, 48, block, digits);
+        rank(d, 48, 64, block, digits);
+    } else {
+        rank(d, 0, block.len(), block, digits);
+    }
+}
+
+/// The same of the ranks from `from` on and before `to`, where those before them have their digits.
+#[inline(always)]
+fn rank<T: Lane>(d: u8, from: usize, to: usize, block: &[T], digits: &mut [u64])
+    requires dimension { IsDimension d }
+    requires order { from ≤ to }
+    requires ranks { to ≤ 4 ^ d }
+    requires block { length block.now ≡ 4 ^ d }
+    requires digits { length digits.old ≡ 4 ^ d }
+    requires filled { take from (digits_in (bits T.width) digits.old) ≡ take from (ranked_digits T.width d (map T.value block.now)) }
+    requires below { AllWithin (λ u. u < 2 ^ T.WIDTH) digits.old 0 from }
+    ensures filled { take to (digits_in (bits T.width) digits.new) ≡ take to (ranked_digits T.width d (map T.value block.now)) }
+    ensures below { AllWithin (λ u. u < 2 ^ T.WIDTH) digits.new 0 to }
+{
+    let places = order(d);
+    for rank in from..to {
+        digits[rank] = to_digits(block[places[rank] as usize]);
     }
 }
 
@@ -33,7 +60,29 @@ pub fn unranked<T: Lane>(d: u8, digits: &[u64], block: &mut [T])
     requires block { length block.old ≡ 4 ^ d }
     ensures { map T.value block.new ≡ unranked_values T.width d (digits_in (bits T.width) digits.now) }
 {
-    for (rank, place) in order(d).iter().enumerate() {
-        block[*place as usize] = from_digits(digits[rank]);
+    if d == 3 {
+        unrank(d, 0, 16, digits, block);
+        unrank(d, 16, 32, digits, block);
+        unrank(d, 32, 48, digits, block);
+        unrank(d, 48, 64, digits, block);
+    } else {
+        unrank(d, 0, digits.len(), digits, block);
+    }
+}
+
+/// The same of the ranks from `from` on and before `to`, where those before them have their coefficients.
+#[inline(always)]
+fn unrank<T: Lane>(d: u8, from: usize, to: usize, digits: &[u64], block: &mut [T])
+    requires dimension { IsDimension d }
+    requires order { from ≤ to }
+    requires ranks { to ≤ 4 ^ d }
+    requires digits { length digits.now ≡ 4 ^ d }
+    requires block { length block.old ≡ 4 ^ d }
+    requires before { HasRanks d from (map (value_of T.width) (digits_in (bits T.width) digits.now)) (map T.value block.old) }
+    ensures { HasRanks d to (map (value_of T.width) (digits_in (bits T.width) digits.now)) (map T.value block.new) }
+{
+    let places = order(d);
+    for rank in from..to {
+        block[places[rank] as usize] = from_digits(digits[rank]);
     }
 }

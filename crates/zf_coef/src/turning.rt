@@ -5,24 +5,11 @@
 //! those of which it is the other way round.
 
 ghost use Rattle.std.specs.Prelude.{◌≡◌, ◌+◌, ◌*◌, ◌%◌, ◌<◌, ◌≤◌, length};
-ghost use Rattle.zf_coef.specs.Turned.{IsSwapped, IsStep, IsMask, IsStepped, IsTurned};
+ghost use Rattle.zf_coef.specs.Turned.{IsSwapped, AreSwapped, IsStep, IsMask, IsStepped, IsTurned};
 
 use std::simd::prelude::*;
 
-/// Swaps the bits of word `low` from `shift` on with the bits of word `high` that the mask has.
-#[inline(always)]
-fn swap_words(words: &mut [u64], low: usize, high: usize, shift: usize, mask: u64)
-    requires apart { low < high }
-    requires within { high < length words.old }
-    requires shift { shift < 64 }
-    ensures { IsSwapped 1 low high shift mask words.old words.new }
-{
-    let moved = ((words[low] >> shift) ^ words[high]) & mask;
-    words[high] ^= moved;
-    words[low] ^= moved << shift;
-}
-
-/// The same of two words behind `low` and two behind `high`, in lanes.
+/// Swaps the bits of the two words from `low` on, each from its place `shift` on, with the bits of the two words from `high` on that the mask has.
 #[inline(always)]
 fn swap_lanes(words: &mut [u64], low: usize, high: usize, shift: usize, mask: u64)
     requires apart { low + 2 ≤ high }
@@ -38,15 +25,31 @@ fn swap_lanes(words: &mut [u64], low: usize, high: usize, shift: usize, mask: u6
     (a ^ (moved << by)).copy_to_slice(&mut words[low..]);
 }
 
-/// A step of words that stand next to each other.
+/// The same of the words `at` and `at + 1`, and of the two behind them, by one place: in each pair of words the first has the lower bits.
+#[inline(always)]
+fn swap_next(words: &mut [u64], at: usize, mask: u64)
+    requires within { at + 4 ≤ length words.old }
+    ensures { AreSwapped at mask words.old words.new }
+{
+    let first = u64x2::from_slice(&words[at..]);
+    let second = u64x2::from_slice(&words[at + 2..]);
+    let (a, b) = first.deinterleave(second);
+    let by = u64x2::splat(1);
+    let moved = ((a >> by) ^ b) & u64x2::splat(mask);
+    let (first, second) = (a ^ (moved << by)).interleave(b ^ moved);
+    first.copy_to_slice(&mut words[at..]);
+    second.copy_to_slice(&mut words[at + 2..]);
+}
+
+/// A step of words that stand next to each other, two pairs at a time.
 #[inline(always)]
 fn step_next<const N: usize>(words: &mut [u64; N], mask: u64)
-    requires even { N % 2 ≡ 0 }
+    requires whole { N % 4 ≡ 0 }
     requires mask { IsMask 1 mask }
     ensures { IsStepped 1 words.old words.new }
 {
-    for pair in 0..N / 2 {
-        swap_words(words, 2 * pair, 2 * pair + 1, 1, mask);
+    for four in 0..N / 4 {
+        swap_next(words, 4 * four, mask);
     }
 }
 

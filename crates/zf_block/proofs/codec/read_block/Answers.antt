@@ -1,4 +1,4 @@
-use Rattle.std.proofs.Common.{ℕ, ◌^◌, map, length, ap, subst, ◌∙◌}
+use Rattle.std.proofs.Common.{ℕ, ◌^◌, map, ap, subst, ◌∙◌}
 use Rattle.zf_spec.specs.Codes.{coefficients_of}
 use Rattle.zf_spec.specs.HeldPlanes.{planes_held}
 use Rattle.zf_bits.specs.Reader.{rest}
@@ -8,7 +8,7 @@ use Rattle.zf_block.proofs.Kept.{coefficients_of-zeros}
 use Rattle.zf_block.proofs.codec.read_block.Goals as goal
 
 pub read-requires-clause-size : goal.read-requires-clause-size
-read-requires-clause-size g c = block_sizes c.args.d (length c.args.block.now) c.requires.dimension.0 c.requires.dimension.1 c.requires.block
+read-requires-clause-size g c = block_sizes c.args.d g.row.N c.requires.dimension.0 c.requires.dimension.1 c.requires.size
 
 pub returns-clause-block : goal.returns-clause-block
 returns-clause-block g c =
@@ -17,6 +17,6 @@ returns-clause-block g c =
     let s = rest c.args.reader.now in
     let planes_at = λ (n : ℕ). g.C.BlockCode.planes_at c.args.code.now n s in
     let Held : ℕ → Type 0 = λ n. AreAbove n (planes_at n) (planes_held n (map g.P.Plane.words c.read.new.planes)) in
-    let held = subst Held c.requires.block c.in_ok-read.ensures.planes in
+    let held = subst Held c.requires.size c.in_ok-read.ensures.planes in
     c.inverse.ensures
     ∙ ap (g.C.BlockCode.back d) (c.from_planes.ensures ∙ ap (coefficients_of w d) held.1 ∙ coefficients_of-zeros w d (planes_at (4 ^ d)) held.0 (4 ^ d))

@@ -2,7 +2,7 @@ use Rattle.std.proofs.Common.{◌≡◌, ◌^◌, ◌<◌, map, take}
 use Rattle.std.specs.List.{AllWithin}
 use mir.Val.{bits}
 use Rattle.zf_coef.specs.HeldDigits.{digits_in, ranked_digits}
-use Rattle.zf_coef.proofs.ranks.ranked.Given as goal
+use Rattle.zf_coef.proofs.ranks.rank.Given as goal
 
 abbrev pub invariant-loop-rank : goal.invariant-loop-rank
 invariant-loop-rank g l =
