@@ -119,7 +119,7 @@ def main():
     program = str(pathlib.Path(sys.argv[1] if len(sys.argv) > 1 else "crates/zfpi/out/zfpi").resolve())
     with tempfile.TemporaryDirectory() as name:
         folder = pathlib.Path(name)
-        subprocess.run([sys.executable, str(HERE / "fields.py"), "waves", "64", "2", str(SIDE), "0", str(folder / "raw")], check=True)
+        subprocess.run([sys.executable, str(HERE / "fields.py"), "waves", "64", f"{SIDE}x{SIDE}", "0", str(folder / "raw")], check=True)
         zfp = theirs(folder)
         with open(folder / "raw", "rb") as source, open(folder / "field", "wb") as sink:
             subprocess.run([program, "compress", "int64", f"{SIDE}x{SIDE}", "rate", "256"], stdin=source, stdout=sink, check=True)

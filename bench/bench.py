@@ -1,18 +1,24 @@
 #!/usr/bin/env python3
 """Times zfpi beside zfp, and shows how much memory zfpi holds and how its time grows.
 
-    python3 bench/bench.py [PROGRAM] [MEBIBYTES] [FIELD] [NUMBER] [RUNS]
+    python3 bench/bench.py [PROGRAM] [MEBIBYTES] [FIELD] [NUMBER] [ROUNDS]
 
 PROGRAM is the built program, by default crates/zfpi/out/zfpi; MEBIBYTES the size of each array, by default 64; FIELD one of bench/fields.py, by default
-waves, made from NUMBER, by default 0; RUNS how often each is run, by default 5: more on a machine that others share. Needs the programs zfp and time
-(Debian's packages of these names) and numpy.
+waves, made from NUMBER, by default 0; ROUNDS how often each row is run, by default 7: more on a machine that others share. Needs the programs zfp and time
+(Debian's packages of these names) and numpy, and 50 times MEBIBYTES of memory.
 
-The arrays are cubes of one to four dimensions, of int32 and int64. Each row has one array in one mode: bits a value of our stream; then of compress and
-of restore nanoseconds a value of processor time (user and system), how many times as fast ours is as zfp's, by processor time and by the clock on the
-wall, and the most memory that ours held. The least of the runs, ours and zfp's by turns. Last, of both, the times a value at a quarter of the size and
-at four times it, as parts of that at once the size. Plain numbers: nothing is claimed of them.
+The arrays are nearly cubes, of one to four dimensions, of int32 and int64, each in three modes; every side is a multiple of four. All are made before
+anything is timed, and lie in memory (/dev/shm, where there is such a folder), so that no disk has a part in the times. A round goes over all rows, an array
+in one mode, and runs ours and zfp's by turns; of each the least of all rounds counts. So what slows the machine for some seconds meets one round
+of a row, and a change of its clock both programs.
+
+Of each row the table has bits a value of our stream, and of compress and of restore: nanoseconds a value of processor time (user and system), how many
+times as fast ours is as zfp's, by processor time and by the clock on the wall, the most memory that ours held, and its time a value at a quarter of the size and at
+four times it, as parts of that at once the size. Plain numbers: nothing is claimed of them.
 """
 
+import filecmp
+import math
 import os
 import pathlib
 import subprocess
@@ -21,8 +27,12 @@ import tempfile
 import time
 from typing import NamedTuple
 
+from fields import near_cube
+
 SIZES = (0.25, 1, 4)
+WAYS = ("compress", "restore")
 HERE = pathlib.Path(__file__).resolve().parent
+MEMORY = pathlib.Path("/dev/shm")
 
 
 class Run(NamedTuple):
@@ -48,57 +58,93 @@ def run_once(words, given=None, made=None):
         return Run(used.ru_utime + used.ru_stime, wall, int(told.read()) * 1024 / 1e6)
 
 
-def measured(runs, *commands):
-    """The least of so many runs of each command. They take turns, so that a change of the machine's clock meets all of them."""
-    rounds = [[run_once(*command) for command in commands] for _ in range(runs)]
-    return [Run(*(min(numbers) for numbers in zip(*each))) for each in zip(*rounds)]
-
-
 class Array(NamedTuple):
     width: int
-    dims: int
-    side: int
+    sizes: list
     raw: str
 
     def values(self):
-        return self.side**self.dims
+        return math.prod(self.sizes)
 
-    def ours(self, program, bits):
-        mode = ["reversible"] if bits is None else ["rate", str(bits * 4**self.dims)]
-        return [program, "compress", f"int{self.width}", "x".join([str(self.side)] * self.dims), *mode]
+    def shape(self):
+        return "x".join(map(str, self.sizes))
+
+    def mode(self, bits):
+        return ["reversible"] if bits is None else ["rate", str(bits * 4 ** len(self.sizes))]
 
     def theirs(self, bits):
-        words = ["zfp", "-q", "-t", f"i{self.width}", f"-{self.dims}", *[str(self.side)] * self.dims]
+        words = ["zfp", "-q", "-t", f"i{self.width}", f"-{len(self.sizes)}", *map(str, self.sizes)]
         return words + (["-R"] if bits is None else ["-r", str(bits)])
 
 
-def both_ways(program, folder, array, bits, beside, runs):
-    """Both ways, ours and where it is to stand beside ours zfp's, and the bytes of our stream."""
-    stream, theirs, back = (str(folder / name) for name in ("ours", "theirs", "back"))
-    compress = [(array.ours(program, bits), array.raw, stream)]
-    restore = [([program, "restore"], stream, back)]
-    if beside:
-        compress.append(([*array.theirs(bits), "-i", array.raw, "-z", theirs],))
-        restore.append(([*array.theirs(bits), "-z", theirs, "-o", str(folder / "theirs_back")],))
-    times = measured(runs, *compress), measured(runs, *restore)
-    if bits is None and pathlib.Path(back).read_bytes() != pathlib.Path(array.raw).read_bytes():
-        sys.exit("the values did not come back")
-    return times, pathlib.Path(stream).stat().st_size
+def array_made(folder, width, dims, mebibytes, field, number):
+    """An array of about this size, in a file."""
+    sizes = near_cube(mebibytes * 2**20 * 8 / width, dims)
+    array = Array(width, sizes, str(folder / f"int{width}_{dims}_{mebibytes}"))
+    # in a process of its own, so that no copy of the array stays in this one
+    subprocess.run([sys.executable, str(HERE / "fields.py"), field, str(width), array.shape(), number, array.raw], check=True)
+    return array
 
 
-def row(program, folder, arrays, bits, runs):
-    """The arrays of the sizes in one mode; `bits` is bits a value, or None without loss."""
-    times = {size: both_ways(program, folder, array, bits, size == 1, runs) for size, array in arrays.items()}
-    array = arrays[1]
-    shape = "x".join([str(array.side)] * array.dims)
-    parts = [f"int{array.width} {shape} " + ("reversible" if bits is None else f"{bits} bits a value")]
-    parts[0] = f"{parts[0]:36} {times[1][1] * 8 / array.values():5.2f} bits"
-    for way, name in enumerate(("compress", "restore")):
-        run, zfp = times[1][0][way]
-        text = f"{name} {run.processor / array.values() * 1e9:6.2f} ns, {zfp.processor / run.processor:5.2f} times, wall {zfp.wall / run.wall:5.2f},"
-        grown = (times[size][0][way][0].processor / arrays[size].values() * array.values() / run.processor for size in SIZES if size != 1)
-        parts.append(f"{text} {run.megabytes:5.1f} MB, " + " ".join(f"{part:4.2f}" for part in grown))
-    print(" | ".join(parts), flush=True)
+class Row:
+    """An array of each size in one mode; `bits` is bits a value, or None without loss."""
+
+    def __init__(self, arrays, bits):
+        self.arrays = arrays
+        self.bits = bits
+        self.runs = {}
+        self.stream_bytes = 0
+
+    def measure(self, program, folder):
+        for size, array in self.arrays.items():
+            self.measure_size(program, folder, size, array)
+
+    def measure_size(self, program, folder, size, array):
+        """Both ways, ours and, of the array of once the size, zfp's."""
+        stream, theirs, back, theirs_back = (str(folder / name) for name in ("ours", "theirs", "back", "theirs_back"))
+        self.add("compress", size, run_once([program, "compress", f"int{array.width}", array.shape(), *array.mode(self.bits)], array.raw, stream))
+        if size == 1:
+            self.add("compress", "zfp", run_once([*array.theirs(self.bits), "-i", array.raw, "-z", theirs]))
+        self.add("restore", size, run_once([program, "restore"], stream, back))
+        if size == 1:
+            self.add("restore", "zfp", run_once([*array.theirs(self.bits), "-z", theirs, "-o", theirs_back]))
+            self.stream_bytes = pathlib.Path(stream).stat().st_size
+        if self.bits is None and not filecmp.cmp(back, array.raw, shallow=False):
+            sys.exit("the values did not come back")
+
+    def add(self, way, who, run):
+        """Keeps the least of each number over all rounds."""
+        before = self.runs.get((way, who), run)
+        self.runs[way, who] = Run(*map(min, before, run))
+
+    def times(self, way):
+        """How many times as fast as zfp, by processor time."""
+        return self.runs[way, "zfp"].processor / self.runs[way, 1].processor
+
+    def value_time(self, way, size):
+        return self.runs[way, size].processor / self.arrays[size].values() * 1e9
+
+    def text(self):
+        array = self.arrays[1]
+        parts = [f"int{array.width} {array.shape()}", "reversible" if self.bits is None else f"rate {self.bits}"]
+        parts.append(f"{self.stream_bytes * 8 / array.values():.2f}")
+        for way in WAYS:
+            ours, zfp = self.runs[way, 1], self.runs[way, "zfp"]
+            grown = " ".join(f"{self.value_time(way, size) / self.value_time(way, 1):.2f}" for size in SIZES if size != 1)
+            parts += [f"{self.value_time(way, 1):.2f}", f"{self.times(way):.2f}", f"{zfp.wall / ours.wall:.2f}", f"{ours.megabytes:.1f}", grown]
+        return "| " + " | ".join(parts) + " |"
+
+
+def print_table(rows):
+    heads = ["array", "mode", "bits"]
+    for way in WAYS:
+        heads += [f"{way}: ns a value", "times zfp", "by the clock", "MB", "a quarter, four times"]
+    print("| " + " | ".join(heads) + " |")
+    print("|" + "---|" * len(heads))
+    for row in rows:
+        print(row.text())
+    for way in WAYS:
+        print(f"least of {way}: {min(row.times(way) for row in rows):.2f} times zfp")
 
 
 def main():
@@ -106,20 +152,19 @@ def main():
     mebibytes = int(sys.argv[2]) if len(sys.argv) > 2 else 64
     field = sys.argv[3] if len(sys.argv) > 3 else "waves"
     number = sys.argv[4] if len(sys.argv) > 4 else "0"
-    runs = int(sys.argv[5]) if len(sys.argv) > 5 else 5
-    with tempfile.TemporaryDirectory() as name:
+    rounds = int(sys.argv[5]) if len(sys.argv) > 5 else 7
+    with tempfile.TemporaryDirectory(dir=MEMORY if MEMORY.is_dir() else None) as name:
         folder = pathlib.Path(name)
+        rows = []
         for width in (32, 64):
             for dims in (1, 2, 3, 4):
-                arrays = {}
-                for size in SIZES:
-                    side = round((size * mebibytes * 2**20 * 8 / width) ** (1 / dims))
-                    arrays[size] = Array(width, dims, side, str(folder / f"raw{size}"))
-                    # in a process of its own, so that no copy of the array stays in this one
-                    words = [sys.executable, str(HERE / "fields.py"), field, str(width), str(dims), str(side), number, arrays[size].raw]
-                    subprocess.run(words, check=True)
-                for bits in (8, 16, None):
-                    row(program, folder, arrays, bits, runs)
+                arrays = {size: array_made(folder, width, dims, size * mebibytes, field, number) for size in SIZES}
+                rows += [Row(arrays, bits) for bits in (8, 16, None)]
+        for round_number in range(1, rounds + 1):
+            print(f"round {round_number} of {rounds}", file=sys.stderr, flush=True)
+            for row in rows:
+                row.measure(program, folder)
+        print_table(rows)
 
 
 if __name__ == "__main__":

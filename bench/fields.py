@@ -1,20 +1,31 @@
 #!/usr/bin/env python3
 """Makes the raw values of an array from a number, and writes them to a file.
 
-    python3 bench/fields.py FIELD WIDTH DIMENSIONS SIDE NUMBER FILE
+    python3 bench/fields.py FIELD WIDTH SHAPE NUMBER FILE
 
-FIELD is waves or sample, WIDTH 32 or 64, NUMBER below 2^64. Needs numpy.
+FIELD is waves or sample, WIDTH 32 or 64, SHAPE one to four sizes joined by x, x first, NUMBER below 2^64. Needs numpy.
 
 waves looks like what a simulation puts out: along each axis two waves of parabolas, a long high one and a short low one, which begin where the
 number says, and some noise; all by whole-number arithmetic. sample is what `zfpi sample` makes of the number (docs/FORMAT.md): no two values have to
 do with one another.
 """
 
+import math
 import sys
 
 import numpy
 
 RISE = 0x9E3779B97F4A7C15
+
+
+def near_cube(values, dims):
+    """The sizes of an array of about so many values, nearly a cube, in whole blocks: each a multiple of four."""
+    sizes = []
+    left = values
+    for axes in range(dims, 0, -1):
+        sizes.append(max(4, 4 * round(left ** (1 / axes) / 4)))
+        left /= sizes[-1]
+    return sizes
 
 
 def words_of(number, count):
@@ -25,30 +36,31 @@ def words_of(number, count):
     return word ^ (word >> numpy.uint64(31))
 
 
-def sample(width, dims, side, number):
-    word = words_of(number, side**dims)
+def sample(width, sizes, number):
+    word = words_of(number, math.prod(sizes))
     if width == 32:
         return word.astype(numpy.uint32).astype(numpy.int32) >> 16
     return word.astype(numpy.int64) >> 32
 
 
-def wave(side, length, height, start):
+def wave(size, length, height, start):
     """Parabolas of this length and height, above and below zero by turns."""
-    at = numpy.arange(side, dtype=numpy.int64) + start
+    at = numpy.arange(size, dtype=numpy.int64) + start
     t = at % length
     sign = 1 - 2 * (at // length % 2)
     return sign * (4 * t * (length - t) * height // (length * length))
 
 
-def waves(width, dims, side, number):
-    total = numpy.zeros([side] * dims, dtype=numpy.int64)
+def waves(width, sizes, number):
+    dims = len(sizes)
+    total = numpy.zeros(sizes[::-1], dtype=numpy.int64)
     starts = words_of(number, 2 * dims) if number else numpy.zeros(2 * dims, dtype=numpy.uint64)
-    for axis in range(dims):
+    for axis, size in enumerate(sizes):
         shape = [1] * dims
-        shape[dims - 1 - axis] = side
-        for k, (length, height) in enumerate(((max(side // 3, 4), 1 << 20), (max(side // 17, 4), 1 << 15))):
+        shape[dims - 1 - axis] = size
+        for k, (length, height) in enumerate(((max(size // 3, 4), 1 << 20), (max(size // 17, 4), 1 << 15))):
             start = int(starts[2 * axis + k]) % (2 * length)
-            total += wave(side, length, height, start).reshape(shape)
+            total += wave(size, length, height, start).reshape(shape)
     noise = numpy.arange(total.size, dtype=numpy.uint64) * numpy.uint64(RISE)
     noise = ((noise ^ (noise >> numpy.uint64(29))) * numpy.uint64(0xBF58476D1CE4E5B9)) >> numpy.uint64(58)
     noise = noise.astype(numpy.int64).reshape(total.shape)
@@ -59,9 +71,9 @@ def waves(width, dims, side, number):
 
 
 def main():
-    name, width, dims, side, number, path = sys.argv[1:]
+    name, width, shape, number, path = sys.argv[1:]
     make = {"waves": waves, "sample": sample}[name]
-    values = make(int(width), int(dims), int(side), int(number))
+    values = make(int(width), [int(size) for size in shape.split("x")], int(number))
     values.astype("<i%d" % (int(width) // 8)).tofile(path)
 
 

@@ -11,11 +11,14 @@ functions, of the least processor time of three runs without perf, is the stage'
 one: copies of blocks, ranking and small calls mostly stand in `stream`. Plain numbers: nothing is claimed of them.
 """
 
+import math
 import os
 import pathlib
 import subprocess
 import sys
 import tempfile
+
+from fields import near_cube
 
 RUNS = 3
 HERE = pathlib.Path(__file__).resolve().parent
@@ -86,13 +89,13 @@ def main():
         raw, stream, back = (str(folder / part) for part in ("raw", "stream", "back"))
         for width in (32, 64):
             for dims in (1, 2, 3, 4):
-                side = round((mebibytes * 2**20 * 8 / width) ** (1 / dims))
-                blocks = ((side + 3) // 4) ** dims
-                subprocess.run([sys.executable, str(HERE / "fields.py"), "waves", str(width), str(dims), str(side), "0", raw], check=True)
+                sizes = near_cube(mebibytes * 2**20 * 8 / width, dims)
+                shape = "x".join(map(str, sizes))
+                blocks = math.prod(size // 4 for size in sizes)
+                subprocess.run([sys.executable, str(HERE / "fields.py"), "waves", str(width), shape, "0", raw], check=True)
                 for bits in (8, 16, None):
                     mode = ["reversible"] if bits is None else ["rate", str(bits * 4**dims)]
                     title = f"int{width} {dims}-D " + ("reversible" if bits is None else f"{bits} bits a value")
-                    shape = "x".join([str(side)] * dims)
                     for way, words, given, made in (
                         ("compress", [program, "compress", f"int{width}", shape, *mode], raw, stream),
                         ("restore", [program, "restore"], stream, back),
