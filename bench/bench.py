@@ -124,10 +124,12 @@ class Row:
     def value_time(self, way, size):
         return self.runs[way, size].processor / self.arrays[size].values() * 1e9
 
-    def text(self):
+    def names(self):
         array = self.arrays[1]
-        parts = [f"int{array.width} {array.shape()}", "reversible" if self.bits is None else f"rate {self.bits}"]
-        parts.append(f"{self.stream_bytes * 8 / array.values():.2f}")
+        return [f"int{array.width} {array.shape()}", "reversible" if self.bits is None else f"rate {self.bits}"]
+
+    def text(self):
+        parts = [*self.names(), f"{self.stream_bytes * 8 / self.arrays[1].values():.2f}"]
         for way in WAYS:
             ours, zfp = self.runs[way, 1], self.runs[way, "zfp"]
             grown = " ".join(f"{self.value_time(way, size) / self.value_time(way, 1):.2f}" for size in SIZES if size != 1)
@@ -144,7 +146,8 @@ def print_table(rows):
     for row in rows:
         print(row.text())
     for way in WAYS:
-        print(f"least of {way}: {min(row.times(way) for row in rows):.2f} times zfp")
+        least = min(rows, key=lambda row: row.times(way))
+        print(f"least of {way}: {least.times(way):.3f} times zfp, {' '.join(least.names())}")
 
 
 def main():
