@@ -126,9 +126,46 @@ def names(bench):
     bench.folder.chmod(0o555)
     bench.ends("a folder that may not be written", "new n int32 4 64", 12, "save fault", out=b"")
     bench.ends("a folder that may not be written", "run a", 12, "save fault", SCRIPT, out=b"7\n")
+    bench.ends("nothing changes where nothing may be written", "run a", 0, "", b"get 0\n", out=b"0\n")
     bench.folder.chmod(0o777)
     bench.has("a folder that may not be written", "a", ARRAY)
     assert not (bench.folder / "n").exists()
+
+
+def changed(bench, shows, data, code, line, other):
+    """A run that has loaded `a`, and gets its script once another run has changed it."""
+    run = bench.start("run a", stdin=subprocess.PIPE, stdout=subprocess.PIPE)
+    while run.poll() is None and not any(os.path.realpath(f) == str(bench.folder / "a") for f in pathlib.Path(f"/proc/{run.pid}/fd").iterdir()):
+        time.sleep(0.001)
+    time.sleep(0.1)
+    bench.ends("another run", "run a", 0, "", other)
+    _, told = run.communicate(data, timeout=60)
+    assert (run.returncode, told) == (code, f"zfpi: {line}\n".encode() if line else b""), (shows, run.returncode, told)
+    bench.cases += 1
+
+
+def together(bench):
+    """What else a file is, what is left beside it, and two runs of one file at once."""
+    file = bench.put("a", ARRAY)
+    file.chmod(0o640)
+    for name in (".a.new", ".a.new00", ".a.new99"):
+        bench.put(name, b"left over").chmod(0o600)
+    bench.ends("what was left is no hindrance", "run a", 0, "", SCRIPT)
+    assert sorted(f.name for f in bench.folder.glob(".a.new*")) == []
+    assert file.stat().st_mode & 0o777 == 0o640 and file.read_bytes() != ARRAY
+    was = file.stat()
+    bench.ends("nothing changes", "run a", 0, "", b"get 0\n")
+    assert (file.stat().st_ino, file.stat().st_mtime_ns) == (was.st_ino, was.st_mtime_ns)
+    bench.put("a", ARRAY)
+    (bench.folder / "k").symlink_to("a")
+    bench.ends("a link", "run k", 0, "", b"set 0 8192\n")
+    assert (bench.folder / "k").is_symlink()
+    bench.ends("a link", "look a", 0, "", b"get 0\n", out=b"8192\n")
+    changed(bench, "a run that comes later", b"set 0 4096\n", 12, "save fault", b"set 0 1024\n")
+    bench.ends("the first change stays", "look a", 0, "", b"get 0\n", out=b"1024\n")
+    changed(bench, "a run that only reads", b"get 0\n", 0, "", b"set 0 2048\n")
+    bench.ends("the first change stays", "look a", 0, "", b"get 0\n", out=b"2048\n")
+    assert sorted(f.name for f in bench.folder.glob(".a.new*")) == []
 
 
 def killed(bench, words, data, old):
@@ -180,6 +217,7 @@ def main():
         outputs(bench)
         status = broken_pipe(bench)
         names(bench)
+        together(bench)
         cuts = saves(bench)
     print(f"{bench.cases} runs on real devices, each as it must be; {cuts} saves were cut; a reader that leaves ends a run with {status}")
 

@@ -2,9 +2,12 @@
 //! fail; those in memory, and those over the real things.
 #![tactic(auto)]
 
+mod access;
+mod beside;
 mod faults;
 mod mem_shelf;
 mod memory;
+mod place;
 mod real;
 mod real_shelf;
 mod shelf;
@@ -21,8 +24,3 @@ pub use shelf::Shelf;
 pub use sink::{Sink, write_all};
 pub use source::{Source, fill};
 pub use whole::take_all;
-
-#[cfg(test)]
-mod tests;
-#[cfg(test)]
-mod tests_of_files;

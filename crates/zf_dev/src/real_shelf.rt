@@ -1,26 +1,34 @@
-//! A shelf over the files of the current folder. What the files hold is outside the program, so nothing is told of it.
+//! A shelf over the files of the current folder. What the files hold is outside the program, so nothing is
+//! told of it.
 
-ghost use Rattle.std.specs.Prelude.{◌≡◌, ◌≤◌, ◌⊎◌, length, None, IfOk};
+ghost use Rattle.std.specs.Prelude.{◌≡◌, ◌≢◌, ◌≤◌, ◌⊎◌, length, None, IfOk};
+ghost use Rattle.std.specs.IoError.{error_kind};
+ghost use Rattle.zf_dev.specs.declared.faults.LoadError.TheVariants as loading;
 ghost use Rattle.zf_dev.specs.Faults.{next_count};
 ghost use Rattle.zf_dev.specs.Real.{shelf_faults};
 
 use crate::faults::raise;
+use crate::place::{Place, Seen};
 use crate::{Failed, LoadError, Shelf};
 use std::alloc::Global;
-use std::fs::{File, Files, OpenFile};
-use std::io::{ErrorKind, Read, Write};
-use std::rt::LibcRuntime;
-use std::{fs, io};
+use std::fs::{File, Files};
+use std::io;
+use std::io::{ErrorKind, Read};
+use std::rt::{Clock, LibcRuntime};
 
 /// The files of the current folder as a shelf.
 ///
-/// A file is saved under another name first, brought to the disk and then renamed, so that a save that fails or is cut leaves
-/// the old file. A folder, a device and a name that cannot be opened are faults.
+/// A file is saved under another name first, brought to the disk and then put in the place of the old one, so
+/// that a save that fails or is killed leaves the old file. Of the name that was loaded or saved last it is
+/// remembered what lay there: a save of that name is a fault, and changes nothing, where another file lies
+/// there since. To save what was loaded changes no file, and is no fault then. A link is followed; one to
+/// nothing, a folder, a device, a pipe and a file that may not be read are faults.
 #[derive(Drop)]
 pub struct RealShelf<R = LibcRuntime> {
     alloc: Global,
     system: R,
     faults: u64,
+    place: Option<Place>,
 }
 
 impl<R> RealShelf<R> {
@@ -31,6 +39,7 @@ impl<R> RealShelf<R> {
             alloc,
             system,
             faults: 0,
+            place: None,
         }
     }
 
@@ -42,7 +51,7 @@ impl<R> RealShelf<R> {
     }
 }
 
-impl<R: Files> Shelf for RealShelf<R> {
+impl<R: Files<File = File> + Clock> Shelf for RealShelf<R> {
     ghost files = { λ _. None };
 
     ghost faults = { λ s. shelf_faults s };
@@ -55,7 +64,7 @@ impl<R: Files> Shelf for RealShelf<R> {
     ghost never_fails = { λ _. ⊥ };
 
     fn load(&mut self, alloc: Global, name: &str, max: u64) -> Result<Vec<u8>, LoadError> {
-        match read_file(alloc, &self.system, name, max) {
+        match read_file(alloc, &self.system, name, max, &mut self.place) {
             Ok(bytes) => Ok(bytes),
             Err(LoadError::Missing) => Err(LoadError::Missing),
             Err(LoadError::Long) => Err(LoadError::Long),
@@ -68,7 +77,7 @@ impl<R: Files> Shelf for RealShelf<R> {
     }
 
     fn save(&mut self, name: &str, bytes: &[u8]) -> Result<(), Failed> {
-        match replace_file(self.alloc, &self.system, name, bytes) {
+        match replace_file(self.alloc, &self.system, name, bytes, &mut self.place) {
             Ok(()) => Ok(()),
             Err(_) => {
                 raise(&mut self.faults);
@@ -78,57 +87,81 @@ impl<R: Files> Shelf for RealShelf<R> {
     }
 }
 
-// The bytes of a file, where there are at most `max`. Of a longer one no more than that and one byte is read.
-fn read_file<R: Files>(
+// The bytes of a file, where there are at most `max`, and what lies there for the next save.
+fn read_file<R: Files<File = File>>(
     alloc: Global,
     system: &R,
     name: &str,
     max: u64,
+    known: &mut Option<Place>,
 ) -> Result<Vec<u8>, LoadError>
     ensures bound { IfOk result (λ bytes. length bytes.items ≤ max) }
 {
-    let file = open_file(system, name)?;
-    let mut bytes = Vec::new(alloc);
-    match file.take(max.saturating_add(1)).read_to_end(&mut bytes) {
-        Ok(_) if bytes.len() as u64 > max => Err(LoadError::Long),
-        Ok(_) => Ok(bytes),
-        Err(e) if e.kind() == ErrorKind::OutOfMemory => Err(LoadError::Memory),
-        Err(_) => Err(LoadError::Failed),
-    }
-}
-
-// Opens a file for reading. It is missing only where nothing has that name, not where a link leads nowhere.
-fn open_file<R: Files>(system: &R, name: &str) -> Result<R::File, LoadError> {
-    match fs::symlink_metadata(system, name) {
-        Ok(_) => {}
-        Err(e) if e.kind() == ErrorKind::NotFound => return Err(LoadError::Missing),
-        Err(_) => return Err(LoadError::Failed),
-    }
-    match fs::metadata(system, name) {
-        Ok(found) if found.is_file() => {}
-        _ => return Err(LoadError::Failed),
-    }
-    File::open(system, name).map_err(|_| LoadError::Failed)
-}
-
-// Writes a new file beside the one of this name, and then puts it in its place.
-fn replace_file<R: Files>(alloc: Global, system: &R, name: &str, bytes: &[u8]) -> io::Result<()> {
-    let beside = format!(in alloc; ".{name}.new")?;
-    let written = write_file(system, beside.as_str(), bytes);
-    let replaced = match written {
-        Ok(()) => fs::rename(system, beside.as_str(), name),
-        Err(e) => Err(e),
+    let mut place = Place::new(alloc, system, name).map_err(load_error)?;
+    let Some(file) = place.open(system).map_err(load_error)? else {
+        place.see(Seen::Nothing, None);
+        *known = Some(place);
+        return Err(LoadError::Missing);
     };
-    if replaced.is_err() {
-        let _ = fs::remove_file(system, beside.as_str());
-    }
-    replaced
+    // Before the first byte is read, so that a file which changes meanwhile is found changed.
+    let found = file.metadata().map_err(load_error)?;
+    let bytes = read_whole(alloc, &file, found.len(), max)?;
+    place.see(Seen::file(&found), Some(file));
+    *known = Some(place);
+    Ok(bytes)
 }
 
-// Writes a file, also where a save that was cut has left one of that name, and brings it to the disk.
-fn write_file<R: Files>(system: &R, name: &str, bytes: &[u8]) -> io::Result<()> {
-    let _ = fs::remove_file(system, name);
-    let mut file = File::create_new(system, name)?;
-    file.write_all(bytes)?;
-    file.sync_all()
+// The bytes of a file that has so many, if these are at most `max`. Of a longer one none is read, nor is
+// memory asked for it.
+fn read_whole(alloc: Global, file: &File, len: u64, max: u64) -> Result<Vec<u8>, LoadError>
+    ensures bound { IfOk result (λ bytes. length bytes.items ≤ max) }
+{
+    if len > max {
+        return Err(LoadError::Long);
+    }
+    // Room for one byte more, so that the end is found without more room.
+    let room = usize::try_from(len).map_err(|_| LoadError::Memory)?;
+    let mut bytes = match Vec::with_capacity(alloc, room.saturating_add(1)) {
+        Ok(bytes) => bytes,
+        Err(_) => return Err(LoadError::Memory),
+    };
+    // A file that grows meanwhile may be too long then.
+    file.take(max.saturating_add(1))
+        .read_to_end(&mut bytes)
+        .map_err(load_error)?;
+    if bytes.len() as u64 > max {
+        return Err(LoadError::Long);
+    }
+    Ok(bytes)
+}
+
+fn load_error(error: io::Error) -> LoadError
+    ensures memory { error_kind error ≡ ErrorKind.OutOfMemory → result ≡ loading.Memory }
+    ensures failed { error_kind error ≢ ErrorKind.OutOfMemory → result ≡ loading.Failed }
+{
+    if error.kind() == ErrorKind::OutOfMemory {
+        LoadError::Memory
+    } else {
+        LoadError::Failed
+    }
+}
+
+// Puts a new file in the place of the one of this name. A name that was not loaded needs memory for its text,
+// before anything is written; want of it is an error as each other one.
+fn replace_file<R: Files<File = File> + Clock>(
+    alloc: Global,
+    system: &R,
+    name: &str,
+    bytes: &[u8],
+    known: &mut Option<Place>,
+) -> io::Result<()> {
+    if let Some(place) = known
+        && place.is_of(name)
+    {
+        return place.replace(system, bytes);
+    }
+    let mut place = Place::new(alloc, system, name)?;
+    place.replace(system, bytes)?;
+    *known = Some(place);
+    Ok(())
 }
