@@ -21,7 +21,8 @@ CALLS = [
     ("Where codes lie", "zf_index", ["build", "span"]),
     ("Arrays", "zf_array", ["new", "from_file", "get", "set", "add", "flush", "discard", "set_lines", "resize", "save_bytes"]),
     ("Arrays that are only read", "zf_const", ["from_file", "get", "block", "set_lines"]),
-    ("Windows and views", "zf_view", ["whole", "new", "slice", "bind", "get", "set", "elem", "run_mut"]),
+    ("Windows", "zf_window", ["whole", "new", "slice"]),
+    ("Views", "zf_view", ["new", "bind", "get", "set", "elem", "run_mut"]),
     ("Devices", "zf_dev", ["fill", "take_all", "write_all"]),
 ]
 

@@ -14,8 +14,8 @@ ghost use Rattle.zf_cache.specs.Bodies.{counts_of};
 ghost use Rattle.zf_cached.specs.Touch.{touch, touch_for_writing, with_values};
 ghost use Rattle.zf_cached.specs.Changes.{flush, discard, relined, resized, raised};
 ghost use Rattle.zf_cached.specs.Arrays.{open_array, new_array, saved_file};
-ghost use Rattle.zf_stream.specs.Parsing.{parse};
-ghost use Rattle.zf_stream.specs.ReadStreams.{IsFault};
+ghost use Rattle.zf_parse.specs.Parsing.{parse};
+ghost use Rattle.zf_parse.specs.ReadStreams.{IsFault};
 ghost use Rattle.zf_store.specs.Stored.{file_of, zeros};
 ghost use Rattle.zf_store.specs.Files.{HasHeader, IsOpened, stream_fault};
 ghost use Rattle.zf_array.specs.Standing.{stored, format, state, array_of, shape, block_at, place_at};
@@ -23,10 +23,9 @@ ghost use Rattle.zf_array.specs.Coded.{HasEmptyLines, IsCoded, coded};
 
 use std::alloc::{AllocError, Global};
 use std::marker::Model;
-use zf_base::{Backing, Lane, Pos, Reading, Shape, block_len};
+use zf_base::{Backing, Lane, Pos, Reading, Shape, Stats, block_len};
 use zf_cache::{Cache, raised};
 use zf_header::{Header, Mode, rate_bytes};
-use zf_script::Stats;
 use zf_store::{Store, StoreFault};
 
 /// An array of `D` dimensions whose blocks are kept as codes of a fixed rate, and are read and written through a write-back cache.

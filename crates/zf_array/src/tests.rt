@@ -11,11 +11,10 @@ use super::*;
 use std::alloc::Global;
 use std::process::Abort;
 use std::test::Fail;
-use zf_base::{Lane, Pos, Reading, Shape, Ty};
+use zf_base::{Lane, Pos, Reading, Shape, Stats, Ty};
 use zf_cache::Cache;
 use zf_cache::laws::empty_caches_fit;
 use zf_header::{Header, Mode};
-use zf_script::Stats;
 use zf_store::StoreFault;
 
 // A position in one dimension.

@@ -9,6 +9,3 @@ mod line;
 
 pub use axes::{pass, passes, passes_back};
 pub use line::LineMap;
-
-#[cfg(test)]
-mod tests;

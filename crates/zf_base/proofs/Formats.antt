@@ -50,10 +50,6 @@ pub existing_of-meant : {Code : Type 0} (format : Format Code) (b : ℕ) (code :
 unfolding meant
 existing_of-meant format b code = existing_of-existing_of format b (format.meaning b code)
 
-pub length-meant : {Code : Type 0} (format : Format Code) (b : ℕ) (code : Code) → length (meant format b code) ≡ format.block_len
-unfolding meant
-length-meant format b code = length-existing_of format b (format.meaning b code)
-
 -- the code looks at the places that exist alone
 pub encoded-existing_of : {Code : Type 0} (format : Format Code) (b : ℕ) (values : List ℤ) → encoded format b (existing_of format b values) ≡ encoded format b values
 unfolding encoded

@@ -8,8 +8,7 @@ mod lane;
 pub mod laws;
 mod position;
 mod shape;
-#[cfg(test)]
-mod tests;
+mod stats;
 
 pub use backing::{Backing, Reading};
 pub use block::block_len;
@@ -17,3 +16,4 @@ pub use evens::Evens;
 pub use lane::{Lane, Ty};
 pub use position::{Extent, Pos};
 pub use shape::{Shape, ShapeFault};
+pub use stats::Stats;

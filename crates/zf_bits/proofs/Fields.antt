@@ -23,9 +23,6 @@ from_bool-digit_value false = refl
 pub number-field_whole : (n v : ℕ) → v < 2 ^ n → number (field n v) ≡ v
 number-field_whole n v h = number-field n v ∙ mod-eq_of_lt h
 
-pub same_from_field : (n u v : ℕ) → u < 2 ^ n → v < 2 ^ n → field n u ≡ field n v → u ≡ v
-same_from_field n u v h k e = sym (number-field_whole n u h) ∙ ap number e ∙ number-field_whole n v k
-
 pub same_from_number : (xs ys : List Bool) → length xs ≡ length ys → number xs ≡ number ys → xs ≡ ys
 same_from_number xs ys l e =
     sym (field-number (length xs) xs refl) ∙ ap (field (length xs)) e ∙ field-number (length xs) ys (sym l)

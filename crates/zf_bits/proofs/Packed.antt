@@ -105,11 +105,6 @@ word_bits-words_of s bytes =
     let zeros : 64 * n - 8 * length s ≡ (64 - length (to_bits s) % 64) % 64 = omega (arith, length-to_bits s) in
     word_bits-words_from n s (omega arith) bytes ∙ ap (λ k. to_bits s ++ replicate k false) zeros
 
--- the bits of the bytes alone, as a reader takes them
-pub take-word_bits-words_of : (s : List ℕ) → ((i : ℕ) → get_or s i 0 < 256) → take (8 * length s) (word_bits (words_of s)) ≡ to_bits s
-take-word_bits-words_of s bytes =
-    ap (take (8 * length s)) (word_bits-words_of s bytes) ∙ take_at (to_bits s) _ (8 * length s) (length-to_bits s)
-
 length-words_from : (n : ℕ) (s : List ℕ) → length (words_from n s) ≡ n
 length-words_from zero s = refl
 length-words_from (suc n) s = ap suc (length-words_from n (drop 8 s))

@@ -5,10 +5,6 @@ use Rattle.zf_spec.specs.Numbers.{is_odd, field, word_bits}
 use Rattle.zf_bits.specs.Reader.{Reader, rest, Reads}
 use Rattle.zf_spec.proofs.WordBits.{length-word_bits, get_or-flat_map-field}
 
--- nothing was read
-pub Reads-nil : (r : Reader) → Reads r r []
-Reads-nil r = record { next = refl; place = omega arith; all = refl }
-
 pub Reads-append : {a b c : Reader} {xs ys : List Bool} → Reads a b xs → Reads b c ys → Reads a c (xs ++ ys)
 Reads-append {a} {b} {c} {xs} {ys} first second = record {
   next = first.next ∙ ap (λ bs. xs ++ bs) second.next ∙ sym (append_assoc xs ys (rest c));

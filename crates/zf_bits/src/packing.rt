@@ -42,24 +42,3 @@ pub fn bytes_of_words(alloc: Global, words: &[u64]) -> Result<Vec<u8>, AllocErro
     }
     Ok(bytes)
 }
-
-#[cfg(test)]
-mod tests {
-    use super::*;
-    use std::test::Fail;
-
-    #[test]
-    fn packs_eight_bytes_a_word(rt: HostRuntime) -> Result<(), Fail> {
-        let bytes = [
-            0x7a, 0x66, 0x70, 0x05, 0x00, 0x00, 0x00, 0x00, 0x00, 0x00, 0x00, 0x88, 0x1f,
-        ];
-        let words = words_of_bytes(rt.alloc(), &bytes)?;
-        assert_eq!(rt; words.as_slice(), [0x0570667a, 0x1f_8800_0000].as_slice());
-        let none = words_of_bytes(rt.alloc(), &[])?;
-        assert!(rt; none.is_empty());
-        let back = bytes_of_words(rt.alloc(), &words)?;
-        assert_eq!(rt; &back[..13], bytes.as_slice());
-        assert_eq!(rt; &back[13..], [0, 0, 0].as_slice());
-        Ok(())
-    }
-}

@@ -70,12 +70,6 @@ LacksRev-short w d old short = record {
       subst Lacks same (read_rev-short w es s) short;
 }
 
--- what is left behind the code
-pub rest-ReadsRev : {w : Width} {d : ℕ} {old new : Reader} {block : List ℤ} → ReadsRev w d old new block → rest new ≡ drop (new.at - old.at) (rest old)
-rest-ReadsRev {w} {d} {old} {new} read =
-    let n = new.at - old.at in
-    rest-Reads n (take n (rest old)) (omega (arith, read.passed.place, length-take n (rest old))) read.passed
-
 -- ---- planes without a budget
 
 -- one read, and then another

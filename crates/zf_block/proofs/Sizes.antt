@@ -8,6 +8,3 @@ block_sizes (suc (suc zero)) n some four e = inr (inl e)
 block_sizes (suc (suc (suc zero))) n some four e = inr (inr (inl e))
 block_sizes (suc (suc (suc (suc zero)))) n some four e = inr (inr (inr e))
 block_sizes (suc (suc (suc (suc (suc d))))) n some four e = absurd (omega arith)
-
-pub block_size_at_most : (d n : ℕ) → 1 ≤ d → d ≤ 4 → n ≡ 4 ^ d → n ≤ 256
-block_size_at_most d n some four e = omega (arith, block_sizes d n some four e)

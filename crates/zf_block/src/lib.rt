@@ -18,6 +18,3 @@ pub use rate::{decode_rate, encode_rate};
 pub use reversible::{decode_rev, encode_rev};
 pub use scratch::Scratch;
 pub use whole::whole_planes;
-
-#[cfg(test)]
-mod tests;

@@ -3,10 +3,6 @@ use Rattle.std.proofs.Common.{◌≡◌, ap, ℕ, ◌+◌, ◌*◌, ◌^◌, ◌
 use Rattle.std.proofs.Math.Nat.{pow-le-pow_right}
 use Rattle.zf_bound.specs.Bounds.{error_of}
 
--- one axis more
-pub error_of-next : (d k : ℕ) → error_of (d + 1) k ≡ 4 * error_of d k + 4
-error_of-next d k = ap (λ n. error_of n k) (add-one d)
-
 -- up to four axes, of planes of up to 64 bits
 pub power_most : (d : ℕ) → d ≤ 4 → 4 ^ d ≤ 256
 power_most d few = pow-le-pow_right {n = 4} (omega arith) few

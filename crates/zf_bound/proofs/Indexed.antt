@@ -15,7 +15,7 @@ use Rattle.zf_header.specs.declared.header.Mode.{Mode}
 use Rattle.zf_header.specs.declared.header.Mode.TheVariants.{Reversible, Rate, Precision}
 use Rattle.zf_header.specs.HeaderBits.{IsRate, block_bits}
 use Rattle.zf_header.proofs.Modes.{mode_is_rate, rate_is_some}
-use Rattle.zf_stream.specs.Parsing.{Said, parse, without_said, read_code, values_of_blocks}
+use Rattle.zf_parse.specs.Parsing.{Said, parse, without_said, read_code, values_of_blocks}
 use Rattle.zf_index.specs.Spans.{Index, place, len_at, code_in, codes_in}
 use Rattle.zf_index.specs.Files.{IsIndexOf, found, block_read, len_read, blocks_found}
 use Rattle.zf_index.proofs.Places.{ends_within}

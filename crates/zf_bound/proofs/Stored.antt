@@ -12,9 +12,9 @@ use Rattle.zf_header.specs.declared.header.Header.{Header}
 use Rattle.zf_header.specs.declared.header.Mode.{Mode}
 use Rattle.zf_header.specs.declared.header.Mode.TheVariants.{Rate}
 use Rattle.zf_header.specs.HeaderBits.{coding, IsHeader}
-use Rattle.zf_stream.specs.Raw.{stream_of}
-use Rattle.zf_stream.specs.Parsing.{parse, values_of_blocks}
-use Rattle.zf_stream.proofs.StreamsBack.{said-rate}
+use Rattle.zf_parse.specs.Raw.{stream_of}
+use Rattle.zf_parse.specs.Parsing.{parse, values_of_blocks}
+use Rattle.zf_parse.proofs.StreamsBack.{said-rate}
 use Rattle.zf_bound.specs.Errors.{AreWithin, AreClose, IsSmallEnough}
 use Rattle.zf_bound.specs.Bounds.{plane_of, error_of}
 use Rattle.zf_bound.proofs.Streams.{blocks_read, stream_close}

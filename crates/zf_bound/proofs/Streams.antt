@@ -26,9 +26,9 @@ use Rattle.zf_header.specs.HeaderBits.{coding}
 use Rattle.zf_block.specs.WholePlanes.{planes_from, rate_whole_from}
 use Rattle.zf_block.proofs.Kept.{length-kept_planes}
 use Rattle.zf_block.proofs.WholePlanes.{planes_kept_from, block_planes, whole_from-le}
-use Rattle.zf_stream.specs.Parsing.{values_of_blocks}
-use Rattle.zf_stream.proofs.Joined.{values_of_blocks-blocks}
-use Rattle.zf_stream.proofs.BlocksBack.{existing_values-block_of}
+use Rattle.zf_parse.specs.Parsing.{values_of_blocks}
+use Rattle.zf_parse.proofs.Joined.{values_of_blocks-blocks}
+use Rattle.zf_parse.proofs.BlocksBack.{existing_values-block_of}
 use Rattle.zf_bound.specs.Errors.{AreWithin, AreClose, IsSmallEnough}
 use Rattle.zf_bound.specs.Bounds.{plane_of, error_of, AreContents}
 use Rattle.zf_bound.proofs.Lines.{IsNear, zero_within}

@@ -8,7 +8,7 @@ use Rattle.zf_spec.specs.Stream as stream
 use Rattle.zf_base.specs.Widths.{width_of}
 use Rattle.zf_header.specs.declared.header.Header.{Header}
 use Rattle.zf_header.specs.HeaderBits.{coding}
-use Rattle.zf_stream.specs.Parsing.{parse, without_said}
+use Rattle.zf_parse.specs.Parsing.{parse, without_said}
 use Rattle.zf_block.specs.WholePlanes.{rate_whole_from}
 use Rattle.zf_bound.specs.declared.certified.Certified.{Certified}
 use Rattle.zf_bound.specs.Errors.{AreWithin, AreClose, lost_below, grown}

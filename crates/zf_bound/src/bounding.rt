@@ -4,8 +4,8 @@ ghost use Rattle.std.specs.Prelude.{◌≡◌, ◌≤◌, ◌<◌, ◌^◌, ◌�
 ghost use Rattle.zf_spec.specs.Grid.{IsDimension};
 ghost use Rattle.zf_base.specs.Widths.{width_of};
 ghost use Rattle.zf_header.specs.HeaderBits.{IsRate};
-ghost use Rattle.zf_stream.specs.Parsing.{parse};
-ghost use Rattle.zf_stream.specs.ReadStreams.{IsFault};
+ghost use Rattle.zf_parse.specs.Parsing.{parse};
+ghost use Rattle.zf_parse.specs.ReadStreams.{IsFault};
 ghost use Rattle.zf_index.specs.Files.{HasHeader, stream_fault};
 ghost use Rattle.zf_bound.specs.Errors.{IsSmallEnough};
 ghost use Rattle.zf_bound.specs.Bounds.{IsGood, plane_of, error_of, IsBound};

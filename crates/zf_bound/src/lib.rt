@@ -5,8 +5,6 @@ mod bounding;
 mod certified;
 pub mod laws;
 mod planes;
-#[cfg(test)]
-mod tests;
 
 pub use bounding::bound;
 pub use certified::Certified;

@@ -2,7 +2,7 @@
 use Rattle.std.specs.Prelude.{◌≡◌, ℕ, ◌-◌, ◌%◌, ◌^◌, ◌<◌, ◌≤◌, ℤ, List, length, bit_and}
 use Rattle.zf_base.specs.Formats.{Format}
 use Rattle.zf_cached.specs.State.{Counts}
-use Rattle.zf_script.specs.declared.reply.Stats.{Stats}
+use Rattle.zf_base.specs.declared.stats.Stats.{Stats}
 use Rattle.zf_lines.specs.Rows.{HasSize}
 use Rattle.zf_cache.specs.declared.body.Body.{Body}
 use Rattle.zf_cache.specs.Kept.{Kept}

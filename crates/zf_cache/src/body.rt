@@ -10,9 +10,8 @@ ghost use Rattle.zf_cache.specs.Standing.{state_at, evicted};
 
 use crate::rule::Rule;
 use std::alloc::{AllocError, Global};
-use zf_base::{Backing, Lane, Reading};
+use zf_base::{Backing, Lane, Reading, Stats};
 use zf_lines::Lines;
-use zf_script::Stats;
 
 /// The lines, a tag for each of them, and the counts.
 ///

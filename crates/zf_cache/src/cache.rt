@@ -15,9 +15,8 @@ use crate::body::Body;
 use crate::rule::OneLine;
 use std::alloc::{AllocError, Global};
 use std::marker::Model;
-use zf_base::{Backing, Lane, Reading, block_len};
+use zf_base::{Backing, Lane, Reading, Stats, block_len};
 use zf_lines::Lines;
-use zf_script::Stats;
 
 /// A cache of blocks of `4^D` values, which stands on a backing that is passed to each call.
 ///

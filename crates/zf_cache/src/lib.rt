@@ -7,8 +7,6 @@ mod counted;
 mod counts;
 pub mod laws;
 mod rule;
-#[cfg(test)]
-mod tests;
 
 pub use body::Body;
 pub use cache::Cache;

@@ -40,9 +40,6 @@ get_or-zeros (x ∷ xs) (suc k) = get_or-zeros xs k
 blank : ℕ → List Bool
 blank size = replicate size false
 
-blanks : ℕ → ℕ → List (List Bool)
-blanks p size = replicate p (replicate size false)
-
 plane_code-blank : (k : ℕ) → plane_code 0 (replicate (suc k) false) ≡ false ∷ []
 plane_code-blank k = tail-zeros k
 

@@ -14,7 +14,3 @@ same_state s t lines held dirty values codes counts = λ i. record {
   codes = fun_ext codes i;
   counts = counts i;
 }
-
--- two counts are equal where their numbers are
-pub same_counts : (c d : Counts) → c.hits ≡ d.hits → c.misses ≡ d.misses → c.writes ≡ d.writes → c ≡ d
-same_counts c d hits misses writes = λ i. record { hits = hits i; misses = misses i; writes = writes i }

@@ -177,14 +177,6 @@ pub record HasStepped (s m done : ℕ) (old new : List ℕ) : Type 0 where
   pub upper : (j : ℕ) → pair_of s j < done → j / s % 2 ≡ 1 → get_or new j 0 ≡ swapped_high s m (get_or old (j - s) 0) (get_or old j 0)
   pub rest : (j : ℕ) → done ≤ pair_of s j → get_or new j 0 ≡ get_or old j 0
 
-pub none_stepped : (s m : ℕ) (old : List ℕ) → HasStepped s m 0 old old
-none_stepped s m old = record {
-  long = refl;
-  lower = λ j h half. absurd (omega arith);
-  upper = λ j h half. absurd (omega arith);
-  rest = λ j h. refl;
-}
-
 pub more_stepped : (lanes s m done : ℕ) (old mid new : List ℕ) → Paired lanes s → done % lanes ≡ 0
     → HasStepped s m done old mid
     → IsSwapped lanes (done + done / s * s) (done + done / s * s + s) s m mid new

@@ -311,9 +311,6 @@ group_of_front number planes whole digits short same group r k h small = ap (λ 
 
 -- ---- whole tiles of planes
 
-pub tile_within : (n tile len : ℕ) → IsSize n → tile < len / n → tile * n + n ≤ len
-tile_within n tile len size = ⊎_elim (λ is. subst (λ m. tile < len / m → tile * m + m ≤ len) (sym is) (λ h. omega arith)) (λ is. subst (λ m. tile < len / m → tile * m + m ≤ len) (sym is) (λ h. omega arith)) size
-
 -- planes behind the whole tiles
 pub tiles_end : (n len : ℕ) → IsSize n → len / n * n + len % n ≡ len
 tiles_end n len size = ⊎_elim (λ is. subst (λ m. len / m * m + len % m ≡ len) (sym is) (omega arith)) (λ is. subst (λ m. len / m * m + len % m ≡ len) (sym is) (omega arith)) size

@@ -103,9 +103,6 @@ pub record IsBehind (number : ℕ) (digits rest : List ℕ) : Type 0 where
   pub long : length rest ≡ length digits - 64 * number
   pub each : (r : ℕ) → get_or rest r 0 ≡ get_or digits (64 * number + r) 0
 
-pub behind_none : (digits : List ℕ) → IsBehind 0 digits digits
-behind_none digits = record { long = omega arith; each = λ r. ap (λ j. get_or digits j 0) (omega arith) }
-
 -- a group ends where the digits end
 in_group : (rest : List ℕ) (n r : ℕ) → n ≡ min (length rest) 64 → r < 64 → get_or (take n rest) r 0 ≡ get_or rest r 0
 in_group rest n r size small = ⊎_elim
@@ -126,9 +123,6 @@ behind_more number n digits rest size before = record {
       ∙ before.each (64 + r)
       ∙ ap (λ j. get_or digits j 0) next;
 }
-
-pub groups_none : (digits : List ℕ) (planes : List (List ℕ)) → HoldsGroups 0 digits planes
-groups_none digits planes = record { each = λ p k r h a b. absurd (omega arith) }
 
 pub groups_more : (number n : ℕ) (digits rest : List ℕ) (old new : List (List ℕ)) → n ≡ min (length rest) 64 → length new ≡ length old
     → IsBehind number digits rest → HoldsGroups number digits old
@@ -183,10 +177,6 @@ clear_of_groups number digits planes room long groups =
     (λ k within. plane_clear k digits (get_or planes k []) (plane_of_groups number k digits planes room within (long k within) groups))
 
 -- ---- one coefficient
-
-pub length-column : (rank : ℕ) (planes : List (List ℕ)) → length (column rank planes) ≡ length planes
-unfolding column
-length-column rank planes = length-map planes (λ words. get_or (word_bits words) rank false)
 
 -- ---- all coefficients
 

@@ -15,6 +15,3 @@ pub use needed::{any_digits, needed_planes, zero_planes};
 pub use negabinary::{from_digits, to_digits};
 pub use planes::{planes_of_digits, to_planes};
 pub use ranks::{ranked, unranked};
-
-#[cfg(test)]
-mod tests;

@@ -13,7 +13,7 @@ use Rattle.zf_header.specs.declared.header.Mode.TheVariants.{Reversible, Rate, P
 use Rattle.zf_header.specs.HeaderBits.{coding}
 use Rattle.zf_cached.specs.Arrays.{mode_coding, rate_coding, array_format, read_values}
 use Rattle.zf_cached.proofs.Arrays.{existing_of-array, existing_values-read_rate}
-use Rattle.zf_stream.specs.Parsing.{read_code}
+use Rattle.zf_parse.specs.Parsing.{read_code}
 use Rattle.zf_index.specs.Spans.{Index, len_at, place, code_in, codes_in}
 use Rattle.zf_index.specs.Files.{AreRead, found, block_read}
 use Rattle.zf_index.proofs.Read.{read_parts}

@@ -14,8 +14,8 @@ use Rattle.zf_cached.specs.Touch.{write_back_line, hit, miss, touch}
 use Rattle.zf_cached.specs.Changes.{write_back_lines, emptied, flush, relined}
 use Rattle.zf_cache.proofs.Stands.{write_back_line-none, write_back_line-some, write_back_dirty-false}
 use Rattle.zf_header.specs.declared.header.Header.{Header}
-use Rattle.zf_stream.specs.declared.fault.StreamFault.{StreamFault}
-use Rattle.zf_stream.specs.Parsing.{Said, parse, values_of_blocks}
+use Rattle.zf_parse.specs.declared.fault.StreamFault.{StreamFault}
+use Rattle.zf_parse.specs.Parsing.{Said, parse, values_of_blocks}
 use Rattle.zf_const.specs.Standing.{Held, format, state, values_at, shape, block_at, place_at}
 use Rattle.zf_const.specs.Files.{IsOpened, said}
 

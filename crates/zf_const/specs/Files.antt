@@ -2,7 +2,7 @@
 use Rattle.std.specs.Prelude.{ℕ, ◌≡◌, ℤ, List, map, length, Ok}
 use Rattle.zf_spec.specs.Grid.{blocks, upto}
 use Rattle.zf_header.specs.declared.header.Header.{Header}
-use Rattle.zf_stream.specs.Parsing.{Said, values_of_blocks, parse}
+use Rattle.zf_parse.specs.Parsing.{Said, values_of_blocks, parse}
 use Rattle.zf_const.specs.Standing.{Held, values_at, shape}
 
 -- the values of the array, in raster order

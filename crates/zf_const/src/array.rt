@@ -10,8 +10,8 @@ ghost use Rattle.zf_header.specs.HeaderBits.{IsHeader};
 ghost use Rattle.zf_cache.specs.Bodies.{counts_of};
 ghost use Rattle.zf_cached.specs.Touch.{touch};
 ghost use Rattle.zf_cached.specs.Changes.{relined, raised};
-ghost use Rattle.zf_stream.specs.Parsing.{parse};
-ghost use Rattle.zf_stream.specs.ReadStreams.{IsFault};
+ghost use Rattle.zf_parse.specs.Parsing.{parse};
+ghost use Rattle.zf_parse.specs.ReadStreams.{IsFault};
 ghost use Rattle.zf_index.specs.Files.{HasHeader, stream_fault};
 ghost use Rattle.zf_const.specs.Standing.{format, state, touched, open_stream, shape, block_at, place_at};
 ghost use Rattle.zf_const.specs.Files.{IsOpened};
@@ -20,11 +20,10 @@ use crate::codes::Codes;
 use crate::index::Index;
 use std::alloc::{AllocError, Global};
 use std::marker::Model;
-use zf_base::{Lane, Pos, Shape};
+use zf_base::{Lane, Pos, Shape, Stats};
 use zf_cache::{Cache, raised};
 use zf_header::Header;
 use zf_index::IndexFault;
-use zf_script::Stats;
 
 /// An array of `D` dimensions whose blocks are the codes of a stream in any mode, and are only read, through a cache.
 ///

@@ -94,7 +94,7 @@ impl<T: Lane, const D: usize> Reading<T> for Codes<T, D> {
     fn load(&mut self, b: u64, line: &mut [T]) {
         let mut reader = BitReader::new(&self.words, self.bits);
         reader.seek(self.index.span(b).at);
-        let Some(()) = zf_stream::read_code(&self.header, &mut reader, line) else {
+        let Some(()) = zf_parse::read_code(&self.header, &mut reader, line) else {
             unreachable!()
         };
     }

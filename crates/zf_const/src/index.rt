@@ -1,8 +1,8 @@
 //! The index of an array.
 
 ghost use Rattle.std.specs.Prelude.{◌≡◌, ◌<◌, length, IfOk, IfErr};
-ghost use Rattle.zf_stream.specs.Parsing.{parse};
-ghost use Rattle.zf_stream.specs.ReadStreams.{IsFault};
+ghost use Rattle.zf_parse.specs.Parsing.{parse};
+ghost use Rattle.zf_parse.specs.ReadStreams.{IsFault};
 ghost use Rattle.zf_index.specs.Spans.{span_at};
 ghost use Rattle.zf_index.specs.Files.{HasHeader, IsIndexOf, stream_fault};
 ghost use Rattle.zf_const.specs.Parts.{seen};

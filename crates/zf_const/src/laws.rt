@@ -7,7 +7,7 @@ ghost use Rattle.zf_base.specs.Positions.{used_axes, IsPosition};
 ghost use Rattle.zf_header.specs.declared.header.Header.{Header};
 ghost use Rattle.zf_cached.specs.Touch.{touch};
 ghost use Rattle.zf_cached.specs.Changes.{relined};
-ghost use Rattle.zf_stream.specs.Parsing.{Said, parse};
+ghost use Rattle.zf_parse.specs.Parsing.{Said, parse};
 ghost use Rattle.zf_const.specs.Standing.{Held, format, state, shape, block_at, place_at};
 ghost use Rattle.zf_const.specs.Files.{IsOpened};
 

@@ -5,7 +5,5 @@ mod array;
 mod codes;
 mod index;
 pub mod laws;
-#[cfg(test)]
-mod tests;
 
 pub use array::ConstArray;

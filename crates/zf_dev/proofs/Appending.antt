@@ -2,7 +2,7 @@
 use Rattle.std.proofs.Common.{ℕ, ◌+◌, List, [], ◌++◌, length, take, Option, Some, None, ap, sym, ◌∙◌, append_assoc, append-nil, length-append, arith}
 use Rattle.std.proofs.lemmas.List.{take_all, take-append-le}
 use Rattle.std.proofs.Math.Seq.{take-append-add}
-use Rattle.zf_dev.specs.Sink.{Appends, AppendsFront, AppendsPart}
+use Rattle.zf_dev.specs.Sink.{Appends, AppendsFront}
 
 -- nothing was written
 pub Appends-none : (known : Option (List ℕ)) → Appends known known []
@@ -24,26 +24,12 @@ AppendsFront-none known bytes = (0, omega arith, Appends-none known)
 pub AppendsFront-all : (old new : Option (List ℕ)) (bytes : List ℕ) → Appends old new bytes → AppendsFront old new bytes
 AppendsFront-all old new bytes all = (length bytes, omega arith, rw (take_all (length bytes) bytes (omega arith)) all)
 
--- a part is a front
-pub AppendsFront-part : (old new : Option (List ℕ)) (bytes : List ℕ) → AppendsPart old new bytes → AppendsFront old new bytes
-AppendsFront-part old new bytes part = (part.0, omega (arith, part.1), part.2)
-
 -- a front of these bytes is a front of more
 pub AppendsFront-more : (old new : Option (List ℕ)) (bytes more : List ℕ) → AppendsFront old new bytes → AppendsFront old new (bytes ++ more)
 AppendsFront-more old new bytes more front =
     (front.0, omega (arith, length-append bytes more, front.1), rw (take-append-le front.0 bytes more front.1) front.2)
 
--- a front of these bytes, but not all of them, is a part of more
-pub AppendsPart-more : (old new : Option (List ℕ)) (bytes more : List ℕ) → AppendsPart old new bytes → AppendsPart old new (bytes ++ more)
-AppendsPart-more old new bytes more part =
-    (part.0, omega (arith, length-append bytes more, part.1), rw (take-append-le part.0 bytes more (omega (arith, part.1))) part.2)
-
 -- some bytes were written, and then a front of more
 pub AppendsFront-append : (old mid new : Option (List ℕ)) (first next : List ℕ) → Appends old mid first → AppendsFront mid new next → AppendsFront old new (first ++ next)
 AppendsFront-append old mid new first next all front =
     (length first + front.0, omega (arith, length-append first next, front.1), rw (take-append-add first next front.0) (Appends-append old mid new first (take front.0 next) all front.2))
-
--- some bytes were written, and then a front of more, but not all of it
-pub AppendsPart-append : (old mid new : Option (List ℕ)) (first next : List ℕ) → Appends old mid first → AppendsPart mid new next → AppendsPart old new (first ++ next)
-AppendsPart-append old mid new first next all part =
-    (length first + part.0, omega (arith, length-append first next, part.1), rw (take-append-add first next part.0) (Appends-append old mid new first (take part.0 next) all part.2))

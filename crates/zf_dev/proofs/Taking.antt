@@ -1,7 +1,6 @@
 -- How what is taken from a source adds up over several calls.
-use Rattle.std.proofs.Common.{◌≡◌, ℕ, ◌+◌, List, [], ◌++◌, length, take, Option, Some, None, refl, ap, sym, ◌∙◌, append_assoc, append-nil, length-append, arith}
-use Rattle.std.proofs.lemmas.List.{take_at}
-use Rattle.zf_dev.specs.Source.{Takes, TakesAtMost, IsAtEnd}
+use Rattle.std.proofs.Common.{◌≡◌, ℕ, List, [], ◌++◌, Option, Some, None, refl, ap, sym, ◌∙◌, append_assoc, append-nil}
+use Rattle.zf_dev.specs.Source.{Takes, IsAtEnd}
 
 -- nothing was taken
 pub Takes-none : (known : Option (List ℕ)) → Takes known known []
@@ -14,16 +13,6 @@ Takes-append None mid new first next a b = tt
 Takes-append (Some xs) (Some ys) (Some zs) first next a b = a ∙ (ap (λ rest. first ++ rest) b ∙ sym (append_assoc first next zs))
 Takes-append (Some xs) None new first next a b = absurd a
 Takes-append (Some xs) (Some ys) None first next a b = b
-
--- some bytes were taken, and then at most so many more
-pub TakesAtMost-append : (old mid new : Option (List ℕ)) (first : List ℕ) (most : ℕ) → Takes old mid first → TakesAtMost mid new most → TakesAtMost old new (length first + most)
-TakesAtMost-append old mid new first most a b =
-    (first ++ b.0, omega (arith, length-append first b.0, b.1), Takes-append old mid new first b.0 a b.2)
-
--- the bytes taken are the first of those that were to come
-pub Takes-front : (left : List ℕ) (new : Option (List ℕ)) (bytes : List ℕ) → Takes (Some left) new bytes → bytes ≡ take (length bytes) left
-Takes-front left None bytes taken = absurd taken
-Takes-front left (Some rest) bytes taken = sym (ap (λ all. take (length bytes) all) taken ∙ take_at bytes rest (length bytes) refl)
 
 -- the bytes taken up to the end are all that were to come
 pub Takes-to_end : (left : List ℕ) (new : Option (List ℕ)) (bytes : List ℕ) → Takes (Some left) new bytes → IsAtEnd new → left ≡ bytes

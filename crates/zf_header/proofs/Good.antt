@@ -41,9 +41,6 @@ pub record Good (bytes : List ℕ) : Type 0 where
 not_false : (a b : ℕ) → not (a == b) ≡ false → a ≡ b
 not_false a b e = grind (arith, nat_tests)
 
-true_false : {X : Type 0} → true ≡ false → X
-true_false e = absurd cc
-
 -- a test that holds only beside another
 beside : (t x : Bool) → (t && x) ≡ false → t ≡ true → x ≡ false
 beside true x e h = e

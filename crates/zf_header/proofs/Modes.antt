@@ -27,9 +27,6 @@ is_precision m = nat_le 2048 m && nat_le m 2175
 below_precisions : (m : ℕ) → m < 2048 → is_precision m ≡ false
 below_precisions m lt = and_left _ _ (lt-leb 2048 m lt)
 
-above_precisions : (m : ℕ) → 2175 < m → is_precision m ≡ false
-above_precisions m lt = and_right _ _ (lt-leb m 2175 lt)
-
 pub mode_said-short : (m l : ℕ) → m ≤ 2047 → mode_said m l ≡ Rate (m + 1)
 mode_said-short m l few = rw (ne_eqb m 2176 (λ e. omega arith), below_precisions m (omega arith), ne_eqb m 4095 (λ e. omega arith)) refl
 

@@ -12,6 +12,3 @@ pub use header::{
 };
 pub use reading::read;
 pub use writing::write;
-
-#[cfg(test)]
-mod tests;

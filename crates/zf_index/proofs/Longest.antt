@@ -12,9 +12,9 @@ use Rattle.zf_base.specs.Widths.{width_of}
 use Rattle.zf_header.specs.declared.header.Mode.{Mode}
 use Rattle.zf_header.specs.declared.header.Mode.TheVariants.{Reversible, Rate, Precision}
 use Rattle.zf_header.specs.HeaderBits.{IsMode}
-use Rattle.zf_stream.specs.Parsing.{read_code}
-use Rattle.zf_stream.proofs.BlocksBack.{width_at_most_64}
-use Rattle.zf_stream.proofs.Enough.{planes_fit, count_fits}
+use Rattle.zf_parse.specs.Parsing.{read_code}
+use Rattle.zf_parse.proofs.BlocksBack.{width_at_most_64}
+use Rattle.zf_parse.proofs.Enough.{planes_fit, count_fits}
 
 -- what is found where enough bits are there
 pub record Found {A : Type 0} (short : Bool) (a : A) (n : ℕ) (b : A) (k : ℕ) : Type 0 where

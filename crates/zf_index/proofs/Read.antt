@@ -14,13 +14,13 @@ use Rattle.zf_header.specs.declared.header.Header.{Header}
 use Rattle.zf_header.specs.HeaderBits.{header_bits, IsHeader}
 use Rattle.zf_header.proofs.Good.{good}
 use Rattle.zf_header.proofs.Found.{read_is_header}
-use Rattle.zf_stream.specs.declared.fault.StreamFault.{StreamFault}
-use Rattle.zf_stream.specs.declared.fault.StreamFault.TheVariants as faults
-use Rattle.zf_stream.specs.Parsing.{read_code, read_codes, read_next, with_block, codes_said, code_before, Said, said_with, parse, values_said, values_of_blocks, values_or_fault, fill_answer, codes_answer}
-use Rattle.zf_stream.specs.ReadStreams.{BeginsWithHeader, IsFault}
-use Rattle.zf_stream.proofs.Parsed.{parse_is}
-use Rattle.zf_stream.proofs.RateStreams.{parse_err}
-use Rattle.zf_stream.proofs.Joining.{read_codes-cut}
+use Rattle.zf_parse.specs.declared.fault.StreamFault.{StreamFault}
+use Rattle.zf_parse.specs.declared.fault.StreamFault.TheVariants as faults
+use Rattle.zf_parse.specs.Parsing.{read_code, read_codes, read_next, with_block, codes_said, code_before, Said, said_with, parse, values_said, values_of_blocks, values_or_fault, fill_answer, codes_answer}
+use Rattle.zf_parse.specs.ReadStreams.{BeginsWithHeader, IsFault}
+use Rattle.zf_parse.proofs.Parsed.{parse_is}
+use Rattle.zf_parse.proofs.RateStreams.{parse_err}
+use Rattle.zf_parse.proofs.Joining.{read_codes-cut}
 use Rattle.zf_index.specs.declared.fault.IndexFault.{IndexFault}
 use Rattle.zf_index.specs.Spans.{Index, len_at, place, code_in, codes_in}
 use Rattle.zf_index.specs.Files.{HasHeader, found, block_read, len_read, AreRead, blocks_found, IsIndexOf, stream_fault}

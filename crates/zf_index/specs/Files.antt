@@ -6,9 +6,9 @@ use Rattle.zf_base.specs.Widths.{width_of}
 use Rattle.zf_header.specs.declared.header.Header.{Header}
 use Rattle.zf_header.specs.HeaderBits.{header_bits}
 use Rattle.zf_header.specs.HeaderFaults.{header_fault}
-use Rattle.zf_stream.specs.declared.fault.StreamFault.{StreamFault}
-use Rattle.zf_stream.specs.declared.fault.StreamFault.TheVariants as stream
-use Rattle.zf_stream.specs.Parsing.{header_of, parse, read_code, values_of_blocks}
+use Rattle.zf_parse.specs.declared.fault.StreamFault.{StreamFault}
+use Rattle.zf_parse.specs.declared.fault.StreamFault.TheVariants as stream
+use Rattle.zf_parse.specs.Parsing.{header_of, parse, read_code, values_of_blocks}
 use Rattle.zf_index.specs.declared.fault.IndexFault.{IndexFault}
 use Rattle.zf_index.specs.declared.fault.IndexFault.TheVariants.{Truncated, Pad, Trailing, Memory}
 use Rattle.zf_index.specs.Spans.{Index, place, len_at, codes_in}

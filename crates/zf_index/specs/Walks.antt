@@ -5,7 +5,7 @@ use Rattle.zf_spec.specs.Grid.{blocks}
 use Rattle.zf_bits.specs.Reader.{Reader, rest}
 use Rattle.zf_header.specs.declared.header.Header.{Header}
 use Rattle.zf_header.specs.declared.header.Mode.{Mode}
-use Rattle.zf_stream.specs.Parsing.{read_code, read_codes, codes_answer, fill_answer}
+use Rattle.zf_parse.specs.Parsing.{read_code, read_codes, codes_answer, fill_answer}
 use Rattle.zf_index.specs.declared.fault.IndexFault.{IndexFault}
 use Rattle.zf_index.specs.declared.fault.IndexFault.TheVariants.{Memory}
 use Rattle.zf_index.specs.Spans.{Index, place}

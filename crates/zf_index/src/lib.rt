@@ -4,8 +4,6 @@
 mod fault;
 mod index;
 mod span;
-#[cfg(test)]
-mod tests;
 mod walk;
 
 pub use fault::IndexFault;

@@ -5,8 +5,8 @@ ghost use Rattle.zf_spec.specs.Grid.{blocks};
 ghost use Rattle.zf_base.specs.Widths.{width_of};
 ghost use Rattle.zf_bits.specs.Reader.{rest};
 ghost use Rattle.zf_header.specs.HeaderBits.{IsHeader, header_bits};
-ghost use Rattle.zf_stream.specs.Parsing.{parse, read_code, fill_answer};
-ghost use Rattle.zf_stream.specs.ReadStreams.{IsFault, LacksCode};
+ghost use Rattle.zf_parse.specs.Parsing.{parse, read_code, fill_answer};
+ghost use Rattle.zf_parse.specs.ReadStreams.{IsFault, LacksCode};
 ghost use Rattle.zf_index.specs.Files.{HasHeader, IsIndexOf, stream_fault};
 ghost use Rattle.zf_index.specs.Walks.{IsWalked, HasFault, PassesCode};
 
@@ -15,7 +15,7 @@ use std::alloc::Global;
 use zf_base::{Lane, Ty, block_len};
 use zf_bits::{BitReader, words_of_bytes};
 use zf_header::{Header, Mode};
-use zf_stream::StreamFault;
+use zf_parse::StreamFault;
 
 /// How many bits the code of each block of a file has that begins with the header `h`, of `start` bits; or what is wrong with the file.
 pub(crate) fn code_lengths(
@@ -86,7 +86,7 @@ fn pass_code<T: Lane>(h: &Header, reader: &mut BitReader<'_>, block: &mut [T]) -
         return pass_rate::<T>(h.shape.dims(), bits, reader);
     }
     let start = reader.at();
-    zf_stream::read_code(h, reader, block)?;
+    zf_parse::read_code(h, reader, block)?;
     Some((reader.at() - start) as u16)
 }
 
@@ -108,7 +108,7 @@ fn check_fill(h: &Header, reader: &mut BitReader<'_>) -> Result<(), IndexFault>
     ensures ok { IfOk result (λ u. fill_answer h.now reader.old.at (rest reader.old) ≡ Ok u) }
     ensures err { IfErr result (λ e. fill_answer h.now reader.old.at (rest reader.old) ≡ Err (stream_fault e)) }
 {
-    match zf_stream::check_fill(h, reader) {
+    match zf_parse::check_fill(h, reader) {
         Ok(()) => Ok(()),
         Err(StreamFault::Truncated(b)) => Err(IndexFault::Truncated(b)),
         Err(StreamFault::Pad) => Err(IndexFault::Pad),

@@ -5,8 +5,6 @@
 
 mod cells;
 mod lines;
-#[cfg(test)]
-mod tests;
 
 // A crate names `Lines` in a contract only where the types of its fields are exported.
 #[doc(hidden)]

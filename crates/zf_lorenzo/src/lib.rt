@@ -5,6 +5,3 @@ mod line;
 mod transform;
 
 pub use transform::{forward, inverse};
-
-#[cfg(test)]
-mod tests;

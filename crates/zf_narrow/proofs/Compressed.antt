@@ -13,9 +13,9 @@ use Rattle.zf_dev.specs.Source.{Takes, TakesMoreThan, IsAtEnd}
 use Rattle.zf_dev.specs.Sink.{AppendsFront}
 use Rattle.zf_dev.proofs.Taking.{Takes-to_end}
 use Rattle.zf_dev.proofs.Appending.{AppendsFront-none}
-use Rattle.zf_stream.specs.declared.fault.StreamFault.{StreamFault}
-use Rattle.zf_stream.specs.declared.fault.StreamFault.TheVariants as faults
-use Rattle.zf_stream.specs.Raw.{raw_len, length_answer, compress_answer, stream_text}
+use Rattle.zf_parse.specs.declared.fault.StreamFault.{StreamFault}
+use Rattle.zf_parse.specs.declared.fault.StreamFault.TheVariants as faults
+use Rattle.zf_parse.specs.Raw.{raw_len, length_answer, compress_answer, stream_text}
 use Rattle.zf_stream.specs.Outcomes.{Answers, CanRefuse, ShowsLength, Finishes, LeavesFront, IsFromOutside}
 use Rattle.zf_stream.proofs.RawRows.{short_answer, long_answer, good_answer}
 use Rattle.zf_stream.proofs.Refusals.{CanRefuse-short, CanRefuse-long}
@@ -183,18 +183,6 @@ fault_possible n h (faults.Header f) int32 can = absurd (can_come h (faults.Head
 fault_possible n h (faults.Truncated b) int32 can = absurd (can_come h (faults.Truncated b) can)
 fault_possible n h faults.Pad int32 can = absurd (can_come h faults.Pad can)
 fault_possible n h faults.Trailing int32 can = absurd (can_come h faults.Trailing can)
-
--- a fault that is not one of a length is handed on
-pub memory_back : (n : Narrow) (e : StreamFault) → narrow_fault n e ≡ faults.Memory → e ≡ faults.Memory
-memory_back n (faults.RawShort k) is = cc
-memory_back n faults.RawLong is = is
-memory_back n (faults.Header f) is = is
-memory_back n (faults.Truncated b) is = is
-memory_back n faults.Pad is = is
-memory_back n faults.Trailing is = is
-memory_back n faults.Read is = is
-memory_back n faults.Write is = is
-memory_back n faults.Memory is = is
 
 pub read_back : (n : Narrow) (e : StreamFault) → narrow_fault n e ≡ faults.Read → e ≡ faults.Read
 read_back n (faults.RawShort k) is = cc

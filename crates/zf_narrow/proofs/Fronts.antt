@@ -8,7 +8,7 @@ use Rattle.zf_bits.proofs.Packed.{first_bytes-more}
 use Rattle.zf_base.specs.Widths.{width_of}
 use Rattle.zf_header.specs.declared.header.Header.{Header}
 use Rattle.zf_header.specs.HeaderBits.{coding}
-use Rattle.zf_stream.specs.Raw.{stream_text}
+use Rattle.zf_parse.specs.Raw.{stream_text}
 
 first_bytes-zeros : (k : ℕ) (s : List ℕ) (z : ℕ) → first_bytes k (s ++ replicate z 0) ≡ first_bytes k s
 first_bytes-zeros zero s z = refl

@@ -8,7 +8,7 @@ use Rattle.zf_base.specs.declared.lane.Ty.TheVariants.{I32}
 use Rattle.zf_header.specs.declared.header.Header.{Header}
 use Rattle.zf_dev.specs.Source.{Takes, IsAtEnd}
 use Rattle.zf_dev.proofs.Taking.{Takes-to_end}
-use Rattle.zf_stream.specs.Raw.{raw_len, stream_text}
+use Rattle.zf_parse.specs.Raw.{raw_len, stream_text}
 use Rattle.zf_narrow.specs.declared.narrow.Narrow.{Narrow}
 use Rattle.zf_narrow.specs.declared.promotion.Promotion.{Promotion}
 use Rattle.zf_narrow.specs.Values.{size_of}

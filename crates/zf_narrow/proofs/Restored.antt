@@ -11,14 +11,14 @@ use Rattle.zf_header.specs.declared.header.HeaderFault.{HeaderFault}
 use Rattle.zf_header.specs.HeaderFaults.{header_fault}
 use Rattle.zf_dev.specs.Sink.{Appends, AppendsFront}
 use Rattle.zf_dev.proofs.Appending.{AppendsFront-all, AppendsFront-more}
-use Rattle.zf_stream.specs.declared.fault.StreamFault.{StreamFault}
-use Rattle.zf_stream.specs.declared.fault.StreamFault.TheVariants as faults
-use Rattle.zf_stream.specs.Parsing.{header_of, header_or, code_bits, read_codes, blocks_text, longest_codes, restore_answer, restored_text}
+use Rattle.zf_parse.specs.declared.fault.StreamFault.{StreamFault}
+use Rattle.zf_parse.specs.declared.fault.StreamFault.TheVariants as faults
+use Rattle.zf_parse.specs.Parsing.{header_of, header_or, code_bits, read_codes, blocks_text, longest_codes, restore_answer, restored_text}
 use Rattle.zf_stream.specs.Outcomes.{Answers, LeavesFront}
 use Rattle.zf_stream.specs.Outcomes as outcomes
 use Rattle.zf_stream.specs.Typed.{answer_of_types, typed_answer, CanRefuseTyped, RestoresTyped, HasOtherType}
 use Rattle.zf_stream.specs.Restoring.{still}
-use Rattle.zf_stream.proofs.Enough.{length-restored_text}
+use Rattle.zf_parse.proofs.Enough.{length-restored_text}
 use Rattle.zf_narrow.specs.declared.narrow.Narrow.{Narrow}
 use Rattle.zf_narrow.specs.declared.fault.NarrowFault.{NarrowFault}
 use Rattle.zf_narrow.specs.declared.fault.NarrowFault.TheVariants.{NotNarrow, Stream}
@@ -54,31 +54,10 @@ narrow_answers : (known : Option (List ℕ)) (r : Result Bool StreamFault) → A
 narrow_answers None r answers = tt
 narrow_answers (Some input) r answers = ⊎_elim (λ is. inl (ap narrow_of is ∙ answer_is input)) (λ out. inr (outside_still r out)) answers
 
-pub good_answers : (known : Option (List ℕ)) → Answers (Ok true) known (typed_answer I32) → AnswersNarrow (Ok tt) known
-good_answers known answers = narrow_answers known (Ok true) answers
-
-pub other_answers : (known : Option (List ℕ)) → Answers (Ok false) known (typed_answer I32) → AnswersNarrow (Err NotNarrow) known
-other_answers known answers = narrow_answers known (Ok false) answers
-
-pub fault_answers : (known : Option (List ℕ)) (e : StreamFault) → Answers (Err e) known (typed_answer I32) → AnswersNarrow (Err (Stream e)) known
-fault_answers known e answers = narrow_answers known (Err e) answers
-
-pub write_answers : (known : Option (List ℕ)) → AnswersNarrow (Err (Stream faults.Write)) known
-write_answers None = tt
-write_answers (Some input) = inr (inr (inl refl))
-
 -- ---- refusals
 
 pub fault_possible : (e : StreamFault) → CanRefuseTyped I32 e → CanRefuseNarrow (Stream e)
 fault_possible e can = ⊎_elim (λ is. inl (is.0, sym (answer_is is.0) ∙ ap narrow_of is.1)) (λ out. inr out) can
-
-not_int32 : (fault : Option HeaderFault) (ty : Ty) (answer : Result (Unit {0}) StreamFault) → fault ≡ None → ty ≢ I32 → answer_behind fault ty answer ≡ Err NotNarrow
-not_int32 (Some f) ty answer good other = cc
-not_int32 None I32 answer good other = absurd (other refl)
-not_int32 None I64 answer good other = refl
-
-pub other_possible : {src0 src1 out0 out1 : Option (List ℕ)} → HasOtherType I32 src0 src1 out0 out1 → CanRefuseNarrow NotNarrow
-other_possible other = inl (other.bytes, not_int32 (header_fault other.bytes) (header_of other.bytes).ty (restore_answer other.bytes) other.good other.other)
 
 -- ---- what was written
 

@@ -8,10 +8,10 @@ use Rattle.zf_base.specs.declared.lane.Ty.TheVariants.{I32}
 use Rattle.zf_header.specs.declared.header.Header.{Header}
 use Rattle.zf_header.specs.declared.header.Mode.TheVariants.{Reversible}
 use Rattle.zf_header.specs.HeaderBits.{IsHeader}
-use Rattle.zf_stream.specs.Raw.{raw_len}
-use Rattle.zf_stream.specs.Parsing.{header_of, restore_answer}
-use Rattle.zf_stream.proofs.Parsed.{good_header}
-use Rattle.zf_stream.proofs.StreamsBack.{header_of-stream_text, answer-stream_text, text-reversible_text}
+use Rattle.zf_parse.specs.Raw.{raw_len}
+use Rattle.zf_parse.specs.Parsing.{header_of, restore_answer}
+use Rattle.zf_parse.proofs.Parsed.{good_header}
+use Rattle.zf_parse.proofs.StreamsBack.{header_of-stream_text, answer-stream_text, text-reversible_text}
 use Rattle.zf_narrow.specs.declared.narrow.Narrow.{Narrow}
 use Rattle.zf_narrow.specs.declared.narrow.Narrow.TheVariants.{I8, U8, I16, U16}
 use Rattle.zf_narrow.specs.Values.{size_of, promoted}

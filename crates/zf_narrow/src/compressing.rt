@@ -5,7 +5,7 @@ ghost use Rattle.zf_base.specs.declared.lane.Ty.TheVariants as types;
 ghost use Rattle.zf_header.specs.HeaderBits.{IsMode};
 ghost use Rattle.zf_dev.specs.Faults.{HasCause};
 ghost use Rattle.zf_stream.specs.Outcomes.{CanRefuse, ShowsLength, Answers};
-ghost use Rattle.zf_stream.specs.declared.fault.StreamFault.TheVariants.{Read, Write, Memory};
+ghost use Rattle.zf_parse.specs.declared.fault.StreamFault.TheVariants.{Read, Write, Memory};
 ghost use Rattle.zf_narrow.specs.Texts.{narrow_len, narrow_count, narrow_fault, compress_narrow_answer, CompressesNarrow, LeavesNarrow};
 
 use crate::Narrow;

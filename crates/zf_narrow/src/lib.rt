@@ -20,8 +20,3 @@ pub use compressing::compress_narrow;
 pub use fault::NarrowFault;
 pub use narrow::{Narrow, demote, promote};
 pub use restoring::restore_narrow;
-
-#[cfg(test)]
-mod tests;
-#[cfg(test)]
-mod tests_of_streams;

@@ -3,8 +3,8 @@
 ghost use Rattle.std.specs.Prelude.{◌≡◌, ◌≢◌, [], IfErr, OnOk, OnErr, Err};
 ghost use Rattle.zf_dev.specs.Faults.{HasCause};
 ghost use Rattle.zf_dev.specs.Sink.{Appends};
-ghost use Rattle.zf_stream.specs.ReadStreams.{HasGoodHeader};
-ghost use Rattle.zf_stream.specs.declared.fault.StreamFault.TheVariants.{Read, Write, Memory};
+ghost use Rattle.zf_parse.specs.ReadStreams.{HasGoodHeader};
+ghost use Rattle.zf_parse.specs.declared.fault.StreamFault.TheVariants.{Read, Write, Memory};
 ghost use Rattle.zf_narrow.specs.declared.fault.NarrowFault.TheVariants.{Stream};
 ghost use Rattle.zf_narrow.specs.Texts.{AnswersNarrow, CanRefuseNarrow, RestoresNarrow, LeavesNarrowFront, IsBeforeWriting};
 

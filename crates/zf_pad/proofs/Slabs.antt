@@ -51,34 +51,11 @@ with_all_rows (n ∷ m ∷ ns) = ap (λ ms. n ∷ ms) (with_all_rows (m ∷ ns))
 pub product-rows : (ns : List ℕ) → 1 ≤ length ns → product ns ≡ row_len ns * rows_of ns
 product-rows ns some = ap product (sym (with_all_rows ns)) ∙ product-with_rows (rows_of ns) ns some
 
-pub with_rows-twice : (a b : ℕ) (ns : List ℕ) → with_rows a (with_rows b ns) ≡ with_rows a ns
-with_rows-twice a b [] = refl
-with_rows-twice a b (n ∷ []) = refl
-with_rows-twice a b (n ∷ m ∷ []) = refl
-with_rows-twice a b (n ∷ m ∷ l ∷ ns) = ap (λ ms. n ∷ ms) (with_rows-twice a b (m ∷ l ∷ ns))
-
-pub row_len-with_rows : (b : ℕ) (ns : List ℕ) → row_len (with_rows b ns) ≡ row_len ns
-row_len-with_rows b [] = refl
-row_len-with_rows b (n ∷ []) = refl
-row_len-with_rows b (n ∷ m ∷ []) = refl
-row_len-with_rows b (n ∷ m ∷ l ∷ ns) = ap (λ k. n * k) (row_len-with_rows b (m ∷ l ∷ ns))
-
-pub rows_of-with_rows : (b : ℕ) (ns : List ℕ) → 1 ≤ length ns → rows_of (with_rows b ns) ≡ b
-rows_of-with_rows b [] some = absurd (omega arith)
-rows_of-with_rows b (n ∷ []) some = refl
-rows_of-with_rows b (n ∷ m ∷ []) some = refl
-rows_of-with_rows b (n ∷ m ∷ l ∷ ns) some = rows_of-with_rows b (m ∷ l ∷ ns) (omega arith)
-
 pub blocks-with_rows : (rows : ℕ) (ns : List ℕ) → 1 ≤ length ns → blocks (with_rows rows ns) ≡ first_block ns ((rows + 3) / 4)
 blocks-with_rows rows ns some =
     ap product (grid-with_rows rows ns) ∙ product-with_rows ((rows + 3) / 4) (grid ns) (omega (arith, length-map ns (λ n. (n + 3) / 4)))
 
 -- ---- positions
-
-pub length-rows_on : (r : ℕ) (ps : List ℕ) → length (rows_on r ps) ≡ length ps
-length-rows_on r [] = refl
-length-rows_on r (p ∷ []) = refl
-length-rows_on r (p ∷ q ∷ ps) = ap suc (length-rows_on r (q ∷ ps))
 
 -- numbers so many rows on
 pub coordinates-rows_on : (ns : List ℕ) (first rows i : ℕ) → 1 ≤ length ns → first + rows ≤ rows_of ns → i < product (with_rows rows ns)

@@ -7,8 +7,6 @@ pub mod laws;
 pub mod laws_of_slabs;
 mod layout;
 mod padding;
-#[cfg(test)]
-mod tests;
 
 pub use array_block::{gather_block, scatter_block};
 pub use copies::{gather, scatter};

@@ -3,10 +3,6 @@ use Rattle.std.proofs.Common.{◌≡◌, ℕ, ◌+◌, ◌-◌, ◌<◌, List, [
 use Rattle.std.proofs.lemmas.List.{take_more_set, drop-set-lt, drop-drop, drop-replicate, take-replicate, append_assoc, take-append-drop}
 use Rattle.std.proofs.Math.Seq.{take-add}
 
--- one element more
-pub take_next : {A : Type 0} (xs rest : List A) (x : A) (i : ℕ) → drop i xs ≡ x ∷ rest → take (i + 1) xs ≡ take i xs ++ x ∷ []
-take_next xs rest x i e = take-add i 1 xs ∙ ap (λ ys. take i xs ++ take 1 ys) e
-
 -- behind a place that is written
 pub behind_set : {A : Type 0} (xs : List A) (x z : A) (i k : ℕ) → drop i xs ≡ replicate (length xs - i) z → drop (i + k + 1) (set xs (i + k) x) ≡ replicate (length (set xs (i + k) x) - (i + k + 1)) z
 behind_set xs x z i k e =

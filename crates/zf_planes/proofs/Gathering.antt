@@ -55,32 +55,6 @@ small_behind len n a v small narrow =
 
 -- ---- the code of planes goes on behind bits that were put together
 
--- by two planes
-pub pair_joined : (prec k size a l v next l2 v2 j x : ℕ) (code ds es : List Bool) (all : List (List ℕ)) → k + 1 < prec → prec ≤ length all
-    → code ≡ field l v ++ code_from a (drop k (take prec (planes_held size all)))
-    → ds ≡ get_or (planes_held size all) k [] → es ≡ get_or (planes_held size all) (k + 1) []
-    → field l2 v2 ≡ plane_code a ds ++ plane_code (max a (reach ds)) es → next ≡ max (max a (reach ds)) (reach es) → field j x ≡ field l v ++ field l2 v2
-    → code ≡ field j x ++ code_from next (drop (k + 2) (take prec (planes_held size all)))
-pair_joined prec k size a l v next l2 v2 j x code ds es all below within is first second two reached joined =
-    let top = take prec (planes_held size all) in
-    let mid = max a (reach ds) in
-    let place : k + 1 + 1 ≡ k + 2 = omega arith in
-    let one : code_from a (drop k top) ≡ plane_code a ds ++ code_from mid (drop (k + 1) top) =
-    code_held a prec size k all (omega arith) within ∙ sym (ap (λ (xs : List Bool). plane_code a xs ++ code_from (max a (reach xs)) (drop (k + 1) top)) first) in
-    let other : code_from mid (drop (k + 1) top) ≡ plane_code mid es ++ code_from next (drop (k + 2) top) =
-    code_held mid prec size (k + 1) all below within
-    ∙ sym (ap (λ (xs : List Bool). plane_code mid xs ++ code_from (max mid (reach xs)) (drop (k + 1 + 1) top)) second)
-    ∙ ap (λ n. plane_code mid es ++ code_from n (drop (k + 1 + 1) top)) (sym reached)
-    ∙ ap (λ n. plane_code mid es ++ code_from next (drop n top)) place in
-    is
-    ∙ ap (λ (bs : List Bool). field l v ++ bs)
-    (one
-    ∙ ap (λ (bs : List Bool). plane_code a ds ++ bs) other
-    ∙ sym (append_assoc (plane_code a ds) (plane_code mid es) (code_from next (drop (k + 2) top)))
-    ∙ ap (λ (bs : List Bool). bs ++ code_from next (drop (k + 2) top)) (sym two))
-    ∙ sym (append_assoc (field l v) (field l2 v2) (code_from next (drop (k + 2) top)))
-    ∙ ap (λ (bs : List Bool). bs ++ code_from next (drop (k + 2) top)) (sym joined)
-
 -- the digits of a plane in one word
 pub held_word : (size w : ℕ) (ws : List ℕ) → w ≡ get_or ws 0 0 → size ≤ 64 → size ≤ 64 * length ws → digits_held size ws ≡ field size w
 unfolding digits_held
@@ -116,20 +90,3 @@ written size k digits ws ws' narrow enough some blank is small =
       digits = held_word size digits (set ws 0 digits) here narrow (omega (arith, length-set ws 0 digits, long));
       clear = subst Clear place (word_filled ws 0 0 size digits (field size digits) (omega arith) narrow (omega (arith, long)) zeros (length-field size digits) clear).1;
     })
-
--- several planes in one number, of which one more is put in
-pub fours-more : (k digits : ℕ) → fours (suc k) digits ≡ field 4 digits ∷ fours k (digits / 16)
-unfolding fours
-fours-more k digits = refl
-
-pub fours-none : (digits : ℕ) → fours 0 digits ≡ []
-unfolding fours
-fours-none digits = refl
-
-pub put_next : (planes : List (List ℕ)) (at k digits : ℕ) (ws : List ℕ) → at < length planes → digits_held 4 ws ≡ field 4 (digits % 16)
-    → take (at + 1) (planes_held 4 (set planes (length planes - 1 - at) ws)) ++ fours k (digits / 16) ≡ take at (planes_held 4 planes) ++ fours (suc k) digits
-put_next planes at k digits ws within is =
-    let front = take at (planes_held 4 planes) in
-    ap (λ (ps : List (List Bool)). ps ++ fours k (digits / 16)) (top_more 4 planes at ws within ∙ ap (λ (ds : List Bool). front ++ ds ∷ []) (is ∙ field-mod 4 digits))
-    ∙ append_assoc front (field 4 digits ∷ []) (fours k (digits / 16))
-    ∙ ap (λ (ps : List (List Bool)). front ++ ps) (sym (fours-more k digits))

@@ -20,19 +20,6 @@ Passes-start r budget needed = record { enough = omega arith; place = omega arit
 long : (r : Reader) → length (rest r) ≡ length r.all - r.at
 long r = length-drop r.at r.all
 
-pub Passes-bit : {old now new : Reader} {budget left more needed : ℕ} {bit : Bool} (less : ℕ) → Passes old now budget left more needed → more ≡ suc less → 0 < left → Reads now new (bit ∷ [])
-    → Passes old new budget (left - 1) less needed
-Passes-bit {old} {now} {new} {budget} {left} {more} {needed} {bit} less passes e some reads =
-    let same = ap length passes.all in
-    let one = ap length reads.next in
-    record {
-      enough = omega (arith, passes.enough, passes.place, passes.within, long old, long now);
-      place = omega (arith, passes.place, passes.within, reads.place);
-      all = reads.all ∙ passes.all;
-      within = omega (arith, passes.within);
-      sum = omega (arith, passes.sum, passes.within);
-    }
-
 pub Passes-part : {old now new : Reader} {budget left after count more needed : ℕ} (less : ℕ) → Passes old now budget left more needed → more ≡ count + less → Takes now new left after count
     → Passes old new budget after less needed
 Passes-part {old} {now} {new} {budget} {left} {after} {count} {more} {needed} less passes e takes =
@@ -53,10 +40,6 @@ Passes-end passes none = record {
   spent = omega (arith, passes.within, passes.sum);
 }
 
--- so far
-pub Passes-taken : {old now : Reader} {budget left more needed : ℕ} → Passes old now budget left more needed → Takes old now budget left (budget - left)
-Passes-taken passes = record { enough = passes.enough; place = passes.place; all = passes.all; spent = omega (arith, passes.within) }
-
 -- what is needed of a part is not there
 pub Passes-lacks : {old now new : Reader} {budget left count more needed : ℕ} → Passes old now budget left more needed → Lacks now new count → count ≤ more → Lacks old new needed
 Passes-lacks {old} {now} passes lacks part =
@@ -65,17 +48,6 @@ Passes-lacks {old} {now} passes lacks part =
       few = omega (arith, passes.enough, passes.place, passes.sum, lacks.few, long old, long now);
       all = lacks.all ∙ passes.all;
     }
-
--- the end is here, and a bit is needed
-pub Lacks-bit : {now new : Reader} → new ≡ now → rest now ≡ [] → Lacks now new 1
-Lacks-bit {now} {new} same none =
-    let empty = ap length none in
-    record { few = omega arith; all = ap (λ (r : Reader). r.all) same }
-
-pub Takes-bit : {now new : Reader} {left : ℕ} {bit : Bool} → 0 < left → Reads now new (bit ∷ []) → Takes now new left (left - 1) 1
-Takes-bit {now} {new} {left} {bit} some reads =
-    let one = ap length reads.next in
-    record { enough = omega arith; place = reads.place; all = reads.all; spent = omega arith }
 
 -- the bits that are left are those behind what was passed
 pub Passes-rest : {old now : Reader} {budget left more needed : ℕ} → Passes old now budget left more needed → rest now ≡ drop (budget - left) (rest old)
@@ -98,18 +70,6 @@ on_some (Some x) p next = next p
 pub Takes-rest : {old now : Reader} {before after count : ℕ} → Takes old now before after count → rest now ≡ drop count (rest old)
 Takes-rest {old} {now} {before} {after} {count} takes =
     ap (λ n. drop n now.all) takes.place ∙ ap (drop (old.at + count)) takes.all ∙ sym (drop-drop count old.at old.all)
-
-pub Takes-both : {old mid : Reader} {before between first : ℕ} (new : Reader) (second needed : ℕ) (answer : Option ℕ) → Takes old mid before between first → needed ≡ first + second
-    → IfSome answer (λ after. Takes mid new between after second) → IfSome answer (λ after. Takes old new before after needed)
-Takes-both {old} {mid} {before} new second needed None takes sum rest = tt
-Takes-both {old} {mid} {before} new second needed (Some after) takes sum rest =
-    let one = Passes-part second (Passes-start old before needed) sum takes in
-    Passes-end (Passes-part 0 one (omega arith) rest) refl
-
-pub Lacks-second : {old mid : Reader} {before between first : ℕ} (new : Reader) (second needed : ℕ) (answer : Option ℕ) → Takes old mid before between first → needed ≡ first + second
-    → IfNone answer (Lacks mid new second) → IfNone answer (Lacks old new needed)
-Lacks-second {old} {mid} {before} new second needed None takes sum rest = Passes-lacks (Passes-part second (Passes-start old before needed) sum takes) rest (omega arith)
-Lacks-second {old} {mid} {before} new second needed (Some after) takes sum rest = tt
 
 -- ---- at the end
 

@@ -110,22 +110,6 @@ AreRead-more words {start} {now} {new} {budget} {left} {prec} {size} {above} {i}
       within = omega arith;
     }
 
--- several planes, of which no one brings new ranks
-pub AreRead-same : {start now new : Reader} {budget left prec size above i : ℕ} {planes : List (List ℕ)} (after j : ℕ) (planes' : List (List ℕ)) → AreRead start now budget left prec size above i planes → j ≤ prec
-    → Takes now new left after (left - after)
-    → planes_bits left (prec - i) size above (rest now) ≡ left - after + planes_bits after (prec - j) size above (rest new)
-    → take i (planes_held size planes) ++ planes_ahead left (prec - i) size above (rest now) ≡ take j (planes_held size planes') ++ planes_ahead after (prec - j) size above (rest new)
-    → drop j (planes_held size planes') ≡ replicate (length planes' - j) (replicate size false) → All (IsClearFrom size) planes'
-    → AreRead start new budget after prec size above j planes'
-AreRead-same {start} {now} {new} {budget} {left} {prec} {size} {above} after j planes' before within taken bits digits back clear = record {
-  passes = Passes-part (planes_bits after (prec - j) size above (rest new)) before.passes bits taken;
-  digits = before.digits ∙ digits;
-  back = back;
-  clear = clear;
-  ranks = before.ranks;
-  within = within;
-}
-
 -- a plane whose bits are not there
 pub AreRead-lacks : {start now new : Reader} {budget left prec size above i : ℕ} {planes : List (List ℕ)} → AreRead start now budget left prec size above i planes → i < prec
     → Lacks now new (plane_bits left size above (rest now)) → Lacks start new (planes_bits budget prec size 0 (rest start))

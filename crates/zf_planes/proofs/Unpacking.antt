@@ -32,9 +32,6 @@ sizes-top_words prec size planes enough =
     subst P (sym (get_or-take prec (planes_held size planes) k d (omega arith) ∙ get_or-planes_held size planes k d (omega arith)))
     (length-digits_held size _ (enough (length planes - 1 - k) (omega arith)))
 
-pub sizes-top_held : (prec size : ℕ) (planes : List (List ℕ)) → size ≤ 256 → ((i : ℕ) → i < length planes → length (get_or planes i []) ≡ 4) → All (λ ds. length ds ≡ size) (take prec (planes_held size planes))
-sizes-top_held prec size planes small four = sizes-top_words prec size planes (λ i below. omega (arith, four i below))
-
 -- ---- planes of any type that has words
 
 -- each has as many words as the type says

@@ -19,10 +19,3 @@ pub use four_reading::read_four;
 pub use four_writing::write_four;
 pub use measuring::{code_len, planes_len, planes_used, planes_within, used_planes};
 pub use words::clear;
-
-#[cfg(test)]
-mod four_reading_tests;
-#[cfg(test)]
-mod four_tests;
-#[cfg(test)]
-mod tests;

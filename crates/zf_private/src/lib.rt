@@ -4,7 +4,5 @@
 pub mod laws;
 pub mod laws_of_scripts;
 mod private;
-#[cfg(test)]
-mod tests;
 
 pub use private::Private;

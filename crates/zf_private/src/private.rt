@@ -11,9 +11,8 @@ ghost use Rattle.zf_private.specs.Standing.{Own, block_at, place_at, state, IsOv
 
 use std::alloc::{AllocError, Global};
 use std::marker::Model;
-use zf_base::{Backing, Lane, Pos, Shape};
+use zf_base::{Backing, Lane, Pos, Shape, Stats};
 use zf_cache::Cache;
-use zf_script::Stats;
 
 /// A view of an array: a cache of its own over some of the array's blocks, those that it owns.
 ///

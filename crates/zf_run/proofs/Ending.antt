@@ -19,10 +19,12 @@ use Rattle.std.specs.Prelude.{count_by}
 use Rattle.zf_dev.specs.Sink.{Appends}
 use Rattle.zf_cache.specs.Kept.{Kept}
 use Rattle.zf_store.specs.Stored.{Stored}
-use Rattle.zf_run.specs.Steps.{is_refusal}
+use Rattle.zf_commands.specs.Steps.{is_refusal}
 use Rattle.zf_run.specs.Pairs.{pair_state, PairFits, two_setting_of}
-use Rattle.zf_run.specs.Sessions.{session, setting_of, session_of, kind, look_setting_of, look_start_of, stream_of}
-use Rattle.zf_run.specs.Ends.{AreWants, RunsTwo, FinishesTwo, StopsTwo, two_start_of, RunsAll, StopsAt, AllRun, HasStopped, Finishes, Stops, IsEnd, end_of, Runs, FinishesLook, StopsLook, Looks}
+use Rattle.zf_commands.specs.Sittings.{session}
+use Rattle.zf_run.specs.Sessions.{setting_of, session_of, kind, look_setting_of, look_start_of, stream_of}
+use Rattle.zf_commands.specs.Runs.{AreWants, RunsAll, StopsAt, AllRun, HasStopped}
+use Rattle.zf_run.specs.Ends.{RunsTwo, FinishesTwo, StopsTwo, two_start_of, Finishes, Stops, IsEnd, end_of, Runs, FinishesLook, StopsLook, Looks}
 
 -- an end says that all lines were run
 pub ends_all : (all : ℕ → Type 0) (stopped : Type 0) (n : ℕ) (end : RunEnd) → end ≡ end_of n → all n → IsEnd all stopped end

@@ -22,7 +22,7 @@ use Rattle.zf_array.specs.Standing.{Held, shape, state, format}
 use Rattle.zf_array.specs.Coded.{IsCoded, Frame, frame_of}
 use Rattle.zf_run.specs.Sessions.{setting_of, kind}
 use Rattle.zf_run.specs.Splits.{view_state, split_session, AreParts}
-use Rattle.zf_run.specs.Steps.{Does, HasWindow, wanted}
+use Rattle.zf_commands.specs.Steps.{Does, HasWindow, wanted}
 use Rattle.zf_run.proofs.Viewing as viewing
 
 -- what the clauses of a call say: view v becomes n; the codes were lent to s, and r is what the call leaves of the loan

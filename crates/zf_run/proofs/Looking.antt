@@ -9,7 +9,8 @@ use Rattle.zf_cached.specs.Steps.{touched, done}
 use Rattle.zf_cached.specs.Runs.{look_setting, only_reads}
 use Rattle.zf_const.specs.Standing as read
 use Rattle.zf_const.specs.Standing.{Held, shape, state, format}
-use Rattle.zf_run.specs.Sessions.{session, look_setting_of, stream_of}
+use Rattle.zf_commands.specs.Sittings.{session}
+use Rattle.zf_run.specs.Sessions.{look_setting_of, stream_of}
 
 -- the array after a touch has the same header and the same codes
 pub stream_after : (a : Held) (b : ℕ) → stream_of (read.touched a b) ≡ stream_of a

@@ -35,8 +35,8 @@ use Rattle.zf_twoway.specs.Placing.{skewed}
 use Rattle.zf_twoway.specs.Standing.{state_of}
 use Rattle.zf_twoway.specs.Runs.{twoway_setting}
 use Rattle.zf_twoway.proofs.Touches.{touch-left}
-use Rattle.zf_run.specs.Sessions.{session}
-use Rattle.zf_run.proofs.Passing.{map-replicate}
+use Rattle.zf_commands.specs.Sittings.{session}
+use Rattle.zf_commands.proofs.Passing.{map-replicate}
 use Rattle.zf_run.specs.Pairs.{pair_state, two_setting_of}
 
 module _ (w : Width) (d : ℕ) (s : Stored) (st : IsStore w d s) where

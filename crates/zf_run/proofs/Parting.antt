@@ -6,10 +6,10 @@ use Rattle.zf_cached.specs.Commands.{Command}
 use Rattle.zf_cached.specs.Steps.{Setting, Session, is_split, views_of, with_view, by_view, flushed_views, joined, needs_split, refuses_split, done}
 use Rattle.zf_private.specs.Standing as private
 use Rattle.zf_array.specs.Standing.{Held}
-use Rattle.zf_run.specs.Allowed.{is_on_whole, is_on_view}
+use Rattle.zf_commands.specs.Allowed.{is_on_whole, is_on_view}
 use Rattle.zf_run.specs.Splits.{lists, split_of}
-use Rattle.zf_run.specs.Steps.{Does, HasWindow}
-use Rattle.zf_run.proofs.Stepping.{accepted}
+use Rattle.zf_commands.specs.Steps.{Does, HasWindow}
+use Rattle.zf_commands.proofs.Stepping.{accepted}
 
 -- ---- which commands are whose
 

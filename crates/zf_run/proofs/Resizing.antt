@@ -1,5 +1,5 @@
 -- Shapes that an array may be resized to, and the array of another shape.
-use Rattle.std.proofs.Common.{◌≡◌, refl, sym, ap, subst, ◌∙◌, ℕ, ◌+◌, ◌*◌, ◌<◌, ◌≤◌, Bool, true, false, not, ◌&&◌, eqb, eq-eqb, ne_eqb, leb, List, length, replicate, None, is_none, arith}
+use Rattle.std.proofs.Common.{◌≡◌, refl, sym, ap, subst, ◌∙◌, ℕ, ◌+◌, ◌*◌, ◌<◌, ◌≤◌, Bool, true, false, not, ◌&&◌, eqb, eq-eqb, ne_eqb, List, length, replicate, None, is_none, arith}
 use Rattle.std.proofs.Math.Bool.{and-false}
 use Rattle.std.proofs.lemmas.Bool.{and_from, le-leb, lt-leb}
 use Rattle.std.specs.Int.{Width, div_ceil}
@@ -19,8 +19,8 @@ use Rattle.zf_cached.specs.Steps.{Setting, Session, is_new_shape, done}
 use Rattle.zf_cached.specs.Runs.{array_setting}
 use Rattle.zf_array.specs.Standing.{Held, shape, state, format}
 use Rattle.zf_run.specs.Sessions.{setting_of, session_of, start_of, kind, IsArray}
-use Rattle.zf_run.specs.Steps.{Does}
-use Rattle.zf_run.proofs.Stepping.{accepted}
+use Rattle.zf_commands.specs.Steps.{Does}
+use Rattle.zf_commands.proofs.Stepping.{accepted}
 
 module _ {Code : Type 0} (setting : Setting Code) (s : Session Code) (ns : List ℕ) where
   pub not_as_many : (length ns ≡ length s.shape → ⊥) → is_new_shape setting s ns ≡ false

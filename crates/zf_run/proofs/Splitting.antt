@@ -1,5 +1,5 @@
 -- An array that is split into views, and the end of a split.
-use Rattle.std.proofs.Common.{◌≡◌, refl, sym, ap, subst, ◌∙◌, ◌⊎◌, inl, inr, ℕ, zero, suc, ◌+◌, ◌*◌, ◌^◌, ◌<◌, ◌≤◌, ◌%◌, ◌==◌, ℤ, Bool, true, false, not, List, [], ◌∷◌, ◌++◌, map, length, length-append, get_or, replicate, add-mul, mul-le-mul, div-mul-le_self, Some, None, if◌then◌else◌, arith}
+use Rattle.std.proofs.Common.{◌≡◌, refl, sym, ap, subst, ◌∙◌, ◌⊎◌, inl, inr, ℕ, zero, suc, ◌+◌, ◌*◌, ◌^◌, ◌<◌, ◌≤◌, ◌%◌, ◌==◌, ℤ, Bool, true, false, not, List, [], ◌∷◌, ◌++◌, map, length, length-append, get_or, replicate, add-mul, div-mul-le_self, Some, None, if◌then◌else◌, arith}
 use Rattle.std.specs.Int.{Width}
 use Rattle.std.proofs.Math.Path.{fun_ext}
 use Rattle.std.proofs.lemmas.Bool.{and_from, ne_eqb, cases_lt}
@@ -36,10 +36,10 @@ use Rattle.zf_private.proofs.Parts.{rising}
 use Rattle.zf_array.specs.Standing.{Held, shape, state, format}
 use Rattle.zf_array.specs.Coded.{IsCoded}
 use Rattle.zf_run.specs.Sessions.{setting_of, session_of, kind}
-use Rattle.zf_run.specs.Steps.{Does, HasWindow}
+use Rattle.zf_commands.specs.Steps.{Does, HasWindow}
 use Rattle.zf_run.specs.Splits.{owns_block, view_state, view_of, views_seen, split_session, IsPart, AreParts, IsNewPart, AreNewParts}
 use Rattle.zf_run.proofs.Sessions.{format_is}
-use Rattle.zf_run.proofs.Stepping.{accepted}
+use Rattle.zf_commands.proofs.Stepping.{accepted}
 use Rattle.zf_run.proofs.Viewing.{is_owner_is, seen_at}
 
 -- an item of a list
@@ -58,13 +58,6 @@ module _ (count n i : ℕ) (some : 0 < n) (enough : n ≤ count) (lt : i < n) wh
 
   pub next_inside : first_of count n (i + 1) ≤ count
   next_inside = subst (λ m. first_of count n (i + 1) ≤ m) (first_of-last count n some) (rising count n some (i + 1) n (omega (arith, lt)))
-
--- a number of blocks before a view is far from the end of its type
-pub few_before : (i n count most : ℕ) → i ≤ n → n ≤ 16 → count ≤ most → i * count ≤ 16 * most
-few_before i n count most le few below = mul-le-mul (omega (arith, le, few)) below
-
-pub none_made : {X : Type 0} (d : ℕ) (ns : List ℕ) (n lines : ℕ) → AreNewParts {X = X} d ns n lines 0 []
-none_made d ns n lines = record { many = refl; each = λ i v lt at. absurd (omega arith) }
 
 pub one_made : {X : Type 0} (d : ℕ) (ns : List ℕ) (n lines k : ℕ) (views : List (private.Held X)) (x : private.Held X) → AreNewParts d ns n lines k views → IsNewPart d ns n lines k x
     → AreNewParts d ns n lines (k + 1) (views ++ x ∷ [])

@@ -37,9 +37,9 @@ use Rattle.zf_array.specs.Standing.{Held, shape, state, format}
 use Rattle.zf_array.specs.Coded.{IsCoded}
 use Rattle.zf_run.specs.Sessions.{setting_of}
 use Rattle.zf_run.specs.Splits.{owns_block, view_state, view_of, views_seen, split_session, IsPart, AreParts}
-use Rattle.zf_run.specs.Steps.{Does, HasWindow, wanted}
+use Rattle.zf_commands.specs.Steps.{Does, HasWindow, wanted}
 use Rattle.zf_run.proofs.Sessions.{format_is}
-use Rattle.zf_run.proofs.Stepping.{accepted}
+use Rattle.zf_commands.proofs.Stepping.{accepted}
 
 -- ---- which blocks a view owns
 

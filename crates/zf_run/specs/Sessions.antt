@@ -1,5 +1,5 @@
 -- An array and a window as what a script works on.
-use Rattle.std.specs.Prelude.{ℕ, ◌≡◌, Bool, List, length, Option, None}
+use Rattle.std.specs.Prelude.{ℕ, ◌≡◌, Bool, List, length}
 use Rattle.std.specs.Int.{Width}
 use Rattle.zf_spec.specs.Grid.{IsShape}
 use Rattle.zf_base.specs.Widths.{width_of}
@@ -7,23 +7,14 @@ use Rattle.zf_base.specs.declared.lane.Ty.{Ty}
 use Rattle.zf_header.specs.declared.header.Header.{Header}
 use Rattle.zf_header.specs.declared.header.Mode.{Mode}
 use Rattle.zf_header.specs.HeaderBits.{block_bits}
-use Rattle.zf_cached.specs.State.{State}
 use Rattle.zf_cached.specs.Windows.{Window, whole}
-use Rattle.zf_cached.specs.Views.{View}
 use Rattle.zf_cached.specs.Steps.{Setting, Session}
 use Rattle.zf_cached.specs.Replies.{Reply}
 use Rattle.zf_cached.specs.Runs.{run, look_setting, look}
 use Rattle.zf_cached.specs.Runs.{array_setting}
+use Rattle.zf_commands.specs.Sittings.{session}
 use Rattle.zf_array.specs.Standing.{Held, shape, state}
 use Rattle.zf_const.specs.Standing as read
-
--- an array with these sizes and this state, whole or split into views, seen through a window
-abbrev pub sitting : {Code : Type 0} → List ℕ → State Code → Option (List View) → Window → Session Code
-sitting ns s split window = record { shape = ns; state = s; window = window; split = split }
-
--- a whole one
-abbrev pub session : {Code : Type 0} → List ℕ → State Code → Window → Session Code
-session ns s window = sitting ns s None window
 
 -- ---- an array that is read and written
 

@@ -13,7 +13,7 @@ use Rattle.zf_private.specs.Standing as private
 use Rattle.zf_private.specs.Several.{IsReady}
 use Rattle.zf_array.specs.Standing.{Held, shape, state, format}
 use Rattle.zf_array.specs.Coded.{IsCoded}
-use Rattle.zf_run.specs.Sessions.{sitting}
+use Rattle.zf_commands.specs.Sittings.{sitting}
 
 -- the lists that vectors are seen as
 abbrev pub lists : {X Z : Type 0} → Option (Vec X Z) → Option (List X)

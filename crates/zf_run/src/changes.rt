@@ -1,64 +1,71 @@
-//! Commands on the cache, the shape and the counts.
+//! Changes of an array that need the array itself: of a window, of a block, and of its shape.
 
-ghost use Rattle.std.specs.Prelude.{◌≡◌, true, false, length, IfSome, IfNone};
-ghost use Rattle.zf_base.specs.Positions.{used_axes};
+ghost use Rattle.std.specs.Prelude.{◌≡◌, true, false, ◌<◌, ◌^◌, replicate, length, IfSome, IfNone};
+ghost use Rattle.zf_spec.specs.Grid.{blocks};
+ghost use Rattle.zf_base.specs.Formats.{existing_of};
+ghost use Rattle.zf_base.specs.Positions.{used_axes, with_unused};
 ghost use Rattle.zf_header.specs.HeaderBits.{block_bits};
 ghost use Rattle.zf_cached.specs.Commands.{Command};
-ghost use Rattle.zf_cached.specs.Windows.{LiesIn};
-ghost use Rattle.zf_cached.specs.Steps.{is_new_shape};
-ghost use Rattle.zf_array.specs.Standing.{shape};
-ghost use Rattle.zf_run.specs.Sessions.{session, setting_of, session_of, start_of, kind, IsArray};
-ghost use Rattle.zf_run.specs.Steps.{Does, DoesAlone, answer};
+ghost use Rattle.zf_cached.specs.Windows.{LiesIn, Window as Part};
+ghost use Rattle.zf_cached.specs.Steps.{is_new_shape, touched, changed, total};
+ghost use Rattle.zf_array.specs.Standing.{shape, state, format};
+ghost use Rattle.zf_commands.specs.Sums.{IsUpTo};
+ghost use Rattle.zf_commands.specs.Steps.{Does, answer};
+ghost use Rattle.zf_run.specs.Sessions.{setting_of, session_of, start_of, kind, IsArray};
 
-use crate::commands::Answer;
-use crate::target::{Changing, Target};
 use zf_array::Array;
 use zf_base::{Lane, Pos, Shape};
+use zf_commands::{Answer, fill_line, of_type, sum_within};
 use zf_header::{Header, MAX_FILE, Mode, rate_bytes};
-use zf_script::{Refusal, Reply};
+use zf_script::Refusal;
 use zf_view::Window;
 
-// The most lines of a cache.
-const MAX_LINES: u64 = 65536;
-
-/// `flush`: writes back what is dirty, and empties the cache.
-pub(crate) fn flush<T: Lane, A: Changing<T>>(a: &mut A) -> Answer
-    requires { A.sound a.old }
-    ensures does { DoesAlone (A.setting (A.kept a.old)) Command.flush
-        (session (A.shape a.old) (A.state a.old)) (session (A.shape a.new) (A.state a.new)) (answer result) }
-    ensures sound { A.sound a.new }
-    ensures kept { A.kept a.new ≡ A.kept a.old }
+/// `vset P v`: makes the value at a position of the window be `v`.
+pub(crate) fn vset<T: Lane, const D: usize>(
+    a: &mut Array<T, D>,
+    window: &Window,
+    p: Pos,
+    v: i128,
+) -> Answer
+    requires array { IsArray T.width D a.old }
+    requires inside { LiesIn (shape a.old) window.now }
+    requires unused { p ≡ with_unused 0 (used_axes (length (shape a.old)) p) }
+    ensures does { Does (setting_of T.width a.old) (Command.vset (used_axes (length (shape a.old)) p) v)
+        (session_of a.old window.now) (session_of a.new window.now) (answer result) }
+    ensures kept { kind a.new ≡ kind a.old }
 {
-    a.flush_all();
+    if !window.contains(p) {
+        return Err(Refusal::Range);
+    }
+    let Some(v) = of_type(v) else {
+        return Err(Refusal::Value);
+    };
+    a.set(window.map(p), v);
     Ok(None)
 }
 
-/// `discard`: empties the cache, and writes nothing back.
-pub(crate) fn discard<T: Lane, A: Changing<T>>(a: &mut A) -> Answer
-    requires { A.sound a.old }
-    ensures does { DoesAlone (A.setting (A.kept a.old)) Command.discard
-        (session (A.shape a.old) (A.state a.old)) (session (A.shape a.new) (A.state a.new)) (answer result) }
-    ensures sound { A.sound a.new }
-    ensures kept { A.kept a.new ≡ A.kept a.old }
+/// Makes all values of block `b` be `v`, by one touch for writing.
+pub(crate) fn fill_block<T: Lane, const D: usize>(a: &mut Array<T, D>, b: u64, v: T)
+    requires array { IsArray T.width D a.old }
+    requires block { b < blocks (shape a.old) }
+    ensures filled { (u : Part) → session_of a.new u ≡ changed (setting_of T.width a.old) (session_of a.old u) b
+        (λ values. existing_of (format a.old) b (replicate (format a.old).block_len (T.value v))) }
+    ensures header { a.new.header ≡ a.old.header }
 {
-    a.discard_all();
-    Ok(None)
+    fill_line(a.block_mut(b), v);
 }
 
-/// `lines L`: another number of lines of the cache.
-pub(crate) fn lines<A: Target>(a: &mut A, count: u64) -> Answer
-    requires sound { A.sound a.old }
-    ensures does { DoesAlone (A.setting (A.kept a.old)) (Command.lines count) (session (A.shape a.old) (A.state a.old)) (session (A.shape a.new) (A.state a.new)) (answer result) }
-    ensures sound { A.sound a.new }
-    ensures kept { A.kept a.new ≡ A.kept a.old }
+/// The sum of the values of block `b` as a touch finds them.
+pub(crate) fn sum_block<T: Lane, const D: usize>(a: &mut Array<T, D>, b: u64) -> i128
+    requires array { IsArray T.width D a.old }
+    requires block { b < blocks (shape a.old) }
+    ensures touched { (u : Part) → session_of a.new u ≡ touched (setting_of T.width a.old) (session_of a.old u) b }
+    ensures sum { result ≡ total ((state a.new).values b) }
+    ensures bound { IsUpTo (2 ^ 71) result }
+    ensures header { a.new.header ≡ a.old.header }
 {
-    if count == 0 || count > MAX_LINES {
-        return Err(Refusal::Size);
-    }
-    match a.use_lines(count as u32) {
-        Ok(()) => Ok(None),
-        Err(_) => Err(Refusal::Memory),
-    }
+    let size = a.shape().extent(b).size;
+    sum_within(a.block(b), &size)
 }
 
 /// `resize S`: zeros of another shape; the window is the whole array.
@@ -110,14 +117,4 @@ fn new_shape<T: Lane, const D: usize>(a: &Array<T, D>, count: u8, sizes: Pos) ->
         return None;
     }
     Some(shape)
-}
-
-/// `stats`: the counts of the cache.
-pub(crate) fn stats<A: Target>(a: &mut A) -> Answer
-    requires sound { A.sound a.old }
-    ensures does { DoesAlone (A.setting (A.kept a.old)) Command.stats (session (A.shape a.old) (A.state a.old)) (session (A.shape a.new) (A.state a.new)) (answer result) }
-    ensures sound { A.sound a.new }
-    ensures kept { A.kept a.new ≡ A.kept a.old }
-{
-    Ok(Some(Reply::Counts(a.counts())))
 }

@@ -6,63 +6,73 @@ ghost use Rattle.zf_header.specs.declared.header.Header.{Header};
 ghost use Rattle.zf_cached.specs.Windows.{Window as Part};
 ghost use Rattle.zf_cached.specs.Steps.{total};
 ghost use Rattle.zf_const.specs.Standing as read;
-ghost use Rattle.zf_run.specs.Sessions.{session, look_setting_of, stream_of};
-ghost use Rattle.zf_run.specs.Sums.{IsUpTo};
-ghost use Rattle.zf_run.specs.Steps.{Touches};
+ghost use Rattle.zf_commands.specs.Sittings.{session};
+ghost use Rattle.zf_run.specs.Sessions.{look_setting_of, stream_of};
+ghost use Rattle.zf_commands.specs.Sums.{IsUpTo};
+ghost use Rattle.zf_commands.specs.Steps.{Touches};
 
-use crate::blocks::sum_within;
-use crate::commands::{is_reading, read, spoken};
-use crate::target::{Scripted, Subject, Target};
 use std::alloc::AllocError;
 use zf_base::{Lane, Pos, Shape};
+use zf_commands::{Scripted, Subject, Target, is_reading, read, spoken, sum_within};
 use zf_const::ConstArray;
 use zf_script::{Cmd, Refusal, Reply, Stats};
 use zf_view::Window;
 
-impl<T: Lane, const D: usize> Subject for ConstArray<T, D> {
+/// An array that is only read, as what the lines of a script work on.
+#[derive(Drop)]
+pub(crate) struct Looked<'a, T: Lane, const D: usize> {
+    pub(crate) array: &'a mut ConstArray<T, D>,
+}
+
+impl<'a, T: Lane, const D: usize> Subject for Looked<'a, T, D> {
+    ghost use base.Fml.{GName};
+
     ghost Code = { List Bool };
 
-    ghost Kept = { Header × List (List Bool) };
+    ghost Kept = { (Header × List (List Bool)) × GName };
 
-    ghost kept = { stream_of };
+    ghost kept = { λ a. (stream_of a.array.now, a.array.ghost_name) };
 
-    ghost setting = { λ k. look_setting_of T.width k.0 };
+    ghost setting = { λ k. look_setting_of T.width k.0.0 };
 
-    ghost shape = { read.shape };
+    ghost shape = { λ a. read.shape a.array.now };
 
-    ghost state = { read.state };
+    ghost state = { λ a. read.state a.array.now };
 
     ghost sound = { λ a. Unit {0} };
 
     fn sizes(&self) -> Shape {
-        self.shape()
+        self.array.shape()
     }
 }
 
-impl<T: Lane, const D: usize> Target for ConstArray<T, D> {
+impl<'a, T: Lane, const D: usize> Target for Looked<'a, T, D> {
     fn number(&mut self, p: Pos) -> i128 {
-        self.get(p).to_wide()
+        let array = &mut *self.array;
+        array.get(p).to_wide()
     }
 
     fn sum_of_block(&mut self, b: u64) -> i128 {
-        let shape = self.shape();
+        let array = &mut *self.array;
+        let shape = array.shape();
         // Known by this call: the sizes are those of a shape.
         let _dims = shape.dims();
         let size = shape.extent(b).size;
-        sum_within(self.block(b), &size)
+        sum_within(array.block(b), &size)
     }
 
     fn use_lines(&mut self, count: u32) -> Result<(), AllocError> {
-        self.set_lines(count)?;
+        let array = &mut *self.array;
+        array.set_lines(count)?;
         Ok(())
     }
 
     fn counts(&self) -> Stats {
-        self.stats()
+        self.array.stats()
     }
 }
 
-impl<T: Lane, const D: usize> Scripted for ConstArray<T, D> {
+impl<'a, T: Lane, const D: usize> Scripted for Looked<'a, T, D> {
     ghost split = { λ a. None };
 
     fn obey(&mut self, window: &mut Window, cmd: Cmd) -> Option<Reply> {
@@ -70,7 +80,7 @@ impl<T: Lane, const D: usize> Scripted for ConstArray<T, D> {
             return Some(Reply::Refused(Refusal::Word));
         }
         // Known by this call: the sizes are those of a shape.
-        let _dims = self.shape().dims();
+        let _dims = self.sizes().dims();
         match read(self, window, cmd) {
             Some(done) => spoken(done),
             None => unreachable!(),

@@ -4,9 +4,10 @@ ghost use Rattle.std.specs.Prelude.{◌≡◌, ◌≢◌};
 ghost use Rattle.zf_dev.specs.Faults.{HasCause};
 ghost use Rattle.zf_run.specs.Ends.{Looks};
 
+use crate::const_arrays::Looked;
 use crate::end::{RunEnd, end_of};
-use crate::runs::run_lines;
 use zf_base::Lane;
+use zf_commands::run_lines;
 use zf_const::ConstArray;
 use zf_dev::Sink;
 use zf_view::Window;
@@ -25,7 +26,8 @@ pub fn look<T: Lane, const D: usize, O: Sink>(
     ensures cause { HasCause (result ≡ RunEnd.Write) (O.faults out.old) (O.faults out.new) }
 {
     let mut window = Window::whole(&a.shape());
-    match run_lines(a, &mut window, script, out) {
+    let mut looked = Looked { array: a };
+    match run_lines(&mut looked, &mut window, script, out) {
         Ok(refused) => end_of(refused),
         Err(_) => RunEnd::Write,
     }

@@ -15,17 +15,16 @@ ghost use Rattle.zf_array.specs.Standing as standing;
 ghost use Rattle.zf_array.specs.Coded.{HasEmptyLines, IsCoded};
 ghost use Rattle.zf_script.specs.Seen.{command_of, cmd_of};
 ghost use Rattle.zf_run.specs.Sessions.{session_of, setting_of, kind};
-ghost use Rattle.zf_run.specs.Steps.{Does, DoesAlone, HasWindow, answer};
+ghost use Rattle.zf_commands.specs.Steps.{Does, DoesAlone, HasWindow, answer};
 ghost use Rattle.zf_run.specs.Splits.{lists, split_of, parted_session, FitTogether, AreNewParts};
 
-use crate::arrays::on_array;
-use crate::commands::{Answer, needs_split, spoken};
-use crate::target::{Scripted, Subject};
+use crate::arrays::{Whole, on_array};
 use crate::views::{flush_views, on_view};
 use std::alloc::{AllocError, Global};
 use zf_array::{Array, Codes};
 use zf_base::{Lane, Shape};
 use zf_cache::raised;
+use zf_commands::{Answer, Scripted, Subject, needs_split, spoken};
 use zf_private::Private;
 use zf_script::{Cmd, Refusal, Reply};
 use zf_view::Window;
@@ -122,7 +121,7 @@ impl<'a, T: Lane, const D: usize> Parted<'a, T, D> {
         let array = &mut *self.array;
         // Known by this call: the sizes are those of a shape.
         let _dims = array.shape().dims();
-        on_array(array, window, cmd)
+        on_array(&mut Whole { array }, window, cmd)
     }
 
     // What a command does while the array is split: it ends the split, or is on a view.

@@ -7,9 +7,8 @@ ghost use Rattle.zf_run.specs.Ends.{RunsTwo};
 
 use crate::end::{RunEnd, end_of};
 use crate::pairs::Pair;
-use crate::runs::run_lines;
-use crate::target::Changing;
 use zf_base::Lane;
+use zf_commands::{Changing, run_lines};
 use zf_dev::Sink;
 use zf_store::Store;
 use zf_twoway::TwoWay;

@@ -8,15 +8,14 @@ ghost use Rattle.zf_cached.specs.Windows.{Window as Part};
 ghost use Rattle.zf_cached.specs.Steps.{by_view, flushed_views, view_has};
 ghost use Rattle.zf_script.specs.Seen.{command_of, cmd_of};
 ghost use Rattle.zf_array.specs.Standing.{shape};
-ghost use Rattle.zf_run.specs.Allowed.{is_on_view};
+ghost use Rattle.zf_commands.specs.Allowed.{is_on_view};
 ghost use Rattle.zf_run.specs.Sessions.{setting_of, kind};
-ghost use Rattle.zf_run.specs.Steps.{DoesAlone, answer};
+ghost use Rattle.zf_commands.specs.Steps.{DoesAlone, answer};
 ghost use Rattle.zf_run.specs.Splits.{split_session, AreParts};
 
-use crate::commands::Answer;
-use crate::values::of_type;
 use zf_array::{Array, Codes};
 use zf_base::{Lane, Pos};
+use zf_commands::{Answer, of_type};
 use zf_private::Private;
 use zf_script::{Cmd, Refusal, Reply};
 

@@ -12,8 +12,8 @@ use Rattle.zf_base.specs.Widths.{width_of}
 use Rattle.zf_header.specs.declared.header.Header.{Header}
 use Rattle.zf_header.specs.declared.header.Mode.TheVariants.{Reversible}
 use Rattle.zf_header.specs.HeaderBits.{IsHeader}
-use Rattle.zf_stream.specs.Raw.{raw_len}
-use Rattle.zf_stream.proofs.StreamsBack.{text-reversible_text}
+use Rattle.zf_parse.specs.Raw.{raw_len}
+use Rattle.zf_parse.proofs.StreamsBack.{text-reversible_text}
 use Rattle.zf_sample.specs.Made.{generator, words, value_of_word, made_values}
 use Rattle.zf_sample.specs.Summaries.{changes, made_bytes, summary_of}
 

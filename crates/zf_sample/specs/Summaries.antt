@@ -5,8 +5,8 @@ use Rattle.std.specs.Str.{bytes_eq}
 use Rattle.zf_spec.specs.Grid.{product, blocks}
 use Rattle.zf_base.specs.Widths.{width_of}
 use Rattle.zf_header.specs.declared.header.Header.{Header}
-use Rattle.zf_stream.specs.Raw.{raw_bytes, stream_text}
-use Rattle.zf_stream.specs.Parsing.{restored_text}
+use Rattle.zf_parse.specs.Raw.{raw_bytes, stream_text}
+use Rattle.zf_parse.specs.Parsing.{restored_text}
 use Rattle.zf_sample.specs.declared.summary.Summary.{Summary}
 use Rattle.zf_sample.specs.Made.{made_values}
 

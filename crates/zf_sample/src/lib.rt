@@ -7,6 +7,3 @@ mod summary;
 mod values;
 
 pub use summary::{Summary, sample};
-
-#[cfg(test)]
-mod tests;

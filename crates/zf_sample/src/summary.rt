@@ -4,8 +4,8 @@ ghost use Rattle.std.specs.Prelude.{◌≡◌, IfOk};
 ghost use Rattle.std.specs.Int.{byte_len};
 ghost use Rattle.zf_base.specs.Widths.{width_of};
 ghost use Rattle.zf_header.specs.HeaderBits.{IsMode};
-ghost use Rattle.zf_stream.specs.Raw.{stream_text};
-ghost use Rattle.zf_stream.specs.Parsing.{restored_text};
+ghost use Rattle.zf_parse.specs.Raw.{stream_text};
+ghost use Rattle.zf_parse.specs.Parsing.{restored_text};
 ghost use Rattle.zf_sample.specs.Summaries.{made_bytes, summary_of};
 
 use crate::changes::count_changes;

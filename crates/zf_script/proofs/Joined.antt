@@ -121,16 +121,6 @@ count_same d byte unused word count p ns no_digit some most sizes ok is =
     let two = parts_are byte word ns no_digit sized is in
     omega (arith, ap length one, ap length two, length-map ns decimal, length-map (used_axes count p) decimal, sizes.count_is, (axes-parts d ns ok).0)
 
--- where they are as many as the axes they are one for each
-pub axes_word : (d byte unused : ℕ) (word : List ℕ) (count : ℕ) (p : Pos) → count ≡ d → IsSizesWord byte unused word count p → IsAxesWord d byte unused word p
-axes_word d byte unused word count p same sizes =
-    let is : IsSizesWord byte unused word d p = subst (λ k. IsSizesWord byte unused word k p) same sizes in
-    record {
-      numbers = and_from (length (used_axes d p) == d) (list_all is_number (used_axes d p)) (eq-eqb (length (used_axes d p)) d is.count_is) (sizes-parts (used_axes d p) is.numbers).2;
-      text = is.text;
-      others = is.others;
-    }
-
 -- a fifth part is one too many
 pub fifth_part : (byte : ℕ) (word ns : List ℕ) (front rest : List (List ℕ)) → IsNoDigit byte → cut_at byte word ≡ front ++ rest → length front ≡ 4 → 1 ≤ length rest → has_sizes ns ≡ true → word ≡ numbers_text byte ns → ⊥
 fifth_part byte word ns front rest no_digit cut four some ok is =

@@ -20,8 +20,3 @@ minus_none digits (negsuc n) small none same =
 -- zero is no other number
 pub zero_only : (digits : List ℕ) (n : ℕ) → digits ≡ decimal 0 → 0 < n → n < 2 ^ 64 → digits ≢ decimal n
 zero_only digits n zero_is some small is = omega (arith, decimal_injective 0 n (omega arith) small (sym zero_is ∙ is))
-
--- a word without a minus is no value where it is no number
-pub plain_none : (word : List ℕ) (v : ℤ) → IsTrue (is_value v) → get_or word 0 0 ≢ 45 → ((n : ℕ) → n < 2 ^ 64 → word ≢ decimal n) → word ≡ signed_decimal v → ⊥
-plain_none word (pos n) small no_minus none same = none n (ltb-true n _ small) same
-plain_none word (negsuc n) small no_minus none same = no_minus (ap (λ bs. get_or bs 0 0) same)

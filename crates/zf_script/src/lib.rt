@@ -12,8 +12,6 @@ mod words;
 
 pub use command::Cmd;
 pub use parse::parse_line;
-pub use reply::{Refusal, Reply, Stats};
+pub use reply::{Refusal, Reply};
 pub use text::reply_text;
-
-#[cfg(test)]
-mod tests;
+pub use zf_base::Stats;

@@ -1,5 +1,7 @@
 //! What is answered to a line of a script.
 
+use zf_base::Stats;
+
 /// Why a line is refused.
 #[derive(Clone, Copy, Debug, PartialEq, Eq)]
 pub enum Refusal {
@@ -15,17 +17,6 @@ pub enum Refusal {
     Value,
     /// Memory was wanted.
     Memory,
-}
-
-/// The counts of a cache. One that has come to 2^64 - 1 stays there.
-#[derive(Clone, Copy, Debug, Default, PartialEq, Eq)]
-pub struct Stats {
-    /// Touches of a block that was in its line.
-    pub hits: u64,
-    /// Touches of a block that was not.
-    pub misses: u64,
-    /// Write-backs.
-    pub writes: u64,
 }
 
 /// What a line answers.

@@ -4,8 +4,9 @@ ghost use Rattle.std.specs.Prelude.{◌≡◌, ◌+◌, ◌≤◌, ◌++◌, len
 ghost use Rattle.zf_cached.specs.Replies.{counts_text, refusal_word, reply_text};
 ghost use Rattle.zf_script.specs.Seen.{refusal_of, reply_of};
 
-use crate::reply::{Refusal, Reply, Stats};
+use crate::reply::{Refusal, Reply};
 use itoa::Buffer;
+use zf_base::Stats;
 
 /// The line of a reply, with its line feed. None is longer than 128 bytes.
 pub fn reply_text<'a>(r: &Reply, buf: &'a mut [u8; 128]) -> &'a [u8]

@@ -63,9 +63,6 @@ fill_whole bs = omega (arith, length-fill bs)
 pub fill_short : (bs : List Bool) → length (fill bs) < 64
 fill_short bs = omega (arith, length-fill bs)
 
-pub fill_none : (bs : List Bool) → length bs % 64 ≡ 0 → fill bs ≡ []
-fill_none bs h = let none : (64 - length bs % 64) % 64 ≡ 0 = omega arith in rw none refl
-
 pub length-with_fill : (bs : List Bool) → length (with_fill bs) % 64 ≡ 0
 length-with_fill bs = omega (arith, length-append bs (replicate ((64 - length bs % 64) % 64) false), length-replicate ((64 - length bs % 64) % 64) false)
 
@@ -165,10 +162,6 @@ low_number_below (b ∷ bs) all =
 byte_at-is : (i n : ℕ) → byte_at i n ≡ n / 256 ^ i % 256
 byte_at-is zero n = ap (λ m. m % 256) (sym (div-one n))
 byte_at-is (suc i) n = refl
-
-byte_worth-is : (i b : ℕ) → byte_worth i b ≡ b * 256 ^ i
-byte_worth-is zero b = omega arith
-byte_worth-is (suc i) b = refl
 
 bytes_low_first-is : (i k n : ℕ) → bytes_low_first i k n ≡ low_bytes k (n / 256 ^ i)
 unfolding low_bytes

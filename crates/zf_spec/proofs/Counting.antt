@@ -13,6 +13,13 @@ count_from-range k (suc n) = ap (λ ks. k ∷ ks) (count_from-range (suc k) n �
 pub length-count_from : (k n : ℕ) → length (count_from k n) ≡ n
 length-count_from k n = ap length (count_from-range k n) ∙ length-range_with_len k n
 
+-- the numbers from k on begin with k
+pub count_from-below : (k n : ℕ) → k < n → count_from k (n - k) ≡ k ∷ count_from (k + 1) (n - (k + 1))
+count_from-below k n below =
+    let left : n - k ≡ suc (n - (k + 1)) = omega arith in
+    let next : suc k ≡ k + 1 = omega arith in
+    ap (count_from k) left ∙ ap (λ i. k ∷ count_from i (n - (k + 1))) next
+
 pub get_or-count_from : (k n i d : ℕ) → i < n → get_or (count_from k n) i d ≡ k + i
 get_or-count_from k n i d h = ap (λ ks. get_or ks i d) (count_from-range k n) ∙ get_or-range_with_len k n i d h
 

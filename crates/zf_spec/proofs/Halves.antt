@@ -44,36 +44,3 @@ floor_half_only v h below above = digit_below (is_odd_int v) (half_split v)
     digit_below : (b : Bool) → v ≡ pos (digit_value b) +ℤ pos 2 *ℤ floor_half v → h ≡ floor_half v
     digit_below true e = omega (arith, ints, e)
     digit_below false e = omega (arith, ints, e)
-
--- a digit is read back from the number that it begins
-pub is_odd_int-digit : (d : Bool) (h : ℤ) → is_odd_int (pos (digit_value d) +ℤ pos 2 *ℤ h) ≡ d
-is_odd_int-digit d h = by d (is_odd_int v) (half_split v)
-  where
-    v : ℤ
-    v = pos (digit_value d) +ℤ pos 2 *ℤ h
-
-    by : (d t : Bool) → pos (digit_value d) +ℤ pos 2 *ℤ h ≡ pos (digit_value t) +ℤ pos 2 *ℤ floor_half v → t ≡ d
-    by true true e = refl
-    by false false e = refl
-    by true false e = absurd (omega (arith, ints, e))
-    by false true e = absurd (omega (arith, ints, e))
-
-pub floor_half-digit : (d : Bool) (h : ℤ) → floor_half (pos (digit_value d) +ℤ pos 2 *ℤ h) ≡ h
-floor_half-digit d h = by d (is_odd_int v) (half_split v)
-  where
-    v : ℤ
-    v = pos (digit_value d) +ℤ pos 2 *ℤ h
-
-    by : (d t : Bool) → pos (digit_value d) +ℤ pos 2 *ℤ h ≡ pos (digit_value t) +ℤ pos 2 *ℤ floor_half v → floor_half v ≡ h
-    by true true e = omega (arith, ints, e)
-    by false false e = omega (arith, ints, e)
-    by true false e = absurd (omega (arith, ints, e))
-    by false true e = absurd (omega (arith, ints, e))
-
-pub floor_half_fits : (w : Width) (v : ℤ) → FitsSigned w v → FitsSigned w (floor_half v)
-floor_half_fits w (pos n) f = record { sfits = omega (arith, f.sfits) }
-floor_half_fits w (negsuc n) f = record { sfits = omega (arith, f.sfits) }
-
--- the half of a wrapped number is a value of the type
-pub half_fits : (w : Width) (n : ℤ) → FitsSigned w (half w n)
-half_fits w n = floor_half_fits w (wrap w n) (wrap_fits w n)

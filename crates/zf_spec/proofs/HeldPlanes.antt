@@ -11,12 +11,6 @@ pub digits_held-none : (vs : List ℕ) → digits_held 0 vs ≡ []
 unfolding digits_held
 digits_held-none vs = refl
 
-pub digits_held-more : (r : ℕ) (vs : List ℕ) → r < 64 * length vs → digits_held (r + 1) vs ≡ digits_held r vs ++ is_odd (get_or vs (r / 64) 0 / 2 ^ (r % 64)) ∷ []
-unfolding digits_held
-digits_held-more r vs below =
-    take_more (word_bits vs) r false (omega (arith, length-word_bits vs))
-    ∙ ap (λ b. take r (word_bits vs) ++ b ∷ []) (get_or-word_bits vs r below)
-
 pub length-digits_held : (n : ℕ) (vs : List ℕ) → n ≤ 64 * length vs → length (digits_held n vs) ≡ n
 unfolding digits_held
 length-digits_held n vs within = omega (arith, length-take n (word_bits vs), length-word_bits vs)

@@ -151,14 +151,6 @@ pub length-lorenzo : (w : Width) (d : ℕ) (block : List ℤ) → length (lorenz
 unfolding lorenzo
 length-lorenzo w d block = length-map-upto (λ m. wrap w (weighted_sum (weight signed_choose d m) 0 block)) (4 ^ d)
 
-pub length-unlorenzo : (w : Width) (d : ℕ) (block : List ℤ) → length (unlorenzo w d block) ≡ 4 ^ d
-unfolding unlorenzo
-length-unlorenzo w d block = length-map-upto (λ m. wrap w (weighted_sum (weight plain_choose d m) 0 block)) (4 ^ d)
-
 pub lorenzo_fits : (w : Width) (d : ℕ) (block : List ℤ) → All (λ v. FitsSigned w v) (lorenzo w d block)
 unfolding lorenzo
 lorenzo_fits w d block = All-map (λ v. FitsSigned w v) (λ m. wrap w (weighted_sum (weight signed_choose d m) 0 block)) (upto (4 ^ d)) (λ k e h. wrap_fits w (weighted_sum (weight signed_choose d (get_or (upto (4 ^ d)) k e)) 0 block))
-
-pub unlorenzo_fits : (w : Width) (d : ℕ) (block : List ℤ) → All (λ v. FitsSigned w v) (unlorenzo w d block)
-unfolding unlorenzo
-unlorenzo_fits w d block = All-map (λ v. FitsSigned w v) (λ m. wrap w (weighted_sum (weight plain_choose d m) 0 block)) (upto (4 ^ d)) (λ k e h. wrap_fits w (weighted_sum (weight plain_choose d (get_or (upto (4 ^ d)) k e)) 0 block))

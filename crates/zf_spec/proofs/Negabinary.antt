@@ -58,20 +58,6 @@ digits_only (suc k) (d ∷ ds) v l h =
     let rest = digits_only k ds (neg_ℤ (floor_half v)) (omega arith) first.1 in
     cc (first.0, rest)
 
--- numbers that agree modulo 2^k have the same k digits
-pub digits_from_same : (k : ℕ) (u v : ℤ) → IsSameModulo k u v → digits k u ≡ digits k v
-digits_from_same k u v h = digits_only k (digits k u) v (length-digits k u) (same_modulo_trans k (digits_sum (digits k u)) u v (digits_sum-digits k u) h)
-
--- to wrap a number leaves its digits alone
-pub digits-wrap : (w : Width) (k : ℕ) (v : ℤ) → k ≤ bits w → digits k (wrap w v) ≡ digits k v
-digits-wrap w k v h =
-    let low : IsSameModulo ((bits w - k) + k) (wrap w v) v = let e : (bits w - k) + k ≡ bits w = omega arith in rw e (wrap_is_same w v) in
-    digits_from_same k (wrap w v) v (same_modulo_low (bits w - k) k (wrap w v) v low)
-
-pub digits-zero : (k : ℕ) → digits k (pos 0) ≡ replicate k false
-digits-zero zero = refl
-digits-zero (suc k) = ap (λ ds. false ∷ ds) (digits-zero k)
-
 -- a value of the type is the value of its digits
 pub value_of-digits : (w : Width) (v : ℤ) → FitsSigned w v → value_of w (digits (bits w) v) ≡ v
 value_of-digits w v f =

@@ -148,20 +148,6 @@ All-pad P es block z all =
     All-from_get_or P (pad es block) (pos 0)
     (λ p s. let h : p < 4 ^ length es = omega (arith, s, length-pad es block) in subst P (sym (get_or-pad es block p h)) (get_or_all P block (source_place es p) z all))
 
-pub All-existing_values : (P : ℤ → Type 0) (es : List ℕ) (block : List ℤ) → P (pos 0) → All P block → All P (existing_values es block)
-All-existing_values P es block z all =
-    All-from_get_or P (existing_values es block) (pos 0)
-    (λ p s.
-    let h : p < 4 ^ length es = omega (arith, s, length-existing_values es block) in
-    subst P (sym (get_or-existing_values es block p h)) (by p (is_inside es (indices (length es) p))))
-  where
-    by : (p : ℕ) (t : Bool) → P (cond t (get_or block p (pos 0)) (pos 0))
-    by p true = get_or_all P block p z all
-    by p false = z
-
 -- the padded block of values of the type has values of the type, and so have the existing values
 pub pad_fits : (w : Width) (es : List ℕ) (block : List ℤ) → All (λ v. FitsSigned w v) block → All (λ v. FitsSigned w v) (pad es block)
 pad_fits w es block all = All-pad (λ v. FitsSigned w v) es block (zero_fits w) all
-
-pub existing_fits : (w : Width) (es : List ℕ) (block : List ℤ) → All (λ v. FitsSigned w v) block → All (λ v. FitsSigned w v) (existing_values es block)
-existing_fits w es block all = All-existing_values (λ v. FitsSigned w v) es block (zero_fits w) all

@@ -8,9 +8,6 @@ use Rattle.zf_spec.proofs.Reach.{has_one-zeros, has_one-append_one, reach_none, 
 
 -- ---- the cases of the tail
 
-pub tail_is_group : (d : Bool) (ds : List Bool) → tail (d ∷ ds) ≡ group (d ∷ ds) (code_from_run (d ∷ ds))
-tail_is_group d ds = refl
-
 pub tail-zeros : (n : ℕ) → tail (replicate (suc n) false) ≡ false ∷ []
 tail-zeros n = ap (λ t. cond t (true ∷ code_from_run (replicate (suc n) false)) (false ∷ [])) (has_one-zeros (suc n))
 

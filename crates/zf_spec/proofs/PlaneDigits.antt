@@ -155,16 +155,6 @@ coefficients_of-take w d n ps h =
 pub coefficients_of-needed_planes : (w : Width) (d : ℕ) (c : List ℤ) → length c ≡ 4 ^ d → All (λ v. FitsSigned w v) c → coefficients_of w d (take (max 1 (needed_planes (planes w d c))) (planes w d c)) ≡ c
 coefficients_of-needed_planes w d c l fits = coefficients_of-take w d (max 1 (needed_planes (planes w d c))) (planes w d c) (omega arith) ∙ coefficients_of-planes w d c l fits
 
--- the values that planes stand for are values of the type
-pub coefficients_of-fit : (w : Width) (d : ℕ) (ps : List (List Bool)) → All (λ v. FitsSigned w v) (coefficients_of w d ps)
-coefficients_of-fit w d ps =
-    All-from_get_or (λ v. FitsSigned w v) (coefficients_of w d ps) (pos 0)
-    (λ p s.
-    let h : p < 4 ^ d = omega (arith, s, length-coefficients_of w d ps) in
-    let at : get_or (coefficients_of w d ps) p (pos 0) ≡ value_of w (digits_at (bits w) ps (rank_of d p)) =
-    ap (λ vs. get_or vs p (pos 0)) (coefficients_of-is w d ps) ∙ get_or-by_place d (values_by_rank w d ps) p h ∙ get_or-values_by_rank w d ps (rank_of d p) (rank_of_below d p h) in
-    subst (λ v. FitsSigned w v) (sym at) (value_of_fits w (digits_at (bits w) ps (rank_of d p))))
-
 -- planes of this size come back from their coefficients, with zeros for those that are missing below
 pub planes-coefficients_of : (w : Width) (d : ℕ) (ps : List (List Bool)) → length ps ≤ bits w → All (λ ds. length ds ≡ 4 ^ d) ps
     → planes w d (coefficients_of w d ps) ≡ ps ++ replicate (bits w - length ps) (replicate (4 ^ d) false)

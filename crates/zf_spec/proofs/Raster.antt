@@ -70,11 +70,3 @@ raster_below (n ∷ ns) (p ∷ ps) l h =
     let small : p < n = ltb-true p n parts.0 in
     let rest : suc (raster ns ps) ≤ product ns = raster_below ns ps (omega arith) parts.1 in
     omega (arith, small, mul-le-mul_left n rest)
-
-pub fours_some : (d : ℕ) → All (λ n. 1 ≤ n) (fours d)
-fours_some zero = All-nil (λ n. 1 ≤ n)
-fours_some (suc d) = All-cons (λ n. 1 ≤ n) 4 (fours d) (omega arith) (fours_some d)
-
--- a place is that of its indices
-pub raster-indices : (d p : ℕ) → p < 4 ^ d → raster (fours d) (indices d p) ≡ p
-raster-indices d p h = raster-coordinates (fours d) p (omega (arith, h, product-fours d))

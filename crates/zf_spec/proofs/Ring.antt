@@ -34,6 +34,3 @@ pub neg-*ℤ : (a b : ℤ) → neg_ℤ a *ℤ b ≡ neg_ℤ (a *ℤ b)
 neg-*ℤ (pos zero) b = cc (zero-*ℤ b)
 neg-*ℤ (pos (suc n)) b = omega (arith, ints)
 neg-*ℤ (negsuc n) b = omega (arith, ints)
-
-pub *ℤ-neg : (a b : ℤ) → a *ℤ neg_ℤ b ≡ neg_ℤ (a *ℤ b)
-*ℤ-neg a b = *ℤ_comm a (neg_ℤ b) ∙ neg-*ℤ b a ∙ ap neg_ℤ (*ℤ_comm b a)

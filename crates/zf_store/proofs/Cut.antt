@@ -16,7 +16,7 @@ use Rattle.zf_spec.proofs.WordBits.{length-word_bits}
 use Rattle.zf_base.specs.Formats.{with_at}
 use Rattle.zf_base.proofs.Formats.{with_at-same, with_at-other}
 use Rattle.zf_bits.proofs.Packed.{flat_map-field-replicate}
-use Rattle.zf_stream.proofs.RateStreams.{code_cut, end_to_end-cut}
+use Rattle.zf_parse.proofs.RateStreams.{code_cut, end_to_end-cut}
 use Rattle.zf_store.specs.Words.{codes_in}
 
 -- ---- bits among others

@@ -19,7 +19,7 @@ use Rattle.zf_cached.specs.Arrays.{rate_coding, array_format}
 use Rattle.zf_cached.proofs.Arrays.{existing_of-array, meant-rate, encoded-rate}
 use Rattle.zf_header.proofs.Parts.{length-header_bits_le}
 use Rattle.zf_store.proofs.Opened.{all_bits_most}
-use Rattle.zf_stream.proofs.RateStreams.{length-cut}
+use Rattle.zf_parse.proofs.RateStreams.{length-cut}
 use Rattle.zf_store.specs.Stored.{Stored, IsStore, code_at, format_of, file_of}
 use Rattle.zf_store.specs.Words.{IsKept, all_bits, codes_in, with_codes}
 use Rattle.zf_store.proofs.Cut.{behind_change, code_cut-take, codes_in-put, ends_within, get_or-codes_in, joined-codes_in, length-codes_in, words_are_filled}

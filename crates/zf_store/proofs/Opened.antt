@@ -24,11 +24,11 @@ use Rattle.zf_header.proofs.Modes.{mode_is_rate, rate_is_some}
 use Rattle.zf_header.proofs.Parts.{length-header_bits, length-header_bits_le}
 use Rattle.zf_spec.specs.Grid.{IsShape}
 use Rattle.zf_header.proofs.Found.{read_is_spelled, read_is_header, begins_within}
-use Rattle.zf_stream.specs.declared.fault.StreamFault.TheVariants.{Truncated, Pad, Trailing}
-use Rattle.zf_stream.specs.Parsing.{values_of_blocks, parse}
-use Rattle.zf_stream.specs.ReadStreams.{BeginsWithHeader}
-use Rattle.zf_stream.proofs.ParseOfStream.{end_to_end, ReadsBack, parse-file}
-use Rattle.zf_stream.proofs.RateStreams.{code_cut, end_to_end-cut, length-cut, read_code-rate, parse_cut, parse_fill_short, parse_pad, parse_trailing}
+use Rattle.zf_parse.specs.declared.fault.StreamFault.TheVariants.{Truncated, Pad, Trailing}
+use Rattle.zf_parse.specs.Parsing.{values_of_blocks, parse}
+use Rattle.zf_parse.specs.ReadStreams.{BeginsWithHeader}
+use Rattle.zf_parse.proofs.ParseOfStream.{end_to_end, ReadsBack, parse-file}
+use Rattle.zf_parse.proofs.RateStreams.{code_cut, end_to_end-cut, length-cut, read_code-rate, parse_cut, parse_fill_short, parse_pad, parse_trailing}
 use Rattle.zf_cached.proofs.Arrays.{meant-rate}
 use Rattle.zf_store.specs.Stored.{code_at, format_of}
 use Rattle.zf_store.specs.Files.{HasHeader, IsOpened, values_of}

@@ -41,10 +41,6 @@ with_run-none old at code =
     let here : at + 0 ≡ at = omega arith in
     ap (λ (bs : List Bool). bs ++ drop (at + 0) old) (append-nil (take at old)) ∙ ap (λ k. take at old ++ drop k old) here ∙ take-append-drop at old
 
-pub length-with_run : (old : List Bool) (at : ℕ) (code : List Bool) (m : ℕ) → at + m ≤ length old → m ≤ length code → length (with_run old at code m) ≡ length old
-length-with_run old at code m within held =
-    omega (arith, length-append (take at old ++ take m code) (drop (at + m) old), length-append (take at old) (take m code), length-take-le at old (omega arith), length-take-le m code held, length-drop (at + m) old)
-
 pub with_run-more : (old : List Bool) (at : ℕ) (code : List Bool) (m n next : ℕ) (now new bits : List Bool) → at + m + n ≤ length old → m + n ≤ length code → next ≡ m + n
     → now ≡ with_run old at code m → bits ≡ take n (drop m code) → new ≡ take (at + m) now ++ bits ++ drop (at + m + n) now → new ≡ with_run old at code next
 with_run-more old at code m n next now new bits within held is_next is_now is_bits is_new =

@@ -5,9 +5,9 @@ use Rattle.zf_base.specs.Formats.{meant}
 use Rattle.zf_header.specs.declared.header.Header.{Header}
 use Rattle.zf_header.specs.HeaderBits.{IsRate, rate_bytes_of}
 use Rattle.zf_header.specs.HeaderFaults.{header_fault}
-use Rattle.zf_stream.specs.declared.fault.StreamFault.{StreamFault}
-use Rattle.zf_stream.specs.declared.fault.StreamFault.TheVariants as stream
-use Rattle.zf_stream.specs.Parsing.{Said, header_of, values_of_blocks, parse}
+use Rattle.zf_parse.specs.declared.fault.StreamFault.{StreamFault}
+use Rattle.zf_parse.specs.declared.fault.StreamFault.TheVariants as stream
+use Rattle.zf_parse.specs.Parsing.{Said, header_of, values_of_blocks, parse}
 use Rattle.zf_store.specs.declared.fault.StoreFault.{StoreFault}
 use Rattle.zf_store.specs.declared.fault.StoreFault.TheVariants.{Truncated, Pad, Trailing, Memory}
 use Rattle.zf_store.specs.Stored.{Stored, code_at, format_of, file_of}

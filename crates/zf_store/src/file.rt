@@ -7,8 +7,8 @@ ghost use Rattle.zf_spec.specs.Numbers.{field, number, word_bits};
 ghost use Rattle.zf_spec.specs.Stream.{fill_len, to_bits, to_bytes, with_fill};
 ghost use Rattle.zf_header.specs.HeaderBits.{IsRate, block_bits, header_bits, rate_bytes_of};
 ghost use Rattle.zf_header.specs.HeaderFaults.{header_fault};
-ghost use Rattle.zf_stream.specs.Parsing.{header_of, parse};
-ghost use Rattle.zf_stream.specs.declared.fault.StreamFault.TheVariants as stream;
+ghost use Rattle.zf_parse.specs.Parsing.{header_of, parse};
+ghost use Rattle.zf_parse.specs.declared.fault.StreamFault.TheVariants as stream;
 ghost use Rattle.zf_store.specs.Files.{HasHeader, stream_fault};
 ghost use Rattle.zf_store.specs.Words.{all_bits, IsWholeFile};
 

@@ -6,8 +6,6 @@
 mod fault;
 mod file;
 mod store;
-#[cfg(test)]
-mod tests;
 mod words;
 
 pub use fault::StoreFault;

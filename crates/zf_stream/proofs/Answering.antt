@@ -4,8 +4,8 @@ use Rattle.std.specs.Prelude.{IfErr, OnOk, OnErr, IsErrAnd}
 use Rattle.zf_dev.specs.Source.{Takes, IsAtEnd}
 use Rattle.zf_dev.proofs.Taking.{Takes-none, Takes-to_end}
 use Rattle.zf_dev.proofs.Appending.{AppendsFront-none}
-use Rattle.zf_stream.specs.declared.fault.StreamFault.{StreamFault}
-use Rattle.zf_stream.specs.declared.fault.StreamFault.TheVariants.{Write, Memory}
+use Rattle.zf_parse.specs.declared.fault.StreamFault.{StreamFault}
+use Rattle.zf_parse.specs.declared.fault.StreamFault.TheVariants.{Write, Memory}
 use Rattle.zf_stream.specs.Outcomes.{Answers, IsRefusal, IsFromOutside, LeavesFront}
 
 -- a refusal is an answer

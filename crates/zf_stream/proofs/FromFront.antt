@@ -16,16 +16,16 @@ use Rattle.zf_dev.specs.Source.{Takes}
 use Rattle.zf_dev.specs.Sink.{Appends, AppendsFront}
 use Rattle.zf_dev.proofs.Taking.{Takes-none}
 use Rattle.zf_dev.proofs.Appending.{AppendsFront-none}
-use Rattle.zf_stream.specs.declared.fault.StreamFault.{StreamFault}
-use Rattle.zf_stream.specs.Raw.{raw_bytes}
-use Rattle.zf_stream.specs.Parsing.{read_codes, values_said, header_of, code_bits, codes_answer, blocks_text, longest_codes, restore_answer, restored_text, without_values}
-use Rattle.zf_stream.specs.ReadStreams.{BeginsWithHeader}
+use Rattle.zf_parse.specs.declared.fault.StreamFault.{StreamFault}
+use Rattle.zf_parse.specs.Raw.{raw_bytes}
+use Rattle.zf_parse.specs.Parsing.{read_codes, values_said, header_of, code_bits, codes_answer, blocks_text, longest_codes, restore_answer, restored_text, without_values}
+use Rattle.zf_parse.specs.ReadStreams.{BeginsWithHeader}
 use Rattle.zf_stream.specs.Outcomes.{Answers, IsRefusal, Finishes, LeavesFront}
 use Rattle.zf_stream.specs.Windows.{Window}
 use Rattle.zf_stream.specs.Restoring.{behind, FinishesBehind, CanRefuseBehind, still, stream_from, text_of_codes, answer_of_codes, LeavesRows, HasFault, Refuses, RestoresAll}
 use Rattle.zf_stream.proofs.Answering.{answer_of_refusal, answer_at_end}
-use Rattle.zf_stream.proofs.Parsed.{parse_is, begun_more}
-use Rattle.zf_stream.proofs.TextOfParse.{text_of_parse}
+use Rattle.zf_parse.proofs.Parsed.{parse_is, begun_more}
+use Rattle.zf_parse.proofs.TextOfParse.{text_of_parse}
 
 -- ---- bytes in front of a source
 
@@ -58,14 +58,6 @@ Finishes-known known src front {answer} {text} {now} first done = record {
   ended = done.ended;
   good = done.good;
   written = done.written;
-}
-
-pub LeavesFront-known : (known src : Option (List ℕ)) (front : List ℕ) {text : List ℕ → List ℕ} {now out0 out : Option (List ℕ)} → Takes known src front → LeavesFront text (behind front src) now out0 out
-    → LeavesFront text known now out0 out
-LeavesFront-known known src front {text} {now} first left = record {
-  bytes = left.bytes;
-  taken = Takes-known known src now front left.bytes first left.taken;
-  written = left.written;
 }
 
 -- ---- a window that holds them

@@ -17,11 +17,11 @@ use Rattle.zf_dev.proofs.Taking.{Takes-append}
 use Rattle.zf_dev.proofs.Appending.{AppendsFront-more}
 use Rattle.zf_header.specs.declared.header.Header.{Header}
 use Rattle.zf_header.specs.HeaderBits.{coding, header_bits}
-use Rattle.zf_stream.specs.Raw.{stream_text}
+use Rattle.zf_parse.specs.Raw.{stream_text}
 use Rattle.zf_stream.specs.Outcomes.{LeavesFront}
 use Rattle.zf_stream.specs.Flows.{Flows, Spills}
 use Rattle.zf_stream.specs.Rows.{rows_len, code_of_block, codes_of_rows, Compresses, Stops}
-use Rattle.zf_stream.proofs.Codes.{joined-front}
+use Rattle.zf_parse.proofs.Codes.{joined-front}
 use Rattle.zf_stream.proofs.Flowing.{Flows-more, Flows-next, Flows-spill, Spills-flows}
 use Rattle.zf_stream.proofs.Rows.{codes_of_rows-more, codes_of_all_rows}
 

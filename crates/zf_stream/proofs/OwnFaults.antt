@@ -8,9 +8,9 @@ use Rattle.zf_spec.specs.Stream.{to_bits}
 use Rattle.zf_header.specs.declared.header.Header.{Header}
 use Rattle.zf_header.specs.declared.header.HeaderFault.{HeaderFault}
 use Rattle.zf_header.specs.HeaderFaults.{header_fault}
-use Rattle.zf_stream.specs.declared.fault.StreamFault.{StreamFault}
-use Rattle.zf_stream.specs.declared.fault.StreamFault.TheVariants as faults
-use Rattle.zf_stream.specs.Parsing.{values_said, header_of, code_bits, header_or, codes_answer, read_codes, values_or_fault, restore_answer, without_values}
+use Rattle.zf_parse.specs.declared.fault.StreamFault.{StreamFault}
+use Rattle.zf_parse.specs.declared.fault.StreamFault.TheVariants as faults
+use Rattle.zf_parse.specs.Parsing.{values_said, header_of, code_bits, header_or, codes_answer, read_codes, values_or_fault, restore_answer, without_values}
 use Rattle.zf_stream.specs.Outcomes.{IsBeforeWriting}
 use Rattle.zf_stream.specs.Windows.{Window}
 use Rattle.zf_stream.specs.Restoring.{still, stream_from, Refuses}

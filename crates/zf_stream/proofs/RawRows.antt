@@ -3,9 +3,9 @@ use Rattle.std.proofs.Common.{◌≡◌, ◌≢◌, refl, sym, ap, subst, ◌∙
 use Rattle.zf_dev.specs.Source.{Takes, TakesSome}
 use Rattle.zf_dev.proofs.Taking.{Takes-append, Takes-to_end}
 use Rattle.zf_header.specs.declared.header.Header.{Header}
-use Rattle.zf_stream.specs.declared.fault.StreamFault.{StreamFault}
-use Rattle.zf_stream.specs.declared.fault.StreamFault.TheVariants as faults
-use Rattle.zf_stream.specs.Raw.{raw_len, length_answer, compress_answer}
+use Rattle.zf_parse.specs.declared.fault.StreamFault.{StreamFault}
+use Rattle.zf_parse.specs.declared.fault.StreamFault.TheVariants as faults
+use Rattle.zf_parse.specs.Raw.{raw_len, length_answer, compress_answer}
 use Rattle.zf_stream.specs.ReadRaw.{EndsShort, LacksRaw, GoesOn}
 use Rattle.zf_stream.specs.Outcomes.{IsRefusal, CanRefuse, ShowsLength}
 use Rattle.zf_stream.proofs.Refusals.{CanRefuse-short, CanRefuse-long}
@@ -137,17 +137,6 @@ some_more mid now faults.Pad more = absurd more
 some_more mid now faults.Trailing more = absurd more
 some_more mid now faults.Write more = absurd more
 some_more mid now faults.Memory more = absurd more
-
-pub not_wanted_more : (mid now : Option (List ℕ)) (e : StreamFault) → GoesOn mid now e → e ≢ faults.Memory
-not_wanted_more mid now faults.Memory more is = absurd more
-not_wanted_more mid now faults.RawLong more is = cc
-not_wanted_more mid now faults.Read more is = cc
-not_wanted_more mid now (faults.RawShort n) more is = cc
-not_wanted_more mid now (faults.Header f) more is = cc
-not_wanted_more mid now (faults.Truncated n) more is = cc
-not_wanted_more mid now faults.Pad more is = cc
-not_wanted_more mid now faults.Trailing more is = cc
-not_wanted_more mid now faults.Write more is = cc
 
 -- ---- what a refusal shows
 

@@ -8,8 +8,8 @@ use borrow.Rule.Slice.PartMut.{put_mid}
 use Rattle.zf_spec.specs.Stream.{values_from}
 use Rattle.zf_dev.specs.Source.{Takes}
 use Rattle.zf_dev.proofs.Taking.{Takes-append}
-use Rattle.zf_stream.specs.declared.fault.StreamFault.{StreamFault}
-use Rattle.zf_stream.specs.declared.fault.StreamFault.TheVariants as faults
+use Rattle.zf_parse.specs.declared.fault.StreamFault.{StreamFault}
+use Rattle.zf_parse.specs.declared.fault.StreamFault.TheVariants as faults
 use Rattle.zf_stream.specs.ReadRaw.{ReadsValues, LacksRaw}
 use Rattle.zf_stream.proofs.Rows.{values_from-append}
 

@@ -13,18 +13,18 @@ use Rattle.zf_dev.specs.Source.{TakesSome, IsAtEnd}
 use Rattle.zf_dev.specs.Sink.{Appends, AppendsFront}
 use Rattle.zf_dev.proofs.Taking.{Takes-append}
 use Rattle.zf_dev.proofs.Appending.{Appends-none, Appends-append, AppendsFront-all, AppendsFront-append, AppendsFront-more}
-use Rattle.zf_stream.specs.declared.fault.StreamFault.{StreamFault}
-use Rattle.zf_stream.specs.declared.fault.StreamFault.TheVariants as faults
-use Rattle.zf_stream.specs.Raw.{raw_bytes}
-use Rattle.zf_stream.specs.Parsing.{read_codes, values_of_blocks, codes_answer, blocks_text, longest_codes}
+use Rattle.zf_parse.specs.declared.fault.StreamFault.{StreamFault}
+use Rattle.zf_parse.specs.declared.fault.StreamFault.TheVariants as faults
+use Rattle.zf_parse.specs.Raw.{raw_bytes}
+use Rattle.zf_parse.specs.Parsing.{read_codes, values_of_blocks, codes_answer, blocks_text, longest_codes}
 use Rattle.zf_stream.specs.Windows.{Window, left_of}
 use Rattle.zf_stream.specs.Restoring.{still, stream_from, ReadsSlab, LacksSlab, blocks_of_rows, Restores, text_of_codes, answer_of_codes, LeavesRows, Refuses}
-use Rattle.zf_stream.proofs.Enough.{enough_for_all}
-use Rattle.zf_stream.proofs.Joining.{with_blocks, with_blocks-both, with_blocks-cut, with_blocks-found, read_codes-then, read_codes-cut_more}
+use Rattle.zf_parse.proofs.Enough.{enough_for_all}
+use Rattle.zf_parse.proofs.Joining.{with_blocks, with_blocks-both, with_blocks-cut, with_blocks-found, read_codes-then, read_codes-cut_more}
 use Rattle.zf_stream.proofs.RawValues.{raw-append, raw_front}
 use Rattle.zf_stream.proofs.Slabwise.{part_of, IsNext}
 use Rattle.zf_stream.proofs.SlabsBack.{counted_from, read_codes-slab, count_next, blocks_next, front_joined}
-use Rattle.zf_stream.proofs.TextOfParse.{read_codes_more}
+use Rattle.zf_parse.proofs.TextOfParse.{read_codes_more}
 use Rattle.zf_stream.proofs.Windows.{Goes-none, Goes-next, to_bits-append}
 
 -- nothing is to come at the end

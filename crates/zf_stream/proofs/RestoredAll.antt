@@ -8,14 +8,14 @@ use Rattle.zf_pad.specs.Slabs.{rows_of}
 use Rattle.zf_pad.proofs.Slabs.{product-rows}
 use Rattle.zf_header.specs.declared.header.Header.{Header}
 use Rattle.zf_dev.specs.Source.{IsAtEnd}
-use Rattle.zf_stream.specs.declared.fault.StreamFault.{StreamFault}
-use Rattle.zf_stream.specs.Parsing.{read_codes, values_or_fault, fill_answer, codes_answer}
+use Rattle.zf_parse.specs.declared.fault.StreamFault.{StreamFault}
+use Rattle.zf_parse.specs.Parsing.{read_codes, values_or_fault, fill_answer, codes_answer}
 use Rattle.zf_stream.specs.Windows.{Window, left_of, KnowsEnd, Refills}
 use Rattle.zf_stream.specs.Restoring.{still, stream_from, Restores, answer_of_codes, LeavesRows, HasFault, RestoresAll}
-use Rattle.zf_stream.proofs.Fill.{fill_place, fill_told, fill_not_good}
-use Rattle.zf_stream.proofs.Joined.{values_of_blocks-blocks}
+use Rattle.zf_parse.proofs.Fill.{fill_place, fill_told, fill_not_good}
+use Rattle.zf_parse.proofs.Joined.{values_of_blocks-blocks}
 use Rattle.zf_stream.proofs.Restored.{all_blocks, still_none, rows_left}
-use Rattle.zf_stream.proofs.TextOfParse.{read_codes_more}
+use Rattle.zf_parse.proofs.TextOfParse.{read_codes_more}
 use Rattle.zf_stream.proofs.Windows.{Goes-next, codes_refilled, to_bits-append}
 
 -- an answer by its two cases

@@ -15,7 +15,7 @@ use Rattle.zf_header.specs.declared.header.Header.{Header}
 use Rattle.zf_header.specs.HeaderBits.{coding}
 use Rattle.zf_stream.specs.Rows.{rows_len, code_of_block, codes_of_rows}
 use Rattle.zf_stream.proofs.LittleEndian.{first_bytes-take}
-use Rattle.zf_stream.proofs.Codes.{joined-front}
+use Rattle.zf_parse.proofs.Codes.{joined-front}
 
 -- ---- values of bytes, one part after another
 

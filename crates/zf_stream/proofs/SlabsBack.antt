@@ -13,7 +13,7 @@ use Rattle.zf_pad.specs.Slabs.{rows_of, row_len, with_rows, IsSlab, slab_of, fir
 use Rattle.zf_pad.proofs.Slabs.{product-rows, product-with_rows, length-with_rows, grid-with_rows, blocks-with_rows, coordinates-rows_on, raster-rows_on, rows_on-none, block_of-slab}
 use Rattle.zf_pad.proofs.Blocks.{value_of_block}
 use Rattle.zf_header.specs.declared.header.Header.{Header}
-use Rattle.zf_stream.specs.Parsing.{read_code, read_codes, read_next, with_block, values_of_blocks}
+use Rattle.zf_parse.specs.Parsing.{read_code, read_codes, read_next, with_block, values_of_blocks}
 use Rattle.zf_stream.specs.Restoring.{blocks_of_rows}
 use Rattle.zf_stream.proofs.Rows.{map-count_from}
 use Rattle.zf_stream.proofs.Slabwise.{with_shape}

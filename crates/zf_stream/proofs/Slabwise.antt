@@ -14,14 +14,14 @@ use Rattle.zf_pad.proofs.Slabs.{all_rows, product-with_rows, product-rows}
 use Rattle.zf_header.specs.declared.header.Header.{Header}
 use Rattle.zf_dev.specs.Source.{Takes}
 use Rattle.zf_dev.proofs.Taking.{Takes-append}
-use Rattle.zf_stream.specs.declared.fault.StreamFault.{StreamFault}
-use Rattle.zf_stream.specs.declared.fault.StreamFault.TheVariants as faults
+use Rattle.zf_parse.specs.declared.fault.StreamFault.{StreamFault}
+use Rattle.zf_parse.specs.declared.fault.StreamFault.TheVariants as faults
 use Rattle.zf_header.specs.declared.header.Mode.{Mode}
 use Rattle.zf_header.specs.declared.header.Mode.TheVariants.{Reversible, Rate, Precision}
 use Rattle.zf_block.specs.Room.{longest_rev, longest_prec}
 use mir.Val.{bits}
-use Rattle.zf_stream.specs.Parsing.{longest_code}
-use Rattle.zf_stream.specs.Raw.{raw_len, compress_answer}
+use Rattle.zf_parse.specs.Parsing.{longest_code}
+use Rattle.zf_parse.specs.Raw.{raw_len, compress_answer}
 use Rattle.zf_stream.specs.Outcomes.{IsRefusal, CanRefuse}
 use Rattle.zf_stream.specs.Flows.{Flows, Spills}
 use Rattle.zf_stream.specs.Rows.{rows_len, code_of_block, codes_of_rows, ArePieces, Compresses, Stops, slab_codes, WritesSlab, BreaksSlab}

@@ -6,14 +6,14 @@ use Rattle.zf_base.specs.declared.lane.Ty.TheVariants.{I32, I64}
 use Rattle.zf_header.specs.declared.header.Header.{Header}
 use Rattle.zf_header.specs.HeaderFaults.{header_fault}
 use Rattle.zf_dev.specs.Source.{Takes}
-use Rattle.zf_stream.specs.declared.fault.StreamFault.{StreamFault}
-use Rattle.zf_stream.specs.declared.fault.StreamFault.TheVariants as faults
-use Rattle.zf_stream.specs.Parsing.{header_of, header_or, restore_answer}
+use Rattle.zf_parse.specs.declared.fault.StreamFault.{StreamFault}
+use Rattle.zf_parse.specs.declared.fault.StreamFault.TheVariants as faults
+use Rattle.zf_parse.specs.Parsing.{header_of, header_or, restore_answer}
 use Rattle.zf_stream.specs.Outcomes.{Answers, IsFront, IsFromOutside}
-use Rattle.zf_stream.specs.ReadStreams.{BeginsWithHeader, IsFaultOf}
+use Rattle.zf_parse.specs.ReadStreams.{BeginsWithHeader, IsFaultOf}
 use Rattle.zf_stream.specs.Restoring.{behind, FinishesBehind, CanRefuseBehind}
 use Rattle.zf_stream.specs.Typed.{with_true, answer_of_types, typed_answer, CanRefuseTyped, RestoresTyped}
-use Rattle.zf_stream.proofs.Parsed.{begun_more, fault_first}
+use Rattle.zf_parse.proofs.Parsed.{begun_more, fault_first}
 use Rattle.zf_stream.proofs.FromFront.{Answers-known, Takes-known}
 
 same_types : (wanted ty : Ty) (answer : Result (Unit {0}) StreamFault) → ty ≡ wanted → answer_of_types wanted ty answer ≡ with_true answer

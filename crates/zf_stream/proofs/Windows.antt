@@ -12,9 +12,9 @@ use Rattle.zf_dev.specs.Source.{Takes}
 use Rattle.zf_dev.proofs.Taking.{Takes-none, Takes-append}
 use Rattle.zf_stream.specs.Windows.{Window, left_of, Goes, Refills}
 use Rattle.zf_header.specs.declared.header.Header.{Header}
-use Rattle.zf_stream.specs.Parsing.{read_codes}
+use Rattle.zf_parse.specs.Parsing.{read_codes}
 use Rattle.zf_stream.specs.Restoring.{stream_from}
-use Rattle.zf_stream.proofs.TextOfParse.{read_codes_more}
+use Rattle.zf_parse.proofs.TextOfParse.{read_codes_more}
 use Rattle.zf_stream.proofs.WordBytes.{word_bits-take, word_bits-drop}
 
 -- ---- words moved to the front
@@ -86,9 +86,6 @@ Goes-next {a} {b} {c} {u} {v} {w} {xs} {ys} first next = record {
 
 pub to_bits-append : (s : List Bool) (xs ys : List ℕ) → (s ++ to_bits xs) ++ to_bits ys ≡ s ++ to_bits (xs ++ ys)
 to_bits-append s xs ys = append_assoc s (to_bits xs) (to_bits ys) ∙ ap (λ (bs : List Bool). s ++ bs) (sym (flat_map-append (field 8) xs ys))
-
-pub Refills-none : (src : Option (List ℕ)) (w : Window) → Refills src src w w
-Refills-none src w = record { bytes = []; goes = Goes-none src w; bits = sym (append-nil (left_of w)); room = refl }
 
 pub Refills-next : {a b c : Option (List ℕ)} {u v w : Window} → Refills a b u v → Refills b c v w → Refills a c u w
 Refills-next {a} {b} {c} {u} {v} {w} first next = record {

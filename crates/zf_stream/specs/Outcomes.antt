@@ -2,8 +2,8 @@
 use Rattle.std.specs.Prelude.{ℕ, ◌≡◌, ◌≤◌, ◌⊎◌, List, length, take, Option, Some, None, Result, Ok, Err, IsErrAnd}
 use Rattle.zf_dev.specs.Source.{Takes, TakesMoreThan, IsAtEnd}
 use Rattle.zf_dev.specs.Sink.{Appends, AppendsFront}
-use Rattle.zf_stream.specs.declared.fault.StreamFault.{StreamFault}
-use Rattle.zf_stream.specs.declared.fault.StreamFault.TheVariants.{RawShort, RawLong, Header, Read, Write, Memory}
+use Rattle.zf_parse.specs.declared.fault.StreamFault.{StreamFault}
+use Rattle.zf_parse.specs.declared.fault.StreamFault.TheVariants.{RawShort, RawLong, Header, Read, Write, Memory}
 
 -- a fault of a device, or want of memory: what no input determines
 abbrev pub IsFromOutside : StreamFault → Type 0

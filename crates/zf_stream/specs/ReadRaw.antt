@@ -3,8 +3,8 @@ use Rattle.std.specs.Prelude.{ℕ, ◌≡◌, ◌+◌, ◌*◌, ◌<◌, ℤ, Li
 use Rattle.std.specs.Int.{Width, byte_len}
 use Rattle.zf_spec.specs.Stream.{values_from}
 use Rattle.zf_dev.specs.Source.{Takes, TakesSome, IsAtEnd}
-use Rattle.zf_stream.specs.declared.fault.StreamFault.{StreamFault}
-use Rattle.zf_stream.specs.declared.fault.StreamFault.TheVariants.{RawShort, RawLong, Read}
+use Rattle.zf_parse.specs.declared.fault.StreamFault.{StreamFault}
+use Rattle.zf_parse.specs.declared.fault.StreamFault.TheVariants.{RawShort, RawLong, Read}
 
 -- the raw bytes of so many values were read, and these are the values
 pub record ReadsValues (w : Width) (count : ℕ) (old new : Option (List ℕ)) (values : List ℤ) : Type 0 where

@@ -7,10 +7,10 @@ use Rattle.zf_pad.specs.Slabs.{row_len, IsSlab, first_block}
 use Rattle.zf_header.specs.declared.header.Header.{Header}
 use Rattle.zf_dev.specs.Source.{Takes, TakesSome, IsAtEnd}
 use Rattle.zf_dev.specs.Sink.{Appends, AppendsFront}
-use Rattle.zf_stream.specs.declared.fault.StreamFault.{StreamFault}
-use Rattle.zf_stream.specs.declared.fault.StreamFault.TheVariants as faults
-use Rattle.zf_stream.specs.Raw.{raw_bytes}
-use Rattle.zf_stream.specs.Parsing.{read_codes, codes_answer, blocks_text, longest_codes, restore_answer, restored_text}
+use Rattle.zf_parse.specs.declared.fault.StreamFault.{StreamFault}
+use Rattle.zf_parse.specs.declared.fault.StreamFault.TheVariants as faults
+use Rattle.zf_parse.specs.Raw.{raw_bytes}
+use Rattle.zf_parse.specs.Parsing.{read_codes, codes_answer, blocks_text, longest_codes, restore_answer, restored_text}
 use Rattle.zf_stream.specs.Outcomes.{Finishes, IsFromOutside}
 use Rattle.zf_stream.specs.Windows.{Window, left_of, Goes}
 

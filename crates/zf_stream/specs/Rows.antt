@@ -9,8 +9,8 @@ use Rattle.zf_pad.specs.Slabs.{rows_of, row_len, IsSlab, first_block}
 use Rattle.zf_header.specs.declared.header.Header.{Header}
 use Rattle.zf_header.specs.HeaderBits.{coding}
 use Rattle.zf_dev.specs.Source.{Takes}
-use Rattle.zf_stream.specs.declared.fault.StreamFault.{StreamFault}
-use Rattle.zf_stream.specs.declared.fault.StreamFault.TheVariants.{Write}
+use Rattle.zf_parse.specs.declared.fault.StreamFault.{StreamFault}
+use Rattle.zf_parse.specs.declared.fault.StreamFault.TheVariants.{Write}
 use Rattle.zf_stream.specs.ReadRaw.{LacksRaw}
 use Rattle.zf_stream.specs.Flows.{Flows, Spills}
 

@@ -5,9 +5,9 @@ use Rattle.zf_base.specs.declared.lane.Ty.TheVariants.{I32, I64}
 use Rattle.zf_header.specs.HeaderFaults.{header_fault}
 use Rattle.zf_dev.specs.Source.{Takes, IsAtEnd}
 use Rattle.zf_dev.specs.Sink.{Appends}
-use Rattle.zf_stream.specs.declared.fault.StreamFault.{StreamFault}
+use Rattle.zf_parse.specs.declared.fault.StreamFault.{StreamFault}
 use Rattle.zf_stream.specs.Outcomes.{IsFromOutside}
-use Rattle.zf_stream.specs.Parsing.{header_of, header_or, restore_answer, restored_text}
+use Rattle.zf_parse.specs.Parsing.{header_of, header_or, restore_answer, restored_text}
 
 -- a good stream is of the wanted type
 abbrev pub with_true : Result (Unit {0}) StreamFault → Result Bool StreamFault

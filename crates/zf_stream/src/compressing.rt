@@ -7,13 +7,13 @@ ghost use Rattle.zf_pad.specs.Rasters.{IsRaster};
 ghost use Rattle.zf_pad.specs.Slabs.{row_len, rows_of};
 ghost use Rattle.zf_base.specs.Widths.{width_of};
 ghost use Rattle.zf_header.specs.HeaderBits.{IsMode, header_bits};
-ghost use Rattle.zf_stream.specs.Raw.{raw_len, compress_answer, stream_text};
+ghost use Rattle.zf_parse.specs.Raw.{raw_len, compress_answer, stream_text};
 ghost use Rattle.zf_dev.specs.Faults.{HasCause};
 ghost use Rattle.zf_dev.specs.Source.{TakesSome};
 ghost use Rattle.zf_stream.specs.Outcomes.{CanRefuse, ShowsLength, Answers, Finishes, LeavesFront, IsRefusal};
-ghost use Rattle.zf_stream.specs.Parsing.{longest_code};
+ghost use Rattle.zf_parse.specs.Parsing.{longest_code};
 ghost use Rattle.zf_stream.specs.Rows.{ArePieces, Compresses, Stops, WritesSlab, BreaksSlab};
-ghost use Rattle.zf_stream.specs.declared.fault.StreamFault.TheVariants.{Read, Write, Memory};
+ghost use Rattle.zf_parse.specs.declared.fault.StreamFault.TheVariants.{Read, Write, Memory};
 
 use crate::StreamFault;
 use crate::encoding::write_codes;

@@ -1,24 +1,23 @@
-//! The values of a slab, and the fill behind all codes.
+//! The values of a slab.
 
 ghost use Rattle.std.specs.Prelude.{◌≡◌, ◌≢◌, ◌-◌, ◌+◌, ◌*◌, ◌<◌, ◌≤◌, ◌^◌, map, length, Err, IfErr, OnOk, OnErr, OnSome, IfNone};
 ghost use Rattle.zf_spec.specs.Grid.{product, blocks};
 ghost use Rattle.zf_base.specs.Widths.{width_of};
-ghost use Rattle.zf_bits.specs.Reader.{rest};
 ghost use Rattle.zf_pad.specs.Rasters.{IsRaster};
 ghost use Rattle.zf_dev.specs.Faults.{HasCause};
-ghost use Rattle.zf_stream.specs.Parsing.{fill_answer, longest_code};
-ghost use Rattle.zf_stream.specs.ReadStreams.{ReadsCode, LacksCode, ReadsBlock};
+ghost use Rattle.zf_parse.specs.Parsing.{longest_code};
+ghost use Rattle.zf_parse.specs.ReadStreams.{ReadsCode, LacksCode, ReadsBlock};
 ghost use Rattle.zf_stream.specs.Windows.{left_of, KnowsEnd};
 ghost use Rattle.zf_stream.specs.Restoring.{ReadsSlab, LacksSlab};
-ghost use Rattle.zf_stream.specs.declared.fault.StreamFault.TheVariants.{Read};
+ghost use Rattle.zf_parse.specs.declared.fault.StreamFault.TheVariants.{Read};
 
 use crate::StreamFault;
 use crate::window::Window;
 use zf_base::Lane;
-use zf_bits::BitReader;
 use zf_dev::Source;
-use zf_header::{Header, Mode};
+use zf_header::Header;
 use zf_pad::Layout;
+use zf_parse::read_code;
 
 /// Reads the codes of a slab, an array of its own whose blocks are those of the array from block `first` on, and which the array's layout serves. No code has more than `longest` bits.
 pub(crate) fn read_slab<T: Lane, S: Source>(
@@ -87,55 +86,4 @@ fn read_block<T: Lane>(
     window.go_to(at);
     zf_pad::scatter_block(layout, &part.shape, b, block, values);
     Some(())
-}
-
-/// Reads the code of a block of an array with this header, or answers `None` where the bits end too early.
-///
-/// `block` gets `4^d` values, x fastest. A code does not tell which of them exist; at places that do not, the values mean nothing.
-#[inline(always)]
-pub fn read_code<T: Lane>(h: &Header, reader: &mut BitReader<'_>, block: &mut [T]) -> Option<()>
-    requires whole { length block.old ≡ 4 ^ length h.now.shape }
-    ensures some { OnSome result (ReadsCode T.width h.now.mode (length h.now.shape) reader.old reader.new (map T.value block.new)) }
-    ensures none { IfNone result (LacksCode T.width h.now.mode (length h.now.shape) reader.old) }
-{
-    let d = h.shape.dims();
-    match h.mode {
-        Mode::Reversible => zf_block::decode_rev(d, reader, block),
-        Mode::Rate(bits) => read_rate(d, bits, reader, block),
-        Mode::Precision(prec) => zf_block::decode_prec(d, prec, reader, block),
-    }
-}
-
-/// Reads a code of `bits` bits, or answers `None` where fewer are left.
-#[inline(always)]
-fn read_rate<T: Lane>(d: u8, bits: u32, reader: &mut BitReader<'_>, block: &mut [T]) -> Option<()>
-    requires some { 1 ≤ d }
-    requires four_at_most { d ≤ 4 }
-    requires whole { length block.old ≡ 4 ^ d }
-    ensures some { OnSome result (ReadsCode T.width (Mode.Rate bits) d reader.old reader.new (map T.value block.new)) }
-    ensures none { IfNone result (LacksCode T.width (Mode.Rate bits) d reader.old) }
-{
-    if reader.left() < u64::from(bits) {
-        return None;
-    }
-    zf_block::decode_rate(d, bits, reader, block);
-    Some(())
-}
-
-/// Reads the fill behind the codes of an array with this header: it is to be zero, and nothing is to be behind it.
-pub fn check_fill(h: &Header, reader: &mut BitReader<'_>) -> Result<(), StreamFault>
-    ensures { result ≡ fill_answer h.now reader.old.at (rest reader.old) }
-{
-    let left = reader.left();
-    let fill = (64 - reader.at() % 64) % 64;
-    let Some(number) = reader.read(fill as u32) else {
-        return Err(StreamFault::Truncated(h.shape.blocks()));
-    };
-    if number != 0 {
-        return Err(StreamFault::Pad);
-    }
-    if left > fill {
-        return Err(StreamFault::Trailing);
-    }
-    Ok(())
 }

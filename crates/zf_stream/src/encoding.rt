@@ -12,8 +12,8 @@ ghost use Rattle.zf_header.specs.HeaderBits.{coding};
 ghost use Rattle.zf_pad.specs.Rasters.{IsRaster};
 ghost use Rattle.zf_dev.specs.Faults.{HasCause};
 ghost use Rattle.zf_stream.specs.Flows.{Flows, Spills};
-ghost use Rattle.zf_stream.specs.Parsing.{longest_code};
-ghost use Rattle.zf_stream.specs.declared.fault.StreamFault.TheVariants.{Write};
+ghost use Rattle.zf_parse.specs.Parsing.{longest_code};
+ghost use Rattle.zf_parse.specs.declared.fault.StreamFault.TheVariants.{Write};
 ghost use Rattle.zf_spec.specs.Grid.{IsDimension};
 
 use crate::StreamFault;

@@ -2,8 +2,9 @@
 
 ghost use Rattle.std.specs.Prelude.{◌≡◌, ◌≢◌, Err, IfOk, IfErr};
 ghost use Rattle.zf_dev.specs.Faults.{HasCause};
-ghost use Rattle.zf_stream.specs.ReadStreams.{BeginsWithHeader, ReadsHeader, IsFaultOf, LacksHeader};
-ghost use Rattle.zf_stream.specs.declared.fault.StreamFault.TheVariants.{Read};
+ghost use Rattle.zf_parse.specs.ReadStreams.{BeginsWithHeader, IsFaultOf};
+ghost use Rattle.zf_stream.specs.Headed.{ReadsHeader, LacksHeader};
+ghost use Rattle.zf_parse.specs.declared.fault.StreamFault.TheVariants.{Read};
 
 use crate::StreamFault;
 use crate::reading::read_into;

@@ -9,8 +9,8 @@ ghost use Rattle.zf_header.specs.declared.header.Header.{Header};
 ghost use Rattle.zf_header.specs.declared.header.Mode.TheVariants.{Reversible, Rate, Precision};
 ghost use Rattle.zf_header.specs.HeaderBits.{IsHeader};
 ghost use Rattle.zf_header.specs.HeaderFaults.{header_fault};
-ghost use Rattle.zf_stream.specs.Raw.{raw_len, raw_bytes, stream_of, stream_text};
-ghost use Rattle.zf_stream.specs.Parsing.{header_of, values_of_blocks, values_said, said_of, without_said, parse, restore_answer, restored_text};
+ghost use Rattle.zf_parse.specs.Raw.{raw_len, raw_bytes, stream_of, stream_text};
+ghost use Rattle.zf_parse.specs.Parsing.{header_of, values_of_blocks, values_said, said_of, without_said, parse, restore_answer, restored_text};
 ghost use Rattle.zf_spec.specs.Numbers.{AreValues};
 
 /// What is restored of a stream is the raw bytes of its values.

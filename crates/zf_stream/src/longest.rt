@@ -3,7 +3,7 @@
 ghost use Rattle.std.specs.Prelude.{◌≡◌, ◌≤◌, ◌<◌, ◌^◌};
 ghost use Rattle.zf_base.specs.Widths.{width_of};
 ghost use Rattle.zf_header.specs.HeaderBits.{IsMode};
-ghost use Rattle.zf_stream.specs.Parsing.{longest_code};
+ghost use Rattle.zf_parse.specs.Parsing.{longest_code};
 
 use zf_base::{Lane, block_len};
 use zf_header::{Header, Mode};

@@ -6,7 +6,7 @@ ghost use Rattle.zf_dev.specs.Source.{TakesSome, TakesAtMost, Takes, IsAtEnd};
 ghost use Rattle.zf_dev.specs.Faults.{HasCause};
 ghost use Rattle.zf_stream.specs.Outcomes.{TakesFirst};
 ghost use Rattle.zf_stream.specs.ReadRaw.{ReadsValues, LacksRaw, GoesOn};
-ghost use Rattle.zf_stream.specs.declared.fault.StreamFault.TheVariants.{Read};
+ghost use Rattle.zf_parse.specs.declared.fault.StreamFault.TheVariants.{Read};
 
 use crate::StreamFault;
 use crate::values::{put_values, value_len};

@@ -6,18 +6,18 @@ ghost use Rattle.zf_base.specs.Widths.{width_of};
 ghost use Rattle.zf_header.specs.declared.header.HeaderFault.{HeaderFault};
 ghost use Rattle.zf_dev.specs.Faults.{HasCause};
 ghost use Rattle.zf_dev.specs.Source.{IsAtEnd};
-ghost use Rattle.zf_stream.specs.Parsing.{restore_answer, restored_text, longest_code};
+ghost use Rattle.zf_parse.specs.Parsing.{restore_answer, restored_text, longest_code};
 ghost use Rattle.zf_stream.specs.Outcomes.{CanRefuse, Answers, Finishes, LeavesFront, IsBeforeWriting};
 ghost use Rattle.zf_stream.specs.Typed.{typed_answer, CanRefuseTyped, RestoresWhere};
-ghost use Rattle.zf_stream.specs.ReadStreams.{BeginsWithHeader, HasGoodHeader};
+ghost use Rattle.zf_parse.specs.ReadStreams.{BeginsWithHeader, HasGoodHeader};
 ghost use Rattle.zf_stream.specs.Rows.{ArePieces};
 ghost use Rattle.zf_stream.specs.Windows.{KnowsEnd};
 ghost use Rattle.zf_stream.specs.Restoring.{behind, FinishesBehind, CanRefuseBehind, Restores, LeavesRows, Refuses, RestoresAll};
-ghost use Rattle.zf_stream.specs.declared.fault.StreamFault.TheVariants.{Read, Write, Memory};
+ghost use Rattle.zf_parse.specs.declared.fault.StreamFault.TheVariants.{Read, Write, Memory};
 
 use crate::StreamFault;
 use crate::compressing::PIECE;
-use crate::decoding::{check_fill, read_slab};
+use crate::decoding::read_slab;
 use crate::header::header_at_front;
 use crate::longest::longest_code;
 use crate::reading::read_into;
@@ -29,6 +29,7 @@ use zf_base::{Lane, Ty, block_len};
 use zf_dev::{Sink, Source};
 use zf_header::Header;
 use zf_pad::Layout;
+use zf_parse::check_fill;
 
 /// Reads a stream to the end of the source, and writes its raw values, each little-endian in 4 or 8 bytes, x fastest.
 ///

@@ -6,7 +6,7 @@ ghost use Rattle.zf_spec.specs.Stream.{to_bits};
 ghost use Rattle.zf_dev.specs.Faults.{HasCause};
 ghost use Rattle.zf_dev.specs.Source.{TakesSome};
 ghost use Rattle.zf_stream.specs.Windows.{left_of, KnowsEnd, Refills};
-ghost use Rattle.zf_stream.specs.declared.fault.StreamFault.TheVariants.{Read};
+ghost use Rattle.zf_parse.specs.declared.fault.StreamFault.TheVariants.{Read};
 
 use crate::StreamFault;
 use crate::bytes::put_words_at;

@@ -5,7 +5,7 @@ ghost use Rattle.zf_spec.specs.Stream.{raw};
 ghost use Rattle.zf_dev.specs.Faults.{HasCause};
 ghost use Rattle.zf_dev.specs.Sink.{Appends, AppendsFront};
 ghost use Rattle.zf_stream.specs.Flows.{bytes_in, Flows, Spills};
-ghost use Rattle.zf_stream.specs.declared.fault.StreamFault.TheVariants.{Write};
+ghost use Rattle.zf_parse.specs.declared.fault.StreamFault.TheVariants.{Write};
 
 use crate::StreamFault;
 use crate::bytes::put_bytes;

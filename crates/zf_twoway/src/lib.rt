@@ -5,8 +5,6 @@ pub mod laws;
 pub mod laws_of_touches;
 mod skewed;
 pub mod tables;
-#[cfg(test)]
-mod tests;
 mod twoway;
 
 pub use skewed::Skewed;

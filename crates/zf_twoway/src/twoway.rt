@@ -12,9 +12,8 @@ ghost use Rattle.zf_twoway.specs.Standing.{is_dirty, state_of, values_of, Fits};
 use crate::skewed::Skewed;
 use std::alloc::{AllocError, Global};
 use std::marker::Model;
-use zf_base::{Backing, Lane, block_len};
+use zf_base::{Backing, Lane, Stats, block_len};
 use zf_cache::Body;
-use zf_script::Stats;
 
 /// A cache of blocks of `4^D` values, which stands on a backing that is passed to each call.
 ///

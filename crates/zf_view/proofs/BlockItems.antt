@@ -1,8 +1,8 @@
 -- The list of the blocks that an iterator has left.
-use Rattle.std.proofs.Common.{◌≡◌, ℕ, suc, ◌+◌, ◌-◌, ◌*◌, ◌<◌, List, ◌∷◌, map, length, ap, sym, ◌∙◌, arith}
+use Rattle.std.proofs.Common.{◌≡◌, ℕ, ◌+◌, ◌-◌, ◌*◌, ◌<◌, List, ◌∷◌, map, length, ap, sym, ◌∙◌}
 use Rattle.std.proofs.lemmas.List.{length-map}
 use Rattle.zf_spec.specs.Grid.{count_from, grid, blocks, coordinates, extent_of}
-use Rattle.zf_spec.proofs.Counting.{length-count_from}
+use Rattle.zf_spec.proofs.Counting.{length-count_from, count_from-below}
 use Rattle.zf_base.specs.declared.position.Pos.{Pos}
 use Rattle.zf_base.specs.declared.position.Extent.{Extent}
 use Rattle.zf_base.specs.Positions.{with_unused}
@@ -11,13 +11,6 @@ use Rattle.zf_view.specs.BlockItems.{block_item, items_from}
 -- as many as there are numbers left
 pub length-items_from : (ns : List ℕ) (b : ℕ) → length (items_from ns b) ≡ blocks ns - b
 length-items_from ns b = length-map (count_from b (blocks ns - b)) (block_item ns) ∙ length-count_from b (blocks ns - b)
-
--- the numbers from k on begin with k
-pub count_from-below : (k n : ℕ) → k < n → count_from k (n - k) ≡ k ∷ count_from (k + 1) (n - (k + 1))
-count_from-below k n below =
-    let left : n - k ≡ suc (n - (k + 1)) = omega arith in
-    let next : suc k ≡ k + 1 = omega arith in
-    ap (count_from k) left ∙ ap (λ i. k ∷ count_from i (n - (k + 1))) next
 
 same_extent : (p q : Pos) (e : Extent) → e.origin ≡ p → e.size ≡ q → e ≡ record { origin = p; size = q }
 same_extent p q e origin size = ap (λ o. record { origin = o; size = e.size }) origin ∙ ap (λ s. record { origin = p; size = s }) size

@@ -16,9 +16,9 @@ use Rattle.zf_cached.proofs.Windows.{length-mapped}
 use Rattle.zf_array.specs.Standing.{Held, format, state, array_of, shape, block_at, place_at}
 use Rattle.zf_array.specs.Loans.{spliced, with_part}
 use Rattle.zf_array.proofs.Lent.{found_there, ends_there, state_there}
-use Rattle.zf_view.specs.Touches.{position_at}
-use Rattle.zf_view.specs.Runs.{x_step, run_length, along_x, AreBeside, run_found, run_changed, with_run}
-use Rattle.zf_view.proofs.Positions.{four_axes, position_at-inside}
+use Rattle.zf_window.specs.Positions.{position_at, x_step, run_length}
+use Rattle.zf_view.specs.Runs.{along_x, AreBeside, run_found, run_changed, with_run}
+use Rattle.zf_window.proofs.Positions.{four_axes, position_at-inside}
 
 -- the coordinates of a position that is made of them
 flat : (ns ms : List ℕ) → length ms ≡ length ns → length ns ≤ 4 → used_axes (length ns) (with_unused 0 ms) ≡ ms

@@ -4,7 +4,8 @@ use Rattle.std.specs.Iterator.{Count, at_most}
 use Rattle.zf_spec.specs.Grid.{product}
 use Rattle.zf_cached.specs.Windows.{LiesIn}
 use Rattle.zf_array.specs.Standing.{state, shape}
-use Rattle.zf_view.specs.Touches.{raster_at, touched_at, found_at}
+use Rattle.zf_window.specs.Positions.{raster_at}
+use Rattle.zf_view.specs.Touches.{touched_at, found_at}
 use Rattle.zf_view.specs.declared.elems.ElemIter.{ElemIter}
 
 module _ {X : Type 0} {n : ℕ} where

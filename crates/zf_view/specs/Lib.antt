@@ -1,15 +1,11 @@
 -- What the contracts of zf_view cite.
---     WindowFields  what holds of the fields of a window, and why numbers are no window
 --     BlockItems    the blocks of a shape, in order
 --     Touches       what a call on an array does at a position
 --     ViewLoans     what a view is once a loan of its array has ended
 --     Runs          a run of values along x that a view lends
 --     Elems         what an iterator over the values of a view keeps, and what its steps do
---     Lemmas        what the laws of impls cite
-pub mod WindowFields
 pub mod BlockItems
 pub mod Touches
 pub mod ViewLoans
 pub mod Runs
 pub mod Elems
-pub mod Lemmas

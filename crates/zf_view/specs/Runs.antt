@@ -1,5 +1,5 @@
 -- A run of values along x, as a view lends it.
-use Rattle.std.specs.Prelude.{ℕ, ◌≡◌, ◌+◌, ◌-◌, ◌%◌, ◌<◌, min, ℤ, Bool, List, length, take, drop, slice_index_or}
+use Rattle.std.specs.Prelude.{ℕ, ◌≡◌, ◌+◌, ◌<◌, ℤ, Bool, List, length, take, drop}
 use Rattle.zf_base.specs.declared.position.Pos.{Pos}
 use Rattle.zf_base.specs.Positions.{IsPosition}
 use Rattle.zf_cached.specs.State.{State}
@@ -7,15 +7,7 @@ use Rattle.zf_cached.specs.Touch.{touch_for_writing, with_values}
 use Rattle.zf_cached.specs.Windows.{Window}
 use Rattle.zf_array.specs.Standing.{Held, format, state, array_of, block_at, place_at}
 use Rattle.zf_array.specs.Loans.{spliced}
-use Rattle.zf_view.specs.Touches.{position_at}
-
--- the step of a window along x
-abbrev pub x_step : Window → ℕ
-x_step w = slice_index_or w.step 0 0
-
--- how many positions there are from position p of a window on along x, up to the end of the block and of the window
-abbrev pub run_length : Window → Pos → ℕ
-run_length w p = min (4 - (position_at w p).x % 4) (slice_index_or w.size 0 0 - p.x)
+use Rattle.zf_window.specs.Positions.{position_at}
 
 -- the position k further along x
 abbrev pub along_x : Pos → ℕ → Pos

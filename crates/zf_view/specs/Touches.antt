@@ -1,20 +1,9 @@
 -- What a call on an array does at a position.
-use Rattle.std.specs.Prelude.{ℕ, ℤ, pos, Bool, List, length, slice_index_or, slice_set}
-use Rattle.zf_spec.specs.Grid.{coordinates}
+use Rattle.std.specs.Prelude.{ℤ, pos, Bool, List, slice_index_or, slice_set}
 use Rattle.zf_base.specs.declared.position.Pos.{Pos}
-use Rattle.zf_base.specs.Positions.{used_axes, with_unused}
 use Rattle.zf_cached.specs.State.{State}
 use Rattle.zf_cached.specs.Touch.{touch, touch_for_writing, with_values}
-use Rattle.zf_cached.specs.Windows.{Window, mapped}
 use Rattle.zf_array.specs.Standing.{Held, format, state, block_at, place_at}
-
--- the position of the array that a position of a window is
-abbrev pub position_at : Window → Pos → Pos
-position_at w p = with_unused 0 (mapped w (used_axes (length w.size) p))
-
--- position k of a window in raster order, as a position of the array
-abbrev pub raster_at : Window → ℕ → Pos
-raster_at w k = with_unused 0 (mapped w (coordinates w.size k))
 
 -- the state of the array after a touch at a position
 abbrev pub touched_at : Held → Pos → State (List Bool)

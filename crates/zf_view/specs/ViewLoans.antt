@@ -11,7 +11,7 @@ use Rattle.zf_lines.specs.Rows.{over}
 use Rattle.zf_array.specs.Standing.{Held}
 use Rattle.zf_array.specs.Loans.{with_value}
 use Rattle.zf_array.specs.contracts.array.Array as array
-use Rattle.zf_view.specs.Touches.{position_at}
+use Rattle.zf_window.specs.Positions.{position_at}
 use Rattle.zf_view.specs.Runs.{with_run}
 use Rattle.zf_view.specs.declared.view.View.{View}
 use Rattle.zf_view.specs.declared.view.ElemMut.{ElemMut}

@@ -6,10 +6,10 @@ ghost use Rattle.std.specs.Iterator.SizeHint.{IsWithinCount};
 ghost use Rattle.zf_cached.specs.Windows.{LiesIn};
 ghost use Rattle.zf_array.specs.Standing.{shape};
 
-use crate::window::Window;
 use std::iter::FusedIterator;
 use zf_array::Array;
 use zf_base::Lane;
+use zf_window::Window;
 
 /// The values of a view in raster order, x fastest: each position of the window once, by one touch an item. Each value is the one that
 /// its own touch finds.

@@ -6,13 +6,14 @@ ghost use Rattle.zf_spec.specs.Numbers.{wrap};
 ghost use Rattle.zf_base.specs.Positions.{IsPosition};
 ghost use Rattle.zf_cached.specs.Windows.{LiesIn};
 ghost use Rattle.zf_array.specs.Standing.{state, shape};
-ghost use Rattle.zf_view.specs.Touches.{position_at, touched_at, found_at, changed_at};
-ghost use Rattle.zf_view.specs.Runs.{AreBeside, x_step, run_length, run_found, run_changed, with_run};
+ghost use Rattle.zf_window.specs.Positions.{position_at, x_step, run_length};
+ghost use Rattle.zf_view.specs.Touches.{touched_at, found_at, changed_at};
+ghost use Rattle.zf_view.specs.Runs.{AreBeside, run_found, run_changed, with_run};
 
 use crate::elems::ElemIter;
-use crate::window::Window;
 use zf_array::Array;
 use zf_base::{Lane, Pos};
+use zf_window::Window;
 
 /// An array of `D` dimensions seen through a window. It borrows the array, and each of its calls is the array's call at the position
 /// that the window maps to; so windows that overlap, and calls on the array itself, see one state.

@@ -7,10 +7,10 @@ use Rattle.zf_dev.specs.Shelf.{Files, KeepsFiles}
 use Rattle.zf_dev.specs.Sink.{Appends, AppendsFront}
 use Rattle.zf_header.specs.declared.header.Header.{Header}
 use Rattle.zf_header.specs.HeaderBits.{IsRate}
-use Rattle.zf_stream.specs.declared.fault.StreamFault.{StreamFault}
-use Rattle.zf_stream.specs.declared.fault.StreamFault.TheVariants as faults
-use Rattle.zf_stream.specs.Parsing.{Said, header_of, parse, without_said}
-use Rattle.zf_stream.specs.ReadStreams.{IsFault}
+use Rattle.zf_parse.specs.declared.fault.StreamFault.{StreamFault}
+use Rattle.zf_parse.specs.declared.fault.StreamFault.TheVariants as faults
+use Rattle.zf_parse.specs.Parsing.{Said, header_of, parse, without_said}
+use Rattle.zf_parse.specs.ReadStreams.{IsFault}
 use Rattle.zf_index.specs.declared.fault.IndexFault.{IndexFault}
 use Rattle.zf_index.specs.declared.fault.IndexFault.TheVariants as index
 use Rattle.zf_index.specs.Files.{HasHeader, stream_fault}

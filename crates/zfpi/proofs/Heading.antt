@@ -8,10 +8,10 @@ use Rattle.zf_spec.specs.Stream.{to_bits}
 use Rattle.zf_header.specs.declared.header.Header.{Header}
 use Rattle.zf_header.specs.HeaderFields.{header_in}
 use Rattle.zf_header.specs.HeaderFaults.{header_fault}
-use Rattle.zf_stream.specs.declared.fault.StreamFault.{StreamFault}
-use Rattle.zf_stream.specs.declared.fault.StreamFault.TheVariants as faults
+use Rattle.zf_parse.specs.declared.fault.StreamFault.{StreamFault}
+use Rattle.zf_parse.specs.declared.fault.StreamFault.TheVariants as faults
 use Rattle.zf_stream.specs.Outcomes.{IsFront, TakesFirst}
-use Rattle.zf_stream.specs.ReadStreams.{ReadsHeader, LacksHeader}
+use Rattle.zf_stream.specs.Headed.{ReadsHeader, LacksHeader}
 use Rattle.zfpi.specs.declared.status.Status.{Status}
 use Rattle.zfpi.specs.declared.status.Status.TheVariants as statuses
 use Rattle.zfpi.specs.declared.command.Command.TheVariants.{Info}

@@ -8,9 +8,9 @@ use Rattle.zf_dev.specs.Source.{Takes, TakesSome}
 use Rattle.zf_dev.specs.declared.faults.LoadError.{LoadError}
 use Rattle.zf_dev.specs.declared.faults.LoadError.TheVariants as loading
 use Rattle.zf_dev.proofs.Appending.{AppendsFront-none}
-use Rattle.zf_stream.specs.declared.fault.StreamFault.{StreamFault}
-use Rattle.zf_stream.specs.declared.fault.StreamFault.TheVariants as faults
-use Rattle.zf_stream.specs.Parsing.{Said}
+use Rattle.zf_parse.specs.declared.fault.StreamFault.{StreamFault}
+use Rattle.zf_parse.specs.declared.fault.StreamFault.TheVariants as faults
+use Rattle.zf_parse.specs.Parsing.{Said}
 use Rattle.zf_index.specs.declared.fault.IndexFault.{IndexFault}
 use Rattle.zf_index.specs.declared.fault.IndexFault.TheVariants as index
 use Rattle.zfpi.specs.declared.status.Status.{Status}
@@ -86,12 +86,6 @@ Unsaved-first : (status : Status) → ComesFirst status → Unsaved status
 Unsaved-first = by_first Unsaved tt tt tt (λ f. tt) (λ b. tt) tt tt tt (λ m. tt)
 
 -- ---- shelves
-
-pub KeepsFiles-append : (before mid now : Option Files) → KeepsFiles before mid → KeepsFiles mid now → KeepsFiles before now
-KeepsFiles-append None mid now a b = tt
-KeepsFiles-append (Some x) None now a b = absurd a
-KeepsFiles-append (Some x) (Some y) None a b = b
-KeepsFiles-append (Some x) (Some y) (Some z) a b = λ name. b name ∙ a name
 
 -- the files that are told, or else these bytes under each name
 pub files_with : Option Files → List ℕ → Files

@@ -7,14 +7,14 @@ use Rattle.zf_dev.specs.Shelf.{Files, KeepsFiles}
 use Rattle.zf_dev.specs.Source.{Takes, IsAtEnd}
 use Rattle.zf_dev.specs.Sink.{Appends}
 use Rattle.zf_header.specs.declared.header.Header.{Header}
-use Rattle.zf_stream.specs.Parsing.{parse}
-use Rattle.zf_stream.specs.ReadStreams.{IsFault}
+use Rattle.zf_parse.specs.Parsing.{parse}
+use Rattle.zf_parse.specs.ReadStreams.{IsFault}
 use Rattle.zf_index.specs.declared.fault.IndexFault.{IndexFault}
 use Rattle.zf_index.specs.Files.{stream_fault}
 use Rattle.zf_cached.specs.Runs.{lines_of, run_lines, run_script, look, look_setting, replies_text}
 use Rattle.zf_const.specs.Standing.{Held, state, coding_of, open_stream}
 use Rattle.zf_const.specs.Files.{IsOpened, said}
-use Rattle.zf_run.specs.Steps.{is_refusal, is_want}
+use Rattle.zf_commands.specs.Steps.{is_refusal, is_want}
 use Rattle.zf_run.specs.Sessions.{look_setting_of, look_start_of, look_of}
 use Rattle.zf_run.specs.Ends.{FinishesLook, StopsLook}
 use Rattle.zfpi.specs.declared.status.Status.TheVariants as statuses

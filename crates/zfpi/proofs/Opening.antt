@@ -8,9 +8,9 @@ use Rattle.zf_header.specs.declared.header.Mode.TheVariants.{Reversible, Rate, P
 use Rattle.zf_header.specs.declared.header.HeaderFault.{HeaderFault}
 use Rattle.zf_header.specs.HeaderBits.{IsRate, coding}
 use Rattle.zf_header.specs.HeaderFaults.{header_fault}
-use Rattle.zf_stream.specs.declared.fault.StreamFault.{StreamFault}
-use Rattle.zf_stream.specs.declared.fault.StreamFault.TheVariants as faults
-use Rattle.zf_stream.specs.Parsing.{Said, header_of, code_bits, read_codes, codes_answer, header_or, values_said, codes_said, said_with, parse}
+use Rattle.zf_parse.specs.declared.fault.StreamFault.{StreamFault}
+use Rattle.zf_parse.specs.declared.fault.StreamFault.TheVariants as faults
+use Rattle.zf_parse.specs.Parsing.{Said, header_of, code_bits, read_codes, codes_answer, header_or, values_said, codes_said, said_with, parse}
 use Rattle.zfpi.specs.declared.status.Status.TheVariants as statuses
 use Rattle.zfpi.specs.Opened.{said_or_status, said_at_rate, array_behind, array_in, stream_in}
 

@@ -11,14 +11,14 @@ use Rattle.zf_header.specs.declared.header.Mode.{Mode}
 use Rattle.zf_header.specs.declared.header.Mode.TheVariants.{Reversible, Rate, Precision}
 use Rattle.zf_header.specs.declared.header.Header.{Header}
 use Rattle.zf_header.specs.HeaderFaults.{header_fault}
-use Rattle.zf_stream.specs.declared.fault.StreamFault.{StreamFault}
-use Rattle.zf_stream.specs.declared.fault.StreamFault.TheVariants as faults
-use Rattle.zf_stream.specs.Raw.{raw_len, stream_text}
+use Rattle.zf_parse.specs.declared.fault.StreamFault.{StreamFault}
+use Rattle.zf_parse.specs.declared.fault.StreamFault.TheVariants as faults
+use Rattle.zf_parse.specs.Raw.{raw_len, stream_text}
 use Rattle.zf_spec.specs.Grid.{blocks}
-use Rattle.zf_stream.specs.Parsing.{Said, header_of, code_bits, codes_said, values_said, said_with, parse, without_values, without_said, restore_answer, restored_text}
+use Rattle.zf_parse.specs.Parsing.{Said, header_of, code_bits, codes_said, values_said, said_with, parse, without_values, without_said, restore_answer, restored_text}
 use Rattle.zf_stream.proofs.OwnFaults.{is_foreign, blames_foreign, own_answer}
-use Rattle.zf_run.specs.Steps.{is_refusal}
-use Rattle.zf_stream.proofs.StreamsBack.{answer-stream_text, text-reversible_text}
+use Rattle.zf_commands.specs.Steps.{is_refusal}
+use Rattle.zf_parse.proofs.StreamsBack.{answer-stream_text, text-reversible_text}
 use Rattle.zf_narrow.proofs.StreamsBack.{answer-narrow_text, text-narrow_text}
 use Rattle.zf_narrow.specs.Texts.{narrow_len, narrow_text, answer_behind, restore_narrow_answer, narrow_restored}
 use Rattle.zfpi.specs.Faults.{fault_status}
@@ -36,26 +36,9 @@ use Rattle.zfpi.specs.Answer.{CanRun, TakesMemory, MayLoad, MaySave, MayFail, Is
 use Rattle.zfpi.specs.Headline.{OfCommand, RefusesWords, IsOfCommand, Writes, Behaves, HasCauses, AreQuiet, IsComplete, IsFromOutside, IsCausedOnShelf, FailedLoad, FailedSave, IsBack, GivesBack}
 use Rattle.zfpi.proofs.Commands.{one_command}
 
--- what the words say can be run
-pub CanRun-spelled : (c : Command) (words : List (List ℕ)) → IsSpelled c words → CanRun c
-CanRun-spelled (Compress h) words spelled = spelled.0.header.mode
-CanRun-spelled (CompressNarrow n h) words spelled = (spelled.asked.header.mode, spelled.typed)
-CanRun-spelled Restore words spelled = tt
-CanRun-spelled (RestoreNarrow n) words spelled = tt
-CanRun-spelled Info words spelled = tt
-CanRun-spelled (New name ty ns b) words spelled = (spelled.shape, spelled.rate)
-CanRun-spelled (Run name caching) words spelled = spelled.caching_is
-CanRun-spelled (Look name lines) words spelled = spelled.caching_is
-CanRun-spelled (Bound name most) words spelled = tt
-CanRun-spelled (Sample h seed) words spelled = spelled.asked.header.mode
-
 -- what holds of one command that the words are holds of each
 pub OfCommand-one : (words : List (List ℕ)) (c : Command) → IsSpelled c words → (P : Command → Type 0) → P c → OfCommand words P
 OfCommand-one words c spelled P this = λ d other. subst P (one_command words c d spelled other) this
-
-pub RefusesWords-command : (words : List (List ℕ)) (c : Command) (status : Status) → IsSpelled c words → IsOfCommand status → RefusesWords words status
-RefusesWords-command words c (Usage k) spelled is = absurd is
-RefusesWords-command words c status spelled is = (c, spelled)
 
 -- ---- what follows from the two records of a command
 

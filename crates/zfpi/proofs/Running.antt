@@ -13,10 +13,10 @@ use Rattle.zf_header.specs.declared.header.Mode.TheVariants.{Reversible, Rate, P
 use Rattle.zf_header.specs.declared.header.HeaderFault.{HeaderFault}
 use Rattle.zf_header.specs.HeaderBits.{IsRate, coding, block_bits}
 use Rattle.zf_header.specs.HeaderFaults.{header_fault}
-use Rattle.zf_stream.specs.declared.fault.StreamFault.{StreamFault}
-use Rattle.zf_stream.specs.declared.fault.StreamFault.TheVariants as faults
-use Rattle.zf_stream.specs.Parsing.{Said, header_of, parse}
-use Rattle.zf_stream.specs.ReadStreams.{IsFault}
+use Rattle.zf_parse.specs.declared.fault.StreamFault.{StreamFault}
+use Rattle.zf_parse.specs.declared.fault.StreamFault.TheVariants as faults
+use Rattle.zf_parse.specs.Parsing.{Said, header_of, parse}
+use Rattle.zf_parse.specs.ReadStreams.{IsFault}
 use Rattle.zf_store.specs.declared.fault.StoreFault.{StoreFault}
 use Rattle.zf_store.specs.declared.fault.StoreFault.TheVariants as stores
 use Rattle.zf_store.specs.Files.{HasHeader, IsOpened, said, stream_fault}
@@ -27,8 +27,8 @@ use Rattle.zf_cached.specs.Replies.{Reply}
 use Rattle.zf_cached.specs.Windows.{whole}
 use Rattle.zf_cached.specs.Steps.{Setting, Session}
 use Rattle.zf_cached.specs.Runs.{lines_of, run_lines, run_script, run, replies_text}
-use Rattle.zf_run.specs.Sessions.{session}
-use Rattle.zf_run.specs.Steps.{is_refusal, is_want}
+use Rattle.zf_commands.specs.Sittings.{session}
+use Rattle.zf_commands.specs.Steps.{is_refusal, is_want}
 use Rattle.zf_run.specs.Ends.{Completes, Halts}
 use Rattle.zfpi.specs.declared.status.Status.{Status}
 use Rattle.zfpi.specs.declared.status.Status.TheVariants as statuses

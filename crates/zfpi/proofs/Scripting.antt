@@ -11,13 +11,13 @@ use Rattle.zf_dev.specs.Sink.{Appends, AppendsFront}
 use Rattle.zf_dev.specs.declared.faults.TakeError.{TakeError}
 use Rattle.zf_dev.specs.declared.faults.TakeError.TheVariants as taking
 use Rattle.zf_dev.proofs.Appending.{AppendsFront-none, AppendsFront-more}
-use Rattle.zf_stream.specs.Parsing.{Said}
+use Rattle.zf_parse.specs.Parsing.{Said}
 use Rattle.zf_cached.specs.Replies.{reply_text}
 use Rattle.zf_cached.specs.Steps.{Setting, Session}
 use Rattle.zf_cached.specs.Runs.{lines_of, run_lines, replies_text}
 use Rattle.zf_cached.proofs.Runs.{run_lines-append}
-use Rattle.zf_run.specs.Steps.{is_refusal, is_want}
-use Rattle.zf_run.specs.Ends.{StopsAt}
+use Rattle.zf_commands.specs.Steps.{is_refusal, is_want}
+use Rattle.zf_commands.specs.Runs.{StopsAt}
 use Rattle.zfpi.specs.declared.status.Status.{Status}
 use Rattle.zfpi.specs.declared.status.Status.TheVariants as statuses
 use Rattle.zfpi.specs.declared.command.Caching.{Caching}

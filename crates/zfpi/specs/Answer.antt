@@ -3,9 +3,9 @@ use Rattle.std.specs.Prelude.{◌≡◌, ℕ, ◌<◌, ◌≤◌, Bool, true, fa
 use Rattle.zf_header.specs.declared.header.HeaderFault.{HeaderFault}
 use Rattle.zf_header.specs.HeaderBits.{IsMode}
 use Rattle.zf_header.specs.HeaderFaults.{header_fault}
-use Rattle.zf_stream.specs.declared.fault.StreamFault.{StreamFault}
-use Rattle.zf_stream.specs.Raw.{raw_len, compress_answer, stream_text}
-use Rattle.zf_stream.specs.Parsing.{Said, header_of, restore_answer, restored_text}
+use Rattle.zf_parse.specs.declared.fault.StreamFault.{StreamFault}
+use Rattle.zf_parse.specs.Raw.{raw_len, compress_answer, stream_text}
+use Rattle.zf_parse.specs.Parsing.{Said, header_of, restore_answer, restored_text}
 use Rattle.zf_narrow.specs.declared.fault.NarrowFault.{NarrowFault}
 use Rattle.zf_narrow.specs.declared.narrow.Narrow.{Narrow}
 use Rattle.zf_narrow.specs.Texts.{narrow_len, compress_narrow_answer, ArePromoted, ArePromotedNearly, restore_narrow_answer, narrow_restored}

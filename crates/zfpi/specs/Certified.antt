@@ -1,6 +1,6 @@
 -- The line that `bound` writes.
 use Rattle.std.specs.Prelude.{ℕ, List, [], Result, Ok, Err}
-use Rattle.zf_stream.specs.Parsing.{Said}
+use Rattle.zf_parse.specs.Parsing.{Said}
 use Rattle.zf_bound.specs.Bounds.{certified_of, bound_text}
 use Rattle.zfpi.specs.declared.status.Status.{Status}
 use Rattle.zfpi.specs.declared.status.Status.TheVariants as statuses

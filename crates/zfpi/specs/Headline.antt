@@ -3,7 +3,7 @@ use Rattle.std.specs.Prelude.{ℕ, ◌≡◌, ◌≢◌, ◌<◌, ◌≤◌, ◌
 use Rattle.zf_header.specs.declared.header.Header.{Header}
 use Rattle.zf_header.specs.declared.header.Mode.TheVariants.{Reversible}
 use Rattle.zf_header.specs.HeaderBits.{IsHeader}
-use Rattle.zf_stream.specs.Raw.{raw_len, stream_text}
+use Rattle.zf_parse.specs.Raw.{raw_len, stream_text}
 use Rattle.zf_base.specs.declared.lane.Ty.TheVariants.{I32}
 use Rattle.zf_narrow.specs.declared.narrow.Narrow.{Narrow}
 use Rattle.zf_narrow.specs.Texts.{narrow_len, narrow_text}

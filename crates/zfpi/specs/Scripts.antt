@@ -4,7 +4,7 @@ use Rattle.std.specs.Int.{Width}
 use Rattle.zf_spec.specs.Grid.{blocks}
 use Rattle.zf_base.specs.Widths.{width_of}
 use Rattle.zf_header.specs.HeaderBits.{block_bits}
-use Rattle.zf_stream.specs.Parsing.{Said}
+use Rattle.zf_parse.specs.Parsing.{Said}
 use Rattle.zf_cached.specs.Changes.{default_lines}
 use Rattle.zf_cached.specs.Arrays.{open_array, saved_file}
 use Rattle.zf_cached.specs.Replies.{Reply}
@@ -12,7 +12,7 @@ use Rattle.zf_cached.specs.Steps.{Setting, Session}
 use Rattle.zf_cached.specs.Runs.{array_setting, look_setting, run, look, replies_text}
 use Rattle.zf_twoway.specs.Runs.{twoway_setting}
 use Rattle.zf_const.specs.Standing.{coding_of, open_stream}
-use Rattle.zf_run.specs.Steps.{is_refusal, is_want}
+use Rattle.zf_commands.specs.Steps.{is_refusal, is_want}
 use Rattle.zfpi.specs.declared.command.Caching.{Caching}
 use Rattle.zfpi.specs.declared.command.Caching.TheVariants.{Direct, TwoWay}
 use Rattle.zfpi.specs.declared.status.Status.{Status}

@@ -4,8 +4,8 @@ ghost use Rattle.std.specs.Prelude.{◌≡◌, ℕ, List, Option, IfOk, IfErr, O
 ghost use Rattle.zf_dev.specs.Shelf.{Files, KeepsFiles};
 ghost use Rattle.zf_header.specs.HeaderBits.{IsRate};
 ghost use Rattle.zf_index.specs.Files.{HasHeader, stream_fault};
-ghost use Rattle.zf_stream.specs.Parsing.{parse};
-ghost use Rattle.zf_stream.specs.ReadStreams.{IsFault};
+ghost use Rattle.zf_parse.specs.Parsing.{parse};
+ghost use Rattle.zf_parse.specs.ReadStreams.{IsFault};
 ghost use Rattle.zf_bound.specs.Bounds.{IsGood, certified_of};
 ghost use Rattle.zfpi.specs.declared.command.Command.TheVariants.{Bound};
 ghost use Rattle.zfpi.specs.World.{seen, counts};

@@ -13,7 +13,7 @@ use Rattle.zf_cached.specs.State.{State}
 use Rattle.zf_cached.specs.Windows.{Window, LiesIn}
 use Rattle.zf_cached.proofs.Caching.{touch-left_clean}
 use Rattle.zf_array.specs.Standing.{Held, format, state, shape, block_at, place_at}
-use Rattle.zf_view.specs.Touches.{raster_at}
+use Rattle.zf_window.specs.Positions.{raster_at}
 use Rattle.zf_view.specs.Elems.{IsAtElem, GivesElem}
 use Rattle.zf_view.specs.declared.elems.ElemIter.{ElemIter}
 use Rattle.zfpi_uses.specs.Marked.{value_at, sum_of, IsOnlyRead}

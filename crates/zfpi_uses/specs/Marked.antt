@@ -10,13 +10,13 @@ use Rattle.zf_cached.specs.State.{State}
 use Rattle.zf_cached.specs.Windows.{Window}
 use Rattle.zf_cached.specs.Changes.{flush}
 use Rattle.zf_cached.specs.Arrays.{saved_file}
-use Rattle.zf_stream.specs.Parsing.{parse, header_of}
-use Rattle.zf_stream.specs.ReadStreams.{IsFault}
+use Rattle.zf_parse.specs.Parsing.{parse, header_of}
+use Rattle.zf_parse.specs.ReadStreams.{IsFault}
 use Rattle.zf_store.specs.Files.{IsOpened, stream_fault}
 use Rattle.zf_array.specs.Standing.{Held, stored, format, state, block_at, place_at}
-use Rattle.zf_view.specs.Touches.{position_at, raster_at}
-use Rattle.zf_view.specs.Runs.{run_length, run_changed}
-use Rattle.zf_view.specs.WindowFields.{view_fault}
+use Rattle.zf_window.specs.Positions.{position_at, raster_at, run_length}
+use Rattle.zf_view.specs.Runs.{run_changed}
+use Rattle.zf_window.specs.WindowFields.{view_fault}
 use Rattle.zfpi_uses.specs.declared.window.Fault.{Fault}
 use Rattle.zfpi_uses.specs.declared.window.Fault.TheVariants as fault
 

@@ -3,8 +3,8 @@
 ghost use Rattle.std.specs.Prelude.{◌≡◌, length, IfOk, OnOk};
 ghost use Rattle.zf_header.specs.declared.header.Mode.TheVariants.{Reversible};
 ghost use Rattle.zf_header.specs.HeaderBits.{IsMode};
-ghost use Rattle.zf_stream.specs.Raw.{raw_len, stream_text};
-ghost use Rattle.zf_stream.specs.Parsing.{restored_text};
+ghost use Rattle.zf_parse.specs.Raw.{raw_len, stream_text};
+ghost use Rattle.zf_parse.specs.Parsing.{restored_text};
 
 use std::alloc::Global;
 use zf_dev::{MemSink, MemSource};

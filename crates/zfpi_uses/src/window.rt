@@ -7,8 +7,8 @@ ghost use Rattle.zf_store.specs.Files.{HasHeader};
 ghost use Rattle.zf_cached.specs.Windows.{LiesIn};
 ghost use Rattle.zf_array.specs.Standing.{state, shape};
 ghost use Rattle.zf_view.specs.Elems.{IsAtElem};
-ghost use Rattle.zf_view.specs.Runs.{x_step};
-ghost use Rattle.zf_view.specs.WindowFields.{view_fault};
+ghost use Rattle.zf_window.specs.Positions.{x_step};
+ghost use Rattle.zf_window.specs.WindowFields.{view_fault};
 ghost use Rattle.zfpi_uses.specs.Marked.{places_from, first_place, sum_of, marked, IsOnlyRead, IsMarked, IsSeries, IsCause};
 
 use std::alloc::Global;

@@ -7,8 +7,8 @@ use Rattle.zf_spec.proofs.Bytes.{length-to_bits}
 use Rattle.zf_bits.specs.Reader.{Reader}
 use Rattle.zf_header.specs.declared.header.Header.{Header}
 use Rattle.zf_header.specs.HeaderBits.{header_bits}
-use Rattle.zf_stream.specs.Parsing.{parse}
-use Rattle.zf_stream.specs.ReadStreams.{IsFault}
+use Rattle.zf_parse.specs.Parsing.{parse}
+use Rattle.zf_parse.specs.ReadStreams.{IsFault}
 use Rattle.zf_index.specs.declared.fault.IndexFault.{IndexFault}
 use Rattle.zf_index.specs.Files.{HasHeader, IsIndexOf, stream_fault}
 use Rattle.zf_index.specs.Walks.{IsWalked, HasFault}

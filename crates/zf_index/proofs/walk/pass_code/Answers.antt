@@ -1,7 +1,7 @@
 use Rattle.std.proofs.Common.{◌≡◌, sym, ap, ◌∙◌, ℕ, List, length, replicate, arith}
 use Rattle.std.proofs.lemmas.List.{length-replicate}
 use Rattle.zf_bits.specs.Reader.{rest}
-use Rattle.zf_stream.specs.Parsing.{read_code}
+use Rattle.zf_parse.specs.Parsing.{read_code}
 use Rattle.zf_index.proofs.Longest.{code_few}
 use Rattle.zf_index.proofs.walk.pass_code.Goals as goal
 

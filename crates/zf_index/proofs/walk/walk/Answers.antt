@@ -5,7 +5,7 @@ use Rattle.zf_spec.specs.Grid.{blocks, extent_of}
 use Rattle.zf_base.specs.Widths.{width_of}
 use Rattle.zf_base.proofs.Extents.{length-extent_of}
 use Rattle.zf_bits.specs.Reader.{Reader, rest}
-use Rattle.zf_stream.specs.Parsing.{read_code}
+use Rattle.zf_parse.specs.Parsing.{read_code}
 use Rattle.zf_index.specs.declared.fault.IndexFault.{IndexFault}
 use Rattle.zf_index.specs.declared.fault.IndexFault.TheVariants.{Truncated}
 use Rattle.zf_index.specs.Spans.{Index, place}

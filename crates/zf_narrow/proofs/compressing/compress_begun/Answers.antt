@@ -1,6 +1,6 @@
 use Rattle.std.proofs.Common.{rules, ◌≡◌, sym, ap, subst, ◌∙◌, ℕ, List, length, Option, Err}
 use Rattle.zf_dev.specs.Source.{Takes}
-use Rattle.zf_stream.specs.declared.fault.StreamFault.{StreamFault}
+use Rattle.zf_parse.specs.declared.fault.StreamFault.{StreamFault}
 use Rattle.zf_stream.specs.Outcomes.{CanRefuse, ShowsLength, Answers}
 use Rattle.zf_narrow.specs.Promotions.{read_so_far}
 use Rattle.zf_narrow.specs.Texts.{narrow_len, compress_narrow_answer, CompressesNarrow, LeavesNarrow}

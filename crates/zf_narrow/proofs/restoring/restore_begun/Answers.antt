@@ -1,7 +1,7 @@
 use Rattle.std.proofs.Common.{◌≡◌, sym, ap, subst, ◌∙◌, ℕ, Bool, List, [], Option, Some}
 use Rattle.zf_base.specs.declared.lane.Ty.TheVariants.{I32}
 use Rattle.zf_dev.specs.Sink.{Appends}
-use Rattle.zf_stream.specs.Parsing.{restored_text}
+use Rattle.zf_parse.specs.Parsing.{restored_text}
 use Rattle.zf_stream.specs.Outcomes.{LeavesFront}
 use Rattle.zf_stream.specs.Restoring.{still}
 use Rattle.zf_stream.specs.Typed.{RestoresWhere, RestoresTyped, HasOtherType}

@@ -15,7 +15,7 @@ use Rattle.zf_array.specs.Coded.{Frame}
 use Rattle.zf_array.proofs.Coded.{coded_empty}
 use Rattle.zf_run.specs.Sessions.{setting_of}
 use Rattle.zf_run.specs.Splits.{split_session}
-use Rattle.zf_run.proofs.Stepping.{refused_range, refused_value}
+use Rattle.zf_commands.proofs.Stepping.{refused_range, refused_value}
 use Rattle.zf_run.proofs.Viewing.{owner_owns, has_inside}
 use Rattle.zf_run.proofs.Lending.{lent_ready, position_there, own_there, act_there, lent_takes, lent_parts}
 use Rattle.zf_run.proofs.views.view_add.Goals as goal

@@ -8,7 +8,7 @@ use Rattle.zf_private.proofs.Others.{acted-discard}
 use Rattle.zf_array.specs.Standing.{state, format}
 use Rattle.zf_run.specs.Sessions.{setting_of}
 use Rattle.zf_run.specs.Splits.{view_state, split_session}
-use Rattle.zf_run.proofs.Stepping.{refused_range}
+use Rattle.zf_commands.proofs.Stepping.{refused_range}
 use Rattle.zf_run.proofs.Viewing.{has_view_is, has_no_view, takes, still_parts}
 use Rattle.zf_run.proofs.views.view_discard.Goals as goal
 

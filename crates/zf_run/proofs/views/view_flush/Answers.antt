@@ -2,7 +2,7 @@ use Rattle.std.proofs.Common.{refl, ap, not}
 use Rattle.zf_cached.specs.Commands.{Command}
 use Rattle.zf_run.specs.Sessions.{setting_of}
 use Rattle.zf_run.specs.Splits.{split_session}
-use Rattle.zf_run.proofs.Stepping.{refused_range}
+use Rattle.zf_commands.proofs.Stepping.{refused_range}
 use Rattle.zf_run.proofs.Viewing.{has_view_is, has_no_view, flushes_view}
 use Rattle.zf_run.proofs.views.view_flush.Goals as goal
 

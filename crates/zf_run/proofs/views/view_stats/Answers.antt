@@ -4,7 +4,7 @@ use Rattle.zf_cached.specs.Commands.{Command}
 use Rattle.zf_cached.specs.Steps.{counts_reply, done}
 use Rattle.zf_run.specs.Sessions.{setting_of}
 use Rattle.zf_run.specs.Splits.{split_session}
-use Rattle.zf_run.proofs.Stepping.{refused_range, accepted}
+use Rattle.zf_commands.proofs.Stepping.{refused_range, accepted}
 use Rattle.zf_run.proofs.Viewing.{has_view_is, has_no_view, counts_are}
 use Rattle.zf_run.proofs.views.view_stats.Goals as goal
 

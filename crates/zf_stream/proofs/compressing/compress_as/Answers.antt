@@ -2,7 +2,7 @@ use Rattle.std.proofs.Common.{ap, ◌∙◌}
 use Rattle.std.proofs.lemmas.Result.{err_from_is_err_and}
 use Rattle.zf_spec.specs.Grid.{product}
 use Rattle.zf_pad.proofs.Slabs.{product-with_rows}
-use Rattle.zf_stream.specs.Raw.{compress_answer, stream_text}
+use Rattle.zf_parse.specs.Raw.{compress_answer, stream_text}
 use Rattle.zf_stream.proofs.OnErrors.{on_err}
 use Rattle.zf_stream.proofs.Answering.{answer_of_memory, nothing_left}
 use Rattle.zf_stream.proofs.Slabwise.{are_pieces}

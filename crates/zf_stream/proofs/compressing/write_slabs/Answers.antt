@@ -5,7 +5,7 @@ use Rattle.zf_pad.specs.Rasters.{IsRaster}
 use Rattle.zf_pad.proofs.Slabs.{layout_of_slab, length-with_rows}
 use Rattle.zf_dev.proofs.Taking.{Takes-none}
 use Rattle.zf_stream.specs.Rows.{WritesSlab, BreaksSlab}
-use Rattle.zf_stream.specs.Raw.{raw_len}
+use Rattle.zf_parse.specs.Raw.{raw_len}
 use Rattle.zf_stream.proofs.RawRows.{lacks_shows, write_shows}
 use Rattle.zf_stream.proofs.Flowing.{Flows-none}
 use Rattle.zf_stream.proofs.OnErrors.{on_err}

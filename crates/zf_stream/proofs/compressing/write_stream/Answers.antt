@@ -3,7 +3,7 @@ use Rattle.std.proofs.lemmas.Result.{err_from_is_err_and}
 use Rattle.zf_pad.specs.Slabs.{rows_of}
 use Rattle.zf_dev.proofs.Taking.{Takes-none}
 use Rattle.zf_header.specs.HeaderBits.{header_bits}
-use Rattle.zf_stream.specs.Raw.{raw_len, compress_answer}
+use Rattle.zf_parse.specs.Raw.{raw_len, compress_answer}
 use Rattle.zf_stream.specs.Flows.{Flows, Spills}
 use Rattle.zf_stream.proofs.OnErrors.{on_err}
 use Rattle.zf_stream.proofs.Answering.{answer_of_refusal, answer_at_end, both_ok, after_err}

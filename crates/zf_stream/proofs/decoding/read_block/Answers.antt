@@ -3,10 +3,10 @@ use Rattle.zf_spec.specs.Grid.{extent_of}
 use Rattle.zf_base.proofs.Extents.{length-extent_of}
 use Rattle.zf_bits.specs.Reader.{Reader, rest, Reads}
 use Rattle.zf_header.specs.declared.header.Header.{Header}
-use Rattle.zf_stream.specs.Parsing.{read_code}
-use Rattle.zf_stream.specs.ReadStreams.{ReadsBlock}
+use Rattle.zf_parse.specs.Parsing.{read_code}
+use Rattle.zf_parse.specs.ReadStreams.{ReadsBlock}
 use Rattle.zf_stream.specs.Windows.{Window}
-use Rattle.zf_stream.proofs.Joining.{rest_behind}
+use Rattle.zf_parse.proofs.Joining.{rest_behind}
 use Rattle.zf_stream.proofs.decoding.read_block.Goals as goal
 
 -- what was read and what is left are what was left

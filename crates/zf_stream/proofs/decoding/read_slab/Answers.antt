@@ -6,12 +6,12 @@ use Rattle.zf_base.specs.Widths.{width_of}
 use Rattle.zf_base.proofs.Extents.{length-extent_of}
 use Rattle.zf_dev.specs.Source.{IsAtEnd}
 use Rattle.zf_dev.proofs.Taking.{Takes-append}
-use Rattle.zf_stream.specs.declared.fault.StreamFault.{StreamFault}
-use Rattle.zf_stream.specs.Parsing.{read_code}
+use Rattle.zf_parse.specs.declared.fault.StreamFault.{StreamFault}
+use Rattle.zf_parse.specs.Parsing.{read_code}
 use Rattle.zf_stream.specs.Windows.{left_of}
 use Rattle.zf_stream.specs.Restoring.{stream_from, LacksSlab}
-use Rattle.zf_stream.proofs.Enough.{enough_for_one}
-use Rattle.zf_stream.proofs.Joining.{read_codes-next, read_codes-cut, blocks-more}
+use Rattle.zf_parse.proofs.Enough.{enough_for_one}
+use Rattle.zf_parse.proofs.Joining.{read_codes-next, read_codes-cut, blocks-more}
 use Rattle.zf_stream.proofs.Windows.{Goes-none, Goes-next, Goes-read, codes_refilled}
 use Rattle.zf_stream.proofs.decoding.read_slab.Goals as goal
 

@@ -1,7 +1,7 @@
 -- The blocks so far are those of the codes so far.
 use Rattle.std.proofs.Common.{◌≡◌, ℕ, ◌^◌, ◌≤◌, List, Ok, map, length}
 use Rattle.zf_spec.specs.Grid.{product, block_of, upto}
-use Rattle.zf_stream.specs.Parsing.{read_codes}
+use Rattle.zf_parse.specs.Parsing.{read_codes}
 use Rattle.zf_stream.specs.Windows.{left_of, KnowsEnd, Goes}
 use Rattle.zf_stream.specs.Restoring.{stream_from}
 use Rattle.zf_stream.proofs.decoding.read_slab.Given as goal

@@ -4,7 +4,7 @@ use Rattle.zf_spec.specs.Stream.{block_code}
 use Rattle.zf_pad.proofs.Blocks.{padded_same}
 use Rattle.zf_bits.proofs.Appending.{Appends-same}
 use Rattle.zf_header.specs.HeaderBits.{coding}
-use Rattle.zf_stream.proofs.Codes.{code_same}
+use Rattle.zf_parse.proofs.Codes.{code_same}
 use Rattle.zf_stream.proofs.encoding.write_code.Goals as goal
 
 pub encode-requires-clause-dimension : goal.encode-requires-clause-dimension

@@ -5,7 +5,7 @@ use Rattle.zf_spec.specs.Stream.{block_code}
 use Rattle.zf_bits.proofs.Appending.{length-Appends}
 use Rattle.zf_header.specs.HeaderBits.{coding}
 use Rattle.zf_stream.specs.Flows.{Flows, Spills}
-use Rattle.zf_stream.proofs.Codes.{joined-more, joined-front}
+use Rattle.zf_parse.proofs.Codes.{joined-more, joined-front}
 use Rattle.zf_stream.proofs.Flowing.{Flows-more, Flows-next, Flows-spill, Spills-more}
 use Rattle.zf_stream.proofs.OnErrors.{on_err}
 use Rattle.zf_stream.proofs.encoding.write_codes.Goals as goal

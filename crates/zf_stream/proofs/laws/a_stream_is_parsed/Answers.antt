@@ -1,4 +1,4 @@
-use Rattle.zf_stream.proofs.StreamsBack.{header_of-stream_of, said-reversible, said-rate, said-prec}
+use Rattle.zf_parse.proofs.StreamsBack.{header_of-stream_of, said-reversible, said-rate, said-prec}
 use Rattle.zf_stream.proofs.laws.a_stream_is_parsed.Goals as goal
 
 pub returns-clause-header : goal.returns-clause-header

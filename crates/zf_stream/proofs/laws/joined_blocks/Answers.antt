@@ -1,4 +1,4 @@
-use Rattle.zf_stream.proofs.Joined.{values_of_blocks-blocks}
+use Rattle.zf_parse.proofs.Joined.{values_of_blocks-blocks}
 use Rattle.zf_stream.proofs.laws.joined_blocks.Goals as goal
 
 pub returns : goal.returns

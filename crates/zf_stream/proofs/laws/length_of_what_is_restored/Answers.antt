@@ -1,4 +1,4 @@
-use Rattle.zf_stream.proofs.Enough.{length-restored_text}
+use Rattle.zf_parse.proofs.Enough.{length-restored_text}
 use Rattle.zf_stream.proofs.laws.length_of_what_is_restored.Goals as goal
 
 pub returns : goal.returns

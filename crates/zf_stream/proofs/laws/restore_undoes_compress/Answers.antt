@@ -1,4 +1,4 @@
-use Rattle.zf_stream.proofs.StreamsBack.{answer-stream_text, text-reversible_text, text-rate_text, text-prec_text}
+use Rattle.zf_parse.proofs.StreamsBack.{answer-stream_text, text-reversible_text, text-rate_text, text-prec_text}
 use Rattle.zf_stream.proofs.laws.restore_undoes_compress.Goals as goal
 
 pub returns-clause-answer : goal.returns-clause-answer

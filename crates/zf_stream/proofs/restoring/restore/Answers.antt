@@ -1,9 +1,9 @@
 use Rattle.std.proofs.Common.{◌≡◌, inl, inr, ⊎_elim, Err, arith}
 use Rattle.std.proofs.lemmas.Result.{err_from_is_err_and, IfErr-weaker}
-use Rattle.zf_stream.specs.Parsing.{restore_answer}
+use Rattle.zf_parse.specs.Parsing.{restore_answer}
 use Rattle.zf_stream.proofs.Answering.{answer_of_refusal, on_ok_weaker}
 use Rattle.zf_stream.proofs.FromFront.{Finishes-known}
-use Rattle.zf_stream.proofs.Parsed.{good_of_front, refusal_of_fault}
+use Rattle.zf_stream.proofs.Headed.{good_of_front, refusal_of_fault}
 use Rattle.zf_stream.proofs.Refusals.{CanRefuse-header}
 use Rattle.zf_stream.proofs.restoring.restore.Goals as goal
 

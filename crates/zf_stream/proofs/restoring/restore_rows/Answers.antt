@@ -1,7 +1,7 @@
 use Rattle.std.proofs.Common.{◌≡◌, inl, ap, sym, ◌∙◌}
 use Rattle.zf_pad.specs.Slabs.{rows_of}
 use Rattle.zf_bits.specs.Reader.{rest}
-use Rattle.zf_stream.specs.Parsing.{fill_answer}
+use Rattle.zf_parse.specs.Parsing.{fill_answer}
 use Rattle.zf_stream.specs.Windows.{left_of}
 use Rattle.zf_stream.proofs.OnErrors.{on_err}
 use Rattle.zf_stream.proofs.Restored.{rows_left}

@@ -10,7 +10,7 @@ use Rattle.zf_pad.specs.Rasters.{IsRaster}
 use Rattle.zf_pad.proofs.Slabs.{layout_of_slab, length-with_rows, product-with_rows, blocks-with_rows}
 use Rattle.zf_dev.specs.Sink.{Appends, AppendsFront}
 use Rattle.zf_header.specs.declared.header.Header.{Header}
-use Rattle.zf_stream.specs.Raw.{raw_bytes}
+use Rattle.zf_parse.specs.Raw.{raw_bytes}
 use Rattle.zf_stream.specs.Rows.{ArePieces}
 use Rattle.zf_stream.specs.Restoring.{ReadsSlab, LacksSlab}
 use Rattle.zf_stream.proofs.OnErrors.{on_err}

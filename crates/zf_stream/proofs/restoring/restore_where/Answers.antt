@@ -1,9 +1,9 @@
 use Rattle.std.proofs.Common.{rules, ◌≡◌, ◌≢◌, sym, subst, Err, Ok, Bool, Result, arith}
 use Rattle.std.proofs.lemmas.Result.{err_from_is_err_and}
-use Rattle.zf_stream.specs.declared.fault.StreamFault.{StreamFault}
+use Rattle.zf_parse.specs.declared.fault.StreamFault.{StreamFault}
 use Rattle.zf_stream.specs.Outcomes.{Answers}
 use Rattle.zf_stream.specs.Typed.{typed_answer}
-use Rattle.zf_stream.proofs.Parsed.{good_of_front}
+use Rattle.zf_stream.proofs.Headed.{good_of_front}
 use Rattle.zf_stream.proofs.TypedAnswers.{typed_fault, typed_other, typed_same, typed_done, typed_possible_header, typed_possible}
 use Rattle.zf_stream.proofs.restoring.restore_where.Goals as goal
 

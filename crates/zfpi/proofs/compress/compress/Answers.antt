@@ -1,5 +1,5 @@
 use Rattle.std.proofs.Common.{[], Err, ap, sym, refl}
-use Rattle.zf_stream.specs.Raw.{compress_answer, stream_text}
+use Rattle.zf_parse.specs.Raw.{compress_answer, stream_text}
 use Rattle.zfpi.specs.declared.command.Command.TheVariants.{Compress}
 use Rattle.zfpi.specs.Answer.{status_of}
 use Rattle.zfpi.proofs.Streaming.{IsStreaming-compress, Behaves-done, Behaves-fault, compress_front}

@@ -1,5 +1,5 @@
 use Rattle.std.proofs.Common.{[], Err, ap, sym, refl}
-use Rattle.zf_stream.specs.Raw.{stream_text}
+use Rattle.zf_parse.specs.Raw.{stream_text}
 use Rattle.zf_narrow.specs.Texts.{compress_narrow_answer}
 use Rattle.zfpi.specs.declared.command.Command.TheVariants.{CompressNarrow}
 use Rattle.zfpi.specs.Answer.{status_of}

@@ -1,6 +1,6 @@
 use Rattle.std.proofs.Common.{Err, ap, sym, refl, subst}
-use Rattle.zf_stream.specs.Parsing.{restore_answer, restored_text}
-use Rattle.zf_stream.specs.ReadStreams.{HasGoodHeader}
+use Rattle.zf_parse.specs.Parsing.{restore_answer, restored_text}
+use Rattle.zf_parse.specs.ReadStreams.{HasGoodHeader}
 use Rattle.zfpi.specs.declared.command.Command.TheVariants.{Restore}
 use Rattle.zfpi.specs.Answer.{status_of}
 use Rattle.zfpi.proofs.Streaming.{IsStreaming-restore, Behaves-done, Behaves-fault, restore_front, nothing_written, one_stream, one_stream-good}

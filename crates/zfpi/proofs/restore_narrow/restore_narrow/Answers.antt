@@ -1,6 +1,6 @@
 use Rattle.std.proofs.Common.{[], Err, ap, sym, refl, subst}
 use Rattle.zf_dev.proofs.Appending.{AppendsFront-all}
-use Rattle.zf_stream.specs.ReadStreams.{HasGoodHeader}
+use Rattle.zf_parse.specs.ReadStreams.{HasGoodHeader}
 use Rattle.zf_narrow.specs.Texts.{narrow_restored}
 use Rattle.zfpi.specs.declared.command.Command.TheVariants.{RestoreNarrow}
 use Rattle.zfpi.specs.Answer.{narrow_status_of}

@@ -7,7 +7,7 @@ use Rattle.zf_header.specs.declared.header.Header.{Header}
 use Rattle.zf_header.specs.HeaderBits.{IsHeader}
 use Rattle.zf_cached.specs.Changes.{opened}
 use Rattle.zf_cache.proofs.Steps.{empty_fits}
-use Rattle.zf_stream.specs.Parsing.{Said, values_of_blocks}
+use Rattle.zf_parse.specs.Parsing.{Said, values_of_blocks}
 use Rattle.zf_index.specs.Spans.{Index, code_in, codes_in}
 use Rattle.zf_index.specs.Files.{HasHeader, IsIndexOf, found, block_read, blocks_found}
 use Rattle.zf_index.proofs.Read.{is_header}

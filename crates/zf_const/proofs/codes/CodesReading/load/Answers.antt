@@ -11,8 +11,8 @@ use Rattle.zf_bits.specs.Reader.{Reader, rest}
 use Rattle.zf_header.specs.declared.header.Header.{Header}
 use Rattle.zf_cached.specs.Arrays.{array_format}
 use Rattle.zf_cached.proofs.Arrays.{existing_of-array}
-use Rattle.zf_stream.specs.Parsing.{read_code}
-use Rattle.zf_stream.specs.ReadStreams.{ReadsCode, LacksCode}
+use Rattle.zf_parse.specs.Parsing.{read_code}
+use Rattle.zf_parse.specs.ReadStreams.{ReadsCode, LacksCode}
 use Rattle.zf_index.specs.Spans.{len_at, place, span_at}
 use Rattle.zf_index.specs.declared.span.Span.{Span}
 use Rattle.zf_index.specs.Files.{found, block_read}

@@ -6,7 +6,7 @@ use Rattle.zf_store.specs.Stored.{Frame, format_of, code_at}
 use Rattle.zf_twoway.specs.Touch.{touch_for_writing}
 use Rattle.zf_twoway.specs.Standing.{state_of, Fits}
 use Rattle.zf_twoway.specs.Loans.{lent_block}
-use Rattle.zf_run.specs.Sessions.{session}
+use Rattle.zf_commands.specs.Sittings.{session}
 use Rattle.zf_run.specs.Pairs.{pair_state, two_setting_of}
 use Rattle.zf_run.proofs.Pairing.{two_blocks, two_below, format_two, changed_two, filled_two}
 use Rattle.zf_run.proofs.pairs.PairChanging.fill_block.Goals as goal

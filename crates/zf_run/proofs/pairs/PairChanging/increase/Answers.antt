@@ -5,7 +5,7 @@ use Rattle.zf_cached.specs.Steps.{changed, changed_at}
 use Rattle.zf_store.specs.Stored.{Frame, format_of, code_at}
 use Rattle.zf_twoway.specs.Standing.{state_of, Fits}
 use Rattle.zf_twoway.specs.Loans.{lent_block}
-use Rattle.zf_run.specs.Sessions.{session}
+use Rattle.zf_commands.specs.Sittings.{session}
 use Rattle.zf_run.specs.Pairs.{pair_state, two_setting_of}
 use Rattle.zf_run.proofs.Pairing.{two_blocks, block_below, place_below, place_exists, block_there, place_there, changed_two, increase_two}
 use Rattle.zf_run.proofs.pairs.PairChanging.increase.Goals as goal

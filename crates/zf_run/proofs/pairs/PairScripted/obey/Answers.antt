@@ -2,10 +2,10 @@ use Rattle.std.proofs.Common.{sym, subst, ◌∙◌, length}
 use Rattle.zf_cached.specs.Windows.{Window}
 use Rattle.zf_script.specs.Seen.{command_of}
 use Rattle.zf_twoway.specs.Runs.{twoway_setting}
-use Rattle.zf_run.specs.Sessions.{session}
-use Rattle.zf_run.specs.Steps.{DoesAlone, Takes, said, answer}
+use Rattle.zf_commands.specs.Sittings.{session}
+use Rattle.zf_commands.specs.Steps.{DoesAlone, Takes, said, answer}
 use Rattle.zf_run.specs.Pairs.{pair_state, two_setting_of}
-use Rattle.zf_run.proofs.Commanding.{taken, not_taken}
+use Rattle.zf_commands.proofs.Commanding.{taken, not_taken}
 use Rattle.zf_run.proofs.pairs.PairScripted.obey.Goals as goal
 
 pub plain-requires-clause-alone : goal.plain-requires-clause-alone

@@ -3,9 +3,9 @@ use Rattle.std.proofs.lemmas.Bool.{OnTrue_at}
 use Rattle.zf_cached.specs.Steps.{touched}
 use Rattle.zf_store.specs.Stored.{Frame, format_of, code_at}
 use Rattle.zf_twoway.proofs.Standing.{values_stand}
-use Rattle.zf_run.specs.Sessions.{session}
+use Rattle.zf_commands.specs.Sittings.{session}
 use Rattle.zf_run.specs.Pairs.{pair_state, two_setting_of}
-use Rattle.zf_run.proofs.Wide.{wide}
+use Rattle.zf_commands.proofs.Wide.{wide}
 use Rattle.zf_run.proofs.Pairing.{two_blocks, block_below, place_below, place_exists, block_there, place_there, touched_two}
 use Rattle.zf_run.proofs.pairs.PairTarget.number.Goals as goal
 

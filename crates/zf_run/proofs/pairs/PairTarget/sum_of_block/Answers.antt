@@ -9,7 +9,7 @@ use Rattle.zf_header.specs.declared.header.Header.{Header}
 use Rattle.zf_cached.specs.Steps.{total}
 use Rattle.zf_store.specs.Stored.{Frame, code_at}
 use Rattle.zf_twoway.specs.Standing.{state_of, Fits}
-use Rattle.zf_run.proofs.Passing.{within_is, block_room, up_to_fits, up_to_less}
+use Rattle.zf_commands.proofs.Passing.{within_is, block_room, up_to_fits, up_to_less}
 use Rattle.zf_run.proofs.Pairing.{two_blocks, two_below, touched_two}
 use Rattle.zf_run.proofs.pairs.PairTarget.sum_of_block.Goals as goal
 

@@ -3,7 +3,7 @@ use Rattle.zf_script.specs.Seen.{command_of}
 use Rattle.zf_array.specs.Standing.{shape}
 use Rattle.zf_run.specs.Sessions.{setting_of}
 use Rattle.zf_run.specs.Splits.{lists, parted_session}
-use Rattle.zf_run.specs.Steps.{Does}
+use Rattle.zf_commands.specs.Steps.{Does}
 use Rattle.zf_run.proofs.Parting.{some_parted, has_joined}
 use Rattle.zf_run.proofs.splits.Parted.obey_parted.Goals as goal
 

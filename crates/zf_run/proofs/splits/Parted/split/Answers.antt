@@ -9,9 +9,9 @@ use Rattle.zf_cached.specs.Steps.{is_line_count}
 use Rattle.zf_array.specs.Standing.{Held, shape, state}
 use Rattle.zf_run.specs.Sessions.{setting_of, session_of}
 use Rattle.zf_run.specs.Splits.{lists, parted_session, AreNewParts}
-use Rattle.zf_run.specs.Steps.{Does}
+use Rattle.zf_commands.specs.Steps.{Does}
 use Rattle.zf_run.proofs.Splitting.{has_split, are_parts}
-use Rattle.zf_run.proofs.Stepping.{refused_size, refused_memory}
+use Rattle.zf_commands.proofs.Stepping.{refused_size, refused_memory}
 use Rattle.zf_run.proofs.splits.Parted.split.Goals as goal
 
 pub returns-then-not-may_split-clause-does : goal.returns-then-not-may_split-clause-does

@@ -5,10 +5,10 @@ use Rattle.zf_script.specs.Seen.{command_of}
 use Rattle.zf_array.specs.Standing.{shape}
 use Rattle.zf_run.specs.Sessions.{session_of, setting_of}
 use Rattle.zf_run.specs.Splits.{lists, parted_session}
-use Rattle.zf_run.specs.Steps.{Takes, said}
-use Rattle.zf_run.proofs.Commanding.{taken}
+use Rattle.zf_commands.specs.Steps.{Takes, said}
+use Rattle.zf_commands.proofs.Commanding.{taken}
 use Rattle.zf_run.proofs.Parting.{is_parted, none_parted, refuses_is, none_needed}
-use Rattle.zf_run.proofs.Stepping.{refused_split}
+use Rattle.zf_commands.proofs.Stepping.{refused_split}
 use Rattle.zf_run.proofs.splits.PartedScripted.obey.Goals as goal
 
 pub returns-then-is_some-needs-clause-step : goal.returns-then-is_some-needs-clause-step

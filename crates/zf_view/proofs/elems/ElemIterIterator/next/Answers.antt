@@ -2,7 +2,7 @@ use Rattle.std.proofs.Common.{◌<◌, sym, subst, lit<, arith}
 use Rattle.zf_spec.specs.Grid.{product}
 use Rattle.zf_base.specs.Positions.{IsPosition}
 use Rattle.zf_array.specs.Standing.{shape}
-use Rattle.zf_view.proofs.Raster.{raster_at-inside}
+use Rattle.zf_window.proofs.Raster.{raster_at-inside}
 use Rattle.zf_view.proofs.elems.ElemIterIterator.next.Goals as goal
 
 pub get-requires : goal.get-requires

@@ -1,7 +1,7 @@
 use Rattle.std.proofs.Common.{refl, sym, subst}
 use Rattle.zf_base.specs.Positions.{IsPosition}
 use Rattle.zf_array.specs.Standing.{shape}
-use Rattle.zf_view.proofs.Positions.{position_at-inside}
+use Rattle.zf_window.proofs.Positions.{position_at-inside}
 use Rattle.zf_view.proofs.view.View.elem.Goals as goal
 
 pub returns : goal.returns

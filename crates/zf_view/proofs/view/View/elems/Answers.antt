@@ -1,7 +1,7 @@
 use Rattle.std.proofs.Common.{refl, ap, arith}
 use Rattle.zf_spec.specs.Grid.{product}
 use Rattle.zf_array.specs.Standing.{shape}
-use Rattle.zf_view.proofs.Raster.{product_window}
+use Rattle.zf_window.proofs.Raster.{product_window}
 use Rattle.zf_view.proofs.view.View.elems.Goals as goal
 
 pub count-end-requires : goal.count-end-requires

@@ -5,9 +5,9 @@ use Rattle.zf_base.specs.Places.{block_number, place_of}
 use Rattle.zf_lines.specs.Rows.{over}
 use Rattle.zf_lines.proofs.Sizes.{length-over}
 use Rattle.zf_array.specs.Standing.{shape}
-use Rattle.zf_view.specs.Touches.{position_at}
+use Rattle.zf_window.specs.Positions.{position_at}
 use Rattle.zf_view.specs.ViewLoans.{view_of}
-use Rattle.zf_view.proofs.Positions.{position_at-inside}
+use Rattle.zf_window.proofs.Positions.{position_at-inside}
 use Rattle.zf_view.proofs.Runs.{beside, run_within, run_is, run_ends, run_state, header_run}
 use Rattle.zf_view.proofs.view.View.run_mut.Goals as goal
 

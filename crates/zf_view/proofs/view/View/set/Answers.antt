@@ -1,7 +1,7 @@
 use Rattle.std.proofs.Common.{sym, subst, lit<}
 use Rattle.zf_base.specs.Positions.{IsPosition}
 use Rattle.zf_array.specs.Standing.{shape}
-use Rattle.zf_view.proofs.Positions.{position_at-inside}
+use Rattle.zf_window.proofs.Positions.{position_at-inside}
 use Rattle.zf_view.proofs.view.View.set.Goals as goal
 
 pub set-requires : goal.set-requires

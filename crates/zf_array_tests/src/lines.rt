@@ -1,0 +1,127 @@
+//! Lines beside a plain vector of vectors, over writes that a generator chooses.
+
+ghost use Rattle.std.specs.Prelude.{◌≡◌, ◌≤◌, ◌<◌, ◌^◌, length};
+ghost use Rattle.zf_lines.specs.Rows.{HasSize};
+
+use std::alloc::{AllocError, Global};
+use std::process::Abort;
+use std::test::Fail;
+use zf_lines::Lines;
+
+// Knuth's linear congruential generator, of which the upper bits are used.
+#[derive(Drop)]
+struct Numbers(u64);
+
+impl Numbers {
+    fn below(&mut self, n: usize) -> usize
+        requires { 0 < n }
+        ensures { result < n }
+    {
+        self.0 = self
+            .0
+            .wrapping_mul(6_364_136_223_846_793_005)
+            .wrapping_add(1_442_695_040_888_963_407);
+        (self.0 >> 33) as usize % n
+    }
+}
+
+// The same blocks, each a vector of its own.
+fn plain(alloc: Global, lines: u32, len: usize, zero: i64) -> Result<Vec<Vec<i64>>, AllocError> {
+    let mut all = Vec::new(alloc);
+    for _ in 0..lines {
+        all.push(vec![in alloc; zero; len]?)?;
+    }
+    Ok(all)
+}
+
+fn is_same(lines: &Lines<i64>, count: u32, all: &Vec<Vec<i64>>) -> bool
+    requires { length lines.now ≡ count }
+{
+    for i in 0..count {
+        let Some(block) = all.get(i as usize) else {
+            return false;
+        };
+        if lines.line(i) != block.as_slice() {
+            return false;
+        }
+    }
+    true
+}
+
+// Writes one value to a whole block, or to a part of it, in both.
+fn write(
+    lines: &mut Lines<i64>,
+    all: &mut Vec<Vec<i64>>,
+    count: u32,
+    len: usize,
+    numbers: &mut Numbers,
+    value: i64,
+)
+    requires sized { HasSize lines.old count len }
+    requires some { (0 < count) × (0 < len) }
+    ensures { HasSize lines.new count len }
+{
+    let i = numbers.below(count as usize);
+    let a = numbers.below(len);
+    let n = numbers.below(len - a) + 1;
+    let plain = all.get_mut(i);
+    if n == len {
+        for place in lines.line_mut(i as u32) {
+            *place = value;
+        }
+    } else {
+        for place in lines.part_mut(i as u32, a, n) {
+            *place = value;
+        }
+    }
+    if let Some(block) = plain {
+        for place in block.iter_mut().skip(a).take(n) {
+            *place = value;
+        }
+    }
+}
+
+fn compare(rt: &impl Abort, alloc: Global, count: u32, len: usize) -> Result<(), Fail>
+    requires { (0 < count) × (count ≤ 2 ^ 16) × (0 < len) × (len ≤ 2 ^ 8) }
+{
+    let mut lines = Lines::new(alloc, count, len, 7i64)?;
+    let mut all = plain(alloc, count, len, 7)?;
+    let mut numbers = Numbers(count as u64);
+    for step in 0..100i64 {
+        write(&mut lines, &mut all, count, len, &mut numbers, step);
+        assert!(rt;
+            is_same(&lines, count, &all),
+            "write {step} of {count} lines of {len}"
+        );
+    }
+    Ok(())
+}
+
+#[test]
+fn as_vectors_over_random_writes(rt: HostRuntime) -> Result<(), Fail> {
+    compare(&rt, rt.alloc(), 1, 4)?;
+    compare(&rt, rt.alloc(), 2, 4)?;
+    compare(&rt, rt.alloc(), 3, 16)?;
+    compare(&rt, rt.alloc(), 8, 64)?;
+    compare(&rt, rt.alloc(), 5, 256)
+}
+
+#[test]
+fn made_and_dropped_many_times(rt: HostRuntime) -> Result<(), Fail> {
+    for round in 0..4096i64 {
+        let lines = Lines::new(rt.alloc(), 16, 64, round)?;
+        assert_eq!(rt; lines.line(15), [round; 64].as_slice());
+    }
+    Ok(())
+}
+
+#[test]
+fn lines_of_every_size(rt: HostRuntime) -> Result<(), Fail> {
+    for len in [0usize, 4, 16, 64, 256] {
+        let lines = Lines::new(rt.alloc(), 65536, len, -1i32)?;
+        assert_eq!(rt; lines.line(65535).len(), len);
+        let none = Lines::new(rt.alloc(), 0, len, -1i32)?;
+        drop(none);
+    }
+    Ok(())
+}

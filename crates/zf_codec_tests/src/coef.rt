@@ -1,0 +1,170 @@
+//! Values of the format's tables, and of a program that computes the definitions digit by digit.
+
+use std::process::Abort;
+use zf_base::Lane;
+use zf_coef::{
+    digits_of_planes, from_digits, from_planes, needed_planes, order, planes_of_digits, ranked,
+    to_digits, to_planes, unranked, zero_planes,
+};
+
+// Dimensions, and the places of the first 16 ranks.
+const ORDERS: [(u8, &[u8]); 4] = [
+    (1, &[0, 1, 2, 3]),
+    (2, &[0, 1, 4, 5, 2, 8, 6, 9, 3, 12, 10, 7, 13, 11, 14, 15]),
+    (3, &[0, 1, 4, 16, 5, 17, 20, 2, 8, 32, 21, 6, 18, 9, 33, 24]),
+    (
+        4,
+        &[0, 1, 4, 16, 64, 5, 17, 65, 20, 68, 80, 2, 8, 32, 128, 21],
+    ),
+];
+
+#[test]
+fn ranks_have_their_places(rt: HostRuntime) {
+    for (d, places) in ORDERS {
+        assert!(rt; 1 <= d && d <= 4);
+        let all = order(d);
+        assert!(rt; &all[..all.len().min(16)] == places);
+    }
+}
+
+// Values and their digits.
+const NARROW: [(i32, u64); 6] = [
+    (1, 1),
+    (-1, 3),
+    (2, 6),
+    (3, 7),
+    (i32::MIN, 0x8000_0000),
+    (-1073741824, 0xc000_0000),
+];
+
+const WIDE: [(i64, u64); 4] = [
+    (1, 1),
+    (-1, 3),
+    (i64::MIN, 0x8000_0000_0000_0000),
+    (i64::MAX, 0x8000_0000_0000_0003),
+];
+
+fn digits_are<T: Lane>(rt: &impl Abort, rows: &[(T, u64)]) {
+    for (v, digits) in rows {
+        assert!(rt; to_digits(*v) == *digits && from_digits::<T>(*digits) == *v);
+    }
+}
+
+#[test]
+fn values_have_their_digits(rt: HostRuntime) {
+    digits_are(&rt, &NARROW);
+    digits_are(&rt, &WIDE);
+}
+
+// A block of two dimensions, its digits by rank, and its lowest six planes, each in a word.
+const BLOCK: [i32; 16] = [-8, -7, -6, -5, -4, -3, -2, -1, 0, 1, 2, 3, 4, 5, 6, 7];
+
+const DIGITS: [u64; 16] = [8, 9, 12, 13, 14, 0, 2, 1, 15, 4, 6, 3, 5, 7, 26, 27];
+
+const LOW_PLANES: [u64; 6] = [47498, 60752, 14108, 49439, 49152, 0];
+
+#[test]
+fn planes_hold_a_block(rt: HostRuntime) {
+    let mut digits = [0; 16];
+    ranked::<i32>(2, &BLOCK, &mut digits);
+    let mut planes = [[1; 4]; 32];
+    to_planes(&digits, &mut planes);
+    for (plane, word) in planes.iter().zip(LOW_PLANES) {
+        assert!(rt; *plane == [word, 0, 0, 0]);
+    }
+    let mut again = [1; 16];
+    from_planes(&planes, &mut again);
+    let mut restored = [0; 16];
+    unranked::<i32>(2, &again, &mut restored);
+    assert!(rt; digits == DIGITS && again == DIGITS && restored == BLOCK);
+}
+
+// The definitions' plain program: the planes by their digits.
+fn planes_by_digits(digits: &[u64]) -> [[u64; 4]; 64] {
+    let mut planes = [[0; 4]; 64];
+    for (rank, digit) in digits.iter().enumerate() {
+        for k in 0..64 {
+            if rank < 256 {
+                planes[k][rank / 64] |= ((digit >> k) % 2) << (rank % 64);
+            }
+        }
+    }
+    planes
+}
+
+// Digits that follow no rule, the same each time.
+fn digits_of(planes: usize) -> [u64; 256] {
+    let mut digits = [0; 256];
+    let mut word: u64 = 1;
+    for digit in digits.iter_mut() {
+        word = word
+            .wrapping_mul(6_364_136_223_846_793_005)
+            .wrapping_add(1_442_695_040_888_963_407);
+        *digit = if planes == 64 {
+            word.rotate_left(32)
+        } else {
+            word >> 32
+        };
+    }
+    digits
+}
+
+// How many planes there are, and how many digits.
+const PLANE_COUNTS: [usize; 2] = [32, 64];
+
+const SIZES: [usize; 10] = [0, 1, 3, 4, 15, 16, 17, 64, 255, 256];
+
+#[test]
+fn kernels_are_the_plain_program(rt: HostRuntime) {
+    for count in PLANE_COUNTS {
+        for size in SIZES {
+            assert!(rt; count <= 64 && size <= 256);
+            let digits = &digits_of(count)[..size];
+            let mut planes = [[7; 4]; 64];
+            to_planes(digits, &mut planes[..count]);
+            assert!(rt; &planes[..count] == &planes_by_digits(digits)[..count]);
+            let mut again = [7; 256];
+            from_planes(&planes[..count], &mut again[..size]);
+            assert!(rt; &again[..size] == digits);
+        }
+    }
+}
+
+// The same where one word a plane is enough.
+#[test]
+fn kernels_of_a_word_are_the_plain_program(rt: HostRuntime) {
+    for count in PLANE_COUNTS {
+        for size in [0, 1, 3, 4, 15, 16, 17, 64] {
+            assert!(rt; count <= 64 && size <= 64);
+            let digits = &digits_of(count)[..size];
+            let mut planes = [7; 64];
+            planes_of_digits(digits, &mut planes[..count]);
+            let plain = planes_by_digits(digits);
+            for k in 0..count {
+                assert!(rt; planes[k] == plain[k][0]);
+            }
+            let mut again = [7; 64];
+            digits_of_planes(&planes[..count], &mut again[..size]);
+            assert!(rt; &again[..size] == digits);
+        }
+    }
+}
+
+// Digits, the width, how many planes are needed, those above the lowest digit that any coefficient has, and
+// how many are zero above the greatest one.
+const NEEDED: [(&[u64], u32, u32, u32); 6] = [
+    (&[], 32, 0, 32),
+    (&[0, 0, 0, 0], 32, 0, 32),
+    (&[0, 1, 0, 0], 32, 32, 31),
+    (&[0x8000_0000, 0, 0xc000_0000, 0], 32, 2, 0),
+    (&[0x8000_0000_0000_0000, 0, 0, 0], 64, 1, 0),
+    (&[12, 8, 0, 24], 64, 62, 59),
+];
+
+#[test]
+fn planes_are_needed_down_to_the_lowest_digit(rt: HostRuntime) {
+    for (digits, width, needed, zeros) in NEEDED {
+        assert!(rt; 0 < width && width <= 64);
+        assert!(rt; zero_planes(digits, width) == zeros && needed_planes(digits, width) == needed);
+    }
+}

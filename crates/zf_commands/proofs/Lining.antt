@@ -1,0 +1,38 @@
+-- A line as it is read.
+use Rattle.std.proofs.Common.{◌≡◌, refl, sym, ap, subst, ◌∙◌, ℕ, zero, suc, ◌<◌, ◌==◌, Bool, false, List, [], ◌∷◌, length, Option, Some, None, arith}
+use Rattle.zf_cached.specs.Commands.{Command}
+use Rattle.zf_cached.specs.Grammar.{read_line}
+use Rattle.zf_cached.specs.Replies as script
+use Rattle.zf_cached.specs.Steps.{Setting, Session}
+use Rattle.zf_cached.specs.Runs.{line_step, read_step}
+use Rattle.zf_script.specs.declared.reply.Refusal.{Refusal}
+use Rattle.zf_script.specs.declared.reply.Refusal.TheVariants.{Word}
+use Rattle.zf_script.specs.Seen.{refusal_of}
+use Rattle.zf_commands.specs.Steps.{Takes, LeadsTo, wanted}
+
+module _ {Code : Type 0} (setting : Setting Code) (s : Session Code) where
+  pub line_empty : (line : List ℕ) → length line ≡ 0 → LeadsTo setting s line s None
+  unfolding line_step
+  line_empty [] none = refl
+  line_empty (b ∷ bs) none = absurd (omega arith)
+
+  read_as : (line : List ℕ) (d : ℕ) (o : Option Command) (wanting : Bool) → 0 < length line → d ≡ length s.shape → read_line d line ≡ o → line_step setting s line wanting ≡ read_step setting s o wanting
+  unfolding line_step
+  read_as [] d o wanting some dims is = absurd (omega arith)
+  read_as (b ∷ bs) d o wanting some dims is = ap (λ x. read_step setting s x wanting) (ap (λ n. read_line n (b ∷ bs)) (sym dims) ∙ is)
+
+  pub line_read : (line : List ℕ) (d : ℕ) (c : Command) (t : Session Code) (reply : Option script.Reply) → 0 < length line → d ≡ length s.shape → read_line d line ≡ Some c
+      → Takes setting s c t reply → LeadsTo setting s line t reply
+  line_read line d c t reply some dims is takes = read_as line d (Some c) (wanted reply) some dims is ∙ takes
+
+  pub line_not_read : (line : List ℕ) (d : ℕ) (why : Refusal) → 0 < length line → d ≡ length s.shape → read_line d line ≡ None → why ≡ Word
+      → LeadsTo setting s line s (Some (script.Reply.refused (refusal_of why)))
+  unfolding read_step
+  line_not_read line d why some dims is word =
+      let P : Refusal → Type 0 = λ r. LeadsTo setting s line s (Some (script.Reply.refused (refusal_of r))) in
+      let at_word : P Word = read_as line d None false some dims is in
+      subst P (sym word) at_word
+
+pub some_bytes : (n : ℕ) → (n == 0) ≡ false → 0 < n
+some_bytes zero e = absurd (cc)
+some_bytes (suc n) e = omega arith

@@ -1,0 +1,62 @@
+-- The steps of commands that are refused, and of those that are not.
+use Rattle.std.proofs.Common.{◌≡◌, refl, sym, ap, ◌∙◌, Bool, true, false, not, ◌&&◌, Option, Some, None, is_some}
+use Rattle.zf_cached.specs.Commands.{Command}
+use Rattle.zf_cached.specs.Replies.{Refusal, Reply}
+use Rattle.zf_cached.specs.Steps.{Setting, Session, needs_split, refuses_split, refuses_size, refuses_range, refuses_value, takes_memory, refusal, done}
+use Rattle.zf_cached.proofs.Runs.{step-refused}
+use Rattle.zf_cached.proofs.Sessions.{first_refusal, step_by}
+use Rattle.zf_commands.specs.Steps.{Does, HasWindow, wanted}
+
+-- no test of a split fails where there is none, and none is needed
+pub no_split : {Code : Type 0} (s : Session Code) (c : Command) → s.split ≡ None → needs_split c ≡ false → refuses_split s c ≡ false
+no_split s c whole none = ap (λ o. elim (is_some o) [ true ↦ not (needs_split c) | false ↦ needs_split c ]) whole ∙ none
+
+-- the first test that fails is that of a split
+pub refused_split : {Code : Type 0} (setting : Setting Code) (c : Command) (s : Session Code) → HasWindow s → refuses_split s c ≡ true → Does setting c s s (Some (Reply.refused Refusal.split))
+unfolding refusal
+refused_split setting c s lies split = record {
+  step_is = step-refused setting s c false Refusal.split (ap (λ x. first_refusal x (refuses_size setting s c) (refuses_range s c) (refuses_value setting.width c) (takes_memory c && false)) split);
+  inside = lies;
+}
+
+module _ {Code : Type 0} (setting : Setting Code) (c : Command) (s : Session Code) (lies : HasWindow s) (there : refuses_split s c ≡ false) where
+  refused : (why : Refusal) → refusal setting s c (wanted (Some (Reply.refused why))) ≡ Some why → Does setting c s s (Some (Reply.refused why))
+  refused why e = record {
+    step_is = step-refused setting s c (wanted (Some (Reply.refused why))) why e;
+    inside = lies;
+  }
+
+  pub refused_size : refuses_size setting s c ≡ true → Does setting c s s (Some (Reply.refused Refusal.size))
+  unfolding refusal
+  refused_size size = refused Refusal.size (λ i. first_refusal (there i) (size i) (refuses_range s c) (refuses_value setting.width c) (takes_memory c && false))
+
+  pub refused_range : refuses_size setting s c ≡ false → refuses_range s c ≡ true → Does setting c s s (Some (Reply.refused Refusal.range))
+  unfolding refusal
+  refused_range size range = refused Refusal.range (λ i. first_refusal (there i) (size i) (range i) (refuses_value setting.width c) (takes_memory c && false))
+
+  pub refused_value : refuses_size setting s c ≡ false → refuses_range s c ≡ false → refuses_value setting.width c ≡ true → Does setting c s s (Some (Reply.refused Refusal.value))
+  unfolding refusal
+  refused_value size range value = refused Refusal.value (λ i. first_refusal (there i) (size i) (range i) (value i) (takes_memory c && false))
+
+  -- memory is wanting, after all other tests
+  pub refused_memory : refuses_size setting s c ≡ false → refuses_range s c ≡ false → refuses_value setting.width c ≡ false → takes_memory c ≡ true
+      → Does setting c s s (Some (Reply.refused Refusal.memory))
+  unfolding refusal
+  refused_memory size range value takes = refused Refusal.memory (λ i. first_refusal (there i) (size i) (range i) (value i) (takes i && true))
+
+  -- a command that passes all tests
+  module _ (size : refuses_size setting s c ≡ false) (range : refuses_range s c ≡ false) (value : refuses_value setting.width c ≡ false)
+      (t : Session Code) (reply : Option Reply) (none : wanted reply ≡ false) (done_is : done setting s c ≡ (t, reply)) where
+    passes : refusal setting s c (wanted reply) ≡ None
+    unfolding refusal
+    passes = (λ i. first_refusal (there i) (size i) (range i) (value i) (takes_memory c && none i)) ∙ no_want (takes_memory c)
+      where
+        no_want : (t : Bool) → first_refusal false false false false (t && false) ≡ None
+        no_want true = refl
+        no_want false = refl
+
+    pub accepted : HasWindow t → Does setting c s t reply
+    accepted inside = record {
+      step_is = step_by setting s c (wanted reply) (λ r. r ≡ (t, reply)) (λ why e. absurd (let f : Some why ≡ None = sym e ∙ passes in cc)) (λ e. done_is);
+      inside = inside;
+    }

@@ -1,0 +1,15 @@
+use Rattle.std.proofs.Common.{◌+◌, arith}
+use Rattle.std.proofs.lemmas.List.{take_rest}
+use Rattle.zf_commands.proofs.Cutting.{one_line, line_and_rest}
+use Rattle.zf_commands.proofs.lines.cut_line.Goals as goal
+
+pub returns-in_err-end-clause-none : goal.returns-in_err-end-clause-none
+returns-in_err-end-clause-none c =
+    rw c.from_residual.ensures (one_line c.args.lines.now (λ k lt. c.in_err-end.ensures k (omega arith) lt))
+
+pub returns-clause-parts : goal.returns-clause-parts
+returns-clause-parts c =
+    let bs = c.args.lines.now in
+    let end = c.in_ok-end.end in
+    let first = c.in_ok-end.ensures in
+    rw (take_rest bs (end + 1)) (line_and_rest bs end first.0.high (λ k lt. first.0.before k (omega arith) lt) first.1)

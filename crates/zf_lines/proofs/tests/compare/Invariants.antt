@@ -1,5 +1,0 @@
-use Rattle.zf_lines.specs.Rows.{HasSize}
-use Rattle.zf_lines.proofs.tests.compare.Given as goal
-
-abbrev pub invariant-loop-step : goal.invariant-loop-step
-invariant-loop-step g l = HasSize l.lines l.count l.len

@@ -1,0 +1,71 @@
+-- What the bits of bytes say, for the one who has their header.
+use Rattle.std.proofs.Common.{◌≡◌, ℕ, ◌≤◌, Bool, ℤ, List, ◌++◌, length, take, drop, Option, Some, None, Result, Ok, Err, refl, sym, ap, ◌∙◌, subst, length-append, take-take, arith}
+use Rattle.std.proofs.lemmas.List.{take-append-le}
+use Rattle.std.proofs.lemmas.Grind.{flat_map-append}
+use Rattle.zf_spec.specs.Grid.{blocks}
+use Rattle.zf_spec.specs.Numbers.{field}
+use Rattle.zf_spec.specs.Stream.{to_bits}
+use Rattle.zf_spec.proofs.Bytes.{length-to_bits}
+use Rattle.zf_header.specs.declared.header.Header.{Header}
+use Rattle.zf_header.specs.HeaderBits.{header_bits, BeginsWith, IsHeader}
+use Rattle.zf_header.specs.HeaderFaults.{header_fault}
+use Rattle.zf_header.specs.declared.header.HeaderFault.{HeaderFault}
+use Rattle.zf_header.proofs.First.{header_fault-first}
+use Rattle.zf_header.proofs.Good.{good}
+use Rattle.zf_header.proofs.Found.{read_is_spelled, read_is_header}
+use Rattle.zf_header.proofs.Spelled.{spelled_is_read, spelled_is_good}
+use Rattle.zf_parse.specs.declared.fault.StreamFault.{StreamFault}
+use Rattle.zf_parse.specs.declared.fault.StreamFault.TheVariants as faults
+use Rattle.zf_parse.specs.Parsing.{values_said, header_of, code_bits, header_or, codes_answer, read_codes, restore_answer, without_values}
+use Rattle.zf_parse.specs.ReadStreams.{BeginsWithHeader}
+
+-- the answer of what stands behind the header
+answer_of : Option HeaderFault → Header → List ℕ → List Bool → Result (List ℤ) StreamFault
+answer_of fault h bytes s = header_or fault (codes_answer h (length (to_bits bytes)) (read_codes h 0 (blocks h.shape) s))
+
+pub parse_is : (bytes : List ℕ) (h : Header) (len : ℕ) → BeginsWithHeader bytes h len
+    → values_said bytes ≡ codes_answer h (length (to_bits bytes)) (read_codes h 0 (blocks h.shape) (drop len (to_bits bytes)))
+unfolding values_said answer_of
+parse_is bytes h len begun =
+    let s = to_bits bytes in
+    let behind : code_bits bytes ≡ drop len s = ap (λ g. drop (length (header_bits g)) s) (sym begun.header) ∙ ap (λ n. drop n s) (sym begun.bits_is) in
+    ap (λ fault. answer_of fault (header_of bytes) bytes (code_bits bytes)) begun.good
+    ∙ ap (λ g. answer_of None g bytes (code_bits bytes)) (sym begun.header) ∙ ap (answer_of None h bytes) behind
+
+-- bytes behind a header change nothing of it
+pub begun_more : (front more : List ℕ) (h : Header) (len : ℕ) → BeginsWithHeader front h len → BeginsWithHeader (front ++ more) h len
+begun_more front more h len begun =
+    let g = good front (sym begun.good) in
+    let n = length (header_bits h) in
+    let begins : BeginsWith front h = subst (BeginsWith front) (sym begun.header) (read_is_spelled front g) in
+    let is : IsHeader h = subst IsHeader (sym begun.header) (read_is_header front g) in
+    let within : n ≤ length (to_bits front) = omega (arith, length-to_bits front, begun.within, begun.bits_is) in
+    let bits : take n (to_bits (front ++ more)) ≡ header_bits h =
+    ap (take n) (flat_map-append (field 8) front more) ∙ take-append-le n (to_bits front) (to_bits more) within ∙ begins.bits in
+    let more_begins : BeginsWith (front ++ more) h = record { bits = bits } in
+    record {
+      good = sym (spelled_is_good (front ++ more) h is more_begins);
+      header = sym (spelled_is_read (front ++ more) h is more_begins);
+      bits_is = begun.bits_is;
+      within = omega (arith, begun.within, length-append front more);
+    }
+
+-- the first bytes tell the fault of the header, where the longest header lies in them
+pub fault_first : (n : ℕ) (all : List ℕ) → 19 ≤ n → header_fault (take n all) ≡ header_fault all
+fault_first n all within = sym (header_fault-first (take n all)) ∙ ap header_fault (take-take 19 n all within) ∙ header_fault-first all
+
+-- and where it has a fault, the stream has it
+pub parse_fault : (n : ℕ) (all front : List ℕ) (f : HeaderFault) → 19 ≤ n → front ≡ take n all → header_fault front ≡ Some f → restore_answer all ≡ Err (faults.Header f)
+unfolding values_said answer_of
+parse_fault n all front f within is fault =
+    let known : header_fault all ≡ Some f = sym (fault_first n all within) ∙ ap header_fault (sym is) ∙ fault in
+    ap (λ o. without_values (answer_of o (header_of all) all (code_bits all))) known
+
+-- where an input is a good stream, its header is one
+pub good_header : (bytes : List ℕ) → restore_answer bytes ≡ Ok tt → header_fault bytes ≡ None
+unfolding values_said
+good_header bytes good = by (header_fault bytes) _ good
+  where
+    by : (fault : Option HeaderFault) (rest : Result (List ℤ) StreamFault) → without_values (header_or fault rest) ≡ Ok tt → fault ≡ None
+    by None rest is = refl
+    by (Some f) rest is = absurd (cc)

@@ -1,0 +1,8 @@
+//! What a stream says: its header and its values, or why it says nothing. The definitions, their lemmas, and how one code is read.
+#![tactic(auto)]
+
+mod fault;
+mod reading;
+
+pub use fault::StreamFault;
+pub use reading::{check_fill, read_code};

@@ -1,6 +1,0 @@
-use Rattle.zf_array.specs.Standing.{state}
-use Rattle.zf_run.proofs.arrays.ArrayTarget.counts.Goals as goal
-
-pub returns : goal.returns
-unfolding state
-returns g c = c.stats.ensures

@@ -1,0 +1,8 @@
+use Rattle.zf_array.specs.Standing.{block_at}
+use Rattle.zf_run.proofs.Sessions.{touched_is}
+use Rattle.zf_run.proofs.arrays.WholeTarget.number.Goals as goal
+
+pub returns-clause-touched : goal.returns-clause-touched
+returns-clause-touched g c v =
+    let a = c.args.self.now.array.now in
+    touched_is g.T.Lane.width a c.shape-shape.ensures.same_type v c.get.new.self (block_at a c.args.p) c.get.ensures.state c.get.ensures.header

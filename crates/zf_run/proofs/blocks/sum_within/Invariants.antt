@@ -1,8 +1,0 @@
-use Rattle.std.proofs.Common.{◌≡◌, ◌*◌, ◌^◌, map}
-use Rattle.zf_spec.specs.Grid.{upto}
-use Rattle.zf_cached.specs.Steps.{total}
-use Rattle.zf_run.specs.Sums.{value_within, IsUpTo}
-use Rattle.zf_run.proofs.blocks.sum_within.Given as goal
-
-abbrev pub invariant-loop-place : goal.invariant-loop-place
-invariant-loop-place g l = (l.sum ≡ total (map (value_within l.size (map g.T.Lane.value l.block)) (upto l.place))) × IsUpTo (2 ^ 63 * l.place) l.sum

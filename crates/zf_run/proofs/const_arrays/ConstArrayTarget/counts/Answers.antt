@@ -1,6 +1,0 @@
-use Rattle.zf_const.specs.Standing.{state}
-use Rattle.zf_run.proofs.const_arrays.ConstArrayTarget.counts.Goals as goal
-
-pub returns : goal.returns
-unfolding state
-returns g c = c.stats.ensures

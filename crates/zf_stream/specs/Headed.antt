@@ -1,0 +1,25 @@
+-- The header that a source begins with.
+use Rattle.std.specs.Prelude.{ℕ, ◌≡◌, List, Option, Some}
+use Rattle.zf_header.specs.declared.header.Header.{Header}
+use Rattle.zf_header.specs.HeaderFaults.{header_fault}
+use Rattle.zf_dev.specs.Source.{TakesAtMost}
+use Rattle.zf_parse.specs.declared.fault.StreamFault.{StreamFault}
+use Rattle.zf_parse.specs.declared.fault.StreamFault.TheVariants as faults
+use Rattle.zf_parse.specs.ReadStreams.{BeginsWithHeader}
+use Rattle.zf_stream.specs.Outcomes.{TakesFirst}
+
+-- the bytes that the longest header lies in
+abbrev pub header_room : ℕ
+header_room = 19
+
+-- the first bytes of the source were taken, and they begin with this header
+pub record ReadsHeader (before now : Option (List ℕ)) (h : Header) (bits : ℕ) : Type 0 where
+  pub bytes : List ℕ
+  pub first : TakesFirst header_room before now bytes
+  pub begun : BeginsWithHeader bytes h bits
+
+-- no header was read: the first bytes of the source have this fault, or the source failed within them
+abbrev pub LacksHeader : Option (List ℕ) → Option (List ℕ) → StreamFault → Type 0
+LacksHeader before now (faults.Header f) = (bytes : List ℕ) × TakesFirst header_room before now bytes × (header_fault bytes ≡ Some f)
+LacksHeader before now faults.Read = TakesAtMost before now header_room
+LacksHeader before now e = ⊥

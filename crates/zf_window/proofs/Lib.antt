@@ -1,0 +1,11 @@
+-- Lemmas on windows.
+--     Axes         numbers along four axes, and along the used ones
+--     Parts        windows made of their parts
+--     Places       the positions that a window maps to, and its slices
+--     Positions    the position of the array that a position of a window is
+--     Raster       the positions of a window in raster order
+pub mod Axes
+pub mod Parts
+pub mod Places
+pub mod Positions
+pub mod Raster

@@ -1,0 +1,69 @@
+-- The positions of a window in raster order.
+use Rattle.std.proofs.Common.{◌≡◌, ℕ, zero, suc, ◌+◌, ◌-◌, ◌*◌, ◌≤◌, ◌<◌, true, ◌&&◌, leb, ltb, ltb-true, List, [], ◌∷◌, ◌++◌, map, length, take, replicate, refl, ap, sym, subst, ◌∙◌, arith}
+use Rattle.std.proofs.lemmas.Bool.{and_parts, leb-true}
+use Rattle.std.proofs.Math.Nat.{mul-le-mul_left, mul-le-mul_right, le-mul_of_pos_right}
+use Rattle.zf_spec.specs.Grid.{product, coordinates, is_inside}
+use Rattle.zf_spec.proofs.Raster.{length-coordinates}
+use Rattle.zf_base.specs.declared.position.Pos.{Pos}
+use Rattle.zf_base.specs.Positions.{axes, used_axes, with_unused, IsPosition}
+use Rattle.zf_base.proofs.Boxes.{is_inside-coordinates, product-append_ones, coordinates-append_ones}
+use Rattle.zf_base.proofs.Extents.{IsPosition-with_unused}
+use Rattle.zf_cached.specs.Windows.{Window, LiesIn, mapped, stepped, none_zero, lies_in}
+use Rattle.zf_cached.proofs.Windows.{mapped_inside, length-mapped}
+use Rattle.zf_window.specs.Positions.{raster_at}
+use Rattle.zf_window.proofs.Axes.{sizes_four, IsPosition-inside}
+
+take_front : (xs ys : List ℕ) (n : ℕ) → length xs ≡ n → take n (xs ++ ys) ≡ xs
+take_front [] ys zero long = refl
+take_front [] ys (suc n) long = absurd (omega arith)
+take_front (x ∷ xs) ys zero long = absurd (omega arith)
+take_front (x ∷ xs) ys (suc n) long = ap (λ rest. x ∷ rest) (take_front xs ys n (omega arith))
+
+-- a box has as many positions along four axes as along the used ones
+pub product_used : (d : ℕ) (size : Pos) → d ≤ 4 → size ≡ with_unused 1 (used_axes d size) → product (axes size) ≡ product (used_axes d size)
+product_used d size dims sizes = ap product (sizes_four d size size dims sizes) ∙ product-append_ones (used_axes d size) (4 - d)
+
+-- the position with number k of a box
+module _ (d : ℕ) (size p : Pos) (k : ℕ) (dims : d ≤ 4) (sizes : size ≡ with_unused 1 (used_axes d size)) (below : k < product (used_axes d size)) (is : axes p ≡ coordinates (axes size) k) where
+  pub position_inside : IsPosition (used_axes d size) p
+  position_inside =
+      IsPosition-inside d size p dims sizes
+      (subst (λ ps. is_inside (axes size) ps ≡ true) (sym is) (is_inside-coordinates (axes size) k (omega (arith, below, product_used d size dims sizes))))
+
+  pub used_is : length (used_axes d size) ≡ d → used_axes d p ≡ coordinates (used_axes d size) k
+  used_is long =
+      ap (take d) (is ∙ ap (λ ns. coordinates ns k) (sizes_four d size size dims sizes) ∙ coordinates-append_ones (used_axes d size) (4 - d) k)
+      ∙ take_front (coordinates (used_axes d size) k) (replicate (4 - d) 0) d (length-coordinates (used_axes d size) k ∙ long)
+
+-- each position of a window is one of the array's
+pub raster_at-inside : (ns : List ℕ) (w : Window) (k : ℕ) → LiesIn ns w → length w.size ≤ 4 → k < product w.size → IsPosition ns (raster_at w k)
+raster_at-inside ns w k lies four below =
+    let cs = coordinates w.size k in
+    let long : length cs ≡ length w.size = length-coordinates w.size k in
+    IsPosition-with_unused ns (mapped w cs) (omega (arith, four, lies.sizes)) (length-mapped ns w cs lies long) (mapped_inside ns w lies cs (is_inside-coordinates w.size k below) long)
+
+-- ---- a window has no more positions than its array
+
+size_below : (n o t s : ℕ) → 1 ≤ s → 1 ≤ t → o + (s - 1) * t < n → s ≤ n
+size_below n o t s some step last = omega (arith, some, last, le-mul_of_pos_right {m = t} (s - 1) (omega (arith, step)))
+
+product_lists : (ns os ss ts : List ℕ) → length os ≡ length ns → length ss ≡ length ns → length ts ≡ length ns → none_zero ss ≡ true → none_zero ts ≡ true
+    → is_inside ns (stepped os ts (map (λ n. n - 1) ss)) ≡ true → product ss ≤ product ns
+product_lists [] os [] ts a b c some steps inside = omega arith
+product_lists [] os (s ∷ ss) ts a b c some steps inside = absurd (omega arith)
+product_lists (n ∷ ns) [] ss ts a b c some steps inside = absurd (omega arith)
+product_lists (n ∷ ns) (o ∷ os) [] ts a b c some steps inside = absurd (omega arith)
+product_lists (n ∷ ns) (o ∷ os) (s ∷ ss) [] a b c some steps inside = absurd (omega arith)
+product_lists (n ∷ ns) (o ∷ os) (s ∷ ss) (t ∷ ts) a b c some steps inside =
+    let one = and_parts (leb 1 s) (none_zero ss) some in
+    let two = and_parts (leb 1 t) (none_zero ts) steps in
+    let three = and_parts (ltb (o + (s - 1) * t) n) (is_inside ns (stepped os ts (map (λ m. m - 1) ss))) inside in
+    let first : s ≤ n = size_below n o t s (leb-true 1 s one.0) (leb-true 1 t two.0) (ltb-true (o + (s - 1) * t) n three.0) in
+    let rest : product ss ≤ product ns = product_lists ns os ss ts (omega arith) (omega arith) (omega arith) one.1 two.1 three.1 in
+    omega (arith, mul-le-mul_left {m = product ss} {n = product ns} s rest, mul-le-mul_right {m = s} {n = n} (product ns) first)
+
+pub product_window : (ns : List ℕ) (w : Window) → LiesIn ns w → product w.size ≤ product ns
+product_window ns w lies =
+    let one = and_parts (none_zero w.size) (none_zero w.step && lies_in ns w) lies.inside in
+    let two = and_parts (none_zero w.step) (lies_in ns w) one.1 in
+    product_lists ns w.origin w.size w.step lies.origins lies.sizes lies.steps one.0 two.0 two.1

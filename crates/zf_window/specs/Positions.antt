@@ -1,0 +1,22 @@
+-- The positions of an array that the positions of a window are.
+use Rattle.std.specs.Prelude.{ℕ, ◌-◌, ◌%◌, min, length, slice_index_or}
+use Rattle.zf_spec.specs.Grid.{coordinates}
+use Rattle.zf_base.specs.declared.position.Pos.{Pos}
+use Rattle.zf_base.specs.Positions.{used_axes, with_unused}
+use Rattle.zf_cached.specs.Windows.{Window, mapped}
+
+-- the position of the array that a position of a window is
+abbrev pub position_at : Window → Pos → Pos
+position_at w p = with_unused 0 (mapped w (used_axes (length w.size) p))
+
+-- position k of a window in raster order, as a position of the array
+abbrev pub raster_at : Window → ℕ → Pos
+raster_at w k = with_unused 0 (mapped w (coordinates w.size k))
+
+-- the step of a window along x
+abbrev pub x_step : Window → ℕ
+x_step w = slice_index_or w.step 0 0
+
+-- how many positions there are from position p of a window on along x, up to the end of the block and of the window
+abbrev pub run_length : Window → Pos → ℕ
+run_length w p = min (4 - (position_at w p).x % 4) (slice_index_or w.size 0 0 - p.x)

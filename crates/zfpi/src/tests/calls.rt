@@ -1,0 +1,114 @@
+//! Calls of the program over devices in memory.
+
+use crate::program::zfpi;
+use crate::status::Status;
+use std::alloc::{AllocError, Global};
+use zf_dev::{MemShelf, MemSink, MemSource, Shelf};
+
+/// How many bytes the devices move at once, and the number of the call of each that fails. The two files of
+/// the shelf are saved by its calls 0 and 1.
+#[derive(Clone, Copy)]
+pub struct Devices {
+    pub piece: usize,
+    pub read: u64,
+    pub write: u64,
+    pub error: u64,
+    pub shelf: u64,
+}
+
+/// The number of a call that is never made.
+pub const NEVER: u64 = u64::MAX;
+
+/// Devices that never fail and move all at once; and byte by byte; and such that no byte can be read.
+pub const WHOLE: Devices = Devices {
+    piece: 1 << 20,
+    read: NEVER,
+    write: NEVER,
+    error: NEVER,
+    shelf: NEVER,
+};
+
+pub const BYTES: Devices = Devices { piece: 1, ..WHOLE };
+
+pub const UNREADABLE: Devices = Devices { read: 0, ..WHOLE };
+
+/// A call of the program on a shelf that holds `file` as `a`, and how it ends: the status, what is written,
+/// the error line, and the file `a` then.
+#[derive(Clone, Copy)]
+pub struct Row {
+    pub file: &'static [u8],
+    pub words: &'static str,
+    pub input: &'static [u8],
+    pub status: Status,
+    pub out: &'static [u8],
+    pub line: &'static [u8],
+    pub after: &'static [u8],
+}
+
+/// How a call ended, and what its devices hold then.
+#[derive(Drop)]
+pub struct Ended {
+    pub status: Status,
+    pub src: MemSource,
+    pub out: MemSink,
+    pub err: MemSink,
+    pub shelf: MemShelf,
+}
+
+impl Ended {
+    /// Whether the shelf holds this file as `a`, and the other one as it was.
+    pub fn holds(&self, file: &[u8]) -> bool {
+        self.shelf.file("a") == Some(file) && self.shelf.file("kept") == Some(KEPT)
+    }
+
+    /// Whether the call ended as its row says, but for what is written.
+    pub fn is_as_said(&self, row: &Row) -> bool {
+        self.status == row.status && self.err.bytes() == row.line && self.holds(row.after)
+    }
+
+    /// How many calls of the devices failed.
+    pub fn faults(&self) -> u64 {
+        let streams = self.src.faults().saturating_add(self.out.faults());
+        let others = self.err.faults().saturating_add(self.shelf.faults());
+        streams.saturating_add(others)
+    }
+}
+
+// The other file of the shelf, which no command is to touch.
+const KEPT: &[u8] = b"abc";
+
+/// Calls the program on a shelf that holds this file as `a`.
+pub fn call(
+    alloc: Global,
+    words: &str,
+    input: &[u8],
+    file: &[u8],
+    devices: &Devices,
+) -> Result<Ended, AllocError> {
+    let mut all = Vec::new(alloc);
+    for word in words.split_whitespace() {
+        all.push(String::from_str(alloc, word)?)?;
+    }
+    let piece = devices.piece.max(1);
+    let bytes = Vec::from_slice(alloc, input)?;
+    let mut src = MemSource::new(bytes, [devices.read].to_vec(alloc)?, piece);
+    let mut out = MemSink::new(alloc, [devices.write].to_vec(alloc)?, piece);
+    let mut err = MemSink::new(alloc, [devices.error].to_vec(alloc)?, piece);
+    let mut shelf = MemShelf::new(alloc, [devices.shelf].to_vec(alloc)?);
+    let _ = shelf.save("a", file);
+    let _ = shelf.save("kept", KEPT);
+    let status = zfpi(alloc, &all, &mut src, &mut out, &mut err, &mut shelf);
+    Ok(Ended {
+        status,
+        src,
+        out,
+        err,
+        shelf,
+    })
+}
+
+/// Whether a call ends as its row says, on these devices.
+pub fn ends_so(alloc: Global, row: &Row, devices: &Devices) -> Result<bool, AllocError> {
+    let ended = call(alloc, row.words, row.input, row.file, devices)?;
+    Ok(ended.is_as_said(row) && ended.out.bytes() == row.out)
+}

@@ -1,0 +1,122 @@
+//! `compress`, `restore` and `info`, and the files of `new`: the worked rows of their documentation.
+
+use super::calls::{BYTES, WHOLE, call};
+use super::known::{ONE, OTHER, ZERO};
+use crate::status::Status;
+use std::test::Fail;
+
+type Stream = (&'static str, &'static [u8], &'static [u8], usize);
+
+// Words, the input, what is written, and how many bytes are left in the source.
+macro_rules! streams {
+    ($($words:literal, $input:expr => $out:expr, $left:literal;)*) => {
+        [$(($words, $input, $out, $left)),*]
+    };
+}
+
+const STREAMS: [Stream; 39] = streams! {
+    "compress int32 4 precision 32", b"\x01\0\0\0\x02\0\0\0\x03\0\0\0\x04\0\0\0" =>
+        b"zfp\x05\x30\0\0\0\0\0\xf0\x81\0\0\0`'\0\0\0\0\0\0\0", 0;
+    "compress int32 4 precision 1", b"\0\0\0\xc0\0\0\0\xc0\0\0\0\xc0\0\0\0\xc0" =>
+        b"zfp\x05\x30\0\0\0\0\0\0\x80\x03\0\0\0", 0;
+    "compress int32 1 reversible", b"\0\0\0\0" => ZERO, 0;
+    "compress int32 1 reversible", b"\x01\0\0\0" => ONE, 0;
+    "compress int32 1 reversible", b"\xff\xff\xff\xff" =>
+        b"zfp\x05\0\0\0\0\0\0\0\x88\x1f\0\0\0X\0\0\0\0\0\0\0", 0;
+    "compress int32 1 reversible", b"\0\0\0\x80" => b"zfp\x05\0\0\0\0\0\0\0\x88`\0\0\0", 0;
+    "compress int32 2 reversible", b"\x01\0\0\0\x02\0\0\0" =>
+        b"zfp\x05\x10\0\0\0\0\0\0\x88\x1f\0\0\0H\x07\0\0\0\0\0\0", 0;
+    "compress int32 4 reversible", b"\0\0\0\0\0\0\0\0\0\0\0\0\x01\0\0\0" =>
+        b"zfp\x05\x30\0\0\0\0\0\0\x88\x1f\0\0\0\x10\0\0\0\0\0\0\0", 0;
+    "compress int64 5x7 reversible", &[0; 280] => b"zfp\x05\x45\0\0`\0\0\0\x88\0\0\0\0", 0;
+    "compress int32 2x1 reversible", b"\x01\0\0\0\x02\0\0\0" =>
+        b"zfp\x05\x14\0\0\0\0\0\0\x88\x1f\0\0\0\x08M\0\0\0\0\0\0", 0;
+    "compress int32 4 rate 64", b"\x01\0\0\0\x02\0\0\0\x03\0\0\0\x04\0\0\0" =>
+        b"zfp\x05\x30\0\0\0\0\0\xf0\x03\0\0\0`'\0\0\0\0\0\0\0", 0;
+    "compress int32 1x1x1 reversible", b"\0\0\0\0" => b"zfpE\x08\0\0\0\0\0\0\x88\0\0\0\0", 0;
+    "compress int32 4x4 rate 128",
+        b"\x03\0\0\0\x03\0\0\0\x03\0\0\0\x03\0\0\0\x03\0\0\0\x03\0\0\0\x03\0\0\0\x03\0\0\0\x03\0\0\0\x03\
+          \0\0\0\x03\0\0\0\x03\0\0\0\x03\0\0\0\x03\0\0\0\x03\0\0\0\x03\0\0\0" =>
+        b"zfp\x05\x34\0\0\x30\0\0\xf0\x07\0\0\0`\x05\0\0\0\0\0\0\0\0\0\0\0\0\0\0\0", 0;
+    "compress int32 4 rate 64", b"\x01\0\0\0\0\0\0\0\0\0\0\0\0\0\0\0" =>
+        b"zfp\x05\x30\0\0\0\0\0\xf0\x03\0\0\0\0\0\0\0\0\0\0\0\0", 0;
+    "compress int32 4 rate 1", b"\0\0\0\xc0\0\0\0\xc0\0\0\0\xc0\0\0\0\xc0" =>
+        b"zfp\x05\x30\0\0\0\0\0\0\0\x01\0\0\0", 0;
+    "compress int32 4 rate 2", b"\0\0\0\x30\0\0\0\xd0\0\0\0\xd0\0\0\0\x30" =>
+        b"zfp\x05\x30\0\0\0\0\0\x10\0\x01\0\0\0", 0;
+    "restore", b"zfp\x05\x30\0\0\0\0\0\xf0\x81\0\0\0`'\0\0\0\0\0\0\0" =>
+        b"\0\0\0\0\x02\0\0\0\x02\0\0\0\x04\0\0\0", 0;
+    "restore", b"zfp\x05\x30\0\0\0\0\0\xf0\x83\0\0\0`'\0\0\0\0\0\0\0" =>
+        b"\0\0\0\0\x02\0\0\0\x02\0\0\0\x04\0\0\0", 0;
+    "restore", b"zfp\x05\x30\0\0\0\0\0\0\x80\x03\0\0\0" => b"\0\0\0\x80\0\0\0\x80\0\0\0\x80\0\0\0\x80", 0;
+    "restore", ONE => b"\x01\0\0\0", 0;
+    "restore", b"zfp\x05\x45\0\0`\0\0\0\x88\0\0\0\0" => &[0; 280], 0;
+    "restore", b"zfpE\x08\0\0\0\0\0\0\x88\0\0\0\0" => b"\0\0\0\0", 0;
+    "restore", b"zfp\x05\x34\0\0\x30\0\0\xf0\x07\0\0\0`\x05\0\0\0\0\0\0\0\0\0\0\0\0\0\0\0" =>
+        b"\x03\0\0\0\x03\0\0\0\x03\0\0\0\x03\0\0\0\x03\0\0\0\x03\0\0\0\x03\0\0\0\x03\0\0\0\x03\0\0\0\x03\
+          \0\0\0\x03\0\0\0\x03\0\0\0\x03\0\0\0\x03\0\0\0\x03\0\0\0\x03\0\0\0", 0;
+    "restore", b"zfp\x05\x30\0\0\0\0\0\xf0\x03\0\0\0\0\0\0\0\0\0\0\0\0" =>
+        b"\0\0\0\0\0\0\0\0\0\0\0\0\0\0\0\0", 0;
+    "restore", b"zfp\x05\x30\0\0\0\0\0\0\0\x01\0\0\0" => b"\0\0\0\x80\0\0\0\x80\0\0\0\x80\0\0\0\x80", 0;
+    "restore", b"zfp\x05\x30\0\0\0\0\0\x10\0\x01\0\0\0" => b"\0\0\0@\0\0\0\xc0\0\0\0@\0\0\0\xc0", 0;
+    "restore", b"zfp\x05\x30\0\0\0\0\0\xf0\x03\0\0\0`'\0\0\0\0\0\0\0" =>
+        b"\0\0\0\0\x02\0\0\0\x02\0\0\0\x04\0\0\0", 0;
+    "info", b"zfp\x05\x30\0\0\0\0\0\0\x80\x03\0\0\0" => b"int32 4 precision 1 blocks 1 header 96\n", 0;
+    "info", b"zfp\x05\x30\0\0\0\0\0\x10\0\x01\0\0\0.." => b"int32 4 rate 2 blocks 1 header 96\n", 0;
+    "info", b"zfpE<\0\x03\x30\0\x03\xf0\xff\xff\x8f\xff\xc7\xaf\x87\x07.." =>
+        b"int32 4x4x4x4 rate 4096 blocks 1 header 148\n", 2;
+    "info", b"zfp\x05\x45\0\0`\0\0\0\x88\0\0\0\0" => b"int64 5x7 reversible blocks 4 header 96\n", 0;
+    "compress int8 1 reversible", b"\x01" => b"zfp\x05\0\0\0\0\0\0\0\x88\x08\xb0\0\0", 0;
+    "compress int8 1 reversible", b"\x80" => b"zfp\x05\0\0\0\0\0\0\0\x88\x61\x01\0\0", 0;
+    "compress uint8 1 reversible", b"\x80" => ZERO, 0;
+    "compress uint16 1 reversible", b"\0\x80" => ZERO, 0;
+    "restore int8", b"zfp\x05\0\0\0\0\0\0\0\x88`\0\0\0" => b"\x80", 0;
+    "restore uint8", b"zfp\x05\0\0\0\0\0\0\0\x88`\0\0\0" => b"\0", 0;
+    "restore int16", b"zfp\x05\0\0\0\0\0\0\0\x88`\0\0\0" => b"\0\x80", 0;
+    "restore uint16", b"zfp\x05\0\0\0\0\0\0\0\x88`\0\0\0" => b"\0\0", 0;
+};
+
+#[test]
+fn values_and_streams_become_each_other(rt: HostRuntime) -> Result<(), Fail> {
+    for (words, input, out, left) in STREAMS.iter() {
+        for devices in [WHOLE, BYTES].iter() {
+            let ended = call(rt.alloc(), words, input, OTHER, devices)?;
+            assert!(rt; ended.status == Status::Done && ended.out.bytes() == *out);
+            assert!(rt; ended.err.bytes().is_empty() && ended.src.left().len() == *left);
+            assert!(rt; ended.holds(OTHER));
+        }
+    }
+    Ok(())
+}
+
+// A command, the name of its file, the front of the file, and its length; behind the front all is zero.
+macro_rules! files {
+    ($($words:literal, $name:literal, $front:literal => $len:literal;)*) => {
+        [$(($words, $name, $front, $len)),*]
+    };
+}
+
+const FILES: [(&str, &str, &[u8], usize); 10] = files! {
+    "new a int32 8 64", "a", b"zfp\x05p\0\0\0\0\0\xf0\x03" => 32;
+    "new a int32 8 65", "a", b"zfp\x05p\0\0\0\0\0\0\x04" => 32;
+    "new kept int32 8 1", "kept", b"zfp\x05p" => 16;
+    "new A-_.9 int64 4 64", "A-_.9", b"zfp\x05\x31\0\0\0\0\0\xf0\x03" => 24;
+    "new 0 int32 5x7 3", "0", b"zfp\x05\x44\0\0`\0\0 " => 16;
+    "new c int64 4x4x4x4 4096", "c", b"zfpE=\0\x03\x30\0\x03\xf0\xff\xff\x8f\xff\xc7\xaf\x87\x07" => 536;
+    "new c int32 1x2x3 2049", "c", b"zfpE\x08\0\x10\0 \0\xf0\xff\0\x08\0\xc4\xaf\x87\x07" => 280;
+    "new c int32 3x3x3x3 17", "c", b"zfpE,\0\x02 \0\x02\0\x01" => 16;
+    "new c int64 9x9 128", "c", b"zfp\x05\x85\0\0\x80\0\0\xf0\x07" => 160;
+    "new c int64 9x1x9 100", "c", b"zfpE\x89\0\0\0\x80\0\x30\x06" => 128;
+};
+
+#[test]
+fn new_saves_zeros(rt: HostRuntime) -> Result<(), Fail> {
+    for (words, name, front, len) in FILES.iter() {
+        let ended = call(rt.alloc(), words, b"", b"before", &WHOLE)?;
+        let mut file = Vec::from_slice(rt.alloc(), front)?;
+        file.resize(*len, 0)?;
+        assert!(rt; ended.status == Status::Done && ended.err.bytes().is_empty());
+        assert!(rt; ended.shelf.file(name) == Some(file.as_slice()));
+    }
+    Ok(())
+}
