@@ -5,9 +5,11 @@
 --     Reading      one read after another
 --     Written      words that hold bits and then zeros
 --     Packed       the bits of bytes are the bits of their words
+--     Excerpts     a few of the bits of a file
 pub mod Fields
 pub mod Words
 pub mod Appending
 pub mod Reading
 pub mod Packed
 pub mod Written
+pub mod Excerpts

@@ -1,14 +1,16 @@
 -- The bits of bytes are the bits of their words, and then zeros.
-use Rattle.std.proofs.Common.{◌≡◌, ℕ, zero, suc, ◌+◌, ◌-◌, ◌*◌, ◌%◌, ◌^◌, ◌<◌, ◌≤◌, false, List, [], ◌∷◌, ◌++◌, length, get_or, take, drop, replicate, All, min, refl, sym, ap, ◌∙◌, arith, append_assoc, length-append, length-drop, lit<}
+use Rattle.std.proofs.Common.{◌≡◌, ℕ, Bool, zero, suc, ◌+◌, ◌-◌, ◌*◌, ◌%◌, ◌^◌, ◌<◌, ◌≤◌, false, List, [], ◌∷◌, ◌++◌, length, get_or, take, drop, replicate, All, min, refl, sym, ap, ◌∙◌, arith, append_assoc, length-append, length-drop, lit<}
 use Rattle.std.specs.List.{flat_map}
 use Rattle.std.specs.Int.{w64, byte_worth, sum_through, div_ceil, from_le_bytes, to_le_bytes}
 use Rattle.std.proofs.Math.Nat.{pow-suc, mul-suc, mod-eq_of_lt}
-use Rattle.std.proofs.lemmas.List.{append-nil, take_at, drop_all, drop_at, get_or-drop, replicate-append-replicate}
+use Rattle.std.proofs.lemmas.List.{append-nil, take_at, take-append-drop, drop_all, drop_at, drop-drop, get_or-drop, length-take-le, replicate-append-replicate}
 use Rattle.std.proofs.lemmas.List.Elements.{All-head, All-tail, All-nil, All-append}
 use Rattle.std.proofs.lemmas.List.Concat.{flat_map-append}
 use Rattle.zf_spec.specs.Numbers.{field, number, word_bits}
 use Rattle.zf_spec.specs.Stream.{first_bytes, with_fill, to_bits, to_bytes}
 use Rattle.zf_bits.specs.Packing.{word_of, words_from, words_of}
+use Rattle.zf_spec.proofs.WordBits.{length-word_bits}
+use Rattle.zf_bits.proofs.Words.{take-words}
 use Rattle.zf_spec.proofs.Fields.{length-field, number-field, number-append, field-number, field-zero}
 use Rattle.zf_spec.proofs.Bytes.{length-first_bytes, length-to_bits, first_bytes-all, length-to_le_bytes, to_le_bytes_small, from_le_bytes-to_le_bytes, to_bytes-to_bits}
 
@@ -141,6 +143,24 @@ words_of-append piece [] count some =
 words_of-append piece (b ∷ rest) count some =
     words_of-whole piece (b ∷ rest) (omega (arith, length-append piece (b ∷ rest)))
 
+-- one word more
+pub words_from-more : (n : ℕ) (s : List ℕ) → words_from (n + 1) s ≡ words_from n s ++ word_of (drop (8 * n) s) ∷ []
+words_from-more zero s = refl
+words_from-more (suc n) s =
+    let next : suc n + 1 ≡ suc (n + 1) = omega arith in
+    let sum : 8 + 8 * n ≡ 8 * suc n = omega arith in
+    let place : drop (8 * n) (drop 8 s) ≡ drop (8 * suc n) s = drop-drop (8 * n) 8 s ∙ ap (λ k. drop k s) sum in
+    ap (λ k. words_from k s) next
+    ∙ ap (λ (ws : List ℕ). word_of s ∷ ws) (words_from-more n (drop 8 s) ∙ ap (λ (bs : List ℕ). words_from n (drop 8 s) ++ word_of bs ∷ []) place)
+
+-- the word of the first 8 bytes
+pub word_of-eight : (s : List ℕ) → 8 ≤ length s → word_of (take 8 s) ≡ word_of s
+unfolding word_of
+word_of-eight s within =
+    let size : length (take 8 s) ≡ 8 = length-take-le 8 s within in
+    ap (from_le_bytes w64)
+    (sym (first_bytes-more 8 (take 8 s) (drop 8 s) (omega (arith, size))) ∙ ap (first_bytes 8) (take-append-drop 8 s))
+
 -- ---- the bytes of words
 
 pub flat_map-push : (f : ℕ → List ℕ) (xs : List ℕ) (x : ℕ) → flat_map f (xs ++ x ∷ []) ≡ flat_map f xs ++ f x
@@ -175,3 +195,22 @@ bytes-words words small = sym (to_bytes-to_bits (flat_map (to_le_bytes w64) word
         flat_map-append (field 8) (to_le_bytes w64 v) (flat_map (to_le_bytes w64) ws)
         ∙ ap (λ bs. bs ++ to_bits (flat_map (to_le_bytes w64) ws)) (to_bits-to_le_bytes v (All-head (λ v. v < 2 ^ 64) v ws all))
         ∙ ap (λ bs. field 64 v ++ bs) (same_bits ws (All-tail (λ v. v < 2 ^ 64) v ws all))
+
+-- ---- bytes put into words
+
+pub bits_put : (words rest s : List ℕ) (bits held k : ℕ) → bits ≡ 64 * held → held ≤ length words → length s ≤ 8 * k → ((i : ℕ) → get_or s i 0 < 256)
+    → take (bits + 8 * length s) (word_bits (take held words ++ (words_from k s ++ rest))) ≡ take bits (word_bits words) ++ to_bits s
+bits_put words rest s bits held k bits_are within fits bytes =
+    let front = take bits (word_bits words) in
+    let zeros = replicate (64 * k - 8 * length s) false in
+    let more = zeros ++ word_bits rest in
+    let old : word_bits (take held words) ≡ front = sym (take-words 64 held words) ∙ ap (λ n. take n (word_bits words)) (sym bits_are) in
+    let long : length front ≡ bits = length-take-le bits (word_bits words) (omega (arith, length-word_bits words)) in
+    let size : length front + length (to_bits s) ≡ bits + 8 * length s = omega (arith, long, length-to_bits s) in
+    let parts : word_bits (take held words ++ (words_from k s ++ rest)) ≡ front ++ (to_bits s ++ more) =
+    flat_map-append (field 64) (take held words) (words_from k s ++ rest)
+    ∙ ap (λ (bs : List Bool). bs ++ word_bits (words_from k s ++ rest)) old
+    ∙ ap (λ (bs : List Bool). front ++ bs)
+    (flat_map-append (field 64) (words_from k s) rest ∙ ap (λ (bs : List Bool). bs ++ word_bits rest) (word_bits-words_from k s fits bytes) ∙ append_assoc (to_bits s) zeros (word_bits rest)) in
+    ap (take (bits + 8 * length s)) (parts ∙ sym (append_assoc front (to_bits s) more))
+    ∙ take_at (front ++ to_bits s) more (bits + 8 * length s) (length-append front (to_bits s) ∙ size)

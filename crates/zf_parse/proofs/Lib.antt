@@ -10,6 +10,7 @@
 --     RateStreams    what a stream of a fixed rate says: its codes are cut by places alone
 --     BlocksBack     the codes of blocks read back
 --     StreamsBack    what compress writes, restore reads
+--     Excerpts       what is read of a few of the bits of a file
 pub mod Codes
 pub mod Fill
 pub mod Joining
@@ -21,3 +22,4 @@ pub mod ParseOfStream
 pub mod RateStreams
 pub mod BlocksBack
 pub mod StreamsBack
+pub mod Excerpts

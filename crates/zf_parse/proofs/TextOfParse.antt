@@ -95,7 +95,7 @@ read_prec_more w p es s more found e =
       omega (arith, within, count),
     )
 
-read_code_more : (w : Width) (mode : Mode) (es : List ℕ) (s more : List Bool) (found : List ℤ × ℕ) → read_code w mode es s ≡ Some found
+pub read_code_more : (w : Width) (mode : Mode) (es : List ℕ) (s more : List Bool) (found : List ℤ × ℕ) → read_code w mode es s ≡ Some found
     → (read_code w mode es (s ++ more) ≡ Some found) × (found.1 ≤ length s)
 read_code_more w Reversible es s more found e = read_rev_more w es s more found e
 read_code_more w (Precision p) es s more found e = read_prec_more w p es s more found e

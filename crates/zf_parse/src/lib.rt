@@ -2,7 +2,9 @@
 #![tactic(auto)]
 
 mod fault;
+mod longest;
 mod reading;
 
 pub use fault::StreamFault;
+pub use longest::longest_code;
 pub use reading::{check_fill, read_code};

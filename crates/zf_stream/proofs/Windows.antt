@@ -38,25 +38,6 @@ bits_moved words new bits at first end same within whole bits_are before in_bits
     ∙ drop-drop (at - 64 * first) (64 * first) (take bits bits_of)
     ∙ ap (λ k. drop k (take bits bits_of)) place
 
--- ---- words put behind
-
-pub bits_put : (words rest s : List ℕ) (bits held k : ℕ) → bits ≡ 64 * held → held ≤ length words → length s ≤ 8 * k → ((i : ℕ) → get_or s i 0 < 256)
-    → take (bits + 8 * length s) (word_bits (take held words ++ (words_from k s ++ rest))) ≡ take bits (word_bits words) ++ to_bits s
-bits_put words rest s bits held k bits_are within fits bytes =
-    let front = take bits (word_bits words) in
-    let zeros = replicate (64 * k - 8 * length s) false in
-    let more = zeros ++ word_bits rest in
-    let old : word_bits (take held words) ≡ front = word_bits-take held words within ∙ ap (λ n. take n (word_bits words)) (sym bits_are) in
-    let long : length front ≡ bits = length-take-le bits (word_bits words) (omega (arith, length-word_bits words)) in
-    let size : length front + length (to_bits s) ≡ bits + 8 * length s = omega (arith, long, length-to_bits s) in
-    let parts : word_bits (take held words ++ (words_from k s ++ rest)) ≡ front ++ (to_bits s ++ more) =
-    flat_map-append (field 64) (take held words) (words_from k s ++ rest)
-    ∙ ap (λ (bs : List Bool). bs ++ word_bits (words_from k s ++ rest)) old
-    ∙ ap (λ (bs : List Bool). front ++ bs)
-    (flat_map-append (field 64) (words_from k s) rest ∙ ap (λ (bs : List Bool). bs ++ word_bits rest) (word_bits-words_from k s fits bytes) ∙ append_assoc (to_bits s) zeros (word_bits rest)) in
-    ap (take (bits + 8 * length s)) (parts ∙ sym (append_assoc front (to_bits s) more))
-    ∙ take_at (front ++ to_bits s) more (bits + 8 * length s) (length-append front (to_bits s) ∙ size)
-
 -- ---- one step after another
 
 pub Goes-none : (src : Option (List ℕ)) (w : Window) → Goes src src w w []

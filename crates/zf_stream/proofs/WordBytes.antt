@@ -1,17 +1,15 @@
 -- The bytes of words.
-use Rattle.std.proofs.Common.{◌≡◌, refl, sym, ap, ◌∙◌, ℕ, zero, suc, ◌+◌, ◌*◌, ◌<◌, ◌^◌, ◌≤◌, List, [], ◌∷◌, ◌++◌, length, take, drop, All, length-append, take-append-drop, drop_at, arith}
-use Rattle.std.proofs.lemmas.List.{take_at, take_all, length-take-le, drop-drop}
+use Rattle.std.proofs.Common.{◌≡◌, refl, sym, ap, ◌∙◌, ℕ, ◌*◌, ◌<◌, ◌^◌, ◌≤◌, List, [], ◌∷◌, ◌++◌, length, take, drop, All, length-append, take-append-drop, drop_at, arith}
+use Rattle.std.proofs.lemmas.List.{take_at, length-take-le}
 use Rattle.std.proofs.lemmas.Grind.{flat_map-append}
 use Rattle.std.proofs.lemmas.List.Elements.{All-nil, All-append}
-use Rattle.std.specs.Int.{w64, to_le_bytes, from_le_bytes}
+use Rattle.std.specs.Int.{w64, to_le_bytes}
 use Rattle.zf_spec.specs.Numbers.{field, word_bits}
-use Rattle.zf_spec.specs.Stream.{to_bits, first_bytes}
+use Rattle.zf_spec.specs.Stream.{to_bits}
 use Rattle.zf_spec.proofs.Bytes.{to_bits-to_bytes, length-to_le_bytes, to_le_bytes_small}
 use Rattle.zf_spec.proofs.WordBits.{length-word_bits}
 use Rattle.zf_bits.proofs.Packed.{bytes-words}
-use Rattle.zf_bits.specs.Packing.{word_of, words_from}
 use Rattle.zf_stream.specs.Flows.{bytes_in}
-use Rattle.zf_stream.proofs.LittleEndian.{first_bytes-take}
 
 pub to_bits-bytes_in : (words : List ℕ) → All (λ v. v < 2 ^ 64) words → to_bits (bytes_in words) ≡ word_bits words
 to_bits-bytes_in words fit =
@@ -40,21 +38,3 @@ word_bits-drop n words within =
     let long : length front ≡ 64 * n = omega (arith, length-word_bits (take n words), length-take-le n words within) in
     sym (drop_at front (word_bits (drop n words)) (64 * n) long)
     ∙ ap (drop (64 * n)) (sym (flat_map-append (field 64) (take n words) (drop n words)) ∙ ap word_bits (take-append-drop n words))
-
--- ---- words of bytes
-
--- one word more
-pub words_from-more : (n : ℕ) (s : List ℕ) → words_from (n + 1) s ≡ words_from n s ++ from_le_bytes w64 (first_bytes 8 (drop (8 * n) s)) ∷ []
-unfolding word_of
-words_from-more zero s = refl
-words_from-more (suc n) s =
-    let next : suc n + 1 ≡ suc (n + 1) = omega arith in
-    let sum : 8 + 8 * n ≡ 8 * suc n = omega arith in
-    let place : drop (8 * n) (drop 8 s) ≡ drop (8 * suc n) s = drop-drop (8 * n) 8 s ∙ ap (λ k. drop k s) sum in
-    ap (λ k. words_from k s) next
-    ∙ ap (λ (ws : List ℕ). word_of s ∷ ws) (words_from-more n (drop 8 s) ∙ ap (λ (bs : List ℕ). words_from n (drop 8 s) ++ from_le_bytes w64 (first_bytes 8 bs) ∷ []) place)
-
--- the word of 8 bytes that are there
-pub word_of-eight : (s : List ℕ) → 8 ≤ length s → first_bytes 8 (take 8 s) ≡ first_bytes 8 s
-word_of-eight s within =
-    first_bytes-take 8 (take 8 s) (omega (arith, length-take-le 8 s within)) ∙ take_all 8 (take 8 s) (omega (arith, length-take-le 8 s within)) ∙ sym (first_bytes-take 8 s within)

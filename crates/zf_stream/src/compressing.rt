@@ -17,7 +17,6 @@ ghost use Rattle.zf_parse.specs.declared.fault.StreamFault.TheVariants.{Read, Wr
 
 use crate::StreamFault;
 use crate::encoding::write_codes;
-use crate::longest::longest_code;
 use crate::reading::{read_end, read_values};
 use crate::slabs::{most_rows, rows_of, with_rows};
 use crate::values::value_len;
@@ -29,6 +28,7 @@ use zf_block::Scratch;
 use zf_dev::{Sink, Source};
 use zf_header::{Header, LONG_HEADER_BITS};
 use zf_pad::Layout;
+use zf_parse::longest_code;
 
 /// The most bytes that are read or written at a time: so many that the system is seldom called, and few beside a large slab.
 pub(crate) const PIECE: u64 = 1 << 18;

@@ -7,7 +7,6 @@ mod decoding;
 mod encoding;
 mod header;
 pub mod laws;
-mod longest;
 mod reading;
 mod restoring;
 mod slabs;

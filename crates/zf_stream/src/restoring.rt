@@ -19,7 +19,6 @@ use crate::StreamFault;
 use crate::compressing::PIECE;
 use crate::decoding::read_slab;
 use crate::header::header_at_front;
-use crate::longest::longest_code;
 use crate::reading::read_into;
 use crate::slabs::{most_rows, rows_of, with_rows};
 use crate::window::{FRONT, Window};
@@ -29,7 +28,7 @@ use zf_base::{Lane, Ty, block_len};
 use zf_dev::{Sink, Source};
 use zf_header::Header;
 use zf_pad::Layout;
-use zf_parse::check_fill;
+use zf_parse::{check_fill, longest_code};
 
 /// Reads a stream to the end of the source, and writes its raw values, each little-endian in 4 or 8 bytes, x fastest.
 ///

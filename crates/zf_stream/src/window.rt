@@ -9,11 +9,10 @@ ghost use Rattle.zf_stream.specs.Windows.{left_of, KnowsEnd, Refills};
 ghost use Rattle.zf_parse.specs.declared.fault.StreamFault.TheVariants.{Read};
 
 use crate::StreamFault;
-use crate::bytes::put_words_at;
 use crate::reading::read_into;
 use std::alloc::{AllocError, Global};
 use std::marker::Model;
-use zf_bits::BitReader;
+use zf_bits::{BitReader, put_words_at};
 use zf_dev::Source;
 
 /// How many bytes are taken from a source before its window is made: whole words, and the longest header lies in them.

@@ -9,7 +9,7 @@ use zf_base::{Lane, block_len};
 use zf_header::{Header, Mode};
 
 /// The bits of the longest code of a block.
-pub(crate) fn longest_code<T: Lane>(h: &Header) -> u64
+pub fn longest_code<T: Lane>(h: &Header) -> u64
     requires same_type { T.width ≡ width_of h.now.ty }
     requires mode { IsMode h.now.mode }
     ensures value { result ≡ longest_code h.now }

@@ -1,6 +1,6 @@
 use Rattle.std.proofs.Common.{arith}
 use Rattle.std.proofs.Math.Nat.{mul-pos, one-le-pow}
-use Rattle.zf_stream.proofs.longest.longest_code.Goals as goal
+use Rattle.zf_parse.proofs.longest.longest_code.Goals as goal
 
 pub returns-in-Precision-clause-some : goal.returns-in-Precision-clause-some
 returns-in-Precision-clause-some g c =

@@ -3,8 +3,8 @@ use Rattle.std.proofs.lemmas.List.{drop-drop, length-take, length-drop}
 use Rattle.std.specs.Int.{div_ceil}
 use Rattle.zf_spec.specs.Numbers.{word_bits}
 use Rattle.zf_bits.specs.Packing.{words_from}
-use Rattle.zf_stream.proofs.Windows.{bits_put}
-use Rattle.zf_stream.proofs.bytes.put_words_at.Goals as goal
+use Rattle.zf_bits.proofs.Packed.{bits_put}
+use Rattle.zf_bits.proofs.packing.put_words_at.Goals as goal
 
 pub returns-clause-bits : goal.returns-clause-bits
 returns-clause-bits c =

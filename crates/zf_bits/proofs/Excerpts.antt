@@ -1,0 +1,54 @@
+-- A few of the bits of a file.
+use Rattle.std.proofs.Common.{◌≡◌, ◌⊎◌, inl, inr, sym, ap, ◌∙◌, ℕ, ◌+◌, ◌-◌, ◌*◌, ◌/◌, ◌%◌, ◌<◌, ◌≤◌, min, false, Bool, List, ◌++◌, length, get_or, take, drop, replicate, append_assoc, length-drop, arith}
+use Rattle.std.specs.Int.{div_ceil}
+use Rattle.std.proofs.lemmas.Bool.{cases_lt}
+use Rattle.std.proofs.lemmas.List.{take_at, take_all, take-append-drop, drop_at, drop-drop, drop-take, length-take-le}
+use Rattle.std.proofs.lemmas.Grind.{flat_map-append}
+use Rattle.zf_spec.specs.Numbers.{field, word_bits}
+use Rattle.zf_spec.specs.Stream.{to_bits}
+use Rattle.zf_spec.proofs.Bytes.{length-to_bits}
+use Rattle.zf_bits.specs.Packing.{words_from}
+use Rattle.zf_bits.proofs.Packed.{word_bits-words_from}
+
+-- the bits of some of the bytes
+to_bits-cut : (bytes : List ℕ) (first n : ℕ) → first + n ≤ length bytes → to_bits (take n (drop first bytes)) ≡ take (8 * n) (drop (8 * first) (to_bits bytes))
+to_bits-cut bytes first n within =
+    let front = take first bytes in
+    let behind = drop first bytes in
+    let some = take n behind in
+    let rest = drop n behind in
+    let long_front : length (to_bits front) ≡ 8 * first = omega (arith, length-to_bits front, length-take-le first bytes (omega arith)) in
+    let long_some : length (to_bits some) ≡ 8 * n = omega (arith, length-to_bits some, length-take-le n behind (omega (arith, length-drop first bytes))) in
+    let parts : to_bits bytes ≡ to_bits front ++ (to_bits some ++ to_bits rest) =
+    ap to_bits (sym (take-append-drop first bytes)) ∙ flat_map-append (field 8) front behind
+    ∙ ap (λ (bs : List Bool). to_bits front ++ bs) (ap to_bits (sym (take-append-drop n behind)) ∙ flat_map-append (field 8) some rest) in
+    sym (ap (λ (bs : List Bool). take (8 * n) (drop (8 * first) bs)) parts
+    ∙ ap (take (8 * n)) (drop_at (to_bits front) (to_bits some ++ to_bits rest) (8 * first) long_front)
+    ∙ take_at (to_bits some) (to_bits rest) (8 * n) long_some)
+
+-- the bits that are taken from a place on
+module _ (file : List ℕ) (at room count : ℕ) (within : at ≤ 8 * length file) (some : 1 ≤ room) (is : count ≡ min (length file - 8 * (at / 64)) (8 * room)) where
+  pub place_within : at % 64 ≤ 8 * count
+  place_within = omega (arith, within, some, is)
+
+  pub taken : (bits : List Bool) → bits ≡ to_bits (take count (drop (8 * (at / 64)) file)) → drop (at % 64) bits ≡ take (64 * room - at % 64) (drop at (to_bits file))
+  taken bits is_bits =
+      let first = 8 * (at / 64) in
+      let inside : first + count ≤ length file = omega (arith, is) in
+      let split : 8 * count ≡ at % 64 + (8 * count - at % 64) = omega (arith, place_within) in
+      let sum : 8 * first + at % 64 ≡ at = omega arith in
+      ap (drop (at % 64)) (is_bits ∙ to_bits-cut file first count inside ∙ ap (λ n. take n (drop (8 * first) s)) split)
+      ∙ drop-take (at % 64) (8 * count - at % 64) (drop (8 * first) s)
+      ∙ ap (take (8 * count - at % 64)) (drop-drop (at % 64) (8 * first) s ∙ ap (λ n. drop n s) sum)
+      ∙ both (cases_lt (8 * room) (length file - first))
+    where
+      s : List Bool
+      s = to_bits file
+
+      left : length (drop at s) ≡ 8 * length file - at
+      left = length-drop at s ∙ ap (λ n. n - at) (length-to_bits file)
+
+      both : (8 * room < length file - 8 * (at / 64)) ⊎ (length file - 8 * (at / 64) ≤ 8 * room) → take (8 * count - at % 64) (drop at s) ≡ take (64 * room - at % 64) (drop at s)
+      both (inl more) = let same : 8 * count - at % 64 ≡ 64 * room - at % 64 = omega (arith, is, more) in ap (λ n. take n (drop at s)) same
+      both (inr all) =
+          take_all (8 * count - at % 64) (drop at s) (omega (arith, is, all, left)) ∙ sym (take_all (64 * room - at % 64) (drop at s) (omega (arith, all, left)))
