@@ -1,8 +1,8 @@
-use Rattle.std.proofs.Common.{◌≡◌, ◌+◌, ◌-◌, ◌*◌, ◌/◌, ◌%◌, ◌≤◌, min, length, take, drop, sym, ap, ◌∙◌, arith, rules}
+use Rattle.std.proofs.Common.{◌≡◌, ◌+◌, ◌-◌, ◌*◌, ◌/◌, ◌%◌, ◌≤◌, min, length, take, drop, ap, ◌∙◌, arith, rules}
 use Rattle.std.proofs.lemmas.List.{length-take-le, length-drop, places, with_items_is}
 use Rattle.zf_spec.specs.Numbers.{word_bits}
 use Rattle.zf_spec.specs.Stream.{to_bits}
-use Rattle.zf_bits.proofs.Excerpts.{place_within, taken}
+use Rattle.zf_bits.proofs.Excerpts.{taken}
 use Rattle.zf_bits.proofs.excerpt.Excerpt.take.Goals as goal
 
 pub overflow_mul-self : goal.overflow_mul-self
