@@ -1,26 +1,20 @@
--- A code that is cut from bits, and the plane of the codes of an index.
+-- A code among bits, and the plane of the codes of an index.
 use Rattle.std.proofs.Common.{◌≡◌, sym, ap, ◌∙◌, ℕ, ◌+◌, ◌≤◌, max, Bool, List, [], ◌∷◌, ◌++◌, map, length, take, drop, take-take, arith}
 use Rattle.std.specs.Int.{Width}
-use Rattle.std.proofs.lemmas.List.{length-take-le, length-drop, drop-take, map-append}
+use Rattle.std.proofs.lemmas.List.{length-take, length-drop, map-append}
 use Rattle.zf_spec.specs.Grid.{upto}
 use Rattle.zf_spec.proofs.Counting.{count_from-add}
 use Rattle.zf_bits.specs.Reader.{Reader, rest}
 use Rattle.zf_block.specs.WholePlanes.{rate_whole_from}
 use Rattle.zf_bound.specs.Bounds.{plane_of}
 
--- ---- a reader that ends where the code does, and stands where it begins
-pub first_long : (bits : List Bool) (at len : ℕ) (first : Reader) → first ≡ record { all = take (at + len) bits; at = 0 } → at + len ≤ length bits → at ≤ length first.all
-first_long bits at len first made inside = omega (arith, ap (λ (s : Reader). length s.all) made, length-take-le (at + len) bits inside)
-
-module _ (bits : List Bool) (at len : ℕ) (first r : Reader) (made : first ≡ record { all = take (at + len) bits; at = 0 }) (stands : r ≡ record first { at = at }) (inside : at + len ≤ length bits) where
-  code_left : rest r ≡ take len (drop at bits)
-  code_left = ap (λ (s : Reader). rest s) stands ∙ ap (λ (s : Reader). drop at s.all) made ∙ drop-take at len bits
-
+-- ---- a code that is read from the bits of its file, of which there are at least as many
+module _ (bits : List Bool) (at len most : ℕ) (r : Reader) (left : rest r ≡ take most (drop at bits)) (inside : at + len ≤ length bits) (fits : len ≤ most) where
   pub code_enough : len ≤ length (rest r)
-  code_enough = omega (arith, ap length code_left, length-take-le len (drop at bits) (omega (arith, length-drop at bits)))
+  code_enough = omega (arith, ap length left, length-take most (drop at bits), length-drop at bits)
 
   pub code_is : take len (rest r) ≡ take len (drop at bits)
-  code_is = ap (take len) code_left ∙ take-take len len (drop at bits) (omega arith)
+  code_is = ap (take len) left ∙ take-take len most (drop at bits) fits
 
 -- ---- the greatest plane over codes
 

@@ -1,13 +1,13 @@
 -- What is certified of a file whose codes an index has.
-use Rattle.std.proofs.Common.{◌≡◌, refl, sym, ap, subst, ◌∙◌, ℕ, ◌<◌, ◌≤◌, Bool, true, false, cond, ltb, ℤ, Some, None, Option, List, [], ◌++◌, map, length, get_or, take, drop, arith}
+use Rattle.std.proofs.Common.{◌≡◌, refl, sym, ap, subst, ◌∙◌, ℕ, ◌+◌, ◌*◌, ◌<◌, ◌≤◌, Bool, true, false, cond, ltb, ℤ, Some, None, Option, List, [], map, length, get_or, take, drop, arith}
 use Rattle.std.specs.Prelude.{IfOk}
 use Rattle.std.specs.Int.{Width}
-use Rattle.std.proofs.lemmas.List.{length-append, length-drop, take-append-le, drop-append-le}
 use Rattle.std.proofs.lemmas.Option.{none-some}
 use mir.Val.{bits}
 use Rattle.zf_spec.specs.Grid.{IsShape, extent_of, upto}
 use Rattle.zf_spec.specs.Codes.{read_rate}
-use Rattle.zf_spec.specs.Stream.{to_bits, fill, with_fill}
+use Rattle.zf_spec.specs.Stream.{to_bits}
+use Rattle.zf_spec.proofs.Bytes.{length-to_bits}
 use Rattle.zf_spec.proofs.Counting.{map-upto_same, get_or-map-upto}
 use Rattle.zf_base.specs.Widths.{width_of}
 use Rattle.zf_header.specs.declared.header.Header.{Header}
@@ -15,7 +15,7 @@ use Rattle.zf_header.specs.declared.header.Mode.{Mode}
 use Rattle.zf_header.specs.declared.header.Mode.TheVariants.{Reversible, Rate, Precision}
 use Rattle.zf_header.specs.HeaderBits.{IsRate, block_bits}
 use Rattle.zf_header.proofs.Modes.{mode_is_rate, rate_is_some}
-use Rattle.zf_parse.specs.Parsing.{Said, parse, without_said, read_code, values_of_blocks}
+use Rattle.zf_parse.specs.Parsing.{Said, parse, without_said, read_code, values_of_blocks, longest_code}
 use Rattle.zf_index.specs.Spans.{Index, place, len_at, code_in, codes_in}
 use Rattle.zf_index.specs.Files.{IsIndexOf, found, block_read, len_read, blocks_found}
 use Rattle.zf_index.proofs.Places.{ends_within}
@@ -41,16 +41,6 @@ rate_found w b n es s = by (ltb (length s) b)
     by true e = absurd (none-some _ e)
     by false e = let same : b ≡ n = some_same b n e in (sym same, ap (λ k. read_rate w es (take k s)) same)
 
--- ---- the codes among more bits
-
-pub codes_in_more : (i : Index) (s more : List Bool) → place i (length i.lens) ≤ length s → codes_in i (s ++ more) ≡ codes_in i s
-codes_in_more i s more within = map-upto_same (code_in i (s ++ more)) (code_in i s) (length i.lens)
-    (λ b below.
-    let at = place i b in
-    let ends = ends_within i b (length i.lens) below in
-    ap (take (len_at i b)) (drop-append-le at s more (omega (arith, ends, within)))
-    ∙ take-append-le (len_at i b) (drop at s) more (omega (arith, ends, within, length-drop at s)))
-
 -- ---- a file
 
 module _ (bytes : List ℕ) (h : Header) (i : Index) (index : IsIndexOf bytes h i) where
@@ -61,13 +51,6 @@ module _ (bytes : List ℕ) (h : Header) (i : Index) (index : IsIndexOf bytes h 
   pub is_said : (P : Said → Type 0) → P (record { header = h; codes = codes_in i (to_bits bytes); values = values_of_blocks h.shape (blocks_found h i (to_bits bytes)) }) → IfOk (parse bytes) P
   is_said P known = subst (λ r. IfOk r P) (sym index.said) known
 
-  pub codes_in_words : (bits : List Bool) → bits ≡ with_fill (to_bits bytes) → codes_in i bits ≡ codes_in i (to_bits bytes)
-  codes_in_words bits is = ap (codes_in i) is ∙ codes_in_more i (to_bits bytes) (fill (to_bits bytes)) index.within
-
-  -- the plane of the codes that stand in words is that of the codes that the file says
-  pub plane_in_words : (w : Width) (d k : ℕ) (bits : List Bool) → bits ≡ with_fill (to_bits bytes) → k ≡ plane_of w d (codes_in i bits) → k ≡ plane_of w d (codes_in i (to_bits bytes))
-  plane_in_words w d k bits is plane = plane ∙ ap (plane_of w d) (codes_in_words bits is)
-
   module _ (rate : IsRate h.mode) where
     code_found : (b : ℕ) → b < length i.lens → (len_at i b ≡ block_bits h.mode) × (block_read (found h i (to_bits bytes) b) ≡ read_rate (width_of h.ty) (extent_of h.shape b) (code_in i (to_bits bytes) b))
     code_found b below =
@@ -77,12 +60,16 @@ module _ (bytes : List ℕ) (h : Header) (i : Index) (index : IsIndexOf bytes h 
         let Q : Mode → Type 0 = λ m. (len_at i b ≡ block_bits h.mode) × (block_read (read_code (width_of h.ty) m (extent_of h.shape b) s) ≡ read_rate (width_of h.ty) (extent_of h.shape b) (code_in i (to_bits bytes) b)) in
         subst Q (sym mode) (rate_found (width_of h.ty) (block_bits h.mode) (len_at i b) (extent_of h.shape b) s (subst P mode (index.read b below)))
 
-    -- all codes lie in the words of the file
-    pub are_inside : (bits : List Bool) → bits ≡ with_fill (to_bits bytes) → (n : ℕ) → length bits ≡ n → AreInside i n
-    are_inside bits is n long b below =
+    -- the longest code is as long as each
+    longest_is : longest_code h ≡ block_bits h.mode
+    longest_is = let With : Mode → Header = λ m. record { ty = h.ty; shape = h.shape; mode = m } in ap (λ m. longest_code (With m)) (mode_is_rate h.mode rate)
+
+    -- all codes lie in the file, and have room where the longest has
+    pub are_inside : (room : ℕ) → longest_code h + 64 ≤ room → AreInside i (8 * length bytes) room
+    are_inside room fits b below =
         let ends = ends_within i b (length i.lens) below in
-        let whole : length (to_bits bytes) ≤ n = omega (arith, ap length is, length-append (to_bits bytes) (fill (to_bits bytes)), long) in
-        (omega (arith, ends, index.within, whole), omega (arith, ends, index.within, index.small), omega (arith, (code_found b below).0, (rate_is_some h.mode rate).1))
+        let long = (code_found b below).0 in
+        (omega (arith, ends, index.within, length-to_bits bytes), omega (arith, long, longest_is, fits), omega (arith, long, (rate_is_some h.mode rate).1))
 
     blocks_same : blocks_found h i (to_bits bytes) ≡ blocks_read h (codes_in i (to_bits bytes))
     blocks_same =

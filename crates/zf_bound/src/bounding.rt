@@ -14,10 +14,11 @@ use crate::Certified;
 use crate::planes::stream_plane;
 use std::alloc::Global;
 use zf_base::Lane;
-use zf_bits::words_of_bytes;
+use zf_bits::Excerpt;
 use zf_block::Scratch;
 use zf_header::Header;
 use zf_index::{IndexFault, Verbatim};
+use zf_parse::longest_code;
 
 /// How far the values of a stream of a fixed rate are, at most, from whatever was stored in it, if that had magnitudes up to `m`.
 ///
@@ -41,9 +42,9 @@ pub fn bound<T: Lane>(
     ensures fault { IfErr result (λ e. IsFault (parse file.now) (stream_fault e)) }
 {
     let index = Verbatim::build(alloc, h, file)?;
-    let words = words_of_bytes(alloc, file)?;
+    let mut excerpt = Excerpt::new(alloc, longest_code::<T>(h))?;
     let mut room = Scratch::<T>::new(alloc, h.shape.dims())?;
-    let plane = stream_plane(h, &index, &words, &mut room);
+    let plane = stream_plane(h, &index, file, &mut excerpt, &mut room);
     let error = error_from(h.shape.dims(), plane);
     Ok(Certified {
         plane,

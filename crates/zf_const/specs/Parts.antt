@@ -1,12 +1,13 @@
 -- What holds of the parts of an array: of its codes, which stand in a stream, and of the cache over them.
-use Rattle.std.specs.Prelude.{ℕ, ◌≡◌, ◌*◌, ◌≤◌, ℤ, Bool, List, map, length, take}
+use Rattle.std.specs.Prelude.{ℕ, ◌≡◌, ◌+◌, ◌*◌, ◌≤◌, ℤ, Bool, List, map, length}
 use Rattle.std.specs.Int.{Width}
 use Rattle.zf_spec.specs.Grid.{blocks}
-use Rattle.zf_spec.specs.Numbers.{word_bits}
+use Rattle.zf_spec.specs.Stream.{to_bits}
 use Rattle.zf_base.specs.Widths.{width_of}
 use Rattle.zf_base.specs.Formats.{Format}
 use Rattle.zf_header.specs.declared.header.Header.{Header}
 use Rattle.zf_header.specs.HeaderBits.{IsHeader}
+use Rattle.zf_parse.specs.Parsing.{longest_code}
 use Rattle.zf_cached.specs.Arrays.{array_format}
 use Rattle.zf_cache.specs.Kept.{Kept, IsClean, block_in}
 use Rattle.zf_cache.specs.Standing.{Fits}
@@ -35,23 +36,20 @@ code_at s b = code_of s.header s.codes b
 abbrev pub format_of : Coded → Format (List Bool)
 format_of s = array_format (coding_of s.header) s.header.shape
 
--- the bits of a file in words
-abbrev pub file_bits : List ℕ → ℕ → List Bool
-file_bits words bits = take bits (word_bits words)
-
 -- the codes that an index finds in a file
-abbrev pub coded_by : Header → List ℕ → ℕ → Index → Coded
-coded_by h words bits i = record { header = h; codes = codes_in (seen i) (file_bits words bits) }
+abbrev pub coded_by : Header → List ℕ → Index → Coded
+coded_by h file i = record { header = h; codes = codes_in (seen i) (to_bits file) }
 
--- values of this width in d dimensions; each block has a code in the file, which is read where the index says
-pub record IsCoded (w : Width) (d : ℕ) (h : Header) (words : List ℕ) (bits : ℕ) (i : spans.Index) : Type 0 where
+-- values of this width in d dimensions; each block has a code in the file, which is read where the index says, and there is room for
+-- the longest in so many words
+pub record IsCoded (w : Width) (d : ℕ) (h : Header) (file : List ℕ) (i : spans.Index) (room : ℕ) : Type 0 where
   pub same_type : w ≡ width_of h.ty
   pub dims : length h.shape ≡ d
   pub header : IsHeader h
-  pub size : bits ≤ 64 * length words
   pub count : length i.lens ≡ blocks h.shape
-  pub read : AreRead h i (file_bits words bits)
-  pub within : place i (length i.lens) ≤ bits
+  pub read : AreRead h i (to_bits file)
+  pub within : place i (length i.lens) ≤ 8 * length file
+  pub room_is : longest_code h + 128 ≤ 64 * room
 
 module _ {X : Type 0} (value : X → ℤ) where
   -- what codes and a cache over them are seen as

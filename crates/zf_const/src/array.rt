@@ -71,7 +71,7 @@ impl<T: Lane, const D: usize> ConstArray<T, D> {
         ensures fault { IfErr result (λ e. IsFault (parse file.items) (stream_fault e)) }
     {
         let index = Index::build(alloc, h, &file)?;
-        let codes = Codes::of_file(alloc, h, &file, index)?;
+        let codes = Codes::of_file(alloc, h, file, index)?;
         let cache = Cache::new(alloc, raised(lines))?;
         Ok(ConstArray { codes, cache })
     }

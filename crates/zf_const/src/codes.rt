@@ -1,6 +1,6 @@
 //! The codes of a stream, read where they stand.
 
-ghost use Rattle.std.specs.Prelude.{◌≡◌, ◌*◌, length, IfOk};
+ghost use Rattle.std.specs.Prelude.{◌≡◌, length, IfOk};
 ghost use Rattle.zf_base.specs.Widths.{width_of};
 ghost use Rattle.zf_spec.specs.Stream.{to_bits};
 ghost use Rattle.zf_index.specs.Files.{HasHeader, IsIndexOf};
@@ -11,19 +11,20 @@ use crate::index::Index;
 use std::alloc::{AllocError, Global};
 use std::marker::{Model, PhantomData};
 use zf_base::{Lane, Reading, block_len};
-use zf_bits::{BitReader, words_of_bytes};
+use zf_bits::Excerpt;
 use zf_header::Header;
+use zf_parse::longest_code;
 
 /// The codes of a stream of values of `T` in `D` dimensions, seen as its header and the list of the codes.
 ///
-/// The file is kept as it came, in words, and a code is read when its block is asked for.
+/// The file is kept as it came, and a code is read when its block is asked for.
 #[derive(Drop)]
 pub(crate) struct Codes<T: Lane, const D: usize> {
     header: Header,
-    // the bits of the file, and how many they are
-    words: Vec<u64>,
-    bits: u64,
+    file: Vec<u8>,
     index: Index,
+    // the bits of the code that is read
+    excerpt: Excerpt,
     of: PhantomData<T>,
 }
 
@@ -32,9 +33,9 @@ impl<T: Lane, const D: usize> Model for Codes<T, D> {
 
     ghost Value = { Coded };
 
-    ghost view = { λ s. coded_by s.header s.words.items s.bits s.index };
+    ghost view = { λ s. coded_by s.header s.file.items s.index };
 
-    ghost invariant = { λ s. IsCoded T.width D s.header s.words.items s.bits (seen s.index) };
+    ghost invariant = { λ s. IsCoded T.width D s.header s.file.items (seen s.index) s.excerpt.room };
 }
 
 impl<T: Lane, const D: usize> Codes<T, D> {
@@ -42,21 +43,21 @@ impl<T: Lane, const D: usize> Codes<T, D> {
     pub(crate) fn of_file(
         alloc: Global,
         h: &Header,
-        file: &[u8],
+        file: Vec<u8>,
         index: Index,
     ) -> Result<Codes<T, D>, AllocError>
-        requires header { HasHeader file.now h.now }
-        requires index { IsIndexOf file.now h.now (seen index) }
+        requires header { HasHeader file.items h.now }
+        requires index { IsIndexOf file.items h.now (seen index) }
         requires same_type { T.width ≡ width_of h.now.ty }
         requires dims { length h.now.shape ≡ D }
-        ensures { IfOk result (λ s. s ≡ record { header = h.now; codes = codes_in (seen index) (to_bits file.now) }) }
+        ensures { IfOk result (λ s. s ≡ record { header = h.now; codes = codes_in (seen index) (to_bits file.items) }) }
     {
-        let words = words_of_bytes(alloc, file)?;
+        let excerpt = Excerpt::new(alloc, longest_code::<T>(h))?;
         Ok(Codes {
             header: *h,
-            words,
-            bits: 8 * file.len() as u64,
+            file,
             index,
+            excerpt,
             of: PhantomData,
         })
     }
@@ -92,8 +93,8 @@ impl<T: Lane, const D: usize> Reading<T> for Codes<T, D> {
     }
 
     fn load(&mut self, b: u64, line: &mut [T]) {
-        let mut reader = BitReader::new(&self.words, self.bits);
-        reader.seek(self.index.span(b).at);
+        self.excerpt.take(&self.file, self.index.span(b).at);
+        let mut reader = self.excerpt.reader();
         let Some(()) = zf_parse::read_code(&self.header, &mut reader, line) else {
             unreachable!()
         };

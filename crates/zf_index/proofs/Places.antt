@@ -1,8 +1,8 @@
 -- Places of codes that stand one after another.
-use Rattle.std.proofs.Common.{◌≡◌, refl, ap, ◌∙◌, ℕ, zero, suc, ◌+◌, ◌-◌, ◌<◌, ◌≤◌, List, [], ◌∷◌, ◌++◌, length, arith}
-use Rattle.std.proofs.lemmas.List.{get_or_append_left}
+use Rattle.std.proofs.Common.{◌≡◌, refl, ap, ◌∙◌, ℕ, zero, suc, ◌+◌, ◌-◌, ◌*◌, ◌<◌, ◌≤◌, List, [], ◌∷◌, ◌++◌, length, suc-mul, arith}
+use Rattle.std.proofs.lemmas.List.{get_or_append_left, get_or-replicate}
 use Rattle.std.proofs.Math.Seq.{get_or-append_seam}
-use Rattle.zf_index.specs.Spans.{Index, len_at, place}
+use Rattle.zf_index.specs.Spans.{Index, len_at, place, even_index}
 
 -- the next place
 pub place-next : (i : Index) (b : ℕ) → place i (b + 1) ≡ place i b + len_at i b
@@ -32,3 +32,12 @@ place-push s xs n zero le = refl
 place-push s xs n (suc b) le =
     ap (λ k. k + len_at (record { start = s; lens = xs ++ n ∷ [] }) b) (place-push s xs n b (omega arith))
     ∙ ap (λ k. place (record { start = s; lens = xs }) b + k) (len-push s xs n b (omega arith))
+
+-- codes of as many bits each
+pub even_len : (start len count b : ℕ) → b < count → len_at (even_index start len count) b ≡ len
+even_len start len count b lt = get_or-replicate count b len 0 lt
+
+pub even_place : (start len count b : ℕ) → b ≤ count → place (even_index start len count) b ≡ start + b * len
+even_place start len count zero le = omega arith
+even_place start len count (suc b) le =
+    omega (arith, even_place start len count b (omega (arith, le)), even_len start len count b (omega (arith, le)), suc-mul b len)

@@ -1,5 +1,5 @@
 -- Codes that are read where they begin, and what a stream of them says.
-use Rattle.std.proofs.Common.{◌≡◌, refl, sym, ap, subst, ◌∙◌, inl, inr, ⊎_elim, ℕ, zero, suc, ◌+◌, ◌-◌, ◌*◌, ◌^◌, ◌<◌, ◌≤◌, Bool, ℤ, Option, Some, None, Result, Ok, Err, List, [], ◌∷◌, ◌++◌, map, length, get_or, drop, length-append, length-drop, arith}
+use Rattle.std.proofs.Common.{◌≡◌, refl, sym, ap, subst, ◌∙◌, inl, inr, ⊎_elim, ℕ, zero, suc, ◌+◌, ◌-◌, ◌*◌, ◌%◌, ◌^◌, ◌<◌, ◌≤◌, Bool, ℤ, Option, Some, None, Result, Ok, Err, List, [], ◌∷◌, ◌++◌, map, length, get_or, take, drop, length-append, length-drop, arith}
 use Rattle.std.proofs.lemmas.Bool.{cases_lt}
 use Rattle.std.proofs.lemmas.Simd.{map-map}
 use Rattle.std.proofs.lemmas.List.{drop-drop, length-take-le}
@@ -21,6 +21,8 @@ use Rattle.zf_parse.specs.ReadStreams.{BeginsWithHeader, IsFault}
 use Rattle.zf_parse.proofs.Parsed.{parse_is}
 use Rattle.zf_parse.proofs.RateStreams.{parse_err}
 use Rattle.zf_parse.proofs.Joining.{read_codes-cut}
+use Rattle.zf_parse.proofs.Fill.{fill_place}
+use Rattle.zf_parse.proofs.Excerpts.{fill_cut}
 use Rattle.zf_index.specs.declared.fault.IndexFault.{IndexFault}
 use Rattle.zf_index.specs.Spans.{Index, len_at, place, code_in, codes_in}
 use Rattle.zf_index.specs.Files.{HasHeader, found, block_read, len_read, AreRead, blocks_found, IsIndexOf, stream_fault}
@@ -86,15 +88,18 @@ module _ (h : Header) (i : Index) (s : List Bool) (read : AreRead h i s) where
         ∙ ap (codes_answer h (length s)) (blocks_read n (omega arith))
         ∙ ap (λ k. values_or_fault (values_of_blocks h.shape (blocks_found h i s)) (fill_answer h k rest)) used
 
-    -- what stands behind them is judged by one who is there
-    pub judged_behind : (r : Reader) → r.all ≡ s → r.at ≡ place i (length i.lens) → (e : StreamFault) → fill_answer h r.at (rest r) ≡ Err e
+    -- what stands behind them has a fault
+    pub judged_behind : (e : StreamFault) → fill_answer h (place i (length i.lens)) (drop (place i (length i.lens)) s) ≡ Err e
         → codes_answer h (length s) (read_codes h 0 (blocks h.shape) (drop i.start s)) ≡ Err e
-    judged_behind r all at e bad =
-        let values = values_of_blocks h.shape (blocks_found h i s) in
+    judged_behind e bad = answer_behind ∙ ap (values_or_fault (values_of_blocks h.shape (blocks_found h i s))) bad
+
+    -- which one judges who sees only so many of the bits from there on
+    pub fill_seen : (r : Reader) (m : ℕ) → r.at ≡ place i (length i.lens) % 64 → rest r ≡ take m (drop (place i (length i.lens)) s) → 64 ≤ m
+        → fill_answer h r.at (rest r) ≡ fill_answer h (place i (length i.lens)) (drop (place i (length i.lens)) s)
+    fill_seen r m at left enough =
         let p = place i (length i.lens) in
-        let left : drop r.at r.all ≡ drop p s = ap (drop r.at) all ∙ ap (λ k. drop k s) at in
-        answer_behind ∙ ap (λ k. values_or_fault values (fill_answer h k (drop p s))) (sym at)
-        ∙ ap (λ (t : List Bool). values_or_fault values (fill_answer h r.at t)) (sym left) ∙ ap (values_or_fault values) bad
+        ap (fill_answer h r.at) left ∙ fill_cut h r.at (drop p s) m enough
+        ∙ ap (λ k. fill_answer h k (drop p s)) at ∙ fill_place h (p % 64) p (drop p s) (omega arith)
 
 -- one code more is read
 pub one_more : (h : Header) (s : List Bool) (start : ℕ) (xs : List ℕ) (n : ℕ) → AreRead h (record { start = start; lens = xs }) s

@@ -1,7 +1,9 @@
 -- Codes that stand one after another: where each begins, and how long it is. Places and lengths are counted in bits.
-use Rattle.std.specs.Prelude.{ℕ, zero, suc, ◌≡◌, ◌+◌, ◌*◌, ◌<◌, ◌≤◌, ◌^◌, Bool, List, map, length, take, drop, slice_index_or}
+use Rattle.std.specs.Prelude.{ℕ, zero, suc, ◌≡◌, ◌+◌, ◌*◌, ◌<◌, ◌≤◌, ◌^◌, Bool, List, map, length, take, drop, replicate, slice_index_or}
 use Rattle.zf_spec.specs.Grid.{upto}
 use Rattle.zf_index.specs.declared.span.Span.{Span}
+use Rattle.zf_index.specs.declared.index.Kept.{Kept}
+use Rattle.zf_index.specs.declared.index.Kept.TheVariants.{Even, Listed}
 
 -- where the first code begins, and how long each is
 pub record Index : Type 0 where
@@ -28,6 +30,10 @@ code_in i s b = take (len_at i b) (drop (place i b) s)
 abbrev pub codes_in : Index → List Bool → List (List Bool)
 codes_in i s = map (code_in i s) (upto (length i.lens))
 
+-- codes of as many bits each
+abbrev pub even_index : ℕ → ℕ → ℕ → Index
+even_index start len count = record { start = start; lens = replicate count len }
+
 -- ---- what is kept of them
 
 -- the first of these places and these lengths, as an index
@@ -43,3 +49,12 @@ pub record IsKept (step : ℕ) (places lens : List ℕ) : Type 0 where
   pub some : 0 < step
   pub kept : ArePlaces step (index_of places lens) places
   pub within : place (index_of places lens) (length lens) < 2 ^ 64
+
+-- either form as an index
+abbrev pub index_in : Kept → Index
+index_in (Even start len count) = even_index start len count
+index_in (Listed places lens) = index_of places.items lens.items
+
+abbrev pub IsKeptIn : ℕ → Kept → Type 0
+IsKeptIn step (Even start len count) = start + count * len < 2 ^ 64
+IsKeptIn step (Listed places lens) = IsKept step places.items lens.items

@@ -11,11 +11,10 @@ use Rattle.zf_index.specs.declared.fault.IndexFault.TheVariants.{Memory}
 use Rattle.zf_index.specs.Spans.{Index, place}
 use Rattle.zf_index.specs.Files.{len_read, AreRead, stream_fault}
 
--- a code of so many bits, of d dimensions, comes next, and was passed
-pub record PassesCode (w : Width) (mode : Mode) (d : ℕ) (old new : Reader) (len : ℕ) : Type 0 where
-  pub code : (es : List ℕ) → length es ≡ d → len_read (read_code w mode es (rest old)) ≡ Some len
-  pub place : new.at ≡ old.at + len
-  pub all : new.all ≡ old.all
+-- a code of so many bits, of d dimensions, begins these bits
+pub record HasCode (w : Width) (mode : Mode) (d : ℕ) (s : List Bool) (len : ℕ) : Type 0 where
+  pub code : (es : List ℕ) → length es ≡ d → len_read (read_code w mode es s) ≡ Some len
+  pub within : len ≤ length s
 
 -- the codes of all blocks are read where they begin in these bits, and what stands behind them is good
 pub record IsWalked (h : Header) (s : List Bool) (i : Index) : Type 0 where

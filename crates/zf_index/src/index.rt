@@ -2,26 +2,34 @@
 
 ghost use Rattle.std.specs.Prelude.{◌≡◌, ◌+◌, ◌*◌, ◌<◌, ◌≤◌, ◌^◌, length, IfOk, IfErr};
 ghost use Rattle.zf_header.specs.HeaderBits.{header_bits};
+ghost use Rattle.zf_header.specs.declared.header.Mode.TheVariants as Mode;
 ghost use Rattle.zf_parse.specs.Parsing.{parse};
 ghost use Rattle.zf_parse.specs.ReadStreams.{IsFault};
-ghost use Rattle.zf_index.specs.Spans.{Index, place, span_at, ArePlaces};
+ghost use Rattle.zf_index.specs.Spans.{Index, index_of, place, span_at, ArePlaces, IsKept};
 ghost use Rattle.zf_index.specs.Files.{HasHeader, IsIndexOf, stream_fault};
 
-use crate::walk::code_lengths;
+use crate::walk::{check_rate, code_lengths};
 use crate::{IndexFault, Span};
 use std::alloc::{AllocError, Global};
 use std::marker::Model;
-use zf_header::Header;
+use zf_header::{Header, Mode};
 
-/// The spans of the codes of a stream, from a place for each `STEP` blocks and a length of 16 bits for each block.
+/// The spans of the codes of a stream. At a fixed rate each code has as many bits, and its place is computed; else there are a
+/// place for each `STEP` blocks and a length of 16 bits for each block.
 ///
 /// It is seen as where the first code begins, and how long each is.
 #[derive(Drop)]
 pub struct Spans<const STEP: usize> {
-    // where the first of each `STEP` codes begins, in bits of the file
-    places: Vec<u64>,
-    // how many bits each code has
-    lens: Vec<u16>,
+    kept: Kept,
+}
+
+// What is kept of the spans.
+#[derive(Drop)]
+enum Kept {
+    // codes of as many bits each, from this bit of the file on
+    Even { start: u64, len: u64, count: u64 },
+    // where the first of each `STEP` codes begins, in bits of the file, and how many bits each code has
+    Listed { places: Vec<u64>, lens: Vec<u16> },
 }
 
 /// A place for each block: a span is there at once.
@@ -31,13 +39,13 @@ pub type Verbatim = Spans<1>;
 pub type Chunked = Spans<16>;
 
 impl<const STEP: usize> Model for Spans<STEP> {
-    ghost use Rattle.zf_index.specs.Spans.{Index, index_of, IsKept};
+    ghost use Rattle.zf_index.specs.Spans.{Index, index_in, IsKeptIn};
 
     ghost Value = { Index };
 
-    ghost view = { λ s. index_of s.places.items s.lens.items };
+    ghost view = { λ s. index_in s.kept };
 
-    ghost invariant = { λ s. IsKept STEP s.places.items s.lens.items };
+    ghost invariant = { λ s. IsKeptIn STEP s.kept };
 }
 
 impl<const STEP: usize> Spans<STEP> {
@@ -52,9 +60,51 @@ impl<const STEP: usize> Spans<STEP> {
         ensures fault { IfErr result (λ e. IsFault (parse file.now) (stream_fault e)) }
     {
         let start = header_len(h, file);
+        match h.mode {
+            Mode::Rate(bits) => Spans::even(alloc, h, bits, file, start),
+            _ => Spans::listed(alloc, h, file, start),
+        }
+    }
+
+    // The same at a fixed rate, where the header has `start` bits. No code is looked at.
+    fn even(
+        alloc: Global,
+        h: &Header,
+        rate: u32,
+        file: &[u8],
+        start: u64,
+    ) -> Result<Self, IndexFault>
+        requires header { HasHeader file.now h.now }
+        requires rate { h.now.mode ≡ Mode.Rate rate }
+        requires start { start ≡ length (header_bits h.now) }
+        requires within { start ≤ 8 * length file.now }
+        ensures ok { IfOk result (IsIndexOf file.now h.now) }
+        ensures fault { IfErr result (λ e. IsFault (parse file.now) (stream_fault e)) }
+    {
+        check_rate(alloc, h, rate, file, start)?;
+        Ok(Spans {
+            kept: Kept::Even {
+                start,
+                len: u64::from(rate),
+                count: h.shape.blocks(),
+            },
+        })
+    }
+
+    // The same in any mode, by a walk over the codes.
+    fn listed(alloc: Global, h: &Header, file: &[u8], start: u64) -> Result<Self, IndexFault>
+        requires header { HasHeader file.now h.now }
+        requires step { 0 < STEP }
+        requires start { start ≡ length (header_bits h.now) }
+        requires within { start ≤ 8 * length file.now }
+        ensures ok { IfOk result (IsIndexOf file.now h.now) }
+        ensures fault { IfErr result (λ e. IsFault (parse file.now) (stream_fault e)) }
+    {
         let lens = code_lengths(alloc, h, file, start)?;
         let places = places_of(alloc, start, &lens, STEP)?;
-        Ok(Spans { places, lens })
+        Ok(Spans {
+            kept: Kept::Listed { places, lens },
+        })
     }
 
     /// The place and the length of the code of block `b`, in bits. The header's bits stand in front of the first.
@@ -62,15 +112,29 @@ impl<const STEP: usize> Spans<STEP> {
         requires { b < length self.now.lens }
         ensures { result ≡ span_at self.now b }
     {
-        let b = b as usize;
-        let mut at = self.places[b / STEP];
-        for code in b - b % STEP..b {
-            at += u64::from(self.lens[code]);
+        match &self.kept {
+            Kept::Even { start, len, .. } => Span {
+                at: start + b * len,
+                len: *len,
+            },
+            Kept::Listed { places, lens } => listed_span(places, lens, STEP, b as usize),
         }
-        Span {
-            at,
-            len: u64::from(self.lens[b]),
-        }
+    }
+}
+
+// The span of code `b`, from a place for each `step` codes.
+fn listed_span(places: &[u64], lens: &[u16], step: usize, b: usize) -> Span
+    requires kept { IsKept step places.now lens.now }
+    requires below { b < length lens.now }
+    ensures { result ≡ span_at (index_of places.now lens.now) b }
+{
+    let mut at = places[b / step];
+    for code in b - b % step..b {
+        at += u64::from(lens[code]);
+    }
+    Span {
+        at,
+        len: u64::from(lens[b]),
     }
 }
 

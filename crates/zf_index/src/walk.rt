@@ -1,21 +1,24 @@
 //! The walk over the codes of a stream.
 
-ghost use Rattle.std.specs.Prelude.{◌≡◌, ◌+◌, ◌*◌, ◌<◌, ◌≤◌, ◌^◌, length, map, Err, IfOk, IfErr, IfSome, IfNone, Some, None};
+ghost use Rattle.std.specs.Prelude.{◌≡◌, ◌*◌, ◌<◌, ◌≤◌, ◌^◌, length, Err, IfOk, IfErr, OnOk, IfSome, IfNone};
 ghost use Rattle.zf_spec.specs.Grid.{blocks};
+ghost use Rattle.zf_spec.specs.Stream.{to_bits};
 ghost use Rattle.zf_base.specs.Widths.{width_of};
 ghost use Rattle.zf_bits.specs.Reader.{rest};
 ghost use Rattle.zf_header.specs.HeaderBits.{IsHeader, header_bits};
-ghost use Rattle.zf_parse.specs.Parsing.{parse, read_code, fill_answer};
+ghost use Rattle.zf_header.specs.declared.header.Mode.TheVariants as Mode;
+ghost use Rattle.zf_parse.specs.Parsing.{parse, fill_answer};
 ghost use Rattle.zf_parse.specs.ReadStreams.{IsFault, LacksCode};
 ghost use Rattle.zf_index.specs.Files.{HasHeader, IsIndexOf, stream_fault};
-ghost use Rattle.zf_index.specs.Walks.{IsWalked, HasFault, PassesCode};
+ghost use Rattle.zf_index.specs.Spans.{even_index};
+ghost use Rattle.zf_index.specs.Walks.{IsWalked, HasFault, HasCode};
 
 use crate::IndexFault;
 use std::alloc::Global;
 use zf_base::{Lane, Ty, block_len};
-use zf_bits::{BitReader, words_of_bytes};
-use zf_header::{Header, Mode};
-use zf_parse::StreamFault;
+use zf_bits::{BitReader, Excerpt};
+use zf_header::Header;
+use zf_parse::{StreamFault, longest_code};
 
 /// How many bits the code of each block of a file has that begins with the header `h`, of `start` bits; or what is wrong with the file.
 pub(crate) fn code_lengths(
@@ -31,42 +34,74 @@ pub(crate) fn code_lengths(
     ensures fault { IfErr result (λ e. IsFault (parse file.now) (stream_fault e)) }
 {
     // No memory has a file with more bits than a word counts.
-    let Some(bits) = (file.len() as u64).checked_mul(8) else {
+    let Some(_bits) = (file.len() as u64).checked_mul(8) else {
         return Err(IndexFault::Memory);
     };
-    let words = words_of_bytes(alloc, file)?;
-    let mut reader = BitReader::new(&words, bits);
-    reader.seek(start);
     match h.ty {
-        Ty::I32 => walk::<i32>(alloc, h, &mut reader),
-        Ty::I64 => walk::<i64>(alloc, h, &mut reader),
+        Ty::I32 => walk::<i32>(alloc, h, file, start),
+        Ty::I64 => walk::<i64>(alloc, h, file, start),
     }
 }
 
-/// The same of values of this type, where the reader stands behind the header.
+/// Whether all codes of `rate` bits and the fill are there and nothing more, in a file that begins with the header `h`, of `start`
+/// bits; or the first that is wrong.
+pub(crate) fn check_rate(
+    alloc: Global,
+    h: &Header,
+    rate: u32,
+    file: &[u8],
+    start: u64,
+) -> Result<(), IndexFault>
+    requires header { HasHeader file.now h.now }
+    requires rate { h.now.mode ≡ Mode.Rate rate }
+    requires start { start ≡ length (header_bits h.now) }
+    requires within { start ≤ 8 * length file.now }
+    ensures ok { OnOk result (IsIndexOf file.now h.now (even_index start rate (blocks h.now.shape))) }
+    ensures fault { IfErr result (λ e. IsFault (parse file.now) (stream_fault e)) }
+{
+    let Some(bits) = (file.len() as u64).checked_mul(8) else {
+        return Err(IndexFault::Memory);
+    };
+    let rate = u64::from(rate);
+    let whole = (bits - start) / rate;
+    if whole < h.shape.blocks() {
+        return Err(IndexFault::Truncated(whole));
+    }
+    let mut excerpt = Excerpt::new(alloc, 0)?;
+    excerpt.take(file, start + h.shape.blocks() * rate);
+    check_fill(h, &mut excerpt.reader())
+}
+
+/// The same of values of this type, behind the header.
 fn walk<T: Lane>(
     alloc: Global,
     h: &Header,
-    reader: &mut BitReader<'_>,
+    file: &[u8],
+    start: u64,
 ) -> Result<Vec<u16>, IndexFault>
     requires header { IsHeader h.now }
     requires same_type { T.width ≡ width_of h.now.ty }
-    ensures ok { IfOk result (λ lens. IsWalked h.now reader.old.all (record { start = reader.old.at; lens = lens.items })) }
-    ensures fault { IfErr result (HasFault h.now reader.old) }
+    requires within { start ≤ 8 * length file.now }
+    requires small { 8 * length file.now < 2 ^ 64 }
+    ensures ok { IfOk result (λ lens. IsWalked h.now (to_bits file.now) (record { start = start; lens = lens.items })) }
+    ensures fault { IfErr result (HasFault h.now (record { all = to_bits file.now; at = start })) }
 {
     let mut block = vec![in alloc; T::zero(); block_len(h.shape.dims())]?;
     let mut lens = Vec::with_capacity(alloc, h.shape.blocks() as usize)?;
+    let mut excerpt = Excerpt::new(alloc, longest_code::<T>(h))?;
+    let mut at = start;
     for b in 0..h.shape.blocks() {
-        let Some(len) = pass_code(h, reader, &mut block) else {
+        excerpt.take(file, at);
+        let Some(len) = pass_code(h, &mut excerpt.reader(), &mut block) else {
             return Err(IndexFault::Truncated(b));
         };
         let Ok(()) = lens.push(len) else {
             return Err(IndexFault::Memory);
         };
+        at += u64::from(len);
     }
-    // Known by this call: the place is not behind the end.
-    let _left = reader.left();
-    check_fill(h, reader)?;
+    excerpt.take(file, at);
+    check_fill(h, &mut excerpt.reader())?;
     Ok(lens)
 }
 
@@ -77,30 +112,13 @@ fn pass_code<T: Lane>(h: &Header, reader: &mut BitReader<'_>, block: &mut [T]) -
     requires header { IsHeader h.now }
     requires same_type { T.width ≡ width_of h.now.ty }
     requires whole { length block.old ≡ 4 ^ length h.now.shape }
-    ensures some { IfSome result (PassesCode T.width h.now.mode (length h.now.shape) reader.old reader.new) }
+    ensures some { IfSome result (HasCode T.width h.now.mode (length h.now.shape) (rest reader.old)) }
     ensures none { IfNone result (LacksCode T.width h.now.mode (length h.now.shape) reader.old) }
     ensures whole { length block.new ≡ 4 ^ length h.now.shape }
 {
-    // At a fixed rate the length is known, and nothing is decoded.
-    if let Mode::Rate(bits) = h.mode {
-        return pass_rate::<T>(h.shape.dims(), bits, reader);
-    }
     let start = reader.at();
     zf_parse::read_code(h, reader, block)?;
     Some((reader.at() - start) as u16)
-}
-
-/// Passes a code of `bits` bits of `d` dimensions. `None` where fewer are left.
-fn pass_rate<T: Lane>(d: u8, bits: u32, reader: &mut BitReader<'_>) -> Option<u16>
-    requires { bits ≤ 32768 }
-    ensures some { IfSome result (PassesCode T.width (Mode.Rate bits) d reader.old reader.new) }
-    ensures none { IfNone result (LacksCode T.width (Mode.Rate bits) d reader.old) }
-{
-    if reader.left() < u64::from(bits) {
-        return None;
-    }
-    reader.skip(u64::from(bits));
-    Some(bits as u16)
 }
 
 /// Judges what stands behind the codes.

@@ -4,8 +4,9 @@ use Rattle.std.proofs.lemmas.Bool.{cases_lt}
 use Rattle.std.proofs.lemmas.List.{take_all, take-append-drop, length-take-le}
 use Rattle.zf_base.specs.Widths.{width_of}
 use Rattle.zf_header.specs.declared.header.Header.{Header}
-use Rattle.zf_parse.specs.Parsing.{read_code, longest_code}
+use Rattle.zf_parse.specs.Parsing.{read_code, longest_code, fill_answer}
 use Rattle.zf_parse.proofs.Enough.{enough_for_one}
+use Rattle.zf_parse.proofs.Fill.{fill_told}
 use Rattle.zf_parse.proofs.TextOfParse.{read_code_more}
 
 -- what is read of as many bits as the longest code has is read of all
@@ -27,3 +28,13 @@ cut_told h es s m dims enough = by (cases_lt m (length s))
         let code = found (read front) (enough_for_one h es front dims (omega (arith, enough, long))) in
         let whole = (read_code_more (width_of h.ty) h.mode es front (drop m s) code.0 code.1).0 in
         code.1 ∙ sym whole ∙ ap read (take-append-drop m s)
+
+-- and so is the fill
+pub fill_cut : (h : Header) (used : ℕ) (s : List Bool) (m : ℕ) → 64 ≤ m → fill_answer h used (take m s) ≡ fill_answer h used s
+fill_cut h used s m enough = by (cases_lt m (length s))
+  where
+    by : (m < length s) ⊎ (length s ≤ m) → fill_answer h used (take m s) ≡ fill_answer h used s
+    by (inr all) = ap (fill_answer h used) (take_all m s all)
+    by (inl more) =
+        sym (fill_told h used (take m s) (drop m s) (omega (arith, enough, length-take-le m s (omega (arith, more)))))
+        ∙ ap (fill_answer h used) (take-append-drop m s)

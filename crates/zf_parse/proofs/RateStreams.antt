@@ -64,7 +64,7 @@ read_codes-rate h budget s is long =
     ap (read_codes h 0 n) parts ∙ read_codes-codes h code back 0 n rest each
 
 -- the first code that is cut
-read_codes-cut : (h : Header) (budget b n : ℕ) (s : List Bool) → h.mode ≡ Rate budget → 1 ≤ budget → length s < n * budget → read_codes h b n s ≡ Err (b + length s / budget)
+pub read_codes-cut : (h : Header) (budget b n : ℕ) (s : List Bool) → h.mode ≡ Rate budget → 1 ≤ budget → length s < n * budget → read_codes h b n s ≡ Err (b + length s / budget)
 read_codes-cut h budget b zero s is some short = absurd (omega arith)
 read_codes-cut h budget b (suc n) s is some short = by (ltb (length s) budget) refl (read_codes-cut h budget (suc b) n (drop budget s) is some)
   where

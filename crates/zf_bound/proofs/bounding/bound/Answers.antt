@@ -1,40 +1,35 @@
-use Rattle.std.proofs.Common.{◌≡◌, ap, subst, ◌∙◌, ◌*◌, length}
+use Rattle.std.proofs.Common.{◌≡◌, ap, subst, ◌∙◌, length, arith}
 use mir.Val.{bits}
-use Rattle.zf_spec.specs.Numbers.{word_bits}
 use Rattle.zf_spec.specs.Stream.{to_bits}
-use Rattle.zf_spec.proofs.WordBits.{length-word_bits}
 use Rattle.zf_base.specs.Widths.{width_of}
 use Rattle.zf_index.proofs.Read.{is_header}
 use Rattle.zf_index.specs.Spans.{codes_in}
 use Rattle.zf_bound.specs.Errors.{IsSmallEnough}
 use Rattle.zf_bound.specs.Bounds.{plane_of, error_of}
-use Rattle.zf_bound.proofs.Indexed.{are_inside, is_said, plane_in_words, bound_holds}
+use Rattle.zf_bound.proofs.Indexed.{are_inside, is_said, bound_holds}
 use Rattle.zf_bound.proofs.bounding.bound.Goals as goal
+
+pub longest_code-requires-clause-mode : goal.longest_code-requires-clause-mode
+longest_code-requires-clause-mode g c = (is_header c.args.file.now c.args.h.now c.requires.header).mode
 
 pub stream_plane-plane-requires-clause-inside : goal.stream_plane-plane-requires-clause-inside
 stream_plane-plane-requires-clause-inside g c =
-    let words = c.deref.result.now in
-    are_inside c.args.file.now c.args.h.now c.in_ok-index.index c.in_ok-index.ensures.ok c.requires.rate
-    (word_bits words) (ap word_bits c.deref.ensures.value ∙ c.in_ok-words.ensures.bits) (64 * length words) (length-word_bits words)
+    are_inside c.args.file.now c.args.h.now c.in_ok-index.index c.in_ok-index.ensures.ok c.requires.rate _
+    (omega (arith, c.in_ok-excerpt.ensures, c.longest_code.ensures.value))
 
 pub returns-clause-plane : goal.returns-clause-plane
 returns-clause-plane g c =
-    let words = c.deref.result.now in
     let d = length c.args.h.now.shape in
-    is_said c.args.file.now c.args.h.now c.in_ok-index.index c.in_ok-index.ensures.ok (λ said. c.stream_plane-plane.result ≡ plane_of g.T.Lane.width d said.codes)
-    (plane_in_words c.args.file.now c.args.h.now c.in_ok-index.index c.in_ok-index.ensures.ok g.T.Lane.width d c.stream_plane-plane.result
-    (word_bits words) (ap word_bits c.deref.ensures.value ∙ c.in_ok-words.ensures.bits) c.stream_plane-plane.ensures.value)
+    is_said c.args.file.now c.args.h.now c.in_ok-index.index c.in_ok-index.ensures.ok
+    (λ said. c.stream_plane-plane.result ≡ plane_of g.T.Lane.width d said.codes) c.stream_plane-plane.ensures.value
 
 pub returns-clause-bound : goal.returns-clause-bound
 returns-clause-bound g c holds =
-    let words = c.deref.result.now in
     let d = length c.args.h.now.shape in
     let w = width_of c.args.h.now.ty in
     let type = c.requires.same_type in
     let plane : c.stream_plane-plane.result ≡ plane_of w d (codes_in c.in_ok-index.index (to_bits c.args.file.now)) =
-    plane_in_words c.args.file.now c.args.h.now c.in_ok-index.index c.in_ok-index.ensures.ok w d c.stream_plane-plane.result
-    (word_bits words) (ap word_bits c.deref.ensures.value ∙ c.in_ok-words.ensures.bits)
-    (c.stream_plane-plane.ensures.value ∙ ap (λ v. plane_of v d (codes_in c.in_ok-index.index (word_bits words))) type) in
+    c.stream_plane-plane.ensures.value ∙ ap (λ v. plane_of v d (codes_in c.in_ok-index.index (to_bits c.args.file.now))) type in
     bound_holds c.args.file.now c.args.h.now c.in_ok-index.index c.in_ok-index.ensures.ok c.requires.rate
     c.args.m c.stream_plane-plane.result c.error_from-error.result g.T.Lane.WIDTH (is_header c.args.file.now c.args.h.now c.requires.header).shape
     plane

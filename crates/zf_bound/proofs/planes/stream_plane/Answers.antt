@@ -1,5 +1,5 @@
 use Rattle.std.proofs.Common.{◌≡◌, ap, ◌∙◌, max, length, take, drop, arith}
-use Rattle.zf_spec.specs.Numbers.{word_bits}
+use Rattle.zf_spec.specs.Stream.{to_bits}
 use Rattle.zf_block.specs.WholePlanes.{rate_whole_from}
 use Rattle.zf_index.specs.Spans.{code_in}
 use Rattle.zf_index.specs.declared.span.Span.{Span}
@@ -11,7 +11,7 @@ pub loop-b-preserved : goal.loop-b-preserved
 loop-b-preserved g c =
     let w = g.T.Lane.width in
     let d = length c.args.h.now.shape in
-    let bits = word_bits c.args.words.now in
+    let bits = to_bits c.args.file.now in
     let code : c.code_plane-own.result ≡ rate_whole_from w d (code_in c.args.index.now bits c.loop-b.b) =
     c.code_plane-own.ensures.value
     ∙ ap (λ n. rate_whole_from w n (take c.span.result.len (drop c.span.result.at bits))) c.dims.ensures.value
@@ -22,4 +22,5 @@ loop-b-preserved g c =
       so_far = greater ∙ ap (max c.loop-b.plane) code ∙ plane_of-more w d (code_in c.args.index.now bits) c.loop-b.b c.loop-b.plane c.loop-b.invariant.so_far;
       most = omega (arith, greater, c.loop-b.invariant.most, c.code_plane-own.ensures.bound);
       room = c.code_plane-own.ensures.scratch ∙ c.dims.ensures.value;
+      excerpt = c.code_plane-own.ensures.room ∙ c.loop-b.invariant.excerpt;
     }

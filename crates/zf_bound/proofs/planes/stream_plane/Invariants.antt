@@ -1,13 +1,14 @@
 use Rattle.std.proofs.Common.{◌≡◌, ◌≤◌, map, length}
 use Rattle.zf_spec.specs.Grid.{upto}
-use Rattle.zf_spec.specs.Numbers.{word_bits}
+use Rattle.zf_spec.specs.Stream.{to_bits}
 use Rattle.zf_index.specs.Spans.{code_in}
 use Rattle.zf_bound.specs.Bounds.{plane_of}
 use Rattle.zf_bound.proofs.planes.stream_plane.Given as goal
 
 abbrev pub invariant-loop-b : goal.invariant-loop-b
 invariant-loop-b g l = record {
-  so_far : l.plane ≡ plane_of g.T.Lane.width (length l.h.shape) (map (code_in l.index (word_bits l.words)) (upto l.b));
+  so_far : l.plane ≡ plane_of g.T.Lane.width (length l.h.shape) (map (code_in l.index (to_bits l.file)) (upto l.b));
   most : l.plane ≤ g.T.Lane.WIDTH;
   room : l.room ≡ length l.h.shape;
+  excerpt : l.excerpt.room ≡ l.fn.excerpt.room;
 }

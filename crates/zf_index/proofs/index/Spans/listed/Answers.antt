@@ -2,12 +2,12 @@ use Rattle.std.proofs.Common.{◌≡◌, sym, ap, subst, ◌∙◌, ℕ, ◌*◌
 use Rattle.zf_index.specs.Spans.{Index, index_of, place, ArePlaces}
 use Rattle.zf_index.specs.Files.{IsIndexOf}
 use Rattle.zf_index.proofs.Read.{blocks_some}
-use Rattle.zf_index.proofs.index.Spans.build.Goals as goal
+use Rattle.zf_index.proofs.index.Spans.listed.Goals as goal
 
 pub places_of-requires-clause-within : goal.places_of-requires-clause-within
 places_of-requires-clause-within g c =
     let is = c.in_ok-lens.ensures.ok in
-    let Within : List ℕ → Type 0 = λ xs. place (record { start = c.header_len-start.result; lens = xs }) (length xs) < 2 ^ 64 in
+    let Within : List ℕ → Type 0 = λ xs. place (record { start = c.args.start; lens = xs }) (length xs) < 2 ^ 64 in
     subst Within (sym c.deref.ensures.value) (omega (arith, is.within, is.small))
 
 -- the first of the places is the start
@@ -28,7 +28,7 @@ module _ (step start : ℕ) (lens xs places : List ℕ) (some : 0 < step) (is_le
 pub invariant_of-result : goal.invariant_of-result
 invariant_of-result g c =
     let step = g.row.STEP in
-    let start = c.header_len-start.result in
+    let start = c.args.start in
     let lens = c.in_ok-lens.lens.items in
     let xs = c.deref.result.now in
     let places = c.in_ok-places.places.items in
@@ -46,7 +46,7 @@ invariant_of-result g c =
 
 pub returns-clause-ok : goal.returns-clause-ok
 returns-clause-ok g c =
-    let start = c.header_len-start.result in
+    let start = c.args.start in
     let lens = c.in_ok-lens.lens.items in
     let xs = c.deref.result.now in
     let places = c.in_ok-places.places.items in

@@ -1,0 +1,25 @@
+use Rattle.std.proofs.Common.{◌≡◌, refl, ap, ◌∙◌, ◌-◌, ◌*◌, ◌/◌, ◌%◌, ◌<◌, length, arith}
+use Rattle.std.proofs.Math.Nat.{div-add-mod, lt_of_mul-lt-mul_left}
+use Rattle.std.proofs.lemmas.List.{get_or_read_under}
+use Rattle.zf_index.specs.Spans.{index_of, len_at, place}
+use Rattle.zf_index.proofs.Places.{place-next, ends_within}
+use Rattle.zf_index.proofs.index.listed_span.Goals as goal
+
+pub loop-code-init : goal.loop-code-init
+loop-code-init c =
+    let i = index_of c.args.places.now c.args.lens.now in
+    let b = c.args.b in
+    let n = c.args.step in
+    let chunk : b / n < length c.args.places.now =
+    lt_of_mul-lt-mul_left n (omega (arith, div-add-mod b n, c.requires.below, c.requires.kept.kept.enough)) in
+    let first : n * (b / n) ≡ b - b % n = omega (arith, div-add-mod b n) in
+    c.requires.kept.kept.each (b / n) chunk ∙ ap (place i) first
+
+pub overflow_add-at : goal.overflow_add-at
+overflow_add-at c = ?
+
+pub loop-code-preserved : goal.loop-code-preserved
+loop-code-preserved c = ?
+
+pub returns : goal.returns
+returns c = ?
