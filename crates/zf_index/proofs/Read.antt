@@ -2,7 +2,7 @@
 use Rattle.std.proofs.Common.{◌≡◌, refl, sym, ap, subst, ◌∙◌, inl, inr, ⊎_elim, ℕ, zero, suc, ◌+◌, ◌-◌, ◌*◌, ◌%◌, ◌^◌, ◌<◌, ◌≤◌, Bool, ℤ, Option, Some, None, Result, Ok, Err, List, [], ◌∷◌, ◌++◌, map, length, get_or, take, drop, length-append, length-drop, arith}
 use Rattle.std.proofs.lemmas.Bool.{cases_lt}
 use Rattle.std.proofs.lemmas.Simd.{map-map}
-use Rattle.std.proofs.lemmas.List.{drop-drop, length-take-le}
+use Rattle.std.proofs.lemmas.List.{drop-drop, length-take, length-take-le}
 use Rattle.zf_spec.specs.Grid.{count_from, upto, grid, blocks, extent_of}
 use Rattle.zf_spec.specs.Stream.{to_bits}
 use Rattle.zf_spec.proofs.Counting.{from_places}
@@ -16,17 +16,17 @@ use Rattle.zf_header.proofs.Good.{good}
 use Rattle.zf_header.proofs.Found.{read_is_header}
 use Rattle.zf_parse.specs.declared.fault.StreamFault.{StreamFault}
 use Rattle.zf_parse.specs.declared.fault.StreamFault.TheVariants as faults
-use Rattle.zf_parse.specs.Parsing.{read_code, read_codes, read_next, with_block, codes_said, code_before, Said, said_with, parse, values_said, values_of_blocks, values_or_fault, fill_answer, codes_answer}
+use Rattle.zf_parse.specs.Parsing.{read_code, read_codes, read_next, with_block, codes_said, code_before, Said, said_with, parse, values_said, values_of_blocks, values_or_fault, fill_answer, codes_answer, longest_code}
 use Rattle.zf_parse.specs.ReadStreams.{BeginsWithHeader, IsFault}
 use Rattle.zf_parse.proofs.Parsed.{parse_is}
 use Rattle.zf_parse.proofs.RateStreams.{parse_err}
 use Rattle.zf_parse.proofs.Joining.{read_codes-cut}
 use Rattle.zf_parse.proofs.Fill.{fill_place}
-use Rattle.zf_parse.proofs.Excerpts.{fill_cut}
+use Rattle.zf_parse.proofs.Excerpts.{cut_told, fill_cut}
 use Rattle.zf_index.specs.declared.fault.IndexFault.{IndexFault}
 use Rattle.zf_index.specs.Spans.{Index, len_at, place, code_in, codes_in}
 use Rattle.zf_index.specs.Files.{HasHeader, found, block_read, len_read, AreRead, blocks_found, IsIndexOf, stream_fault}
-use Rattle.zf_index.specs.Walks.{IsWalked, HasFault}
+use Rattle.zf_index.specs.Walks.{IsWalked, HasFault, HasCode}
 use Rattle.zf_index.proofs.Places.{ends_within, place-push, len-push, len-last}
 
 -- what was read is its block and its length
@@ -100,6 +100,14 @@ module _ (h : Header) (i : Index) (s : List Bool) (read : AreRead h i s) where
         let p = place i (length i.lens) in
         ap (fill_answer h r.at) left ∙ fill_cut h r.at (drop p s) m enough
         ∙ ap (λ k. fill_answer h k (drop p s)) at ∙ fill_place h (p % 64) p (drop p s) (omega arith)
+
+-- a code that is seen among so many of the bits from its place on
+pub code_seen : (h : Header) (s t : List Bool) (at m k : ℕ) (es : List ℕ) → length es ≡ length h.shape → longest_code h ≤ m → at ≤ length s → t ≡ take m (drop at s)
+    → HasCode (width_of h.ty) h.mode (length h.shape) t k → (len_read (read_code (width_of h.ty) h.mode es (drop at s)) ≡ Some k) × (at + k ≤ length s)
+code_seen h s t at m k es dims enough inside is has = (
+  ap len_read (sym (cut_told h es (drop at s) m dims enough)) ∙ ap (λ (u : List Bool). len_read (read_code (width_of h.ty) h.mode es u)) (sym is) ∙ has.code es dims,
+  omega (arith, has.within, ap length is, length-take m (drop at s), length-drop at s, inside),
+)
 
 -- one code more is read
 pub one_more : (h : Header) (s : List Bool) (start : ℕ) (xs : List ℕ) (n : ℕ) → AreRead h (record { start = start; lens = xs }) s

@@ -1,7 +1,8 @@
-use Rattle.std.proofs.Common.{◌≡◌, sym, ap, ◌∙◌, ℕ, List, length, replicate, arith}
-use Rattle.std.proofs.lemmas.List.{length-replicate}
+use Rattle.std.proofs.Common.{◌≡◌, sym, ap, ◌∙◌, ℕ, ◌-◌, Some, List, length, replicate, arith}
+use Rattle.std.proofs.lemmas.List.{length-replicate, length-take}
 use Rattle.zf_bits.specs.Reader.{rest}
 use Rattle.zf_parse.specs.Parsing.{read_code}
+use Rattle.zf_index.specs.Files.{len_read}
 use Rattle.zf_index.proofs.Longest.{code_few}
 use Rattle.zf_index.proofs.walk.pass_code.Goals as goal
 
@@ -17,3 +18,14 @@ overflow_cast-result g c =
     let few = code_few h.ty h.mode es (rest old) _ _ c.requires.header.mode (omega (arith, long, c.requires.header.shape.four_at_most))
     (ap (λ w. read_code w h.mode es (rest old)) (sym c.requires.same_type) ∙ read.code es long) in
     omega (arith, few, c.at.ensures, c.at-start.ensures)
+
+pub returns-clause-some : goal.returns-clause-some
+returns-clause-some g c =
+    let read = c.in_ok-read_code.ensures.some in
+    let old = c.args.reader.now in
+    let new = c.read_code.new.reader in
+    let len : new.at - old.at ≡ c.at.result - c.at-start.result = omega (arith, c.at.ensures, c.at-start.ensures) in
+    record {
+      code = λ es dims. ap len_read (read.code es dims) ∙ ap Some len;
+      within = omega (arith, len, read.passed.place, length-take (new.at - old.at) (rest old));
+    }
