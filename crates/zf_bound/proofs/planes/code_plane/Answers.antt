@@ -7,5 +7,21 @@ use Rattle.zf_bound.proofs.Cuts.{code_enough, code_is}
 use Rattle.zf_bound.proofs.Streams.{rate_whole_from-le}
 use Rattle.zf_bound.proofs.planes.code_plane.Goals as goal
 
+pub whole_planes-requires-clause-enough : goal.whole_planes-requires-clause-enough
+whole_planes-requires-clause-enough g c =
+    let s = to_bits c.args.file.now in
+    let left : rest c.reader.result ≡ take (64 * c.args.excerpt.now.room - c.args.span.at % 64) (drop c.args.span.at s) =
+    ap rest c.reader.ensures ∙ c.take.ensures.bits in
+    code_enough s c.args.span.at c.args.span.len _ c.reader.result left (omega (arith, c.requires.inside, length-to_bits c.args.file.now)) (omega (arith, c.requires.fits))
+
 pub returns-clause-value : goal.returns-clause-value
-returns-clause-value g c = ?
+returns-clause-value g c =
+    let s = to_bits c.args.file.now in
+    let left : rest c.reader.result ≡ take (64 * c.args.excerpt.now.room - c.args.span.at % 64) (drop c.args.span.at s) =
+    ap rest c.reader.ensures ∙ c.take.ensures.bits in
+    c.whole_planes.ensures.plane
+    ∙ ap (rate_whole_from g.T.Lane.width c.args.d)
+    (code_is s c.args.span.at c.args.span.len _ c.reader.result left (omega (arith, c.requires.inside, length-to_bits c.args.file.now)) (omega (arith, c.requires.fits)))
+
+pub returns-clause-bound : goal.returns-clause-bound
+returns-clause-bound g c = omega (arith, c.whole_planes.ensures.plane, rate_whole_from-le g.T.Lane.width c.args.d (take c.args.span.len (rest c.reader.result)), g.met.T.Lane.bits_of_width)

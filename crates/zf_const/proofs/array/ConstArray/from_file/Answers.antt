@@ -43,9 +43,6 @@ module _ (bytes : List ℕ) (h : Header) (i : Index) (has : HasHeader bytes h) (
 is_index : (bytes file : List ℕ) (h : Header) (i : Index) → bytes ≡ file → IsIndexOf bytes h i → IsIndexOf file h i
 is_index bytes file h i same is = let Is : List ℕ → Type 0 = λ bs. IsIndexOf bs h i in subst Is same is
 
-made_of : (s : Coded) (h : Header) (i : Index) (bytes file : List ℕ) → bytes ≡ file → s ≡ record { header = h; codes = codes_in i (to_bits bytes) } → s ≡ record { header = h; codes = codes_in i (to_bits file) }
-made_of s h i bytes file same is = let Made : List ℕ → Coded = λ bs. record { header = h; codes = codes_in i (to_bits bs) } in is ∙ ap Made same
-
 pub invariant_of-result : goal.invariant_of-result
 invariant_of-result g c =
     let file = c.args.file.items in
@@ -55,7 +52,7 @@ invariant_of-result g c =
     let e = c.in_ok-cache.cache in
     let n = c.raised.result in
     let index = is_index c.deref.result.now file h i c.deref.ensures.value c.in_ok-index.ensures.ok in
-    let made = made_of t h i c.deref-2.result.now file c.deref-2.ensures.value c.in_ok-codes.ensures in
+    let made = c.in_ok-codes.ensures in
     let Is : Coded → Type 0 = λ u. (g.T.Lane.width ≡ width_of u.header.ty) × (length u.header.shape ≡ g.row.D) × IsHeader u.header × (length u.codes ≡ blocks u.header.shape) in
     let are : Is t = subst Is (sym made) (c.requires.same_type, c.requires.dims, is_header file h c.requires.header, count file h i c.requires.header index) in
     record {
@@ -74,7 +71,7 @@ returns-clause-opened g c =
     let i = seen c.in_ok-index.index in
     let t = c.in_ok-codes.codes in
     let index = is_index c.deref.result.now file h i c.deref.ensures.value c.in_ok-index.ensures.ok in
-    let made = made_of t h i c.deref-2.result.now file c.deref-2.ensures.value c.in_ok-codes.ensures in
+    let made = c.in_ok-codes.ensures in
     opened_is file h i c.requires.header index (held_by g.T.Lane.value t c.in_ok-cache.cache) (ap (λ (u : Coded). u.header) made) (ap (λ (u : Coded). u.codes) made)
 
 pub returns-clause-state : goal.returns-clause-state

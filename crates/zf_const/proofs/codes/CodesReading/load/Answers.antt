@@ -38,12 +38,12 @@ module _ (w : Width) (d : ℕ) (h : Header) (file : List ℕ) (index : Index) (r
   unfolding array_format
   size_is n e = e ∙ sym (ap (λ (s : Coded). (format_of s).block_len) is)
 
-  -- a reader of as many bits of the file, from the code on, as there is room for
-  module _ (lt : b < length (seen index).lens) (r : Reader) (span : Span) (is_span : span ≡ span_at (seen index) b) where
+  module _ (lt : b < length (seen index).lens) (span : Span) (is_span : span ≡ span_at (seen index) b) where
     within : span.at ≤ 8 * length file
     within = omega (arith, ap (λ (x : Span). x.at) is_span, place-le (seen index) b (length (seen index).lens) (omega (arith, lt)), coded.within)
 
-    module _ (left : rest r ≡ take (64 * room - span.at % 64) (drop span.at (to_bits file))) where
+    -- a reader of as many bits of the file, from the code on, as there is room for
+    module _ (r : Reader) (left : rest r ≡ take (64 * room - span.at % 64) (drop span.at (to_bits file))) where
       there : read_code w h.mode (extent_of h.shape b) (rest r) ≡ Some (block_read (found h (seen index) (to_bits file) b), len_at (seen index) b)
       there =
           let es = extent_of h.shape b in
@@ -62,5 +62,35 @@ module _ (w : Width) (d : ℕ) (h : Header) (file : List ℕ) (index : Index) (r
           let same = same_block (sym (reads.code (extent_of h.shape b) (length-extent_of h.shape b)) ∙ there) in
           subst P is (existing_of-array (coding_of h) h.shape b block ∙ same ∙ sym (found_meant h (seen index) (to_bits file) b lt coded.read))
 
+pub span-requires : goal.span-requires
+span-requires g c =
+    let s = c.self.inside in
+    below g.T.Lane.width g.row.D s.header s.file.items s.index s.excerpt.room c.self.invariant c.args.self.now c.self.view_is c.args.b c.requires.block
+
+pub take-requires-clause-within : goal.take-requires-clause-within
+take-requires-clause-within g c =
+    let s = c.self.inside in
+    let lt = below g.T.Lane.width g.row.D s.header s.file.items s.index s.excerpt.room c.self.invariant c.args.self.now c.self.view_is c.args.b c.requires.block in
+    omega (arith, ap length c.deref.ensures.value,
+    within g.T.Lane.width g.row.D s.header s.file.items s.index s.excerpt.room c.self.invariant c.args.self.now c.self.view_is c.args.b lt c.span.result c.span.ensures)
+
+pub read_code-requires : goal.read_code-requires
+read_code-requires g c =
+    let s = c.self.inside in
+    record { whole = size_is g.T.Lane.width g.row.D s.header s.file.items s.index s.excerpt.room c.self.invariant c.args.self.now c.self.view_is c.args.b (length c.args.line.now) c.requires.whole }
+
+pub unreachable-requires : goal.unreachable-requires
+unreachable-requires g c =
+    let s = c.self.inside in
+    let lt = below g.T.Lane.width g.row.D s.header s.file.items s.index s.excerpt.room c.self.invariant c.args.self.now c.self.view_is c.args.b c.requires.block in
+    let left = ap rest c.reader-reader.ensures ∙ c.take.ensures.bits ∙ ap (λ (bs : List ℕ). take (64 * s.excerpt.room - c.span.result.at % 64) (drop c.span.result.at (to_bits bs))) c.deref.ensures.value in
+    not_none g.T.Lane.width g.row.D s.header s.file.items s.index s.excerpt.room c.self.invariant c.args.self.now c.self.view_is c.args.b lt
+    c.span.result c.span.ensures c.reader-reader.result left c.in_default.ensures.none
+
 pub returns-clause-value : goal.returns-clause-value
-returns-clause-value g c = ?
+returns-clause-value g c =
+    let s = c.self.inside in
+    let lt = below g.T.Lane.width g.row.D s.header s.file.items s.index s.excerpt.room c.self.invariant c.args.self.now c.self.view_is c.args.b c.requires.block in
+    let left = ap rest c.reader-reader.ensures ∙ c.take.ensures.bits ∙ ap (λ (bs : List ℕ). take (64 * s.excerpt.room - c.span.result.at % 64) (drop c.span.result.at (to_bits bs))) c.deref.ensures.value in
+    value_is g.T.Lane.width g.row.D s.header s.file.items s.index s.excerpt.room c.self.invariant c.args.self.now c.self.view_is c.args.b lt
+    c.span.result c.span.ensures c.reader-reader.result left c.read_code.new.reader (map g.T.Lane.value c.read_code.new.block) c.in-Some.ensures.some
