@@ -85,16 +85,14 @@ impl<R: Read> Source for RealSource<R> {
         ensures unchanged { OnOk result (source_faults self.new ≡ source_faults self.old) }
         ensures cause { HasCause (IsErr result) (source_faults self.old) (source_faults self.new) }
     {
-        if self.held.is_empty() {
-            let most = if self.ahead {
-                ROOM
-            } else {
-                buf.len().min(ROOM)
-            };
-            // A read may leave anything in the room behind the bytes that it gives, so it never goes into `buf`.
-            let answer = self.held.fill(&mut self.stream, most);
-            counted(answer, &mut self.faults)?;
+        if !self.held.is_empty() {
+            return Ok(self.held.give(buf));
         }
+        // A read may leave anything in the room behind the bytes that it gives, so it never goes into `buf`.
+        let answer = self
+            .held
+            .fill(&mut self.stream, most_of(self.ahead, buf.len()));
+        counted(answer, &mut self.faults)?;
         Ok(self.held.give(buf))
     }
 
@@ -236,6 +234,15 @@ impl<W: Write> Sink for RealSink<W> {
         }
         Ok(())
     }
+}
+
+// How many bytes a source reads at once where it is asked for so many.
+fn most_of(ahead: bool, asked: usize) -> usize
+    ensures some { 0 < asked → 0 < result }
+    ensures fits { result ≤ 65536 }
+    ensures exact { ¬ IsTrue ahead → result ≤ asked }
+{
+    if ahead { ROOM } else { asked.min(ROOM) }
 }
 
 // What a stream answered, as the answer of a device: a count is handed on, and each error is a fault.
