@@ -139,6 +139,13 @@ fn report<E: Sink>(status: &Status, err: &mut E)
     ensures message { Sends (error_line status.now) (E.contents err.old) (E.contents err.new) (E.faults err.old) (E.faults err.new) }
     ensures sent { IsQuiet (E.faults err.old) (E.faults err.new) → E.is_flushed err.new }
 {
-    let _ = write_all(err, error_line(status).as_str().as_bytes());
+    tell(status, err);
     let _ = err.flush();
+}
+
+// Writes the line of a status.
+fn tell<E: Sink>(status: &Status, err: &mut E)
+    ensures { Sends (error_line status.now) (E.contents err.old) (E.contents err.new) (E.faults err.old) (E.faults err.new) }
+{
+    let _ = write_all(err, error_line(status).as_str().as_bytes());
 }
