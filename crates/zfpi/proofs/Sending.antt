@@ -28,7 +28,7 @@ use Rattle.zfpi.specs.Certified.{certified_status}
 use Rattle.zfpi.specs.World.{World, Seen, seen, counts}
 use Rattle.zfpi.specs.Answer.{uses, IsRunnable, MayWrite, HasWants, IsExtent, IsRaw, IsPossible, text_for, draft_for, saved_for, status_for}
 use Rattle.zfpi.specs.Loaded.{SavesOrFails}
-use Rattle.zfpi.specs.Sending.{IsDone, HandsOn}
+use Rattle.zfpi.specs.Sending.{IsDone, EndsSent, HandsOn}
 use Rattle.zfpi.specs.Headline.{IsWorkDone, IsSent, Writes, Saves, Behaves, HasCauses, IsCausedOnShelf, IsIdle, Sends}
 use Rattle.zfpi.proofs.Loading.{ComesFirst, by_first}
 use Rattle.zfpi.proofs.Promises.{IsRefusal, opened_first_array, opened_first_stream, IsPossible-behaves}
@@ -207,22 +207,16 @@ module _ (c : Command) (status ended : Status) (unsaved : SavesNothing c) where
     sure = λ sure. (λ is. no_read sent.ends (causes.sure sure).0 is, (causes.sure sure).1);
   }
     where
-      Ends : Type 0
-      Ends = (ended ≡ status) ⊎ ((ended ≡ WriteFault) × IsDone status × Rose mid now)
-
-      by_read : Ends → ended ≡ ReadFault → Rose src src_now
-      unfolding Ends
+      by_read : EndsSent status ended (Rose mid now) → ended ≡ ReadFault → Rose src src_now
       by_read ends is = elim ends [ inl same ↦ causes.reading.1 (sym same ∙ is) | inr failed ↦ absurd (no_fault (sym failed.0 ∙ is)) ]
 
-      by_write : Ends → ended ≡ WriteFault → Rose out now
-      unfolding Ends
+      by_write : EndsSent status ended (Rose mid now) → ended ≡ WriteFault → Rose out now
       by_write ends is = elim ends [
         | inl same ↦ omega (arith, causes.writing.1 (sym same ∙ is), sent.kept)
         | inr failed ↦ omega (arith, causes.writing.0, failed.2)
       ]
 
-      no_read : Ends → (status ≢ ReadFault) → ended ≡ ReadFault → ⊥
-      unfolding Ends
+      no_read : EndsSent status ended (Rose mid now) → (status ≢ ReadFault) → ended ≡ ReadFault → ⊥
       no_read ends none is = elim ends [ inl same ↦ none (sym same ∙ is) | inr failed ↦ no_fault (sym failed.0 ∙ is) ]
 
       no_fault : WriteFault ≡ ReadFault → ⊥
