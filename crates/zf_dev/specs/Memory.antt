@@ -50,6 +50,10 @@ pub record SinkState : Type 0 where
 abbrev pub sink_after_write : SinkState → List ℕ → SinkState
 sink_after_write sink bytes = record sink { written = sink.written ++ bytes; call = next_count sink.call }
 
+-- the sink after a flush that did not fail
+abbrev pub sink_after_flush : SinkState → SinkState
+sink_after_flush sink = record sink { call = next_count sink.call }
+
 -- the sink after a call that failed because of its number
 abbrev pub sink_after_fault : SinkState → SinkState
 sink_after_fault sink = record sink { call = next_count sink.call; faults = next_count sink.faults }

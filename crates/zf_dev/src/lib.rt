@@ -4,12 +4,14 @@
 
 mod access;
 mod beside;
+mod buffer;
 mod faults;
 mod mem_shelf;
 mod memory;
 mod place;
 mod real;
 mod real_shelf;
+mod retrying;
 mod shelf;
 mod sink;
 mod source;

@@ -2,7 +2,7 @@
 
 ghost use Rattle.std.specs.Prelude.{◌≡◌, ℕ, ◌<◌, ◌≤◌, ◌↔◌, min, List, [], ◌++◌, length, take, drop, Some, IsTrue, IsOk, IsErr, IfOk, OnOk, OnErr, Contains};
 ghost use Rattle.zf_dev.specs.Faults.{HasCause};
-ghost use Rattle.zf_dev.specs.Memory.{given_count, source_after_read, source_after_fault, sink_after_write, sink_after_fault, sink_after_want};
+ghost use Rattle.zf_dev.specs.Memory.{given_count, source_after_read, source_after_fault, sink_after_write, sink_after_flush, sink_after_fault, sink_after_want};
 ghost use Rattle.zf_dev.specs.Sink.{Appends};
 ghost use Rattle.zf_dev.specs.Source.{Takes, EndsAt};
 
@@ -234,6 +234,26 @@ impl Sink for MemSink {
             return Err(Failed);
         }
         Ok(count)
+    }
+
+    // It holds nothing back, but it is a call, which fails if it is listed.
+    fn flush(&mut self) -> Result<(), Failed>
+        ensures fails { IsErr result ↔ Contains self.old.fail self.old.call }
+        ensures ok { OnOk result (self.new ≡ sink_after_flush self.old) }
+        ensures err { OnErr result (self.new ≡ sink_after_fault self.old) }
+
+        // Those of the trait.
+        ensures stays { Appends (Some self.old.written) (Some self.new.written) [] }
+        ensures unchanged { OnOk result (self.new.faults ≡ self.old.faults) }
+        ensures cause { HasCause (IsErr result) self.old.faults self.new.faults }
+    {
+        let call = self.call;
+        raise(&mut self.call);
+        if is_listed(&self.fail, call) {
+            raise(&mut self.faults);
+            return Err(Failed);
+        }
+        Ok(())
     }
 }
 

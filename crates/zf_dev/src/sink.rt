@@ -6,7 +6,7 @@ ghost use Rattle.zf_dev.specs.Sink.{Appends, AppendsFront, AppendsPart};
 
 use crate::Failed;
 
-/// A stream of bytes that is written.
+/// A stream of bytes that is written. It may hold bytes back until it is flushed.
 pub trait Sink {
     /// What every call leaves as it is: of a sink that borrows another, which one that is.
     ghost Kept: { Type 0 };
@@ -17,6 +17,9 @@ pub trait Sink {
     /// How many faults there were. It stands still at the last value of a `u64`.
     ghost faults: { Self → ℕ };
 
+    /// All that was written was handed on: the sink holds none of it back.
+    ghost is_flushed: { Self → Type 0 } = { λ _. Unit {0} };
+
     ghost kept: { Self → Kept };
 
     /// Writes the first of `bytes`, at least one, and says how many.
@@ -26,6 +29,15 @@ pub trait Sink {
         ensures bound { IfOk result (λ n. n ≤ length bytes.now) }
         ensures appended { IfOk result (λ n. Appends (contents self.old) (contents self.new) (take n bytes.now)) }
         ensures unwritten { OnErr result (Appends (contents self.old) (contents self.new) []) }
+        ensures unchanged { OnOk result (faults self.new ≡ faults self.old) }
+        ensures kept { kept self.new ≡ kept self.old }
+        ensures cause { HasCause (IsErr result) (faults self.old) (faults self.new) };
+
+    /// Hands on what the sink holds back of the bytes written. After a fault it may hold some of them still.
+    fn flush(&mut self) -> Result<(), Failed>
+        ensures flushed { OnOk result (is_flushed self.new) }
+        // What was written stays what it was, whoever has it now.
+        ensures stays { Appends (contents self.old) (contents self.new) [] }
         ensures unchanged { OnOk result (faults self.new ≡ faults self.old) }
         ensures kept { kept self.new ≡ kept self.old }
         ensures cause { HasCause (IsErr result) (faults self.old) (faults self.new) };

@@ -34,6 +34,14 @@ pub trait Source {
         ensures kept { kept self.new ≡ kept self.old }
         ensures cause { HasCause (IsErr result) (faults self.old) (faults self.new) }
         ensures sure { never_fails self.old → IsOk result × never_fails self.new };
+
+    /// Says that this source will be read to its end, so it may take more of what it reads from than it is asked for.
+    fn read_ahead(&mut self)
+        ensures contents_stay { contents self.new ≡ contents self.old }
+        ensures faults_stay { faults self.new ≡ faults self.old }
+        ensures kept { kept self.new ≡ kept self.old }
+        ensures sure { never_fails self.old → never_fails self.new }
+    {}
 }
 
 /// Reads until `buf` is full or the source is at its end, and says how many bytes it read.

@@ -24,6 +24,22 @@ pub fn take_all<S: Source>(alloc: Global, src: &mut S, max: u64) -> Result<Vec<u
     ensures cause { HasCause (result ≡ Err taking.Failed) (S.faults src.old) (S.faults src.new) }
     ensures sure { S.never_fails src.old → (result ≢ Err taking.Failed) × S.never_fails src.new }
 {
+    src.read_ahead();
+    take_pieces(alloc, src, max)
+}
+
+// The same piece by piece.
+fn take_pieces<S: Source>(alloc: Global, src: &mut S, max: u64) -> Result<Vec<u8>, TakeError>
+    ensures ok { IfOk result (λ bytes. Takes (S.contents src.old) (S.contents src.new) bytes.items) }
+    ensures end { OnOk result (IsAtEnd (S.contents src.new)) }
+    ensures bound { IfOk result (λ bytes. length bytes.items ≤ max) }
+    ensures long { result ≡ Err taking.Long → TakesMoreThan (S.contents src.old) (S.contents src.new) max }
+    ensures taken { TakesSome (S.contents src.old) (S.contents src.new) }
+    ensures unchanged { result ≢ Err taking.Failed → S.faults src.new ≡ S.faults src.old }
+    ensures same_source { S.kept src.new ≡ S.kept src.old }
+    ensures cause { HasCause (result ≡ Err taking.Failed) (S.faults src.old) (S.faults src.new) }
+    ensures sure { S.never_fails src.old → (result ≢ Err taking.Failed) × S.never_fails src.new }
+{
     let mut bytes = Vec::new(alloc);
     let mut piece = [0; PIECE];
     let mut left = max;

@@ -2,7 +2,7 @@
 
 ghost use Rattle.std.specs.Prelude.{◌≡◌, ℕ, ◌<◌, ◌≤◌, ◌++◌, min, List, length, take, IsOk, IfOk, OnOk};
 ghost use Rattle.zf_dev.specs.Faults.{IsQuiet};
-ghost use Rattle.zf_dev.specs.Real.{sink_stream};
+ghost use Rattle.zf_dev.specs.Real.{sink_stream, sink_held};
 ghost use Rattle.zf_dev.specs.Sink.{Appends, AppendsFront};
 ghost use Rattle.zf_dev.specs.Source.{Takes, IsAtEnd};
 
@@ -117,9 +117,10 @@ fn first_bytes(text: &[u8], buf: &mut [u8]) -> Result<usize, Failed>
 }
 
 fn send(text: &[u8], out: &mut RealSink<Vec<u8>>) -> Result<(), Failed>
-    ensures { OnOk result ((sink_stream out.new).items ≡ (sink_stream out.old).items ++ text.now) }
+    ensures { OnOk result ((sink_stream out.new).items ≡ (sink_stream out.old).items ++ sink_held out.old ++ text.now) }
 {
-    write_all(out, text)
+    write_all(out, text)?;
+    out.flush()
 }
 
 // More than one call of the system moves at once.
@@ -186,14 +187,8 @@ fn system_streams_are_retried_and_their_faults_counted(rt: HostRuntime) {
     }
     assert!(rt; buf == [7, 7, 9, 9] && src.faults() == 1);
 
-    // No byte was taken by the second call.
+    // All bytes are held. The first two are handed on, the second call takes none, and each later one fails.
     let mut out = RealSink::new(Stream { calls: 0 });
-    for (bytes, answer) in [
-        (b"abc".as_slice(), Ok(2)),
-        (b"c".as_slice(), Err(Failed)),
-        (b"c".as_slice(), Err(Failed)),
-    ] {
-        assert!(rt; bytes.len() > 0 && out.write(bytes) == answer);
-    }
-    assert!(rt; out.faults() == 2);
+    assert!(rt; write_all(&mut out, b"abc") == Ok(()) && out.faults() == 0);
+    assert!(rt; out.flush() == Err(Failed) && out.flush() == Err(Failed) && out.faults() == 2);
 }

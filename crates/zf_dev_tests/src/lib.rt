@@ -6,4 +6,6 @@ mod dev;
 #[cfg(test)]
 mod files;
 #[cfg(test)]
+mod held;
+#[cfg(test)]
 mod shelf;

@@ -44,9 +44,17 @@ impl<'a, O: Sink, K: Begun> Sink for Demoted<'a, O, K> {
 
     ghost faults = { λ d. O.faults d.out.now };
 
+    // What is less than a value is no narrow byte yet, and is held.
+    ghost is_flushed = { λ d. (d.demotion.owed ≡ None) × O.is_flushed d.out.now };
+
     ghost kept = { λ d. (d.out.ghost_name, O.kept d.out.now) };
 
     fn write(&mut self, bytes: &[u8]) -> Result<usize, Failed> {
         self.demotion.write(&mut *self.out, bytes)
+    }
+
+    fn flush(&mut self) -> Result<(), Failed> {
+        self.settle()?;
+        self.out.flush()
     }
 }

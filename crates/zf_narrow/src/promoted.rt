@@ -41,4 +41,8 @@ impl<'a, S: Source, K: Begun> Source for Promoted<'a, S, K> {
     fn read(&mut self, buf: &mut [u8]) -> Result<usize, Failed> {
         self.promotion.read(&mut *self.src, buf)
     }
+
+    fn read_ahead(&mut self) {
+        self.src.read_ahead();
+    }
 }

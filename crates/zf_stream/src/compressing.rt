@@ -58,6 +58,32 @@ pub fn compress<S: Source, O: Sink>(
     ensures write_cause { HasCause (result ≡ Err Write) (O.faults out.old) (O.faults out.new) }
     ensures sure { S.never_fails src.old → (result ≢ Err Read) × S.never_fails src.new }
 {
+    src.read_ahead();
+    compress_ahead(alloc, h, src, out)
+}
+
+/// The same where the source knows that it is read to its end.
+fn compress_ahead<S: Source, O: Sink>(
+    alloc: Global,
+    h: &Header,
+    src: &mut S,
+    out: &mut O,
+) -> Result<(), StreamFault>
+    requires { IsMode h.now.mode }
+    ensures answer { Answers result (S.contents src.old) (compress_answer h.now) }
+    ensures possible { IfErr result (CanRefuse (compress_answer h.now)) }
+    ensures length { IfErr result (ShowsLength (raw_len h.now) (S.contents src.old) (S.contents src.new)) }
+    ensures ok { OnOk result (Finishes (compress_answer h.now) (stream_text h.now)
+        (S.contents src.old) (S.contents src.new) (O.contents out.old) (O.contents out.new)) }
+    ensures err { OnErr result (LeavesFront (stream_text h.now)
+        (S.contents src.old) (S.contents src.new) (O.contents out.old) (O.contents out.new)) }
+    ensures unwritten { result ≡ Err Memory → O.contents out.new ≡ O.contents out.old }
+    ensures same_source { S.kept src.new ≡ S.kept src.old }
+    ensures read_cause { HasCause (result ≡ Err Read) (S.faults src.old) (S.faults src.new) }
+    ensures same_sink { O.kept out.new ≡ O.kept out.old }
+    ensures write_cause { HasCause (result ≡ Err Write) (O.faults out.old) (O.faults out.new) }
+    ensures sure { S.never_fails src.old → (result ≢ Err Read) × S.never_fails src.new }
+{
     match h.ty {
         Ty::I32 => compress_as::<i32, S, O>(alloc, h, src, out),
         Ty::I64 => compress_as::<i64, S, O>(alloc, h, src, out),

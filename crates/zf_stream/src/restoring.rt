@@ -115,6 +115,35 @@ fn restore_behind<S: Source, O: Sink>(
     ensures write_cause { HasCause (result ≡ Err Write) (O.faults out.old) (O.faults out.new) }
     ensures sure { S.never_fails src.old → (result ≢ Err Read) × S.never_fails src.new }
 {
+    src.read_ahead();
+    restore_ahead(alloc, h, header_len, front, src, out)
+}
+
+/// The same where the source knows that it is read to its end.
+fn restore_ahead<S: Source, O: Sink>(
+    alloc: Global,
+    h: &Header,
+    header_len: u32,
+    front: &[u8],
+    src: &mut S,
+    out: &mut O,
+) -> Result<(), StreamFault>
+    requires begun { BeginsWithHeader front.now h.now header_len }
+    requires few { length front.now ≤ 24 }
+    requires ended { length front.now < 24 → IsAtEnd (S.contents src.old) }
+    ensures answer { Answers result (behind front.now (S.contents src.old)) restore_answer }
+    ensures possible { IfErr result (CanRefuseBehind front.now) }
+    ensures ok { OnOk result (FinishesBehind front.now
+        (S.contents src.old) (S.contents src.new) (O.contents out.old) (O.contents out.new)) }
+    ensures err { OnErr result (LeavesFront restored_text
+        (behind front.now (S.contents src.old)) (S.contents src.new) (O.contents out.old) (O.contents out.new)) }
+    ensures unwritten { IfErr result (λ e. IsBeforeWriting e → O.contents out.new ≡ O.contents out.old) }
+    ensures same_source { S.kept src.new ≡ S.kept src.old }
+    ensures read_cause { HasCause (result ≡ Err Read) (S.faults src.old) (S.faults src.new) }
+    ensures same_sink { O.kept out.new ≡ O.kept out.old }
+    ensures write_cause { HasCause (result ≡ Err Write) (O.faults out.old) (O.faults out.new) }
+    ensures sure { S.never_fails src.old → (result ≢ Err Read) × S.never_fails src.new }
+{
     match h.ty {
         Ty::I32 => restore_as::<i32, S, O>(alloc, h, header_len, front, src, out),
         Ty::I64 => restore_as::<i64, S, O>(alloc, h, header_len, front, src, out),

@@ -31,7 +31,7 @@ ComesFirst (statuses.NotRate m) = Unit {0}
 ComesFirst status = FileEnds status
 
 -- what holds of all of them
-by_first : (P : Status → Type 0) → P statuses.Missing → P statuses.FileLong → P statuses.LoadFault → ((f : _) → P (statuses.Header f)) → ((b : ℕ) → P (statuses.Truncated b)) → P statuses.Pad → P statuses.Trailing → P statuses.Memory
+pub by_first : (P : Status → Type 0) → P statuses.Missing → P statuses.FileLong → P statuses.LoadFault → ((f : _) → P (statuses.Header f)) → ((b : ℕ) → P (statuses.Truncated b)) → P statuses.Pad → P statuses.Trailing → P statuses.Memory
     → ((m : ℕ) → P (statuses.NotRate m)) → (status : Status) → ComesFirst status → P status
 by_first P missing long load header truncated pad trailing memory no_rate statuses.Missing first = missing
 by_first P missing long load header truncated pad trailing memory no_rate statuses.FileLong first = long

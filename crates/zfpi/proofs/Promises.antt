@@ -35,6 +35,7 @@ use Rattle.zfpi.specs.Scripts.{Answering, run_replies, look_replies, lines_statu
 use Rattle.zfpi.specs.Answer.{CanRun, TakesMemory, MayLoad, MaySave, MayFail, IsPossible, CompressEnds, RestoreEnds, RestoreNarrowEnds, InfoEnds, FileEnds, LookEnds, RunEnds, BoundEnds, status_of, narrow_status_of, header_status, status_for, text_for, draft_for}
 use Rattle.zfpi.specs.Headline.{OfCommand, RefusesWords, IsOfCommand, Writes, Behaves, HasCauses, AreQuiet, IsComplete, IsFromOutside, IsCausedOnShelf, FailedLoad, FailedSave, IsBack, GivesBack}
 use Rattle.zfpi.proofs.Commands.{one_command}
+use Rattle.zfpi.proofs.Loading.{ComesFirst}
 
 -- what holds of one command that the words are holds of each
 pub OfCommand-one : (words : List (List ℕ)) (c : Command) → IsSpelled c words → (P : Command → Type 0) → P c → OfCommand words P
@@ -153,7 +154,7 @@ info_ends None = tt
 info_ends (Some f) = tt
 
 -- a file that is not opened ends a command with one of these statuses
-IsRefusal : (Status → Type 0) → Result Said Status → Type 0
+unfoldable pub IsRefusal : (Status → Type 0) → Result Said Status → Type 0
 IsRefusal Ends (Ok said) = Unit {0}
 IsRefusal Ends (Err status) = Ends status
 
@@ -239,6 +240,25 @@ opened_ends Ends reading missing long ends (Some bytes) = by (ltb 1200000000 (le
     by : (is_long : Bool) → IsRefusal Ends (cond is_long (Err FileLong) (reading bytes))
     by true = long
     by false = ends bytes
+
+-- whatever the file holds, it is refused before anything is read of a script
+FileEnds-first : (status : Status) → FileEnds status → ComesFirst status
+FileEnds-first (NotRate m) ends = tt
+FileEnds-first status ends = ends
+
+stream_in-first : (bytes : List ℕ) → IsRefusal ComesFirst (stream_in bytes)
+unfolding stream_in
+stream_in-first bytes = refusal_of FileEnds ComesFirst FileEnds-first (said_or_status (parse bytes)) (said_ends (parse bytes) (own_said bytes))
+
+array_in-first : (bytes : List ℕ) → IsRefusal ComesFirst (array_in bytes)
+unfolding array_in
+array_in-first bytes = array_ends ComesFirst (λ f. tt) (λ m. tt) FileEnds-first (header_fault bytes) (header_of bytes).mode (parse bytes) (own_said bytes)
+
+pub opened_first_stream : (file : Option (List ℕ)) → IsRefusal ComesFirst (opened stream_in file)
+opened_first_stream file = opened_ends ComesFirst stream_in tt tt stream_in-first file
+
+pub opened_first_array : (file : Option (List ℕ)) → IsRefusal ComesFirst (opened array_in file)
+opened_first_array file = opened_ends ComesFirst array_in tt tt array_in-first file
 
 script_ends : (Ends : Status → Type 0) (replies : Answering) → Ends ScriptLong → ((n : ℕ) → Ends (lines_status n)) → (file : Result Said Status) → IsRefusal Ends file → (wants script : List ℕ) → Ends (script_status replies file wants script)
 unfolding IsRefusal

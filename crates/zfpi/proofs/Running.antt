@@ -42,7 +42,8 @@ use Rattle.zfpi.specs.World.{seen}
 use Rattle.zfpi.specs.Headline.{Saves, Behaves}
 use Rattle.zfpi.proofs.Opening.{array_in-rate}
 use Rattle.zfpi.proofs.Loading.{ComesFirst, Behaves-unopened, files_with}
-use Rattle.zfpi.proofs.Scripting.{IsScripted-run, is_open, Behaves-whole, Behaves-lines, Behaves-cut_script, runnable}
+use Rattle.zfpi.proofs.Scripting.{IsScripted-run, is_open, Behaves-whole, Behaves-lines, Behaves-unsent, Behaves-cut_script, runnable}
+use Rattle.zfpi.proofs.Sending.{Appends-stays, Behaves-stays}
 
 -- ---- shelves
 
@@ -124,14 +125,14 @@ module _ (name : List ℕ) (caching : Caching) where
     saved_is : saved_of name (run_file caching) (opened array_in (files_with known holds.bytes name)) wants script ≡ Some (name, run_file caching (said s) wants script)
     saved_is = ap (λ file. saved_of name (run_file caching) file wants script) (is_open (Run name caching) name array_in (run_replies caching) (IsScripted-run name caching) known mid holds.bytes (said s) holds.file holds.array kept)
 
-    -- the whole script was run
-    pub Behaves-run : (ns : List ℕ) (now : State (List Bool)) (mode : Mode) (refused : ℕ) (status ended : Status) (file : List ℕ) (src rest out out_now : Option (List ℕ)) (shelf : Option Files) (Saving : Type 0)
-        → Completes ns now wants out out_now ran refused → mode ≡ s.header.mode → file ≡ saved_file w (block_bits mode) ns now
-        → lines_status refused ≡ status → SavesOrFails mid shelf name file status ended Saving → Takes src rest script → IsAtEnd rest
+    -- the whole script was run, and its replies were handed on before the file was saved
+    pub Behaves-run : (ns : List ℕ) (now : State (List Bool)) (mode : Mode) (refused : ℕ) (status ended : Status) (file : List ℕ) (src rest out sent out_now : Option (List ℕ)) (shelf : Option Files) (Writing Saving : Type 0)
+        → Completes ns now wants out sent ran refused → Appends sent out_now [] → mode ≡ s.header.mode → file ≡ saved_file w (block_bits mode) ns now
+        → lines_status refused ≡ status → SavesOrFails mid shelf name file status ended Writing Saving → Takes src rest script → IsAtEnd rest
         → Behaves (Run name caching) ended (seen src out known) (seen rest out_now shelf)
-    Behaves-run ns now mode refused status ended file src rest out out_now shelf Saving done same_mode is status_same saves takes end =
+    Behaves-run ns now mode refused status ended file src rest out sent out_now shelf Writing Saving done stays same_mode is status_same saves takes end =
         let wanted = ap (count_by is_want) (sym replies_are) ∙ done.wanted in
-        let written = subst (Appends out out_now) (ap replies_text replies_are) done.written in
+        let written = Appends-stays out sent out_now _ (subst (Appends out sent) (ap replies_text replies_are) done.written) stays in
         elim saves [
           | inl good ↦
               let file_saved = SavesFile-kept known mid shelf name _ kept (subst (SavesFile mid shelf name) (is ∙ file_is ns now mode done.shape_is done.state_is same_mode) good.1) in
@@ -139,17 +140,25 @@ module _ (name : List ℕ) (caching : Caching) where
               subst (λ s. Behaves (Run name caching) s (seen src out known) (seen rest out_now shelf)) (status_same ∙ sym good.0)
               (Behaves-lines (Run name caching) name array_in (run_replies caching) (IsScripted-run name caching) known mid holds.bytes (said s) holds.file holds.array kept script wants most src rest takes end
               refused out out_now shelf (done.refused_is ∙ ap (count_by is_refusal) replies_are) wanted written saved)
-          | inr bad ↦
-              let saved = subst (λ f. Saves f statuses.SaveFault known shelf) (sym saved_is) (KeepsOthers-kept known mid shelf name kept bad.1) in
-              let may = runnable (Run name caching) name array_in (run_replies caching) (IsScripted-run name caching) known mid holds.bytes (said s) holds.file holds.array kept script wants most src rest takes end in
-              subst (λ s. Behaves (Run name caching) s (seen src out known) (seen rest out_now shelf)) (sym bad.0)
-              (Behaves-whole (Run name caching) name array_in (run_replies caching) (IsScripted-run name caching) known mid holds.bytes (said s) holds.file holds.array kept script wants most src rest takes end
-              statuses.SaveFault out out_now shelf tt (λ P p. p) refl (λ text draft all. all) (inr may) wanted written saved)
+          | inr others ↦ elim others [
+            | inl bad ↦
+                let saved = subst (λ f. Saves f statuses.SaveFault known shelf) (sym saved_is) (KeepsOthers-kept known mid shelf name kept bad.1) in
+                let may = runnable (Run name caching) name array_in (run_replies caching) (IsScripted-run name caching) known mid holds.bytes (said s) holds.file holds.array kept script wants most src rest takes end in
+                subst (λ s. Behaves (Run name caching) s (seen src out known) (seen rest out_now shelf)) (sym bad.0)
+                (Behaves-whole (Run name caching) name array_in (run_replies caching) (IsScripted-run name caching) known mid holds.bytes (said s) holds.file holds.array kept script wants most src rest takes end
+                statuses.SaveFault out out_now shelf tt (λ P p. p) refl (λ text draft all. all) (inr may) wanted written saved)
+            | inr unsent ↦
+                let cut = Behaves-unsent (Run name caching) name array_in (run_replies caching) (IsScripted-run name caching) known mid holds.bytes (said s) holds.file holds.array kept script wants most src rest takes end out out_now written in
+                subst (λ s. Behaves (Run name caching) s (seen src out known) (seen rest out_now shelf)) (sym unsent.0)
+                (subst (λ f. Behaves (Run name caching) statuses.WriteFault (seen src out known) (seen rest out_now f)) (sym unsent.1) cut)
+          ]
         ]
 
     -- a reply was not written whole
-    pub Behaves-cut_run : (ns : List ℕ) (now : State (List Bool)) (src rest out out_now : Option (List ℕ)) → Halts ns now wants out out_now setting (session s.header.shape start (whole s.header.shape)) script
-        → Takes src rest script → IsAtEnd rest → Behaves (Run name caching) statuses.WriteFault (seen src out known) (seen rest out_now mid)
-    Behaves-cut_run ns now src rest out out_now stops takes end =
-        Behaves-cut_script (Run name caching) name array_in (run_replies caching) (IsScripted-run name caching) known mid holds.bytes (said s) holds.file holds.array kept script wants most src rest takes end
-        setting (session s.header.shape start (whole s.header.shape)) lines_are stops.session out out_now stops.at_line
+    pub Behaves-cut_run : (ns : List ℕ) (now : State (List Bool)) (ended : Status) (src rest out sent out_now : Option (List ℕ)) → Halts ns now wants out sent setting (session s.header.shape start (whole s.header.shape)) script
+        → Appends sent out_now [] → ended ≡ statuses.WriteFault → Takes src rest script → IsAtEnd rest → Behaves (Run name caching) ended (seen src out known) (seen rest out_now mid)
+    Behaves-cut_run ns now ended src rest out sent out_now stops stays is takes end =
+        subst (λ s. Behaves (Run name caching) s (seen src out known) (seen rest out_now mid)) (sym is)
+        (Behaves-stays (Run name caching) statuses.WriteFault (seen src out known) rest sent out_now mid stays
+        (Behaves-cut_script (Run name caching) name array_in (run_replies caching) (IsScripted-run name caching) known mid holds.bytes (said s) holds.file holds.array kept script wants most src rest takes end
+        setting (session s.header.shape start (whole s.header.shape)) lines_are stops.session out sent stops.at_line))

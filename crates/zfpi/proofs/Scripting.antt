@@ -10,7 +10,7 @@ use Rattle.zf_dev.specs.Source.{Takes, IsAtEnd, TakesMoreThan, TakesSome}
 use Rattle.zf_dev.specs.Sink.{Appends, AppendsFront}
 use Rattle.zf_dev.specs.declared.faults.TakeError.{TakeError}
 use Rattle.zf_dev.specs.declared.faults.TakeError.TheVariants as taking
-use Rattle.zf_dev.proofs.Appending.{AppendsFront-none, AppendsFront-more}
+use Rattle.zf_dev.proofs.Appending.{AppendsFront-none, AppendsFront-all, AppendsFront-more}
 use Rattle.zf_parse.specs.Parsing.{Said}
 use Rattle.zf_cached.specs.Replies.{reply_text}
 use Rattle.zf_cached.specs.Steps.{Setting, Session}
@@ -188,6 +188,27 @@ module _ (c : Command) (name : List ℕ) (reading : List ℕ → Result Said Sta
         Behaves-whole statuses.Done out out_now shelf tt (λ P p. p) refl (λ text draft all. all) (inl (ap lines_status refused ∙ status_is wants script most)) wanted written saved
     Behaves-lines (suc n) out out_now shelf refused wanted written saved =
         Behaves-whole (statuses.Lines (suc n)) out out_now shelf tt (λ P p. p) refl (λ text draft all. all) (inl (ap lines_status refused ∙ status_is wants script most)) wanted written saved
+
+    -- all its lines were run, and the replies were written but not handed on
+    pub Behaves-unsent : (out out_now : Option (List ℕ)) → Appends out out_now (replies_text (replies said wants script)) → Behaves c statuses.WriteFault (seen src out known) (seen rest out_now mid)
+    Behaves-unsent out out_now written =
+        let w = world_with known bytes script in
+        let text = replies_text (replies said wants script) in
+        record {
+          ends = tt;
+          world = w;
+          told = told_script out;
+          wants = wants;
+          wanted = is.wanted w wants statuses.WriteFault tt;
+          stated = inr (is.writes w runnable);
+          taken = script;
+          takes = takes;
+          extent = is.extent statuses.WriteFault script script refl;
+          raw = script;
+          raw_is = is.loading.plain statuses.WriteFault src script;
+          written = subst (AppendsFront out out_now) (text_is wants script script ∙ sym (is.draft w wants statuses.WriteFault script)) (AppendsFront-all out out_now text written);
+          saved = Saves-unsaved (saved_for c w wants) statuses.WriteFault known mid tt kept;
+        }
 
     -- a reply was not written whole
     module _ {Code : Type 0} (setting : Setting Code) (start : Session Code) (same : (run_lines setting wants 0 (lines_of script) start).1 ≡ replies said wants script) where

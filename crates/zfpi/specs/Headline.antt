@@ -93,6 +93,17 @@ pub record HasCauses (c : Command) (status : Status) (before now : Counts) (Load
   pub no_shelving : IsIdle ((uses c).loads || (uses c).saves) before.shelf now.shelf
   pub sure : Sure → (status ≢ ReadFault) × Still
 
+-- the whole work was done, but for the saving maybe
+abbrev pub IsWorkDone : Status → Type 0
+IsWorkDone Done = Unit {0}
+IsWorkDone (Lines n) = Unit {0}
+IsWorkDone SaveFault = Unit {0}
+IsWorkDone status = ⊥
+
+-- all that was written was handed on, unless the sink failed before the work was done
+abbrev pub IsSent : Status → Type 0 → Type 0 → Type 0
+IsSent status Quiet Sent = (IsWorkDone status ⊎ Quiet) → Sent
+
 -- a load from the shelf as it was before failed
 abbrev pub FailedLoad : {F : Type 0} → (F → F → Type 0) → (F → ℕ) → F → F → Type 0
 FailedLoad {F} loads faults before now = (mid : F) × loads before mid × Rose (faults before) (faults mid) × (faults mid ≤ faults now)

@@ -12,6 +12,7 @@
 --     World       what a call works on, and what is seen of its devices
 --     Answer      what each command does: one case for each command
 --     Loaded      what a command has loaded, and how a run is saved
+--     Sending     how what a command wrote is handed on
 --     Headline    what the program promises of every command
 pub mod Names
 pub mod Words
@@ -26,4 +27,5 @@ pub mod Certified
 pub mod World
 pub mod Answer
 pub mod Loaded
+pub mod Sending
 pub mod Headline

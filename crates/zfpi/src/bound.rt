@@ -1,6 +1,6 @@
 //! `bound`: how far the values of a stream are from whatever was stored in it, as a line.
 
-ghost use Rattle.std.specs.Prelude.{◌≡◌, ℕ, List, Option, IfOk, IfErr, OnOk};
+ghost use Rattle.std.specs.Prelude.{◌≡◌, ◌≢◌, ℕ, List, Option, IfOk, IfErr, OnOk};
 ghost use Rattle.zf_dev.specs.Shelf.{Files, KeepsFiles};
 ghost use Rattle.zf_header.specs.HeaderBits.{IsRate};
 ghost use Rattle.zf_index.specs.Files.{HasHeader, stream_fault};
@@ -36,6 +36,7 @@ pub fn bound<O: Sink, F: Shelf>(
     ensures causes { (src : ℕ) → HasCauses (Bound name.now most) result
         (counts src (O.faults out.old) (F.faults shelf.old)) (counts src (O.faults out.new) (F.faults shelf.new))
         (FailedLoad F.loads F.faults shelf.old shelf.new) (FailedSave F.saves F.faults shelf.old shelf.new) (Unit {0}) (Unit {0}) }
+    ensures sure_shelf { F.never_fails shelf.old → (result ≢ Status.LoadFault) × F.never_fails shelf.new }
 {
     match shelf.load(alloc, name.as_str(), MAX_FILE) {
         Ok(file) => bound_file(alloc, name, most, &file, out),

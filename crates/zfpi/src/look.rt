@@ -1,6 +1,6 @@
 //! `look`: a script that only reads, on the values of a stream.
 
-ghost use Rattle.std.specs.Prelude.{◌≡◌, ℕ, List, Option, ◌≤◌, length};
+ghost use Rattle.std.specs.Prelude.{◌≡◌, ◌≢◌, ℕ, List, Option, ◌≤◌, length};
 ghost use Rattle.zf_base.specs.Widths.{width_of};
 ghost use Rattle.zf_dev.specs.Shelf.{Files, KeepsFiles};
 ghost use Rattle.zf_dev.specs.Source.{Takes, IsAtEnd};
@@ -43,6 +43,7 @@ pub fn look<S: Source, O: Sink, F: Shelf>(
         (counts (S.faults src.new) (O.faults out.new) (F.faults shelf.new))
         (FailedLoad F.loads F.faults shelf.old shelf.new) (FailedSave F.saves F.faults shelf.old shelf.new)
         (S.never_fails src.old) (S.never_fails src.new) }
+    ensures sure_shelf { F.never_fails shelf.old → (result ≢ Status.LoadFault) × F.never_fails shelf.new }
 {
     match shelf.load(alloc, name.as_str(), MAX_FILE) {
         Ok(file) => look_file(alloc, name, lines, file, src, out),

@@ -1,6 +1,6 @@
 //! `new`: an array of zeros as a file.
 
-ghost use Rattle.std.specs.Prelude.{◌≡◌, ℕ, List, Option, length, IfOk};
+ghost use Rattle.std.specs.Prelude.{◌≡◌, ◌≢◌, ℕ, List, Option, length, IfOk};
 ghost use Rattle.zf_header.specs.declared.header.Mode.TheVariants.{Rate};
 ghost use Rattle.zf_header.specs.HeaderBits.{IsRate};
 ghost use Rattle.zf_store.specs.Stored.{file_of, zeros};
@@ -33,6 +33,7 @@ pub fn new<F: Shelf>(
     ensures causes { (src out : ℕ) → HasCauses (New name.now ty shape bits) result
         (counts src out (F.faults shelf.old)) (counts src out (F.faults shelf.new))
         (FailedLoad F.loads F.faults shelf.old shelf.new) (FailedSave F.saves F.faults shelf.old shelf.new) (Unit {0}) (Unit {0}) }
+    ensures sure_shelf { F.never_fails shelf.old → (result ≢ Status.LoadFault) × F.never_fails shelf.new }
 {
     match file_of_zeros(alloc, ty, shape, bits) {
         Ok(file) => match shelf.save(name.as_str(), &file) {

@@ -1,10 +1,11 @@
 //! The program as a whole: its words, its commands and its error line.
 
-ghost use Rattle.std.specs.Prelude.{◌≡◌, map, string_bytes};
+ghost use Rattle.std.specs.Prelude.{◌≡◌, ◌≢◌, map, string_bytes};
+ghost use Rattle.zf_dev.specs.Faults.{IsQuiet};
 ghost use Rattle.zfpi.specs.Statuses.{error_line};
 ghost use Rattle.zfpi.specs.World.{seen, counts};
 ghost use Rattle.zfpi.specs.Answer.{CanRun, IsPossible};
-ghost use Rattle.zfpi.specs.Headline.{OfCommand, OnUsage, RefusesWords, Behaves, HasCauses, FailedLoad, FailedSave, AreQuiet, IsComplete, GivesBack, Sends};
+ghost use Rattle.zfpi.specs.Headline.{OfCommand, OnUsage, RefusesWords, Behaves, HasCauses, IsSent, FailedLoad, FailedSave, AreQuiet, IsComplete, GivesBack, Sends};
 
 use crate::bound::bound;
 use crate::command::Command;
@@ -18,6 +19,7 @@ use crate::restore::restore;
 use crate::restore_narrow::restore_narrow;
 use crate::run::run;
 use crate::sample::sample;
+use crate::sending::send;
 use crate::status::Status;
 use crate::words::parse;
 use std::alloc::Global;
@@ -43,6 +45,9 @@ pub fn zfpi<S: Source, O: Sink, E: Sink, F: Shelf>(
         (counts (S.faults src.new) (O.faults out.new) (F.faults shelf.new))
         (FailedLoad F.loads F.faults shelf.old shelf.new) (FailedSave F.saves F.faults shelf.old shelf.new)
         (S.never_fails src.old) (S.never_fails src.new)) }
+    ensures sure_shelf { F.never_fails shelf.old → (result ≢ Status.LoadFault) × F.never_fails shelf.new }
+    // What was written was handed on where the work was done, and where the sink did not fail.
+    ensures sent { O.is_flushed out.old → IsSent result (IsQuiet (O.faults out.old) (O.faults out.new)) (O.is_flushed out.new) }
     ensures possible { OfCommand (map string_bytes words.now) (λ c. IsPossible c result) }
     ensures complete { AreQuiet
         (counts (S.faults src.old) (O.faults out.old) (F.faults shelf.old))
@@ -53,6 +58,7 @@ pub fn zfpi<S: Source, O: Sink, E: Sink, F: Shelf>(
         (seen (S.contents src.old) (O.contents out.old) (F.files shelf.old))
         (seen (S.contents src.new) (O.contents out.new) (F.files shelf.new)) }
     ensures message { Sends (error_line result) (E.contents err.old) (E.contents err.new) (E.faults err.old) (E.faults err.new) }
+    ensures message_sent { IsQuiet (E.faults err.old) (E.faults err.new) → E.is_flushed err.new }
 {
     let status = answer(alloc, words, src, out, shelf);
     report(&status, err);
@@ -77,6 +83,8 @@ fn answer<S: Source, O: Sink, F: Shelf>(
         (counts (S.faults src.new) (O.faults out.new) (F.faults shelf.new))
         (FailedLoad F.loads F.faults shelf.old shelf.new) (FailedSave F.saves F.faults shelf.old shelf.new)
         (S.never_fails src.old) (S.never_fails src.new)) }
+    ensures sure_shelf { F.never_fails shelf.old → (result ≢ Status.LoadFault) × F.never_fails shelf.new }
+    ensures sent { O.is_flushed out.old → IsSent result (IsQuiet (O.faults out.old) (O.faults out.new)) (O.is_flushed out.new) }
 {
     match parse(words) {
         Ok(command) => do_command(alloc, command, src, out, shelf),
@@ -101,30 +109,42 @@ fn do_command<S: Source, O: Sink, F: Shelf>(
         (counts (S.faults src.new) (O.faults out.new) (F.faults shelf.new))
         (FailedLoad F.loads F.faults shelf.old shelf.new) (FailedSave F.saves F.faults shelf.old shelf.new)
         (S.never_fails src.old) (S.never_fails src.new) }
+    ensures sure_shelf { F.never_fails shelf.old → (result ≢ Status.LoadFault) × F.never_fails shelf.new }
+    ensures sent { O.is_flushed out.old → IsSent result (IsQuiet (O.faults out.old) (O.faults out.new)) (O.is_flushed out.new) }
 {
     match command {
-        Command::Compress(header) => compress(alloc, header, src, out),
+        Command::Compress(header) => send(compress(alloc, header, src, out), out),
         Command::CompressNarrow(narrow, header) => {
-            compress_narrow(alloc, narrow, header, src, out)
+            send(compress_narrow(alloc, narrow, header, src, out), out)
         }
-        Command::Restore => restore(alloc, src, out),
-        Command::RestoreNarrow(narrow) => restore_narrow(alloc, narrow, src, out),
-        Command::Info => info(src, out),
+        Command::Restore => send(restore(alloc, src, out), out),
+        Command::RestoreNarrow(narrow) => send(restore_narrow(alloc, narrow, src, out), out),
+        Command::Info => send(info(src, out), out),
         Command::New {
             name,
             ty,
             shape,
             bits,
         } => new(alloc, &name, ty, shape, bits, shelf),
+        // It hands on what it wrote before it saves.
         Command::Run { name, caching } => run(alloc, &name, caching, src, out, shelf),
-        Command::Look { name, lines } => look(alloc, &name, lines, src, out, shelf),
-        Command::Bound { name, most } => bound(alloc, &name, most, out, shelf),
-        Command::Sample(header, seed) => sample(alloc, header, seed, out),
+        Command::Look { name, lines } => send(look(alloc, &name, lines, src, out, shelf), out),
+        Command::Bound { name, most } => send(bound(alloc, &name, most, out, shelf), out),
+        Command::Sample(header, seed) => send(sample(alloc, header, seed, out), out),
     }
 }
 
-// Sends the line of a status. A fault of the error output changes no status.
+// Sends the line of a status, and hands it on. A fault of the error output changes no status.
 fn report<E: Sink>(status: &Status, err: &mut E)
+    ensures message { Sends (error_line status.now) (E.contents err.old) (E.contents err.new) (E.faults err.old) (E.faults err.new) }
+    ensures sent { IsQuiet (E.faults err.old) (E.faults err.new) → E.is_flushed err.new }
+{
+    tell(status, err);
+    let _ = err.flush();
+}
+
+// Writes the line of a status.
+fn tell<E: Sink>(status: &Status, err: &mut E)
     ensures { Sends (error_line status.now) (E.contents err.old) (E.contents err.new) (E.faults err.old) (E.faults err.new) }
 {
     let _ = write_all(err, error_line(status).as_str().as_bytes());

@@ -1,7 +1,8 @@
 //! `run`: a script on the array of a file.
 
-ghost use Rattle.std.specs.Prelude.{◌≡◌, ℕ, List, Option, ◌≤◌, length};
+ghost use Rattle.std.specs.Prelude.{◌≡◌, ◌≢◌, ℕ, List, Option, ◌≤◌, length};
 ghost use Rattle.zf_base.specs.Widths.{width_of};
+ghost use Rattle.zf_dev.specs.Faults.{IsQuiet};
 ghost use Rattle.zf_dev.specs.Shelf.{Files, KeepsFiles};
 ghost use Rattle.zf_dev.specs.Source.{Takes, IsAtEnd};
 ghost use Rattle.zf_store.specs.Files.{HasHeader};
@@ -13,12 +14,13 @@ ghost use Rattle.zfpi.specs.World.{seen, counts};
 ghost use Rattle.zfpi.specs.Answer.{CanRun};
 ghost use Rattle.zfpi.specs.Scripts.{max_script};
 ghost use Rattle.zfpi.specs.Loaded.{HoldsFile, HoldsArray};
-ghost use Rattle.zfpi.specs.Headline.{Behaves, HasCauses, FailedLoad, FailedSave};
+ghost use Rattle.zfpi.specs.Headline.{Behaves, HasCauses, IsSent, FailedLoad, FailedSave};
 
 use crate::command::Caching;
 use crate::kinds::in_kind;
 use crate::name::Name;
 use crate::scripts::{MAX_SCRIPT, line_count, save};
+use crate::sending::send;
 use crate::status::Status;
 use crate::twoway;
 use std::alloc::Global;
@@ -29,7 +31,7 @@ use zf_header::{Header, MAX_FILE, Mode, mode_number};
 use zf_run::RunEnd;
 
 /// Loads the file of this name, which is an array, reads a script to its end and runs it, over the cache that `caching`
-/// says, writes the replies, and saves the array under the same name.
+/// says, hands the replies on, and saves the array under the same name.
 pub fn run<S: Source, O: Sink, F: Shelf>(
     alloc: Global,
     name: &Name,
@@ -47,6 +49,8 @@ pub fn run<S: Source, O: Sink, F: Shelf>(
         (counts (S.faults src.new) (O.faults out.new) (F.faults shelf.new))
         (FailedLoad F.loads F.faults shelf.old shelf.new) (FailedSave F.saves F.faults shelf.old shelf.new)
         (S.never_fails src.old) (S.never_fails src.new) }
+    ensures sent { O.is_flushed out.old → IsSent result (IsQuiet (O.faults out.old) (O.faults out.new)) (O.is_flushed out.new) }
+    ensures sure_shelf { F.never_fails shelf.old → (result ≢ Status.LoadFault) × F.never_fails shelf.new }
 {
     match shelf.load(alloc, name.as_str(), MAX_FILE) {
         Ok(file) => run_file(alloc, name, caching, file, src, out, shelf),
@@ -72,6 +76,8 @@ fn run_file<S: Source, O: Sink, F: Shelf>(
         (counts (S.faults src.old) (O.faults out.old) (F.faults shelf.old))
         (counts (S.faults src.new) (O.faults out.new) (F.faults shelf.new))
         ⊥ (FailedSave F.saves F.faults shelf.old shelf.new) (S.never_fails src.old) (S.never_fails src.new) }
+    ensures sent { O.is_flushed out.old → IsSent result (IsQuiet (O.faults out.old) (O.faults out.new)) (O.is_flushed out.new) }
+    ensures still { F.never_fails shelf.old → F.never_fails shelf.new }
 {
     match zf_header::read(&file) {
         Ok((header, _)) => match header.mode {
@@ -102,6 +108,8 @@ fn run_over<S: Source, O: Sink, F: Shelf>(
         (counts (S.faults src.old) (O.faults out.old) (F.faults shelf.old))
         (counts (S.faults src.new) (O.faults out.new) (F.faults shelf.new))
         ⊥ (FailedSave F.saves F.faults shelf.old shelf.new) (S.never_fails src.old) (S.never_fails src.new) }
+    ensures sent { O.is_flushed out.old → IsSent result (IsQuiet (O.faults out.old) (O.faults out.new)) (O.is_flushed out.new) }
+    ensures still { F.never_fails shelf.old → F.never_fails shelf.new }
 {
     match caching {
         Caching::Direct(lines) => run_typed(alloc, name, lines, header, file, src, out, shelf),
@@ -131,6 +139,8 @@ fn run_typed<S: Source, O: Sink, F: Shelf>(
         (counts (S.faults src.old) (O.faults out.old) (F.faults shelf.old))
         (counts (S.faults src.new) (O.faults out.new) (F.faults shelf.new))
         ⊥ (FailedSave F.saves F.faults shelf.old shelf.new) (S.never_fails src.old) (S.never_fails src.new) }
+    ensures sent { O.is_flushed out.old → IsSent result (IsQuiet (O.faults out.old) (O.faults out.new)) (O.is_flushed out.new) }
+    ensures still { F.never_fails shelf.old → F.never_fails shelf.new }
 {
     in_kind!(
         header.ty,
@@ -163,6 +173,8 @@ fn run_array<T: Lane, const D: usize, S: Source, O: Sink, F: Shelf>(
         (counts (S.faults src.old) (O.faults out.old) (F.faults shelf.old))
         (counts (S.faults src.new) (O.faults out.new) (F.faults shelf.new))
         ⊥ (FailedSave F.saves F.faults shelf.old shelf.new) (S.never_fails src.old) (S.never_fails src.new) }
+    ensures sent { O.is_flushed out.old → IsSent result (IsQuiet (O.faults out.old) (O.faults out.new)) (O.is_flushed out.new) }
+    ensures still { F.never_fails shelf.old → F.never_fails shelf.new }
 {
     let count = line_count(lines, &header.shape);
     match Array::<T, D>::from_file(alloc, header, file, count) {
@@ -188,6 +200,8 @@ fn run_script<T: Lane, const D: usize, S: Source, O: Sink, F: Shelf>(
         (counts (S.faults src.old) (O.faults out.old) (F.faults shelf.old))
         (counts (S.faults src.new) (O.faults out.new) (F.faults shelf.new))
         ⊥ (FailedSave F.saves F.faults shelf.old shelf.new) (S.never_fails src.old) (S.never_fails src.new) }
+    ensures sent { O.is_flushed out.old → IsSent result (IsQuiet (O.faults out.old) (O.faults out.new)) (O.is_flushed out.new) }
+    ensures still { F.never_fails shelf.old → F.never_fails shelf.new }
 {
     match take_all(alloc, src, MAX_SCRIPT) {
         Ok(script) => run_lines(alloc, name, array, &script, out, shelf),
@@ -195,7 +209,7 @@ fn run_script<T: Lane, const D: usize, S: Source, O: Sink, F: Shelf>(
     }
 }
 
-// Runs a script on an array, and saves it.
+// Runs a script on an array, hands the replies on, and saves it.
 fn run_lines<T: Lane, const D: usize, O: Sink, F: Shelf>(
     alloc: Global,
     name: &Name,
@@ -212,11 +226,13 @@ fn run_lines<T: Lane, const D: usize, O: Sink, F: Shelf>(
     ensures causes { (lines : Option ℕ) (src : ℕ) → HasCauses (Run name.now (Direct lines)) result
         (counts src (O.faults out.old) (F.faults shelf.old)) (counts src (O.faults out.new) (F.faults shelf.new))
         ⊥ (FailedSave F.saves F.faults shelf.old shelf.new) (Unit {0}) (Unit {0}) }
+    ensures sent { IsSent result (IsQuiet (O.faults out.old) (O.faults out.new)) (O.is_flushed out.new) }
+    ensures still { F.never_fails shelf.old → F.never_fails shelf.new }
 {
     let mut array = array;
     match zf_run::run(alloc, &mut array, script, out) {
-        RunEnd::Done => save(name, array.save_bytes(), Status::Done, shelf),
-        RunEnd::Lines(count) => save(name, array.save_bytes(), Status::Lines(count), shelf),
-        RunEnd::Write => Status::WriteFault,
+        RunEnd::Done => save(name, array.save_bytes(), Status::Done, out, shelf),
+        RunEnd::Lines(count) => save(name, array.save_bytes(), Status::Lines(count), out, shelf),
+        RunEnd::Write => send(Status::WriteFault, out),
     }
 }

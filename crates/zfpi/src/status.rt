@@ -1,8 +1,9 @@
 //! How the program ends.
 
-ghost use Rattle.std.specs.Prelude.{◌≡◌};
+ghost use Rattle.std.specs.Prelude.{◌≡◌, ◌↔◌, IsTrue};
 ghost use Rattle.zfpi.specs.Faults.{fault_status, narrow_status, load_status, store_status, index_status, take_status};
 ghost use Rattle.zfpi.specs.Statuses.{code_of};
+ghost use Rattle.zfpi.specs.Sending.{IsDone};
 
 use zf_dev::{LoadError, TakeError};
 use zf_header::HeaderFault;
@@ -76,6 +77,16 @@ impl Status {
             Status::LoadFault | Status::SaveFault => 12,
             Status::NotNarrow => 13,
             Status::Memory => 20,
+        }
+    }
+
+    /// Whether the whole work was done.
+    pub fn is_done(&self) -> bool
+        ensures { IsTrue result ↔ IsDone self.now }
+    {
+        match *self {
+            Status::Done | Status::Lines(_) => true,
+            _ => false,
         }
     }
 }

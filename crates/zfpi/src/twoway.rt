@@ -1,8 +1,10 @@
 //! `run` over a two-way cache: a script on the codes of a file.
 
-ghost use Rattle.std.specs.Prelude.{◌≡◌, ℕ, List, Option, Some, ◌≤◌, length, vec_len, IfOk, IfErr};
+ghost use Rattle.std.specs.Prelude.{◌≡◌, ℕ, List, [], Option, Some, ◌≤◌, length, vec_len, IfOk, IfErr};
 ghost use Rattle.zf_base.specs.Widths.{width_of};
+ghost use Rattle.zf_dev.specs.Faults.{Rose, IsQuiet};
 ghost use Rattle.zf_dev.specs.Shelf.{Files, KeepsFiles};
+ghost use Rattle.zf_dev.specs.Sink.{Appends};
 ghost use Rattle.zf_dev.specs.Source.{Takes, IsAtEnd};
 ghost use Rattle.zf_header.specs.HeaderBits.{block_bits, rate_bytes_of};
 ghost use Rattle.zf_parse.specs.Parsing.{parse};
@@ -19,11 +21,12 @@ ghost use Rattle.zfpi.specs.Words.{IsLines};
 ghost use Rattle.zfpi.specs.World.{seen, counts};
 ghost use Rattle.zfpi.specs.Scripts.{max_script};
 ghost use Rattle.zfpi.specs.Loaded.{HoldsFile, HoldsArray, SavesOrFails};
-ghost use Rattle.zfpi.specs.Headline.{Behaves, HasCauses, FailedSave};
+ghost use Rattle.zfpi.specs.Headline.{Behaves, HasCauses, IsSent, FailedSave};
 
 use crate::kinds::in_kind;
 use crate::name::Name;
 use crate::scripts::{MAX_SCRIPT, save};
+use crate::sending::send;
 use crate::status::Status;
 use std::alloc::Global;
 use zf_base::{Lane, Ty};
@@ -63,6 +66,8 @@ pub fn run_typed<S: Source, O: Sink, F: Shelf>(
         (counts (S.faults src.old) (O.faults out.old) (F.faults shelf.old))
         (counts (S.faults src.new) (O.faults out.new) (F.faults shelf.new))
         ⊥ (FailedSave F.saves F.faults shelf.old shelf.new) (S.never_fails src.old) (S.never_fails src.new) }
+    ensures sent { O.is_flushed out.old → IsSent result (IsQuiet (O.faults out.old) (O.faults out.new)) (O.is_flushed out.new) }
+    ensures still { F.never_fails shelf.old → F.never_fails shelf.new }
 {
     in_kind!(
         header.ty,
@@ -95,6 +100,8 @@ fn run_opened<T: Lane, const D: usize, S: Source, O: Sink, F: Shelf>(
         (counts (S.faults src.old) (O.faults out.old) (F.faults shelf.old))
         (counts (S.faults src.new) (O.faults out.new) (F.faults shelf.new))
         ⊥ (FailedSave F.saves F.faults shelf.old shelf.new) (S.never_fails src.old) (S.never_fails src.new) }
+    ensures sent { O.is_flushed out.old → IsSent result (IsQuiet (O.faults out.old) (O.faults out.new)) (O.is_flushed out.new) }
+    ensures still { F.never_fails shelf.old → F.never_fails shelf.new }
 {
     match open::<T, D>(alloc, header, file, lines) {
         Ok(opened) => run_script(alloc, name, opened, src, out, shelf),
@@ -147,6 +154,8 @@ fn run_script<T: Lane, const D: usize, S: Source, O: Sink, F: Shelf>(
         (counts (S.faults src.old) (O.faults out.old) (F.faults shelf.old))
         (counts (S.faults src.new) (O.faults out.new) (F.faults shelf.new))
         ⊥ (FailedSave F.saves F.faults shelf.old shelf.new) (S.never_fails src.old) (S.never_fails src.new) }
+    ensures sent { O.is_flushed out.old → IsSent result (IsQuiet (O.faults out.old) (O.faults out.new)) (O.is_flushed out.new) }
+    ensures still { F.never_fails shelf.old → F.never_fails shelf.new }
 {
     match take_all(alloc, src, MAX_SCRIPT) {
         Ok(script) => run_lines(name, opened, &script, out, shelf),
@@ -154,7 +163,7 @@ fn run_script<T: Lane, const D: usize, S: Source, O: Sink, F: Shelf>(
     }
 }
 
-// Runs a script on what was opened, and saves it.
+// Runs a script on what was opened, hands the replies on, and saves it.
 fn run_lines<T: Lane, const D: usize, O: Sink, F: Shelf>(
     name: &Name,
     opened: Opened<T, D>,
@@ -173,6 +182,8 @@ fn run_lines<T: Lane, const D: usize, O: Sink, F: Shelf>(
     ensures causes { (lines : ℕ) (src : ℕ) → HasCauses (Run name.now (TwoWays lines)) result
         (counts src (O.faults out.old) (F.faults shelf.old)) (counts src (O.faults out.new) (F.faults shelf.new))
         ⊥ (FailedSave F.saves F.faults shelf.old shelf.new) (Unit {0}) (Unit {0}) }
+    ensures sent { IsSent result (IsQuiet (O.faults out.old) (O.faults out.new)) (O.is_flushed out.new) }
+    ensures still { F.never_fails shelf.old → F.never_fails shelf.new }
 {
     let Opened {
         mut store,
@@ -180,29 +191,35 @@ fn run_lines<T: Lane, const D: usize, O: Sink, F: Shelf>(
         file,
     } = opened;
     match zf_run::run_two(&mut store, &mut cache, script, out) {
-        RunEnd::Done => save_store(name, &store, file, Status::Done, shelf),
-        RunEnd::Lines(count) => save_store(name, &store, file, Status::Lines(count), shelf),
-        RunEnd::Write => Status::WriteFault,
+        RunEnd::Done => save_store(name, &store, file, Status::Done, out, shelf),
+        RunEnd::Lines(count) => save_store(name, &store, file, Status::Lines(count), out, shelf),
+        RunEnd::Write => send(Status::WriteFault, out),
     }
 }
 
-// Saves the file of the codes, from bytes that are as many; the status is this one, unless the save fails.
-fn save_store<T: Lane, const D: usize, F: Shelf>(
+// Hands on what was written and saves the file of the codes, from bytes that are as many; the status is this one, unless one
+// of both fails.
+fn save_store<T: Lane, const D: usize, O: Sink, F: Shelf>(
     name: &Name,
     store: &Store<T, D>,
     file: Vec<u8>,
     status: Status,
+    out: &mut O,
     shelf: &mut F,
 ) -> Status
     requires room { vec_len file ≡ rate_bytes_of store.now.header }
     ensures saved { SavesOrFails (F.files shelf.old) (F.files shelf.new) name.now (file_of store.now) status result
-        (FailedSave F.saves F.faults shelf.old shelf.new) }
+        (Rose (O.faults out.old) (O.faults out.new)) (FailedSave F.saves F.faults shelf.old shelf.new) }
     ensures whole { IsStore T.width D store.now }
     ensures kept { F.faults shelf.old ≤ F.faults shelf.new }
+    ensures still { F.never_fails shelf.old → F.never_fails shelf.new }
+    ensures stays { Appends (O.contents out.old) (O.contents out.new) [] }
+    ensures out_kept { O.faults out.old ≤ O.faults out.new }
+    ensures sent { IsSent result (IsQuiet (O.faults out.old) (O.faults out.new)) (O.is_flushed out.new) }
 {
     let mut file = file;
     // Known by this call: what holds of a store.
     let _header = store.header();
     store.write_file(&mut file);
-    save(name, &file, status, shelf)
+    save(name, &file, status, out, shelf)
 }

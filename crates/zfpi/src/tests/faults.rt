@@ -27,7 +27,7 @@ macro_rules! rows {
 }
 
 // Devices of which one call fails.
-const FAULTS: [(Devices, Row); 18] = rows! {
+const FAULTS: [(Devices, Row); 23] = rows! {
     Devices { read: 0, ..WHOLE }, ZEROS, "run a lines 1", b"set 0 1\nget 0\nflush\nget 0\nstats\n" =>
         Status::ReadFault, b"", b"zfpi: read fault\n";
     Devices { write: 1, ..WHOLE }, ZEROS, "run a lines 1", b"set 0 1\nget 0\nflush\nget 0\nstats\n" =>
@@ -62,6 +62,17 @@ const FAULTS: [(Devices, Row); 18] = rows! {
     Devices { piece: 4, error: 2, ..WHOLE }, b"", "", b"" => Status::Usage(0), b"", b"zfpi: us";
     Devices { write: 0, ..WHOLE }, OTHER, "compress int32 1 reversible", b"\0\0\0\0" =>
         Status::WriteFault, b"", b"zfpi: write fault\n";
+    // All is written, and the call behind that hands it on fails.
+    Devices { write: 3, ..WHOLE }, ZEROS, "run a lines 1", b"set 0 1\nget 0\nflush\nget 0\nstats\n" =>
+        Status::WriteFault, b"1\n0\nhits 1 misses 2 writes 1\n", b"zfpi: write fault\n";
+    Devices { write: 2, ..WHOLE }, SIXTEEN, "run a twoway 1", b"set 4 1\nget 0\nget 4\n" =>
+        Status::WriteFault, b"0\n0\n", b"zfpi: write fault\n";
+    Devices { write: 1, ..WHOLE }, TWO, "look a", b"get 0\n" => Status::WriteFault, b"1\n",
+        b"zfpi: write fault\n";
+    Devices { write: 1, ..WHOLE }, OTHER, "restore", b"zfp\x05\0\0\0\0\0\0\0\x88\x1f\0\0\0\x30\0\0\0\0\0\0\0" =>
+        Status::WriteFault, b"\x01\0\0\0", b"zfpi: write fault\n";
+    Devices { write: 1, ..WHOLE }, OTHER, "restore", b"zfp\x05\0\0\0\0\0\0\0\x88\x1f\0\0\0\x30\0\0\0\0\0\0" =>
+        Status::Truncated(1), b"\x01\0\0\0", b"zfpi: stream ends in block 1\n";
 };
 
 #[test]

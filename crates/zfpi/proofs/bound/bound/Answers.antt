@@ -5,6 +5,7 @@ use Rattle.zfpi.specs.Loaded.{HoldsFile}
 use Rattle.zfpi.proofs.Causes.{HasCauses-after_load, HasCauses-more, HasCauses-unloaded}
 use Rattle.zfpi.proofs.Loading.{Behaves-unloaded}
 use Rattle.zfpi.proofs.Certifying.{IsLoading-bound}
+use Rattle.zfpi.proofs.Sending.{unloaded, unloaded_status}
 use Rattle.zfpi.proofs.bound.bound.Goals as goal
 
 pub returns-in-Ok-clause-behaves : goal.returns-in-Ok-clause-behaves
@@ -29,3 +30,11 @@ pub returns-in-Err-clause-causes : goal.returns-in-Err-clause-causes
 returns-in-Err-clause-causes g c = λ src.
     rw c.from.ensures (HasCauses-unloaded (Bound c.args.name.now c.args.most) g.F.Shelf.loads g.F.Shelf.faults c.args.shelf.now c.load.new.self c.in-Err.error _ _ tt c.load.ensures.step
     (c.in-Err.ensures.cause.0, λ is. c.in-Err.ensures.cause.1 (ap Err is)))
+
+pub returns-in-Ok-clause-sure_shelf : goal.returns-in-Ok-clause-sure_shelf
+returns-in-Ok-clause-sure_shelf g c = λ sure. (unloaded c.bound_file.result (c.bound_file.ensures.causes 0 0).shelving, (c.load.ensures.sure sure).1)
+
+pub returns-in-Err-clause-sure_shelf : goal.returns-in-Err-clause-sure_shelf
+returns-in-Err-clause-sure_shelf g c = λ sure.
+    let loaded = c.in-Err.ensures.sure sure in
+    rw c.from.ensures (unloaded_status c.in-Err.error (λ is. loaded.0 (ap Err is)), loaded.1)

@@ -4,6 +4,7 @@ use Rattle.zfpi.specs.Opened.{stream_in}
 use Rattle.zfpi.proofs.Causes.{HasCauses-after_load, HasCauses-more, HasCauses-unloaded}
 use Rattle.zfpi.proofs.Loading.{Behaves-unloaded}
 use Rattle.zfpi.proofs.Scripting.{IsScripted-look}
+use Rattle.zfpi.proofs.Sending.{unloaded, unloaded_status}
 use Rattle.zfpi.proofs.look.look.Goals as goal
 
 pub returns-in-Ok-clause-behaves : goal.returns-in-Ok-clause-behaves
@@ -26,3 +27,11 @@ pub returns-in-Err-clause-causes : goal.returns-in-Err-clause-causes
 returns-in-Err-clause-causes g c =
     rw c.from.ensures (HasCauses-unloaded (Look c.args.name.now c.args.lines) g.F.Shelf.loads g.F.Shelf.faults c.args.shelf.now c.load.new.self c.in-Err.error _ _ tt c.load.ensures.step
     (c.in-Err.ensures.cause.0, λ is. c.in-Err.ensures.cause.1 (ap Err is)))
+
+pub returns-in-Ok-clause-sure_shelf : goal.returns-in-Ok-clause-sure_shelf
+returns-in-Ok-clause-sure_shelf g c = λ sure. (unloaded c.look_file.result (c.look_file.ensures.causes 0).shelving, (c.load.ensures.sure sure).1)
+
+pub returns-in-Err-clause-sure_shelf : goal.returns-in-Err-clause-sure_shelf
+returns-in-Err-clause-sure_shelf g c = λ sure.
+    let loaded = c.in-Err.ensures.sure sure in
+    rw c.from.ensures (unloaded_status c.in-Err.error (λ is. loaded.0 (ap Err is)), loaded.1)

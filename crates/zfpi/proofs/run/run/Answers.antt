@@ -4,6 +4,7 @@ use Rattle.zfpi.specs.declared.command.Command.TheVariants.{Run}
 use Rattle.zfpi.specs.Opened.{array_in}
 use Rattle.zfpi.proofs.Loading.{Behaves-unloaded}
 use Rattle.zfpi.proofs.Scripting.{IsScripted-run}
+use Rattle.zfpi.proofs.Sending.{unloaded, unloaded_status}
 use Rattle.zfpi.proofs.run.run.Goals as goal
 
 pub returns-in-Ok-clause-behaves : goal.returns-in-Ok-clause-behaves
@@ -25,3 +26,11 @@ pub returns-in-Err-clause-causes : goal.returns-in-Err-clause-causes
 returns-in-Err-clause-causes g c =
     rw c.from.ensures (HasCauses-unloaded (Run c.args.name.now c.args.caching) g.F.Shelf.loads g.F.Shelf.faults c.args.shelf.now c.load.new.self c.in-Err.error _ _ tt c.load.ensures.step
     (c.in-Err.ensures.cause.0, λ is. c.in-Err.ensures.cause.1 (ap Err is)))
+
+pub returns-in-Ok-clause-sure_shelf : goal.returns-in-Ok-clause-sure_shelf
+returns-in-Ok-clause-sure_shelf g c = λ sure. (unloaded c.run_file.result c.run_file.ensures.causes.shelving, c.run_file.ensures.still (c.load.ensures.sure sure).1)
+
+pub returns-in-Err-clause-sure_shelf : goal.returns-in-Err-clause-sure_shelf
+returns-in-Err-clause-sure_shelf g c = λ sure.
+    let loaded = c.in-Err.ensures.sure sure in
+    rw c.from.ensures (unloaded_status c.in-Err.error (λ is. loaded.0 (ap Err is)), loaded.1)

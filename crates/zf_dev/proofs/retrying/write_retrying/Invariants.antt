@@ -1,6 +1,6 @@
 use Rattle.std.proofs.Common.{[]}
 use Rattle.zf_dev.specs.Sink.{Appends}
-use Rattle.zf_dev.proofs.real.write_retrying.Given as goal
+use Rattle.zf_dev.proofs.retrying.write_retrying.Given as goal
 
 abbrev pub invariant-loop : goal.invariant-loop
 invariant-loop g l = record {

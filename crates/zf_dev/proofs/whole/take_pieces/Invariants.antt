@@ -1,6 +1,6 @@
 use Rattle.std.proofs.Common.{◌≡◌, ◌+◌, length}
 use Rattle.zf_dev.specs.Source.{Takes}
-use Rattle.zf_dev.proofs.whole.take_all.Given as goal
+use Rattle.zf_dev.proofs.whole.take_pieces.Given as goal
 
 abbrev pub invariant-loop-count : goal.invariant-loop-count
 invariant-loop-count g l = record {

@@ -1,0 +1,315 @@
+-- What a command wrote is handed on once it has ended: what stays of what is known of it, and what a fault makes of it.
+use Rattle.std.proofs.Common.{◌≡◌, ◌≢◌, ℕ, ◌≤◌, cond, ltb, Bool, true, false, List, [], length, take, ◌⊎◌, inl, inr, Option, Some, None, Result, Ok, Err, IsOk, IsErr, refl, ap, sym, subst, ◌∙◌, append-nil, arith}
+use Rattle.std.specs.Prelude.{OnOk}
+use Rattle.std.proofs.lemmas.Bool.{ltb-false}
+use Rattle.std.proofs.Math.Seq.{take-length}
+use Rattle.zf_dev.specs.Faults.{Rose, IsQuiet, HasCause}
+use Rattle.zf_dev.specs.declared.faults.Failed.{Failed}
+use Rattle.zf_dev.specs.declared.faults.LoadError.{LoadError}
+use Rattle.zf_dev.specs.declared.faults.LoadError.TheVariants as loading
+use Rattle.zf_dev.specs.Shelf.{Files}
+use Rattle.zf_dev.specs.Sink.{Appends, AppendsFront}
+use Rattle.zf_dev.proofs.Appending.{Appends-append, AppendsFront-all}
+use Rattle.zf_parse.specs.Raw.{stream_text}
+use Rattle.zf_parse.specs.Parsing.{Said, restored_text}
+use Rattle.zf_narrow.specs.declared.narrow.Narrow.{Narrow}
+use Rattle.zf_narrow.specs.Texts.{narrow_restored, ArePromoted, ArePromotedNearly}
+use Rattle.zfpi.specs.declared.status.Status.{Status}
+use Rattle.zfpi.specs.declared.status.Status.TheVariants.{Done, Lines, ReadFault, WriteFault, LoadFault, SaveFault}
+use Rattle.zfpi.specs.declared.status.Status.TheVariants as statuses
+use Rattle.zfpi.specs.declared.command.Caching.{Caching}
+use Rattle.zfpi.specs.declared.command.Command.{Command}
+use Rattle.zfpi.specs.declared.command.Command.TheVariants.{Compress, CompressNarrow, Restore, RestoreNarrow, Info, New, Run, Look, Bound, Sample}
+use Rattle.zfpi.specs.Faults.{load_status}
+use Rattle.zfpi.specs.Info.{info_text}
+use Rattle.zfpi.specs.Opened.{array_in, stream_in, opened}
+use Rattle.zfpi.specs.Scripts.{Answering, look_replies, lines_status, script_status}
+use Rattle.zfpi.specs.Certified.{certified_status}
+use Rattle.zfpi.specs.World.{World, Seen, seen, counts}
+use Rattle.zfpi.specs.Answer.{uses, IsRunnable, MayWrite, HasWants, IsExtent, IsRaw, IsPossible, text_for, draft_for, saved_for, status_for}
+use Rattle.zfpi.specs.Loaded.{SavesOrFails}
+use Rattle.zfpi.specs.Sending.{IsDone, EndsSent, HandsOn}
+use Rattle.zfpi.specs.Headline.{IsWorkDone, IsSent, Writes, Saves, Behaves, HasCauses, IsCausedOnShelf, IsIdle, Sends}
+use Rattle.zfpi.proofs.Loading.{ComesFirst, by_first}
+use Rattle.zfpi.proofs.Promises.{IsRefusal, opened_first_array, opened_first_stream, IsPossible-behaves}
+
+-- ---- what was written stays what it was
+
+pub Appends-stays : (before mid now : Option (List ℕ)) (text : List ℕ) → Appends before mid text → Appends mid now [] → Appends before now text
+Appends-stays before mid now text written stays = subst (Appends before now) (append-nil text) (Appends-append before mid now text [] written stays)
+
+front_stays : (before mid now : Option (List ℕ)) (text : List ℕ) → AppendsFront before mid text → Appends mid now [] → AppendsFront before now text
+front_stays before mid now text front stays = (front.0, front.1, Appends-stays before mid now (take front.0 text) front.2 stays)
+
+Writes-stays : (status : Status) (text draft : List ℕ) (before mid now : Option (List ℕ)) → Appends mid now [] → Writes status text draft before mid → Writes status text draft before now
+Writes-stays Done text draft before mid now stays written = Appends-stays before mid now text written stays
+Writes-stays (Lines n) text draft before mid now stays written = Appends-stays before mid now text written stays
+Writes-stays SaveFault text draft before mid now stays written = Appends-stays before mid now text written stays
+Writes-stays status text draft before mid now stays written = front_stays before mid now draft written stays
+
+pub Behaves-stays : (c : Command) (status : Status) (before : Seen) (src mid now : Option (List ℕ)) (shelf : Option Files) → Appends mid now [] → Behaves c status before (seen src mid shelf) → Behaves c status before (seen src now shelf)
+Behaves-stays c status before src mid now shelf stays b = record {
+  ends = b.ends;
+  world = b.world;
+  told = b.told;
+  wants = b.wants;
+  wanted = b.wanted;
+  stated = b.stated;
+  taken = b.taken;
+  takes = b.takes;
+  extent = b.extent;
+  raw = b.raw;
+  raw_is = b.raw_is;
+  written = Writes-stays status (text_for c b.world b.wants b.raw) (draft_for c status b.world b.wants b.raw) before.out mid now stays b.written;
+  saved = b.saved;
+}
+
+-- ---- commands that save nothing may end with a fault of the sink where their work was done
+
+abbrev pub SavesNothing : Command → Type 0
+SavesNothing (New name ty ns b) = ⊥
+SavesNothing (Run name caching) = ⊥
+SavesNothing c = Unit {0}
+
+-- a file that was opened so is open where the work was done
+first_undone : (status : Status) → ComesFirst status → IsDone status → ⊥
+first_undone = by_first (λ s. IsDone s → ⊥) (λ no. no) (λ no. no) (λ no. no) (λ f no. no) (λ b no. no) (λ no. no) (λ no. no) (λ no. no) (λ m no. no)
+
+certified_done : (file : Result Said Status) (status : Status) → IsRefusal ComesFirst file → IsDone status → status ≡ certified_status file → IsOk file
+unfolding IsRefusal
+certified_done (Ok said) status refusal done same = refl
+certified_done (Err e) status refusal done same = absurd (first_undone e refusal (subst IsDone same done))
+
+short_done : (is_long : Bool) (n m : ℕ) (status : Status) → ltb 16777216 m ≡ is_long → IsDone status → status ≡ cond is_long statuses.ScriptLong (lines_status n) → m ≤ 16777216
+short_done true n m status long done same = absurd (subst IsDone same done)
+short_done false n m status long done same = ltb-false 16777216 m long
+
+script_done : (replies : Answering) (file : Result Said Status) (wants script : List ℕ) (status : Status) → IsRefusal ComesFirst file → IsDone status → status ≡ script_status replies file wants script → IsOk file × (length script ≤ 16777216)
+unfolding IsRefusal
+script_done replies (Ok said) wants script status refusal done same = (refl, short_done (ltb 16777216 (length script)) _ (length script) status refl done same)
+script_done replies (Err e) wants script status refusal done same = absurd (first_undone e refusal (subst IsDone same done))
+
+-- a write fault in the place of a status, with all that was written
+instead : (c : Command) (status : Status) (before now : Seen) (b : Behaves c status before now) → MayWrite c b.world → HasWants c WriteFault b.world b.wants → IsExtent c WriteFault b.world.input b.taken → IsRaw c WriteFault before.src b.taken b.raw
+    → Appends before.out now.out (draft_for c WriteFault b.world b.wants b.raw) → Saves (saved_for c b.world b.wants) WriteFault before.shelf now.shelf → Behaves c WriteFault before now
+instead c status before now b may wanted extent raw_is written saved = record {
+  ends = tt;
+  world = b.world;
+  told = b.told;
+  wants = b.wants;
+  wanted = wanted;
+  stated = inr may;
+  taken = b.taken;
+  takes = b.takes;
+  extent = extent;
+  raw = b.raw;
+  raw_is = raw_is;
+  written = AppendsFront-all before.out now.out (draft_for c WriteFault b.world b.wants b.raw) written;
+  saved = saved;
+}
+
+-- all bytes of narrow values are all but three at most
+nearly : (n : Narrow) (src : Option (List ℕ)) (bytes raw : List ℕ) → ArePromoted n src bytes raw → ArePromotedNearly n src bytes raw
+nearly n None bytes raw are = tt
+nearly n (Some told) bytes raw are = (sym (take-length raw) ∙ ap (take (length raw)) are, omega (arith, ap length are))
+
+-- the status was stated, since no work that was done comes from outside
+stated_done : (c : Command) (status : Status) (before now : Seen) → IsDone status → (b : Behaves c status before now) → status ≡ status_for c b.world b.wants
+stated_done c Done before now done b = elim b.stated [ inl same ↦ same | inr may ↦ absurd may ]
+stated_done c (Lines n) before now done b = elim b.stated [ inl same ↦ same | inr may ↦ absurd may ]
+stated_done c status before now done b = absurd done
+
+unsent : (c : Command) (status : Status) (before now : Seen) → SavesNothing c → IsDone status → Behaves c status before now → Behaves c WriteFault before now
+unsent (Compress h) Done before now unsaved done b = instead (Compress h) Done before now b tt b.wanted tt b.raw_is (subst (λ bytes. Appends before.out now.out (stream_text h bytes)) (sym (b.raw_is ∙ b.extent)) b.written) b.saved
+unsent (CompressNarrow n h) Done before now unsaved done b = instead (CompressNarrow n h) Done before now b tt b.wanted tt (nearly n before.src b.taken b.raw b.raw_is) b.written b.saved
+unsent Restore Done before now unsaved done b = instead Restore Done before now b tt b.wanted tt b.raw_is (subst (λ bytes. Appends before.out now.out (restored_text bytes)) (sym (b.raw_is ∙ b.extent)) b.written) b.saved
+unsent (RestoreNarrow n) Done before now unsaved done b = instead (RestoreNarrow n) Done before now b tt b.wanted tt b.raw_is (subst (λ bytes. Appends before.out now.out (narrow_restored n bytes)) (sym (b.raw_is ∙ b.extent)) b.written) b.saved
+unsent Info Done before now unsaved done b = instead Info Done before now b tt b.wanted b.extent b.raw_is (subst (λ bytes. Appends before.out now.out (info_text bytes)) (sym (b.raw_is ∙ b.extent)) b.written) b.saved
+unsent (Look name lines) Done before now unsaved done b =
+    let file = opened stream_in (b.world.files name) in
+    let may = script_done (look_replies lines) file b.wants b.world.input Done (opened_first_stream (b.world.files name)) tt (stated_done (Look name lines) Done before now tt b) in
+    instead (Look name lines) Done before now b may tt b.extent b.raw_is b.written b.saved
+unsent (Look name lines) (Lines n) before now unsaved done b =
+    let file = opened stream_in (b.world.files name) in
+    let may = script_done (look_replies lines) file b.wants b.world.input (Lines n) (opened_first_stream (b.world.files name)) tt (stated_done (Look name lines) (Lines n) before now tt b) in
+    instead (Look name lines) (Lines n) before now b may tt b.extent b.raw_is b.written b.saved
+unsent (Bound name most) Done before now unsaved done b =
+    let may = certified_done (opened array_in (b.world.files name)) Done (opened_first_array (b.world.files name)) tt (stated_done (Bound name most) Done before now tt b) in
+    instead (Bound name most) Done before now b may b.wanted b.extent b.raw_is b.written b.saved
+unsent (Sample h seed) Done before now unsaved done b = instead (Sample h seed) Done before now b tt b.wanted b.extent b.raw_is b.written b.saved
+unsent (New name ty ns bits) status before now unsaved done b = absurd unsaved
+unsent (Run name caching) status before now unsaved done b = absurd unsaved
+unsent (Compress h) (Lines n) before now unsaved done b = absurd (IsPossible-behaves (Compress h) (Lines n) before now b)
+unsent (CompressNarrow k h) (Lines n) before now unsaved done b = absurd (IsPossible-behaves (CompressNarrow k h) (Lines n) before now b)
+unsent Restore (Lines n) before now unsaved done b = absurd (IsPossible-behaves Restore (Lines n) before now b)
+unsent (RestoreNarrow k) (Lines n) before now unsaved done b = absurd (IsPossible-behaves (RestoreNarrow k) (Lines n) before now b)
+unsent Info (Lines n) before now unsaved done b = absurd (IsPossible-behaves Info (Lines n) before now b)
+unsent (Bound name most) (Lines n) before now unsaved done b = absurd (IsPossible-behaves (Bound name most) (Lines n) before now b)
+unsent (Sample h seed) (Lines n) before now unsaved done b = absurd (IsPossible-behaves (Sample h seed) (Lines n) before now b)
+unsent c status before now unsaved done b = absurd done
+
+-- and they never end with a fault of a save
+no_save : (c : Command) → SavesNothing c → IsPossible c SaveFault → ⊥
+no_save (Compress h) unsaved may = may
+no_save (CompressNarrow n h) unsaved may = may
+no_save Restore unsaved may = may
+no_save (RestoreNarrow n) unsaved may = may
+no_save Info unsaved may = may
+no_save (New name ty ns b) unsaved may = unsaved
+no_save (Run name caching) unsaved may = unsaved
+no_save (Look name lines) unsaved may = may
+no_save (Bound name most) unsaved may = may
+no_save (Sample h seed) unsaved may = may
+
+done_work : (c : Command) (status : Status) → SavesNothing c → IsPossible c status → IsWorkDone status → IsDone status
+done_work c Done unsaved may work = tt
+done_work c (Lines n) unsaved may work = tt
+done_work c SaveFault unsaved may work = absurd (no_save c unsaved may)
+done_work c status unsaved may work = work
+
+-- a sink that they write to may have had a fault
+writes_used : (c : Command) → SavesNothing c → (before now : ℕ) → IsIdle (uses c).writes before now
+writes_used (Compress h) unsaved before now = tt
+writes_used (CompressNarrow n h) unsaved before now = tt
+writes_used Restore unsaved before now = tt
+writes_used (RestoreNarrow n) unsaved before now = tt
+writes_used Info unsaved before now = tt
+writes_used (New name ty ns b) unsaved before now = absurd unsaved
+writes_used (Run name caching) unsaved before now = absurd unsaved
+writes_used (Look name lines) unsaved before now = tt
+writes_used (Bound name most) unsaved before now = tt
+writes_used (Sample h seed) unsaved before now = tt
+
+module _ (c : Command) (status ended : Status) (unsaved : SavesNothing c) where
+  -- what such a command did once what it wrote was handed on
+  pub Behaves-sent : (before : Seen) (src mid now : Option (List ℕ)) (shelf : Option Files) {m n : ℕ} {Flushed : Type 0} → Behaves c status before (seen src mid shelf) → HandsOn status ended mid now m n Flushed → Behaves c ended before (seen src now shelf)
+  Behaves-sent before src mid now shelf b sent =
+      let stayed = Behaves-stays c status before src mid now shelf sent.stays b in
+      elim sent.ends [
+        | inl same ↦ subst (λ s. Behaves c s before (seen src now shelf)) (sym same) stayed
+        | inr failed ↦ subst (λ s. Behaves c s before (seen src now shelf)) (sym failed.0) (unsent c status before (seen src now shelf) unsaved failed.1 stayed)
+      ]
+
+  -- its causes
+  pub HasCauses-sent : (src src_now out mid now shelf shelf_now : ℕ) {before after : Option (List ℕ)} {Loading Saving Sure Still Flushed : Type 0} → HasCauses c status (counts src out shelf) (counts src_now mid shelf_now) Loading Saving Sure Still → HandsOn status ended before after mid now Flushed
+      → HasCauses c ended (counts src out shelf) (counts src_now now shelf_now) Loading Saving Sure Still
+  HasCauses-sent src src_now out mid now shelf shelf_now {before} {after} {Loading} {Saving} {Sure} {Still} causes sent = record {
+    reading = (causes.reading.0, λ is. by_read sent.ends is);
+    writing = (omega (arith, causes.writing.0, sent.kept), λ is. by_write sent.ends is);
+    shelf_kept = causes.shelf_kept;
+    shelving = elim sent.ends [
+      | inl same ↦ subst (λ s. IsCausedOnShelf s Loading Saving) (sym same) causes.shelving
+      | inr failed ↦ subst (λ s. IsCausedOnShelf s Loading Saving) (sym failed.0) tt
+    ];
+    no_reading = causes.no_reading;
+    no_writing = writes_used c unsaved out now;
+    no_shelving = causes.no_shelving;
+    sure = λ sure. (λ is. no_read sent.ends (causes.sure sure).0 is, (causes.sure sure).1);
+  }
+    where
+      by_read : EndsSent status ended (Rose mid now) → ended ≡ ReadFault → Rose src src_now
+      by_read ends is = elim ends [ inl same ↦ causes.reading.1 (sym same ∙ is) | inr failed ↦ absurd (no_fault (sym failed.0 ∙ is)) ]
+
+      by_write : EndsSent status ended (Rose mid now) → ended ≡ WriteFault → Rose out now
+      by_write ends is = elim ends [
+        | inl same ↦ omega (arith, causes.writing.1 (sym same ∙ is), sent.kept)
+        | inr failed ↦ omega (arith, causes.writing.0, failed.2)
+      ]
+
+      no_read : EndsSent status ended (Rose mid now) → (status ≢ ReadFault) → ended ≡ ReadFault → ⊥
+      no_read ends none is = elim ends [ inl same ↦ none (sym same ∙ is) | inr failed ↦ no_fault (sym failed.0 ∙ is) ]
+
+      no_fault : WriteFault ≡ ReadFault → ⊥
+      no_fault is = cc
+
+  -- and that all was handed on
+  pub IsSent-sent : (before now : Seen) (out mid after : ℕ) {was is : Option (List ℕ)} {Flushed : Type 0} → Behaves c ended before now → out ≤ mid → HandsOn status ended was is mid after Flushed → IsSent ended (IsQuiet out after) Flushed
+  IsSent-sent before now out mid after {was} {is} {Flushed} b kept sent = λ why. sent.flushed (elim why [
+    | inl work ↦ inl (done_work c ended unsaved (IsPossible-behaves c ended before now b) work)
+    | inr quiet ↦ inr (omega (arith, kept, quiet))
+  ])
+
+-- no load failed where no load may have
+pub unloaded : (status : Status) {Saving : Type 0} → IsCausedOnShelf status ⊥ Saving → status ≢ LoadFault
+unloaded status {Saving} caused = λ is. subst (λ s. IsCausedOnShelf s ⊥ Saving) is caused
+
+pub unloaded_sent : (status ended : Status) {before now : Option (List ℕ)} {m n : ℕ} {Flushed : Type 0} → status ≢ LoadFault → HandsOn status ended before now m n Flushed → ended ≢ LoadFault
+unloaded_sent status ended none sent = λ is. elim sent.ends [ inl same ↦ none (sym same ∙ is) | inr failed ↦ no_load (sym failed.0 ∙ is) ]
+  where
+    no_load : WriteFault ≡ LoadFault → ⊥
+    no_load is = cc
+
+-- a file that was not loaded was no fault of the shelf, where the load was none
+pub unloaded_status : (e : LoadError) → e ≢ loading.Failed → load_status e ≢ LoadFault
+unloaded_status loading.Missing none is = cc
+unloaded_status loading.Long none is = cc
+unloaded_status loading.Failed none is = none refl
+unloaded_status loading.Memory none is = cc
+
+-- ---- a flush, and what it makes of what is known
+
+-- a flush that is quiet handed on
+pub flushed_quiet : (r : Result (Unit {0}) Failed) (first m n : ℕ) {Flushed : Type 0} → HasCause (IsErr r) m n → OnOk r Flushed → first ≤ m → IsQuiet first n → Flushed
+flushed_quiet (Ok done) first m n cause flushed kept quiet = flushed
+flushed_quiet (Err e) first m n cause flushed kept quiet = absurd (omega (arith, cause.1 refl, kept, quiet))
+
+pub IsSent-later : (status : Status) (first m n : ℕ) {Flushed : Type 0} → first ≤ m → IsSent status (IsQuiet m n) Flushed → IsSent status (IsQuiet first n) Flushed
+IsSent-later status first m n kept sent = λ why. sent (elim why [ inl work ↦ inl work | inr quiet ↦ inr (omega (arith, kept, quiet)) ])
+
+pub Sends-stays : (text : List ℕ) (before mid now : Option (List ℕ)) (first m n : ℕ) → Sends text before mid first m → Appends mid now [] → m ≤ n → Sends text before now first n
+Sends-stays text before mid now first m n sends stays kept = record {
+  front = front_stays before mid now text sends.front stays;
+  whole = λ quiet. Appends-stays before mid now text (sends.whole (omega (arith, kept, quiet))) stays;
+  kept = omega (arith, sends.kept, kept);
+}
+
+-- ---- a script whose replies were handed on or not
+
+-- a write fault stays one
+pub cut_sent : (ended : Status) {before now : Option (List ℕ)} {m n : ℕ} {Flushed : Type 0} → HandsOn WriteFault ended before now m n Flushed → ended ≡ WriteFault
+cut_sent ended sent = elim sent.ends [ inl same ↦ same | inr failed ↦ failed.0 ]
+
+pub IsSent-cut : (ended : Status) (first m n : ℕ) {before now : Option (List ℕ)} {Flushed : Type 0} → first ≤ m → HandsOn WriteFault ended before now m n Flushed → IsSent ended (IsQuiet first n) Flushed
+IsSent-cut ended first m n kept sent = λ why. sent.flushed (elim why [
+  | inl work ↦ absurd (subst IsWorkDone (cut_sent ended sent) work)
+  | inr quiet ↦ inr (omega (arith, kept, quiet))
+])
+
+module _ (name : List ℕ) (caching : Caching) (src out mid out_now shelf shelf_now : ℕ) (Saving : Type 0) where
+  Caused : Status → Type 0
+  Caused s = HasCauses (Run name caching) s (counts src out shelf) (counts src out_now shelf_now) ⊥ Saving (Unit {0}) (Unit {0})
+
+  ran : (ended : Status) → out ≤ mid → mid ≤ out_now → shelf ≤ shelf_now → (ended ≢ ReadFault) → (ended ≡ WriteFault → Rose out out_now) → IsCausedOnShelf ended ⊥ Saving → Caused ended
+  unfolding Caused
+  ran ended first then kept unread writing shelving = record {
+    reading = (omega arith, λ is. absurd (unread is));
+    writing = (omega arith, writing);
+    shelf_kept = kept;
+    shelving = shelving;
+    no_reading = tt;
+    no_writing = tt;
+    no_shelving = tt;
+    sure = λ sure. (unread, tt);
+  }
+
+  by_done : (status : Status) → IsDone status → out ≤ mid → mid ≤ out_now → shelf ≤ shelf_now → Caused status
+  by_done Done done first then kept = ran Done first then kept (λ is. cc) (λ is. absurd (cc)) tt
+  by_done (Lines n) done first then kept = ran (Lines n) first then kept (λ is. cc) (λ is. absurd (cc)) tt
+  by_done status done first then kept = absurd done
+
+  -- all lines were run, and the file was saved or was to be
+  pub HasCauses-ran : (status ended : Status) (before now : Option Files) (file bytes : List ℕ) → IsDone status → out ≤ mid → mid ≤ out_now → shelf ≤ shelf_now → SavesOrFails before now file bytes status ended (Rose mid out_now) Saving
+      → HasCauses (Run name caching) ended (counts src out shelf) (counts src out_now shelf_now) ⊥ Saving (Unit {0}) (Unit {0})
+  unfolding Caused
+  HasCauses-ran status ended before now file bytes done first then kept saves = elim saves [
+    | inl good ↦ subst Caused (sym good.0) (by_done status done first then kept)
+    | inr others ↦ elim others [
+      | inl bad ↦ subst Caused (sym bad.0) (ran SaveFault first then kept (λ is. cc) (λ is. absurd (cc)) bad.2)
+      | inr unsaved ↦ subst Caused (sym unsaved.0) (ran WriteFault first then kept (λ is. cc) (λ is. omega (arith, unsaved.2)) tt)
+    ]
+  ]
+
+  -- a reply was not written whole
+  pub HasCauses-cut : (ended : Status) → ended ≡ WriteFault → out ≤ mid → mid ≤ out_now → shelf ≤ shelf_now → Rose out mid → HasCauses (Run name caching) ended (counts src out shelf) (counts src out_now shelf_now) ⊥ Saving (Unit {0}) (Unit {0})
+  unfolding Caused
+  HasCauses-cut ended is first then kept rose = subst Caused (sym is) (ran WriteFault first then kept (λ same. cc) (λ same. omega arith) tt)
