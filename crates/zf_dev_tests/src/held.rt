@@ -1,5 +1,6 @@
 //! What the devices over streams hold: how many bytes they move at a time, and in which order.
 
+use std::alloc::{AllocError, Global};
 use std::io;
 use std::io::{ErrorKind, Read, Write};
 use std::test::Fail;
@@ -167,9 +168,30 @@ const READS: [(bool, [usize; 4], [usize; 4], [usize; 4]); 2] = [
     ),
 ];
 
+// Room for so many bytes.
+fn zeros(alloc: Global, len: usize) -> Result<Vec<u8>, AllocError> {
+    vec![in alloc; 0; len]
+}
+
+// Asks a source for so many bytes, and notes those that it gives. Whether they are as many as wanted.
+fn gives<S: Source>(
+    src: &mut S,
+    buf: &mut [u8],
+    asked: usize,
+    wanted: usize,
+    seen: &mut Log,
+) -> bool {
+    let room = asked.min(buf.len());
+    if room == 0 || src.read(&mut buf[..room]) != Ok(wanted) || wanted > buf.len() {
+        return false;
+    }
+    seen.note(&buf[..wanted]);
+    true
+}
+
 #[test]
 fn a_source_reads_ahead_where_it_is_told(rt: HostRuntime) -> Result<(), Fail> {
-    let mut buf = vec![in rt.alloc(); 0; 70_000]?;
+    let mut buf = zeros(rt.alloc(), 70_000)?;
     for (ahead, asked, given, sizes) in READS {
         let mut log = Log::new();
         let mut src = RealSource::new(Giving {
@@ -181,9 +203,7 @@ fn a_source_reads_ahead_where_it_is_told(rt: HostRuntime) -> Result<(), Fail> {
         }
         let mut seen = Log::new();
         for (count, wanted) in asked.iter().zip(given.iter()) {
-            let room = (*count).min(buf.len());
-            assert!(rt; room > 0 && src.read(&mut buf[..room]) == Ok(*wanted) && *wanted <= room);
-            seen.note(&buf[..*wanted]);
+            assert!(rt; gives(&mut src, &mut buf, *count, *wanted, &mut seen));
         }
         assert!(rt; seen.in_order && log.sizes == sizes);
     }
