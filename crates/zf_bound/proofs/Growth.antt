@@ -1,7 +1,6 @@
 -- How large the error is at most.
-use Rattle.std.proofs.Common.{◌≡◌, ap, ℕ, ◌+◌, ◌*◌, ◌^◌, ◌≤◌, add-one, arith}
+use Rattle.std.proofs.Common.{ℕ, ◌^◌, ◌≤◌, arith}
 use Rattle.std.proofs.Math.Nat.{pow-le-pow_right}
-use Rattle.zf_bound.specs.Bounds.{error_of}
 
 -- up to four axes, of planes of up to 64 bits
 pub power_most : (d : ℕ) → d ≤ 4 → 4 ^ d ≤ 256

@@ -1,5 +1,5 @@
 -- What is certified of a file whose codes an index has.
-use Rattle.std.proofs.Common.{◌≡◌, refl, sym, ap, subst, ◌∙◌, ℕ, ◌+◌, ◌*◌, ◌<◌, ◌≤◌, Bool, true, false, cond, ltb, ℤ, Some, None, Option, List, [], map, length, get_or, take, drop, arith}
+use Rattle.std.proofs.Common.{◌≡◌, sym, ap, subst, ◌∙◌, ℕ, ◌+◌, ◌*◌, ◌<◌, ◌≤◌, Bool, true, false, cond, ltb, ℤ, Some, None, Option, List, [], map, length, get_or, take, drop, arith}
 use Rattle.std.specs.Prelude.{IfOk}
 use Rattle.std.specs.Int.{Width}
 use Rattle.std.proofs.lemmas.Option.{none-some}
@@ -12,7 +12,7 @@ use Rattle.zf_spec.proofs.Counting.{map-upto_same, get_or-map-upto}
 use Rattle.zf_base.specs.Widths.{width_of}
 use Rattle.zf_header.specs.declared.header.Header.{Header}
 use Rattle.zf_header.specs.declared.header.Mode.{Mode}
-use Rattle.zf_header.specs.declared.header.Mode.TheVariants.{Reversible, Rate, Precision}
+use Rattle.zf_header.specs.declared.header.Mode.TheVariants.{Rate}
 use Rattle.zf_header.specs.HeaderBits.{IsRate, block_bits}
 use Rattle.zf_header.proofs.Modes.{mode_is_rate, rate_is_some}
 use Rattle.zf_parse.specs.Parsing.{Said, parse, without_said, read_code, values_of_blocks, longest_code}

@@ -1,9 +1,9 @@
 -- An array stands for the state of its cache and its codes.
-use Rattle.std.proofs.Common.{◌≡◌, ◌⊎◌, inl, inr, refl, sym, ap, subst, ◌∙◌, ℕ, ◌%◌, ◌^◌, ℤ, Bool, true, false, Option, Some, None, List, map, length, arith}
+use Rattle.std.proofs.Common.{◌≡◌, ◌⊎◌, inl, inr, refl, sym, ap, subst, ◌∙◌, ℕ, ◌%◌, ◌^◌, ℤ, Bool, true, false, Option, List, map, length, arith}
 use Rattle.std.specs.Int.{Width}
 use Rattle.std.proofs.Math.ListN.{get_or-map}
 use Rattle.std.proofs.lemmas.Simd.{map-map}
-use Rattle.std.proofs.lemmas.Bool.{cases_Bool, eqb-true, ne_eqb}
+use Rattle.std.proofs.lemmas.Bool.{cases_Bool, ne_eqb}
 use Rattle.std.proofs.lemmas.List.{length-map, length-replicate}
 use Rattle.zf_spec.specs.Grid.{upto, blocks}
 use Rattle.zf_spec.proofs.Counting.{map-get_or-upto}

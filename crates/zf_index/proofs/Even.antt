@@ -1,5 +1,5 @@
 -- A file of a fixed rate: its codes have as many bits each, so no code is looked at.
-use Rattle.std.proofs.Common.{◌≡◌, refl, sym, ap, ◌∙◌, ℕ, ◌+◌, ◌*◌, ◌%◌, ◌<◌, ◌≤◌, Bool, Some, Ok, Err, List, ◌++◌, length, take, drop, length-drop, suc-mul, arith}
+use Rattle.std.proofs.Common.{◌≡◌, sym, ap, ◌∙◌, ℕ, ◌+◌, ◌*◌, ◌%◌, ◌<◌, ◌≤◌, Bool, Some, Ok, Err, List, length, take, drop, length-drop, suc-mul, arith}
 use Rattle.std.proofs.Math.Nat.{mul-le-mul_right}
 use Rattle.std.proofs.lemmas.List.{length-replicate, length-take-le, take-append-drop}
 use Rattle.zf_spec.specs.Grid.{blocks, extent_of}

@@ -7,7 +7,6 @@ use Rattle.zf_spec.specs.Planes.{code}
 use Rattle.zf_spec.specs.ReadPlanes.{planes_in}
 use Rattle.zf_spec.specs.Codes.{count_bits, read_rev, read_prec}
 use Rattle.zf_base.specs.declared.lane.Ty.{Ty}
-use Rattle.zf_base.specs.declared.lane.Ty.TheVariants.{I32, I64}
 use Rattle.zf_base.specs.Widths.{width_of}
 use Rattle.zf_header.specs.declared.header.Mode.{Mode}
 use Rattle.zf_header.specs.declared.header.Mode.TheVariants.{Reversible, Rate, Precision}

@@ -1,5 +1,5 @@
 -- What a walk over the codes of a stream finds.
-use Rattle.std.specs.Prelude.{ℕ, ◌≡◌, ◌+◌, ◌≤◌, ◌⊎◌, Bool, List, length, drop, Some, Ok, Err}
+use Rattle.std.specs.Prelude.{ℕ, ◌≡◌, ◌≤◌, ◌⊎◌, Bool, List, length, drop, Some, Ok, Err}
 use Rattle.std.specs.Int.{Width}
 use Rattle.zf_spec.specs.Grid.{blocks}
 use Rattle.zf_bits.specs.Reader.{Reader, rest}

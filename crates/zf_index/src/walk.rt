@@ -73,12 +73,7 @@ pub(crate) fn check_rate(
 }
 
 /// The same of values of this type, behind the header.
-fn walk<T: Lane>(
-    alloc: Global,
-    h: &Header,
-    file: &[u8],
-    start: u64,
-) -> Result<Vec<u16>, IndexFault>
+fn walk<T: Lane>(alloc: Global, h: &Header, file: &[u8], start: u64) -> Result<Vec<u16>, IndexFault>
     requires header { IsHeader h.now }
     requires same_type { T.width ≡ width_of h.now.ty }
     requires within { start ≤ 8 * length file.now }

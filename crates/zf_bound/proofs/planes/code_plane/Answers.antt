@@ -1,4 +1,4 @@
-use Rattle.std.proofs.Common.{◌≡◌, ap, ◌∙◌, ◌-◌, ◌*◌, ◌%◌, length, take, drop, arith}
+use Rattle.std.proofs.Common.{◌≡◌, ap, ◌∙◌, ◌-◌, ◌*◌, ◌%◌, take, drop, arith}
 use Rattle.zf_spec.specs.Stream.{to_bits}
 use Rattle.zf_spec.proofs.Bytes.{length-to_bits}
 use Rattle.zf_bits.specs.Reader.{rest}

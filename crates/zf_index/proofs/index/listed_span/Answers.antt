@@ -1,7 +1,6 @@
-use Rattle.std.proofs.Common.{◌≡◌, refl, ap, ◌∙◌, ◌-◌, ◌*◌, ◌/◌, ◌%◌, ◌<◌, length, arith}
+use Rattle.std.proofs.Common.{◌≡◌, ap, ◌∙◌, ◌-◌, ◌*◌, ◌/◌, ◌%◌, ◌<◌, length, arith}
 use Rattle.std.proofs.Math.Nat.{div-add-mod, lt_of_mul-lt-mul_left}
-use Rattle.std.proofs.lemmas.List.{get_or_read_under}
-use Rattle.zf_index.specs.Spans.{index_of, len_at, place}
+use Rattle.zf_index.specs.Spans.{index_of, place}
 use Rattle.zf_index.proofs.Places.{place-next, ends_within}
 use Rattle.zf_index.proofs.index.listed_span.Goals as goal
 

@@ -1,4 +1,4 @@
-use Rattle.std.proofs.Common.{◌≡◌, refl, ◌^◌, ◌<◌, length, arith}
+use Rattle.std.proofs.Common.{refl, ◌^◌, ◌<◌, length, arith}
 use Rattle.std.proofs.lemmas.Result.{IfOk-weaker, IfErr-weaker}
 use Rattle.zf_spec.specs.Stream.{to_bits}
 use Rattle.zf_spec.proofs.Bytes.{length-to_bits}

@@ -1,7 +1,6 @@
-use Rattle.std.proofs.Common.{ap, length, arith}
+use Rattle.std.proofs.Common.{arith}
 use Rattle.zf_spec.proofs.Bytes.{length-to_bits}
 use Rattle.zf_index.proofs.Read.{is_header}
-use Rattle.zf_const.specs.Parts.{seen}
 use Rattle.zf_const.proofs.codes.Codes.of_file.Goals as goal
 
 pub longest_code-requires-clause-mode : goal.longest_code-requires-clause-mode

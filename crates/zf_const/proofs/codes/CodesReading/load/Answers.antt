@@ -1,4 +1,4 @@
-use Rattle.std.proofs.Common.{◌≡◌, sym, ap, subst, ◌∙◌, ℕ, ◌+◌, ◌-◌, ◌*◌, ◌%◌, ◌^◌, ◌<◌, ◌≤◌, ℤ, List, Option, Some, None, map, length, take, drop, arith}
+use Rattle.std.proofs.Common.{◌≡◌, sym, ap, subst, ◌∙◌, ℕ, ◌-◌, ◌*◌, ◌%◌, ◌^◌, ◌<◌, ◌≤◌, ℤ, List, Option, Some, None, map, length, take, drop, arith}
 use Rattle.std.specs.Int.{Width}
 use Rattle.zf_spec.specs.Grid.{blocks, extent_of}
 use Rattle.zf_spec.specs.Stream.{to_bits}
@@ -12,7 +12,7 @@ use Rattle.zf_cached.proofs.Arrays.{existing_of-array}
 use Rattle.zf_parse.specs.Parsing.{read_code}
 use Rattle.zf_parse.specs.ReadStreams.{ReadsCode, LacksCode}
 use Rattle.zf_parse.proofs.Excerpts.{cut_told}
-use Rattle.zf_index.specs.Spans.{len_at, place, span_at}
+use Rattle.zf_index.specs.Spans.{len_at, span_at}
 use Rattle.zf_index.specs.declared.span.Span.{Span}
 use Rattle.zf_index.specs.Files.{found, block_read}
 use Rattle.zf_index.proofs.Places.{place-le}
@@ -71,8 +71,11 @@ pub take-requires-clause-within : goal.take-requires-clause-within
 take-requires-clause-within g c =
     let s = c.self.inside in
     let lt = below g.T.Lane.width g.row.D s.header s.file.items s.index s.excerpt.room c.self.invariant c.args.self.now c.self.view_is c.args.b c.requires.block in
-    omega (arith, ap length c.deref.ensures.value,
-    within g.T.Lane.width g.row.D s.header s.file.items s.index s.excerpt.room c.self.invariant c.args.self.now c.self.view_is c.args.b lt c.span.result c.span.ensures)
+    omega (
+      arith,
+      ap length c.deref.ensures.value,
+      within g.T.Lane.width g.row.D s.header s.file.items s.index s.excerpt.room c.self.invariant c.args.self.now c.self.view_is c.args.b lt c.span.result c.span.ensures,
+    )
 
 pub read_code-requires : goal.read_code-requires
 read_code-requires g c =

@@ -1,7 +1,6 @@
-use Rattle.std.proofs.Common.{ap, sym, subst, ◌≡◌, ◌∙◌, ◌+◌, ◌*◌, ℕ, length, arith}
+use Rattle.std.proofs.Common.{ap, sym, subst, ◌≡◌, ◌∙◌, ◌+◌, ◌*◌, ℕ, arith}
 use Rattle.zf_spec.specs.Grid.{blocks}
-use Rattle.zf_spec.specs.Stream.{to_bits}
-use Rattle.zf_index.specs.Spans.{Index, even_index}
+use Rattle.zf_index.specs.Spans.{even_index}
 use Rattle.zf_index.specs.Files.{IsIndexOf}
 use Rattle.zf_index.proofs.Even.{even_end}
 use Rattle.zf_index.proofs.index.Spans.even.Goals as goal

@@ -1,4 +1,4 @@
-use Rattle.std.proofs.Common.{◌≡◌, sym, ap, ◌∙◌, ◌+◌, ◌*◌, ◌<◌, ◌≤◌, length, arith}
+use Rattle.std.proofs.Common.{◌≡◌, sym, ap, ◌∙◌, ◌<◌, length, arith}
 use Rattle.zf_index.specs.Spans.{Index, even_index, index_in, place, span_at}
 use Rattle.zf_index.specs.declared.span.Span.{Span}
 use Rattle.zf_index.proofs.Places.{even_len, even_place}
