@@ -160,6 +160,6 @@ module _ (n : Narrow) {start now : Option (List ℕ)} {given owed taken part : L
   pub leaves_other : {src0 src1 : Option (List ℕ)} → HasOtherType I32 src0 src1 (Some []) (Some (taken ++ part)) → LeavesNarrowFront n src0 src1 start now
   leaves_other {src0} {src1} other = record {
     bytes = other.bytes;
-    taken = other.taken;
+    taken = other.first.taken;
     written = (0, omega arith, nothing_written (some_inj other.unwritten));
   }

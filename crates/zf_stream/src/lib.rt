@@ -1,6 +1,7 @@
 //! Streams: from raw values to a stream, and back.
 #![tactic(auto)]
 
+mod ahead;
 mod bytes;
 mod compressing;
 mod decoding;
