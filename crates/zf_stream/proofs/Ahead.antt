@@ -1,10 +1,10 @@
 -- A stream whose first piece was read before its first slab: what is said of the window as it is then, said of
 -- the window as it was.
-use Rattle.std.proofs.Common.{◌≡◌, refl, sym, ap, subst, ◌∙◌, ℕ, ◌+◌, ◌-◌, ◌*◌, ◌%◌, ◌≤◌, inl, inr, ⊎_elim, Bool, ℤ}
+use Rattle.std.proofs.Common.{◌≡◌, refl, sym, ap, subst, ◌∙◌, ℕ, ◌+◌, ◌-◌, ◌*◌, ◌/◌, ◌%◌, ◌<◌, ◌≤◌, inl, inr, ⊎_elim, Bool, ℤ}
 use Rattle.std.proofs.Common.{List, ◌++◌, length, mul_comm, Option, None, Result, Ok, Err, append_assoc, arith}
 use Rattle.zf_spec.specs.Grid.{grid, blocks}
 use Rattle.zf_spec.specs.Stream.{to_bits}
-use Rattle.zf_pad.specs.Slabs.{row_len, with_rows}
+use Rattle.zf_pad.specs.Slabs.{rows_of, row_len, with_rows, first_block}
 use Rattle.zf_header.specs.declared.header.Header.{Header}
 use Rattle.zf_dev.specs.Source.{Takes, IsAtEnd}
 use Rattle.zf_dev.specs.Sink.{AppendsFront}
@@ -49,14 +49,14 @@ module _ (h : Header) {src0 mid : Option (List ℕ)} {w0 w1 : Window} (refill : 
       ∙ answer_moved h (w0.reader.at + length s) (w1.reader.at + length s) moved (read_codes h 0 n s) (omega (arith, place))
       (λ found is. omega (arith, codes_least h 0 n s found is))
 
-  taken_on : {now : Option (List ℕ)} (bytes : List ℕ) → Takes mid now bytes → Takes src0 now (refill.bytes ++ bytes)
-  taken_on {now} bytes taken = Takes-append src0 mid now refill.bytes bytes refill.goes.taken taken
+  taken_on : (now : Option (List ℕ)) (bytes : List ℕ) → Takes mid now bytes → Takes src0 now (refill.bytes ++ bytes)
+  taken_on now bytes taken = Takes-append src0 mid now refill.bytes bytes refill.goes.taken taken
 
   pub restores_on : {now out0 out : Option (List ℕ)} → RestoresAll h mid now out0 out w1
       → RestoresAll h src0 now out0 out w0
   restores_on {now} {out0} {out} done = record {
     bytes = refill.bytes ++ done.bytes;
-    taken = taken_on done.bytes done.taken;
+    taken = taken_on now done.bytes done.taken;
     ended = done.ended;
     values = done.values;
     good = answer_on done.bytes ∙ done.good;
@@ -69,7 +69,7 @@ module _ (h : Header) {src0 mid : Option (List ℕ)} {w0 w1 : Window} (refill : 
       let P : List Bool → Type 0 = λ s. AppendsFront out0 out (text_of_codes h s) in
       record {
         bytes = refill.bytes ++ left.bytes;
-        taken = taken_on left.bytes left.taken;
+        taken = taken_on now left.bytes left.taken;
         written = subst P (sym (stream_on left.bytes)) left.written;
       }
 
@@ -80,7 +80,7 @@ module _ (h : Header) {src0 mid : Option (List ℕ)} {w0 w1 : Window} (refill : 
       let all = append_assoc refill.bytes fault.bytes (still now) in
       inl (record {
         bytes = refill.bytes ++ fault.bytes;
-        taken = taken_on fault.bytes fault.taken;
+        taken = taken_on now fault.bytes fault.taken;
         answer = ap (λ (bs : List ℕ). answer_of_codes h w0.reader.at (stream_from w0 bs)) all
             ∙ answer_on (fault.bytes ++ still now) ∙ fault.answer;
       }))
@@ -104,8 +104,10 @@ pub first_lacked : (h : Header) (rows : ℕ) (shape : List ℕ) (src now : Optio
     → LacksSlab (with_shape h shape) 0 src now w e → Refuses h src now w e
 first_lacked h rows shape src now w e some pieces is lacks =
     let none = Restores-none h src None w some in
-    let more = omega (arith, pieces.some, pieces.few) in
-    let next = next_slab h rows 0 pieces none.whole more rows (inl refl) (omega arith) (omega (arith, pieces.few)) in
+    let all = rows_of h.shape in
+    let more : 0 < all = omega (arith, pieces.some, pieces.few) in
+    let within : rows ≤ all - 0 = omega (arith, pieces.few) in
+    let next = next_slab h rows 0 pieces none.whole more rows (inl refl) (omega arith) within in
     let P : List ℕ → Type 0 = λ s. LacksSlab (with_shape h s) 0 src now w e in
-    let number = omega (arith, mul_comm (row_len (grid h.shape)) 0) in
+    let number : 0 ≡ first_block h.shape (0 / 4) = omega (arith, mul_comm (row_len (grid h.shape)) 0) in
     slab_cut h 0 rows next none now 0 e number (subst P is lacks)

@@ -1,7 +1,6 @@
 //! Streams: from raw values to a stream, and back.
 #![tactic(auto)]
 
-mod ahead;
 mod bytes;
 mod compressing;
 mod decoding;
@@ -9,6 +8,7 @@ mod encoding;
 mod header;
 pub mod laws;
 mod longest;
+mod looking;
 mod reading;
 mod restoring;
 mod slabs;

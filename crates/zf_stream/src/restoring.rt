@@ -16,11 +16,11 @@ ghost use Rattle.zf_stream.specs.Restoring.{behind, FinishesBehind, CanRefuseBeh
 ghost use Rattle.zf_parse.specs.declared.fault.StreamFault.TheVariants.{Read, Write, Memory};
 
 use crate::StreamFault;
-use crate::ahead::look_ahead;
 use crate::compressing::PIECE;
 use crate::decoding::read_slab;
 use crate::header::header_at_front;
 use crate::longest::longest_code;
+use crate::looking::look_ahead;
 use crate::reading::read_into;
 use crate::slabs::{most_rows, rows_of, with_rows};
 use crate::window::{FRONT, Window};

@@ -5,7 +5,7 @@ use Rattle.zf_pad.proofs.Slabs.{length-with_rows, product-with_rows}
 use Rattle.zf_parse.specs.Parsing.{restore_answer}
 use Rattle.zf_stream.proofs.OnErrors.{on_err}
 use Rattle.zf_stream.proofs.OwnFaults.{refused_later}
-use Rattle.zf_stream.proofs.Answering.{answer_of_refusal, after_err, on_ok_weaker}
+use Rattle.zf_stream.proofs.Answering.{answer_of_refusal, answer_of_memory, after_err, on_ok_weaker}
 use Rattle.zf_stream.proofs.FromFront.{header_is, finishes_behind, leaves_front, can_refuse, is_refusal, answers}
 use Rattle.zf_stream.proofs.FromFront.{only_taken, nothing_taken}
 use Rattle.zf_stream.proofs.Restored.{some_lacked}
@@ -32,9 +32,9 @@ look_ahead-requires-clause-mode g c =
 pub look_ahead-requires-clause-whole : goal.look_ahead-requires-clause-whole
 look_ahead-requires-clause-whole g c =
     let ns = c.args.h.now.shape in
-    let dims : length c.with_rows-shape.result ≡ length ns =
-    ap length c.with_rows-shape.ensures ∙ length-with_rows c.min-rows.result ns in
-    c.deref_mut.ensures.len ∙ c.in_ok-block.ensures.len ∙ c.block_len.ensures
+    let dims : length c.with_rows.result ≡ length ns =
+    ap length c.with_rows.ensures ∙ length-with_rows c.min-rows.result ns in
+    c.deref_mut.ensures.len ∙ c.in_ok-block.ensures.len ∙ c.block_len.ensures.value
     ∙ ap (λ d. 4 ^ d) (c.dims-dims.ensures.value ∙ sym dims)
 
 pub look_ahead-requires-clause-ended : goal.look_ahead-requires-clause-ended
@@ -53,8 +53,8 @@ returns-in_err-look_ahead-clause-answer g c =
     let dims = c.dims-dims.ensures.shape in
     let pieces = are_pieces h.shape c.min-rows.result c.most_rows.result c.rows_of.result dims
     c.min-rows.ensures c.rows_of.ensures c.most_rows.ensures.some c.most_rows.ensures.whole in
-    let refuses = first_lacked h c.min-rows.result c.with_rows-shape.result src now w e
-    dims.some_dimension pieces c.with_rows-shape.ensures c.in_err-look_ahead.ensures.err in
+    let refuses = first_lacked h c.min-rows.result c.with_rows.result src now w e
+    dims.some_dimension pieces c.with_rows.ensures c.in_err-look_ahead.ensures.err in
     answer_of_refusal r e _ restore_answer is
     (is_refusal h c.args.header_len c.args.front.now c.requires.begun w c.in_ok-window.ensures.bits
     (c.in_ok-window.ensures.place ∙ c.from.ensures) src now e refuses)
@@ -70,18 +70,24 @@ returns-in_err-look_ahead-clause-possible g c =
     let dims = c.dims-dims.ensures.shape in
     let pieces = are_pieces h.shape c.min-rows.result c.most_rows.result c.rows_of.result dims
     c.min-rows.ensures c.rows_of.ensures c.most_rows.ensures.some c.most_rows.ensures.whole in
-    let refuses = first_lacked h c.min-rows.result c.with_rows-shape.result src now w e
-    dims.some_dimension pieces c.with_rows-shape.ensures c.in_err-look_ahead.ensures.err in
+    let refuses = first_lacked h c.min-rows.result c.with_rows.result src now w e
+    dims.some_dimension pieces c.with_rows.ensures c.in_err-look_ahead.ensures.err in
     rw (p.1, p.2)
     (can_refuse h c.args.header_len c.args.front.now c.requires.begun w c.in_ok-window.ensures.bits
     (c.in_ok-window.ensures.place ∙ c.from.ensures) src now e refuses)
 
 pub returns-in_err-look_ahead-clause-err : goal.returns-in_err-look_ahead-clause-err
 returns-in_err-look_ahead-clause-err g c =
-    let part = with_shape c.args.h.now c.with_rows-shape.result in
+    let part = with_shape c.args.h.now c.with_rows.result in
     let e = c.in_err-look_ahead.field-0.0 in
     let some = some_lacked part 0 _ _ c.in_ok-window.window e c.in_err-look_ahead.ensures.err in
     on_err c.from_residual-in_err-look_ahead.result _ (only_taken c.args.front.now _ _ _ some)
+
+pub returns-in_err-values-clause-answer : goal.returns-in_err-values-clause-answer
+returns-in_err-values-clause-answer g c =
+    let r = c.from_residual-in_err-values.result in
+    let p = err_from_is_err_and r c.from_residual-in_err-values.ensures.1 in
+    answer_of_memory r p.0 _ restore_answer p.1 p.2
 
 pub returns-in_err-values-clause-err : goal.returns-in_err-values-clause-err
 returns-in_err-values-clause-err g c =
@@ -109,8 +115,8 @@ restore_rows-requires-clause-fill g c =
 
 pub restore_rows-requires-clause-values : goal.restore_rows-requires-clause-values
 restore_rows-requires-clause-values g c =
-    c.deref_mut-2.ensures.len ∙ c.in_ok-values.ensures.len ∙ c.values.ensures.value
-    ∙ ap product c.with_rows-shape.ensures
+    c.deref_mut-3.ensures.len ∙ c.in_ok-values.ensures.len ∙ c.values.ensures.value
+    ∙ ap product c.with_rows.ensures
     ∙ product-with_rows c.min-rows.result c.args.h.now.shape c.dims-dims.ensures.shape.some_dimension
 
 pub returns-clause-answer : goal.returns-clause-answer

@@ -8,7 +8,7 @@ use Rattle.zf_parse.specs.Parsing.{read_code, read_codes}
 use Rattle.zf_parse.proofs.Joining.{read_codes-next, read_codes-cut, rest_behind}
 use Rattle.zf_stream.specs.Windows.{left_of}
 use Rattle.zf_stream.proofs.Shortest.{codes_least}
-use Rattle.zf_stream.proofs.ahead.first_cut.Goals as goal
+use Rattle.zf_stream.proofs.looking.first_cut.Goals as goal
 
 pub loop-b-init : goal.loop-b-init
 loop-b-init g c = record {

@@ -3,7 +3,7 @@ use Rattle.std.proofs.Common.{◌≡◌, ◌^◌, ℤ, List, Ok, length}
 use Rattle.zf_bits.specs.Reader.{rest}
 use Rattle.zf_parse.specs.Parsing.{read_codes}
 use Rattle.zf_stream.specs.Windows.{left_of}
-use Rattle.zf_stream.proofs.ahead.first_cut.Given as goal
+use Rattle.zf_stream.proofs.looking.first_cut.Given as goal
 
 pub record Passed (g : goal.Over) (l : goal.Live-loop-b g) : Type 0 where
   pub blocks : List (List ℤ)
