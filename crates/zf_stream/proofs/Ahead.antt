@@ -1,6 +1,6 @@
 -- A stream whose first piece was read before its first slab: what is said of the window as it is then, said of
 -- the window as it was.
-use Rattle.std.proofs.Common.{◌≡◌, refl, sym, ap, subst, ◌∙◌, ℕ, ◌+◌, ◌-◌, ◌*◌, ◌/◌, ◌%◌, ◌<◌, ◌≤◌, inl, inr, ⊎_elim, Bool, ℤ}
+use Rattle.std.proofs.Common.{◌≡◌, refl, sym, ap, subst, ◌∙◌, ℕ, ◌+◌, ◌-◌, ◌*◌, ◌/◌, ◌<◌, ◌≤◌, inl, inr, ⊎_elim, Bool, ℤ}
 use Rattle.std.proofs.Common.{List, ◌++◌, length, mul_comm, Option, None, Result, Ok, Err, append_assoc, arith}
 use Rattle.zf_spec.specs.Grid.{grid, blocks}
 use Rattle.zf_spec.specs.Stream.{to_bits}

@@ -9,7 +9,7 @@ use Rattle.std.specs.Int.{Width}
 use mir.Val.{bits}
 use Rattle.zf_spec.specs.Numbers.{number}
 use Rattle.zf_spec.specs.Grid.{extent_of}
-use Rattle.zf_spec.specs.Planes.{has_one, reach, group, code_from_run, tail, plane_code, code_from, code}
+use Rattle.zf_spec.specs.Planes.{has_one, reach, group, code_from_run, plane_code, code_from, code}
 use Rattle.zf_spec.specs.ReadPlanes.{planes_in}
 use Rattle.zf_spec.specs.Codes.{count_bits, read_rev, read_prec}
 use Rattle.zf_spec.proofs.Full.{length-planes_in, planes_in-length}

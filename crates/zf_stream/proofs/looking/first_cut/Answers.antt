@@ -1,7 +1,6 @@
-use Rattle.std.proofs.Common.{◌≡◌, ◌-◌, ◌<◌, List, [], ◌∷◌, ◌++◌, ℤ, map, None, Some, Ok, sym, ap, ◌∙◌, arith}
+use Rattle.std.proofs.Common.{◌≡◌, ◌-◌, ◌<◌, [], ◌∷◌, ◌++◌, map, Ok, sym, ap, ◌∙◌, arith}
 use Rattle.zf_spec.specs.Grid.{blocks, extent_of}
 use Rattle.zf_spec.specs.Codes.{existing_values}
-use Rattle.zf_base.specs.Widths.{width_of}
 use Rattle.zf_base.proofs.Extents.{length-extent_of}
 use Rattle.zf_bits.specs.Reader.{Reader, rest}
 use Rattle.zf_parse.specs.Parsing.{read_code, read_codes}
