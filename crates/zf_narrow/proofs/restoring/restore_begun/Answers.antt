@@ -1,4 +1,4 @@
-use Rattle.std.proofs.Common.{◌≡◌, sym, ap, subst, ◌∙◌, ℕ, Bool, List, [], Option, Some}
+use Rattle.std.proofs.Common.{sym, ap, subst, ◌∙◌, ℕ, Bool, List, [], Option, Some}
 use Rattle.zf_base.specs.declared.lane.Ty.TheVariants.{I32}
 use Rattle.zf_dev.specs.Sink.{Appends}
 use Rattle.zf_parse.specs.Parsing.{restored_text}
