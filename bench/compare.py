@@ -6,8 +6,8 @@
 PROGRAM is the built program, by default crates/zfpi/out/zfpi. Needs Debian's zfp, zstd, python3-numpy and python3-blosc,
 and python3-matplotlib for the picture.
 
-With no word it prints two tables: bits a value without loss of zfpi and of four others, and the greatest error of zfpi at
-three rates. With `--speed` it prints how many megabytes of raw values a second each way takes and gives back, by processor
+With no word it prints three tables: bits a value without loss of zfpi and of four others, the greatest error of zfpi at
+three rates, and the same image in three types. With `--speed` it prints how many megabytes of raw values a second each way takes and gives back, by processor
 time, the best of five runs: plain numbers of one machine. With `--picture` it draws error against bits a value into
 docs/errors.svg.
 
@@ -197,6 +197,14 @@ def print_errors(program, fields):
     print_rows(["Greatest error of zfpi", "Values", *(f"{rate} bits a value" for rate in RATES)], rows)
 
 
+def print_types(program, field):
+    """The same image in wider and in fuller types, at 8 bits a value: errors in its own units."""
+    values = field.values.astype(numpy.int64)
+    kinds = [("int32", "<i4", 0), ("uint16", "<u2", 0), ("uint16, shifted up by 4", "<u2", 4)]
+    errors = [error(program, Field(name, (values << shift).astype(kind)), 8) / 2**shift for name, kind, shift in kinds]
+    print_rows(["Image at 8 bits a value, as", *(name for name, _, _ in kinds)], [["greatest error", *(f"{it:.0f}" for it in errors)]])
+
+
 def speed(call, size):
     """Megabytes of raw values a second, by processor time, the best of some runs."""
     times = []
@@ -250,6 +258,8 @@ def main():
         print_sizes(program, fields)
         print()
         print_errors(program, fields)
+        print()
+        print_types(program, fields[1])
 
 
 if __name__ == "__main__":

@@ -27,7 +27,7 @@ OUTSIDE = set(
     " Iterator Option Result Vec".split()
 )
 # capital words that stand for what a user writes, and letters for numbers
-STANDS_FOR = re.compile(r"[A-Z]{1,10}$|[a-z]$")
+STANDS_FOR = re.compile(r"[A-Z]{1,10}$|[a-z]$|[0-9a-f]{16}$")
 IDENTIFIER = re.compile(r"[A-Za-z_]\w*$")
 
 
@@ -87,6 +87,8 @@ def declared():
         names.update(re.findall(r"\b(?:record|data) (\w+)", text))
         names |= {source.stem, source.parent.name}
     names |= {edit.stem for edit in sources("*/must-fail/*.edit")}
+    for script in [*TOP.glob("examples/*.py"), *TOP.glob("bench/*.py"), *TOP.glob("check/*.py")]:
+        names |= {script.stem, *re.findall(r"^def (\w+)", script.read_text(), re.M)}
     return names
 
 
