@@ -15,6 +15,13 @@ PAGE = TOP / "docs/CALLING.md"
 MARK = "<!-- contracts -->\n"
 
 CALLS = [
+    ("Shapes and positions", "zf_base", ["Shape::new", "dims", "size", "values", "blocks", "contains", "place", "extent"]),
+    ("Headers", "zf_header", ["read", "write", "mode_number", "rate_bytes"]),
+    (
+        "Devices",
+        "zf_dev",
+        ["fill", "take_all", "write_all", "MemSource::new", "MemSink::new", "bytes", "RealSource::new", "RealSink::new"],
+    ),
     ("Streams", "zf_stream", ["compress", "restore", "read_header"]),
     ("Streams of narrow values", "zf_narrow", ["promote", "demote", "compress_narrow", "restore_narrow"]),
     ("A bound of the error", "zf_bound", ["bound"]),
@@ -23,7 +30,6 @@ CALLS = [
     ("Arrays that are only read", "zf_const", ["from_file", "get", "block", "set_lines"]),
     ("Windows", "zf_window", ["whole", "new", "slice"]),
     ("Views", "zf_view", ["new", "bind", "get", "set", "elem", "run_mut"]),
-    ("Devices", "zf_dev", ["fill", "take_all", "write_all"]),
 ]
 
 
@@ -74,7 +80,7 @@ def quoted():
             if source.stem.startswith("tests"):
                 continue
             for owner, name, head, clauses in functions(source.read_text()):
-                if name in names:
+                if name in names or f"{owner}::{name}" in names:
                     yield head.replace("fn ", f"fn {owner}::", 1) if owner else head
                     yield from (f"  {clause}" for clause in clauses)
         yield "```\n"

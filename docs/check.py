@@ -162,7 +162,7 @@ def manual():
     """What mandoc finds in the manual page, other than the order of its sections."""
     if shutil.which("mandoc") is None:
         return Count(left_out=1)
-    found = run("mandoc -T lint docs/zfpi.1", TOP, os.environ).stdout
+    found = run("mandoc -T lint docs/zfpi.1 2>/dev/null", TOP, os.environ).stdout
     print(found, end="")
     return Count(run=1, wrong=len(found.splitlines()))
 

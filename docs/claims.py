@@ -24,7 +24,7 @@ CODES = [0, 1, 2, 3, 4, 5, 6, 7, 8, 9, 10, 11, 12, 13, 20, 22]
 OUTSIDE = set(
     "antt arrayvec bool circular_buffer cmp core dask distributed flock i32 i64 io itoa items lz4 memchr numpy od perf"
     " rand_core rand_xoshiro rt sha256sum std std_alloc thiserror u16 u32 u64 u8 xargs zfp zfpi zstd"
-    " Iterator Option Result Vec".split()
+    " AllocError Display Iterator Option Result Vec".split()
 )
 # capital words that stand for what a user writes, and letters for numbers
 STANDS_FOR = re.compile(r"[A-Z]{1,10}$|[a-z]$|[0-9a-f]{16}$")
@@ -170,10 +170,17 @@ def missing_bugs():
     return wrong
 
 
+def unindented(text):
+    return "\n".join(line.strip() for line in text.splitlines())
+
+
 def missing_snippets(page):
-    """Blocks that say which file they are from and do not stand there."""
-    found = re.finditer(r"<!-- from: (\S+) -->\n+```\w*\n(.*?)^```$", (TOP / page).read_text(), re.M | re.S)
-    return [f"{page}: the block is not in {name}" for name, text in (one.groups() for one in found) if text not in (TOP / name).read_text()]
+    """Blocks that say which file they are from and do not stand there, their indentation aside."""
+    wrong = []
+    for name, text in re.findall(r"<!-- from: (\S+) -->\n+```\w*\n(.*?)^```$", (TOP / page).read_text(), re.M | re.S):
+        if unindented(text) not in unindented((TOP / name).read_text()):
+            wrong.append(f"{page}: the block is not in {name}")
+    return wrong
 
 
 def unsnipped(page):
@@ -196,8 +203,8 @@ def commands():
 
 def plain(text):
     """The manual page as words: without its macros, one space between two words."""
-    text = re.sub(r"^\.(?:It|Cm|Ql|Pa|Ar|Nm|Op|Fl|Xr|Em)\b", "", text, flags=re.M)
-    text = re.sub(r"\b(?:Cm|Ar|Ql|Li) ", "", text)
+    text = re.sub(r"^\.(?:It|Cm|Ql|Qq|Pa|Ar|Nm|Op|Fl|Xr|Em)\b", "", text, flags=re.M)
+    text = re.sub(r"\b(?:Cm|Ar|Ql|Qq|Li) ", "", text)
     return re.sub(r"\s+", " ", text.replace('"', ""))
 
 
