@@ -16,6 +16,7 @@ A block, or a page, behind a line `<!-- needs: WORD.. -->` is left out where a p
 lacking; the last line says how many commands that were. A block behind `<!-- not run: WHY -->` is not run.
 """
 
+import functools
 import os
 import pathlib
 import re
@@ -30,7 +31,7 @@ import claims
 TOP = pathlib.Path(__file__).resolve().parent.parent
 # the Python of the system, for which Debian's packages are
 PYTHON = "/usr/bin/python3"
-BLOCK = re.compile(r"((?:^<!-- .* -->\n\n?)*)^```([a-z]*)\n(.*?)^```$", re.M | re.S)
+BLOCK = re.compile(r"((?:^<!-- [^\n]* -->\n\n?)*)^```([a-z]*)\n(.*?)^```$", re.M | re.S)
 
 
 class Command(NamedTuple):
@@ -118,10 +119,11 @@ def try_command(page, command, folder, known):
     return Count(run=1, wrong=1)
 
 
-def try_table(page, command, wanted, needs, known):
+def try_table(page, command, wanted, needs, known, printed):
+    """`printed` is what a command prints: several tables may be of one command, which is run once."""
     if not all(has(word, known) for word in needs):
         return Count(left_out=1)
-    if wanted in run(command, TOP, known).stdout:
+    if wanted in printed(command):
         return Count(run=1)
     print(f"{page.name}: the table of `{command}` is another one")
     return Count(run=1, wrong=1)
@@ -137,8 +139,9 @@ def try_page(page, known):
         shutil.copy(TOP / "README.md", folder)
         for command in shown(text):
             count = count.plus(try_command(page, command, folder, known))
+    printed = functools.lru_cache(None)(lambda command: run(command, TOP, known).stdout)
     for command, wanted, needs in tables(text):
-        count = count.plus(try_table(page, command, wanted, needs, known))
+        count = count.plus(try_table(page, command, wanted, needs, known, printed))
     return count
 
 
