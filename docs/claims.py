@@ -16,7 +16,12 @@ import sys
 
 TOP = pathlib.Path(__file__).resolve().parent.parent
 CRATES = TOP / "crates"
-NAMING = ["README.md", "docs/MAP.md", "docs/ANSWERS.md", "docs/CALLING.md", "docs/PROMISES.md"]
+NAMING = [
+    "README.md",
+    "CHANGELOG.md",
+    "bench/HISTORY.md",
+    *(f"docs/{page}.md" for page in "MAP ANSWERS CALLING PROMISES DECISIONS EXTENDING CONTRIBUTING".split()),
+]
 README_BYTES = 14336
 CODES = [0, 1, 2, 3, 4, 5, 6, 7, 8, 9, 10, 11, 12, 13, 20, 22]
 
@@ -24,7 +29,9 @@ CODES = [0, 1, 2, 3, 4, 5, 6, 7, 8, 9, 10, 11, 12, 13, 20, 22]
 OUTSIDE = set(
     "antt arrayvec bool circular_buffer cmp core dask distributed flock i32 i64 io itoa items lz4 memchr numpy od perf"
     " rand_core rand_xoshiro rt sha256sum std std_alloc thiserror u16 u32 u64 u8 xargs zfp zfpi zstd"
-    " AllocError Display Iterator Option Result Vec".split()
+    " AllocError Copy Display Iterator Option Result Send Sync Vec match mod".split()
+    # a name that DECISIONS sets aside
+    + ["RunTwoWay"]
 )
 # capital words that stand for what a user writes, and letters for numbers
 STANDS_FOR = re.compile(r"[A-Z]{1,10}$|[a-z]$|[0-9a-f]{16}$")
