@@ -208,13 +208,6 @@ def commands():
     return re.findall(r'"(\w+)" =>', first)
 
 
-def plain(text):
-    """The manual page as words: without its macros, one space between two words."""
-    text = re.sub(r"^\.(?:It|Cm|Ql|Qq|Pa|Ar|Nm|Op|Fl|Xr|Em)\b", "", text, flags=re.M)
-    text = re.sub(r"\b(?:Cm|Ar|Ql|Qq|Li) ", "", text)
-    return re.sub(r"\s+", " ", text.replace('"', ""))
-
-
 def missing_in_manual():
     """Commands, codes and error lines that the manual page, or README's table of lines, lacks."""
     manual, readme = (TOP / "docs/zfpi.1").read_text(), (TOP / "README.md").read_text()
@@ -222,8 +215,8 @@ def missing_in_manual():
     wrong += [f"docs/zfpi.1: no code {code}" for code in CODES if not re.search(rf"^\.It {code}$", manual, re.M)]
     for line in error_lines():
         said = re.escape(line).replace("N", r"[A-Z]")
-        wrong += [f"docs/zfpi.1: no line `{line}`"] * (not re.search(said, plain(manual)))
-        wrong += [f"README.md: no line `{line}`"] * (not re.search(said, readme))
+        wrong += [f"docs/zfpi.1: no line `{line}`"] * (not re.search(rf"^\.It Qq {said}$", manual, re.M))
+        wrong += [f"README.md: no line `{line}`"] * (not re.search(f"`{said}`", readme))
     return wrong
 
 
