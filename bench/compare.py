@@ -3,17 +3,16 @@
 
     python3 bench/compare.py [PROGRAM] [--speed | --picture]
 
-PROGRAM is the built program, by default crates/zfpi/out/zfpi. Needs Debian's zfp, zstd, python3-numpy and python3-blosc,
-and python3-matplotlib for the picture.
+PROGRAM is the built program, by default crates/zfpi/out/zfpi. Needs Debian's zfp, zstd, python3-numpy and
+python3-blosc, and python3-matplotlib for the picture.
 
-With no word it prints three tables: bits a value without loss of zfpi and of four others, the greatest error of zfpi at
-three rates, and the same image in three types. With `--speed` it prints how many megabytes of raw values a second each way takes and gives back, by processor
-time, the best of five runs: plain numbers of one machine. With `--picture` it draws error against bits a value into
-docs/errors.svg.
+With no word it prints three tables: bits a value without loss of zfpi and of four others, the greatest error
+of zfpi at three rates, and the same image in three types. With `--speed` it prints how many megabytes of raw
+values a second each way takes and gives back, by processor time, the best of five runs: plain numbers of one
+machine. With `--picture` it draws error against bits a value into docs/errors.svg.
 
-The fields are made by whole-number arithmetic, so they are the same on every machine. zfp has no values of 16 bits: it is
-given the int32 values that stand for them (docs/FORMAT.md, section 2).
-"""
+The fields are made by whole-number arithmetic, so they are the same on every machine. zfp has no values of 16
+bits: it is given the int32 values that stand for them (docs/FORMAT.md, section 2)."""
 
 import os
 import pathlib
@@ -52,7 +51,7 @@ class Field(NamedTuple):
         return [] if self.word() == "int32" else [self.word()]
 
     def promoted(self):
-        """The values as int32: those of 16 bits lie evenly around zero, as zfpi and zfp's library have them."""
+        """The values as int32: those of 16 bits lie evenly around zero, as in zfpi and zfp's library."""
         if self.word() == "int32":
             return self.values
         return ((self.values.astype(numpy.int64) - 32768) << 15).astype("<i4")
@@ -73,11 +72,15 @@ def wave_at(place, length, height):
 
 
 def smooth():
-    """Waves that run through the volume at several angles, as a simulation puts them out: no row is like another one."""
+    """Waves that run through the volume at several angles, as in a simulation: no row is like another one."""
     side = 128
     z, y, x = numpy.mgrid[0:side, 0:side, 0:side].astype(numpy.int64)
     total = numpy.zeros((side, side, side), dtype=numpy.int64)
-    for length, height, along_x, along_y, along_z in ((1900, 20, 23, 11, 7), (1500, 19, -9, 17, 13), (700, 16, 8, -5, 19)):
+    for length, height, along_x, along_y, along_z in (
+        (1900, 20, 23, 11, 7),
+        (1500, 19, -9, 17, 13),
+        (700, 16, 8, -5, 19),
+    ):
         total += wave_at(along_x * x + along_y * y + along_z * z, length, 1 << height)
     return Field("smooth field", total.astype("<i4"))
 
@@ -88,7 +91,11 @@ def image():
     y, x = numpy.mgrid[0:side, 0:side].astype(numpy.int64)
     light = 1200 + x // 2 + wave_at(y + 40, 300, 500)
     for place, word in enumerate(words_of(5, 40)):
-        left, top, radius = int(word) % side, int(word >> numpy.uint64(20)) % side, 10 + int(word >> numpy.uint64(40)) % 60
+        left, top, radius = (
+            int(word) % side,
+            int(word >> numpy.uint64(20)) % side,
+            10 + int(word >> numpy.uint64(40)) % 60,
+        )
         inside = (x - left) ** 2 + (y - top) ** 2 < radius**2
         light = numpy.where(inside, 200 + 60 * (place % 30), light)
     grain = noise(side * side, 4, 77).reshape(side, side)
@@ -124,7 +131,11 @@ def zfp_ways(field):
     sizes = [str(size) for size in field.values.shape[::-1]]
     words = ["zfp", "-q", "-t", "i32", f"-{len(sizes)}", *sizes, "-R"]
     stream = ran([*words, "-i", "-", "-z", "-"], raw)
-    return len(stream), lambda: ran([*words, "-i", "-", "-z", "-"], raw), lambda: ran([*words, "-z", "-", "-o", "-"], stream)
+    return (
+        len(stream),
+        lambda: ran([*words, "-i", "-", "-z", "-"], raw),
+        lambda: ran([*words, "-z", "-", "-o", "-"], stream),
+    )
 
 
 def zstd_ways(field):
@@ -141,12 +152,16 @@ def shuffled_ways(field, codec, level, with_delta):
 
     def there():
         values = numpy.diff(field.values, prepend=field.values.dtype.type(0)) if with_delta else field.values
-        return blosc.compress(values.tobytes(), typesize=width, clevel=level, shuffle=blosc.BITSHUFFLE, cname=codec)
+        return blosc.compress(
+            values.tobytes(), typesize=width, clevel=level, shuffle=blosc.BITSHUFFLE, cname=codec
+        )
 
     stream = there()
 
     def back():
-        values = numpy.frombuffer(blosc.decompress(stream), dtype=field.values.dtype).reshape(field.values.shape)
+        values = numpy.frombuffer(blosc.decompress(stream), dtype=field.values.dtype).reshape(
+            field.values.shape
+        )
         return numpy.cumsum(values, axis=-1, dtype=values.dtype) if with_delta else values
 
     if not numpy.array_equal(back(), field.values):
@@ -184,7 +199,9 @@ def print_rows(head, rows):
 def print_sizes(program, fields):
     rows = []
     for field in fields:
-        sizes = {name: f"{8 * way[0] / field.values.size:.1f}" for name, way in all_ways(program, field).items()}
+        sizes = {
+            name: f"{8 * way[0] / field.values.size:.1f}" for name, way in all_ways(program, field).items()
+        }
         rows.append([field.title(), *sizes.values()])
     print_rows(["Bits a value, no loss", *sizes], rows)
 
@@ -201,8 +218,14 @@ def print_types(program, field):
     """The same image in wider and in fuller types, at 8 bits a value: errors in its own units."""
     values = field.values.astype(numpy.int64)
     kinds = [("int32", "<i4", 0), ("uint16", "<u2", 0), ("uint16, shifted up by 4", "<u2", 4)]
-    errors = [error(program, Field(name, (values << shift).astype(kind)), 8) / 2**shift for name, kind, shift in kinds]
-    print_rows(["Image at 8 bits a value, as", *(name for name, _, _ in kinds)], [["greatest error", *(f"{it:.0f}" for it in errors)]])
+    errors = [
+        error(program, Field(name, (values << shift).astype(kind)), 8) / 2**shift
+        for name, kind, shift in kinds
+    ]
+    print_rows(
+        ["Image at 8 bits a value, as", *(name for name, _, _ in kinds)],
+        [["greatest error", *(f"{it:.0f}" for it in errors)]],
+    )
 
 
 def speed(call, size):
@@ -219,7 +242,10 @@ def print_speeds(program, fields):
     rows = []
     for field in fields:
         ways = all_ways(program, field)
-        speeds = [f"{speed(there, field.values.nbytes):.0f} / {speed(back, field.values.nbytes):.0f}" for _, there, back in ways.values()]
+        speeds = [
+            f"{speed(there, field.values.nbytes):.0f} / {speed(back, field.values.nbytes):.0f}"
+            for _, there, back in ways.values()
+        ]
         rows.append([field.title(), *speeds])
     print_rows(["MB a second, there / back", *ways], rows)
 

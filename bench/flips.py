@@ -1,11 +1,11 @@
 #!/usr/bin/env python3
-"""Flips bits of the sample's streams, one at a time, and counts how many of the damaged streams are restored with code 0.
+"""Flips bits of the sample's streams, one at a time, and counts how many of the damaged streams are restored
+with code 0.
 
     python3 bench/flips.py [PROGRAM]
 
-PROGRAM is the built program, by default crates/zfpi/out/zfpi. Needs nothing else. A stream has no checksum: this shows what
-that means. The bits are behind the header, a fixed number of bits apart.
-"""
+PROGRAM is the built program, by default crates/zfpi/out/zfpi. Needs nothing else. A stream has no checksum:
+this shows what that means. The bits are behind the header, a fixed number of bits apart."""
 
 import pathlib
 import subprocess
@@ -33,10 +33,16 @@ def main():
     for mode, apart in TRIALS:
         stream = ran(program, raw, "compress", "int32", "48x32", *mode).stdout
         whole = ran(program, stream, "restore").stdout
-        done = [ran(program, flipped(stream, bit), "restore") for bit in range(HEADER_BITS, 8 * len(stream), apart)]
+        done = [
+            ran(program, flipped(stream, bit), "restore")
+            for bit in range(HEADER_BITS, 8 * len(stream), apart)
+        ]
         unseen = [one for one in done if one.returncode == 0]
         same = sum(one.stdout == whole for one in unseen)
-        print(f"{' '.join(mode)}: {len(unseen)} of {len(done)} restored with code 0, {same} of them to the same values")
+        print(
+            f"{' '.join(mode)}: {len(unseen)} of {len(done)} restored with code 0,"
+            f" {same} of them to the same values"
+        )
 
 
 if __name__ == "__main__":

@@ -3,8 +3,8 @@
 
     python3 docs/calling.py [--write]
 
-With `--write` the quoted part of docs/CALLING.md is written anew. What is quoted stands in crates/NAME/src; a clause is put in one line, its spaces made one.
-"""
+With `--write` the quoted part of docs/CALLING.md is written anew. What is quoted stands in crates/NAME/src; a
+clause is put in one line, its spaces made one."""
 
 import pathlib
 import re
@@ -15,18 +15,35 @@ PAGE = TOP / "docs/CALLING.md"
 MARK = "<!-- contracts -->\n"
 
 CALLS = [
-    ("Shapes and positions", "zf_base", ["Shape::new", "dims", "size", "values", "blocks", "contains", "place", "extent"]),
+    (
+        "Shapes and positions",
+        "zf_base",
+        ["Shape::new", "dims", "size", "values", "blocks", "contains", "place", "extent"],
+    ),
     ("Headers", "zf_header", ["read", "write", "mode_number", "rate_bytes"]),
     (
         "Devices",
         "zf_dev",
-        ["fill", "take_all", "write_all", "MemSource::new", "MemSink::new", "bytes", "RealSource::new", "RealSink::new"],
+        [
+            "fill",
+            "take_all",
+            "write_all",
+            "MemSource::new",
+            "MemSink::new",
+            "bytes",
+            "RealSource::new",
+            "RealSink::new",
+        ],
     ),
     ("Streams", "zf_stream", ["compress", "restore", "read_header"]),
     ("Streams of narrow values", "zf_narrow", ["promote", "demote", "compress_narrow", "restore_narrow"]),
     ("A bound of the error", "zf_bound", ["bound"]),
     ("Where codes lie", "zf_index", ["build", "span"]),
-    ("Arrays", "zf_array", ["new", "from_file", "get", "set", "add", "flush", "discard", "set_lines", "resize", "save_bytes"]),
+    (
+        "Arrays",
+        "zf_array",
+        ["new", "from_file", "get", "set", "add", "flush", "discard", "set_lines", "resize", "save_bytes"],
+    ),
     ("Arrays that are only read", "zf_const", ["from_file", "get", "block", "set_lines"]),
     ("Windows", "zf_window", ["whole", "new", "slice"]),
     ("Views", "zf_view", ["new", "bind", "get", "set", "elem", "run_mut"]),

@@ -5,16 +5,18 @@
 
 PROGRAM is the built program, by default crates/zfpi/out/zfpi. Outside the gate; needs no network. It looks at
 
-- sessions: blocks that begin with `$ `. Each such line is a command, and the lines up to the next one are what it writes.
-  The commands of a page run one after the other in one folder, which holds data, examples and README;
+- sessions: blocks that begin with `$ `. Each such line is a command, and the lines up to the next one are
+  what it writes. The commands of a page run one after the other in one folder, which holds data, examples and
+  README;
 - blocks of `python` and of `sh`, which have to end well, in the same folder;
 - tables behind a line `<!-- table: COMMAND -->`, which the command has to print, or a part of what it prints;
-- what CALLING quotes of contracts (docs/calling.py), and whether what the pages name is in the tree (docs/claims.py);
+- what CALLING quotes of contracts (docs/calling.py), and whether what the pages name is in the tree
+  (docs/claims.py);
 - the manual page, by mandoc, where there is one, and the completion for bash (docs/complete.py).
 
-A block, or a page, behind a line `<!-- needs: WORD.. -->` is left out where a program or a module of Python of such a name is
-lacking; the last line says how many commands that were. A block behind `<!-- not run: WHY -->` is not run.
-"""
+A block, or a page, behind a line `<!-- needs: WORD.. -->` is left out where a program or a module of Python
+of such a name is lacking; the last line says how many commands that were. A block behind `<!-- not run: WHY
+-->` is not run."""
 
 import functools
 import os
@@ -197,7 +199,13 @@ def main():
     with tempfile.TemporaryDirectory() as name:
         known = surroundings(pathlib.Path(name), program)
         total = Count()
-        for count in [*(try_page(page, known) for page in pages), contracts(), names(), manual(), completion(known)]:
+        for count in [
+            *(try_page(page, known) for page in pages),
+            contracts(),
+            names(),
+            manual(),
+            completion(known),
+        ]:
             total = total.plus(count)
     print(f"{total.run} commands, tables and looks, {total.wrong} wrong, {total.left_out} left out")
     sys.exit(1 if total.wrong else 0)

@@ -1,14 +1,15 @@
 #!/usr/bin/env python3
-"""Looks whether what the documents name is in the tree: functions, clauses, laws, planted bugs, snippets, error lines.
+"""Looks whether what the documents name is in the tree: functions, clauses, laws, planted bugs, snippets,
+error lines.
 
     python3 docs/claims.py
 
 docs/check.py runs it too. It prints each name that is not there, and ends with 1 where there is one.
 
-A name is a word in backquotes. It has to be declared in some crate: as a function, a type, a clause, a field, a definition
-of `specs/`, a file or a word of the program. Where a table says which clauses a function has, as `f`: `a`, `b`, the
-function itself has to have them. A block of Rust behind a line `<!-- from: FILE -->` has to stand in that file.
-"""
+A name is a word in backquotes. It has to be declared in some crate: as a function, a type, a clause, a field,
+a definition of `specs/`, a file or a word of the program. Where a table says which clauses a function has, as
+`f`: `a`, `b`, the function itself has to have them. A block of Rust behind a line `<!-- from: FILE -->` has
+to stand in that file."""
 
 import pathlib
 import re
@@ -25,10 +26,10 @@ NAMING = [
 README_BYTES = 14336
 CODES = [0, 1, 2, 3, 4, 5, 6, 7, 8, 9, 10, 11, 12, 13, 20, 22]
 
-# words that stand in backquotes and are of no crate: programs, commands of the toolchain and of other programs, languages
+# words that stand in backquotes and are of no crate: programs, libraries and words of other languages
 OUTSIDE = set(
-    "antt arrayvec bool circular_buffer cmp core dask distributed flock i32 i64 io itoa items lz4 memchr numpy od perf"
-    " rand_core rand_xoshiro rt sha256sum std std_alloc thiserror u16 u32 u64 u8 xargs zfp zfpi zstd"
+    "antt arrayvec bool circular_buffer cmp core dask distributed flock i32 i64 io itoa items lz4 memchr"
+    " numpy od perf rand_core rand_xoshiro rt sha256sum std std_alloc thiserror u16 u32 u64 u8 xargs zfp zfpi zstd"
     " AllocError Copy Display Iterator Option Result Send Sync Vec match mod".split()
     # a name that DECISIONS sets aside
     + ["RunTwoWay"]
@@ -58,7 +59,7 @@ def clause_names(lines):
 
 
 def functions():
-    """Of each function of each crate, by crate and name: the names of its clauses. Those of one name are taken together."""
+    """Of each function, by crate and name: the names of its clauses. Those of one name are taken together."""
     found = {}
     for source in sources("*/src/**/*.rt"):
         crate = source.relative_to(CRATES).parts[0]
@@ -82,14 +83,22 @@ def declared():
         names |= {name} | clauses
     for source in sources("*/src/**/*.rt"):
         text = source.read_text()
-        names.update(re.findall(r"\b(?:struct|enum|trait|type|const|static|mod|ghost|macro_rules!) (\w+)", text))
+        names.update(
+            re.findall(r"\b(?:struct|enum|trait|type|const|static|mod|ghost|macro_rules!) (\w+)", text)
+        )
         names.update(re.findall(r"^\s+(?:pub )?(\w+):", text, re.M))
         names.update(re.findall(r"^\s+([A-Z]\w*)(?:\(|,| \{|$)", text, re.M))
-        names.update(word for literal in re.findall(r'"([^"\n]*)"', text) for word in re.findall(r"\w+", literal))
+        names.update(
+            word for literal in re.findall(r'"([^"\n]*)"', text) for word in re.findall(r"\w+", literal)
+        )
         names.add(source.stem)
     for source in [*sources("*/specs/**/*.antt"), *sources("*/proofs/**/*.antt")]:
         text = source.read_text()
-        names.update(re.findall(r"^\s*(?:abbrev|unfoldable|pub|record|data|law|theorem)\b[ \w]*?(\w+) ?[:({]", text, re.M))
+        names.update(
+            re.findall(
+                r"^\s*(?:abbrev|unfoldable|pub|record|data|law|theorem)\b[ \w]*?(\w+) ?[:({]", text, re.M
+            )
+        )
         names.update(re.findall(r"^\s*(?:pub )?(\w+) :", text, re.M))
         names.update(re.findall(r"\b(?:record|data) (\w+)", text))
         names |= {source.stem, source.parent.name}
@@ -115,7 +124,11 @@ def names_in(text):
 
 
 def missing_names(page, known):
-    return [f"{page}: `{quoted}` is not in the tree" for name, quoted in names_in((TOP / page).read_text()) if name not in known]
+    return [
+        f"{page}: `{quoted}` is not in the tree"
+        for name, quoted in names_in((TOP / page).read_text())
+        if name not in known
+    ]
 
 
 def missing_files(page):
@@ -161,7 +174,11 @@ def missing_clauses(page, known):
                     if function == name and (page != "docs/MAP.md" or where == crate or where == "zf_base"):
                         having |= its
             if having:
-                wrong += [f"{page}: {', '.join(called)} has no clause `{clause}`" for clause in clauses if clause not in having]
+                wrong += [
+                    f"{page}: {', '.join(called)} has no clause `{clause}`"
+                    for clause in clauses
+                    if clause not in having
+                ]
     return wrong
 
 
@@ -184,7 +201,9 @@ def unindented(text):
 def missing_snippets(page):
     """Blocks that say which file they are from and do not stand there, their indentation aside."""
     wrong = []
-    for name, text in re.findall(r"<!-- from: (\S+) -->\n+```\w*\n(.*?)^```$", (TOP / page).read_text(), re.M | re.S):
+    for name, text in re.findall(
+        r"<!-- from: (\S+) -->\n+```\w*\n(.*?)^```$", (TOP / page).read_text(), re.M | re.S
+    ):
         if unindented(text) not in unindented((TOP / name).read_text()):
             wrong.append(f"{page}: the block is not in {name}")
     return wrong
@@ -193,14 +212,19 @@ def missing_snippets(page):
 def unsnipped(page):
     """Blocks of Rust that do not say where they are from."""
     text = (TOP / page).read_text()
-    return [f"{page}: a block of Rust is from no file" for _ in re.finditer(r"(?<!-->\n)(?<!-->\n\n)^```rust$", text, re.M)]
+    return [
+        f"{page}: a block of Rust is from no file"
+        for _ in re.finditer(r"(?<!-->\n)(?<!-->\n\n)^```rust$", text, re.M)
+    ]
 
 
 def error_lines():
     """The texts of the error lines, as the program has them; a number in one is N."""
     text = (CRATES / "zfpi/src/line.rt").read_text()
     lines = [line for line in re.findall(r'plain\("([^"]+)"\)', text)]
-    return lines + [f"{before}N{after}" for before, after in re.findall(r'counted\("([^"]*)", .*?, "([^"]*)"\)', text)]
+    return lines + [
+        f"{before}N{after}" for before, after in re.findall(r'counted\("([^"]*)", .*?, "([^"]*)"\)', text)
+    ]
 
 
 def commands():
@@ -211,8 +235,14 @@ def commands():
 def missing_in_manual():
     """Commands, codes and error lines that the manual page, or README's table of lines, lacks."""
     manual, readme = (TOP / "docs/zfpi.1").read_text(), (TOP / "README.md").read_text()
-    wrong = [f"docs/zfpi.1: no command {command}" for command in commands() if not re.search(rf"^\.It Cm {command}\b", manual, re.M)]
-    wrong += [f"docs/zfpi.1: no code {code}" for code in CODES if not re.search(rf"^\.It {code}$", manual, re.M)]
+    wrong = [
+        f"docs/zfpi.1: no command {command}"
+        for command in commands()
+        if not re.search(rf"^\.It Cm {command}\b", manual, re.M)
+    ]
+    wrong += [
+        f"docs/zfpi.1: no code {code}" for code in CODES if not re.search(rf"^\.It {code}$", manual, re.M)
+    ]
     for line in error_lines():
         said = re.escape(line).replace("N", r"[A-Z]")
         wrong += [f"docs/zfpi.1: no line `{line}`"] * (not re.search(rf"^\.It Qq {said}$", manual, re.M))

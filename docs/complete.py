@@ -3,9 +3,9 @@
 
     python3 docs/complete.py
 
-Each line is typed into bash on a terminal of its own, and the key that inserts all completions (Meta-*) is pressed. Then
-the line is put between quotes and printed. It says which line becomes another one than it should, and ends with 1 then.
-"""
+Each line is typed into bash on a terminal of its own, and the key that inserts all completions (Meta-*) is
+pressed. Then the line is put between quotes and printed. It says which line becomes another one than it
+should, and ends with 1 then."""
 
 import os
 import pathlib
@@ -62,7 +62,13 @@ def begun(folder):
         os.chdir(folder)
         os.environ.update({"TERM": "dumb", "LC_ALL": "C", "PS1": "", "COLUMNS": "1000"})
         os.execvp("bash", ["bash", "--norc", "--noprofile", "-i"])
-    settings = "bind 'set bell-style none' 'set mark-directories off' 'set enable-bracketed-paste off' 'set horizontal-scroll-mode on'"
+    options = [
+        "bell-style none",
+        "mark-directories off",
+        "enable-bracketed-paste off",
+        "horizontal-scroll-mode on",
+    ]
+    settings = "bind " + " ".join(f"'set {option}'" for option in options)
     os.write(terminal, f"stty -echo cols 1000; {settings}; source {HERE}/zfpi.bash; echo rea''dy\n".encode())
     read_until(terminal, b"ready\r\n")
     return terminal

@@ -3,10 +3,10 @@
 
     python3 examples/many_fields.py FOLDER TYPE SHAPE MODE..
 
-Makes NAME.zfpi beside each NAME.raw. With the environment variable SCHEDULER, such as `tcp://head:8786`, the tasks go to
-the workers of that scheduler, which must see the same folder and have zfpi; without it to two processes here. A file that
-fails is named with the line that zfpi wrote, and the others go on. Needs Debian's python3-distributed.
-"""
+Makes NAME.zfpi beside each NAME.raw. With the environment variable SCHEDULER, such as `tcp://head:8786`, the
+tasks go to the workers of that scheduler, which must see the same folder and have zfpi; without it to two
+processes here. A file that fails is named with the line that zfpi wrote, and the others go on. Needs Debian's
+python3-distributed."""
 
 import os
 import pathlib
@@ -17,11 +17,13 @@ from distributed import Client, LocalCluster, as_completed
 
 
 def compress(file, words):
-    """Makes the stream of one file. It has its name only once it is whole. Answers the file and why it failed, or ""."""
+    """Makes the stream of one file, which has its name once it is whole. Answers the file and why it failed."""
     file = pathlib.Path(file)
     part = file.with_suffix(".part")
     with open(file, "rb") as source, open(part, "wb") as sink:
-        done = subprocess.run(["zfpi", "compress", *words], stdin=source, stdout=sink, stderr=subprocess.PIPE, check=False)
+        done = subprocess.run(
+            ["zfpi", "compress", *words], stdin=source, stdout=sink, stderr=subprocess.PIPE, check=False
+        )
     if done.returncode != 0:
         part.unlink()
         return file.name, done.stderr.decode().strip()

@@ -4,10 +4,10 @@
     python3 examples/parts.py cut FILE TYPE SHAPE ROWS FOLDER MODE..
     python3 examples/parts.py join FOLDER FILE
 
-A stream has at most 2^27 values, so a larger field goes in parts. It is cut along its last axis, which is the one whose
-rows lie together in the file. ROWS is a multiple of four: then no block is cut, and at any rate the values come back as
-they would from one stream. The last part has the rows that are left, and its own shape. One part at a time is in memory.
-"""
+A stream has at most 2^27 values, so a larger field goes in parts. It is cut along its last axis, which is the
+one whose rows lie together in the file. ROWS is a multiple of four: then no block is cut, and at any rate the
+values come back as they would from one stream. The last part has the rows that are left, and its own shape.
+One part at a time is in memory."""
 
 import math
 import pathlib
@@ -22,7 +22,7 @@ def zfpi(data, *words):
 
 
 def cut(file, type_word, shape, rows, folder, mode):
-    """Makes part-00000.zfpi and so on, and the file `type`, which the way back needs for values of 8 and 16 bits."""
+    """Makes part-00000.zfpi and so on, and the file `type`, which the way back needs for 8 and 16 bits."""
     if rows % 4 != 0:
         raise ValueError("rows in whole blocks: a multiple of four")
     *inner, last = [int(size) for size in shape.split("x")]

@@ -3,9 +3,9 @@
 
     python3 examples/take_crates.py FOLDER NAME..
 
-FOLDER is the top of the other repository. The crates come into FOLDER/crates, without their tests, planted bugs and what
-was built; their lines are put behind those of FOLDER/crates.txt. A crate that is there already stays as it is.
-"""
+FOLDER is the top of the other repository. The crates come into FOLDER/crates, without their tests, planted
+bugs and what was built; their lines are put behind those of FOLDER/crates.txt. A crate that is there already
+stays as it is."""
 
 import pathlib
 import shutil
@@ -17,7 +17,10 @@ TOP = pathlib.Path(__file__).resolve().parent.parent
 def crates_below():
     """Of each crate those that it stands on."""
     lines = (TOP / "crates.txt").read_text().splitlines()
-    return {name.strip(): below.split() for name, _, below in (line.partition(":") for line in lines if ":" in line and line[0] != "#")}
+    return {
+        name.strip(): below.split()
+        for name, _, below in (line.partition(":") for line in lines if ":" in line and line[0] != "#")
+    }
 
 
 def needed(names, below):
