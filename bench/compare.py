@@ -8,18 +8,17 @@ python3-blosc, and python3-matplotlib for the picture.
 
 With no word it prints three tables: bits a value without loss of zfpi and of four others, the greatest error
 of zfpi at three rates, and the same image in three types. With `--speed` it prints how many megabytes of raw
-values a second each way takes and gives back, by processor time, the best of five runs: plain numbers of one
+values a second each way takes and gives back, by processor time, the best of nine runs: plain numbers of one
 machine. With `--picture` it draws error against bits a value into docs/errors.svg.
 
 The fields are made by whole-number arithmetic, so they are the same on every machine. zfp has no values of 16
-bits: it is given the int32 values that stand for them (docs/FORMAT.md, section 2)."""
+bits: it is given the int32 values that stand for them (docs/FORMAT.md, section 2).
+"""
 
-import os
 import pathlib
+import resource
 import subprocess
 import sys
-import tempfile
-import time
 from typing import NamedTuple
 
 import blosc
@@ -29,7 +28,7 @@ from fields import words_of
 
 TOP = pathlib.Path(__file__).resolve().parent.parent
 RATES = (4, 8, 12)
-RUNS = 5
+RUNS = 9
 
 
 class Field(NamedTuple):
@@ -87,10 +86,10 @@ def smooth():
 
 def image():
     """A scene of twelve bits: a bright ground, dark discs, and the noise of a camera."""
-    side = 1024
+    side = 2048
     y, x = numpy.mgrid[0:side, 0:side].astype(numpy.int64)
-    light = 1200 + x // 2 + wave_at(y + 40, 300, 500)
-    for place, word in enumerate(words_of(5, 40)):
+    light = 1200 + x // 4 + wave_at(y + 40, 300, 500)
+    for place, word in enumerate(words_of(5, 160)):
         left, top, radius = (
             int(word) % side,
             int(word >> numpy.uint64(20)) % side,
@@ -104,13 +103,14 @@ def image():
 
 def frames():
     """Dark frames of a camera: a small offset, and noise that no two values share."""
-    sizes = (16, 256, 256)
-    return Field("noisy frames", (500 + noise(16 * 256 * 256, 6, 99).reshape(sizes)).astype("<u2"))
+    sizes = (64, 256, 256)
+    return Field("noisy frames", (500 + noise(64 * 256 * 256, 6, 99).reshape(sizes)).astype("<u2"))
 
 
 def processor_time():
-    used = os.times()
-    return used.user + used.system + used.children_user + used.children_system
+    """Seconds of processor time of this process and of those that it started and that have ended."""
+    used = [resource.getrusage(who) for who in (resource.RUSAGE_SELF, resource.RUSAGE_CHILDREN)]
+    return sum(it.ru_utime + it.ru_stime for it in used)
 
 
 def ran(words, data):

@@ -5,7 +5,8 @@ with code 0.
     python3 bench/flips.py [PROGRAM]
 
 PROGRAM is the built program, by default crates/zfpi/out/zfpi. Needs nothing else. A stream has no checksum:
-this shows what that means. The bits are behind the header, a fixed number of bits apart."""
+this shows what that means. The bits are behind the header, a fixed number of bits apart.
+"""
 
 import pathlib
 import subprocess

@@ -1,10 +1,11 @@
 #!/usr/bin/env python3
-"""Prints the contracts of the library's calls, as docs/CALLING.md quotes them; docs/check.py compares the two.
+"""Prints the contracts of the library's calls, as docs/CALLING.md quotes them; docs/check.py compares them.
 
     python3 docs/calling.py [--write]
 
 With `--write` the quoted part of docs/CALLING.md is written anew. What is quoted stands in crates/NAME/src; a
-clause is put in one line, its spaces made one."""
+clause is put in one line, its spaces made one.
+"""
 
 import pathlib
 import re

@@ -16,7 +16,8 @@ PROGRAM is the built program, by default crates/zfpi/out/zfpi. Outside the gate;
 
 A block, or a page, behind a line `<!-- needs: WORD.. -->` is left out where a program or a module of Python
 of such a name is lacking; the last line says how many commands that were. A block behind `<!-- not run: WHY
--->` is not run."""
+-->` is not run.
+"""
 
 import functools
 import os

@@ -9,7 +9,8 @@ docs/check.py runs it too. It prints each name that is not there, and ends with 
 A name is a word in backquotes. It has to be declared in some crate: as a function, a type, a clause, a field,
 a definition of `specs/`, a file or a word of the program. Where a table says which clauses a function has, as
 `f`: `a`, `b`, the function itself has to have them. A block of Rust behind a line `<!-- from: FILE -->` has
-to stand in that file."""
+to stand in that file.
+"""
 
 import pathlib
 import re
@@ -29,7 +30,7 @@ CODES = [0, 1, 2, 3, 4, 5, 6, 7, 8, 9, 10, 11, 12, 13, 20, 22]
 # words that stand in backquotes and are of no crate: programs, libraries and words of other languages
 OUTSIDE = set(
     "antt arrayvec bool circular_buffer cmp core dask distributed flock i32 i64 io itoa items lz4 memchr"
-    " numpy od perf rand_core rand_xoshiro rt sha256sum std std_alloc thiserror u16 u32 u64 u8 xargs zfp zfpi zstd"
+    " numpy od perf rand_core rand_xoshiro rt sha256sum std std_alloc thiserror u16 u32 u64 u8 xargs zfp zstd"
     " AllocError Copy Display Iterator Option Result Send Sync Vec match mod".split()
     # a name that DECISIONS sets aside
     + ["RunTwoWay"]

@@ -5,7 +5,8 @@
 
 Each line is typed into bash on a terminal of its own, and the key that inserts all completions (Meta-*) is
 pressed. Then the line is put between quotes and printed. It says which line becomes another one than it
-should, and ends with 1 then."""
+should, and ends with 1 then.
+"""
 
 import os
 import pathlib

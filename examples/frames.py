@@ -6,7 +6,8 @@
 
 `pack` makes NAME.zfpi beside each NAME.pgm, `unpack` the other way round. A frame gets its name once it is
 whole, so a run that was cut off leaves no half of one. Values of PGM stand with their high byte first, and
-zfpi reads the low byte first."""
+zfpi reads the low byte first.
+"""
 
 import pathlib
 import re

@@ -6,7 +6,8 @@
 Makes NAME.zfpi beside each NAME.raw. With the environment variable SCHEDULER, such as `tcp://head:8786`, the
 tasks go to the workers of that scheduler, which must see the same folder and have zfpi; without it to two
 processes here. A file that fails is named with the line that zfpi wrote, and the others go on. Needs Debian's
-python3-distributed."""
+python3-distributed.
+"""
 
 import os
 import pathlib
@@ -17,7 +18,7 @@ from distributed import Client, LocalCluster, as_completed
 
 
 def compress(file, words):
-    """Makes the stream of one file, which has its name once it is whole. Answers the file and why it failed."""
+    """Makes the stream of a file, which has its name once it is whole. Answers the file and why it failed."""
     file = pathlib.Path(file)
     part = file.with_suffix(".part")
     with open(file, "rb") as source, open(part, "wb") as sink:

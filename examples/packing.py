@@ -4,7 +4,8 @@
     python3 examples/packing.py
 
 They take the type and the shape from the array itself, so neither can be given wrongly. numpy counts its axes
-the other way round, last axis first: `array.shape[::-1]` is the shape of zfpi."""
+the other way round, last axis first: `array.shape[::-1]` is the shape of zfpi.
+"""
 
 import subprocess
 
@@ -12,7 +13,7 @@ import numpy
 
 
 def zfpi(data, *words):
-    """What zfpi writes for these bytes. A refusal is a `CalledProcessError`; its line is on standard error."""
+    """What zfpi writes for these bytes. A refusal is a `CalledProcessError`, its line on standard error."""
     return subprocess.run(["zfpi", *words], input=data, stdout=subprocess.PIPE, check=True).stdout
 
 
@@ -24,7 +25,7 @@ def pack(array, *mode):
 
 
 def unpack(stream, dtype=None):
-    """The array of a stream. `dtype` is that of 8 or 16 bits which the array had: the stream says int32 then."""
+    """The array of a stream. `dtype` is the type of 8 or 16 bits that it had: the stream says int32 then."""
     of_stream, shape = zfpi(stream, "info").decode().split()[:2]
     name = of_stream if dtype is None else numpy.dtype(dtype).name
     raw = zfpi(stream, "restore", *([] if dtype is None else [name]))

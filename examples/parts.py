@@ -7,7 +7,8 @@
 A stream has at most 2^27 values, so a larger field goes in parts. It is cut along its last axis, which is the
 one whose rows lie together in the file. ROWS is a multiple of four: then no block is cut, and at any rate the
 values come back as they would from one stream. The last part has the rows that are left, and its own shape.
-One part at a time is in memory."""
+One part at a time is in memory.
+"""
 
 import math
 import pathlib

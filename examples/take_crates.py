@@ -5,7 +5,8 @@
 
 FOLDER is the top of the other repository. The crates come into FOLDER/crates, without their tests, planted
 bugs and what was built; their lines are put behind those of FOLDER/crates.txt. A crate that is there already
-stays as it is."""
+stays as it is.
+"""
 
 import pathlib
 import shutil
