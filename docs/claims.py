@@ -258,9 +258,25 @@ def codes_of_the_program():
     return [] if codes == set(CODES) else [f"docs/claims.py: the codes are {sorted(codes)}"]
 
 
+def long_promises():
+    """Sentences and cells of PROMISES that are too long to be read in a breath."""
+    text = prose((TOP / "docs/PROMISES.md").read_text())
+    cells = [cell for row in rows(text) for cell in row]
+    wrong = [
+        f"docs/PROMISES.md: a cell of {len(cell)} characters: {cell[:40]}"
+        for cell in cells
+        if len(cell) > 200
+    ]
+    running = re.sub(r"\n(?!\n|- |#)", " ", re.sub(r"^\|.*$", "", text, flags=re.M))
+    for sentence in re.split(r"(?<=[.:])\s+|\n", running):
+        if len(sentence.split()) > 30:
+            wrong.append(f"docs/PROMISES.md: a sentence of {len(sentence.split())} words: {sentence[:40]}")
+    return wrong
+
+
 def all_wrong():
     known_functions, known = functions(), declared()
-    wrong = codes_of_the_program() + missing_bugs() + missing_in_manual()
+    wrong = codes_of_the_program() + missing_bugs() + missing_in_manual() + long_promises()
     size = (TOP / "README.md").stat().st_size
     wrong += [f"README.md: {size} bytes, at most {README_BYTES}"] * (size > README_BYTES)
     for page in NAMING:
