@@ -196,7 +196,8 @@ def surroundings(folder, program):
 
 def main():
     program = pathlib.Path(sys.argv[1] if len(sys.argv) > 1 else TOP / "crates/zfpi/out/zfpi").resolve()
-    pages = [TOP / "README.md", *sorted((TOP / "docs").glob("*.md")), TOP / "examples/README.md"]
+    pages = [TOP / "README.md", *sorted((TOP / "docs").glob("*.md"))]
+    pages += [TOP / "examples/README.md", TOP / "data/README.md"]
     with tempfile.TemporaryDirectory() as name:
         known = surroundings(pathlib.Path(name), program)
         total = Count()
