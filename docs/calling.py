@@ -1,9 +1,10 @@
 #!/usr/bin/env python3
-"""Prints the contracts of the library's calls, as docs/CALLING.md quotes them; docs/check.py compares the two.
+"""Prints the contracts of the library's calls, as docs/CALLING.md quotes them; docs/check.py compares them.
 
     python3 docs/calling.py [--write]
 
-With `--write` the quoted part of docs/CALLING.md is written anew. What is quoted stands in crates/NAME/src; a clause is put in one line, its spaces made one.
+With `--write` the quoted part of docs/CALLING.md is written anew. What is quoted stands in crates/NAME/src; a
+clause is put in one line, its spaces made one.
 """
 
 import pathlib
@@ -15,15 +16,38 @@ PAGE = TOP / "docs/CALLING.md"
 MARK = "<!-- contracts -->\n"
 
 CALLS = [
+    (
+        "Shapes and positions",
+        "zf_base",
+        ["Shape::new", "dims", "size", "values", "blocks", "contains", "place", "extent"],
+    ),
+    ("Headers", "zf_header", ["read", "write", "mode_number", "rate_bytes"]),
+    (
+        "Devices",
+        "zf_dev",
+        [
+            "fill",
+            "take_all",
+            "write_all",
+            "MemSource::new",
+            "MemSink::new",
+            "bytes",
+            "RealSource::new",
+            "RealSink::new",
+        ],
+    ),
     ("Streams", "zf_stream", ["compress", "restore", "read_header"]),
     ("Streams of narrow values", "zf_narrow", ["promote", "demote", "compress_narrow", "restore_narrow"]),
     ("A bound of the error", "zf_bound", ["bound"]),
     ("Where codes lie", "zf_index", ["build", "span"]),
-    ("Arrays", "zf_array", ["new", "from_file", "get", "set", "add", "flush", "discard", "set_lines", "resize", "save_bytes"]),
+    (
+        "Arrays",
+        "zf_array",
+        ["new", "from_file", "get", "set", "add", "flush", "discard", "set_lines", "resize", "save_bytes"],
+    ),
     ("Arrays that are only read", "zf_const", ["from_file", "get", "block", "set_lines"]),
     ("Windows", "zf_window", ["whole", "new", "slice"]),
     ("Views", "zf_view", ["new", "bind", "get", "set", "elem", "run_mut"]),
-    ("Devices", "zf_dev", ["fill", "take_all", "write_all"]),
 ]
 
 
@@ -74,7 +98,7 @@ def quoted():
             if source.stem.startswith("tests"):
                 continue
             for owner, name, head, clauses in functions(source.read_text()):
-                if name in names:
+                if name in names or f"{owner}::{name}" in names:
                     yield head.replace("fn ", f"fn {owner}::", 1) if owner else head
                     yield from (f"  {clause}" for clause in clauses)
         yield "```\n"

@@ -1,0 +1,298 @@
+#!/usr/bin/env python3
+"""Looks whether what the documents name is in the tree: functions, clauses, laws, planted bugs, snippets,
+error lines.
+
+    python3 docs/claims.py
+
+docs/check.py runs it too. It prints each name that is not there, and ends with 1 where there is one.
+
+A name is a word in backquotes. It has to be declared in some crate: as a function, a type, a clause, a field,
+a definition of `specs/`, a file or a word of the program. Where a table says which clauses a function has, as
+`f`: `a`, `b`, the function itself has to have them. A block of Rust behind a line `<!-- from: FILE -->` has
+to stand in that file.
+"""
+
+import pathlib
+import re
+import sys
+
+TOP = pathlib.Path(__file__).resolve().parent.parent
+CRATES = TOP / "crates"
+NAMING = [
+    "README.md",
+    "CHANGELOG.md",
+    "bench/HISTORY.md",
+    *(f"docs/{page}.md" for page in "MAP ANSWERS CALLING PROMISES DECISIONS EXTENDING CONTRIBUTING".split()),
+]
+README_BYTES = 14336
+CODES = [0, 1, 2, 3, 4, 5, 6, 7, 8, 9, 10, 11, 12, 13, 20, 22]
+
+# words that stand in backquotes and are of no crate: programs, libraries and words of other languages
+OUTSIDE = set(
+    "antt arrayvec bool circular_buffer cmp core dask distributed flock i32 i64 io itoa items lz4 memchr"
+    " numpy od perf rand_core rand_xoshiro rt sha256sum std std_alloc thiserror u16 u32 u64 u8 xargs zfp zstd"
+    " AllocError Copy Display Iterator Option Result Send Sync Vec match mod".split()
+    # a name that DECISIONS sets aside
+    + ["RunTwoWay"]
+)
+# capital words that stand for what a user writes, and letters for numbers
+STANDS_FOR = re.compile(r"[A-Z]{1,10}$|[a-z]$|[0-9a-f]{16}$")
+IDENTIFIER = re.compile(r"[A-Za-z_]\w*$")
+
+
+def sources(pattern):
+    return sorted(CRATES.glob(pattern))
+
+
+def clause_names(lines):
+    """The names of the clauses of the function whose head begins these lines."""
+    names = set()
+    for line in lines:
+        text = line.strip()
+        if text in ("{", "{}") or text.endswith("{}"):
+            break
+        names.update(re.findall(r"(?:requires|ensures\*?) (\w+) \{", text))
+        if re.match(r"(pub )?fn ", text) and line is not lines[0]:
+            break
+        if text.endswith(";") and not text.startswith("//"):
+            break
+    return names
+
+
+def functions():
+    """Of each function, by crate and name: the names of its clauses. Those of one name are taken together."""
+    found = {}
+    for source in sources("*/src/**/*.rt"):
+        crate = source.relative_to(CRATES).parts[0]
+        lines = source.read_text().splitlines()
+        for number, line in enumerate(lines):
+            head = re.match(r"\s*(?:pub(?:\(crate\))? )?(?:unsafe )?fn (\w+)", line)
+            if head:
+                found.setdefault((crate, head.group(1)), set()).update(clause_names(lines[number:]))
+            member = re.match(r"\s*(?:pub )?ghost (\w+)", line)
+            if member:
+                found.setdefault((crate, member.group(1)), set())
+    return found
+
+
+def declared():
+    """All names that the tree declares."""
+    names = set(OUTSIDE)
+    for crate in CRATES.iterdir():
+        names.add(crate.name)
+    for (_, name), clauses in functions().items():
+        names |= {name} | clauses
+    for source in sources("*/src/**/*.rt"):
+        text = source.read_text()
+        names.update(
+            re.findall(r"\b(?:struct|enum|trait|type|const|static|mod|ghost|macro_rules!) (\w+)", text)
+        )
+        names.update(re.findall(r"^\s+(?:pub )?(\w+):", text, re.M))
+        names.update(re.findall(r"^\s+([A-Z]\w*)(?:\(|,| \{|$)", text, re.M))
+        names.update(
+            word for literal in re.findall(r'"([^"\n]*)"', text) for word in re.findall(r"\w+", literal)
+        )
+        names.add(source.stem)
+    for source in [*sources("*/specs/**/*.antt"), *sources("*/proofs/**/*.antt")]:
+        text = source.read_text()
+        names.update(
+            re.findall(
+                r"^\s*(?:abbrev|unfoldable|pub|record|data|law|theorem)\b[ \w]*?(\w+) ?[:({]", text, re.M
+            )
+        )
+        names.update(re.findall(r"^\s*(?:pub )?(\w+) :", text, re.M))
+        names.update(re.findall(r"\b(?:record|data) (\w+)", text))
+        names |= {source.stem, source.parent.name}
+    names |= {edit.stem for edit in sources("*/must-fail/*.edit")}
+    for script in [*TOP.glob("examples/*.py"), *TOP.glob("bench/*.py"), *TOP.glob("check/*.py")]:
+        names |= {script.stem, *re.findall(r"^def (\w+)", script.read_text(), re.M)}
+    return names
+
+
+def prose(text):
+    """A page without its blocks of code."""
+    return re.sub(r"^```.*?^```$", "", text, flags=re.M | re.S)
+
+
+def names_in(text):
+    """The identifiers of a page in backquotes, each with the backquoted word that it is of."""
+    for quoted in re.findall(r"`([^`\n]+)`", prose(text)):
+        bare = re.sub(r"\(.*\)$|^crates/|<.*>$", "", quoted)
+        if re.fullmatch(r"[\w:]+", bare):
+            for part in bare.split("::"):
+                if IDENTIFIER.match(part) and not STANDS_FOR.match(part):
+                    yield part, quoted
+
+
+def missing_names(page, known):
+    return [
+        f"{page}: `{quoted}` is not in the tree"
+        for name, quoted in names_in((TOP / page).read_text())
+        if name not in known
+    ]
+
+
+def missing_files(page):
+    """Files and links that a page names and that are not there."""
+    text = (TOP / page).read_text()
+    wrong = []
+    for link in re.findall(r"\]\(([^)#]+)\)", text):
+        if "://" not in link and not (TOP / page).parent.joinpath(link).exists():
+            wrong.append(f"{page}: no file {link}")
+    for name in re.findall(r"`((?:crates|docs|bench|examples|check|data|specs|src)/[\w./-]+)`", prose(text)):
+        if not (TOP / name).exists() and not any(CRATES.glob(f"*/{name}")) and "NAME" not in name:
+            wrong.append(f"{page}: no file {name}")
+    return wrong
+
+
+def rows(text):
+    """The cells of each row of each table."""
+    for line in text.splitlines():
+        if line.startswith("|") and not line.startswith("|---"):
+            yield [cell.strip() for cell in re.split(r"(?<!\\)\|", line)[1:-1]]
+
+
+def claims_in(cell):
+    """Of a cell as `f`, `g`: `a`, `b`; law `h`: `c`: the functions and the clauses that they have."""
+    for group in cell.split(";"):
+        before, colon, after = group.partition("`:")
+        if colon:
+            called = [name.split("::")[-1] for name in re.findall(r"`([\w:]+)", before + "`")]
+            clauses = re.findall(r"`(\w+)`", re.sub(r"\(.*?\)", "", after))
+            yield called, clauses
+
+
+def missing_clauses(page, known):
+    """Clauses that a table says of a function which has none of that name."""
+    wrong, crate = [], None
+    for cells in rows((TOP / page).read_text()):
+        own = re.match(r"`(zf\w*)`", cells[0])
+        crate = own.group(1) if own else crate
+        for called, clauses in claims_in(cells[-1]):
+            having = set()
+            for name in called:
+                for (where, function), its in known.items():
+                    if function == name and (page != "docs/MAP.md" or where == crate or where == "zf_base"):
+                        having |= its
+            if having:
+                wrong += [
+                    f"{page}: {', '.join(called)} has no clause `{clause}`"
+                    for clause in clauses
+                    if clause not in having
+                ]
+    return wrong
+
+
+def missing_bugs():
+    """Planted bugs that ANSWERS names."""
+    text = (TOP / "docs/ANSWERS.md").read_text()
+    wrong, crate = [], None
+    for cells in rows(text):
+        for name in re.findall(r"`([\w/]+)`", cells[-1] if "/" in cells[-1] else ""):
+            crate, _, bug = name.rpartition("/") if "/" in name else (crate, "", name)
+            if not (CRATES / crate / "must-fail" / f"{bug}.edit").exists():
+                wrong.append(f"docs/ANSWERS.md: no planted bug {crate}/{bug}")
+    return wrong
+
+
+def unindented(text):
+    return "\n".join(line.strip() for line in text.splitlines())
+
+
+def missing_snippets(page):
+    """Blocks that say which file they are from and do not stand there, their indentation aside."""
+    wrong = []
+    for name, text in re.findall(
+        r"<!-- from: (\S+) -->\n+```\w*\n(.*?)^```$", (TOP / page).read_text(), re.M | re.S
+    ):
+        if unindented(text) not in unindented((TOP / name).read_text()):
+            wrong.append(f"{page}: the block is not in {name}")
+    return wrong
+
+
+def unsnipped(page):
+    """Blocks of Rust that do not say where they are from."""
+    text = (TOP / page).read_text()
+    return [
+        f"{page}: a block of Rust is from no file"
+        for _ in re.finditer(r"(?<!-->\n)(?<!-->\n\n)^```rust$", text, re.M)
+    ]
+
+
+def error_lines():
+    """The texts of the error lines, as the program has them; a number in one is N."""
+    text = (CRATES / "zfpi/src/line.rt").read_text()
+    lines = [line for line in re.findall(r'plain\("([^"]+)"\)', text)]
+    return lines + [
+        f"{before}N{after}" for before, after in re.findall(r'counted\("([^"]*)", .*?, "([^"]*)"\)', text)
+    ]
+
+
+def commands():
+    first = re.search(r"fn first\(.*?^}", (CRATES / "zfpi/src/words.rt").read_text(), re.M | re.S).group(0)
+    return re.findall(r'"(\w+)" =>', first)
+
+
+def missing_in_manual():
+    """Commands, codes and error lines that the manual page, or README's table of lines, lacks."""
+    manual, readme = (TOP / "docs/zfpi.1").read_text(), (TOP / "README.md").read_text()
+    wrong = [
+        f"docs/zfpi.1: no command {command}"
+        for command in commands()
+        if not re.search(rf"^\.It Cm {command}\b", manual, re.M)
+    ]
+    wrong += [
+        f"docs/zfpi.1: no code {code}" for code in CODES if not re.search(rf"^\.It {code}$", manual, re.M)
+    ]
+    for line in error_lines():
+        said = re.escape(line).replace("N", r"[A-Z]")
+        wrong += [f"docs/zfpi.1: no line `{line}`"] * (not re.search(rf"^\.It Qq {said}$", manual, re.M))
+        wrong += [f"README.md: no line `{line}`"] * (not re.search(f"`{said}`", readme))
+    return wrong
+
+
+def codes_of_the_program():
+    """Whether the codes of the program are those that are looked for here."""
+    text = (CRATES / "zfpi/src/status.rt").read_text()
+    codes = {int(code) for code in re.findall(r"=> (\d+),", text)} | {22}
+    return [] if codes == set(CODES) else [f"docs/claims.py: the codes are {sorted(codes)}"]
+
+
+def long_promises():
+    """Sentences and cells of PROMISES that are too long to be read in a breath."""
+    text = prose((TOP / "docs/PROMISES.md").read_text())
+    cells = [cell for row in rows(text) for cell in row]
+    wrong = [
+        f"docs/PROMISES.md: a cell of {len(cell)} characters: {cell[:40]}"
+        for cell in cells
+        if len(cell) > 200
+    ]
+    running = re.sub(r"\n(?!\n|- |#)", " ", re.sub(r"^\|.*$", "", text, flags=re.M))
+    for sentence in re.split(r"(?<=[.:])\s+|\n", running):
+        if len(sentence.split()) > 30:
+            wrong.append(f"docs/PROMISES.md: a sentence of {len(sentence.split())} words: {sentence[:40]}")
+    return wrong
+
+
+def all_wrong():
+    known_functions, known = functions(), declared()
+    wrong = codes_of_the_program() + missing_bugs() + missing_in_manual() + long_promises()
+    size = (TOP / "README.md").stat().st_size
+    wrong += [f"README.md: {size} bytes, at most {README_BYTES}"] * (size > README_BYTES)
+    for page in NAMING:
+        wrong += missing_names(page, known) + missing_snippets(page) + unsnipped(page)
+    for page in ["docs/MAP.md", "docs/ANSWERS.md"]:
+        wrong += missing_clauses(page, known_functions)
+    for page in ["README.md", *sorted(f"docs/{file.name}" for file in (TOP / "docs").glob("*.md"))]:
+        wrong += missing_files(page)
+    return wrong
+
+
+def main():
+    wrong = all_wrong()
+    print("\n".join(wrong + [f"claims: {len(wrong)} wrong"]))
+    sys.exit(1 if wrong else 0)
+
+
+if __name__ == "__main__":
+    main()
