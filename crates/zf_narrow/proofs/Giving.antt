@@ -1,21 +1,17 @@
 -- What a source that promotes has given, of what it has read.
-use Rattle.std.proofs.Common.{◌≡◌, refl, sym, ap, subst, ◌∙◌, ℕ, ◌+◌, ◌*◌, ◌/◌, ◌%◌, ◌≤◌, ◌<◌, ◌⊎◌, inl, inr, ⊎_elim, Bool, true, false, IsTrue, List, [], ◌∷◌, ◌++◌, length, take, drop, replicate, Option, Some, None, append_assoc, append-nil, length-append, mul_comm, arith}
-use Rattle.std.proofs.lemmas.List.{append_cancel_right, length-replicate, take_at, take_all, length-take-le}
-use Rattle.std.specs.Int.{w32, byte_len}
+use Rattle.std.proofs.Common.{◌≡◌, refl, sym, ap, ◌∙◌, ℕ, ◌+◌, ◌*◌, ◌%◌, ◌≤◌, ◌<◌, ◌⊎◌, inl, inr, ⊎_elim, Bool, true, false, IsTrue, List, [], ◌∷◌, ◌++◌, length, take, replicate, Option, Some, None, append_assoc, append-nil, length-append, mul_comm, arith}
+use Rattle.std.proofs.lemmas.List.{append_cancel_right, take_at, take_all}
+use Rattle.std.specs.Int.{byte_len}
 use Rattle.zf_spec.specs.Grid.{product}
 use Rattle.zf_base.specs.Widths.{width_of}
-use Rattle.zf_base.specs.declared.lane.Ty.TheVariants.{I32}
 use Rattle.zf_header.specs.declared.header.Header.{Header}
-use Rattle.zf_dev.specs.Source.{Takes, IsAtEnd}
-use Rattle.zf_dev.proofs.Taking.{Takes-to_end}
+use Rattle.zf_dev.specs.Source.{IsAtEnd}
 use Rattle.zf_parse.specs.Raw.{raw_len, stream_text}
 use Rattle.zf_narrow.specs.declared.narrow.Narrow.{Narrow}
-use Rattle.zf_narrow.specs.declared.promotion.Promotion.{Promotion}
 use Rattle.zf_narrow.specs.Values.{size_of}
 use Rattle.zf_narrow.specs.RawNarrow.{promoted_bytes, promoted_all}
-use Rattle.zf_narrow.specs.Promoting.{listed, coming, told_by}
-use Rattle.zf_narrow.specs.Promotions.{told, read_so_far}
-use Rattle.zf_narrow.proofs.Whole.{promoted_bytes-append, promoted_bytes-few, promoted_all-append, length-promoted_bytes, no_bytes}
+use Rattle.zf_narrow.specs.Promoting.{coming, told_by}
+use Rattle.zf_narrow.proofs.Whole.{promoted_bytes-append, promoted_bytes-few, promoted_all-append, no_bytes}
 use Rattle.zf_narrow.proofs.Fronts.{stream_text-zeros, stream_text-more}
 
 -- of the int32 bytes of what was read these were given: all but those of a part of the last value, or all and a zero byte for half a value

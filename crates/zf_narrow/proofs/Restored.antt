@@ -1,5 +1,5 @@
 -- How a restoration of narrow values ends, from how that of their int32 bytes does.
-use Rattle.std.proofs.Common.{◌≡◌, ◌≢◌, refl, sym, ap, subst, ◌∙◌, ℕ, ◌+◌, ◌*◌, ◌%◌, ◌≤◌, inl, inr, ⊎_elim, cond, is_none, Bool, true, false, List, [], ◌∷◌, ◌++◌, length, take, drop, replicate, Option, Some, None, Result, Ok, Err, append_assoc, append-nil, length-append, take-append-drop, arith}
+use Rattle.std.proofs.Common.{◌≡◌, refl, sym, ap, subst, ◌∙◌, ℕ, ◌+◌, ◌*◌, ◌%◌, ◌≤◌, inl, inr, ⊎_elim, cond, is_none, Bool, true, false, List, [], ◌∷◌, ◌++◌, length, take, drop, replicate, Option, Some, None, Result, Ok, Err, append_assoc, append-nil, length-append, take-append-drop, arith}
 use Rattle.std.specs.Prelude.{IsErrAnd}
 use Rattle.std.proofs.lemmas.List.{nil_from_length, length-take}
 use Rattle.std.specs.Int.{byte_len}
@@ -12,7 +12,6 @@ use Rattle.zf_header.specs.HeaderFaults.{header_fault}
 use Rattle.zf_dev.specs.Sink.{Appends, AppendsFront}
 use Rattle.zf_dev.proofs.Appending.{AppendsFront-all, AppendsFront-more}
 use Rattle.zf_parse.specs.declared.fault.StreamFault.{StreamFault}
-use Rattle.zf_parse.specs.declared.fault.StreamFault.TheVariants as faults
 use Rattle.zf_parse.specs.Parsing.{header_of, header_or, code_bits, read_codes, blocks_text, longest_codes, restore_answer, restored_text}
 use Rattle.zf_stream.specs.Outcomes.{Answers, LeavesFront}
 use Rattle.zf_stream.specs.Outcomes as outcomes
@@ -160,6 +159,6 @@ module _ (n : Narrow) {start now : Option (List ℕ)} {given owed taken part : L
   pub leaves_other : {src0 src1 : Option (List ℕ)} → HasOtherType I32 src0 src1 (Some []) (Some (taken ++ part)) → LeavesNarrowFront n src0 src1 start now
   leaves_other {src0} {src1} other = record {
     bytes = other.bytes;
-    taken = other.taken;
+    taken = other.first.taken;
     written = (0, omega arith, nothing_written (some_inj other.unwritten));
   }

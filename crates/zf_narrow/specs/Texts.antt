@@ -1,5 +1,5 @@
 -- What `compress_narrow` and `restore_narrow` answer and write for an input, and how they end.
-use Rattle.std.specs.Prelude.{ℕ, ◌≡◌, ◌≤◌, ◌+◌, ◌-◌, ◌*◌, ◌/◌, ◌%◌, min, ◌⊎◌, List, length, take, Option, Some, None, Result, Ok, Err, IsErrAnd}
+use Rattle.std.specs.Prelude.{ℕ, ◌≡◌, ◌≢◌, ◌≤◌, ◌+◌, ◌-◌, ◌*◌, ◌/◌, ◌%◌, min, ◌⊎◌, List, length, take, Option, Some, None, Result, Ok, Err, IsErrAnd}
 use Rattle.zf_spec.specs.Grid.{product}
 use Rattle.zf_base.specs.declared.lane.Ty.{Ty}
 use Rattle.zf_base.specs.declared.lane.Ty.TheVariants.{I32, I64}
@@ -13,6 +13,7 @@ use Rattle.zf_parse.specs.declared.fault.StreamFault.TheVariants as faults
 use Rattle.zf_parse.specs.Raw.{length_answer, stream_text}
 use Rattle.zf_parse.specs.Parsing.{header_of, restore_answer, restored_text}
 use Rattle.zf_stream.specs.Outcomes as outcomes
+use Rattle.zf_stream.specs.Headed.{front_room}
 use Rattle.zf_narrow.specs.declared.narrow.Narrow.{Narrow}
 use Rattle.zf_narrow.specs.declared.fault.NarrowFault.{NarrowFault}
 use Rattle.zf_narrow.specs.declared.fault.NarrowFault.TheVariants.{NotNarrow, Stream}
@@ -123,6 +124,13 @@ pub record RestoresNarrow (n : Narrow) (src_before src_now out_before out_now : 
   pub ended : IsAtEnd src_now
   pub good : restore_narrow_answer bytes ≡ Ok tt
   pub written : Appends out_before out_now (narrow_restored n bytes)
+
+-- the first bytes were taken and no more, and they begin with a good header of another type
+pub record HasWideType (src_before src_now : Option (List ℕ)) : Type 0 where
+  pub bytes : List ℕ
+  pub first : outcomes.TakesFirst front_room src_before src_now bytes
+  pub good : header_fault bytes ≡ None
+  pub other : (header_of bytes).ty ≢ I32
 
 -- some bytes were read, and a front of their values was written, maybe nothing
 pub record LeavesNarrowFront (n : Narrow) (src_before src_now out_before out_now : Option (List ℕ)) : Type 0 where

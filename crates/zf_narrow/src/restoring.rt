@@ -5,8 +5,8 @@ ghost use Rattle.zf_dev.specs.Faults.{HasCause};
 ghost use Rattle.zf_dev.specs.Sink.{Appends};
 ghost use Rattle.zf_parse.specs.ReadStreams.{HasGoodHeader};
 ghost use Rattle.zf_parse.specs.declared.fault.StreamFault.TheVariants.{Read, Write, Memory};
-ghost use Rattle.zf_narrow.specs.declared.fault.NarrowFault.TheVariants.{Stream};
-ghost use Rattle.zf_narrow.specs.Texts.{AnswersNarrow, CanRefuseNarrow, RestoresNarrow, LeavesNarrowFront, IsBeforeWriting};
+ghost use Rattle.zf_narrow.specs.declared.fault.NarrowFault.TheVariants.{NotNarrow, Stream};
+ghost use Rattle.zf_narrow.specs.Texts.{AnswersNarrow, CanRefuseNarrow, RestoresNarrow, HasWideType, LeavesNarrowFront, IsBeforeWriting};
 
 use crate::begun::Begun;
 use crate::demoted::Demoted;
@@ -20,7 +20,7 @@ use zf_stream::StreamFault;
 
 /// Reads a stream of int32 to the end of the source, and writes the raw narrow values that its values stand for, each little-endian in 1 or 2 bytes, x fastest.
 ///
-/// Values beyond the type become its last ones. `zf_stream::restore` says how much is held at a time, and when values are written.
+/// Values beyond the type become its last ones; of a stream of int64 24 bytes are read at most. `zf_stream::restore` says how much is held at a time, and when values are written.
 pub fn restore_narrow<S: Source, O: Sink>(
     alloc: Global,
     n: Narrow,
@@ -34,6 +34,7 @@ pub fn restore_narrow<S: Source, O: Sink>(
     ensures err { OnErr result (LeavesNarrowFront n
         (S.contents src.old) (S.contents src.new) (O.contents out.old) (O.contents out.new)) }
     ensures unwritten { IfErr result (λ e. IsBeforeWriting e → Appends (O.contents out.old) (O.contents out.new) []) }
+    ensures other { result ≡ Err NotNarrow → HasWideType (S.contents src.old) (S.contents src.new) }
     ensures memory { result ≡ Err (Stream Memory) → HasGoodHeader (S.contents src.old) }
     ensures same_source { S.kept src.new ≡ S.kept src.old }
     ensures same_sink { O.kept out.new ≡ O.kept out.old }
@@ -60,6 +61,7 @@ fn restore_begun<S: Source, O: Sink, K: Begun>(
     ensures err { OnErr result (LeavesNarrowFront n
         (S.contents src.old) (S.contents src.new) (O.contents out.old) (O.contents out.new)) }
     ensures unwritten { IfErr result (λ e. IsBeforeWriting e → Appends (O.contents out.old) (O.contents out.new) []) }
+    ensures other { result ≡ Err NotNarrow → HasWideType (S.contents src.old) (S.contents src.new) }
     ensures memory { result ≡ Err (Stream Memory) → HasGoodHeader (S.contents src.old) }
     ensures same_source { S.kept src.new ≡ S.kept src.old }
     ensures same_sink { O.kept out.new ≡ O.kept out.old }

@@ -1,4 +1,4 @@
-use Rattle.std.proofs.Common.{◌≡◌, sym, ap, subst, ◌∙◌, ℕ, Bool, List, [], Option, Some}
+use Rattle.std.proofs.Common.{sym, ap, subst, ◌∙◌, ℕ, Bool, List, [], Option, Some}
 use Rattle.zf_base.specs.declared.lane.Ty.TheVariants.{I32}
 use Rattle.zf_dev.specs.Sink.{Appends}
 use Rattle.zf_parse.specs.Parsing.{restored_text}
@@ -56,6 +56,13 @@ returns-in-Ok-false-clause-err g c =
     let From : List ℕ → Type 0 = λ t. HasOtherType I32 src0 src1 (Some t) (Some (taken_so_far sink.demotion)) in
     let other = subst From c.new.ensures.taken (subst Where c.in-Ok-false.field-0-test c.in-Ok-false.ensures.ok) in
     subst (λ o. LeavesNarrowFront n src0 src1 out0 (g.O.Sink.contents o)) (sym out_is) (leaves_other n has other)
+
+pub returns-in-Ok-false-clause-other : goal.returns-in-Ok-false-clause-other
+returns-in-Ok-false-clause-other g c = λ narrow.
+    let src0 = g.S.Source.contents c.args.src.now in let src1 = g.S.Source.contents c.restore_where.new.src in
+    let Where : Bool → Type 0 = λ b. RestoresWhere I32 b src0 src1 (Some (taken_so_far c.new.result)) (Some (taken_so_far c.restore_where.new.out.demotion)) in
+    let other : HasOtherType I32 src0 src1 (Some (taken_so_far c.new.result)) (Some (taken_so_far c.restore_where.new.out.demotion)) = subst Where c.in-Ok-false.field-0-test c.in-Ok-false.ensures.ok in
+    record { bytes = other.bytes; first = other.first; good = other.good; other = other.other }
 
 pub returns-in-Err-clause-possible : goal.returns-in-Err-clause-possible
 returns-in-Err-clause-possible g c = fault_possible c.in-Err.fault c.in-Err.ensures.possible
