@@ -12,7 +12,7 @@ use Rattle.zf_header.specs.declared.header.HeaderFault.{HeaderFault}
 use Rattle.zf_header.specs.HeaderBits.{header_bits, IsHeader}
 use Rattle.zf_header.proofs.Good.{good}
 use Rattle.zf_header.proofs.Found.{read_is_header}
-use Rattle.zf_dev.specs.Source.{Takes}
+use Rattle.zf_dev.specs.Source.{Takes, TakesSome}
 use Rattle.zf_dev.specs.Sink.{Appends, AppendsFront}
 use Rattle.zf_dev.proofs.Taking.{Takes-none}
 use Rattle.zf_dev.proofs.Appending.{AppendsFront-none}
@@ -144,10 +144,14 @@ module _ (h : Header) (len : ℕ) (front : List ℕ) (begun : BeginsWithHeader f
 pub header_is : (front : List ℕ) (h : Header) (len : ℕ) → BeginsWithHeader front h len → IsHeader h
 header_is front h len begun = subst IsHeader (sym begun.header) (read_is_header front (good front (sym begun.good)))
 
--- nothing more was taken, and nothing written
-pub nothing_taken : (front : List ℕ) (src out : Option (List ℕ)) {text : List ℕ → List ℕ} → LeavesFront text (behind front src) src out out
-nothing_taken front src out {text} = record {
-  bytes = front ++ [];
-  taken = Takes-behind front [] src src (Takes-none src);
-  written = AppendsFront-none out (text (front ++ []));
+-- some more was taken, and nothing written
+pub only_taken : (front : List ℕ) (src now out : Option (List ℕ)) {text : List ℕ → List ℕ} → TakesSome src now → LeavesFront text (behind front src) now out out
+only_taken front src now out {text} some = record {
+  bytes = front ++ some.0;
+  taken = Takes-behind front some.0 src now some.1;
+  written = AppendsFront-none out (text (front ++ some.0));
 }
+
+-- nothing more was taken
+pub nothing_taken : (front : List ℕ) (src out : Option (List ℕ)) {text : List ℕ → List ℕ} → LeavesFront text (behind front src) src out out
+nothing_taken front src out {text} = only_taken front src src out ([], Takes-none src)

@@ -1,5 +1,5 @@
 -- What the first bytes of a source say of all of it.
-use Rattle.std.proofs.Common.{◌≡◌, ℕ, ◌≤◌, List, take, Option, Some, None, refl, sym, ap, ◌∙◌, inl}
+use Rattle.std.proofs.Common.{◌≡◌, ℕ, ◌≤◌, List, Option, Some, None, sym, ap, ◌∙◌, inl}
 use Rattle.zf_header.specs.HeaderFaults.{header_fault}
 use Rattle.zf_stream.specs.Outcomes.{IsFront, IsRefusal}
 use Rattle.zf_parse.specs.declared.fault.StreamFault.{StreamFault}

@@ -218,7 +218,7 @@ module _ (h : Header) (row here : ℕ) (next : IsNext h row here) {src0 mid out0
   slab_cut now first faults.Memory is lacks = absurd lacks
 
 -- some bytes were taken
-some_lacked : (part : Header) (first : ℕ) (src now : Option (List ℕ)) (w : Window) (e : StreamFault) → LacksSlab part first src now w e → TakesSome src now
+pub some_lacked : (part : Header) (first : ℕ) (src now : Option (List ℕ)) (w : Window) (e : StreamFault) → LacksSlab part first src now w e → TakesSome src now
 some_lacked part first src now w (faults.Truncated number) cut = (cut.bytes, cut.taken)
 some_lacked part first src now w faults.Read some = some
 some_lacked part first src now w (faults.RawShort n) lacks = absurd lacks

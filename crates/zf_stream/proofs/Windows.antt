@@ -1,5 +1,5 @@
 -- The bits of a window, as its words are moved and more are put behind them.
-use Rattle.std.proofs.Common.{◌≡◌, refl, sym, ap, ◌∙◌, ℕ, ◌+◌, ◌-◌, ◌*◌, ◌/◌, ◌%◌, ◌<◌, ◌≤◌, false, Bool, List, [], ◌++◌, length, take, drop, replicate, get_or, ℤ, Option, Ok, append_assoc, length-append, take_at, arith}
+use Rattle.std.proofs.Common.{◌≡◌, sym, ap, ◌∙◌, ℕ, ◌+◌, ◌-◌, ◌*◌, ◌/◌, ◌%◌, ◌<◌, ◌≤◌, false, Bool, List, [], ◌++◌, length, take, drop, replicate, get_or, ℤ, Option, Ok, append_assoc, length-append, take_at, arith}
 use Rattle.std.proofs.lemmas.List.{drop-take, drop-drop, drop-append-le, length-take-le, length-drop, append-nil}
 use Rattle.std.proofs.lemmas.Grind.{flat_map-append}
 use Rattle.zf_spec.specs.Numbers.{field, word_bits}

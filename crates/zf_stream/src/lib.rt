@@ -8,6 +8,7 @@ mod encoding;
 mod header;
 pub mod laws;
 mod longest;
+mod looking;
 mod reading;
 mod restoring;
 mod slabs;

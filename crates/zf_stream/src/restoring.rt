@@ -20,6 +20,7 @@ use crate::compressing::PIECE;
 use crate::decoding::read_slab;
 use crate::header::header_at_front;
 use crate::longest::longest_code;
+use crate::looking::look_ahead;
 use crate::reading::read_into;
 use crate::slabs::{most_rows, rows_of, with_rows};
 use crate::window::{FRONT, Window};
@@ -60,7 +61,7 @@ pub fn restore<S: Source, O: Sink>(
     restore_behind(alloc, &h, header_len, &front[..count], src, out)
 }
 
-/// The same where the values are of this type, and says so; else nothing but the header is read, and nothing is written.
+/// The same where the values are of this type, and says so; else 24 bytes are taken at most, and none is written.
 pub fn restore_where<S: Source, O: Sink>(
     alloc: Global,
     wanted: Ty,
@@ -150,13 +151,19 @@ fn restore_as<T: Lane, S: Source, O: Sink>(
 {
     let dims = h.shape.dims();
     let rows = most_rows(&h.shape).min(rows_of(&h.shape));
-    let slab = with_rows(&h.shape, rows);
+    let slab = Header {
+        ty: h.ty,
+        shape: with_rows(&h.shape, rows),
+        mode: h.mode,
+    };
     let longest = longest_code::<T>(h);
-    let most = longest + (8 * PIECE).min(slab.blocks() * longest);
-    let mut window = Window::new(alloc, most, front, u64::from(header_len))?;
-    let mut values = vec![in alloc; T::zero(); slab.values() as usize]?;
+    let first = (8 * PIECE).min(slab.shape.blocks() * longest);
+    let mut window = Window::new(alloc, longest + first, front, u64::from(header_len))?;
     let mut block = vec![in alloc; T::zero(); block_len(dims)]?;
     let mut piece = vec![in alloc; 0; PIECE as usize]?;
+    // Values are room that is written at once, so none are made for a slab that a short stream cannot have.
+    look_ahead(&slab, first, &mut window, &mut block, &mut piece, src)?;
+    let mut values = vec![in alloc; T::zero(); slab.shape.values() as usize]?;
     restore_rows(
         h,
         rows,

@@ -1,6 +1,6 @@
 //! A window of a stream's words, which is filled from a source.
 
-ghost use Rattle.std.specs.Prelude.{◌≡◌, ◌≢◌, ◌≤◌, ◌<◌, ◌+◌, ◌*◌, ◌^◌, ◌%◌, true, false, [], length, Err, IfOk, IfErr, OnOk, OnErr};
+ghost use Rattle.std.specs.Prelude.{◌≡◌, ◌≢◌, ◌≤◌, ◌<◌, ◌+◌, ◌*◌, ◌^◌, ◌%◌, true, false, [], length, IsTrue, Err, IfOk, IfErr, OnOk, OnErr};
 ghost use Rattle.std.specs.Int.{div_ceil};
 ghost use Rattle.zf_spec.specs.Stream.{to_bits};
 ghost use Rattle.zf_dev.specs.Faults.{HasCause};
@@ -81,6 +81,14 @@ impl Window {
         ensures { self.new ≡ record self.old { reader = record self.old.reader { at = at } } }
     {
         self.at = at;
+    }
+
+    /// Whether the source is known to give no more, and fewer than `need` bits are left.
+    pub(crate) fn is_short_of(&self, need: u64) -> bool
+        ensures short { IsTrue result → self.now.ended ≡ true }
+        ensures enough { ¬ IsTrue result → self.now.ended ≡ true → need ≤ length (left_of self.now) }
+    {
+        self.ended && self.left() < need
     }
 
     /// Sees to it that `need` bits are held that are not read yet, or all that the source still gives.
