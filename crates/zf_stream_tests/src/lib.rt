@@ -5,6 +5,8 @@
 #[cfg(test)]
 mod bound;
 #[cfg(test)]
+mod calls;
+#[cfg(test)]
 mod header;
 #[cfg(test)]
 mod index;
