@@ -1,12 +1,11 @@
-//! How many bits the longest codes have, and the shortest.
+//! How many bits the longest codes have.
 
 ghost use Rattle.std.specs.Prelude.{◌≡◌, ◌≤◌, ◌<◌, ◌^◌};
 ghost use Rattle.zf_base.specs.Widths.{width_of};
 ghost use Rattle.zf_header.specs.HeaderBits.{IsMode};
 ghost use Rattle.zf_parse.specs.Parsing.{longest_code};
-ghost use Rattle.zf_stream.specs.Restoring.{shortest_code};
 
-use zf_base::{Lane, Ty, block_len};
+use zf_base::{Lane, block_len};
 use zf_header::{Header, Mode};
 
 /// The bits of the longest code of a block.
@@ -23,24 +22,5 @@ pub fn longest_code<T: Lane>(h: &Header) -> u64
         Mode::Reversible => 6 + planes,
         Mode::Rate(bits) => u64::from(bits),
         Mode::Precision(_) => planes,
-    }
-}
-
-/// The bits that a code of a block has at the least.
-pub(crate) fn shortest_code(h: &Header) -> u64
-    requires { IsMode h.now.mode }
-    ensures value { result ≡ shortest_code h.now }
-    ensures bound { result ≤ 32768 }
-{
-    match h.mode {
-        Mode::Reversible => match h.ty {
-            Ty::I32 => 6,
-            Ty::I64 => 7,
-        },
-        Mode::Rate(bits) => u64::from(bits),
-        Mode::Precision(planes) => match h.ty {
-            Ty::I32 => u64::from(planes.min(32)),
-            Ty::I64 => u64::from(planes.min(64)),
-        },
     }
 }
