@@ -41,9 +41,8 @@ class Definitions:
         stream = self.compare(words, raw)
         if self.random.random() < 0.5:
             stream = self.calls.damaged(stream)
-        if has_few_values(stream):
-            self.compare(["restore"], stream)
-            self.compare(["restore", self.random.choice(list(NARROW))], stream)
+        self.compare(["restore"], stream)
+        self.compare(["restore", self.random.choice(list(NARROW))], stream)
         self.compare(["info"], stream)
 
     def made(self):
@@ -56,8 +55,6 @@ class Definitions:
         stream, shape, width = self.made()
         if self.random.random() < 0.25:
             stream = self.calls.damaged(stream)
-        if not has_few_values(stream):
-            return
         lines = self.random.choice(([], ["lines", self.random.choice(("1", "2", "3", "65536"))]))
         self.compare(["look", "a", *lines], self.calls.script(shape, width), {"a": stream, "b": b"other"})
         self.compare(["bound", "a", str(self.random.getrandbits(self.random.randint(1, 64)))], files={"a": stream})
@@ -72,11 +69,9 @@ class Definitions:
         file = self.check.run(words, raw).out
         if self.random.random() < 0.1:
             file = self.calls.damaged(file)
-        if has_few_values(file):
-            way = self.random.choice(([], ["lines"], ["twoway"]))
-            lines = [self.random.choice(("1", "2", "3", "4", "16"))] if way else []
-            script = self.calls.script(shape, width)
-            self.compare(["run", "a", *way, *lines], script, {"a": file, "b": b"other"})
+        way = self.random.choice(([], ["lines"], ["twoway"]))
+        lines = [self.random.choice(("1", "2", "3", "4", "16"))] if way else []
+        self.compare(["run", "a", *way, *lines], self.calls.script(shape, width), {"a": file, "b": b"other"})
 
     def words(self):
         """Words of which some are no command."""
@@ -108,15 +103,6 @@ class Definitions:
         )
         while self.check.passed + self.check.failed < cases:
             self.random.choice(kinds)()
-
-
-def has_few_values(stream):
-    """Whether the definition, which is slow, can restore a stream that may be damaged."""
-    header = answer(["info"], stream, {})
-    if header.code != 0:
-        return True
-    sizes = header.text.split()[1].split(b"x")
-    return math.prod(map(int, sizes)) <= 4000
 
 
 def main():

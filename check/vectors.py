@@ -1,38 +1,57 @@
 #!/usr/bin/env python3
-"""Makes and restores again each of the streams that zfp 1.0.0 wrote (data/zfp-1.0.0.json), by the built program.
+"""Makes and restores again each of the streams that zfp 1.0.0 wrote (data/zfp-1.0.0.json).
 
-    python3 bench/vectors.py [PROGRAM]
+    python3 check/vectors.py [PROGRAM] [--seed N] [--quick] [--rows]
 
-The gate has those of at most 300 bytes as a test (crates/zfp_vectors/src/tests.rt); this runs all.
+The gate has those of at most 300 bytes as a test. With `--rows` its table is written, as it stands in
+crates/zfp_vectors/src/tests.rt, and nothing else is done.
 """
 
 import json
-import pathlib
-import subprocess
 import sys
 
-HERE = pathlib.Path(__file__).resolve().parent.parent
+from shared import TOP, Check
+
+MOST_BYTES = 300
+MODES = {"rate": "Mode::Rate({})", "precision": "Mode::Precision({})", "reversible": "Mode::Reversible"}
 
 
-def gives(program, words, data):
-    """What the program writes for these words and this input; None where it refuses."""
-    done = subprocess.run([program, *words], input=data, capture_output=True, check=False)
-    return done.stdout if done.returncode == 0 else None
+def streams():
+    return json.loads((TOP / "data/zfp-1.0.0.json").read_text())
+
+
+def literal(data):
+    """Bytes as a literal of the language."""
+    return 'b"' + "".join("\\0" if byte == 0 else f"\\x{byte:02x}" for byte in data) + '"'
+
+
+def row_text(row):
+    """A row of the gate's table."""
+    _, kind, shape, mode, *number = row["words"].split()
+    sizes = [*shape.split("x"), "1"][:2]
+    cells = ["Ty::I" + kind[3:], str(len(shape.split("x"))), f"[{', '.join(sizes)}]", MODES[mode].format(*number)]
+    cells += [literal(bytes.fromhex(row[key])) for key in ("raw", "stream", "restored")]
+    return "    (\n" + "".join(f"        {cell},\n" for cell in cells) + "    ),\n"
+
+
+def write_rows():
+    rows = [row for row in streams() if len(row["stream"]) <= 2 * MOST_BYTES]
+    print(f"const VECTORS: [Vector; {len(rows)}] = [")
+    print("".join(map(row_text, rows)) + "];")
 
 
 def main():
-    program = sys.argv[1] if len(sys.argv) > 1 else str(HERE / "crates/zfpi/out/zfpi")
-    streams = json.loads((HERE / "data/zfp-1.0.0.json").read_text())
-    wrong = 0
-    for row in streams:
+    if "--rows" in sys.argv:
+        write_rows()
+        return
+    check = Check(__doc__)
+    for row in streams():
         raw, stream, restored = (bytes.fromhex(row[key]) for key in ("raw", "stream", "restored"))
-        made = gives(program, row["words"].split(), raw) == stream
-        back = gives(program, ["restore"], stream) == restored
-        if not (made and back):
-            wrong += 1
-            print(f"{row['words']}: {'restored' if made else 'made'} otherwise")
-    print(f"{len(streams)} streams, {wrong} otherwise")
-    sys.exit(1 if wrong else 0)
+        made = check.run(row["words"].split(), raw)
+        check.expect((made.code, made.out) == (0, stream), f"{row['words']}: made", made, stream)
+        back = check.run(["restore"], stream)
+        check.expect((back.code, back.out) == (0, restored), f"{row['words']}: restored", back, restored)
+    check.end()
 
 
 if __name__ == "__main__":

@@ -111,5 +111,11 @@ def cut(shape, values):
 
 
 def joined(shape, blocks):
-    """The values in raster order of an array that is given as its blocks."""
-    return [blocks[block_of(shape, p)][place_of(p)] for p in positions(shape)]
+    """The values in raster order of an array that is given as its blocks, up to the first whose block is not there."""
+    values = []
+    for position in positions(shape):
+        block = block_of(shape, position)
+        if block >= len(blocks):
+            break
+        values.append(blocks[block][place_of(position)])
+    return values

@@ -77,7 +77,7 @@ def compress(header, data, narrow=None):
 
 
 class Opened:
-    """A stream with a good header: the spans and values of its blocks, and its first fault."""
+    """A stream with a good header: its first fault, and the spans and values of the blocks before that."""
 
     def __init__(self, data):
         self.header = read_header(data)
@@ -86,12 +86,13 @@ class Opened:
         reader = Reader(self.bits, len(header_bits(self.header)))
         for number in range(block_count(self.header.shape)):
             begin = reader.at
-            self.blocks.append(read_block(reader, self.header))
-            self.spans.append((begin, reader.at - begin))
-            if reader.lacks() and self.fault is None:
+            block = read_block(reader, self.header)
+            if reader.lacks():
                 self.fault = faults.ends_in_block(number)
-        if self.fault is None:
-            self.fault = self.fill_fault(reader.at)
+                return
+            self.blocks.append(block)
+            self.spans.append((begin, reader.at - begin))
+        self.fault = self.fill_fault(reader.at)
 
     def fill_fault(self, at):
         end = at + -at % WORD_BITS
@@ -106,11 +107,12 @@ class Opened:
         return [self.bits[at : at + length] for at, length in self.spans]
 
     def values(self):
+        """The values in raster order, up to the first whose block is not there."""
         return joined(self.header.shape, self.blocks)
 
 
 def restore(data, narrow=None):
-    """The raw values of a stream and the fault. Bits that are missing count as zeros."""
+    """The raw values of a stream, up to the first whose code is not there, and the fault."""
     opened = Opened(data)
     if narrow is None:
         return raw_bytes(opened.values(), opened.header.width), opened.fault
