@@ -21,6 +21,8 @@ VERSION = "1.0.0"
 # How many values the widest arrays have.
 MANY, QUICK_MANY = 2**20, 2**14
 MODES = ("rate", "precision", "reversible")
+# At 64 planes zfp writes the long header of no mode, which is not read here.
+MOST_PLANES = 63
 
 
 class Peers:
@@ -39,9 +41,9 @@ class Peers:
         if mode == "reversible":
             return [mode], ["-R"], True
         if mode == "precision":
-            planes = self.random.randint(1, width)
+            planes = self.random.randint(1, MOST_PLANES)
             return [mode, str(planes)], ["-p", planes], False
-        bits = self.random.randint(1, 4**dims * (width + 1))
+        bits = self.random.randint(1, 4**dims * self.random.choice((8, width + 1, 150)))
         return [mode, str(bits)], ["-r", repr(bits / 4**dims)], False
 
     def compare(self, width, shape):
@@ -81,6 +83,20 @@ class Peers:
         same = (code, back.code) == (0, 0) and back.out == self.back.read_bytes()
         self.check.expect(same, f"{what}: zfp's stream restored as zfp does", back.code, raw)
 
+    def all_planes(self):
+        """At 64 planes zfp's header is refused, and ours is read by zfp."""
+        raw = self.values(64, 20, 62)
+        self.raw.write_bytes(raw)
+        self.zfp("-i", self.raw, "-t", "i64", "-1", 20, "-p", MOST_PLANES + 1, "-z", self.stream)
+        stream = self.stream.read_bytes()
+        back = self.check.run(["restore"], stream + bytes(-len(stream) % 8))
+        self.check.expect(back.line == error_line("header: mode 4095"), "zfp's stream of 64 planes", back)
+        made = self.check.run(f"compress int64 20 precision {MOST_PLANES + 1}".split(), raw)
+        self.stream.write_bytes(made.out)
+        code = self.zfp("-z", self.stream, "-o", self.back)
+        same = code == 0 and self.back.read_bytes() == self.check.run(["restore"], made.out).out
+        self.check.expect(same, "zfp restores our stream of 64 planes", code)
+
     def values(self, width, count, bits):
         """Raw values that are below 2^bits in magnitude."""
         half = 1 << bits
@@ -110,6 +126,7 @@ def main():
         calls = Calls(check.random)
         for _ in range(QUICK_ARRAYS if check.quick else ARRAYS):
             peers.compare(check.random.choice((32, 64)), calls.shape())
+        peers.all_planes()
         many = QUICK_MANY if check.quick else MANY
         for width in (32, 64):
             peers.compare(width, (many,))
