@@ -1,12 +1,14 @@
 #!/usr/bin/env python3
-"""Restores random blocks, and checks that no value is further from the one stored than the certified bound allows.
+"""Restores random blocks, and checks that no value is further from the one stored than the certified
+bound allows.
 
     python3 check/bound.py [PROGRAM] [--seed N] [--quick]
 
-The blocks are of both types and of one to four dimensions, of all kinds: smooth, noise, of few values, with peaks; of
-small magnitudes, and of the greatest for which the bound still holds. Many blocks make one array, which goes through
-`compress` and `restore` at some rate. The bound of each block is by the definition, that of the array is what `bound`
-says. How near the worst error came is printed: plain numbers, nothing is claimed of them.
+The blocks are of both types and of one to four dimensions, of all kinds: smooth, noise, of few
+values, with peaks; of small magnitudes, and of the greatest for which the bound still holds. Many
+blocks make one array, which goes through `compress` and `restore` at some rate. The bound of each
+block is by the definition, that of the array is what `bound` says. How near the worst error came is
+printed: plain numbers, nothing is claimed of them.
 """
 
 import math
@@ -122,7 +124,8 @@ def main():
             bounds.array(check.random.choice((32, 64)), dims)
         found, limit, plane = bounds.worst[dims]
         share = 100 * found / limit
-        check.say(f"{dims}-D: {bounds.held[dims]} blocks, the worst {found} of {limit}, {share:.1f} %, at plane {plane}")
+        worst = f"the worst is {found} of {limit}, {share:.1f} %, at plane {plane}"
+        check.say(f"{dims}-D: {bounds.held[dims]} blocks, {worst}")
     check.end()
 
 

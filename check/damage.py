@@ -1,11 +1,12 @@
 #!/usr/bin/env python3
-"""Damages small streams at every bit and by every cut, and others at random, under each command that reads one.
+"""Damages small streams at every bit and by every cut, and others at random, under each command that
+reads one.
 
     python3 check/damage.py [PROGRAM] [--seed N] [--quick]
 
-Exit code, output and error line are compared with the definition. No run takes long, nor more memory than a slab and
-a fixed room; memory is measured where the program `time` is there. The file that was damaged stays as it is, but
-where `run` ends well. Quick takes a share of the bits.
+Exit code, output and error line are compared with the definition. No run takes long, nor more
+memory than a slab and a fixed room; memory is measured where the program `time` is there. The file
+that was damaged stays as it is, but where `run` ends well. Quick takes a share of the bits.
 """
 
 import math

@@ -22,7 +22,7 @@ class Definitions:
         self.calls = Calls(check.random)
 
     def compare(self, words, data=b"", files=None):
-        """Runs a call in a folder with these files, and compares it with its definition. Gives what was written."""
+        """Runs a call in a folder with these files, and compares it with the definition. Gives its output."""
         files = files or {}
         folder = self.check.folder()
         put_files(folder, files)
@@ -57,7 +57,8 @@ class Definitions:
             stream = self.calls.damaged(stream)
         lines = self.random.choice(([], ["lines", self.random.choice(("1", "2", "3", "65536"))]))
         self.compare(["look", "a", *lines], self.calls.script(shape, width), {"a": stream, "b": b"other"})
-        self.compare(["bound", "a", str(self.random.getrandbits(self.random.randint(1, 64)))], files={"a": stream})
+        most = self.random.getrandbits(self.random.randint(1, 64))
+        self.compare(["bound", "a", str(most)], files={"a": stream})
 
     def run(self):
         """An array of zeros or of values, a script, and the same array once more."""

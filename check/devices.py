@@ -1,10 +1,12 @@
 #!/usr/bin/env python3
-"""Runs the program on streams that are closed, full or cut, and on files of all kinds, and checks how each run ends.
+"""Runs the program on streams that are closed, full or cut, and on files of all kinds, and checks how
+each run ends.
 
     python3 check/devices.py [PROGRAM] [--seed N] [--quick]
 
-Needs Linux (`/dev/full`). Started as root, it runs the program as nobody, since no file is unreadable to root, and
-fills a small file system of its own; else that case is left out. Quick leaves out the saves of large files.
+Needs Linux (`/dev/full`). Started as root, it runs the program as nobody, since no file is
+unreadable to root, and fills a small file system of its own; else that case is left out. Quick
+leaves out the saves of large files.
 """
 
 import os
@@ -50,7 +52,8 @@ class Devices:
 
     def start(self, words, folder=None, **streams):
         command = [self.program, *words.split()]
-        return subprocess.Popen(command, cwd=folder or self.folder, stderr=subprocess.PIPE, **streams, **self.who)
+        streams = {"cwd": folder or self.folder, "stderr": subprocess.PIPE, **streams}
+        return subprocess.Popen(command, **streams, **self.who)
 
     def ends(self, shows, words, ending, data=b"", out=None, folder=None, **streams):
         """Runs the program once. The code, the line and what it writes have to be these."""
@@ -126,8 +129,9 @@ def what_info_leaves(devices):
 def outputs(devices):
     """Outputs that are closed, full, or close while they are written."""
     devices.put("a", ARRAY)
-    calls = [("compress int32 1 reversible", bytes(4)), ("restore", ZERO), ("restore int8", ZERO), ("info", ZERO)]
-    calls += [("sample int32 4 1 reversible", b""), ("run a", SCRIPT), ("look a", LOOK), ("bound a 9", b"")]
+    calls = [("compress int32 1 reversible", bytes(4)), ("sample int32 4 1 reversible", b"")]
+    calls += [(words, ZERO) for words in ("restore", "restore int8", "info")]
+    calls += [("run a", SCRIPT), ("look a", LOOK), ("bound a 9", b"")]
     for words, data in calls:
         devices.ends("output closed", words, WRITE_FAULT, data, stdout=None, preexec_fn=closing(1))
         with open("/dev/full", "wb") as full:
@@ -194,7 +198,8 @@ def kinds_of_file(devices):
         is_kept = file.stat().st_mode & 0o7777 == mode and file.read_bytes() != ARRAY
         devices.check.expect(is_kept, f"mode {mode:o} stays", oct(file.stat().st_mode))
     devices.ends("new keeps the mode", "new a int32 8 64", GOOD)
-    devices.check.expect(file.stat().st_mode & 0o7777 == 0o444, "new keeps the mode", oct(file.stat().st_mode))
+    mode = file.stat().st_mode & 0o7777
+    devices.check.expect(mode == 0o444, "new keeps the mode", oct(mode))
     was = file.stat()
     devices.ends("nothing changes", "run a", GOOD, b"get 0\n")
     now = file.stat()
@@ -276,7 +281,7 @@ def full_places(devices):
     disk = devices.check.folder("disk")
     mounted = ["mount", "-t", "tmpfs", "-o", "size=64k,mode=0777", "none", str(disk)]
     if subprocess.run(mounted, capture_output=True, check=False).returncode != 0:
-        devices.check.skip("a full disk and one that is only read (a file system of its own cannot be mounted)")
+        devices.check.skip("a full disk and one that is only read (no file system can be mounted)")
         return
     try:
         on_disk(devices, disk)
@@ -314,7 +319,7 @@ def long_files(devices):
 
 
 def killed(devices, words, data, old):
-    """Starts a command that saves a large file `a`, and kills it while it writes. Says whether a save was cut."""
+    """Starts a command that saves a large file, and kills it while it writes. Says whether a save was cut."""
     beside = devices.folder / ".a.new"
     run = devices.start(words, stdin=subprocess.PIPE, stdout=subprocess.PIPE)
     run.stdin.write(data)

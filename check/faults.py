@@ -3,12 +3,13 @@
 
     python3 check/faults.py [PROGRAM] [--seed N] [--quick]
 
-Needs strace. After an error the run ends as without it, where it did not matter, or with the code of the device; of
-reading, writing, bringing to the disk and renaming it does matter. The old or the new file stands whole, the new one
-exactly where the code is 0 or 1, and nothing is left beside. There is one exception, which README names: the disk's
-error when the folder is brought to it, the last step of a save. A save that is killed leaves the old or the new file
-and at most a file beside it, which the next save takes away. Quick leaves out most of the calls that only look for
-files that were left over.
+Needs strace. After an error the run ends as without it, where it did not matter, or with the code
+of the device; of reading, writing, bringing to the disk and renaming it does matter. The old or the
+new file stands whole, the new one exactly where the code is 0 or 1, and nothing is left beside.
+There is one exception, which README names: the disk's error when the folder is brought to it, the
+last step of a save. A save that is killed leaves the old or the new file and at most a file beside
+it, which the next save takes away. Quick leaves out most of the calls that only look for files that
+were left over.
 """
 
 import re
@@ -111,7 +112,8 @@ class Faults:
         """Makes each call of a case fail, and, where it saves, kills it at each."""
         whole = self.run(case)
         calls = self.calls()
-        self.check.expect(whole.ended.code == case.code and calls, f"{case.name}: ends with {case.code}", *whole)
+        is_good = whole.ended.code == case.code and calls
+        self.check.expect(is_good, f"{case.name}: ends with {case.code}", *whole)
         for call in calls:
             if self.check.quick and call.looks_for_left_over():
                 continue
@@ -126,7 +128,8 @@ class Faults:
         """What is wrong with a run in which a call failed; none where nothing is."""
         if call.name == "write" and call.file() == 2:
             # The line alone is lost. The status is as it was.
-            return None if (seen.ended.code, seen.files) == (whole.ended.code, whole.files) else "another ending"
+            is_same = (seen.ended.code, seen.files) == (whole.ended.code, whole.files)
+            return None if is_same else "another ending"
         if seen == whole:
             return "the error was ignored" if error in NEVER_IGNORED.get(call.name, ()) else None
         if error == "EINTR" and call.name in AGAIN:
@@ -169,15 +172,15 @@ class Faults:
         self.check.expect(is_same and is_clean, f"{case.name}: again, after a kill at {call.text}", *again)
 
     def order(self, case):
-        """Whether a save writes, brings to the disk, renames, and brings the folder to the disk, in this order."""
+        """Whether a save writes, syncs, renames, and syncs the folder, in this order."""
         self.run(case)
-        steps = [call for call in self.calls() if call.name in ("openat", "write", "fsync", "rename", "exit_group")]
-        texts = [call.text for call in steps]
+        names = ("openat", "write", "fsync", "rename")
+        texts = [call.text for call in self.calls() if call.name in names]
         new = next((opened(text) for text in texts if "O_CREAT" in text and ".a.new" in text), None)
         folder = next((opened(text) for text in texts if text.startswith('openat(AT_FDCWD, ".",')), None)
-        wanted = [rf"write\({new}, ", rf"fsync\({new}\) += 0", r"rename\(.*\) += 0", rf"fsync\({folder}\) += 0"]
+        sync, rename = r"fsync\({}\) += 0", r"rename\(.*\) += 0"
         at = -1
-        for step in wanted:
+        for step in (rf"write\({new}, ", sync.format(new), rename, sync.format(folder)):
             at = next((i for i in range(at + 1, len(texts)) if re.match(step, texts[i])), None)
             if at is None:
                 break

@@ -17,7 +17,7 @@ class Measure:
         return self.time is not None
 
     def run(self, words, data=b"", folder=None):
-        """How a run ended, the kilobytes that it held (0 where that is not measured), and the seconds that it took."""
+        """How a run ended, the kilobytes that it held, 0 where that is not measured, and its seconds."""
         before = [self.time, "-q", "-o", str(self.told), "-f", "%M"] if self.time else []
         begun = time.monotonic()
         ended = self.check.run(words, data, folder, before)

@@ -3,9 +3,10 @@
 
     python3 check/memory.py [PROGRAM] [--seed N] [--quick]
 
-Needs Linux and a C compiler. A run has to end with code 20, and then it wrote nothing and no file changed; or with
-`! memory` as the reply to `lines`, `resize` or `split`, behind which the later lines run on the state before that
-line; or with a fault of the device that had no memory for itself; or as without a refusal.
+Needs Linux and a C compiler. A run has to end with code 20, and then it wrote nothing and no file
+changed; or with `! memory` as the reply to `lines`, `resize` or `split`, behind which the later
+lines run on the state before that line; or with a fault of the device that had no memory for
+itself; or as without a refusal.
 """
 
 import itertools
@@ -15,8 +16,8 @@ from preload import Preload
 from shared import Check, error_line, files_of, put_files
 
 ONE = b"zfp\x05\0\0\0\0\0\0\0\x88\x1f\0\0\0\x30\0\0\0\0\0\0\0"
-SCRIPT = b"set 0 9\nlines 2\nget 0\nstats\nresize 8\nget 0\nlines 1\nset 0 3\nflush\nget 0\nsplit 2 1\n@0 set 0 5\n@1 get 4\n"
 TWO_WAY_SCRIPT = b"set 0 9\nlines 2\nget 0\nstats\nlines 1\nset 0 3\nflush\nget 0\n"
+SCRIPT = TWO_WAY_SCRIPT + b"resize 8\nget 0\nlines 1\nset 0 3\nsplit 2 1\n@0 set 0 5\n@1 get 4\n"
 TAKES_MEMORY = re.compile(rb"(lines|resize|split) ")
 
 
@@ -75,7 +76,7 @@ class Memory:
         if ended.line == error_line("load fault"):
             return words.startswith(("run", "look", "bound")) and ended.out == b""
         is_save = words.startswith(("new", "run")) and ended.line == error_line("save fault")
-        return is_save and ended.out.replace(b"! memory\n", b"") in (whole.out, ended.out.replace(b"! memory\n", b""))
+        return is_save and (ended.out == whole.out or b"! memory\n" in ended.out)
 
     def refused_lines(self, words, data, files, ended, left):
         """Whether all is as if the lines that were answered by `! memory` were not there."""

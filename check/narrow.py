@@ -1,5 +1,6 @@
 #!/usr/bin/env python3
-"""Brings every value of 8 and of 16 bits there and back by a reversible stream, in each number of dimensions.
+"""Brings every value of 8 and of 16 bits there and back by a reversible stream, in each number of
+dimensions.
 
     python3 check/narrow.py [PROGRAM] [--seed N] [--quick]
 """
@@ -21,7 +22,8 @@ def main():
         for shape in SHAPES[bits]:
             stream = check.run(["compress", name, shape, "reversible"], raw)
             back = check.run(["restore", name], stream.out)
-            check.expect(stream.code == 0 and back == (0, raw, b""), f"{name} {shape}", stream.code, back.code)
+            is_back = stream.code == 0 and back == (0, raw, b"")
+            check.expect(is_back, f"{name} {shape}", stream.code, back.code)
     check.end()
 
 

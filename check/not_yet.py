@@ -1,9 +1,11 @@
 #!/usr/bin/env python3
-"""What the program does not do yet, so that `check/all` leaves it out. A check that passes moves to its place.
+"""What the program does not do yet, so that `check/all` leaves it out. A check that passes moves to
+its place.
 
     python3 check/not_yet.py [PROGRAM] [--seed N] [--quick]
 
-- A header and little behind it take no memory for values that the stream cannot hold. Needs the program `time`.
+- A header and little behind it take no memory for values that the stream cannot hold. Needs the
+  program `time`.
 - A script from an input that is closed is a read fault.
 """
 
@@ -43,9 +45,10 @@ def peaks(check):
     if not measure.is_possible():
         return
     for words in WIDEST:
+        commands = [["restore"]] + [["restore", "uint8"]] * words.startswith("int32")
         for behind in (b"", bytes(4), bytes(2000)):
             data = header_of(words) + behind
-            for command in (["restore"], ["restore", "uint8"]) if words.startswith("int32") else (["restore"],):
+            for command in commands:
                 ended, held, seconds = measure.run(command, data)
                 # Each bit can be a block of its own, of at most 256 values of 8 bytes.
                 most = ROOM + len(behind) * 8 * 256 * 8 // 1024

@@ -1,12 +1,14 @@
 #!/usr/bin/env python3
-"""Compares streams of random arrays with those of the zfp program, 1.0.0, to the bit and in both directions.
+"""Compares streams of random arrays with those of the zfp program, 1.0.0, to the bit and in both
+directions.
 
     python3 check/peers.py [PROGRAM] [--seed N] [--quick]
 
-Needs the program `zfp` (Debian's package of this name). Fixed rate, fixed precision and the reversible mode, of int32
-and int64 in one and two dimensions: the streams are the same, where those of zfp are filled with zeros to whole words,
-and each restores what the other has written. In three and four dimensions each refuses the other's. Values are below
-2^(w-2) in magnitude in the modes that lose: above that zfp's own sums overflow.
+Needs the program `zfp` (Debian's package of this name). Fixed rate, fixed precision and the
+reversible mode, of int32 and int64 in one and two dimensions: the streams are the same, where those
+of zfp are filled with zeros to whole words, and each restores what the other has written. In three
+and four dimensions each refuses the other's. Values are below 2^(w-2) in magnitude in the modes
+that lose: above that zfp's own sums overflow.
 """
 
 import math
@@ -63,9 +65,11 @@ class Peers:
         made = self.check.run(words, raw)
         if dims > 2:
             back = self.check.run(["restore"], filled)
-            self.check.expect((back.code, back.line) == (4, error_line("header: order")), f"{what}: refused", back)
+            is_refused = (back.code, back.line) == (4, error_line("header: order"))
+            self.check.expect(is_refused, f"{what}: refused", back)
         else:
-            self.check.expect((made.code, made.out) == (0, filled), f"{what}: the same stream", made.code, raw)
+            is_same = (made.code, made.out) == (0, filled)
+            self.check.expect(is_same, f"{what}: the same stream", made.code, raw)
             self.restores(what, filled, raw)
         self.stream.write_bytes(made.out)
         code = self.zfp("-z", self.stream, "-o", self.back)

@@ -1,5 +1,6 @@
 #!/usr/bin/env python3
-"""Runs each command with reads and writes that move little and are interrupted: all has to be as without.
+"""Runs each command with reads and writes that move little and are interrupted: all has to be as
+without.
 
     python3 check/pieces.py [PROGRAM] [--seed N] [--quick]
 
@@ -32,7 +33,8 @@ def main():
             for most in pairs[0]:
                 for every in pairs[1]:
                     ended = run(MOST=most, INTERRUPTED=every)
-                    check.expect(ended == whole, f"{case.name}: {most} bytes a call, 1 of {every} interrupted", *ended)
+                    what = f"{case.name}: {most} bytes a call, 1 of {every} interrupted"
+                    check.expect(ended == whole, what, *ended)
     check.end()
 
 

@@ -65,9 +65,10 @@ class Check:
     def run(self, words, data=b"", folder=None, before=(), **how):
         """Runs the program on these words and this input. `before` are words of a program that runs it."""
         how.setdefault("cwd", folder or self.room)
+        how |= {"input": data} if "stdin" not in how else {}
         command = [*before, self.program, *words]
         try:
-            ran = subprocess.run(command, input=data, capture_output=True, timeout=SECONDS, check=False, **how)
+            ran = subprocess.run(command, capture_output=True, timeout=SECONDS, check=False, **how)
         except subprocess.TimeoutExpired as late:
             return Ended(None, late.stdout or b"", late.stderr or b"")
         return Ended(ran.returncode, ran.stdout, ran.stderr)

@@ -3,8 +3,8 @@
 
     python3 check/vectors.py [PROGRAM] [--seed N] [--quick] [--rows]
 
-The gate has those of at most 300 bytes as a test. With `--rows` its table is written, as it stands in
-crates/zfp_vectors/src/tests.rt, and nothing else is done.
+The gate has those of at most 300 bytes as a test. With `--rows` its table is written, as it stands
+in crates/zfp_vectors/src/tests.rt, and nothing else is done.
 """
 
 import json
@@ -29,7 +29,8 @@ def row_text(row):
     """A row of the gate's table."""
     _, kind, shape, mode, *number = row["words"].split()
     sizes = [*shape.split("x"), "1"][:2]
-    cells = ["Ty::I" + kind[3:], str(len(shape.split("x"))), f"[{', '.join(sizes)}]", MODES[mode].format(*number)]
+    dims = 1 + shape.count("x")
+    cells = ["Ty::I" + kind[3:], str(dims), f"[{', '.join(sizes)}]", MODES[mode].format(*number)]
     cells += [literal(bytes.fromhex(row[key])) for key in ("raw", "stream", "restored")]
     return "    (\n" + "".join(f"        {cell},\n" for cell in cells) + "    ),\n"
 

@@ -1,4 +1,5 @@
-"""The formats and commands in plain Python, written from FORMAT, ARRAYS, SCRIPTS and BOUND in docs/ alone.
+"""The formats and commands in plain Python, written from FORMAT, ARRAYS, SCRIPTS and BOUND in docs/
+alone.
 
 It is made to be read beside those pages and to be slow. No module of it knows the program.
 """

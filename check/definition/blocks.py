@@ -111,7 +111,7 @@ def cut(shape, values):
 
 
 def joined(shape, blocks):
-    """The values in raster order of an array that is given as its blocks, up to the first whose block is not there."""
+    """The values in raster order of an array of these blocks, up to the first whose block is not there."""
     values = []
     for position in positions(shape):
         block = block_of(shape, position)

@@ -20,7 +20,7 @@ def bytes_of_bits(bits):
 
 
 class Reader:
-    """Reads bits one after another. Behind their end all are 0, and `lacks` says whether one of those was read."""
+    """Reads bits one after another. Behind their end all are 0; `lacks` says if one of those was read."""
 
     def __init__(self, bits, at=0):
         self.bits, self.at = bits, at
