@@ -84,7 +84,8 @@ class Calls:
 
     def changed_words(self, words):
         """Words of which one is another, gone, or too many."""
-        other = ("", "x", "01", "0", "-1", "rate", "lines", "twoway", "int8", "uint32", "4x", "x4", "1x1x1x1x1")
+        other = ("", "x", "01", "0", "-1", "4x", "x4", "1x1x1x1x1")
+        other += ("rate", "lines", "twoway", "int8", "uint32")
         far = (str(2**64), str(2**64 - 1), f"{2**64}x1", "65537x1x1", "134217729", "32769", "a" * 65)
         words, at = list(words), self.random.randrange(len(words) + 1)
         kind = self.random.randrange(3)
