@@ -16,7 +16,7 @@ import re
 import shutil
 from typing import NamedTuple
 
-from cases import COMMANDS
+from cases import COMMANDS, Case
 from shared import Check, error_line, files_of, put_files
 
 # Of `brk` none: the C library does not expect one, since the system's call has none.
@@ -199,10 +199,10 @@ def main_files(files):
 
 def main():
     check = Check(__doc__)
-    if shutil.which("strace") is None:
-        check.skip("there is no strace")
-        check.end()
     faults = Faults(check)
+    if shutil.which("strace") is None or faults.run(Case("none", ["frob"])).ended.code != 2:
+        check.skip("all of it, since there is no strace, or it may not trace here")
+        check.end()
     for case in COMMANDS:
         if case.saves() and not case.name.endswith("changes nothing"):
             faults.order(case)

@@ -34,8 +34,8 @@ def script_of(dims):
 
 
 class Memory:
-    def __init__(self, check):
-        self.check, self.preload = check, Preload(check)
+    def __init__(self, check, preload):
+        self.check, self.preload = check, preload
 
     def run(self, words, data, files, **settings):
         """How a run ends, the files behind it, and how often it asked for memory."""
@@ -108,8 +108,9 @@ def wide(memory, dims):
 
 def main():
     check = Check(__doc__)
-    if Preload.is_possible(check):
-        memory = Memory(check)
+    preload = Preload(check)
+    if preload.is_built():
+        memory = Memory(check, preload)
         memory.tries("compress int32 2 reversible", bytes([1, 0, 0, 0, 2, 0, 0, 0]))
         memory.tries("compress int8 2 rate 8", bytes([1, 2]))
         memory.tries("restore", ONE)

@@ -16,25 +16,31 @@ INTERRUPTED = (2, 3, 10)
 QUICK_MOST, QUICK_INTERRUPTED = (1, 100), (2,)
 
 
+def run(check, preload, case, **settings):
+    """How a case ends, and the files behind it."""
+    folder = check.folder()
+    put_files(folder, case.files)
+    ended, _ = preload.run(case.words, case.data, folder, **settings)
+    return ended, files_of(folder)
+
+
+def tries(check, preload, case):
+    """Runs a case with pieces of each size, and with interrupts as often."""
+    whole = run(check, preload, case)
+    check.expect(whole[0].code == case.code, f"{case.name}: ends with {case.code}", whole[0])
+    for most in QUICK_MOST if check.quick else MOST:
+        for every in QUICK_INTERRUPTED if check.quick else INTERRUPTED:
+            ended = run(check, preload, case, MOST=most, INTERRUPTED=every)
+            what = f"{case.name}: {most} bytes a call, 1 of {every} interrupted"
+            check.expect(ended == whole, what, *ended)
+
+
 def main():
     check = Check(__doc__)
-    if Preload.is_possible(check):
-        preload = Preload(check)
-        pairs = (QUICK_MOST, QUICK_INTERRUPTED) if check.quick else (MOST, INTERRUPTED)
+    preload = Preload(check)
+    if preload.is_built():
         for case in COMMANDS:
-
-            def run(case=case, **settings):
-                folder = check.folder()
-                put_files(folder, case.files)
-                return preload.run(case.words, case.data, folder, **settings)[0], files_of(folder)
-
-            whole = run()
-            check.expect(whole[0].code == case.code, f"{case.name}: ends with {case.code}", whole[0])
-            for most in pairs[0]:
-                for every in pairs[1]:
-                    ended = run(MOST=most, INTERRUPTED=every)
-                    what = f"{case.name}: {most} bytes a call, 1 of {every} interrupted"
-                    check.expect(ended == whole, what, *ended)
+            tries(check, preload, case)
     check.end()
 
 
