@@ -13,13 +13,17 @@ from definition.commands import WIDTHS, answer
 from definition.streams import NARROW
 from shared import Check, files_of, put_files
 
-CASES, QUICK_CASES = 2500, 350
+CASES, QUICK_CASES = 8000, 400
+# What the calls of a full run have to come to, so that they are known to reach it.
+CODES = {0, 1, 2, 3, 4, 5, 6, 7, 8, 13}
+REFUSALS = {b"! word", b"! split", b"! size", b"! range", b"! value"}
 
 
 class Definitions:
     def __init__(self, check):
         self.check, self.random = check, check.random
         self.calls = Calls(check.random)
+        self.reached = set()
 
     def compare(self, words, data=b"", files=None):
         """Runs a call in a folder with these files, and compares it with the definition. Gives its output."""
@@ -32,6 +36,7 @@ class Definitions:
         same = same and (ended.code, ended.line) == (wanted.code, wanted.line)
         same = same and files_of(folder) == {**files, **wanted.files}
         self.check.expect(same, " ".join(words), data, files, ended, wanted)
+        self.reached |= {wanted.code, *REFUSALS.intersection(wanted.text.splitlines())}
         return ended.out
 
     def compress_and_restore(self):
@@ -114,6 +119,9 @@ def main():
     definitions.compare(["look", "a"], too_long, {"a": made})
     definitions.compare(["look", "a"], too_long[1:], {"a": made})
     definitions.all(QUICK_CASES if check.quick else CASES)
+    if not check.quick:
+        missing = (CODES | REFUSALS) - definitions.reached
+        check.expect(not missing, "all codes and refusals are reached", missing)
     check.end()
 
 
