@@ -9,6 +9,7 @@ unreadable to root, and fills a small file system of its own; else that case is 
 leaves out the saves of large files.
 """
 
+import contextlib
 import os
 import pathlib
 import resource
@@ -295,7 +296,8 @@ def on_disk(devices, disk):
     old = (disk / "a").read_bytes()
     devices.ends("a full disk", "new a int32 40960 64", SAVE_FAULT, folder=disk)
     devices.ends("a full disk", "new b int32 40960 64", SAVE_FAULT, folder=disk)
-    (disk / "most").write_bytes(bytes(60 * 1024))
+    with contextlib.suppress(OSError):
+        (disk / "most").write_bytes(bytes(60 * 1024))
     devices.ends("a full disk", "run a", SAVE_FAULT, b"fill 9999\n", folder=disk)
     same = (disk / "a").read_bytes() == old and sorted(it.name for it in disk.iterdir()) == ["a", "most"]
     devices.check.expect(same, "a full disk: the old file stands, and nothing is left beside")
