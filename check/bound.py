@@ -1,6 +1,5 @@
 #!/usr/bin/env python3
-"""Restores random blocks, and checks that no value is further from the one stored than the certified
-bound allows.
+"""Restores random blocks, and checks that no value is further off than the certified bound allows.
 
     python3 check/bound.py [PROGRAM] [--seed N] [--quick]
 
@@ -23,7 +22,7 @@ from definition.transforms import lift
 from shared import Check
 
 # By the number of dimensions: how many blocks are wanted, and how many make one array.
-BLOCKS = {1: 8000, 2: 4000, 3: 1000, 4: 300}
+BLOCKS = {1: 20_000, 2: 12_000, 3: 4_000, 4: 1_000}
 TOGETHER = {1: 200, 2: 100, 3: 40, 4: 12}
 QUICK_SHARE = 10
 

@@ -1,6 +1,5 @@
 #!/usr/bin/env python3
-"""Damages small streams at every bit and by every cut, and others at random, under each command that
-reads one.
+"""Damages small streams at every bit and by every cut, under each command that reads one.
 
     python3 check/damage.py [PROGRAM] [--seed N] [--quick]
 

@@ -1,6 +1,5 @@
 #!/usr/bin/env python3
-"""Runs the program on streams that are closed, full or cut, and on files of all kinds, and checks how
-each run ends.
+"""Runs the program on streams that are closed, full or cut, and on files of all kinds.
 
     python3 check/devices.py [PROGRAM] [--seed N] [--quick]
 
@@ -10,6 +9,7 @@ leaves out the saves of large files.
 """
 
 import contextlib
+import fcntl
 import os
 import pathlib
 import resource
@@ -208,6 +208,41 @@ def kinds_of_file(devices):
     devices.check.expect(same, "a file that does not change is not written", was, now)
 
 
+def owners(devices):
+    """A first file has the mode that the system's mask leaves; of another's file owner and group stay."""
+    masked = {"preexec_fn": lambda: os.umask(0o027)}
+    devices.ends("a first file", "new m int32 8 64", GOOD, **masked)
+    mode = (devices.folder / "m").stat().st_mode & 0o7777
+    devices.check.expect(mode == 0o640, "the mode of a first file", oct(mode))
+    if not devices.who:
+        devices.check.skip("owner and group of another's file (not started as root)")
+        return
+    file = devices.put("a", ARRAY, 0o640)
+    os.chown(file, 1234, 2345)
+    ended = devices.check.run(["run", "a"], CHANGE, devices.folder)
+    now = file.stat()
+    same = (ended.code, now.st_uid, now.st_gid, now.st_mode & 0o7777) == (0, 1234, 2345, 0o640)
+    devices.check.expect(same and file.read_bytes() != ARRAY, "owner and group stay", ended, now)
+
+
+def locked_folder(devices):
+    """While another program has the folder locked, a save waits; after ten seconds it fails."""
+    devices.put("a", ARRAY)
+    folder = os.open(devices.folder, os.O_RDONLY)
+    fcntl.flock(folder, fcntl.LOCK_EX)
+    devices.ends("a locked folder", "run a", SAVE_FAULT, CHANGE)
+    devices.has("a locked folder", "a", ARRAY)
+    devices.nothing_beside("a locked folder")
+    run = devices.start("run a", stdin=subprocess.PIPE, stdout=subprocess.PIPE)
+    run.stdin.write(CHANGE)
+    run.stdin.close()
+    run.stdin = None
+    time.sleep(1)
+    os.close(folder)
+    _, told = finished(run, None)
+    devices.check.expect((run.returncode, told) == (0, b""), "a lock that is let go", run.returncode, told)
+
+
 def links(devices):
     """A link is followed; of two names of one file the new array has the name of the run alone."""
     below = devices.folder / "below"
@@ -348,6 +383,7 @@ def large_saves(devices):
     devices.check.expect(cuts > 0, "some save was cut", cuts)
 
 
+LONG_PARTS = (locked_folder, large_saves)
 PARTS = (
     inputs,
     what_info_leaves,
@@ -355,6 +391,7 @@ PARTS = (
     broken_pipe,
     names,
     kinds_of_file,
+    owners,
     links,
     two_at_once,
     full_places,
@@ -377,7 +414,7 @@ def main():
     if not can_start(check):
         check.skip("all of it, since root cannot run the program as nobody here")
         check.end()
-    for part in PARTS if check.quick else (*PARTS, large_saves):
+    for part in PARTS if check.quick else PARTS + LONG_PARTS:
         check.folder().chmod(0o777)
         part(Devices(check))
     check.end()

@@ -1,6 +1,5 @@
 #!/usr/bin/env python3
-"""Brings every value of 8 and of 16 bits there and back by a reversible stream, in each number of
-dimensions.
+"""Brings every value of 8 and of 16 bits there and back, in each number of dimensions.
 
     python3 check/narrow.py [PROGRAM] [--seed N] [--quick]
 """

@@ -1,8 +1,9 @@
 #!/usr/bin/env python3
-"""What the program does not do yet, so that `check/all` leaves it out. A check that passes moves to
-its place.
+"""What the program does not do yet, so that `check/all` leaves it out.
 
     python3 check/not_yet.py [PROGRAM] [--seed N] [--quick]
+
+A check that passes here moves to its place.
 
 - A header and little behind it take no memory for values that the stream cannot hold. Needs the
   program `time`.

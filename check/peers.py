@@ -1,6 +1,5 @@
 #!/usr/bin/env python3
-"""Compares streams of random arrays with those of the zfp program, 1.0.0, to the bit and in both
-directions.
+"""Compares streams of random arrays with those of zfp 1.0.0, to the bit and in both directions.
 
     python3 check/peers.py [PROGRAM] [--seed N] [--quick]
 

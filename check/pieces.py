@@ -1,10 +1,9 @@
 #!/usr/bin/env python3
-"""Runs each command with reads and writes that move little and are interrupted: all has to be as
-without.
+"""Runs each command with reads and writes that move little and are interrupted.
 
     python3 check/pieces.py [PROGRAM] [--seed N] [--quick]
 
-Needs Linux and a C compiler.
+All has to be as without. Needs Linux and a C compiler.
 """
 
 from cases import COMMANDS

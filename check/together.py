@@ -1,10 +1,9 @@
 #!/usr/bin/env python3
-"""Runs two and eight runs of one file at once, and some that are killed: no change is lost, and no
-code lies.
+"""Runs two and eight runs of one file at once: no change is lost, and no code lies.
 
     python3 check/together.py [PROGRAM] [--seed N] [--quick]
 
-Each run that ends with 0 has its change in the file, each that ends with 12 has none, and of one
+Some runs are killed. Each run that ends with 0 has its change in the file, each that ends with 12 has none, and of one
 that is killed either may be. All add to one number, too, so that the sum tells whether a change was
 lost. Whoever only reads ends with 0.
 """
