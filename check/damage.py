@@ -3,9 +3,10 @@
 
     python3 check/damage.py [PROGRAM] [--seed N] [--quick]
 
-Exit code, output and error line are compared with the definition. No run takes long, nor more
-memory than a slab and a fixed room; memory is measured where the program `time` is there. The file
-that was damaged stays as it is, but where `run` ends well. Quick takes a share of the bits.
+Other streams are damaged at random. Exit code, output and error line are compared with the
+definition. No run takes long, nor more memory than a slab and a fixed room; memory is measured
+where the program `time` is there. The file that was damaged stays as it is, but where `run` ends
+well. Quick takes a share of the bits.
 """
 
 import math

@@ -3,9 +3,9 @@
 
     python3 check/together.py [PROGRAM] [--seed N] [--quick]
 
-Some runs are killed. Each run that ends with 0 has its change in the file, each that ends with 12 has none, and of one
-that is killed either may be. All add to one number, too, so that the sum tells whether a change was
-lost. Whoever only reads ends with 0.
+Some runs are killed. Each run that ends with 0 has its change in the file, each that ends with 12
+has none, and of one that is killed either may be. All add to one number, too, so that the sum tells
+whether a change was lost. Whoever only reads ends with 0.
 """
 
 import subprocess
