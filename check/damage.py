@@ -13,6 +13,7 @@ import math
 
 from calls import Calls
 from definition.commands import answer
+from definition.header import LONG_BYTES
 from measure import Measure
 from shared import Check, files_of, put_files
 
@@ -20,6 +21,8 @@ MOST_SECONDS = 20
 # Kilobytes that a run may hold beside its slab.
 ROOM = 24_000
 QUICK_SHARE = 20
+# Of a stream with more bits than this, which is there for its header, behind that only some are tried.
+MOST_BITS, TRIED_BEHIND = 800, 200
 RANDOM_STREAMS, QUICK_RANDOM_STREAMS = 250, 25
 # Streams of each mode, type and number of dimensions, of few bytes.
 SMALL = (
@@ -62,8 +65,11 @@ class Damage:
             self.check.expect(same and is_bounded, shown, stream, ended, wanted)
 
     def every_bit_and_cut(self, stream, words):
-        bits = list(range(8 * len(stream)))
-        cuts = list(range(len(stream)))
+        bits = range(8 * len(stream))
+        if len(bits) > MOST_BITS:
+            header = 8 * LONG_BYTES
+            bits = [*bits[:header], *self.check.random.sample(bits[header:], TRIED_BEHIND)]
+        cuts = range(len(stream))
         if self.check.quick:
             bits = self.check.random.sample(bits, len(bits) // QUICK_SHARE)
             cuts = self.check.random.sample(cuts, len(cuts) // QUICK_SHARE)
