@@ -188,10 +188,8 @@ def names(devices):
 
 def kinds_of_file(devices):
     """What else a file is, and what is left beside it."""
-    file = devices.put("a", ARRAY)
     for mode in (0o640, 0o600, 0o444):
-        file.chmod(mode)
-        devices.put("a", ARRAY, mode)
+        file = devices.put("a", ARRAY, mode)
         for name in (".a.new", ".a.new00", ".a.new99"):
             devices.put(name, b"left over", 0o600)
         devices.ends("what was left is no hindrance", "run a", GOOD, SCRIPT)
