@@ -20,19 +20,20 @@ STEP = 1024
 BLOCKS = 12
 # The block to which all add.
 COMMON = BLOCKS - 1
+NEW = f"new a int32 {4 * BLOCKS} 256"
 
 
 class Together:
     def __init__(self, check):
         self.check, self.random = check, check.random
         self.folder = check.folder()
-        words = f"new a int32 {4 * BLOCKS} 256".split()
-        (self.folder / "a").write_bytes(answer(words, b"", {}).files["a"])
+        self.zeros = answer(NEW.split(), b"", {}).files["a"]
+        (self.folder / "a").write_bytes(self.zeros)
         self.held = [0] * BLOCKS
 
-    def start(self, script):
+    def start(self, script, words="run a"):
         run = subprocess.Popen(
-            [self.check.program, "run", "a"],
+            [self.check.program, *words.split()],
             stdin=subprocess.PIPE,
             stdout=subprocess.PIPE,
             stderr=subprocess.PIPE,
@@ -90,6 +91,18 @@ class Together:
         self.check.expect(good, what, endings, self.held, values)
         self.held = values
 
+    def with_new(self, number):
+        """A run and a `new` at once: the file is the new one, with the run's change or without it."""
+        script = f"set 0 {number * STEP}\n".encode()
+        changed = answer(["run", "a"], script, {"a": self.zeros}).files["a"]
+        started = [self.start(script), self.start(b"", NEW)]
+        (code, line), made = [self.ended(run, data) for run, data in started]
+        file = (self.folder / "a").read_bytes()
+        good = made == (0, b"") and file in (self.zeros, changed)
+        lost = (12, error_line("save fault"), self.zeros)
+        good = good and ((code, line) == (0, b"") or (code, line, file) == lost)
+        self.check.expect(good, f"a run and a new file, round {number}", code, line, made)
+
     def nothing_left(self):
         """After one more save nothing is beside the file."""
         self.check.run(["run", "a"], f"add {4 * COMMON} {STEP}\n".encode(), self.folder)
@@ -107,6 +120,8 @@ def main():
             number += 1
             together.round(number, runs, with_kill=number % 4 == 0)
     together.nothing_left()
+    for number in range(1, rounds + 1):
+        together.with_new(number)
     check.end()
 
 
