@@ -83,7 +83,9 @@ class Together:
         for k, (code, line) in enumerate(writers):
             changed, kept = values[k] == value, values[k] == self.held[k]
             good = good and {0: changed, 12: kept, -9: changed or kept}.get(code, False)
-            good = good and (line == error_line("save fault") if code == 12 else line == b"")
+            # One that is killed may have said before that it could not save.
+            lines = {0: (b"",), 12: (error_line("save fault"),)}.get(code, (b"", error_line("save fault")))
+            good = good and line in lines
         done = sum(code == 0 for code, _ in writers)
         killed = sum(code == -9 for code, _ in writers)
         added = (values[COMMON] - self.held[COMMON]) // STEP
