@@ -131,7 +131,7 @@ class Calls:
         if kind == "sizes":
             return shape_word([self.random.randint(1, max(1, size // 2)) for size in shape])
         if kind == "any sizes":
-            return self.random.choice(("0", "1x2x3x4", "4x4", "65536x65536", "134217728", "9x9x9"))
+            return self.random.choice(("0", "1x2x3x4", "4x4", "65536x65536", "134217729", "9x9x9"))
         if name == "slice":
             return str(self.random.randrange(3))
         return self.number()
