@@ -3,7 +3,7 @@
 
     python3 check/vectors.py [PROGRAM] [--seed N] [--quick] [--rows]
 
-The gate has those of at most 300 bytes as a test. With `--rows` its table is written, as it stands
+The gate has those of at most 300 bytes as tests. With `--rows` their tables are written, as they stand
 in crates/zfp_vectors/src/tests.rt, and nothing else is done.
 """
 
@@ -36,9 +36,11 @@ def row_text(row):
 
 
 def write_rows():
+    """Two tables, since the prover goes through one of up to about 10,000 bytes."""
     rows = [row for row in streams() if len(row["stream"]) <= 2 * MOST_BYTES]
-    print(f"const VECTORS: [Vector; {len(rows)}] = [")
-    print("".join(map(row_text, rows)) + "];")
+    at_a_rate = [row for row in rows if " rate " in row["words"]]
+    for name, some in (("AT_A_RATE", at_a_rate), ("OTHERS", [row for row in rows if row not in at_a_rate])):
+        print(f"const {name}: [Vector; {len(some)}] = [\n{''.join(map(row_text, some))}];\n")
 
 
 def main():
