@@ -314,7 +314,7 @@ def full_places(devices):
     devices.nothing_beside("no larger files")
     disk = devices.check.folder("disk")
     mounted = ["mount", "-t", "tmpfs", "-o", "size=64k,mode=0777", "none", str(disk)]
-    if subprocess.run(mounted, capture_output=True, check=False).returncode != 0:
+    if not shutil.which("mount") or subprocess.run(mounted, capture_output=True, check=False).returncode != 0:
         devices.check.skip("a full disk and one that is only read (no file system can be mounted)")
         return
     try:
