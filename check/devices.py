@@ -1,0 +1,422 @@
+#!/usr/bin/env python3
+"""Runs the program on streams that are closed, full or cut, and on files of all kinds.
+
+    python3 check/devices.py [PROGRAM] [--seed N] [--quick]
+
+Needs Linux (`/dev/full`). Started as root, it runs the program as nobody, since no file is
+unreadable to root, and fills a small file system of its own; else that case is left out. Quick
+leaves out the saves of large files.
+"""
+
+import contextlib
+import fcntl
+import os
+import pathlib
+import resource
+import shutil
+import signal
+import stat
+import subprocess
+import time
+
+from shared import Check, error_line
+
+NOBODY = 65534
+ZERO = b"zfp\x05\0\0\0\0\0\0\0\x88\0\0\0\0"
+ARRAY = b"zfp\x05\x70\0\0\0\0\0\xf0\x03" + bytes(20)
+SCRIPT = b"set 0 7\nget 0\n"
+CHANGE = b"set 0 8192\n"
+LOOK = b"get 0\n"
+MOST_FILE_BYTES = 1_200_000_000
+SAVE_FAULT, LOAD_FAULT = (12, "save fault"), (12, "load fault")
+READ_FAULT, WRITE_FAULT = (10, "read fault"), (11, "write fault")
+GOOD = (0, "")
+
+
+class Devices:
+    """Runs the program in a folder that is its own, as someone to whom files can be refused."""
+
+    def __init__(self, check):
+        self.check = check
+        check.room.chmod(0o755)
+        self.folder = check.folder()
+        self.who = {"user": NOBODY, "group": NOBODY, "extra_groups": []} if os.geteuid() == 0 else {}
+        self.program = str(check.room / "zfpi")
+        shutil.copy(check.program, self.program)
+        os.chmod(self.program, 0o755)
+        self.own(self.folder)
+        self.folder.chmod(0o777)
+
+    def own(self, path):
+        if self.who:
+            os.chown(path, NOBODY, NOBODY)
+
+    def start(self, words, folder=None, **streams):
+        command = [self.program, *words.split()]
+        streams = {"cwd": folder or self.folder, "stderr": subprocess.PIPE, **streams}
+        return subprocess.Popen(command, **streams, **self.who)
+
+    def ends(self, shows, words, ending, data=b"", out=None, folder=None, **streams):
+        """Runs the program once. The code, the line and what it writes have to be these."""
+        streams.setdefault("stdin", subprocess.PIPE)
+        streams.setdefault("stdout", subprocess.PIPE)
+        run = self.start(words, folder, **streams)
+        written, told = finished(run, data if streams["stdin"] == subprocess.PIPE else None)
+        same = (run.returncode, told) == (ending[0], error_line(ending[1]))
+        self.check.expect(same and out in (None, written), f"{shows}: {words}", run.returncode, told, written)
+
+    def has(self, shows, name, data):
+        file = self.folder / name
+        self.check.expect(file.is_file() and file.read_bytes() == data, f"{shows}: what {name} holds")
+
+    def put(self, name, data, mode=0o666):
+        file = self.folder / name
+        file.write_bytes(data)
+        file.chmod(mode)
+        self.own(file)
+        return file
+
+    def nothing_beside(self, shows, folder=None):
+        left = sorted(entry.name for entry in (folder or self.folder).iterdir() if entry.name.startswith("."))
+        self.check.expect(not left, f"{shows}: nothing is left beside", left)
+
+
+def finished(run, data, seconds=60):
+    """What a run wrote and told. One that hangs is killed."""
+    try:
+        return run.communicate(data, timeout=seconds)
+    except BrokenPipeError:
+        return b"", run.stderr.read()
+    except subprocess.TimeoutExpired:
+        run.kill()
+        return run.communicate()
+
+
+def closing(number):
+    """What closes a stream of the program before it starts."""
+    return lambda: os.close(number)
+
+
+def inputs(devices):
+    """Inputs that are closed, no stream of bytes, or end early."""
+    for words, out in (("compress int32 1 reversible", ZERO[:8]), ("restore", b""), ("info", b"")):
+        devices.ends("input closed", words, READ_FAULT, stdin=None, preexec_fn=closing(0), out=out)
+        folder = os.open(devices.folder, os.O_RDONLY)
+        devices.ends("input a folder", words, READ_FAULT, stdin=folder, out=out)
+        os.close(folder)
+    devices.put("a", ARRAY)
+    folder = os.open(devices.folder, os.O_RDONLY)
+    devices.ends("script a folder", "run a", READ_FAULT, stdin=folder, out=b"")
+    os.close(folder)
+    devices.has("script a folder", "a", ARRAY)
+    short = (3, "input ends after 0 bytes")
+    devices.ends("nothing comes", "compress int32 1 reversible", short, stdin=subprocess.DEVNULL)
+    short = (3, "input ends after 3 bytes")
+    devices.ends("a pipe ends early", "compress int32 1 reversible", short, bytes(3))
+    devices.ends("a stream ends early", "restore", (4, "header: short"), ZERO[:11], out=b"")
+
+
+def what_info_leaves(devices):
+    """`info` reads 19 bytes and no more."""
+    reader, writer = os.pipe()
+    os.write(writer, ZERO + b"behind it")
+    os.close(writer)
+    devices.ends("what info leaves", "info", GOOD, stdin=reader)
+    left = os.read(reader, 100)
+    os.close(reader)
+    devices.check.expect(left == b"ind it", "info reads 19 bytes and no more", left)
+
+
+def outputs(devices):
+    """Outputs that are closed, full, or close while they are written."""
+    devices.put("a", ARRAY)
+    calls = [("compress int32 1 reversible", bytes(4)), ("sample int32 4 1 reversible", b"")]
+    calls += [(words, ZERO) for words in ("restore", "restore int8", "info")]
+    calls += [("run a", SCRIPT), ("look a", LOOK), ("bound a 9", b"")]
+    for words, data in calls:
+        devices.ends("output closed", words, WRITE_FAULT, data, stdout=None, preexec_fn=closing(1))
+        with open("/dev/full", "wb") as full:
+            devices.ends("output full", words, WRITE_FAULT, data, stdout=full)
+    devices.has("output full", "a", ARRAY)
+    with open("/dev/full", "wb") as full:
+        run = subprocess.run([devices.program, "frob"], stderr=full, check=False)
+    devices.check.expect(run.returncode == 2, "error output full", run.returncode)
+    run = subprocess.run([devices.program, b"\xff\xfe"], capture_output=True, check=False)
+    devices.check.expect((run.returncode, run.stderr) == (22, b""), "words that are no UTF-8", run)
+
+
+def broken_pipe(devices):
+    """A reader that leaves: the run ends at once, by its status or by the system's signal."""
+    reader, writer = os.pipe()
+    run = devices.start("compress int32 4194304 reversible", stdin=subprocess.PIPE, stdout=writer)
+    os.close(writer)
+    os.close(reader)
+    _, told = finished(run, os.urandom(4 * 4194304))
+    ending = (run.wait(), told)
+    wanted = ((11, error_line("write fault")), (-signal.SIGPIPE, b""))
+    devices.check.expect(ending in wanted, "a reader that leaves", ending)
+
+
+def names(devices):
+    """Names that are no plain files or may not be read, and a folder in which nothing may be written."""
+    (devices.folder / "d").mkdir()
+    os.mkfifo(devices.folder / "p")
+    (devices.folder / "l").symlink_to("nothing")
+    (devices.folder / "z").symlink_to("/dev/zero")
+    for shows, name in (("a folder", "d"), ("a pipe", "p"), ("a link to nothing", "l"), ("a device", "z")):
+        devices.ends(shows, f"run {name}", LOAD_FAULT, SCRIPT, out=b"")
+        devices.ends(shows, f"look {name}", LOAD_FAULT, LOOK, out=b"")
+        devices.ends(shows, f"bound {name} 9", LOAD_FAULT, out=b"")
+        devices.ends(shows, f"new {name} int32 4 64", SAVE_FAULT, out=b"")
+    kinds = [stat.S_IFMT((devices.folder / name).lstat().st_mode) for name in "dplz"]
+    same = kinds == [stat.S_IFDIR, stat.S_IFIFO, stat.S_IFLNK, stat.S_IFLNK]
+    devices.check.expect(same and not (devices.folder / "nothing").exists(), "they are what they were", kinds)
+    devices.put("u", ARRAY, mode=0)
+    devices.ends("an unreadable file", "run u", LOAD_FAULT, SCRIPT, out=b"")
+    devices.ends("no such name", "run nosuch", (7, "no such file"), SCRIPT, out=b"")
+    devices.nothing_beside("names that are refused")
+    devices.put("a", ARRAY)
+    devices.folder.chmod(0o555)
+    shows = "a folder that may not be written"
+    devices.ends(shows, "new n int32 4 64", SAVE_FAULT, out=b"")
+    devices.ends(shows, "run a", SAVE_FAULT, SCRIPT, out=b"7\n")
+    devices.ends(shows, "run a", GOOD, b"get 0\n", out=b"0\n")
+    devices.folder.chmod(0o777)
+    devices.has(shows, "a", ARRAY)
+    devices.check.expect(not (devices.folder / "n").exists(), shows)
+
+
+def kinds_of_file(devices):
+    """What else a file is, and what is left beside it."""
+    for mode in (0o640, 0o600, 0o444):
+        file = devices.put("a", ARRAY, mode)
+        for name in (".a.new", ".a.new00", ".a.new99"):
+            devices.put(name, b"left over", 0o600)
+        devices.ends("what was left is no hindrance", "run a", GOOD, SCRIPT)
+        devices.nothing_beside("what was left")
+        is_kept = file.stat().st_mode & 0o7777 == mode and file.read_bytes() != ARRAY
+        devices.check.expect(is_kept, f"mode {mode:o} stays", oct(file.stat().st_mode))
+    devices.ends("new keeps the mode", "new a int32 8 64", GOOD)
+    mode = file.stat().st_mode & 0o7777
+    devices.check.expect(mode == 0o444, "new keeps the mode", oct(mode))
+    was = file.stat()
+    devices.ends("nothing changes", "run a", GOOD, b"get 0\n")
+    now = file.stat()
+    same = (now.st_ino, now.st_mtime_ns) == (was.st_ino, was.st_mtime_ns)
+    devices.check.expect(same, "a file that does not change is not written", was, now)
+
+
+def owners(devices):
+    """A first file has the mode that the system's mask leaves; of another's file owner and group stay."""
+    masked = {"preexec_fn": lambda: os.umask(0o027)}
+    devices.ends("a first file", "new m int32 8 64", GOOD, **masked)
+    mode = (devices.folder / "m").stat().st_mode & 0o7777
+    devices.check.expect(mode == 0o640, "the mode of a first file", oct(mode))
+    if not devices.who:
+        devices.check.skip("owner and group of another's file (not started as root)")
+        return
+    file = devices.put("a", ARRAY, 0o640)
+    os.chown(file, 1234, 2345)
+    ended = devices.check.run(["run", "a"], CHANGE, devices.folder)
+    now = file.stat()
+    same = (ended.code, now.st_uid, now.st_gid, now.st_mode & 0o7777) == (0, 1234, 2345, 0o640)
+    devices.check.expect(same and file.read_bytes() != ARRAY, "owner and group stay", ended, now)
+
+
+def locked_folder(devices):
+    """While another program has the folder locked, a save waits; after ten seconds it fails."""
+    devices.put("a", ARRAY)
+    folder = os.open(devices.folder, os.O_RDONLY)
+    fcntl.flock(folder, fcntl.LOCK_EX)
+    devices.ends("a locked folder", "run a", SAVE_FAULT, CHANGE)
+    devices.has("a locked folder", "a", ARRAY)
+    devices.nothing_beside("a locked folder")
+    run = devices.start("run a", stdin=subprocess.PIPE, stdout=subprocess.PIPE)
+    run.stdin.write(CHANGE)
+    run.stdin.close()
+    run.stdin = None
+    time.sleep(1)
+    os.close(folder)
+    _, told = finished(run, None)
+    devices.check.expect((run.returncode, told) == (0, b""), "a lock that is let go", run.returncode, told)
+
+
+def links(devices):
+    """A link is followed; of two names of one file the new array has the name of the run alone."""
+    below = devices.folder / "below"
+    below.mkdir()
+    devices.own(below)
+    devices.put("below/b", ARRAY, 0o600)
+    link = devices.folder / "k"
+    link.symlink_to("below/b")
+    devices.ends("a link", "run k", GOOD, CHANGE)
+    devices.check.expect(link.is_symlink(), "the link is one still")
+    devices.ends("what a link leads to", "look b", GOOD, LOOK, out=b"8192\n", folder=below)
+    devices.nothing_beside("a link")
+    devices.nothing_beside("a link", below)
+    devices.ends("new through a link", "new k int32 8 64", GOOD)
+    devices.has("new through a link", "below/b", ARRAY)
+    devices.put("h", ARRAY)
+    os.link(devices.folder / "h", devices.folder / "other")
+    devices.ends("a file of two names", "run h", GOOD, CHANGE)
+    devices.ends("the name of the run", "look h", GOOD, LOOK, out=b"8192\n")
+    devices.has("the other name", "other", ARRAY)
+
+
+def changed(devices, shows, data, ending, other):
+    """A run that has loaded `a`, and gets its script once another run has changed it."""
+    run = devices.start("run a", stdin=subprocess.PIPE, stdout=subprocess.PIPE)
+    while run.poll() is None and not has_open(run.pid, devices.folder / "a"):
+        time.sleep(0.001)
+    time.sleep(0.1)
+    devices.ends("another run", "run a", GOOD, other)
+    _, told = finished(run, data)
+    same = (run.returncode, told) == (ending[0], error_line(ending[1]))
+    devices.check.expect(same, shows, run.returncode, told)
+
+
+def has_open(process, file):
+    try:
+        return any(os.path.realpath(it) == str(file) for it in pathlib.Path(f"/proc/{process}/fd").iterdir())
+    except OSError:
+        return False
+
+
+def two_at_once(devices):
+    """A run whose file another one changes while it waits for its script."""
+    devices.put("a", ARRAY)
+    changed(devices, "a run that comes later", b"set 0 4096\n", SAVE_FAULT, b"set 0 1024\n")
+    devices.ends("the first change stays", "look a", GOOD, LOOK, out=b"1024\n")
+    changed(devices, "a run that only reads", b"get 0\n", GOOD, b"set 0 2048\n")
+    devices.ends("the first change stays", "look a", GOOD, LOOK, out=b"2048\n")
+    devices.nothing_beside("two runs at once")
+
+
+def limit_of_files(most):
+    """Lets no file grow beyond this, and has a write say so instead of ending the process."""
+
+    def limit():
+        signal.signal(signal.SIGXFSZ, signal.SIG_IGN)
+        resource.setrlimit(resource.RLIMIT_FSIZE, (most, most))
+
+    return limit
+
+
+def full_places(devices):
+    """Saves for which there is no room: the old file stands, and nothing is left beside it."""
+    devices.put("a", ARRAY)
+    limited = {"preexec_fn": limit_of_files(10_000)}
+    devices.ends("no larger files", "new a int32 16384 64", SAVE_FAULT, **limited)
+    devices.has("no larger files", "a", ARRAY)
+    devices.nothing_beside("no larger files")
+    devices.ends("no larger files", "run a", SAVE_FAULT, b"resize 16384\nset 0 1\n", **limited)
+    devices.has("no larger files", "a", ARRAY)
+    devices.nothing_beside("no larger files")
+    disk = devices.check.folder("disk")
+    mounted = ["mount", "-t", "tmpfs", "-o", "size=64k,mode=0777", "none", str(disk)]
+    if not shutil.which("mount") or subprocess.run(mounted, capture_output=True, check=False).returncode != 0:
+        devices.check.skip("a full disk and one that is only read (no file system can be mounted)")
+        return
+    try:
+        on_disk(devices, disk)
+    finally:
+        subprocess.run(["umount", str(disk)], check=True)
+
+
+def on_disk(devices, disk):
+    """Saves on a disk that is too small, and on one that is only read."""
+    devices.ends("a small disk", "new a int32 1024 64", GOOD, folder=disk)
+    old = (disk / "a").read_bytes()
+    devices.ends("a full disk", "new a int32 40960 64", SAVE_FAULT, folder=disk)
+    devices.ends("a full disk", "new b int32 40960 64", SAVE_FAULT, folder=disk)
+    with contextlib.suppress(OSError):
+        (disk / "most").write_bytes(bytes(60 * 1024))
+    devices.ends("a full disk", "run a", SAVE_FAULT, b"fill 9999\n", folder=disk)
+    same = (disk / "a").read_bytes() == old and sorted(it.name for it in disk.iterdir()) == ["a", "most"]
+    devices.check.expect(same, "a full disk: the old file stands, and nothing is left beside")
+    subprocess.run(["mount", "-o", "remount,ro", str(disk)], check=True)
+    devices.ends("a disk that is only read", "run a", SAVE_FAULT, b"fill 9999\n", folder=disk)
+    devices.ends("a disk that is only read", "run a", GOOD, b"get 0\n", out=b"0\n", folder=disk)
+    devices.check.expect((disk / "a").read_bytes() == old, "a disk that is only read")
+
+
+def long_files(devices):
+    """A file that is longer than one may be is refused at once, whatever it begins with."""
+    for length in (MOST_FILE_BYTES + 1, 9_000_000_000):
+        file = devices.put("long", ARRAY)
+        os.truncate(file, length)
+        begun = time.monotonic()
+        for words in ("run long", "look long", "bound long 9"):
+            devices.ends(f"a file of {length} bytes", words, (9, "file too long"), LOOK, out=b"")
+        took = time.monotonic() - begun
+        devices.check.expect(took < 10, f"a file of {length} bytes is refused at once", took)
+        file.unlink()
+
+
+def killed(devices, words, data, old):
+    """Starts a command that saves a large file, and kills it while it writes. Says whether a save was cut."""
+    beside = devices.folder / ".a.new"
+    run = devices.start(words, stdin=subprocess.PIPE, stdout=subprocess.PIPE)
+    run.stdin.write(data)
+    run.stdin.close()
+    while run.poll() is None and not (beside.exists() and beside.stat().st_size > 1 << 20):
+        time.sleep(0.001)
+    run.kill()
+    run.wait()
+    cut = beside.exists()
+    if cut:
+        devices.has("a save that is killed", "a", old)
+    return cut
+
+
+def large_saves(devices):
+    """Saves of large files that are killed midway leave the old file, and the next save is not hindered."""
+    large = "new a int32 16777216 800"
+    devices.put("a", ARRAY)
+    cuts = sum(killed(devices, large, b"", ARRAY) for _ in range(3))
+    devices.ends("after a save that was killed", large, GOOD)
+    devices.nothing_beside("after a save that was killed")
+    old = (devices.folder / "a").read_bytes()
+    cuts += sum(killed(devices, "run a", b"set 0 1\n", old) for _ in range(2))
+    devices.check.expect(cuts > 0, "some save was cut", cuts)
+
+
+LONG_PARTS = (locked_folder, large_saves)
+PARTS = (
+    inputs,
+    what_info_leaves,
+    outputs,
+    broken_pipe,
+    names,
+    kinds_of_file,
+    owners,
+    links,
+    two_at_once,
+    full_places,
+    long_files,
+)
+
+
+def can_start(check):
+    """Whether the program starts as someone to whom files can be refused."""
+    try:
+        run = Devices(check).start("frob")
+    except OSError:
+        return False
+    finished(run, None)
+    return run.returncode == 2
+
+
+def main():
+    check = Check(__doc__)
+    if not can_start(check):
+        check.skip("all of it, since root cannot run the program as nobody here")
+        check.end()
+    for part in PARTS if check.quick else PARTS + LONG_PARTS:
+        check.folder().chmod(0o777)
+        part(Devices(check))
+    check.end()
+
+
+if __name__ == "__main__":
+    main()

@@ -1,0 +1,214 @@
+#!/usr/bin/env python3
+"""Makes each system call of each command fail, and kills saves at each call.
+
+    python3 check/faults.py [PROGRAM] [--seed N] [--quick]
+
+Needs strace. After an error the run ends as without it, where it did not matter, or with the code
+of the device; of reading, writing, bringing to the disk and renaming it does matter. The old or the
+new file stands whole, the new one exactly where the code is 0 or 1, and nothing is left beside.
+There is one exception, which README names: the disk's error when the folder is brought to it, the
+last step of a save. A save that is killed leaves the old or the new file and at most a file beside
+it, which the next save takes away. Quick leaves out most of the calls that only look for files that
+were left over.
+"""
+
+import re
+import shutil
+from typing import NamedTuple
+
+from cases import COMMANDS, Case
+from shared import Check, error_line, files_of, put_files
+
+# Of `brk` none: the C library does not expect one, since the system's call has none.
+ERRORS = {
+    "read": ("EIO", "EINTR"),
+    "pread64": ("EIO", "EINTR"),
+    "write": ("EIO", "ENOSPC", "EINTR"),
+    "openat": ("EACCES", "EMFILE", "ENOSPC", "ENOMEM", "EINTR"),
+    "statx": ("EACCES", "ENOMEM"),
+    "fsync": ("EIO", "ENOSPC"),
+    "fdatasync": ("EIO", "ENOSPC"),
+    "rename": ("EIO", "ENOSPC"),
+    "unlink": ("EACCES", "EBUSY"),
+    "close": ("EIO",),
+    "flock": ("ENOLCK", "EAGAIN"),
+    "fchmod": ("EPERM", "EIO"),
+    "fchown": ("EPERM",),
+    "ftruncate": ("EIO",),
+    "mmap": ("ENOMEM",),
+    "mremap": ("ENOMEM",),
+    "munmap": ("EINVAL",),
+}
+# The errors that have to change how a run ends, by call.
+NEVER_IGNORED = {
+    "read": ("EIO",),
+    "write": ("EIO", "ENOSPC"),
+    "fsync": ("EIO", "ENOSPC"),
+    "rename": ("EIO", "ENOSPC"),
+    "fchmod": ("EPERM", "EIO"),
+}
+# After these it has to be tried again.
+AGAIN = ("read", "pread64", "write", "openat")
+LINES = {
+    10: ("read fault",),
+    11: ("write fault",),
+    12: ("load fault", "save fault"),
+    20: ("out of memory",),
+}
+LEFT_OVER = re.compile(r"\.a\.new(\d\d)?")
+# The program's first own call: it has not looked at its words before.
+BEGINS = "rt_sigaction(SIGPIPE"
+
+
+class Call(NamedTuple):
+    """A system call of a run: its name, its number among those of the name, from 1, and its text."""
+
+    name: str
+    number: int
+    text: str
+
+    def file(self):
+        """The number of the open file that it is on, if it is on one."""
+        found = re.match(r"\w+\((\d+)", self.text)
+        return int(found[1]) if found else None
+
+    def looks_for_left_over(self):
+        return re.search(r"\.new(0[1-9]|[1-8]\d|9[0-8])\"", self.text) is not None
+
+
+class Seen(NamedTuple):
+    """How a run ended, and the files behind it."""
+
+    ended: tuple
+    files: dict
+
+
+class Faults:
+    def __init__(self, check):
+        self.check, self.log = check, check.room / "calls"
+
+    def run(self, case, inject=None, keep=False):
+        """Runs a case under strace. With `keep` its folder stays as the last run has left it."""
+        if not keep:
+            put_files(self.check.folder(), case.files)
+        folder = self.check.room / "work"
+        before = ["strace", "-o", str(self.log)] + (["-e", f"inject={inject}"] if inject else [])
+        return Seen(self.check.run(case.words, case.data, folder, before), files_of(folder))
+
+    def calls(self):
+        """The calls of the last run from the program's own first one on."""
+        calls, counts, begun = [], {}, False
+        for text in self.log.read_text(errors="replace").splitlines():
+            found = re.match(r"(\w+)\(", text)
+            if found:
+                name = found[1]
+                counts[name] = counts.get(name, 0) + 1
+                begun = begun or text.startswith(BEGINS)
+                if begun:
+                    calls.append(Call(name, counts[name], text))
+        return calls
+
+    def tries(self, case):
+        """Makes each call of a case fail, and, where it saves, kills it at each."""
+        whole = self.run(case)
+        calls = self.calls()
+        is_good = whole.ended.code == case.code and calls
+        self.check.expect(is_good, f"{case.name}: ends with {case.code}", *whole)
+        for call in calls:
+            if self.check.quick and call.looks_for_left_over():
+                continue
+            for error in ERRORS.get(call.name, ()):
+                seen = self.run(case, f"{call.name}:error={error}:when={call.number}")
+                why = self.wrong(case, whole, call, error, seen)
+                self.check.expect(why is None, f"{case.name}: {error} at {call.text}: {why}", seen.ended)
+            if case.saves() and call.name != "exit_group":
+                self.kill(case, whole, call)
+
+    def wrong(self, case, whole, call, error, seen):
+        """What is wrong with a run in which a call failed; none where nothing is."""
+        if call.name == "write" and call.file() == 2:
+            # The line alone is lost. The status is as it was.
+            is_same = (seen.ended.code, seen.files) == (whole.ended.code, whole.files)
+            return None if is_same else "another ending"
+        if seen == whole:
+            return "the error was ignored" if error in NEVER_IGNORED.get(call.name, ()) else None
+        if error == "EINTR" and call.name in AGAIN:
+            return "it was not tried again"
+        return self.wrong_fault(case, whole, call, seen)
+
+    def wrong_fault(self, case, whole, call, seen):
+        """What is wrong with a run that ended otherwise."""
+        code, out, line = seen.ended
+        if code == case.code and (out, line) == whole.ended[1:]:
+            # Nothing but what is left beside may differ, where what was there could not be taken away.
+            taken = call.name in ("openat", "statx", "flock", "unlink") and ".new" in call.text
+            return None if taken and main_files(seen.files) == main_files(whole.files) else "other files"
+        wanted = {0: 10, 1: 11}.get(call.file()) if call.name in ("read", "write") else None
+        if code not in ((wanted,) if wanted else (12, 20)) or line not in map(error_line, LINES[code]):
+            return "another code or line"
+        if not whole.ended.out.startswith(out):
+            return "what was written is no prefix"
+        # What was left over before may be gone.
+        if main_files(seen.files) == main_files(case.files) and seen.files.items() <= case.files.items():
+            return None
+        is_last_step = call.name == "fsync" and code == 12 and seen.files == whole.files
+        return None if is_last_step else "the file is not the old one, or something is left beside it"
+
+    def kill(self, case, whole, call):
+        """Kills a save at a call, and lets it run once more."""
+        seen = self.run(case, f"{call.name}:signal=KILL:when={call.number}")
+        beside = set(seen.files) - set(whole.files) - set(case.files)
+        is_whole = main_files(seen.files) in (main_files(case.files), main_files(whole.files))
+        self.check.expect(
+            seen.ended.code in (-9, 137) and is_whole and all(map(LEFT_OVER.fullmatch, beside)),
+            f"{case.name}: killed at {call.text}",
+            seen.ended,
+            sorted(seen.files),
+        )
+        again = self.run(case, keep=True)
+        # A run that finds its change in the file writes nothing, and so leaves what is beside.
+        is_same = main_files(again.files) == main_files(whole.files) and again.ended == whole.ended
+        is_clean = again.files == whole.files or seen.files.get("a") == whole.files.get("a")
+        self.check.expect(is_same and is_clean, f"{case.name}: again, after a kill at {call.text}", *again)
+
+    def order(self, case):
+        """Whether a save writes, syncs, renames, and syncs the folder, in this order."""
+        self.run(case)
+        names = ("openat", "write", "fsync", "rename")
+        texts = [call.text for call in self.calls() if call.name in names]
+        new = next((opened(text) for text in texts if "O_CREAT" in text and ".a.new" in text), None)
+        folder = next((opened(text) for text in texts if text.startswith('openat(AT_FDCWD, ".",')), None)
+        sync, rename = r"fsync\({}\) += 0", r"rename\(.*\) += 0"
+        at = -1
+        for step in (rf"write\({new}, ", sync.format(new), rename, sync.format(folder)):
+            at = next((i for i in range(at + 1, len(texts)) if re.match(step, texts[i])), None)
+            if at is None:
+                break
+        self.check.expect(at is not None, f"{case.name}: the steps of a save in their order", *texts)
+
+
+def opened(text):
+    """The number of the file that a call opened."""
+    return text.rsplit(" = ", 1)[-1].split(" ")[0]
+
+
+def main_files(files):
+    """The files but those that a save leaves beside."""
+    return {name: data for name, data in files.items() if not LEFT_OVER.fullmatch(name)}
+
+
+def main():
+    check = Check(__doc__)
+    faults = Faults(check)
+    if shutil.which("strace") is None or faults.run(Case("none", ["frob"])).ended.code != 2:
+        check.skip("all of it, since there is no strace, or it may not trace here")
+        check.end()
+    for case in COMMANDS:
+        if case.saves() and not case.name.endswith("changes nothing"):
+            faults.order(case)
+        faults.tries(case)
+    check.end()
+
+
+if __name__ == "__main__":
+    main()

@@ -1,0 +1,77 @@
+#!/usr/bin/env python3
+"""What the program does not do yet, so that `check/all` leaves it out.
+
+    python3 check/not_yet.py [PROGRAM] [--seed N] [--quick]
+
+A check that passes here moves to its place.
+
+- A header and little behind it take no memory for values that the stream cannot hold. Needs the
+  program `time`.
+- A script from an input that is closed is a read fault.
+"""
+
+import os
+
+from definition.codes import PRECISION, RATE
+from definition.header import Header, header_bits
+from definition.planes import bytes_of_bits
+from measure import Measure
+from shared import Check, error_line
+
+# kilobytes
+ROOM = 16 * 1024
+
+
+def header_of(words):
+    """The header of a stream of these words, by the definition, and not its codes."""
+    kind, shape, mode, *number = words.split()
+    sizes = tuple(int(size) for size in shape.split("x"))
+    header = Header(int(kind[3:]), sizes, mode, int(number[0]) if mode in (RATE, PRECISION) else 0)
+    bits = header_bits(header)
+    return bytes_of_bits(bits + [0] * (-len(bits) % 8))
+
+
+WIDEST = (
+    "int64 8192x4096x4 reversible",
+    "int64 16777216x8 precision 5",
+    "int32 16777216x8 rate 1",
+    "int64 4096x4096x4x2 rate 32768",
+    "int64 65536x2048x1 reversible",
+    "int64 134217728 reversible",
+)
+
+
+def peaks(check):
+    measure = Measure(check)
+    if not measure.is_possible():
+        return
+    for words in WIDEST:
+        commands = [["restore"]] + [["restore", "uint8"]] * words.startswith("int32")
+        for behind in (b"", bytes(4), bytes(2000)):
+            data = header_of(words) + behind
+            for command in commands:
+                ended, held, seconds = measure.run(command, data)
+                # Each bit can be a block of its own, of at most 256 values of 8 bytes.
+                most = ROOM + len(behind) * 8 * 256 * 8 // 1024
+                what = f"{' '.join(command)} of {words} and {len(behind)} bytes: {held} KB, {seconds:.2f} s"
+                check.expect(ended.code == 5 and held <= most, what, ended)
+
+
+def closed_script(check):
+    folder = check.folder()
+    check.run(["new", "a", "int32", "8", "64"], folder=folder)
+    for command in ("run", "look"):
+        ended = check.run([command, "a"], None, folder, stdin=None, preexec_fn=lambda: os.close(0))
+        good = (ended.code, ended.line) == (10, error_line("read fault"))
+        check.expect(good, f"{command} with its input closed", ended)
+
+
+def main():
+    check = Check(__doc__)
+    peaks(check)
+    closed_script(check)
+    check.end()
+
+
+if __name__ == "__main__":
+    main()
