@@ -82,8 +82,14 @@ impl<T: Lane, const D: usize> Array<T, D> {
         })
     }
 
-    /// The array of a file that begins with the header `h`, of values of `T` in `D` dimensions at a rate. The file becomes the
-    /// buffer for saving; on a fault it is dropped. A fault is that of the stream, or there was no memory.
+    /// The array of a file that begins with the header `h`, of values of `T` in `D` dimensions at a rate.
+    /// `lines` is 1 to 65536, raised to a power of two. The file becomes the buffer for saving; on a fault it
+    /// is dropped.
+    ///
+    /// `h` is what `zf_header::read` gives for the file. `Truncated(b)`: the code of block b is the first
+    /// that ends too early; b is the number of blocks where only fill bits are missing. `Pad`: a bit of the
+    /// fill is one. `Trailing`: a byte follows the fill. The first that holds, in this order; or `Memory`:
+    /// there was no memory.
     pub fn from_file(
         alloc: Global,
         h: &Header,
@@ -110,7 +116,7 @@ impl<T: Lane, const D: usize> Array<T, D> {
         })
     }
 
-    /// The value at position `p`, by one touch.
+    /// The value at position `p`, which lies in the array, by one touch.
     pub fn get(&mut self, p: Pos) -> T
         requires { IsPosition (shape self.old) p }
         ensures state { state self.new ≡ touch (format self.old) (state self.old) (block_at self.old p) }
@@ -121,7 +127,7 @@ impl<T: Lane, const D: usize> Array<T, D> {
         self.cache.get(&mut self.store, b, place)
     }
 
-    /// Makes the value at position `p` be `v`, by one touch for writing.
+    /// Makes the value at position `p`, which lies in the array, be `v`, by one touch for writing.
     pub fn set(&mut self, p: Pos, v: T)
         requires { IsPosition (shape self.old) p }
         ensures state { state self.new ≡ (let t = touch_for_writing (format self.old) (state self.old) (block_at self.old p) in
@@ -131,7 +137,8 @@ impl<T: Lane, const D: usize> Array<T, D> {
         *self.value_mut(p) = v;
     }
 
-    /// Adds `v` to the value at position `p`, by one touch for writing. The sum wraps.
+    /// Adds `v` to the value at position `p`, which lies in the array, by one touch for writing. The sum
+    /// wraps.
     pub fn add(&mut self, p: Pos, v: T)
         requires { IsPosition (shape self.old) p }
         ensures state { state self.new ≡ (let t = touch_for_writing (format self.old) (state self.old) (block_at self.old p) in
@@ -144,7 +151,8 @@ impl<T: Lane, const D: usize> Array<T, D> {
         *value = value.add(v);
     }
 
-    /// Touches position `p` for writing; its value. What is written to it is the array's value there afterwards.
+    /// Touches position `p`, which lies in the array, for writing; its value. What is written to it is the
+    /// array's value there afterwards.
     pub fn value_mut(&mut self, p: Pos) -> &mut T
         requires { IsPosition (shape self.old) p }
         ensures* writes_back { sem 𝓛 (EndsWithValue T.row D.row
@@ -162,7 +170,7 @@ impl<T: Lane, const D: usize> Array<T, D> {
         self.cache.value_mut(b, place)
     }
 
-    /// Touches block `b`; its `4^D` values, x fastest.
+    /// Touches block `b`, which is below the number of blocks; its `4^D` values, x fastest.
     pub fn block(&mut self, b: u64) -> &[T]
         requires { b < blocks (shape self.old) }
         ensures* touched { sem 𝓛 (EndsAs T.row D.row
@@ -177,7 +185,8 @@ impl<T: Lane, const D: usize> Array<T, D> {
         self.cache.line(b)
     }
 
-    /// Touches block `b` for writing; its `4^D` values, x fastest. What is written to them is the block's value afterwards.
+    /// Touches block `b`, which is below the number of blocks, for writing; its `4^D` values, x fastest. What
+    /// is written to them is the block's value afterwards.
     pub fn block_mut(&mut self, b: u64) -> &mut [T]
         requires { b < blocks (shape self.old) }
         ensures* writes_back { sem 𝓛 (EndsWithBlock T.row D.row
@@ -194,7 +203,8 @@ impl<T: Lane, const D: usize> Array<T, D> {
         self.part_mut(b, 0, len)
     }
 
-    /// Touches block `b` for writing, so that `part_mut` can lend parts of it.
+    /// Touches block `b`, which is below the number of blocks, for writing, so that `part_mut` can lend parts
+    /// of it.
     pub fn touch_mut(&mut self, b: u64)
         requires { b < blocks (shape self.old) }
         ensures state { state self.new ≡ touch_for_writing (format self.old) (state self.old) b }
@@ -238,8 +248,8 @@ impl<T: Lane, const D: usize> Array<T, D> {
         self.cache.discard();
     }
 
-    /// A flush, and then this number of lines, raised to a power of two. The memory is taken first: after `AllocError` nothing
-    /// has changed.
+    /// A flush, and then this number of lines, 1 to 65536, raised to a power of two. The memory is taken
+    /// first: after `AllocError` nothing has changed.
     pub fn set_lines(&mut self, lines: u32) -> Result<(), AllocError>
         requires { (0 < lines) × (lines ≤ 2 ^ 16) }
         ensures ok { OnOk result (state self.new ≡ relined (format self.old) (state self.old) (raised lines)) }
@@ -249,8 +259,9 @@ impl<T: Lane, const D: usize> Array<T, D> {
         self.cache.relined(&mut self.store, raised(lines))
     }
 
-    /// Zeros of a new shape: no block is in any line, and changes that were not written back are gone; the number of lines and the
-    /// counts stay. The memory is taken first: after `AllocError` nothing has changed.
+    /// Zeros of a new shape, which has `D` dimensions: no block is in any line, and changes that were not
+    /// written back are gone; the number of lines and the counts stay. The memory is taken first: after
+    /// `AllocError` nothing has changed.
     pub fn resize(&mut self, shape: Shape) -> Result<(), AllocError>
         requires { length shape ≡ D }
         ensures stored { OnOk result (stored self.new ≡ zeros self.old.header.ty shape (block_bits self.old.header.mode)) }
@@ -323,7 +334,7 @@ impl<T: Lane, const D: usize> Array<T, D> {
         self.store.header().shape
     }
 
-    /// The bits of a block.
+    /// The bits per block.
     pub fn bits(&self) -> u32
         ensures value { result ≡ block_bits self.now.header.mode }
         ensures mode { self.now.header.mode ≡ Mode.Rate result }

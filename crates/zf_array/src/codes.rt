@@ -23,7 +23,7 @@ pub struct Codes<'a, T: Lane, const D: usize> {
 }
 
 impl<'a, T: Lane, const D: usize> Codes<'a, T, D> {
-    /// The codes of an array that has no block in any line.
+    /// The codes of an array that has no block in any line, as after `flush` or `discard`.
     pub fn bind(array: &'a mut Array<T, D>) -> Codes<'a, T, D>
         requires { HasEmptyLines array.old }
         ensures same_array { result.array.ghost_name ≡ array.entry.ghost_name }

@@ -8,7 +8,8 @@ use zf_base::Lane;
 
 /// Maps each line along one axis, whose neighbours are `step` places apart.
 ///
-/// That is `4^k` for axis `k`, counted from 0 for x.
+/// That is `4^k` for axis `k`, counted from 0 for x. `step` is not 0, and the block is a whole number of
+/// `4 * step` values.
 pub fn pass<T: Lane, M: LineMap<T>>(line_map: &M, step: usize, block: &mut [T])
     requires step { 0 < step }
     requires whole { length block.old % (4 * step) ≡ 0 }

@@ -85,7 +85,7 @@ pub trait Lane: Copy + Eq {
         ensures value { result ≡ value self }
         ensures operand { in_range (value self) };
 
-    /// The number `v`, or nothing where the type does not have it.
+    /// The number `v`. `None`: it is no value of the type.
     fn from_wide(v: i128) -> Option<Self>
         ensures taken { IsSome result ↔ in_range v }
         ensures value { IfSome result (λ a. value a ≡ v) }

@@ -61,7 +61,10 @@ impl Model for Shape {
 }
 
 impl Shape {
-    /// The shape with the first `dims` of these sizes; the others are not looked at.
+    /// The shape with the first `dims` of these sizes, `dims` from 1 to 4; the others are not looked at.
+    ///
+    /// `Zero`: one of them is 0. `Field`: one is more than 2^48, 2^24, 2^16 or 2^12 in 1, 2, 3 or 4
+    /// dimensions. `TooLarge`: their product is more than 2^27. The first that holds, in this order.
     pub fn new(dims: u8, nx: u64, ny: u64, nz: u64, nw: u64) -> Result<Shape, ShapeFault>
         requires one_at_least { 1 ≤ dims }
         requires four_at_most { dims ≤ 4 }
@@ -96,7 +99,7 @@ impl Shape {
         self.dims
     }
 
-    /// The size along an axis, x being axis 0; 1 along an unused one.
+    /// The size along an axis below 4, x being axis 0; 1 along an unused one.
     pub fn size(&self, axis: u8) -> u64
         requires { axis < 4 }
         ensures { result ≡ slice_index_or self.now axis 1 }
@@ -134,7 +137,8 @@ impl Shape {
         p.x < self.sizes.x && p.y < self.sizes.y && p.z < self.sizes.z && p.w < self.sizes.w
     }
 
-    /// The number of the block that a position lies in, and its place there.
+    /// The number of the block that a position lies in, and its place there. The position is one of the
+    /// array's, as `contains` tells.
     ///
     /// Blocks are numbered x fastest, and so are the `4^d` places of a block (Lindstrom 2014).
     pub fn place(&self, p: Pos) -> (u64, usize)
@@ -148,7 +152,7 @@ impl Shape {
         (block, place as usize)
     }
 
-    /// The part of block `b` that lies in the array.
+    /// The part of block `b` that lies in the array; `b` is below `blocks`.
     #[inline(always)]
     pub fn extent(&self, b: u64) -> Extent
         requires { b < blocks self.now }

@@ -7,9 +7,11 @@ ghost use Rattle.zf_bits.specs.Packing.{word_of, words_from, words_of};
 
 use std::alloc::{AllocError, Global};
 
-/// The words that hold these bytes, the least significant byte of each word first. The last word is filled with zeros.
+/// The words that hold these bytes, the least significant byte of each word first. The last word is filled
+/// with zeros.
 ///
-/// Bit i of the words is then bit `i % 8` of byte `i / 8` (zfp 1.0 documentation).
+/// Bit i of the words is then bit `i % 8` of byte `i / 8` (zfp 1.0 documentation). `AllocError`: there was no
+/// memory.
 pub fn words_of_bytes(alloc: Global, bytes: &[u8]) -> Result<Vec<u64>, AllocError>
     ensures len { IfOk result (λ words. vec_len words ≡ div_ceil (length bytes.now) 8) }
     ensures words { IfOk result (λ words. words.items ≡ words_of bytes.now) }
@@ -58,7 +60,7 @@ fn word(bytes: &[u8]) -> u64
     u64::from_le_bytes(whole)
 }
 
-/// The bytes of words, the least significant byte of each word first.
+/// The bytes of words, the least significant byte of each word first. `AllocError`: there was no memory.
 pub fn bytes_of_words(alloc: Global, words: &[u64]) -> Result<Vec<u8>, AllocError>
     ensures { IfOk result (λ bytes. bytes.items ≡ to_bytes (word_bits words.now)) }
 {

@@ -29,7 +29,7 @@ impl<'a> Model for BitReader<'a> {
 }
 
 impl<'a> BitReader<'a> {
-    /// A reader that stands before the first of `bits` bits, from the first word on.
+    /// A reader that stands before the first of `bits` bits, from the first word on; the words have so many.
     pub fn new(words: &'a [u64], bits: u64) -> BitReader<'a>
         requires { bits ≤ 64 * length words.now }
         ensures { result ≡ record { all = take bits (word_bits words.now); at = 0 } }
@@ -66,7 +66,7 @@ impl<'a> BitReader<'a> {
         self.bits - self.at
     }
 
-    /// Goes to a place, also back.
+    /// Goes to a place, also back; at most to the end.
     pub fn seek(&mut self, at: u64)
         requires { at ≤ length self.old.all }
         ensures { self.new ≡ record self.old { at = at } }
@@ -74,7 +74,7 @@ impl<'a> BitReader<'a> {
         self.at = at;
     }
 
-    /// The next bit, or `None` at the end.
+    /// The next bit. `None`: there is none, and the reader stays.
     #[inline]
     pub fn read_bit(&mut self) -> Option<bool>
         ensures reads { IfSome result (λ bit. Reads self.old self.new (bit ∷ [])) }
@@ -87,7 +87,8 @@ impl<'a> BitReader<'a> {
         Some(self.next_bit())
     }
 
-    /// The next `n` bits as a number, the least significant first, or `None` where fewer are left.
+    /// The next `n` bits, at most 64, as a number, the least significant first. `None`: fewer are left, and
+    /// the reader stays.
     #[inline]
     pub fn read(&mut self, n: u32) -> Option<u64>
         requires { n ≤ 64 }
@@ -112,7 +113,7 @@ impl<'a> BitReader<'a> {
         bits_from(self.words, self.at)
     }
 
-    /// Goes on behind the next `n` bits.
+    /// Goes on behind the next `n` bits, which are there.
     #[inline]
     pub fn skip(&mut self, n: u64)
         requires { n ≤ length (rest self.old) }

@@ -2,7 +2,8 @@
 ghost use Rattle.std.specs.Prelude.{◌≡◌, ◌+◌, ◌*◌, ◌/◌, ◌%◌, ◌^◌, ◌<◌, ◌≤◌, ◌++◌, false, length, take, drop, replicate, slice_index};
 ghost use Rattle.zf_spec.specs.Numbers.{field, number, word_bits};
 
-/// The `n` bits from place `at` on as a number, the first bit lowest.
+/// The `n` bits from place `at` on as a number, the first bit lowest. They are at most 64, and lie in the
+/// words.
 ///
 /// Bit i of words is bit `i % 64` of word `i / 64`, least significant first (zfp 1.0 documentation).
 #[inline]
@@ -14,7 +15,8 @@ pub fn get_bits(words: &[u64], at: u64, n: u32) -> u64
     low_bits(bits_from(words, at), n)
 }
 
-/// Makes the `n` bits from place `at` on the `n` lowest bits of `v`, the lowest first. All other bits stay.
+/// Makes the `n` bits from place `at` on the `n` lowest bits of `v`, the lowest first. They are at most 64,
+/// and lie in the words. All other bits stay.
 pub fn put_bits(words: &mut [u64], at: u64, v: u64, n: u32)
     requires width { n ≤ 64 }
     requires within { at + n ≤ 64 * length words.old }

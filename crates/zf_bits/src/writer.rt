@@ -71,7 +71,8 @@ impl BitWriter {
         &self.words[..self.len.div_ceil(64) as usize]
     }
 
-    /// Makes room for `n` more bits.
+    /// Makes room for `n` more bits, at most 2^40. `AllocError`: there was less room and no memory; nothing
+    /// has changed.
     pub fn reserve(&mut self, n: u64) -> Result<(), AllocError>
         requires { n ≤ 2 ^ 40 }
         ensures bits { self.new.bits ≡ self.old.bits }
@@ -99,7 +100,8 @@ impl BitWriter {
         (64 * self.words.len() as u64).saturating_sub(64 + self.len)
     }
 
-    /// Appends the `n` lowest bits of `v`, the least significant first.
+    /// Appends the `n` lowest bits of `v`, at most 64, the least significant first. `AllocError`: there was
+    /// less room and no memory; nothing was appended.
     #[inline]
     pub fn write(&mut self, v: u64, n: u32) -> Result<(), AllocError>
         requires { n ≤ 64 }
@@ -112,7 +114,8 @@ impl BitWriter {
         Ok(())
     }
 
-    /// Appends the `n` lowest bits of `v`, the least significant first, in room that is there already.
+    /// Appends the `n` lowest bits of `v`, the least significant first, in room that is there already. `n` is
+    /// at most 64.
     #[inline]
     pub fn write_reserved(&mut self, v: u64, n: u32)
         requires width { n ≤ 64 }
@@ -152,7 +155,8 @@ impl BitWriter {
         self.write_reserved(u64::from(bit), 1);
     }
 
-    /// Appends zero bits up to the next multiple of 64, and none where the length is a multiple already.
+    /// Appends zero bits up to the next multiple of 64, and none where the length is a multiple already. The
+    /// room for them is there.
     pub fn pad_to_word(&mut self)
         requires { length (fill self.old.bits) ≤ self.old.room }
         ensures bits { Appends self.old self.new (fill self.old.bits) }

@@ -20,11 +20,16 @@ use zf_header::Header;
 use zf_index::{IndexFault, Verbatim};
 use zf_parse::longest_code;
 
-/// How far the values of a stream of a fixed rate are, at most, from whatever was stored in it, if that had magnitudes up to `m`.
+/// How far the values of a stream of a fixed rate are, at most, from whatever was stored in it, if that had
+/// magnitudes up to `m`.
 ///
-/// `file` is the whole stream, and `h` its header. The bound holds for all contents with these codes, and says nothing of any other; where the
-/// values or the error are so large that a sum may wrap, none is promised. A fault is that of the stream: the first code that ends too early,
-/// then a fill that is not zero, then a byte behind it; or there was no memory.
+/// `file` is the whole stream. The bound holds for all contents with these codes, and says nothing of any
+/// other; where the values or the error are so large that a sum may wrap, none is promised.
+///
+/// `h` is what `zf_header::read` gives for the file. `Truncated(b)`: the code of block b is the first that
+/// ends too early; b is the number of blocks where only fill bits are missing. `Pad`: a bit of the fill is
+/// one. `Trailing`: a byte follows the fill. The first that holds, in this order; or `Memory`: there was no
+/// memory.
 pub fn bound<T: Lane>(
     alloc: Global,
     h: &Header,

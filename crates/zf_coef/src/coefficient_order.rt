@@ -34,10 +34,11 @@ static ORDER_4: [u8; 256] = [
     223, 247, 253, 191, 239, 251, 254, 255,
 ];
 
-/// The place of each rank in a block of `d` dimensions.
+/// The place of each rank in a block of `d` dimensions, 1 to 4.
 ///
-/// The place with the smaller sum of indices comes first, then the one with the smaller sum of squares, then the one with the greater x, then y, then z.
-/// In one and two dimensions this is the order of zfp 1.0; in three and four dimensions the choice among equal sums is this project's own.
+/// The place with the smaller sum of indices comes first, then the one with the smaller sum of squares, then
+/// the one with the greater x, then y, then z. In one and two dimensions this is the order of zfp 1.0; in
+/// three and four dimensions the choice among equal sums is this project's own.
 #[inline(always)]
 pub fn order(d: u8) -> &'static [u8]
     requires dimension { IsDimension d }

@@ -13,7 +13,8 @@ use crate::planes::{WORD_BITS, have_four_words};
 use crate::turning::{turn_4, turn_16, turn_32};
 use zf_bits::Plane;
 
-/// The way back: writes the digits of as many coefficients as `digits` has words. Bits of later ranks are not looked at.
+/// The way back: writes the digits of as many coefficients as `digits` has words, at most 256, of at most 64
+/// planes. Bits of later ranks are not looked at.
 pub fn from_planes(planes: &[[u64; 4]], digits: &mut [u64])
     requires planes { length planes.now ≤ 64 }
     requires digits { length digits.old ≤ 256 }

@@ -18,7 +18,8 @@ pub fn any_digits(digits: &[u64]) -> u64
     any
 }
 
-/// How many of the `width` planes of these digits are needed: those from the greatest down to the lowest that has a one.
+/// How many of the `width` planes of these digits are needed: those from the greatest down to the lowest that
+/// has a one. `width` is at most 64.
 #[inline]
 pub fn needed_planes(digits: &[u64], width: u32) -> u32
     requires { width ≤ 64 }
@@ -27,7 +28,8 @@ pub fn needed_planes(digits: &[u64], width: u32) -> u32
     width.saturating_sub(any_digits(digits).trailing_zeros())
 }
 
-/// How many of the top `width` planes of these digits have no one, down to the first one that has; `width` where none has.
+/// How many of the top `width` planes of these digits have no one, down to the first one that has; `width`,
+/// which is 1 to 64, where none has.
 #[inline]
 pub fn zero_planes(digits: &[u64], width: u32) -> u32
     requires some { 0 < width }

@@ -14,7 +14,8 @@ use zf_bits::Plane;
 /// How many ranks a word of a plane has.
 pub(crate) const WORD_BITS: usize = 64;
 
-/// Writes the digits of coefficients by rank as bit planes: plane `k` has digit `k` of each. Digits that have no plane are left out.
+/// Writes the digits of coefficients by rank as bit planes: plane `k` has digit `k` of each. Digits that have
+/// no plane are left out. There are at most 256 coefficients and 64 planes.
 ///
 /// The digit of rank r is bit `r % 64` of word `r / 64` of a plane; bits past the digits are 0.
 pub fn to_planes(digits: &[u64], planes: &mut [[u64; 4]])

@@ -52,7 +52,8 @@ fn rank<T: Lane>(d: u8, from: usize, to: usize, block: &[T], digits: &mut [u64])
     }
 }
 
-/// The way back: writes the coefficient of each rank at its place in the block. Bits from `WIDTH` on are not looked at.
+/// The way back: writes the coefficient of each rank at its place in the block. Bits from `WIDTH` on are not
+/// looked at. There are `4^d` digits and coefficients; d is 1 to 4.
 #[inline(always)]
 pub fn unranked<T: Lane>(d: u8, digits: &[u64], block: &mut [T])
     requires dimension { IsDimension d }

@@ -16,7 +16,7 @@ use crate::values::of_type;
 use zf_base::{Lane, Pos};
 use zf_script::{Refusal, Reply};
 
-/// `fill v`: makes all values be `v`.
+/// `fill v`: makes all values be `v`. The parts of the target fit.
 pub fn fill<T: Lane, A: Changing<T>>(a: &mut A, v: i128) -> Answer
     requires { A.sound a.old }
     ensures does { DoesAlone (A.setting (A.kept a.old)) (Command.fill v)

@@ -13,7 +13,7 @@ use zf_script::{Refusal, Reply};
 // The most lines of a cache.
 const MAX_LINES: u64 = 65536;
 
-/// `flush`: writes back what is dirty, and empties the cache.
+/// `flush`: writes back what is dirty, and empties the cache. The parts of the target fit.
 pub fn flush<T: Lane, A: Changing<T>>(a: &mut A) -> Answer
     requires { A.sound a.old }
     ensures does { DoesAlone (A.setting (A.kept a.old)) Command.flush
@@ -25,7 +25,7 @@ pub fn flush<T: Lane, A: Changing<T>>(a: &mut A) -> Answer
     Ok(None)
 }
 
-/// `discard`: empties the cache, and writes nothing back.
+/// `discard`: empties the cache, and writes nothing back. The parts of the target fit.
 pub fn discard<T: Lane, A: Changing<T>>(a: &mut A) -> Answer
     requires { A.sound a.old }
     ensures does { DoesAlone (A.setting (A.kept a.old)) Command.discard

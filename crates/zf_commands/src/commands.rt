@@ -62,7 +62,8 @@ pub fn spoken(done: Answer) -> Option<Reply>
     }
 }
 
-/// What a command that only reads does; nothing where the command is another. Each tests what it is refused for in the order of size, range, value and memory.
+/// What a command that only reads does; nothing where the command is another. Each tests what it is refused
+/// for in the order of size, range, value and memory. The parts of the target fit.
 pub fn read<A: Target>(a: &mut A, window: &mut Window, cmd: Cmd) -> Option<Answer>
     requires sound { A.sound a.old }
     requires sizes { IsShape (A.shape a.old) }

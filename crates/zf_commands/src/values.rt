@@ -30,7 +30,7 @@ pub(crate) fn get<A: Target>(a: &mut A, p: Pos) -> Answer
     Ok(Some(Reply::Number(a.number(p))))
 }
 
-/// `set P v`: makes the value at a position be `v`.
+/// `set P v`: makes the value at a position be `v`. The parts of the target fit.
 pub fn set<T: Lane, A: Changing<T>>(a: &mut A, p: Pos, v: i128) -> Answer
     requires sound { A.sound a.old }
     requires unused { p ≡ with_unused 0 (used_axes (length (A.shape a.old)) p) }
@@ -49,7 +49,7 @@ pub fn set<T: Lane, A: Changing<T>>(a: &mut A, p: Pos, v: i128) -> Answer
     Ok(None)
 }
 
-/// `add P v`: adds `v` to the value at a position; the sum wraps.
+/// `add P v`: adds `v` to the value at a position; the sum wraps. The parts of the target fit.
 pub fn add<T: Lane, A: Changing<T>>(a: &mut A, p: Pos, v: i128) -> Answer
     requires sound { A.sound a.old }
     requires unused { p ≡ with_unused 0 (used_axes (length (A.shape a.old)) p) }

@@ -51,11 +51,13 @@ impl<T: Lane, const D: usize> Model for ConstArray<T, D> {
 impl<T: Lane, const D: usize> ConstArray<T, D> {
     ghost use Rattle.zf_const.specs.Loans.{EndsAs};
 
-    /// The array of a file that begins with the header `h`, of values of `T` in `D` dimensions, in any mode. The number of lines is
-    /// raised to a power of two.
+    /// The array of a file that begins with the header `h`, of values of `T` in `D` dimensions, in any mode.
+    /// `lines` is 1 to 65536, raised to a power of two.
     ///
-    /// A fault is that of the stream: the first code that ends too early, then a fill that is not zero, then a byte behind it; or there was
-    /// no memory.
+    /// `h` is what `zf_header::read` gives for the file. `Truncated(b)`: the code of block b is the first
+    /// that ends too early; b is the number of blocks where only fill bits are missing. `Pad`: a bit of the
+    /// fill is one. `Trailing`: a byte follows the fill. The first that holds, in this order; or `Memory`:
+    /// there was no memory.
     pub fn from_file(
         alloc: Global,
         h: &Header,

@@ -42,7 +42,7 @@ impl MemShelf {
         }
     }
 
-    /// The bytes of the file of this name.
+    /// The bytes of the file of this name. `None`: there is no such file.
     pub fn file(&self, name: &str) -> Option<&[u8]>
         ensures some { IfSome result (λ bytes. shelf_files self.now name.now ≡ Some bytes.now) }
         ensures none { IfNone result (shelf_files self.now name.now ≡ None) }
@@ -60,7 +60,7 @@ impl MemShelf {
         self.faults
     }
 
-    /// How many of these, all of them saves, failed for want of memory.
+    /// How many of these, all of them saves, failed as memory ran out.
     pub fn starved(&self) -> u64
         ensures { result ≡ shelf_starved self.now }
     {
@@ -128,7 +128,7 @@ impl Shelf for MemShelf {
     fn save(&mut self, name: &str, bytes: &[u8]) -> Result<(), Failed>
         ensures counts { OnOk result (CountsCall self.old self.new) }
         ensures listed { Contains (shelf_fail self.old) (shelf_call self.old) → IsErr result × CountsFault self.old self.new }
-        // Any other save fails only for want of memory, and counts that.
+        // Any other save fails only as memory ran out, and counts that.
         ensures starved { OnErr result (¬ Contains (shelf_fail self.old) (shelf_call self.old) → CountsWant self.old self.new) }
         // A file in memory is never half saved.
         ensures err { OnErr result (KeepsFiles (Some (shelf_files self.old)) (Some (shelf_files self.new))) }

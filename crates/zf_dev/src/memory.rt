@@ -40,7 +40,8 @@ impl Model for MemSource {
 }
 
 impl MemSource {
-    /// Gives `bytes`, at most `piece` of them a call. The calls that `fail` names fail; they are numbered from 0.
+    /// Gives `bytes`, at most `piece` of them a call; `piece` is at least 1. The calls that `fail` names
+    /// fail; they are numbered from 0.
     pub fn new(bytes: Vec<u8>, fail: Vec<u64>, piece: usize) -> MemSource
         requires { 0 < piece }
         ensures { result ≡ record {
@@ -151,7 +152,8 @@ impl Model for MemSink {
 }
 
 impl MemSink {
-    /// Takes at most `piece` bytes a call. The calls that `fail` names fail; they are numbered from 0.
+    /// Takes at most `piece` bytes a call; `piece` is at least 1. The calls that `fail` names fail; they are
+    /// numbered from 0.
     pub fn new(alloc: Global, fail: Vec<u64>, piece: usize) -> MemSink
         requires { 0 < piece }
         ensures { result ≡ record {
@@ -187,7 +189,7 @@ impl MemSink {
         self.faults
     }
 
-    /// How many of these failed for want of memory.
+    /// How many of these failed as memory ran out.
     pub fn starved(&self) -> u64
         ensures { result ≡ self.now.starved }
     {
@@ -210,7 +212,7 @@ impl Sink for MemSink {
         ensures taken { IfOk result (λ n. n ≡ min self.old.piece (length bytes.now)) }
         ensures ok { IfOk result (λ n. self.new ≡ sink_after_write self.old (take n bytes.now)) }
         ensures listed { Contains self.old.fail self.old.call → IsErr result × (self.new ≡ sink_after_fault self.old) }
-        // Any other call fails only for want of memory, and counts that.
+        // Any other call fails only as memory ran out, and counts that.
         ensures starved { OnErr result (¬ Contains self.old.fail self.old.call → self.new ≡ sink_after_want self.old) }
 
         // Those of the trait.

@@ -25,7 +25,10 @@ pub trait Shelf {
     /// No load fails from here on.
     ghost never_fails: { Self → Type 0 };
 
-    /// The bytes of the file of this name, where it has at most `max` bytes.
+    /// The bytes of the file of this name, where it has at most `max` bytes. No file changes.
+    ///
+    /// `Missing`: there is no such file. `Long`: it has more than `max` bytes. `Failed`: the shelf failed and
+    /// has counted it. `Memory`: there was no memory for the bytes.
     fn load(&mut self, alloc: Global, name: &str, max: u64) -> Result<Vec<u8>, LoadError>
         ensures ok { IfOk result (λ bytes. HasFile (files self.old) name.now bytes.items) }
         ensures bound { IfOk result (λ bytes. length bytes.items ≤ max) }
@@ -36,7 +39,8 @@ pub trait Shelf {
         ensures step { loads self.old self.new }
         ensures sure { never_fails self.old → (result ≢ Err loading.Failed) × never_fails self.new };
 
-    /// Makes `bytes` the file of this name, in place of what it held. After a fault nothing is known of that name.
+    /// Makes `bytes` the file of this name, in place of what it held. `Failed`: the shelf failed and has
+    /// counted it; nothing is known of that name then, and other files stay.
     fn save(&mut self, name: &str, bytes: &[u8]) -> Result<(), Failed>
         ensures ok { OnOk result (SavesFile (files self.old) (files self.new) name.now bytes.now) }
         ensures others { KeepsOthers (files self.old) (files self.new) name.now }

@@ -22,7 +22,8 @@ pub trait Sink {
 
     ghost kept: { Self → Kept };
 
-    /// Writes the first of `bytes`, at least one, and says how many.
+    /// Writes the first of `bytes`, which are not empty, and says how many: at least one. `Failed`: the sink
+    /// failed and has counted it; nothing was written.
     fn write(&mut self, bytes: &[u8]) -> Result<usize, Failed>
         requires { 0 < length bytes.now }
         ensures some { IfOk result (λ n. 0 < n) }
@@ -43,7 +44,7 @@ pub trait Sink {
         ensures cause { HasCause (IsErr result) (faults self.old) (faults self.new) };
 }
 
-/// Writes all of `bytes`. After a fault a front of them is written, but not all.
+/// Writes all of `bytes`. `Failed`: the sink failed; a prefix of them is written, but not all.
 pub fn write_all<O: Sink>(out: &mut O, bytes: &[u8]) -> Result<(), Failed>
     ensures all { OnOk result (Appends (O.contents out.old) (O.contents out.new) bytes.now) }
     ensures part { OnErr result (AppendsPart (O.contents out.old) (O.contents out.new) bytes.now) }

@@ -22,7 +22,9 @@ pub trait Source {
 
     ghost kept: { Self → Kept };
 
-    /// Reads some of the next bytes into the front of `buf`, and says how many. 0 is the end of the stream.
+    /// Reads some of the next bytes into the start of `buf`, which is not empty, and says how many; the rest
+    /// of `buf` stays. 0 is the end of the stream. `Failed`: the source failed and has counted it; nothing
+    /// was taken.
     fn read(&mut self, buf: &mut [u8]) -> Result<usize, Failed>
         requires { 0 < length buf.old }
         ensures bound { IfOk result (λ n. n ≤ length buf.old) }
@@ -44,9 +46,10 @@ pub trait Source {
     {}
 }
 
-/// Reads until `buf` is full or the source is at its end, and says how many bytes it read.
+/// Reads until `buf` is full or the source is at its end, and says how many bytes it read: fewer than `buf`
+/// has only at the end.
 ///
-/// After a fault the bytes read so far can't be told from what stood in `buf` before.
+/// `Failed`: the source failed. The bytes read so far can't be told from what stood in `buf` before.
 pub fn fill<S: Source>(src: &mut S, buf: &mut [u8]) -> Result<usize, Failed>
     ensures bound { IfOk result (λ n. n ≤ length buf.old) }
     ensures taken { IfOk result (λ n. Takes (S.contents src.old) (S.contents src.new) (take n buf.new)) }

@@ -11,7 +11,10 @@ use std::alloc::Global;
 // How many bytes are read at once.
 const PIECE: usize = 4096;
 
-/// Reads the source to its end, where at most `max` bytes come.
+/// Reads the source to its end, and gives all the bytes that came, at most `max`.
+///
+/// `Long`: more than `max` came. `Failed`: the source failed. `Memory`: there was no memory. Some of the
+/// bytes, maybe none, are taken then.
 pub fn take_all<S: Source>(alloc: Global, src: &mut S, max: u64) -> Result<Vec<u8>, TakeError>
     ensures ok { IfOk result (λ bytes. Takes (S.contents src.old) (S.contents src.new) bytes.items) }
     ensures end { OnOk result (IsAtEnd (S.contents src.new)) }

@@ -32,7 +32,7 @@ pub const FULL_HEADER_BYTES: usize = 19;
 /// The bytes that any other header has.
 pub(crate) const SHORT_HEADER_BYTES: usize = 12;
 
-/// The greatest rate, in bits of a block.
+/// The greatest rate, in bits per block.
 pub const MAX_RATE: u32 = 32768;
 
 /// The greatest precision, in bit planes.
@@ -119,8 +119,9 @@ pub enum HeaderFault {
     Mode(u16),
 }
 
-/// The number of a mode: the rate less 1 up to 2048, the precision plus 2047, 2176 for the reversible mode, and else 4095,
-/// which begins the long form (zfp 1.0 documentation; the layout of the reversible codes behind it is this project's own).
+/// The number of a mode: the rate less 1 up to 2048, the precision plus 2047, 2176 for the reversible mode,
+/// and else 4095, which begins the long form (zfp 1.0 documentation; the layout of the reversible codes
+/// behind it is this project's own). A rate is 1 to 32768, a precision 1 to 128.
 pub fn mode_number(m: &Mode) -> u16
     requires { IsMode m.now }
     ensures { result ≡ mode_number (coding m.now) }
@@ -144,7 +145,8 @@ fn rate_number(rate: u32) -> u16
     }
 }
 
-/// The bytes of the stream of an array with a fixed rate: its header, its blocks, and the fill to whole words of 64 bits.
+/// The bytes of the stream of an array with a fixed rate, 1 to 32768: its header, its blocks, and the fill to
+/// whole words of 64 bits.
 pub fn rate_bytes(h: &Header) -> u64
     requires { IsRate h.now.mode }
     ensures { result ≡ rate_bytes_of h.now }

@@ -15,7 +15,12 @@ use crate::header::{
 };
 use zf_base::{Shape, Ty};
 
-/// The header that the bytes begin with and its length in bits, 96 or 148; or the first fault, field by field.
+/// The header that the bytes begin with and its length in bits, 96 or 148; or the first fault, field by
+/// field.
+///
+/// `Short`: there are fewer bytes than the header has, 12, or 19 with the long form of its mode. `Magic`,
+/// `Codec`, `Scalar`: the letters, the codec or the type are others. `Order`: the codec does not go with the
+/// number of dimensions. `TooLarge`: there are more than 2^27 values. `Mode(m)`: mode m is not read.
 ///
 /// Bytes may follow the header: of all no more than the first [`FULL_HEADER_BYTES`] are looked at.
 pub fn read(bytes: &[u8]) -> Result<(Header, u32), HeaderFault>

@@ -14,10 +14,11 @@ use crate::header::{
 use zf_base::Shape;
 use zf_bits::BitWriter;
 
-/// Appends the bits of a header, 96 or 148, in room that is there already.
+/// Appends the bits of a header, 96 or 148, in room that is there already: for 148 bits. A rate is 1 to
+/// 32768, a precision 1 to 128.
 ///
-/// In order: the letters "zfp", the codec's number, the type, the number of dimensions, the sizes, x first, the mode, and the
-/// long form of a rate above 2048 (zfp 1.0 documentation).
+/// In order: the letters "zfp", the codec's number, the type, the number of dimensions, the sizes, x first,
+/// the mode, and the long form of a rate above 2048 (zfp 1.0 documentation).
 pub fn write(h: &Header, out: &mut BitWriter)
     requires writable { IsMode h.now.mode }
     requires fits { LONG_HEADER_BITS ≤ out.old.room }

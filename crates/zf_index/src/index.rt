@@ -49,10 +49,12 @@ impl<const STEP: usize> Model for Spans<STEP> {
 }
 
 impl<const STEP: usize> Spans<STEP> {
-    /// The index of a file that begins with the header `h`, in any mode.
+    /// The index of a file that begins with the header `h`, in any mode. `STEP` is at least 1.
     ///
-    /// A fault is that of the stream: the first code that ends too early, then a fill that is not zero, then a byte behind it; or there was
-    /// no memory.
+    /// `h` is what `zf_header::read` gives for the file. `Truncated(b)`: the code of block b is the first
+    /// that ends too early; b is the number of blocks where only fill bits are missing. `Pad`: a bit of the
+    /// fill is one. `Trailing`: a byte follows the fill. The first that holds, in this order; or `Memory`:
+    /// there was no memory.
     pub fn build(alloc: Global, h: &Header, file: &[u8]) -> Result<Self, IndexFault>
         requires header { HasHeader file.now h.now }
         requires step { 0 < STEP }

@@ -10,9 +10,9 @@ use zf_base::Lane;
 
 /// Makes the coefficients of a block: halved sums and differences along x, then along y, z and w.
 ///
-/// `block` has `4^d` values, x fastest, each of which has been given a value (a partial block is padded first). Halves
-/// are rounded down and sums wrap, so [`inverse`] does not undo this.
-/// The decorrelating transform of the zfp 1.0 documentation, chapter Algorithm.
+/// `block` has `4^d` values, x fastest, each of which has been given a value (a partial block is padded
+/// first); d is 1 to 4. Halves are rounded down and sums wrap, so [`inverse`] does not undo this. The
+/// decorrelating transform of the zfp 1.0 documentation, chapter Algorithm.
 pub fn forward<T: Lane>(d: u8, block: &mut [T])
     requires dimension { IsDimension d }
     requires size { length block.old ≡ 4 ^ d }
@@ -21,7 +21,8 @@ pub fn forward<T: Lane>(d: u8, block: &mut [T])
     passes(&Lift, d, block);
 }
 
-/// Makes values of the coefficients of a block: the steps of [`forward`] turned round, along the last axis first.
+/// Makes values of the coefficients of a block: the steps of [`forward`] turned round, along the last axis
+/// first. `block` has `4^d` values, x fastest; d is 1 to 4.
 #[inline(always)]
 pub fn inverse<T: Lane>(d: u8, block: &mut [T])
     requires dimension { IsDimension d }

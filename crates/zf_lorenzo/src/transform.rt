@@ -11,8 +11,8 @@ use zf_base::Lane;
 
 /// Makes the coefficients of a block: the block becomes its signed binomial sums, wrapped.
 ///
-/// `block` has `4^d` values, x fastest, each of which has been given a value (a partial block is padded first).
-/// The reversible transform of the zfp 1.0 documentation, chapter Algorithm.
+/// `block` has `4^d` values, x fastest, each of which has been given a value (a partial block is padded
+/// first); d is 1 to 4. The reversible transform of the zfp 1.0 documentation, chapter Algorithm.
 pub fn forward<T: Lane>(d: u8, block: &mut [T])
     requires dimension { IsDimension d }
     requires size { length block.old ≡ 4 ^ d }
@@ -23,7 +23,8 @@ pub fn forward<T: Lane>(d: u8, block: &mut [T])
     passes(&Differences, d, block);
 }
 
-/// Undoes [`forward`]: the coefficients become the block again.
+/// Undoes [`forward`]: the coefficients become the block again. `block` has `4^d` values, x fastest; d is 1
+/// to 4.
 #[inline(always)]
 pub fn inverse<T: Lane>(d: u8, block: &mut [T])
     requires dimension { IsDimension d }

@@ -19,10 +19,15 @@ use zf_dev::{Sink, Source};
 use zf_header::Header;
 use zf_stream::StreamFault;
 
-/// Reads raw narrow values, each little-endian in 1 or 2 bytes, x fastest, and writes the stream of the int32 values that stand for them.
+/// Reads raw narrow values, each little-endian in 1 or 2 bytes, x fastest, and writes the stream of the int32
+/// values that stand for them.
 ///
-/// The source is to give exactly the values of the header's shape: it is read to its end, and `RawShort` counts its bytes. `zf_stream::compress` says
-/// how much is held at a time.
+/// The source is to give exactly the values of the header's shape: it is read to its end. `h` says int32; a
+/// rate is 1 to 32768, a precision 1 to 128. `zf_stream::compress` says how much is held at a time.
+///
+/// `RawShort(m)`: the source ended after m narrow bytes, fewer than the shape needs. `RawLong`: it gave a
+/// byte more than the shape needs. `Read`, `Write`: that device failed. `Memory`: there was no memory, and
+/// nothing was written.
 pub fn compress_narrow<S: Source, O: Sink>(
     alloc: Global,
     n: Narrow,

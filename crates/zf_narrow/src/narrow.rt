@@ -12,7 +12,8 @@ pub enum Narrow {
     U16,
 }
 
-/// The int32 value that stands for a number of the type: its distance from the middle of the type, times `2^23` for 8 bits and `2^15` for 16.
+/// The int32 value that stands for `v`, a number of the type: its distance from the middle of the type, times
+/// `2^23` for 8 bits and `2^15` for 16.
 pub fn promote(n: Narrow, v: i32) -> i32
     requires { IsNarrow n v }
     ensures { result ≡ promoted n v }

@@ -18,9 +18,14 @@ use zf_base::Ty;
 use zf_dev::{Sink, Source};
 use zf_stream::StreamFault;
 
-/// Reads a stream of int32 to the end of the source, and writes the raw narrow values that its values stand for, each little-endian in 1 or 2 bytes, x fastest.
+/// Reads a stream of int32 to the end of the source, and writes the raw narrow values that its values stand
+/// for, each little-endian in 1 or 2 bytes, x fastest.
 ///
-/// Values beyond the type become its last ones; of a stream of int64 24 bytes are read at most. `zf_stream::restore` says how much is held at a time, and when values are written.
+/// Values beyond the type become its last ones; of a stream of int64 24 bytes are read at most.
+/// `zf_stream::restore` says how much is held at a time, and when values are written.
+///
+/// `NotNarrow`: the header is good and its values are int64; nothing was written. `Stream(f)`: f is a fault
+/// as of `zf_stream::restore`.
 pub fn restore_narrow<S: Source, O: Sink>(
     alloc: Global,
     n: Narrow,

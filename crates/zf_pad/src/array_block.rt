@@ -11,9 +11,11 @@ use crate::copies::{gather, scatter};
 use crate::layout::Layout;
 use zf_base::{Extent, Lane, Pos, Shape};
 
-/// Copies block `b` out of the values of an array, whose layout is at hand, and answers which part of the block exists.
+/// Copies block `b` out of the values of an array, whose layout is at hand, and answers which part of the
+/// block exists.
 ///
-/// `block` has `4^d` values, x fastest; those at places that do not exist stay.
+/// `layout` is the raw layout of the shape, `values` are all of the array's, and `b` is below the number of
+/// blocks. `block` has `4^d` values, x fastest; those at places that do not exist stay.
 #[inline]
 pub fn gather_block<T: Lane>(
     layout: &Layout,
@@ -42,7 +44,8 @@ pub fn gather_block<T: Lane>(
 
 /// Copies a block to the place of block `b` among the values of an array, whose layout is at hand.
 ///
-/// `block` has `4^d` values, x fastest; those at places that do not exist are not looked at.
+/// `layout` is the raw layout of the shape, `values` are all of the array's, and `b` is below the number of
+/// blocks. `block` has `4^d` values, x fastest; those at places that do not exist are not looked at.
 #[inline]
 pub fn scatter_block<T: Lane>(layout: &Layout, shape: &Shape, b: u64, block: &[T], values: &mut [T])
     requires raster { IsRaster shape.now layout.now }

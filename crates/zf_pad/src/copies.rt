@@ -10,9 +10,11 @@ use crate::layout::Layout;
 use crate::padding::is_whole;
 use zf_base::{Extent, Lane, Pos, block_len};
 
-/// Copies the values at the positions of the extent `e`, which stand where `layout` puts them, into a block of `d` dimensions.
+/// Copies the values at the positions of the extent `e`, which stand where `layout` puts them, into a block
+/// of `d` dimensions.
 ///
-/// `block` has `4^d` values, x fastest; those at places that do not exist stay.
+/// Each position of `e` has its place in `values`. `block` has `4^d` values, x fastest; those at places that
+/// do not exist stay.
 pub fn gather<T: Lane>(layout: &Layout, e: &Extent, d: u8, values: &[T], block: &mut [T])
     requires four_at_most { d ≤ 4 }
     requires extent { IsExtent d e.now }
@@ -125,7 +127,8 @@ fn gather_places<T: Lane>(layout: &Layout, e: &Extent, d: u8, values: &[T], bloc
 
 /// Copies the values of a block of `d` dimensions to where `layout` puts the positions of the extent `e`.
 ///
-/// `block` has `4^d` values, x fastest; those at places that do not exist are not looked at.
+/// Each position of `e` has its place in `values`, and no two have the same. `block` has `4^d` values, x
+/// fastest; those at places that do not exist are not looked at.
 pub fn scatter<T: Lane>(layout: &Layout, e: &Extent, d: u8, block: &[T], values: &mut [T])
     requires four_at_most { d ≤ 4 }
     requires extent { IsExtent d e.now }

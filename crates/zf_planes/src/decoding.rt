@@ -431,11 +431,13 @@ pub fn read_planes<P: Plane>(
     }
 }
 
-/// Reads the code of the top `prec` planes, of which `budget` bits were written, or all of it where it is shorter. The answer is the number of its bits.
-/// `None` means that the bits end before the budget and the code do; then the reader stands where it stood, and the planes hold anything.
+/// Reads the code of the top `prec` planes, of which `budget` bits were written, or all of it where it is
+/// shorter. The answer is the number of its bits. `None`: the bits end before the budget and the code do; the
+/// reader stands where it stood, and the planes hold anything.
 ///
-/// `planes[k]` holds digit k of each coefficient by rank: rank r is bit `r % 64` of word `r / 64`.
-/// Embedded coding as in the zfp 1.0 documentation, chapter Algorithm.
+/// `size` is 4, 16, 64 or 256, and there are at least `prec` planes. `planes[k]` holds digit k of each
+/// coefficient by rank: rank r is bit `r % 64` of word `r / 64`. Embedded coding as in the zfp 1.0
+/// documentation, chapter Algorithm.
 pub fn decode(
     budget: u64,
     prec: u32,

@@ -244,10 +244,14 @@ pub fn write_planes_below<P: Plane>(
     }
 }
 
-/// Appends the code of the top `prec` planes, or its first `budget` bits where it is longer. The answer is the number of bits appended.
+/// Appends the code of the top `prec` planes, or its first `budget` bits where it is longer. The answer is
+/// the number of bits appended.
 ///
-/// `planes[k]` holds digit k of each coefficient by rank: rank r is bit `r % 64` of word `r / 64`, and bits from rank `size` on are not looked at.
-/// Embedded coding as in the zfp 1.0 documentation, chapter Algorithm.
+/// `size` is 4, 16, 64 or 256, and there are at least `prec` planes. There is room for the smaller of
+/// `budget` and `size * prec + size` bits.
+///
+/// `planes[k]` holds digit k of each coefficient by rank: rank r is bit `r % 64` of word `r / 64`, and bits
+/// from rank `size` on are not looked at. Embedded coding as in the zfp 1.0 documentation, chapter Algorithm.
 pub fn encode(budget: u64, prec: u32, size: usize, planes: &[[u64; 4]], out: &mut BitWriter) -> u64
     requires size { IsBlockSize size }
     requires planes { prec ≤ length planes.now }

@@ -50,7 +50,9 @@ pub fn planes_len<P: Plane>(prec: u32, size: usize, planes: &[P]) -> u64
 
 /// The number of bits of the code of the top `prec` planes without a budget.
 ///
-/// `planes[k]` holds digit k of each coefficient by rank: rank r is bit `r % 64` of word `r / 64`, and bits from rank `size` on are not looked at.
+/// `size` is 4, 16, 64 or 256, and there are at least `prec` planes. `planes[k]` holds digit k of each
+/// coefficient by rank: rank r is bit `r % 64` of word `r / 64`, and bits from rank `size` on are not looked
+/// at.
 pub fn code_len(prec: u32, size: usize, planes: &[[u64; 4]]) -> u64
     requires size { IsBlockSize size }
     requires planes { prec ≤ length planes.now }
@@ -106,7 +108,8 @@ pub fn planes_used<P: Plane>(size: usize, planes: &[P]) -> u32
 
 /// How many planes there are from the top one down to the lowest that has a one; 0 where none has.
 ///
-/// `planes[k]` holds digit k of each coefficient by rank, and bits from rank `size` on are not looked at.
+/// `size` is 4, 16, 64 or 256, and there are at most 64 planes. `planes[k]` holds digit k of each coefficient
+/// by rank, and bits from rank `size` on are not looked at.
 pub fn used_planes(size: usize, planes: &[[u64; 4]]) -> u32
     requires size { IsBlockSize size }
     requires planes { length planes.now ≤ 64 }

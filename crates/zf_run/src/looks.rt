@@ -14,8 +14,12 @@ use zf_view::Window;
 
 /// Runs the lines of a script over an array that is only read, and writes the reply of each as it comes.
 ///
-/// A line that would change the array is refused as no line of the language. A line that is refused changes nothing, and the script goes on. After `Write`,
-/// `out` holds the replies before some line and a part of that line's reply; the array is as after that line.
+/// A line that would change the array is refused as no line of the language. A line that is refused changes
+/// nothing, and the script goes on.
+///
+/// `Lines(n)`: n lines, at least one, were refused, and all others did what they ask for. `Write`: the sink
+/// failed; `out` holds the replies before some line and a part of that line's reply, and the array is as
+/// after that line.
 pub fn look<T: Lane, const D: usize, O: Sink>(
     a: &mut ConstArray<T, D>,
     script: &[u8],

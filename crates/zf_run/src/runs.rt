@@ -13,11 +13,15 @@ use zf_commands::run_lines;
 use zf_dev::Sink;
 use zf_view::Window;
 
-/// Runs the lines of a script over an array and writes the reply of each as it comes; at the end it flushes the array.
+/// Runs the lines of a script over an array and writes the reply of each as it comes; at the end it flushes
+/// the array.
 ///
-/// A line that is refused changes nothing, and the script goes on. What is split at the end is joined before the flush.
-/// After `Write`, `out` holds the replies before some line and a part of that line's reply; the array is as after that
-/// line, not flushed, and its views are dropped as they are.
+/// A line that is refused changes nothing, and the script goes on. What is split at the end is joined before
+/// the flush.
+///
+/// `Lines(n)`: n lines, at least one, were refused, and all others did what they ask for. `Write`: the sink
+/// failed; `out` holds the replies before some line and a part of that line's reply, and the array is as
+/// after that line, not flushed, and its views are dropped as they are.
 pub fn run<T: Lane, const D: usize, O: Sink>(
     alloc: Global,
     a: &mut Array<T, D>,

@@ -14,11 +14,15 @@ use zf_store::Store;
 use zf_twoway::TwoWay;
 use zf_view::Window;
 
-/// Runs the lines of a script over a store and a two-way cache, which is empty, and writes the reply of each as it comes; at the end it
-/// flushes the cache.
+/// Runs the lines of a script over a store and a two-way cache, which is empty, and writes the reply of each
+/// as it comes; at the end it flushes the cache.
 ///
-/// Lines on windows and sizes are refused as no lines of the language. A line that is refused changes nothing, and the script goes on. After
-/// `Write`, `out` holds the replies before some line and a part of that line's reply; store and cache are as after that line, not flushed.
+/// Lines on windows and sizes are refused as no lines of the language. A line that is refused changes
+/// nothing, and the script goes on.
+///
+/// `Lines(n)`: n lines, at least one, were refused, and all others did what they ask for. `Write`: the sink
+/// failed; `out` holds the replies before some line and a part of that line's reply, and store and cache are
+/// as after that line, not flushed.
 pub fn run_two<T: Lane, const D: usize, O: Sink>(
     store: &mut Store<T, D>,
     cache: &mut TwoWay<T, D>,

@@ -15,7 +15,8 @@ use crate::views::on_view;
 use crate::words::cut;
 use zf_base::Pos;
 
-/// The command of a line for an array of so many dimensions; `Word` where the line is none.
+/// The command of a line for an array of so many dimensions, 1 to 4. `Word`: the line is no command; no other
+/// refusal comes.
 pub fn parse_line(dims: u8, line: &[u8]) -> Result<Cmd, Refusal>
     requires dimension { IsDimension dims }
     ensures ok { IfOk result (λ cmd. read_line dims line.now ≡ Some (command_of dims cmd)) }

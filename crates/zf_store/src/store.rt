@@ -76,9 +76,12 @@ impl<T: Lane, const D: usize> Store<T, D> {
     }
 
     /// The codes of a file that begins with the header `h`, of values of `T` in `D` dimensions at a rate.
+    /// Each code is kept bit for bit, bits that no value needs included.
     ///
-    /// Each code is kept bit for bit, bits that no value needs included. A fault is that of the stream: the first code that ends too
-    /// early, then a fill that is not zero, then a byte behind it; or there was no memory.
+    /// `h` is what `zf_header::read` gives for the file. `Truncated(b)`: the code of block b is the first
+    /// that ends too early; b is the number of blocks where only fill bits are missing. `Pad`: a bit of the
+    /// fill is one. `Trailing`: a byte follows the fill. The first that holds, in this order; or `Memory`:
+    /// there was no memory.
     pub fn from_file(alloc: Global, h: &Header, file: &[u8]) -> Result<Store<T, D>, StoreFault>
         requires header { HasHeader file.now h.now }
         requires same_type { T.width ≡ width_of h.now.ty }

@@ -35,8 +35,13 @@ pub(crate) const PIECE: u64 = 1 << 18;
 
 /// Reads raw values, each little-endian in 4 or 8 bytes, x fastest, and writes their stream.
 ///
-/// The source is to give exactly the values of the header's shape: it is read to its end. A slab of values is held at a time, up to four rows of the last axis
-/// or 4096 values of one dimension; all memory is taken before anything is written.
+/// The source is to give exactly the values of the header's shape: it is read to its end. A rate of `h` is 1
+/// to 32768, a precision 1 to 128. A slab of values is held at a time, up to four rows of the last axis or
+/// 4096 values of one dimension; all memory is taken before anything is written.
+///
+/// `RawShort(m)`: the source ended after m bytes, fewer than the shape needs. `RawLong`: it gave a byte more
+/// than the shape needs. `Read`, `Write`: that device failed. `Memory`: there was no memory, and nothing was
+/// written. After the others a prefix of the stream of the values that came is written, maybe nothing.
 pub fn compress<S: Source, O: Sink>(
     alloc: Global,
     h: &Header,

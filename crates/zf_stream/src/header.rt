@@ -11,9 +11,13 @@ use crate::reading::read_into;
 use zf_dev::Source;
 use zf_header::{FULL_HEADER_BYTES, Header};
 
-/// Takes the first 19 bytes, or all where there are fewer, and reads the header that they begin with, and its length in bits.
+/// Takes the first 19 bytes, or all where there are fewer, and reads the header that they begin with, and its
+/// length in bits.
 ///
 /// Bytes behind the header may be among the 19: a header has 96 bits, or 148 with the long form of its mode.
+///
+/// `Header(f)`: f is the first fault of the header; the same bytes were taken. `Read`: the source failed;
+/// some of these bytes, maybe none, were taken.
 pub fn read_header<S: Source>(src: &mut S) -> Result<(Header, u32), StreamFault>
     ensures ok { IfOk result (λ found. ReadsHeader (S.contents src.old) (S.contents src.new) found.0 found.1) }
     ensures err { IfErr result (LacksHeader (S.contents src.old) (S.contents src.new)) }

@@ -31,10 +31,18 @@ use zf_header::Header;
 use zf_pad::Layout;
 use zf_parse::{check_fill, longest_code};
 
-/// Reads a stream to the end of the source, and writes its raw values, each little-endian in 4 or 8 bytes, x fastest.
+/// Reads a stream to the end of the source, and writes its raw values, each little-endian in 4 or 8 bytes, x
+/// fastest.
 ///
-/// A slab of values is held at a time, up to four rows of the last axis or 4096 values of one dimension; all memory is taken before anything is written.
-/// A slab is written once all its codes were read, so a stream that ends early, is damaged or goes on leaves the values before on `out`.
+/// A slab of values is held at a time, up to four rows of the last axis or 4096 values of one dimension; all
+/// memory is taken before anything is written. A slab is written once all its codes were read, so a stream
+/// that ends early, is damaged or goes on leaves the values before on `out`.
+///
+/// `Header(f)`: f is the first fault of the header. `Truncated(b)`: the code of block b is the first that
+/// ends too early; b is the number of blocks where only fill bits are missing. `Pad`: a bit of the fill is
+/// one. `Trailing`: a byte follows the stream. `Read`, `Write`: that device failed. `Memory`: the header is
+/// good, and there was no memory. After `Header` and `Memory` nothing was written, and after the others a
+/// prefix of the values, maybe nothing.
 pub fn restore<S: Source, O: Sink>(
     alloc: Global,
     src: &mut S,
@@ -60,7 +68,8 @@ pub fn restore<S: Source, O: Sink>(
     restore_behind(alloc, &h, header_len, &front[..count], src, out)
 }
 
-/// The same where the values are of this type, and says so; else 24 bytes are taken at most, and none is written.
+/// The same where the values are of this type, and answers true. Of another type it answers false: the header
+/// was read, with 24 bytes taken at most, and nothing was written. Its errors are those of [`restore`].
 pub fn restore_where<S: Source, O: Sink>(
     alloc: Global,
     wanted: Ty,

@@ -43,7 +43,7 @@ impl<'a, T: Lane, const D: usize> View<'a, T, D> {
         View { array, window }
     }
 
-    /// The value at position `p` of the window, by one touch.
+    /// The value at position `p` of the window, by one touch. `p` lies in the window.
     pub fn get(&mut self, p: Pos) -> T
         requires lies { LiesIn (shape self.old.array.now) self.old.window }
         requires position { IsPosition self.old.window.size p }
@@ -57,7 +57,8 @@ impl<'a, T: Lane, const D: usize> View<'a, T, D> {
         array.get(self.window.map(p))
     }
 
-    /// Makes the value at position `p` of the window be `v`, by one touch for writing.
+    /// Makes the value at position `p` of the window be `v`, by one touch for writing. `p` lies in the
+    /// window.
     pub fn set(&mut self, p: Pos, v: T)
         requires lies { LiesIn (shape self.old.array.now) self.old.window }
         requires position { IsPosition self.old.window.size p }
@@ -70,8 +71,9 @@ impl<'a, T: Lane, const D: usize> View<'a, T, D> {
         array.set(self.window.map(p), v);
     }
 
-    /// The values at position `p` of the window and at those that follow along x, as far as they lie in one block of the array and in
-    /// the window: 1 to 4 of them, side by side. One touch for writing; what is written to them is the array's values there.
+    /// The values at position `p` of the window and at those that follow along x, as far as they lie in one
+    /// block of the array and in the window: 1 to 4 of them, side by side. One touch for writing; what is
+    /// written to them is the array's values there. `p` lies in the window, whose step along x is 1.
     ///
     /// ```text
     /// for value in view.run_mut(p) {
@@ -121,7 +123,8 @@ impl<'a, T: Lane, const D: usize> View<'a, T, D> {
         }
     }
 
-    /// The value at position `p` of the window, to be read and written. No touch is made yet.
+    /// The value at position `p` of the window, to be read and written. No touch is made yet. `p` lies in the
+    /// window.
     pub fn elem(&mut self, p: Pos) -> ElemMut<'_, T, D>
         requires lies { LiesIn (shape self.old.array.now) self.old.window }
         requires position { IsPosition self.old.window.size p }

@@ -88,8 +88,11 @@ impl Window {
         }
     }
 
-    /// The window of these origins, sizes and steps in an array of this shape, or why there is none. Along axes that the array does not use an origin
-    /// is 0, a size is 1 and a step is 1.
+    /// The window of these origins, sizes and steps in an array of this shape, or why there is none. Along
+    /// axes that the array does not use an origin is 0, a size is 1 and a step is 1.
+    ///
+    /// `Zero`: a size is 0. `Step`: a step is 0. `Outside`: the last position lies outside the array. The
+    /// first that holds, in this order.
     pub fn new(shape: &Shape, origin: Pos, size: Pos, step: Pos) -> Result<Window, ViewFault>
         requires { AreUnused (length shape.now) origin size step }
         ensures window { IfOk result (λ w. w ≡ window_of (length shape.now) origin size step) }
@@ -121,7 +124,8 @@ impl Window {
         is_inside(&self.size, &p)
     }
 
-    /// The position of the array that a position of the window is: `origin + p * step`.
+    /// The position of the array that a position of the window is: `origin + p * step`. `p` lies in the
+    /// window.
     pub fn map(&self, p: Pos) -> Pos
         requires { IsPosition self.now.size p }
         ensures { result ≡ with_unused 0 (mapped self.now (used_axes (length self.now.size) p)) }
@@ -134,7 +138,8 @@ impl Window {
         }
     }
 
-    /// Position `number` of the window in raster order, x fastest, as a position of the array.
+    /// Position `number` of the window in raster order, x fastest, as a position of the array. `number` is
+    /// below `count`.
     pub fn raster_at(&self, number: u64) -> Pos
         requires { number < product self.now.size }
         ensures { result ≡ raster_at self.now number }
@@ -142,7 +147,8 @@ impl Window {
         self.map(coordinates(&self.size, number))
     }
 
-    /// How many positions there are from `p` on along x, up to the end of the block that `map(p)` lies in and of the window: 1 to 4.
+    /// How many positions there are from `p` on along x, up to the end of the block that `map(p)` lies in and
+    /// of the window: 1 to 4. `p` lies in the window.
     pub fn run_length(&self, p: Pos) -> usize
         requires { IsPosition self.now.size p }
         ensures { result ≡ run_length self.now p }
