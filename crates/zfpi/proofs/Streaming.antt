@@ -1,5 +1,6 @@
 -- From what a call on a stream promises to what a command promises that hands it on.
-use Rattle.std.proofs.Common.{◌≡◌, ℕ, List, [], ◌∷◌, Option, Some, None, Result, Ok, Err, ◌⊎◌, inl, inr, refl, ap, sym, subst, ◌∙◌}
+use Rattle.std.proofs.Common.{◌≡◌, ◌≢◌, ℕ, List, [], ◌∷◌, Option, Some, None, Result, Ok, Err, ◌⊎◌, inl, inr, refl, ap, sym, subst, ◌∙◌}
+use Rattle.std.proofs.lemmas.List.{take_all}
 use Rattle.zf_dev.specs.Shelf.{Files}
 use Rattle.zf_dev.specs.Source.{Takes, IsAtEnd}
 use Rattle.zf_dev.specs.Sink.{Appends, AppendsFront}
@@ -7,24 +8,27 @@ use Rattle.zf_dev.proofs.Appending.{AppendsFront-none}
 use Rattle.zf_header.specs.declared.header.Header.{Header}
 use Rattle.zf_header.specs.declared.header.Mode.TheVariants.{Reversible}
 use Rattle.zf_header.specs.HeaderFaults.{header_fault}
-use Rattle.zf_base.specs.declared.lane.Ty.TheVariants.{I32}
+use Rattle.zf_base.specs.declared.lane.Ty.{Ty}
+use Rattle.zf_base.specs.declared.lane.Ty.TheVariants.{I32, I64}
 use Rattle.zf_parse.specs.declared.fault.StreamFault.{StreamFault}
 use Rattle.zf_parse.specs.declared.fault.StreamFault.TheVariants as faults
 use Rattle.zf_parse.specs.Raw.{stream_text}
+use Rattle.zf_parse.specs.Parsing.{header_of, restore_answer}
 use Rattle.zf_parse.proofs.Parsed.{good_header}
 use Rattle.zf_parse.proofs.StreamsBack.{answer-stream_text}
 use Rattle.zf_stream.specs.Outcomes as streams
+use Rattle.zf_stream.specs.Headed.{front_room}
 use Rattle.zf_narrow.specs.declared.narrow.Narrow.{Narrow}
 use Rattle.zf_narrow.specs.declared.fault.NarrowFault.{NarrowFault}
 use Rattle.zf_narrow.specs.declared.fault.NarrowFault.TheVariants.{NotNarrow, Stream}
-use Rattle.zf_narrow.specs.Texts.{ArePromotedAfter, narrow_restored, IsFromOutside, IsBeforeWriting, AnswersNarrow, CanRefuseNarrow}
+use Rattle.zf_narrow.specs.Texts.{restore_narrow_answer, answer_of_type, answer_behind, HasWideType, ArePromotedAfter, narrow_restored, IsFromOutside, IsBeforeWriting, AnswersNarrow, CanRefuseNarrow}
 use Rattle.zfpi.specs.declared.status.Status.{Status}
 use Rattle.zfpi.specs.declared.status.Status.TheVariants as statuses
 use Rattle.zfpi.specs.declared.command.Command.{Command}
 use Rattle.zfpi.specs.declared.command.Command.TheVariants.{Compress, CompressNarrow, Restore, RestoreNarrow}
 use Rattle.zfpi.specs.Faults.{fault_status, narrow_status}
 use Rattle.zfpi.specs.World.{World, TellsInput, seen}
-use Rattle.zfpi.specs.Answer.{status_of, narrow_status_of, status_for, text_for, draft_for, saved_for, IsRaw, IsNarrowRaw, IsExtent, HasWants, TakesMemory, MayRead, MayWrite, MayFail, compress_draft, restore_draft, TakesWhole}
+use Rattle.zfpi.specs.Answer.{TakesNarrow, status_of, narrow_status_of, status_for, text_for, draft_for, saved_for, IsRaw, IsNarrowRaw, IsExtent, HasWants, TakesMemory, MayRead, MayWrite, MayFail, compress_draft, restore_draft, TakesWhole}
 use Rattle.zfpi.specs.Headline.{IsOfCommand, Writes, Saves, Behaves}
 use Rattle.zfpi.proofs.Completed.{one_value}
 use Rattle.zfpi.proofs.Told.{world_of, TellsFiles-same, KeepsFiles-none, TellsInput-taken}
@@ -56,12 +60,35 @@ unfolding IsCut
 TakesWhole-cut statuses.Done input taken cut = absurd cut
 TakesWhole-cut status input taken cut = tt
 
+IsCut-fault : (e : StreamFault) → IsCut (fault_status e)
+unfolding IsCut
+IsCut-fault (faults.RawShort m) = tt
+IsCut-fault faults.RawLong = tt
+IsCut-fault (faults.Header f) = tt
+IsCut-fault (faults.Truncated b) = tt
+IsCut-fault faults.Pad = tt
+IsCut-fault faults.Trailing = tt
+IsCut-fault faults.Read = tt
+IsCut-fault faults.Write = tt
+IsCut-fault faults.Memory = tt
+
+TakesNarrow-fault : (e : StreamFault) (input taken : List ℕ) → TakesNarrow (fault_status e) input taken
+TakesNarrow-fault (faults.RawShort m) input taken = tt
+TakesNarrow-fault faults.RawLong input taken = tt
+TakesNarrow-fault (faults.Header f) input taken = tt
+TakesNarrow-fault (faults.Truncated b) input taken = tt
+TakesNarrow-fault faults.Pad input taken = tt
+TakesNarrow-fault faults.Trailing input taken = tt
+TakesNarrow-fault faults.Read input taken = tt
+TakesNarrow-fault faults.Write input taken = tt
+TakesNarrow-fault faults.Memory input taken = tt
+
 -- a command that reads a stream to its end and saves nothing
 pub record IsStreaming (c : Command) : Type 0 where
   pub no_wants : (status : Status) (w : World) → HasWants c status w []
   pub nothing_saved : (w : World) → saved_for c w [] ≡ None
   pub to_end : (input : List ℕ) → IsExtent c statuses.Done input input
-  pub cut_extent : (status : Status) (input taken : List ℕ) → IsCut status → IsExtent c status input taken
+  pub cut_extent : (e : StreamFault) (input taken : List ℕ) → IsExtent c (fault_status e) input taken
   pub reads : (w : World) → MayRead c w
   pub writes : (w : World) → MayWrite c w
 
@@ -70,7 +97,7 @@ IsStreaming-compress h = record {
   no_wants = λ status w. refl;
   nothing_saved = λ w. refl;
   to_end = λ input. refl;
-  cut_extent = TakesWhole-cut;
+  cut_extent = λ e input taken. TakesWhole-cut (fault_status e) input taken (IsCut-fault e);
   reads = λ w. tt;
   writes = λ w. tt;
 }
@@ -80,7 +107,7 @@ IsStreaming-compress_narrow n h = record {
   no_wants = λ status w. refl;
   nothing_saved = λ w. refl;
   to_end = λ input. refl;
-  cut_extent = TakesWhole-cut;
+  cut_extent = λ e input taken. TakesWhole-cut (fault_status e) input taken (IsCut-fault e);
   reads = λ w. tt;
   writes = λ w. tt;
 }
@@ -90,7 +117,7 @@ IsStreaming-restore = record {
   no_wants = λ status w. refl;
   nothing_saved = λ w. refl;
   to_end = λ input. refl;
-  cut_extent = TakesWhole-cut;
+  cut_extent = λ e input taken. TakesWhole-cut (fault_status e) input taken (IsCut-fault e);
   reads = λ w. tt;
   writes = λ w. tt;
 }
@@ -100,7 +127,7 @@ IsStreaming-restore_narrow n = record {
   no_wants = λ status w. refl;
   nothing_saved = λ w. refl;
   to_end = λ input. refl;
-  cut_extent = TakesWhole-cut;
+  cut_extent = TakesNarrow-fault;
   reads = λ w. tt;
   writes = λ w. tt;
 }
@@ -144,11 +171,12 @@ explain : (c : Command) (status : Status) (known : Option (List ℕ)) (shelf : O
 explain c status None shelf told some = record { input = some.0; told = tt; stated = some.1 }
 explain c status (Some input) shelf told some = record { input = input; told = refl; stated = told input refl }
 
-Behaves-cut : (c : Command) (status : Status) (taken raw : List ℕ) (src_before src_now out_before out_now : Option (List ℕ)) (shelf : Option Files) → IsStreaming c → IsCut status → Explains c status src_before shelf
+Behaves-cut : (c : Command) (status : Status) (taken raw : List ℕ) (src_before src_now out_before out_now : Option (List ℕ)) (shelf : Option Files) → IsStreaming c → IsCut status
+    → (why : Explains c status src_before shelf) → IsExtent c status why.input taken
     → Takes src_before src_now taken → IsRaw c status src_before taken raw → ((w : World) → AppendsFront out_before out_now (draft_for c status w [] raw))
     → Behaves c status (seen src_before out_before shelf) (seen src_now out_now shelf)
 unfolding IsStated
-Behaves-cut c status taken raw src_before src_now out_before out_now shelf is cut why takes raw_is front =
+Behaves-cut c status taken raw src_before src_now out_before out_now shelf is cut why extent takes raw_is front =
     let w = world_of why.input shelf in
     record {
       ends = IsOfCommand-cut status cut;
@@ -159,7 +187,7 @@ Behaves-cut c status taken raw src_before src_now out_before out_now shelf is cu
       stated = why.stated;
       taken = taken;
       takes = takes;
-      extent = is.cut_extent status why.input taken cut;
+      extent = extent;
       raw = raw;
       raw_is = raw_is;
       written = Writes-cut status (text_for c w [] raw) (draft_for c status w [] raw) out_before out_now cut (front w);
@@ -167,18 +195,6 @@ Behaves-cut c status taken raw src_before src_now out_before out_now shelf is cu
     }
 
 -- ---- faults of a stream
-
-IsCut-fault : (e : StreamFault) → IsCut (fault_status e)
-unfolding IsCut
-IsCut-fault (faults.RawShort m) = tt
-IsCut-fault faults.RawLong = tt
-IsCut-fault (faults.Header f) = tt
-IsCut-fault (faults.Truncated b) = tt
-IsCut-fault faults.Pad = tt
-IsCut-fault faults.Trailing = tt
-IsCut-fault faults.Read = tt
-IsCut-fault faults.Write = tt
-IsCut-fault faults.Memory = tt
 
 may_outside : (c : Command) (e : StreamFault) (w : World) → IsStreaming c → (e ≡ faults.Memory → TakesMemory c w) → streams.IsFromOutside e → MayFail (fault_status e) c w []
 may_outside c e w is takes outside = elim outside [
@@ -197,7 +213,8 @@ pub Behaves-fault : (c : Command) (answer : List ℕ → Result (Unit {0}) Strea
     → Behaves c (fault_status e) (seen src_before out_before shelf) (seen src_now out_now shelf)
 unfolding IsStated
 Behaves-fault c answer e large taken raw src_before src_now out_before out_now shelf is status answers refuses has_room takes takes_bytes raw_is front =
-    Behaves-cut c (fault_status e) taken raw src_before src_now out_before out_now shelf is (IsCut-fault e) (explain c (fault_status e) src_before shelf told some) takes_bytes raw_is front
+    Behaves-cut c (fault_status e) taken raw src_before src_now out_before out_now shelf is (IsCut-fault e) why
+    (is.cut_extent e why.input taken) takes_bytes raw_is front
   where
     told : (input : List ℕ) → src_before ≡ Some input → IsStated c (fault_status e) shelf input
     told input is_told = elim (subst (λ known. streams.Answers (Err e) known answer) is_told answers) [
@@ -210,6 +227,9 @@ Behaves-fault c answer e large taken raw src_before src_now out_before out_now s
       | inl found ↦ (found.0, inl (ap status_of (sym found.1) ∙ status (world_of found.0 shelf)))
       | inr outside ↦ (large, inr (may_outside c e (world_of large shelf) is (λ memory. has_room) outside))
     ]
+
+    why : Explains c (fault_status e) src_before shelf
+    why = explain c (fault_status e) src_before shelf told some
 
 -- where nothing was written, nothing is a front
 pub nothing_written : (before now : Option (List ℕ)) → now ≡ before → AppendsFront before now []
@@ -277,13 +297,13 @@ may_outside_narrow : (n : Narrow) (e : NarrowFault) (w : World) → (e ≡ Strea
 may_outside_narrow n NotNarrow w takes outside = absurd outside
 may_outside_narrow n (Stream e) w takes outside = may_outside (RestoreNarrow n) e w (IsStreaming-restore_narrow n) (λ memory. takes (ap Stream memory)) outside
 
-pub Behaves-narrow_fault : (n : Narrow) (e : NarrowFault) (taken : List ℕ) (src_before src_now out_before out_now : Option (List ℕ)) (shelf : Option Files) → AnswersNarrow (Err e) src_before → CanRefuseNarrow e
+-- the status is the one that is stated for the input, or for some input where none is told
+narrow_why : (n : Narrow) (e : NarrowFault) (src_before : Option (List ℕ)) (shelf : Option Files)
+    → AnswersNarrow (Err e) src_before → CanRefuseNarrow e
     → ((input : List ℕ) → src_before ≡ Some input → e ≡ Stream faults.Memory → TakesMemory (RestoreNarrow n) (world_of input shelf))
-    → Takes src_before src_now taken → AppendsFront out_before out_now (restore_draft (narrow_status e) (narrow_restored n taken))
-    → Behaves (RestoreNarrow n) (narrow_status e) (seen src_before out_before shelf) (seen src_now out_now shelf)
+    → Explains (RestoreNarrow n) (narrow_status e) src_before shelf
 unfolding IsStated
-Behaves-narrow_fault n e taken src_before src_now out_before out_now shelf answers refuses takes takes_bytes front =
-    Behaves-cut c (narrow_status e) taken taken src_before src_now out_before out_now shelf (IsStreaming-restore_narrow n) (IsCut-narrow e) (explain c (narrow_status e) src_before shelf told some) takes_bytes refl (λ w. front)
+narrow_why n e src_before shelf answers refuses takes = explain c (narrow_status e) src_before shelf told some
   where
     c : Command
     c = RestoreNarrow n
@@ -299,3 +319,50 @@ Behaves-narrow_fault n e taken src_before src_now out_before out_now shelf answe
       | inl found ↦ (found.0, inl (ap narrow_status_of (sym found.1)))
       | inr outside ↦ (one_stream, inr (may_outside_narrow n e (world_of one_stream shelf) (λ memory. one_stream-good) outside))
     ]
+
+wide_type : (ty : Ty) (answer : Result (Unit {0}) StreamFault) → ty ≢ I32 → answer_of_type ty answer ≡ Err NotNarrow
+wide_type I32 answer other = absurd (other refl)
+wide_type I64 answer other = refl
+
+wide_answer : (bytes : List ℕ) → header_fault bytes ≡ None → (header_of bytes).ty ≢ I32 → restore_narrow_answer bytes ≡ Err NotNarrow
+wide_answer bytes good other =
+    let h = header_of bytes in
+    ap (λ f. answer_behind f h.ty (restore_answer bytes)) good ∙ wide_type h.ty (restore_answer bytes) other
+
+-- another type: of an input that is not told, the first bytes are all that is known
+Behaves-wide : (n : Narrow) (src_before src_now out_before out_now : Option (List ℕ)) (shelf : Option Files)
+    → AnswersNarrow (Err NotNarrow) src_before → HasWideType src_before src_now → AppendsFront out_before out_now []
+    → Behaves (RestoreNarrow n) statuses.NotNarrow (seen src_before out_before shelf) (seen src_now out_now shelf)
+unfolding IsStated
+Behaves-wide n None src_now out_before out_now shelf answers wide front =
+    let why : Explains (RestoreNarrow n) statuses.NotNarrow None shelf = record {
+      input = wide.bytes;
+      told = tt;
+      stated = inl (ap narrow_status_of (sym (wide_answer wide.bytes wide.good wide.other)));
+    } in
+    Behaves-cut (RestoreNarrow n) statuses.NotNarrow wide.bytes wide.bytes None src_now out_before out_now shelf
+    (IsStreaming-restore_narrow n) (IsCut-narrow NotNarrow) why
+    (sym (take_all front_room wide.bytes wide.first.within)) wide.first.taken refl (λ w. front)
+Behaves-wide n (Some input) src_now out_before out_now shelf answers wide front =
+    let why : Explains (RestoreNarrow n) statuses.NotNarrow (Some input) shelf = record {
+      input = input;
+      told = refl;
+      stated = elim answers [
+        | inl same ↦ inl (ap narrow_status_of same)
+        | inr outside ↦ absurd outside
+      ];
+    } in
+    Behaves-cut (RestoreNarrow n) statuses.NotNarrow wide.bytes wide.bytes (Some input) src_now out_before out_now shelf
+    (IsStreaming-restore_narrow n) (IsCut-narrow NotNarrow) why wide.first.first wide.first.taken refl (λ w. front)
+
+pub Behaves-narrow_fault : (n : Narrow) (e : NarrowFault) (taken : List ℕ) (src_before src_now out_before out_now : Option (List ℕ))
+    (shelf : Option Files) → AnswersNarrow (Err e) src_before → CanRefuseNarrow e → (e ≡ NotNarrow → HasWideType src_before src_now)
+    → ((input : List ℕ) → src_before ≡ Some input → e ≡ Stream faults.Memory → TakesMemory (RestoreNarrow n) (world_of input shelf))
+    → Takes src_before src_now taken → AppendsFront out_before out_now (restore_draft (narrow_status e) (narrow_restored n taken))
+    → Behaves (RestoreNarrow n) (narrow_status e) (seen src_before out_before shelf) (seen src_now out_now shelf)
+Behaves-narrow_fault n NotNarrow taken src_before src_now out_before out_now shelf answers refuses wide takes takes_bytes front =
+    Behaves-wide n src_before src_now out_before out_now shelf answers (wide refl) front
+Behaves-narrow_fault n (Stream f) taken src_before src_now out_before out_now shelf answers refuses wide takes takes_bytes front =
+    let why = narrow_why n (Stream f) src_before shelf answers refuses takes in
+    Behaves-cut (RestoreNarrow n) (fault_status f) taken taken src_before src_now out_before out_now shelf
+    (IsStreaming-restore_narrow n) (IsCut-fault f) why (TakesNarrow-fault f why.input taken) takes_bytes refl (λ w. front)

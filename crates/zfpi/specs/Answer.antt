@@ -6,6 +6,7 @@ use Rattle.zf_header.specs.HeaderFaults.{header_fault}
 use Rattle.zf_parse.specs.declared.fault.StreamFault.{StreamFault}
 use Rattle.zf_parse.specs.Raw.{raw_len, compress_answer, stream_text}
 use Rattle.zf_parse.specs.Parsing.{Said, header_of, restore_answer, restored_text}
+use Rattle.zf_stream.specs.Headed.{front_room}
 use Rattle.zf_narrow.specs.declared.fault.NarrowFault.{NarrowFault}
 use Rattle.zf_narrow.specs.declared.narrow.Narrow.{Narrow}
 use Rattle.zf_narrow.specs.Texts.{narrow_len, compress_narrow_answer, ArePromoted, ArePromotedNearly, restore_narrow_answer, narrow_restored}
@@ -144,6 +145,11 @@ abbrev pub TakesWhole : Status → List ℕ → List ℕ → Type 0
 TakesWhole statuses.Done input taken = taken ≡ input
 TakesWhole status input taken = Unit {0}
 
+-- of a stream of another type just the first bytes were taken
+abbrev pub TakesNarrow : Status → List ℕ → List ℕ → Type 0
+TakesNarrow statuses.NotNarrow input taken = taken ≡ take front_room input
+TakesNarrow status input taken = TakesWhole status input taken
+
 -- the first bytes were taken and no more, unless the source failed within them
 abbrev pub TakesHeader : Status → List ℕ → List ℕ → Type 0
 TakesHeader statuses.ReadFault input taken = length taken ≤ header_bytes
@@ -165,7 +171,7 @@ abbrev pub IsExtent : Command → Status → List ℕ → List ℕ → Type 0
 IsExtent (Compress h) status input taken = TakesWhole status input taken
 IsExtent (CompressNarrow n h) status input taken = TakesWhole status input taken
 IsExtent Restore status input taken = TakesWhole status input taken
-IsExtent (RestoreNarrow n) status input taken = TakesWhole status input taken
+IsExtent (RestoreNarrow n) status input taken = TakesNarrow status input taken
 IsExtent Info status input taken = TakesHeader status input taken
 IsExtent (New name ty ns b) status input taken = taken ≡ []
 IsExtent (Run name caching) status input taken = TakesScript status input taken

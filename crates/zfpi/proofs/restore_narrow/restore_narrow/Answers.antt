@@ -19,5 +19,6 @@ returns-in-Err-clause-behaves g c = λ files.
     let e = c.in-Err.fault in
     let done = c.in-Err.ensures in
     let left = done.err in
-    rw c.from.ensures (Behaves-narrow_fault n e left.bytes _ _ _ _ files done.answer done.possible (λ input told memory. subst HasGoodHeader told (done.memory (ap Err memory))) left.taken
+    rw c.from.ensures (Behaves-narrow_fault n e left.bytes _ _ _ _ files done.answer done.possible (λ not_narrow. done.other (ap Err not_narrow))
+    (λ input told memory. subst HasGoodHeader told (done.memory (ap Err memory))) left.taken
     (narrow_front e (narrow_restored n left.bytes) _ _ left.written (λ before. AppendsFront-all _ _ [] (done.unwritten before))))
