@@ -12,7 +12,7 @@ ghost use Rattle.zf_stream.specs.Restoring.{shortest_codes, LacksSlab};
 ghost use Rattle.zf_parse.specs.declared.fault.StreamFault.TheVariants.{Read};
 
 use crate::StreamFault;
-use crate::shortest::shortest_code;
+use crate::least::shortest_code;
 use crate::window::Window;
 use zf_base::Lane;
 use zf_dev::Source;
