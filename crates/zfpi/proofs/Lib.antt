@@ -16,4 +16,4 @@ mod Running
 mod Looking
 mod TwoWays
 mod Certifying
-mod Sending
+mod HandedOn

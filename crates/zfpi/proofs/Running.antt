@@ -43,7 +43,7 @@ use Rattle.zfpi.specs.Headline.{Saves, Behaves}
 use Rattle.zfpi.proofs.Opening.{array_in-rate}
 use Rattle.zfpi.proofs.Loading.{ComesFirst, Behaves-unopened, files_with}
 use Rattle.zfpi.proofs.Scripting.{IsScripted-run, is_open, Behaves-whole, Behaves-lines, Behaves-unsent, Behaves-cut_script, runnable}
-use Rattle.zfpi.proofs.Sending.{Appends-stays, Behaves-stays}
+use Rattle.zfpi.proofs.HandedOn.{Appends-stays, Behaves-stays}
 
 -- ---- shelves
 

@@ -5,7 +5,7 @@ use Rattle.zfpi.specs.Loaded.{HoldsFile}
 use Rattle.zfpi.proofs.Causes.{HasCauses-after_load, HasCauses-more, HasCauses-unloaded}
 use Rattle.zfpi.proofs.Loading.{Behaves-unloaded}
 use Rattle.zfpi.proofs.Certifying.{IsLoading-bound}
-use Rattle.zfpi.proofs.Sending.{unloaded, unloaded_status}
+use Rattle.zfpi.proofs.HandedOn.{unloaded, unloaded_status}
 use Rattle.zfpi.proofs.bound.bound.Goals as goal
 
 pub returns-in-Ok-clause-behaves : goal.returns-in-Ok-clause-behaves
@@ -32,7 +32,7 @@ returns-in-Err-clause-causes g c = λ src.
     (c.in-Err.ensures.cause.0, λ is. c.in-Err.ensures.cause.1 (ap Err is)))
 
 pub returns-in-Ok-clause-sure_shelf : goal.returns-in-Ok-clause-sure_shelf
-returns-in-Ok-clause-sure_shelf g c = λ sure. (unloaded c.bound_file.result (c.bound_file.ensures.causes 0 0).shelving, (c.load.ensures.sure sure).1)
+returns-in-Ok-clause-sure_shelf g c = λ sure. (unloaded c.bound_file.result _ (c.bound_file.ensures.causes 0 0).shelving, (c.load.ensures.sure sure).1)
 
 pub returns-in-Err-clause-sure_shelf : goal.returns-in-Err-clause-sure_shelf
 returns-in-Err-clause-sure_shelf g c = λ sure.

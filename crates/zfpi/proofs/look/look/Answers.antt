@@ -4,7 +4,7 @@ use Rattle.zfpi.specs.Opened.{stream_in}
 use Rattle.zfpi.proofs.Causes.{HasCauses-after_load, HasCauses-more, HasCauses-unloaded}
 use Rattle.zfpi.proofs.Loading.{Behaves-unloaded}
 use Rattle.zfpi.proofs.Scripting.{IsScripted-look}
-use Rattle.zfpi.proofs.Sending.{unloaded, unloaded_status}
+use Rattle.zfpi.proofs.HandedOn.{unloaded, unloaded_status}
 use Rattle.zfpi.proofs.look.look.Goals as goal
 
 pub returns-in-Ok-clause-behaves : goal.returns-in-Ok-clause-behaves
@@ -29,7 +29,7 @@ returns-in-Err-clause-causes g c =
     (c.in-Err.ensures.cause.0, λ is. c.in-Err.ensures.cause.1 (ap Err is)))
 
 pub returns-in-Ok-clause-sure_shelf : goal.returns-in-Ok-clause-sure_shelf
-returns-in-Ok-clause-sure_shelf g c = λ sure. (unloaded c.look_file.result (c.look_file.ensures.causes 0).shelving, (c.load.ensures.sure sure).1)
+returns-in-Ok-clause-sure_shelf g c = λ sure. (unloaded c.look_file.result _ (c.look_file.ensures.causes 0).shelving, (c.load.ensures.sure sure).1)
 
 pub returns-in-Err-clause-sure_shelf : goal.returns-in-Err-clause-sure_shelf
 returns-in-Err-clause-sure_shelf g c = λ sure.

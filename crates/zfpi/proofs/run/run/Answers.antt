@@ -4,7 +4,7 @@ use Rattle.zfpi.specs.declared.command.Command.TheVariants.{Run}
 use Rattle.zfpi.specs.Opened.{array_in}
 use Rattle.zfpi.proofs.Loading.{Behaves-unloaded}
 use Rattle.zfpi.proofs.Scripting.{IsScripted-run}
-use Rattle.zfpi.proofs.Sending.{unloaded, unloaded_status}
+use Rattle.zfpi.proofs.HandedOn.{unloaded, unloaded_status}
 use Rattle.zfpi.proofs.run.run.Goals as goal
 
 pub returns-in-Ok-clause-behaves : goal.returns-in-Ok-clause-behaves
@@ -28,7 +28,7 @@ returns-in-Err-clause-causes g c =
     (c.in-Err.ensures.cause.0, λ is. c.in-Err.ensures.cause.1 (ap Err is)))
 
 pub returns-in-Ok-clause-sure_shelf : goal.returns-in-Ok-clause-sure_shelf
-returns-in-Ok-clause-sure_shelf g c = λ sure. (unloaded c.run_file.result c.run_file.ensures.causes.shelving, c.run_file.ensures.still (c.load.ensures.sure sure).1)
+returns-in-Ok-clause-sure_shelf g c = λ sure. (unloaded c.run_file.result _ c.run_file.ensures.causes.shelving, c.run_file.ensures.still (c.load.ensures.sure sure).1)
 
 pub returns-in-Err-clause-sure_shelf : goal.returns-in-Err-clause-sure_shelf
 returns-in-Err-clause-sure_shelf g c = λ sure.

@@ -6,7 +6,7 @@ use Rattle.zfpi.specs.declared.command.Caching.TheVariants.{TwoWay}
 use Rattle.zfpi.specs.declared.status.Status.TheVariants.{Done, Lines}
 use Rattle.zfpi.proofs.Scripting.{lines_status-some}
 use Rattle.zfpi.proofs.Running.{Behaves-run, Behaves-cut_run}
-use Rattle.zfpi.proofs.Sending.{cut_sent, IsSent-later, IsSent-cut, HasCauses-ran, HasCauses-cut}
+use Rattle.zfpi.proofs.HandedOn.{cut_sent, IsSent-later, IsSent-cut, HasCauses-ran, HasCauses-cut}
 use Rattle.zfpi.proofs.TwoWays.{saved_two}
 use Rattle.zfpi.proofs.twoway.run_lines.Goals as goal
 

@@ -207,6 +207,9 @@ module _ (c : Command) (status ended : Status) (unsaved : SavesNothing c) where
     sure = λ sure. (λ is. no_read sent.ends (causes.sure sure).0 is, (causes.sure sure).1);
   }
     where
+      no_fault : WriteFault ≡ ReadFault → ⊥
+      no_fault is = cc
+
       by_read : EndsSent status ended (Rose mid now) → ended ≡ ReadFault → Rose src src_now
       by_read ends is = elim ends [ inl same ↦ causes.reading.1 (sym same ∙ is) | inr failed ↦ absurd (no_fault (sym failed.0 ∙ is)) ]
 
@@ -219,9 +222,6 @@ module _ (c : Command) (status ended : Status) (unsaved : SavesNothing c) where
       no_read : EndsSent status ended (Rose mid now) → (status ≢ ReadFault) → ended ≡ ReadFault → ⊥
       no_read ends none is = elim ends [ inl same ↦ none (sym same ∙ is) | inr failed ↦ no_fault (sym failed.0 ∙ is) ]
 
-      no_fault : WriteFault ≡ ReadFault → ⊥
-      no_fault is = cc
-
   -- and that all was handed on
   pub IsSent-sent : (before now : Seen) (out mid after : ℕ) {was is : Option (List ℕ)} {Flushed : Type 0} → Behaves c ended before now → out ≤ mid → HandsOn status ended was is mid after Flushed → IsSent ended (IsQuiet out after) Flushed
   IsSent-sent before now out mid after {was} {is} {Flushed} b kept sent = λ why. sent.flushed (elim why [
@@ -230,8 +230,8 @@ module _ (c : Command) (status ended : Status) (unsaved : SavesNothing c) where
   ])
 
 -- no load failed where no load may have
-pub unloaded : (status : Status) {Saving : Type 0} → IsCausedOnShelf status ⊥ Saving → status ≢ LoadFault
-unloaded status {Saving} caused = λ is. subst (λ s. IsCausedOnShelf s ⊥ Saving) is caused
+pub unloaded : (status : Status) (Saving : Type 0) → IsCausedOnShelf status ⊥ Saving → status ≢ LoadFault
+unloaded status Saving caused = λ is. subst (λ s. IsCausedOnShelf s ⊥ Saving) is caused
 
 pub unloaded_sent : (status ended : Status) {before now : Option (List ℕ)} {m n : ℕ} {Flushed : Type 0} → status ≢ LoadFault → HandsOn status ended before now m n Flushed → ended ≢ LoadFault
 unloaded_sent status ended none sent = λ is. elim sent.ends [ inl same ↦ none (sym same ∙ is) | inr failed ↦ no_load (sym failed.0 ∙ is) ]
