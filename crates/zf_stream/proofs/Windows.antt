@@ -1,13 +1,10 @@
 -- The bits of a window, as its words are moved and more are put behind them.
-use Rattle.std.proofs.Common.{◌≡◌, sym, ap, ◌∙◌, ℕ, ◌+◌, ◌-◌, ◌*◌, ◌/◌, ◌%◌, ◌<◌, ◌≤◌, false, Bool, List, [], ◌++◌, length, take, drop, replicate, get_or, ℤ, Option, Ok, append_assoc, length-append, take_at, arith}
-use Rattle.std.proofs.lemmas.List.{drop-take, drop-drop, drop-append-le, length-take-le, length-drop, append-nil}
+use Rattle.std.proofs.Common.{◌≡◌, sym, ap, ◌∙◌, ℕ, ◌+◌, ◌-◌, ◌*◌, ◌/◌, ◌%◌, ◌≤◌, Bool, List, [], ◌++◌, length, take, drop, ℤ, Option, Ok, append_assoc, length-append, arith}
+use Rattle.std.proofs.lemmas.List.{drop-take, drop-drop, drop-append-le, length-drop, append-nil}
 use Rattle.std.proofs.lemmas.Grind.{flat_map-append}
 use Rattle.zf_spec.specs.Numbers.{field, word_bits}
 use Rattle.zf_spec.specs.Stream.{to_bits}
 use Rattle.zf_spec.proofs.Bytes.{length-to_bits}
-use Rattle.zf_spec.proofs.WordBits.{length-word_bits}
-use Rattle.zf_bits.specs.Packing.{words_from}
-use Rattle.zf_bits.proofs.Packed.{word_bits-words_from}
 use Rattle.zf_dev.specs.Source.{Takes}
 use Rattle.zf_dev.proofs.Taking.{Takes-none, Takes-append}
 use Rattle.zf_stream.specs.Windows.{Window, left_of, Goes, Refills}
