@@ -27,7 +27,7 @@ impl Model for Name {
 }
 
 impl Name {
-    /// The name that a word is.
+    /// The name that a word is. `None`: the word is no name.
     pub fn new(word: &str) -> Option<Name>
         ensures name { IfSome result (λ name. IsName name × (name ≡ word.now)) }
         ensures none { IfNone result (IsName word.now → ⊥) }

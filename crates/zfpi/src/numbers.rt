@@ -6,7 +6,8 @@ ghost use Rattle.zfpi.specs.Words.{shape_word};
 
 use zf_base::Shape;
 
-/// The number that a word says: `0`, or digits that do not begin with `0`, and no sign.
+/// The number that a word says: `0`, or digits that do not begin with `0`, and no sign. `None`: it says no number
+/// below 2^64.
 pub fn number_in(word: &str) -> Option<u64>
     ensures number { IfSome result (λ n. word.now ≡ decimal n) }
     ensures none { IfNone result ((n : ℕ) → n < 2 ^ 64 → word.now ≢ decimal n) }
@@ -20,7 +21,7 @@ pub fn number_in(word: &str) -> Option<u64>
     word.parse().ok()
 }
 
-/// The shape that a word says: one to four sizes, x first, joined by the letter x.
+/// The shape that a word says: one to four sizes, x first, joined by the letter x. `None`: it says no shape.
 pub fn shape_in(word: &str) -> Option<Shape>
     ensures shape { IfSome result (λ shape. IsShape shape × (word.now ≡ shape_word shape)) }
     ensures none { IfNone result ((ns : List ℕ) → IsShape ns → word.now ≢ shape_word ns) }
