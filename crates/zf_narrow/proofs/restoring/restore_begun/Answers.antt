@@ -57,6 +57,20 @@ returns-in-Ok-false-clause-err g c =
     let other = subst From c.new.ensures.taken (subst Where c.in-Ok-false.field-0-test c.in-Ok-false.ensures.ok) in
     subst (λ o. LeavesNarrowFront n src0 src1 out0 (g.O.Sink.contents o)) (sym out_is) (leaves_other n has other)
 
+pub returns-in-Ok-false-clause-unwritten : goal.returns-in-Ok-false-clause-unwritten
+returns-in-Ok-false-clause-unwritten g c = λ before.
+    let n = c.args.n in
+    let src0 = g.S.Source.contents c.args.src.now in let src1 = g.S.Source.contents c.restore_where.new.src in
+    let out0 = g.O.Sink.contents c.args.out.now in
+    let sink = c.restore_where.new.out in let now = g.O.Sink.contents sink.out.now in
+    let out_is = c.out-in-Ok-false-1.given.1 (sym (ap (λ (q : _). q.0) c.restore_where.ensures.same_sink)) in
+    let Given : Option (List ℕ) → Type 0 = λ k. Appends k now sink.demotion.given.bytes in
+    let has = demotes n out0 now sink.demotion (sink.same_type ∙ c.requires.narrow) (subst Given c.requires.start sink.written) in
+    let Where : Bool → Type 0 = λ b. RestoresWhere I32 b src0 src1 (Some (taken_so_far c.new.result)) (Some (taken_so_far sink.demotion)) in
+    let From : List ℕ → Type 0 = λ t. HasOtherType I32 src0 src1 (Some t) (Some (taken_so_far sink.demotion)) in
+    let other = subst From c.new.ensures.taken (subst Where c.in-Ok-false.field-0-test c.in-Ok-false.ensures.ok) in
+    subst (λ o. Appends out0 (g.O.Sink.contents o) []) (sym out_is) (nothing_written n has (ap still other.unwritten))
+
 pub returns-in-Ok-false-clause-other : goal.returns-in-Ok-false-clause-other
 returns-in-Ok-false-clause-other g c = λ narrow.
     let src0 = g.S.Source.contents c.args.src.now in let src1 = g.S.Source.contents c.restore_where.new.src in
