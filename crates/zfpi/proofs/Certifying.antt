@@ -1,5 +1,5 @@
 -- What `bound` does, from what its calls answer.
-use Rattle.std.proofs.Common.{◌≡◌, ℕ, ◌↔◌, IsTrue, List, [], length, Option, Some, None, Result, Ok, Err, IsOk, IfOk, ◌⊎◌, inl, inr, refl, ap, sym, subst, ◌∙◌}
+use Rattle.std.proofs.Common.{◌≡◌, ℕ, ◌↔◌, IsTrue, List, [], length, Option, Result, Ok, Err, IsOk, IfOk, inl, inr, refl, ap, sym, subst, ◌∙◌}
 use Rattle.std.specs.Int.{Width}
 use mir.Val.{bits}
 use Rattle.zf_base.specs.Widths.{width_of}
@@ -8,17 +8,14 @@ use Rattle.zf_dev.specs.Sink.{Appends, AppendsFront}
 use Rattle.zf_header.specs.declared.header.Header.{Header}
 use Rattle.zf_header.specs.HeaderBits.{IsRate}
 use Rattle.zf_parse.specs.declared.fault.StreamFault.{StreamFault}
-use Rattle.zf_parse.specs.declared.fault.StreamFault.TheVariants as faults
-use Rattle.zf_parse.specs.Parsing.{Said, header_of, parse, without_said}
+use Rattle.zf_parse.specs.Parsing.{Said, parse, without_said}
 use Rattle.zf_parse.specs.ReadStreams.{IsFault}
 use Rattle.zf_index.specs.declared.fault.IndexFault.{IndexFault}
-use Rattle.zf_index.specs.declared.fault.IndexFault.TheVariants as index
 use Rattle.zf_index.specs.Files.{HasHeader, stream_fault}
 use Rattle.zf_bound.specs.declared.certified.Certified.{Certified}
 use Rattle.zf_bound.specs.Errors.{IsSmallEnough}
 use Rattle.zf_bound.specs.Bounds.{plane_of, error_of, certified_of, bound_text}
 use Rattle.zf_bound.proofs.Certificates.{certified_is}
-use Rattle.zfpi.specs.declared.status.Status.{Status}
 use Rattle.zfpi.specs.declared.status.Status.TheVariants as statuses
 use Rattle.zfpi.specs.declared.command.Command.TheVariants.{Bound}
 use Rattle.zfpi.specs.Faults.{index_status}

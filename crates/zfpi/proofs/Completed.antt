@@ -11,7 +11,7 @@ use Rattle.zf_header.specs.declared.header.Mode.TheVariants.{Reversible, Rate, P
 use Rattle.zf_header.specs.HeaderBits.{rate_bytes_of}
 use Rattle.zf_header.proofs.Parts.{length-header_bits}
 use Rattle.zfpi.specs.Names.{IsName}
-use Rattle.zfpi.specs.declared.command.Caching.TheVariants.{Direct, TwoWay}
+use Rattle.zfpi.specs.declared.command.Caching.TheVariants.{TwoWay}
 use Rattle.zfpi.specs.declared.command.Command.TheVariants.{Compress, CompressNarrow, New, Run, Bound, Sample}
 use Rattle.zfpi.specs.declared.words.Task.{Task}
 use Rattle.zfpi.specs.declared.words.Task.TheVariants as tasks

@@ -1,5 +1,5 @@
 -- What a command wrote is handed on once it has ended: what stays of what is known of it, and what a fault makes of it.
-use Rattle.std.proofs.Common.{◌≡◌, ◌≢◌, ℕ, ◌≤◌, cond, ltb, Bool, true, false, List, [], length, take, ◌⊎◌, inl, inr, Option, Some, None, Result, Ok, Err, IsOk, IsErr, refl, ap, sym, subst, ◌∙◌, append-nil, arith}
+use Rattle.std.proofs.Common.{◌≡◌, ◌≢◌, ℕ, ◌≤◌, cond, ltb, Bool, true, false, List, [], length, take, inl, inr, Option, Some, None, Result, Ok, Err, IsOk, IsErr, refl, ap, sym, subst, ◌∙◌, append-nil, arith}
 use Rattle.std.specs.Prelude.{OnOk}
 use Rattle.std.proofs.lemmas.Bool.{ltb-false}
 use Rattle.std.proofs.Math.Seq.{take-length}
@@ -25,8 +25,8 @@ use Rattle.zfpi.specs.Info.{info_text}
 use Rattle.zfpi.specs.Opened.{array_in, stream_in, opened}
 use Rattle.zfpi.specs.Scripts.{Answering, look_replies, lines_status, script_status}
 use Rattle.zfpi.specs.Certified.{certified_status}
-use Rattle.zfpi.specs.World.{World, Seen, seen, counts}
-use Rattle.zfpi.specs.Answer.{uses, IsRunnable, MayWrite, HasWants, IsExtent, IsRaw, IsPossible, text_for, draft_for, saved_for, status_for}
+use Rattle.zfpi.specs.World.{Seen, seen, counts}
+use Rattle.zfpi.specs.Answer.{uses, MayWrite, HasWants, IsExtent, IsRaw, IsPossible, text_for, draft_for, saved_for, status_for}
 use Rattle.zfpi.specs.Loaded.{SavesOrFails}
 use Rattle.zfpi.specs.Sending.{IsDone, EndsSent, HandsOn}
 use Rattle.zfpi.specs.Headline.{IsWorkDone, IsSent, Writes, Saves, Behaves, HasCauses, IsCausedOnShelf, IsIdle, Sends}

@@ -1,10 +1,9 @@
 -- What a command does that loads a file, as far as the load and what the file is opened as.
-use Rattle.std.proofs.Common.{◌≡◌, ℕ, suc, ◌≤◌, ◌<◌, cond, List, [], length, Option, Some, None, Result, Ok, Err, ◌⊎◌, inl, inr, refl, ap, sym, subst, ◌∙◌, arith}
+use Rattle.std.proofs.Common.{◌≡◌, ℕ, suc, ◌≤◌, ◌<◌, cond, List, [], length, Option, Some, None, Result, Err, ◌⊎◌, inl, inr, refl, ap, sym, subst, ◌∙◌, arith}
 use Rattle.std.specs.Prelude.{replicate}
 use Rattle.std.proofs.lemmas.Bool.{lt-ltb, le-ltb}
 use Rattle.std.proofs.lemmas.List.{length-replicate}
 use Rattle.zf_dev.specs.Shelf.{Files, HasFile, HasLongFile, ExplainsLoad, KeepsFiles}
-use Rattle.zf_dev.specs.Source.{Takes, TakesSome}
 use Rattle.zf_dev.specs.declared.faults.LoadError.{LoadError}
 use Rattle.zf_dev.specs.declared.faults.LoadError.TheVariants as loading
 use Rattle.zf_dev.proofs.Appending.{AppendsFront-none}

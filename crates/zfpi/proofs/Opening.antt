@@ -1,5 +1,5 @@
 -- What a file is opened as, by what is known of its header and of the stream.
-use Rattle.std.proofs.Common.{◌≡◌, ℕ, ℤ, Bool, List, length, Option, Some, None, Result, Ok, Err, refl, ap, sym, ◌∙◌}
+use Rattle.std.proofs.Common.{◌≡◌, ℕ, ℤ, Bool, List, length, Some, None, Result, Ok, Err, refl, ap, sym, ◌∙◌}
 use Rattle.zf_spec.specs.Grid.{blocks}
 use Rattle.zf_spec.specs.Stream.{to_bits, mode_number}
 use Rattle.zf_header.specs.declared.header.Header.{Header}
@@ -9,7 +9,6 @@ use Rattle.zf_header.specs.declared.header.HeaderFault.{HeaderFault}
 use Rattle.zf_header.specs.HeaderBits.{IsRate, coding}
 use Rattle.zf_header.specs.HeaderFaults.{header_fault}
 use Rattle.zf_parse.specs.declared.fault.StreamFault.{StreamFault}
-use Rattle.zf_parse.specs.declared.fault.StreamFault.TheVariants as faults
 use Rattle.zf_parse.specs.Parsing.{Said, header_of, code_bits, read_codes, codes_answer, header_or, values_said, codes_said, said_with, parse}
 use Rattle.zfpi.specs.declared.status.Status.TheVariants as statuses
 use Rattle.zfpi.specs.Opened.{said_or_status, said_at_rate, array_behind, array_in, stream_in}

@@ -1,21 +1,15 @@
 -- What `run` does, from what its calls answer.
-use Rattle.std.proofs.Common.{◌≡◌, ℕ, zero, suc, ◌≤◌, Bool, List, [], length, Option, Some, None, Result, Ok, Err, ◌⊎◌, inl, inr, refl, ap, sym, subst, ◌∙◌}
+use Rattle.std.proofs.Common.{◌≡◌, ℕ, zero, suc, ◌≤◌, Bool, List, [], length, Option, Some, None, Ok, Err, inl, inr, refl, ap, sym, subst, ◌∙◌}
 use Rattle.std.specs.Prelude.{count_by}
 use Rattle.std.specs.Int.{Width}
-use Rattle.zf_spec.specs.Stream.{mode_number}
 use Rattle.zf_base.specs.Widths.{width_of}
 use Rattle.zf_dev.specs.Shelf.{Files, KeepsFiles, KeepsOthers, SavesFile}
 use Rattle.zf_dev.specs.Source.{Takes, IsAtEnd}
 use Rattle.zf_dev.specs.Sink.{Appends}
 use Rattle.zf_header.specs.declared.header.Header.{Header}
 use Rattle.zf_header.specs.declared.header.Mode.{Mode}
-use Rattle.zf_header.specs.declared.header.Mode.TheVariants.{Reversible, Rate, Precision}
-use Rattle.zf_header.specs.declared.header.HeaderFault.{HeaderFault}
-use Rattle.zf_header.specs.HeaderBits.{IsRate, coding, block_bits}
-use Rattle.zf_header.specs.HeaderFaults.{header_fault}
-use Rattle.zf_parse.specs.declared.fault.StreamFault.{StreamFault}
-use Rattle.zf_parse.specs.declared.fault.StreamFault.TheVariants as faults
-use Rattle.zf_parse.specs.Parsing.{Said, header_of, parse}
+use Rattle.zf_header.specs.HeaderBits.{block_bits}
+use Rattle.zf_parse.specs.Parsing.{parse}
 use Rattle.zf_parse.specs.ReadStreams.{IsFault}
 use Rattle.zf_store.specs.declared.fault.StoreFault.{StoreFault}
 use Rattle.zf_store.specs.declared.fault.StoreFault.TheVariants as stores
@@ -34,8 +28,8 @@ use Rattle.zfpi.specs.declared.status.Status.{Status}
 use Rattle.zfpi.specs.declared.status.Status.TheVariants as statuses
 use Rattle.zfpi.specs.declared.command.Caching.{Caching}
 use Rattle.zfpi.specs.declared.command.Command.TheVariants.{Run}
-use Rattle.zfpi.specs.Faults.{store_status, fault_status}
-use Rattle.zfpi.specs.Opened.{said_or_status, said_at_rate, array_behind, array_in, opened}
+use Rattle.zfpi.specs.Faults.{store_status}
+use Rattle.zfpi.specs.Opened.{array_in, opened}
 use Rattle.zfpi.specs.Scripts.{first_lines, setting_over, ran_over, run_replies, run_file, lines_status, saved_of}
 use Rattle.zfpi.specs.Loaded.{HoldsFile, HoldsArray, SavesOrFails}
 use Rattle.zfpi.specs.World.{seen}

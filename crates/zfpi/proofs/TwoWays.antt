@@ -1,5 +1,5 @@
 -- Codes and a two-way cache over them, as they are opened and saved.
-use Rattle.std.proofs.Common.{◌≡◌, ℕ, ℤ, List, [], length, refl, ap, sym, subst, ◌∙◌}
+use Rattle.std.proofs.Common.{◌≡◌, ℕ, ℤ, [], ap, ◌∙◌}
 use Rattle.std.specs.Int.{Width}
 use Rattle.zf_base.specs.Widths.{width_of}
 use Rattle.zf_header.specs.declared.header.Header.{Header}

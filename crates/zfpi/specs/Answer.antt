@@ -5,7 +5,7 @@ use Rattle.zf_header.specs.HeaderBits.{IsMode}
 use Rattle.zf_header.specs.HeaderFaults.{header_fault}
 use Rattle.zf_parse.specs.declared.fault.StreamFault.{StreamFault}
 use Rattle.zf_parse.specs.Raw.{raw_len, compress_answer, stream_text}
-use Rattle.zf_parse.specs.Parsing.{Said, header_of, restore_answer, restored_text}
+use Rattle.zf_parse.specs.Parsing.{Said, restore_answer, restored_text}
 use Rattle.zf_stream.specs.Headed.{front_room}
 use Rattle.zf_narrow.specs.declared.fault.NarrowFault.{NarrowFault}
 use Rattle.zf_narrow.specs.declared.narrow.Narrow.{Narrow}

@@ -1,6 +1,6 @@
-use Rattle.std.proofs.Common.{◌≡◌, Ok, IfOk, subst, ◌∙◌}
+use Rattle.std.proofs.Common.{◌≡◌, IfOk, subst, ◌∙◌}
 use Rattle.zf_bound.specs.Bounds.{certified_of}
-use Rattle.zf_parse.specs.Parsing.{Said, parse}
+use Rattle.zf_parse.specs.Parsing.{parse}
 use Rattle.zfpi.proofs.Certifying.{said_good, Behaves-certified, Behaves-cut_certified, Behaves-no_codes}
 use Rattle.zfpi.proofs.bound.bound_stream.Goals as goal
 
