@@ -108,6 +108,9 @@ def inputs(devices):
     folder = os.open(devices.folder, os.O_RDONLY)
     devices.ends("script a folder", "run a", READ_FAULT, stdin=folder, out=b"")
     os.close(folder)
+    # The array is no script, though its file is opened when the number of the input is free.
+    for words in ("run a", "look a"):
+        devices.ends("script closed", words, READ_FAULT, stdin=None, preexec_fn=closing(0), out=b"")
     devices.has("script a folder", "a", ARRAY)
     short = (3, "input ends after 0 bytes")
     devices.ends("nothing comes", "compress int32 1 reversible", short, stdin=subprocess.DEVNULL)

@@ -1,22 +1,16 @@
 #!/usr/bin/env python3
-"""What the program does not do yet, so that `check/all` leaves it out.
+"""A header and little behind it take no memory for values that the stream cannot hold.
 
-    python3 check/not_yet.py [PROGRAM] [--seed N] [--quick]
+    python3 check/headers.py [PROGRAM] [--seed N] [--quick]
 
-A check that passes here moves to its place.
-
-- A header and little behind it take no memory for values that the stream cannot hold. Needs the
-  program `time`.
-- A script from an input that is closed is a read fault.
+Needs the program `time`.
 """
-
-import os
 
 from definition.codes import PRECISION, RATE
 from definition.header import Header, header_bits
 from definition.planes import bytes_of_bits
 from measure import Measure
-from shared import Check, error_line
+from shared import Check
 
 # kilobytes
 ROOM = 16 * 1024
@@ -57,19 +51,9 @@ def peaks(check):
                 check.expect(ended.code == 5 and held <= most, what, ended)
 
 
-def closed_script(check):
-    folder = check.folder()
-    check.run(["new", "a", "int32", "8", "64"], folder=folder)
-    for command in ("run", "look"):
-        ended = check.run([command, "a"], None, folder, stdin=None, preexec_fn=lambda: os.close(0))
-        good = (ended.code, ended.line) == (10, error_line("read fault"))
-        check.expect(good, f"{command} with its input closed", ended)
-
-
 def main():
     check = Check(__doc__)
     peaks(check)
-    closed_script(check)
     check.end()
 
 
