@@ -130,6 +130,11 @@ class Faults:
             # The line alone is lost. The status is as it was.
             is_same = (seen.ended.code, seen.files) == (whole.ended.code, whole.files)
             return None if is_same else "another ending"
+        if call.name == "write" and call.file() == 1 and case.code > 1:
+            # What was refused is refused still: its output is worth nothing, and a fault of it changes no status.
+            code, out, line = seen.ended
+            is_same = code == case.code and line == whole.ended.line and seen.files == whole.files
+            return None if is_same and whole.ended.out.startswith(out) else "another ending"
         if seen == whole:
             return "the error was ignored" if error in NEVER_IGNORED.get(call.name, ()) else None
         if error == "EINTR" and call.name in AGAIN:
@@ -177,7 +182,8 @@ class Faults:
         names = ("openat", "write", "fsync", "rename")
         texts = [call.text for call in self.calls() if call.name in names]
         new = next((opened(text) for text in texts if "O_CREAT" in text and ".a.new" in text), None)
-        folder = next((opened(text) for text in texts if text.startswith('openat(AT_FDCWD, ".",')), None)
+        folders = [opened(text) for text in texts if text.startswith('openat(AT_FDCWD, ".",')]
+        folder = f"({'|'.join(folders)})"
         sync, rename = r"fsync\({}\) += 0", r"rename\(.*\) += 0"
         at = -1
         for step in (rf"write\({new}, ", sync.format(new), rename, sync.format(folder)):
