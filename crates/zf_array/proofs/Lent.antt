@@ -34,21 +34,21 @@ use Rattle.zf_array.proofs.Standing.{none_past, clean_past, zeros_past, in_array
 -- ---- values with others in the place of some
 
 module _ (xs : List ℤ) (a n : ℕ) (ys : List ℤ) (long : length ys ≡ n) (within : a + n ≤ length xs) where
-  front_long : length (take a xs) ≡ a
-  front_long = length-take-le a xs (omega arith)
+  prefix_long : length (take a xs) ≡ a
+  prefix_long = length-take-le a xs (omega arith)
 
   both_long : length (take a xs ++ ys) ≡ a + n
-  both_long = omega (arith, length-append (take a xs) ys, front_long)
+  both_long = omega (arith, length-append (take a xs) ys, prefix_long)
 
   before : (p : ℕ) → p < a → get_or (spliced xs a n ys) p (pos 0) ≡ get_or xs p (pos 0)
   before p h =
       get_or_append_left (take a xs ++ ys) (drop (a + n) xs) (pos 0) p (omega (arith, both_long))
-      ∙ get_or_append_left (take a xs) ys (pos 0) p (omega (arith, front_long)) ∙ get_or-take a xs p (pos 0) h
+      ∙ get_or_append_left (take a xs) ys (pos 0) p (omega (arith, prefix_long)) ∙ get_or-take a xs p (pos 0) h
 
   between : (p : ℕ) → a ≤ p → p < a + n → get_or (spliced xs a n ys) p (pos 0) ≡ get_or ys (p - a) (pos 0)
   between p h k =
       get_or_append_left (take a xs ++ ys) (drop (a + n) xs) (pos 0) p (omega (arith, both_long))
-      ∙ get_or-append_right (take a xs) ys a p (pos 0) front_long h
+      ∙ get_or-append_right (take a xs) ys a p (pos 0) prefix_long h
 
   behind : (p : ℕ) → a + n ≤ p → get_or (spliced xs a n ys) p (pos 0) ≡ get_or xs p (pos 0)
   behind p h =
@@ -76,7 +76,7 @@ spliced_part xs a n = ap (λ (ys : List ℤ). ys ++ drop (a + n) xs) (sym (take-
 pub part_spliced : (xs : List ℤ) (a n : ℕ) (ys : List ℤ) → length ys ≡ n → a + n ≤ length xs → take n (drop a (spliced xs a n ys)) ≡ ys
 part_spliced xs a n ys long within =
     ap (λ (zs : List ℤ). take n (drop a zs)) (append_assoc (take a xs) ys (drop (a + n) xs))
-    ∙ ap (take n) (drop_at (take a xs) (ys ++ drop (a + n) xs) a (front_long xs a n ys long within)) ∙ take_at ys (drop (a + n) xs) n long
+    ∙ ap (take n) (drop_at (take a xs) (ys ++ drop (a + n) xs) a (prefix_long xs a n ys long within)) ∙ take_at ys (drop (a + n) xs) n long
 
 -- values of a block with others in the place of some that exist
 module _ (f : Format (List Bool)) (b : ℕ) (vs : List ℤ) (a n : ℕ) (ys : List ℤ) (whole : existing_of f b vs ≡ vs) (long : length ys ≡ n) (within : a + n ≤ f.block_len)

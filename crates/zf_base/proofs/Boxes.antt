@@ -36,8 +36,8 @@ raster_steps n p most h fits =
     (omega (arith, two.0), omega (arith, three.0), omega (arith, four.0))
 
 -- the first factors of a product with no zero are no more than all of it
-pub product_front : (n : Pos) → AllByRecursion (λ k. 1 ≤ k) (axes n) → n.x * n.y ≤ product (axes n)
-product_front n h =
+pub product_prefix : (n : Pos) → AllByRecursion (λ k. 1 ≤ k) (axes n) → n.x * n.y ≤ product (axes n)
+product_prefix n h =
     omega (arith, le-mul_of_pos_right {m = n.z * n.w} (n.x * n.y) (mul-pos h.1.1.0 h.1.1.1.0))
 
 -- a number below the count is that of a position in the box, and of no other

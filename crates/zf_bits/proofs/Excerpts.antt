@@ -10,17 +10,17 @@ use Rattle.zf_spec.proofs.Bytes.{length-to_bits}
 -- the bits of some of the bytes
 to_bits-cut : (bytes : List ℕ) (first n : ℕ) → first + n ≤ length bytes → to_bits (take n (drop first bytes)) ≡ take (8 * n) (drop (8 * first) (to_bits bytes))
 to_bits-cut bytes first n within =
-    let front = take first bytes in
+    let prefix = take first bytes in
     let behind = drop first bytes in
     let some = take n behind in
     let rest = drop n behind in
-    let long_front : length (to_bits front) ≡ 8 * first = omega (arith, length-to_bits front, length-take-le first bytes (omega arith)) in
+    let long_prefix : length (to_bits prefix) ≡ 8 * first = omega (arith, length-to_bits prefix, length-take-le first bytes (omega arith)) in
     let long_some : length (to_bits some) ≡ 8 * n = omega (arith, length-to_bits some, length-take-le n behind (omega (arith, length-drop first bytes))) in
-    let parts : to_bits bytes ≡ to_bits front ++ (to_bits some ++ to_bits rest) =
-    ap to_bits (sym (take-append-drop first bytes)) ∙ flat_map-append (field 8) front behind
-    ∙ ap (λ (bs : List Bool). to_bits front ++ bs) (ap to_bits (sym (take-append-drop n behind)) ∙ flat_map-append (field 8) some rest) in
+    let parts : to_bits bytes ≡ to_bits prefix ++ (to_bits some ++ to_bits rest) =
+    ap to_bits (sym (take-append-drop first bytes)) ∙ flat_map-append (field 8) prefix behind
+    ∙ ap (λ (bs : List Bool). to_bits prefix ++ bs) (ap to_bits (sym (take-append-drop n behind)) ∙ flat_map-append (field 8) some rest) in
     sym (ap (λ (bs : List Bool). take (8 * n) (drop (8 * first) bs)) parts
-    ∙ ap (take (8 * n)) (drop_at (to_bits front) (to_bits some ++ to_bits rest) (8 * first) long_front)
+    ∙ ap (take (8 * n)) (drop_at (to_bits prefix) (to_bits some ++ to_bits rest) (8 * first) long_prefix)
     ∙ take_at (to_bits some) (to_bits rest) (8 * n) long_some)
 
 -- the bits that are taken from a place on

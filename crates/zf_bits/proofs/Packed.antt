@@ -128,9 +128,9 @@ unfolding word_of
 words_of-whole piece rest count =
     let n = div_ceil (length rest) 8 in
     let more : div_ceil (length (piece ++ rest)) 8 ≡ suc n = omega (arith, length-append piece rest) in
-    let front = first_bytes-more 8 piece rest (omega arith) in
+    let prefix = first_bytes-more 8 piece rest (omega arith) in
     let behind : drop 8 (piece ++ rest) ≡ rest = drop_at piece rest 8 count in
-    rw (more, behind) (ap (λ bs. from_le_bytes w64 bs ∷ words_from n rest) front)
+    rw (more, behind) (ap (λ bs. from_le_bytes w64 bs ∷ words_from n rest) prefix)
 
 -- the last word
 words_of-last : (piece : List ℕ) → 0 < length piece → length piece ≤ 8 → words_of piece ≡ word_of piece ∷ []
@@ -201,16 +201,16 @@ bytes-words words small = sym (to_bytes-to_bits (flat_map (to_le_bytes w64) word
 pub bits_put : (words rest s : List ℕ) (bits held k : ℕ) → bits ≡ 64 * held → held ≤ length words → length s ≤ 8 * k → ((i : ℕ) → get_or s i 0 < 256)
     → take (bits + 8 * length s) (word_bits (take held words ++ (words_from k s ++ rest))) ≡ take bits (word_bits words) ++ to_bits s
 bits_put words rest s bits held k bits_are within fits bytes =
-    let front = take bits (word_bits words) in
+    let prefix = take bits (word_bits words) in
     let zeros = replicate (64 * k - 8 * length s) false in
     let more = zeros ++ word_bits rest in
-    let old : word_bits (take held words) ≡ front = sym (take-words 64 held words) ∙ ap (λ n. take n (word_bits words)) (sym bits_are) in
-    let long : length front ≡ bits = length-take-le bits (word_bits words) (omega (arith, length-word_bits words)) in
-    let size : length front + length (to_bits s) ≡ bits + 8 * length s = omega (arith, long, length-to_bits s) in
-    let parts : word_bits (take held words ++ (words_from k s ++ rest)) ≡ front ++ (to_bits s ++ more) =
+    let old : word_bits (take held words) ≡ prefix = sym (take-words 64 held words) ∙ ap (λ n. take n (word_bits words)) (sym bits_are) in
+    let long : length prefix ≡ bits = length-take-le bits (word_bits words) (omega (arith, length-word_bits words)) in
+    let size : length prefix + length (to_bits s) ≡ bits + 8 * length s = omega (arith, long, length-to_bits s) in
+    let parts : word_bits (take held words ++ (words_from k s ++ rest)) ≡ prefix ++ (to_bits s ++ more) =
     flat_map-append (field 64) (take held words) (words_from k s ++ rest)
     ∙ ap (λ (bs : List Bool). bs ++ word_bits (words_from k s ++ rest)) old
-    ∙ ap (λ (bs : List Bool). front ++ bs)
+    ∙ ap (λ (bs : List Bool). prefix ++ bs)
     (flat_map-append (field 64) (words_from k s) rest ∙ ap (λ (bs : List Bool). bs ++ word_bits rest) (word_bits-words_from k s fits bytes) ∙ append_assoc (to_bits s) zeros (word_bits rest)) in
-    ap (take (bits + 8 * length s)) (parts ∙ sym (append_assoc front (to_bits s) more))
-    ∙ take_at (front ++ to_bits s) more (bits + 8 * length s) (length-append front (to_bits s) ∙ size)
+    ap (take (bits + 8 * length s)) (parts ∙ sym (append_assoc prefix (to_bits s) more))
+    ∙ take_at (prefix ++ to_bits s) more (bits + 8 * length s) (length-append prefix (to_bits s) ∙ size)

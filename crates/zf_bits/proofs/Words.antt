@@ -183,50 +183,50 @@ shl-shl b i j w =
 regroup : (a f v k r : List Bool) → a ++ ((f ++ (v ++ k)) ++ r) ≡ ((a ++ f) ++ v) ++ (k ++ r)
 regroup a f v k r = simp append_assoc
 
--- the last word has only the bits of the front
-word_of_front : (w j m a : ℕ) (front rest : List Bool) → length front + j ≡ w → j ≤ m → a < 2 ^ w → field w a ++ rest ≡ front ++ replicate m false → a ≡ number front
-word_of_front w j m a front rest long room small same =
-    let whole : field w a ≡ front ++ replicate j false =
-    sym (take_at (field w a) rest w (length-field w a)) ∙ ap (take w) same ∙ ap (λ k. take k (front ++ replicate m false)) (sym long)
-    ∙ take-append-add front (replicate m false) j ∙ ap (λ (bs : List Bool). front ++ bs) (take-replicate j m false room) in
-    let zeros : 2 ^ length front * number (replicate j false) ≡ 0 = ap (λ z. 2 ^ length front * z) (number-zeros j) ∙ omega arith in
-    let value : a % 2 ^ w ≡ number front + 2 ^ length front * number (replicate j false) =
-    sym (number-field w a) ∙ ap number whole ∙ number-append front (replicate j false) in
+-- the last word has only the bits of the prefix
+word_of_prefix : (w j m a : ℕ) (prefix rest : List Bool) → length prefix + j ≡ w → j ≤ m → a < 2 ^ w → field w a ++ rest ≡ prefix ++ replicate m false → a ≡ number prefix
+word_of_prefix w j m a prefix rest long room small same =
+    let whole : field w a ≡ prefix ++ replicate j false =
+    sym (take_at (field w a) rest w (length-field w a)) ∙ ap (take w) same ∙ ap (λ k. take k (prefix ++ replicate m false)) (sym long)
+    ∙ take-append-add prefix (replicate m false) j ∙ ap (λ (bs : List Bool). prefix ++ bs) (take-replicate j m false room) in
+    let zeros : 2 ^ length prefix * number (replicate j false) ≡ 0 = ap (λ z. 2 ^ length prefix * z) (number-zeros j) ∙ omega arith in
+    let value : a % 2 ^ w ≡ number prefix + 2 ^ length prefix * number (replicate j false) =
+    sym (number-field w a) ∙ ap number whole ∙ number-append prefix (replicate j false) in
     let own : a % 2 ^ w ≡ a = mod-eq_of_lt small in
     omega arith
 
-pub field_behind : (w q s j n k m v : ℕ) (words : List ℕ) (front : List Bool)
-    → flat_map (field w) words ≡ front ++ replicate m false → length front ≡ w * q + s → s + j ≡ w → j + w ≡ n + k → j + w ≤ m
+pub field_behind : (w q s j n k m v : ℕ) (words : List ℕ) (prefix : List Bool)
+    → flat_map (field w) words ≡ prefix ++ replicate m false → length prefix ≡ w * q + s → s + j ≡ w → j + w ≡ n + k → j + w ≤ m
     → suc q < length words → get_or words q 0 < 2 ^ w → v < 2 ^ n
-    → flat_map (field w) (set (set words q (bit_or (get_or words q 0) (v * 2 ^ s % 2 ^ w))) (suc q) (v / 2 ^ j)) ≡ (front ++ field n v) ++ replicate (m - n) false
-field_behind w q s j n k m v words front blank long parts all room within small narrow =
+    → flat_map (field w) (set (set words q (bit_or (get_or words q 0) (v * 2 ^ s % 2 ^ w))) (suc q) (v / 2 ^ j)) ≡ (prefix ++ field n v) ++ replicate (m - n) false
+field_behind w q s j n k m v words prefix blank long parts all room within small narrow =
     let bits = flat_map (field w) words in
     let zeros = replicate m false in
     let a = get_or words q 0 in
-    let last = drop (w * q) front in
-    let last_long : length last ≡ s = omega (arith, length-drop (w * q) front) in
+    let last = drop (w * q) prefix in
+    let last_long : length last ≡ s = omega (arith, length-drop (w * q) prefix) in
     let here : field w a ++ drop (w * suc q) bits ≡ last ++ zeros =
-    sym (words_here w q words (omega arith)) ∙ ap (drop (w * q)) blank ∙ drop-append-le (w * q) front zeros (omega arith) in
-    let is_last : a ≡ number last = word_of_front w j m a last (drop (w * suc q) bits) (omega arith) (omega arith) small here in
+    sym (words_here w q words (omega arith)) ∙ ap (drop (w * q)) blank ∙ drop-append-le (w * q) prefix zeros (omega arith) in
+    let is_last : a ≡ number last = word_of_prefix w j m a last (drop (w * suc q) bits) (omega arith) (omega arith) small here in
     let below : a < 2 ^ s = omega (arith, number-lt last, ap (λ k. 2 ^ k) last_long) in
     let same : field s a ≡ last = ap (field s) is_last ∙ field-number s last last_long in
-    let before : take (w * q) bits ≡ take (w * q) front = ap (take (w * q)) blank ∙ take-append-le (w * q) front zeros (omega arith) in
-    let end : w * suc (suc q) ≡ length front + (j + w) = omega (arith, mul-suc w q, mul-suc w (suc q)) in
+    let before : take (w * q) bits ≡ take (w * q) prefix = ap (take (w * q)) blank ∙ take-append-le (w * q) prefix zeros (omega arith) in
+    let end : w * suc (suc q) ≡ length prefix + (j + w) = omega (arith, mul-suc w q, mul-suc w (suc q)) in
     let behind : drop (w * suc (suc q)) bits ≡ replicate (m - (j + w)) false =
-    ap (drop (w * suc (suc q))) blank ∙ ap (λ n. drop n (front ++ zeros)) end ∙ drop-append-add front zeros (j + w) ∙ drop-replicate (j + w) m false in
+    ap (drop (w * suc (suc q))) blank ∙ ap (λ n. drop n (prefix ++ zeros)) end ∙ drop-append-add prefix zeros (j + w) ∙ drop-replicate (j + w) m false in
     let x = field w (bit_or a (v * 2 ^ s % 2 ^ w)) in
     let y = field w (v / 2 ^ j) in
     let two = field_over_end w s j n k v a parts all below narrow in
     let count : k + (m - (j + w)) ≡ m - n = omega arith in
     words-two_set w q words (bit_or a (v * 2 ^ s % 2 ^ w)) (v / 2 ^ j) within
     ∙ ap (λ (bs : List Bool). bs ++ (x ++ (y ++ drop (w * suc (suc q)) bits))) before
-    ∙ ap (λ (bs : List Bool). take (w * q) front ++ (x ++ (y ++ bs))) behind
-    ∙ ap (λ (bs : List Bool). take (w * q) front ++ bs) (sym (append_assoc x y (replicate (m - (j + w)) false)))
-    ∙ ap (λ (bs : List Bool). take (w * q) front ++ (bs ++ replicate (m - (j + w)) false)) two
-    ∙ ap (λ (bs : List Bool). take (w * q) front ++ ((bs ++ (field n v ++ replicate k false)) ++ replicate (m - (j + w)) false)) same
-    ∙ regroup (take (w * q) front) last (field n v) (replicate k false) (replicate (m - (j + w)) false)
-    ∙ ap (λ (bs : List Bool). (bs ++ field n v) ++ (replicate k false ++ replicate (m - (j + w)) false)) (take-append-drop (w * q) front)
-    ∙ ap (λ (bs : List Bool). (front ++ field n v) ++ bs) (replicate-append-replicate k (m - (j + w)) false ∙ ap (λ c. replicate c false) count)
+    ∙ ap (λ (bs : List Bool). take (w * q) prefix ++ (x ++ (y ++ bs))) behind
+    ∙ ap (λ (bs : List Bool). take (w * q) prefix ++ bs) (sym (append_assoc x y (replicate (m - (j + w)) false)))
+    ∙ ap (λ (bs : List Bool). take (w * q) prefix ++ (bs ++ replicate (m - (j + w)) false)) two
+    ∙ ap (λ (bs : List Bool). take (w * q) prefix ++ ((bs ++ (field n v ++ replicate k false)) ++ replicate (m - (j + w)) false)) same
+    ∙ regroup (take (w * q) prefix) last (field n v) (replicate k false) (replicate (m - (j + w)) false)
+    ∙ ap (λ (bs : List Bool). (bs ++ field n v) ++ (replicate k false ++ replicate (m - (j + w)) false)) (take-append-drop (w * q) prefix)
+    ∙ ap (λ (bs : List Bool). (prefix ++ field n v) ++ bs) (replicate-append-replicate k (m - (j + w)) false ∙ ap (λ c. replicate c false) count)
 
 -- ---- a field among other bits
 
@@ -282,7 +282,7 @@ words_with w q s n v x words within fits is =
     let here = words_here w q words within in
     let parts : w ≡ s + (w - s) = omega arith in
     let inside : w * q ≤ length bits = omega (arith, length-flat_map-field w words, mul-le-mul w q (length words) (omega arith)) in
-    let front : take (w * q + s) bits ≡ take (w * q) bits ++ field s a =
+    let prefix : take (w * q + s) bits ≡ take (w * q) bits ++ field s a =
     take-add (w * q) s bits inside ∙ ap (λ (bs : List Bool). take (w * q) bits ++ bs)
     (ap (take s) here ∙ take-append-le s (field w a) rest (omega (arith, length-field w a)) ∙ ap (λ k. take s (field k a)) parts ∙ take-field s (w - s) a) in
     let sum : w * q + s + n ≡ w * q + (s + n) = omega arith in
@@ -291,7 +291,7 @@ words_with w q s n v x words within fits is =
     words-set w q words x within
     ∙ ap (λ (bs : List Bool). take (w * q) bits ++ (bs ++ rest)) is
     ∙ regroup_word (take (w * q) bits) (field s a) (field n v) (drop (s + n) (field w a)) rest
-    ∙ ap (λ (bs : List Bool). bs ++ field n v ++ (drop (s + n) (field w a) ++ rest)) (sym front)
+    ∙ ap (λ (bs : List Bool). bs ++ field n v ++ (drop (s + n) (field w a) ++ rest)) (sym prefix)
     ∙ ap (λ (bs : List Bool). take (w * q + s) bits ++ field n v ++ bs) (sym behind)
   where
     mul-le-mul : (w q l : ℕ) → q ≤ l → w * q ≤ w * l
@@ -302,16 +302,16 @@ pub put_twice : (at m n v : ℕ) (old : List Bool) → at + m + n ≤ length old
     → take (at + m) (take at old ++ field m v ++ drop (at + m) old) ++ field n (v / 2 ^ m) ++ drop (at + m + n) (take at old ++ field m v ++ drop (at + m) old)
     ≡ take at old ++ field (m + n) v ++ drop (at + (m + n)) old
 put_twice at m n v old fits =
-    let front = take at old ++ field m v in
+    let prefix = take at old ++ field m v in
     let rest = drop (at + m) old in
-    let long : length front ≡ at + m = omega (arith, length-append (take at old) (field m v), length-take-le at old (omega arith), length-field m v) in
-    let sum : at + m + n ≡ length front + n = omega arith in
+    let long : length prefix ≡ at + m = omega (arith, length-append (take at old) (field m v), length-take-le at old (omega arith), length-field m v) in
+    let sum : at + m + n ≡ length prefix + n = omega arith in
     let whole : at + m + n ≡ at + (m + n) = omega arith in
-    let first : take (at + m) (front ++ rest) ≡ front = take_at front rest (at + m) long in
-    let second : drop (at + m + n) (front ++ rest) ≡ drop (at + (m + n)) old =
-    ap (λ k. drop k (front ++ rest)) sum ∙ drop-append-add front rest n ∙ drop-drop n (at + m) old ∙ ap (λ k. drop k old) whole in
-    ap (λ (bs : List Bool). bs ++ field n (v / 2 ^ m) ++ drop (at + m + n) (front ++ rest)) first
-    ∙ ap (λ (bs : List Bool). front ++ field n (v / 2 ^ m) ++ bs) second
+    let first : take (at + m) (prefix ++ rest) ≡ prefix = take_at prefix rest (at + m) long in
+    let second : drop (at + m + n) (prefix ++ rest) ≡ drop (at + (m + n)) old =
+    ap (λ k. drop k (prefix ++ rest)) sum ∙ drop-append-add prefix rest n ∙ drop-drop n (at + m) old ∙ ap (λ k. drop k old) whole in
+    ap (λ (bs : List Bool). bs ++ field n (v / 2 ^ m) ++ drop (at + m + n) (prefix ++ rest)) first
+    ∙ ap (λ (bs : List Bool). prefix ++ field n (v / 2 ^ m) ++ bs) second
     ∙ ap (λ (bs : List Bool). bs ++ drop (at + (m + n)) old) (append_assoc (take at old) (field m v) (field n (v / 2 ^ m)) ∙ ap (λ (bs : List Bool). take at old ++ bs) (sym (field-add m n v)))
 
 -- the lowest bits of a window

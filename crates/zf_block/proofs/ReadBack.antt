@@ -15,9 +15,9 @@ use Rattle.zf_spec.proofs.Raster.{length-fours}
 
 -- ---- a reversible code
 
-module _ (w : Width) (es : List ℕ) (block : List ℤ) (more : List Bool) (old : Reader) (ok : IsBlock w es block) (front : rest old ≡ rev w es block ++ more) where
+module _ (w : Width) (es : List ℕ) (block : List ℤ) (more : List Bool) (old : Reader) (ok : IsBlock w es block) (prefix : rest old ≡ rev w es block ++ more) where
   read : read_rev w es (rest old) ≡ Some (existing_values es block, length (rev w es block))
-  read = ap (read_rev w es) front ∙ read_rev-rev w es block more ok.narrow ok.extent ok.values
+  read = ap (read_rev w es) prefix ∙ read_rev-rev w es block more ok.narrow ok.extent ok.values
 
   pub rev_there : ¬ LacksRev w (length es) old
   rev_there lacks = none-some _ (sym (lacks.code es refl) ∙ read)
@@ -31,13 +31,13 @@ module _ (w : Width) (es : List ℕ) (block : List ℤ) (more : List Bool) (old 
   pub rev_passed : (new : Reader) (b : List ℤ) → ReadsRev w (length es) old new b → Reads old new (rev w es block)
   rev_passed new b reads =
       let n = new.at - old.at in
-      Reads-same reads.passed (ap (take n) front ∙ take_at (rev w es block) more n (sym (parts new b reads).1))
+      Reads-same reads.passed (ap (take n) prefix ∙ take_at (rev w es block) more n (sym (parts new b reads).1))
 
 -- ---- a code at a fixed rate
 
-module _ (w : Width) (budget : ℕ) (es : List ℕ) (block : List ℤ) (more : List Bool) (old : Reader) (front : rest old ≡ rate w budget es block ++ more) where
+module _ (w : Width) (budget : ℕ) (es : List ℕ) (block : List ℤ) (more : List Bool) (old : Reader) (prefix : rest old ≡ rate w budget es block ++ more) where
   code : take budget (rest old) ≡ rate w budget es block
-  code = ap (take budget) front ∙ take_at (rate w budget es block) more budget (length-rate w budget es block)
+  code = ap (take budget) prefix ∙ take_at (rate w budget es block) more budget (length-rate w budget es block)
 
   pub rate_values : (new : Reader) (b : List ℤ) → ReadsRate w (length es) budget old new b → existing_values es b ≡ round w budget es block
   rate_values new b reads = sym (reads.code es refl) ∙ ap (read_rate w es) code ∙ read_rate-rate w budget es block
@@ -47,9 +47,9 @@ module _ (w : Width) (budget : ℕ) (es : List ℕ) (block : List ℤ) (more : L
 
 -- ---- a code at a fixed precision
 
-module _ (w : Width) (p : ℕ) (es : List ℕ) (block : List ℤ) (more : List Bool) (old : Reader) (front : rest old ≡ prec w p es block ++ more) where
+module _ (w : Width) (p : ℕ) (es : List ℕ) (block : List ℤ) (more : List Bool) (old : Reader) (prefix : rest old ≡ prec w p es block ++ more) where
   prec_read : read_prec w p es (rest old) ≡ Some (round_prec w p es block, length (prec w p es block))
-  prec_read = ap (read_prec w p es) front ∙ read_prec-prec w p es block more
+  prec_read = ap (read_prec w p es) prefix ∙ read_prec-prec w p es block more
 
   pub prec_there : ¬ LacksPrec w (length es) p old
   prec_there lacks = none-some _ (sym (lacks.code es refl) ∙ prec_read)
@@ -63,7 +63,7 @@ module _ (w : Width) (p : ℕ) (es : List ℕ) (block : List ℤ) (more : List B
   pub prec_passed : (new : Reader) (b : List ℤ) → ReadsPrec w (length es) p old new b → Reads old new (prec w p es block)
   prec_passed new b reads =
       let n = new.at - old.at in
-      Reads-same reads.passed (ap (take n) front ∙ take_at (prec w p es block) more n (sym (prec_parts new b reads).1))
+      Reads-same reads.passed (ap (take n) prefix ∙ take_at (prec w p es block) more n (sym (prec_parts new b reads).1))
 
 -- ---- whole blocks
 

@@ -73,9 +73,9 @@ LacksRev-short w d old short = record {
 -- ---- planes without a budget
 
 -- one read, and then another
-pub Reads-part : {a b c : Reader} (front : List Bool) (k : ℕ) → Reads a b front → Reads b c (take k (rest b)) → Reads a c (take (length front + k) (rest a))
-Reads-part {a} {b} {c} front k first second =
-    Reads-same (Reads-append first second) (sym (ap (take (length front + k)) first.next ∙ take-append-add front (rest b) k))
+pub Reads-part : {a b c : Reader} (prefix : List Bool) (k : ℕ) → Reads a b prefix → Reads b c (take k (rest b)) → Reads a c (take (length prefix + k) (rest a))
+Reads-part {a} {b} {c} prefix k first second =
+    Reads-same (Reads-append first second) (sym (ap (take (length prefix + k)) first.next ∙ take-append-add prefix (rest b) k))
 
 -- the code of as many planes as there can be is short
 length-code-planes_in : (prec size : ℕ) (s : List Bool) → size ≤ 256 → prec ≤ 64 → length (code (planes_in prec size s)) ≤ 16640

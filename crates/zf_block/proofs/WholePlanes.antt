@@ -14,7 +14,7 @@ use Rattle.zf_spec.specs.Planes.{reach, plane_code, code_from, code}
 use Rattle.zf_spec.specs.Kept.{kept_planes}
 use Rattle.zf_spec.specs.ReadPlanes.{first_bits, Begins, planes_in}
 use Rattle.zf_spec.specs.Codes.{planes, rate}
-use Rattle.zf_spec.proofs.Beginnings.{length-first_bits, begins_is_first, begins_from_first, begins_front, begins_itself, first_bits-first_bits}
+use Rattle.zf_spec.proofs.Beginnings.{length-first_bits, begins_is_first, begins_from_first, begins_prefix, begins_itself, first_bits-first_bits}
 use Rattle.zf_spec.proofs.Counting.{length-upto, get_or-upto}
 use Rattle.zf_spec.proofs.Full.{full_begins, full_only, length-planes_in, planes_in-length}
 use Rattle.zf_spec.proofs.PlaneDigits.{length-planes, planes-length}
@@ -69,21 +69,21 @@ whole_from-only budget ps k within fits least = ⊎_elim
 
 -- ---- the code of the top planes begins the code of all
 
-code_from-front : (n : ℕ) (ps : List (List Bool)) (m : ℕ) → (rest : List Bool) × (code_from n ps ≡ code_from n (take m ps) ++ rest)
-code_from-front n ps zero = (code_from n ps, refl)
-code_from-front n [] (suc m) = ([], refl)
-code_from-front n (ds ∷ ps) (suc m) =
-    let next = code_from-front (max n (reach ds)) ps m in
+code_from-prefix : (n : ℕ) (ps : List (List Bool)) (m : ℕ) → (rest : List Bool) × (code_from n ps ≡ code_from n (take m ps) ++ rest)
+code_from-prefix n ps zero = (code_from n ps, refl)
+code_from-prefix n [] (suc m) = ([], refl)
+code_from-prefix n (ds ∷ ps) (suc m) =
+    let next = code_from-prefix (max n (reach ds)) ps m in
     (next.0, ap (λ bs. plane_code n ds ++ bs) next.1 ∙ sym (append_assoc (plane_code n ds) (code_from (max n (reach ds)) (take m ps)) next.0))
 
-code_front_begins : (ps : List (List Bool)) (m : ℕ) (s : List Bool) → Begins (code ps) s → Begins (code (take m ps)) s
-code_front_begins ps m s begins =
-    let split = code_from-front 0 ps m in
-    begins_front (code (take m ps)) split.0 s (subst (λ bs. Begins bs s) split.1 begins)
+code_prefix_begins : (ps : List (List Bool)) (m : ℕ) (s : List Bool) → Begins (code ps) s → Begins (code (take m ps)) s
+code_prefix_begins ps m s begins =
+    let split = code_from-prefix 0 ps m in
+    begins_prefix (code (take m ps)) split.0 s (subst (λ bs. Begins bs s) split.1 begins)
 
 length-code_take-le : (ps : List (List Bool)) (m n : ℕ) → m ≤ n → length (code (take m ps)) ≤ length (code (take n ps))
 length-code_take-le ps m n less =
-    let split = code_from-front 0 (take n ps) m in
+    let split = code_from-prefix 0 (take n ps) m in
     let top : take m (take n ps) ≡ take m ps = take-take m n ps less in
     let same = ap (λ qs. length (code qs)) top in
     omega (arith, ap length split.1, length-append (code (take m (take n ps))) split.0, same)
@@ -138,14 +138,14 @@ module _ (size budget : ℕ) (ps : List (List Bool)) (all : All (λ ds. length d
   tops_same : (m : ℕ) → m ≤ length ps → length (code (take m qs)) ≤ budget → take m qs ≡ take m ps
   tops_same m within fits =
       let read = take m qs in
-      let begins = begins_is_first (code read) s (code_front_begins qs m s (full_begins (length ps) size s)) in
+      let begins = begins_is_first (code read) s (code_prefix_begins qs m s (full_begins (length ps) size s)) in
       let count : length read ≡ m = omega (arith, length-take m qs, length-planes_in (length ps) size s, within) in
       let own_count : length (take m ps) ≡ m = omega (arith, length-take m ps, within) in
       let itself : Begins (code ps) (code ps) = rw append-nil at (begins_itself (code ps) []) in
       full_only size read (code ps) (All-take (λ ds. length ds ≡ size) m qs (planes_in-length (length ps) size s))
       (begins_from_first (code read) (code ps) (begins ∙ first_bits-first_bits (length (code read)) budget (code ps) fits))
       ∙ ap (λ p. planes_in p size (code ps)) (count ∙ sym own_count)
-      ∙ sym (full_only size (take m ps) (code ps) (All-take (λ ds. length ds ≡ size) m ps all) (code_front_begins ps m (code ps) itself))
+      ∙ sym (full_only size (take m ps) (code ps) (All-take (λ ds. length ds ≡ size) m ps all) (code_prefix_begins ps m (code ps) itself))
 
   kept_from : (k : ℕ) → whole_from budget qs ≤ k → planes_from k (kept_planes budget ps) ≡ planes_from k ps
   unfolding planes_from

@@ -20,46 +20,46 @@ use Rattle.zf_cached.proofs.Sessions.{first_refusal, step_by, step-sound, joined
 
 -- ---- lines
 
-line_step-sound : {Code : Type 0} (setting : Setting Code) (s : Session Code) (line : List ℕ) (wanting : Bool) → IsCached setting → IsSound setting s → IsSound setting (line_step setting s line wanting).0
+line_step-sound : {Code : Type 0} (setting : Setting Code) (s : Session Code) (line : List ℕ) (starving : Bool) → IsCached setting → IsSound setting s → IsSound setting (line_step setting s line starving).0
 unfolding line_step read_step
-line_step-sound setting s [] wanting cached h = h
-line_step-sound {Code} setting s (b ∷ bs) wanting cached h = by (read_line (length s.shape) (b ∷ bs)) refl
+line_step-sound setting s [] starving cached h = h
+line_step-sound {Code} setting s (b ∷ bs) starving cached h = by (read_line (length s.shape) (b ∷ bs)) refl
   where
-    by : (o : Option Command) → read_line (length s.shape) (b ∷ bs) ≡ o → IsSound setting (read_step setting s o wanting).0
+    by : (o : Option Command) → read_line (length s.shape) (b ∷ bs) ≡ o → IsSound setting (read_step setting s o starving).0
     by None e = h
     by (Some c) e = allowed (setting.allows c)
       where
-        allowed : (t : Bool) → IsSound setting (elim t as (λ x. Session Code × Option Reply) [ true ↦ step setting s c wanting | false ↦ (s, Some (Reply.refused Refusal.word)) ]).0
-        allowed true = step-sound setting s c wanting (read_line-Some (length s.shape) (b ∷ bs) c e).0 cached h
+        allowed : (t : Bool) → IsSound setting (elim t as (λ x. Session Code × Option Reply) [ true ↦ step setting s c starving | false ↦ (s, Some (Reply.refused Refusal.word)) ]).0
+        allowed true = step-sound setting s c starving (read_line-Some (length s.shape) (b ∷ bs) c e).0 cached h
         allowed false = h
 
-pub run_lines-sound : {Code : Type 0} (setting : Setting Code) (wants : List ℕ) (k : ℕ) (lines : List (List ℕ)) (s : Session Code) → IsCached setting → IsSound setting s → IsSound setting (run_lines setting wants k lines s).0
+pub run_lines-sound : {Code : Type 0} (setting : Setting Code) (starved : List ℕ) (k : ℕ) (lines : List (List ℕ)) (s : Session Code) → IsCached setting → IsSound setting s → IsSound setting (run_lines setting starved k lines s).0
 unfolding run_lines
-run_lines-sound setting wants k [] s cached h = h
-run_lines-sound setting wants k (line ∷ lines) s cached h =
-    run_lines-sound setting wants (suc k) lines _ cached (line_step-sound setting s line (list_any (λ n. eqb n k) wants) cached h)
+run_lines-sound setting starved k [] s cached h = h
+run_lines-sound setting starved k (line ∷ lines) s cached h =
+    run_lines-sound setting starved (suc k) lines _ cached (line_step-sound setting s line (list_any (λ n. eqb n k) starved) cached h)
 
 -- lines, and then more lines
-pub run_lines-append : {Code : Type 0} (setting : Setting Code) (wants : List ℕ) (k : ℕ) (lines more : List (List ℕ)) (s : Session Code)
-    → run_lines setting wants k (lines ++ more) s ≡ ((run_lines setting wants (k + length lines) more (run_lines setting wants k lines s).0).0, (run_lines setting wants k lines s).1 ++ (run_lines setting wants (k + length lines) more (run_lines setting wants k lines s).0).1)
+pub run_lines-append : {Code : Type 0} (setting : Setting Code) (starved : List ℕ) (k : ℕ) (lines more : List (List ℕ)) (s : Session Code)
+    → run_lines setting starved k (lines ++ more) s ≡ ((run_lines setting starved (k + length lines) more (run_lines setting starved k lines s).0).0, (run_lines setting starved k lines s).1 ++ (run_lines setting starved (k + length lines) more (run_lines setting starved k lines s).0).1)
 unfolding run_lines
-run_lines-append setting wants k [] more s = let e : k ≡ k + 0 = omega arith in ap (λ n. run_lines setting wants n more s) e
-run_lines-append {Code} setting wants k (line ∷ lines) more s =
-    let one = line_step setting s line (list_any (λ n. eqb n k) wants) in
+run_lines-append setting starved k [] more s = let e : k ≡ k + 0 = omega arith in ap (λ n. run_lines setting starved n more s) e
+run_lines-append {Code} setting starved k (line ∷ lines) more s =
+    let one = line_step setting s line (list_any (λ n. eqb n k) starved) in
     let e : suc k + length lines ≡ k + suc (length lines) = omega arith in
-    let first = run_lines setting wants (suc k) lines one.0 in
+    let first = run_lines setting starved (suc k) lines one.0 in
     let o = option_to_list one.1 in
-    let then_more = λ (n : ℕ). run_lines setting wants n more first.0 in
-    ap (λ (r : Session Code × List Reply). (r.0, o ++ r.1)) (run_lines-append setting wants (suc k) lines more one.0)
+    let then_more = λ (n : ℕ). run_lines setting starved n more first.0 in
+    ap (λ (r : Session Code × List Reply). (r.0, o ++ r.1)) (run_lines-append setting starved (suc k) lines more one.0)
     ∙ ap (λ (rs : List Reply). ((then_more (suc k + length lines)).0, rs)) (sym (append_assoc o first.1 (then_more (suc k + length lines)).1))
     ∙ ap (λ (n : ℕ). ((then_more n).0, (o ++ first.1) ++ (then_more n).1)) e
 
 -- ---- runs
 
-pub run_script-sound : {Code : Type 0} (setting : Setting Code) (wants shape : List ℕ) (s : State Code) (script : List ℕ) → IsCached setting → IsShape shape → IsConsistent (array_format setting.coding shape) s → IsSound setting (run_script setting wants shape s script).0
+pub run_script-sound : {Code : Type 0} (setting : Setting Code) (starved shape : List ℕ) (s : State Code) (script : List ℕ) → IsCached setting → IsShape shape → IsConsistent (array_format setting.coding shape) s → IsSound setting (run_script setting starved shape s script).0
 unfolding run_script
-run_script-sound setting wants shape s script cached is h =
-    run_lines-sound setting wants 0 (lines_of script) _ cached (record { shape = is; state = h; window = LiesIn-whole shape is.not_zero; split = λ e. absurd (cc) })
+run_script-sound setting starved shape s script cached is h =
+    run_lines-sound setting starved 0 (lines_of script) _ cached (record { shape = is; state = h; window = LiesIn-whole shape is.not_zero; split = λ e. absurd (cc) })
 
 ended-sound : {Code : Type 0} (setting : Setting Code) (s : Session Code) → IsSound setting s → IsSound setting (ended setting s)
 unfolding ended joined
@@ -72,19 +72,19 @@ ended-empty : {Code : Type 0} (setting : Setting Code) (s : Session Code) → Is
 unfolding ended
 ended-empty setting s h = let t = joined setting s in flush-empty (format_of setting t) t.state (joined-sound setting s h).state
 
-pub run-sound : {Code : Type 0} (setting : Setting Code) (wants shape : List ℕ) (s : State Code) (script : List ℕ) → IsCached setting → IsShape shape → IsConsistent (array_format setting.coding shape) s → IsSound setting (run setting wants shape s script).0
+pub run-sound : {Code : Type 0} (setting : Setting Code) (starved shape : List ℕ) (s : State Code) (script : List ℕ) → IsCached setting → IsShape shape → IsConsistent (array_format setting.coding shape) s → IsSound setting (run setting starved shape s script).0
 unfolding run
-run-sound setting wants shape s script cached is h = ended-sound setting (run_script setting wants shape s script).0 (run_script-sound setting wants shape s script cached is h)
+run-sound setting starved shape s script cached is h = ended-sound setting (run_script setting starved shape s script).0 (run_script-sound setting starved shape s script cached is h)
 
 -- nothing is dirty after a run
-pub run-empty : {Code : Type 0} (setting : Setting Code) (wants shape : List ℕ) (s : State Code) (script : List ℕ) → IsCached setting → IsShape shape → IsConsistent (array_format setting.coding shape) s → IsEmpty (run setting wants shape s script).0.state
+pub run-empty : {Code : Type 0} (setting : Setting Code) (starved shape : List ℕ) (s : State Code) (script : List ℕ) → IsCached setting → IsShape shape → IsConsistent (array_format setting.coding shape) s → IsEmpty (run setting starved shape s script).0.state
 unfolding run
-run-empty setting wants shape s script cached is h = ended-empty setting (run_script setting wants shape s script).0 (run_script-sound setting wants shape s script cached is h)
+run-empty setting starved shape s script cached is h = ended-empty setting (run_script setting starved shape s script).0 (run_script-sound setting starved shape s script cached is h)
 
 -- ---- refusals
 
-pub step-refused : {Code : Type 0} (setting : Setting Code) (s : Session Code) (c : Command) (wanting : Bool) (why : Refusal) → refusal setting s c wanting ≡ Some why → step setting s c wanting ≡ (s, Some (Reply.refused why))
-step-refused setting s c wanting why e = step_by setting s c wanting (λ r. r ≡ (s, Some (Reply.refused why))) (λ y is. let same : y ≡ why = cc in ap (λ x. (s, Some (Reply.refused x))) same) (λ none. absurd (cc))
+pub step-refused : {Code : Type 0} (setting : Setting Code) (s : Session Code) (c : Command) (starving : Bool) (why : Refusal) → refusal setting s c starving ≡ Some why → step setting s c starving ≡ (s, Some (Reply.refused why))
+step-refused setting s c starving why e = step_by setting s c starving (λ r. r ≡ (s, Some (Reply.refused why))) (λ y is. let same : y ≡ why = cc in ap (λ x. (s, Some (Reply.refused x))) same) (λ none. absurd (cc))
 
 pub array_setting-cached : (w : Width) (budget : ℕ) → IsCached (array_setting w budget)
 unfolding array_setting
@@ -100,9 +100,9 @@ refusal_memory false false true v t m e = absurd (cc)
 refusal_memory false true b v t m e = absurd (cc)
 refusal_memory true a b v t m e = absurd (cc)
 
-pub refusal-memory : {Code : Type 0} (setting : Setting Code) (s : Session Code) (c : Command) (wanting : Bool) → refusal setting s c wanting ≡ Some Refusal.memory → (takes_memory c ≡ true) × (wanting ≡ true) × (refusal setting s c false ≡ None)
+pub refusal-memory : {Code : Type 0} (setting : Setting Code) (s : Session Code) (c : Command) (starving : Bool) → refusal setting s c starving ≡ Some Refusal.memory → (takes_memory c ≡ true) × (starving ≡ true) × (refusal setting s c false ≡ None)
 unfolding refusal
-refusal-memory setting s c wanting e = refusal_memory (refuses_split s c) (refuses_size setting s c) (refuses_range s c) (refuses_value setting.width c) (takes_memory c) wanting e
+refusal-memory setting s c starving e = refusal_memory (refuses_split s c) (refuses_size setting s c) (refuses_range s c) (refuses_value setting.width c) (takes_memory c) starving e
 
 refusal_word : (p a b v m : Bool) → first_refusal p a b v m ≡ Some Refusal.word → ⊥
 refusal_word false false false false true e = cc
@@ -112,6 +112,6 @@ refusal_word false false true v m e = cc
 refusal_word false true b v m e = cc
 refusal_word true a b v m e = cc
 
-pub refusal-word : {Code : Type 0} (setting : Setting Code) (s : Session Code) (c : Command) (wanting : Bool) → refusal setting s c wanting ≡ Some Refusal.word → ⊥
+pub refusal-word : {Code : Type 0} (setting : Setting Code) (s : Session Code) (c : Command) (starving : Bool) → refusal setting s c starving ≡ Some Refusal.word → ⊥
 unfolding refusal
-refusal-word setting s c wanting e = refusal_word (refuses_split s c) (refuses_size setting s c) (refuses_range s c) (refuses_value setting.width c) (takes_memory c && wanting) e
+refusal-word setting s c starving e = refusal_word (refuses_split s c) (refuses_size setting s c) (refuses_range s c) (refuses_value setting.width c) (takes_memory c && starving) e

@@ -227,18 +227,18 @@ refusal_none false true b v m e = absurd (cc)
 refusal_none true a b v m e = absurd (cc)
 
 -- a step by whether the command is refused
-pub step_by : {Code : Type 0} (setting : Setting Code) (s : Session Code) (c : Command) (wanting : Bool) (P : Session Code × Option Reply → Type 0)
-    → ((why : Refusal) → refusal setting s c wanting ≡ Some why → P (s, Some (Reply.refused why))) → (refusal setting s c wanting ≡ None → P (done setting s c)) → P (step setting s c wanting)
+pub step_by : {Code : Type 0} (setting : Setting Code) (s : Session Code) (c : Command) (starving : Bool) (P : Session Code × Option Reply → Type 0)
+    → ((why : Refusal) → refusal setting s c starving ≡ Some why → P (s, Some (Reply.refused why))) → (refusal setting s c starving ≡ None → P (done setting s c)) → P (step setting s c starving)
 unfolding step
-step_by {Code} setting s c wanting P refuses takes = by (refusal setting s c wanting) refuses takes
+step_by {Code} setting s c starving P refuses takes = by (refusal setting s c starving) refuses takes
   where
     by : (r : Option Refusal) → ((why : Refusal) → r ≡ Some why → P (s, Some (Reply.refused why))) → (r ≡ None → P (done setting s c))
         → P (elim r [ Some why ↦ (s, Some (Reply.refused why)) | None ↦ done setting s c ])
     by None refuses takes = takes refl
     by (Some why) refuses takes = refuses why refl
 
-pub step-sound : {Code : Type 0} (setting : Setting Code) (s : Session Code) (c : Command) (wanting : Bool) → is_writable (length s.shape) c ≡ true → IsCached setting → IsSound setting s → IsSound setting (step setting s c wanting).0
+pub step-sound : {Code : Type 0} (setting : Setting Code) (s : Session Code) (c : Command) (starving : Bool) → is_writable (length s.shape) c ≡ true → IsCached setting → IsSound setting s → IsSound setting (step setting s c starving).0
 unfolding refusal
-step-sound setting s c wanting writable cached h = step_by setting s c wanting (λ r. IsSound setting r.0) (λ why e. h)
-    (λ e. let tests = refusal_none (refuses_split s c) (refuses_size setting s c) (refuses_range s c) (refuses_value setting.width c) (takes_memory c && wanting) e in
+step-sound setting s c starving writable cached h = step_by setting s c starving (λ r. IsSound setting r.0) (λ why e. h)
+    (λ e. let tests = refusal_none (refuses_split s c) (refuses_size setting s c) (refuses_range s c) (refuses_value setting.width c) (takes_memory c && starving) e in
     done-sound setting s c (record { writable = writable; split = tests.0; size = tests.1; range = tests.2 }) cached h)

@@ -203,9 +203,9 @@ takes_memory (Command.resize ns) = true
 takes_memory (Command.split n l) = true
 takes_memory _ = false
 
--- the first of these tests that a command does not pass; whether memory is wanting is told
+-- the first of these tests that a command does not pass; whether it is out of memory is given
 unfoldable pub refusal : {Code : Type 0} → Setting Code → Session Code → Command → Bool → Option Refusal
-refusal setting s c wanting =
+refusal setting s c starving =
     elim (refuses_split s c) [
       | true ↦ Some Refusal.split
       | false ↦
@@ -218,7 +218,7 @@ refusal setting s c wanting =
                       elim (refuses_value setting.width c) [
                         | true ↦ Some Refusal.value
                         | false ↦
-                            elim (takes_memory c && wanting) [ true ↦ Some Refusal.memory | false ↦ None ]
+                            elim (takes_memory c && starving) [ true ↦ Some Refusal.memory | false ↦ None ]
                       ]
                 ]
           ]
@@ -267,4 +267,4 @@ done setting s (Command.pstats i) = (s, Some (counts_reply (view_at (views_of s)
 
 -- the step of a command: a refusal changes nothing
 unfoldable pub step : {Code : Type 0} → Setting Code → Session Code → Command → Bool → Session Code × Option Reply
-step setting s c wanting = elim (refusal setting s c wanting) [ Some why ↦ (s, Some (Reply.refused why)) | None ↦ done setting s c ]
+step setting s c starving = elim (refusal setting s c starving) [ Some why ↦ (s, Some (Reply.refused why)) | None ↦ done setting s c ]

@@ -14,38 +14,38 @@ ghost use Rattle.zf_cached.specs.Runs.{run_lines, run, array_setting};
 
 use crate::coded::Coded;
 
-/// A refused command changes nothing; memory is wanting only for a command that takes some, and only after all other tests.
+/// A refused command changes nothing; out of memory is only a command that takes some, and only after all other tests.
 pub fn refused_commands<C: Coded>()
-    ensures unchanged { (setting : Setting C.Code) (s : Session C.Code) (c : Command) (wanting : Bool) (why : Refusal)
-        → refusal setting s c wanting ≡ Some why → step setting s c wanting ≡ (s, Some (Reply.refused why)) }
-    ensures memory { (setting : Setting C.Code) (s : Session C.Code) (c : Command) (wanting : Bool)
-        → refusal setting s c wanting ≡ Some Refusal.memory
-        → (takes_memory c ≡ true) × (wanting ≡ true) × (refusal setting s c false ≡ None) }
-    ensures word { (setting : Setting C.Code) (s : Session C.Code) (c : Command) (wanting : Bool)
-        → refusal setting s c wanting ≡ Some Refusal.word → ⊥ }
+    ensures unchanged { (setting : Setting C.Code) (s : Session C.Code) (c : Command) (starving : Bool) (why : Refusal)
+        → refusal setting s c starving ≡ Some why → step setting s c starving ≡ (s, Some (Reply.refused why)) }
+    ensures memory { (setting : Setting C.Code) (s : Session C.Code) (c : Command) (starving : Bool)
+        → refusal setting s c starving ≡ Some Refusal.memory
+        → (takes_memory c ≡ true) × (starving ≡ true) × (refusal setting s c false ≡ None) }
+    ensures word { (setting : Setting C.Code) (s : Session C.Code) (c : Command) (starving : Bool)
+        → refusal setting s c starving ≡ Some Refusal.word → ⊥ }
 {}
 
 /// Each step of a script, and its whole run, keeps the array in a state that is reached and the window in the array; nothing is dirty after a run.
 pub fn scripts_keep_states_consistent<C: Coded>()
-    ensures step { (setting : Setting C.Code) (s : Session C.Code) (c : Command) (wanting : Bool)
+    ensures step { (setting : Setting C.Code) (s : Session C.Code) (c : Command) (starving : Bool)
         → is_writable (length s.shape) c ≡ true → IsCached setting
-        → IsSound setting s → IsSound setting (step setting s c wanting).0 }
-    ensures lines { (setting : Setting C.Code) (wants : List ℕ) (k : ℕ) (lines : List (List ℕ)) (s : Session C.Code)
-        → IsCached setting → IsSound setting s → IsSound setting (run_lines setting wants k lines s).0 }
-    ensures run { (setting : Setting C.Code) (wants shape : List ℕ) (s : State C.Code) (script : List ℕ)
+        → IsSound setting s → IsSound setting (step setting s c starving).0 }
+    ensures lines { (setting : Setting C.Code) (starved : List ℕ) (k : ℕ) (lines : List (List ℕ)) (s : Session C.Code)
+        → IsCached setting → IsSound setting s → IsSound setting (run_lines setting starved k lines s).0 }
+    ensures run { (setting : Setting C.Code) (starved shape : List ℕ) (s : State C.Code) (script : List ℕ)
         → IsCached setting → IsShape shape → IsConsistent (array_format setting.coding shape) s
-        → IsSound setting (run setting wants shape s script).0 }
-    ensures flushed { (setting : Setting C.Code) (wants shape : List ℕ) (s : State C.Code) (script : List ℕ)
+        → IsSound setting (run setting starved shape s script).0 }
+    ensures flushed { (setting : Setting C.Code) (starved shape : List ℕ) (s : State C.Code) (script : List ℕ)
         → IsCached setting → IsShape shape → IsConsistent (array_format setting.coding shape) s
-        → IsEmpty (run setting wants shape s script).0.state }
+        → IsEmpty (run setting starved shape s script).0.state }
 {}
 
 /// Lines run one after the other: more lines run from where the first ones end, and their replies follow.
 pub fn lines_in_order<C: Coded>()
-    ensures { (setting : Setting C.Code) (wants : List ℕ) (k : ℕ) (lines more : List (List ℕ)) (s : Session C.Code)
-        → let first = run_lines setting wants k lines s in
-        let rest = run_lines setting wants (k + length lines) more first.0 in
-        run_lines setting wants k (lines ++ more) s ≡ (rest.0, first.1 ++ rest.1) }
+    ensures { (setting : Setting C.Code) (starved : List ℕ) (k : ℕ) (lines more : List (List ℕ)) (s : Session C.Code)
+        → let first = run_lines setting starved k lines s in
+        let rest = run_lines setting starved (k + length lines) more first.0 in
+        run_lines setting starved k (lines ++ more) s ≡ (rest.0, first.1 ++ rest.1) }
 {}
 
 /// An array of a fixed rate has the touch of a cache with one line for a block, and a code of zeros.

@@ -1,7 +1,7 @@
 -- Lemmas about coefficients, for the contracts of this crate and for the crates above.
 --     Mask         a word whose odd digits are flipped by a mask, and the number that its digits stand for
 --     ShiftedBits  bits of words that are shifted, cut and put together
---     Fronts       lists that are written from the front, place by place
+--     Prefixes       lists that are written from the front, place by place
 --     Steps        words whose bits are swapped between pairs of them
 --     Lanes        words that are swapped in lanes of two
 --     Turns        steps that together turn the tiles of words
@@ -14,7 +14,7 @@
 --     Composed     what the calls of this crate make of a block together
 pub mod Mask
 pub mod ShiftedBits
-pub mod Fronts
+pub mod Prefixes
 pub mod Steps
 pub mod Lanes
 pub mod Turns

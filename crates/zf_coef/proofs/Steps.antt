@@ -181,7 +181,7 @@ pub more_stepped : (lanes s m done : ℕ) (old mid new : List ℕ) → Paired la
     → HasStepped s m done old mid
     → IsSwapped lanes (done + done / s * s) (done + done / s * s + s) s m mid new
     → HasStepped s m (done + lanes) old new
-more_stepped lanes s m done old mid new p whole front swap =
+more_stepped lanes s m done old mid new p whole prefix swap =
     let low = done + done / s * s in
     let high = low + s in
     let kept : (j : ℕ) → ((l : ℕ) → l < lanes → pair_of s j ≢ done + l) → get_or new j 0 ≡ get_or mid j 0 =
@@ -189,13 +189,13 @@ more_stepped lanes s m done old mid new p whole front swap =
     (λ l h e. apart l h (ap (pair_of s) e ∙ p.pair_low done l whole h))
     (λ l h e. apart l h (ap (pair_of s) e ∙ p.pair_high done l whole h)) in
     let fresh_low : (l : ℕ) → l < lanes → get_or mid (low + l) 0 ≡ get_or old (low + l) 0 =
-    λ l h. front.rest (low + l) (omega (arith, p.pair_low done l whole h)) in
+    λ l h. prefix.rest (low + l) (omega (arith, p.pair_low done l whole h)) in
     let fresh_high : (l : ℕ) → l < lanes → get_or mid (high + l) 0 ≡ get_or old (high + l) 0 =
-    λ l h. front.rest (high + l) (omega (arith, p.pair_high done l whole h)) in
+    λ l h. prefix.rest (high + l) (omega (arith, p.pair_high done l whole h)) in
     record {
-      long = swap.long ∙ front.long;
+      long = swap.long ∙ prefix.long;
       lower = λ j h half. ⊎_elim
-          (λ earlier. kept j (λ l less e. absurd (omega arith)) ∙ front.lower j earlier half)
+          (λ earlier. kept j (λ l less e. absurd (omega arith)) ∙ prefix.lower j earlier half)
           (λ later.
           let l = pair_of s j - done in
           let less : l < lanes = omega arith in
@@ -208,7 +208,7 @@ more_stepped lanes s m done old mid new p whole front swap =
           ∙ ap (λ b. swapped_low s m (get_or old j 0) b) (fresh_high l less ∙ ap (λ k. get_or old k 0) above))
           (cases_lt (pair_of s j) done);
       upper = λ j h half. ⊎_elim
-          (λ earlier. kept j (λ l less e. absurd (omega arith)) ∙ front.upper j earlier half)
+          (λ earlier. kept j (λ l less e. absurd (omega arith)) ∙ prefix.upper j earlier half)
           (λ later.
           let l = pair_of s j - done in
           let less : l < lanes = omega arith in
@@ -220,18 +220,18 @@ more_stepped lanes s m done old mid new p whole front swap =
           ∙ ap (λ a. swapped_high s m a (get_or mid (high + l) 0)) (fresh_low l less ∙ ap (λ k. get_or old k 0) below)
           ∙ ap (λ b. swapped_high s m (get_or old (j - s) 0) b) (fresh_high l less ∙ ap (λ k. get_or old k 0) (sym at)))
           (cases_lt (pair_of s j) done);
-      rest = λ j h. kept j (λ l less e. absurd (omega arith)) ∙ front.rest j (omega arith);
+      rest = λ j h. kept j (λ l less e. absurd (omega arith)) ∙ prefix.rest j (omega arith);
     }
 
 -- all pairs: bits of numbers that differ in the digit at s have changed places
 pub all_stepped : (lanes s m done : ℕ) (old new : List ℕ) → Paired lanes s → IsMask s m
     → length old % (2 * s) ≡ 0 → done ≡ length old / 2 → HasStepped s m done old new → IsStepped s old new
 unfolding IsStepped
-all_stepped lanes s m done old new p mask whole all front j i below within =
+all_stepped lanes s m done old new p mask whole all prefix j i below within =
     let in_pairs : pair_of s j < done = omega (arith, p.pairs (length old) j whole below) in
     ⊎_elim
     (λ (word : j / s % 2 ≡ 0).
-    let is = front.lower j in_pairs word in
+    let is = prefix.lower j in_pairs word in
     ⊎_elim
     (λ (bit : i / s % 2 ≡ 0).
     let same : bit_at (swapped_low s m (get_or old j 0) (get_or old (j + s) 0)) i ≡ bit_of old j i = ⊎_elim
@@ -248,7 +248,7 @@ all_stepped lanes s m done old new p mask whole all front j i below within =
     (cases_eq (i / s % 2) 0))
     (λ (word : j / s % 2 ≢ 0).
     let one : j / s % 2 ≡ 1 = omega arith in
-    let is = front.upper j in_pairs one in
+    let is = prefix.upper j in_pairs one in
     ⊎_elim
     (λ (bit : i / s % 2 ≡ 0).
     let down = p.word_down j i one bit in

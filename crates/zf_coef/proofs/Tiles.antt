@@ -245,11 +245,11 @@ pub digits_of_halves : (number : ℕ) (planes : List (List ℕ)) (low high digit
     → IsOfGroup number planes digits
 unfolding IsOfGroup
 digits_of_halves number planes low high digits long is_low is_high lower upper r k h small = ⊎_elim
-    (λ (front : r < 32). ⊎_elim
-    (λ (first : k < 32). (lower r k front first).0 ∙ is_low r k front (omega arith) ∙ at 0 k k r r (omega arith) (omega arith))
+    (λ (prefix : r < 32). ⊎_elim
+    (λ (first : k < 32). (lower r k prefix first).0 ∙ is_low r k prefix (omega arith) ∙ at 0 k k r r (omega arith) (omega arith))
     (λ (second : 32 ≤ k).
     let back : k ≡ 32 + (k - 32) = omega arith in
-    ap (bit_of digits r) back ∙ (lower r (k - 32) front (omega arith)).1 ∙ is_high r (k - 32) front (omega arith) ∙ at 32 (k - 32) k r r (omega arith) (omega arith))
+    ap (bit_of digits r) back ∙ (lower r (k - 32) prefix (omega arith)).1 ∙ is_high r (k - 32) prefix (omega arith) ∙ at 32 (k - 32) k r r (omega arith) (omega arith))
     (cases_lt k 32))
     (λ (behind : 32 ≤ r).
     let row : r ≡ 32 + (r - 32) = omega arith in
@@ -277,7 +277,7 @@ pub digits_of_window : (number from : ℕ) (planes : List (List ℕ)) (words dig
     → IsOfGroup number planes digits
 unfolding IsOfGroup
 digits_of_window number from planes words digits long below above half lower upper r k h small = ⊎_elim
-    (λ (front : r < 32). digit 0 r r k front small (λ i less. omega arith) (λ i less. omega arith) (lower r front))
+    (λ (prefix : r < 32). digit 0 r r k prefix small (λ i less. omega arith) (λ i less. omega arith) (lower r prefix))
     (λ (behind : 32 ≤ r).
     let row : 32 + (r - 32) ≡ r = omega arith in
     digit 32 (r - 32) r k (omega arith) small (λ i less. omega arith) (λ i less. omega arith)
@@ -304,10 +304,10 @@ digits_of_window number from planes words digits long below above half lower upp
         (cases_lt k from)
 
 -- the first of more digits
-pub group_of_front : (number : ℕ) (planes : List (List ℕ)) (whole digits : List ℕ) → length digits ≤ length whole
+pub group_of_prefix : (number : ℕ) (planes : List (List ℕ)) (whole digits : List ℕ) → length digits ≤ length whole
     → ((r : ℕ) → r < length digits → get_or digits r 0 ≡ get_or whole r 0) → IsOfGroup number planes whole → IsOfGroup number planes digits
 unfolding IsOfGroup
-group_of_front number planes whole digits short same group r k h small = ap (λ w. bit_at w k) (same r h) ∙ group r k (omega arith) small
+group_of_prefix number planes whole digits short same group r k h small = ap (λ w. bit_at w k) (same r h) ∙ group r k (omega arith) small
 
 -- ---- whole tiles of planes
 

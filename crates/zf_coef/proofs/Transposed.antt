@@ -234,12 +234,12 @@ group_written number a k planes xs ys start count long within same_length before
       (get_or_append_left (take a xs) (ys ++ post_of a k xs) 0 r (omega (arith, length-take a xs)) ∙ get_or-take a xs r 0 earlier)
       ∙ before.each r i (omega arith) (omega arith) small)
       (λ (later : a ≤ r).
-      let front : length (take a xs) ≡ a = omega (arith, length-take a xs) in
+      let prefix : length (take a xs) ≡ a = omega (arith, length-take a xs) in
       let in_group : r - a < length ys = omega arith in
       let word : number ≡ r / 64 = omega arith in
       let place : r - a ≡ r % 64 = omega arith in
       ap (λ w. bit_at w i)
-      (get_or-append_right (take a xs) (ys ++ post_of a k xs) a r 0 front later ∙ get_or_append_left ys (post_of a k xs) 0 (r - a) in_group)
+      (get_or-append_right (take a xs) (ys ++ post_of a k xs) a r 0 prefix later ∙ get_or_append_left ys (post_of a k xs) 0 (r - a) in_group)
       ∙ group (r - a) i in_group small
       ∙ ap (λ q. bit_at (word_of planes q i) (r - a)) word
       ∙ ap (bit_at (word_of planes (r / 64) i)) place)

@@ -69,13 +69,13 @@ fn take_group<P: Plane>(planes: &[P], number: usize, digits: &mut [u64])
         _ => {
             let mut whole = [0; WORD_BITS];
             take_64(planes, number, &mut whole);
-            copy_front(&whole, digits);
+            copy_prefix(&whole, digits);
         }
     }
 }
 
 /// Copies as many words as there are digits.
-fn copy_front(words: &[u64], digits: &mut [u64])
+fn copy_prefix(words: &[u64], digits: &mut [u64])
     requires { length digits.old ≤ length words.now }
     ensures { (r : ℕ) → r < length digits.new → slice_index_or digits.new r 0 ≡ slice_index_or words.now r 0 }
 {

@@ -19,7 +19,7 @@ use Rattle.zf_cached.specs.Steps.{Setting, Session, touched, changed, changed_at
 use Rattle.zf_cached.proofs.Windows.{length-mapped, LiesIn-sliced}
 use Rattle.zf_window.specs.declared.window.ViewFault.{ViewFault}
 use Rattle.zf_window.specs.WindowFields.{view_fault}
-use Rattle.zf_commands.specs.Steps.{Does, HasWindow, Takes, wanted}
+use Rattle.zf_commands.specs.Steps.{Does, HasWindow, Takes, starves}
 use Rattle.zf_commands.proofs.Stepping.{no_split, accepted}
 
 -- ---- tests
@@ -77,8 +77,8 @@ pub taken : {Code : Type 0} (setting : Setting Code) (c : Command) (s t : Sessio
     → Takes setting s c t told
 unfolding read_step
 taken setting c s t reply told allowed does same =
-    subst (λ r. read_step setting s (Some c) (wanted r) ≡ (t, r)) (sym same)
-    (ap (λ x. elim x [ true ↦ step setting s c (wanted reply) | false ↦ (s, Some (Reply.refused Refusal.word)) ]) allowed ∙ does.step_is)
+    subst (λ r. read_step setting s (Some c) (starves r) ≡ (t, r)) (sym same)
+    (ap (λ x. elim x [ true ↦ step setting s c (starves reply) | false ↦ (s, Some (Reply.refused Refusal.word)) ]) allowed ∙ does.step_is)
 
 -- one that is not is refused
 pub not_taken : {Code : Type 0} (setting : Setting Code) (c : Command) (s : Session Code) → setting.allows c ≡ false → Takes setting s c s (Some (Reply.refused Refusal.word))

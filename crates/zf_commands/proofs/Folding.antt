@@ -14,15 +14,15 @@ use Rattle.zf_cached.specs.Replies.{Reply, reply_text}
 use Rattle.zf_cached.specs.Steps.{Setting, Session}
 use Rattle.zf_cached.specs.Runs.{lines_of, line_step, run_lines, replies_text}
 use Rattle.zf_cached.proofs.Runs.{run_lines-append}
-use Rattle.zf_commands.specs.Steps.{LeadsTo, wanted, is_want, is_refusal}
+use Rattle.zf_commands.specs.Steps.{LeadsTo, starves, is_starved, is_refusal}
 use Rattle.zf_commands.specs.Lines.{refuses, Replies, Breaks}
-use Rattle.zf_commands.specs.Runs.{AreWants, AllRun, HasStopped}
+use Rattle.zf_commands.specs.Runs.{AreStarved, AllRun, HasStopped}
 
 -- a line's number is in a list
 abbrev listed : List ℕ → ℕ → Bool
-listed wants k = list_any (λ n. eqb n k) wants
+listed starved k = list_any (λ n. eqb n k) starved
 
--- ---- which lines want memory
+-- ---- which lines are out of memory
 
 -- what is listed behind the lines that are run does not matter
 run_lines-same : {Code : Type 0} (setting : Setting Code) (xs ys : List ℕ) (k : ℕ) (lines : List (List ℕ)) (s : Session Code)
@@ -34,35 +34,35 @@ run_lines-same {Code} setting xs ys k (line ∷ lines) s same =
     let one = line_step setting s line (listed ys k) in
     ap step (same k (omega arith)) ∙ ap (λ (r : Session Code × List Reply). (r.0, option_to_list one.1 ++ r.1)) (run_lines-same setting xs ys (suc k) lines one.0 (λ n lt. same n (omega arith)))
 
--- line k wants memory too, or does not
+-- line k starved memory too, or does not
 abbrev with_line : Bool → ℕ → List ℕ → List ℕ
-with_line true k wants = k ∷ wants
-with_line false k wants = wants
+with_line true k starved = k ∷ starved
+with_line false k starved = starved
 
-with_line-before : (t : Bool) (k n : ℕ) (wants : List ℕ) → n < k → listed (with_line t k wants) n ≡ listed wants n
-with_line-before true k n wants lt = ap (λ b. b || listed wants n) (ne_eqb k n (λ e. omega (arith, e)))
-with_line-before false k n wants lt = refl
+with_line-before : (t : Bool) (k n : ℕ) (starved : List ℕ) → n < k → listed (with_line t k starved) n ≡ listed starved n
+with_line-before true k n starved lt = ap (λ b. b || listed starved n) (ne_eqb k n (λ e. omega (arith, e)))
+with_line-before false k n starved lt = refl
 
-with_line-at : (t : Bool) (k : ℕ) (wants : List ℕ) → listed wants k ≡ false → listed (with_line t k wants) k ≡ t
-with_line-at true k wants none = ap (λ b. b || listed wants k) (eq-eqb k k refl)
-with_line-at false k wants none = none
+with_line-at : (t : Bool) (k : ℕ) (starved : List ℕ) → listed starved k ≡ false → listed (with_line t k starved) k ≡ t
+with_line-at true k starved none = ap (λ b. b || listed starved k) (eq-eqb k k refl)
+with_line-at false k starved none = none
 
-with_line-behind : (t : Bool) (k n : ℕ) (wants : List ℕ) → k < n → listed wants n ≡ false → listed (with_line t k wants) n ≡ false
-with_line-behind true k n wants lt none = ap (λ b. b || listed wants n) (ne_eqb k n (λ e. omega (arith, e))) ∙ none
-with_line-behind false k n wants lt none = none
+with_line-behind : (t : Bool) (k n : ℕ) (starved : List ℕ) → k < n → listed starved n ≡ false → listed (with_line t k starved) n ≡ false
+with_line-behind true k n starved lt none = ap (λ b. b || listed starved n) (ne_eqb k n (λ e. omega (arith, e))) ∙ none
+with_line-behind false k n starved lt none = none
 
-length-with_line : (t : Bool) (k : ℕ) (wants : List ℕ) → length (with_line t k wants) ≡ length wants + cond t 1 0
-length-with_line true k wants = omega arith
-length-with_line false k wants = omega arith
+length-with_line : (t : Bool) (k : ℕ) (starved : List ℕ) → length (with_line t k starved) ≡ length starved + cond t 1 0
+length-with_line true k starved = omega arith
+length-with_line false k starved = omega arith
 
 -- ---- counts
 
 count_by-append : {X : Type 0} (p : X → Bool) (xs ys : List X) → count_by p (xs ++ ys) ≡ count_by p xs + count_by p ys
 count_by-append p xs ys = sum_by-append (λ x. cond (p x) 1 0) xs ys
 
-count-want : (reply : Option Reply) → count_by is_want (option_to_list reply) ≡ cond (wanted reply) 1 0
-count-want None = refl
-count-want (Some reply) = zero-add _
+count-starved : (reply : Option Reply) → count_by is_starved (option_to_list reply) ≡ cond (starves reply) 1 0
+count-starved None = refl
+count-starved (Some reply) = zero-add _
 
 count-refusal : (reply : Option Reply) → count_by is_refusal (option_to_list reply) ≡ cond (refuses reply) 1 0
 count-refusal None = refl
@@ -74,12 +74,12 @@ count-refusal (Some reply) = zero-add _
 pub record HasRun {Code : Type 0} (setting : Setting Code) (all left : List (List ℕ)) (start now : Session Code) (old new : Option (List ℕ)) (refused : ℕ) : Type 0 where
   pub lines : List (List ℕ)
   pub parts : all ≡ lines ++ left
-  pub wants : List ℕ
-  pub none_behind : (n : ℕ) → length lines ≤ n → listed wants n ≡ false
-  pub session : now ≡ (run_lines setting wants 0 lines start).0
-  pub wanted_are : AreWants wants (run_lines setting wants 0 lines start).1
-  pub refused_is : refused ≡ count_by is_refusal (run_lines setting wants 0 lines start).1
-  pub written : Appends old new (replies_text (run_lines setting wants 0 lines start).1)
+  pub starved : List ℕ
+  pub none_behind : (n : ℕ) → length lines ≤ n → listed starved n ≡ false
+  pub session : now ≡ (run_lines setting starved 0 lines start).0
+  pub starved_are : AreStarved starved (run_lines setting starved 0 lines start).1
+  pub refused_is : refused ≡ count_by is_refusal (run_lines setting starved 0 lines start).1
+  pub written : Appends old new (replies_text (run_lines setting starved 0 lines start).1)
 
 -- at first none
 pub none_run : {Code : Type 0} (setting : Setting Code) (all : List (List ℕ)) (start : Session Code) (known : Option (List ℕ)) → HasRun setting all all start start known known 0
@@ -87,10 +87,10 @@ unfolding run_lines
 none_run setting all start known = record {
   lines = [];
   parts = refl;
-  wants = [];
+  starved = [];
   none_behind = λ n h. refl;
   session = refl;
-  wanted_are = refl;
+  starved_are = refl;
   refused_is = refl;
   written = Appends-none known;
 }
@@ -100,88 +100,88 @@ module _ {Code : Type 0} (setting : Setting Code) (all : List (List ℕ)) (line 
   k : ℕ
   k = length run.lines
 
-  wants : List ℕ
-  wants = with_line (wanted reply) k run.wants
+  starved : List ℕ
+  starved = with_line (starves reply) k run.starved
 
-  front : List Reply
-  front = (run_lines setting run.wants 0 run.lines start).1
+  prefix : List Reply
+  prefix = (run_lines setting run.starved 0 run.lines start).1
 
   -- the lines before run as they did
-  before : run_lines setting wants 0 run.lines start ≡ run_lines setting run.wants 0 run.lines start
-  unfolding wants k
-  before = run_lines-same setting wants run.wants 0 run.lines start (λ n lt. with_line-before (wanted reply) (length run.lines) n run.wants (omega arith))
+  before : run_lines setting starved 0 run.lines start ≡ run_lines setting run.starved 0 run.lines start
+  unfolding starved k
+  before = run_lines-same setting starved run.starved 0 run.lines start (λ n lt. with_line-before (starves reply) (length run.lines) n run.starved (omega arith))
 
-  one : run_lines setting wants k (line ∷ []) now ≡ (next, option_to_list reply)
-  unfolding run_lines wants k
+  one : run_lines setting starved k (line ∷ []) now ≡ (next, option_to_list reply)
+  unfolding run_lines starved k
   one =
       let step : Bool → Session Code × List Reply = λ t. let r = line_step setting now line t in (r.0, option_to_list r.1 ++ []) in
-      ap step (with_line-at (wanted reply) (length run.lines) run.wants (run.none_behind (length run.lines) (omega arith)))
+      ap step (with_line-at (starves reply) (length run.lines) run.starved (run.none_behind (length run.lines) (omega arith)))
       ∙ ap (λ (r : Session Code × Option Reply). (r.0, option_to_list r.1 ++ [])) leads ∙ ap (λ (rs : List Reply). (next, rs)) (append-nil (option_to_list reply))
 
   -- and with this line
-  after : run_lines setting wants 0 (run.lines ++ line ∷ []) start ≡ (next, front ++ option_to_list reply)
-  unfolding front k
+  after : run_lines setting starved 0 (run.lines ++ line ∷ []) start ≡ (next, prefix ++ option_to_list reply)
+  unfolding prefix k
   after =
-      let then_one : Session Code × List Reply → Session Code × List Reply = λ r. let q = run_lines setting wants (length run.lines) (line ∷ []) r.0 in (q.0, r.1 ++ q.1) in
-      let here : Session Code → Session Code × List Reply = λ s. let q = run_lines setting wants (length run.lines) (line ∷ []) s in (q.0, front ++ q.1) in
-      let from : ℕ → Session Code × List Reply = λ n. let r = run_lines setting wants 0 run.lines start in let q = run_lines setting wants n (line ∷ []) r.0 in (q.0, r.1 ++ q.1) in
-      run_lines-append setting wants 0 run.lines (line ∷ []) start ∙ ap from (zero-add (length run.lines)) ∙ ap then_one before ∙ ap here (sym run.session) ∙ ap (λ (q : Session Code × List Reply). (q.0, front ++ q.1)) one
+      let then_one : Session Code × List Reply → Session Code × List Reply = λ r. let q = run_lines setting starved (length run.lines) (line ∷ []) r.0 in (q.0, r.1 ++ q.1) in
+      let here : Session Code → Session Code × List Reply = λ s. let q = run_lines setting starved (length run.lines) (line ∷ []) s in (q.0, prefix ++ q.1) in
+      let from : ℕ → Session Code × List Reply = λ n. let r = run_lines setting starved 0 run.lines start in let q = run_lines setting starved n (line ∷ []) r.0 in (q.0, r.1 ++ q.1) in
+      run_lines-append setting starved 0 run.lines (line ∷ []) start ∙ ap from (zero-add (length run.lines)) ∙ ap then_one before ∙ ap here (sym run.session) ∙ ap (λ (q : Session Code × List Reply). (q.0, prefix ++ q.1)) one
 
-  many : AreWants wants (front ++ option_to_list reply)
-  unfolding front wants k
-  many = omega (arith, count_by-append is_want front (option_to_list reply), count-want reply, length-with_line (wanted reply) (length run.lines) run.wants, run.wanted_are)
+  many : AreStarved starved (prefix ++ option_to_list reply)
+  unfolding prefix starved k
+  many = omega (arith, count_by-append is_starved prefix (option_to_list reply), count-starved reply, length-with_line (starves reply) (length run.lines) run.starved, run.starved_are)
 
   -- its reply is written
   pub one_more : (new : Option (List ℕ)) → Appends mid new (replies_text (option_to_list reply)) → (more : ℕ) → more ≡ refused + cond (refuses reply) 1 0 → HasRun setting all left start next old new more
-  unfolding front wants k
+  unfolding prefix starved k
   one_more new written more is = record {
     lines = run.lines ++ line ∷ [];
     parts = run.parts ∙ sym (append_assoc run.lines (line ∷ []) left);
-    wants = wants;
-    none_behind = λ n h. with_line-behind (wanted reply) (length run.lines) n run.wants (omega (arith, length-append run.lines (line ∷ []))) (run.none_behind n (omega (arith, length-append run.lines (line ∷ []))));
+    starved = starved;
+    none_behind = λ n h. with_line-behind (starves reply) (length run.lines) n run.starved (omega (arith, length-append run.lines (line ∷ []))) (run.none_behind n (omega (arith, length-append run.lines (line ∷ []))));
     session = sym (ap (λ (r : Session Code × List Reply). r.0) after);
-    wanted_are = subst (λ (r : Session Code × List Reply). AreWants wants r.1) (sym after) many;
+    starved_are = subst (λ (r : Session Code × List Reply). AreStarved starved r.1) (sym after) many;
     refused_is = is ∙ subst (λ (r : Session Code × List Reply). refused + cond (refuses reply) 1 0 ≡ count_by is_refusal r.1) (sym after)
-        (omega (arith, count_by-append is_refusal front (option_to_list reply), count-refusal reply, run.refused_is));
+        (omega (arith, count_by-append is_refusal prefix (option_to_list reply), count-refusal reply, run.refused_is));
     written = subst (λ (r : Session Code × List Reply). Appends old new (replies_text r.1)) (sym after)
-        (subst (Appends old new) (sym (flat_map-append reply_text front (option_to_list reply))) (Appends-append old mid new (replies_text front) (replies_text (option_to_list reply)) run.written written));
+        (subst (Appends old new) (sym (flat_map-append reply_text prefix (option_to_list reply))) (Appends-append old mid new (replies_text prefix) (replies_text (option_to_list reply)) run.written written));
   }
 
   -- its reply is the last one, and is not written whole
   module _ (last : Reply) (is : reply ≡ Some last) (new : Option (List ℕ)) (part : AppendsPart mid new (reply_text last)) where
-    fronts : take k all ≡ run.lines
+    prefixes : take k all ≡ run.lines
     unfolding k
-    fronts = ap (take (length run.lines)) run.parts ∙ take-append_seam run.lines (line ∷ left)
+    prefixes = ap (take (length run.lines)) run.parts ∙ take-append_seam run.lines (line ∷ left)
 
-    fronts_and_line : take (k + 1) all ≡ run.lines ++ line ∷ []
+    prefixes_and_line : take (k + 1) all ≡ run.lines ++ line ∷ []
     unfolding k
-    fronts_and_line = ap (take (length run.lines + 1)) run.parts ∙ take-append-add run.lines (line ∷ left) 1
+    prefixes_and_line = ap (take (length run.lines + 1)) run.parts ∙ take-append-add run.lines (line ∷ left) 1
 
-    first_run : run_lines setting wants 0 (take k all) start ≡ run_lines setting run.wants 0 run.lines start
-    first_run = ap (λ (ls : List (List ℕ)). run_lines setting wants 0 ls start) fronts ∙ before
+    first_run : run_lines setting starved 0 (take k all) start ≡ run_lines setting run.starved 0 run.lines start
+    first_run = ap (λ (ls : List (List ℕ)). run_lines setting starved 0 ls start) prefixes ∙ before
 
-    then_run : run_lines setting wants 0 (take (k + 1) all) start ≡ (next, front ++ option_to_list reply)
-    then_run = ap (λ (ls : List (List ℕ)). run_lines setting wants 0 ls start) fronts_and_line ∙ after
+    then_run : run_lines setting starved 0 (take (k + 1) all) start ≡ (next, prefix ++ option_to_list reply)
+    then_run = ap (λ (ls : List (List ℕ)). run_lines setting starved 0 ls start) prefixes_and_line ∙ after
 
     pub stops : (script : List ℕ) → lines_of script ≡ all → HasStopped setting script start next old new
-    unfolding front wants k
+    unfolding prefix starved k
     stops script lines =
-        let Front = λ (ls : List (List ℕ)) (n : ℕ). run_lines setting wants 0 (take n ls) start in
+        let Prefix = λ (ls : List (List ℕ)) (n : ℕ). run_lines setting starved 0 (take n ls) start in
         let k = length run.lines in
-        let first : Front (lines_of script) k ≡ run_lines setting run.wants 0 run.lines start = ap (λ (ls : List (List ℕ)). Front ls k) lines ∙ first_run in
-        let then : Front (lines_of script) (k + 1) ≡ (next, front ++ option_to_list reply) = ap (λ (ls : List (List ℕ)). Front ls (k + 1)) lines ∙ then_run in (
-          wants,
+        let first : Prefix (lines_of script) k ≡ run_lines setting run.starved 0 run.lines start = ap (λ (ls : List (List ℕ)). Prefix ls k) lines ∙ first_run in
+        let then : Prefix (lines_of script) (k + 1) ≡ (next, prefix ++ option_to_list reply) = ap (λ (ls : List (List ℕ)). Prefix ls (k + 1)) lines ∙ then_run in (
+          starved,
           record {
             at = k;
             below = omega (arith, ap length lines, ap length run.parts, length-append run.lines (line ∷ left));
             reply = last;
-            replied = ap (λ (r : Session Code × List Reply). r.1) then ∙ ap (λ (o : Option Reply). front ++ option_to_list o) is ∙ ap (λ (r : Session Code × List Reply). r.1 ++ last ∷ []) (sym first);
+            replied = ap (λ (r : Session Code × List Reply). r.1) then ∙ ap (λ (o : Option Reply). prefix ++ option_to_list o) is ∙ ap (λ (r : Session Code × List Reply). r.1 ++ last ∷ []) (sym first);
             session = sym (ap (λ (r : Session Code × List Reply). r.0) then);
-            wanted = subst (λ (r : Session Code × List Reply). AreWants wants r.1) (sym then) many;
+            starved_are = subst (λ (r : Session Code × List Reply). AreStarved starved r.1) (sym then) many;
             count = part.0;
             not_whole = part.1;
             written = subst (λ (r : Session Code × List Reply). Appends old new (replies_text r.1 ++ take part.0 (reply_text last))) (sym first)
-                (Appends-append old mid new (replies_text front) (take part.0 (reply_text last)) run.written part.2);
+                (Appends-append old mid new (replies_text prefix) (take part.0 (reply_text last)) run.written part.2);
           },
         )
 
@@ -190,11 +190,11 @@ pub all_run : {Code : Type 0} (setting : Setting Code) (script : List ℕ) (all 
     → lines_of script ≡ all → HasRun setting all [] start now old new refused → AllRun setting script start now old new refused
 all_run {Code} setting script all start now old new refused lines run =
     let same : run.lines ≡ lines_of script = sym (append-nil run.lines) ∙ sym run.parts ∙ sym lines in
-    let Ran = λ (ls : List (List ℕ)). run_lines setting run.wants 0 ls start in (
-      run.wants,
+    let Ran = λ (ls : List (List ℕ)). run_lines setting run.starved 0 ls start in (
+      run.starved,
       record {
         session = run.session ∙ ap (λ (ls : List (List ℕ)). (Ran ls).0) same;
-        wanted = subst (λ (ls : List (List ℕ)). AreWants run.wants (Ran ls).1) same run.wanted_are;
+        starved_are = subst (λ (ls : List (List ℕ)). AreStarved run.starved (Ran ls).1) same run.starved_are;
         refused_is = run.refused_is ∙ ap (λ (ls : List (List ℕ)). count_by is_refusal (Ran ls).1) same;
         written = subst (λ (ls : List (List ℕ)). Appends old new (replies_text (Ran ls).1)) same run.written;
       },

@@ -8,7 +8,7 @@ use Rattle.zf_cached.specs.Runs.{line_step, read_step}
 use Rattle.zf_script.specs.declared.reply.Refusal.{Refusal}
 use Rattle.zf_script.specs.declared.reply.Refusal.TheVariants.{Word}
 use Rattle.zf_script.specs.Seen.{refusal_of}
-use Rattle.zf_commands.specs.Steps.{Takes, LeadsTo, wanted}
+use Rattle.zf_commands.specs.Steps.{Takes, LeadsTo, starves}
 
 module _ {Code : Type 0} (setting : Setting Code) (s : Session Code) where
   pub line_empty : (line : List ℕ) → length line ≡ 0 → LeadsTo setting s line s None
@@ -16,14 +16,14 @@ module _ {Code : Type 0} (setting : Setting Code) (s : Session Code) where
   line_empty [] none = refl
   line_empty (b ∷ bs) none = absurd (omega arith)
 
-  read_as : (line : List ℕ) (d : ℕ) (o : Option Command) (wanting : Bool) → 0 < length line → d ≡ length s.shape → read_line d line ≡ o → line_step setting s line wanting ≡ read_step setting s o wanting
+  read_as : (line : List ℕ) (d : ℕ) (o : Option Command) (starving : Bool) → 0 < length line → d ≡ length s.shape → read_line d line ≡ o → line_step setting s line starving ≡ read_step setting s o starving
   unfolding line_step
-  read_as [] d o wanting some dims is = absurd (omega arith)
-  read_as (b ∷ bs) d o wanting some dims is = ap (λ x. read_step setting s x wanting) (ap (λ n. read_line n (b ∷ bs)) (sym dims) ∙ is)
+  read_as [] d o starving some dims is = absurd (omega arith)
+  read_as (b ∷ bs) d o starving some dims is = ap (λ x. read_step setting s x starving) (ap (λ n. read_line n (b ∷ bs)) (sym dims) ∙ is)
 
   pub line_read : (line : List ℕ) (d : ℕ) (c : Command) (t : Session Code) (reply : Option script.Reply) → 0 < length line → d ≡ length s.shape → read_line d line ≡ Some c
       → Takes setting s c t reply → LeadsTo setting s line t reply
-  line_read line d c t reply some dims is takes = read_as line d (Some c) (wanted reply) some dims is ∙ takes
+  line_read line d c t reply some dims is takes = read_as line d (Some c) (starves reply) some dims is ∙ takes
 
   pub line_not_read : (line : List ℕ) (d : ℕ) (why : Refusal) → 0 < length line → d ≡ length s.shape → read_line d line ≡ None → why ≡ Word
       → LeadsTo setting s line s (Some (script.Reply.refused (refusal_of why)))

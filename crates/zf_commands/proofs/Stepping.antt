@@ -5,7 +5,7 @@ use Rattle.zf_cached.specs.Replies.{Refusal, Reply}
 use Rattle.zf_cached.specs.Steps.{Setting, Session, needs_split, refuses_split, refuses_size, refuses_range, refuses_value, takes_memory, refusal, done}
 use Rattle.zf_cached.proofs.Runs.{step-refused}
 use Rattle.zf_cached.proofs.Sessions.{first_refusal, step_by}
-use Rattle.zf_commands.specs.Steps.{Does, HasWindow, wanted}
+use Rattle.zf_commands.specs.Steps.{Does, HasWindow, starves}
 
 -- no test of a split fails where there is none, and none is needed
 pub no_split : {Code : Type 0} (s : Session Code) (c : Command) → s.split ≡ None → needs_split c ≡ false → refuses_split s c ≡ false
@@ -20,9 +20,9 @@ refused_split setting c s lies split = record {
 }
 
 module _ {Code : Type 0} (setting : Setting Code) (c : Command) (s : Session Code) (lies : HasWindow s) (there : refuses_split s c ≡ false) where
-  refused : (why : Refusal) → refusal setting s c (wanted (Some (Reply.refused why))) ≡ Some why → Does setting c s s (Some (Reply.refused why))
+  refused : (why : Refusal) → refusal setting s c (starves (Some (Reply.refused why))) ≡ Some why → Does setting c s s (Some (Reply.refused why))
   refused why e = record {
-    step_is = step-refused setting s c (wanted (Some (Reply.refused why))) why e;
+    step_is = step-refused setting s c (starves (Some (Reply.refused why))) why e;
     inside = lies;
   }
 
@@ -38,7 +38,7 @@ module _ {Code : Type 0} (setting : Setting Code) (c : Command) (s : Session Cod
   unfolding refusal
   refused_value size range value = refused Refusal.value (λ i. first_refusal (there i) (size i) (range i) (value i) (takes_memory c && false))
 
-  -- memory is wanting, after all other tests
+  -- out of memory, after all other tests
   pub refused_memory : refuses_size setting s c ≡ false → refuses_range s c ≡ false → refuses_value setting.width c ≡ false → takes_memory c ≡ true
       → Does setting c s s (Some (Reply.refused Refusal.memory))
   unfolding refusal
@@ -46,17 +46,17 @@ module _ {Code : Type 0} (setting : Setting Code) (c : Command) (s : Session Cod
 
   -- a command that passes all tests
   module _ (size : refuses_size setting s c ≡ false) (range : refuses_range s c ≡ false) (value : refuses_value setting.width c ≡ false)
-      (t : Session Code) (reply : Option Reply) (none : wanted reply ≡ false) (done_is : done setting s c ≡ (t, reply)) where
-    passes : refusal setting s c (wanted reply) ≡ None
+      (t : Session Code) (reply : Option Reply) (none : starves reply ≡ false) (done_is : done setting s c ≡ (t, reply)) where
+    passes : refusal setting s c (starves reply) ≡ None
     unfolding refusal
-    passes = (λ i. first_refusal (there i) (size i) (range i) (value i) (takes_memory c && none i)) ∙ no_want (takes_memory c)
+    passes = (λ i. first_refusal (there i) (size i) (range i) (value i) (takes_memory c && none i)) ∙ not_starved (takes_memory c)
       where
-        no_want : (t : Bool) → first_refusal false false false false (t && false) ≡ None
-        no_want true = refl
-        no_want false = refl
+        not_starved : (t : Bool) → first_refusal false false false false (t && false) ≡ None
+        not_starved true = refl
+        not_starved false = refl
 
     pub accepted : HasWindow t → Does setting c s t reply
     accepted inside = record {
-      step_is = step_by setting s c (wanted reply) (λ r. r ≡ (t, reply)) (λ why e. absurd (let f : Some why ≡ None = sym e ∙ passes in cc)) (λ e. done_is);
+      step_is = step_by setting s c (starves reply) (λ r. r ≡ (t, reply)) (λ why e. absurd (let f : Some why ≡ None = sym e ∙ passes in cc)) (λ e. done_is);
       inside = inside;
     }

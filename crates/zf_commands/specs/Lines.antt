@@ -1,4 +1,4 @@
--- A line of a script and the reply that is written. What a sink tells of its bytes is `Some`, else `None`.
+-- A line of a script and the reply that is written. What a sink exposes of its bytes is `Some`, else `None`.
 use Rattle.std.specs.Prelude.{ℕ, ◌≡◌, Bool, false, List, Option, Some, None}
 use Rattle.std.specs.Option.{option_to_list}
 use Rattle.zf_dev.specs.Sink.{Appends, AppendsPart}

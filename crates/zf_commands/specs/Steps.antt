@@ -16,15 +16,15 @@ abbrev pub is_refusal : script.Reply → Bool
 is_refusal (script.Reply.refused why) = true
 is_refusal reply = false
 
--- it says that memory was wanting
-abbrev pub is_want : script.Reply → Bool
-is_want (script.Reply.refused script.Refusal.memory) = true
-is_want reply = false
+-- it says that the line was out of memory
+abbrev pub is_starved : script.Reply → Bool
+is_starved (script.Reply.refused script.Refusal.memory) = true
+is_starved reply = false
 
--- memory was wanting at a line with this reply, if any
-abbrev pub wanted : Option script.Reply → Bool
-wanted None = false
-wanted (Some reply) = is_want reply
+-- a line with this reply, if any, was out of memory
+abbrev pub starved_are : Option script.Reply → Bool
+starves None = false
+starves (Some reply) = is_starved reply
 
 -- a reply, if any, as the language has it
 abbrev pub said : Option Reply → Option script.Reply
@@ -41,15 +41,15 @@ HasWindow s = LiesIn s.shape s.window
 
 -- a command leads from one session to another, and this is its reply, if any
 abbrev pub Takes : {Code : Type 0} → Setting Code → Session Code → Command → Session Code → Option script.Reply → Type 0
-Takes setting s c t reply = read_step setting s (Some c) (wanted reply) ≡ (t, reply)
+Takes setting s c t reply = read_step setting s (Some c) (starves reply) ≡ (t, reply)
 
 -- a line leads from one session to another, and this is its reply, if any
 abbrev pub LeadsTo : {Code : Type 0} → Setting Code → Session Code → List ℕ → Session Code → Option script.Reply → Type 0
-LeadsTo setting s line t reply = line_step setting s line (wanted reply) ≡ (t, reply)
+LeadsTo setting s line t reply = line_step setting s line (starves reply) ≡ (t, reply)
 
 -- a command leads from one session to another, whether or not it is allowed, and this is its answer
 pub record Does {Code : Type 0} (setting : Setting Code) (c : Command) (s t : Session Code) (reply : Option script.Reply) : Type 0 where
-  pub step_is : step setting s c (wanted reply) ≡ (t, reply)
+  pub step_is : step setting s c (starves reply) ≡ (t, reply)
   pub inside : HasWindow t
 
 -- a command that does not look at the window, and keeps it: an array through each window before, and the array after

@@ -4,22 +4,22 @@ use Rattle.std.proofs.lemmas.List.{length-take, length-take-le, length-drop, tak
 use Rattle.std.proofs.Math.Seq.{take-append-add, drop-append-add}
 use borrow.Rule.Slice.PartMut.{put_mid}
 
--- the front after one more piece: `part` stands from `at` on, for `room` bytes
+-- the prefix after one more piece: `part` stands from `at` on, for `room` bytes
 pub take-put_mid_part : (buf part : List ℕ) (at room count : ℕ) → at ≤ length buf → count ≤ length part → take (at + count) (put_mid at room buf part) ≡ take at buf ++ take count part
 take-put_mid_part buf part at room count in_buf in_part =
-    let front = take at buf in
+    let prefix = take at buf in
     let past = drop room (drop at buf) in
-    ap (λ n. take (n + count) (front ++ (part ++ past))) (sym (length-take-le at buf in_buf))
-    ∙ (take-append-add front (part ++ past) count ∙ ap (λ piece. front ++ piece) (take-append-le count part past in_part))
+    ap (λ n. take (n + count) (prefix ++ (part ++ past))) (sym (length-take-le at buf in_buf))
+    ∙ (take-append-add prefix (part ++ past) count ∙ ap (λ piece. prefix ++ piece) (take-append-le count part past in_part))
 
 -- what stays behind it
 pub drop-put_mid_part : (buf part : List ℕ) (at room count : ℕ) → at ≤ length buf → count ≤ length part → length buf ≤ at + room → drop (at + count) (put_mid at room buf part) ≡ drop count part
 drop-put_mid_part buf part at room count in_buf in_part to_end =
-    let front = take at buf in
+    let prefix = take at buf in
     let past = drop room (drop at buf) in
     let nothing : past ≡ [] = drop_all room (drop at buf) (omega (arith, length-drop at buf)) in
-    ap (λ n. drop (n + count) (front ++ (part ++ past))) (sym (length-take-le at buf in_buf))
-    ∙ (drop-append-add front (part ++ past) count ∙ (ap (λ rest. drop count (part ++ rest)) nothing ∙ ap (λ rest. drop count rest) (append-nil part)))
+    ap (λ n. drop (n + count) (prefix ++ (part ++ past))) (sym (length-take-le at buf in_buf))
+    ∙ (drop-append-add prefix (part ++ past) count ∙ (ap (λ rest. drop count (part ++ rest)) nothing ∙ ap (λ rest. drop count rest) (append-nil part)))
 
 -- where a piece leaves its own rest, the whole buffer keeps its rest
 pub rest_more : (start buf part : List ℕ) (at count : ℕ) → at ≤ length buf → count ≤ length part → drop at buf ≡ drop at start → drop count part ≡ drop count (take (length buf - at) (drop at buf))
@@ -34,7 +34,7 @@ end_in_range bytes at count in_range within =
     omega (arith, length-take (length bytes - at) (drop at bytes), length-drop at bytes)
 
 -- a copy of the first `count` bytes of what is left, in front of the rest of a buffer: these bytes, and what is then left
-pub copied_front : (left piece rest : List ℕ) (count : ℕ) → count ≤ length left → piece ≡ take count left → left ≡ take count (piece ++ rest) ++ drop count left
-copied_front left piece rest count in_range copied =
+pub copied_prefix : (left piece rest : List ℕ) (count : ℕ) → count ≤ length left → piece ≡ take count left → left ≡ take count (piece ++ rest) ++ drop count left
+copied_prefix left piece rest count in_range copied =
     let full : length piece ≡ count = ap length copied ∙ length-take-le count left in_range in
-    sym (take-append-drop count left) ∙ ap (λ front. front ++ drop count left) (sym copied ∙ sym (take_at piece rest count full))
+    sym (take-append-drop count left) ∙ ap (λ prefix. prefix ++ drop count left) (sym copied ∙ sym (take_at piece rest count full))

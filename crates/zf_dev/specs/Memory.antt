@@ -43,7 +43,7 @@ pub record SinkState : Type 0 where
   pub call : ℕ
   -- how many calls failed
   pub faults : ℕ
-  -- how many of these failed for want of memory
+  -- how many of these failed, as they were out of memory
   pub starved : ℕ
 
 -- the sink after a call that took these bytes
@@ -58,9 +58,9 @@ sink_after_flush sink = record sink { call = next_count sink.call }
 abbrev pub sink_after_fault : SinkState → SinkState
 sink_after_fault sink = record sink { call = next_count sink.call; faults = next_count sink.faults }
 
--- the sink after a call that failed for want of memory
-abbrev pub sink_after_want : SinkState → SinkState
-sink_after_want sink = record sink { call = next_count sink.call; faults = next_count sink.faults; starved = next_count sink.starved }
+-- the sink after a call that failed, out of memory
+abbrev pub sink_after_starving : SinkState → SinkState
+sink_after_starving sink = record sink { call = next_count sink.call; faults = next_count sink.faults; starved = next_count sink.starved }
 
 -- what a shelf in memory holds: its files by name
 abbrev pub shelf_files : MemShelf → Files
@@ -78,11 +78,11 @@ shelf_call shelf = shelf.call
 abbrev pub shelf_faults : MemShelf → ℕ
 shelf_faults shelf = shelf.faults
 
--- how many of these, all of them saves, failed for want of memory
+-- how many of these, all of them saves, failed, out of memory
 abbrev pub shelf_starved : MemShelf → ℕ
 shelf_starved shelf = shelf.starved
 
--- one more load or save was counted, and so many faults and wants
+-- one more load or save was counted, and so many faults, and faults out of memory
 pub record Counts (before now : MemShelf) (faults starved : ℕ) : Type 0 where
   pub fail : shelf_fail now ≡ shelf_fail before
   pub call : shelf_call now ≡ next_count (shelf_call before)
@@ -97,6 +97,6 @@ CountsCall before now = Counts before now (shelf_faults before) (shelf_starved b
 abbrev pub CountsFault : MemShelf → MemShelf → Type 0
 CountsFault before now = Counts before now (next_count (shelf_faults before)) (shelf_starved before)
 
--- one that failed for want of memory
-abbrev pub CountsWant : MemShelf → MemShelf → Type 0
-CountsWant before now = Counts before now (next_count (shelf_faults before)) (next_count (shelf_starved before))
+-- one that failed, out of memory
+abbrev pub CountsStarved : MemShelf → MemShelf → Type 0
+CountsStarved before now = Counts before now (next_count (shelf_faults before)) (next_count (shelf_starved before))

@@ -1,4 +1,4 @@
--- What a shelf holds: files by name, `Some` where the shelf tells them, and it then goes on telling them.
+-- What a shelf holds: files by name, `Some` where the shelf exposes them, and it then goes on exposing them.
 use Rattle.std.specs.Prelude.{◌≡◌, ◌≢◌, ℕ, ◌<◌, List, length, Option, Some, None}
 use Rattle.zf_dev.specs.declared.faults.LoadError.{LoadError}
 use Rattle.zf_dev.specs.declared.faults.LoadError.TheVariants.{Missing, Long, Failed, Memory}

@@ -1,4 +1,4 @@
--- What is taken from a source. The bytes still to come are `Some` where the source tells them, and it then goes on telling them.
+-- What is taken from a source. The bytes still to come are `Some` where the source exposes them, and it then goes on exposing them.
 use Rattle.std.specs.Prelude.{◌≡◌, ℕ, ◌<◌, ◌≤◌, ◌↔◌, min, List, [], ◌++◌, length, Option, Some, None}
 
 -- the bytes to come began with these, which are gone

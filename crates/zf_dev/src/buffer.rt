@@ -118,7 +118,7 @@ impl Buffer {
         Ok(count)
     }
 
-    /// Gives the first bytes that are held, as many as there is room for, into the front of `buf`, and says how many.
+    /// Gives the first bytes that are held, as many as there is room for, into the start of `buf`, and says how many.
     pub(crate) fn give(&mut self, buf: &mut [u8]) -> usize
         ensures count { result ≡ min (length self.old) (length buf.old) }
         ensures given { self.old ≡ take result buf.new ++ self.new }

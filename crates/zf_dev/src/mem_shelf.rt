@@ -3,7 +3,7 @@
 ghost use Rattle.std.specs.Prelude.{◌≡◌, ◌≢◌, ℕ, ◌<◌, ◌≤◌, ◌↔◌, List, [], length, None, Some, Err, IsErr, IfOk, IfErr, IfSome, IfNone, OnOk, OnErr, Contains};
 ghost use Rattle.zf_dev.specs.declared.faults.LoadError.TheVariants as loading;
 ghost use Rattle.zf_dev.specs.Faults.{HasCause, next_count};
-ghost use Rattle.zf_dev.specs.Memory.{shelf_files, shelf_fail, shelf_call, shelf_faults, shelf_starved, CountsCall, CountsFault, CountsWant};
+ghost use Rattle.zf_dev.specs.Memory.{shelf_files, shelf_fail, shelf_call, shelf_faults, shelf_starved, CountsCall, CountsFault, CountsStarved};
 ghost use Rattle.zf_dev.specs.Shelf.{HasFile, ExplainsLoad, KeepsFiles, KeepsOthers, SavesFile};
 
 use crate::faults::raise;
@@ -129,7 +129,7 @@ impl Shelf for MemShelf {
         ensures counts { OnOk result (CountsCall self.old self.new) }
         ensures listed { Contains (shelf_fail self.old) (shelf_call self.old) → IsErr result × CountsFault self.old self.new }
         // Any other save fails only as memory ran out, and counts that.
-        ensures starved { OnErr result (¬ Contains (shelf_fail self.old) (shelf_call self.old) → CountsWant self.old self.new) }
+        ensures starved { OnErr result (¬ Contains (shelf_fail self.old) (shelf_call self.old) → CountsStarved self.old self.new) }
         // A file in memory is never half saved.
         ensures err { OnErr result (KeepsFiles (Some (shelf_files self.old)) (Some (shelf_files self.new))) }
 

@@ -2,7 +2,7 @@
 
 ghost use Rattle.std.specs.Prelude.{◌≡◌, ℕ, ◌<◌, ◌≤◌, ◌↔◌, min, List, [], ◌++◌, length, take, drop, Some, IsTrue, IsOk, IsErr, IfOk, OnOk, OnErr, Contains};
 ghost use Rattle.zf_dev.specs.Faults.{HasCause};
-ghost use Rattle.zf_dev.specs.Memory.{given_count, source_after_read, source_after_fault, sink_after_write, sink_after_flush, sink_after_fault, sink_after_want};
+ghost use Rattle.zf_dev.specs.Memory.{given_count, source_after_read, source_after_fault, sink_after_write, sink_after_flush, sink_after_fault, sink_after_starving};
 ghost use Rattle.zf_dev.specs.Sink.{Appends};
 ghost use Rattle.zf_dev.specs.Source.{Takes, EndsAt};
 
@@ -213,7 +213,7 @@ impl Sink for MemSink {
         ensures ok { IfOk result (λ n. self.new ≡ sink_after_write self.old (take n bytes.now)) }
         ensures listed { Contains self.old.fail self.old.call → IsErr result × (self.new ≡ sink_after_fault self.old) }
         // Any other call fails only as memory ran out, and counts that.
-        ensures starved { OnErr result (¬ Contains self.old.fail self.old.call → self.new ≡ sink_after_want self.old) }
+        ensures starved { OnErr result (¬ Contains self.old.fail self.old.call → self.new ≡ sink_after_starving self.old) }
 
         // Those of the trait.
         ensures some { IfOk result (λ n. 0 < n) }

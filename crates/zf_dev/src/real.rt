@@ -1,4 +1,4 @@
-//! Devices over the streams of the system. Their bytes are those of the stream, where it tells them, as one in memory
+//! Devices over the streams of the system. Their bytes are those of the stream, where it exposes them, as one in memory
 //! does, and those that the device holds: before what is still to come from a source, and behind what went to a sink.
 
 ghost use Rattle.std.specs.Prelude.{◌≡◌, ◌<◌, ◌≤◌, ◌↔◌, List, [], length, take, drop, Ok, IsTrue, IsErr, IfOk, OnOk, OnErr};

@@ -147,7 +147,7 @@ fn load_error(error: io::Error) -> LoadError
 }
 
 // Puts a new file in the place of the one of this name. A name that was not loaded needs memory for its text,
-// before anything is written; want of it is an error as each other one.
+// before anything is written; to be out of it is an error as each other one.
 fn replace_file<R: Files<File = File> + Clock>(
     alloc: Global,
     system: &R,

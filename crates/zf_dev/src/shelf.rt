@@ -10,7 +10,7 @@ use std::alloc::Global;
 
 /// Files by name, each loaded and saved as a whole.
 pub trait Shelf {
-    /// The files, where the shelf tells them.
+    /// The files, where the shelf exposes them.
     ghost files: { Self → Option Files };
 
     /// How many faults there were. It stands still at the last value of a `u64`.

@@ -2,7 +2,7 @@
 
 ghost use Rattle.std.specs.Prelude.{◌≡◌, ℕ, ◌<◌, ◌≤◌, List, [], Option, length, take, IsErr, IfOk, OnOk, OnErr};
 ghost use Rattle.zf_dev.specs.Faults.{HasCause};
-ghost use Rattle.zf_dev.specs.Sink.{Appends, AppendsFront, AppendsPart};
+ghost use Rattle.zf_dev.specs.Sink.{Appends, AppendsPrefix, AppendsPart};
 
 use crate::Failed;
 
@@ -11,7 +11,7 @@ pub trait Sink {
     /// What every call leaves as it is: of a sink that borrows another, which one that is.
     ghost Kept: { Type 0 };
 
-    /// The bytes written, where the sink tells them.
+    /// The bytes written, where the sink exposes them.
     ghost contents: { Self → Option (List ℕ) };
 
     /// How many faults there were. It stands still at the last value of a `u64`.
@@ -48,7 +48,7 @@ pub trait Sink {
 pub fn write_all<O: Sink>(out: &mut O, bytes: &[u8]) -> Result<(), Failed>
     ensures all { OnOk result (Appends (O.contents out.old) (O.contents out.new) bytes.now) }
     ensures part { OnErr result (AppendsPart (O.contents out.old) (O.contents out.new) bytes.now) }
-    ensures front { AppendsFront (O.contents out.old) (O.contents out.new) bytes.now }
+    ensures prefix { AppendsPrefix (O.contents out.old) (O.contents out.new) bytes.now }
     ensures unchanged { OnOk result (O.faults out.new ≡ O.faults out.old) }
     ensures same_sink { O.kept out.new ≡ O.kept out.old }
     ensures cause { HasCause (IsErr result) (O.faults out.old) (O.faults out.new) }

@@ -11,7 +11,7 @@ pub trait Source {
     /// What every call leaves as it is: of a source that borrows another, which one that is.
     ghost Kept: { Type 0 };
 
-    /// The bytes still to come, where the source tells them.
+    /// The bytes still to come, where the source exposes them.
     ghost contents: { Self → Option (List ℕ) };
 
     /// How many faults there were. It stands still at the last value of a `u64`.

@@ -1,9 +1,9 @@
-//! Devices in memory, and the adapters over streams that tell their bytes, break or are interrupted.
+//! Devices in memory, and the adapters over streams that expose their bytes, break or are interrupted.
 
 ghost use Rattle.std.specs.Prelude.{◌≡◌, ℕ, ◌<◌, ◌≤◌, ◌++◌, min, List, length, take, IsOk, IfOk, OnOk};
 ghost use Rattle.zf_dev.specs.Faults.{IsQuiet};
 ghost use Rattle.zf_dev.specs.Real.{sink_stream, sink_held};
-ghost use Rattle.zf_dev.specs.Sink.{Appends, AppendsFront};
+ghost use Rattle.zf_dev.specs.Sink.{Appends, AppendsPrefix};
 ghost use Rattle.zf_dev.specs.Source.{Takes, IsAtEnd};
 
 use std::io;
@@ -19,10 +19,10 @@ fn copy_once<S: Source, O: Sink>(src: &mut S, out: &mut O, buf: &mut [u8]) -> Re
         × Takes (S.contents src.old) (S.contents src.new) bytes
         × Appends (O.contents out.old) (O.contents out.new) bytes) }
     ensures end { IfOk result (λ n. n < length buf.old → IsAtEnd (S.contents src.new)) }
-    // After a fault too, what was written is a front of what was taken.
+    // After a fault too, what was written is a prefix of what was taken.
     ensures part { (bytes : List ℕ) × (length bytes ≤ length buf.old)
         × Takes (S.contents src.old) (S.contents src.new) bytes
-        × AppendsFront (O.contents out.old) (O.contents out.new) bytes }
+        × AppendsPrefix (O.contents out.old) (O.contents out.new) bytes }
     ensures quiet { IsQuiet (S.faults src.old) (S.faults src.new)
         → IsQuiet (O.faults out.old) (O.faults out.new) → IsOk result }
 {
@@ -108,7 +108,7 @@ fn a_listed_call_fails_and_the_next_goes_on(rt: HostRuntime) -> Result<(), Fail>
     Ok(())
 }
 
-// Over streams that tell their bytes the adapters are exact: a reader in memory, and a writer.
+// Over streams that expose their bytes the adapters are exact: a reader in memory, and a writer.
 fn first_bytes(text: &[u8], buf: &mut [u8]) -> Result<usize, Failed>
     ensures count { IfOk result (λ n. n ≡ min (length buf.old) (length text.now)) }
     ensures bytes { IfOk result (λ n. (rest : List ℕ) × (text.now ≡ take n buf.new ++ rest)) }

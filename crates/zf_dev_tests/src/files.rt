@@ -74,7 +74,7 @@ fn a_shelf_in_memory_keeps_files_and_counts_calls(rt: HostRuntime) -> Result<(),
 // Where memory is refused, a save is a fault of its own kind and leaves the file, and a load says that there
 // was none.
 #[test]
-fn want_of_memory_is_told_apart(rt: HostRuntime) -> Result<(), Fail> {
+fn out_of_memory_is_told_apart(rt: HostRuntime) -> Result<(), Fail> {
     let alloc = rt.alloc();
     let mut shelf = MemShelf::new(alloc, Vec::new(alloc));
     let is_saved = shelf.save("a", b"first").is_ok();

@@ -14,7 +14,7 @@ use Rattle.zf_base.specs.declared.shape.ShapeFault.TheVariants as shape
 use Rattle.zf_base.specs.Shapes.{shape_fault}
 use Rattle.zf_header.specs.declared.header.HeaderFault.{HeaderFault}
 use Rattle.zf_header.specs.HeaderFields.{number_at, size_in, dims_in, sizes_in}
-use Rattle.zf_header.specs.HeaderFaults.{first_fault, front_faults, size_faults, mode_faults, header_fault}
+use Rattle.zf_header.specs.HeaderFaults.{first_fault, prefix_faults, size_faults, mode_faults, header_fault}
 use Rattle.zf_header.proofs.Bits.{number_at_below}
 
 -- ---- the first of several
@@ -35,21 +35,21 @@ first_fault-none (line ∷ a) b e =
       | false ↦ λ h. first_fault-none a b h
     ] e
 
-pub front_fault : (bytes : List ℕ) (f : HeaderFault) → Some f ≡ first_fault (front_faults bytes) → Some f ≡ header_fault bytes
+pub prefix_fault : (bytes : List ℕ) (f : HeaderFault) → Some f ≡ first_fault (prefix_faults bytes) → Some f ≡ header_fault bytes
 unfolding header_fault
-front_fault bytes f e =
-    first_fault-some (front_faults bytes ++ size_faults bytes) (mode_faults bytes) f (first_fault-some (front_faults bytes) (size_faults bytes) f e)
+prefix_fault bytes f e =
+    first_fault-some (prefix_faults bytes ++ size_faults bytes) (mode_faults bytes) f (first_fault-some (prefix_faults bytes) (size_faults bytes) f e)
 
-pub size_fault : (bytes : List ℕ) (f : HeaderFault) → None ≡ first_fault (front_faults bytes) → Some f ≡ first_fault (size_faults bytes) → Some f ≡ header_fault bytes
+pub size_fault : (bytes : List ℕ) (f : HeaderFault) → None ≡ first_fault (prefix_faults bytes) → Some f ≡ first_fault (size_faults bytes) → Some f ≡ header_fault bytes
 unfolding header_fault
-size_fault bytes f front e =
-    first_fault-some (front_faults bytes ++ size_faults bytes) (mode_faults bytes) f (e ∙ first_fault-none (front_faults bytes) (size_faults bytes) front)
+size_fault bytes f prefix e =
+    first_fault-some (prefix_faults bytes ++ size_faults bytes) (mode_faults bytes) f (e ∙ first_fault-none (prefix_faults bytes) (size_faults bytes) prefix)
 
--- where the front and the size are good, the mode decides
-pub mode_fault : (bytes : List ℕ) → None ≡ first_fault (front_faults bytes) → None ≡ first_fault (size_faults bytes) → first_fault (mode_faults bytes) ≡ header_fault bytes
+-- where the prefix and the size are good, the mode decides
+pub mode_fault : (bytes : List ℕ) → None ≡ first_fault (prefix_faults bytes) → None ≡ first_fault (size_faults bytes) → first_fault (mode_faults bytes) ≡ header_fault bytes
 unfolding header_fault
-mode_fault bytes front size =
-    first_fault-none (front_faults bytes ++ size_faults bytes) (mode_faults bytes) (size ∙ first_fault-none (front_faults bytes) (size_faults bytes) front)
+mode_fault bytes prefix size =
+    first_fault-none (prefix_faults bytes ++ size_faults bytes) (mode_faults bytes) (size ∙ first_fault-none (prefix_faults bytes) (size_faults bytes) prefix)
 
 -- ---- sizes from fields
 

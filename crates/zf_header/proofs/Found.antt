@@ -91,7 +91,7 @@ mode_back bytes enough (long begun more is_rate) =
 joined : (s more : List Bool) → take 24 s ++ take 8 (drop 24 s) ++ take 2 (drop 32 s) ++ take 2 (drop 34 s) ++ take 48 (drop 36 s) ++ take 12 (drop 84 s) ++ more ≡ take 96 s ++ more
 joined s more = rw (take-add 24 8 s, take-add 32 2 s, take-add 34 2 s, take-add 36 48 s, take-add 84 12 s) refl
 
--- a front of the bits is the front of its length
+-- a prefix of the bits is the prefix of its length
 begins : (bytes : List ℕ) (h : Header) (n : ℕ) → n ≤ length (to_bits bytes) → header_bits h ≡ take n (to_bits bytes) → BeginsWith bytes h
 begins bytes h n within is =
     let count : length (header_bits h) ≡ n = ap length is ∙ length-take-le n (to_bits bytes) within in

@@ -7,7 +7,7 @@ use Rattle.zf_spec.specs.Grid.{product, max_values}
 use Rattle.zf_spec.specs.Stream.{magic, codec, to_bits}
 use Rattle.zf_header.specs.declared.header.HeaderFault.{HeaderFault}
 use Rattle.zf_header.specs.HeaderFields.{magic_in, codec_in, type_in, dims_in, sizes_in, mode_in, is_long_rate}
-use Rattle.zf_header.specs.HeaderFaults.{first_fault, front_faults, size_faults, mode_faults, header_fault}
+use Rattle.zf_header.specs.HeaderFaults.{first_fault, prefix_faults, size_faults, mode_faults, header_fault}
 use Rattle.zf_header.proofs.Bits.{number_at_below}
 
 -- no line holds
@@ -70,7 +70,7 @@ good_mode bytes none small =
 pub good : (bytes : List ℕ) → None ≡ header_fault bytes → Good bytes
 unfolding header_fault
 good bytes none =
-    let lines = all_false (front_faults bytes ++ size_faults bytes ++ mode_faults bytes) none in
+    let lines = all_false (prefix_faults bytes ++ size_faults bytes ++ mode_faults bytes) none in
     record {
       enough = ltb-false _ _ lines.0;
       is_magic = not_false _ _ lines.1.0;
@@ -115,5 +115,5 @@ pub no_fault_of_good : (bytes : List ℕ) → Good bytes → None ≡ header_fau
 unfolding header_fault
 no_fault_of_good bytes g =
     let known = ap (λ c. c == 5 || c == 69) g.is_codec ∙ codec_known (dims_in (to_bits bytes)) in
-    no_fault (front_faults bytes ++ size_faults bytes ++ mode_faults bytes)
+    no_fault (prefix_faults bytes ++ size_faults bytes ++ mode_faults bytes)
     (le-ltb _ _ g.enough, (equal _ _ g.is_magic, (not_from_true _ known, (le-ltb _ _ g.is_type, (equal _ _ g.is_codec, (le-ltb _ _ g.is_size, mode_lines bytes g.is_mode))))))

@@ -9,9 +9,9 @@ use Rattle.zf_header.specs.HeaderFields.{number_at}
 -- two pieces, one behind the other
 pub take-add : (n m : ℕ) (s : List Bool) → take n s ++ take m (drop n s) ≡ take (n + m) s
 take-add n m s =
-    let front : take n (take (n + m) s) ≡ take n s = take-take n (n + m) s (omega arith) in
+    let prefix : take n (take (n + m) s) ≡ take n s = take-take n (n + m) s (omega arith) in
     let back = drop-take n m s in
-    ap (λ bs. bs ++ take m (drop n s)) (sym front) ∙ ap (λ bs. take n (take (n + m) s) ++ bs) (sym back) ∙ take-append-drop n (take (n + m) s)
+    ap (λ bs. bs ++ take m (drop n s)) (sym prefix) ∙ ap (λ bs. take n (take (n + m) s) ++ bs) (sym back) ∙ take-append-drop n (take (n + m) s)
 
 -- the same from a place on
 pub take-add_at : (at n m : ℕ) (s : List Bool) → take n (drop at s) ++ take m (drop (at + n) s) ≡ take (n + m) (drop at s)

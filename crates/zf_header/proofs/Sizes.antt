@@ -41,9 +41,9 @@ sizes_at-fields w [] at s before after some fit is count = refl
 sizes_at-fields w (n ∷ ns) at s before after some fit is count =
     let this = field w (n - 1) in
     let rest = fields w ns in
-    let front : s ≡ (before ++ this) ++ (rest ++ after) = is ∙ ap (λ bs. bs ++ after) (sym (append_assoc before this rest)) ∙ append_assoc (before ++ this) rest after in
+    let prefix : s ≡ (before ++ this) ++ (rest ++ after) = is ∙ ap (λ bs. bs ++ after) (sym (append_assoc before this rest)) ∙ append_assoc (before ++ this) rest after in
     let behind : s ≡ ((before ++ this) ++ rest) ++ after = is ∙ ap (λ bs. bs ++ after) (sym (append_assoc before this rest)) in
-    let size : number_at at w s + 1 ≡ n = omega (arith, number_at_piece s before (rest ++ after) at w (n - 1) front count (omega (arith, some.0, fit.0)), some.0) in
+    let size : number_at at w s + 1 ≡ n = omega (arith, number_at_piece s before (rest ++ after) at w (n - 1) prefix count (omega (arith, some.0, fit.0)), some.0) in
     let place : length (before ++ this) ≡ at + w = omega (arith, length-append before this, length-field w (n - 1)) in
     ap (λ k. k ∷ sizes_at w (at + w) (length ns) s) size ∙ ap (λ ks. n ∷ ks) (sizes_at-fields w ns (at + w) s (before ++ this) after some.1 fit.1 behind place)
 

@@ -11,10 +11,10 @@ abbrev pub first_fault : List (Bool × HeaderFault) → Option HeaderFault
 first_fault [] = None
 first_fault (line ∷ lines) = if line.0 then Some line.1 else first_fault lines
 
--- the lines of the front: fewer than 12 bytes; other letters than "zfp"; no codec's number; floating-point numbers;
+-- the lines of the prefix: fewer than 12 bytes; other letters than "zfp"; no codec's number; floating-point numbers;
 --     the codec of other dimensions
-abbrev pub front_faults : List ℕ → List (Bool × HeaderFault)
-front_faults bytes =
+abbrev pub prefix_faults : List ℕ → List (Bool × HeaderFault)
+prefix_faults bytes =
     let s = to_bits bytes in
     (nat_lt (length bytes) 12, Short)
     ∷ (not (magic_in s == magic), Magic)
@@ -40,4 +40,4 @@ mode_faults bytes =
 
 -- what is wrong with bytes, if anything: the first line that holds
 unfoldable pub header_fault : List ℕ → Option HeaderFault
-header_fault bytes = first_fault (front_faults bytes ++ size_faults bytes ++ mode_faults bytes)
+header_fault bytes = first_fault (prefix_faults bytes ++ size_faults bytes ++ mode_faults bytes)

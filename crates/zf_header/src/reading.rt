@@ -6,7 +6,7 @@ ghost use Rattle.zf_spec.specs.Stream.{to_bits};
 ghost use Rattle.zf_header.specs.declared.header.Header.{Header};
 ghost use Rattle.zf_header.specs.HeaderBits.{IsHeader, BeginsWith, header_bits};
 ghost use Rattle.zf_header.specs.HeaderFields.{number_at, dims_in, size_in, sizes_in, mode_in, header_in};
-ghost use Rattle.zf_header.specs.HeaderFaults.{first_fault, front_faults, size_faults, mode_faults, header_fault};
+ghost use Rattle.zf_header.specs.HeaderFaults.{first_fault, prefix_faults, size_faults, mode_faults, header_fault};
 
 use crate::header::{
     BEFORE_PRECISIONS, CODEC, FIRST_PRECISION, FULL_HEADER_BYTES, Header, HeaderFault,
@@ -45,7 +45,7 @@ fn fields(bytes: &[u8]) -> Result<(Header, u32), HeaderFault>
     ensures header { IfOk result (λ found. found.0 ≡ header_in (to_bits bytes.now)) }
     ensures len { IfOk result (λ found. found.1 ≡ length (header_bits found.0)) }
 {
-    let (ty, dims) = front(bytes)?;
+    let (ty, dims) = prefix(bytes)?;
     let shape = shape(bytes, dims)?;
     let mode = mode(bytes)?;
     let header = Header { ty, shape, mode };
@@ -53,10 +53,10 @@ fn fields(bytes: &[u8]) -> Result<(Header, u32), HeaderFault>
 }
 
 // The type and the number of dimensions.
-fn front(bytes: &[u8]) -> Result<(Ty, u8), HeaderFault>
-    ensures fault { result_err result ≡ first_fault (front_faults bytes.now) }
-    ensures ty { IfOk result (λ front. front.0 ≡ (header_in (to_bits bytes.now)).ty) }
-    ensures dims { IfOk result (λ front. front.1 ≡ dims_in (to_bits bytes.now)) }
+fn prefix(bytes: &[u8]) -> Result<(Ty, u8), HeaderFault>
+    ensures fault { result_err result ≡ first_fault (prefix_faults bytes.now) }
+    ensures ty { IfOk result (λ prefix. prefix.0 ≡ (header_in (to_bits bytes.now)).ty) }
+    ensures dims { IfOk result (λ prefix. prefix.1 ≡ dims_in (to_bits bytes.now)) }
     ensures enough { IfOk result (λ _. 12 ≤ length bytes.now) }
 {
     if bytes.len() < SHORT_HEADER_BYTES {

@@ -143,7 +143,7 @@ module _ (bytes : List ℕ) (h : Header) (has : HasHeader bytes h) where
         (parse_is bytes h start begun
         ∙ ap (λ (s : List Bool). codes_answer h (length bits) (read_codes h 0 (blocks h.shape) s)) (sym left)
         ∙ ap (λ (s : List Bool). codes_answer h (length s) (read_codes h 0 (blocks h.shape) (rest r))) (sym all) ∙ said)))
-        (λ wanting. inr (ap stream_fault wanting)) fault
+        (λ starved. inr (ap stream_fault starved)) fault
 
     pub index_is : (lens : List ℕ) → length (to_bits bytes) < 2 ^ 64 → IsWalked h (to_bits bytes) (record { start = start; lens = lens }) → IsIndexOf bytes h (record { start = start; lens = lens })
     unfolding parse

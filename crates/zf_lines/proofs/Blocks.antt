@@ -10,8 +10,8 @@ module _ {X : Type 0} where
   abbrev pub splice : ℕ → ℕ → List X → List X → List X
   splice k m ws xs = take k xs ++ (ws ++ drop (k + m) xs)
 
-  splice-front : (k m : ℕ) (ws row rest : List X) → k + m ≤ length row → splice k m ws (row ++ rest) ≡ splice k m ws row ++ rest
-  splice-front k m ws row rest le =
+  splice-prefix : (k m : ℕ) (ws row rest : List X) → k + m ≤ length row → splice k m ws (row ++ rest) ≡ splice k m ws row ++ rest
+  splice-prefix k m ws row rest le =
       (λ i. take-append-le k row rest (omega arith) i ++ (ws ++ drop-append-le (k + m) row rest le i))
       ∙ ap (λ l. take k row ++ l) (sym (append_assoc ws (drop (k + m) row) rest))
       ∙ sym (append_assoc (take k row) (ws ++ drop (k + m) row) rest)
@@ -53,7 +53,7 @@ module _ {X : Type 0} where
       let kept : length (splice a m ws row) ≡ n = length-splice a m ws row (omega arith) e ∙ full in
       ap (λ k. rows (suc l) n (splice k m ws xs)) at
       ∙ ap (λ ys. rows (suc l) n (splice a m ws ys)) (sym (take-append-drop n xs))
-      ∙ ap (λ ys. rows (suc l) n ys) (splice-front a m ws row rest (omega arith))
+      ∙ ap (λ ys. rows (suc l) n ys) (splice-prefix a m ws row rest (omega arith))
       ∙ rows-append l n (splice a m ws row) rest kept
   rows-splice (suc l) n xs (suc i) a m ws long lt within e =
       let row = take n xs in let rest = drop n xs in

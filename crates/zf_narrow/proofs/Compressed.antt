@@ -10,13 +10,13 @@ use Rattle.zf_base.specs.declared.lane.Ty.{Ty}
 use Rattle.zf_base.specs.declared.lane.Ty.TheVariants.{I32}
 use Rattle.zf_header.specs.declared.header.Header.{Header}
 use Rattle.zf_dev.specs.Source.{Takes, TakesMoreThan, IsAtEnd}
-use Rattle.zf_dev.specs.Sink.{AppendsFront}
+use Rattle.zf_dev.specs.Sink.{AppendsPrefix}
 use Rattle.zf_dev.proofs.Taking.{Takes-to_end}
-use Rattle.zf_dev.proofs.Appending.{AppendsFront-none}
+use Rattle.zf_dev.proofs.Appending.{AppendsPrefix-none}
 use Rattle.zf_parse.specs.declared.fault.StreamFault.{StreamFault}
 use Rattle.zf_parse.specs.declared.fault.StreamFault.TheVariants as faults
 use Rattle.zf_parse.specs.Raw.{raw_len, length_answer, compress_answer, stream_text}
-use Rattle.zf_stream.specs.Outcomes.{Answers, CanRefuse, ShowsLength, Finishes, LeavesFront, IsFromOutside}
+use Rattle.zf_stream.specs.Outcomes.{Answers, CanRefuse, ShowsLength, Finishes, LeavesPrefix, IsFromOutside}
 use Rattle.zf_stream.proofs.RawRows.{short_answer, long_answer, good_answer}
 use Rattle.zf_stream.proofs.Refusals.{CanRefuse-short, CanRefuse-long}
 use Rattle.zf_narrow.specs.declared.narrow.Narrow.{Narrow}
@@ -24,12 +24,12 @@ use Rattle.zf_narrow.specs.declared.narrow.Narrow.TheVariants.{I8, U8, I16, U16}
 use Rattle.zf_narrow.specs.Values.{size_of}
 use Rattle.zf_narrow.specs.RawNarrow.{promoted_bytes, promoted_all}
 use Rattle.zf_narrow.specs.declared.promotion.Promotion.{Promotion}
-use Rattle.zf_narrow.specs.Promoting.{listed, told_by}
-use Rattle.zf_narrow.specs.Promotions.{told, read_so_far}
+use Rattle.zf_narrow.specs.Promoting.{listed, exposed_by}
+use Rattle.zf_narrow.specs.Promotions.{exposed, read_so_far}
 use Rattle.zf_narrow.specs.Texts.{narrow_len, narrow_count, narrow_fault, compress_narrow_answer, ArePromotedAfter, CompressesNarrow, LeavesNarrow}
 use Rattle.zf_narrow.proofs.Whole.{length-promoted_bytes, length-promoted_all}
-use Rattle.zf_narrow.proofs.Fronts.{stream_text-zeros}
-use Rattle.zf_narrow.proofs.Reading.{told_unspent}
+use Rattle.zf_narrow.proofs.Prefixes.{stream_text-zeros}
+use Rattle.zf_narrow.proofs.Reading.{exposed_unspent}
 use Rattle.zf_narrow.proofs.Giving.{Gave, gave, source_ended, Nearly, nearly, all_given_text}
 
 -- ---- lengths
@@ -131,7 +131,7 @@ outside_still n (Err faults.Read) is = is
 outside_still n (Err faults.Write) is = is
 outside_still n (Err faults.Memory) is = is
 
-narrow_answers : (n : Narrow) (h : Header) (known : Option (List ℕ)) (r : Result (Unit {0}) StreamFault) → h.ty ≡ I32 → Answers r (told_by n false [] [] known) (compress_answer h)
+narrow_answers : (n : Narrow) (h : Header) (known : Option (List ℕ)) (r : Result (Unit {0}) StreamFault) → h.ty ≡ I32 → Answers r (exposed_by n false [] [] known) (compress_answer h)
     → Answers (narrow_result n r) known (compress_narrow_answer n h)
 narrow_answers n h None r int32 answers = tt
 narrow_answers n h (Some input) r int32 answers =
@@ -217,7 +217,7 @@ pub record Promotes (n : Narrow) (known now : Option (List ℕ)) (spent : Bool) 
   pub spent_end : IsTrue spent → IsAtEnd now
   pub read : Takes known now (taken ++ half)
 
--- of a told source only one list can have been taken
+-- of a source that exposes its contents only one list can have been taken
 same_taken : (left : List ℕ) (now : Option (List ℕ)) (a b : List ℕ) → Takes (Some left) now a → Takes (Some left) now b → a ≡ b
 same_taken left None a b x y = absurd x
 same_taken left (Some rest) a b x y = append_cancel_right a b rest (sym x ∙ y)
@@ -227,21 +227,21 @@ module _ (n : Narrow) (h : Header) (int32 : h.ty ≡ I32) (spent : Bool) (pendin
   abbrev bytes : List ℕ
   bytes = taken ++ half
 
-  -- what a told source gave of what was read
-  gave_told : (input : List ℕ) (now : Option (List ℕ)) (raw : List ℕ) → Promotes n (Some input) now spent pending half taken → Takes (told_by n false [] [] (Some input)) (told_by n spent pending half now) raw → Gave n bytes raw
-  gave_told input None raw p given = absurd p.read
-  gave_told input (Some left) raw p given = gave n spent pending half taken input left raw p.read given p.whole p.less p.few p.all p.spent_end
+  -- what a source that exposes its contents gave of what was read
+  gave_exposed : (input : List ℕ) (now : Option (List ℕ)) (raw : List ℕ) → Promotes n (Some input) now spent pending half taken → Takes (exposed_by n false [] [] (Some input)) (exposed_by n spent pending half now) raw → Gave n bytes raw
+  gave_exposed input None raw p given = absurd p.read
+  gave_exposed input (Some left) raw p given = gave n spent pending half taken input left raw p.read given p.whole p.less p.few p.all p.spent_end
 
   -- at its end all was given
-  gave_all : (input : List ℕ) (now : Option (List ℕ)) (raw : List ℕ) → Promotes n (Some input) now spent pending half taken → Takes (told_by n false [] [] (Some input)) (told_by n spent pending half now) raw
-      → IsAtEnd (told_by n spent pending half now) → raw ≡ promoted_all n bytes
+  gave_all : (input : List ℕ) (now : Option (List ℕ)) (raw : List ℕ) → Promotes n (Some input) now spent pending half taken → Takes (exposed_by n false [] [] (Some input)) (exposed_by n spent pending half now) raw
+      → IsAtEnd (exposed_by n spent pending half now) → raw ≡ promoted_all n bytes
   gave_all input now raw p given end =
-      sym (Takes-to_end (promoted_all n input) (told_by n spent pending half now) raw given end)
+      sym (Takes-to_end (promoted_all n input) (exposed_by n spent pending half now) raw given end)
       ∙ ap (promoted_all n) (Takes-to_end input now bytes p.read (source_ended n spent pending half now end p.spent_end))
 
   -- all of the input was read and given, and its stream written
   pub compresses : (known now out0 out1 : Option (List ℕ)) → Promotes n known now spent pending half taken
-      → Finishes (compress_answer h) (stream_text h) (told_by n false [] [] known) (told_by n spent pending half now) out0 out1 → CompressesNarrow n h known now out0 out1
+      → Finishes (compress_answer h) (stream_text h) (exposed_by n false [] [] known) (exposed_by n spent pending half now) out0 out1 → CompressesNarrow n h known now out0 out1
   compresses None now out0 out1 p fin = record {
     bytes = replicate (narrow_len n h) 0;
     taken = tt;
@@ -267,11 +267,11 @@ module _ (n : Narrow) (h : Header) (int32 : h.ty ≡ I32) (spent : Bool) (pendin
 
   -- how much was read where the length was refused
   pub shows : (known now : Option (List ℕ)) (e : StreamFault) → Promotes n known now spent pending half taken
-      → ShowsLength (raw_len h) (told_by n false [] [] known) (told_by n spent pending half now) e → ShowsLength (narrow_len n h) known now (narrow_fault n e)
+      → ShowsLength (raw_len h) (exposed_by n false [] [] known) (exposed_by n spent pending half now) e → ShowsLength (narrow_len n h) known now (narrow_fault n e)
   shows known now (faults.RawShort k) p shown = source_ended n spent pending half now shown p.spent_end
   shows None now faults.RawLong p shown = (replicate (narrow_len n h + 1) 0, omega (arith, length-replicate {A = ℕ} (narrow_len n h + 1) 0), tt)
   shows (Some input) now faults.RawLong p shown =
-      let g = gave_told input now shown.0 p shown.2 in
+      let g = gave_exposed input now shown.0 p shown.2 in
       let long : length shown.0 + length g.pending ≡ length bytes / size_of n * 4 + g.zeros =
       sym (length-append shown.0 g.pending) ∙ ap length g.parts ∙ length-append (promoted_bytes n bytes) (replicate g.zeros 0)
       ∙ ap (λ k. k + length (replicate {A = ℕ} g.zeros 0)) (length-promoted_bytes n bytes) ∙ ap (λ k. length bytes / size_of n * 4 + k) (length-replicate g.zeros 0) in
@@ -284,7 +284,7 @@ module _ (n : Narrow) (h : Header) (int32 : h.ty ≡ I32) (spent : Bool) (pendin
   shows known now faults.Write p shown = tt
   shows known now faults.Memory p shown = tt
 
-  -- of a source that tells nothing there is nothing to say
+  -- of a source that exposes nothing there is nothing to say
   untold : (e : StreamFault) (bs raw : List ℕ) → ArePromotedAfter e n None bs raw
   untold (faults.RawShort k) bs raw = tt
   untold faults.RawLong bs raw = tt
@@ -296,10 +296,10 @@ module _ (n : Narrow) (h : Header) (int32 : h.ty ≡ I32) (spent : Bool) (pendin
   untold faults.Write bs raw = tt
   untold faults.Memory bs raw = tt
 
-  -- a part was read, and a front of the stream of its values written
+  -- a part was read, and a prefix of the stream of its values written
   pub leaves : (known now out0 out1 : Option (List ℕ)) (e : StreamFault) → Promotes n known now spent pending half taken → CanRefuse (compress_answer h) e
-      → ShowsLength (raw_len h) (told_by n false [] [] known) (told_by n spent pending half now) e → (e ≡ faults.Memory → out1 ≡ out0)
-      → LeavesFront (stream_text h) (told_by n false [] [] known) (told_by n spent pending half now) out0 out1 → LeavesNarrow (narrow_fault n e) n h known now out0 out1
+      → ShowsLength (raw_len h) (exposed_by n false [] [] known) (exposed_by n spent pending half now) e → (e ≡ faults.Memory → out1 ≡ out0)
+      → LeavesPrefix (stream_text h) (exposed_by n false [] [] known) (exposed_by n spent pending half now) out0 out1 → LeavesNarrow (narrow_fault n e) n h known now out0 out1
   leaves None now out0 out1 e p can shown unwritten left = record {
     bytes = [];
     taken = tt;
@@ -310,34 +310,34 @@ module _ (n : Narrow) (h : Header) (int32 : h.ty ≡ I32) (spent : Bool) (pendin
   leaves (Some input) now out0 out1 e p can shown unwritten left = by e can shown unwritten
     where
       g : Gave n bytes left.bytes
-      g = gave_told input now left.bytes p left.taken
+      g = gave_exposed input now left.bytes p left.taken
 
       near : Nearly n h bytes left.bytes
       near = nearly n h bytes left.bytes g
 
       all : stream_text h left.bytes ≡ stream_text h (promoted_bytes n bytes) → (e : StreamFault) → ArePromotedAfter e n (Some input) bytes (promoted_bytes n bytes) → LeavesNarrow e n h (Some input) now out0 out1
-      all same e are = record { bytes = bytes; taken = p.read; raw = promoted_bytes n bytes; raw_is = are; written = subst (λ text. AppendsFront out0 out1 text) same left.written }
+      all same e are = record { bytes = bytes; taken = p.read; raw = promoted_bytes n bytes; raw_is = are; written = subst (λ text. AppendsPrefix out0 out1 text) same left.written }
 
       part : (e : StreamFault) → ArePromotedAfter e n (Some input) bytes near.some → LeavesNarrow e n h (Some input) now out0 out1
-      part e are = record { bytes = bytes; taken = p.read; raw = near.some; raw_is = are; written = subst (λ text. AppendsFront out0 out1 text) near.same left.written }
+      part e are = record { bytes = bytes; taken = p.read; raw = near.some; raw_is = are; written = subst (λ text. AppendsPrefix out0 out1 text) near.same left.written }
 
-      -- a told source has given just these bytes
-      enough : TakesMoreThan (told_by n false [] [] (Some input)) (told_by n spent pending half now) (raw_len h) → raw_len h ≤ length left.bytes
-      enough shown = omega (arith, shown.1, ap length (same_taken (promoted_all n input) (told_by n spent pending half now) left.bytes shown.0 left.taken shown.2))
+      -- a source that exposes its contents has given just these bytes
+      enough : TakesMoreThan (exposed_by n false [] [] (Some input)) (exposed_by n spent pending half now) (raw_len h) → raw_len h ≤ length left.bytes
+      enough shown = omega (arith, shown.1, ap length (same_taken (promoted_all n input) (exposed_by n spent pending half now) left.bytes shown.0 left.taken shown.2))
 
-      by : (e : StreamFault) → CanRefuse (compress_answer h) e → ShowsLength (raw_len h) (told_by n false [] [] (Some input)) (told_by n spent pending half now) e → (e ≡ faults.Memory → out1 ≡ out0)
+      by : (e : StreamFault) → CanRefuse (compress_answer h) e → ShowsLength (raw_len h) (exposed_by n false [] [] (Some input)) (exposed_by n spent pending half now) e → (e ≡ faults.Memory → out1 ≡ out0)
           → LeavesNarrow (narrow_fault n e) n h (Some input) now out0 out1
       by (faults.RawShort k) can shown unwritten =
           all (ap (stream_text h) (gave_all input now left.bytes p left.taken shown) ∙ stream_text-zeros h (promoted_bytes n bytes) (length bytes % size_of n)) (faults.RawShort (narrow_count n k)) refl
       by faults.RawLong can shown unwritten = all (all_given_text n h bytes left.bytes g (enough shown)) faults.RawLong refl
-      by faults.Read can shown unwritten = part faults.Read (near.front, near.most)
-      by faults.Write can shown unwritten = part faults.Write (near.front, near.most)
+      by faults.Read can shown unwritten = part faults.Read (near.prefix, near.most)
+      by faults.Write can shown unwritten = part faults.Write (near.prefix, near.most)
       by faults.Memory can shown unwritten = record {
         bytes = bytes;
         taken = p.read;
         raw = promoted_bytes n bytes;
         raw_is = refl;
-        written = subst (λ o. AppendsFront out0 o (stream_text h (promoted_bytes n bytes))) (sym (unwritten refl)) (AppendsFront-none out0 (stream_text h (promoted_bytes n bytes)));
+        written = subst (λ o. AppendsPrefix out0 o (stream_text h (promoted_bytes n bytes))) (sym (unwritten refl)) (AppendsPrefix-none out0 (stream_text h (promoted_bytes n bytes)));
       }
       by (faults.Header f) can shown unwritten = absurd (can_come h (faults.Header f) can)
       by (faults.Truncated b) can shown unwritten = absurd (can_come h (faults.Truncated b) can)
@@ -358,13 +358,13 @@ pub record Runs (n : Narrow) (known now : Option (List ℕ)) (old new : Promotio
   pub read : Takes known now (read_so_far new)
 
 module _ (n : Narrow) {known now : Option (List ℕ)} (old new : Promotion) (r : Runs n known now old new) where
-  told_old : told old known ≡ told_by n false [] [] known
-  told_old =
-      told_unspent old known r.at_old r.four_old r.unspent_old
-      ∙ ap (λ m. told_by m false [] (listed old.half) known) r.same_old ∙ ap (λ h. told_by n false [] h known) r.half_old
+  exposed_old : exposed old known ≡ exposed_by n false [] [] known
+  exposed_old =
+      exposed_unspent old known r.at_old r.four_old r.unspent_old
+      ∙ ap (λ m. exposed_by m false [] (listed old.half) known) r.same_old ∙ ap (λ h. exposed_by n false [] h known) r.half_old
 
-  told_new : told new now ≡ told_by n new.spent (drop new.at new.value) (listed new.half) now
-  told_new = ap (λ m. told_by m new.spent (drop new.at new.value) (listed new.half) now) r.same
+  exposed_new : exposed new now ≡ exposed_by n new.spent (drop new.at new.value) (listed new.half) now
+  exposed_new = ap (λ m. exposed_by m new.spent (drop new.at new.value) (listed new.half) now) r.same
 
   promotes : Promotes n known now new.spent (drop new.at new.value) (listed new.half) new.taken.bytes
   promotes = record {
@@ -376,30 +376,30 @@ module _ (n : Narrow) {known now : Option (List ℕ)} (old new : Promotion) (r :
     read = r.read;
   }
 
-  pub run_compresses : (h : Header) (out0 out1 : Option (List ℕ)) → h.ty ≡ I32 → Finishes (compress_answer h) (stream_text h) (told old known) (told new now) out0 out1 → CompressesNarrow n h known now out0 out1
+  pub run_compresses : (h : Header) (out0 out1 : Option (List ℕ)) → h.ty ≡ I32 → Finishes (compress_answer h) (stream_text h) (exposed old known) (exposed new now) out0 out1 → CompressesNarrow n h known now out0 out1
   run_compresses h out0 out1 int32 fin =
       compresses n h int32 new.spent (drop new.at new.value) (listed new.half) new.taken.bytes known now out0 out1 promotes
-      (subst (λ b. Finishes (compress_answer h) (stream_text h) (told_by n false [] [] known) b out0 out1) told_new
-      (subst (λ a. Finishes (compress_answer h) (stream_text h) a (told new now) out0 out1) told_old fin))
+      (subst (λ b. Finishes (compress_answer h) (stream_text h) (exposed_by n false [] [] known) b out0 out1) exposed_new
+      (subst (λ a. Finishes (compress_answer h) (stream_text h) a (exposed new now) out0 out1) exposed_old fin))
 
-  shown_too : (h : Header) (e : StreamFault) → ShowsLength (raw_len h) (told old known) (told new now) e
-      → ShowsLength (raw_len h) (told_by n false [] [] known) (told_by n new.spent (drop new.at new.value) (listed new.half) now) e
+  shown_too : (h : Header) (e : StreamFault) → ShowsLength (raw_len h) (exposed old known) (exposed new now) e
+      → ShowsLength (raw_len h) (exposed_by n false [] [] known) (exposed_by n new.spent (drop new.at new.value) (listed new.half) now) e
   shown_too h e shown =
-      subst (λ b. ShowsLength (raw_len h) (told_by n false [] [] known) b e) told_new
-      (subst (λ a. ShowsLength (raw_len h) a (told new now) e) told_old shown)
+      subst (λ b. ShowsLength (raw_len h) (exposed_by n false [] [] known) b e) exposed_new
+      (subst (λ a. ShowsLength (raw_len h) a (exposed new now) e) exposed_old shown)
 
-  pub run_shows : (h : Header) (e : StreamFault) → h.ty ≡ I32 → ShowsLength (raw_len h) (told old known) (told new now) e → ShowsLength (narrow_len n h) known now (narrow_fault n e)
+  pub run_shows : (h : Header) (e : StreamFault) → h.ty ≡ I32 → ShowsLength (raw_len h) (exposed old known) (exposed new now) e → ShowsLength (narrow_len n h) known now (narrow_fault n e)
   run_shows h e int32 shown = shows n h int32 new.spent (drop new.at new.value) (listed new.half) new.taken.bytes known now e promotes (shown_too h e shown)
 
-  pub run_leaves : (h : Header) (out0 out1 : Option (List ℕ)) (e : StreamFault) → h.ty ≡ I32 → CanRefuse (compress_answer h) e → ShowsLength (raw_len h) (told old known) (told new now) e → (e ≡ faults.Memory → out1 ≡ out0)
-      → LeavesFront (stream_text h) (told old known) (told new now) out0 out1 → LeavesNarrow (narrow_fault n e) n h known now out0 out1
+  pub run_leaves : (h : Header) (out0 out1 : Option (List ℕ)) (e : StreamFault) → h.ty ≡ I32 → CanRefuse (compress_answer h) e → ShowsLength (raw_len h) (exposed old known) (exposed new now) e → (e ≡ faults.Memory → out1 ≡ out0)
+      → LeavesPrefix (stream_text h) (exposed old known) (exposed new now) out0 out1 → LeavesNarrow (narrow_fault n e) n h known now out0 out1
   run_leaves h out0 out1 e int32 can shown unwritten left =
       leaves n h int32 new.spent (drop new.at new.value) (listed new.half) new.taken.bytes known now out0 out1 e promotes can (shown_too h e shown) unwritten
-      (subst (λ b. LeavesFront (stream_text h) (told_by n false [] [] known) b out0 out1) told_new
-      (subst (λ a. LeavesFront (stream_text h) a (told new now) out0 out1) told_old left))
+      (subst (λ b. LeavesPrefix (stream_text h) (exposed_by n false [] [] known) b out0 out1) exposed_new
+      (subst (λ a. LeavesPrefix (stream_text h) a (exposed new now) out0 out1) exposed_old left))
 
-  pub run_good_answers : (h : Header) → h.ty ≡ I32 → Answers (Ok tt) (told old known) (compress_answer h) → Answers (Ok tt) known (compress_narrow_answer n h)
-  run_good_answers h int32 answers = narrow_answers n h known (Ok tt) int32 (subst (λ a. Answers (Ok tt) a (compress_answer h)) told_old answers)
+  pub run_good_answers : (h : Header) → h.ty ≡ I32 → Answers (Ok tt) (exposed old known) (compress_answer h) → Answers (Ok tt) known (compress_narrow_answer n h)
+  run_good_answers h int32 answers = narrow_answers n h known (Ok tt) int32 (subst (λ a. Answers (Ok tt) a (compress_answer h)) exposed_old answers)
 
-  pub run_fault_answers : (h : Header) (e : StreamFault) → h.ty ≡ I32 → Answers (Err e) (told old known) (compress_answer h) → Answers (Err (narrow_fault n e)) known (compress_narrow_answer n h)
-  run_fault_answers h e int32 answers = narrow_answers n h known (Err e) int32 (subst (λ a. Answers (Err e) a (compress_answer h)) told_old answers)
+  pub run_fault_answers : (h : Header) (e : StreamFault) → h.ty ≡ I32 → Answers (Err e) (exposed old known) (compress_answer h) → Answers (Err (narrow_fault n e)) known (compress_narrow_answer n h)
+  run_fault_answers h e int32 answers = narrow_answers n h known (Err e) int32 (subst (λ a. Answers (Err e) a (compress_answer h)) exposed_old answers)

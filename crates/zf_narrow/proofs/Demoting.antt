@@ -21,19 +21,19 @@ begun_values-bounds I16 k count within = (omega arith, omega arith, omega arith)
 begun_values-bounds U16 k count within = (omega arith, omega arith, omega arith)
 
 -- the bytes of the first values are the first of the bytes
-pub front_demoted : (n : Narrow) (count values : ℕ) (raw given : List ℕ) → values ≤ count → count * 4 ≤ length raw → given ≡ demoted_bytes n (take (count * 4) raw) → take (values * size_of n) given ≡ demoted_bytes n (take (values * 4) raw)
-front_demoted n count values raw given few room is =
+pub prefix_demoted : (n : Narrow) (count values : ℕ) (raw given : List ℕ) → values ≤ count → count * 4 ≤ length raw → given ≡ demoted_bytes n (take (count * 4) raw) → take (values * size_of n) given ≡ demoted_bytes n (take (values * 4) raw)
+prefix_demoted n count values raw given few room is =
     let s = take (count * 4) raw in
     let a = values * 4 in
     let within : a ≤ count * 4 = mul-le-mul_right 4 few in
     let long : length s ≡ count * 4 = length-take-le (count * 4) raw room in
-    let front : take a s ≡ take a raw = take-take a (count * 4) raw within in
-    let front_long : length (take a s) ≡ a = length-take-le a s (omega (arith, long, within)) in
-    let whole : length (take a s) % 4 ≡ 0 = omega (arith, front_long) in
+    let prefix : take a s ≡ take a raw = take-take a (count * 4) raw within in
+    let prefix_long : length (take a s) ≡ a = length-take-le a s (omega (arith, long, within)) in
+    let whole : length (take a s) % 4 ≡ 0 = omega (arith, prefix_long) in
     let parts : demoted_bytes n s ≡ demoted_bytes n (take a s) ++ demoted_bytes n (drop a s) = ap (demoted_bytes n) (sym (take-append-drop a s)) ∙ demoted_bytes-append n (take a s) (drop a s) whole in
-    let count_is : length (take a s) / 4 ≡ values = omega (arith, front_long) in
+    let count_is : length (take a s) / 4 ≡ values = omega (arith, prefix_long) in
     let bytes_long : length (demoted_bytes n (take a s)) ≡ values * size_of n = length-demoted_bytes n (take a s) ∙ ap (λ k. k * size_of n) count_is in
-    ap (take (values * size_of n)) (is ∙ parts) ∙ take_at (demoted_bytes n (take a s)) (demoted_bytes n (drop a s)) (values * size_of n) bytes_long ∙ ap (demoted_bytes n) front
+    ap (take (values * size_of n)) (is ∙ parts) ∙ take_at (demoted_bytes n (take a s)) (demoted_bytes n (drop a s)) (values * size_of n) bytes_long ∙ ap (demoted_bytes n) prefix
 
 -- the bytes that were written, and the one that is owed
 pub with_owed : (k m : ℕ) (piece : List ℕ) (d : ℕ) → k < m → m ≤ k + 1 → k < length piece → take k piece ++ get_or piece k d ∷ [] ≡ take m piece
@@ -74,10 +74,10 @@ pub written_is : (n : Narrow) (count values k : ℕ) (raw part past given taken 
 written_is n count values k raw part past given taken owed few room is before whole here =
     let within : values * size_of n ≤ length part = omega (arith, part_long n count raw part room is, mul-le-mul_right (size_of n) few) in
     append_assoc given (take k (part ++ past)) owed
-    ∙ ap (λ (bs : List ℕ). given ++ bs) (here ∙ take-append-le (values * size_of n) part past within ∙ front_demoted n count values raw part few room is)
+    ∙ ap (λ (bs : List ℕ). given ++ bs) (here ∙ take-append-le (values * size_of n) part past within ∙ prefix_demoted n count values raw part few room is)
     ∙ ap (λ (bs : List ℕ). bs ++ demoted_bytes n (take (values * 4) raw)) before
     ∙ sym (demoted_bytes-append n taken (take (values * 4) raw) whole)
 
 -- no more were written than there were
-pub within_front : (n : Narrow) (count k len : ℕ) (bytes : List ℕ) → len ≡ size_of n → k ≤ length (take (count * len) bytes) → k ≤ count * size_of n
-within_front n count k len bytes is within = omega (arith, within, length-take (count * len) bytes, ap (λ m. count * m) is)
+pub within_prefix : (n : Narrow) (count k len : ℕ) (bytes : List ℕ) → len ≡ size_of n → k ≤ length (take (count * len) bytes) → k ≤ count * size_of n
+within_prefix n count k len bytes is within = omega (arith, within, length-take (count * len) bytes, ap (λ m. count * m) is)

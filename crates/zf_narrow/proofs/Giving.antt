@@ -10,9 +10,9 @@ use Rattle.zf_parse.specs.Raw.{raw_len, stream_text}
 use Rattle.zf_narrow.specs.declared.narrow.Narrow.{Narrow}
 use Rattle.zf_narrow.specs.Values.{size_of}
 use Rattle.zf_narrow.specs.RawNarrow.{promoted_bytes, promoted_all}
-use Rattle.zf_narrow.specs.Promoting.{coming, told_by}
+use Rattle.zf_narrow.specs.Promoting.{coming, exposed_by}
 use Rattle.zf_narrow.proofs.Whole.{promoted_bytes-append, promoted_bytes-few, promoted_all-append, no_bytes}
-use Rattle.zf_narrow.proofs.Fronts.{stream_text-zeros, stream_text-more}
+use Rattle.zf_narrow.proofs.Prefixes.{stream_text-zeros, stream_text-more}
 
 -- of the int32 bytes of what was read these were given: all but those of a part of the last value, or all and a zero byte for half a value
 pub record Gave (n : Narrow) (bytes raw : List ℕ) : Type 0 where
@@ -53,7 +53,7 @@ gave n true pending half taken input left raw read given whole less few all end 
     }
 
 -- nothing is to come of the source where no int32 byte is
-pub source_ended : (n : Narrow) (spent : Bool) (pending half : List ℕ) (now : Option (List ℕ)) → IsAtEnd (told_by n spent pending half now) → (IsTrue spent → IsAtEnd now) → IsAtEnd now
+pub source_ended : (n : Narrow) (spent : Bool) (pending half : List ℕ) (now : Option (List ℕ)) → IsAtEnd (exposed_by n spent pending half now) → (IsTrue spent → IsAtEnd now) → IsAtEnd now
 source_ended n spent pending half None end spent_end = tt
 source_ended n true pending half (Some left) end spent_end = spent_end refl
 source_ended n false pending half (Some left) end spent_end = behind half left (no_bytes n (half ++ left) (behind pending (promoted_all n (half ++ left)) end))
@@ -67,7 +67,7 @@ source_ended n false pending half (Some left) end spent_end = behind half left (
 -- all but three bytes at most of the int32 bytes make the same stream
 pub record Nearly (n : Narrow) (h : Header) (bytes raw : List ℕ) : Type 0 where
   pub some : List ℕ
-  pub front : some ≡ take (length some) (promoted_bytes n bytes)
+  pub prefix : some ≡ take (length some) (promoted_bytes n bytes)
   pub most : length (promoted_bytes n bytes) ≤ length some + 3
   pub same : stream_text h raw ≡ stream_text h some
 
@@ -80,7 +80,7 @@ nearly n h bytes raw g = ⊎_elim no_zeros no_pending g.one_of_both
         let is : raw ++ g.pending ≡ t = g.parts ∙ ap (λ k. t ++ replicate k 0) none ∙ append-nil t in
         record {
           some = raw;
-          front = sym (ap (take (length raw)) (sym is) ∙ take_at raw g.pending (length raw) refl);
+          prefix = sym (ap (take (length raw)) (sym is) ∙ take_at raw g.pending (length raw) refl);
           most = omega (arith, ap length is, length-append raw g.pending, g.few);
           same = refl;
         }
@@ -91,7 +91,7 @@ nearly n h bytes raw g = ⊎_elim no_zeros no_pending g.one_of_both
         let is : raw ≡ t ++ replicate g.zeros 0 = sym (append-nil raw) ∙ ap (λ (bs : List ℕ). raw ++ bs) (sym none) ∙ g.parts in
         record {
           some = t;
-          front = sym (take_all (length t) t (omega arith));
+          prefix = sym (take_all (length t) t (omega arith));
           most = omega arith;
           same = ap (stream_text h) is ∙ stream_text-zeros h t g.zeros;
         }

@@ -27,13 +27,13 @@ one_more i k =
     let next : i + 1 ≡ suc i = omega arith in
     ap (λ m. m * k) next ∙ omega (arith, suc-mul i k)
 
--- the front of a list up to the end of a part that was put there
+-- the prefix of a list up to the end of a part that was put there
 pub put_part : (buf part : List ℕ) (at room end : ℕ) → at ≤ length buf → end ≡ at + length part → take end (put_mid at room buf part) ≡ take at buf ++ part
 put_part buf part at room end within is =
-    let front = take at buf in
+    let prefix = take at buf in
     let past = drop room (drop at buf) in
-    let ends : end ≡ length front + length part = is ∙ ap (λ k. k + length part) (sym (length-take-le at buf within)) in
-    ap (λ k. take k (front ++ (part ++ past))) ends ∙ take-append-add front (part ++ past) (length part) ∙ ap (λ piece. front ++ piece) (take_at part past (length part) refl)
+    let ends : end ≡ length prefix + length part = is ∙ ap (λ k. k + length part) (sym (length-take-le at buf within)) in
+    ap (λ k. take k (prefix ++ (part ++ past))) ends ∙ take-append-add prefix (part ++ past) (length part) ∙ ap (λ piece. prefix ++ piece) (take_at part past (length part) refl)
 
 raw-push : (w : Width) (xs : List ℤ) (v : ℤ) → raw w (xs ++ v ∷ []) ≡ raw w xs ++ to_le_bytes w (cast_unsigned w v)
 raw-push w xs v = raw-append w xs (v ∷ []) ∙ ap (λ (bs : List ℕ). raw w xs ++ bs) (append-nil (to_le_bytes w (cast_unsigned w v)))

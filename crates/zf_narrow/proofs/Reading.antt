@@ -6,8 +6,8 @@ use Rattle.zf_dev.specs.Source.{Takes, IsAtEnd}
 use Rattle.zf_narrow.specs.declared.narrow.Narrow.{Narrow}
 use Rattle.zf_narrow.specs.declared.promotion.Promotion.{Promotion}
 use Rattle.zf_narrow.specs.Values.{size_of}
-use Rattle.zf_narrow.specs.Promoting.{listed, told_by, TakesValues}
-use Rattle.zf_narrow.specs.Promotions.{told, TakesRaw}
+use Rattle.zf_narrow.specs.Promoting.{listed, exposed_by, TakesValues}
+use Rattle.zf_narrow.specs.Promotions.{exposed, TakesRaw}
 use Rattle.zf_narrow.proofs.Whole.{no_values}
 use Rattle.zf_narrow.proofs.Stepping.{values_given, half_given, none_comes}
 
@@ -16,41 +16,41 @@ unspent_is true is_not = absurd (is_not refl)
 unspent_is false is_not = refl
 
 -- nothing is pending
-pub told_idle : (p : Promotion) (left : Option (List ℕ)) → p.at ≡ 4 → length p.value ≡ 4 → told p left ≡ told_by p.narrow p.spent [] (listed p.half) left
-told_idle p left all four = ap (λ bs. told_by p.narrow p.spent bs (listed p.half) left) (drop_all p.at p.value (omega arith))
+pub exposed_idle : (p : Promotion) (left : Option (List ℕ)) → p.at ≡ 4 → length p.value ≡ 4 → exposed p left ≡ exposed_by p.narrow p.spent [] (listed p.half) left
+exposed_idle p left all four = ap (λ bs. exposed_by p.narrow p.spent bs (listed p.half) left) (drop_all p.at p.value (omega arith))
 
-pub told_unspent : (p : Promotion) (left : Option (List ℕ)) → p.at ≡ 4 → length p.value ≡ 4 → (IsTrue p.spent → ⊥) → told p left ≡ told_by p.narrow false [] (listed p.half) left
-told_unspent p left all four unspent = told_idle p left all four ∙ ap (λ s. told_by p.narrow s [] (listed p.half) left) (unspent_is p.spent unspent)
+pub exposed_unspent : (p : Promotion) (left : Option (List ℕ)) → p.at ≡ 4 → length p.value ≡ 4 → (IsTrue p.spent → ⊥) → exposed p left ≡ exposed_by p.narrow false [] (listed p.half) left
+exposed_unspent p left all four unspent = exposed_idle p left all four ∙ ap (λ s. exposed_by p.narrow s [] (listed p.half) left) (unspent_is p.spent unspent)
 
 -- whole values were read, and all of their bytes given
 pub all_given : (old new : Promotion) (before now : Option (List ℕ)) (raw : List ℕ) → old.at ≡ 4 → length old.value ≡ 4 → (IsTrue old.spent → ⊥) → new.narrow ≡ old.narrow → new.at ≡ 4 → length new.value ≡ 4 → (IsTrue new.spent → ⊥)
-    → TakesRaw old new before now raw → Takes (told old before) (told new now) raw
+    → TakesRaw old new before now raw → Takes (exposed old before) (exposed new now) raw
 all_given old new before now raw all four unspent same all' four' unspent' takes =
     let n = old.narrow in
     let from = values_given n before now (listed old.half) (listed new.half) takes.values raw [] takes.taken (sym takes.raw_is ∙ sym (append-nil raw)) in
-    let Of : Option (List ℕ) → Type 0 = λ t. Takes t (told_by n false [] (listed new.half) now) raw in
-    let To : Option (List ℕ) → Type 0 = λ t. Takes (told old before) t raw in
-    let end : told_by n false [] (listed new.half) now ≡ told new now = ap (λ m. told_by m false [] (listed new.half) now) (sym same) ∙ sym (told_unspent new now all' four' unspent') in
-    subst To end (subst Of (sym (told_unspent old before all four unspent)) from)
+    let Of : Option (List ℕ) → Type 0 = λ t. Takes t (exposed_by n false [] (listed new.half) now) raw in
+    let To : Option (List ℕ) → Type 0 = λ t. Takes (exposed old before) t raw in
+    let end : exposed_by n false [] (listed new.half) now ≡ exposed new now = ap (λ m. exposed_by m false [] (listed new.half) now) (sym same) ∙ sym (exposed_unspent new now all' four' unspent') in
+    subst To end (subst Of (sym (exposed_unspent old before all four unspent)) from)
 
 -- and the first of their bytes given
 pub first_given : (old mid : Promotion) (before now : Option (List ℕ)) (raw first value : List ℕ) (at : ℕ) → old.at ≡ 4 → length old.value ≡ 4 → (IsTrue old.spent → ⊥) → mid.narrow ≡ old.narrow → (IsTrue mid.spent → ⊥)
-    → TakesRaw old mid before now raw → raw ≡ first ++ drop at value → Takes (told old before) (told_by mid.narrow mid.spent (drop at value) (listed mid.half) now) first
+    → TakesRaw old mid before now raw → raw ≡ first ++ drop at value → Takes (exposed old before) (exposed_by mid.narrow mid.spent (drop at value) (listed mid.half) now) first
 first_given old mid before now raw first value at all four unspent same unspent' takes is =
     let n = old.narrow in
     let pending = drop at value in
     let from = values_given n before now (listed old.half) (listed mid.half) takes.values first pending takes.taken (sym takes.raw_is ∙ is) in
-    let Of : Option (List ℕ) → Type 0 = λ t. Takes t (told_by n false pending (listed mid.half) now) first in
-    let To : Option (List ℕ) → Type 0 = λ t. Takes (told old before) t first in
-    let end : told_by n false pending (listed mid.half) now ≡ told_by mid.narrow mid.spent pending (listed mid.half) now =
-    ap (λ m. told_by m false pending (listed mid.half) now) (sym same) ∙ ap (λ s. told_by mid.narrow s pending (listed mid.half) now) (sym (unspent_is mid.spent unspent')) in
-    subst To end (subst Of (sym (told_unspent old before all four unspent)) from)
+    let Of : Option (List ℕ) → Type 0 = λ t. Takes t (exposed_by n false pending (listed mid.half) now) first in
+    let To : Option (List ℕ) → Type 0 = λ t. Takes (exposed old before) t first in
+    let end : exposed_by n false pending (listed mid.half) now ≡ exposed_by mid.narrow mid.spent pending (listed mid.half) now =
+    ap (λ m. exposed_by m false pending (listed mid.half) now) (sym same) ∙ ap (λ s. exposed_by mid.narrow s pending (listed mid.half) now) (sym (unspent_is mid.spent unspent')) in
+    subst To end (subst Of (sym (exposed_unspent old before all four unspent)) from)
 
 -- the source is at its end, and a zero byte was given for half a value
 pub half_read : (old mid new : Promotion) (before now : Option (List ℕ)) (raw : List ℕ) (count : ℕ) → old.at ≡ 4 → length old.value ≡ 4 → (IsTrue old.spent → ⊥) → mid.narrow ≡ old.narrow → TakesRaw old mid before now raw → length raw ≡ 0
     → IsAtEnd now → new.narrow ≡ mid.narrow → new.half ≡ mid.half → new.at ≡ 4 → length new.value ≡ 4 → count ≡ length (listed mid.half) → IsTrue new.spent ↔ (0 < count)
     → (given : List ℕ) → given ≡ replicate (length (listed mid.half)) 0
-    → Takes (told old before) (told new now) given × (count ≡ 0 → IsAtEnd (told new now))
+    → Takes (exposed old before) (exposed new now) given × (count ≡ 0 → IsAtEnd (exposed new now))
 half_read old mid new before now raw count all four unspent same takes none end narrow half all' four' count_is spent given given_is =
     let n = old.narrow in
     let h = listed mid.half in
@@ -60,11 +60,11 @@ half_read old mid new before now raw count all four unspent same takes none end 
     let Without : List ℕ → Type 0 = λ vs. TakesValues n before now (listed old.half) h vs in
     let Spent : ℕ → Type 0 = λ k. IsTrue new.spent ↔ (0 < k) in
     let from = half_given n before now (listed old.half) h new.spent few (subst Without no takes.taken) end (subst Spent count_is spent) in
-    let Of : Option (List ℕ) → Type 0 = λ t. Takes t (told_by n new.spent [] h now) given in
-    let To : Option (List ℕ) → Type 0 = λ t. Takes (told old before) t given in
-    let Given : List ℕ → Type 0 = λ bs. Takes (told_by n false [] (listed old.half) before) (told_by n new.spent [] h now) bs in
-    let is : told_by n new.spent [] h now ≡ told new now =
-    ap (λ m. told_by m new.spent [] h now) (sym (narrow ∙ same)) ∙ ap (λ o. told_by new.narrow new.spent [] (listed o) now) (sym half) ∙ sym (told_idle new now all' four') in (
-      subst To is (subst Of (sym (told_unspent old before all four unspent)) (subst Given (sym given_is) from)),
+    let Of : Option (List ℕ) → Type 0 = λ t. Takes t (exposed_by n new.spent [] h now) given in
+    let To : Option (List ℕ) → Type 0 = λ t. Takes (exposed old before) t given in
+    let Given : List ℕ → Type 0 = λ bs. Takes (exposed_by n false [] (listed old.half) before) (exposed_by n new.spent [] h now) bs in
+    let is : exposed_by n new.spent [] h now ≡ exposed new now =
+    ap (λ m. exposed_by m new.spent [] h now) (sym (narrow ∙ same)) ∙ ap (λ o. exposed_by new.narrow new.spent [] (listed o) now) (sym half) ∙ sym (exposed_idle new now all' four') in (
+      subst To is (subst Of (sym (exposed_unspent old before all four unspent)) (subst Given (sym given_is) from)),
       λ nothing. subst IsAtEnd is (none_comes n new.spent now h end (sym count_is ∙ nothing)),
     )

@@ -9,11 +9,11 @@ use Rattle.zf_base.specs.declared.lane.Ty.{Ty}
 use Rattle.zf_base.specs.declared.lane.Ty.TheVariants.{I32, I64}
 use Rattle.zf_header.specs.declared.header.HeaderFault.{HeaderFault}
 use Rattle.zf_header.specs.HeaderFaults.{header_fault}
-use Rattle.zf_dev.specs.Sink.{Appends, AppendsFront}
-use Rattle.zf_dev.proofs.Appending.{AppendsFront-all, AppendsFront-more}
+use Rattle.zf_dev.specs.Sink.{Appends, AppendsPrefix}
+use Rattle.zf_dev.proofs.Appending.{AppendsPrefix-all, AppendsPrefix-more}
 use Rattle.zf_parse.specs.declared.fault.StreamFault.{StreamFault}
 use Rattle.zf_parse.specs.Parsing.{header_of, header_or, code_bits, read_codes, blocks_text, longest_codes, restore_answer, restored_text}
-use Rattle.zf_stream.specs.Outcomes.{Answers, LeavesFront}
+use Rattle.zf_stream.specs.Outcomes.{Answers, LeavesPrefix}
 use Rattle.zf_stream.specs.Outcomes as outcomes
 use Rattle.zf_stream.specs.Typed.{answer_of_types, typed_answer, CanRefuseTyped, RestoresTyped, HasOtherType}
 use Rattle.zf_stream.specs.Restoring.{still}
@@ -24,7 +24,7 @@ use Rattle.zf_narrow.specs.declared.fault.NarrowFault.TheVariants.{NotNarrow, St
 use Rattle.zf_narrow.specs.declared.demotion.Demotion.{Demotion}
 use Rattle.zf_narrow.specs.RawNarrow.{demoted_bytes}
 use Rattle.zf_narrow.specs.Promoting.{listed}
-use Rattle.zf_narrow.specs.Texts.{answer_behind, restore_narrow_answer, IsFromOutside, AnswersNarrow, CanRefuseNarrow, RestoresNarrow, LeavesNarrowFront}
+use Rattle.zf_narrow.specs.Texts.{answer_behind, restore_narrow_answer, IsFromOutside, AnswersNarrow, CanRefuseNarrow, RestoresNarrow, LeavesNarrowPrefix}
 use Rattle.zf_narrow.proofs.Whole.{demoted_bytes-append}
 
 -- ---- answers
@@ -60,9 +60,9 @@ fault_possible e can = ⊎_elim (λ is. inl (is.0, sym (answer_is is.0) ∙ ap n
 
 -- ---- what was written
 
-front_empty : (xs ys : List ℕ) → xs ++ ys ≡ [] → xs ≡ []
-front_empty [] ys none = refl
-front_empty (x ∷ xs) ys none = absurd (omega (arith, ap (length {A = ℕ}) none))
+prefix_empty : (xs ys : List ℕ) → xs ++ ys ≡ [] → xs ≡ []
+prefix_empty [] ys none = refl
+prefix_empty (x ∷ xs) ys none = absurd (omega (arith, ap (length {A = ℕ}) none))
 
 some_inj : {xs ys : List ℕ} → Some xs ≡ Some ys → xs ≡ ys
 some_inj same = ap still same
@@ -101,17 +101,17 @@ demotes n start now d same written = record {
 }
 
 module _ (n : Narrow) {start now : Option (List ℕ)} {given owed taken part : List ℕ} (d : Demotes n start now given owed taken part) where
-  -- of a front of the text a front was written
-  front_written : (text : List ℕ) → AppendsFront (Some []) (Some (taken ++ part)) text → AppendsFront start now (demoted_bytes n text)
-  front_written text front =
-      let rest = part ++ drop front.0 text in
+  -- of a prefix of the text a prefix was written
+  prefix_written : (text : List ℕ) → AppendsPrefix (Some []) (Some (taken ++ part)) text → AppendsPrefix start now (demoted_bytes n text)
+  prefix_written text prefix =
+      let rest = part ++ drop prefix.0 text in
       let text_is : text ≡ taken ++ rest =
-      sym (take-append-drop front.0 text) ∙ ap (λ (bs : List ℕ). bs ++ drop front.0 text) (sym front.2) ∙ append_assoc taken part (drop front.0 text) in
+      sym (take-append-drop prefix.0 text) ∙ ap (λ (bs : List ℕ). bs ++ drop prefix.0 text) (sym prefix.2) ∙ append_assoc taken part (drop prefix.0 text) in
       let is : given ++ (owed ++ demoted_bytes n rest) ≡ demoted_bytes n text =
       sym (append_assoc given owed (demoted_bytes n rest)) ∙ ap (λ (bs : List ℕ). bs ++ demoted_bytes n rest) d.made
       ∙ sym (demoted_bytes-append n taken rest d.whole) ∙ ap (demoted_bytes n) (sym text_is) in
-      let Written : List ℕ → Type 0 = λ bs. AppendsFront start now bs in
-      subst Written is (AppendsFront-more start now given (owed ++ demoted_bytes n rest) (AppendsFront-all start now given d.written))
+      let Written : List ℕ → Type 0 = λ bs. AppendsPrefix start now bs in
+      subst Written is (AppendsPrefix-more start now given (owed ++ demoted_bytes n rest) (AppendsPrefix-all start now given d.written))
 
   -- of all of it all, where no byte is owed
   all_written : (text : List ℕ) → owed ≡ [] → taken ++ part ≡ text → length text % 4 ≡ 0 → Appends start now (demoted_bytes n text)
@@ -127,8 +127,8 @@ module _ (n : Narrow) {start now : Option (List ℕ)} {given owed taken part : L
   -- of nothing nothing
   pub nothing_written : taken ++ part ≡ [] → Appends start now []
   nothing_written none =
-      let no_taken : taken ≡ [] = front_empty taken part none in
-      let no_given : given ≡ [] = front_empty given owed (d.made ∙ ap (demoted_bytes n) no_taken) in
+      let no_taken : taken ≡ [] = prefix_empty taken part none in
+      let no_given : given ≡ [] = prefix_empty given owed (d.made ∙ ap (demoted_bytes n) no_taken) in
       let Written : List ℕ → Type 0 = λ bs. Appends start now bs in
       subst Written no_given d.written
 
@@ -142,21 +142,21 @@ module _ (n : Narrow) {start now : Option (List ℕ)} {given owed taken part : L
   }
 
   -- the last byte that is owed was not written
-  pub restores_but_one : {src0 src1 : Option (List ℕ)} → RestoresTyped I32 src0 src1 (Some []) (Some (taken ++ part)) → LeavesNarrowFront n src0 src1 start now
+  pub restores_but_one : {src0 src1 : Option (List ℕ)} → RestoresTyped I32 src0 src1 (Some []) (Some (taken ++ part)) → LeavesNarrowPrefix n src0 src1 start now
   restores_but_one {src0} {src1} fin = record {
     bytes = fin.bytes;
     taken = fin.taken;
-    written = front_written (restored_text fin.bytes) (AppendsFront-all (Some []) (Some (taken ++ part)) (restored_text fin.bytes) fin.written);
+    written = prefix_written (restored_text fin.bytes) (AppendsPrefix-all (Some []) (Some (taken ++ part)) (restored_text fin.bytes) fin.written);
   }
 
-  pub leaves : {src0 src1 : Option (List ℕ)} → LeavesFront restored_text src0 src1 (Some []) (Some (taken ++ part)) → LeavesNarrowFront n src0 src1 start now
+  pub leaves : {src0 src1 : Option (List ℕ)} → LeavesPrefix restored_text src0 src1 (Some []) (Some (taken ++ part)) → LeavesNarrowPrefix n src0 src1 start now
   leaves {src0} {src1} left = record {
     bytes = left.bytes;
     taken = left.taken;
-    written = front_written (restored_text left.bytes) left.written;
+    written = prefix_written (restored_text left.bytes) left.written;
   }
 
-  pub leaves_other : {src0 src1 : Option (List ℕ)} → HasOtherType I32 src0 src1 (Some []) (Some (taken ++ part)) → LeavesNarrowFront n src0 src1 start now
+  pub leaves_other : {src0 src1 : Option (List ℕ)} → HasOtherType I32 src0 src1 (Some []) (Some (taken ++ part)) → LeavesNarrowPrefix n src0 src1 start now
   leaves_other {src0} {src1} other = record {
     bytes = other.bytes;
     taken = other.first.taken;

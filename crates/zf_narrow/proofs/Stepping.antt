@@ -7,7 +7,7 @@ use Rattle.zf_narrow.specs.declared.narrow.Narrow.{Narrow}
 use Rattle.zf_narrow.specs.declared.narrow.Narrow.TheVariants.{I8, U8, I16, U16}
 use Rattle.zf_narrow.specs.Values.{size_of}
 use Rattle.zf_narrow.specs.RawNarrow.{promoted_bytes, promoted_all}
-use Rattle.zf_narrow.specs.Promoting.{coming, told_by, TakesValues}
+use Rattle.zf_narrow.specs.Promoting.{coming, exposed_by, TakesValues}
 use Rattle.zf_narrow.proofs.Whole.{promoted_all-append, promoted_all-few}
 
 some_size : (n : Narrow) → 0 < size_of n
@@ -26,7 +26,7 @@ values_then n half half_now values bytes left rest taken parts whole =
 
 -- whole values were read, of whose bytes the first were given and the rest are pending
 pub values_given : (n : Narrow) (before now : Option (List ℕ)) (half half_now values first pending : List ℕ) → TakesValues n before now half half_now values → promoted_bytes n values ≡ first ++ pending
-    → Takes (told_by n false [] half before) (told_by n false pending half_now now) first
+    → Takes (exposed_by n false [] half before) (exposed_by n false pending half_now now) first
 values_given n None now half half_now values first pending takes is = tt
 values_given n (Some left) None half half_now values first pending takes is = absurd takes.taken
 values_given n (Some left) (Some rest) half half_now values first pending takes is =
@@ -35,7 +35,7 @@ values_given n (Some left) (Some rest) half half_now values first pending takes 
 
 -- at the end of the source a zero byte is given for half a value
 pub half_given : (n : Narrow) (before now : Option (List ℕ)) (half half_now : List ℕ) (spent : Bool) → length half_now < size_of n → TakesValues n before now half half_now [] → IsAtEnd now → IsTrue spent ↔ (0 < length half_now)
-    → Takes (told_by n false [] half before) (told_by n spent [] half_now now) (replicate (length half_now) 0)
+    → Takes (exposed_by n false [] half before) (exposed_by n spent [] half_now now) (replicate (length half_now) 0)
 half_given n None now half half_now spent few takes end is = tt
 half_given n (Some left) None half half_now spent few takes end is = absurd takes.taken
 half_given n (Some left) (Some rest) half half_now spent few takes end is =
@@ -65,20 +65,20 @@ half_given n (Some left) (Some rest) half half_now spent few takes end is =
         false_is_not h = cc
 
 -- nothing comes where nothing is left
-pub none_comes : (n : Narrow) (spent : Bool) (now : Option (List ℕ)) (half : List ℕ) → IsAtEnd now → length half ≡ 0 → IsAtEnd (told_by n spent [] half now)
+pub none_comes : (n : Narrow) (spent : Bool) (now : Option (List ℕ)) (half : List ℕ) → IsAtEnd now → length half ≡ 0 → IsAtEnd (exposed_by n spent [] half now)
 none_comes n spent None half end none = tt
 none_comes n true (Some left) half end none = refl
 none_comes n false (Some left) [] end none = ap (promoted_all n) end ∙ promoted_all-few n [] (some_size n)
 none_comes n false (Some left) (b ∷ half) end none = absurd (omega arith)
 
--- the end of a source that promotes is told by a read of nothing
+-- the end of a source that promotes is exposed by a read of nothing
 pub ends_at : {E : Type 0} (r : Result ℕ E) (old new : Option (List ℕ)) (buf : List ℕ) → IfOk r (λ k. Takes old new (take k buf)) → IfOk r (λ k. k ≤ length buf) → IfOk r (λ k. k ≡ 0 → IsAtEnd new) → IfOk r (λ k. EndsAt old new k)
 ends_at (Err e) old new buf takes bound end = tt
 ends_at (Ok k) None new buf takes bound end = end
 ends_at (Ok k) (Some left) None buf takes bound end = absurd takes
 ends_at (Ok zero) (Some left) (Some rest) buf takes bound end = (λ z. takes ∙ end refl, λ none. refl)
-ends_at (Ok (suc k)) (Some left) (Some rest) buf takes bound end = (λ z. absurd (omega arith), λ none. absurd (no_front (take (suc k) buf) (length-take-le (suc k) buf bound) (sym takes ∙ none)))
+ends_at (Ok (suc k)) (Some left) (Some rest) buf takes bound end = (λ z. absurd (omega arith), λ none. absurd (no_prefix (take (suc k) buf) (length-take-le (suc k) buf bound) (sym takes ∙ none)))
   where
-    no_front : (front : List ℕ) → length front ≡ suc k → front ++ rest ≡ [] → ⊥
-    no_front [] long none = absurd (omega arith)
-    no_front (x ∷ xs) long none = absurd (omega (arith, ap (length {A = ℕ}) none))
+    no_prefix : (prefix : List ℕ) → length prefix ≡ suc k → prefix ++ rest ≡ [] → ⊥
+    no_prefix [] long none = absurd (omega arith)
+    no_prefix (x ∷ xs) long none = absurd (omega (arith, ap (length {A = ℕ}) none))

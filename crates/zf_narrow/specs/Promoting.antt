@@ -15,10 +15,10 @@ abbrev pub coming : Narrow → Bool → List ℕ → List ℕ → List ℕ
 coming n true half left = []
 coming n false half left = promoted_all n (half ++ left)
 
--- the same behind bytes that are pending, where the source tells what is to come
-abbrev pub told_by : Narrow → Bool → List ℕ → List ℕ → Option (List ℕ) → Option (List ℕ)
-told_by n spent pending half None = None
-told_by n spent pending half (Some left) = Some (pending ++ coming n spent half left)
+-- the same behind bytes that are pending, where the source exposes what is to come
+abbrev pub exposed_by : Narrow → Bool → List ℕ → List ℕ → Option (List ℕ) → Option (List ℕ)
+exposed_by n spent pending half None = None
+exposed_by n spent pending half (Some left) = Some (pending ++ coming n spent half left)
 
 -- some bytes were taken, which are these whole values, but for the first byte of a value before them and behind them
 pub record TakesValues (n : Narrow) (before now : Option (List ℕ)) (half_before half_now values : List ℕ) : Type 0 where
@@ -28,8 +28,8 @@ pub record TakesValues (n : Narrow) (before now : Option (List ℕ)) (half_befor
   pub whole : length values % size_of n ≡ 0
 
 -- so many bytes were taken, and stand behind those from before
-pub record ReadsBehind (before now : Option (List ℕ)) (front all : List ℕ) (count : ℕ) : Type 0 where
+pub record ReadsBehind (before now : Option (List ℕ)) (prefix all : List ℕ) (count : ℕ) : Type 0 where
   pub bytes : List ℕ
   pub taken : Takes before now bytes
-  pub all_are : all ≡ front ++ bytes
+  pub all_are : all ≡ prefix ++ bytes
   pub count_is : length bytes ≡ count

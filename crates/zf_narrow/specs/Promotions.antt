@@ -2,12 +2,12 @@
 use Rattle.std.specs.Prelude.{ℕ, ◌≡◌, List, ◌++◌, drop, Option}
 use Rattle.zf_dev.specs.Source.{Takes}
 use Rattle.zf_narrow.specs.declared.promotion.Promotion.{Promotion}
-use Rattle.zf_narrow.specs.Promoting.{listed, told_by, TakesValues}
+use Rattle.zf_narrow.specs.Promoting.{listed, exposed_by, TakesValues}
 use Rattle.zf_narrow.specs.RawNarrow.{promoted_bytes}
 
--- the int32 bytes still to come, where the source tells what is to come
-abbrev pub told : Promotion → Option (List ℕ) → Option (List ℕ)
-told p left = told_by p.narrow p.spent (drop p.at p.value) (listed p.half) left
+-- the int32 bytes still to come, where the source exposes what is to come
+abbrev pub exposed : Promotion → Option (List ℕ) → Option (List ℕ)
+exposed p left = exposed_by p.narrow p.spent (drop p.at p.value) (listed p.half) left
 
 -- all narrow bytes that were read
 abbrev pub read_so_far : Promotion → List ℕ

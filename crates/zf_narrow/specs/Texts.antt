@@ -7,13 +7,13 @@ use Rattle.zf_header.specs.declared.header.Header.{Header}
 use Rattle.zf_header.specs.declared.header.HeaderFault.{HeaderFault}
 use Rattle.zf_header.specs.HeaderFaults.{header_fault}
 use Rattle.zf_dev.specs.Source.{Takes, IsAtEnd}
-use Rattle.zf_dev.specs.Sink.{Appends, AppendsFront}
+use Rattle.zf_dev.specs.Sink.{Appends, AppendsPrefix}
 use Rattle.zf_parse.specs.declared.fault.StreamFault.{StreamFault}
 use Rattle.zf_parse.specs.declared.fault.StreamFault.TheVariants as faults
 use Rattle.zf_parse.specs.Raw.{length_answer, stream_text}
 use Rattle.zf_parse.specs.Parsing.{header_of, restore_answer, restored_text}
 use Rattle.zf_stream.specs.Outcomes as outcomes
-use Rattle.zf_stream.specs.Headed.{front_room}
+use Rattle.zf_stream.specs.Headed.{prefix_room}
 use Rattle.zf_narrow.specs.declared.narrow.Narrow.{Narrow}
 use Rattle.zf_narrow.specs.declared.fault.NarrowFault.{NarrowFault}
 use Rattle.zf_narrow.specs.declared.fault.NarrowFault.TheVariants.{NotNarrow, Stream}
@@ -26,7 +26,7 @@ use Rattle.zf_narrow.specs.RawNarrow.{promoted_bytes, demoted_bytes}
 abbrev pub narrow_len : Narrow → Header → ℕ
 narrow_len n h = size_of n * product h.shape
 
--- how many narrow bytes are told by so many int32 bytes, of which a last one alone stands for half a value
+-- how many narrow bytes are exposed by so many int32 bytes, of which a last one alone stands for half a value
 abbrev pub narrow_count : Narrow → ℕ → ℕ
 narrow_count n bytes = bytes / 4 * size_of n + min (bytes % 4) (size_of n - 1)
 
@@ -43,15 +43,15 @@ compress_narrow_answer n h bytes = length_answer (narrow_len n h) bytes
 abbrev pub narrow_text : Narrow → Header → List ℕ → List ℕ
 narrow_text n h bytes = stream_text h (promoted_bytes n bytes)
 
--- these are the raw int32 bytes of the values that stand for the narrow values of the bytes that a told source gave
+-- these are the raw int32 bytes of the values that stand for the narrow values of the bytes that a source that exposes its contents gave
 abbrev pub ArePromoted : Narrow → Option (List ℕ) → List ℕ → List ℕ → Type 0
 ArePromoted n None bytes raw = Unit {0}
-ArePromoted n (Some told) bytes raw = raw ≡ promoted_bytes n bytes
+ArePromoted n (Some exposed) bytes raw = raw ≡ promoted_bytes n bytes
 
 -- the same, but for the last bytes, three at most
 abbrev pub ArePromotedNearly : Narrow → Option (List ℕ) → List ℕ → List ℕ → Type 0
 ArePromotedNearly n None bytes raw = Unit {0}
-ArePromotedNearly n (Some told) bytes raw = (raw ≡ take (length raw) (promoted_bytes n bytes)) × (length (promoted_bytes n bytes) ≤ length raw + 3)
+ArePromotedNearly n (Some exposed) bytes raw = (raw ≡ take (length raw) (promoted_bytes n bytes)) × (length (promoted_bytes n bytes) ≤ length raw + 3)
 
 -- the same after a fault of a device, and else all of them
 abbrev pub ArePromotedAfter : StreamFault → Narrow → Option (List ℕ) → List ℕ → List ℕ → Type 0
@@ -69,13 +69,13 @@ pub record CompressesNarrow (n : Narrow) (h : Header) (src_before src_now out_be
   pub raw_is : ArePromoted n src_before bytes raw
   pub written : Appends out_before out_now (stream_text h raw)
 
--- some bytes were read, and a front of the stream of their values was written, maybe nothing
+-- some bytes were read, and a prefix of the stream of their values was written, maybe nothing
 pub record LeavesNarrow (e : StreamFault) (n : Narrow) (h : Header) (src_before src_now out_before out_now : Option (List ℕ)) : Type 0 where
   pub bytes : List ℕ
   pub taken : Takes src_before src_now bytes
   pub raw : List ℕ
   pub raw_is : ArePromotedAfter e n src_before bytes raw
-  pub written : AppendsFront out_before out_now (stream_text h raw)
+  pub written : AppendsPrefix out_before out_now (stream_text h raw)
 
 -- ---- from a stream to narrow values
 
@@ -98,7 +98,7 @@ restore_narrow_answer bytes = answer_behind (header_fault bytes) (header_of byte
 abbrev pub narrow_restored : Narrow → List ℕ → List ℕ
 narrow_restored n bytes = demoted_bytes n (restored_text bytes)
 
--- a fault of a device, or want of memory: what no input determines
+-- a fault of a device, or out of memory: what no input determines
 abbrev pub IsFromOutside : NarrowFault → Type 0
 IsFromOutside NotNarrow = ⊥
 IsFromOutside (Stream e) = outcomes.IsFromOutside e
@@ -128,12 +128,12 @@ pub record RestoresNarrow (n : Narrow) (src_before src_now out_before out_now : 
 -- the first bytes were taken and no more, and they begin with a good header of another type
 pub record HasWideType (src_before src_now : Option (List ℕ)) : Type 0 where
   pub bytes : List ℕ
-  pub first : outcomes.TakesFirst front_room src_before src_now bytes
+  pub first : outcomes.TakesFirst prefix_room src_before src_now bytes
   pub good : header_fault bytes ≡ None
   pub other : (header_of bytes).ty ≢ I32
 
--- some bytes were read, and a front of their values was written, maybe nothing
-pub record LeavesNarrowFront (n : Narrow) (src_before src_now out_before out_now : Option (List ℕ)) : Type 0 where
+-- some bytes were read, and a prefix of their values was written, maybe nothing
+pub record LeavesNarrowPrefix (n : Narrow) (src_before src_now out_before out_now : Option (List ℕ)) : Type 0 where
   pub bytes : List ℕ
   pub taken : Takes src_before src_now bytes
-  pub written : AppendsFront out_before out_now (narrow_restored n bytes)
+  pub written : AppendsPrefix out_before out_now (narrow_restored n bytes)

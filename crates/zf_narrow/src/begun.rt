@@ -11,7 +11,7 @@ pub(crate) trait Begun {
     /// The type of its values.
     ghost narrow: { Narrow };
 
-    /// What the device told of its bytes.
+    /// What the device exposed of its bytes.
     ghost start: { Option (List ℕ) };
 }
 

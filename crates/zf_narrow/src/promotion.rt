@@ -36,7 +36,7 @@ pub(crate) struct Promotion {
 }
 
 impl Promotion {
-    ghost use Rattle.zf_narrow.specs.Promotions.{told, Logs, TakesRaw};
+    ghost use Rattle.zf_narrow.specs.Promotions.{exposed, Logs, TakesRaw};
 
     /// Nothing was read.
     pub(crate) fn new(narrow: Narrow) -> Promotion
@@ -64,16 +64,16 @@ impl Promotion {
         4 - self.at
     }
 
-    /// Reads some of the next int32 bytes into the front of `buf`, and says how many, as a source does.
+    /// Reads some of the next int32 bytes into the start of `buf`, and says how many, as a source does.
     pub(crate) fn read<S: Source>(&mut self, src: &mut S, buf: &mut [u8]) -> Result<usize, Failed>
         requires room { 0 < length buf.old }
         requires at_end { IsTrue self.old.spent → IsAtEnd (S.contents src.old) }
         ensures same_type { self.new.narrow ≡ self.old.narrow }
         ensures bound { IfOk result (λ k. k ≤ length buf.old) }
-        ensures given { IfOk result (λ k. Takes (told self.old (S.contents src.old)) (told self.new (S.contents src.new)) (take k buf.new)) }
+        ensures given { IfOk result (λ k. Takes (exposed self.old (S.contents src.old)) (exposed self.new (S.contents src.new)) (take k buf.new)) }
         ensures rest { IfOk result (λ k. drop k buf.new ≡ drop k buf.old) }
-        ensures end { IfOk result (λ k. k ≡ 0 → IsAtEnd (told self.new (S.contents src.new))) }
-        ensures ungiven { OnErr result (Takes (told self.old (S.contents src.old)) (told self.new (S.contents src.new)) []) }
+        ensures end { IfOk result (λ k. k ≡ 0 → IsAtEnd (exposed self.new (S.contents src.new))) }
+        ensures ungiven { OnErr result (Takes (exposed self.old (S.contents src.old)) (exposed self.new (S.contents src.new)) []) }
         ensures taken { Logs self.old self.new (S.contents src.old) (S.contents src.new) }
         ensures at_end { IsTrue self.new.spent → IsAtEnd (S.contents src.new) }
         ensures unchanged { OnOk result (S.faults src.new ≡ S.faults src.old) }
@@ -104,10 +104,10 @@ impl Promotion {
         requires unspent { ¬ IsTrue self.old.spent }
         ensures same_type { self.new.narrow ≡ self.old.narrow }
         ensures bound { IfOk result (λ k. k ≤ length buf.old) }
-        ensures given { IfOk result (λ k. Takes (told self.old (S.contents src.old)) (told self.new (S.contents src.new)) (take k buf.new)) }
+        ensures given { IfOk result (λ k. Takes (exposed self.old (S.contents src.old)) (exposed self.new (S.contents src.new)) (take k buf.new)) }
         ensures rest { IfOk result (λ k. drop k buf.new ≡ drop k buf.old) }
-        ensures end { IfOk result (λ k. k ≡ 0 → IsAtEnd (told self.new (S.contents src.new))) }
-        ensures ungiven { OnErr result (Takes (told self.old (S.contents src.old)) (told self.new (S.contents src.new)) []) }
+        ensures end { IfOk result (λ k. k ≡ 0 → IsAtEnd (exposed self.new (S.contents src.new))) }
+        ensures ungiven { OnErr result (Takes (exposed self.old (S.contents src.old)) (exposed self.new (S.contents src.new)) []) }
         ensures taken { Logs self.old self.new (S.contents src.old) (S.contents src.new) }
         ensures at_end { IsTrue self.new.spent → IsAtEnd (S.contents src.new) }
         ensures unchanged { OnOk result (S.faults src.new ≡ S.faults src.old) }

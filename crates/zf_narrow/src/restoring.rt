@@ -6,7 +6,7 @@ ghost use Rattle.zf_dev.specs.Sink.{Appends};
 ghost use Rattle.zf_parse.specs.ReadStreams.{HasGoodHeader};
 ghost use Rattle.zf_parse.specs.declared.fault.StreamFault.TheVariants.{Read, Write, Memory};
 ghost use Rattle.zf_narrow.specs.declared.fault.NarrowFault.TheVariants.{NotNarrow, Stream};
-ghost use Rattle.zf_narrow.specs.Texts.{AnswersNarrow, CanRefuseNarrow, RestoresNarrow, HasWideType, LeavesNarrowFront, IsBeforeWriting};
+ghost use Rattle.zf_narrow.specs.Texts.{AnswersNarrow, CanRefuseNarrow, RestoresNarrow, HasWideType, LeavesNarrowPrefix, IsBeforeWriting};
 
 use crate::begun::Begun;
 use crate::demoted::Demoted;
@@ -36,7 +36,7 @@ pub fn restore_narrow<S: Source, O: Sink>(
     ensures possible { IfErr result CanRefuseNarrow }
     ensures ok { OnOk result (RestoresNarrow n
         (S.contents src.old) (S.contents src.new) (O.contents out.old) (O.contents out.new)) }
-    ensures err { OnErr result (LeavesNarrowFront n
+    ensures err { OnErr result (LeavesNarrowPrefix n
         (S.contents src.old) (S.contents src.new) (O.contents out.old) (O.contents out.new)) }
     ensures unwritten { IfErr result (λ e. IsBeforeWriting e → Appends (O.contents out.old) (O.contents out.new) []) }
     ensures other { result ≡ Err NotNarrow → HasWideType (S.contents src.old) (S.contents src.new) }
@@ -63,7 +63,7 @@ fn restore_begun<S: Source, O: Sink, K: Begun>(
     ensures possible { IfErr result CanRefuseNarrow }
     ensures ok { OnOk result (RestoresNarrow n
         (S.contents src.old) (S.contents src.new) (O.contents out.old) (O.contents out.new)) }
-    ensures err { OnErr result (LeavesNarrowFront n
+    ensures err { OnErr result (LeavesNarrowPrefix n
         (S.contents src.old) (S.contents src.new) (O.contents out.old) (O.contents out.new)) }
     ensures unwritten { IfErr result (λ e. IsBeforeWriting e → Appends (O.contents out.old) (O.contents out.new) []) }
     ensures other { result ≡ Err NotNarrow → HasWideType (S.contents src.old) (S.contents src.new) }

@@ -10,7 +10,7 @@ use crate::Narrow;
 use crate::raw::size;
 use zf_dev::{Failed, Source};
 
-/// Reads as many whole values as come at once, at least one, into the front of `piece`, and says how many bytes they have: none at the end of the source.
+/// Reads as many whole values as come at once, at least one, into the start of `piece`, and says how many bytes they have: none at the end of the source.
 ///
 /// `half` is the first byte of a value whose second is still to come, before and after.
 pub(crate) fn take_values<S: Source>(
@@ -51,7 +51,7 @@ pub(crate) fn take_values<S: Source>(
 // Puts the first byte of a value in front, where there is one, and says how many that are.
 fn put_half(half: &Option<u8>, piece: &mut [u8]) -> usize
     requires { 0 < length piece.old }
-    ensures front { take result piece.new ≡ listed half.now }
+    ensures prefix { take result piece.new ≡ listed half.now }
     ensures count { result ≡ length (listed half.now) }
 {
     match *half {

@@ -89,23 +89,23 @@ pub record IsRowCopied (from to : ℕ) (source old new : List ℤ) : Type 0 wher
 copied_row : (from to : ℕ) (source old : List ℤ) → from + 4 ≤ length source → to + 4 ≤ length old
     → IsRowCopied from to source old (take to old ++ (take 4 (drop from source) ++ drop (to + 4) old))
 copied_row from to source old there room =
-    let front : length (take to old) ≡ to = length-take-le to old (omega arith) in
+    let prefix : length (take to old) ≡ to = length-take-le to old (omega arith) in
     let four : length (take 4 (drop from source)) ≡ 4 = length-take-le 4 (drop from source) (omega (arith, length-drop from source)) in
     let rest = take 4 (drop from source) ++ drop (to + 4) old in
     record {
       row = λ k small.
           let back : to + k - to ≡ k = omega arith in
-          get_or-append_right (take to old) rest to (to + k) (pos 0) front (omega arith)
+          get_or-append_right (take to old) rest to (to + k) (pos 0) prefix (omega arith)
           ∙ ap (λ i. get_or rest i (pos 0)) back
           ∙ get_or-append (take 4 (drop from source)) (drop (to + 4) old) (pos 0) k (omega (arith, four))
           ∙ get_or-take 4 (drop from source) k (pos 0) small ∙ get_or-drop from source k (pos 0);
       others = λ i free. ⊎_elim
-          (λ (before : i < to). get_or-append (take to old) rest (pos 0) i (omega (arith, front)) ∙ get_or-take to old i (pos 0) before)
+          (λ (before : i < to). get_or-append (take to old) rest (pos 0) i (omega (arith, prefix)) ∙ get_or-take to old i (pos 0) before)
           (λ (from_there : to ≤ i). ⊎_elim
           (λ (within : i < to + 4). absurd (free (i - to) (omega arith) (omega arith)))
           (λ (behind : to + 4 ≤ i).
           let place : to + 4 + (i - to - 4) ≡ i = omega arith in
-          get_or-append_right (take to old) rest to i (pos 0) front from_there
+          get_or-append_right (take to old) rest to i (pos 0) prefix from_there
           ∙ get_or-append_right (take 4 (drop from source)) (drop (to + 4) old) 4 (i - to) (pos 0) four (omega arith)
           ∙ get_or-drop (to + 4) old (i - to - 4) (pos 0) ∙ ap (λ n. get_or old n (pos 0)) place)
           (cases_lt i (to + 4)))

@@ -42,8 +42,8 @@ joined-more f start n =
     ∙ ap joined (sym (upto-more n)))
 
 -- those behind the first ones
-pub joined-front : (f : ℕ → List Bool) (k m : ℕ) → flat_map (λ c. c) (map f (upto (k + m))) ≡ flat_map (λ c. c) (map f (upto k)) ++ flat_map (λ c. c) (map f (count_from k m))
-joined-front f k m =
+pub joined-prefix : (f : ℕ → List Bool) (k m : ℕ) → flat_map (λ c. c) (map f (upto (k + m))) ≡ flat_map (λ c. c) (map f (upto k)) ++ flat_map (λ c. c) (map f (count_from k m))
+joined-prefix f k m =
     let joined : List ℕ → List Bool = λ ns. flat_map (λ c. c) (map f ns) in
     let place : 0 + k ≡ k = omega arith in
     ap joined (count_from-add 0 k m ∙ ap (λ j. upto k ++ count_from j m) place)

@@ -23,10 +23,10 @@ cut_told h es s m dims enough = by (cases_lt m (length s))
     by : (m < length s) ⊎ (length s ≤ m) → read (take m s) ≡ read s
     by (inr all) = ap read (take_all m s all)
     by (inl more) =
-        let front = take m s in
-        let long : length front ≡ m = length-take-le m s (omega (arith, more)) in
-        let code = found (read front) (enough_for_one h es front dims (omega (arith, enough, long))) in
-        let whole = (read_code_more (width_of h.ty) h.mode es front (drop m s) code.0 code.1).0 in
+        let prefix = take m s in
+        let long : length prefix ≡ m = length-take-le m s (omega (arith, more)) in
+        let code = found (read prefix) (enough_for_one h es prefix dims (omega (arith, enough, long))) in
+        let whole = (read_code_more (width_of h.ty) h.mode es prefix (drop m s) code.0 code.1).0 in
         code.1 ∙ sym whole ∙ ap read (take-append-drop m s)
 
 -- and so is the fill

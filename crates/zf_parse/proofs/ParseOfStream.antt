@@ -106,13 +106,13 @@ module _ (h : Header) (bytes : List ℕ) (codes : List Bool) (n : ℕ) (is_heade
       → values_said bytes ≡ Ok (values_of_blocks h.shape found)
   unfolding values_said
   said_bits found fill reads =
-      let front = header_bits h in
+      let prefix = header_bits h in
       let zeros : List Bool = replicate n false in
       let all = length (to_bits bytes) in
       let Answer : Header → Result (List ℤ) StreamFault = λ g.
       codes_answer g all (read_codes g 0 (blocks g.shape) (drop (length (header_bits g)) (to_bits bytes))) in
-      let used : all - length zeros ≡ length (front ++ codes) = omega (arith, ap length bits, length-append (front ++ codes) zeros) in
-      let fill_is_good : fill_answer h (all - length zeros) zeros ≡ Ok tt = ap (λ k. fill_answer h k zeros) used ∙ fill_good h (length (front ++ codes)) n fill in
+      let used : all - length zeros ≡ length (prefix ++ codes) = omega (arith, ap length bits, length-append (prefix ++ codes) zeros) in
+      let fill_is_good : fill_answer h (all - length zeros) zeros ≡ Ok tt = ap (λ k. fill_answer h k zeros) used ∙ fill_good h (length (prefix ++ codes)) n fill in
       ap (λ (f : Option HeaderFault). header_or f (Answer (header_of bytes))) (sym (spelled_is_good bytes h is_header begins))
       ∙ ap Answer header_is
       ∙ ap (λ (s : List Bool). codes_answer h all (read_codes h 0 (blocks h.shape) s)) behind_header

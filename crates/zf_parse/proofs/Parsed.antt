@@ -33,21 +33,21 @@ parse_is bytes h len begun =
     ∙ ap (λ g. answer_of None g bytes (code_bits bytes)) (sym begun.header) ∙ ap (answer_of None h bytes) behind
 
 -- bytes behind a header change nothing of it
-pub begun_more : (front more : List ℕ) (h : Header) (len : ℕ) → BeginsWithHeader front h len → BeginsWithHeader (front ++ more) h len
-begun_more front more h len begun =
-    let g = good front (sym begun.good) in
+pub begun_more : (prefix more : List ℕ) (h : Header) (len : ℕ) → BeginsWithHeader prefix h len → BeginsWithHeader (prefix ++ more) h len
+begun_more prefix more h len begun =
+    let g = good prefix (sym begun.good) in
     let n = length (header_bits h) in
-    let begins : BeginsWith front h = subst (BeginsWith front) (sym begun.header) (read_is_spelled front g) in
-    let is : IsHeader h = subst IsHeader (sym begun.header) (read_is_header front g) in
-    let within : n ≤ length (to_bits front) = omega (arith, length-to_bits front, begun.within, begun.bits_is) in
-    let bits : take n (to_bits (front ++ more)) ≡ header_bits h =
-    ap (take n) (flat_map-append (field 8) front more) ∙ take-append-le n (to_bits front) (to_bits more) within ∙ begins.bits in
-    let more_begins : BeginsWith (front ++ more) h = record { bits = bits } in
+    let begins : BeginsWith prefix h = subst (BeginsWith prefix) (sym begun.header) (read_is_spelled prefix g) in
+    let is : IsHeader h = subst IsHeader (sym begun.header) (read_is_header prefix g) in
+    let within : n ≤ length (to_bits prefix) = omega (arith, length-to_bits prefix, begun.within, begun.bits_is) in
+    let bits : take n (to_bits (prefix ++ more)) ≡ header_bits h =
+    ap (take n) (flat_map-append (field 8) prefix more) ∙ take-append-le n (to_bits prefix) (to_bits more) within ∙ begins.bits in
+    let more_begins : BeginsWith (prefix ++ more) h = record { bits = bits } in
     record {
-      good = sym (spelled_is_good (front ++ more) h is more_begins);
-      header = sym (spelled_is_read (front ++ more) h is more_begins);
+      good = sym (spelled_is_good (prefix ++ more) h is more_begins);
+      header = sym (spelled_is_read (prefix ++ more) h is more_begins);
       bits_is = begun.bits_is;
-      within = omega (arith, begun.within, length-append front more);
+      within = omega (arith, begun.within, length-append prefix more);
     }
 
 -- the first bytes tell the fault of the header, where the longest header lies in them
@@ -55,9 +55,9 @@ pub fault_first : (n : ℕ) (all : List ℕ) → 19 ≤ n → header_fault (take
 fault_first n all within = sym (header_fault-first (take n all)) ∙ ap header_fault (take-take 19 n all within) ∙ header_fault-first all
 
 -- and where it has a fault, the stream has it
-pub parse_fault : (n : ℕ) (all front : List ℕ) (f : HeaderFault) → 19 ≤ n → front ≡ take n all → header_fault front ≡ Some f → restore_answer all ≡ Err (faults.Header f)
+pub parse_fault : (n : ℕ) (all prefix : List ℕ) (f : HeaderFault) → 19 ≤ n → prefix ≡ take n all → header_fault prefix ≡ Some f → restore_answer all ≡ Err (faults.Header f)
 unfolding values_said answer_of
-parse_fault n all front f within is fault =
+parse_fault n all prefix f within is fault =
     let known : header_fault all ≡ Some f = sym (fault_first n all within) ∙ ap header_fault (sym is) ∙ fault in
     ap (λ o. without_values (answer_of o (header_of all) all (code_bits all))) known
 

@@ -27,10 +27,10 @@ use Rattle.zf_parse.specs.Parsing.{read_code, with_block, read_next, read_codes,
 -- ---- one code
 
 -- what begins bits, and is no longer, begins them with more behind
-begins_more : (front s more : List Bool) → length front ≤ length s → Begins front s → Begins front (s ++ more)
+begins_more : (prefix s more : List Bool) → length prefix ≤ length s → Begins prefix s → Begins prefix (s ++ more)
 begins_more [] s more le b = tt
-begins_more (c ∷ front) [] more le b = absurd (omega arith)
-begins_more (c ∷ front) (d ∷ s) more le b = (b.0, begins_more front s more (omega arith) b.1)
+begins_more (c ∷ prefix) [] more le b = absurd (omega arith)
+begins_more (c ∷ prefix) (d ∷ s) more le b = (b.0, begins_more prefix s more (omega arith) b.1)
 
 -- planes whose whole code is there
 full_more : (p size : ℕ) (s more : List Bool) → length (code (planes_in p size s)) ≤ length s → planes_in p size (s ++ more) ≡ planes_in p size s
@@ -59,10 +59,10 @@ read_rev_more w es s more found e =
     let len = n + length (code ps) in
     let parts = cond_some (ltb (length s) len) (rev_of w es ps) found e in
     let within : len ≤ length s = ltb-false (length s) len parts.0 in
-    let front : take n (s ++ more) ≡ take n s = take-append-le n s more (omega arith) in
+    let prefix : take n (s ++ more) ≡ take n s = take-append-le n s more (omega arith) in
     let behind : drop n (s ++ more) ≡ rest ++ more = drop-append-le n s more (omega arith) in
     let same : planes_in (number (take n (s ++ more)) + 1) size (drop n (s ++ more)) ≡ ps =
-    ap (λ (b : List Bool). planes_in (number b + 1) size (drop n (s ++ more))) front
+    ap (λ (b : List Bool). planes_in (number b + 1) size (drop n (s ++ more))) prefix
     ∙ ap (planes_in (number (take n s) + 1) size) behind
     ∙ full_more (number (take n s) + 1) size rest more (omega (arith, within, length-drop n s)) in
     let longer : ltb (length (s ++ more)) len ≡ false = le-ltb (length (s ++ more)) len (omega (arith, within, length-append s more)) in

@@ -25,7 +25,7 @@ abbrev pub IsFaultOf : List ℕ → StreamFault → Type 0
 IsFaultOf bytes (faults.Header f) = header_fault bytes ≡ Some f
 IsFaultOf bytes e = ⊥
 
--- the header of a told source has no fault
+-- the header of a source that exposes its contents has no fault
 abbrev pub HasGoodHeader : Option (List ℕ) → Type 0
 HasGoodHeader None = Unit {0}
 HasGoodHeader (Some bytes) = header_fault bytes ≡ None

@@ -11,7 +11,7 @@ take_append {A} (suc k) (x ∷ xs) ys =
     let less : suc k - suc (length xs) ≡ k - length xs = omega arith in
     rw less (ap (λ (zs : List A). x ∷ zs) (take_append k xs ys))
 
--- a writer was to get the front of a whole list, as far as a budget reaches: it got so much that, with this many bits left,
+-- a writer was to get the prefix of a whole list, as far as a budget reaches: it got so much that, with this many bits left,
 -- the rest is still to come
 pub record Remains (old now : Writer) (budget left : ℕ) (whole rest : List Bool) : Type 0 where
   pub bits : now.bits ++ take left rest ≡ old.bits ++ take budget whole

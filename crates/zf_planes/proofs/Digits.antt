@@ -62,9 +62,9 @@ held_part size n m ws order within =
     let place : n + (m - n) ≡ m = omega arith in
     ap (drop n) (sym (take-take m size (word_bits ws) within) ∙ ap (λ k. take k ds) (sym place)) ∙ drop-take n (m - n) ds
 
-pub held_front : (size n : ℕ) (ws : List ℕ) → n ≤ size → drop 0 (digits_held n ws) ≡ take n (digits_held size ws)
+pub held_prefix : (size n : ℕ) (ws : List ℕ) → n ≤ size → drop 0 (digits_held n ws) ≡ take n (digits_held size ws)
 unfolding digits_held
-held_front size n ws within = sym (take-take n size (word_bits ws) within)
+held_prefix size n ws within = sym (take-take n size (word_bits ws) within)
 
 pub past_size : (size r : ℕ) (ws : List ℕ) → size ≤ 64 * length ws → size ≤ r → get_or (digits_held size ws) r false ≡ false
 past_size size r ws long past = get_or_past (digits_held size ws) r false (omega (arith, length-digits_held size ws long))
@@ -89,7 +89,7 @@ zeros_by_bits size at m w ws is long same bits j from below =
     (cases_lt j size)
 
 pub AreZeros-join : (ds : List Bool) (n k m : ℕ) → AreZeros ds n k → AreZeros ds k m → AreZeros ds n m
-AreZeros-join ds n k m front back j from below = ⊎_elim (λ (early : j < k). front j from early) (λ (late : k ≤ j). back j late below) (cases_lt j k)
+AreZeros-join ds n k m prefix back j from below = ⊎_elim (λ (early : j < k). prefix j from early) (λ (late : k ≤ j). back j late below) (cases_lt j k)
 
 -- the rest of a word is zero
 pub zeros_of_word : (size at w : ℕ) (ws : List ℕ) → w ≡ get_or ws (at / 64) 0 → size ≤ 64 * length ws → w / 2 ^ (at % 64) ≡ 0 → AreZeros (digits_held size ws) at (at + (64 - at % 64))
@@ -107,14 +107,14 @@ within_plane ds n k one zeros =
     absurd (false≢true (sym none ∙ one)))
     (cases_lt k (length ds))
 
-pub split_front : (xs : List Bool) (m : ℕ) → m < length xs → ((i : ℕ) → i < m → get_or xs i false ≡ false) → get_or xs m false ≡ true → xs ≡ replicate m false ++ true ∷ drop (m + 1) xs
-split_front [] m within zeros one = absurd (omega arith)
-split_front (x ∷ xs) zero within zeros one = ap (λ b. b ∷ xs) one
-split_front (x ∷ xs) (suc m) within zeros one =
+pub split_prefix : (xs : List Bool) (m : ℕ) → m < length xs → ((i : ℕ) → i < m → get_or xs i false ≡ false) → get_or xs m false ≡ true → xs ≡ replicate m false ++ true ∷ drop (m + 1) xs
+split_prefix [] m within zeros one = absurd (omega arith)
+split_prefix (x ∷ xs) zero within zeros one = ap (λ b. b ∷ xs) one
+split_prefix (x ∷ xs) (suc m) within zeros one =
     let e : suc m + 1 ≡ suc (m + 1) = omega arith in
     rw e
     (ap (λ b. b ∷ xs) (zeros 0 (omega arith))
-    ∙ ap (λ ys. false ∷ ys) (split_front xs m (omega arith) (λ i below. zeros (suc i) (omega arith)) one))
+    ∙ ap (λ ys. false ∷ ys) (split_prefix xs m (omega arith) (λ i below. zeros (suc i) (omega arith)) one))
 
 -- rank k has the next one from rank n on
 pub record IsNextOne (ds : List Bool) (n k : ℕ) : Type 0 where
@@ -125,7 +125,7 @@ pub record IsNextOne (ds : List Bool) (n k : ℕ) : Type 0 where
 -- from rank n on come zeros, and then the next one
 pub split_at_next : (ds : List Bool) (n m k : ℕ) → n + m ≡ k → IsNextOne ds n k → drop n ds ≡ replicate m false ++ true ∷ drop (m + 1) (drop n ds)
 split_at_next ds n m k place next =
-    split_front (drop n ds) m (omega (arith, length-drop n ds, next.within))
+    split_prefix (drop n ds) m (omega (arith, length-drop n ds, next.within))
     (λ i below. get_or-drop n ds i false ∙ next.zeros (n + i) (omega arith) (omega arith))
     (get_or-drop n ds m false ∙ ap (λ i. get_or ds i false) place ∙ next.one)
 

@@ -116,10 +116,10 @@ pub record IsRunCode (most digits e : ℕ) : Type 0 where
 run_of_entry_to_9 : (most digits e : ℕ) → 0 < most → most ≤ 9 → 0 < digits → digits < 256 → digits < 2 ^ most → e ≡ get_or RUNS digits 0 → IsRunCode most digits e
 run_of_entry_to_9 most digits e some nine one eight within is =
     let i = 256 * (most - 1) + digits in
-    let front : i / 256 + 1 ≡ most = omega arith in
+    let prefix : i / 256 + 1 ≡ most = omega arith in
     let low : i % 256 ≡ digits = omega arith in
     let whole : test_run most digits e ≡ true =
-    ap (λ k. test_run k digits e) (sym front)
+    ap (λ k. test_run k digits e) (sym prefix)
     ∙ ap (λ k. test_run (i / 256 + 1) k e) (sym low)
     ∙ ap (test_run (i / 256 + 1) (i % 256)) (is ∙ ap (λ k. get_or RUNS k 0) (sym low))
     ∙ each_below-true (λ j. test_run (j / 256 + 1) (j % 256) (get_or RUNS (j % 256) 0)) 2304 i test_runs (omega arith) in
@@ -206,8 +206,8 @@ run_goes_on most digits some within =
 
 -- ---- a plane in a word
 
-pub word_front : (size n v : ℕ) → n ≤ size → take n (field size v) ≡ field n v
-word_front size n v within =
+pub word_prefix : (size n v : ℕ) → n ≤ size → take n (field size v) ≡ field n v
+word_prefix size n v within =
     let parts : size ≡ n + (size - n) = omega arith in
     ap (λ k. take n (field k v)) parts ∙ take-field n (size - n) v
 
@@ -220,7 +220,7 @@ word_behind size n v within =
 pub plane_whole : (size v : ℕ) → plane_code size (field size v) ≡ field size v
 plane_whole size v =
     let none : size - size ≡ 0 = omega arith in
-    ap (λ (ds : List Bool). ds ++ tail (drop size (field size v))) (word_front size size v (omega arith))
+    ap (λ (ds : List Bool). ds ++ tail (drop size (field size v))) (word_prefix size size v (omega arith))
     ∙ ap (λ (ds : List Bool). field size v ++ tail ds) (word_behind size size v (omega arith) ∙ ap (λ k. field k (v / 2 ^ size)) none)
     ∙ append-nil (field size v)
 
@@ -229,7 +229,7 @@ pub plane_without : (size n v : ℕ) → n < size → v / 2 ^ n ≡ 0 → plane_
 plane_without size n v within none =
     let more : size - n ≡ suc (size - n - 1) = omega arith in
     let last : is_odd (v / 2 ^ n) ≡ false = ap is_odd none in
-    ap (λ (ds : List Bool). ds ++ tail (drop n (field size v))) (word_front size n v (omega arith))
+    ap (λ (ds : List Bool). ds ++ tail (drop n (field size v))) (word_prefix size n v (omega arith))
     ∙ ap (λ (ds : List Bool). field n v ++ tail ds) (word_behind size n v (omega arith) ∙ ap (field (size - n)) none ∙ field-zero (size - n) ∙ ap (λ k. replicate k false) more)
     ∙ ap (λ (bs : List Bool). field n v ++ bs) (tail-zeros (size - n - 1))
     ∙ sym (field_more n v ∙ ap (λ b. field n v ++ b ∷ []) last)
@@ -243,6 +243,6 @@ rest_small size n v within small =
 pub plane_with : (size n v : ℕ) → n ≤ size → 0 < v / 2 ^ n → v < 2 ^ size → plane_code n (field size v) ≡ field n v ++ true ∷ code_from_run (field (size - n) (v / 2 ^ n))
 plane_with size n v within some small =
     let run = field (size - n) (v / 2 ^ n) in
-    ap (λ (ds : List Bool). ds ++ tail (drop n (field size v))) (word_front size n v within)
+    ap (λ (ds : List Bool). ds ++ tail (drop n (field size v))) (word_prefix size n v within)
     ∙ ap (λ (ds : List Bool). field n v ++ tail ds) (word_behind size n v within)
     ∙ ap (λ (bs : List Bool). field n v ++ bs) (tail-some run (has_one-field (size - n) (v / 2 ^ n) some (rest_small size n v within small)))

@@ -19,10 +19,10 @@ behind_set xs x z i k e =
 pub behind_next : {A : Type 0} (xs : List A) (x z : A) (i : ℕ) → drop i xs ≡ replicate (length xs - i) z → drop (i + 1) (set xs i x) ≡ replicate (length (set xs i x) - (i + 1)) z
 behind_next xs x z i e = let here : i + 0 ≡ i = omega arith in rw here at (behind_set xs x z i 0 e)
 
--- the front up to and with a place that is written, k places on
-pub front_set : {A : Type 0} (xs : List A) (x z : A) (i k : ℕ) → i + k < length xs → drop i xs ≡ replicate (length xs - i) z
+-- the prefix up to and with a place that is written, k places on
+pub prefix_set : {A : Type 0} (xs : List A) (x z : A) (i k : ℕ) → i + k < length xs → drop i xs ≡ replicate (length xs - i) z
     → take (i + k + 1) (set xs (i + k) x) ≡ take i xs ++ (replicate k z ++ x ∷ [])
-front_set xs x z i k within e =
+prefix_set xs x z i k within e =
     let zeros : take k (replicate (length xs - i) z) ≡ replicate k z = take-replicate k (length xs - i) z (omega arith) in
     take_more_set xs (i + k) x within
     ∙ ap (λ ys. ys ++ x ∷ []) (take-add i k xs ∙ ap (λ ys. take i xs ++ ys) (ap (take k) e ∙ zeros))

@@ -85,10 +85,10 @@ pub lanes_of_entry : (n bits e : ℕ) → n ≤ 4 → bits < 256 → e ≡ get_o
     → AreLanes n bits (lanes_apart (e % 65536)) (e / 65536 % 16) (e / 1048576 % 8) (e / 8388608)
 lanes_of_entry n bits e in_plane eight is =
     let i = 256 * n + bits in
-    let front : i / 256 ≡ n = omega arith in
+    let prefix : i / 256 ≡ n = omega arith in
     let low : i % 256 ≡ bits = omega arith in
     let test : test_entry n bits e ≡ true =
-    ap (λ k. test_entry k bits e) (sym front)
+    ap (λ k. test_entry k bits e) (sym prefix)
     ∙ ap (λ k. test_entry (i / 256) k e) (sym low)
     ∙ ap (test_entry (i / 256) (i % 256)) is
     ∙ each_below-true (λ j. test_entry (j / 256) (j % 256) (get_or LANES j 0)) 1280 i test_all_lanes (omega arith) in
@@ -145,8 +145,8 @@ last_tested n left bits v l c a test =
 
 -- the entry of so many bits
 end_at : (n left bits p i e : ℕ) → p ≡ 2 ^ left → test_ends left ≡ true → n ≤ 4 → bits < p → i ≡ n * p + bits → i / p ≡ n → i % p ≡ bits → i < 5 * p → e ≡ get_or ENDS (256 * n + (p + bits)) 0 → test_end n left bits e ≡ true
-end_at n left bits p i e power tests in_plane small place front low below is =
-    let high : i / 2 ^ left ≡ n = ap (λ q. i / q) (sym power) ∙ front in
+end_at n left bits p i e power tests in_plane small place prefix low below is =
+    let high : i / 2 ^ left ≡ n = ap (λ q. i / q) (sym power) ∙ prefix in
     let back : i % 2 ^ left ≡ bits = ap (λ q. i % q) (sym power) ∙ low in
     let here = each_below-true (λ j. test_end (j / 2 ^ left) left (j % 2 ^ left) (get_or ENDS (256 * (j / 2 ^ left) + (2 ^ left + j % 2 ^ left)) 0)) (5 * 2 ^ left) i tests (omega arith) in
     ap (test_end n left bits) (is ∙ ap (λ q. get_or ENDS (256 * n + (q + bits)) 0) power)

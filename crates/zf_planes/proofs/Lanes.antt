@@ -203,17 +203,17 @@ pub record IsLonger (h v e : ℕ) : Type 0 where
 
 pub one_behind : (h v e : ℕ) → v < 2 ^ 64 → e < 2 ^ 64 → AreBelow h (lanes_in 4 v) → AreBelow 1 (lanes_in 4 e) → h + 1 ≤ 16 → IsLonger h v e
 one_behind h v e word more high low room =
-    let front = lanes_in 4 v in
+    let prefix = lanes_in 4 v in
     let back = lanes_in 4 e in
-    let same : length front ≡ length back = length-lanes_in 4 v ∙ sym (length-lanes_in 4 e) in
+    let same : length prefix ≡ length back = length-lanes_in 4 v ∙ sym (length-lanes_in 4 e) in
     let fits : v * 2 + e < 2 ^ 64 = lanes_fit v e h 1 word more high low room in
     let none : v * 2 % 2 ^ 64 ≡ v * 2 = mod-eq_of_lt (omega arith) in
-    let is : lanes_in 4 (v * 2 % 2 ^ 64 + e) ≡ joined 1 front back = ap (λ n. lanes_in 4 (n + e)) none ∙ lanes_joined 4 v e h 1 high low room in
+    let is : lanes_in 4 (v * 2 % 2 ^ 64 + e) ≡ joined 1 prefix back = ap (λ n. lanes_in 4 (n + e)) none ∙ lanes_joined 4 v e h 1 high low room in
     let Below : List ℕ → Type 0 = λ us. AreBelow (h + 1) us in
     record {
       small = omega arith;
-      below = subst Below (sym is) (joined_below h 1 front back same high low);
-      planes = ap (low_planes (h + 1)) is ∙ planes_joined h 1 front back same low;
+      below = subst Below (sym is) (joined_below h 1 prefix back same high low);
+      planes = ap (low_planes (h + 1)) is ∙ planes_joined h 1 prefix back same low;
     }
 
 -- ---- digits in words and in lanes
@@ -228,15 +228,15 @@ pub gathered_more : (words : List ℕ) (done lanes held e c : ℕ) → IsGathere
     → IsGathered words done (lanes * 2 ^ c + e) (held + c) × (gathered words done (lanes * 2 ^ c + e) (held + c) ≡ gathered words done lanes held ++ low_planes c (lanes_in 4 e))
 unfolding gathered
 gathered_more words done lanes held e c before small room =
-    let front = lanes_in 4 lanes in
+    let prefix = lanes_in 4 lanes in
     let back = lanes_in 4 e in
-    let same : length front ≡ length back = length-lanes_in 4 lanes ∙ sym (length-lanes_in 4 e) in
+    let same : length prefix ≡ length back = length-lanes_in 4 lanes ∙ sym (length-lanes_in 4 e) in
     let is = lanes_joined 4 lanes e held c before.back small room in
     let P : List ℕ → Type 0 = λ us. AreBelow (held + c) us in (
-      record { four = before.four; front = before.front; back = subst P (sym is) (joined_below held c front back same before.back small) },
+      record { four = before.four; prefix = before.prefix; back = subst P (sym is) (joined_below held c prefix back same before.back small) },
       ap (λ (us : List ℕ). low_planes done words ++ low_planes (held + c) us) is
-          ∙ ap (λ (ps : List (List Bool)). low_planes done words ++ ps) (planes_joined held c front back same small)
-          ∙ sym (append_assoc (low_planes done words) (low_planes held front) (low_planes c back)),
+          ∙ ap (λ (ps : List (List Bool)). low_planes done words ++ ps) (planes_joined held c prefix back same small)
+          ∙ sym (append_assoc (low_planes done words) (low_planes held prefix) (low_planes c back)),
     )
 
 -- what is in the lanes is put into the words
@@ -247,7 +247,7 @@ gathered_down words done lanes held before =
     let back = lanes_in 4 lanes in
     let same : length words ≡ length back = before.four ∙ sym (length-lanes_in 4 lanes) in
     let all = joined held words back in (
-      record { four = length-joined held words back same ∙ before.four; front = joined_below done held words back same before.front before.back; back = no_lanes_below 0 4 },
+      record { four = length-joined held words back same ∙ before.four; prefix = joined_below done held words back same before.prefix before.back; back = no_lanes_below 0 4 },
       ap (λ (ps : List (List Bool)). low_planes (done + held) all ++ ps) (low_planes-none (lanes_in 4 0)) ∙ append-nil (low_planes (done + held) all) ∙ planes_joined done held words back same before.back,
     )
 
@@ -277,7 +277,7 @@ pub words_fit : (words : List ℕ) (done lanes held : ℕ) → IsGathered words 
     → (get_or words 0 0 * 2 ^ held % 2 ^ 64 + lanes % 65536 < 2 ^ 64) × (get_or words 1 0 * 2 ^ held % 2 ^ 64 + lanes / 65536 % 65536 < 2 ^ 64)
     × (get_or words 2 0 * 2 ^ held % 2 ^ 64 + lanes / 65536 / 65536 % 65536 < 2 ^ 64) × (get_or words 3 0 * 2 ^ held % 2 ^ 64 + lanes / 65536 / 65536 / 65536 % 65536 < 2 ^ 64)
 words_fit words done lanes held before room =
-    let high = elements_below done words before.four before.front in
+    let high = elements_below done words before.four before.prefix in
     let low = lanes_below held lanes before.back in
     (word_fits _ _ done held high.0 low.0 room, word_fits _ _ done held high.1 low.1 room, word_fits _ _ done held high.2 low.2 room, word_fits _ _ done held high.3 low.3 room)
 
@@ -306,7 +306,7 @@ pub put_words : (words : List ℕ) (done lanes held : ℕ) → IsGathered words 
     ∷ (get_or words 2 0 * 2 ^ held % 2 ^ 64 + lanes / 65536 / 65536 % 65536) ∷ (get_or words 3 0 * 2 ^ held % 2 ^ 64 + lanes / 65536 / 65536 / 65536 % 65536) ∷ []) (done + held) 0 0
     ≡ gathered words done lanes held)
 put_words words done lanes held before room =
-    let is = put_together words done lanes held before.four before.front room in
+    let is = put_together words done lanes held before.four before.prefix room in
     let down = gathered_down words done lanes held before in
     let Whole : List ℕ → Type 0 = λ us. IsGathered us (done + held) 0 0 in
     (subst Whole is down.0, ap (λ (us : List ℕ). gathered us (done + held) 0 0) (sym is) ∙ down.1)
@@ -318,11 +318,11 @@ pub lanes_put : (words : List ℕ) (done lanes held e c : ℕ) → lanes < 2 ^ 6
 lanes_put words done lanes held e c word more before small room =
     let fits = lanes_fit lanes e held c word more before.back small room in
     let next = gathered_more words done lanes held e c before small room in
-    let whole : lanes * 2 ^ c % 2 ^ 64 ≡ lanes * 2 ^ c = mod-eq_of_lt (front_fits (lanes * 2 ^ c) e fits) in
+    let whole : lanes * 2 ^ c % 2 ^ 64 ≡ lanes * 2 ^ c = mod-eq_of_lt (prefix_fits (lanes * 2 ^ c) e fits) in
     rw whole (fits, next.0, next.1)
   where
-    front_fits : (a b : ℕ) → a + b < 2 ^ 64 → a < 2 ^ 64
-    front_fits a b fits = omega arith
+    prefix_fits : (a b : ℕ) → a + b < 2 ^ 64 → a < 2 ^ 64
+    prefix_fits a b fits = omega arith
 
 four_zeros : lanes_in 4 0 ≡ 0 ∷ 0 ∷ 0 ∷ 0 ∷ []
 unfolding lanes_in
@@ -333,7 +333,7 @@ pub zeros_below : (words : List ℕ) (done held : ℕ) → IsGathered words done
 unfolding gathered
 zeros_below words done held before =
     let none : lanes_in 4 0 ≡ 0 ∷ 0 ∷ 0 ∷ 0 ∷ [] = four_zeros in (
-      record { four = before.four; front = before.front; back = no_lanes_below held 4 },
+      record { four = before.four; prefix = before.prefix; back = no_lanes_below held 4 },
       ap (λ (ps : List (List Bool)). low_planes done words ++ ps) (ap (low_planes held) none ∙ low_planes-zeros held)
           ∙ ap (λ (ps : List (List Bool)). ps ++ replicate held (replicate 4 false)) (sym (ap (λ (ps : List (List Bool)). low_planes done words ++ ps) (low_planes-none (lanes_in 4 0)) ∙ append-nil (low_planes done words))),
     )

@@ -15,7 +15,7 @@ use Rattle.zf_planes.specs.Lanes.{low_planes, lanes_in, IsGathered, gathered}
 use Rattle.zf_planes.proofs.Doubled.{plane_whole}
 use Rattle.zf_planes.proofs.Lanes.{length-low_planes, low_planes-sizes, length-lanes_in}
 use Rattle.zf_planes.proofs.Passing.{Passes, Passes-part, Takes-rest}
-use Rattle.zf_planes.proofs.Peeking.{window_front, window_long}
+use Rattle.zf_planes.proofs.Peeking.{window_prefix, window_long}
 use Rattle.zf_planes.proofs.PlaneAhead.{whole_plane}
 use Rattle.zf_planes.proofs.PlanesAhead.{whole_planes, next_plane, planes_ahead-none, planes_bits-none}
 
@@ -93,7 +93,7 @@ pub in_view : {now new : Reader} {left after : ℕ} (most n c v len bits count a
 in_view {now} {new} {left} {after} most n c v len bits count above window within code few enough reached takes =
     let s = rest now in
     let planes = low_planes c (lanes_in 4 v) in
-    let next : code_from n planes ≡ take len s = code ∙ window_front s bits count len window.bits few in
+    let next : code_from n planes ≡ take len s = code ∙ window_prefix s bits count len window.bits few in
     let long = length-low_planes c (lanes_in 4 v) in
     let whole = whole_planes planes left most 4 n len s (omega arith) within (sizes c v) next (omega (arith, window_long s bits count window.bits)) (omega (arith, window.within)) (omega (arith, long)) in
     let spent : after ≡ left - len = omega (arith, takes.spent) in
@@ -171,7 +171,7 @@ pub one_in_sight : (left n digits len bits count : ℕ) (s : List Bool) → IsWi
 one_in_sight left n digits len bits count s window within code short few =
     let seven : len + (7 - len) ≡ 7 = omega arith in
     let low : field len (bits % 128) ≡ field len bits = rw seven at (field-mod len (7 - len) bits) in
-    let next : plane_code n (field 4 digits) ≡ take len s = code ∙ low ∙ window_front s bits count len window.bits few in
+    let next : plane_code n (field 4 digits) ≡ take len s = code ∙ low ∙ window_prefix s bits count len window.bits few in
     whole_plane left n len (field 4 digits) s within next (omega (arith, window_long s bits count window.bits)) (omega (arith, window.within))
 
 -- one plane that was read, and the others are to come
@@ -222,14 +222,14 @@ FoursRead-more {start} {now} {new} {budget} {left} {after} {prec} {n} {words} {d
     let bits = rw fewer at some.bits in
     let digits = rw fewer at some.digits in
     let below = planes_ahead after (prec - (done' + held')) 4 above (rest new) in
-    let front = gathered words done lanes held in
+    let prefix = gathered words done lanes held in
     record {
       passes = Passes-part (planes_bits after (prec - (done' + held')) 4 above (rest new)) before.passes bits taken;
       put = put;
       planes =
           before.planes
-          ∙ ap (λ (ps : List (List Bool)). front ++ ps) digits
-          ∙ sym (append_assoc front (low_planes c (lanes_in 4 v)) below)
+          ∙ ap (λ (ps : List (List Bool)). prefix ++ ps) digits
+          ∙ sym (append_assoc prefix (low_planes c (lanes_in 4 v)) below)
           ∙ ap (λ (ps : List (List Bool)). ps ++ below) (sym planes);
       within = omega arith;
       few = few;

@@ -11,7 +11,7 @@ use Rattle.zf_spec.proofs.Fields.{length-field, get_or-field}
 use Rattle.zf_bits.proofs.Fields.{take-field, drop-field}
 use Rattle.zf_bits.specs.Reader.{Reader, rest, Reads}
 use Rattle.zf_planes.specs.Decoding.{IsWindow, run_ahead, run_bits, tail_ahead, tail_bits, Takes}
-use Rattle.zf_planes.proofs.Digits.{split_front}
+use Rattle.zf_planes.proofs.Digits.{split_prefix}
 use Rattle.zf_planes.proofs.Steps.{run_zero, run_one, run_stands, tail_run}
 
 -- ---- the next bits as a number
@@ -34,8 +34,8 @@ pub window_long : (s : List Bool) (v count : ℕ) → field count v ≡ take cou
 window_long s v count e = omega (arith, ap length e, length-field count v, length-take count s)
 
 -- the first n of them
-pub window_front : (s : List Bool) (v count n : ℕ) → field count v ≡ take count s → n ≤ count → field n v ≡ take n s
-window_front s v count n e within =
+pub window_prefix : (s : List Bool) (v count n : ℕ) → field count v ≡ take count s → n ≤ count → field n v ≡ take n s
+window_prefix s v count n e within =
     let parts : n + (count - n) ≡ count = omega arith in
     sym (take-field n (count - n) v) ∙ ap (λ k. take n (field k v)) parts ∙ ap (take n) e ∙ take-take n count s within
 
@@ -87,7 +87,7 @@ one_at (suc v) fits some = (bit_at-trailing_zeros w64 (suc v) (omega arith) fits
 -- and then a one
 pub one_ahead : (s : List Bool) (v count k : ℕ) → field count v ≡ take count s → v < 2 ^ 64 → k ≡ trailing_zeros w64 v → k < count → count ≤ 64 → s ≡ replicate k false ++ true ∷ drop (k + 1) s
 one_ahead s v count k e fits is within small =
-    split_front s k (omega (arith, window_long s v count e))
+    split_prefix s k (omega (arith, window_long s v count e))
     (λ j less. bit_ahead s v count j e (omega arith) ∙ ap (λ b. eqb b 1) (zero_below v j fits (omega arith)))
     (bit_ahead s v count k e within ∙ ap (λ i. eqb (bit_at v i) 1) is ∙ ap (λ b. eqb b 1) (one_at v fits (omega arith)))
 

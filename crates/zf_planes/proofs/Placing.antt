@@ -12,7 +12,7 @@ use Rattle.zf_spec.specs.HeldPlanes.{digits_held, IsClearFrom}
 use Rattle.zf_spec.proofs.WordBits.{length-word_bits, get_or-word_bits}
 use Rattle.zf_bits.proofs.Words.{words-set}
 use Rattle.zf_bits.proofs.Packed.{flat_map-field-replicate}
-use Rattle.zf_planes.proofs.Filling.{front_set, behind_set}
+use Rattle.zf_planes.proofs.Filling.{prefix_set, behind_set}
 use Rattle.zf_planes.proofs.Runs.{reach-push, reach-push_zero}
 
 -- ---- words with no bit from a rank on
@@ -70,11 +70,11 @@ word_filled ws at q n x s place small within word long clear =
     ∙ ap (λ k. take k bits ++ (field 64 x ++ drop (64 * suc q) bits)) (sym place)
     ∙ ap (λ (xs : List Bool). take at bits ++ (xs ++ drop (64 * suc q) bits)) word
     ∙ regroup (take at bits) s (replicate (64 - n) false) (drop (64 * suc q) bits) in
-    let front : length (take at bits ++ s) ≡ at + n = omega (arith, length-append (take at bits) s, length-take at bits) in
+    let prefix : length (take at bits ++ s) ≡ at + n = omega (arith, length-append (take at bits) s, length-take at bits) in
     let same : 64 - n + (length bits - at - 64) ≡ length (word_bits (set ws q x)) - (at + n) = omega (arith, length-word_bits (set ws q x), length-set ws q x) in (
-      ap (take (at + n)) whole ∙ take_at (take at bits ++ s) more (at + n) front,
+      ap (take (at + n)) whole ∙ take_at (take at bits ++ s) more (at + n) prefix,
       ap (drop (at + n)) whole
-          ∙ drop_at (take at bits ++ s) more (at + n) front
+          ∙ drop_at (take at bits ++ s) more (at + n) prefix
           ∙ ap (λ (xs : List Bool). replicate (64 - n) false ++ xs) behind
           ∙ replicate-append-replicate (64 - n) (length bits - at - 64) false
           ∙ ap (λ k. replicate k false) same,
@@ -128,7 +128,7 @@ unfolding digits_held IsClearFrom
 one_placed ws ws' n z within clear is =
     let bits = word_bits ws in
     let all = length-word_bits ws in (
-      ap (take (n + z + 1)) is ∙ front_set bits true false n z (omega arith) clear,
+      ap (take (n + z + 1)) is ∙ prefix_set bits true false n z (omega arith) clear,
       ap (drop (n + z + 1)) is ∙ behind_set bits true false n z clear ∙ ap (λ (xs : List Bool). replicate (length xs - (n + z + 1)) false) (sym is),
     )
 

@@ -78,8 +78,8 @@ first_bits-take (suc q) (suc r) [] low within = absurd (omega arith)
 first_bits-take (suc q) (suc r) (b ∷ s) low within = ap (λ ds. b ∷ ds) (first_bits-take q r s (omega arith) (omega arith))
 
 -- as many of the first n bits as the budget has, and zeros
-front_padded : (r n : ℕ) (s : List Bool) → first_bits n (take r s) ≡ first_bits (min n r) (take r s) ++ replicate (n - min n r) false
-front_padded r n s = ⊎_elim
+prefix_padded : (r n : ℕ) (s : List Bool) → first_bits n (take r s) ≡ first_bits (min n r) (take r s) ++ replicate (n - min n r) false
+prefix_padded r n s = ⊎_elim
     (λ (low : n ≤ r).
     let q : min n r ≡ n = omega arith in
     let none : n - n ≡ 0 = omega arith in
@@ -94,8 +94,8 @@ front_padded r n s = ⊎_elim
     cases_le a b = ⊎_elim (λ (h : a < b). inl (omega arith)) (λ h. inr h) (cases_lt a b)
 
 -- where the bits are there
-pub front_read : (r n : ℕ) (s : List Bool) → min n r ≤ length s → first_bits n (take r s) ≡ take (min n r) s ++ replicate (n - min n r) false
-front_read r n s there = front_padded r n s ∙ ap (λ (ds : List Bool). ds ++ replicate (n - min n r) false) (first_bits-take (min n r) r s (omega arith) there)
+pub prefix_read : (r n : ℕ) (s : List Bool) → min n r ≤ length s → first_bits n (take r s) ≡ take (min n r) s ++ replicate (n - min n r) false
+prefix_read r n s there = prefix_padded r n s ∙ ap (λ (ds : List Bool). ds ++ replicate (n - min n r) false) (first_bits-take (min n r) r s (omega arith) there)
 
 -- ---- a plane
 
@@ -124,13 +124,13 @@ plane_ahead-is r size n s within =
     let t = take r s in
     let q = min n r in
     let ds = plane_in size n t in
-    let front = take_at (first_bits n t) (tail_in (size - n) (drop n t)) n (length-first_bits n t) in
+    let prefix = take_at (first_bits n t) (tail_in (size - n) (drop n t)) n (length-first_bits n t) in
     let padding : length (drop q (first_bits n t)) ≡ n - q = omega (arith, length-drop q (first_bits n t), length-first_bits n t) in
     kept_as_cut r n ds (omega (arith, length-plane_in size n t within))
-    ∙ ap (λ (es : List Bool). take q ds ++ zeros (drop q es) ++ kept_tail (r - q) (drop n ds)) front
+    ∙ ap (λ (es : List Bool). take q ds ++ zeros (drop q es) ++ kept_tail (r - q) (drop n ds)) prefix
     ∙ ap (λ (es : List Bool). es ++ zeros (drop q (first_bits n t)) ++ kept_tail (r - q) (drop n ds)) (begins q (omega arith))
     ∙ ap (λ k. first_bits q t ++ replicate k false ++ kept_tail (r - q) (drop n ds)) padding
-    ∙ ap (λ (es : List Bool). es ++ kept_tail (r - q) (drop n ds)) (sym (front_padded r n s))
+    ∙ ap (λ (es : List Bool). es ++ kept_tail (r - q) (drop n ds)) (sym (prefix_padded r n s))
     ∙ ap (λ (es : List Bool). first_bits n t ++ kept_tail (r - q) es) (tail_of_full r size n s)
   where
     begins : (q : ℕ) → q ≤ n → take q (plane_in size n (take r s)) ≡ first_bits q (take r s)
@@ -150,10 +150,10 @@ plane_bits-is r size n s within =
 pub whole_plane : (left n len : ℕ) (ds s : List Bool) → n ≤ length ds → plane_code n ds ≡ take len s → len ≤ length s → len ≤ left → (plane_bits left (length ds) n s ≡ len) × (plane_ahead left (length ds) n s ≡ ds)
 unfolding plane_bits plane_ahead
 whole_plane left n len ds s within code there fits =
-    let front = take left s in
-    let split : plane_code n ds ++ drop len front ≡ front =
-    ap (λ (bs : List Bool). bs ++ drop len front) (code ∙ sym (take-take len left s fits)) ∙ take-append-drop len front in
-    let begins = begins_itself (plane_code n ds) (drop len front) in
-    let same : ds ≡ plane_in (length ds) n front = full_plane_only n ds front within (rw split at begins) in
+    let prefix = take left s in
+    let split : plane_code n ds ++ drop len prefix ≡ prefix =
+    ap (λ (bs : List Bool). bs ++ drop len prefix) (code ∙ sym (take-take len left s fits)) ∙ take-append-drop len prefix in
+    let begins = begins_itself (plane_code n ds) (drop len prefix) in
+    let same : ds ≡ plane_in (length ds) n prefix = full_plane_only n ds prefix within (rw split at begins) in
     let long : length (plane_code n ds) ≡ len = ap length code ∙ omega (arith, length-take len s) in
     rw (← same) (omega (arith, long), kept_whole left n ds (omega (arith, long)))

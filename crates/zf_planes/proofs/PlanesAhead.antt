@@ -171,9 +171,9 @@ whole_planes (ds ∷ planes) r (suc p) size n len s some within sizes code there
     let size_is : length ds ≡ size = All-head (λ es. length es ≡ size) ds planes sizes in
     let sum : k + length more ≡ len = sym (length-append first more) ∙ ap length code ∙ omega (arith, length-take len s) in
     let parts : len ≡ k + (len - k) = omega arith in
-    let front : first ≡ take k s = sym (take_at first more k refl) ∙ ap (take k) code ∙ take-take k len s (omega arith) in
+    let prefix : first ≡ take k s = sym (take_at first more k refl) ∙ ap (take k) code ∙ take-take k len s (omega arith) in
     let behind : more ≡ take (len - k) (drop k s) = sym (drop_at first more k refl) ∙ ap (drop k) code ∙ ap (λ m. drop k (take m s)) parts ∙ drop-take k (len - k) s in
-    let one = whole_plane r n k ds s (omega arith) front (omega arith) (omega arith) in
+    let one = whole_plane r n k ds s (omega arith) prefix (omega arith) (omega arith) in
     let is : plane_ahead r size n s ≡ ds = subst (λ m. plane_ahead r m n s ≡ ds) size_is one.1 in
     let bits : plane_bits r size n s ≡ k = subst (λ m. plane_bits r m n s ≡ k) size_is one.0 in
     let next = next_plane r p size n s some within (ap length is ∙ size_is) in

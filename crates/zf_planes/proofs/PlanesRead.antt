@@ -13,7 +13,7 @@ use Rattle.zf_bits.specs.Reader.{Reader, rest}
 use Rattle.zf_planes.specs.Decoding.{IsWindow, Takes, Lacks, plane_ahead, plane_bits, planes_ahead, planes_bits, ReadsTop}
 use Rattle.zf_planes.specs.WordPlanes.{IsReadAs}
 use Rattle.zf_planes.proofs.Passing.{Passes, Passes-start, Passes-part, Passes-end, Passes-lacks, Takes-rest}
-use Rattle.zf_planes.proofs.Peeking.{window_front, window_long}
+use Rattle.zf_planes.proofs.Peeking.{window_prefix, window_long}
 use Rattle.zf_planes.proofs.Placing.{clear_zeros}
 use Rattle.zf_planes.proofs.PlaneAhead.{whole_plane}
 use Rattle.zf_planes.proofs.PlanesAhead.{next_plane, plane_bits-le, planes_over, zero_planes}
@@ -153,7 +153,7 @@ pub known_plane : (r size n bits count digits len above : ℕ) (s : List Bool) �
     → (plane_bits r size n s ≡ len) × (plane_ahead r size n s ≡ field size digits)
 known_plane r size n bits count digits len above s within window read few =
     let long = length-field size digits in
-    rw long at (whole_plane r n len (field size digits) s (omega (arith, long)) (read.code ∙ window_front s bits count len window.bits few)
+    rw long at (whole_plane r n len (field size digits) s (omega (arith, long)) (read.code ∙ window_prefix s bits count len window.bits few)
     (omega (arith, few, window_long s bits count window.bits)) (omega (arith, few, window.within)))
 
 pub next_known : (r p size n bits count digits len above : ℕ) (s : List Bool) → 1 ≤ size → n ≤ size → IsWindow r bits count s → IsReadAs n size bits digits len above → len ≤ count

@@ -17,11 +17,11 @@ pub record GoesOn (n : ℕ) (planes : List (List Bool)) (bits : List Bool) (m : 
   pub code : code_from n planes ≡ bits ++ code_from m rest
   pub reached : max n (reach_of_all planes) ≡ max m (reach_of_all rest)
 
-pub GoesOn-more : {n m k : ℕ} {planes rest last : List (List Bool)} {front back : List Bool} (both : List Bool) → GoesOn n planes front m rest → GoesOn m rest back k last → both ≡ front ++ back
+pub GoesOn-more : {n m k : ℕ} {planes rest last : List (List Bool)} {prefix back : List Bool} (both : List Bool) → GoesOn n planes prefix m rest → GoesOn m rest back k last → both ≡ prefix ++ back
     → GoesOn n planes both k last
-GoesOn-more {n} {m} {k} {planes} {rest} {last} {front} {back} both first second joined = record {
+GoesOn-more {n} {m} {k} {planes} {rest} {last} {prefix} {back} both first second joined = record {
   code =
-      first.code ∙ ap (λ (bs : List Bool). front ++ bs) second.code ∙ sym (append_assoc front back (code_from k last))
+      first.code ∙ ap (λ (bs : List Bool). prefix ++ bs) second.code ∙ sym (append_assoc prefix back (code_from k last))
       ∙ ap (λ (bs : List Bool). bs ++ code_from k last) (sym joined);
   reached = first.reached ∙ second.reached;
 }

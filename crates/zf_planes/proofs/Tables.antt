@@ -59,10 +59,10 @@ pub record IsCode (n digits e : ℕ) : Type 0 where
 pub code_of_entry : (n digits e : ℕ) → n ≤ 4 → digits < 16 → e ≡ get_or CODES (16 * n + digits) 0 → IsCode n digits e
 code_of_entry n digits e in_plane four is =
     let i = 16 * n + digits in
-    let front : i / 16 ≡ n = omega arith in
+    let prefix : i / 16 ≡ n = omega arith in
     let low : i % 16 ≡ digits = omega arith in
     let test : test_code n digits e ≡ true =
-    ap (λ k. test_code k digits e) (sym front)
+    ap (λ k. test_code k digits e) (sym prefix)
     ∙ ap (λ k. test_code (i / 16) k e) (sym low)
     ∙ ap (test_code (i / 16) (i % 16)) is
     ∙ each_below-true (λ j. test_code (j / 16) (j % 16) (get_or CODES j 0)) 80 i test_codes (omega arith) in
@@ -92,11 +92,11 @@ pub record IsPair (n first second e : ℕ) : Type 0 where
 pub pair_of_entry : (n first second e : ℕ) → n ≤ 4 → first < 16 → second < 16 → e ≡ get_or PAIRS (256 * n + (first + 16 * second)) 0 → IsPair n first second e
 pair_of_entry n first second e in_plane four other is =
     let i = 256 * n + (first + 16 * second) in
-    let front : i / 256 ≡ n = omega arith in
+    let prefix : i / 256 ≡ n = omega arith in
     let low : i % 16 ≡ first = omega arith in
     let high : i / 16 % 16 ≡ second = omega arith in
     let test : test_pair n first second e ≡ true =
-    ap (λ k. test_pair k first second e) (sym front)
+    ap (λ k. test_pair k first second e) (sym prefix)
     ∙ ap (λ k. test_pair (i / 256) k second e) (sym low)
     ∙ ap (λ k. test_pair (i / 256) (i % 16) k e) (sym high)
     ∙ ap (test_pair (i / 256) (i % 16) (i / 16 % 16)) is
@@ -131,10 +131,10 @@ pub record IsPlane (n bits e : ℕ) : Type 0 where
 pub plane_of_entry : (n bits e : ℕ) → n ≤ 4 → bits < 128 → e ≡ get_or PLANES (128 * n + bits) 0 → IsPlane n bits e
 plane_of_entry n bits e in_plane seven is =
     let i = 128 * n + bits in
-    let front : i / 128 ≡ n = omega arith in
+    let prefix : i / 128 ≡ n = omega arith in
     let low : i % 128 ≡ bits = omega arith in
     let test : test_plane n bits e ≡ true =
-    ap (λ k. test_plane k bits e) (sym front)
+    ap (λ k. test_plane k bits e) (sym prefix)
     ∙ ap (λ k. test_plane (i / 128) k e) (sym low)
     ∙ ap (test_plane (i / 128) (i % 128)) is
     ∙ each_below-true (λ j. test_plane (j / 128) (j % 128) (get_or PLANES j 0)) 640 i test_planes (omega arith) in

@@ -146,11 +146,11 @@ spread_of_entry : (b e : ℕ) → b < 256 → e ≡ get_or SPREAD b 0 → e ≡ 
 spread_of_entry b e eight is = is ∙ eqb-true _ _ (each_below-true (λ b. eqb (get_or SPREAD b 0) (spread 8 (λ i. is_odd (b / 2 ^ (7 - i))))) 256 b test_spread eight)
 
 -- the entries of the top two bytes of a word
-pub spread_of_entries : (word front back : ℕ) → word < 2 ^ 64 → front ≡ get_or SPREAD (word / 2 ^ 56) 0 → back ≡ get_or SPREAD (word / 2 ^ 48 % 2 ^ 8) 0
-    → front + 2 ^ 32 * back ≡ spread 16 (top_digit word)
-spread_of_entries word front back small is_front is_back =
-    let high : front ≡ spread 8 (top_digit word) =
-    spread_of_entry (word / 2 ^ 56) front (omega arith) is_front
+pub spread_of_entries : (word prefix back : ℕ) → word < 2 ^ 64 → prefix ≡ get_or SPREAD (word / 2 ^ 56) 0 → back ≡ get_or SPREAD (word / 2 ^ 48 % 2 ^ 8) 0
+    → prefix + 2 ^ 32 * back ≡ spread 16 (top_digit word)
+spread_of_entries word prefix back small is_prefix is_back =
+    let high : prefix ≡ spread 8 (top_digit word) =
+    spread_of_entry (word / 2 ^ 56) prefix (omega arith) is_prefix
     ∙ spread_same 8 (λ i. is_odd (word / 2 ^ 56 / 2 ^ (7 - i))) (top_digit word)
     (λ i here. let place : 56 + (7 - i) ≡ 63 - i = omega arith in ap is_odd (shr-shr word 56 (7 - i)) ∙ ap (λ n. is_odd (word / 2 ^ n)) place) in
     let low = spread_of_entry (word / 2 ^ 48 % 2 ^ 8) back (omega arith) is_back in

@@ -47,10 +47,10 @@ pub record IsEntry (most bits e : ℕ) : Type 0 where
 entry_to_9 : (most bits e : ℕ) → 0 < most → most ≤ 9 → bits < 256 → e ≡ get_or TAILS (256 * (most - 1) + bits) 0 → IsEntry most bits e
 entry_to_9 most bits e some nine eight is =
     let i = 256 * (most - 1) + bits in
-    let front : i / 256 + 1 ≡ most = omega arith in
+    let prefix : i / 256 + 1 ≡ most = omega arith in
     let low : i % 256 ≡ bits = omega arith in
     let whole : test_tail most bits e && test_some e ≡ true =
-    ap (λ k. test_tail k bits e && test_some e) (sym front)
+    ap (λ k. test_tail k bits e && test_some e) (sym prefix)
     ∙ ap (λ k. test_tail (i / 256 + 1) k e && test_some e) (sym low)
     ∙ ap (λ x. test_tail (i / 256 + 1) (i % 256) x && test_some x) is
     ∙ each_below-true (λ j. test_tail (j / 256 + 1) (j % 256) (get_or TAILS j 0) && test_some (get_or TAILS j 0)) 2304 i test_tails (omega arith) in
@@ -113,8 +113,8 @@ reach_behind_all : (xs ys : List Bool) → has_one ys ≡ true → reach (xs ++ 
 reach_behind_all [] ys one = omega arith
 reach_behind_all (x ∷ xs) ys one = reach_some x (xs ++ ys) (has_one-behind (x ∷ xs) ys one) ∙ omega (arith, reach_behind_all xs ys one)
 
-code_of_parts : (n : ℕ) (front rest : List Bool) → length front ≡ n → plane_code n (front ++ rest) ≡ front ++ tail rest
-code_of_parts n front rest long = ap (λ (ds : List Bool). ds ++ tail (drop n (front ++ rest))) (take_at front rest n long) ∙ ap (λ (ds : List Bool). front ++ tail ds) (drop_at front rest n long)
+code_of_parts : (n : ℕ) (prefix rest : List Bool) → length prefix ≡ n → plane_code n (prefix ++ rest) ≡ prefix ++ tail rest
+code_of_parts n prefix rest long = ap (λ (ds : List Bool). ds ++ tail (drop n (prefix ++ rest))) (take_at prefix rest n long) ∙ ap (λ (ds : List Bool). prefix ++ tail ds) (drop_at prefix rest n long)
 
 pub read_with : (n size bits e : ℕ) → n < size → size ≤ 64 → bits / 2 ^ n % 2 ≡ 1 → IsTail (size - n) (bits / 2 ^ n / 2 % 256) e
     → IsReadAs n size bits (bit_or (bits % 2 ^ n) (e % 256 * 2 ^ n % 2 ^ 64)) (n + e / 4096) (n + e / 256 % 16)
@@ -124,9 +124,9 @@ read_with n size bits e within narrow odd found =
     let next = bits / 2 ^ n in
     let v = bit_or (bits % 2 ^ n) (t * 2 ^ n % 2 ^ 64) in
     let parts : n + (size - n) ≡ size = omega arith in
-    let front_small : bits % 2 ^ n < 2 ^ n = omega (arith, pow_pos n) in
+    let prefix_small : bits % 2 ^ n < 2 ^ n = omega (arith, pow_pos n) in
     let digits : field size v ≡ field n bits ++ field (size - n) t =
-    ap (λ k. field k v) (sym parts) ∙ bits_behind n (size - n) (bits % 2 ^ n) t (omega arith) front_small ∙ ap (λ (bs : List Bool). bs ++ field (size - n) t) (field-mod n bits) in
+    ap (λ k. field k v) (sym parts) ∙ bits_behind n (size - n) (bits % 2 ^ n) t (omega arith) prefix_small ∙ ap (λ (bs : List Bool). bs ++ field (size - n) t) (field-mod n bits) in
     let nine : 9 ≡ len + (9 - len) = omega (arith, found.len) in
     let low : 2 * (next / 2 % 256) + 1 ≡ next % 2 ^ 9 = omega arith in
     let code : tail (field (size - n) t) ≡ field len next =
@@ -138,7 +138,7 @@ read_with n size bits e within narrow odd found =
           ∙ code_of_parts n (field n bits) (field (size - n) t) (length-field n bits)
           ∙ ap (λ (bs : List Bool). field n bits ++ bs) code
           ∙ sym (field-add n len bits);
-      small = rw parts at (small_behind n (size - n) (bits % 2 ^ n) t front_small found.small);
+      small = rw parts at (small_behind n (size - n) (bits % 2 ^ n) t prefix_small found.small);
       reached =
           let reached = ap reach digits ∙ reach_behind_all (field n bits) (field (size - n) t) one in
           omega (arith, reached, found.above, length-field n bits);

@@ -12,7 +12,7 @@ use Rattle.zf_bits.proofs.Fields.{take-field}
 use Rattle.zf_bits.proofs.Words.{field_or}
 use Rattle.zf_planes.proofs.Runs.{tail_none}
 
--- ---- a front as far as two limits reach
+-- ---- a prefix as far as two limits reach
 
 pub take_both : {A : Type 0} (left n : ℕ) (xs : List A) → take left (take n xs) ≡ take (min left n) xs
 take_both {A} left n xs = ⊎_elim
@@ -61,6 +61,6 @@ run_field z n small within =
 -- the same of a run in a plane
 pub run_of_plane : (ds rest : List Bool) (z k : ℕ) → ds ≡ replicate z false ++ true ∷ rest → k ≤ z + 1 → true ∷ take k ds ≡ take (suc k) (true ∷ (replicate z false ++ true ∷ []))
 run_of_plane ds rest z k split within =
-    let front = replicate z false ++ true ∷ [] in
-    let long : length front ≡ z + 1 = omega (arith, length-append (replicate z false) (true ∷ []), length-replicate z false) in
-    ap (λ (bs : List Bool). true ∷ bs) (ap (take k) (split ∙ sym (append_assoc (replicate z false) (true ∷ []) rest)) ∙ take-append-le k front rest (omega arith))
+    let prefix = replicate z false ++ true ∷ [] in
+    let long : length prefix ≡ z + 1 = omega (arith, length-append (replicate z false) (true ∷ []), length-replicate z false) in
+    ap (λ (bs : List Bool). true ∷ bs) (ap (take k) (split ∙ sym (append_assoc (replicate z false) (true ∷ []) rest)) ∙ take-append-le k prefix rest (omega arith))

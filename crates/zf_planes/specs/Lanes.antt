@@ -30,7 +30,7 @@ joined c (u ∷ words) (v ∷ more) = (u * 2 ^ c + v) ∷ joined c words more
 -- the first planes have their digits in words, a word for each coefficient, and those behind them in the lanes of one
 pub record IsGathered (words : List ℕ) (done lanes held : ℕ) : Type 0 where
   pub four : length words ≡ 4
-  pub front : AreBelow done words
+  pub prefix : AreBelow done words
   pub back : AreBelow held (lanes_in 4 lanes)
 
 unfoldable pub gathered : List ℕ → ℕ → ℕ → ℕ → List (List Bool)

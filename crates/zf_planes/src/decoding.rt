@@ -95,7 +95,7 @@ fn read_word(n: u64, ahead: &mut Ahead, reader: &mut BitReader<'_>) -> Option<u6
 
 /// Reads the first `n` digits as they are, as far as the budget reaches; the others stay zero.
 #[inline(always)]
-fn read_front<P: Plane>(
+fn read_prefix<P: Plane>(
     n: usize,
     plane: &mut P,
     ahead: &mut Ahead,
@@ -272,7 +272,7 @@ pub(crate) fn read_by_runs<P: Plane>(
     ensures clear { OnSome result (IsClearFrom size (P.words plane.new)) }
     ensures above { IfSome result (λ above. above ≡ max n (reach (digits_held size (P.words plane.new)))) }
 {
-    read_front(n, plane, ahead, reader)?;
+    read_prefix(n, plane, ahead, reader)?;
     // A tail whose runs are all in sight is read with no further look.
     *ahead = look(ahead.left, reader);
     read_tail(n, size, plane, ahead, reader)

@@ -123,17 +123,17 @@ fn short_run(most: u64, digits: u64) -> Part
 
 /// Bits behind others.
 #[inline]
-pub(crate) fn join(front: Part, back: Part) -> Part
-    requires some_left { front.len < 64 }
-    requires within { front.len + back.len ≤ 64 }
-    requires small { front.bits < 2 ^ front.len }
-    ensures bits { field result.len result.bits ≡ field front.len front.bits ++ field back.len back.bits }
+pub(crate) fn join(prefix: Part, back: Part) -> Part
+    requires some_left { prefix.len < 64 }
+    requires within { prefix.len + back.len ≤ 64 }
+    requires small { prefix.bits < 2 ^ prefix.len }
+    ensures bits { field result.len result.bits ≡ field prefix.len prefix.bits ++ field back.len back.bits }
     ensures small { back.bits < 2 ^ back.len → result.bits < 2 ^ result.len }
-    ensures len { result.len ≡ front.len + back.len }
+    ensures len { result.len ≡ prefix.len + back.len }
 {
     Part {
-        bits: front.bits | back.bits << front.len,
-        len: front.len + back.len,
+        bits: prefix.bits | back.bits << prefix.len,
+        len: prefix.len + back.len,
     }
 }
 
@@ -152,18 +152,18 @@ pub(crate) fn write_part(left: u64, part: Part, out: &mut BitWriter) -> u64
 
 /// Appends bits and then the code of a run of so many digits, as far as `left` bits reach. The answer is the bits that are left.
 #[inline(always)]
-fn write_run(left: u64, front: Part, most: u64, digits: u64, out: &mut BitWriter) -> u64
+fn write_run(left: u64, prefix: Part, most: u64, digits: u64, out: &mut BitWriter) -> u64
     requires some { 0 < digits }
     requires in_word { most ≤ 64 }
     requires within { digits < 2 ^ most }
-    requires few { front.len ≤ 40 }
-    requires small { front.bits < 2 ^ front.len }
-    requires fits { min left (front.len + length (code_from_run (field most digits))) ≤ out.old.room }
-    ensures bits { Appends out.old out.new (take left (field front.len front.bits ++ code_from_run (field most digits))) }
-    ensures left { result ≡ left - (front.len + length (code_from_run (field most digits))) }
+    requires few { prefix.len ≤ 40 }
+    requires small { prefix.bits < 2 ^ prefix.len }
+    requires fits { min left (prefix.len + length (code_from_run (field most digits))) ≤ out.old.room }
+    ensures bits { Appends out.old out.new (take left (field prefix.len prefix.bits ++ code_from_run (field most digits))) }
+    ensures left { result ≡ left - (prefix.len + length (code_from_run (field most digits))) }
 {
     let mut left = left;
-    let mut part = front;
+    let mut part = prefix;
     let mut most = most;
     let mut digits = digits;
     while digits > 255 {
@@ -201,15 +201,15 @@ pub(crate) fn write_with(
     ensures left { result ≡ left - (part.len + length (plane_code n (field size digits))) }
 {
     let group = Part { bits: 1, len: 1 };
-    let front = Part {
+    let prefix = Part {
         bits: digits % (1 << n),
         len: n,
     };
     let rest = digits >> n;
     if part.len + n < 40 {
-        return write_run(left, join(join(part, front), group), size - n, rest, out);
+        return write_run(left, join(join(part, prefix), group), size - n, rest, out);
     }
     let left = write_part(left, part, out);
-    let left = write_part(left, front, out);
+    let left = write_part(left, prefix, out);
     write_run(left, group, size - n, rest, out)
 }

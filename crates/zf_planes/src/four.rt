@@ -265,19 +265,19 @@ pub(crate) fn code_of_4(n: usize, digits: u64) -> Part
 
 /// Bits of a part behind those of another, which are the code of planes above.
 #[inline]
-pub(crate) fn join(front: Part, back: Part) -> Part
-    requires some_left { front.len < 64 }
-    requires within { front.len + back.len ≤ 64 }
-    requires small { front.bits < 2 ^ front.len }
+pub(crate) fn join(prefix: Part, back: Part) -> Part
+    requires some_left { prefix.len < 64 }
+    requires within { prefix.len + back.len ≤ 64 }
+    requires small { prefix.bits < 2 ^ prefix.len }
     requires small_back { back.bits < 2 ^ back.len }
-    ensures bits { field result.len result.bits ≡ field front.len front.bits ++ field back.len back.bits }
+    ensures bits { field result.len result.bits ≡ field prefix.len prefix.bits ++ field back.len back.bits }
     ensures small { result.bits < 2 ^ result.len }
-    ensures len { result.len ≡ front.len + back.len }
+    ensures len { result.len ≡ prefix.len + back.len }
     ensures above { result.above ≡ back.above }
 {
     Part {
-        bits: front.bits | back.bits << front.len,
-        len: front.len + back.len,
+        bits: prefix.bits | back.bits << prefix.len,
+        len: prefix.len + back.len,
         above: back.above,
     }
 }

@@ -59,9 +59,9 @@ fn spread_top(word: u64) -> u64
     ensures digits { result ≡ spread 16 (top_digit word) }
     ensures small { result ≤ 1229782938247303441 }
 {
-    let front = spread_entry(word >> 56);
+    let prefix = spread_entry(word >> 56);
     let back = spread_entry((word >> 48) % 256);
-    u64::from(front) + (u64::from(back) << 32)
+    u64::from(prefix) + (u64::from(back) << 32)
 }
 
 /// The top sixteen planes of four words as one number, four bits each, the greatest plane lowest.

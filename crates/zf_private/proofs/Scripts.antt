@@ -124,20 +124,20 @@ module _ {Code : Type 0} (setting : Setting Code) (ns : List ℕ) (n : ℕ) (som
   abbrev out_of : List ℕ → ℕ → ℕ → List ℕ → Bool
   out_of ms m j ps = not (ltb j m && (is_inside ms ps && is_owner (blocks ms) m j (block_number ms ps)))
 
-  refusal_is : (s : Session Code) → IsParted s → (c : Command) → is_some (view_named c) ≡ true → (wanting : Bool) → refusal setting s c wanting ≡ refusal_of c
+  refusal_is : (s : Session Code) → IsParted s → (c : Command) → is_some (view_named c) ≡ true → (starving : Bool) → refusal setting s c starving ≡ refusal_of c
   unfolding refusal refusal_of range_of
-  refusal_is s p (Command.pget j ps) e wanting = λ k. first_at (p.split k) (out_of (p.shape k) (p.many k) j ps) (refuses_value w (Command.pget j ps))
-  refusal_is s p (Command.pset j ps v) e wanting = λ k. first_at (p.split k) (out_of (p.shape k) (p.many k) j ps) (refuses_value w (Command.pset j ps v))
-  refusal_is s p (Command.padd j ps v) e wanting = λ k. first_at (p.split k) (out_of (p.shape k) (p.many k) j ps) (refuses_value w (Command.padd j ps v))
-  refusal_is s p (Command.pflush j) e wanting = λ k. first_at (p.split k) (not (ltb j (p.many k))) false
-  refusal_is s p (Command.pdiscard j) e wanting = λ k. first_at (p.split k) (not (ltb j (p.many k))) false
-  refusal_is s p (Command.pstats j) e wanting = λ k. first_at (p.split k) (not (ltb j (p.many k))) false
-  refusal_is s p c e wanting = absurd (cc)
+  refusal_is s p (Command.pget j ps) e starving = λ k. first_at (p.split k) (out_of (p.shape k) (p.many k) j ps) (refuses_value w (Command.pget j ps))
+  refusal_is s p (Command.pset j ps v) e starving = λ k. first_at (p.split k) (out_of (p.shape k) (p.many k) j ps) (refuses_value w (Command.pset j ps v))
+  refusal_is s p (Command.padd j ps v) e starving = λ k. first_at (p.split k) (out_of (p.shape k) (p.many k) j ps) (refuses_value w (Command.padd j ps v))
+  refusal_is s p (Command.pflush j) e starving = λ k. first_at (p.split k) (not (ltb j (p.many k))) false
+  refusal_is s p (Command.pdiscard j) e starving = λ k. first_at (p.split k) (not (ltb j (p.many k))) false
+  refusal_is s p (Command.pstats j) e starving = λ k. first_at (p.split k) (not (ltb j (p.many k))) false
+  refusal_is s p c e starving = absurd (cc)
 
   -- a command that needs no split is refused for it
-  whole_refused : (s : Session Code) → IsParted s → (c : Command) → needs_split c ≡ false → (wanting : Bool) → refusal setting s c wanting ≡ Some Refusal.split
+  whole_refused : (s : Session Code) → IsParted s → (c : Command) → needs_split c ≡ false → (starving : Bool) → refusal setting s c starving ≡ Some Refusal.split
   unfolding refusal
-  whole_refused s p c none wanting = λ k. first_refusal (elim (p.split k) as (λ x. Bool) [ true ↦ not (none k) | false ↦ none k ]) (refuses_size setting s c) (refuses_range s c) (refuses_value w c) (takes_memory c && wanting)
+  whole_refused s p c none starving = λ k. first_refusal (elim (p.split k) as (λ x. Bool) [ true ↦ not (none k) | false ↦ none k ]) (refuses_size setting s c) (refuses_range s c) (refuses_value w c) (takes_memory c && starving)
 
   -- what is not refused is on a view that there is, and on a block of its own
   within_flush : (j : ℕ) → first_refusal false false (not (ltb j n)) false false ≡ None → j < n
@@ -341,15 +341,15 @@ module _ {Code : Type 0} (setting : Setting Code) (ns : List ℕ) (n : ℕ) (som
         by true false t e = absurd (cc)
         by false b t e = refl
 
-    pub alone : (wants others : List ℕ) (k m : ℕ) (lines : List (List ℕ)) (s s' : Session Code) → Together s s' → AllByRecursion (λ (line : List ℕ). read_line d line ≢ Some Command.join) lines
-        → filter (is_on d i) (answered_lines setting others m (without_others d i (answered_lines setting wants k lines s)) s') ≡ filter (is_on d i) (answered_lines setting wants k lines s)
+    pub alone : (starved others : List ℕ) (k m : ℕ) (lines : List (List ℕ)) (s s' : Session Code) → Together s s' → AllByRecursion (λ (line : List ℕ). read_line d line ≢ Some Command.join) lines
+        → filter (is_on d i) (answered_lines setting others m (without_others d i (answered_lines setting starved k lines s)) s') ≡ filter (is_on d i) (answered_lines setting starved k lines s)
     unfolding answered_lines
-    alone wants others k m [] s s' h none = refl
-    alone wants others k m (line ∷ lines) s s' h none =
-        by (line_stepped s s' h line x y none.0) (λ t. alone wants others (suc k) (suc m) lines one.0 two.0 t none.1) (λ t. alone wants others (suc k) m lines one.0 s' t none.1)
+    alone starved others k m [] s s' h none = refl
+    alone starved others k m (line ∷ lines) s s' h none =
+        by (line_stepped s s' h line x y none.0) (λ t. alone starved others (suc k) (suc m) lines one.0 two.0 t none.1) (λ t. alone starved others (suc k) m lines one.0 s' t none.1)
       where
         x : Bool
-        x = list_any (λ p. eqb p k) wants
+        x = list_any (λ p. eqb p k) starved
 
         y : Bool
         y = list_any (λ p. eqb p m) others
@@ -361,7 +361,7 @@ module _ {Code : Type 0} (setting : Setting Code) (ns : List ℕ) (n : ℕ) (som
         two = line_step setting s' line y
 
         xs : List Answered
-        xs = answered_lines setting wants (suc k) lines one.0
+        xs = answered_lines setting starved (suc k) lines one.0
 
         keeps : Answered → Bool
         keeps q = not (is_elsewhere d i q)
@@ -422,9 +422,9 @@ module _ {Code : Type 0} (setting : Setting Code) (start : Session Code) (n line
       (λ none. record { one = opened; two = opened; alike = λ below. alike-refl (array_format setting.coding start.shape) _ _ })
 
 -- the replies of lines
-pub replies_are : {Code : Type 0} (setting : Setting Code) (wants : List ℕ) (k : ℕ) (lines : List (List ℕ)) (s : Session Code) → (run_lines setting wants k lines s).1 ≡ flat_map (λ (x : Answered). option_to_list x.1) (answered_lines setting wants k lines s)
+pub replies_are : {Code : Type 0} (setting : Setting Code) (starved : List ℕ) (k : ℕ) (lines : List (List ℕ)) (s : Session Code) → (run_lines setting starved k lines s).1 ≡ flat_map (λ (x : Answered). option_to_list x.1) (answered_lines setting starved k lines s)
 unfolding run_lines answered_lines
-replies_are setting wants k [] s = refl
-replies_are setting wants k (line ∷ lines) s =
-    let one = line_step setting s line (list_any (λ n. eqb n k) wants) in
-    ap (λ rs. option_to_list one.1 ++ rs) (replies_are setting wants (suc k) lines one.0)
+replies_are setting starved k [] s = refl
+replies_are setting starved k (line ∷ lines) s =
+    let one = line_step setting s line (list_any (λ n. eqb n k) starved) in
+    ap (λ rs. option_to_list one.1 ++ rs) (replies_are setting starved (suc k) lines one.0)

@@ -12,12 +12,12 @@ use Rattle.zf_cached.specs.Runs.{line_step}
 abbrev pub Answered : Type 0
 Answered = List ℕ × Option Reply
 
--- each line with what it answers, where they run one after the other. The first is number k of the script; memory is wanting at the lines with these numbers
+-- each line with what it answers, where they run one after the other. The first is number k of the script; the lines with these numbers are out of memory
 unfoldable pub answered_lines : {Code : Type 0} → Setting Code → List ℕ → ℕ → List (List ℕ) → Session Code → List Answered
-answered_lines setting wants k [] s = []
-answered_lines setting wants k (line ∷ lines) s =
-    let one = line_step setting s line (list_any (λ n. n == k) wants) in
-    (line, one.1) ∷ answered_lines setting wants (suc k) lines one.0
+answered_lines setting starved k [] s = []
+answered_lines setting starved k (line ∷ lines) s =
+    let one = line_step setting s line (list_any (λ n. n == k) starved) in
+    (line, one.1) ∷ answered_lines setting starved (suc k) lines one.0
 
 -- the view that a command is on, if it is on one
 abbrev pub view_named : Command → Option ℕ

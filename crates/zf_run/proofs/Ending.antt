@@ -23,7 +23,7 @@ use Rattle.zf_commands.specs.Steps.{is_refusal}
 use Rattle.zf_run.specs.Pairs.{pair_state, PairFits, two_setting_of}
 use Rattle.zf_commands.specs.Sittings.{session}
 use Rattle.zf_run.specs.Sessions.{setting_of, session_of, kind, look_setting_of, look_start_of, stream_of}
-use Rattle.zf_commands.specs.Runs.{AreWants, RunsAll, StopsAt, AllRun, HasStopped}
+use Rattle.zf_commands.specs.Runs.{AreStarved, RunsAll, StopsAt, AllRun, HasStopped}
 use Rattle.zf_run.specs.Ends.{RunsTwo, FinishesTwo, StopsTwo, two_start_of, Finishes, Stops, IsEnd, end_of, Runs, FinishesLook, StopsLook, Looks}
 
 -- an end says that all lines were run
@@ -49,14 +49,14 @@ module _ (w : Width) (a mid : Held) (s : Session (List Bool)) (v : Window) (scri
     finished = record {
       shape_is = ap (λ (x : Session (List Bool)). x.shape) at_end;
       state_is = ap (λ (x : Session (List Bool)). x.state) at_end;
-      wanted = ran.wanted;
+      starved_are = ran.starved_are;
       refused_is = ran.refused_is;
       written = ran.written;
     }
 
     pub runs_all : (end : RunEnd) → end ≡ end_of n → Runs w a b script old new end
     runs_all end is = record {
-      wants = all.0;
+      starved = all.0;
       ended = ends_all (Finishes w a b script all.0 old new) (Stops w a b script all.0 old new) n end is finished;
       same_type = ap (λ (k : Ty × Mode). k.0) (still ∙ kept);
       same_mode = ap (λ (k : Ty × Mode). k.1) (still ∙ kept);
@@ -65,7 +65,7 @@ module _ (w : Width) (a mid : Held) (s : Session (List Bool)) (v : Window) (scri
   -- a line was the last one: the array is as it is then, and views, if there are some, are dropped
   pub runs_stopped : HasStopped (setting_of w a) script (session_of a v) s old new → s.shape ≡ shape mid → s.state ≡ state mid → Runs w a mid script old new Write
   runs_stopped stopped shapes states = record {
-    wants = stopped.0;
+    starved = stopped.0;
     ended = record {
       session = s;
       at_line = subst (λ x. StopsAt (setting_of w a) stopped.0 script (session_of a x) s old new) from stopped.1;
@@ -88,14 +88,14 @@ module _ (w : Width) (a b : read.Held) (v u : Window) (script : List ℕ) (old n
     completed = record {
       shape_is = ap (λ (s : Session (List Bool)). s.shape) looked.session;
       state_is = ap (λ (s : Session (List Bool)). s.state) looked.session;
-      wanted = looked.wanted;
+      starved_are = looked.starved_are;
       refused_is = looked.refused_is;
       written = looked.written;
     }
 
     pub looks_all : (end : RunEnd) → end ≡ end_of n → Looks w a b script old new end
     looks_all end is = record {
-      wants = all.0;
+      starved = all.0;
       ended = ends_all (FinishesLook w a b script all.0 old new) (StopsLook w a b script all.0 old new) n end is completed;
       same_header = ap (λ (k : Header × List (List Bool)). k.0) kept;
       same_codes = ap (λ (k : Header × List (List Bool)). k.1) kept;
@@ -103,7 +103,7 @@ module _ (w : Width) (a b : read.Held) (v u : Window) (script : List ℕ) (old n
 
   pub looks_stopped : HasStopped (look_setting_of w a.header) script (session (read.shape a) (read.state a) v) (session (read.shape b) (read.state b) u) old new → Looks w a b script old new Write
   looks_stopped stopped = record {
-    wants = stopped.0;
+    starved = stopped.0;
     ended = record {
       session = session (read.shape b) (read.state b) u;
       at_line = subst (λ x. StopsAt (look_setting_of w a.header) stopped.0 script (session (read.shape a) (read.state a) x) (session (read.shape b) (read.state b) u) old new) from stopped.1;
@@ -142,14 +142,14 @@ module _ {X : Type 0} (value : X → ℤ) (w : Width) (s mid t : Stored) (c e d 
     finished_two = record {
       shape_is = ap (λ (x : Session (List Bool)). x.shape) (sym at_two_end);
       state_is = ap (λ (x : Session (List Bool)). x.state) (sym at_two_end);
-      wanted = subst (AreWants all.0) (sym same_replies) ran_two.wanted;
+      starved_are = subst (AreStarved all.0) (sym same_replies) ran_two.starved_are;
       refused_is = ran_two.refused_is ∙ ap (count_by is_refusal) (sym same_replies);
       written = subst (λ r. Appends old new (replies_text r)) (sym same_replies) ran_two.written;
     }
 
     pub two_all : (end : RunEnd) → end ≡ end_of n → RunsTwo value w s t c d script old new end
     two_all end is = record {
-      wants = all.0;
+      starved = all.0;
       ended = ends_all (FinishesTwo value w s t c d script all.0 old new) (StopsTwo value w s t c d script all.0 old new) n end is finished_two;
       same_header = head ∙ kept;
       fits = fits;
@@ -157,7 +157,7 @@ module _ {X : Type 0} (value : X → ℤ) (w : Width) (s mid t : Stored) (c e d 
 
   pub two_stopped : HasStopped S script (session s.header.shape (pair_state value s c) v) final old new → PairFits value mid e → RunsTwo value w s mid c e script old new Write
   two_stopped stopped fits = record {
-    wants = stopped.0;
+    starved = stopped.0;
     ended = record {
       session = final;
       at_line = subst (λ x. StopsAt S stopped.0 script (session s.header.shape (pair_state value s c) x) final old new) from stopped.1;

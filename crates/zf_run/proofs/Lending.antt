@@ -22,7 +22,7 @@ use Rattle.zf_array.specs.Standing.{Held, shape, state, format}
 use Rattle.zf_array.specs.Coded.{IsCoded, Frame, frame_of}
 use Rattle.zf_run.specs.Sessions.{setting_of, kind}
 use Rattle.zf_run.specs.Splits.{view_state, split_session, AreParts}
-use Rattle.zf_commands.specs.Steps.{Does, HasWindow, wanted}
+use Rattle.zf_commands.specs.Steps.{Does, HasWindow, starves}
 use Rattle.zf_run.proofs.Viewing as viewing
 
 -- what the clauses of a call say: view v becomes n; the codes were lent to s, and r is what the call leaves of the loan
@@ -87,7 +87,7 @@ module _ {X : Type 0} (value : X → ℤ) (d : ℕ) (a : Held) (views : List (pr
     -- a command that asks for the act, and passes all tests. What is answered is what the view has afterwards
     pub lent_takes : (u : Window) (c : Command) (reply : Option Reply) → HasWindow (split_session value a views u) → refuses_split (split_session value a views u) c ≡ false
         → refuses_size (setting_of w a) (split_session value a views u) c ≡ false → refuses_range (split_session value a views u) c ≡ false → refuses_value (setting_of w a).width c ≡ false
-        → option_map Reply.number (answered (view_state value r.now n) act) ≡ reply → wanted reply ≡ false
+        → option_map Reply.number (answered (view_state value r.now n) act) ≡ reply → starves reply ≡ false
         → done (setting_of w a) (split_session value a views u) c ≡ by_view (setting_of w a) (split_session value a views u) i act
         → Does (setting_of w a) c (split_session value a views u) (split_session value b (set views i n) u) reply
     lent_takes u c reply lies split size range value_is replies none asks =

@@ -37,7 +37,7 @@ use Rattle.zf_array.specs.Standing.{Held, shape, state, format}
 use Rattle.zf_array.specs.Coded.{IsCoded}
 use Rattle.zf_run.specs.Sessions.{setting_of}
 use Rattle.zf_run.specs.Splits.{owns_block, view_state, view_of, views_seen, split_session, IsPart, AreParts}
-use Rattle.zf_commands.specs.Steps.{Does, HasWindow, wanted}
+use Rattle.zf_commands.specs.Steps.{Does, HasWindow, starves}
 use Rattle.zf_run.proofs.Sessions.{format_is}
 use Rattle.zf_commands.proofs.Stepping.{accepted}
 
@@ -236,7 +236,7 @@ module _ {X : Type 0} (value : X → ℤ) (w : Width) (d : ℕ) (a b : Held) (vi
 
     -- a command that asks for the act, and passes all tests
     pub takes : (c : Command) (reply : Option Reply) → HasWindow before → refuses_split before c ≡ false → refuses_size S before c ≡ false → refuses_range before c ≡ false → refuses_value S.width c ≡ false
-        → option_map Reply.number (answered (view_state value b n) act) ≡ reply → wanted reply ≡ false → done S before c ≡ by_view S before i act → Does S c before (split_session value b (set views i n) u) reply
+        → option_map Reply.number (answered (view_state value b n) act) ≡ reply → starves reply ≡ false → done S before c ≡ by_view S before i act → Does S c before (split_session value b (set views i n) u) reply
     takes c reply lies split size range value_is replies none asks =
         accepted S c before lies split size range value_is (split_session value b (set views i n) u) reply none
         (asks ∙ (λ j. (acts j, (answers ∙ replies) j))) (subst (λ (h : Header). LiesIn h.shape u) (sym head) lies)

@@ -34,9 +34,9 @@ kind a = (a.header.ty, a.header.mode)
 abbrev pub start_of : Held → Session (List Bool)
 start_of a = session_of a (whole (shape a))
 
--- the run of a script over an array, where memory is wanting at the lines with these numbers: the session at its end, and the replies
+-- the run of a script over an array, where the lines with these numbers are out of memory: the session at its end, and the replies
 abbrev pub run_of : Width → Held → List ℕ → List ℕ → Session (List Bool) × List Reply
-run_of w a wants script = run (setting_of w a) wants (shape a) (state a) script
+run_of w a starved script = run (setting_of w a) starved (shape a) (state a) script
 
 -- an array of values of this width in d dimensions: so says its header, and its sizes are those of a shape
 pub record IsArray (w : Width) (d : ℕ) (a : Held) : Type 0 where
@@ -56,7 +56,7 @@ look_start_of a = session (read.shape a) (read.state a) (whole (read.shape a))
 
 -- the look of a script at it
 abbrev pub look_of : Width → read.Held → List ℕ → List ℕ → Session (List Bool) × List Reply
-look_of w a wants script = look (look_setting_of w a.header) wants (read.shape a) (read.state a) script
+look_of w a starved script = look (look_setting_of w a.header) starved (read.shape a) (read.state a) script
 
 -- its header and its codes
 abbrev pub stream_of : read.Held → Header × List (List Bool)

@@ -68,7 +68,7 @@ fn value_len(ty: Ty) -> usize
     }
 }
 
-// The stream of raw values. Of devices in memory that are not to fail, a fault is want of memory.
+// The stream of raw values. Of devices in memory that are not to fail, a fault is out of memory.
 fn compressed(alloc: Global, h: &Header, raw: &[u8]) -> Result<MemSink, AllocError>
     requires { IsMode h.now.mode }
     ensures { IfOk result (λ sink. sink.written ≡ stream_text h.now raw.now) }

@@ -28,20 +28,20 @@ four_parts byte word ns no_digit ok is =
 pub some_part : (byte : ℕ) (word : List ℕ) → 1 ≤ length (cut_at byte word)
 some_part byte word = omega (arith, length-slice_split (λ b. b == byte) word)
 
-part_of_texts : (ns : List ℕ) (front : List (List ℕ)) (part : List ℕ) (more : List (List ℕ)) → list_all is_number ns ≡ true → map decimal ns ≡ front ++ part ∷ more → (n : ℕ) × (n < 2 ^ 64) × (part ≡ decimal n)
+part_of_texts : (ns : List ℕ) (prefix : List (List ℕ)) (part : List ℕ) (more : List (List ℕ)) → list_all is_number ns ≡ true → map decimal ns ≡ prefix ++ part ∷ more → (n : ℕ) × (n < 2 ^ 64) × (part ≡ decimal n)
 part_of_texts [] [] part more small same = absurd (cc)
-part_of_texts [] (text ∷ front) part more small same = absurd (cc)
+part_of_texts [] (text ∷ prefix) part more small same = absurd (cc)
 part_of_texts (n ∷ ns) [] part more small same =
     let head : part ≡ decimal n = cc in
     (n, ltb-true n _ (and_parts (is_number n) (list_all is_number ns) small).0, head)
-part_of_texts (n ∷ ns) (text ∷ front) part more small same =
-    let rest : map decimal ns ≡ front ++ part ∷ more = cc in
-    part_of_texts ns front part more (and_parts (is_number n) (list_all is_number ns) small).1 rest
+part_of_texts (n ∷ ns) (text ∷ prefix) part more small same =
+    let rest : map decimal ns ≡ prefix ++ part ∷ more = cc in
+    part_of_texts ns prefix part more (and_parts (is_number n) (list_all is_number ns) small).1 rest
 
 -- each part is a number
-pub part_is_number : (byte : ℕ) (word ns : List ℕ) (front : List (List ℕ)) (part : List ℕ) (more : List (List ℕ)) → IsNoDigit byte → cut_at byte word ≡ front ++ part ∷ more → has_sizes ns ≡ true → word ≡ numbers_text byte ns → (n : ℕ) × (n < 2 ^ 64) × (part ≡ decimal n)
-part_is_number byte word ns front part more no_digit cut ok is =
-    part_of_texts ns front part more (sizes-parts ns ok).2 (sym (parts_are byte word ns no_digit ok is) ∙ cut)
+pub part_is_number : (byte : ℕ) (word ns : List ℕ) (prefix : List (List ℕ)) (part : List ℕ) (more : List (List ℕ)) → IsNoDigit byte → cut_at byte word ≡ prefix ++ part ∷ more → has_sizes ns ≡ true → word ≡ numbers_text byte ns → (n : ℕ) × (n < 2 ^ 64) × (part ≡ decimal n)
+part_is_number byte word ns prefix part more no_digit cut ok is =
+    part_of_texts ns prefix part more (sizes-parts ns ok).2 (sym (parts_are byte word ns no_digit ok is) ∙ cut)
 
 -- parts that are numbers make a word of them
 pub joined_parts : (byte : ℕ) (word ns : List ℕ) → cut_at byte word ≡ map decimal ns → word ≡ numbers_text byte ns
@@ -59,7 +59,7 @@ texts_more texts part rest numbers count n lt this so_far =
     so_far
     ∙ (ap (λ text. map decimal (take count numbers) ++ text ∷ rest) this
     ∙ (sym (append_assoc (map decimal (take count numbers)) (decimal n ∷ []) rest)
-    ∙ ap (λ front. front ++ rest) (sym (map-append decimal (take count numbers) (n ∷ [])) ∙ ap (map decimal) (sym (take_more_set numbers count n lt)))))
+    ∙ ap (λ prefix. prefix ++ rest) (sym (map-append decimal (take count numbers) (n ∷ [])) ∙ ap (map decimal) (sym (take_more_set numbers count n lt)))))
 
 -- the last number
 pub texts_whole : (texts : List (List ℕ)) (part : List ℕ) (numbers : List ℕ) (count n : ℕ) → count < length numbers → part ≡ decimal n → texts ≡ map decimal (take count numbers) ++ part ∷ [] → texts ≡ map decimal (take (count + 1) (set numbers count n))
@@ -122,6 +122,6 @@ count_same d byte unused word count p ns no_digit some most sizes ok is =
     omega (arith, ap length one, ap length two, length-map ns decimal, length-map (used_axes count p) decimal, sizes.count_is, (axes-parts d ns ok).0)
 
 -- a fifth part is one too many
-pub fifth_part : (byte : ℕ) (word ns : List ℕ) (front rest : List (List ℕ)) → IsNoDigit byte → cut_at byte word ≡ front ++ rest → length front ≡ 4 → 1 ≤ length rest → has_sizes ns ≡ true → word ≡ numbers_text byte ns → ⊥
-fifth_part byte word ns front rest no_digit cut four some ok is =
-    omega (arith, four_parts byte word ns no_digit ok is, ap length cut, length-append front rest)
+pub fifth_part : (byte : ℕ) (word ns : List ℕ) (prefix rest : List (List ℕ)) → IsNoDigit byte → cut_at byte word ≡ prefix ++ rest → length prefix ≡ 4 → 1 ≤ length rest → has_sizes ns ≡ true → word ≡ numbers_text byte ns → ⊥
+fifth_part byte word ns prefix rest no_digit cut four some ok is =
+    omega (arith, four_parts byte word ns no_digit ok is, ap length cut, length-append prefix rest)

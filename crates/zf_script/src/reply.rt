@@ -15,7 +15,7 @@ pub enum Refusal {
     Range,
     /// A value that the type does not have.
     Value,
-    /// Memory was wanted.
+    /// Out of memory.
     Memory,
 }
 

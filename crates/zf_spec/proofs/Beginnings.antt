@@ -31,10 +31,10 @@ begins_append (x ∷ a) b [] f g = (f.0, begins_append a b [] f.1 (subst (λ t. 
     drop-nil (suc n) = refl
 begins_append (x ∷ a) b (c ∷ s) f g = (f.0, begins_append a b s f.1 g)
 
-pub begins_front : (a b s : List Bool) → Begins (a ++ b) s → Begins a s
-begins_front [] b s h = tt
-begins_front (x ∷ a) b [] h = (h.0, begins_front a b [] h.1)
-begins_front (x ∷ a) b (c ∷ s) h = (h.0, begins_front a b s h.1)
+pub begins_prefix : (a b s : List Bool) → Begins (a ++ b) s → Begins a s
+begins_prefix [] b s h = tt
+begins_prefix (x ∷ a) b [] h = (h.0, begins_prefix a b [] h.1)
+begins_prefix (x ∷ a) b (c ∷ s) h = (h.0, begins_prefix a b s h.1)
 
 pub begins_rest : (a b s : List Bool) → Begins (a ++ b) s → Begins b (drop (length a) s)
 begins_rest [] b s h = h
@@ -62,7 +62,7 @@ first_bits-append a b zero h = refl
 first_bits-append [] b (suc n) h = absurd (omega arith)
 first_bits-append (x ∷ a) b (suc n) h = ap (λ bs. x ∷ bs) (first_bits-append a b n (omega arith))
 
--- lists that agree in their first n bits agree past a front of both
+-- lists that agree in their first n bits agree past a prefix of both
 pub first_bits-rest : (a b c : List Bool) (n : ℕ) → length a ≤ n → first_bits n (a ++ b) ≡ first_bits n (a ++ c) → first_bits (n - length a) b ≡ first_bits (n - length a) c
 first_bits-rest [] b c n h e = let z : n - 0 ≡ n = omega arith in rw z e
 first_bits-rest (x ∷ a) b c zero h e = absurd (omega arith)
@@ -72,10 +72,10 @@ first_bits-rest (x ∷ a) b c (suc n) h e =
     rw z (first_bits-rest a b c n (omega arith) rest)
 
 -- past the first n bits a list does not count
-pub first_bits-front : (a b : List Bool) (n : ℕ) → n ≤ length a → first_bits n (a ++ b) ≡ first_bits n a
-first_bits-front a b zero h = refl
-first_bits-front [] b (suc n) h = absurd (omega arith)
-first_bits-front (x ∷ a) b (suc n) h = ap (λ bs. x ∷ bs) (first_bits-front a b n (omega arith))
+pub first_bits-prefix : (a b : List Bool) (n : ℕ) → n ≤ length a → first_bits n (a ++ b) ≡ first_bits n a
+first_bits-prefix a b zero h = refl
+first_bits-prefix [] b (suc n) h = absurd (omega arith)
+first_bits-prefix (x ∷ a) b (suc n) h = ap (λ bs. x ∷ bs) (first_bits-prefix a b n (omega arith))
 
 pub first_bits-all : (a b : List Bool) → first_bits (length a) (a ++ b) ≡ a
 first_bits-all [] b = refl

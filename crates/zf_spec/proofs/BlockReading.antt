@@ -48,11 +48,11 @@ read_rev-planes w es qs more some few all = ap answer same ∙ ap (λ t. cond t 
     n : ℕ
     n = count_bits w
 
-    front : List Bool
-    front = field (count_bits w) (length qs - 1)
+    prefix : List Bool
+    prefix = field (count_bits w) (length qs - 1)
 
     s : List Bool
-    s = front ++ code qs ++ more
+    s = prefix ++ code qs ++ more
 
     read : List (List Bool) → List ℤ
     read ps = existing_values es (unlorenzo w (length es) (coefficients_of w (length es) ps))
@@ -60,18 +60,18 @@ read_rev-planes w es qs more some few all = ap answer same ∙ ap (λ t. cond t 
     answer : List (List Bool) → Option (List ℤ × ℕ)
     answer ps = cond (ltb (length s) (n + length (code ps))) None (Some (read ps, n + length (code ps)))
 
-    together : s ≡ front ++ (code qs ++ more)
-    together = append_assoc front (code qs) more
+    together : s ≡ prefix ++ (code qs ++ more)
+    together = append_assoc prefix (code qs) more
 
     count : number (take n s) + 1 ≡ length qs
     count =
-        let front_is : take n s ≡ front = ap (take n) together ∙ take_at front (code qs ++ more) n (length-field n (length qs - 1)) in
+        let prefix_is : take n s ≡ prefix = ap (take n) together ∙ take_at prefix (code qs ++ more) n (length-field n (length qs - 1)) in
         let small : length qs - 1 < 2 ^ n = omega arith in
-        let value : number front ≡ length qs - 1 = number-field n (length qs - 1) ∙ mod-eq_of_lt small in
-        omega (arith, ap number front_is, value)
+        let value : number prefix ≡ length qs - 1 = number-field n (length qs - 1) ∙ mod-eq_of_lt small in
+        omega (arith, ap number prefix_is, value)
 
     rest : drop n s ≡ code qs ++ more
-    rest = ap (drop n) together ∙ drop_at front (code qs ++ more) n (length-field n (length qs - 1))
+    rest = ap (drop n) together ∙ drop_at prefix (code qs ++ more) n (length-field n (length qs - 1))
 
     same : planes_in (number (take n s) + 1) (4 ^ length es) (drop n s) ≡ qs
     same =
@@ -80,7 +80,7 @@ read_rev-planes w es qs more some few all = ap answer same ∙ ap (λ t. cond t 
         ∙ sym (full_only (4 ^ length es) qs (code qs ++ more) all (begins_itself (code qs) more))
 
     enough : ltb (length s) (n + length (code qs)) ≡ false
-    enough = le-ltb (length s) (n + length (code qs)) (omega (arith, length-append (front ++ code qs) more, length-append front (code qs), length-field n (length qs - 1)))
+    enough = le-ltb (length s) (n + length (code qs)) (omega (arith, length-append (prefix ++ code qs) more, length-append prefix (code qs), length-field n (length qs - 1)))
 
 -- the existing values of a block come back from its code, whatever comes after, with the length of the code
 pub read_rev-rev : (w : Width) (es : List ℕ) (block : List ℤ) (more : List Bool) → bits w ≤ 64 → All IsExtent es → All (λ v. FitsSigned w v) block

@@ -15,9 +15,9 @@ to_bits-bytes_from : (n : ℕ) (bs : List Bool) → length bs ≡ 8 * n → to_b
 to_bits-bytes_from zero [] l = refl
 to_bits-bytes_from zero (b ∷ bs) l = absurd (omega arith)
 to_bits-bytes_from (suc n) bs l =
-    let front : length (take 8 bs) ≡ 8 = omega (arith, length-take 8 bs) in
+    let prefix : length (take 8 bs) ≡ 8 = omega (arith, length-take 8 bs) in
     let rest : length (drop 8 bs) ≡ 8 * n = omega (arith, length-drop 8 bs) in
-    ap (λ cs. cs ++ to_bits (bytes_from n (drop 8 bs))) (field-number 8 (take 8 bs) front)
+    ap (λ cs. cs ++ to_bits (bytes_from n (drop 8 bs))) (field-number 8 (take 8 bs) prefix)
     ∙ ap (λ cs. take 8 bs ++ cs) (to_bits-bytes_from n (drop 8 bs) rest)
     ∙ take-append-drop 8 bs
 
@@ -39,9 +39,9 @@ length-to_bytes bs = length-bytes_from (length bs / 8) bs
 bytes_from-to_bits : (bytes : List ℕ) → All (λ b. b < 256) bytes → bytes_from (length bytes) (to_bits bytes) ≡ bytes
 bytes_from-to_bits [] all = refl
 bytes_from-to_bits (b ∷ bytes) all =
-    let front = take_at (field 8 b) (to_bits bytes) 8 (length-field 8 b) in
+    let prefix = take_at (field 8 b) (to_bits bytes) 8 (length-field 8 b) in
     let rest = drop_at (field 8 b) (to_bits bytes) 8 (length-field 8 b) in
-    let byte = ap number front ∙ number-field 8 b ∙ mod-eq_of_lt (All-head (λ b. b < 256) b bytes all) in
+    let byte = ap number prefix ∙ number-field 8 b ∙ mod-eq_of_lt (All-head (λ b. b < 256) b bytes all) in
     ap (λ c. c ∷ bytes_from (length bytes) (drop 8 (field 8 b ++ to_bits bytes))) byte
     ∙ ap (λ bs. b ∷ bytes_from (length bytes) bs) rest
     ∙ ap (λ cs. b ∷ cs) (bytes_from-to_bits bytes (All-tail (λ b. b < 256) b bytes all))
@@ -190,13 +190,13 @@ unfolding low_number
 sum_through-is [] zero l = absurd (omega arith)
 sum_through-is (b ∷ bs) zero l = omega arith
 sum_through-is bs (suc k) l =
-    let front = take (suc (suc k)) bs in
-    let push = low_number-push front (suc k) (length-take (suc (suc k)) bs ∙ omega arith) in
-    let less : take (suc k) front ≡ take (suc k) bs = take-take (suc k) (suc (suc k)) bs (omega arith) in
-    let last : get_or front (suc k) 0 ≡ get_or bs (suc k) 0 = get_or-take (suc (suc k)) bs (suc k) 0 (omega arith) in
+    let prefix = take (suc (suc k)) bs in
+    let push = low_number-push prefix (suc k) (length-take (suc (suc k)) bs ∙ omega arith) in
+    let less : take (suc k) prefix ≡ take (suc k) bs = take-take (suc k) (suc (suc k)) bs (omega arith) in
+    let last : get_or prefix (suc k) 0 ≡ get_or bs (suc k) 0 = get_or-take (suc (suc k)) bs (suc k) 0 (omega arith) in
     let rest = sum_through-is bs k (omega arith) in
     ap (λ n. n + get_or bs (suc k) 0 * 256 ^ suc k) (rest ∙ ap low_number (sym less))
-    ∙ ap (λ b. low_number (take (suc k) front) + b * 256 ^ suc k) (sym last)
+    ∙ ap (λ b. low_number (take (suc k) prefix) + b * 256 ^ suc k) (sym last)
     ∙ sym push
 
 byte_len-some : (w : Width) → suc (byte_len w - 1) ≡ byte_len w

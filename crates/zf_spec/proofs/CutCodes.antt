@@ -86,8 +86,8 @@ cut_plane_code r n ds within more = ⊎_elim
     omega (arith, code, behind, kept))
     (cases_lt r n)
   where
-    front : List Bool
-    front = take (min n r) ds ++ zeros (drop (min n r) (take n ds))
+    prefix : List Bool
+    prefix = take (min n r) ds ++ zeros (drop (min n r) (take n ds))
 
     behind : List Bool
     behind = kept_tail (r - min n r) (drop n ds)
@@ -98,11 +98,11 @@ cut_plane_code r n ds within more = ⊎_elim
     whole : length (plane_code n ds) ≡ n + length (tail (drop n ds))
     whole = omega (arith, length-append (take n ds) (tail (drop n ds)), length-take n ds)
 
-    code : length (plane_code n (front ++ behind)) ≡ n + length (tail (kept_tail (r - min n r) (drop n ds)))
+    code : length (plane_code n (prefix ++ behind)) ≡ n + length (tail (kept_tail (r - min n r) (drop n ds)))
     code =
-        length-append (take n (front ++ behind)) (tail (drop n (front ++ behind)))
-        ∙ ap (λ ks. length ks + length (tail (drop n (front ++ behind)))) (take_at front behind n long)
-        ∙ ap (λ ks. length front + length (tail ks)) (drop_at front behind n long)
+        length-append (take n (prefix ++ behind)) (tail (drop n (prefix ++ behind)))
+        ∙ ap (λ ks. length ks + length (tail (drop n (prefix ++ behind)))) (take_at prefix behind n long)
+        ∙ ap (λ ks. length prefix + length (tail ks)) (drop_at prefix behind n long)
         ∙ ap (λ k. k + length (tail behind)) long
 
 -- ---- of planes: where the codes of the top ones are too long for a budget, those of what it keeps are too

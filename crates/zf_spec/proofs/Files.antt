@@ -16,7 +16,7 @@ pub length-file : {X : Type 0} (w : Width) (ns : List ℕ) (mode : Mode) (code :
     → length (file w ns mode (map code xs)) ≡ 8 * div_ceil (length (header w ns mode) + length xs * n) 64
 unfolding file
 length-file w ns mode code n xs each =
-    let front = header w ns mode in
+    let prefix = header w ns mode in
     let behind = flat_map (λ c. c) (map code xs) in
-    let bits : length (front ++ behind) ≡ length front + length xs * n = length-append front behind ∙ ap (λ k. length front + k) (length-codes code n xs each) in
-    length-to_bytes (with_fill (front ++ behind)) ∙ length-filled_bytes (front ++ behind) ∙ ap (λ k. 8 * div_ceil k 64) bits
+    let bits : length (prefix ++ behind) ≡ length prefix + length xs * n = length-append prefix behind ∙ ap (λ k. length prefix + k) (length-codes code n xs each) in
+    length-to_bytes (with_fill (prefix ++ behind)) ∙ length-filled_bytes (prefix ++ behind) ∙ ap (λ k. 8 * div_ceil k 64) bits

@@ -5,7 +5,7 @@ use Rattle.std.proofs.lemmas.List.{length-append, length-take, length-drop, leng
 use Rattle.std.proofs.lemmas.List.Elements.{All-nil, All-cons, All-head, All-tail}
 use Rattle.zf_spec.specs.Planes.{has_one, reach, group, code_from_run, tail, plane_code, code_from, code}
 use Rattle.zf_spec.specs.ReadPlanes.{Begins, first_bits, group_in, run_in, tail_in, plane_in, planes_in_from, planes_in}
-use Rattle.zf_spec.proofs.Beginnings.{length-first_bits, first_begins, begins_is_first, begins_append, begins_front, begins_rest}
+use Rattle.zf_spec.proofs.Beginnings.{length-first_bits, first_begins, begins_is_first, begins_append, begins_prefix, begins_rest}
 use Rattle.zf_spec.proofs.Reach.{zeros_from_none, reach-le, reach_within}
 use Rattle.zf_spec.proofs.PlaneCode.{tail-zeros}
 
@@ -114,22 +114,22 @@ length-plane_in size n s h = omega (arith, length-append (first_bits n s) (tail_
 
 pub full_plane_begins : (size n : ℕ) (s : List Bool) → Begins (plane_code n (plane_in size n s)) s
 full_plane_begins size n s =
-    let front = first_bits n s in
+    let prefix = first_bits n s in
     let rest = tail_in (size - n) (drop n s) in
-    let a = take_at front rest n (length-first_bits n s) in
-    let b = drop_at front rest n (length-first_bits n s) in
+    let a = take_at prefix rest n (length-first_bits n s) in
+    let b = drop_at prefix rest n (length-first_bits n s) in
     let l = length-first_bits n s in
-    let same : plane_code n (front ++ rest) ≡ front ++ tail rest = ap (λ c. c ++ tail (drop n (front ++ rest))) a ∙ ap (λ c. front ++ tail c) b in
-    subst (λ c. Begins c s) (sym same) (begins_append front (tail rest) s (first_begins n s) (rw l (full_tail_begins (size - n) (drop n s))))
+    let same : plane_code n (prefix ++ rest) ≡ prefix ++ tail rest = ap (λ c. c ++ tail (drop n (prefix ++ rest))) a ∙ ap (λ c. prefix ++ tail c) b in
+    subst (λ c. Begins c s) (sym same) (begins_append prefix (tail rest) s (first_begins n s) (rw l (full_tail_begins (size - n) (drop n s))))
 
 pub full_plane_only : (n : ℕ) (ds s : List Bool) → n ≤ length ds → Begins (plane_code n ds) s → ds ≡ plane_in (length ds) n s
 full_plane_only n ds s h b =
     let l : length (take n ds) ≡ n = omega (arith, length-take n ds) in
     let m : length (drop n ds) ≡ length ds - n = length-drop n ds in
-    let front = begins_is_first (take n ds) s (begins_front (take n ds) (tail (drop n ds)) s b) ∙ ap (λ k. first_bits k s) l in
+    let prefix = begins_is_first (take n ds) s (begins_prefix (take n ds) (tail (drop n ds)) s b) ∙ ap (λ k. first_bits k s) l in
     let rest = full_tail_only (drop n ds) (drop (length (take n ds)) s) (begins_rest (take n ds) (tail (drop n ds)) s b) in
     sym (take-append-drop n ds)
-    ∙ ap (λ c. c ++ drop n ds) front
+    ∙ ap (λ c. c ++ drop n ds) prefix
     ∙ ap (λ c. first_bits n s ++ c) (rest ∙ ap (λ k. tail_in k (drop (length (take n ds)) s)) m ∙ ap (λ k. tail_in (length ds - n) (drop k s)) l)
 
 pub length-planes_in_from : (p size n : ℕ) (s : List Bool) → length (planes_in_from p size n s) ≡ p
@@ -158,7 +158,7 @@ full_from_only size n (ds ∷ ps) s h all b =
     let l : length ds ≡ size = All-head (λ ds. length ds ≡ size) ds ps all in
     let c = plane_code n ds in
     let others = code_from (max n (reach ds)) ps in
-    let plane : ds ≡ plane_in size n s = full_plane_only n ds s (omega arith) (begins_front c others s b) ∙ ap (λ k. plane_in k n s) l in
+    let plane : ds ≡ plane_in size n s = full_plane_only n ds s (omega arith) (begins_prefix c others s b) ∙ ap (λ k. plane_in k n s) l in
     let rest = full_from_only size (max n (reach ds)) ps (drop (length c) s) (reach_within size n ds h l) (All-tail (λ ds. length ds ≡ size) ds ps all) (begins_rest c others s b) in
     ap (λ qs. ds ∷ qs) rest ∙ ap (λ es. es ∷ planes_in_from (length ps) size (max n (reach es)) (drop (length (plane_code n es)) s)) plane
 

@@ -6,7 +6,7 @@ use Rattle.std.proofs.lemmas.List.Elements.{All-head, All-tail}
 use Rattle.zf_spec.specs.Planes.{has_one, reach, group, code_from_run, tail, plane_code, code_from, code}
 use Rattle.zf_spec.specs.Kept.{zeros, kept_run, kept_tail, cut_plane, kept_plane, kept_planes_from, kept_planes}
 use Rattle.zf_spec.specs.ReadPlanes.{first_bits, plane_in, planes_in}
-use Rattle.zf_spec.proofs.Beginnings.{begins_is_first, begins_from_first, begins_itself, first_bits-first_bits, first_bits-append, first_bits-rest, first_bits-front, first_bits-all}
+use Rattle.zf_spec.proofs.Beginnings.{begins_is_first, begins_from_first, begins_itself, first_bits-first_bits, first_bits-append, first_bits-rest, first_bits-prefix, first_bits-all}
 use Rattle.zf_spec.proofs.Reach.{reach-le}
 use Rattle.zf_spec.proofs.KeptCases.{kept_tail-zeros, kept_tail-one}
 use Rattle.zf_spec.proofs.Full.{full_plane_only, full_begins, full_only, length-planes_in, planes_in-length}
@@ -75,7 +75,7 @@ plane_same n r a b rest more l h fits e =
 -- of a plane whose code is cut as much is kept as the bits tell
 cut_same : (n r : ℕ) (a b rest more : List Bool) → length a ≡ length b → n ≤ length a → r < length (plane_code n a) → r < length (plane_code n b)
     → first_bits r (plane_code n a ++ rest) ≡ first_bits r (plane_code n b ++ more) → cut_plane r n a ≡ cut_plane r n b
-cut_same n r a b rest more l h cut_a cut_b e = ap (λ ds. ds ++ zeros (drop q (take n a)) ++ kept_tail (r - q) (drop n a)) front
+cut_same n r a b rest more l h cut_a cut_b e = ap (λ ds. ds ++ zeros (drop q (take n a)) ++ kept_tail (r - q) (drop n a)) prefix
     ∙ ap (λ ds. take q b ++ ds ++ kept_tail (r - q) (drop n a)) middle
     ∙ ap (λ ds. take q b ++ zeros (drop q (take n b)) ++ ds) (by (cases_lt r n))
   where
@@ -86,14 +86,14 @@ cut_same n r a b rest more l h cut_a cut_b e = ap (λ ds. ds ++ zeros (drop q (t
     parts : (ds more : List Bool) → plane_code n ds ++ more ≡ take n ds ++ (tail (drop n ds) ++ more)
     parts ds more = append_assoc (take n ds) (tail (drop n ds)) more
 
-    fronts : (k : ℕ) → k ≤ n → k ≤ r → take k a ≡ take k b
-    fronts k f g =
-        let of_front : (ds more : List Bool) → n ≤ length ds → first_bits k (plane_code n ds ++ more) ≡ take k ds =
+    prefixes : (k : ℕ) → k ≤ n → k ≤ r → take k a ≡ take k b
+    prefixes k f g =
+        let of_prefix : (ds more : List Bool) → n ≤ length ds → first_bits k (plane_code n ds ++ more) ≡ take k ds =
         λ ds more w. ap (first_bits k) (parts ds more) ∙ first_bits-append (take n ds) (tail (drop n ds) ++ more) k (omega (arith, length-take n ds)) ∙ take-take k n ds f in
-        sym (of_front a rest h) ∙ sym (first_bits-first_bits k r (plane_code n a ++ rest) g) ∙ ap (first_bits k) e ∙ first_bits-first_bits k r (plane_code n b ++ more) g ∙ of_front b more (omega arith)
+        sym (of_prefix a rest h) ∙ sym (first_bits-first_bits k r (plane_code n a ++ rest) g) ∙ ap (first_bits k) e ∙ first_bits-first_bits k r (plane_code n b ++ more) g ∙ of_prefix b more (omega arith)
 
-    front : take q a ≡ take q b
-    front = fronts q (omega arith) (omega arith)
+    prefix : take q a ≡ take q b
+    prefix = prefixes q (omega arith) (omega arith)
 
     middle : zeros (drop q (take n a)) ≡ zeros (drop q (take n b))
     middle = zeros_same (drop q (take n a)) (drop q (take n b)) (omega (arith, length-drop q (take n a), length-drop q (take n b), length-take n a, length-take n b))
@@ -109,13 +109,13 @@ cut_same n r a b rest more l h cut_a cut_b e = ap (λ ds. ds ++ zeros (drop q (t
         let left : r - q ≡ r - n = omega arith in
         let wide : length (take n b) ≡ n = omega (arith, length-take n b) in
         let same : first_bits r (take n b ++ (tail (drop n a) ++ rest)) ≡ first_bits r (take n b ++ (tail (drop n b) ++ more)) =
-        ap (λ f. first_bits r (f ++ (tail (drop n a) ++ rest))) (sym (fronts n (omega arith) enough)) ∙ ap (first_bits r) (sym (parts a rest)) ∙ e ∙ ap (first_bits r) (parts b more) in
+        ap (λ f. first_bits r (f ++ (tail (drop n a) ++ rest))) (sym (prefixes n (omega arith) enough)) ∙ ap (first_bits r) (sym (parts a rest)) ∙ e ∙ ap (first_bits r) (parts b more) in
         let behind : first_bits (r - n) (tail (drop n a) ++ rest) ≡ first_bits (r - n) (tail (drop n b) ++ more) =
         ap (λ k. first_bits (r - k) (tail (drop n a) ++ rest)) (sym wide) ∙ first_bits-rest (take n b) (tail (drop n a) ++ rest) (tail (drop n b) ++ more) r (omega arith) same ∙ ap (λ k. first_bits (r - k) (tail (drop n b) ++ more)) wide in
         let short_a : r - n ≤ length (tail (drop n a)) = omega (arith, length-append (take n a) (tail (drop n a)), length-take n a) in
         let short_b : r - n ≤ length (tail (drop n b)) = omega (arith, length-append (take n b) (tail (drop n b)), length-take n b) in
         rw left (tails_same (drop n a) (drop n b) (r - n) lengths
-        (sym (first_bits-front (tail (drop n a)) rest (r - n) short_a) ∙ behind ∙ first_bits-front (tail (drop n b)) more (r - n) short_b))
+        (sym (first_bits-prefix (tail (drop n a)) rest (r - n) short_a) ∙ behind ∙ first_bits-prefix (tail (drop n b)) more (r - n) short_b))
 
 -- ---- planes
 
@@ -126,7 +126,7 @@ pub kept_cut : (r n : ℕ) (ds : List Bool) → r < length (plane_code n ds) →
 kept_cut r n ds h = ap (λ t. cond t ds (cut_plane r n ds)) (lt-leb (length (plane_code n ds)) r h)
 
 -- a plane with a digit has a code
-plane_code_some : (n : ℕ) (ds : List Bool) → 1 ≤ length ds → 1 ≤ length (plane_code n ds)
+pub plane_code_some : (n : ℕ) (ds : List Bool) → 1 ≤ length ds → 1 ≤ length (plane_code n ds)
 plane_code_some n [] h = absurd (omega arith)
 plane_code_some zero (d ∷ ds) h = by (has_one (d ∷ ds))
   where

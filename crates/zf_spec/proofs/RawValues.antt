@@ -55,9 +55,9 @@ values_from-raw w [] all = refl
 values_from-raw w (v ∷ values) all =
     let bs = to_le_bytes w (cast_unsigned w v) in
     let l = length-to_le_bytes w (cast_unsigned w v) in
-    let front : first_bytes (byte_len w) (bs ++ raw w values) ≡ bs = ap (λ k. first_bytes k (bs ++ raw w values)) (sym l) ∙ first_bytes-append bs (raw w values) in
+    let prefix : first_bytes (byte_len w) (bs ++ raw w values) ≡ bs = ap (λ k. first_bytes k (bs ++ raw w values)) (sym l) ∙ first_bytes-append bs (raw w values) in
     let rest : drop (byte_len w) (bs ++ raw w values) ≡ raw w values = drop_at bs (raw w values) (byte_len w) l in
-    let value = ap (λ cs. cast_signed w (from_le_bytes w cs)) front ∙ value_from_bytes w v (All-head (λ v. FitsSigned w v) v values all) in
+    let value = ap (λ cs. cast_signed w (from_le_bytes w cs)) prefix ∙ value_from_bytes w v (All-head (λ v. FitsSigned w v) v values all) in
     ap (λ u. u ∷ values_from w (length values) (drop (byte_len w) (bs ++ raw w values))) value
     ∙ ap (λ s. v ∷ values_from w (length values) s) rest
     ∙ ap (λ us. v ∷ us) (values_from-raw w values (All-tail (λ v. FitsSigned w v) v values all))

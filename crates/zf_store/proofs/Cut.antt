@@ -34,11 +34,11 @@ before_change i n j s t fits within =
 -- the bits from bit i on, all behind a change from bit j on
 pub behind_change : (i j n : ℕ) (s c : List Bool) → j ≤ length s → length c ≡ n → j + n ≤ i → drop i (take j s ++ c ++ drop (j + n) s) ≡ drop i s
 behind_change i j n s c within long behind =
-    let front = take j s ++ c in
-    let size : length front ≡ j + n = omega (arith, length-append (take j s) c, length-take-le j s within) in
-    let sum : i ≡ length front + (i - (j + n)) = omega arith in
+    let prefix = take j s ++ c in
+    let size : length prefix ≡ j + n = omega (arith, length-append (take j s) c, length-take-le j s within) in
+    let sum : i ≡ length prefix + (i - (j + n)) = omega arith in
     let back : j + n + (i - (j + n)) ≡ i = omega arith in
-    ap (λ k. drop k (front ++ drop (j + n) s)) sum ∙ drop-append-add front (drop (j + n) s) (i - (j + n))
+    ap (λ k. drop k (prefix ++ drop (j + n) s)) sum ∙ drop-append-add prefix (drop (j + n) s) (i - (j + n))
     ∙ drop-drop (i - (j + n)) (j + n) s ∙ ap (λ k. drop k s) back
 
 -- the changed bits
@@ -63,8 +63,8 @@ code_cut-take budget n b s below =
     ∙ take-take budget (n * budget - i) (drop i s) (omega arith)
 
 -- only the first bits count
-pub codes_in-front : (budget n : ℕ) (s t : List Bool) → take (n * budget) s ≡ take (n * budget) t → codes_in budget n s ≡ codes_in budget n t
-codes_in-front budget n s t same = map-upto_same (code_cut budget s) (code_cut budget t) n
+pub codes_in-prefix : (budget n : ℕ) (s t : List Bool) → take (n * budget) s ≡ take (n * budget) t → codes_in budget n s ≡ codes_in budget n t
+codes_in-prefix budget n s t same = map-upto_same (code_cut budget s) (code_cut budget t) n
     (λ b below. sym (code_cut-take budget n b s below) ∙ ap (λ (bs : List Bool). code_cut budget bs b) same ∙ code_cut-take budget n b t below)
 
 pub length-codes_in : (budget n : ℕ) (s : List Bool) → length (codes_in budget n s) ≡ n

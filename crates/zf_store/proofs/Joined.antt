@@ -27,7 +27,7 @@ take_padded w k bs enough = by (cases_lt (length bs) w)
         let sum : w ≡ length bs + (w - length bs) = omega arith in
         ap (λ n. take n (bs ++ replicate k false)) sum ∙ take-append-add bs (replicate k false) (w - length bs)
         ∙ ap (λ (zs : List Bool). bs ++ zs) (take-replicate (w - length bs) k false (omega arith))
-        ∙ ap (λ (front : List Bool). front ++ replicate (w - length bs) false) (sym (take_all (length bs) bs (omega arith)))
+        ∙ ap (λ (prefix : List Bool). prefix ++ replicate (w - length bs) false) (sym (take_all (length bs) bs (omega arith)))
         ∙ ap (λ n. take n bs ++ replicate (w - n) false) (sym m)
     by (inr long) =
         let m : min (length bs) w ≡ w = omega arith in
@@ -62,30 +62,30 @@ one_word [] one = absurd (omega arith)
 one_word (x ∷ []) one = sym (append-nil (field 64 x))
 one_word (x ∷ y ∷ words) one = absurd (omega arith)
 
-module _ (front back : List Bool) (at : ℕ) where
-  pub word_behind : (from : ℕ) → length front ≤ at → from ≡ at - length front → take 64 (drop from back ++ replicate 64 false) ≡ take 64 (drop at (front ++ back) ++ replicate 64 false)
+module _ (prefix back : List Bool) (at : ℕ) where
+  pub word_behind : (from : ℕ) → length prefix ≤ at → from ≡ at - length prefix → take 64 (drop from back ++ replicate 64 false) ≡ take 64 (drop at (prefix ++ back) ++ replicate 64 false)
   word_behind from behind is_from =
-      let sum : at ≡ length front + from = omega arith in
-      sym (ap (λ k. take 64 (drop k (front ++ back) ++ replicate 64 false)) sum
-      ∙ ap (λ (bs : List Bool). take 64 (bs ++ replicate 64 false)) (drop-append-add front back from))
+      let sum : at ≡ length prefix + from = omega arith in
+      sym (ap (λ k. take 64 (drop k (prefix ++ back) ++ replicate 64 false)) sum
+      ∙ ap (λ (bs : List Bool). take 64 (bs ++ replicate 64 false)) (drop-append-add prefix back from))
 
-  pub word_before : at + 64 ≤ length front → take 64 (drop at front ++ replicate 64 false) ≡ take 64 (drop at (front ++ back) ++ replicate 64 false)
+  pub word_before : at + 64 ≤ length prefix → take 64 (drop at prefix ++ replicate 64 false) ≡ take 64 (drop at (prefix ++ back) ++ replicate 64 false)
   word_before before =
-      let long : 64 ≤ length (drop at front) = omega (arith, length-drop at front) in
-      take-append-le 64 (drop at front) (replicate 64 false) long
-      ∙ sym (ap (λ (bs : List Bool). take 64 (bs ++ replicate 64 false)) (drop-append-le at front back (omega arith))
-      ∙ ap (take 64) (append_assoc (drop at front) back (replicate 64 false))
-      ∙ take-append-le 64 (drop at front) (back ++ replicate 64 false) long)
+      let long : 64 ≤ length (drop at prefix) = omega (arith, length-drop at prefix) in
+      take-append-le 64 (drop at prefix) (replicate 64 false) long
+      ∙ sym (ap (λ (bs : List Bool). take 64 (bs ++ replicate 64 false)) (drop-append-le at prefix back (omega arith))
+      ∙ ap (take 64) (append_assoc (drop at prefix) back (replicate 64 false))
+      ∙ take-append-le 64 (drop at prefix) (back ++ replicate 64 false) long)
 
-  pub word_between : (held n word v x : ℕ) (now : List Bool) → at ≤ length front → held ≡ length front - at → n ≡ 64 - held → held ≤ 64
-      → field 64 word ≡ take 64 (drop at front ++ replicate 64 false) → field 64 v ≡ take 64 (back ++ replicate 64 false)
+  pub word_between : (held n word v x : ℕ) (now : List Bool) → at ≤ length prefix → held ≡ length prefix - at → n ≡ 64 - held → held ≤ 64
+      → field 64 word ≡ take 64 (drop at prefix ++ replicate 64 false) → field 64 v ≡ take 64 (back ++ replicate 64 false)
       → now ≡ take held (field 64 word ++ []) ++ field n v ++ drop (held + n) (field 64 word ++ []) → field 64 x ≡ now
-      → field 64 x ≡ take 64 (drop at (front ++ back) ++ replicate 64 false)
+      → field 64 x ≡ take 64 (drop at (prefix ++ back) ++ replicate 64 false)
   word_between held n word v x now within is_held is_n narrow is_word is_v is_now is_x =
       let old = field 64 word ++ [] in
       let size : length old ≡ 64 = omega (arith, length-append (field 64 word) [], length-field 64 word) in
-      let rest = drop at front in
-      let long : length rest ≡ held = omega (arith, length-drop at front) in
+      let rest = drop at prefix in
+      let long : length rest ≡ held = omega (arith, length-drop at prefix) in
       let parts : n + held ≡ 64 = omega arith in
       let sum : 64 ≡ length rest + n = omega arith in
       let none : drop (held + n) old ≡ [] = drop_all (held + n) old (omega arith) in
@@ -95,7 +95,7 @@ module _ (front back : List Bool) (at : ℕ) where
       sym (take-field n held v) ∙ ap (λ k. take n (field k v)) parts ∙ ap (take n) is_v ∙ take-take n 64 (back ++ replicate 64 false) (omega arith) in
       is_x ∙ is_now ∙ ap (λ (bs : List Bool). take held old ++ field n v ++ bs) none ∙ append-nil (take held old ++ field n v)
       ∙ ap (λ (bs : List Bool). bs ++ field n v) low ∙ ap (λ (bs : List Bool). rest ++ bs) high
-      ∙ sym (ap (λ (bs : List Bool). take 64 (bs ++ replicate 64 false)) (drop-append-le at front back within)
+      ∙ sym (ap (λ (bs : List Bool). take 64 (bs ++ replicate 64 false)) (drop-append-le at prefix back within)
       ∙ ap (take 64) (append_assoc rest back (replicate 64 false)) ∙ ap (λ k. take k (rest ++ (back ++ replicate 64 false))) sum
       ∙ take-append-add rest (back ++ replicate 64 false) n)
 
@@ -109,13 +109,13 @@ bytes_from-add (suc m) n bs =
     ap (λ k. bytes_from k bs) e ∙ ap (λ (cs : List ℕ). number (take 8 bs) ∷ cs) (bytes_from-add m n (drop 8 bs)
     ∙ ap (λ (cs : List Bool). bytes_from m (drop 8 bs) ++ bytes_from n cs) (drop-drop (8 * m) 8 bs ∙ ap (λ k. drop k bs) f))
 
-pub bytes_from-front : (n : ℕ) (bs : List Bool) → bytes_from n (take (8 * n) bs) ≡ bytes_from n bs
-bytes_from-front zero bs = refl
-bytes_from-front (suc n) bs =
+pub bytes_from-prefix : (n : ℕ) (bs : List Bool) → bytes_from n (take (8 * n) bs) ≡ bytes_from n bs
+bytes_from-prefix zero bs = refl
+bytes_from-prefix (suc n) bs =
     let e : 8 * suc n ≡ 8 + 8 * n = omega arith in
     ap (λ k. bytes_from (suc n) (take k bs)) e
     ∙ ap (λ (b : List Bool). number b ∷ bytes_from n (drop 8 (take (8 + 8 * n) bs))) (take-take 8 (8 + 8 * n) bs (omega arith))
-    ∙ ap (λ (cs : List ℕ). number (take 8 bs) ∷ cs) (ap (bytes_from n) (drop-take 8 (8 * n) bs) ∙ bytes_from-front n (drop 8 bs))
+    ∙ ap (λ (cs : List ℕ). number (take 8 bs) ∷ cs) (ap (bytes_from n) (drop-take 8 (8 * n) bs) ∙ bytes_from-prefix n (drop 8 bs))
 
 -- the bytes of a word
 pub bytes_of_word : (x : ℕ) → x < 2 ^ 64 → to_le_bytes w64 x ≡ bytes_from 8 (field 64 x)
@@ -142,14 +142,14 @@ pub bytes_more : (bs : List Bool) (i j x : ℕ) (now new : List ℕ) → 64 * i 
     → new ≡ take (8 * i) now ++ to_le_bytes w64 x ++ drop (8 * i + 8) now → take (8 * j) new ≡ bytes_from (8 * j) (with_fill bs)
 bytes_more bs i j x now new within small is_j held is_x is_now is_new =
     let filled = with_fill bs in
-    let front = take (8 * i) now ++ to_le_bytes w64 x in
+    let prefix = take (8 * i) now ++ to_le_bytes w64 x in
     let bytes = bytes_of_word x small in
     let long : length (bytes_from 8 (field 64 x)) ≡ 8 = refl in
-    let size : length front ≡ 8 * j = omega (arith, length-append (take (8 * i) now) (to_le_bytes w64 x), length-take-le (8 * i) now held, ap length bytes, long) in
+    let size : length prefix ≡ 8 * j = omega (arith, length-append (take (8 * i) now) (to_le_bytes w64 x), length-take-le (8 * i) now held, ap length bytes, long) in
     let sum : 8 * j ≡ 8 * i + 8 = omega arith in
     let eight : 8 * (8 * i) ≡ 64 * i = omega arith in
-    let word : bytes_from 8 (field 64 x) ≡ bytes_from 8 (drop (64 * i) filled) = ap (bytes_from 8) (filled_word bs i x within is_x) ∙ bytes_from-front 8 (drop (64 * i) filled) in
-    ap (take (8 * j)) is_new ∙ take_at front (drop (8 * i + 8) now) (8 * j) size
+    let word : bytes_from 8 (field 64 x) ≡ bytes_from 8 (drop (64 * i) filled) = ap (bytes_from 8) (filled_word bs i x within is_x) ∙ bytes_from-prefix 8 (drop (64 * i) filled) in
+    ap (take (8 * j)) is_new ∙ take_at prefix (drop (8 * i + 8) now) (8 * j) size
     ∙ ap (λ (cs : List ℕ). cs ++ to_le_bytes w64 x) is_now ∙ ap (λ (cs : List ℕ). bytes_from (8 * i) filled ++ cs) (bytes ∙ word)
     ∙ sym (ap (λ k. bytes_from k filled) sum ∙ bytes_from-add (8 * i) 8 filled ∙ ap (λ k. bytes_from (8 * i) filled ++ bytes_from 8 (drop k filled)) eight)
 

@@ -69,10 +69,10 @@ module _ (w : Width) (d : ℕ) (h : Header) (words : List ℕ) (room : ℕ) (cod
   words_are = words_are_filled words (all_bits h) kept.size kept.blank ∙ ap with_fill (sym (joined-codes_in (block_bits h.mode) (blocks h.shape) (word_bits words)))
 
   -- the bytes of the header and the codes are the file
-  pub file_is : (front : List Bool) (n m : ℕ) → front ≡ with_fill head.bits → n ≡ length head.bits → m ≡ all_bits h → to_bytes (with_fill (take n front ++ take m (word_bits words))) ≡ file_of (with_codes h (word_bits words))
+  pub file_is : (prefix : List Bool) (n m : ℕ) → prefix ≡ with_fill head.bits → n ≡ length head.bits → m ≡ all_bits h → to_bytes (with_fill (take n prefix ++ take m (word_bits words))) ≡ file_of (with_codes h (word_bits words))
   unfolding file header_bits
-  file_is front n m is_front is_n is_m =
-      let first : take n front ≡ header_bits h = ap (take n) is_front ∙ take_at head.bits _ n (sym is_n) ∙ kept.head_is in
+  file_is prefix n m is_prefix is_n is_m =
+      let first : take n prefix ≡ header_bits h = ap (take n) is_prefix ∙ take_at head.bits _ n (sym is_n) ∙ kept.head_is in
       ap (λ (bs : List Bool). to_bytes (with_fill (bs ++ take m (word_bits words)))) first
       ∙ ap (λ k. to_bytes (with_fill (header_bits h ++ take k (word_bits words)))) is_m
       ∙ ap (λ (bs : List Bool). to_bytes (with_fill (header_bits h ++ bs))) (sym (joined-codes_in (block_bits h.mode) (blocks h.shape) (word_bits words)))

@@ -33,7 +33,7 @@ use Rattle.zf_cached.proofs.Arrays.{meant-rate}
 use Rattle.zf_store.specs.Stored.{code_at, format_of}
 use Rattle.zf_store.specs.Files.{HasHeader, IsOpened, values_of}
 use Rattle.zf_store.specs.Words.{codes_in, with_codes, all_bits, IsWholeFile}
-use Rattle.zf_store.proofs.Cut.{codes_in-front, get_or-codes_in, joined-codes_in, length-codes_in}
+use Rattle.zf_store.proofs.Cut.{codes_in-prefix, get_or-codes_in, joined-codes_in, length-codes_in}
 
 -- ---- headers with a rate
 
@@ -131,11 +131,11 @@ module _ (bytes : List ℕ) (h : Header) (has : HasHeader bytes h) where
         let fill = drop m s in
         let long_cs : length cs ≡ m = length-take-le m s (omega (arith, length-behind, whole_bits, all)) in
         let long : length fill ≡ fill_len (length hb + m) = omega (arith, length-drop m s, length-behind, whole_bits, all) in
-        let front_size : length (hb ++ cs) ≡ length hb + m = length-append hb cs ∙ ap (λ k. length hb + k) long_cs in
+        let prefix_size : length (hb ++ cs) ≡ length hb + m = length-append hb cs ∙ ap (λ k. length hb + k) long_cs in
         let zero : number fill ≡ 0 = ap number (sym (take_all (fill_len (length hb + m)) fill (omega (arith, long)))) ∙ same_number ∙ none in
         let zeros : fill ≡ replicate (fill_len (length (hb ++ cs))) false =
         sym (field-number (length fill) fill refl) ∙ ap (λ k. field (length fill) k) zero ∙ field-zero (length fill)
-        ∙ ap (λ k. replicate k false) (long ∙ ap fill_len (sym front_size)) in
+        ∙ ap (λ k. replicate k false) (long ∙ ap fill_len (sym prefix_size)) in
         record {
           size = sym all;
           bits = sym (take-append-drop (length hb) bits) ∙ ap (λ (bs : List Bool). bs ++ s) begins.bits
@@ -155,7 +155,7 @@ module _ (bytes : List ℕ) (h : Header) (has : HasHeader bytes h) where
       → word_bits items ≡ take (blocks h.shape * block_bits h.mode) (drop (length (header_bits h)) (to_bits bytes)) ++ replicate (64 * n - blocks h.shape * block_bits h.mode) false
   moved_codes whole moved old items rest held count len all n is_items is_held is_count is_len is_all is_old is_moved is_n =
       let bits = to_bits bytes in
-      let front : take held (moved ++ rest) ≡ moved = take_at moved rest held is_held in
+      let prefix : take held (moved ++ rest) ≡ moved = take_at moved rest held is_held in
       let within : length (header_bits h) + blocks h.shape * block_bits h.mode ≤ length bits = omega (arith, enough_bits whole, length-behind, header_within, length-to_bits bytes) in
       let run : take all (drop len old) ≡ take (all_bits h) (drop (length (header_bits h)) bits) =
       ap (λ k. take k (drop len old)) is_all ∙ ap (λ k. take (all_bits h) (drop k old)) is_len
@@ -163,7 +163,7 @@ module _ (bytes : List ℕ) (h : Header) (has : HasHeader bytes h) where
       ∙ ap (take (all_bits h)) (drop-append-le (length (header_bits h)) bits _ (omega arith))
       ∙ take-append-le (all_bits h) (drop (length (header_bits h)) bits) _ (omega (arith, length-drop (length (header_bits h)) bits)) in
       let pad : 64 * div_ceil all 64 - all ≡ 64 * n - all_bits h = omega arith in
-      ap word_bits (is_items ∙ ap (take count) front) ∙ sym (take-words 64 count moved) ∙ ap (λ k. take (64 * k) (word_bits moved)) is_count ∙ is_moved
+      ap word_bits (is_items ∙ ap (take count) prefix) ∙ sym (take-words 64 count moved) ∙ ap (λ k. take (64 * k) (word_bits moved)) is_count ∙ is_moved
       ∙ ap (λ (bs : List Bool). bs ++ replicate (64 * div_ceil all 64 - all) false) run
       ∙ ap (λ k. take (all_bits h) (drop (length (header_bits h)) bits) ++ replicate k false) pad
 
@@ -205,5 +205,5 @@ module _ (bytes : List ℕ) (h : Header) (has : HasHeader bytes h) where
         let s = drop (length (header_bits h)) (to_bits bytes) in
         let m = blocks h.shape * block_bits h.mode in
         let same : codes_in (block_bits h.mode) (blocks h.shape) s ≡ codes_in (block_bits h.mode) (blocks h.shape) bits =
-        codes_in-front (block_bits h.mode) (blocks h.shape) s bits (sym (ap (take m) is ∙ take_at (take m s) zeros m (length-take-le m s enough))) in
+        codes_in-prefix (block_bits h.mode) (blocks h.shape) s bits (sym (ap (take m) is ∙ take_at (take m s) zeros m (length-take-le m s enough))) in
         subst (λ (cs : List (List Bool)). IsOpened bytes h (record { header = h; codes = cs })) same opened_bits

@@ -26,7 +26,7 @@ field_of_number n bs long narrow =
     let parts : 64 ≡ n + (64 - n) = omega arith in
     let small : number bs < 2 ^ n = omega (arith, number-lt bs, ap (λ k. 2 ^ k) long) in
     ap (λ k. field k (number bs)) parts ∙ field-add n (64 - n) (number bs)
-    ∙ ap (λ (front : List Bool). front ++ field (64 - n) (number bs / 2 ^ n)) (field-number n bs long)
+    ∙ ap (λ (prefix : List Bool). prefix ++ field (64 - n) (number bs / 2 ^ n)) (field-number n bs long)
     ∙ ap (λ k. bs ++ field (64 - n) k) (div-eq_of_lt small)
     ∙ ap (λ (back : List Bool). bs ++ back) (field-zero (64 - n))
 
@@ -44,17 +44,17 @@ with_run-none old at code =
 pub with_run-more : (old : List Bool) (at : ℕ) (code : List Bool) (m n next : ℕ) (now new bits : List Bool) → at + m + n ≤ length old → m + n ≤ length code → next ≡ m + n
     → now ≡ with_run old at code m → bits ≡ take n (drop m code) → new ≡ take (at + m) now ++ bits ++ drop (at + m + n) now → new ≡ with_run old at code next
 with_run-more old at code m n next now new bits within held is_next is_now is_bits is_new =
-    let front = take at old ++ take m code in
+    let prefix = take at old ++ take m code in
     let rest = drop (at + m) old in
-    let size : length front ≡ at + m = omega (arith, length-append (take at old) (take m code), length-take-le at old (omega arith), length-take-le m code (omega arith)) in
-    let long : at + m + n ≡ length front + n = omega arith in
-    let first : take (at + m) now ≡ front = ap (take (at + m)) is_now ∙ take_at front rest (at + m) size in
+    let size : length prefix ≡ at + m = omega (arith, length-append (take at old) (take m code), length-take-le at old (omega arith), length-take-le m code (omega arith)) in
+    let long : at + m + n ≡ length prefix + n = omega arith in
+    let first : take (at + m) now ≡ prefix = ap (take (at + m)) is_now ∙ take_at prefix rest (at + m) size in
     let last : drop (at + m + n) now ≡ drop (at + m + n) old =
-    ap (drop (at + m + n)) is_now ∙ ap (λ k. drop k (front ++ rest)) long ∙ drop-append-add front rest n ∙ drop-drop n (at + m) old in
+    ap (drop (at + m + n)) is_now ∙ ap (λ k. drop k (prefix ++ rest)) long ∙ drop-append-add prefix rest n ∙ drop-drop n (at + m) old in
     let sum : at + m + n ≡ at + next = omega arith in
     is_new ∙ ap (λ (bs : List Bool). bs ++ bits ++ drop (at + m + n) now) first
-    ∙ ap (λ (bs : List Bool). front ++ bits ++ bs) last
-    ∙ ap (λ (bs : List Bool). front ++ bs ++ drop (at + m + n) old) is_bits
+    ∙ ap (λ (bs : List Bool). prefix ++ bits ++ bs) last
+    ∙ ap (λ (bs : List Bool). prefix ++ bs ++ drop (at + m + n) old) is_bits
     ∙ ap (λ (bs : List Bool). bs ++ drop (at + m + n) old) (append_assoc (take at old) (take m code) (take n (drop m code))
     ∙ ap (λ (bs : List Bool). take at old ++ bs) (sym (take-add m n code)))
     ∙ ap (λ k. take at old ++ take (m + n) code ++ drop k old) sum
@@ -74,14 +74,14 @@ pub IsMoved-more : (old : List Bool) (at i n next m j x : ℕ) (words : List ℕ
     → length old ≡ length (word_bits words) → x ≡ number (take n (drop (at + 64 * i) (word_bits words))) → m ≡ next → IsMoved old at m j (set words i x)
 IsMoved-more old at i n next m j x words is within behind narrow enough is_j is_next same is_x is_m =
     let bits = word_bits words in
-    let front = take (64 * i) bits in
+    let prefix = take (64 * i) bits in
     let rest = drop (64 * suc i) bits in
-    let now : word_bits (set words i x) ≡ front ++ (field 64 x ++ rest) = words-set 64 i words x within in
-    let size : length front ≡ 64 * i = length-take-le (64 * i) bits (omega (arith, length-word_bits words)) in
-    let whole : length (front ++ field 64 x) ≡ 64 * j = omega (arith, length-append front (field 64 x), length-field 64 x) in
-    let parts : front ++ (field 64 x ++ rest) ≡ front ++ field 64 x ++ rest = sym (append_assoc front (field 64 x) rest) in
+    let now : word_bits (set words i x) ≡ prefix ++ (field 64 x ++ rest) = words-set 64 i words x within in
+    let size : length prefix ≡ 64 * i = length-take-le (64 * i) bits (omega (arith, length-word_bits words)) in
+    let whole : length (prefix ++ field 64 x) ≡ 64 * j = omega (arith, length-append prefix (field 64 x), length-field 64 x) in
+    let parts : prefix ++ (field 64 x ++ rest) ≡ prefix ++ field 64 x ++ rest = sym (append_assoc prefix (field 64 x) rest) in
     let zero_more : 64 * i - 64 * i ≡ 0 = omega arith in
-    let first : front ≡ take (64 * i) (drop at old) = is.moved ∙ ap (λ k. take (64 * i) (drop at old) ++ replicate k false) zero_more ∙ append-nil (take (64 * i) (drop at old)) in
+    let first : prefix ≡ take (64 * i) (drop at old) = is.moved ∙ ap (λ k. take (64 * i) (drop at old) ++ replicate k false) zero_more ∙ append-nil (take (64 * i) (drop at old)) in
     let source : drop (at + 64 * i) bits ≡ drop (64 * i) (drop at old) =
     ap (λ k. drop k bits) (let e : at + 64 * i ≡ 64 * i + at = omega arith in e) ∙ sym (drop-drop at (64 * i) bits) ∙ ap (drop at) is.behind ∙ drop-drop at (64 * i) old
     ∙ ap (λ k. drop k old) (let e : 64 * i + at ≡ at + 64 * i = omega arith in e) ∙ sym (drop-drop (64 * i) at old) in
@@ -92,12 +92,12 @@ IsMoved-more old at i n next m j x words is within behind narrow enough is_j is_
     let count : 64 * i + n ≡ m = omega arith in
     let next_word : 64 * suc i ≡ 64 * j = omega arith in
     record {
-      moved = ap (take (64 * j)) (now ∙ parts) ∙ take_at (front ++ field 64 x) rest (64 * j) whole
+      moved = ap (take (64 * j)) (now ∙ parts) ∙ take_at (prefix ++ field 64 x) rest (64 * j) whole
           ∙ ap (λ (bs : List Bool). bs ++ field 64 x) first ∙ ap (λ (bs : List Bool). take (64 * i) (drop at old) ++ bs) put
           ∙ sym (append_assoc (take (64 * i) (drop at old)) piece (replicate (64 - n) false))
           ∙ ap (λ (bs : List Bool). bs ++ replicate (64 - n) false) (sym (take-add (64 * i) n (drop at old)) ∙ ap (λ k. take k (drop at old)) count)
           ∙ ap (λ k. take m (drop at old) ++ replicate k false) pad;
-      behind = ap (drop (64 * j)) (now ∙ parts) ∙ drop_at (front ++ field 64 x) rest (64 * j) whole
+      behind = ap (drop (64 * j)) (now ∙ parts) ∙ drop_at (prefix ++ field 64 x) rest (64 * j) whole
           ∙ ap (λ k. drop k bits) (let e : 64 * suc i ≡ 64 * i + 64 = omega arith in e) ∙ sym (drop-drop 64 (64 * i) bits) ∙ ap (drop 64) is.behind ∙ drop-drop 64 (64 * i) old
           ∙ ap (λ k. drop k old) (let e : 64 * i + 64 ≡ 64 * j = omega arith in e);
     }

@@ -134,16 +134,16 @@ pub(crate) fn words_of_file(alloc: Global, h: &Header, file: &[u8]) -> Result<Ve
     Ok(words)
 }
 
-/// Writes the bytes of the first `front_len` bits of `front`, then the first `len` bits of `words`, and the fill.
-pub(crate) fn write_bytes(front: &[u64], front_len: u64, words: &[u64], len: u64, out: &mut [u8])
-    requires front { front_len ≤ 64 * length front.now }
+/// Writes the bytes of the first `prefix_len` bits of `prefix`, then the first `len` bits of `words`, and the fill.
+pub(crate) fn write_bytes(prefix: &[u64], prefix_len: u64, words: &[u64], len: u64, out: &mut [u8])
+    requires prefix { prefix_len ≤ 64 * length prefix.now }
     requires words { len ≤ 64 * length words.now }
-    requires size { length out.old ≡ 8 * div_ceil (front_len + len) 64 }
-    requires small { front_len + len < 2 ^ 63 }
-    ensures { out.new ≡ to_bytes (with_fill (take front_len (word_bits front.now) ++ take len (word_bits words.now))) }
+    requires size { length out.old ≡ 8 * div_ceil (prefix_len + len) 64 }
+    requires small { prefix_len + len < 2 ^ 63 }
+    ensures { out.new ≡ to_bytes (with_fill (take prefix_len (word_bits prefix.now) ++ take len (word_bits words.now))) }
 {
     for i in 0..out.len() / 8 {
-        let word = joined_word(front, front_len, words, len, i as u64);
+        let word = joined_word(prefix, prefix_len, words, len, i as u64);
         put_word(out, 8 * i, word);
     }
 }

@@ -37,24 +37,24 @@ pub(crate) fn move_to_front(words: &mut [u64], at: u64, len: u64)
     }
 }
 
-/// Word `i` of the first `front_len` bits of `front`, then the first `len` bits of `words`, and then zeros.
-pub(crate) fn joined_word(front: &[u64], front_len: u64, words: &[u64], len: u64, i: u64) -> u64
-    requires front { front_len ≤ 64 * length front.now }
+/// Word `i` of the first `prefix_len` bits of `prefix`, then the first `len` bits of `words`, and then zeros.
+pub(crate) fn joined_word(prefix: &[u64], prefix_len: u64, words: &[u64], len: u64, i: u64) -> u64
+    requires prefix { prefix_len ≤ 64 * length prefix.now }
     requires words { len ≤ 64 * length words.now }
-    requires within { 64 * i ≤ front_len + len }
-    requires small { front_len + len < 2 ^ 63 }
+    requires within { 64 * i ≤ prefix_len + len }
+    requires small { prefix_len + len < 2 ^ 63 }
     ensures { field 64 result
-        ≡ take 64 (drop (64 * i) (take front_len (word_bits front.now) ++ take len (word_bits words.now)) ++ replicate 64 false) }
+        ≡ take 64 (drop (64 * i) (take prefix_len (word_bits prefix.now) ++ take len (word_bits words.now)) ++ replicate 64 false) }
 {
     let at = 64 * i;
-    if front_len <= at {
-        return word_of_run(words, at - front_len, len);
+    if prefix_len <= at {
+        return word_of_run(words, at - prefix_len, len);
     }
-    let word = word_of_run(front, at, front_len);
-    if at + 64 <= front_len {
+    let word = word_of_run(prefix, at, prefix_len);
+    if at + 64 <= prefix_len {
         return word;
     }
-    let held = (front_len - at) as u32;
+    let held = (prefix_len - at) as u32;
     let mut joined = [word];
     put_bits(
         &mut joined,

@@ -7,7 +7,7 @@ use Rattle.zf_spec.specs.Stream.{to_bits}
 use Rattle.zf_pad.specs.Slabs.{rows_of, row_len, with_rows, first_block}
 use Rattle.zf_header.specs.declared.header.Header.{Header}
 use Rattle.zf_dev.specs.Source.{Takes, IsAtEnd}
-use Rattle.zf_dev.specs.Sink.{AppendsFront}
+use Rattle.zf_dev.specs.Sink.{AppendsPrefix}
 use Rattle.zf_dev.proofs.Taking.{Takes-append}
 use Rattle.zf_parse.specs.declared.fault.StreamFault.{StreamFault}
 use Rattle.zf_parse.specs.Parsing.{read_codes, values_of_blocks, values_or_fault, codes_answer}
@@ -66,7 +66,7 @@ module _ (h : Header) {src0 mid : Option (List ℕ)} {w0 w1 : Window} (refill : 
   pub leaves_on : {now out0 out : Option (List ℕ)} → LeavesRows h mid now out0 out w1
       → LeavesRows h src0 now out0 out w0
   leaves_on {now} {out0} {out} left =
-      let P : List Bool → Type 0 = λ s. AppendsFront out0 out (text_of_codes h s) in
+      let P : List Bool → Type 0 = λ s. AppendsPrefix out0 out (text_of_codes h s) in
       record {
         bytes = refill.bytes ++ left.bytes;
         taken = taken_on now left.bytes left.taken;

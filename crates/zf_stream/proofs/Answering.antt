@@ -3,10 +3,10 @@ use Rattle.std.proofs.Common.{◌≡◌, sym, ap, subst, ◌∙◌, ℕ, ◌⊎�
 use Rattle.std.specs.Prelude.{IfErr, OnOk, OnErr, IsErrAnd}
 use Rattle.zf_dev.specs.Source.{Takes, IsAtEnd}
 use Rattle.zf_dev.proofs.Taking.{Takes-none, Takes-to_end}
-use Rattle.zf_dev.proofs.Appending.{AppendsFront-none}
+use Rattle.zf_dev.proofs.Appending.{AppendsPrefix-none}
 use Rattle.zf_parse.specs.declared.fault.StreamFault.{StreamFault}
 use Rattle.zf_parse.specs.declared.fault.StreamFault.TheVariants.{Write, Memory}
-use Rattle.zf_stream.specs.Outcomes.{Answers, IsRefusal, IsFromOutside, LeavesFront}
+use Rattle.zf_stream.specs.Outcomes.{Answers, IsRefusal, IsFromOutside, LeavesPrefix}
 
 -- a refusal is an answer
 pub answer_of_refusal : (r : Result (Unit {0}) StreamFault) (e : StreamFault) (known : Option (List ℕ)) (answer : List ℕ → Result (Unit {0}) StreamFault) → r ≡ Err e → IsRefusal known answer e → Answers r known answer
@@ -30,7 +30,7 @@ pub after_err : {T E : Type 0} {P R : Type 0} (r : Result T E) → OnErr r P →
 after_err (Ok x) p f = tt
 after_err (Err e) p f = f p
 
--- want of memory is an answer
+-- out of memory is an answer
 pub answer_of_memory : (r : Result (Unit {0}) StreamFault) (e : StreamFault) (known : Option (List ℕ)) (answer : List ℕ → Result (Unit {0}) StreamFault) → r ≡ Err e → e ≡ Memory → Answers r known answer
 answer_of_memory r e None answer is memory = tt
 answer_of_memory r e (Some input) answer is memory =
@@ -38,8 +38,8 @@ answer_of_memory r e (Some input) answer is memory =
     subst P (sym is) (inr (inr (inr memory)))
 
 -- nothing was read, and nothing written
-pub nothing_left : (text : List ℕ → List ℕ) (src out : Option (List ℕ)) → LeavesFront text src src out out
-nothing_left text src out = record { bytes = []; taken = Takes-none src; written = AppendsFront-none out (text []) }
+pub nothing_left : (text : List ℕ → List ℕ) (src out : Option (List ℕ)) → LeavesPrefix text src src out out
+nothing_left text src out = record { bytes = []; taken = Takes-none src; written = AppendsPrefix-none out (text []) }
 
 pub on_ok_weaker : {T E : Type 0} {P R : Type 0} (r : Result T E) → OnOk r P → (P → R) → OnOk r R
 on_ok_weaker (Ok x) p f = f p

@@ -4,7 +4,7 @@ use Rattle.std.proofs.lemmas.List.Elements.{All-nil, All-append}
 use Rattle.std.proofs.lemmas.Grind.{flat_map-append}
 use Rattle.zf_spec.specs.Numbers.{field}
 use Rattle.zf_spec.specs.Stream.{to_bits}
-use Rattle.zf_dev.proofs.Appending.{Appends-none, Appends-append, AppendsFront-all, AppendsFront-append}
+use Rattle.zf_dev.proofs.Appending.{Appends-none, Appends-append, AppendsPrefix-all, AppendsPrefix-append}
 use Rattle.zf_stream.specs.Flows.{Flows, Spills}
 
 -- nothing was written
@@ -35,7 +35,7 @@ Flows-next {a} {b} {c} {bits} {left} {last} first next = record {
 pub Flows-spill : {a b c : Option (List ℕ)} {bits left : List Bool} → Flows a b bits left → Spills b c left → Spills a c bits
 Flows-spill {a} {b} {c} {bits} {left} first next = record {
   bytes = first.bytes ++ next.bytes;
-  written = AppendsFront-append a b c first.bytes next.bytes first.written next.written;
+  written = AppendsPrefix-append a b c first.bytes next.bytes first.written next.written;
   small = All-append (λ b. b < 256) first.bytes next.bytes first.small next.small;
   left = next.left;
   parts = ap (λ (bs : List Bool). bs ++ next.left) (flat_map-append (field 8) first.bytes next.bytes) ∙ append_assoc (to_bits first.bytes) (to_bits next.bytes) next.left
@@ -46,7 +46,7 @@ Flows-spill {a} {b} {c} {bits} {left} first next = record {
 pub Spills-flows : {a b : Option (List ℕ)} {bits left : List Bool} → Flows a b bits left → Spills a b bits
 Spills-flows {a} {b} {bits} {left} flows = record {
   bytes = flows.bytes;
-  written = AppendsFront-all a b flows.bytes flows.written;
+  written = AppendsPrefix-all a b flows.bytes flows.written;
   small = flows.small;
   left = left;
   parts = flows.parts;

@@ -8,7 +8,7 @@
 --     RawRows        what is read of raw values
 --     ReadingValues  values that are read piece by piece
 --     Slabwise       an array that is compressed slab by slab
---     FrontsOfStreams    what was written of a stream
+--     PrefixesOfStreams    what was written of a stream
 --     Headed         what the first bytes of a source say of all of it
 --     Answering      what an answer says of the input
 --     Windows        the bits of a window, as it moves on
@@ -17,7 +17,7 @@
 --     RestoredAll    the end of an array that is restored
 --     Shortest       how many bits codes have at the least
 --     Ahead          a stream whose first piece was read before its first slab
---     FromFront      what is restored of a window, said of the whole stream
+--     FromPrefix      what is restored of a window, said of the whole stream
 --     OwnFaults      which faults are a call's own
 --     Refusals       each refusal is that of some input, or comes from outside
 --     TypedAnswers   what is answered where a stream is restored if its values are of one type
@@ -30,7 +30,7 @@ pub mod Rows
 pub mod RawRows
 pub mod ReadingValues
 pub mod Slabwise
-pub mod FrontsOfStreams
+pub mod PrefixesOfStreams
 pub mod Headed
 pub mod Answering
 pub mod Windows
@@ -39,7 +39,7 @@ pub mod Restored
 pub mod RestoredAll
 pub mod Shortest
 pub mod Ahead
-pub mod FromFront
+pub mod FromPrefix
 pub mod OwnFaults
 pub mod Refusals
 mod TypedAnswers

@@ -62,7 +62,7 @@ own_answer bytes =
     let found = read_codes h 0 (blocks h.shape) (code_bits bytes) in
     own_text (values_said bytes) (own_header (header_fault bytes) (codes_answer h (length (to_bits bytes)) found) (own_codes h (length (to_bits bytes)) found))
 
--- ---- what is said of codes is none of a header, nor want of memory
+-- ---- what is said of codes is none of a header, nor out of memory
 
 abbrev IsOfCodes : StreamFault → Type 0
 IsOfCodes (faults.Truncated n) = Unit {0}

@@ -8,5 +8,5 @@ pub raw-append : (w : Width) (xs ys : List ℤ) → raw w (xs ++ ys) ≡ raw w x
 raw-append w xs ys = flat_map-append (λ v. to_le_bytes w (cast_unsigned w v)) xs ys
 
 -- those of the first values are in front
-pub raw_front : (w : Width) (n : ℕ) (values : List ℤ) → raw w values ≡ raw w (take n values) ++ raw w (drop n values)
-raw_front w n values = ap (raw w) (sym (take-append-drop n values)) ∙ raw-append w (take n values) (drop n values)
+pub raw_prefix : (w : Width) (n : ℕ) (values : List ℤ) → raw w values ≡ raw w (take n values) ++ raw w (drop n values)
+raw_prefix w n values = ap (raw w) (sym (take-append-drop n values)) ∙ raw-append w (take n values) (drop n values)

@@ -27,6 +27,6 @@ CanRefuse-long wanted =
     )
 
 -- the fault of a header is that of its bytes
-pub CanRefuse-header : (n : ℕ) (front : List ℕ) (e : StreamFault) → 19 ≤ n → length front ≤ n → IsFaultOf front e → CanRefuse restore_answer e
-CanRefuse-header n front e enough within fault =
-    ⊎_elim (λ same. inl (front, same)) (λ outside. inr outside) (refusal_of_fault n (Some front) front e enough (sym (take_all n front within)) fault)
+pub CanRefuse-header : (n : ℕ) (prefix : List ℕ) (e : StreamFault) → 19 ≤ n → length prefix ≤ n → IsFaultOf prefix e → CanRefuse restore_answer e
+CanRefuse-header n prefix e enough within fault =
+    ⊎_elim (λ same. inl (prefix, same)) (λ outside. inr outside) (refusal_of_fault n (Some prefix) prefix e enough (sym (take_all n prefix within)) fault)

@@ -10,9 +10,9 @@ use Rattle.zf_pad.specs.Slabs.{rows_of, row_len, with_rows, IsSlab, first_block}
 use Rattle.zf_pad.proofs.Slabs.{product-rows, rows_of-grid, extent_of-slab, blocks-with_rows}
 use Rattle.zf_header.specs.declared.header.Header.{Header}
 use Rattle.zf_dev.specs.Source.{TakesSome, IsAtEnd}
-use Rattle.zf_dev.specs.Sink.{Appends, AppendsFront}
+use Rattle.zf_dev.specs.Sink.{Appends, AppendsPrefix}
 use Rattle.zf_dev.proofs.Taking.{Takes-append}
-use Rattle.zf_dev.proofs.Appending.{Appends-none, Appends-append, AppendsFront-all, AppendsFront-append, AppendsFront-more}
+use Rattle.zf_dev.proofs.Appending.{Appends-none, Appends-append, AppendsPrefix-all, AppendsPrefix-append, AppendsPrefix-more}
 use Rattle.zf_parse.specs.declared.fault.StreamFault.{StreamFault}
 use Rattle.zf_parse.specs.declared.fault.StreamFault.TheVariants as faults
 use Rattle.zf_parse.specs.Raw.{raw_bytes}
@@ -21,9 +21,9 @@ use Rattle.zf_stream.specs.Windows.{Window, left_of}
 use Rattle.zf_stream.specs.Restoring.{still, stream_from, ReadsSlab, LacksSlab, blocks_of_rows, Restores, text_of_codes, answer_of_codes, LeavesRows, Refuses}
 use Rattle.zf_parse.proofs.Enough.{enough_for_all}
 use Rattle.zf_parse.proofs.Joining.{with_blocks, with_blocks-both, with_blocks-cut, with_blocks-found, read_codes-then, read_codes-cut_more}
-use Rattle.zf_stream.proofs.RawValues.{raw-append, raw_front}
+use Rattle.zf_stream.proofs.RawValues.{raw-append, raw_prefix}
 use Rattle.zf_stream.proofs.Slabwise.{part_of, IsNext}
-use Rattle.zf_stream.proofs.SlabsBack.{counted_from, read_codes-slab, count_next, blocks_next, front_joined}
+use Rattle.zf_stream.proofs.SlabsBack.{counted_from, read_codes-slab, count_next, blocks_next, prefix_joined}
 use Rattle.zf_parse.proofs.TextOfParse.{read_codes_more}
 use Rattle.zf_stream.proofs.Windows.{Goes-none, Goes-next, to_bits-append}
 
@@ -57,15 +57,15 @@ module _ (h : Header) (c here : ℕ) (slab : IsSlab h.shape c here) (values : Li
   b : ℕ
   b = first_block h.shape c
 
-  front : read_codes h 0 (first_block h.shape c) (s ++ t) ≡ Ok (blocks_of_rows h.shape (4 * c) values, left1 ++ t)
-  front =
+  prefix : read_codes h 0 (first_block h.shape c) (s ++ t) ≡ Ok (blocks_of_rows h.shape (4 * c) values, left1 ++ t)
+  prefix =
       let down : (4 * c + 3) / 4 ≡ c = omega arith in
       ap (λ k. read_codes h 0 (first_block h.shape k) (s ++ t)) (sym down) ∙ read_codes_more h 0 (first_block h.shape ((4 * c + 3) / 4)) s t (blocks_of_rows h.shape (4 * c) values, left1) read
 
-  behind_front : (n : ℕ) → read_codes h 0 (first_block h.shape c + n) (s ++ t) ≡ with_blocks (blocks_of_rows h.shape (4 * c) values) (read_codes h (first_block h.shape c) n (left1 ++ t))
-  behind_front n =
+  behind_prefix : (n : ℕ) → read_codes h 0 (first_block h.shape c + n) (s ++ t) ≡ with_blocks (blocks_of_rows h.shape (4 * c) values) (read_codes h (first_block h.shape c) n (left1 ++ t))
+  behind_prefix n =
       let place : 0 + first_block h.shape c ≡ first_block h.shape c = omega arith in
-      read_codes-then h 0 (first_block h.shape c) n (s ++ t) (blocks_of_rows h.shape (4 * c) values, left1 ++ t) front
+      read_codes-then h 0 (first_block h.shape c) n (s ++ t) (blocks_of_rows h.shape (4 * c) values, left1 ++ t) prefix
       ∙ ap (λ k. with_blocks (blocks_of_rows h.shape (4 * c) values) (read_codes h k n (left1 ++ t))) place
 
   of_slab : read_codes h (first_block h.shape c) (blocks (with_rows here h.shape)) (left1 ++ t) ≡ counted_from (first_block h.shape c) (read_codes (part_of h here) 0 (blocks (with_rows here h.shape)) (left1 ++ t))
@@ -81,7 +81,7 @@ module _ (h : Header) (c here : ℕ) (slab : IsSlab h.shape c here) (values : Li
       let bs = blocks_of_rows h.shape (4 * c) values in
       let cs = blocks_of (with_rows here h.shape) more in
       ap (λ k. read_codes h 0 k (s ++ t)) (count_next h.shape c here slab values more long as_long)
-      ∙ behind_front (blocks (with_rows here h.shape))
+      ∙ behind_prefix (blocks (with_rows here h.shape))
       ∙ ap (with_blocks bs) (of_slab ∙ ap (counted_from (first_block h.shape c)) as_read)
       ∙ with_blocks-both bs cs left2
       ∙ ap (λ (ds : List (List ℤ)). Ok (ds, left2)) (sym (blocks_next h.shape c here slab values more long as_long))
@@ -98,16 +98,16 @@ module _ (h : Header) (c here : ℕ) (slab : IsSlab h.shape c here) (values : Li
       ap (λ k. row_len (grid h.shape) * k) rounded ∙ mul-add (row_len (grid h.shape)) c ((here + 3) / 4) ∙ ap (λ k. first_block h.shape c + k) (sym (blocks-with_rows here h.shape slab.some_axis)) in
       let all : blocks h.shape ≡ first_block h.shape c + (n + behind.0) = omega (arith, behind.1, count) in
       ap (λ k. read_codes h 0 k (s ++ t)) all
-      ∙ behind_front (n + behind.0)
+      ∙ behind_prefix (n + behind.0)
       ∙ ap (with_blocks bs) (read_codes-cut_more h (first_block h.shape c) n behind.0 (left1 ++ t) (first_block h.shape c + block) (of_slab ∙ ap (counted_from (first_block h.shape c)) cut))
       ∙ with_blocks-cut bs (first_block h.shape c + block)
 
 -- ---- the text
 
 -- the values of first rows are in front of it, whatever stands behind their codes
-pub text_front : (h : Header) (rows : ℕ) (values : List ℤ) (s t left : List Bool) → IsSlab h.shape 0 rows → length values ≡ row_len h.shape * rows
+pub text_prefix : (h : Header) (rows : ℕ) (values : List ℤ) (s t left : List Bool) → IsSlab h.shape 0 rows → length values ≡ row_len h.shape * rows
     → read_codes h 0 (first_block h.shape ((rows + 3) / 4)) s ≡ Ok (blocks_of_rows h.shape rows values, left) → (rest : List ℕ) × (raw_bytes h values ++ rest ≡ text_of_codes h (s ++ t))
-text_front h rows values s t left slab long read =
+text_prefix h rows values s t left slab long read =
     let ns = h.shape in
     let n = first_block ns ((rows + 3) / 4) in
     let bs = blocks_of_rows ns rows values in
@@ -115,18 +115,18 @@ text_front h rows values s t left slab long read =
     let all = enough_for_all h (s ++ t) in
     let behind = blocks_behind ns rows slab in
     let place : 0 + n ≡ n = omega arith in
-    let front : read_codes h 0 n ((s ++ t) ++ zeros) ≡ Ok (bs, left ++ (t ++ zeros)) =
+    let prefix : read_codes h 0 n ((s ++ t) ++ zeros) ≡ Ok (bs, left ++ (t ++ zeros)) =
     ap (read_codes h 0 n) (append_assoc s t zeros) ∙ read_codes_more h 0 n s (t ++ zeros) (bs, left) read in
     let whole : with_blocks bs (read_codes h (0 + n) behind.0 (left ++ (t ++ zeros))) ≡ Ok all.all =
-    sym (read_codes-then h 0 n behind.0 ((s ++ t) ++ zeros) (bs, left ++ (t ++ zeros)) front) ∙ ap (λ k. read_codes h 0 k ((s ++ t) ++ zeros)) (sym behind.1) ∙ all.is in
+    sym (read_codes-then h 0 n behind.0 ((s ++ t) ++ zeros) (bs, left ++ (t ++ zeros)) prefix) ∙ ap (λ k. read_codes h 0 k ((s ++ t) ++ zeros)) (sym behind.1) ∙ all.is in
     let found = with_blocks-found bs (read_codes h (0 + n) behind.0 (left ++ (t ++ zeros))) all.all whole in
     let joined = values_of_blocks ns all.all.0 in
     let size = row_len ns * rows in
     let first : take size joined ≡ values =
-    front_joined ns rows values all.all.0 slab long
+    prefix_joined ns rows values all.all.0 slab long
     (λ b lt. ap (λ (ds : List (List ℤ)). get_or ds b []) (sym found.1) ∙ get_or_append_left bs found.0 [] b (omega (arith, lt, length-map-upto (block_of ns values) n)) ∙ get_or-map-upto (block_of ns values) n b [] lt) in (
       raw_bytes h (drop size joined),
-      ap (λ (vs : List ℤ). raw_bytes h vs ++ raw_bytes h (drop size joined)) (sym first) ∙ sym (raw_front (width_of h.ty) size joined) ∙ ap (blocks_text h) (sym all.is),
+      ap (λ (vs : List ℤ). raw_bytes h vs ++ raw_bytes h (drop size joined)) (sym first) ∙ sym (raw_prefix (width_of h.ty) size joined) ∙ ap (blocks_text h) (sym all.is),
     )
 
 -- ---- one slab more
@@ -176,20 +176,20 @@ module _ (h : Header) (row here : ℕ) (next : IsNext h row here) {src0 mid out0
         written = subst P (sym (raw-append (width_of h.ty) done.values values)) (Appends-append out0 out1 out2 (raw_bytes h done.values) (raw_bytes h values) done.written written);
       }
 
-  -- or a front of them
-  pub slab_spilled : {now out2 : Option (List ℕ)} {w2 : Window} (values : List ℤ) → ReadsSlab (part_of h here) mid now w1 w2 values → length values ≡ row_len h.shape * here → AppendsFront out1 out2 (raw_bytes h values)
+  -- or a prefix of them
+  pub slab_spilled : {now out2 : Option (List ℕ)} {w2 : Window} (values : List ℤ) → ReadsSlab (part_of h here) mid now w1 w2 values → length values ≡ row_len h.shape * here → AppendsPrefix out1 out2 (raw_bytes h values)
       → LeavesRows h src0 now out0 out2 w0
   slab_spilled {now} {out2} {w2} values slab as_long written =
       let bytes = done.bytes ++ slab.bytes in
       let all = done.values ++ values in
-      let text = text_front h (row + here) all (stream_from w0 bytes) [] (left_of w2) whole_next (long_next values as_long) (codes_read values slab as_long) in
-      let P : List ℕ → Type 0 = λ bs. AppendsFront out0 out2 bs in
-      let both = AppendsFront-append out0 out1 out2 (raw_bytes h done.values) (raw_bytes h values) done.written written in
+      let text = text_prefix h (row + here) all (stream_from w0 bytes) [] (left_of w2) whole_next (long_next values as_long) (codes_read values slab as_long) in
+      let P : List ℕ → Type 0 = λ bs. AppendsPrefix out0 out2 bs in
+      let both = AppendsPrefix-append out0 out1 out2 (raw_bytes h done.values) (raw_bytes h values) done.written written in
       record {
         bytes = bytes;
         taken = (Goes-next done.goes slab.goes).taken;
         written = subst P (text.1 ∙ ap (text_of_codes h) (append-nil (stream_from w0 bytes)))
-            (AppendsFront-more out0 out2 (raw_bytes h all) text.0 (subst P (sym (raw-append (width_of h.ty) done.values values)) both));
+            (AppendsPrefix-more out0 out2 (raw_bytes h all) text.0 (subst P (sym (raw-append (width_of h.ty) done.values values)) both));
       }
 
   -- its codes end too early
@@ -232,13 +232,13 @@ some_lacked part first src now w faults.Memory lacks = absurd lacks
 -- where the work stopped
 pub rows_left : (h : Header) (row : ℕ) {src0 mid now out0 out1 : Option (List ℕ)} {w0 w1 : Window} → Restores h row src0 mid out0 out1 w0 w1 → TakesSome mid now → LeavesRows h src0 now out0 out1 w0
 rows_left h row {src0} {mid} {now} {out0} {out1} {w0} {w1} done some =
-    let text = text_front h row done.values (stream_from w0 done.bytes) (to_bits some.0) (left_of w1) done.whole done.long done.codes in
-    let P : List ℕ → Type 0 = λ bs. AppendsFront out0 out1 bs in
+    let text = text_prefix h row done.values (stream_from w0 done.bytes) (to_bits some.0) (left_of w1) done.whole done.long done.codes in
+    let P : List ℕ → Type 0 = λ bs. AppendsPrefix out0 out1 bs in
     record {
       bytes = done.bytes ++ some.0;
       taken = Takes-append src0 mid now done.bytes some.0 done.goes.taken some.1;
       written = subst P (text.1 ∙ ap (text_of_codes h) (to_bits-append (left_of w0) done.bytes some.0))
-          (AppendsFront-more out0 out1 (raw_bytes h done.values) text.0 (AppendsFront-all out0 out1 (raw_bytes h done.values) done.written));
+          (AppendsPrefix-more out0 out1 (raw_bytes h done.values) text.0 (AppendsPrefix-all out0 out1 (raw_bytes h done.values) done.written));
     }
 
 pub slab_lacked : (h : Header) (row : ℕ) {src0 mid now out0 out1 : Option (List ℕ)} {w0 w1 : Window} → Restores h row src0 mid out0 out1 w0 w1 → (part : Header) (first : ℕ) (e : StreamFault) → LacksSlab part first mid now w1 e

@@ -15,7 +15,7 @@ use Rattle.zf_header.specs.declared.header.Header.{Header}
 use Rattle.zf_header.specs.HeaderBits.{coding}
 use Rattle.zf_stream.specs.Rows.{rows_len, code_of_block, codes_of_rows}
 use Rattle.zf_stream.proofs.LittleEndian.{first_bytes-take}
-use Rattle.zf_parse.proofs.Codes.{joined-front}
+use Rattle.zf_parse.proofs.Codes.{joined-prefix}
 
 -- ---- values of bytes, one part after another
 
@@ -32,10 +32,10 @@ values_from-append w (suc a) b xs ys long =
     let n = byte_len w in
     let within : n ≤ length xs = omega arith in
     let count : suc a + b ≡ suc (a + b) = omega arith in
-    let front : first_bytes n (xs ++ ys) ≡ first_bytes n xs =
+    let prefix : first_bytes n (xs ++ ys) ≡ first_bytes n xs =
     first_bytes-take n (xs ++ ys) (omega (arith, length-append xs ys)) ∙ take-append-le n xs ys within ∙ sym (first_bytes-take n xs within) in
     ap (λ k. values_from w k (xs ++ ys)) count
-    ∙ ap (λ (bs : List ℕ). cast_signed w (from_le_bytes w bs) ∷ values_from w (a + b) (drop n (xs ++ ys))) front
+    ∙ ap (λ (bs : List ℕ). cast_signed w (from_le_bytes w bs) ∷ values_from w (a + b) (drop n (xs ++ ys))) prefix
     ∙ ap (λ (bs : List ℕ). cast_signed w (from_le_bytes w (first_bytes n xs)) ∷ values_from w (a + b) bs) (drop-append-le n xs ys within)
     ∙ ap (λ (vs : List ℤ). cast_signed w (from_le_bytes w (first_bytes n xs)) ∷ vs) (values_from-append w a b (drop n xs) ys (omega (arith, length-drop n xs)))
 
@@ -110,10 +110,10 @@ codes_of_rows-next h c rows bytes raw slab long as_long =
     let down : (4 * c + 3) / 4 ≡ c = omega arith in
     let count : first_block h.shape ((4 * c + rows + 3) / 4) ≡ b + n =
     ap (λ k. g * k) rounded ∙ mul-add g c ((rows + 3) / 4) ∙ ap (λ k. b + k) (sym (blocks-with_rows rows h.shape slab.some_axis)) in
-    let front : IsSlab h.shape 0 (4 * c) = record { some_axis = slab.some_axis; within = omega (arith, slab.within); whole = inl (omega arith) } in
-    ap (λ k. joined (map f (upto k))) count ∙ joined-front f b n
+    let prefix : IsSlab h.shape 0 (4 * c) = record { some_axis = slab.some_axis; within = omega (arith, slab.within); whole = inl (omega arith) } in
+    ap (λ k. joined (map f (upto k))) count ∙ joined-prefix f b n
     ∙ ap (λ (bs : List Bool). bs ++ joined (map f (count_from b n)))
-    (ap (λ k. joined (map f (upto (first_block h.shape k)))) (sym down) ∙ codes_of_rows-more h (4 * c) bytes raw front long)
+    (ap (λ k. joined (map f (upto (first_block h.shape k)))) (sym down) ∙ codes_of_rows-more h (4 * c) bytes raw prefix long)
     ∙ ap (λ (bs : List Bool). codes_of_rows h (4 * c) bytes ++ bs)
     (ap joined
     (map-count_from f b n

@@ -9,9 +9,10 @@ use Rattle.std.specs.Int.{Width}
 use mir.Val.{bits}
 use Rattle.zf_spec.specs.Numbers.{number}
 use Rattle.zf_spec.specs.Grid.{extent_of}
-use Rattle.zf_spec.specs.Planes.{has_one, reach, group, code_from_run, plane_code, code_from, code}
+use Rattle.zf_spec.specs.Planes.{reach, plane_code, code_from, code}
 use Rattle.zf_spec.specs.ReadPlanes.{planes_in}
 use Rattle.zf_spec.specs.Codes.{count_bits, read_rev, read_prec}
+use Rattle.zf_spec.proofs.KeptSame.{plane_code_some}
 use Rattle.zf_spec.proofs.Full.{length-planes_in, planes_in-length}
 use Rattle.zf_base.specs.Widths.{width_of}
 use Rattle.zf_header.specs.declared.header.Header.{Header}
@@ -22,26 +23,13 @@ use Rattle.zf_stream.specs.Restoring.{shortest_of, shortest_code}
 
 -- ---- planes
 
-group_some : (ds run : List Bool) → 1 ≤ length (group ds run)
-group_some ds run = by (has_one ds)
-  where
-    by : (t : Bool) → 1 ≤ length (cond t (true ∷ run) (false ∷ []))
-    by true = omega arith
-    by false = omega arith
-
-plane_some : (n : ℕ) (ds : List Bool) → 1 ≤ length ds → 1 ≤ length (plane_code n ds)
-plane_some zero [] some = absurd (omega arith)
-plane_some zero (d ∷ ds) some = group_some (d ∷ ds) (code_from_run (d ∷ ds))
-plane_some (suc n) [] some = absurd (omega arith)
-plane_some (suc n) (d ∷ ds) some = omega arith
-
 -- each plane has a bit
 planes_some : (size n : ℕ) (planes : List (List Bool)) → 1 ≤ size → All (λ ds. length ds ≡ size) planes
     → length planes ≤ length (code_from n planes)
 planes_some size n [] some all = omega arith
 planes_some size n (ds ∷ planes) some all =
     let l : length ds ≡ size = All-head (λ ds. length ds ≡ size) ds planes all in
-    let here = plane_some n ds (omega (arith, l, some)) in
+    let here = plane_code_some n ds (omega (arith, l, some)) in
     let behind = All-tail (λ ds. length ds ≡ size) ds planes all in
     let rest = planes_some size (max n (reach ds)) planes some behind in
     omega (arith, here, rest, length-append (plane_code n ds) (code_from (max n (reach ds)) planes))

@@ -118,17 +118,17 @@ number_below ns rows i slab lt =
 take-map-upto : (f : ℕ → ℤ) (k n : ℕ) → k ≤ n → take k (map f (upto n)) ≡ map f (upto k)
 take-map-upto f k n within =
     let all : n ≡ k + (n - k) = omega arith in
-    let front = map f (upto k) in
+    let prefix = map f (upto k) in
     let behind = map f (count_from (0 + k) (n - k)) in
     ap (λ m. take k (map f (upto m))) all
     ∙ ap (λ ks. take k (map f ks)) (count_from-add 0 k (n - k))
     ∙ ap (take k) (map-append f (upto k) (count_from (0 + k) (n - k)))
-    ∙ take_at front behind k (length-map (upto k) f ∙ length-upto k)
+    ∙ take_at prefix behind k (length-map (upto k) f ∙ length-upto k)
 
 -- what is joined of blocks that begin with those of the first rows begins with their values
-pub front_joined : (ns : List ℕ) (rows : ℕ) (values : List ℤ) (found : List (List ℤ)) → IsSlab ns 0 rows → length values ≡ row_len ns * rows
+pub prefix_joined : (ns : List ℕ) (rows : ℕ) (values : List ℤ) (found : List (List ℤ)) → IsSlab ns 0 rows → length values ≡ row_len ns * rows
     → ((b : ℕ) → b < first_block ns ((rows + 3) / 4) → get_or found b [] ≡ block_of ns values b) → take (row_len ns * rows) (values_of_blocks ns found) ≡ values
-front_joined ns rows values found slab long same =
+prefix_joined ns rows values found slab long same =
     let n = row_len ns * rows in
     let few : rows ≤ rows_of ns = omega (arith, slab.within) in
     let within : n ≤ product ns = omega (arith, product-rows ns slab.some_axis, mul-le-mul_left (row_len ns) few) in

@@ -9,12 +9,12 @@ use Rattle.zf_dev.specs.Source.{Takes}
 use Rattle.zf_parse.specs.declared.fault.StreamFault.{StreamFault}
 use Rattle.zf_parse.specs.declared.fault.StreamFault.TheVariants as faults
 use Rattle.zf_parse.specs.Parsing.{header_of, header_or, restore_answer}
-use Rattle.zf_stream.specs.Outcomes.{Answers, IsFront, IsFromOutside}
+use Rattle.zf_stream.specs.Outcomes.{Answers, IsPrefix, IsFromOutside}
 use Rattle.zf_parse.specs.ReadStreams.{BeginsWithHeader, IsFaultOf}
 use Rattle.zf_stream.specs.Restoring.{behind, FinishesBehind, CanRefuseBehind}
 use Rattle.zf_stream.specs.Typed.{with_true, answer_of_types, typed_answer, CanRefuseTyped, RestoresTyped}
 use Rattle.zf_parse.proofs.Parsed.{begun_more, fault_first}
-use Rattle.zf_stream.proofs.FromFront.{Answers-known, Takes-known}
+use Rattle.zf_stream.proofs.FromPrefix.{Answers-known, Takes-known}
 
 same_types : (wanted ty : Ty) (answer : Result (Unit {0}) StreamFault) → ty ≡ wanted → answer_of_types wanted ty answer ≡ with_true answer
 same_types I32 ty answer is = ap (λ t. answer_of_types I32 t answer) is
@@ -27,79 +27,79 @@ other_types I64 I32 answer is_not = refl
 other_types I64 I64 answer is_not = absurd (is_not refl)
 
 -- the answer where the header is known
-typed_by : (wanted : Ty) (front more : List ℕ) (h : Header) (len : ℕ) → BeginsWithHeader front h len → typed_answer wanted (front ++ more) ≡ answer_of_types wanted h.ty (restore_answer (front ++ more))
-typed_by wanted front more h len begun =
-    let all = begun_more front more h len begun in
-    ap (λ f. header_or f (answer_of_types wanted (header_of (front ++ more)).ty (restore_answer (front ++ more)))) all.good
-    ∙ ap (λ (g : Header). answer_of_types wanted g.ty (restore_answer (front ++ more))) (sym all.header)
+typed_by : (wanted : Ty) (prefix more : List ℕ) (h : Header) (len : ℕ) → BeginsWithHeader prefix h len → typed_answer wanted (prefix ++ more) ≡ answer_of_types wanted h.ty (restore_answer (prefix ++ more))
+typed_by wanted prefix more h len begun =
+    let all = begun_more prefix more h len begun in
+    ap (λ f. header_or f (answer_of_types wanted (header_of (prefix ++ more)).ty (restore_answer (prefix ++ more)))) all.good
+    ∙ ap (λ (g : Header). answer_of_types wanted g.ty (restore_answer (prefix ++ more))) (sym all.header)
 
 -- a fault of the header
-pub typed_fault : (wanted : Ty) (n : ℕ) (known : Option (List ℕ)) (front : List ℕ) (e : StreamFault) (r : Result Bool StreamFault) → 19 ≤ n → IsFront n known front → IsFaultOf front e → r ≡ Err e → Answers r known (typed_answer wanted)
-typed_fault wanted n None front e r within is fault result = tt
-typed_fault wanted n (Some all) front (faults.Header f) r within is fault result =
+pub typed_fault : (wanted : Ty) (n : ℕ) (known : Option (List ℕ)) (prefix : List ℕ) (e : StreamFault) (r : Result Bool StreamFault) → 19 ≤ n → IsPrefix n known prefix → IsFaultOf prefix e → r ≡ Err e → Answers r known (typed_answer wanted)
+typed_fault wanted n None prefix e r within is fault result = tt
+typed_fault wanted n (Some all) prefix (faults.Header f) r within is fault result =
     let known : header_fault all ≡ Some f = sym (fault_first n all within) ∙ ap header_fault (sym is) ∙ fault in
     inl (result ∙ sym (ap (λ o. header_or o (answer_of_types wanted (header_of all).ty (restore_answer all))) known))
-typed_fault wanted n (Some all) front (faults.RawShort m) r within is fault result = absurd fault
-typed_fault wanted n (Some all) front faults.RawLong r within is fault result = absurd fault
-typed_fault wanted n (Some all) front (faults.Truncated m) r within is fault result = absurd fault
-typed_fault wanted n (Some all) front faults.Pad r within is fault result = absurd fault
-typed_fault wanted n (Some all) front faults.Trailing r within is fault result = absurd fault
-typed_fault wanted n (Some all) front faults.Read r within is fault result = absurd fault
-typed_fault wanted n (Some all) front faults.Write r within is fault result = absurd fault
-typed_fault wanted n (Some all) front faults.Memory r within is fault result = absurd fault
+typed_fault wanted n (Some all) prefix (faults.RawShort m) r within is fault result = absurd fault
+typed_fault wanted n (Some all) prefix faults.RawLong r within is fault result = absurd fault
+typed_fault wanted n (Some all) prefix (faults.Truncated m) r within is fault result = absurd fault
+typed_fault wanted n (Some all) prefix faults.Pad r within is fault result = absurd fault
+typed_fault wanted n (Some all) prefix faults.Trailing r within is fault result = absurd fault
+typed_fault wanted n (Some all) prefix faults.Read r within is fault result = absurd fault
+typed_fault wanted n (Some all) prefix faults.Write r within is fault result = absurd fault
+typed_fault wanted n (Some all) prefix faults.Memory r within is fault result = absurd fault
 
 -- a good header of the other type
-pub typed_other : (wanted : Ty) (known src : Option (List ℕ)) (front : List ℕ) (h : Header) (len : ℕ) → Takes known src front → BeginsWithHeader front h len → h.ty ≢ wanted → Answers (Ok false) known (typed_answer wanted)
-typed_other wanted None src front h len taken begun other = tt
-typed_other wanted (Some all) None front h len taken begun other = absurd taken
-typed_other wanted (Some all) (Some rest) front h len taken begun other =
-    inl (sym (ap (typed_answer wanted) taken ∙ typed_by wanted front rest h len begun ∙ other_types wanted h.ty (restore_answer (front ++ rest)) other))
+pub typed_other : (wanted : Ty) (known src : Option (List ℕ)) (prefix : List ℕ) (h : Header) (len : ℕ) → Takes known src prefix → BeginsWithHeader prefix h len → h.ty ≢ wanted → Answers (Ok false) known (typed_answer wanted)
+typed_other wanted None src prefix h len taken begun other = tt
+typed_other wanted (Some all) None prefix h len taken begun other = absurd taken
+typed_other wanted (Some all) (Some rest) prefix h len taken begun other =
+    inl (sym (ap (typed_answer wanted) taken ∙ typed_by wanted prefix rest h len begun ∙ other_types wanted h.ty (restore_answer (prefix ++ rest)) other))
 
 -- one of the wanted type
-pub typed_same : (wanted : Ty) (known src : Option (List ℕ)) (front : List ℕ) (h : Header) (len : ℕ) (r : Result (Unit {0}) StreamFault) → Takes known src front → BeginsWithHeader front h len → h.ty ≡ wanted
-    → Answers r (behind front src) restore_answer → Answers (with_true r) known (typed_answer wanted)
-typed_same wanted known src front h len r taken begun same answers = by known src taken (Answers-known r known src front restore_answer taken answers)
+pub typed_same : (wanted : Ty) (known src : Option (List ℕ)) (prefix : List ℕ) (h : Header) (len : ℕ) (r : Result (Unit {0}) StreamFault) → Takes known src prefix → BeginsWithHeader prefix h len → h.ty ≡ wanted
+    → Answers r (behind prefix src) restore_answer → Answers (with_true r) known (typed_answer wanted)
+typed_same wanted known src prefix h len r taken begun same answers = by known src taken (Answers-known r known src prefix restore_answer taken answers)
   where
     outside : (r : Result (Unit {0}) StreamFault) → IsErrAnd r IsFromOutside → IsErrAnd (with_true r) IsFromOutside
     outside (Ok done) is = absurd is
     outside (Err e) is = is
 
-    by : (known src : Option (List ℕ)) → Takes known src front → Answers r known restore_answer → Answers (with_true r) known (typed_answer wanted)
+    by : (known src : Option (List ℕ)) → Takes known src prefix → Answers r known restore_answer → Answers (with_true r) known (typed_answer wanted)
     by None src taken answers = tt
     by (Some all) None taken answers = absurd taken
     by (Some all) (Some rest) taken answers =
         let is : typed_answer wanted all ≡ with_true (restore_answer all) =
-        ap (typed_answer wanted) taken ∙ typed_by wanted front rest h len begun ∙ same_types wanted h.ty (restore_answer (front ++ rest)) same
+        ap (typed_answer wanted) taken ∙ typed_by wanted prefix rest h len begun ∙ same_types wanted h.ty (restore_answer (prefix ++ rest)) same
         ∙ ap (λ bs. with_true (restore_answer bs)) (sym taken) in
         ⊎_elim (λ answer. inl (ap with_true answer ∙ sym is)) (λ out. inr (outside r out)) answers
 
 -- a good stream of the wanted type
-pub typed_done : (wanted : Ty) (known src now out0 out : Option (List ℕ)) (front : List ℕ) (h : Header) (len : ℕ) → Takes known src front → BeginsWithHeader front h len → h.ty ≡ wanted → FinishesBehind front src now out0 out
+pub typed_done : (wanted : Ty) (known src now out0 out : Option (List ℕ)) (prefix : List ℕ) (h : Header) (len : ℕ) → Takes known src prefix → BeginsWithHeader prefix h len → h.ty ≡ wanted → FinishesBehind prefix src now out0 out
     → RestoresTyped wanted known now out0 out
-typed_done wanted known src now out0 out front h len taken begun same fin =
+typed_done wanted known src now out0 out prefix h len taken begun same fin =
     let bytes = fin.done.bytes in
     record {
       bytes = bytes;
-      taken = Takes-known known src now front bytes taken fin.done.taken;
+      taken = Takes-known known src now prefix bytes taken fin.done.taken;
       ended = fin.done.ended;
       good =
-          ap (typed_answer wanted) fin.begins ∙ typed_by wanted front fin.more h len begun ∙ same_types wanted h.ty (restore_answer (front ++ fin.more)) same
+          ap (typed_answer wanted) fin.begins ∙ typed_by wanted prefix fin.more h len begun ∙ same_types wanted h.ty (restore_answer (prefix ++ fin.more)) same
           ∙ ap (λ bs. with_true (restore_answer bs)) (sym fin.begins) ∙ ap with_true fin.done.good;
       written = fin.done.written;
     }
 
 -- a fault of a header is that of its bytes, and one behind it that of bytes behind it
-pub typed_possible_header : (wanted : Ty) (front : List ℕ) (e : StreamFault) → IsFaultOf front e → CanRefuseTyped wanted e
-typed_possible_header wanted front (faults.Header f) fault = inl (front, ap (λ o. header_or o (answer_of_types wanted (header_of front).ty (restore_answer front))) fault)
-typed_possible_header wanted front (faults.RawShort m) fault = absurd fault
-typed_possible_header wanted front faults.RawLong fault = absurd fault
-typed_possible_header wanted front (faults.Truncated m) fault = absurd fault
-typed_possible_header wanted front faults.Pad fault = absurd fault
-typed_possible_header wanted front faults.Trailing fault = absurd fault
-typed_possible_header wanted front faults.Read fault = absurd fault
-typed_possible_header wanted front faults.Write fault = absurd fault
-typed_possible_header wanted front faults.Memory fault = absurd fault
+pub typed_possible_header : (wanted : Ty) (prefix : List ℕ) (e : StreamFault) → IsFaultOf prefix e → CanRefuseTyped wanted e
+typed_possible_header wanted prefix (faults.Header f) fault = inl (prefix, ap (λ o. header_or o (answer_of_types wanted (header_of prefix).ty (restore_answer prefix))) fault)
+typed_possible_header wanted prefix (faults.RawShort m) fault = absurd fault
+typed_possible_header wanted prefix faults.RawLong fault = absurd fault
+typed_possible_header wanted prefix (faults.Truncated m) fault = absurd fault
+typed_possible_header wanted prefix faults.Pad fault = absurd fault
+typed_possible_header wanted prefix faults.Trailing fault = absurd fault
+typed_possible_header wanted prefix faults.Read fault = absurd fault
+typed_possible_header wanted prefix faults.Write fault = absurd fault
+typed_possible_header wanted prefix faults.Memory fault = absurd fault
 
-pub typed_possible : (wanted : Ty) (front : List ℕ) (h : Header) (len : ℕ) (e : StreamFault) → BeginsWithHeader front h len → h.ty ≡ wanted → CanRefuseBehind front e → CanRefuseTyped wanted e
-typed_possible wanted front h len e begun same can =
-    ⊎_elim (λ is. inl (front ++ is.0, typed_by wanted front is.0 h len begun ∙ same_types wanted h.ty (restore_answer (front ++ is.0)) same ∙ ap with_true is.1)) (λ out. inr out) can
+pub typed_possible : (wanted : Ty) (prefix : List ℕ) (h : Header) (len : ℕ) (e : StreamFault) → BeginsWithHeader prefix h len → h.ty ≡ wanted → CanRefuseBehind prefix e → CanRefuseTyped wanted e
+typed_possible wanted prefix h len e begun same can =
+    ⊎_elim (λ is. inl (prefix ++ is.0, typed_by wanted prefix is.0 h len begun ∙ same_types wanted h.ty (restore_answer (prefix ++ is.0)) same ∙ ap with_true is.1)) (λ out. inr out) can

@@ -26,15 +26,15 @@ length-bytes_in (v ∷ words) = omega (arith, length-append (to_le_bytes w64 v) 
 -- the bits of the first words
 pub word_bits-take : (n : ℕ) (words : List ℕ) → n ≤ length words → word_bits (take n words) ≡ take (64 * n) (word_bits words)
 word_bits-take n words within =
-    let front = word_bits (take n words) in
-    let long : length front ≡ 64 * n = omega (arith, length-word_bits (take n words), length-take-le n words within) in
-    sym (take_at front (word_bits (drop n words)) (64 * n) long)
+    let prefix = word_bits (take n words) in
+    let long : length prefix ≡ 64 * n = omega (arith, length-word_bits (take n words), length-take-le n words within) in
+    sym (take_at prefix (word_bits (drop n words)) (64 * n) long)
     ∙ ap (take (64 * n)) (sym (flat_map-append (field 64) (take n words) (drop n words)) ∙ ap word_bits (take-append-drop n words))
 
 -- and those behind
 pub word_bits-drop : (n : ℕ) (words : List ℕ) → n ≤ length words → word_bits (drop n words) ≡ drop (64 * n) (word_bits words)
 word_bits-drop n words within =
-    let front = word_bits (take n words) in
-    let long : length front ≡ 64 * n = omega (arith, length-word_bits (take n words), length-take-le n words within) in
-    sym (drop_at front (word_bits (drop n words)) (64 * n) long)
+    let prefix = word_bits (take n words) in
+    let long : length prefix ≡ 64 * n = omega (arith, length-word_bits (take n words), length-take-le n words within) in
+    sym (drop_at prefix (word_bits (drop n words)) (64 * n) long)
     ∙ ap (drop (64 * n)) (sym (flat_map-append (field 64) (take n words) (drop n words)) ∙ ap word_bits (take-append-drop n words))

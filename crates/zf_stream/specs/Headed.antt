@@ -13,8 +13,8 @@ abbrev pub header_room : ℕ
 header_room = 19
 
 -- the bytes that are taken before the type is looked at: three words, in which the longest header lies
-abbrev pub front_room : ℕ
-front_room = 24
+abbrev pub prefix_room : ℕ
+prefix_room = 24
 
 -- the first bytes of the source were taken, and they begin with this header
 pub record ReadsHeader (before now : Option (List ℕ)) (h : Header) (bits : ℕ) : Type 0 where

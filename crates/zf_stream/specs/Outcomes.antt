@@ -1,11 +1,11 @@
--- How a call that reads from a source and writes to a sink ends. What a device tells of its bytes is `Some`, else `None`.
+-- How a call that reads from a source and writes to a sink ends. What a device exposes of its bytes is `Some`, else `None`.
 use Rattle.std.specs.Prelude.{ℕ, ◌≡◌, ◌≤◌, ◌⊎◌, List, length, take, Option, Some, None, Result, Ok, Err, IsErrAnd}
 use Rattle.zf_dev.specs.Source.{Takes, TakesMoreThan, IsAtEnd}
-use Rattle.zf_dev.specs.Sink.{Appends, AppendsFront}
+use Rattle.zf_dev.specs.Sink.{Appends, AppendsPrefix}
 use Rattle.zf_parse.specs.declared.fault.StreamFault.{StreamFault}
 use Rattle.zf_parse.specs.declared.fault.StreamFault.TheVariants.{RawShort, RawLong, Header, Read, Write, Memory}
 
--- a fault of a device, or want of memory: what no input determines
+-- a fault of a device, or out of memory: what no input determines
 abbrev pub IsFromOutside : StreamFault → Type 0
 IsFromOutside e = (e ≡ Read) ⊎ (e ≡ Write) ⊎ (e ≡ Memory)
 
@@ -43,19 +43,19 @@ pub record Finishes (answer : List ℕ → Result (Unit {0}) StreamFault) (text 
   pub good : answer bytes ≡ Ok tt
   pub written : Appends out_before out_now (text bytes)
 
--- some bytes were read, and a front of their text was written, maybe nothing
-pub record LeavesFront (text : List ℕ → List ℕ) (src_before src_now out_before out_now : Option (List ℕ)) : Type 0 where
+-- some bytes were read, and a prefix of their text was written, maybe nothing
+pub record LeavesPrefix (text : List ℕ → List ℕ) (src_before src_now out_before out_now : Option (List ℕ)) : Type 0 where
   pub bytes : List ℕ
   pub taken : Takes src_before src_now bytes
-  pub written : AppendsFront out_before out_now (text bytes)
+  pub written : AppendsPrefix out_before out_now (text bytes)
 
--- these are the first n bytes of what a device tells, or all where there are fewer
-abbrev pub IsFront : ℕ → Option (List ℕ) → List ℕ → Type 0
-IsFront n None bytes = Unit {0}
-IsFront n (Some all) bytes = bytes ≡ take n all
+-- these are the first n bytes of what a device exposes, or all where there are fewer
+abbrev pub IsPrefix : ℕ → Option (List ℕ) → List ℕ → Type 0
+IsPrefix n None bytes = Unit {0}
+IsPrefix n (Some all) bytes = bytes ≡ take n all
 
 -- these bytes are the first n of the source, or all where there are fewer, and no more were taken
 pub record TakesFirst (n : ℕ) (before now : Option (List ℕ)) (bytes : List ℕ) : Type 0 where
   pub taken : Takes before now bytes
-  pub first : IsFront n before bytes
+  pub first : IsPrefix n before bytes
   pub within : length bytes ≤ n

@@ -12,7 +12,7 @@ use Rattle.zf_header.specs.declared.header.Header.{Header}
 use Rattle.zf_header.specs.declared.header.Mode.{Mode}
 use Rattle.zf_header.specs.declared.header.Mode.TheVariants.{Reversible, Rate, Precision}
 use Rattle.zf_dev.specs.Source.{Takes, TakesSome, IsAtEnd}
-use Rattle.zf_dev.specs.Sink.{Appends, AppendsFront}
+use Rattle.zf_dev.specs.Sink.{Appends, AppendsPrefix}
 use Rattle.zf_parse.specs.declared.fault.StreamFault.{StreamFault}
 use Rattle.zf_parse.specs.declared.fault.StreamFault.TheVariants as faults
 use Rattle.zf_parse.specs.Raw.{raw_bytes}
@@ -22,20 +22,20 @@ use Rattle.zf_stream.specs.Windows.{Window, left_of, Goes}
 
 -- bytes in front of what is still to come of a device
 abbrev pub behind : List ℕ → Option (List ℕ) → Option (List ℕ)
-behind front None = None
-behind front (Some left) = Some (front ++ left)
+behind prefix None = None
+behind prefix (Some left) = Some (prefix ++ left)
 
 -- the input behind these bytes was read to its end; all of it is a good stream, whose text was written
-pub record FinishesBehind (front : List ℕ) (src_before src_now out_before out_now : Option (List ℕ)) : Type 0 where
-  pub done : Finishes restore_answer restored_text (behind front src_before) src_now out_before out_now
+pub record FinishesBehind (prefix : List ℕ) (src_before src_now out_before out_now : Option (List ℕ)) : Type 0 where
+  pub done : Finishes restore_answer restored_text (behind prefix src_before) src_now out_before out_now
   pub more : List ℕ
-  pub begins : done.bytes ≡ front ++ more
+  pub begins : done.bytes ≡ prefix ++ more
 
 -- some input behind these bytes has this refusal, or it comes from outside
 abbrev pub CanRefuseBehind : List ℕ → StreamFault → Type 0
-CanRefuseBehind front e = ((more : List ℕ) × (restore_answer (front ++ more) ≡ Err e)) ⊎ IsFromOutside e
+CanRefuseBehind prefix e = ((more : List ℕ) × (restore_answer (prefix ++ more) ≡ Err e)) ⊎ IsFromOutside e
 
--- what is still to come, as far as the device tells it
+-- what is still to come, as far as the device exposes it
 abbrev pub still : Option (List ℕ) → List ℕ
 still None = []
 still (Some left) = left
@@ -103,11 +103,11 @@ text_of_codes h s = blocks_text h (read_codes h 0 (blocks h.shape) (s ++ replica
 abbrev pub answer_of_codes : Header → ℕ → List Bool → Result (List ℤ) StreamFault
 answer_of_codes h before s = codes_answer h (before + length s) (read_codes h 0 (blocks h.shape) s)
 
--- some bytes were taken, and a front of the text was written
+-- some bytes were taken, and a prefix of the text was written
 pub record LeavesRows (h : Header) (src_before src_now out_before out_now : Option (List ℕ)) (old : Window) : Type 0 where
   pub bytes : List ℕ
   pub taken : Takes src_before src_now bytes
-  pub written : AppendsFront out_before out_now (text_of_codes h (stream_from old bytes))
+  pub written : AppendsPrefix out_before out_now (text_of_codes h (stream_from old bytes))
 
 -- the fault of all that was to come, unless it is one of a device
 pub record HasFault (h : Header) (src_before src_now : Option (List ℕ)) (old : Window) (e : StreamFault) : Type 0 where

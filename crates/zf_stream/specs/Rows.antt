@@ -42,7 +42,7 @@ pub record Compresses (h : Header) (rows : ℕ) (src_before src_now out_before o
   pub long : length bytes ≡ rows_len h rows
   pub flows : Flows out_before out_now (bits ++ codes_of_rows h rows bytes) left
 
--- some first rows were read, and maybe more; a front of the codes of these rows was written
+-- some first rows were read, and maybe more; a prefix of the codes of these rows was written
 pub record Stops (h : Header) (src_before src_now out_before out_now : Option (List ℕ)) (bits : List Bool) : Type 0 where
   pub rows : ℕ
   pub whole : IsSlab h.shape 0 rows
@@ -65,7 +65,7 @@ pub record WritesSlab (part : Header) (src_before src_now out_before out_now : O
   pub long : length raw ≡ product part.shape * byte_len (width_of part.ty)
   pub flows : Flows out_before out_now (bits ++ slab_codes part raw) left
 
--- they were read, and a front of its codes was written
+-- they were read, and a prefix of its codes was written
 pub record SpillsSlab (part : Header) (src_before src_now out_before out_now : Option (List ℕ)) (bits : List Bool) : Type 0 where
   pub raw : List ℕ
   pub taken : Takes src_before src_now raw

@@ -7,7 +7,7 @@ use Rattle.zf_dev.specs.Source.{Takes, IsAtEnd}
 use Rattle.zf_dev.specs.Sink.{Appends}
 use Rattle.zf_parse.specs.declared.fault.StreamFault.{StreamFault}
 use Rattle.zf_stream.specs.Outcomes.{IsFromOutside, TakesFirst}
-use Rattle.zf_stream.specs.Headed.{front_room}
+use Rattle.zf_stream.specs.Headed.{prefix_room}
 use Rattle.zf_parse.specs.Parsing.{header_of, header_or, restore_answer, restored_text}
 
 -- a good stream is of the wanted type
@@ -41,7 +41,7 @@ pub record RestoresTyped (wanted : Ty) (src_before src_now out_before out_now : 
 -- the first bytes were taken and no more, which begin with a good header of another type; nothing was written
 pub record HasOtherType (wanted : Ty) (src_before src_now out_before out_now : Option (List ℕ)) : Type 0 where
   pub bytes : List ℕ
-  pub first : TakesFirst front_room src_before src_now bytes
+  pub first : TakesFirst prefix_room src_before src_now bytes
   pub good : header_fault bytes ≡ None
   pub other : (header_of bytes).ty ≢ wanted
   pub unwritten : out_now ≡ out_before

@@ -10,7 +10,7 @@ ghost use Rattle.zf_header.specs.HeaderBits.{IsMode, header_bits};
 ghost use Rattle.zf_parse.specs.Raw.{raw_len, compress_answer, stream_text};
 ghost use Rattle.zf_dev.specs.Faults.{HasCause};
 ghost use Rattle.zf_dev.specs.Source.{TakesSome};
-ghost use Rattle.zf_stream.specs.Outcomes.{CanRefuse, ShowsLength, Answers, Finishes, LeavesFront, IsRefusal};
+ghost use Rattle.zf_stream.specs.Outcomes.{CanRefuse, ShowsLength, Answers, Finishes, LeavesPrefix, IsRefusal};
 ghost use Rattle.zf_parse.specs.Parsing.{longest_code};
 ghost use Rattle.zf_stream.specs.Rows.{ArePieces, Compresses, Stops, WritesSlab, BreaksSlab};
 ghost use Rattle.zf_parse.specs.declared.fault.StreamFault.TheVariants.{Read, Write, Memory};
@@ -54,7 +54,7 @@ pub fn compress<S: Source, O: Sink>(
     ensures length { IfErr result (ShowsLength (raw_len h.now) (S.contents src.old) (S.contents src.new)) }
     ensures ok { OnOk result (Finishes (compress_answer h.now) (stream_text h.now)
         (S.contents src.old) (S.contents src.new) (O.contents out.old) (O.contents out.new)) }
-    ensures err { OnErr result (LeavesFront (stream_text h.now)
+    ensures err { OnErr result (LeavesPrefix (stream_text h.now)
         (S.contents src.old) (S.contents src.new) (O.contents out.old) (O.contents out.new)) }
     ensures unwritten { result ≡ Err Memory → O.contents out.new ≡ O.contents out.old }
     ensures same_source { S.kept src.new ≡ S.kept src.old }
@@ -80,7 +80,7 @@ fn compress_ahead<S: Source, O: Sink>(
     ensures length { IfErr result (ShowsLength (raw_len h.now) (S.contents src.old) (S.contents src.new)) }
     ensures ok { OnOk result (Finishes (compress_answer h.now) (stream_text h.now)
         (S.contents src.old) (S.contents src.new) (O.contents out.old) (O.contents out.new)) }
-    ensures err { OnErr result (LeavesFront (stream_text h.now)
+    ensures err { OnErr result (LeavesPrefix (stream_text h.now)
         (S.contents src.old) (S.contents src.new) (O.contents out.old) (O.contents out.new)) }
     ensures unwritten { result ≡ Err Memory → O.contents out.new ≡ O.contents out.old }
     ensures same_source { S.kept src.new ≡ S.kept src.old }
@@ -109,7 +109,7 @@ fn compress_as<T: Lane, S: Source, O: Sink>(
     ensures length { IfErr result (ShowsLength (raw_len h.now) (S.contents src.old) (S.contents src.new)) }
     ensures ok { OnOk result (Finishes (compress_answer h.now) (stream_text h.now)
         (S.contents src.old) (S.contents src.new) (O.contents out.old) (O.contents out.new)) }
-    ensures err { OnErr result (LeavesFront (stream_text h.now)
+    ensures err { OnErr result (LeavesPrefix (stream_text h.now)
         (S.contents src.old) (S.contents src.new) (O.contents out.old) (O.contents out.new)) }
     ensures unwritten { result ≡ Err Memory → O.contents out.new ≡ O.contents out.old }
     ensures same_source { S.kept src.new ≡ S.kept src.old }
@@ -172,7 +172,7 @@ fn write_stream<T: Lane, S: Source, O: Sink>(
     ensures length { IfErr result (ShowsLength (raw_len h.now) (S.contents src.old) (S.contents src.new)) }
     ensures ok { OnOk result (Finishes (compress_answer h.now) (stream_text h.now)
         (S.contents src.old) (S.contents src.new) (O.contents out.old) (O.contents out.new)) }
-    ensures err { OnErr result (LeavesFront (stream_text h.now)
+    ensures err { OnErr result (LeavesPrefix (stream_text h.now)
         (S.contents src.old) (S.contents src.new) (O.contents out.old) (O.contents out.new)) }
     ensures unwritten { result ≢ Err Memory }
     ensures same_source { S.kept src.new ≡ S.kept src.old }

@@ -27,11 +27,11 @@ pub fn read_header<S: Source>(src: &mut S) -> Result<(Header, u32), StreamFault>
 {
     let mut bytes = [0; FULL_HEADER_BYTES];
     let count = read_into(src, &mut bytes)?;
-    header_at_front(&bytes[..count])
+    header_at_prefix(&bytes[..count])
 }
 
 /// The header that these bytes begin with, and its length in bits.
-pub(crate) fn header_at_front(bytes: &[u8]) -> Result<(Header, u32), StreamFault>
+pub(crate) fn header_at_prefix(bytes: &[u8]) -> Result<(Header, u32), StreamFault>
     ensures ok { IfOk result (λ found. BeginsWithHeader bytes.now found.0 found.1) }
     ensures err { IfErr result (IsFaultOf bytes.now) }
 {

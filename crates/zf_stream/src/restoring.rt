@@ -7,7 +7,7 @@ ghost use Rattle.zf_header.specs.declared.header.HeaderFault.{HeaderFault};
 ghost use Rattle.zf_dev.specs.Faults.{HasCause};
 ghost use Rattle.zf_dev.specs.Source.{IsAtEnd};
 ghost use Rattle.zf_parse.specs.Parsing.{restore_answer, restored_text, longest_code};
-ghost use Rattle.zf_stream.specs.Outcomes.{CanRefuse, Answers, Finishes, LeavesFront, IsBeforeWriting};
+ghost use Rattle.zf_stream.specs.Outcomes.{CanRefuse, Answers, Finishes, LeavesPrefix, IsBeforeWriting};
 ghost use Rattle.zf_stream.specs.Typed.{typed_answer, CanRefuseTyped, RestoresWhere};
 ghost use Rattle.zf_parse.specs.ReadStreams.{BeginsWithHeader, HasGoodHeader};
 ghost use Rattle.zf_stream.specs.Rows.{ArePieces};
@@ -18,11 +18,11 @@ ghost use Rattle.zf_parse.specs.declared.fault.StreamFault.TheVariants.{Read, Wr
 use crate::StreamFault;
 use crate::compressing::PIECE;
 use crate::decoding::read_slab;
-use crate::header::header_at_front;
+use crate::header::header_at_prefix;
 use crate::looking::look_ahead;
 use crate::reading::read_into;
 use crate::slabs::{most_rows, rows_of, with_rows};
-use crate::window::{FRONT, Window};
+use crate::window::{PREFIX, Window};
 use crate::writing::write_values;
 use std::alloc::Global;
 use zf_base::{Lane, Ty, block_len};
@@ -52,7 +52,7 @@ pub fn restore<S: Source, O: Sink>(
     ensures possible { IfErr result (CanRefuse restore_answer) }
     ensures ok { OnOk result (Finishes restore_answer restored_text
         (S.contents src.old) (S.contents src.new) (O.contents out.old) (O.contents out.new)) }
-    ensures err { OnErr result (LeavesFront restored_text
+    ensures err { OnErr result (LeavesPrefix restored_text
         (S.contents src.old) (S.contents src.new) (O.contents out.old) (O.contents out.new)) }
     ensures unwritten { IfErr result (λ e. IsBeforeWriting e → O.contents out.new ≡ O.contents out.old) }
     ensures memory { result ≡ Err Memory → HasGoodHeader (S.contents src.old) }
@@ -62,10 +62,10 @@ pub fn restore<S: Source, O: Sink>(
     ensures write_cause { HasCause (result ≡ Err Write) (O.faults out.old) (O.faults out.new) }
     ensures sure { S.never_fails src.old → (result ≢ Err Read) × S.never_fails src.new }
 {
-    let mut front = [0; FRONT];
-    let count = read_into(src, &mut front)?;
-    let (h, header_len) = header_at_front(&front[..count])?;
-    restore_behind(alloc, &h, header_len, &front[..count], src, out)
+    let mut prefix = [0; PREFIX];
+    let count = read_into(src, &mut prefix)?;
+    let (h, header_len) = header_at_prefix(&prefix[..count])?;
+    restore_behind(alloc, &h, header_len, &prefix[..count], src, out)
 }
 
 /// The same where the values are of this type, and answers true. Of another type it answers false: the header
@@ -80,7 +80,7 @@ pub fn restore_where<S: Source, O: Sink>(
     ensures possible { IfErr result (CanRefuseTyped wanted) }
     ensures ok { IfOk result (λ is. RestoresWhere wanted is
         (S.contents src.old) (S.contents src.new) (O.contents out.old) (O.contents out.new)) }
-    ensures err { OnErr result (LeavesFront restored_text
+    ensures err { OnErr result (LeavesPrefix restored_text
         (S.contents src.old) (S.contents src.new) (O.contents out.old) (O.contents out.new)) }
     ensures unwritten { IfErr result (λ e. IsBeforeWriting e → O.contents out.new ≡ O.contents out.old) }
     ensures memory { result ≡ Err Memory → HasGoodHeader (S.contents src.old) }
@@ -90,13 +90,13 @@ pub fn restore_where<S: Source, O: Sink>(
     ensures write_cause { HasCause (result ≡ Err Write) (O.faults out.old) (O.faults out.new) }
     ensures sure { S.never_fails src.old → (result ≢ Err Read) × S.never_fails src.new }
 {
-    let mut front = [0; FRONT];
-    let read = read_into(src, &mut front)?;
-    let (header, len) = header_at_front(&front[..read])?;
+    let mut prefix = [0; PREFIX];
+    let read = read_into(src, &mut prefix)?;
+    let (header, len) = header_at_prefix(&prefix[..read])?;
     if header.ty != wanted {
         return Ok(false);
     }
-    restore_behind(alloc, &header, len, &front[..read], src, out)?;
+    restore_behind(alloc, &header, len, &prefix[..read], src, out)?;
     Ok(true)
 }
 
@@ -105,19 +105,19 @@ fn restore_behind<S: Source, O: Sink>(
     alloc: Global,
     h: &Header,
     header_len: u32,
-    front: &[u8],
+    prefix: &[u8],
     src: &mut S,
     out: &mut O,
 ) -> Result<(), StreamFault>
-    requires begun { BeginsWithHeader front.now h.now header_len }
-    requires few { length front.now ≤ 24 }
-    requires ended { length front.now < 24 → IsAtEnd (S.contents src.old) }
-    ensures answer { Answers result (behind front.now (S.contents src.old)) restore_answer }
-    ensures possible { IfErr result (CanRefuseBehind front.now) }
-    ensures ok { OnOk result (FinishesBehind front.now
+    requires begun { BeginsWithHeader prefix.now h.now header_len }
+    requires few { length prefix.now ≤ 24 }
+    requires ended { length prefix.now < 24 → IsAtEnd (S.contents src.old) }
+    ensures answer { Answers result (behind prefix.now (S.contents src.old)) restore_answer }
+    ensures possible { IfErr result (CanRefuseBehind prefix.now) }
+    ensures ok { OnOk result (FinishesBehind prefix.now
         (S.contents src.old) (S.contents src.new) (O.contents out.old) (O.contents out.new)) }
-    ensures err { OnErr result (LeavesFront restored_text
-        (behind front.now (S.contents src.old)) (S.contents src.new) (O.contents out.old) (O.contents out.new)) }
+    ensures err { OnErr result (LeavesPrefix restored_text
+        (behind prefix.now (S.contents src.old)) (S.contents src.new) (O.contents out.old) (O.contents out.new)) }
     ensures unwritten { IfErr result (λ e. IsBeforeWriting e → O.contents out.new ≡ O.contents out.old) }
     ensures same_source { S.kept src.new ≡ S.kept src.old }
     ensures read_cause { HasCause (result ≡ Err Read) (S.faults src.old) (S.faults src.new) }
@@ -126,7 +126,7 @@ fn restore_behind<S: Source, O: Sink>(
     ensures sure { S.never_fails src.old → (result ≢ Err Read) × S.never_fails src.new }
 {
     src.read_ahead();
-    restore_ahead(alloc, h, header_len, front, src, out)
+    restore_ahead(alloc, h, header_len, prefix, src, out)
 }
 
 /// The same where the source knows that it is read to its end.
@@ -134,19 +134,19 @@ fn restore_ahead<S: Source, O: Sink>(
     alloc: Global,
     h: &Header,
     header_len: u32,
-    front: &[u8],
+    prefix: &[u8],
     src: &mut S,
     out: &mut O,
 ) -> Result<(), StreamFault>
-    requires begun { BeginsWithHeader front.now h.now header_len }
-    requires few { length front.now ≤ 24 }
-    requires ended { length front.now < 24 → IsAtEnd (S.contents src.old) }
-    ensures answer { Answers result (behind front.now (S.contents src.old)) restore_answer }
-    ensures possible { IfErr result (CanRefuseBehind front.now) }
-    ensures ok { OnOk result (FinishesBehind front.now
+    requires begun { BeginsWithHeader prefix.now h.now header_len }
+    requires few { length prefix.now ≤ 24 }
+    requires ended { length prefix.now < 24 → IsAtEnd (S.contents src.old) }
+    ensures answer { Answers result (behind prefix.now (S.contents src.old)) restore_answer }
+    ensures possible { IfErr result (CanRefuseBehind prefix.now) }
+    ensures ok { OnOk result (FinishesBehind prefix.now
         (S.contents src.old) (S.contents src.new) (O.contents out.old) (O.contents out.new)) }
-    ensures err { OnErr result (LeavesFront restored_text
-        (behind front.now (S.contents src.old)) (S.contents src.new) (O.contents out.old) (O.contents out.new)) }
+    ensures err { OnErr result (LeavesPrefix restored_text
+        (behind prefix.now (S.contents src.old)) (S.contents src.new) (O.contents out.old) (O.contents out.new)) }
     ensures unwritten { IfErr result (λ e. IsBeforeWriting e → O.contents out.new ≡ O.contents out.old) }
     ensures same_source { S.kept src.new ≡ S.kept src.old }
     ensures read_cause { HasCause (result ≡ Err Read) (S.faults src.old) (S.faults src.new) }
@@ -155,8 +155,8 @@ fn restore_ahead<S: Source, O: Sink>(
     ensures sure { S.never_fails src.old → (result ≢ Err Read) × S.never_fails src.new }
 {
     match h.ty {
-        Ty::I32 => restore_as::<i32, S, O>(alloc, h, header_len, front, src, out),
-        Ty::I64 => restore_as::<i64, S, O>(alloc, h, header_len, front, src, out),
+        Ty::I32 => restore_as::<i32, S, O>(alloc, h, header_len, prefix, src, out),
+        Ty::I64 => restore_as::<i64, S, O>(alloc, h, header_len, prefix, src, out),
     }
 }
 
@@ -165,20 +165,20 @@ fn restore_as<T: Lane, S: Source, O: Sink>(
     alloc: Global,
     h: &Header,
     header_len: u32,
-    front: &[u8],
+    prefix: &[u8],
     src: &mut S,
     out: &mut O,
 ) -> Result<(), StreamFault>
-    requires begun { BeginsWithHeader front.now h.now header_len }
+    requires begun { BeginsWithHeader prefix.now h.now header_len }
     requires same_type { T.width ≡ width_of h.now.ty }
-    requires few { length front.now ≤ 24 }
-    requires ended { length front.now < 24 → IsAtEnd (S.contents src.old) }
-    ensures answer { Answers result (behind front.now (S.contents src.old)) restore_answer }
-    ensures possible { IfErr result (CanRefuseBehind front.now) }
-    ensures ok { OnOk result (FinishesBehind front.now
+    requires few { length prefix.now ≤ 24 }
+    requires ended { length prefix.now < 24 → IsAtEnd (S.contents src.old) }
+    ensures answer { Answers result (behind prefix.now (S.contents src.old)) restore_answer }
+    ensures possible { IfErr result (CanRefuseBehind prefix.now) }
+    ensures ok { OnOk result (FinishesBehind prefix.now
         (S.contents src.old) (S.contents src.new) (O.contents out.old) (O.contents out.new)) }
-    ensures err { OnErr result (LeavesFront restored_text
-        (behind front.now (S.contents src.old)) (S.contents src.new) (O.contents out.old) (O.contents out.new)) }
+    ensures err { OnErr result (LeavesPrefix restored_text
+        (behind prefix.now (S.contents src.old)) (S.contents src.new) (O.contents out.old) (O.contents out.new)) }
     ensures unwritten { IfErr result (λ e. IsBeforeWriting e → O.contents out.new ≡ O.contents out.old) }
     ensures same_source { S.kept src.new ≡ S.kept src.old }
     ensures read_cause { HasCause (result ≡ Err Read) (S.faults src.old) (S.faults src.new) }
@@ -195,7 +195,7 @@ fn restore_as<T: Lane, S: Source, O: Sink>(
     };
     let longest = longest_code::<T>(h);
     let first = (8 * PIECE).min(slab.shape.blocks() * longest);
-    let mut window = Window::new(alloc, longest + first, front, u64::from(header_len))?;
+    let mut window = Window::new(alloc, longest + first, prefix, u64::from(header_len))?;
     let mut block = vec![in alloc; T::zero(); block_len(dims)]?;
     let mut piece = vec![in alloc; 0; PIECE as usize]?;
     // Values are room that is written at once, so none are made for a slab that a short stream cannot have.

@@ -16,9 +16,9 @@ use zf_bits::{BitReader, put_words_at};
 use zf_dev::Source;
 
 /// How many bytes are taken from a source before its window is made: whole words, and the longest header lies in them.
-pub(crate) const FRONT: usize = 24;
+pub(crate) const PREFIX: usize = 24;
 
-// The words of the front, and one that may have been read in part.
+// The words of the prefix, and one that may have been read in part.
 const SPARE: usize = 4;
 
 /// Bits of a stream that are held, of which some were read. Contracts see them with the place, and whether the source is known to be at its end.
@@ -45,23 +45,28 @@ impl Model for Window {
 impl Window {
     /// A window that holds the first bytes of a source, all of them where there are fewer than 24, and stands at bit `at`.
     /// It has room for `most` bits and those before them.
-    pub(crate) fn new(alloc: Global, most: u64, front: &[u8], at: u64) -> Result<Window, AllocError>
-        requires few { length front.now ≤ 24 }
-        requires within { at ≤ 8 * length front.now }
+    pub(crate) fn new(
+        alloc: Global,
+        most: u64,
+        prefix: &[u8],
+        at: u64,
+    ) -> Result<Window, AllocError>
+        requires few { length prefix.now ≤ 24 }
+        requires within { at ≤ 8 * length prefix.now }
         requires small { most ≤ 2 ^ 40 }
-        ensures bits { IfOk result (λ w. w.reader.all ≡ to_bits front.now) }
+        ensures bits { IfOk result (λ w. w.reader.all ≡ to_bits prefix.now) }
         ensures place { IfOk result (λ w. w.reader.at ≡ at) }
         ensures room { IfOk result (λ w. most + 64 ≤ 64 * w.room) }
-        ensures ended { IfOk result (λ w. w.ended ≡ true → length front.now < 24) }
+        ensures ended { IfOk result (λ w. w.ended ≡ true → length prefix.now < 24) }
     {
         let count = most.div_ceil(64) as usize + SPARE;
         let mut words = vec![in alloc; 0; count]?;
-        put_words_at(front, &mut words, 0);
+        put_words_at(prefix, &mut words, 0);
         Ok(Window {
             words,
-            bits: 8 * front.len() as u64,
+            bits: 8 * prefix.len() as u64,
             at,
-            ended: front.len() < FRONT,
+            ended: prefix.len() < PREFIX,
         })
     }
 

@@ -3,7 +3,7 @@
 ghost use Rattle.std.specs.Prelude.{◌≡◌, ◌≤◌, ◌<◌, ◌*◌, ◌+◌, ◌≢◌, ◌^◌, All, map, length, Err, OnOk, OnErr, IfErr};
 ghost use Rattle.zf_spec.specs.Stream.{raw};
 ghost use Rattle.zf_dev.specs.Faults.{HasCause};
-ghost use Rattle.zf_dev.specs.Sink.{Appends, AppendsFront};
+ghost use Rattle.zf_dev.specs.Sink.{Appends, AppendsPrefix};
 ghost use Rattle.zf_stream.specs.Flows.{bytes_in, Flows, Spills};
 ghost use Rattle.zf_parse.specs.declared.fault.StreamFault.TheVariants.{Write};
 
@@ -43,7 +43,7 @@ pub(crate) fn write_whole_words<O: Sink>(
 fn write_words<O: Sink>(words: &[u64], piece: &mut [u8], out: &mut O) -> Result<(), StreamFault>
     requires { 8 ≤ length piece.old }
     ensures ok { OnOk result (Appends (O.contents out.old) (O.contents out.new) (bytes_in words.now)) }
-    ensures err { OnErr result (AppendsFront (O.contents out.old) (O.contents out.new) (bytes_in words.now)) }
+    ensures err { OnErr result (AppendsPrefix (O.contents out.old) (O.contents out.new) (bytes_in words.now)) }
     ensures words { All (λ v. v < 2 ^ 64) words.now }
     ensures fault { IfErr result (λ e. e ≡ Write) }
     ensures same_sink { O.kept out.new ≡ O.kept out.old }
@@ -63,7 +63,7 @@ fn write_words<O: Sink>(words: &[u64], piece: &mut [u8], out: &mut O) -> Result<
 /// Writes bytes.
 pub(crate) fn write_bytes<O: Sink>(bytes: &[u8], out: &mut O) -> Result<(), StreamFault>
     ensures ok { OnOk result (Appends (O.contents out.old) (O.contents out.new) bytes.now) }
-    ensures err { OnErr result (AppendsFront (O.contents out.old) (O.contents out.new) bytes.now) }
+    ensures err { OnErr result (AppendsPrefix (O.contents out.old) (O.contents out.new) bytes.now) }
     ensures fault { IfErr result (λ e. e ≡ Write) }
     ensures same_sink { O.kept out.new ≡ O.kept out.old }
     ensures cause { HasCause (result ≡ Err Write) (O.faults out.old) (O.faults out.new) }
@@ -82,7 +82,7 @@ pub(crate) fn write_values<T: Lane, O: Sink>(
 ) -> Result<(), StreamFault>
     requires { 8 ≤ length piece.old }
     ensures ok { OnOk result (Appends (O.contents out.old) (O.contents out.new) (raw T.width (map T.value values.now))) }
-    ensures err { OnErr result (AppendsFront (O.contents out.old) (O.contents out.new) (raw T.width (map T.value values.now))) }
+    ensures err { OnErr result (AppendsPrefix (O.contents out.old) (O.contents out.new) (raw T.width (map T.value values.now))) }
     ensures fault { IfErr result (λ e. e ≡ Write) }
     ensures same_sink { O.kept out.new ≡ O.kept out.old }
     ensures cause { HasCause (result ≡ Err Write) (O.faults out.old) (O.faults out.new) }

@@ -3,7 +3,7 @@
 ghost use Rattle.std.specs.Prelude.{IsTrue};
 ghost use Rattle.zf_header.specs.HeaderBits.{IsRate};
 
-use crate::support::front;
+use crate::support::prefix;
 use std::alloc::Global;
 use std::process::Abort;
 use std::test::Fail;
@@ -155,7 +155,7 @@ const FAULTS: [(&[u8], usize, IndexFault); 4] = [
 #[test]
 fn faults_are_those_of_the_stream(rt: HostRuntime) -> Result<(), Fail> {
     for (file, count, fault) in FAULTS {
-        assert!(rt; certify(&rt, rt.alloc(), front(file, count), 0)? == Err(fault));
+        assert!(rt; certify(&rt, rt.alloc(), prefix(file, count), 0)? == Err(fault));
     }
     Ok(())
 }

@@ -1,6 +1,6 @@
 //! What a stream costs: how many calls, and no room for values that cannot come.
 
-use crate::support::{Kind, Moves, PIECES, are_zeros, compressed, front, restored};
+use crate::support::{Kind, Moves, PIECES, are_zeros, compressed, prefix, restored};
 use std::test::Fail;
 use zf_base::Ty;
 use zf_header::Mode;
@@ -56,7 +56,7 @@ const ROUNDS: u64 = 80;
 fn no_room_is_taken_for_values_that_cannot_come(rt: HostRuntime) -> Result<(), Fail> {
     for (header, zeros, block) in CUTS.iter() {
         let mut stream = header.to_vec(rt.alloc())?;
-        stream.extend_from_slice(front(&ZEROS, *zeros))?;
+        stream.extend_from_slice(prefix(&ZEROS, *zeros))?;
         for _ in 0..ROUNDS {
             let answer = Err(StreamFault::Truncated(*block));
             let out = restored(&rt, rt.alloc(), &stream, &PIECES[1], &answer)?;

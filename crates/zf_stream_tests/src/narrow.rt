@@ -1,6 +1,6 @@
 //! Values of 8 and 16 bits, and their streams, each way.
 
-use crate::support::{Kind, Moves, NEVER, PIECES, compressed, devices, front, header_of};
+use crate::support::{Kind, Moves, NEVER, PIECES, compressed, devices, header_of, prefix};
 use std::alloc::Global;
 use std::process::Abort;
 use std::test::Fail;
@@ -178,7 +178,7 @@ fn narrow_values_are_as_many_as_the_shape_has(rt: HostRuntime) -> Result<(), Fai
             read_fault: *read_fault,
             write_fault: *write_fault,
         };
-        let raw = front(ROWS[0].stream, *count);
+        let raw = prefix(ROWS[0].stream, *count);
         let out = compressed_narrow(&rt, rt.alloc(), *n, &kind, raw, &moves, answer)?;
         assert!(rt; out.bytes().len() == *written);
     }
@@ -220,9 +220,9 @@ const HALVES: [(
 fn half_a_value_gives_a_byte(rt: HostRuntime) -> Result<(), Fail> {
     for (count, narrow, answer, full, same) in HALVES.iter() {
         let (kind, moves) = (lossless(*count), &PIECES[0]);
-        let raw = front(HALF, *narrow);
+        let raw = prefix(HALF, *narrow);
         let out = compressed_narrow(&rt, rt.alloc(), Narrow::I16, &kind, raw, moves, answer)?;
-        let raw = front(HALF_GIVES, *full);
+        let raw = prefix(HALF_GIVES, *full);
         let as_full = compressed(&rt, rt.alloc(), &kind, raw, moves, same)?;
         assert!(rt; out.bytes() == as_full.bytes());
     }
@@ -296,7 +296,7 @@ fn streams_are_restored_as_narrow_values(rt: HostRuntime) -> Result<(), Fail> {
             read_fault: NEVER,
             write_fault: *write_fault,
         };
-        let stream = front(stream, *count);
+        let stream = prefix(stream, *count);
         let out = restored_narrow(&rt, rt.alloc(), *n, stream, &moves, answer)?;
         assert!(rt; out.bytes() == *written);
     }

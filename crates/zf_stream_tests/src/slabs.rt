@@ -1,6 +1,6 @@
 //! Streams of several slabs, and how much is out before the end is known.
 
-use crate::support::{Kind, Moves, NEVER, PIECES, are_zeros, compressed, front, restored};
+use crate::support::{Kind, Moves, NEVER, PIECES, are_zeros, compressed, prefix, restored};
 use std::alloc::{AllocError, Global};
 use std::test::Fail;
 use zf_base::Ty;
@@ -188,7 +188,7 @@ fn a_slab_is_written_before_the_end_is_known(rt: HostRuntime) -> Result<(), Fail
         ..PIECES[1]
     };
     for (count, last, answer, least) in CUTS.iter() {
-        let mut stream = front(whole.bytes(), count.saturating_sub(1)).to_vec(alloc)?;
+        let mut stream = prefix(whole.bytes(), count.saturating_sub(1)).to_vec(alloc)?;
         stream.push(*last)?;
         let out = restored(&rt, alloc, &stream, &moves, answer)?;
         assert!(rt; *least <= out.bytes().len() && are_zeros(out.bytes()));

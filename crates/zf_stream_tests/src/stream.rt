@@ -1,6 +1,6 @@
 //! Raw values and their streams, each way, and what is answered of bytes that are none.
 
-use crate::support::{Kind, Moves, NEVER, PIECES, compressed, devices, front, restored};
+use crate::support::{Kind, Moves, NEVER, PIECES, compressed, devices, prefix, restored};
 use std::test::Fail;
 use zf_base::Ty;
 use zf_header::{HeaderFault, Mode};
@@ -92,7 +92,7 @@ fn raw_values_are_as_many_as_the_shape_has(rt: HostRuntime) -> Result<(), Fail> 
             read_fault: *read_fault,
             write_fault: *write_fault,
         };
-        let out = compressed(&rt, rt.alloc(), &kind, front(raw, *count), &moves, answer)?;
+        let out = compressed(&rt, rt.alloc(), &kind, prefix(raw, *count), &moves, answer)?;
         assert!(rt; out.bytes().len() == *written);
     }
     Ok(())
@@ -118,8 +118,8 @@ const JUDGED: [(&[u8], usize, Result<(), StreamFault>, usize); 7] = [
 fn a_stream_is_judged_to_its_end(rt: HostRuntime) -> Result<(), Fail> {
     for (stream, count, answer, written) in JUDGED.iter() {
         for moves in PIECES.iter() {
-            let out = restored(&rt, rt.alloc(), front(stream, *count), moves, answer)?;
-            assert!(rt; out.bytes() == front(&[1, 0, 0, 0], *written));
+            let out = restored(&rt, rt.alloc(), prefix(stream, *count), moves, answer)?;
+            assert!(rt; out.bytes() == prefix(&[1, 0, 0, 0], *written));
         }
     }
     Ok(())
@@ -142,9 +142,9 @@ const WANTED: [(usize, Ty, Result<bool, StreamFault>, usize); 8] = [
 fn a_stream_of_another_type_is_left(rt: HostRuntime) -> Result<(), Fail> {
     for (count, wanted, answer, written) in WANTED.iter() {
         for moves in PIECES.iter() {
-            let (mut src, mut out) = devices(&rt, rt.alloc(), front(ONE, *count), moves)?;
+            let (mut src, mut out) = devices(&rt, rt.alloc(), prefix(ONE, *count), moves)?;
             assert!(rt; restore_where(rt.alloc(), *wanted, &mut src, &mut out) == *answer);
-            assert!(rt; out.bytes() == front(&[1, 0, 0, 0], *written));
+            assert!(rt; out.bytes() == prefix(&[1, 0, 0, 0], *written));
         }
     }
     Ok(())

@@ -137,7 +137,7 @@ pub(crate) fn restored(
 }
 
 /// The first bytes, or all where there are fewer.
-pub(crate) fn front(bytes: &[u8], len: usize) -> &[u8] {
+pub(crate) fn prefix(bytes: &[u8], len: usize) -> &[u8] {
     &bytes[..len.min(bytes.len())]
 }
 

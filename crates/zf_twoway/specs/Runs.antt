@@ -30,7 +30,7 @@ twoway_setting w budget = record {
   allows = needs_no_window;
 }
 
--- the text of the run of a script over an array of zeros where memory is never wanting, and the file that is saved
+-- the text of the run of a script over an array of zeros that is never out of memory, and the file that is saved
 unfoldable pub twoway_text : Width → ℕ → List ℕ → ℕ → List ℕ → List ℕ
 twoway_text w budget ns lines script = replies_text (run (twoway_setting w budget) [] ns (open_array w budget ns (zero_codes budget ns) lines) script).1
 

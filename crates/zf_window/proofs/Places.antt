@@ -68,10 +68,10 @@ set-append [] ys k v lt = absurd (omega arith)
 set-append (x ∷ xs) ys zero v lt = refl
 set-append (x ∷ xs) ys (suc k) v lt = ap (λ rest. x ∷ rest) (set-append xs ys k v (omega arith))
 
-get_or-front : (xs ys : List ℕ) (k : ℕ) → k < length xs → get_or (xs ++ ys) k 0 ≡ get_or xs k 0
-get_or-front [] ys k lt = absurd (omega arith)
-get_or-front (x ∷ xs) ys zero lt = refl
-get_or-front (x ∷ xs) ys (suc k) lt = get_or-front xs ys k (omega arith)
+get_or-prefix : (xs ys : List ℕ) (k : ℕ) → k < length xs → get_or (xs ++ ys) k 0 ≡ get_or xs k 0
+get_or-prefix [] ys k lt = absurd (omega arith)
+get_or-prefix (x ∷ xs) ys zero lt = refl
+get_or-prefix (x ∷ xs) ys (suc k) lt = get_or-prefix xs ys k (omega arith)
 
 get_or-stepped : (os ts ps : List ℕ) (k : ℕ) → k < length os → length ts ≡ length os → length ps ≡ length os → get_or (stepped os ts ps) k 0 ≡ get_or os k 0 + get_or ps k 0 * get_or ts k 0
 get_or-stepped [] ts ps k lt a b = absurd (omega arith)
@@ -95,7 +95,7 @@ module _ (d : ℕ) (o s t : Pos) (w : IsWindowOf d o s t) (axis at : ℕ) (on : 
   along_used : (n : ℕ) (p : Pos) → p ≡ with_unused n (used_axes d p) → get_or (axes p) axis 0 ≡ get_or (used_axes d p) axis 0
   along_used n p is =
       ap (λ q. get_or (axes q) axis 0) is ∙ (ap (λ xs. get_or xs axis 0) (axes-with_unused n (used_axes d p) (omega (arith, length-used_axes d p w.four_at_most, w.four_at_most)))
-      ∙ get_or-front (used_axes d p) (replicate (4 - length (used_axes d p)) n) axis (omega (arith, length-used_axes d p w.four_at_most)))
+      ∙ get_or-prefix (used_axes d p) (replicate (4 - length (used_axes d p)) n) axis (omega (arith, length-used_axes d p w.four_at_most)))
 
   used_with : (p q : Pos) (v : ℕ) → axes q ≡ set (axes p) axis v → used_axes d q ≡ set (used_axes d p) axis v
   used_with p q v is = ap (take d) is ∙ take-set-lt d (axes p) axis v on

@@ -13,11 +13,11 @@ use Rattle.zf_cached.proofs.Windows.{mapped_inside, length-mapped}
 use Rattle.zf_window.specs.Positions.{raster_at}
 use Rattle.zf_window.proofs.Axes.{sizes_four, IsPosition-inside}
 
-take_front : (xs ys : List ℕ) (n : ℕ) → length xs ≡ n → take n (xs ++ ys) ≡ xs
-take_front [] ys zero long = refl
-take_front [] ys (suc n) long = absurd (omega arith)
-take_front (x ∷ xs) ys zero long = absurd (omega arith)
-take_front (x ∷ xs) ys (suc n) long = ap (λ rest. x ∷ rest) (take_front xs ys n (omega arith))
+take_prefix : (xs ys : List ℕ) (n : ℕ) → length xs ≡ n → take n (xs ++ ys) ≡ xs
+take_prefix [] ys zero long = refl
+take_prefix [] ys (suc n) long = absurd (omega arith)
+take_prefix (x ∷ xs) ys zero long = absurd (omega arith)
+take_prefix (x ∷ xs) ys (suc n) long = ap (λ rest. x ∷ rest) (take_prefix xs ys n (omega arith))
 
 -- a box has as many positions along four axes as along the used ones
 pub product_used : (d : ℕ) (size : Pos) → d ≤ 4 → size ≡ with_unused 1 (used_axes d size) → product (axes size) ≡ product (used_axes d size)
@@ -33,7 +33,7 @@ module _ (d : ℕ) (size p : Pos) (k : ℕ) (dims : d ≤ 4) (sizes : size ≡ w
   pub used_is : length (used_axes d size) ≡ d → used_axes d p ≡ coordinates (used_axes d size) k
   used_is long =
       ap (take d) (is ∙ ap (λ ns. coordinates ns k) (sizes_four d size size dims sizes) ∙ coordinates-append_ones (used_axes d size) (4 - d) k)
-      ∙ take_front (coordinates (used_axes d size) k) (replicate (4 - d) 0) d (length-coordinates (used_axes d size) k ∙ long)
+      ∙ take_prefix (coordinates (used_axes d size) k) (replicate (4 - d) 0) d (length-coordinates (used_axes d size) k ∙ long)
 
 -- each position of a window is one of the array's
 pub raster_at-inside : (ns : List ℕ) (w : Window) (k : ℕ) → LiesIn ns w → length w.size ≤ 4 → k < product w.size → IsPosition ns (raster_at w k)

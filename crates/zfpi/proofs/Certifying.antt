@@ -4,7 +4,7 @@ use Rattle.std.specs.Int.{Width}
 use mir.Val.{bits}
 use Rattle.zf_base.specs.Widths.{width_of}
 use Rattle.zf_dev.specs.Shelf.{Files, KeepsFiles}
-use Rattle.zf_dev.specs.Sink.{Appends, AppendsFront}
+use Rattle.zf_dev.specs.Sink.{Appends, AppendsPrefix}
 use Rattle.zf_header.specs.declared.header.Header.{Header}
 use Rattle.zf_header.specs.HeaderBits.{IsRate}
 use Rattle.zf_parse.specs.declared.fault.StreamFault.{StreamFault}
@@ -24,9 +24,9 @@ use Rattle.zfpi.specs.Certified.{certified_text, certified_status}
 use Rattle.zfpi.specs.Loaded.{HoldsFile}
 use Rattle.zfpi.specs.World.{seen}
 use Rattle.zfpi.specs.Headline.{Behaves}
-use Rattle.zfpi.proofs.Told.{some_input, Takes-none}
+use Rattle.zfpi.proofs.Exposed.{some_input, Takes-none}
 use Rattle.zfpi.proofs.Opening.{array_in-rate, header_said}
-use Rattle.zfpi.proofs.Loading.{ComesFirst-index, Behaves-unopened, world_with, files_with, TellsFiles-with, opened-held, IsLoading}
+use Rattle.zfpi.proofs.Loading.{ComesFirst-index, Behaves-unopened, world_with, files_with, ExposesFiles-with, opened-held, IsLoading}
 
 -- what is certified of whatever the stream says, where there was memory
 pub certified_all : (w : Width) (h : Header) (m : ℕ) (r : Result Certified IndexFault) (answer : Result Said StreamFault) → w ≡ width_of h.ty → IfOk r (λ c. IfOk answer (λ said. c.plane ≡ plane_of w (length h.shape) said.codes))
@@ -45,7 +45,7 @@ module _ (name : List ℕ) (most : ℕ) where
   pub IsLoading-bound : IsLoading (Bound name most) name array_in
   IsLoading-bound = record {
     refuses = λ w status none. sym (ap certified_status none);
-    wanted = λ w status first. refl;
+    starved_are = λ w status first. refl;
     extent = λ input status first. refl;
     plain = λ status src taken. refl;
     draft = λ w status taken. refl;
@@ -78,9 +78,9 @@ module _ (name : List ℕ) (most : ℕ) where
         record {
           ends = tt;
           world = world_with known bytes some.0;
-          told = record { input = some.1; files = TellsFiles-with known bytes };
-          wants = [];
-          wanted = refl;
+          exposed = record { input = some.1; files = ExposesFiles-with known bytes };
+          starved = [];
+          starved_are = refl;
           stated = inl (sym (ap certified_status is_array));
           taken = [];
           takes = Takes-none src;
@@ -91,23 +91,23 @@ module _ (name : List ℕ) (most : ℕ) where
           saved = kept;
         }
 
-    -- a front of the line was
-    pub Behaves-cut_certified : (c : Certified) (line : List ℕ) (src out out_now : Option (List ℕ)) → c ≡ certified_of h said.codes most → line ≡ bound_text c → AppendsFront out out_now line
+    -- a prefix of the line was
+    pub Behaves-cut_certified : (c : Certified) (line : List ℕ) (src out out_now : Option (List ℕ)) → c ≡ certified_of h said.codes most → line ≡ bound_text c → AppendsPrefix out out_now line
         → Behaves (Bound name most) statuses.WriteFault (seen src out known) (seen src out_now now)
     Behaves-cut_certified c line src out out_now certified text written =
         let some = some_input src in
         record {
           ends = tt;
           world = world_with known bytes some.0;
-          told = record { input = some.1; files = TellsFiles-with known bytes };
-          wants = [];
-          wanted = refl;
+          exposed = record { input = some.1; files = ExposesFiles-with known bytes };
+          starved = [];
+          starved_are = refl;
           stated = inr (subst IsOk (sym is_array) refl);
           taken = [];
           takes = Takes-none src;
           extent = refl;
           raw = [];
           raw_is = refl;
-          written = subst (AppendsFront out out_now) (line_is c line certified text) written;
+          written = subst (AppendsPrefix out out_now) (line_is c line certified text) written;
           saved = kept;
         }

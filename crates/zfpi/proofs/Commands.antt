@@ -203,9 +203,9 @@ one_command words (RestoreNarrow m) Restore a b = absurd (omega (arith, ap lengt
 one_command words Info Info a b = refl
 one_command words c d a b = absurd (omega (arith, same_mark c d words a b))
 
--- ---- fronts of commands
-pub BeginsCommand-front : (words rest : List (List ℕ)) → BeginsCommand (words ++ rest) → BeginsCommand words
-BeginsCommand-front words rest begins =
+-- ---- prefixes of commands
+pub BeginsCommand-prefix : (words rest : List (List ℕ)) → BeginsCommand (words ++ rest) → BeginsCommand words
+BeginsCommand-prefix words rest begins =
     (begins.0, rest ++ begins.1, subst (IsSpelled begins.0) (append_assoc words rest begins.1) begins.2)
 
 pub BeginsCommand-spelled : (c : Command) (words : List (List ℕ)) (k : ℕ) → IsSpelled c words → BeginsCommand (take k words)
@@ -215,8 +215,8 @@ BeginsCommand-spelled c words k spelled = (c, drop k words, subst (IsSpelled c) 
 pub BeginsCommand-shorter : (words : List (List ℕ)) (k n : ℕ) → k ≤ n → BeginsCommand (take n words) → BeginsCommand (take k words)
 BeginsCommand-shorter words k n le begins =
     let parts : take k words ++ drop k (take n words) ≡ take n words =
-    ap (λ front. front ++ drop k (take n words)) (sym (take-take k n words le)) ∙ take-append-drop k (take n words) in
-    BeginsCommand-front (take k words) (drop k (take n words)) (subst BeginsCommand (sym parts) begins)
+    ap (λ prefix. prefix ++ drop k (take n words)) (sym (take-take k n words le)) ∙ take-append-drop k (take n words) in
+    BeginsCommand-prefix (take k words) (drop k (take n words)) (subst BeginsCommand (sym parts) begins)
 
 -- ---- where the words stop
 pub IsUsage-stopped : (words : List (List ℕ)) (k : ℕ) (stage : Stage) → k < length words → LeadsTo (take k words) stage → (BeginsCommand (take (k + 1) words) → ⊥) → IsUsage words k
@@ -292,7 +292,7 @@ IsBegun-more : (task : Task) (ty : Ty) (ns : List ℕ) (behind words : List (Lis
 IsBegun-more task ty ns behind words word rest begun = record {
   task_is = begun.task_is;
   shape_is = begun.shape_is;
-  words_are = append_assoc words (word ∷ []) rest ∙ (ap (λ front. front ++ word ∷ rest) begun.words_are ∙ append_assoc (task_words task ty ns) behind (word ∷ rest));
+  words_are = append_assoc words (word ∷ []) rest ∙ (ap (λ prefix. prefix ++ word ∷ rest) begun.words_are ∙ append_assoc (task_words task ty ns) behind (word ∷ rest));
 }
 
 -- words on the way to a mode are no whole command
@@ -387,7 +387,7 @@ HasCaching-begun scripts.Look name behind words c is spelled = absurd (omega (ar
 -- a word behind `lines` or `twoway`, where a command goes on, is a number of lines
 pub IsLinesWord-begun : (script : Script) (name : List ℕ) (words : List (List ℕ)) (word : List ℕ) → words ≡ script_word script ∷ name ∷ codes "lines" ∷ [] → BeginsCommand (words ++ word ∷ []) → (l : ℕ) × IsLinesWord l word
 IsLinesWord-begun script name words word is (c, rest, spelled) =
-    let r = HasCaching-begun script name (codes "lines" ∷ word ∷ rest) ((words ++ word ∷ []) ++ rest) c (ap (λ front. (front ++ word ∷ []) ++ rest) is) spelled in
+    let r = HasCaching-begun script name (codes "lines" ∷ word ∷ rest) ((words ++ word ∷ []) ++ rest) c (ap (λ prefix. (prefix ++ word ∷ []) ++ rest) is) spelled in
     by r.caching r.caching_is r.behind_is
   where
     by : (k : Caching) → IsCaching k → codes "lines" ∷ word ∷ rest ≡ caching_words k → (n : ℕ) × IsLinesWord n word
@@ -397,7 +397,7 @@ IsLinesWord-begun script name words word is (c, rest, spelled) =
 
 pub IsLinesWord-begun_twoway : (name : List ℕ) (words : List (List ℕ)) (word : List ℕ) → words ≡ codes "run" ∷ name ∷ codes "twoway" ∷ [] → BeginsCommand (words ++ word ∷ []) → (l : ℕ) × IsLinesWord l word
 IsLinesWord-begun_twoway name words word is (c, rest, spelled) =
-    let r = HasCaching-begun scripts.Run name (codes "twoway" ∷ word ∷ rest) ((words ++ word ∷ []) ++ rest) c (ap (λ front. (front ++ word ∷ []) ++ rest) is) spelled in
+    let r = HasCaching-begun scripts.Run name (codes "twoway" ∷ word ∷ rest) ((words ++ word ∷ []) ++ rest) c (ap (λ prefix. (prefix ++ word ∷ []) ++ rest) is) spelled in
     by r.caching r.caching_is r.behind_is
   where
     by : (k : Caching) → IsCaching k → codes "twoway" ∷ word ∷ rest ≡ caching_words k → (n : ℕ) × IsLinesWord n word
@@ -466,7 +466,7 @@ IsUsage-ended words n stage all leads not_whole = record {
 pub word_more : {X : Type 0} (text : X → List ℕ) (xs : List X) (i : ℕ) (x : X) (word : List ℕ) → i < length xs → x ≡ get_or xs i x → word ≡ text x → take (i + 1) (map text xs) ≡ take i (map text xs) ++ word ∷ []
 word_more text xs i x word lt is same =
     let last : text (get_or xs i x) ≡ word = ap text (sym is) ∙ sym same in
-    take-map text (i + 1) xs ∙ (map_more text xs i x lt ∙ (ap (λ w. map text (take i xs) ++ w ∷ []) last ∙ ap (λ front. front ++ word ∷ []) (sym (take-map text i xs))))
+    take-map text (i + 1) xs ∙ (map_more text xs i x lt ∙ (ap (λ w. map text (take i xs) ++ w ∷ []) last ∙ ap (λ prefix. prefix ++ word ∷ []) (sym (take-map text i xs))))
 
 -- ---- rates
 rate_behind : (ty : Ty) (ns : List ℕ) (m : Mode) (word : List ℕ) (rest : List (List ℕ)) → IsAskable (header_with ty ns m) → codes "rate" ∷ word ∷ rest ≡ mode_words m → (b : ℕ) × IsRateWord ty ns b word
@@ -487,7 +487,7 @@ pub IsRateWord-begun_new : (words : List (List ℕ)) (name : List ℕ) (ty : Ty)
 unfolding first_word mark
 IsRateWord-begun_new words name ty ns word leads (New n t s k, rest, spelled) =
     let whole : codes "new" ∷ name ∷ type_word ty ∷ shape_word ns ∷ word ∷ rest ≡ codes "new" ∷ n ∷ type_word t ∷ shape_word s ∷ decimal k ∷ [] =
-    ap (λ front. (front ++ word ∷ []) ++ rest) (sym leads.2) ∙ spelled.words_are in
+    ap (λ prefix. (prefix ++ word ∷ []) ++ rest) (sym leads.2) ∙ spelled.words_are in
     let type_text : type_word t ≡ type_word ty = cc in
     let shape_text : shape_word s ≡ shape_word ns = cc in
     let text : word ≡ decimal k = cc in
@@ -495,7 +495,7 @@ IsRateWord-begun_new words name ty ns word leads (New n t s k, rest, spelled) =
     let found : IsRateWord t s k word = record { rate = spelled.rate; fits = spelled.fits; text = text } in
     (k, subst (λ u. IsRateWord u ns k word) (type_word_injective t ty type_text) (subst (λ ms. IsRateWord t ms k word) shape found))
 IsRateWord-begun_new words name ty ns word leads (c, rest, spelled) =
-    absurd (omega (arith, mark_of c ((words ++ word ∷ []) ++ rest) (codes "new") (name ∷ type_word ty ∷ shape_word ns ∷ word ∷ rest) (ap (λ front. (front ++ word ∷ []) ++ rest) leads.2) spelled))
+    absurd (omega (arith, mark_of c ((words ++ word ∷ []) ++ rest) (codes "new") (name ∷ type_word ty ∷ shape_word ns ∷ word ∷ rest) (ap (λ prefix. (prefix ++ word ∷ []) ++ rest) leads.2) spelled))
 
 -- the number of such a word
 pub IsRateWord-number : (ty : Ty) (ns : List ℕ) (b n : ℕ) (word : List ℕ) → IsRateWord ty ns b word → n < 2 ^ 64 → word ≡ decimal n → b ≡ n

@@ -57,10 +57,10 @@ IsSpelled-task (tasks.CompressNarrow n) h words task askable is = record { asked
 IsSpelled-task (tasks.Sample seed) h words task askable is = record { asked = askable; small = task; words_are = is }
 
 -- and so are words that begin a task, and those of a mode behind them
-pub IsSpelled-begun : (task : Task) (h : Header) (front behind words : List (List ℕ)) → IsBegun task h.ty h.shape front words → IsAskable h → mode_words h.mode ≡ front ++ behind → IsSpelled (command_of task h) (words ++ behind)
-IsSpelled-begun task h front behind words begun askable is =
+pub IsSpelled-begun : (task : Task) (h : Header) (prefix behind words : List (List ℕ)) → IsBegun task h.ty h.shape prefix words → IsAskable h → mode_words h.mode ≡ prefix ++ behind → IsSpelled (command_of task h) (words ++ behind)
+IsSpelled-begun task h prefix behind words begun askable is =
     IsSpelled-task task h (words ++ behind) begun.task_is askable
-    (ap (λ all. all ++ behind) begun.words_are ∙ (append_assoc (task_words task h.ty h.shape) front behind ∙ ap (λ mode. task_words task h.ty h.shape ++ mode) (sym is)))
+    (ap (λ all. all ++ behind) begun.words_are ∙ (append_assoc (task_words task h.ty h.shape) prefix behind ∙ ap (λ mode. task_words task h.ty h.shape ++ mode) (sym is)))
 
 -- an array of this name, type and shape can be made with one bit a block
 one_letter : IsName (97 ∷ [])
@@ -82,23 +82,23 @@ IsSpelled-script scripts.Look name lines words named in_range is = record { name
 pub BeginsCommand-reached : (words : List (List ℕ)) (stage : Stage) → LeadsTo words stage → BeginsCommand words
 BeginsCommand-reached words stages.Start is =
     let h = header_with I32 (1 ∷ []) Reversible in
-    (Compress h, compress_words h, (askable_reversible I32 (1 ∷ []) one_value, ap (λ front. front ++ compress_words h) is))
+    (Compress h, compress_words h, (askable_reversible I32 (1 ∷ []) one_value, ap (λ prefix. prefix ++ compress_words h) is))
 BeginsCommand-reached words stages.Compressing is =
-    (Compress (header_with I32 (1 ∷ []) Reversible), codes "int32" ∷ shape_word (1 ∷ []) ∷ codes "reversible" ∷ [], (askable_reversible I32 (1 ∷ []) one_value, ap (λ front. front ++ codes "int32" ∷ shape_word (1 ∷ []) ∷ codes "reversible" ∷ []) is))
+    (Compress (header_with I32 (1 ∷ []) Reversible), codes "int32" ∷ shape_word (1 ∷ []) ∷ codes "reversible" ∷ [], (askable_reversible I32 (1 ∷ []) one_value, ap (λ prefix. prefix ++ codes "int32" ∷ shape_word (1 ∷ []) ∷ codes "reversible" ∷ []) is))
 BeginsCommand-reached words (stages.Typed ty) is =
-    (Compress (header_with ty (1 ∷ []) Reversible), shape_word (1 ∷ []) ∷ codes "reversible" ∷ [], (askable_reversible ty (1 ∷ []) one_value, ap (λ front. front ++ shape_word (1 ∷ []) ∷ codes "reversible" ∷ []) is))
+    (Compress (header_with ty (1 ∷ []) Reversible), shape_word (1 ∷ []) ∷ codes "reversible" ∷ [], (askable_reversible ty (1 ∷ []) one_value, ap (λ prefix. prefix ++ shape_word (1 ∷ []) ∷ codes "reversible" ∷ []) is))
 BeginsCommand-reached words (stages.TypedNarrow n) is =
     let rest = shape_word (1 ∷ []) ∷ codes "reversible" ∷ [] in
-    (CompressNarrow n (header_with I32 (1 ∷ []) Reversible), rest, record { asked = askable_reversible I32 (1 ∷ []) one_value; typed = refl; words_are = ap (λ front. front ++ rest) is })
+    (CompressNarrow n (header_with I32 (1 ∷ []) Reversible), rest, record { asked = askable_reversible I32 (1 ∷ []) one_value; typed = refl; words_are = ap (λ prefix. prefix ++ rest) is })
 BeginsCommand-reached words stages.Sampling is =
     let rest = codes "int32" ∷ shape_word (1 ∷ []) ∷ decimal 0 ∷ codes "reversible" ∷ [] in
-    (Sample (header_with I32 (1 ∷ []) Reversible) 0, rest, sampled I32 (1 ∷ []) (words ++ rest) one_value (ap (λ front. front ++ rest) is))
+    (Sample (header_with I32 (1 ∷ []) Reversible) 0, rest, sampled I32 (1 ∷ []) (words ++ rest) one_value (ap (λ prefix. prefix ++ rest) is))
 BeginsCommand-reached words (stages.SampleTyped ty) is =
     let rest = shape_word (1 ∷ []) ∷ decimal 0 ∷ codes "reversible" ∷ [] in
-    (Sample (header_with ty (1 ∷ []) Reversible) 0, rest, sampled ty (1 ∷ []) (words ++ rest) one_value (ap (λ front. front ++ rest) is))
+    (Sample (header_with ty (1 ∷ []) Reversible) 0, rest, sampled ty (1 ∷ []) (words ++ rest) one_value (ap (λ prefix. prefix ++ rest) is))
 BeginsCommand-reached words (stages.SampleShaped ty ns) leads =
     let rest = decimal 0 ∷ codes "reversible" ∷ [] in
-    (Sample (header_with ty ns Reversible) 0, rest, sampled ty ns (words ++ rest) leads.0 (ap (λ front. front ++ rest) leads.1))
+    (Sample (header_with ty ns Reversible) 0, rest, sampled ty ns (words ++ rest) leads.0 (ap (λ prefix. prefix ++ rest) leads.1))
 BeginsCommand-reached words (stages.Shaped task ty ns) leads =
     let h = header_with ty ns Reversible in
     (command_of task h, codes "reversible" ∷ [], IsSpelled-begun task h [] (codes "reversible" ∷ []) words leads (askable_reversible ty ns leads.shape_is) refl)
@@ -110,29 +110,29 @@ BeginsCommand-reached words (stages.AtPrecision task ty ns) leads =
     (command_of task h, decimal 1 ∷ [], IsSpelled-begun task h (codes "precision" ∷ []) (decimal 1 ∷ []) words leads (askable_precision_one ty ns leads.shape_is) refl)
 BeginsCommand-reached words stages.Making is =
     let rest = (97 ∷ []) ∷ type_word I32 ∷ shape_word (1 ∷ []) ∷ decimal 1 ∷ [] in
-    (New (97 ∷ []) I32 (1 ∷ []) 1, rest, made_of_one_bit (97 ∷ []) I32 (1 ∷ []) (words ++ rest) one_letter one_value (ap (λ front. front ++ rest) is))
+    (New (97 ∷ []) I32 (1 ∷ []) 1, rest, made_of_one_bit (97 ∷ []) I32 (1 ∷ []) (words ++ rest) one_letter one_value (ap (λ prefix. prefix ++ rest) is))
 BeginsCommand-reached words (stages.Named name) leads =
     let rest = type_word I32 ∷ shape_word (1 ∷ []) ∷ decimal 1 ∷ [] in
-    (New name I32 (1 ∷ []) 1, rest, made_of_one_bit name I32 (1 ∷ []) (words ++ rest) leads.0 one_value (ap (λ front. front ++ rest) leads.1))
+    (New name I32 (1 ∷ []) 1, rest, made_of_one_bit name I32 (1 ∷ []) (words ++ rest) leads.0 one_value (ap (λ prefix. prefix ++ rest) leads.1))
 BeginsCommand-reached words (stages.NamedTyped name ty) leads =
     let rest = shape_word (1 ∷ []) ∷ decimal 1 ∷ [] in
-    (New name ty (1 ∷ []) 1, rest, made_of_one_bit name ty (1 ∷ []) (words ++ rest) leads.0 one_value (ap (λ front. front ++ rest) leads.1))
+    (New name ty (1 ∷ []) 1, rest, made_of_one_bit name ty (1 ∷ []) (words ++ rest) leads.0 one_value (ap (λ prefix. prefix ++ rest) leads.1))
 BeginsCommand-reached words (stages.NamedShaped name ty ns) leads =
     let rest = decimal 1 ∷ [] in
-    (New name ty ns 1, rest, made_of_one_bit name ty ns (words ++ rest) leads.0 leads.1 (ap (λ front. front ++ rest) leads.2))
+    (New name ty ns 1, rest, made_of_one_bit name ty ns (words ++ rest) leads.0 leads.1 (ap (λ prefix. prefix ++ rest) leads.2))
 BeginsCommand-reached words (stages.Scripting script) is =
     let rest = (97 ∷ []) ∷ [] in
-    (script_command script (97 ∷ []) None, rest, IsSpelled-script script (97 ∷ []) None (words ++ rest) one_letter tt (ap (λ front. front ++ rest) is))
+    (script_command script (97 ∷ []) None, rest, IsSpelled-script script (97 ∷ []) None (words ++ rest) one_letter tt (ap (λ prefix. prefix ++ rest) is))
 BeginsCommand-reached words (stages.AtLines script name) leads =
     let rest = decimal 1 ∷ [] in
-    (script_command script name (Some 1), rest, IsSpelled-script script name (Some 1) (words ++ rest) leads.0 (lit≤ tt, lit≤ tt) (ap (λ front. front ++ rest) leads.1))
+    (script_command script name (Some 1), rest, IsSpelled-script script name (Some 1) (words ++ rest) leads.0 (lit≤ tt, lit≤ tt) (ap (λ prefix. prefix ++ rest) leads.1))
 BeginsCommand-reached words (stages.AtTwoWay name) leads =
     let rest = decimal 1 ∷ [] in
-    (Run name (TwoWay 1), rest, record { named = leads.0; caching_is = (lit≤ tt, lit≤ tt); words_are = ap (λ front. front ++ rest) leads.1 })
+    (Run name (TwoWay 1), rest, record { named = leads.0; caching_is = (lit≤ tt, lit≤ tt); words_are = ap (λ prefix. prefix ++ rest) leads.1 })
 BeginsCommand-reached words stages.Bounding is =
     let rest = (97 ∷ []) ∷ decimal 0 ∷ [] in
-    (Bound (97 ∷ []) 0, rest, record { named = one_letter; small = lit< tt; words_are = ap (λ front. front ++ rest) is })
+    (Bound (97 ∷ []) 0, rest, record { named = one_letter; small = lit< tt; words_are = ap (λ prefix. prefix ++ rest) is })
 BeginsCommand-reached words (stages.AtMost name) leads =
     let rest = decimal 0 ∷ [] in
-    (Bound name 0, rest, record { named = leads.0; small = lit< tt; words_are = ap (λ front. front ++ rest) leads.1 })
+    (Bound name 0, rest, record { named = leads.0; small = lit< tt; words_are = ap (λ prefix. prefix ++ rest) leads.1 })
 BeginsCommand-reached words (stages.Whole c) spelled = (c, [], subst (IsSpelled c) (sym (append-nil words)) spelled)

@@ -8,8 +8,8 @@ use Rattle.zf_dev.specs.declared.faults.Failed.{Failed}
 use Rattle.zf_dev.specs.declared.faults.LoadError.{LoadError}
 use Rattle.zf_dev.specs.declared.faults.LoadError.TheVariants as loading
 use Rattle.zf_dev.specs.Shelf.{Files}
-use Rattle.zf_dev.specs.Sink.{Appends, AppendsFront}
-use Rattle.zf_dev.proofs.Appending.{Appends-append, AppendsFront-all}
+use Rattle.zf_dev.specs.Sink.{Appends, AppendsPrefix}
+use Rattle.zf_dev.proofs.Appending.{Appends-append, AppendsPrefix-all}
 use Rattle.zf_parse.specs.Raw.{stream_text}
 use Rattle.zf_parse.specs.Parsing.{Said, restored_text}
 use Rattle.zf_narrow.specs.declared.narrow.Narrow.{Narrow}
@@ -26,7 +26,7 @@ use Rattle.zfpi.specs.Opened.{array_in, stream_in, opened}
 use Rattle.zfpi.specs.Scripts.{Answering, look_replies, lines_status, script_status}
 use Rattle.zfpi.specs.Certified.{certified_status}
 use Rattle.zfpi.specs.World.{Seen, seen, counts}
-use Rattle.zfpi.specs.Answer.{uses, MayWrite, HasWants, IsExtent, IsRaw, IsPossible, text_for, draft_for, saved_for, status_for}
+use Rattle.zfpi.specs.Answer.{uses, MayWrite, HasStarved, IsExtent, IsRaw, IsPossible, text_for, draft_for, saved_for, status_for}
 use Rattle.zfpi.specs.Loaded.{SavesOrFails}
 use Rattle.zfpi.specs.Sending.{IsDone, EndsSent, HandsOn}
 use Rattle.zfpi.specs.Headline.{IsWorkDone, IsSent, Writes, Saves, Behaves, HasCauses, IsCausedOnShelf, IsIdle, Sends}
@@ -38,29 +38,29 @@ use Rattle.zfpi.proofs.Promises.{IsRefusal, opened_first_array, opened_first_str
 pub Appends-stays : (before mid now : Option (List ℕ)) (text : List ℕ) → Appends before mid text → Appends mid now [] → Appends before now text
 Appends-stays before mid now text written stays = subst (Appends before now) (append-nil text) (Appends-append before mid now text [] written stays)
 
-front_stays : (before mid now : Option (List ℕ)) (text : List ℕ) → AppendsFront before mid text → Appends mid now [] → AppendsFront before now text
-front_stays before mid now text front stays = (front.0, front.1, Appends-stays before mid now (take front.0 text) front.2 stays)
+prefix_stays : (before mid now : Option (List ℕ)) (text : List ℕ) → AppendsPrefix before mid text → Appends mid now [] → AppendsPrefix before now text
+prefix_stays before mid now text prefix stays = (prefix.0, prefix.1, Appends-stays before mid now (take prefix.0 text) prefix.2 stays)
 
 Writes-stays : (status : Status) (text draft : List ℕ) (before mid now : Option (List ℕ)) → Appends mid now [] → Writes status text draft before mid → Writes status text draft before now
 Writes-stays Done text draft before mid now stays written = Appends-stays before mid now text written stays
 Writes-stays (Lines n) text draft before mid now stays written = Appends-stays before mid now text written stays
 Writes-stays SaveFault text draft before mid now stays written = Appends-stays before mid now text written stays
-Writes-stays status text draft before mid now stays written = front_stays before mid now draft written stays
+Writes-stays status text draft before mid now stays written = prefix_stays before mid now draft written stays
 
 pub Behaves-stays : (c : Command) (status : Status) (before : Seen) (src mid now : Option (List ℕ)) (shelf : Option Files) → Appends mid now [] → Behaves c status before (seen src mid shelf) → Behaves c status before (seen src now shelf)
 Behaves-stays c status before src mid now shelf stays b = record {
   ends = b.ends;
   world = b.world;
-  told = b.told;
-  wants = b.wants;
-  wanted = b.wanted;
+  exposed = b.exposed;
+  starved = b.starved;
+  starved_are = b.starved_are;
   stated = b.stated;
   taken = b.taken;
   takes = b.takes;
   extent = b.extent;
   raw = b.raw;
   raw_is = b.raw_is;
-  written = Writes-stays status (text_for c b.world b.wants b.raw) (draft_for c status b.world b.wants b.raw) before.out mid now stays b.written;
+  written = Writes-stays status (text_for c b.world b.starved b.raw) (draft_for c status b.world b.starved b.raw) before.out mid now stays b.written;
   saved = b.saved;
 }
 
@@ -84,59 +84,59 @@ short_done : (is_long : Bool) (n m : ℕ) (status : Status) → ltb 16777216 m �
 short_done true n m status long done same = absurd (subst IsDone same done)
 short_done false n m status long done same = ltb-false 16777216 m long
 
-script_done : (replies : Answering) (file : Result Said Status) (wants script : List ℕ) (status : Status) → IsRefusal ComesFirst file → IsDone status → status ≡ script_status replies file wants script → IsOk file × (length script ≤ 16777216)
+script_done : (replies : Answering) (file : Result Said Status) (starved script : List ℕ) (status : Status) → IsRefusal ComesFirst file → IsDone status → status ≡ script_status replies file starved script → IsOk file × (length script ≤ 16777216)
 unfolding IsRefusal
-script_done replies (Ok said) wants script status refusal done same = (refl, short_done (ltb 16777216 (length script)) _ (length script) status refl done same)
-script_done replies (Err e) wants script status refusal done same = absurd (first_undone e refusal (subst IsDone same done))
+script_done replies (Ok said) starved script status refusal done same = (refl, short_done (ltb 16777216 (length script)) _ (length script) status refl done same)
+script_done replies (Err e) starved script status refusal done same = absurd (first_undone e refusal (subst IsDone same done))
 
 -- a write fault in the place of a status, with all that was written
-instead : (c : Command) (status : Status) (before now : Seen) (b : Behaves c status before now) → MayWrite c b.world → HasWants c WriteFault b.world b.wants → IsExtent c WriteFault b.world.input b.taken → IsRaw c WriteFault before.src b.taken b.raw
-    → Appends before.out now.out (draft_for c WriteFault b.world b.wants b.raw) → Saves (saved_for c b.world b.wants) WriteFault before.shelf now.shelf → Behaves c WriteFault before now
-instead c status before now b may wanted extent raw_is written saved = record {
+instead : (c : Command) (status : Status) (before now : Seen) (b : Behaves c status before now) → MayWrite c b.world → HasStarved c WriteFault b.world b.starved → IsExtent c WriteFault b.world.input b.taken → IsRaw c WriteFault before.src b.taken b.raw
+    → Appends before.out now.out (draft_for c WriteFault b.world b.starved b.raw) → Saves (saved_for c b.world b.starved) WriteFault before.shelf now.shelf → Behaves c WriteFault before now
+instead c status before now b may starved_are extent raw_is written saved = record {
   ends = tt;
   world = b.world;
-  told = b.told;
-  wants = b.wants;
-  wanted = wanted;
+  exposed = b.exposed;
+  starved = b.starved;
+  starved_are = starved_are;
   stated = inr may;
   taken = b.taken;
   takes = b.takes;
   extent = extent;
   raw = b.raw;
   raw_is = raw_is;
-  written = AppendsFront-all before.out now.out (draft_for c WriteFault b.world b.wants b.raw) written;
+  written = AppendsPrefix-all before.out now.out (draft_for c WriteFault b.world b.starved b.raw) written;
   saved = saved;
 }
 
 -- all bytes of narrow values are all but three at most
 nearly : (n : Narrow) (src : Option (List ℕ)) (bytes raw : List ℕ) → ArePromoted n src bytes raw → ArePromotedNearly n src bytes raw
 nearly n None bytes raw are = tt
-nearly n (Some told) bytes raw are = (sym (take-length raw) ∙ ap (take (length raw)) are, omega (arith, ap length are))
+nearly n (Some exposed) bytes raw are = (sym (take-length raw) ∙ ap (take (length raw)) are, omega (arith, ap length are))
 
 -- the status was stated, since no work that was done comes from outside
-stated_done : (c : Command) (status : Status) (before now : Seen) → IsDone status → (b : Behaves c status before now) → status ≡ status_for c b.world b.wants
+stated_done : (c : Command) (status : Status) (before now : Seen) → IsDone status → (b : Behaves c status before now) → status ≡ status_for c b.world b.starved
 stated_done c Done before now done b = elim b.stated [ inl same ↦ same | inr may ↦ absurd may ]
 stated_done c (Lines n) before now done b = elim b.stated [ inl same ↦ same | inr may ↦ absurd may ]
 stated_done c status before now done b = absurd done
 
 unsent : (c : Command) (status : Status) (before now : Seen) → SavesNothing c → IsDone status → Behaves c status before now → Behaves c WriteFault before now
-unsent (Compress h) Done before now unsaved done b = instead (Compress h) Done before now b tt b.wanted tt b.raw_is (subst (λ bytes. Appends before.out now.out (stream_text h bytes)) (sym (b.raw_is ∙ b.extent)) b.written) b.saved
-unsent (CompressNarrow n h) Done before now unsaved done b = instead (CompressNarrow n h) Done before now b tt b.wanted tt (nearly n before.src b.taken b.raw b.raw_is) b.written b.saved
-unsent Restore Done before now unsaved done b = instead Restore Done before now b tt b.wanted tt b.raw_is (subst (λ bytes. Appends before.out now.out (restored_text bytes)) (sym (b.raw_is ∙ b.extent)) b.written) b.saved
-unsent (RestoreNarrow n) Done before now unsaved done b = instead (RestoreNarrow n) Done before now b tt b.wanted tt b.raw_is (subst (λ bytes. Appends before.out now.out (narrow_restored n bytes)) (sym (b.raw_is ∙ b.extent)) b.written) b.saved
-unsent Info Done before now unsaved done b = instead Info Done before now b tt b.wanted b.extent b.raw_is (subst (λ bytes. Appends before.out now.out (info_text bytes)) (sym (b.raw_is ∙ b.extent)) b.written) b.saved
+unsent (Compress h) Done before now unsaved done b = instead (Compress h) Done before now b tt b.starved_are tt b.raw_is (subst (λ bytes. Appends before.out now.out (stream_text h bytes)) (sym (b.raw_is ∙ b.extent)) b.written) b.saved
+unsent (CompressNarrow n h) Done before now unsaved done b = instead (CompressNarrow n h) Done before now b tt b.starved_are tt (nearly n before.src b.taken b.raw b.raw_is) b.written b.saved
+unsent Restore Done before now unsaved done b = instead Restore Done before now b tt b.starved_are tt b.raw_is (subst (λ bytes. Appends before.out now.out (restored_text bytes)) (sym (b.raw_is ∙ b.extent)) b.written) b.saved
+unsent (RestoreNarrow n) Done before now unsaved done b = instead (RestoreNarrow n) Done before now b tt b.starved_are tt b.raw_is (subst (λ bytes. Appends before.out now.out (narrow_restored n bytes)) (sym (b.raw_is ∙ b.extent)) b.written) b.saved
+unsent Info Done before now unsaved done b = instead Info Done before now b tt b.starved_are b.extent b.raw_is (subst (λ bytes. Appends before.out now.out (info_text bytes)) (sym (b.raw_is ∙ b.extent)) b.written) b.saved
 unsent (Look name lines) Done before now unsaved done b =
     let file = opened stream_in (b.world.files name) in
-    let may = script_done (look_replies lines) file b.wants b.world.input Done (opened_first_stream (b.world.files name)) tt (stated_done (Look name lines) Done before now tt b) in
+    let may = script_done (look_replies lines) file b.starved b.world.input Done (opened_first_stream (b.world.files name)) tt (stated_done (Look name lines) Done before now tt b) in
     instead (Look name lines) Done before now b may tt b.extent b.raw_is b.written b.saved
 unsent (Look name lines) (Lines n) before now unsaved done b =
     let file = opened stream_in (b.world.files name) in
-    let may = script_done (look_replies lines) file b.wants b.world.input (Lines n) (opened_first_stream (b.world.files name)) tt (stated_done (Look name lines) (Lines n) before now tt b) in
+    let may = script_done (look_replies lines) file b.starved b.world.input (Lines n) (opened_first_stream (b.world.files name)) tt (stated_done (Look name lines) (Lines n) before now tt b) in
     instead (Look name lines) (Lines n) before now b may tt b.extent b.raw_is b.written b.saved
 unsent (Bound name most) Done before now unsaved done b =
     let may = certified_done (opened array_in (b.world.files name)) Done (opened_first_array (b.world.files name)) tt (stated_done (Bound name most) Done before now tt b) in
-    instead (Bound name most) Done before now b may b.wanted b.extent b.raw_is b.written b.saved
-unsent (Sample h seed) Done before now unsaved done b = instead (Sample h seed) Done before now b tt b.wanted b.extent b.raw_is b.written b.saved
+    instead (Bound name most) Done before now b may b.starved_are b.extent b.raw_is b.written b.saved
+unsent (Sample h seed) Done before now unsaved done b = instead (Sample h seed) Done before now b tt b.starved_are b.extent b.raw_is b.written b.saved
 unsent (New name ty ns bits) status before now unsaved done b = absurd unsaved
 unsent (Run name caching) status before now unsaved done b = absurd unsaved
 unsent (Compress h) (Lines n) before now unsaved done b = absurd (IsPossible-behaves (Compress h) (Lines n) before now b)
@@ -258,7 +258,7 @@ IsSent-later status first m n kept sent = λ why. sent (elim why [ inl work ↦ 
 
 pub Sends-stays : (text : List ℕ) (before mid now : Option (List ℕ)) (first m n : ℕ) → Sends text before mid first m → Appends mid now [] → m ≤ n → Sends text before now first n
 Sends-stays text before mid now first m n sends stays kept = record {
-  front = front_stays before mid now text sends.front stays;
+  prefix = prefix_stays before mid now text sends.prefix stays;
   whole = λ quiet. Appends-stays before mid now text (sends.whole (omega (arith, kept, quiet))) stays;
   kept = omega (arith, sends.kept, kept);
 }

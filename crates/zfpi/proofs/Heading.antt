@@ -2,25 +2,25 @@
 use Rattle.std.proofs.Common.{◌≡◌, ℕ, ◌≤◌, cond, List, [], length, take, Option, Some, None, is_none, ◌⊎◌, inl, inr, refl, ap, sym, subst, ◌∙◌}
 use Rattle.std.proofs.lemmas.List.{take_all}
 use Rattle.zf_dev.specs.Shelf.{Files}
-use Rattle.zf_dev.specs.Sink.{Appends, AppendsFront}
-use Rattle.zf_dev.proofs.Appending.{AppendsFront-none}
+use Rattle.zf_dev.specs.Sink.{Appends, AppendsPrefix}
+use Rattle.zf_dev.proofs.Appending.{AppendsPrefix-none}
 use Rattle.zf_spec.specs.Stream.{to_bits}
 use Rattle.zf_header.specs.declared.header.Header.{Header}
 use Rattle.zf_header.specs.HeaderFields.{header_in}
 use Rattle.zf_header.specs.HeaderFaults.{header_fault}
 use Rattle.zf_parse.specs.declared.fault.StreamFault.{StreamFault}
 use Rattle.zf_parse.specs.declared.fault.StreamFault.TheVariants as faults
-use Rattle.zf_stream.specs.Outcomes.{IsFront, TakesFirst}
+use Rattle.zf_stream.specs.Outcomes.{IsPrefix, TakesFirst}
 use Rattle.zf_stream.specs.Headed.{ReadsHeader, LacksHeader}
 use Rattle.zfpi.specs.declared.status.Status.{Status}
 use Rattle.zfpi.specs.declared.status.Status.TheVariants as statuses
 use Rattle.zfpi.specs.declared.command.Command.TheVariants.{Info}
 use Rattle.zfpi.specs.Faults.{fault_status}
 use Rattle.zfpi.specs.Info.{info_line, info_text}
-use Rattle.zfpi.specs.World.{World, TellsInput, seen}
+use Rattle.zfpi.specs.World.{World, ExposesInput, seen}
 use Rattle.zfpi.specs.Answer.{header_status, MayFail, TakesHeader, cut_draft}
 use Rattle.zfpi.specs.Headline.{IsOfCommand, Writes, Behaves}
-use Rattle.zfpi.proofs.Told.{some_input, world_of, TellsFiles-same, KeepsFiles-none}
+use Rattle.zfpi.proofs.Exposed.{some_input, world_of, ExposesFiles-same, KeepsFiles-none}
 
 -- the line of a header that was read is the text of the bytes that were read
 pub info_text-read : (bytes : List ℕ) (h : Header) → header_fault bytes ≡ None → h ≡ header_in (to_bits bytes) → info_text bytes ≡ info_line h
@@ -29,12 +29,12 @@ info_text-read bytes h none is = ap (λ fault. cond (is_none fault) (info_line (
 -- an input that begins with the bytes that were read
 record Begins (known : Option (List ℕ)) (bytes : List ℕ) : Type 0 where
   input : List ℕ
-  told : TellsInput known input
+  exposed : ExposesInput known input
   first : bytes ≡ take 19 input
 
-begins : (known : Option (List ℕ)) (bytes : List ℕ) → IsFront 19 known bytes → length bytes ≤ 19 → Begins known bytes
-begins None bytes is within = record { input = bytes; told = tt; first = sym (take_all 19 bytes within) }
-begins (Some all) bytes is within = record { input = all; told = refl; first = is }
+begins : (known : Option (List ℕ)) (bytes : List ℕ) → IsPrefix 19 known bytes → length bytes ≤ 19 → Begins known bytes
+begins None bytes is within = record { input = bytes; exposed = tt; first = sym (take_all 19 bytes within) }
+begins (Some all) bytes is within = record { input = all; exposed = refl; first = is }
 
 -- the first bytes were read: the status is that of their header, or the line was not written
 Behaves-first : (status : Status) (bytes : List ℕ) (src_before src_now out_before out_now : Option (List ℕ)) (shelf : Option Files) → IsOfCommand status → TakesFirst 19 src_before src_now bytes
@@ -46,11 +46,11 @@ Behaves-first status bytes src_before src_now out_before out_now shelf ends firs
     record {
       ends = ends;
       world = w;
-      told = record { input = b.told; files = TellsFiles-same shelf };
-      wants = [];
-      wanted = refl;
+      exposed = record { input = b.exposed; files = ExposesFiles-same shelf };
+      starved = [];
+      starved_are = refl;
       stated = elim stated [
-        | inl same ↦ inl (same ∙ ap (λ front. header_status (header_fault front)) b.first)
+        | inl same ↦ inl (same ∙ ap (λ prefix. header_status (header_fault prefix)) b.first)
         | inr may ↦ inr (may w)
       ];
       taken = bytes;
@@ -58,7 +58,7 @@ Behaves-first status bytes src_before src_now out_before out_now shelf ends firs
       extent = extent b.input b.first;
       raw = bytes;
       raw_is = refl;
-      written = subst (λ front. Writes status (info_text front) (cut_draft status (info_text bytes)) out_before out_now) b.first written;
+      written = subst (λ prefix. Writes status (info_text prefix) (cut_draft status (info_text bytes)) out_before out_now) b.first written;
       saved = KeepsFiles-none shelf;
     }
 
@@ -70,33 +70,33 @@ Behaves-line h bits line src_before src_now out_before out_now shelf reads is wr
     Behaves-first statuses.Done reads.bytes src_before src_now out_before out_now shelf tt reads.first (inl (ap header_status (sym reads.begun.good))) (λ input first. first)
     (subst (Appends out_before out_now) text written)
 
--- a front of the line was
-pub Behaves-cut_line : (h : Header) (bits : ℕ) (line : List ℕ) (src_before src_now out_before out_now : Option (List ℕ)) (shelf : Option Files) → ReadsHeader src_before src_now h bits → line ≡ info_line h → AppendsFront out_before out_now line
+-- a prefix of the line was
+pub Behaves-cut_line : (h : Header) (bits : ℕ) (line : List ℕ) (src_before src_now out_before out_now : Option (List ℕ)) (shelf : Option Files) → ReadsHeader src_before src_now h bits → line ≡ info_line h → AppendsPrefix out_before out_now line
     → Behaves Info statuses.WriteFault (seen src_before out_before shelf) (seen src_now out_now shelf)
 Behaves-cut_line h bits line src_before src_now out_before out_now shelf reads is written =
     let text = is ∙ sym (info_text-read reads.bytes h reads.begun.good reads.begun.header) in
     Behaves-first statuses.WriteFault reads.bytes src_before src_now out_before out_now shelf tt reads.first (inr (λ w. tt)) (λ input first. first)
-    (subst (AppendsFront out_before out_now) text written)
+    (subst (AppendsPrefix out_before out_now) text written)
 
 -- there was no header
 pub Behaves-lacks : (e : StreamFault) (src_before src_now out : Option (List ℕ)) (shelf : Option Files) → LacksHeader src_before src_now e → Behaves Info (fault_status e) (seen src_before out shelf) (seen src_now out shelf)
 Behaves-lacks (faults.Header f) src_before src_now out shelf lacks =
-    Behaves-first (statuses.Header f) lacks.0 src_before src_now out out shelf tt lacks.1 (inl (ap header_status (sym lacks.2))) (λ input first. first) (AppendsFront-none out [])
+    Behaves-first (statuses.Header f) lacks.0 src_before src_now out out shelf tt lacks.1 (inl (ap header_status (sym lacks.2))) (λ input first. first) (AppendsPrefix-none out [])
 Behaves-lacks faults.Read src_before src_now out shelf lacks =
     let some = some_input src_before in
     record {
       ends = tt;
       world = world_of some.0 shelf;
-      told = record { input = some.1; files = TellsFiles-same shelf };
-      wants = [];
-      wanted = refl;
+      exposed = record { input = some.1; files = ExposesFiles-same shelf };
+      starved = [];
+      starved_are = refl;
       stated = inr tt;
       taken = lacks.0;
       takes = lacks.2;
       extent = lacks.1;
       raw = lacks.0;
       raw_is = refl;
-      written = AppendsFront-none out [];
+      written = AppendsPrefix-none out [];
       saved = KeepsFiles-none shelf;
     }
 Behaves-lacks (faults.RawShort m) src_before src_now out shelf lacks = absurd lacks

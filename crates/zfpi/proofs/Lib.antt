@@ -2,7 +2,7 @@ mod Decimals
 mod ShapeWords
 mod Completed
 mod Commands
-mod Told
+mod Exposed
 mod Streaming
 mod Heading
 mod Causes

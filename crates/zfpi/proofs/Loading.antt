@@ -6,7 +6,7 @@ use Rattle.std.proofs.lemmas.List.{length-replicate}
 use Rattle.zf_dev.specs.Shelf.{Files, HasFile, HasLongFile, ExplainsLoad, KeepsFiles}
 use Rattle.zf_dev.specs.declared.faults.LoadError.{LoadError}
 use Rattle.zf_dev.specs.declared.faults.LoadError.TheVariants as loading
-use Rattle.zf_dev.proofs.Appending.{AppendsFront-none}
+use Rattle.zf_dev.proofs.Appending.{AppendsPrefix-none}
 use Rattle.zf_parse.specs.declared.fault.StreamFault.{StreamFault}
 use Rattle.zf_parse.specs.declared.fault.StreamFault.TheVariants as faults
 use Rattle.zf_parse.specs.Parsing.{Said}
@@ -18,10 +18,10 @@ use Rattle.zfpi.specs.declared.command.Command.{Command}
 use Rattle.zfpi.specs.Faults.{fault_status, load_status, index_status}
 use Rattle.zfpi.specs.Opened.{opened}
 use Rattle.zfpi.specs.Loaded.{HoldsFile}
-use Rattle.zfpi.specs.World.{World, TellsInput, TellsFiles, seen}
-use Rattle.zfpi.specs.Answer.{OnWholeScript, TakesScript, FileEnds, status_for, text_for, draft_for, saved_for, cut_draft, IsRaw, HasWants, IsExtent, TakesMemory, MayLoad, MayFail}
+use Rattle.zfpi.specs.World.{World, ExposesInput, ExposesFiles, seen}
+use Rattle.zfpi.specs.Answer.{OnWholeScript, TakesScript, FileEnds, status_for, text_for, draft_for, saved_for, cut_draft, IsRaw, HasStarved, IsExtent, TakesMemory, MayLoad, MayFail}
 use Rattle.zfpi.specs.Headline.{IsOfCommand, Writes, Saves, Behaves}
-use Rattle.zfpi.proofs.Told.{files_of, files_of-none, TellsFiles-same, some_input, Takes-none}
+use Rattle.zfpi.proofs.Exposed.{files_of, files_of-none, ExposesFiles-same, some_input, Takes-none}
 
 -- ---- statuses that come before anything is read or written
 
@@ -64,7 +64,7 @@ TakesScript-first input = by_first (λ s. TakesScript s input []) refl refl refl
 -- nothing was written
 Writes-first : (text : List ℕ) (out : Option (List ℕ)) (status : Status) → ComesFirst status → Writes status text (cut_draft status text) out out
 Writes-first text out =
-    let none = AppendsFront-none out [] in
+    let none = AppendsPrefix-none out [] in
     by_first (λ s. Writes s text (cut_draft s text) out out) none none none (λ f. none) (λ b. none) none none none (λ m. none)
 
 -- after these statuses all files are as they were
@@ -86,7 +86,7 @@ Unsaved-first = by_first Unsaved tt tt tt (λ f. tt) (λ b. tt) tt tt tt (λ m. 
 
 -- ---- shelves
 
--- the files that are told, or else these bytes under each name
+-- the files that are exposed, or else these bytes under each name
 pub files_with : Option Files → List ℕ → Files
 files_with None bytes name = Some bytes
 files_with (Some files) bytes name = files name
@@ -95,10 +95,10 @@ files_with (Some files) bytes name = files name
 abbrev pub world_with : Option Files → List ℕ → List ℕ → World
 world_with known bytes input = record { input = input; files = files_with known bytes }
 
-pub TellsFiles-with : (known : Option Files) (bytes : List ℕ) → TellsFiles known (files_with known bytes)
+pub ExposesFiles-with : (known : Option Files) (bytes : List ℕ) → ExposesFiles known (files_with known bytes)
 unfolding files_with
-TellsFiles-with None bytes = tt
-TellsFiles-with (Some files) bytes = λ name. refl
+ExposesFiles-with None bytes = tt
+ExposesFiles-with (Some files) bytes = λ name. refl
 
 found_with : (known : Option Files) (name bytes : List ℕ) → HasFile known name bytes → files_with known bytes name ≡ Some bytes
 unfolding files_with
@@ -126,7 +126,7 @@ module _ (reading : List ℕ → Result Said Status) where
 -- a command that loads the file of this name, and does no more where it is not opened
 pub record IsLoading (c : Command) (name : List ℕ) (reading : List ℕ → Result Said Status) : Type 0 where
   pub refuses : (w : World) (status : Status) → opened reading (w.files name) ≡ Err status → status ≡ status_for c w []
-  pub wanted : (w : World) (status : Status) → ComesFirst status → HasWants c status w []
+  pub starved_are : (w : World) (status : Status) → ComesFirst status → HasStarved c status w []
   pub extent : (input : List ℕ) (status : Status) → ComesFirst status → IsExtent c status input []
   pub plain : (status : Status) (src : Option (List ℕ)) (taken : List ℕ) → IsRaw c status src taken taken
   pub draft : (w : World) (status : Status) (taken : List ℕ) → draft_for c status w [] taken ≡ cut_draft status (text_for c w [] taken)
@@ -135,17 +135,17 @@ pub record IsLoading (c : Command) (name : List ℕ) (reading : List ℕ → Res
 
 module _ (c : Command) (name : List ℕ) (reading : List ℕ → Result Said Status) (is : IsLoading c name reading) where
   -- nothing was done but a load: this status with the files of this world
-  idle : (status : Status) (src out : Option (List ℕ)) (before now : Option Files) (input : List ℕ) (files : Files) → ComesFirst status → TellsInput src input → TellsFiles before files
+  idle : (status : Status) (src out : Option (List ℕ)) (before now : Option Files) (input : List ℕ) (files : Files) → ComesFirst status → ExposesInput src input → ExposesFiles before files
       → (status ≡ status_for c (record { input = input; files = files }) []) ⊎ MayFail status c (record { input = input; files = files }) []
       → KeepsFiles before now → Behaves c status (seen src out before) (seen src out now)
-  idle status src out before now input files first told_input told_files stated kept =
+  idle status src out before now input files first exposed_input exposed_files stated kept =
       let w : World = record { input = input; files = files } in
       record {
         ends = IsOfCommand-first status first;
         world = w;
-        told = record { input = told_input; files = told_files };
-        wants = [];
-        wanted = is.wanted w status first;
+        exposed = record { input = exposed_input; files = exposed_files };
+        starved = [];
+        starved_are = is.starved_are w status first;
         stated = stated;
         taken = [];
         takes = Takes-none src;
@@ -160,27 +160,27 @@ module _ (c : Command) (name : List ℕ) (reading : List ℕ → Result Said Sta
   pub Behaves-starved : (src out : Option (List ℕ)) (known now : Option Files) → KeepsFiles known now → Behaves c statuses.Memory (seen src out known) (seen src out now)
   Behaves-starved src out known now kept =
       let some = some_input src in
-      idle statuses.Memory src out known now some.0 (files_of known) tt some.1 (TellsFiles-same known) (inr (is.starves (record { input = some.0; files = files_of known }))) kept
+      idle statuses.Memory src out known now some.0 (files_of known) tt some.1 (ExposesFiles-same known) (inr (is.starves (record { input = some.0; files = files_of known }))) kept
 
   -- the file was not loaded
   pub Behaves-unloaded : (e : LoadError) (src out : Option (List ℕ)) (before now : Option Files) → ExplainsLoad before name 1200000000 e → KeepsFiles before now → Behaves c (load_status e) (seen src out before) (seen src out now)
   Behaves-unloaded loading.Missing src out before now lacks kept =
       let some = some_input src in
       let w : World = record { input = some.0; files = files_of before } in
-      idle statuses.Missing src out before now some.0 (files_of before) tt some.1 (TellsFiles-same before) (inl (is.refuses w statuses.Missing (ap (opened reading) (files_of-none before name lacks)))) kept
+      idle statuses.Missing src out before now some.0 (files_of before) tt some.1 (ExposesFiles-same before) (inl (is.refuses w statuses.Missing (ap (opened reading) (files_of-none before name lacks)))) kept
   Behaves-unloaded loading.Long src out before now long kept =
       let some = some_input src in
       let found = long_in before long in
       let w : World = record { input = some.0; files = found.0 } in
       idle statuses.FileLong src out before now some.0 found.0 tt some.1 found.1 (inl (is.refuses w statuses.FileLong found.2)) kept
     where
-      long_in : (known : Option Files) → HasLongFile known name 1200000000 → (files : Files) × TellsFiles known files × (opened reading (files name) ≡ Err statuses.FileLong)
+      long_in : (known : Option Files) → HasLongFile known name 1200000000 → (files : Files) × ExposesFiles known files × (opened reading (files name) ≡ Err statuses.FileLong)
       long_in None long = let l = long_list 1200000000 in ((λ other. Some l.0), tt, opened-long reading (Some l.0) l.0 refl l.1)
       long_in (Some files) long = (files, (λ other. refl), opened-long reading (files name) long.0 long.1 long.2)
   Behaves-unloaded loading.Failed src out before now any kept =
       let some = some_input src in
       let w : World = record { input = some.0; files = files_of before } in
-      idle statuses.LoadFault src out before now some.0 (files_of before) tt some.1 (TellsFiles-same before) (inr (is.loads w)) kept
+      idle statuses.LoadFault src out before now some.0 (files_of before) tt some.1 (ExposesFiles-same before) (inr (is.loads w)) kept
   Behaves-unloaded loading.Memory src out before now any kept = Behaves-starved src out before now kept
 
   -- the file is not opened
@@ -189,7 +189,7 @@ module _ (c : Command) (name : List ℕ) (reading : List ℕ → Result Said Sta
   Behaves-refused status bytes src out known now first none holds kept =
       let some = some_input src in
       let w = world_with known bytes some.0 in
-      idle status src out known now some.0 (files_with known bytes) first some.1 (TellsFiles-with known bytes) (inl (is.refuses w status (opened-held reading known name bytes holds ∙ none))) kept
+      idle status src out known now some.0 (files_with known bytes) first some.1 (ExposesFiles-with known bytes) (inl (is.refuses w status (opened-held reading known name bytes holds ∙ none))) kept
 
   -- it is not opened for this fault, or there was no memory
   pub Behaves-unopened : (e : StreamFault) (bytes : List ℕ) (src out : Option (List ℕ)) (known now : Option Files) → ComesFirst (fault_status e) → (reading bytes ≡ Err (fault_status e)) ⊎ (e ≡ faults.Memory)

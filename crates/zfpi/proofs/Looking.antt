@@ -14,7 +14,7 @@ use Rattle.zf_index.specs.Files.{stream_fault}
 use Rattle.zf_cached.specs.Runs.{lines_of, run_lines, run_script, look, look_setting, replies_text}
 use Rattle.zf_const.specs.Standing.{Held, state, coding_of, open_stream}
 use Rattle.zf_const.specs.Files.{IsOpened, said}
-use Rattle.zf_commands.specs.Steps.{is_refusal, is_want}
+use Rattle.zf_commands.specs.Steps.{is_refusal, is_starved}
 use Rattle.zf_run.specs.Sessions.{look_setting_of, look_start_of, look_of}
 use Rattle.zf_run.specs.Ends.{FinishesLook, StopsLook}
 use Rattle.zfpi.specs.declared.status.Status.TheVariants as statuses
@@ -49,33 +49,33 @@ module _ (name : List ℕ) (lines : Option ℕ) where
       (elim why [ inl is ↦ inl (stream_in-said bytes (Err (stream_fault e)) is) | inr memory ↦ inr memory ]) holds kept
 
   -- the script was read, and looks at the stream
-  module _ (known now : Option Files) (w : Width) (a : Held) (holds : HoldsStream known name lines w a) (kept : KeepsFiles known now) (script wants : List ℕ) (most : length script ≤ 16777216)
+  module _ (known now : Option Files) (w : Width) (a : Held) (holds : HoldsStream known name lines w a) (kept : KeepsFiles known now) (script starved : List ℕ) (most : length script ≤ 16777216)
       (src rest : Option (List ℕ)) (takes : Takes src rest script) (end : IsAtEnd rest) where
     -- the look at the array is the look at its file
-    replies_are : (look_of w a wants script).1 ≡ look_replies lines (said a) wants script
+    replies_are : (look_of w a starved script).1 ≡ look_replies lines (said a) starved script
     unfolding look_replies
     replies_are =
         let h = a.header in
-        ap (λ s. (look (look_setting w (coding_of h)) wants h.shape s script).1) holds.state_is
-        ∙ ap (λ v. (look (look_setting v (coding_of h)) wants h.shape (open_stream h a.codes (lines_for lines h.shape)) script).1) holds.same_type
+        ap (λ s. (look (look_setting w (coding_of h)) starved h.shape s script).1) holds.state_is
+        ∙ ap (λ v. (look (look_setting v (coding_of h)) starved h.shape (open_stream h a.codes (lines_for lines h.shape)) script).1) holds.same_type
 
-    lines_are : (run_lines (look_setting_of w a.header) wants 0 (lines_of script) (look_start_of a)).1 ≡ look_replies lines (said a) wants script
+    lines_are : (run_lines (look_setting_of w a.header) starved 0 (lines_of script) (look_start_of a)).1 ≡ look_replies lines (said a) starved script
     unfolding look run_script
     lines_are = replies_are
 
     -- all lines were run
-    pub Behaves-look : (after : Held) (n : ℕ) (out out_now : Option (List ℕ)) → FinishesLook w a after script wants out out_now n → Behaves (Look name lines) (lines_status n) (seen src out known) (seen rest out_now now)
+    pub Behaves-look : (after : Held) (n : ℕ) (out out_now : Option (List ℕ)) → FinishesLook w a after script starved out out_now n → Behaves (Look name lines) (lines_status n) (seen src out known) (seen rest out_now now)
     Behaves-look after n out out_now ran =
-        Behaves-lines (Look name lines) name stream_in (look_replies lines) (IsScripted-look name lines) known now holds.bytes (said a) holds.file holds.stream kept script wants most src rest takes end
-        n out out_now now (ran.refused_is ∙ ap (count_by is_refusal) replies_are) (ap (count_by is_want) (sym replies_are) ∙ ran.wanted) (subst (Appends out out_now) (ap replies_text replies_are) ran.written) kept
+        Behaves-lines (Look name lines) name stream_in (look_replies lines) (IsScripted-look name lines) known now holds.bytes (said a) holds.file holds.stream kept script starved most src rest takes end
+        n out out_now now (ran.refused_is ∙ ap (count_by is_refusal) replies_are) (ap (count_by is_starved) (sym replies_are) ∙ ran.starved_are) (subst (Appends out out_now) (ap replies_text replies_are) ran.written) kept
 
     -- and some of them were refused
-    pub Behaves-some : (after : Held) (n : ℕ) (out out_now : Option (List ℕ)) → 1 ≤ n → FinishesLook w a after script wants out out_now n → Behaves (Look name lines) (statuses.Lines n) (seen src out known) (seen rest out_now now)
+    pub Behaves-some : (after : Held) (n : ℕ) (out out_now : Option (List ℕ)) → 1 ≤ n → FinishesLook w a after script starved out out_now n → Behaves (Look name lines) (statuses.Lines n) (seen src out known) (seen rest out_now now)
     Behaves-some after n out out_now some ran =
         subst (λ status. Behaves (Look name lines) status (seen src out known) (seen rest out_now now)) (lines_status-some n some) (Behaves-look after n out out_now ran)
 
     -- a reply was not written whole
-    pub Behaves-cut_look : (after : Held) (out out_now : Option (List ℕ)) → StopsLook w a after script wants out out_now → Behaves (Look name lines) statuses.WriteFault (seen src out known) (seen rest out_now now)
+    pub Behaves-cut_look : (after : Held) (out out_now : Option (List ℕ)) → StopsLook w a after script starved out out_now → Behaves (Look name lines) statuses.WriteFault (seen src out known) (seen rest out_now now)
     Behaves-cut_look after out out_now stops =
-        Behaves-cut_script (Look name lines) name stream_in (look_replies lines) (IsScripted-look name lines) known now holds.bytes (said a) holds.file holds.stream kept script wants most src rest takes end
+        Behaves-cut_script (Look name lines) name stream_in (look_replies lines) (IsScripted-look name lines) known now holds.bytes (said a) holds.file holds.stream kept script starved most src rest takes end
         (look_setting_of w a.header) (look_start_of a) lines_are stops.session out out_now stops.at_line

@@ -1,7 +1,7 @@
 -- What `new` does: nothing is read or written, and a file is saved.
 use Rattle.std.proofs.Common.{◌≡◌, ◌≢◌, ℕ, ◌≤◌, List, [], Option, Some, ◌⊎◌, inl, inr, refl, subst, arith}
 use Rattle.zf_dev.specs.Shelf.{Files, KeepsOthers, SavesFile}
-use Rattle.zf_dev.proofs.Appending.{Appends-none, AppendsFront-none}
+use Rattle.zf_dev.proofs.Appending.{Appends-none, AppendsPrefix-none}
 use Rattle.zf_base.specs.declared.lane.Ty.{Ty}
 use Rattle.zf_store.specs.Stored.{file_of, zeros}
 use Rattle.zfpi.specs.declared.status.Status.{Status}
@@ -10,7 +10,7 @@ use Rattle.zfpi.specs.declared.command.Command.TheVariants.{New}
 use Rattle.zfpi.specs.World.{World, seen, counts}
 use Rattle.zfpi.specs.Answer.{status_for, MayFail}
 use Rattle.zfpi.specs.Headline.{IsOfCommand, Writes, Saves, Behaves, HasCauses, IsCausedOnShelf}
-use Rattle.zfpi.proofs.Told.{world_of, TellsFiles-same, KeepsFiles-none, some_input, Takes-none}
+use Rattle.zfpi.proofs.Exposed.{world_of, ExposesFiles-same, KeepsFiles-none, some_input, Takes-none}
 
 module _ (name : List ℕ) (ty : Ty) (ns : List ℕ) (b : ℕ) where
   -- so it ended, with these files
@@ -24,9 +24,9 @@ module _ (name : List ℕ) (ty : Ty) (ns : List ℕ) (b : ℕ) where
       record {
         ends = ends;
         world = world_of some.0 before;
-        told = record { input = some.1; files = TellsFiles-same before };
-        wants = [];
-        wanted = refl;
+        exposed = record { input = some.1; files = ExposesFiles-same before };
+        starved = [];
+        starved_are = refl;
         stated = stated (world_of some.0 before);
         taken = [];
         takes = Takes-none src;
@@ -50,7 +50,7 @@ module _ (name : List ℕ) (ty : Ty) (ns : List ℕ) (b : ℕ) where
   pub Behaves-starved : (src out : Option (List ℕ)) (shelf : Option Files)
       → Behaves (New name ty ns b) statuses.Memory (seen src out shelf) (seen src out shelf)
   Behaves-starved src out shelf =
-      behaves_so statuses.Memory src out shelf shelf tt (λ w. inr tt) (AppendsFront-none out []) (KeepsFiles-none shelf)
+      behaves_so statuses.Memory src out shelf shelf tt (λ w. inr tt) (AppendsPrefix-none out []) (KeepsFiles-none shelf)
 
   -- nothing was read or written, so no fault of it comes
   pub HasCauses-made : (status : Status) (src out before now : ℕ) (Loading Saving : Type 0) → status ≢ statuses.ReadFault → status ≢ statuses.WriteFault → before ≤ now → IsCausedOnShelf status Loading Saving

@@ -28,7 +28,7 @@ use Rattle.zfpi.specs.declared.status.Status.TheVariants.{Done, Lines, Usage, No
 use Rattle.zfpi.specs.declared.command.Command.{Command}
 use Rattle.zfpi.specs.declared.command.Command.TheVariants.{Compress, CompressNarrow, Restore, RestoreNarrow, Info, New, Run, Look, Bound, Sample}
 use Rattle.zfpi.specs.Words.{IsSpelled}
-use Rattle.zfpi.specs.World.{World, Seen, Counts, TellsInput}
+use Rattle.zfpi.specs.World.{World, Seen, Counts, ExposesInput}
 use Rattle.zfpi.specs.Certified.{certified_status}
 use Rattle.zfpi.specs.Opened.{array_in, stream_in, opened, said_or_status, said_at_rate, array_behind}
 use Rattle.zfpi.specs.Scripts.{Answering, run_replies, look_replies, lines_status, script_status}
@@ -43,14 +43,14 @@ OfCommand-one words c spelled P this = λ d other. subst P (one_command words c 
 
 -- ---- what follows from the two records of a command
 
--- a status from outside that is no fault of a device is want of memory
-only_memory : (status : Status) (c : Command) (w : World) (wants : List ℕ) → MayFail status c w wants → (status ≢ ReadFault) × (status ≢ WriteFault) × (status ≢ LoadFault) × (status ≢ SaveFault) → (status ≡ Memory) × TakesMemory c w
-only_memory ReadFault c w wants may none = absurd (none.0 refl)
-only_memory WriteFault c w wants may none = absurd (none.1 refl)
-only_memory LoadFault c w wants may none = absurd (none.2 refl)
-only_memory SaveFault c w wants may none = absurd (none.3 refl)
-only_memory Memory c w wants may none = (refl, may)
-only_memory status c w wants may none = absurd (first_of (assumption may, cc))
+-- a status from outside that is no fault of a device is out of memory
+only_memory : (status : Status) (c : Command) (w : World) (starved : List ℕ) → MayFail status c w starved → (status ≢ ReadFault) × (status ≢ WriteFault) × (status ≢ LoadFault) × (status ≢ SaveFault) → (status ≡ Memory) × TakesMemory c w
+only_memory ReadFault c w starved may none = absurd (none.0 refl)
+only_memory WriteFault c w starved may none = absurd (none.1 refl)
+only_memory LoadFault c w starved may none = absurd (none.2 refl)
+only_memory SaveFault c w starved may none = absurd (none.3 refl)
+only_memory Memory c w starved may none = (refl, may)
+only_memory status c w starved may none = absurd (first_of (assumption may, cc))
 
 -- a fault of a load has a load that failed
 load_failed : (status : Status) (Loading Saving : Type 0) → status ≡ LoadFault → IsCausedOnShelf status Loading Saving → Loading
@@ -75,55 +75,55 @@ IsComplete-quiet c status before now old new Loading Saving Sure Still behaves c
     (HasCause-quiet old.src new.src causes.reading quiet.src, HasCause-quiet old.out new.out causes.writing quiet.out, λ failed. no_load (load_failed status Loading Saving failed causes.shelving), λ failed. no_save (save_failed status Loading Saving failed causes.shelving)) in
     record {
       world = behaves.world;
-      told = behaves.told;
-      wants = behaves.wants;
-      wanted = behaves.wanted;
+      exposed = behaves.exposed;
+      starved = behaves.starved;
+      starved_are = behaves.starved_are;
       stated = elim behaves.stated [
         | inl same ↦ inl same
-        | inr may ↦ inr (only_memory status c behaves.world behaves.wants may none)
+        | inr may ↦ inr (only_memory status c behaves.world behaves.starved may none)
       ];
       no_fault = none;
     }
 
 -- the statuses from outside that a command may end with are among those that it can end with
-possible_fault : (status : Status) (c : Command) (w : World) (wants : List ℕ) → MayFail status c w wants → IsPossible c status
-possible_fault ReadFault (Compress h) w wants may = tt
-possible_fault ReadFault (CompressNarrow n h) w wants may = tt
-possible_fault ReadFault Restore w wants may = tt
-possible_fault ReadFault (RestoreNarrow n) w wants may = tt
-possible_fault ReadFault Info w wants may = tt
-possible_fault WriteFault (Compress h) w wants may = tt
-possible_fault WriteFault (CompressNarrow n h) w wants may = tt
-possible_fault WriteFault Restore w wants may = tt
-possible_fault WriteFault (RestoreNarrow n) w wants may = tt
-possible_fault WriteFault (Bound name most) w wants may = tt
-possible_fault LoadFault (Bound name most) w wants may = tt
-possible_fault Memory (Bound name most) w wants may = tt
-possible_fault WriteFault Info w wants may = tt
-possible_fault WriteFault (Sample h seed) w wants may = tt
-possible_fault ReadFault (Run name caching) w wants may = tt
-possible_fault WriteFault (Run name caching) w wants may = tt
-possible_fault LoadFault (Run name caching) w wants may = tt
-possible_fault ReadFault (Look name l) w wants may = tt
-possible_fault WriteFault (Look name l) w wants may = tt
-possible_fault LoadFault (Look name l) w wants may = tt
-possible_fault Memory (Look name l) w wants may = tt
-possible_fault SaveFault (New name ty ns b) w wants may = tt
-possible_fault SaveFault (Run name caching) w wants may = tt
-possible_fault Memory (Run name caching) w wants may = tt
-possible_fault Memory (Compress h) w wants may = tt
-possible_fault Memory (CompressNarrow n h) w wants may = tt
-possible_fault Memory Restore w wants may = tt
-possible_fault Memory (RestoreNarrow n) w wants may = tt
-possible_fault Memory (New name ty ns b) w wants may = tt
-possible_fault Memory (Sample h seed) w wants may = tt
-possible_fault status c w wants may = absurd (first_of (assumption may, cc))
+possible_fault : (status : Status) (c : Command) (w : World) (starved : List ℕ) → MayFail status c w starved → IsPossible c status
+possible_fault ReadFault (Compress h) w starved may = tt
+possible_fault ReadFault (CompressNarrow n h) w starved may = tt
+possible_fault ReadFault Restore w starved may = tt
+possible_fault ReadFault (RestoreNarrow n) w starved may = tt
+possible_fault ReadFault Info w starved may = tt
+possible_fault WriteFault (Compress h) w starved may = tt
+possible_fault WriteFault (CompressNarrow n h) w starved may = tt
+possible_fault WriteFault Restore w starved may = tt
+possible_fault WriteFault (RestoreNarrow n) w starved may = tt
+possible_fault WriteFault (Bound name most) w starved may = tt
+possible_fault LoadFault (Bound name most) w starved may = tt
+possible_fault Memory (Bound name most) w starved may = tt
+possible_fault WriteFault Info w starved may = tt
+possible_fault WriteFault (Sample h seed) w starved may = tt
+possible_fault ReadFault (Run name caching) w starved may = tt
+possible_fault WriteFault (Run name caching) w starved may = tt
+possible_fault LoadFault (Run name caching) w starved may = tt
+possible_fault ReadFault (Look name l) w starved may = tt
+possible_fault WriteFault (Look name l) w starved may = tt
+possible_fault LoadFault (Look name l) w starved may = tt
+possible_fault Memory (Look name l) w starved may = tt
+possible_fault SaveFault (New name ty ns b) w starved may = tt
+possible_fault SaveFault (Run name caching) w starved may = tt
+possible_fault Memory (Run name caching) w starved may = tt
+possible_fault Memory (Compress h) w starved may = tt
+possible_fault Memory (CompressNarrow n h) w starved may = tt
+possible_fault Memory Restore w starved may = tt
+possible_fault Memory (RestoreNarrow n) w starved may = tt
+possible_fault Memory (New name ty ns b) w starved may = tt
+possible_fault Memory (Sample h seed) w starved may = tt
+possible_fault status c w starved may = absurd (first_of (assumption may, cc))
 
 -- and so are those that it states for an input
-compress_ends : (wanted n : ℕ) (short long : Bool) → (short ≡ true → n < wanted) → CompressEnds wanted (status_of (cond short (Err (faults.RawShort n)) (cond long (Err faults.RawLong) (Ok tt))))
-compress_ends wanted n true long less = less refl
-compress_ends wanted n false true less = tt
-compress_ends wanted n false false less = tt
+compress_ends : (starved_are n : ℕ) (short long : Bool) → (short ≡ true → n < starved_are) → CompressEnds starved_are (status_of (cond short (Err (faults.RawShort n)) (cond long (Err faults.RawLong) (Ok tt))))
+compress_ends starved_are n true long less = less refl
+compress_ends starved_are n false true less = tt
+compress_ends starved_are n false false less = tt
 
 restore_ends : (answer : Result (Unit {0}) StreamFault) → blames_foreign answer ≡ false → RestoreEnds (status_of answer)
 unfolding blames_foreign is_foreign
@@ -260,10 +260,10 @@ opened_first_stream file = opened_ends ComesFirst stream_in tt tt stream_in-firs
 pub opened_first_array : (file : Option (List ℕ)) → IsRefusal ComesFirst (opened array_in file)
 opened_first_array file = opened_ends ComesFirst array_in tt tt array_in-first file
 
-script_ends : (Ends : Status → Type 0) (replies : Answering) → Ends ScriptLong → ((n : ℕ) → Ends (lines_status n)) → (file : Result Said Status) → IsRefusal Ends file → (wants script : List ℕ) → Ends (script_status replies file wants script)
+script_ends : (Ends : Status → Type 0) (replies : Answering) → Ends ScriptLong → ((n : ℕ) → Ends (lines_status n)) → (file : Result Said Status) → IsRefusal Ends file → (starved script : List ℕ) → Ends (script_status replies file starved script)
 unfolding IsRefusal
-script_ends Ends replies long ends (Err status) refusal wants script = refusal
-script_ends Ends replies long ends (Ok said) refusal wants script = by (ltb 16777216 (length script)) (count_by is_refusal (replies said wants script))
+script_ends Ends replies long ends (Err status) refusal starved script = refusal
+script_ends Ends replies long ends (Ok said) refusal starved script = by (ltb 16777216 (length script)) (count_by is_refusal (replies said starved script))
   where
     by : (is_long : Bool) (refused : ℕ) → Ends (cond is_long ScriptLong (lines_status refused))
     by true refused = long
@@ -274,64 +274,64 @@ lines_end : (n : ℕ) → LookEnds (lines_status n)
 lines_end zero = tt
 lines_end (suc n) = omega arith
 
-possible_status : (c : Command) (w : World) (wants : List ℕ) → IsPossible c (status_for c w wants)
-possible_status (Compress h) w wants =
+possible_status : (c : Command) (w : World) (starved : List ℕ) → IsPossible c (status_for c w starved)
+possible_status (Compress h) w starved =
     let n = length w.input in
     compress_ends (raw_len h) n (ltb n (raw_len h)) (ltb (raw_len h) n) (ltb-true n (raw_len h))
-possible_status (CompressNarrow n h) w wants =
-    let wanted = narrow_len n h in
+possible_status (CompressNarrow n h) w starved =
+    let starved_are = narrow_len n h in
     let len = length w.input in
-    compress_ends wanted len (ltb len wanted) (ltb wanted len) (ltb-true len wanted)
-possible_status Restore w wants = restore_ends (restore_answer w.input) (own_answer w.input)
-possible_status (RestoreNarrow n) w wants = narrow_ends (header_fault w.input) (header_of w.input).ty (restore_answer w.input) (own_answer w.input)
-possible_status Info w wants = info_ends (header_fault (take 19 w.input))
-possible_status (New name ty ns b) w wants = tt
-possible_status (Run name caching) w wants =
-    script_ends RunEnds (run_replies caching) tt (λ n. LookEnds-run (lines_status n) (lines_end n)) (opened array_in (w.files name)) (opened_ends RunEnds array_in tt tt array_in-ends (w.files name)) wants w.input
-possible_status (Look name l) w wants =
-    script_ends LookEnds (look_replies l) tt lines_end (opened stream_in (w.files name)) (opened_ends LookEnds stream_in tt tt stream_in-ends (w.files name)) wants w.input
-possible_status (Bound name most) w wants = certified_ends (opened array_in (w.files name)) (opened_ends BoundEnds array_in tt tt array_in-certified (w.files name))
-possible_status (Sample h seed) w wants = tt
+    compress_ends starved_are len (ltb len starved_are) (ltb starved_are len) (ltb-true len starved_are)
+possible_status Restore w starved = restore_ends (restore_answer w.input) (own_answer w.input)
+possible_status (RestoreNarrow n) w starved = narrow_ends (header_fault w.input) (header_of w.input).ty (restore_answer w.input) (own_answer w.input)
+possible_status Info w starved = info_ends (header_fault (take 19 w.input))
+possible_status (New name ty ns b) w starved = tt
+possible_status (Run name caching) w starved =
+    script_ends RunEnds (run_replies caching) tt (λ n. LookEnds-run (lines_status n) (lines_end n)) (opened array_in (w.files name)) (opened_ends RunEnds array_in tt tt array_in-ends (w.files name)) starved w.input
+possible_status (Look name l) w starved =
+    script_ends LookEnds (look_replies l) tt lines_end (opened stream_in (w.files name)) (opened_ends LookEnds stream_in tt tt stream_in-ends (w.files name)) starved w.input
+possible_status (Bound name most) w starved = certified_ends (opened array_in (w.files name)) (opened_ends BoundEnds array_in tt tt array_in-certified (w.files name))
+possible_status (Sample h seed) w starved = tt
 
 pub IsPossible-behaves : (c : Command) (status : Status) (before now : Seen) → Behaves c status before now → IsPossible c status
 IsPossible-behaves c status before now behaves = elim behaves.stated [
-  | inl same ↦ subst (IsPossible c) (sym same) (possible_status c behaves.world behaves.wants)
-  | inr may ↦ possible_fault status c behaves.world behaves.wants may
+  | inl same ↦ subst (IsPossible c) (sym same) (possible_status c behaves.world behaves.starved)
+  | inr may ↦ possible_fault status c behaves.world behaves.starved may
 ]
 
-from_outside : (status : Status) (c : Command) (w : World) (wants : List ℕ) → (MayLoad c w → ⊥) → (MaySave c w → ⊥) → MayFail status c w wants → IsFromOutside status
-from_outside ReadFault c w wants no_load no_save may = inl refl
-from_outside WriteFault c w wants no_load no_save may = inr (inl refl)
-from_outside Memory c w wants no_load no_save may = inr (inr refl)
-from_outside LoadFault c w wants no_load no_save may = absurd (no_load may)
-from_outside SaveFault c w wants no_load no_save may = absurd (no_save may)
-from_outside status c w wants no_load no_save may = absurd (first_of (assumption may, cc))
+from_outside : (status : Status) (c : Command) (w : World) (starved : List ℕ) → (MayLoad c w → ⊥) → (MaySave c w → ⊥) → MayFail status c w starved → IsFromOutside status
+from_outside ReadFault c w starved no_load no_save may = inl refl
+from_outside WriteFault c w starved no_load no_save may = inr (inl refl)
+from_outside Memory c w starved no_load no_save may = inr (inr refl)
+from_outside LoadFault c w starved no_load no_save may = absurd (no_load may)
+from_outside SaveFault c w starved no_load no_save may = absurd (no_save may)
+from_outside status c w starved no_load no_save may = absurd (first_of (assumption may, cc))
 
--- a source that tells these bytes tells no other
-the_input : (known : Option (List ℕ)) (bytes input : List ℕ) → known ≡ Some bytes → TellsInput known input → input ≡ bytes
-the_input None bytes input is told = absurd (cc)
-the_input (Some all) bytes input is told = let same : all ≡ bytes = cc in sym told ∙ same
+-- a source that exposes these bytes exposes no other
+the_input : (known : Option (List ℕ)) (bytes input : List ℕ) → known ≡ Some bytes → ExposesInput known input → input ≡ bytes
+the_input None bytes input is exposed = absurd (cc)
+the_input (Some all) bytes input is exposed = let same : all ≡ bytes = cc in sym exposed ∙ same
 
 -- these bytes are written by a command that is done over what the source holds
 comes_back : (c : Command) (status : Status) (before now : Seen) (held bytes : List ℕ) → before.src ≡ Some held → ((w : World) → MayLoad c w → ⊥) → ((w : World) → MaySave c w → ⊥)
-    → ((w : World) (wants : List ℕ) → w.input ≡ held → (status_for c w wants ≡ Done) × ((raw : List ℕ) → text_for c w wants raw ≡ bytes)) → Behaves c status before now → IsBack status before.out now.out bytes ⊎ IsFromOutside status
+    → ((w : World) (starved : List ℕ) → w.input ≡ held → (status_for c w starved ≡ Done) × ((raw : List ℕ) → text_for c w starved raw ≡ bytes)) → Behaves c status before now → IsBack status before.out now.out bytes ⊎ IsFromOutside status
 comes_back c status before now held bytes holds no_load no_save gives behaves =
     let w = behaves.world in
-    let wants = behaves.wants in
-    let good = gives w wants (the_input before.src held w.input holds behaves.told.input) in
+    let starved = behaves.starved in
+    let good = gives w starved (the_input before.src held w.input holds behaves.exposed.input) in
     elim behaves.stated [
       | inl same ↦
           let done : status ≡ Done = same ∙ good.0 in
-          let written = subst (λ s. Writes s (text_for c w wants behaves.raw) (draft_for c s w wants behaves.raw) before.out now.out) done behaves.written in
+          let written = subst (λ s. Writes s (text_for c w starved behaves.raw) (draft_for c s w starved behaves.raw) before.out now.out) done behaves.written in
           inl (record { done = done; written = subst (Appends before.out now.out) (good.1 behaves.raw) written })
-      | inr may ↦ inr (from_outside status c w wants (no_load w) (no_save w) may)
+      | inr may ↦ inr (from_outside status c w starved (no_load w) (no_save w) may)
     ]
 
 -- what `restore` does with a reversible stream
 pub GivesBack-behaves : (words : List (List ℕ)) (status : Status) (before now : Seen) → OfCommand words (λ c. Behaves c status before now) → GivesBack words status before now
 GivesBack-behaves words status before now command None h bytes holds =
     comes_back Restore status before now (stream_text h bytes) bytes holds.stream (λ w may. may) (λ w may. may)
-    (λ w wants input. (
+    (λ w starved input. (
       ap (λ xs. status_of (restore_answer xs)) input ∙ ap status_of (answer-stream_text h bytes holds.header),
       λ raw. ap restored_text input ∙ text-reversible_text h bytes holds.header holds.mode holds.whole holds.small,
     ))
@@ -339,7 +339,7 @@ GivesBack-behaves words status before now command None h bytes holds =
 GivesBack-behaves words status before now command (Some n) h bytes holds =
     let held = narrow_text n h bytes in
     comes_back (RestoreNarrow n) status before now held bytes holds.stream (λ w may. may) (λ w may. may)
-    (λ w wants input. (
+    (λ w starved input. (
       ap (λ xs. narrow_status_of (restore_narrow_answer xs)) input ∙ ap narrow_status_of (answer-narrow_text n h bytes holds.header holds.typed),
       λ raw. ap (narrow_restored n) input ∙ text-narrow_text n h bytes holds.header holds.typed holds.mode holds.whole holds.small,
     ))

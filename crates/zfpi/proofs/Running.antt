@@ -22,7 +22,7 @@ use Rattle.zf_cached.specs.Windows.{whole}
 use Rattle.zf_cached.specs.Steps.{Setting, Session}
 use Rattle.zf_cached.specs.Runs.{lines_of, run_lines, run_script, run, replies_text}
 use Rattle.zf_commands.specs.Sittings.{session}
-use Rattle.zf_commands.specs.Steps.{is_refusal, is_want}
+use Rattle.zf_commands.specs.Steps.{is_refusal, is_starved}
 use Rattle.zf_run.specs.Ends.{Completes, Halts}
 use Rattle.zfpi.specs.declared.status.Status.{Status}
 use Rattle.zfpi.specs.declared.status.Status.TheVariants as statuses
@@ -82,7 +82,7 @@ module _ (name : List ℕ) (caching : Caching) where
       (elim why [ inl is ↦ inl (array_in-rate bytes h (Err (stream_fault e)) has.good has.header has.rate is) | inr memory ↦ inr memory ]) holds kept
 
   -- the script is run on the array
-  module _ (known mid : Option Files) (w : Width) (s : Stored) (start : State (List Bool)) (holds : HoldsArray known name caching w s start) (kept : KeepsFiles known mid) (script wants : List ℕ) (most : length script ≤ 16777216) where
+  module _ (known mid : Option Files) (w : Width) (s : Stored) (start : State (List Bool)) (holds : HoldsArray known name caching w s start) (kept : KeepsFiles known mid) (script starved : List ℕ) (most : length script ≤ 16777216) where
     abbrev bits : ℕ
     bits = block_bits s.header.mode
 
@@ -90,69 +90,69 @@ module _ (name : List ℕ) (caching : Caching) where
     setting = setting_over caching w bits
 
     abbrev ran : Session (List Bool) × List Reply
-    ran = run setting wants s.header.shape start script
+    ran = run setting starved s.header.shape start script
 
     -- the run of the array is the run of its file
-    ran_is : ran ≡ ran_over caching (said s) wants script
+    ran_is : ran ≡ ran_over caching (said s) starved script
     unfolding ran_over
     ran_is =
         let ns = s.header.shape in
-        ap (λ at. run setting wants ns at script) holds.state_is
-        ∙ ap (λ v. run (setting_over caching v bits) wants ns (open_array v bits ns s.codes (first_lines caching ns)) script) holds.same_type
+        ap (λ at. run setting starved ns at script) holds.state_is
+        ∙ ap (λ v. run (setting_over caching v bits) starved ns (open_array v bits ns s.codes (first_lines caching ns)) script) holds.same_type
 
-    replies_are : ran.1 ≡ run_replies caching (said s) wants script
+    replies_are : ran.1 ≡ run_replies caching (said s) starved script
     replies_are = ap (λ r. r.1) ran_is
 
-    file_is : (ns : List ℕ) (now : State (List Bool)) (mode : Mode) → ns ≡ ran.0.shape → now ≡ ran.0.state → mode ≡ s.header.mode → saved_file w (block_bits mode) ns now ≡ run_file caching (said s) wants script
+    file_is : (ns : List ℕ) (now : State (List Bool)) (mode : Mode) → ns ≡ ran.0.shape → now ≡ ran.0.state → mode ≡ s.header.mode → saved_file w (block_bits mode) ns now ≡ run_file caching (said s) starved script
     file_is ns now mode same_shape same_state same_mode =
         ap (λ m. saved_file w (block_bits m) ns now) same_mode
         ∙ (ap (λ ms. saved_file w bits ms now) same_shape
         ∙ (ap (saved_file w bits ran.0.shape) same_state
         ∙ (ap (λ r. saved_file w bits r.0.shape r.0.state) ran_is
-        ∙ ap (λ v. saved_file v bits (ran_over caching (said s) wants script).0.shape (ran_over caching (said s) wants script).0.state) holds.same_type)))
+        ∙ ap (λ v. saved_file v bits (ran_over caching (said s) starved script).0.shape (ran_over caching (said s) starved script).0.state) holds.same_type)))
 
-    lines_are : (run_lines setting wants 0 (lines_of script) (session s.header.shape start (whole s.header.shape))).1 ≡ run_replies caching (said s) wants script
+    lines_are : (run_lines setting starved 0 (lines_of script) (session s.header.shape start (whole s.header.shape))).1 ≡ run_replies caching (said s) starved script
     unfolding run run_script
     lines_are = replies_are
 
     -- what is saved is this file
-    saved_is : saved_of name (run_file caching) (opened array_in (files_with known holds.bytes name)) wants script ≡ Some (name, run_file caching (said s) wants script)
-    saved_is = ap (λ file. saved_of name (run_file caching) file wants script) (is_open (Run name caching) name array_in (run_replies caching) (IsScripted-run name caching) known mid holds.bytes (said s) holds.file holds.array kept)
+    saved_is : saved_of name (run_file caching) (opened array_in (files_with known holds.bytes name)) starved script ≡ Some (name, run_file caching (said s) starved script)
+    saved_is = ap (λ file. saved_of name (run_file caching) file starved script) (is_open (Run name caching) name array_in (run_replies caching) (IsScripted-run name caching) known mid holds.bytes (said s) holds.file holds.array kept)
 
     -- the whole script was run, and its replies were handed on before the file was saved
     pub Behaves-run : (ns : List ℕ) (now : State (List Bool)) (mode : Mode) (refused : ℕ) (status ended : Status) (file : List ℕ) (src rest out sent out_now : Option (List ℕ)) (shelf : Option Files) (Writing Saving : Type 0)
-        → Completes ns now wants out sent ran refused → Appends sent out_now [] → mode ≡ s.header.mode → file ≡ saved_file w (block_bits mode) ns now
+        → Completes ns now starved out sent ran refused → Appends sent out_now [] → mode ≡ s.header.mode → file ≡ saved_file w (block_bits mode) ns now
         → lines_status refused ≡ status → SavesOrFails mid shelf name file status ended Writing Saving → Takes src rest script → IsAtEnd rest
         → Behaves (Run name caching) ended (seen src out known) (seen rest out_now shelf)
     Behaves-run ns now mode refused status ended file src rest out sent out_now shelf Writing Saving done stays same_mode is status_same saves takes end =
-        let wanted = ap (count_by is_want) (sym replies_are) ∙ done.wanted in
+        let starved_are = ap (count_by is_starved) (sym replies_are) ∙ done.starved_are in
         let written = Appends-stays out sent out_now _ (subst (Appends out sent) (ap replies_text replies_are) done.written) stays in
         elim saves [
           | inl good ↦
               let file_saved = SavesFile-kept known mid shelf name _ kept (subst (SavesFile mid shelf name) (is ∙ file_is ns now mode done.shape_is done.state_is same_mode) good.1) in
               let saved = subst (λ f. Saves f (lines_status refused) known shelf) (sym saved_is) (saves_lines refused name _ known shelf file_saved) in
               subst (λ s. Behaves (Run name caching) s (seen src out known) (seen rest out_now shelf)) (status_same ∙ sym good.0)
-              (Behaves-lines (Run name caching) name array_in (run_replies caching) (IsScripted-run name caching) known mid holds.bytes (said s) holds.file holds.array kept script wants most src rest takes end
-              refused out out_now shelf (done.refused_is ∙ ap (count_by is_refusal) replies_are) wanted written saved)
+              (Behaves-lines (Run name caching) name array_in (run_replies caching) (IsScripted-run name caching) known mid holds.bytes (said s) holds.file holds.array kept script starved most src rest takes end
+              refused out out_now shelf (done.refused_is ∙ ap (count_by is_refusal) replies_are) starved_are written saved)
           | inr others ↦ elim others [
             | inl bad ↦
                 let saved = subst (λ f. Saves f statuses.SaveFault known shelf) (sym saved_is) (KeepsOthers-kept known mid shelf name kept bad.1) in
-                let may = runnable (Run name caching) name array_in (run_replies caching) (IsScripted-run name caching) known mid holds.bytes (said s) holds.file holds.array kept script wants most src rest takes end in
+                let may = runnable (Run name caching) name array_in (run_replies caching) (IsScripted-run name caching) known mid holds.bytes (said s) holds.file holds.array kept script starved most src rest takes end in
                 subst (λ s. Behaves (Run name caching) s (seen src out known) (seen rest out_now shelf)) (sym bad.0)
-                (Behaves-whole (Run name caching) name array_in (run_replies caching) (IsScripted-run name caching) known mid holds.bytes (said s) holds.file holds.array kept script wants most src rest takes end
-                statuses.SaveFault out out_now shelf tt (λ P p. p) refl (λ text draft all. all) (inr may) wanted written saved)
+                (Behaves-whole (Run name caching) name array_in (run_replies caching) (IsScripted-run name caching) known mid holds.bytes (said s) holds.file holds.array kept script starved most src rest takes end
+                statuses.SaveFault out out_now shelf tt (λ P p. p) refl (λ text draft all. all) (inr may) starved_are written saved)
             | inr unsent ↦
-                let cut = Behaves-unsent (Run name caching) name array_in (run_replies caching) (IsScripted-run name caching) known mid holds.bytes (said s) holds.file holds.array kept script wants most src rest takes end out out_now written in
+                let cut = Behaves-unsent (Run name caching) name array_in (run_replies caching) (IsScripted-run name caching) known mid holds.bytes (said s) holds.file holds.array kept script starved most src rest takes end out out_now written in
                 subst (λ s. Behaves (Run name caching) s (seen src out known) (seen rest out_now shelf)) (sym unsent.0)
                 (subst (λ f. Behaves (Run name caching) statuses.WriteFault (seen src out known) (seen rest out_now f)) (sym unsent.1) cut)
           ]
         ]
 
     -- a reply was not written whole
-    pub Behaves-cut_run : (ns : List ℕ) (now : State (List Bool)) (ended : Status) (src rest out sent out_now : Option (List ℕ)) → Halts ns now wants out sent setting (session s.header.shape start (whole s.header.shape)) script
+    pub Behaves-cut_run : (ns : List ℕ) (now : State (List Bool)) (ended : Status) (src rest out sent out_now : Option (List ℕ)) → Halts ns now starved out sent setting (session s.header.shape start (whole s.header.shape)) script
         → Appends sent out_now [] → ended ≡ statuses.WriteFault → Takes src rest script → IsAtEnd rest → Behaves (Run name caching) ended (seen src out known) (seen rest out_now mid)
     Behaves-cut_run ns now ended src rest out sent out_now stops stays is takes end =
         subst (λ s. Behaves (Run name caching) s (seen src out known) (seen rest out_now mid)) (sym is)
         (Behaves-stays (Run name caching) statuses.WriteFault (seen src out known) rest sent out_now mid stays
-        (Behaves-cut_script (Run name caching) name array_in (run_replies caching) (IsScripted-run name caching) known mid holds.bytes (said s) holds.file holds.array kept script wants most src rest takes end
+        (Behaves-cut_script (Run name caching) name array_in (run_replies caching) (IsScripted-run name caching) known mid holds.bytes (said s) holds.file holds.array kept script starved most src rest takes end
         setting (session s.header.shape start (whole s.header.shape)) lines_are stops.session out sent stops.at_line))

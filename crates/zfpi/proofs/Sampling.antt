@@ -1,8 +1,8 @@
 -- What `sample` does: nothing is read, a line is written, and no file is saved.
 use Rattle.std.proofs.Common.{◌≡◌, ℕ, List, [], Option, ◌⊎◌, inl, inr, refl, subst, ◌∙◌, ap}
 use Rattle.zf_dev.specs.Shelf.{Files}
-use Rattle.zf_dev.specs.Sink.{Appends, AppendsFront}
-use Rattle.zf_dev.proofs.Appending.{AppendsFront-none}
+use Rattle.zf_dev.specs.Sink.{Appends, AppendsPrefix}
+use Rattle.zf_dev.proofs.Appending.{AppendsPrefix-none}
 use Rattle.zf_header.specs.declared.header.Header.{Header}
 use Rattle.zf_sample.specs.declared.summary.Summary.{Summary}
 use Rattle.zf_sample.specs.Summaries.{summary_of}
@@ -13,7 +13,7 @@ use Rattle.zfpi.specs.Sample.{summary_line, sample_text}
 use Rattle.zfpi.specs.World.{World, seen}
 use Rattle.zfpi.specs.Answer.{status_for, MayFail, cut_draft}
 use Rattle.zfpi.specs.Headline.{IsOfCommand, Writes, Behaves}
-use Rattle.zfpi.proofs.Told.{world_of, TellsFiles-same, KeepsFiles-none, some_input, Takes-none}
+use Rattle.zfpi.proofs.Exposed.{world_of, ExposesFiles-same, KeepsFiles-none, some_input, Takes-none}
 
 module _ (h : Header) (seed : ℕ) where
   -- so it ended, with this output
@@ -26,9 +26,9 @@ module _ (h : Header) (seed : ℕ) where
       record {
         ends = ends;
         world = world_of some.0 shelf;
-        told = record { input = some.1; files = TellsFiles-same shelf };
-        wants = [];
-        wanted = refl;
+        exposed = record { input = some.1; files = ExposesFiles-same shelf };
+        starved = [];
+        starved_are = refl;
         stated = stated (world_of some.0 shelf);
         taken = [];
         takes = Takes-none src;
@@ -45,12 +45,12 @@ module _ (h : Header) (seed : ℕ) where
   Behaves-summary summary line src before now shelf of_values of_summary written =
       behaves_so statuses.Done src before now shelf tt (λ w. inl refl) (subst (Appends before now) (of_summary ∙ ap summary_line of_values) written)
 
-  -- a front of the line was
-  pub Behaves-cut_summary : (summary : Summary) (line : List ℕ) (src before now : Option (List ℕ)) (shelf : Option Files) → summary ≡ summary_of h seed → line ≡ summary_line summary → AppendsFront before now line
+  -- a prefix of the line was
+  pub Behaves-cut_summary : (summary : Summary) (line : List ℕ) (src before now : Option (List ℕ)) (shelf : Option Files) → summary ≡ summary_of h seed → line ≡ summary_line summary → AppendsPrefix before now line
       → Behaves (Sample h seed) statuses.WriteFault (seen src before shelf) (seen src now shelf)
   Behaves-cut_summary summary line src before now shelf of_values of_summary written =
-      behaves_so statuses.WriteFault src before now shelf tt (λ w. inr tt) (subst (AppendsFront before now) (of_summary ∙ ap summary_line of_values) written)
+      behaves_so statuses.WriteFault src before now shelf tt (λ w. inr tt) (subst (AppendsPrefix before now) (of_summary ∙ ap summary_line of_values) written)
 
   -- there was no memory
   pub Behaves-unmade : (src out : Option (List ℕ)) (shelf : Option Files) → Behaves (Sample h seed) statuses.Memory (seen src out shelf) (seen src out shelf)
-  Behaves-unmade src out shelf = behaves_so statuses.Memory src out out shelf tt (λ w. inr tt) (AppendsFront-none out [])
+  Behaves-unmade src out shelf = behaves_so statuses.Memory src out out shelf tt (λ w. inr tt) (AppendsPrefix-none out [])

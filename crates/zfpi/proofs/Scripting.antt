@@ -7,16 +7,16 @@ use Rattle.std.proofs.lemmas.List.{take-append-drop}
 use Rattle.std.proofs.Math.Seq.{take-append-add}
 use Rattle.zf_dev.specs.Shelf.{Files, KeepsFiles}
 use Rattle.zf_dev.specs.Source.{Takes, IsAtEnd, TakesMoreThan, TakesSome}
-use Rattle.zf_dev.specs.Sink.{Appends, AppendsFront}
+use Rattle.zf_dev.specs.Sink.{Appends, AppendsPrefix}
 use Rattle.zf_dev.specs.declared.faults.TakeError.{TakeError}
 use Rattle.zf_dev.specs.declared.faults.TakeError.TheVariants as taking
-use Rattle.zf_dev.proofs.Appending.{AppendsFront-none, AppendsFront-all, AppendsFront-more}
+use Rattle.zf_dev.proofs.Appending.{AppendsPrefix-none, AppendsPrefix-all, AppendsPrefix-more}
 use Rattle.zf_parse.specs.Parsing.{Said}
 use Rattle.zf_cached.specs.Replies.{reply_text}
 use Rattle.zf_cached.specs.Steps.{Setting, Session}
 use Rattle.zf_cached.specs.Runs.{lines_of, run_lines, replies_text}
 use Rattle.zf_cached.proofs.Runs.{run_lines-append}
-use Rattle.zf_commands.specs.Steps.{is_refusal, is_want}
+use Rattle.zf_commands.specs.Steps.{is_refusal, is_starved}
 use Rattle.zf_commands.specs.Runs.{StopsAt}
 use Rattle.zfpi.specs.declared.status.Status.{Status}
 use Rattle.zfpi.specs.declared.status.Status.TheVariants as statuses
@@ -25,13 +25,13 @@ use Rattle.zfpi.specs.declared.command.Command.{Command}
 use Rattle.zfpi.specs.declared.command.Command.TheVariants.{Run, Look}
 use Rattle.zfpi.specs.Faults.{take_status}
 use Rattle.zfpi.specs.Opened.{array_in, stream_in, opened}
-use Rattle.zfpi.specs.Scripts.{Answering, run_replies, look_replies, lines_status, script_status, script_text, AreWants}
+use Rattle.zfpi.specs.Scripts.{Answering, run_replies, look_replies, lines_status, script_status, script_text, AreStarved}
 use Rattle.zfpi.specs.Loaded.{HoldsFile}
-use Rattle.zfpi.specs.World.{World, TellsInput, IsTold, seen}
-use Rattle.zfpi.specs.Answer.{OnWholeScript, TakesScript, IsRunnable, status_for, text_for, draft_for, saved_for, cut_draft, HasWants, IsExtent, MayRead, MayWrite, MayFail}
+use Rattle.zfpi.specs.World.{World, ExposesInput, IsExposed, seen}
+use Rattle.zfpi.specs.Answer.{OnWholeScript, TakesScript, IsRunnable, status_for, text_for, draft_for, saved_for, cut_draft, HasStarved, IsExtent, MayRead, MayWrite, MayFail}
 use Rattle.zfpi.specs.Headline.{IsOfCommand, Writes, Saves, Behaves}
-use Rattle.zfpi.proofs.Told.{some_input, TellsInput-taken}
-use Rattle.zfpi.proofs.Loading.{OnWholeScript-first, TakesScript-first, Unsaved, Saves-unsaved, files_with, world_with, TellsFiles-with, opened-held, IsLoading}
+use Rattle.zfpi.proofs.Exposed.{some_input, ExposesInput-taken}
+use Rattle.zfpi.proofs.Loading.{OnWholeScript-first, TakesScript-first, Unsaved, Saves-unsaved, files_with, world_with, ExposesFiles-with, opened-held, IsLoading}
 
 -- some lines are refused
 pub lines_status-some : (n : ℕ) → 1 ≤ n → lines_status n ≡ statuses.Lines n
@@ -41,10 +41,10 @@ lines_status-some (suc n) some = refl
 -- a command that answers a script so, on what the file of this name is opened as
 pub record IsScripted (c : Command) (name : List ℕ) (reading : List ℕ → Result Said Status) (replies : Answering) : Type 0 where
   pub loading : IsLoading c name reading
-  pub status : (w : World) (wants : List ℕ) → status_for c w wants ≡ script_status replies (opened reading (w.files name)) wants w.input
-  pub text : (w : World) (wants taken : List ℕ) → text_for c w wants taken ≡ script_text replies (opened reading (w.files name)) wants w.input
-  pub draft : (w : World) (wants : List ℕ) (status : Status) (taken : List ℕ) → draft_for c status w wants taken ≡ cut_draft status (text_for c w wants taken)
-  pub wanted : (w : World) (wants : List ℕ) (status : Status) → OnWholeScript status (AreWants replies (opened reading (w.files name)) wants w.input) → HasWants c status w wants
+  pub status : (w : World) (starved : List ℕ) → status_for c w starved ≡ script_status replies (opened reading (w.files name)) starved w.input
+  pub text : (w : World) (starved taken : List ℕ) → text_for c w starved taken ≡ script_text replies (opened reading (w.files name)) starved w.input
+  pub draft : (w : World) (starved : List ℕ) (status : Status) (taken : List ℕ) → draft_for c status w starved taken ≡ cut_draft status (text_for c w starved taken)
+  pub starved_are : (w : World) (starved : List ℕ) (status : Status) → OnWholeScript status (AreStarved replies (opened reading (w.files name)) starved w.input) → HasStarved c status w starved
   pub extent : (status : Status) (input taken : List ℕ) → TakesScript status input taken → IsExtent c status input taken
   pub reads : (w : World) → IsOk (opened reading (w.files name)) → MayRead c w
   pub writes : (w : World) → IsRunnable (opened reading (w.files name)) w → MayWrite c w
@@ -53,17 +53,17 @@ pub IsScripted-run : (name : List ℕ) (caching : Caching) → IsScripted (Run n
 IsScripted-run name caching = record {
   loading = record {
     refuses = λ w status none. sym (ap (λ file. script_status (run_replies caching) file [] w.input) none);
-    wanted = λ w status first. OnWholeScript-first _ status first;
+    starved_are = λ w status first. OnWholeScript-first _ status first;
     extent = TakesScript-first;
     plain = λ status src taken. refl;
     draft = λ w status taken. refl;
     loads = λ w. tt;
     starves = λ w. tt;
   };
-  status = λ w wants. refl;
-  text = λ w wants taken. refl;
-  draft = λ w wants status taken. refl;
-  wanted = λ w wants status are. are;
+  status = λ w starved. refl;
+  text = λ w starved taken. refl;
+  draft = λ w starved status taken. refl;
+  starved_are = λ w starved status are. are;
   extent = λ status input taken is. is;
   reads = λ w good. good;
   writes = λ w good. good;
@@ -73,24 +73,24 @@ pub IsScripted-look : (name : List ℕ) (lines : Option ℕ) → IsScripted (Loo
 IsScripted-look name lines = record {
   loading = record {
     refuses = λ w status none. sym (ap (λ file. script_status (look_replies lines) file [] w.input) none);
-    wanted = λ w status first. OnWholeScript-first _ status first;
+    starved_are = λ w status first. OnWholeScript-first _ status first;
     extent = TakesScript-first;
     plain = λ status src taken. refl;
     draft = λ w status taken. refl;
     loads = λ w. tt;
     starves = λ w. tt;
   };
-  status = λ w wants. refl;
-  text = λ w wants taken. refl;
-  draft = λ w wants status taken. refl;
-  wanted = λ w wants status are. are;
+  status = λ w starved. refl;
+  text = λ w starved taken. refl;
+  draft = λ w starved status taken. refl;
+  starved_are = λ w starved status are. are;
   extent = λ status input taken is. is;
   reads = λ w good. good;
   writes = λ w good. good;
 }
 
 -- a script of more bytes than a script may have
-long_input : (src src_now : Option (List ℕ)) (bytes : List ℕ) → 16777216 < length bytes → Takes src src_now bytes → (input : List ℕ) × TellsInput src input × (16777216 < length input)
+long_input : (src src_now : Option (List ℕ)) (bytes : List ℕ) → 16777216 < length bytes → Takes src src_now bytes → (input : List ℕ) × ExposesInput src input × (16777216 < length input)
 long_input None src_now bytes long takes = (bytes, tt, long)
 long_input (Some all) None bytes long takes = absurd takes
 long_input (Some all) (Some left) bytes long takes = (all, refl, omega (arith, ap length takes, length-append bytes left, long))
@@ -104,10 +104,10 @@ module _ (c : Command) (name : List ℕ) (reading : List ℕ → Result Said Sta
   open_ok = subst IsOk (sym is_open) refl
 
   -- the status of a script, by the number of its lines that are refused
-  status_is : (wants script : List ℕ) → length script ≤ 16777216 → lines_status (count_by is_refusal (replies said wants script)) ≡ status_for c (world_with known bytes script) wants
-  status_is wants script most =
-      sym (ap (λ t. cond t statuses.ScriptLong (lines_status (count_by is_refusal (replies said wants script)))) (le-ltb 16777216 (length script) most))
-      ∙ (sym (ap (λ file. script_status replies file wants script) is_open) ∙ sym (is.status (world_with known bytes script) wants))
+  status_is : (starved script : List ℕ) → length script ≤ 16777216 → lines_status (count_by is_refusal (replies said starved script)) ≡ status_for c (world_with known bytes script) starved
+  status_is starved script most =
+      sym (ap (λ t. cond t statuses.ScriptLong (lines_status (count_by is_refusal (replies said starved script)))) (le-ltb 16777216 (length script) most))
+      ∙ (sym (ap (λ file. script_status replies file starved script) is_open) ∙ sym (is.status (world_with known bytes script) starved))
 
   too_long : (input : List ℕ) → 16777216 < length input → statuses.ScriptLong ≡ status_for c (world_with known bytes input) []
   too_long input long =
@@ -115,19 +115,19 @@ module _ (c : Command) (name : List ℕ) (reading : List ℕ → Result Said Sta
       ∙ (sym (ap (λ file. script_status replies file [] input) is_open) ∙ sym (is.status (world_with known bytes input) []))
 
   -- its text
-  text_is : (wants script taken : List ℕ) → replies_text (replies said wants script) ≡ text_for c (world_with known bytes script) wants taken
-  text_is wants script taken = sym (ap (λ file. script_text replies file wants script) is_open) ∙ sym (is.text (world_with known bytes script) wants taken)
+  text_is : (starved script taken : List ℕ) → replies_text (replies said starved script) ≡ text_for c (world_with known bytes script) starved taken
+  text_is starved script taken = sym (ap (λ file. script_text replies file starved script) is_open) ∙ sym (is.text (world_with known bytes script) starved taken)
 
   -- no line was run, and nothing was written
-  unread : (status : Status) (src src_now out : Option (List ℕ)) (input taken : List ℕ) → IsOfCommand status → TellsInput src input → OnWholeScript status (AreWants replies (opened reading (files_with known bytes name)) [] input)
+  unread : (status : Status) (src src_now out : Option (List ℕ)) (input taken : List ℕ) → IsOfCommand status → ExposesInput src input → OnWholeScript status (AreStarved replies (opened reading (files_with known bytes name)) [] input)
       → (status ≡ status_for c (world_with known bytes input) []) ⊎ MayFail status c (world_with known bytes input) [] → Takes src src_now taken → TakesScript status input taken
       → ((text : List ℕ) → Writes status text (cut_draft status text) out out) → Unsaved status → Behaves c status (seen src out known) (seen src_now out mid)
-  unread status src src_now out input taken ends told wanted stated takes extent written un = record {
+  unread status src src_now out input taken ends exposed starved_are stated takes extent written un = record {
     ends = ends;
     world = world_with known bytes input;
-    told = record { input = told; files = TellsFiles-with known bytes };
-    wants = [];
-    wanted = is.wanted (world_with known bytes input) [] status wanted;
+    exposed = record { input = exposed; files = ExposesFiles-with known bytes };
+    starved = [];
+    starved_are = is.starved_are (world_with known bytes input) [] status starved_are;
     stated = stated;
     taken = taken;
     takes = takes;
@@ -143,18 +143,18 @@ module _ (c : Command) (name : List ℕ) (reading : List ℕ → Result Said Sta
   Behaves-untaken taking.Long src src_now out long took =
       let more = long refl in
       let input = long_input src src_now more.0 more.1 more.2 in
-      unread statuses.ScriptLong src src_now out input.0 more.0 tt input.1 tt (inl (too_long input.0 input.2)) more.2 more.1 (λ text. AppendsFront-none out []) tt
+      unread statuses.ScriptLong src src_now out input.0 more.0 tt input.1 tt (inl (too_long input.0 input.2)) more.2 more.1 (λ text. AppendsPrefix-none out []) tt
   Behaves-untaken taking.Failed src src_now out long took =
       let some = some_input src in
-      unread statuses.ReadFault src src_now out some.0 took.0 tt some.1 tt (inr (is.reads (world_with known bytes some.0) open_ok)) took.1 tt (λ text. AppendsFront-none out []) tt
+      unread statuses.ReadFault src src_now out some.0 took.0 tt some.1 tt (inr (is.reads (world_with known bytes some.0) open_ok)) took.1 tt (λ text. AppendsPrefix-none out []) tt
   Behaves-untaken taking.Memory src src_now out long took =
       let some = some_input src in
-      unread statuses.Memory src src_now out some.0 took.0 tt some.1 tt (inr (is.loading.starves (world_with known bytes some.0))) took.1 tt (λ text. AppendsFront-none out []) tt
+      unread statuses.Memory src src_now out some.0 took.0 tt some.1 tt (inr (is.loading.starves (world_with known bytes some.0))) took.1 tt (λ text. AppendsPrefix-none out []) tt
 
   -- the script was read, and it is not too long
-  module _ (script wants : List ℕ) (most : length script ≤ 16777216) (src rest : Option (List ℕ)) (takes : Takes src rest script) (end : IsAtEnd rest) where
-    told_script : (out : Option (List ℕ)) → IsTold (seen src out known) (world_with known bytes script)
-    told_script out = record { input = TellsInput-taken src rest script takes end; files = TellsFiles-with known bytes }
+  module _ (script starved : List ℕ) (most : length script ≤ 16777216) (src rest : Option (List ℕ)) (takes : Takes src rest script) (end : IsAtEnd rest) where
+    exposed_script : (out : Option (List ℕ)) → IsExposed (seen src out known) (world_with known bytes script)
+    exposed_script out = record { input = ExposesInput-taken src rest script takes end; files = ExposesFiles-with known bytes }
 
     -- it can be run here
     pub runnable : IsRunnable (opened reading (files_with known bytes name)) (world_with known bytes script)
@@ -162,93 +162,93 @@ module _ (c : Command) (name : List ℕ) (reading : List ℕ → Result Said Sta
 
     -- all its lines were run, and it ended so
     pub Behaves-whole : (status : Status) (out out_now : Option (List ℕ)) (shelf : Option Files) → IsOfCommand status → ((P : Type 0) → P → OnWholeScript status P) → TakesScript status script script
-        → ((text draft : List ℕ) → Appends out out_now text → Writes status text draft out out_now) → (status ≡ status_for c (world_with known bytes script) wants) ⊎ MayFail status c (world_with known bytes script) wants
-        → count_by is_want (replies said wants script) ≡ length wants → Appends out out_now (replies_text (replies said wants script)) → Saves (saved_for c (world_with known bytes script) wants) status known shelf
+        → ((text draft : List ℕ) → Appends out out_now text → Writes status text draft out out_now) → (status ≡ status_for c (world_with known bytes script) starved) ⊎ MayFail status c (world_with known bytes script) starved
+        → count_by is_starved (replies said starved script) ≡ length starved → Appends out out_now (replies_text (replies said starved script)) → Saves (saved_for c (world_with known bytes script) starved) status known shelf
         → Behaves c status (seen src out known) (seen rest out_now shelf)
-    Behaves-whole status out out_now shelf ends on_whole extent writes stated wanted written saved = record {
+    Behaves-whole status out out_now shelf ends on_whole extent writes stated starved_are written saved = record {
       ends = ends;
       world = world_with known bytes script;
-      told = told_script out;
-      wants = wants;
-      wanted = is.wanted (world_with known bytes script) wants status (on_whole _ (subst (λ file. AreWants replies file wants script) (sym is_open) wanted));
+      exposed = exposed_script out;
+      starved = starved;
+      starved_are = is.starved_are (world_with known bytes script) starved status (on_whole _ (subst (λ file. AreStarved replies file starved script) (sym is_open) starved_are));
       stated = stated;
       taken = script;
       takes = takes;
       extent = is.extent status script script extent;
       raw = script;
       raw_is = is.loading.plain status src script;
-      written = writes _ _ (subst (Appends out out_now) (text_is wants script script) written);
+      written = writes _ _ (subst (Appends out out_now) (text_is starved script script) written);
       saved = saved;
     }
 
     -- so many lines were refused, or none
-    pub Behaves-lines : (n : ℕ) (out out_now : Option (List ℕ)) (shelf : Option Files) → n ≡ count_by is_refusal (replies said wants script) → count_by is_want (replies said wants script) ≡ length wants
-        → Appends out out_now (replies_text (replies said wants script)) → Saves (saved_for c (world_with known bytes script) wants) (lines_status n) known shelf → Behaves c (lines_status n) (seen src out known) (seen rest out_now shelf)
-    Behaves-lines zero out out_now shelf refused wanted written saved =
-        Behaves-whole statuses.Done out out_now shelf tt (λ P p. p) refl (λ text draft all. all) (inl (ap lines_status refused ∙ status_is wants script most)) wanted written saved
-    Behaves-lines (suc n) out out_now shelf refused wanted written saved =
-        Behaves-whole (statuses.Lines (suc n)) out out_now shelf tt (λ P p. p) refl (λ text draft all. all) (inl (ap lines_status refused ∙ status_is wants script most)) wanted written saved
+    pub Behaves-lines : (n : ℕ) (out out_now : Option (List ℕ)) (shelf : Option Files) → n ≡ count_by is_refusal (replies said starved script) → count_by is_starved (replies said starved script) ≡ length starved
+        → Appends out out_now (replies_text (replies said starved script)) → Saves (saved_for c (world_with known bytes script) starved) (lines_status n) known shelf → Behaves c (lines_status n) (seen src out known) (seen rest out_now shelf)
+    Behaves-lines zero out out_now shelf refused starved_are written saved =
+        Behaves-whole statuses.Done out out_now shelf tt (λ P p. p) refl (λ text draft all. all) (inl (ap lines_status refused ∙ status_is starved script most)) starved_are written saved
+    Behaves-lines (suc n) out out_now shelf refused starved_are written saved =
+        Behaves-whole (statuses.Lines (suc n)) out out_now shelf tt (λ P p. p) refl (λ text draft all. all) (inl (ap lines_status refused ∙ status_is starved script most)) starved_are written saved
 
     -- all its lines were run, and the replies were written but not handed on
-    pub Behaves-unsent : (out out_now : Option (List ℕ)) → Appends out out_now (replies_text (replies said wants script)) → Behaves c statuses.WriteFault (seen src out known) (seen rest out_now mid)
+    pub Behaves-unsent : (out out_now : Option (List ℕ)) → Appends out out_now (replies_text (replies said starved script)) → Behaves c statuses.WriteFault (seen src out known) (seen rest out_now mid)
     Behaves-unsent out out_now written =
         let w = world_with known bytes script in
-        let text = replies_text (replies said wants script) in
+        let text = replies_text (replies said starved script) in
         record {
           ends = tt;
           world = w;
-          told = told_script out;
-          wants = wants;
-          wanted = is.wanted w wants statuses.WriteFault tt;
+          exposed = exposed_script out;
+          starved = starved;
+          starved_are = is.starved_are w starved statuses.WriteFault tt;
           stated = inr (is.writes w runnable);
           taken = script;
           takes = takes;
           extent = is.extent statuses.WriteFault script script refl;
           raw = script;
           raw_is = is.loading.plain statuses.WriteFault src script;
-          written = subst (AppendsFront out out_now) (text_is wants script script ∙ sym (is.draft w wants statuses.WriteFault script)) (AppendsFront-all out out_now text written);
-          saved = Saves-unsaved (saved_for c w wants) statuses.WriteFault known mid tt kept;
+          written = subst (AppendsPrefix out out_now) (text_is starved script script ∙ sym (is.draft w starved statuses.WriteFault script)) (AppendsPrefix-all out out_now text written);
+          saved = Saves-unsaved (saved_for c w starved) statuses.WriteFault known mid tt kept;
         }
 
     -- a reply was not written whole
-    module _ {Code : Type 0} (setting : Setting Code) (start : Session Code) (same : (run_lines setting wants 0 (lines_of script) start).1 ≡ replies said wants script) where
-      -- the text of the first lines is a front of the text of all
-      front_of_text : (n : ℕ) → (more : List ℕ) × (replies_text (replies said wants script) ≡ replies_text (run_lines setting wants 0 (take n (lines_of script)) start).1 ++ more)
-      front_of_text n =
+    module _ {Code : Type 0} (setting : Setting Code) (start : Session Code) (same : (run_lines setting starved 0 (lines_of script) start).1 ≡ replies said starved script) where
+      -- the text of the first lines is a prefix of the text of all
+      prefix_of_text : (n : ℕ) → (more : List ℕ) × (replies_text (replies said starved script) ≡ replies_text (run_lines setting starved 0 (take n (lines_of script)) start).1 ++ more)
+      prefix_of_text n =
           let all = lines_of script in
-          let front = run_lines setting wants 0 (take n all) start in
-          let behind = run_lines setting wants (0 + length (take n all)) (drop n all) front.0 in (
+          let prefix = run_lines setting starved 0 (take n all) start in
+          let behind = run_lines setting starved (0 + length (take n all)) (drop n all) prefix.0 in (
             replies_text behind.1,
             ap replies_text (sym same)
-                ∙ (ap (λ ls. replies_text (run_lines setting wants 0 ls start).1) (sym (take-append-drop n all))
-                ∙ (ap (λ r. replies_text r.1) (run_lines-append setting wants 0 (take n all) (drop n all) start)
-                ∙ flat_map-append reply_text front.1 behind.1)),
+                ∙ (ap (λ ls. replies_text (run_lines setting starved 0 ls start).1) (sym (take-append-drop n all))
+                ∙ (ap (λ r. replies_text r.1) (run_lines-append setting starved 0 (take n all) (drop n all) start)
+                ∙ flat_map-append reply_text prefix.1 behind.1)),
           )
 
-      pub Behaves-cut_script : (now : Session Code) (out out_now : Option (List ℕ)) → StopsAt setting wants script start now out out_now → Behaves c statuses.WriteFault (seen src out known) (seen rest out_now mid)
+      pub Behaves-cut_script : (now : Session Code) (out out_now : Option (List ℕ)) → StopsAt setting starved script start now out out_now → Behaves c statuses.WriteFault (seen src out known) (seen rest out_now mid)
       Behaves-cut_script now out out_now stops =
-          let first = replies_text (run_lines setting wants 0 (take stops.at (lines_of script)) start).1 in
+          let first = replies_text (run_lines setting starved 0 (take stops.at (lines_of script)) start).1 in
           let reply = reply_text stops.reply in
-          let front = front_of_text (stops.at + 1) in
+          let prefix = prefix_of_text (stops.at + 1) in
           let one : replies_text (stops.reply ∷ []) ≡ reply = append-nil reply in
-          let replied : replies_text (run_lines setting wants 0 (take (stops.at + 1) (lines_of script)) start).1 ≡ first ++ reply =
-          ap replies_text stops.replied ∙ (flat_map-append reply_text (run_lines setting wants 0 (take stops.at (lines_of script)) start).1 (stops.reply ∷ []) ∙ ap (λ r. first ++ r) one) in
-          let whole : (first ++ reply) ++ front.0 ≡ text_for c (world_with known bytes script) wants script =
-          ap (λ text. text ++ front.0) (sym replied) ∙ (sym front.1 ∙ text_is wants script script) in
-          let part : AppendsFront out out_now (first ++ reply) =
+          let replied : replies_text (run_lines setting starved 0 (take (stops.at + 1) (lines_of script)) start).1 ≡ first ++ reply =
+          ap replies_text stops.replied ∙ (flat_map-append reply_text (run_lines setting starved 0 (take stops.at (lines_of script)) start).1 (stops.reply ∷ []) ∙ ap (λ r. first ++ r) one) in
+          let whole : (first ++ reply) ++ prefix.0 ≡ text_for c (world_with known bytes script) starved script =
+          ap (λ text. text ++ prefix.0) (sym replied) ∙ (sym prefix.1 ∙ text_is starved script script) in
+          let part : AppendsPrefix out out_now (first ++ reply) =
           (length first + stops.count, omega (arith, length-append first reply, stops.not_whole), rw (take-append-add first reply stops.count) stops.written) in
           record {
             ends = tt;
             world = world_with known bytes script;
-            told = told_script out;
-            wants = wants;
-            wanted = is.wanted (world_with known bytes script) wants statuses.WriteFault tt;
+            exposed = exposed_script out;
+            starved = starved;
+            starved_are = is.starved_are (world_with known bytes script) starved statuses.WriteFault tt;
             stated = inr (is.writes (world_with known bytes script) runnable);
             taken = script;
             takes = takes;
             extent = is.extent statuses.WriteFault script script refl;
             raw = script;
             raw_is = is.loading.plain statuses.WriteFault src script;
-            written = subst (AppendsFront out out_now) (whole ∙ sym (is.draft (world_with known bytes script) wants statuses.WriteFault script)) (AppendsFront-more out out_now (first ++ reply) front.0 part);
-            saved = Saves-unsaved (saved_for c (world_with known bytes script) wants) statuses.WriteFault known mid tt kept;
+            written = subst (AppendsPrefix out out_now) (whole ∙ sym (is.draft (world_with known bytes script) starved statuses.WriteFault script)) (AppendsPrefix-more out out_now (first ++ reply) prefix.0 part);
+            saved = Saves-unsaved (saved_for c (world_with known bytes script) starved) statuses.WriteFault known mid tt kept;
           }

@@ -114,7 +114,7 @@ sizes_more P sizes dims n lt all this = subst (AllByRecursion P) (sym (take_more
 pub texts_more : {Part : Type 0} (text : Part → List ℕ) (parts : List Part) (part : Part) (sizes : List ℕ) (dims n : ℕ) → dims < length sizes → map text parts ≡ map decimal (take dims sizes) → text part ≡ decimal n → map text (parts ++ part ∷ []) ≡ map decimal (take (dims + 1) (set sizes dims n))
 texts_more text parts part sizes dims n lt so_far this =
     map-append text parts (part ∷ [])
-    ∙ (ap (λ front. front ++ text part ∷ []) so_far
+    ∙ (ap (λ prefix. prefix ++ text part ∷ []) so_far
     ∙ (ap (λ last. map decimal (take dims sizes) ++ last ∷ []) this
     ∙ (sym (map-append decimal (take dims sizes) (n ∷ []))
     ∙ ap (map decimal) (sym (take_more_set sizes dims n lt)))))

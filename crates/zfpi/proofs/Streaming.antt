@@ -3,8 +3,8 @@ use Rattle.std.proofs.Common.{◌≡◌, ◌≢◌, ℕ, List, [], ◌∷◌, Op
 use Rattle.std.proofs.lemmas.List.{take_all}
 use Rattle.zf_dev.specs.Shelf.{Files}
 use Rattle.zf_dev.specs.Source.{Takes, IsAtEnd}
-use Rattle.zf_dev.specs.Sink.{Appends, AppendsFront}
-use Rattle.zf_dev.proofs.Appending.{AppendsFront-none}
+use Rattle.zf_dev.specs.Sink.{Appends, AppendsPrefix}
+use Rattle.zf_dev.proofs.Appending.{AppendsPrefix-none}
 use Rattle.zf_header.specs.declared.header.Header.{Header}
 use Rattle.zf_header.specs.declared.header.Mode.TheVariants.{Reversible}
 use Rattle.zf_header.specs.HeaderFaults.{header_fault}
@@ -17,7 +17,7 @@ use Rattle.zf_parse.specs.Parsing.{header_of, restore_answer}
 use Rattle.zf_parse.proofs.Parsed.{good_header}
 use Rattle.zf_parse.proofs.StreamsBack.{answer-stream_text}
 use Rattle.zf_stream.specs.Outcomes as streams
-use Rattle.zf_stream.specs.Headed.{front_room}
+use Rattle.zf_stream.specs.Headed.{prefix_room}
 use Rattle.zf_narrow.specs.declared.narrow.Narrow.{Narrow}
 use Rattle.zf_narrow.specs.declared.fault.NarrowFault.{NarrowFault}
 use Rattle.zf_narrow.specs.declared.fault.NarrowFault.TheVariants.{NotNarrow, Stream}
@@ -27,11 +27,11 @@ use Rattle.zfpi.specs.declared.status.Status.TheVariants as statuses
 use Rattle.zfpi.specs.declared.command.Command.{Command}
 use Rattle.zfpi.specs.declared.command.Command.TheVariants.{Compress, CompressNarrow, Restore, RestoreNarrow}
 use Rattle.zfpi.specs.Faults.{fault_status, narrow_status}
-use Rattle.zfpi.specs.World.{World, TellsInput, seen}
-use Rattle.zfpi.specs.Answer.{TakesNarrow, status_of, narrow_status_of, status_for, text_for, draft_for, saved_for, IsRaw, IsNarrowRaw, IsExtent, HasWants, TakesMemory, MayRead, MayWrite, MayFail, compress_draft, restore_draft, TakesWhole}
+use Rattle.zfpi.specs.World.{World, ExposesInput, seen}
+use Rattle.zfpi.specs.Answer.{TakesNarrow, status_of, narrow_status_of, status_for, text_for, draft_for, saved_for, IsRaw, IsNarrowRaw, IsExtent, HasStarved, TakesMemory, MayRead, MayWrite, MayFail, compress_draft, restore_draft, TakesWhole}
 use Rattle.zfpi.specs.Headline.{IsOfCommand, Writes, Saves, Behaves}
 use Rattle.zfpi.proofs.Completed.{one_value}
-use Rattle.zfpi.proofs.Told.{world_of, TellsFiles-same, KeepsFiles-none, TellsInput-taken}
+use Rattle.zfpi.proofs.Exposed.{world_of, ExposesFiles-same, KeepsFiles-none, ExposesInput-taken}
 
 -- ---- commands on streams
 
@@ -48,12 +48,12 @@ unfolding IsCut
 IsOfCommand-cut (statuses.Usage k) cut = absurd cut
 IsOfCommand-cut status cut = tt
 
-Writes-cut : (status : Status) (text draft : List ℕ) (before now : Option (List ℕ)) → IsCut status → AppendsFront before now draft → Writes status text draft before now
+Writes-cut : (status : Status) (text draft : List ℕ) (before now : Option (List ℕ)) → IsCut status → AppendsPrefix before now draft → Writes status text draft before now
 unfolding IsCut
-Writes-cut statuses.Done text draft before now cut front = absurd cut
-Writes-cut (statuses.Lines n) text draft before now cut front = absurd cut
-Writes-cut statuses.SaveFault text draft before now cut front = absurd cut
-Writes-cut status text draft before now cut front = front
+Writes-cut statuses.Done text draft before now cut prefix = absurd cut
+Writes-cut (statuses.Lines n) text draft before now cut prefix = absurd cut
+Writes-cut statuses.SaveFault text draft before now cut prefix = absurd cut
+Writes-cut status text draft before now cut prefix = prefix
 
 TakesWhole-cut : (status : Status) (input taken : List ℕ) → IsCut status → TakesWhole status input taken
 unfolding IsCut
@@ -85,7 +85,7 @@ TakesNarrow-fault faults.Memory input taken = tt
 
 -- a command that reads a stream to its end and saves nothing
 pub record IsStreaming (c : Command) : Type 0 where
-  pub no_wants : (status : Status) (w : World) → HasWants c status w []
+  pub not_starved : (status : Status) (w : World) → HasStarved c status w []
   pub nothing_saved : (w : World) → saved_for c w [] ≡ None
   pub to_end : (input : List ℕ) → IsExtent c statuses.Done input input
   pub cut_extent : (e : StreamFault) (input taken : List ℕ) → IsExtent c (fault_status e) input taken
@@ -94,7 +94,7 @@ pub record IsStreaming (c : Command) : Type 0 where
 
 pub IsStreaming-compress : (h : Header) → IsStreaming (Compress h)
 IsStreaming-compress h = record {
-  no_wants = λ status w. refl;
+  not_starved = λ status w. refl;
   nothing_saved = λ w. refl;
   to_end = λ input. refl;
   cut_extent = λ e input taken. TakesWhole-cut (fault_status e) input taken (IsCut-fault e);
@@ -104,7 +104,7 @@ IsStreaming-compress h = record {
 
 pub IsStreaming-compress_narrow : (n : Narrow) (h : Header) → IsStreaming (CompressNarrow n h)
 IsStreaming-compress_narrow n h = record {
-  no_wants = λ status w. refl;
+  not_starved = λ status w. refl;
   nothing_saved = λ w. refl;
   to_end = λ input. refl;
   cut_extent = λ e input taken. TakesWhole-cut (fault_status e) input taken (IsCut-fault e);
@@ -114,7 +114,7 @@ IsStreaming-compress_narrow n h = record {
 
 pub IsStreaming-restore : IsStreaming Restore
 IsStreaming-restore = record {
-  no_wants = λ status w. refl;
+  not_starved = λ status w. refl;
   nothing_saved = λ w. refl;
   to_end = λ input. refl;
   cut_extent = λ e input taken. TakesWhole-cut (fault_status e) input taken (IsCut-fault e);
@@ -124,7 +124,7 @@ IsStreaming-restore = record {
 
 pub IsStreaming-restore_narrow : (n : Narrow) → IsStreaming (RestoreNarrow n)
 IsStreaming-restore_narrow n = record {
-  no_wants = λ status w. refl;
+  not_starved = λ status w. refl;
   nothing_saved = λ w. refl;
   to_end = λ input. refl;
   cut_extent = TakesNarrow-fault;
@@ -142,9 +142,9 @@ Behaves-done c bytes raw src_before src_now out_before out_now shelf is stated t
     record {
       ends = tt;
       world = w;
-      told = record { input = TellsInput-taken src_before src_now bytes taken ended; files = TellsFiles-same shelf };
-      wants = [];
-      wanted = is.no_wants statuses.Done w;
+      exposed = record { input = ExposesInput-taken src_before src_now bytes taken ended; files = ExposesFiles-same shelf };
+      starved = [];
+      starved_are = is.not_starved statuses.Done w;
       stated = inl stated;
       taken = bytes;
       takes = taken;
@@ -161,36 +161,36 @@ Behaves-done c bytes raw src_before src_now out_before out_now shelf is stated t
 IsStated : Command → Status → Option Files → List ℕ → Type 0
 IsStated c status shelf input = (status ≡ status_for c (world_of input shelf) []) ⊎ MayFail status c (world_of input shelf) []
 
--- an input that the source tells, and which explains the status
+-- an input that the source exposes, and which explains the status
 record Explains (c : Command) (status : Status) (known : Option (List ℕ)) (shelf : Option Files) : Type 0 where
   input : List ℕ
-  told : TellsInput known input
+  exposed : ExposesInput known input
   stated : IsStated c status shelf input
 
 explain : (c : Command) (status : Status) (known : Option (List ℕ)) (shelf : Option Files) → ((input : List ℕ) → known ≡ Some input → IsStated c status shelf input) → (input : List ℕ) × IsStated c status shelf input → Explains c status known shelf
-explain c status None shelf told some = record { input = some.0; told = tt; stated = some.1 }
-explain c status (Some input) shelf told some = record { input = input; told = refl; stated = told input refl }
+explain c status None shelf exposed some = record { input = some.0; exposed = tt; stated = some.1 }
+explain c status (Some input) shelf exposed some = record { input = input; exposed = refl; stated = exposed input refl }
 
 Behaves-cut : (c : Command) (status : Status) (taken raw : List ℕ) (src_before src_now out_before out_now : Option (List ℕ)) (shelf : Option Files) → IsStreaming c → IsCut status
     → (why : Explains c status src_before shelf) → IsExtent c status why.input taken
-    → Takes src_before src_now taken → IsRaw c status src_before taken raw → ((w : World) → AppendsFront out_before out_now (draft_for c status w [] raw))
+    → Takes src_before src_now taken → IsRaw c status src_before taken raw → ((w : World) → AppendsPrefix out_before out_now (draft_for c status w [] raw))
     → Behaves c status (seen src_before out_before shelf) (seen src_now out_now shelf)
 unfolding IsStated
-Behaves-cut c status taken raw src_before src_now out_before out_now shelf is cut why extent takes raw_is front =
+Behaves-cut c status taken raw src_before src_now out_before out_now shelf is cut why extent takes raw_is prefix =
     let w = world_of why.input shelf in
     record {
       ends = IsOfCommand-cut status cut;
       world = w;
-      told = record { input = why.told; files = TellsFiles-same shelf };
-      wants = [];
-      wanted = is.no_wants status w;
+      exposed = record { input = why.exposed; files = ExposesFiles-same shelf };
+      starved = [];
+      starved_are = is.not_starved status w;
       stated = why.stated;
       taken = taken;
       takes = takes;
       extent = extent;
       raw = raw;
       raw_is = raw_is;
-      written = Writes-cut status (text_for c w [] raw) (draft_for c status w [] raw) out_before out_now cut (front w);
+      written = Writes-cut status (text_for c w [] raw) (draft_for c status w [] raw) out_before out_now cut (prefix w);
       saved = subst (λ file. Saves file status shelf shelf) (sym (is.nothing_saved w)) (KeepsFiles-none shelf);
     }
 
@@ -205,21 +205,21 @@ may_outside c e w is takes outside = elim outside [
   ]
 ]
 
--- a fault is the one that is stated for the input, or for some input where none is told. For this input the command takes memory
+-- a fault is the one that is stated for the input, or for some input where none is exposed. For this input the command takes memory
 pub Behaves-fault : (c : Command) (answer : List ℕ → Result (Unit {0}) StreamFault) (e : StreamFault) (large taken raw : List ℕ) (src_before src_now out_before out_now : Option (List ℕ)) (shelf : Option Files) → IsStreaming c
     → ((w : World) → status_of (answer w.input) ≡ status_for c w []) → streams.Answers (Err e) src_before answer → streams.CanRefuse answer e
     → TakesMemory c (world_of large shelf) → ((input : List ℕ) → src_before ≡ Some input → e ≡ faults.Memory → TakesMemory c (world_of input shelf))
-    → Takes src_before src_now taken → IsRaw c (fault_status e) src_before taken raw → ((w : World) → AppendsFront out_before out_now (draft_for c (fault_status e) w [] raw))
+    → Takes src_before src_now taken → IsRaw c (fault_status e) src_before taken raw → ((w : World) → AppendsPrefix out_before out_now (draft_for c (fault_status e) w [] raw))
     → Behaves c (fault_status e) (seen src_before out_before shelf) (seen src_now out_now shelf)
 unfolding IsStated
-Behaves-fault c answer e large taken raw src_before src_now out_before out_now shelf is status answers refuses has_room takes takes_bytes raw_is front =
+Behaves-fault c answer e large taken raw src_before src_now out_before out_now shelf is status answers refuses has_room takes takes_bytes raw_is prefix =
     Behaves-cut c (fault_status e) taken raw src_before src_now out_before out_now shelf is (IsCut-fault e) why
-    (is.cut_extent e why.input taken) takes_bytes raw_is front
+    (is.cut_extent e why.input taken) takes_bytes raw_is prefix
   where
-    told : (input : List ℕ) → src_before ≡ Some input → IsStated c (fault_status e) shelf input
-    told input is_told = elim (subst (λ known. streams.Answers (Err e) known answer) is_told answers) [
+    exposed : (input : List ℕ) → src_before ≡ Some input → IsStated c (fault_status e) shelf input
+    exposed input is_exposed = elim (subst (λ known. streams.Answers (Err e) known answer) is_exposed answers) [
       | inl same ↦ inl (ap status_of same ∙ status (world_of input shelf))
-      | inr outside ↦ inr (may_outside c e (world_of input shelf) is (takes input is_told) outside)
+      | inr outside ↦ inr (may_outside c e (world_of input shelf) is (takes input is_exposed) outside)
     ]
 
     some : (input : List ℕ) × IsStated c (fault_status e) shelf input
@@ -229,33 +229,33 @@ Behaves-fault c answer e large taken raw src_before src_now out_before out_now s
     ]
 
     why : Explains c (fault_status e) src_before shelf
-    why = explain c (fault_status e) src_before shelf told some
+    why = explain c (fault_status e) src_before shelf exposed some
 
--- where nothing was written, nothing is a front
-pub nothing_written : (before now : Option (List ℕ)) → now ≡ before → AppendsFront before now []
-nothing_written before now same = subst (λ out. AppendsFront before out []) (sym same) (AppendsFront-none before [])
+-- where nothing was written, nothing is a prefix
+pub nothing_written : (before now : Option (List ℕ)) → now ≡ before → AppendsPrefix before now []
+nothing_written before now same = subst (λ out. AppendsPrefix before out []) (sym same) (AppendsPrefix-none before [])
 
-pub compress_front : (e : StreamFault) (text : List ℕ) (before now : Option (List ℕ)) → AppendsFront before now text → (e ≡ faults.Memory → now ≡ before) → AppendsFront before now (compress_draft (fault_status e) text)
-compress_front faults.Memory text before now front none = nothing_written before now (none refl)
-compress_front (faults.RawShort m) text before now front none = front
-compress_front faults.RawLong text before now front none = front
-compress_front (faults.Header f) text before now front none = front
-compress_front (faults.Truncated b) text before now front none = front
-compress_front faults.Pad text before now front none = front
-compress_front faults.Trailing text before now front none = front
-compress_front faults.Read text before now front none = front
-compress_front faults.Write text before now front none = front
+pub compress_prefix : (e : StreamFault) (text : List ℕ) (before now : Option (List ℕ)) → AppendsPrefix before now text → (e ≡ faults.Memory → now ≡ before) → AppendsPrefix before now (compress_draft (fault_status e) text)
+compress_prefix faults.Memory text before now prefix none = nothing_written before now (none refl)
+compress_prefix (faults.RawShort m) text before now prefix none = prefix
+compress_prefix faults.RawLong text before now prefix none = prefix
+compress_prefix (faults.Header f) text before now prefix none = prefix
+compress_prefix (faults.Truncated b) text before now prefix none = prefix
+compress_prefix faults.Pad text before now prefix none = prefix
+compress_prefix faults.Trailing text before now prefix none = prefix
+compress_prefix faults.Read text before now prefix none = prefix
+compress_prefix faults.Write text before now prefix none = prefix
 
-pub restore_front : (e : StreamFault) (text : List ℕ) (before now : Option (List ℕ)) → AppendsFront before now text → (streams.IsBeforeWriting e → AppendsFront before now []) → AppendsFront before now (restore_draft (fault_status e) text)
-restore_front (faults.Header f) text before now front none = none tt
-restore_front faults.Memory text before now front none = none tt
-restore_front (faults.RawShort m) text before now front none = front
-restore_front faults.RawLong text before now front none = front
-restore_front (faults.Truncated b) text before now front none = front
-restore_front faults.Pad text before now front none = front
-restore_front faults.Trailing text before now front none = front
-restore_front faults.Read text before now front none = front
-restore_front faults.Write text before now front none = front
+pub restore_prefix : (e : StreamFault) (text : List ℕ) (before now : Option (List ℕ)) → AppendsPrefix before now text → (streams.IsBeforeWriting e → AppendsPrefix before now []) → AppendsPrefix before now (restore_draft (fault_status e) text)
+restore_prefix (faults.Header f) text before now prefix none = none tt
+restore_prefix faults.Memory text before now prefix none = none tt
+restore_prefix (faults.RawShort m) text before now prefix none = prefix
+restore_prefix faults.RawLong text before now prefix none = prefix
+restore_prefix (faults.Truncated b) text before now prefix none = prefix
+restore_prefix faults.Pad text before now prefix none = prefix
+restore_prefix faults.Trailing text before now prefix none = prefix
+restore_prefix faults.Read text before now prefix none = prefix
+restore_prefix faults.Write text before now prefix none = prefix
 
 -- ---- an input for which `restore` takes memory
 
@@ -289,29 +289,29 @@ unfolding IsCut
 IsCut-narrow NotNarrow = tt
 IsCut-narrow (Stream e) = IsCut-fault e
 
-pub narrow_front : (e : NarrowFault) (text : List ℕ) (before now : Option (List ℕ)) → AppendsFront before now text → (IsBeforeWriting e → AppendsFront before now []) → AppendsFront before now (restore_draft (narrow_status e) text)
-narrow_front NotNarrow text before now front none = none tt
-narrow_front (Stream e) text before now front none = restore_front e text before now front none
+pub narrow_prefix : (e : NarrowFault) (text : List ℕ) (before now : Option (List ℕ)) → AppendsPrefix before now text → (IsBeforeWriting e → AppendsPrefix before now []) → AppendsPrefix before now (restore_draft (narrow_status e) text)
+narrow_prefix NotNarrow text before now prefix none = none tt
+narrow_prefix (Stream e) text before now prefix none = restore_prefix e text before now prefix none
 
 may_outside_narrow : (n : Narrow) (e : NarrowFault) (w : World) → (e ≡ Stream faults.Memory → TakesMemory (RestoreNarrow n) w) → IsFromOutside e → MayFail (narrow_status e) (RestoreNarrow n) w []
 may_outside_narrow n NotNarrow w takes outside = absurd outside
 may_outside_narrow n (Stream e) w takes outside = may_outside (RestoreNarrow n) e w (IsStreaming-restore_narrow n) (λ memory. takes (ap Stream memory)) outside
 
--- the status is the one that is stated for the input, or for some input where none is told
+-- the status is the one that is stated for the input, or for some input where none is exposed
 narrow_why : (n : Narrow) (e : NarrowFault) (src_before : Option (List ℕ)) (shelf : Option Files)
     → AnswersNarrow (Err e) src_before → CanRefuseNarrow e
     → ((input : List ℕ) → src_before ≡ Some input → e ≡ Stream faults.Memory → TakesMemory (RestoreNarrow n) (world_of input shelf))
     → Explains (RestoreNarrow n) (narrow_status e) src_before shelf
 unfolding IsStated
-narrow_why n e src_before shelf answers refuses takes = explain c (narrow_status e) src_before shelf told some
+narrow_why n e src_before shelf answers refuses takes = explain c (narrow_status e) src_before shelf exposed some
   where
     c : Command
     c = RestoreNarrow n
 
-    told : (input : List ℕ) → src_before ≡ Some input → IsStated c (narrow_status e) shelf input
-    told input is_told = elim (subst (λ known. AnswersNarrow (Err e) known) is_told answers) [
+    exposed : (input : List ℕ) → src_before ≡ Some input → IsStated c (narrow_status e) shelf input
+    exposed input is_exposed = elim (subst (λ known. AnswersNarrow (Err e) known) is_exposed answers) [
       | inl same ↦ inl (ap narrow_status_of same)
-      | inr outside ↦ inr (may_outside_narrow n e (world_of input shelf) (takes input is_told) outside)
+      | inr outside ↦ inr (may_outside_narrow n e (world_of input shelf) (takes input is_exposed) outside)
     ]
 
     some : (input : List ℕ) × IsStated c (narrow_status e) shelf input
@@ -329,40 +329,40 @@ wide_answer bytes good other =
     let h = header_of bytes in
     ap (λ f. answer_behind f h.ty (restore_answer bytes)) good ∙ wide_type h.ty (restore_answer bytes) other
 
--- another type: of an input that is not told, the first bytes are all that is known
+-- another type: of an input that is not exposed, the first bytes are all that is known
 Behaves-wide : (n : Narrow) (src_before src_now out_before out_now : Option (List ℕ)) (shelf : Option Files)
-    → AnswersNarrow (Err NotNarrow) src_before → HasWideType src_before src_now → AppendsFront out_before out_now []
+    → AnswersNarrow (Err NotNarrow) src_before → HasWideType src_before src_now → AppendsPrefix out_before out_now []
     → Behaves (RestoreNarrow n) statuses.NotNarrow (seen src_before out_before shelf) (seen src_now out_now shelf)
 unfolding IsStated
-Behaves-wide n None src_now out_before out_now shelf answers wide front =
+Behaves-wide n None src_now out_before out_now shelf answers wide prefix =
     let why : Explains (RestoreNarrow n) statuses.NotNarrow None shelf = record {
       input = wide.bytes;
-      told = tt;
+      exposed = tt;
       stated = inl (ap narrow_status_of (sym (wide_answer wide.bytes wide.good wide.other)));
     } in
     Behaves-cut (RestoreNarrow n) statuses.NotNarrow wide.bytes wide.bytes None src_now out_before out_now shelf
     (IsStreaming-restore_narrow n) (IsCut-narrow NotNarrow) why
-    (sym (take_all front_room wide.bytes wide.first.within)) wide.first.taken refl (λ w. front)
-Behaves-wide n (Some input) src_now out_before out_now shelf answers wide front =
+    (sym (take_all prefix_room wide.bytes wide.first.within)) wide.first.taken refl (λ w. prefix)
+Behaves-wide n (Some input) src_now out_before out_now shelf answers wide prefix =
     let why : Explains (RestoreNarrow n) statuses.NotNarrow (Some input) shelf = record {
       input = input;
-      told = refl;
+      exposed = refl;
       stated = elim answers [
         | inl same ↦ inl (ap narrow_status_of same)
         | inr outside ↦ absurd outside
       ];
     } in
     Behaves-cut (RestoreNarrow n) statuses.NotNarrow wide.bytes wide.bytes (Some input) src_now out_before out_now shelf
-    (IsStreaming-restore_narrow n) (IsCut-narrow NotNarrow) why wide.first.first wide.first.taken refl (λ w. front)
+    (IsStreaming-restore_narrow n) (IsCut-narrow NotNarrow) why wide.first.first wide.first.taken refl (λ w. prefix)
 
 pub Behaves-narrow_fault : (n : Narrow) (e : NarrowFault) (taken : List ℕ) (src_before src_now out_before out_now : Option (List ℕ))
     (shelf : Option Files) → AnswersNarrow (Err e) src_before → CanRefuseNarrow e → (e ≡ NotNarrow → HasWideType src_before src_now)
     → ((input : List ℕ) → src_before ≡ Some input → e ≡ Stream faults.Memory → TakesMemory (RestoreNarrow n) (world_of input shelf))
-    → Takes src_before src_now taken → AppendsFront out_before out_now (restore_draft (narrow_status e) (narrow_restored n taken))
+    → Takes src_before src_now taken → AppendsPrefix out_before out_now (restore_draft (narrow_status e) (narrow_restored n taken))
     → Behaves (RestoreNarrow n) (narrow_status e) (seen src_before out_before shelf) (seen src_now out_now shelf)
-Behaves-narrow_fault n NotNarrow taken src_before src_now out_before out_now shelf answers refuses wide takes takes_bytes front =
-    Behaves-wide n src_before src_now out_before out_now shelf answers (wide refl) front
-Behaves-narrow_fault n (Stream f) taken src_before src_now out_before out_now shelf answers refuses wide takes takes_bytes front =
+Behaves-narrow_fault n NotNarrow taken src_before src_now out_before out_now shelf answers refuses wide takes takes_bytes prefix =
+    Behaves-wide n src_before src_now out_before out_now shelf answers (wide refl) prefix
+Behaves-narrow_fault n (Stream f) taken src_before src_now out_before out_now shelf answers refuses wide takes takes_bytes prefix =
     let why = narrow_why n (Stream f) src_before shelf answers refuses takes in
     Behaves-cut (RestoreNarrow n) (fault_status f) taken taken src_before src_now out_before out_now shelf
-    (IsStreaming-restore_narrow n) (IsCut-fault f) why (TakesNarrow-fault f why.input taken) takes_bytes refl (λ w. front)
+    (IsStreaming-restore_narrow n) (IsCut-fault f) why (TakesNarrow-fault f why.input taken) takes_bytes refl (λ w. prefix)

@@ -6,7 +6,7 @@ use Rattle.zf_header.specs.HeaderFaults.{header_fault}
 use Rattle.zf_parse.specs.declared.fault.StreamFault.{StreamFault}
 use Rattle.zf_parse.specs.Raw.{raw_len, compress_answer, stream_text}
 use Rattle.zf_parse.specs.Parsing.{Said, restore_answer, restored_text}
-use Rattle.zf_stream.specs.Headed.{front_room}
+use Rattle.zf_stream.specs.Headed.{prefix_room}
 use Rattle.zf_narrow.specs.declared.fault.NarrowFault.{NarrowFault}
 use Rattle.zf_narrow.specs.declared.narrow.Narrow.{Narrow}
 use Rattle.zf_narrow.specs.Texts.{narrow_len, compress_narrow_answer, ArePromoted, ArePromotedNearly, restore_narrow_answer, narrow_restored}
@@ -24,7 +24,7 @@ use Rattle.zfpi.specs.World.{World}
 use Rattle.zfpi.specs.Words.{IsLines, IsCaching}
 use Rattle.zfpi.specs.Info.{info_text}
 use Rattle.zfpi.specs.Opened.{array_in, stream_in, opened}
-use Rattle.zfpi.specs.Scripts.{max_script, run_replies, run_file, look_replies, script_status, script_text, saved_of, AreWants}
+use Rattle.zfpi.specs.Scripts.{max_script, run_replies, run_file, look_replies, script_status, script_text, saved_of, AreStarved}
 use Rattle.zfpi.specs.Certified.{certified_text, certified_status}
 use Rattle.zfpi.specs.Sample.{sample_text}
 
@@ -62,16 +62,16 @@ header_bytes = 19
 
 -- the status in this world; the last list has the lines of the script that answered `! memory`
 abbrev pub status_for : Command → World → List ℕ → Status
-status_for (Compress h) w wants = status_of (compress_answer h w.input)
-status_for (CompressNarrow n h) w wants = status_of (compress_narrow_answer n h w.input)
-status_for Restore w wants = status_of (restore_answer w.input)
-status_for (RestoreNarrow n) w wants = narrow_status_of (restore_narrow_answer w.input)
-status_for Info w wants = header_status (header_fault (take header_bytes w.input))
-status_for (New name ty ns b) w wants = statuses.Done
-status_for (Run name caching) w wants = script_status (run_replies caching) (opened array_in (w.files name)) wants w.input
-status_for (Look name lines) w wants = script_status (look_replies lines) (opened stream_in (w.files name)) wants w.input
-status_for (Bound name most) w wants = certified_status (opened array_in (w.files name))
-status_for (Sample h seed) w wants = statuses.Done
+status_for (Compress h) w starved = status_of (compress_answer h w.input)
+status_for (CompressNarrow n h) w starved = status_of (compress_narrow_answer n h w.input)
+status_for Restore w starved = status_of (restore_answer w.input)
+status_for (RestoreNarrow n) w starved = narrow_status_of (restore_narrow_answer w.input)
+status_for Info w starved = header_status (header_fault (take header_bytes w.input))
+status_for (New name ty ns b) w starved = statuses.Done
+status_for (Run name caching) w starved = script_status (run_replies caching) (opened array_in (w.files name)) starved w.input
+status_for (Look name lines) w starved = script_status (look_replies lines) (opened stream_in (w.files name)) starved w.input
+status_for (Bound name most) w starved = certified_status (opened array_in (w.files name))
+status_for (Sample h seed) w starved = statuses.Done
 
 -- what the bytes that were read of narrow values stand for: int32 bytes, of which the last three may lack where a device failed
 abbrev pub IsNarrowRaw : Narrow → Status → Option (List ℕ) → List ℕ → List ℕ → Type 0
@@ -79,25 +79,25 @@ IsNarrowRaw n statuses.ReadFault src taken raw = ArePromotedNearly n src taken r
 IsNarrowRaw n statuses.WriteFault src taken raw = ArePromotedNearly n src taken raw
 IsNarrowRaw n status src taken raw = ArePromoted n src taken raw
 
--- the raw bytes of what was read: as it is, but for narrow values, as far as the source tells them
+-- the raw bytes of what was read: as it is, but for narrow values, as far as the source exposes them
 abbrev pub IsRaw : Command → Status → Option (List ℕ) → List ℕ → List ℕ → Type 0
 IsRaw (CompressNarrow n h) status src taken raw = IsNarrowRaw n status src taken raw
 IsRaw c status src taken raw = raw ≡ taken
 
 -- what is written where the whole work was done; the last list has the raw bytes of what was read
 abbrev pub text_for : Command → World → List ℕ → List ℕ → List ℕ
-text_for (Compress h) w wants raw = stream_text h w.input
-text_for (CompressNarrow n h) w wants raw = stream_text h raw
-text_for Restore w wants raw = restored_text w.input
-text_for (RestoreNarrow n) w wants raw = narrow_restored n w.input
-text_for Info w wants raw = info_text (take header_bytes w.input)
-text_for (New name ty ns b) w wants raw = []
-text_for (Run name caching) w wants raw = script_text (run_replies caching) (opened array_in (w.files name)) wants w.input
-text_for (Look name lines) w wants raw = script_text (look_replies lines) (opened stream_in (w.files name)) wants w.input
-text_for (Bound name most) w wants raw = certified_text most (opened array_in (w.files name))
-text_for (Sample h seed) w wants raw = sample_text h seed
+text_for (Compress h) w starved raw = stream_text h w.input
+text_for (CompressNarrow n h) w starved raw = stream_text h raw
+text_for Restore w starved raw = restored_text w.input
+text_for (RestoreNarrow n) w starved raw = narrow_restored n w.input
+text_for Info w starved raw = info_text (take header_bytes w.input)
+text_for (New name ty ns b) w starved raw = []
+text_for (Run name caching) w starved raw = script_text (run_replies caching) (opened array_in (w.files name)) starved w.input
+text_for (Look name lines) w starved raw = script_text (look_replies lines) (opened stream_in (w.files name)) starved w.input
+text_for (Bound name most) w starved raw = certified_text most (opened array_in (w.files name))
+text_for (Sample h seed) w starved raw = sample_text h seed
 
--- nothing after want of memory, which comes before the first write
+-- nothing after out of memory, which comes before the first write
 abbrev pub compress_draft : Status → List ℕ → List ℕ
 compress_draft statuses.Memory text = []
 compress_draft status text = text
@@ -114,31 +114,31 @@ abbrev pub cut_draft : Status → List ℕ → List ℕ
 cut_draft statuses.WriteFault text = text
 cut_draft status text = []
 
--- after each other status a front of this is written; the last list has the raw bytes of what was read
+-- after each other status a prefix of this is written; the last list has the raw bytes of what was read
 abbrev pub draft_for : Command → Status → World → List ℕ → List ℕ → List ℕ
-draft_for (Compress h) status w wants raw = compress_draft status (stream_text h raw)
-draft_for (CompressNarrow n h) status w wants raw = compress_draft status (stream_text h raw)
-draft_for Restore status w wants raw = restore_draft status (restored_text raw)
-draft_for (RestoreNarrow n) status w wants raw = restore_draft status (narrow_restored n raw)
-draft_for Info status w wants raw = cut_draft status (info_text raw)
-draft_for (New name ty ns b) status w wants raw = []
-draft_for (Run name caching) status w wants raw = cut_draft status (script_text (run_replies caching) (opened array_in (w.files name)) wants w.input)
-draft_for (Look name lines) status w wants raw = cut_draft status (script_text (look_replies lines) (opened stream_in (w.files name)) wants w.input)
-draft_for (Bound name most) status w wants raw = cut_draft status (certified_text most (opened array_in (w.files name)))
-draft_for (Sample h seed) status w wants raw = cut_draft status (sample_text h seed)
+draft_for (Compress h) status w starved raw = compress_draft status (stream_text h raw)
+draft_for (CompressNarrow n h) status w starved raw = compress_draft status (stream_text h raw)
+draft_for Restore status w starved raw = restore_draft status (restored_text raw)
+draft_for (RestoreNarrow n) status w starved raw = restore_draft status (narrow_restored n raw)
+draft_for Info status w starved raw = cut_draft status (info_text raw)
+draft_for (New name ty ns b) status w starved raw = []
+draft_for (Run name caching) status w starved raw = cut_draft status (script_text (run_replies caching) (opened array_in (w.files name)) starved w.input)
+draft_for (Look name lines) status w starved raw = cut_draft status (script_text (look_replies lines) (opened stream_in (w.files name)) starved w.input)
+draft_for (Bound name most) status w starved raw = cut_draft status (certified_text most (opened array_in (w.files name)))
+draft_for (Sample h seed) status w starved raw = cut_draft status (sample_text h seed)
 
 -- what is saved, and under which name
 abbrev pub saved_for : Command → World → List ℕ → Option (List ℕ × List ℕ)
-saved_for (Compress h) w wants = None
-saved_for (CompressNarrow n h) w wants = None
-saved_for Restore w wants = None
-saved_for (RestoreNarrow n) w wants = None
-saved_for Info w wants = None
-saved_for (New name ty ns b) w wants = Some (name, file_of (zeros ty ns b))
-saved_for (Run name caching) w wants = saved_of name (run_file caching) (opened array_in (w.files name)) wants w.input
-saved_for (Look name lines) w wants = None
-saved_for (Bound name most) w wants = None
-saved_for (Sample h seed) w wants = None
+saved_for (Compress h) w starved = None
+saved_for (CompressNarrow n h) w starved = None
+saved_for Restore w starved = None
+saved_for (RestoreNarrow n) w starved = None
+saved_for Info w starved = None
+saved_for (New name ty ns b) w starved = Some (name, file_of (zeros ty ns b))
+saved_for (Run name caching) w starved = saved_of name (run_file caching) (opened array_in (w.files name)) starved w.input
+saved_for (Look name lines) w starved = None
+saved_for (Bound name most) w starved = None
+saved_for (Sample h seed) w starved = None
 
 -- after Done the whole input was taken
 abbrev pub TakesWhole : Status → List ℕ → List ℕ → Type 0
@@ -147,7 +147,7 @@ TakesWhole status input taken = Unit {0}
 
 -- of a stream of another type just the first bytes were taken
 abbrev pub TakesNarrow : Status → List ℕ → List ℕ → Type 0
-TakesNarrow statuses.NotNarrow input taken = taken ≡ take front_room input
+TakesNarrow statuses.NotNarrow input taken = taken ≡ take prefix_room input
 TakesNarrow status input taken = TakesWhole status input taken
 
 -- the first bytes were taken and no more, unless the source failed within them
@@ -187,17 +187,17 @@ OnWholeScript statuses.SaveFault P = P
 OnWholeScript status P = Unit {0}
 
 -- only a script has lines that answer `! memory`
-abbrev pub HasWants : Command → Status → World → List ℕ → Type 0
-HasWants (Compress h) status w wants = wants ≡ []
-HasWants (CompressNarrow n h) status w wants = wants ≡ []
-HasWants Restore status w wants = wants ≡ []
-HasWants (RestoreNarrow n) status w wants = wants ≡ []
-HasWants Info status w wants = wants ≡ []
-HasWants (New name ty ns b) status w wants = wants ≡ []
-HasWants (Run name caching) status w wants = OnWholeScript status (AreWants (run_replies caching) (opened array_in (w.files name)) wants w.input)
-HasWants (Look name lines) status w wants = OnWholeScript status (AreWants (look_replies lines) (opened stream_in (w.files name)) wants w.input)
-HasWants (Bound name most) status w wants = wants ≡ []
-HasWants (Sample h seed) status w wants = wants ≡ []
+abbrev pub HasStarved : Command → Status → World → List ℕ → Type 0
+HasStarved (Compress h) status w starved = starved ≡ []
+HasStarved (CompressNarrow n h) status w starved = starved ≡ []
+HasStarved Restore status w starved = starved ≡ []
+HasStarved (RestoreNarrow n) status w starved = starved ≡ []
+HasStarved Info status w starved = starved ≡ []
+HasStarved (New name ty ns b) status w starved = starved ≡ []
+HasStarved (Run name caching) status w starved = OnWholeScript status (AreStarved (run_replies caching) (opened array_in (w.files name)) starved w.input)
+HasStarved (Look name lines) status w starved = OnWholeScript status (AreStarved (look_replies lines) (opened stream_in (w.files name)) starved w.input)
+HasStarved (Bound name most) status w starved = starved ≡ []
+HasStarved (Sample h seed) status w starved = starved ≡ []
 
 -- which devices a command uses
 pub record Uses : Type 0 where
@@ -284,24 +284,24 @@ MaySave (Look name lines) w = ⊥
 MaySave (Bound name most) w = ⊥
 MaySave (Sample h seed) w = ⊥
 
--- the statuses that no world determines: faults of the devices that a command comes to, and want of memory where it takes any
+-- the statuses that no world determines: faults of the devices that a command comes to, and out of memory where it takes any
 abbrev pub MayFail : Status → Command → World → List ℕ → Type 0
-MayFail statuses.ReadFault c w wants = MayRead c w
-MayFail statuses.WriteFault c w wants = MayWrite c w
-MayFail statuses.LoadFault c w wants = MayLoad c w
-MayFail statuses.SaveFault c w wants = MaySave c w
-MayFail statuses.Memory c w wants = TakesMemory c w
-MayFail status c w wants = ⊥
+MayFail statuses.ReadFault c w starved = MayRead c w
+MayFail statuses.WriteFault c w starved = MayWrite c w
+MayFail statuses.LoadFault c w starved = MayLoad c w
+MayFail statuses.SaveFault c w starved = MaySave c w
+MayFail statuses.Memory c w starved = TakesMemory c w
+MayFail status c w starved = ⊥
 
 -- the statuses of `compress` of arrays of so many bytes
 abbrev pub CompressEnds : ℕ → Status → Type 0
-CompressEnds wanted statuses.Done = Unit {0}
-CompressEnds wanted (statuses.RawShort m) = m < wanted
-CompressEnds wanted statuses.RawLong = Unit {0}
-CompressEnds wanted statuses.ReadFault = Unit {0}
-CompressEnds wanted statuses.WriteFault = Unit {0}
-CompressEnds wanted statuses.Memory = Unit {0}
-CompressEnds wanted status = ⊥
+CompressEnds starved_are statuses.Done = Unit {0}
+CompressEnds starved_are (statuses.RawShort m) = m < starved_are
+CompressEnds starved_are statuses.RawLong = Unit {0}
+CompressEnds starved_are statuses.ReadFault = Unit {0}
+CompressEnds starved_are statuses.WriteFault = Unit {0}
+CompressEnds starved_are statuses.Memory = Unit {0}
+CompressEnds starved_are status = ⊥
 
 -- those of `restore`
 abbrev pub RestoreEnds : Status → Type 0
@@ -376,7 +376,7 @@ SampleEnds statuses.WriteFault = Unit {0}
 SampleEnds statuses.Memory = Unit {0}
 SampleEnds status = ⊥
 
--- a command can end so at all, whatever its devices tell
+-- a command can end so at all, whatever its devices expose
 abbrev pub IsPossible : Command → Status → Type 0
 IsPossible (Compress h) status = CompressEnds (raw_len h) status
 IsPossible (CompressNarrow n h) status = CompressEnds (narrow_len n h) status

@@ -10,13 +10,13 @@ use Rattle.zf_narrow.specs.Texts.{narrow_len, narrow_text}
 use Rattle.zf_dev.specs.Faults.{Rose, IsQuiet, HasCause}
 use Rattle.zf_dev.specs.Shelf.{Files, KeepsFiles, KeepsOthers, SavesFile}
 use Rattle.zf_dev.specs.Source.{Takes}
-use Rattle.zf_dev.specs.Sink.{Appends, AppendsFront}
+use Rattle.zf_dev.specs.Sink.{Appends, AppendsPrefix}
 use Rattle.zfpi.specs.declared.status.Status.{Status}
 use Rattle.zfpi.specs.declared.status.Status.TheVariants.{Done, Lines, Usage, ReadFault, WriteFault, LoadFault, SaveFault, Memory}
 use Rattle.zfpi.specs.declared.command.Command.{Command}
 use Rattle.zfpi.specs.Words.{narrow_word, IsSpelled, IsUsage}
-use Rattle.zfpi.specs.World.{World, Seen, Counts, IsTold}
-use Rattle.zfpi.specs.Answer.{status_for, text_for, draft_for, IsRaw, saved_for, uses, IsExtent, HasWants, TakesMemory, MayFail}
+use Rattle.zfpi.specs.World.{World, Seen, Counts, IsExposed}
+use Rattle.zfpi.specs.Answer.{status_for, text_for, draft_for, IsRaw, saved_for, uses, IsExtent, HasStarved, TakesMemory, MayFail}
 
 -- this holds of the command that the words are, where they are one
 abbrev pub OfCommand : List (List ℕ) → (Command → Type 0) → Type 0
@@ -37,12 +37,12 @@ abbrev pub IsOfCommand : Status → Type 0
 IsOfCommand (Usage k) = ⊥
 IsOfCommand status = Unit {0}
 
--- the whole text was written where the work was done, but for the saving maybe, and else a front of the draft
+-- the whole text was written where the work was done, but for the saving maybe, and else a prefix of the draft
 abbrev pub Writes : Status → List ℕ → List ℕ → Option (List ℕ) → Option (List ℕ) → Type 0
 Writes Done text draft before now = Appends before now text
 Writes (Lines n) text draft before now = Appends before now text
 Writes SaveFault text draft before now = Appends before now text
-Writes status text draft before now = AppendsFront before now draft
+Writes status text draft before now = AppendsPrefix before now draft
 
 -- what is to be saved was saved. After a fault of the save nothing is known of that name, and after other statuses nothing was saved
 abbrev pub Saves : Option (List ℕ × List ℕ) → Status → Option Files → Option Files → Type 0
@@ -52,15 +52,15 @@ Saves (Some file) (Lines n) before now = SavesFile before now file.0 file.1
 Saves (Some file) SaveFault before now = KeepsOthers before now file.0
 Saves (Some file) status before now = KeepsFiles before now
 
--- what a command did: its status, what it took, wrote and saved are those of a world that its devices tell
+-- what a command did: its status, what it took, wrote and saved are those of a world that its devices expose
 pub record Behaves (c : Command) (status : Status) (before now : Seen) : Type 0 where
   pub ends : IsOfCommand status
   pub world : World
-  pub told : IsTold before world
+  pub exposed : IsExposed before world
   -- the lines of the script that answered `! memory`
-  pub wants : List ℕ
-  pub wanted : HasWants c status world wants
-  pub stated : (status ≡ status_for c world wants) ⊎ MayFail status c world wants
+  pub starved : List ℕ
+  pub starved_are : HasStarved c status world starved
+  pub stated : (status ≡ status_for c world starved) ⊎ MayFail status c world starved
   -- the bytes that were read
   pub taken : List ℕ
   pub takes : Takes before.src now.src taken
@@ -68,8 +68,8 @@ pub record Behaves (c : Command) (status : Status) (before now : Seen) : Type 0 
   -- the raw bytes of these
   pub raw : List ℕ
   pub raw_is : IsRaw c status before.src taken raw
-  pub written : Writes status (text_for c world wants raw) (draft_for c status world wants raw) before.out now.out
-  pub saved : Saves (saved_for c world wants) status before.shelf now.shelf
+  pub written : Writes status (text_for c world starved raw) (draft_for c status world starved raw) before.out now.out
+  pub saved : Saves (saved_for c world starved) status before.shelf now.shelf
 
 -- a count rises only where the device is used
 abbrev pub IsIdle : Bool → ℕ → ℕ → Type 0
@@ -122,13 +122,13 @@ pub record AreQuiet (before now : Counts) : Type 0 where
   pub out : IsQuiet before.out now.out
   pub shelf : IsQuiet before.shelf now.shelf
 
--- the status is the one that is stated for what the devices tell, or want of memory where memory is taken; it is no fault
+-- the status is the one that is stated for what the devices expose, or out of memory where memory is taken; it is no fault
 pub record IsComplete (c : Command) (status : Status) (before : Seen) : Type 0 where
   pub world : World
-  pub told : IsTold before world
-  pub wants : List ℕ
-  pub wanted : HasWants c status world wants
-  pub stated : (status ≡ status_for c world wants) ⊎ ((status ≡ Memory) × TakesMemory c world)
+  pub exposed : IsExposed before world
+  pub starved : List ℕ
+  pub starved_are : HasStarved c status world starved
+  pub stated : (status ≡ status_for c world starved) ⊎ ((status ≡ Memory) × TakesMemory c world)
   pub no_fault : (status ≢ ReadFault) × (status ≢ WriteFault) × (status ≢ LoadFault) × (status ≢ SaveFault)
 
 -- the words of `restore`, which writes raw values of the stream's own type or narrow ones
@@ -169,8 +169,8 @@ pub record IsBack (status : Status) (before now : Option (List ℕ)) (bytes : Li
 abbrev pub GivesBack : List (List ℕ) → Status → Seen → Seen → Type 0
 GivesBack words status before now = (kind : Option Narrow) (h : Header) (bytes : List ℕ) → HoldsReversible words before.src kind h bytes → IsBack status before.out now.out bytes ⊎ IsFromOutside status
 
--- the text was sent, whole where the count of faults did not rise, and else a front of it
+-- the text was sent, whole where the count of faults did not rise, and else a prefix of it
 pub record Sends (text : List ℕ) (before now : Option (List ℕ)) (faults_before faults_now : ℕ) : Type 0 where
-  pub front : AppendsFront before now text
+  pub prefix : AppendsPrefix before now text
   pub whole : IsQuiet faults_before faults_now → Appends before now text
   pub kept : faults_before ≤ faults_now

@@ -12,7 +12,7 @@ use Rattle.zf_cached.specs.Steps.{Setting, Session}
 use Rattle.zf_cached.specs.Runs.{array_setting, look_setting, run, look, replies_text}
 use Rattle.zf_twoway.specs.Runs.{twoway_setting}
 use Rattle.zf_const.specs.Standing.{coding_of, open_stream}
-use Rattle.zf_commands.specs.Steps.{is_refusal, is_want}
+use Rattle.zf_commands.specs.Steps.{is_refusal, is_starved}
 use Rattle.zfpi.specs.declared.command.Caching.{Caching}
 use Rattle.zfpi.specs.declared.command.Caching.TheVariants.{Direct, TwoWay}
 use Rattle.zfpi.specs.declared.status.Status.{Status}
@@ -43,27 +43,27 @@ Answering = Said → List ℕ → List ℕ → List Reply
 
 -- the run of a script on an array: what it comes to, and the replies
 unfoldable pub ran_over : Caching → Said → List ℕ → List ℕ → Session (List Bool) × List Reply
-ran_over caching said wants script =
+ran_over caching said starved script =
     let h = said.header in
     let w = width_of h.ty in
     let bits = block_bits h.mode in
-    run (setting_over caching w bits) wants h.shape (open_array w bits h.shape said.codes (first_lines caching h.shape)) script
+    run (setting_over caching w bits) starved h.shape (open_array w bits h.shape said.codes (first_lines caching h.shape)) script
 
 -- its replies
 abbrev pub run_replies : Caching → Answering
-run_replies caching said wants script = (ran_over caching said wants script).1
+run_replies caching said starved script = (ran_over caching said starved script).1
 
 -- the file that is saved then
 abbrev pub run_file : Caching → Said → List ℕ → List ℕ → List ℕ
-run_file caching said wants script =
-    let after = (ran_over caching said wants script).0 in
+run_file caching said starved script =
+    let after = (ran_over caching said starved script).0 in
     saved_file (width_of said.header.ty) (block_bits said.header.mode) after.shape after.state
 
 -- the replies where it looks at a stream
 unfoldable pub look_replies : Option ℕ → Answering
-look_replies lines said wants script =
+look_replies lines said starved script =
     let h = said.header in
-    (look (look_setting (width_of h.ty) (coding_of h)) wants h.shape (open_stream h said.codes (lines_for lines h.shape)) script).1
+    (look (look_setting (width_of h.ty) (coding_of h)) starved h.shape (open_stream h said.codes (lines_for lines h.shape)) script).1
 
 -- the status where so many lines are refused
 abbrev pub lines_status : ℕ → Status
@@ -72,21 +72,21 @@ lines_status (suc n) = statuses.Lines (suc n)
 
 -- the status of a script, where the file is opened so
 abbrev pub script_status : Answering → Result Said Status → List ℕ → List ℕ → Status
-script_status replies (Ok said) wants script =
-    if nat_lt max_script (length script) then statuses.ScriptLong else lines_status (count_by is_refusal (replies said wants script))
-script_status replies (Err status) wants script = status
+script_status replies (Ok said) starved script =
+    if nat_lt max_script (length script) then statuses.ScriptLong else lines_status (count_by is_refusal (replies said starved script))
+script_status replies (Err status) starved script = status
 
 -- its text
 abbrev pub script_text : Answering → Result Said Status → List ℕ → List ℕ → List ℕ
-script_text replies (Ok said) wants script = replies_text (replies said wants script)
-script_text replies (Err status) wants script = []
+script_text replies (Ok said) starved script = replies_text (replies said starved script)
+script_text replies (Err status) starved script = []
 
 -- what a run saves, and under which name
 abbrev pub saved_of : List ℕ → (Said → List ℕ → List ℕ → List ℕ) → Result Said Status → List ℕ → List ℕ → Option (List ℕ × List ℕ)
-saved_of name file (Ok said) wants script = Some (name, file said wants script)
-saved_of name file (Err status) wants script = None
+saved_of name file (Ok said) starved script = Some (name, file said starved script)
+saved_of name file (Err status) starved script = None
 
--- memory was wanting at as many lines as say so
-abbrev pub AreWants : Answering → Result Said Status → List ℕ → List ℕ → Type 0
-AreWants replies (Ok said) wants script = count_by is_want (replies said wants script) ≡ length wants
-AreWants replies (Err status) wants script = Unit {0}
+-- as many lines were out of memory as say so
+abbrev pub AreStarved : Answering → Result Said Status → List ℕ → List ℕ → Type 0
+AreStarved replies (Ok said) starved script = count_by is_starved (replies said starved script) ≡ length starved
+AreStarved replies (Err status) starved script = Unit {0}

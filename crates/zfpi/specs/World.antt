@@ -7,7 +7,7 @@ pub record World : Type 0 where
   pub input : List ℕ
   pub files : Files
 
--- what the source, the sink and the shelf tell of their bytes: `Some` where they do
+-- what the source, the sink and the shelf expose of their bytes: `Some` where they do
 pub record Seen : Type 0 where
   pub src : Option (List ℕ)
   pub out : Option (List ℕ)
@@ -25,17 +25,17 @@ pub record Counts : Type 0 where
 abbrev pub counts : ℕ → ℕ → ℕ → Counts
 counts s o f = record { src = s; out = o; shelf = f }
 
--- these are the bytes to come, where they are told
-abbrev pub TellsInput : Option (List ℕ) → List ℕ → Type 0
-TellsInput None input = Unit {0}
-TellsInput (Some told) input = told ≡ input
+-- these are the bytes to come, where they are exposed
+abbrev pub ExposesInput : Option (List ℕ) → List ℕ → Type 0
+ExposesInput None input = Unit {0}
+ExposesInput (Some exposed) input = exposed ≡ input
 
--- these are the files, where they are told
-abbrev pub TellsFiles : Option Files → Files → Type 0
-TellsFiles None files = Unit {0}
-TellsFiles (Some told) files = (name : List ℕ) → told name ≡ files name
+-- these are the files, where they are exposed
+abbrev pub ExposesFiles : Option Files → Files → Type 0
+ExposesFiles None files = Unit {0}
+ExposesFiles (Some exposed) files = (name : List ℕ) → exposed name ≡ files name
 
--- the world is the one that the devices tell; what they do not tell may be anything in it
-pub record IsTold (before : Seen) (w : World) : Type 0 where
-  pub input : TellsInput before.src w.input
-  pub files : TellsFiles before.shelf w.files
+-- the world is the one that the devices expose; what they do not expose may be anything in it
+pub record IsExposed (before : Seen) (w : World) : Type 0 where
+  pub input : ExposesInput before.src w.input
+  pub files : ExposesFiles before.shelf w.files

@@ -84,7 +84,7 @@ fn a_device_that_fails_is_told(rt: HostRuntime) -> Result<(), Fail> {
     Ok(())
 }
 
-// Input that is refused. What is written is a front of what the row says.
+// Input that is refused. What is written is a prefix of what the row says.
 const REFUSALS: [(Devices, Row); 25] = rows! {
     WHOLE, OTHER, "compress int32 2 reversible", b"\0\0\0" => Status::RawShort(3),
         b"zfp\x05\x10\0\0\0\0\0\0\x88\0\0\0\0", b"zfpi: input ends after 3 bytes\n";

@@ -78,7 +78,7 @@ fn a_script_that_is_too_long_is_told(rt: HostRuntime) -> Result<(), Fail> {
     Ok(())
 }
 
-// A shelf whose files are all too long. It tells nothing of them.
+// A shelf whose files are all too long. It exposes nothing of them.
 #[derive(Drop)]
 struct Overlong;
 

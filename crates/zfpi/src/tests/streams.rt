@@ -89,10 +89,10 @@ fn values_and_streams_become_each_other(rt: HostRuntime) -> Result<(), Fail> {
     Ok(())
 }
 
-// A command, the name of its file, the front of the file, and its length; behind the front all is zero.
+// A command, the name of its file, the prefix of the file, and its length; behind the prefix all is zero.
 macro_rules! files {
-    ($($words:literal, $name:literal, $front:literal => $len:literal;)*) => {
-        [$(($words, $name, $front, $len)),*]
+    ($($words:literal, $name:literal, $prefix:literal => $len:literal;)*) => {
+        [$(($words, $name, $prefix, $len)),*]
     };
 }
 
@@ -111,9 +111,9 @@ const FILES: [(&str, &str, &[u8], usize); 10] = files! {
 
 #[test]
 fn new_saves_zeros(rt: HostRuntime) -> Result<(), Fail> {
-    for (words, name, front, len) in FILES.iter() {
+    for (words, name, prefix, len) in FILES.iter() {
         let ended = call(rt.alloc(), words, b"", b"before", &WHOLE)?;
-        let mut file = Vec::from_slice(rt.alloc(), front)?;
+        let mut file = Vec::from_slice(rt.alloc(), prefix)?;
         file.resize(*len, 0)?;
         assert!(rt; ended.status == Status::Done && ended.err.bytes().is_empty());
         assert!(rt; ended.shelf.file(name) == Some(file.as_slice()));

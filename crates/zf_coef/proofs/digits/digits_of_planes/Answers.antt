@@ -3,7 +3,7 @@ use Rattle.std.proofs.lemmas.List.{length-map}
 use Rattle.zf_spec.specs.Planes.{digits_in_planes}
 use Rattle.zf_spec.specs.HeldPlanes.{planes_held}
 use Rattle.zf_coef.specs.HeldDigits.{digits_in}
-use Rattle.zf_coef.proofs.Fronts.{each_long}
+use Rattle.zf_coef.proofs.Prefixes.{each_long}
 use Rattle.zf_coef.proofs.Transposed.{group_written, digits_of_groups, below_planes}
 use Rattle.zf_coef.proofs.digits.digits_of_planes.Goals as goal
 

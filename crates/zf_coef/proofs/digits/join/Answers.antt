@@ -4,7 +4,7 @@ use Rattle.std.specs.Int.{bit_at}
 use Rattle.std.specs.Int.RustNames.{bit_or}
 use lib.Bits.{bit_and}
 use Rattle.zf_coef.specs.Turned.{bit_of}
-use Rattle.zf_coef.proofs.Fronts.{front_tells}
+use Rattle.zf_coef.proofs.Prefixes.{prefix_tells}
 use Rattle.zf_coef.proofs.ShiftedBits.{low_half, high_half, low_of_high, high_of_high}
 use Rattle.zf_coef.proofs.digits.join.Goals as goal
 
@@ -24,7 +24,7 @@ loop-r-preserved c =
     record {
       lower = λ j k h small.
           subst (lower j) (sym (get_or-set_other mid (r + 32) j y 0 (λ (e : j ≡ r + 32). absurd (omega arith))))
-          (front_tells lower old 0 r x (omega arith)
+          (prefix_tells lower old 0 r x (omega arith)
           (λ i less. (low_half a b i less, high_half a b (32 + i) (omega arith) (omega arith) ∙ ap (bit_at b) (omega arith)))
           (λ i less n small_n. c.loop-r.invariant.lower i n less small_n) j h)
           k small;

@@ -2,7 +2,7 @@ use Rattle.std.proofs.Common.{◌≡◌, ℕ, ◌+◌, ◌*◌, ◌/◌, ◌%◌
 use Rattle.std.proofs.lemmas.Bool.{cases_lt}
 use lib.Bits.{bit_and}
 use Rattle.zf_coef.specs.Groups.{IsMoved}
-use Rattle.zf_coef.proofs.Fronts.{front_tells}
+use Rattle.zf_coef.proofs.Prefixes.{prefix_tells}
 use Rattle.zf_coef.proofs.ShiftedBits.{low_half_moved, high_half_moved}
 use Rattle.zf_coef.proofs.digits.join_from.Goals as goal
 
@@ -21,7 +21,7 @@ loop-r-preserved c =
     record {
       lower = λ j h.
           subst (lower j) (sym (get_or-set_other mid (r + 32) j y 0 (λ (e : j ≡ r + 32). absurd (omega arith))))
-          (front_tells lower old 0 r x (omega arith) (low_half_moved a from c.requires.from) (λ i less. c.loop-r.invariant.lower i less) j h);
+          (prefix_tells lower old 0 r x (omega arith) (low_half_moved a from c.requires.from) (λ i less. c.loop-r.invariant.lower i less) j h);
       upper = λ j h. ⊎_elim
           (λ (earlier : j < r).
           subst (upper j) (sym (get_or-set_other mid (r + 32) (32 + j) y 0 (λ (e : 32 + j ≡ r + 32). absurd (omega arith))

@@ -1,5 +1,5 @@
 use Rattle.std.proofs.Common.{◌≤◌, ℕ, ◌%◌, ◌^◌, get_or, length-set, ⊎_elim, ◌∙◌, arith}
-use Rattle.zf_coef.proofs.Fronts.{front_set}
+use Rattle.zf_coef.proofs.Prefixes.{prefix_set}
 use Rattle.zf_coef.proofs.ShiftedBits.{and_ones}
 use Rattle.zf_coef.proofs.planes.first_tile.Goals as goal
 
@@ -10,6 +10,6 @@ loop-j-preserved g c =
     let within : n ≤ 64 = ⊎_elim (λ is. omega arith) (λ is. omega arith) c.requires.size in
     record {
       long = length-set c.loop-j.tile c.loop-j.j _ ∙ c.loop-j.invariant.long;
-      cut = front_set c.loop-j.tile 0 (λ (j : ℕ). get_or words j 0 % 2 ^ n) c.loop-j.j _ (omega (arith, c.loop-j.invariant.long))
+      cut = prefix_set c.loop-j.tile 0 (λ (j : ℕ). get_or words j 0 % 2 ^ n) c.loop-j.j _ (omega (arith, c.loop-j.invariant.long))
           (and_ones (get_or words c.loop-j.j 0) n within) c.loop-j.invariant.cut;
     }

@@ -2,7 +2,7 @@ use Rattle.std.proofs.Common.{◌≡◌, ℕ, ◌+◌, ◌-◌, ◌/◌, ◌%◌
 use Rattle.std.proofs.lemmas.Bool.{cases_lt}
 use Rattle.std.specs.Int.{bit_at}
 use Rattle.zf_coef.specs.Turned.{bit_of}
-use Rattle.zf_coef.proofs.Fronts.{front_tells}
+use Rattle.zf_coef.proofs.Prefixes.{prefix_tells}
 use Rattle.zf_coef.proofs.ShiftedBits.{bit_at-shr, low_half, high_half}
 use Rattle.zf_coef.proofs.planes.half_digits.Goals as goal
 
@@ -15,7 +15,7 @@ loop-r-preserved c =
     let b = get_or digits (r + 32) 0 in
     record {
       long = length-set c.loop-r.words r _ ∙ c.loop-r.invariant.long;
-      cut = front_tells (λ (j v : ℕ). (i : ℕ) → i < 64 → bit_at v i ≡ bit_of digits (i - i % 32 + j) (from + i % 32)) c.loop-r.words 0 r _ (omega (arith, c.loop-r.invariant.long))
+      cut = prefix_tells (λ (j v : ℕ). (i : ℕ) → i < 64 → bit_at v i ≡ bit_of digits (i - i % 32 + j) (from + i % 32)) c.loop-r.words 0 r _ (omega (arith, c.loop-r.invariant.long))
           (λ i h. ⊎_elim
           (λ (low : i < 32).
           let row : r ≡ i - i % 32 + r = omega arith in

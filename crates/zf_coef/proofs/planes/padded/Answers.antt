@@ -1,7 +1,7 @@
 use Rattle.std.proofs.Common.{ℕ, refl, sym, ◌∙◌, length, length-set, get_or, replicate, ⊎_elim, arith}
 use Rattle.std.proofs.lemmas.Bool.{cases_lt}
 use Rattle.std.proofs.lemmas.List.{get_or_past, get_or-replicate}
-use Rattle.zf_coef.proofs.Fronts.{front_set, rest_set}
+use Rattle.zf_coef.proofs.Prefixes.{prefix_set, rest_set}
 use Rattle.zf_coef.proofs.planes.padded.Goals as goal
 
 pub loop-r-init : goal.loop-r-init
@@ -18,7 +18,7 @@ loop-r-preserved c =
     let x = get_or digits r 0 in
     record {
       long = length-set c.loop-r.whole r x ∙ c.loop-r.invariant.long;
-      copied = front_set c.loop-r.whole 0 (λ (j : ℕ). get_or digits j 0) r x (omega (arith, c.loop-r.invariant.long)) refl c.loop-r.invariant.copied;
+      copied = prefix_set c.loop-r.whole 0 (λ (j : ℕ). get_or digits j 0) r x (omega (arith, c.loop-r.invariant.long)) refl c.loop-r.invariant.copied;
       zeros = rest_set c.loop-r.whole 0 (λ (j : ℕ). 0) r x c.loop-r.invariant.zeros;
     }
 

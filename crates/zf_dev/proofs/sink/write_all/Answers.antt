@@ -12,7 +12,7 @@ loop-written-preserved g c =
     let count = c.in_ok-written.field-0 in
     record {
       in_range = end_in_range bytes at count c.loop-written.invariant.in_range c.in_ok-written.ensures.bound;
-      front = rw (take-add at count bytes, ← take_rest bytes at) (Appends-append _ _ _ _ _ c.loop-written.invariant.front c.in_ok-written.ensures.appended);
+      prefix = rw (take-add at count bytes, ← take_rest bytes at) (Appends-append _ _ _ _ _ c.loop-written.invariant.prefix c.in_ok-written.ensures.appended);
       same = c.in_ok-written.ensures.unchanged ∙ c.loop-written.invariant.same;
       same_sink = c.in_ok-written.ensures.kept ∙ c.loop-written.invariant.same_sink;
     }

@@ -3,14 +3,14 @@ use Rattle.std.proofs.Common.{sym, subst, ◌∙◌}
 use Rattle.std.proofs.lemmas.Result.{err_from_is_err_and}
 use Rattle.zf_spec.specs.Stream.{to_bits}
 use Rattle.zf_header.specs.HeaderBits.{IsMode}
-use Rattle.zf_header.proofs.Faults.{front_fault, size_fault, mode_fault}
+use Rattle.zf_header.proofs.Faults.{prefix_fault, size_fault, mode_fault}
 use Rattle.zf_header.proofs.Modes.{header_in-mode}
 use Rattle.zf_header.proofs.reading.fields.Goals as goal
 
 pub returns-in_err-ty-clause-fault : goal.returns-in_err-ty-clause-fault
 returns-in_err-ty-clause-fault c =
     let p = err_from_is_err_and c.from_residual.result c.from_residual.ensures.1 in
-    rw (p.1, p.2) (front_fault c.args.bytes.now _ c.in_err-ty.ensures.fault)
+    rw (p.1, p.2) (prefix_fault c.args.bytes.now _ c.in_err-ty.ensures.fault)
 
 pub returns-in_err-shape-clause-fault : goal.returns-in_err-shape-clause-fault
 returns-in_err-shape-clause-fault c =

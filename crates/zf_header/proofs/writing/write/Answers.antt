@@ -7,10 +7,10 @@ use Rattle.zf_header.proofs.writing.write.Goals as goal
 
 pub returns-clause-bits : goal.returns-clause-bits
 returns-clause-bits c =
-    let front =
+    let prefix =
     Appends-append (Appends-append (Appends-append c.write_reserved.ensures.bits c.write_reserved-2.ensures.bits) c.write_reserved-3.ensures.bits) c.write_reserved-4.ensures.bits in
     let rest =
-    Appends-append (Appends-append (Appends-append front c.write_sizes.ensures.bits) c.write_reserved-5.ensures.bits) c.write_long_form.ensures.bits in
+    Appends-append (Appends-append (Appends-append prefix c.write_sizes.ensures.bits) c.write_reserved-5.ensures.bits) c.write_long_form.ensures.bits in
     Appends-same rest (header_bits-parts c.args.h.now magic c.from.result c.from-2.result c.from-3.result c.from-4.result refl (search rules) (search rules) (search rules) (search rules))
 
 pub returns-clause-room : goal.returns-clause-room

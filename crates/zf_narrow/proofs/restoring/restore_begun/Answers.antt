@@ -2,12 +2,12 @@ use Rattle.std.proofs.Common.{sym, ap, subst, ◌∙◌, ℕ, Bool, List, [], Op
 use Rattle.zf_base.specs.declared.lane.Ty.TheVariants.{I32}
 use Rattle.zf_dev.specs.Sink.{Appends}
 use Rattle.zf_parse.specs.Parsing.{restored_text}
-use Rattle.zf_stream.specs.Outcomes.{LeavesFront}
+use Rattle.zf_stream.specs.Outcomes.{LeavesPrefix}
 use Rattle.zf_stream.specs.Restoring.{still}
 use Rattle.zf_stream.specs.Typed.{RestoresWhere, RestoresTyped, HasOtherType}
 use Rattle.zf_narrow.specs.Promoting.{listed}
 use Rattle.zf_narrow.specs.Demotions.{taken_so_far}
-use Rattle.zf_narrow.specs.Texts.{RestoresNarrow, LeavesNarrowFront}
+use Rattle.zf_narrow.specs.Texts.{RestoresNarrow, LeavesNarrowPrefix}
 use Rattle.zf_narrow.proofs.Restored.{fault_possible, demotes, nothing_written, restores, restores_but_one, leaves, leaves_other}
 use Rattle.zf_narrow.proofs.restoring.restore_begun.Goals as goal
 
@@ -41,7 +41,7 @@ returns-in-Err-settle-clause-err g c =
     let From : List ℕ → Type 0 = λ t. RestoresTyped I32 src0 src1 (Some t) (Some taken) in
     let To : List ℕ → Type 0 = λ t. RestoresTyped I32 src0 src1 (Some []) (Some t) in
     let fin = subst To (sym c.settle.ensures.taken) (subst From c.new.ensures.taken (subst Where c.in-Ok-true.field-0-test c.in-Ok-true.ensures.ok)) in
-    subst (λ o. LeavesNarrowFront n src0 src1 out0 (g.O.Sink.contents o)) (sym out_is) (restores_but_one n has fin)
+    subst (λ o. LeavesNarrowPrefix n src0 src1 out0 (g.O.Sink.contents o)) (sym out_is) (restores_but_one n has fin)
 
 pub returns-in-Ok-false-clause-err : goal.returns-in-Ok-false-clause-err
 returns-in-Ok-false-clause-err g c =
@@ -55,7 +55,7 @@ returns-in-Ok-false-clause-err g c =
     let Where : Bool → Type 0 = λ b. RestoresWhere I32 b src0 src1 (Some (taken_so_far c.new.result)) (Some (taken_so_far sink.demotion)) in
     let From : List ℕ → Type 0 = λ t. HasOtherType I32 src0 src1 (Some t) (Some (taken_so_far sink.demotion)) in
     let other = subst From c.new.ensures.taken (subst Where c.in-Ok-false.field-0-test c.in-Ok-false.ensures.ok) in
-    subst (λ o. LeavesNarrowFront n src0 src1 out0 (g.O.Sink.contents o)) (sym out_is) (leaves_other n has other)
+    subst (λ o. LeavesNarrowPrefix n src0 src1 out0 (g.O.Sink.contents o)) (sym out_is) (leaves_other n has other)
 
 pub returns-in-Ok-false-clause-unwritten : goal.returns-in-Ok-false-clause-unwritten
 returns-in-Ok-false-clause-unwritten g c = λ before.
@@ -90,8 +90,8 @@ returns-in-Err-clause-err g c =
     let out_is = c.in-Err.out-in-Err-restore_where-1-own.given.1 (sym (ap (λ (q : _). q.0) c.restore_where.ensures.same_sink)) in
     let Given : Option (List ℕ) → Type 0 = λ k. Appends k now sink.demotion.given.bytes in
     let has = demotes n out0 now sink.demotion (sink.same_type ∙ c.requires.narrow) (subst Given c.requires.start sink.written) in
-    let From : List ℕ → Type 0 = λ t. LeavesFront restored_text src0 src1 (Some t) (Some (taken_so_far sink.demotion)) in
-    subst (λ o. LeavesNarrowFront n src0 src1 out0 (g.O.Sink.contents o)) (sym out_is) (leaves n has (subst From c.new.ensures.taken c.in-Err.ensures.err))
+    let From : List ℕ → Type 0 = λ t. LeavesPrefix restored_text src0 src1 (Some t) (Some (taken_so_far sink.demotion)) in
+    subst (λ o. LeavesNarrowPrefix n src0 src1 out0 (g.O.Sink.contents o)) (sym out_is) (leaves n has (subst From c.new.ensures.taken c.in-Err.ensures.err))
 
 pub returns-in-Err-clause-unwritten : goal.returns-in-Err-clause-unwritten
 returns-in-Err-clause-unwritten g c = λ before.

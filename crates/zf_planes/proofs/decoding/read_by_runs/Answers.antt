@@ -20,15 +20,15 @@ first_read {old} {mid} {left} {after} size n within takes =
       digits = rw (Takes-rest takes, spent) (plane_ahead-is left size n (rest old) within);
     }
 
-pub returns-in_err-read_front-clause-short : goal.returns-in_err-read_front-clause-short
-returns-in_err-read_front-clause-short g c =
+pub returns-in_err-read_prefix-clause-short : goal.returns-in_err-read_prefix-clause-short
+returns-in_err-read_prefix-clause-short g c =
     let left = c.args.ahead.now.left in
     let whole = plane_bits-is left c.args.size c.args.n (rest c.args.reader.now) c.requires.in_plane in
-    if_none _ (Passes-lacks (Passes-start c.args.reader.now left (plane_bits left c.args.size c.args.n (rest c.args.reader.now))) c.in_err-read_front.ensures.short (omega (arith, whole)))
+    if_none _ (Passes-lacks (Passes-start c.args.reader.now left (plane_bits left c.args.size c.args.n (rest c.args.reader.now))) c.in_err-read_prefix.ensures.short (omega (arith, whole)))
 
 -- looking again leaves what is left of the budget
-looked : (g : Over) (c : goal.After-read_tail g) → Takes c.args.reader.now c.read_front.new.reader c.args.ahead.now.left c.look.result.left (min c.args.n c.args.ahead.now.left)
-looked g c = rw c.look.ensures.left c.in_ok-read_front.ensures.taken
+looked : (g : Over) (c : goal.After-read_tail g) → Takes c.args.reader.now c.read_prefix.new.reader c.args.ahead.now.left c.look.result.left (min c.args.n c.args.ahead.now.left)
+looked g c = rw c.look.ensures.left c.in_ok-read_prefix.ensures.taken
 
 pub returns-clause-short : goal.returns-clause-short
 returns-clause-short g c =
@@ -47,4 +47,4 @@ pub returns-clause-digits : goal.returns-clause-digits
 returns-clause-digits g c =
     let read = first_read c.args.size c.args.n c.requires.in_plane (looked g c) in
     on_some c.read_tail.result c.read_tail.ensures.digits
-    (λ same. same ∙ ap (λ (bs : List Bool). bs ++ tail_ahead c.look.result.left (c.args.size - c.args.n) (rest c.read_front.new.reader)) c.in_ok-read_front.ensures.digits ∙ sym read.digits)
+    (λ same. same ∙ ap (λ (bs : List Bool). bs ++ tail_ahead c.look.result.left (c.args.size - c.args.n) (rest c.read_prefix.new.reader)) c.in_ok-read_prefix.ensures.digits ∙ sym read.digits)

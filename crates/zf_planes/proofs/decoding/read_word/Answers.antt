@@ -5,7 +5,7 @@ use Rattle.zf_spec.specs.Numbers.{field}
 use Rattle.zf_spec.proofs.Fields.{field-add, field-mod, field-zero}
 use Rattle.zf_bits.specs.Reader.{rest}
 use Rattle.zf_planes.proofs.Digits.{masked}
-use Rattle.zf_planes.proofs.Peeking.{window_front}
+use Rattle.zf_planes.proofs.Peeking.{window_prefix}
 use Rattle.zf_planes.proofs.decoding.read_word.Goals as goal
 
 -- the lowest bits as a word
@@ -25,4 +25,4 @@ returns-clause-digits c =
     let ahead = c.see.new.ahead in
     ap (field 64) (masked ahead.bits c.args.n c.requires.in_word)
     ∙ low_field ahead.bits c.args.n c.requires.in_word
-    ∙ ap (λ (bs : List Bool). bs ++ replicate (64 - c.args.n) false) (window_front (rest c.args.reader.now) ahead.bits ahead.count c.args.n c.in_ok-see.ensures.window.bits c.in_ok-see.ensures.there)
+    ∙ ap (λ (bs : List Bool). bs ++ replicate (64 - c.args.n) false) (window_prefix (rest c.args.reader.now) ahead.bits ahead.count c.args.n c.in_ok-see.ensures.window.bits c.in_ok-see.ensures.there)

@@ -10,10 +10,10 @@ use Rattle.zf_planes.proofs.doubling.write_run.Goals as goal
 
 pub loop-digits-init : goal.loop-digits-init
 loop-digits-init c =
-    let front = c.args.front in
+    let prefix = c.args.prefix in
     let run = code_from_run (field c.args.most c.args.digits) in
     record {
-      remains = Remains-start c.args.out.now c.args.left (field front.len front.bits ++ run) (omega (arith, c.requires.fits, length-append (field front.len front.bits) run, length-field front.len front.bits));
+      remains = Remains-start c.args.out.now c.args.left (field prefix.len prefix.bits ++ run) (omega (arith, c.requires.fits, length-append (field prefix.len prefix.bits) run, length-field prefix.len prefix.bits));
       some = c.requires.some;
       in_word = c.requires.in_word;
       within = c.requires.within;
@@ -90,7 +90,7 @@ returns-clause-bits c =
 pub returns-clause-left : goal.returns-clause-left
 returns-clause-left c =
     let part = c.join.result in
-    let front = c.args.front in
+    let prefix = c.args.prefix in
     let run = code_from_run (field c.args.most c.args.digits) in
     omega (
       arith,
@@ -98,6 +98,6 @@ returns-clause-left c =
       (all_joined c.loop-digits.most c.loop-digits.digits _ c.loop-digits.part.bits _ c.short_run.result.bits _ c.join.result.bits c.loop-digits.invariant.remains c.short_run.ensures.bits c.join.ensures.bits).spent,
       length-append (field part.len part.bits) [],
       length-field part.len part.bits,
-      length-append (field front.len front.bits) run,
-      length-field front.len front.bits,
+      length-append (field prefix.len prefix.bits) run,
+      length-field prefix.len prefix.bits,
     )

@@ -7,7 +7,7 @@ use Rattle.zf_planes.proofs.doubling.write_run.Given as goal
 
 abbrev pub invariant-loop-digits : goal.invariant-loop-digits
 invariant-loop-digits l = record {
-  remains : Remains l.fn.out l.out l.initial.left l.left (field l.fn.front.len l.fn.front.bits ++ code_from_run (field l.initial.most l.initial.digits)) (field l.part.len l.part.bits ++ code_from_run (field l.most l.digits));
+  remains : Remains l.fn.out l.out l.initial.left l.left (field l.fn.prefix.len l.fn.prefix.bits ++ code_from_run (field l.initial.most l.initial.digits)) (field l.part.len l.part.bits ++ code_from_run (field l.most l.digits));
   some : 0 < l.digits;
   in_word : l.most ≤ 64;
   within : l.digits < 2 ^ l.most;

@@ -21,7 +21,7 @@ returns-then-all-eq0-clause-below c = four_below c.args.width
 behind : (words : List ℕ) (done lanes held width : ℕ) → IsGathered words done lanes held → held ≡ 0
     → IsGathered words done 0 (width - done) × (gathered words done 0 (width - done) ≡ gathered words done lanes held ++ replicate (width - done) (replicate 4 false))
 behind words done lanes held width before none =
-    let plain : IsGathered words done 0 0 = record { four = before.four; front = before.front; back = no_lanes_below 0 4 } in
+    let plain : IsGathered words done 0 0 = record { four = before.four; prefix = before.prefix; back = no_lanes_below 0 4 } in
     let more = zeros_below words done (width - done) plain in
     (more.0, more.1 ∙ ap (λ (ps : List (List Bool)). ps ++ replicate (width - done) (replicate 4 false)) (gathered_words words done 0 0 refl ∙ sym (gathered_words words done lanes held none)))
 
@@ -49,4 +49,4 @@ returns-clause-below c =
     let last = c.put_down-shifted in
     let Below : ℕ → Type 0 = λ k. AreBelow k last.result.words in
     let width : last.result.done ≡ c.args.width = omega (arith, last.ensures.done, c.put_down-all.ensures.done, c.requires.within) in
-    subst Below width last.ensures.gathered.front
+    subst Below width last.ensures.gathered.prefix

@@ -40,14 +40,14 @@ returns-in-Some-clause-reads c =
     subst P count (Takes-reads takes)
 
 -- the planes that were read, and zeros down to the last one
-with_zeros : (front planes whole : List (List Bool)) (n prec width : ℕ) → n ≤ prec → prec ≤ width → planes ≡ front ++ replicate (prec - n) (replicate 4 false) → planes ≡ whole
-    → front ++ replicate (width - n) (replicate 4 false) ≡ whole ++ replicate (width - prec) (replicate 4 false)
-with_zeros front planes whole n prec width within room is same =
+with_zeros : (prefix planes whole : List (List Bool)) (n prec width : ℕ) → n ≤ prec → prec ≤ width → planes ≡ prefix ++ replicate (prec - n) (replicate 4 false) → planes ≡ whole
+    → prefix ++ replicate (width - n) (replicate 4 false) ≡ whole ++ replicate (width - prec) (replicate 4 false)
+with_zeros prefix planes whole n prec width within room is same =
     let zeros = replicate 4 false in
     let parts : width - n ≡ prec - n + (width - prec) = omega arith in
-    ap (λ k. front ++ replicate k zeros) parts
-    ∙ ap (λ (ps : List (List Bool)). front ++ ps) (sym (replicate-append-replicate (prec - n) (width - prec) zeros))
-    ∙ sym (append_assoc front (replicate (prec - n) zeros) (replicate (width - prec) zeros))
+    ap (λ k. prefix ++ replicate k zeros) parts
+    ∙ ap (λ (ps : List (List Bool)). prefix ++ ps) (sym (replicate-append-replicate (prec - n) (width - prec) zeros))
+    ∙ sym (append_assoc prefix (replicate (prec - n) zeros) (replicate (width - prec) zeros))
     ∙ ap (λ (ps : List (List Bool)). ps ++ replicate (width - prec) zeros) (sym is ∙ same)
 
 pub returns-in-Some-clause-digits : goal.returns-in-Some-clause-digits

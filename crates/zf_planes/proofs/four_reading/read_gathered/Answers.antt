@@ -27,7 +27,7 @@ loop-digits-init c =
       window = passed.ensures.window;
       read = record {
         passes = rw all (Passes-part _ (Passes-start c.args.reader.now c.args.budget _) first.0 taken);
-        put = record { four = refl; front = four_below k; back = no_lanes_below 0 4 };
+        put = record { four = refl; prefix = four_below k; back = no_lanes_below 0 4 };
         planes = rw all (first.1 ∙ ap (λ (ps : List (List Bool)). ps ++ planes_ahead after (c.args.prec - k) 4 0 behind) (sym held));
         within = omega (arith, passed.ensures.within);
         few = omega arith;

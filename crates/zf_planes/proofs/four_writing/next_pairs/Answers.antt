@@ -9,10 +9,10 @@ loop-part-preserved c =
     let part = c.loop-part.part in
     let pair = c.code_of_two in
     let joined = c.join-part in
-    let front : GoesOn c.args.above (fours c.args.planes.now c.args.string.now) (field part.len part.bits) part.above (fours c.loop-part.k c.loop-part.rest) =
+    let prefix : GoesOn c.args.above (fours c.args.planes.now c.args.string.now) (field part.len part.bits) part.above (fours c.loop-part.k c.loop-part.rest) =
     record { code = c.loop-part.invariant.bits; reached = c.loop-part.invariant.reached } in
     let back = pair_of_string part.above c.loop-part.k c.loop-part.rest joined.result.above (field pair.result.len pair.result.bits) (omega (arith, c.if-k-gt1.true)) pair.ensures.bits (joined.ensures.above ∙ pair.ensures.above) in
-    let both = GoesOn-more (field joined.result.len joined.result.bits) front back joined.ensures.bits in
+    let both = GoesOn-more (field joined.result.len joined.result.bits) prefix back joined.ensures.bits in
     record {
       within = omega (arith, c.loop-part.invariant.within);
       len = omega (arith, pair.ensures.len, joined.ensures.len, c.if-part-le50.true);

@@ -5,7 +5,7 @@ use Rattle.zf_planes.proofs.four_writing.spread_top.Goals as goal
 
 pub returns-clause-digits : goal.returns-clause-digits
 returns-clause-digits c =
-    let both = spread_of_entries c.args.word c.spread_entry-front.result c.spread_entry-back.result (omega arith) c.spread_entry-front.ensures c.spread_entry-back.ensures in
+    let both = spread_of_entries c.args.word c.spread_entry-prefix.result c.spread_entry-back.result (omega arith) c.spread_entry-prefix.ensures c.spread_entry-back.ensures in
     omega (arith, both, c.from.ensures, c.from-2.ensures, c.spread_entry-back.type_inv)
 
 pub returns-clause-small : goal.returns-clause-small

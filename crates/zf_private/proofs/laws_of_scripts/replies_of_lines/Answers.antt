@@ -2,4 +2,4 @@ use Rattle.zf_private.proofs.Scripts.{replies_are}
 use Rattle.zf_private.proofs.laws_of_scripts.replies_of_lines.Goals as goal
 
 pub returns : goal.returns
-returns g c = λ setting wants k lines s. replies_are setting wants k lines s
+returns g c = λ setting starved k lines s. replies_are setting starved k lines s

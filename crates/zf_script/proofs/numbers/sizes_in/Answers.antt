@@ -7,10 +7,10 @@ use Rattle.zf_script.proofs.numbers.sizes_in.Goals as goal
 pub returns-in_err-numbers-clause-none : goal.returns-in_err-numbers-clause-none
 returns-in_err-numbers-clause-none c =
     let at = c.loop-count in
-    let front = map decimal (take at.count at.numbers) in
-    let parts = at.invariant.parts ∙ ap (λ last. front ++ last) c.in_default.ensures.none in
+    let prefix = map decimal (take at.count at.numbers) in
+    let parts = at.invariant.parts ∙ ap (λ last. prefix ++ last) c.in_default.ensures.none in
     rw c.from_residual.ensures (λ ns ok is.
-    let number = part_is_number c.args.byte c.args.word.now ns front at.rest.now [] c.requires parts ok is in
+    let number = part_is_number c.args.byte c.args.word.now ns prefix at.rest.now [] c.requires parts ok is in
     c.in_err-numbers.ensures.none number.0 number.1 number.2)
 
 pub returns-in_default-clause-sizes : goal.returns-in_default-clause-sizes
@@ -28,15 +28,15 @@ returns-in_default-clause-sizes c =
 pub returns-in_err-numbers-2-clause-none : goal.returns-in_err-numbers-2-clause-none
 returns-in_err-numbers-2-clause-none c =
     let at = c.loop-count in
-    let front = map decimal (take at.count at.numbers) in
-    let parts = at.invariant.parts ∙ ap (λ last. front ++ last) c.in-Some.ensures.parts in
+    let prefix = map decimal (take at.count at.numbers) in
+    let parts = at.invariant.parts ∙ ap (λ last. prefix ++ last) c.in-Some.ensures.parts in
     rw c.from_residual-in_err-numbers-2.ensures (λ ns ok is.
-    let number = part_is_number c.args.byte c.args.word.now ns front c.in-Some.first.now (cut_at c.args.byte c.in-Some.more.now) c.requires parts ok is in
+    let number = part_is_number c.args.byte c.args.word.now ns prefix c.in-Some.first.now (cut_at c.args.byte c.in-Some.more.now) c.requires parts ok is in
     c.in_err-numbers-2.ensures.none number.0 number.1 number.2)
 
 pub returns-clause-none : goal.returns-clause-none
 returns-clause-none c =
     let at = c.loop-count in
-    let front = map decimal (take at.count at.numbers) in
-    let four : length front ≡ 4 = omega (arith, length-map (take at.count at.numbers) decimal, length-take at.count at.numbers, at.invariant.four, c.loop-count-test.false, at.auto.count-end) in
-    λ ns ok is. fifth_part c.args.byte c.args.word.now ns front (cut_at c.args.byte at.rest.now) c.requires at.invariant.parts four (some_part c.args.byte at.rest.now) ok is
+    let prefix = map decimal (take at.count at.numbers) in
+    let four : length prefix ≡ 4 = omega (arith, length-map (take at.count at.numbers) decimal, length-take at.count at.numbers, at.invariant.four, c.loop-count-test.false, at.auto.count-end) in
+    λ ns ok is. fifth_part c.args.byte c.args.word.now ns prefix (cut_at c.args.byte at.rest.now) c.requires at.invariant.parts four (some_part c.args.byte at.rest.now) ok is

@@ -8,12 +8,12 @@ use Rattle.zf_store.proofs.file.write_bytes.Goals as goal
 pub loop-i-preserved : goal.loop-i-preserved
 loop-i-preserved c =
     let i = c.loop-i.i in
-    let front = take c.args.front_len (word_bits c.args.front.now) in
+    let prefix = take c.args.prefix_len (word_bits c.args.prefix.now) in
     let back = take c.args.len (word_bits c.args.words.now) in
-    let long : length (front ++ back) ≡ c.args.front_len + c.args.len =
-    omega (arith, length-append front back, length-take-le c.args.front_len (word_bits c.args.front.now) (omega (arith, length-word_bits c.args.front.now)), length-take-le c.args.len (word_bits c.args.words.now) (omega (arith, length-word_bits c.args.words.now))) in
+    let long : length (prefix ++ back) ≡ c.args.prefix_len + c.args.len =
+    omega (arith, length-append prefix back, length-take-le c.args.prefix_len (word_bits c.args.prefix.now) (omega (arith, length-word_bits c.args.prefix.now)), length-take-le c.args.len (word_bits c.args.words.now) (omega (arith, length-word_bits c.args.words.now))) in
     record {
-      bytes = bytes_more (front ++ back) i (i + 1) c.joined_word-word.result c.loop-i.out c.put_word.new.out
+      bytes = bytes_more (prefix ++ back) i (i + 1) c.joined_word-word.result c.loop-i.out c.put_word.new.out
           (omega (arith, long, c.requires.size, c.loop-i-test.true)) c.joined_word-word.type_inv refl (omega (arith, c.loop-i.invariant.count, c.loop-i-test.true))
           c.joined_word-word.ensures c.loop-i.invariant.bytes c.put_word.ensures;
       count = c.put_word.auto.out ∙ c.loop-i.invariant.count;
@@ -22,9 +22,9 @@ loop-i-preserved c =
 pub returns : goal.returns
 returns c =
     let i = c.loop-i.i in
-    let front = take c.args.front_len (word_bits c.args.front.now) in
+    let prefix = take c.args.prefix_len (word_bits c.args.prefix.now) in
     let back = take c.args.len (word_bits c.args.words.now) in
-    let long : length (front ++ back) ≡ c.args.front_len + c.args.len =
-    omega (arith, length-append front back, length-take-le c.args.front_len (word_bits c.args.front.now) (omega (arith, length-word_bits c.args.front.now)), length-take-le c.args.len (word_bits c.args.words.now) (omega (arith, length-word_bits c.args.words.now))) in
-    bytes_all (front ++ back) i c.loop-i.out (omega (arith, long, c.loop-i.invariant.count, c.requires.size)) (omega (arith, c.loop-i.invariant.count, c.requires.size, c.loop-i-test.false))
+    let long : length (prefix ++ back) ≡ c.args.prefix_len + c.args.len =
+    omega (arith, length-append prefix back, length-take-le c.args.prefix_len (word_bits c.args.prefix.now) (omega (arith, length-word_bits c.args.prefix.now)), length-take-le c.args.len (word_bits c.args.words.now) (omega (arith, length-word_bits c.args.words.now))) in
+    bytes_all (prefix ++ back) i c.loop-i.out (omega (arith, long, c.loop-i.invariant.count, c.requires.size)) (omega (arith, c.loop-i.invariant.count, c.requires.size, c.loop-i-test.false))
     (omega (arith, c.loop-i.invariant.count, c.loop-i.auto.i-end)) c.loop-i.invariant.bytes

@@ -5,7 +5,7 @@ use Rattle.zf_spec.specs.Stream.{block_code}
 use Rattle.zf_bits.proofs.Appending.{length-Appends}
 use Rattle.zf_header.specs.HeaderBits.{coding}
 use Rattle.zf_stream.specs.Flows.{Flows, Spills}
-use Rattle.zf_parse.proofs.Codes.{joined-more, joined-front}
+use Rattle.zf_parse.proofs.Codes.{joined-more, joined-prefix}
 use Rattle.zf_stream.proofs.Flowing.{Flows-more, Flows-next, Flows-spill, Spills-more}
 use Rattle.zf_stream.proofs.OnErrors.{on_err}
 use Rattle.zf_stream.proofs.encoding.write_codes.Goals as goal
@@ -26,7 +26,7 @@ module _ (f : ℕ → List Bool) (start : List Bool) where
       let P : List Bool → Type 0 = λ bs. Spills a b bs in
       subst P
       (append_assoc start (flat_map (λ c. c) (map f (upto k))) rest
-      ∙ ap (λ (bs : List Bool). start ++ bs) (sym (joined-front f k (n - k)) ∙ ap (λ m. flat_map (λ c. c) (map f (upto m))) all))
+      ∙ ap (λ (bs : List Bool). start ++ bs) (sym (joined-prefix f k (n - k)) ∙ ap (λ m. flat_map (λ c. c) (map f (upto m))) all))
       (Spills-more rest spills)
 
 pub returns-in_err-write_where_many-clause-err : goal.returns-in_err-write_where_many-clause-err

@@ -2,8 +2,8 @@ use Rattle.std.proofs.Common.{◌≡◌, inl, inr, ⊎_elim, Err, arith}
 use Rattle.std.proofs.lemmas.Result.{err_from_is_err_and, IfErr-weaker}
 use Rattle.zf_parse.specs.Parsing.{restore_answer}
 use Rattle.zf_stream.proofs.Answering.{answer_of_refusal, on_ok_weaker}
-use Rattle.zf_stream.proofs.FromFront.{Finishes-known}
-use Rattle.zf_stream.proofs.Headed.{good_of_front, refusal_of_fault}
+use Rattle.zf_stream.proofs.FromPrefix.{Finishes-known}
+use Rattle.zf_stream.proofs.Headed.{good_of_prefix, refusal_of_fault}
 use Rattle.zf_stream.proofs.Refusals.{CanRefuse-header}
 use Rattle.zf_stream.proofs.restoring.restore.Goals as goal
 
@@ -22,7 +22,7 @@ returns-in_err-h-clause-possible g c =
     rw (p.1, p.2) (CanRefuse-header 24 _ e (omega arith) c.in_ok-count.ensures.first.within c.in_err-h.ensures.err)
 
 pub returns-clause-memory : goal.returns-clause-memory
-returns-clause-memory g c = λ memory. good_of_front 24 (g.S.Source.contents c.args.src.now) _ (omega arith) c.in_ok-count.ensures.first.first c.in_ok-h.ensures.ok.good
+returns-clause-memory g c = λ memory. good_of_prefix 24 (g.S.Source.contents c.args.src.now) _ (omega arith) c.in_ok-count.ensures.first.first c.in_ok-h.ensures.ok.good
 
 pub returns-clause-ok : goal.returns-clause-ok
 returns-clause-ok g c =

@@ -6,28 +6,28 @@ use Rattle.zf_parse.specs.Parsing.{restore_answer}
 use Rattle.zf_stream.proofs.OnErrors.{on_err}
 use Rattle.zf_stream.proofs.OwnFaults.{refused_later}
 use Rattle.zf_stream.proofs.Answering.{answer_of_refusal, answer_of_memory, after_err, on_ok_weaker}
-use Rattle.zf_stream.proofs.FromFront.{header_is, finishes_behind, leaves_front, can_refuse, is_refusal, answers}
-use Rattle.zf_stream.proofs.FromFront.{only_taken, nothing_taken}
+use Rattle.zf_stream.proofs.FromPrefix.{header_is, finishes_behind, leaves_prefix, can_refuse, is_refusal, answers}
+use Rattle.zf_stream.proofs.FromPrefix.{only_taken, nothing_taken}
 use Rattle.zf_stream.proofs.Restored.{some_lacked}
 use Rattle.zf_stream.proofs.Ahead.{restores_on, leaves_on, refuses_on, first_lacked}
 use Rattle.zf_stream.proofs.Slabwise.{with_shape, are_pieces}
 use Rattle.zf_stream.proofs.restoring.restore_as.Goals as goal
 
 pub longest_code-longest-requires-clause-mode : goal.longest_code-longest-requires-clause-mode
-longest_code-longest-requires-clause-mode g c = (header_is c.args.front.now c.args.h.now c.args.header_len c.requires.begun).mode
+longest_code-longest-requires-clause-mode g c = (header_is c.args.prefix.now c.args.h.now c.args.header_len c.requires.begun).mode
 
 pub returns-in_err-window-clause-err : goal.returns-in_err-window-clause-err
-returns-in_err-window-clause-err g c = on_err c.from_residual.result _ (nothing_taken c.args.front.now _ _)
+returns-in_err-window-clause-err g c = on_err c.from_residual.result _ (nothing_taken c.args.prefix.now _ _)
 
 pub returns-in_err-block-clause-err : goal.returns-in_err-block-clause-err
-returns-in_err-block-clause-err g c = on_err c.from_residual-in_err-block.result _ (nothing_taken c.args.front.now _ _)
+returns-in_err-block-clause-err g c = on_err c.from_residual-in_err-block.result _ (nothing_taken c.args.prefix.now _ _)
 
 pub returns-in_err-piece-clause-err : goal.returns-in_err-piece-clause-err
-returns-in_err-piece-clause-err g c = on_err c.from_residual-in_err-piece.result _ (nothing_taken c.args.front.now _ _)
+returns-in_err-piece-clause-err g c = on_err c.from_residual-in_err-piece.result _ (nothing_taken c.args.prefix.now _ _)
 
 pub look_ahead-requires-clause-mode : goal.look_ahead-requires-clause-mode
 look_ahead-requires-clause-mode g c =
-    (header_is c.args.front.now c.args.h.now c.args.header_len c.requires.begun).mode
+    (header_is c.args.prefix.now c.args.h.now c.args.header_len c.requires.begun).mode
 
 pub look_ahead-requires-clause-whole : goal.look_ahead-requires-clause-whole
 look_ahead-requires-clause-whole g c =
@@ -56,7 +56,7 @@ returns-in_err-look_ahead-clause-answer g c =
     let refuses = first_lacked h c.min-rows.result c.with_rows.result src now w e
     dims.some_dimension pieces c.with_rows.ensures c.in_err-look_ahead.ensures.err in
     answer_of_refusal r e _ restore_answer is
-    (is_refusal h c.args.header_len c.args.front.now c.requires.begun w c.in_ok-window.ensures.bits
+    (is_refusal h c.args.header_len c.args.prefix.now c.requires.begun w c.in_ok-window.ensures.bits
     (c.in_ok-window.ensures.place ∙ c.from.ensures) src now e refuses)
 
 pub returns-in_err-look_ahead-clause-possible : goal.returns-in_err-look_ahead-clause-possible
@@ -73,7 +73,7 @@ returns-in_err-look_ahead-clause-possible g c =
     let refuses = first_lacked h c.min-rows.result c.with_rows.result src now w e
     dims.some_dimension pieces c.with_rows.ensures c.in_err-look_ahead.ensures.err in
     rw (p.1, p.2)
-    (can_refuse h c.args.header_len c.args.front.now c.requires.begun w c.in_ok-window.ensures.bits
+    (can_refuse h c.args.header_len c.args.prefix.now c.requires.begun w c.in_ok-window.ensures.bits
     (c.in_ok-window.ensures.place ∙ c.from.ensures) src now e refuses)
 
 pub returns-in_err-look_ahead-clause-err : goal.returns-in_err-look_ahead-clause-err
@@ -81,7 +81,7 @@ returns-in_err-look_ahead-clause-err g c =
     let part = with_shape c.args.h.now c.with_rows.result in
     let e = c.in_err-look_ahead.field-0.0 in
     let some = some_lacked part 0 _ _ c.in_ok-window.window e c.in_err-look_ahead.ensures.err in
-    on_err c.from_residual-in_err-look_ahead.result _ (only_taken c.args.front.now _ _ _ some)
+    on_err c.from_residual-in_err-look_ahead.result _ (only_taken c.args.prefix.now _ _ _ some)
 
 pub returns-in_err-values-clause-answer : goal.returns-in_err-values-clause-answer
 returns-in_err-values-clause-answer g c =
@@ -92,7 +92,7 @@ returns-in_err-values-clause-answer g c =
 pub returns-in_err-values-clause-err : goal.returns-in_err-values-clause-err
 returns-in_err-values-clause-err g c =
     let refill = c.in_ok-look_ahead.ensures.ok in
-    let some = only_taken c.args.front.now _ _ _ (refill.bytes, refill.goes.taken) in
+    let some = only_taken c.args.prefix.now _ _ _ (refill.bytes, refill.goes.taken) in
     on_err c.from_residual-in_err-values.result _ some
 
 pub restore_rows-requires-clause-rows : goal.restore_rows-requires-clause-rows
@@ -128,7 +128,7 @@ returns-clause-answer g c =
     let r = c.restore_rows.result in
     let done = on_ok_weaker r c.restore_rows.ensures.ok (λ done. restores_on h refill done) in
     let refused = IfErr-weaker r _ _ (λ e refuses. refuses_on h refill now e refuses) c.restore_rows.ensures.refused in
-    answers h c.args.header_len c.args.front.now c.requires.begun c.in_ok-window.window c.in_ok-window.ensures.bits
+    answers h c.args.header_len c.args.prefix.now c.requires.begun c.in_ok-window.window c.in_ok-window.ensures.bits
     (c.in_ok-window.ensures.place ∙ c.from.ensures) r src now _ _ done refused
 
 pub returns-clause-possible : goal.returns-clause-possible
@@ -139,7 +139,7 @@ returns-clause-possible g c =
     let now = g.S.Source.contents c.restore_rows.new.src in
     IfErr-weaker c.restore_rows.result _ _
     (λ e refuses.
-    can_refuse h c.args.header_len c.args.front.now c.requires.begun c.in_ok-window.window c.in_ok-window.ensures.bits
+    can_refuse h c.args.header_len c.args.prefix.now c.requires.begun c.in_ok-window.window c.in_ok-window.ensures.bits
     (c.in_ok-window.ensures.place ∙ c.from.ensures) src now e (refuses_on h refill now e refuses))
     c.restore_rows.ensures.refused
 
@@ -148,7 +148,7 @@ returns-clause-ok g c =
     let h = c.args.h.now in
     on_ok_weaker c.restore_rows.result c.restore_rows.ensures.ok
     (λ done.
-    finishes_behind h c.args.header_len c.args.front.now c.requires.begun c.in_ok-window.window
+    finishes_behind h c.args.header_len c.args.prefix.now c.requires.begun c.in_ok-window.window
     c.in_ok-window.ensures.bits (c.in_ok-window.ensures.place ∙ c.from.ensures)
     (restores_on h c.in_ok-look_ahead.ensures.ok done))
 
@@ -157,7 +157,7 @@ returns-clause-err g c =
     let h = c.args.h.now in
     after_err c.restore_rows.result c.restore_rows.ensures.err
     (λ left.
-    leaves_front h c.args.header_len c.args.front.now c.requires.begun c.in_ok-window.window
+    leaves_prefix h c.args.header_len c.args.prefix.now c.requires.begun c.in_ok-window.window
     c.in_ok-window.ensures.bits (c.in_ok-window.ensures.place ∙ c.from.ensures)
     (leaves_on h c.in_ok-look_ahead.ensures.ok left))
 

@@ -8,7 +8,7 @@ use Rattle.zf_spec.specs.Stream.{raw}
 use Rattle.zf_pad.specs.Slabs.{rows_of, row_len, with_rows, IsSlab, first_block}
 use Rattle.zf_pad.specs.Rasters.{IsRaster}
 use Rattle.zf_pad.proofs.Slabs.{layout_of_slab, length-with_rows, product-with_rows, blocks-with_rows}
-use Rattle.zf_dev.specs.Sink.{Appends, AppendsFront}
+use Rattle.zf_dev.specs.Sink.{Appends, AppendsPrefix}
 use Rattle.zf_header.specs.declared.header.Header.{Header}
 use Rattle.zf_parse.specs.Raw.{raw_bytes}
 use Rattle.zf_stream.specs.Rows.{ArePieces}
@@ -130,7 +130,7 @@ returns-in_err-write_values-clause-err g c =
     let P : List ℕ → Type 0 = λ s. ReadsSlab (with_shape h s) mid now c.loop-row.window c.read_slab.new.window values in
     let read : ReadsSlab (part_of h here) mid now c.loop-row.window c.read_slab.new.window values = subst P c.with_rows.ensures c.in_ok-read_slab.ensures.ok in
     let text : raw g.T.Lane.width values ≡ raw_bytes h values = ap (λ w. raw w values) c.requires.same_type in
-    let Of : List ℕ → Type 0 = λ bs. AppendsFront out1 out2 bs in
+    let Of : List ℕ → Type 0 = λ bs. AppendsPrefix out1 out2 bs in
     on_err c.from_residual-in_err-write_values.result _ (slab_spilled h c.loop-row.row here slab.next c.loop-row.invariant.done values read long (subst Of text c.in_err-write_values.ensures.err))
 
 pub overflow_add-first : goal.overflow_add-first

@@ -3,7 +3,7 @@ use Rattle.std.proofs.lemmas.Result.{err_from_is_err_and}
 use Rattle.zf_parse.specs.declared.fault.StreamFault.{StreamFault}
 use Rattle.zf_stream.specs.Outcomes.{Answers}
 use Rattle.zf_stream.specs.Typed.{typed_answer}
-use Rattle.zf_stream.proofs.Headed.{good_of_front}
+use Rattle.zf_stream.proofs.Headed.{good_of_prefix}
 use Rattle.zf_stream.proofs.TypedAnswers.{typed_fault, typed_other, typed_same, typed_done, typed_possible_header, typed_possible}
 use Rattle.zf_stream.proofs.restoring.restore_where.Goals as goal
 
@@ -42,7 +42,7 @@ returns-in_err-restore_behind-clause-possible g c =
     rw (p.1, p.2) (typed_possible c.args.wanted _ c.in_ok-header.header c.in_ok-header.len e c.in_ok-header.ensures.ok same c.in_err-restore_behind.ensures.possible)
 
 pub returns-in_err-restore_behind-clause-memory : goal.returns-in_err-restore_behind-clause-memory
-returns-in_err-restore_behind-clause-memory g c = λ memory. good_of_front 24 (g.S.Source.contents c.args.src.now) _ (omega arith) c.in_ok-read.ensures.first.first c.in_ok-header.ensures.ok.good
+returns-in_err-restore_behind-clause-memory g c = λ memory. good_of_prefix 24 (g.S.Source.contents c.args.src.now) _ (omega arith) c.in_ok-read.ensures.first.first c.in_ok-header.ensures.ok.good
 
 pub returns-clause-answer : goal.returns-clause-answer
 returns-clause-answer g c =

@@ -4,8 +4,8 @@ use Rattle.std.proofs.Math.Nat.{div-mul-le_self, mul-le-mul_right}
 use Rattle.std.proofs.Math.Seq.{take-add}
 use Rattle.std.specs.Int.{Width}
 use Rattle.zf_spec.specs.Stream.{raw}
-use Rattle.zf_dev.specs.Sink.{Appends, AppendsFront}
-use Rattle.zf_dev.proofs.Appending.{Appends-append, AppendsFront-append, AppendsFront-more}
+use Rattle.zf_dev.specs.Sink.{Appends, AppendsPrefix}
+use Rattle.zf_dev.proofs.Appending.{Appends-append, AppendsPrefix-append, AppendsPrefix-more}
 use Rattle.zf_stream.proofs.OnErrors.{on_err}
 use Rattle.zf_stream.proofs.RawValues.{raw-append}
 use Rattle.zf_stream.proofs.writing.write_values.Goals as goal
@@ -41,14 +41,14 @@ returns-in_err-write_bytes-clause-err g c = on_err c.from_residual.result _ (
     let count : at + n - at ≡ n = omega arith in
     let fits : n * len ≤ length c.args.piece.now / len * len = mul-le-mul_right len (omega (arith, c.min-n.ensures)) in
     let long : length put ≡ n * len = omega (arith, c.put_raw.auto.bytes, length-take (n * len) c.loop-at.piece, c.loop-at.auto.piece, fits, div-mul-le_self (length c.args.piece.now) len) in
-    let Piece : List ℕ → Type 0 = λ bs. AppendsFront mid to bs in
-    let P : List ℕ → Type 0 = λ bs. AppendsFront from to bs in
+    let Piece : List ℕ → Type 0 = λ bs. AppendsPrefix mid to bs in
+    let P : List ℕ → Type 0 = λ bs. AppendsPrefix from to bs in
     let here = raw w (map value (take n (drop at values))) in
-    let front = raw w (map value (take at values)) in
+    let prefix = raw w (map value (take at values)) in
     let last = raw w (map value (drop (at + n) values)) in
     let piece = subst Piece (piece_is w value values at n (n * len) (at + n - at) len put rest c.put_raw.ensures count long) c.in_err-write_bytes.ensures.err in
     subst P (ap (λ (bs : List ℕ). bs ++ last) (bytes_more w value values at n (n * len) (at + n - at) len put rest c.put_raw.ensures count long) ∙ all_bytes w value values at n (n * len) (at + n - at) len put rest c.put_raw.ensures count long)
-    (AppendsFront-more from to (front ++ here) last (AppendsFront-append from mid to front here c.loop-at.invariant.written piece)))
+    (AppendsPrefix-more from to (prefix ++ here) last (AppendsPrefix-append from mid to prefix here c.loop-at.invariant.written piece)))
 
 pub loop-at-preserved : goal.loop-at-preserved
 loop-at-preserved g c =
@@ -69,11 +69,11 @@ loop-at-preserved g c =
     let Piece : List ℕ → Type 0 = λ bs. Appends mid to bs in
     let P : List ℕ → Type 0 = λ bs. Appends from to bs in
     let here = raw w (map value (take n (drop at values))) in
-    let front = raw w (map value (take at values)) in
+    let prefix = raw w (map value (take at values)) in
     let piece = subst Piece (piece_is w value values at n (n * len) (at + n - at) len put rest c.put_raw.ensures count long) c.in_ok-write_bytes.ensures.ok in
     record {
       within = omega (arith, c.loop-at-test.true, c.min-n.ensures);
-      written = subst P (bytes_more w value values at n (n * len) (at + n - at) len put rest c.put_raw.ensures count long) (Appends-append from mid to front here c.loop-at.invariant.written piece);
+      written = subst P (bytes_more w value values at n (n * len) (at + n - at) len put rest c.put_raw.ensures count long) (Appends-append from mid to prefix here c.loop-at.invariant.written piece);
       same_sink = c.write_bytes.ensures.same_sink ∙ c.loop-at.invariant.same_sink;
       faults = omega (arith, c.loop-at.invariant.faults, c.write_bytes.ensures.cause.0);
     }

@@ -5,7 +5,7 @@ use Rattle.zf_spec.specs.Numbers.{field, number, word_bits}
 use Rattle.zf_spec.specs.Stream.{to_bits, fill, with_fill}
 use Rattle.zf_spec.proofs.Fields.{length-field, field-number}
 use Rattle.zf_dev.specs.Sink as Sink
-use Rattle.zf_dev.specs.Sink.{AppendsFront}
+use Rattle.zf_dev.specs.Sink.{AppendsPrefix}
 use Rattle.zf_stream.specs.Flows.{bytes_in, Flows, Spills}
 use Rattle.zf_stream.proofs.OnErrors.{on_err}
 use Rattle.zf_stream.proofs.WordBytes.{to_bits-bytes_in, small-bytes_in, length-bytes_in, word_bits-take}
@@ -13,8 +13,8 @@ use Rattle.zf_stream.proofs.writing.write_whole_words.Goals as goal
 
 -- the whole words of bits, and the bits behind them
 module _ (bits : List Bool) (words : List ℕ) (is : word_bits words ≡ with_fill bits) (n : ℕ) (count_is : n ≡ length bits / 64) (fit : All (λ v. v < 2 ^ 64) (take n words)) (long : length words ≡ div_ceil (length bits) 64) where
-  front : to_bits (bytes_in (take (length bits / 64) words)) ≡ take (64 * (length bits / 64)) bits
-  front =
+  prefix : to_bits (bytes_in (take (length bits / 64) words)) ≡ take (64 * (length bits / 64)) bits
+  prefix =
       let Fit : ℕ → Type 0 = λ k. All (λ v. v < 2 ^ 64) (take k words) in
       to_bits-bytes_in (take (length bits / 64) words) (subst Fit count_is fit)
       ∙ word_bits-take (length bits / 64) words (omega arith)
@@ -42,18 +42,18 @@ module _ (bits : List Bool) (words : List ℕ) (is : word_bits words ≡ with_fi
         written = subst P count_is written;
         small = small-bytes_in (take (length bits / 64) words);
         words = omega (arith, length-bytes_in (take (length bits / 64) words));
-        parts = ap (λ (bs : List Bool). bs ++ field left last) front ∙ ap (λ (bs : List Bool). take (64 * (length bits / 64)) bits ++ bs) (behind left last few value) ∙ take-append-drop (64 * (length bits / 64)) bits;
+        parts = ap (λ (bs : List Bool). bs ++ field left last) prefix ∙ ap (λ (bs : List Bool). take (64 * (length bits / 64)) bits ++ bs) (behind left last few value) ∙ take-append-drop (64 * (length bits / 64)) bits;
       }
 
-  spilled : {a b : Option (List ℕ)} → AppendsFront a b (bytes_in (take n words)) → Spills a b bits
+  spilled : {a b : Option (List ℕ)} → AppendsPrefix a b (bytes_in (take n words)) → Spills a b bits
   spilled {a} {b} written =
-      let P : ℕ → Type 0 = λ k. AppendsFront a b (bytes_in (take k words)) in
+      let P : ℕ → Type 0 = λ k. AppendsPrefix a b (bytes_in (take k words)) in
       record {
         bytes = bytes_in (take (length bits / 64) words);
         written = subst P count_is written;
         small = small-bytes_in (take (length bits / 64) words);
         left = drop (64 * (length bits / 64)) bits;
-        parts = ap (λ (bs : List Bool). bs ++ drop (64 * (length bits / 64)) bits) front ∙ take-append-drop (64 * (length bits / 64)) bits;
+        parts = ap (λ (bs : List Bool). bs ++ drop (64 * (length bits / 64)) bits) prefix ∙ take-append-drop (64 * (length bits / 64)) bits;
       }
 
 pub returns-in_err-write_words-clause-err : goal.returns-in_err-write_words-clause-err

@@ -3,8 +3,8 @@ use Rattle.std.proofs.lemmas.List.{take_at, length-take}
 use Rattle.std.proofs.lemmas.List.Elements.{All-from_get_or}
 use Rattle.std.proofs.lemmas.Grind.{flat_map-append}
 use Rattle.std.specs.Int.{w64, to_le_bytes}
-use Rattle.zf_dev.specs.Sink.{Appends, AppendsFront}
-use Rattle.zf_dev.proofs.Appending.{Appends-append, AppendsFront-append, AppendsFront-more}
+use Rattle.zf_dev.specs.Sink.{Appends, AppendsPrefix}
+use Rattle.zf_dev.proofs.Appending.{Appends-append, AppendsPrefix-append, AppendsPrefix-more}
 use Rattle.zf_stream.specs.Flows.{bytes_in}
 use Rattle.zf_stream.proofs.OnErrors.{on_err}
 use Rattle.zf_stream.proofs.writing.write_words.Goals as goal
@@ -31,15 +31,15 @@ returns-in_err-write_bytes-clause-err g c = on_err c.from_residual.result _ (
     let to = g.O.Sink.contents c.write_bytes.new.out in
     let mid = g.O.Sink.contents c.loop-at.out in
     let behind = bytes_in (drop (at + n) words) in
-    let front = bytes_in (take at words) in
+    let prefix = bytes_in (take at words) in
     let count : at + n - at ≡ n = omega arith in
     let long : length c.put_bytes.new.bytes ≡ 8 * n = omega (arith, c.put_bytes.auto.bytes, c.min-n.ensures, length-take (8 * n) c.loop-at.piece, c.loop-at.auto.piece) in
     let same = filled c.put_bytes.new.bytes (drop (8 * n) c.loop-at.piece) words at n (8 * n) (at + n - at) c.put_bytes.ensures count long in
-    let Piece : List ℕ → Type 0 = λ bs. AppendsFront mid to bs in
+    let Piece : List ℕ → Type 0 = λ bs. AppendsPrefix mid to bs in
     let piece = subst Piece same c.in_err-write_bytes.ensures.err in
-    let P : List ℕ → Type 0 = λ bs. AppendsFront from to bs in
-    let parts = AppendsFront-append from mid to front (bytes_in (take n (drop at words))) c.loop-at.invariant.written piece in
-    subst P (ap (λ (bs : List ℕ). bs ++ behind) (sym (bytes_more words at n)) ∙ all_bytes words (at + n)) (AppendsFront-more from to (front ++ bytes_in (take n (drop at words))) behind parts))
+    let P : List ℕ → Type 0 = λ bs. AppendsPrefix from to bs in
+    let parts = AppendsPrefix-append from mid to prefix (bytes_in (take n (drop at words))) c.loop-at.invariant.written piece in
+    subst P (ap (λ (bs : List ℕ). bs ++ behind) (sym (bytes_more words at n)) ∙ all_bytes words (at + n)) (AppendsPrefix-more from to (prefix ++ bytes_in (take n (drop at words))) behind parts))
 
 pub loop-at-preserved : goal.loop-at-preserved
 loop-at-preserved g c =

@@ -16,7 +16,7 @@ returns-in-Err-write_all-clause-behaves g c = λ src known now holds kept.
     let line = c.as_bytes.ensures.value ∙ (c.as_str.ensures.value ∙ c.bound_line-line.ensures) in
     let good = said_good (parse c.args.file.now) c.in-Ok.ensures.good in
     let is = subst (λ answer. IfOk answer (λ said. c.in-Ok.certified ≡ certified_of c.args.header.now said.codes c.args.most)) good.1 c.in-Ok.ensures.certified in
-    Behaves-cut_certified c.args.name.now c.args.most c.args.file.now c.args.header.now good.0 known now holds kept c.requires.header c.requires.rate good.1 c.in-Ok.certified c.as_bytes.result.now src _ _ is line c.write_all.ensures.front
+    Behaves-cut_certified c.args.name.now c.args.most c.args.file.now c.args.header.now good.0 known now holds kept c.requires.header c.requires.rate good.1 c.in-Ok.certified c.as_bytes.result.now src _ _ is line c.write_all.ensures.prefix
 
 pub returns-in-Err-clause-behaves : goal.returns-in-Err-clause-behaves
 returns-in-Err-clause-behaves g c = λ src known now holds kept.

@@ -2,7 +2,7 @@ use Rattle.std.proofs.Common.{[], Err, ap, sym, refl}
 use Rattle.zf_parse.specs.Raw.{compress_answer, stream_text}
 use Rattle.zfpi.specs.declared.command.Command.TheVariants.{Compress}
 use Rattle.zfpi.specs.Answer.{status_of}
-use Rattle.zfpi.proofs.Streaming.{IsStreaming-compress, Behaves-done, Behaves-fault, compress_front}
+use Rattle.zfpi.proofs.Streaming.{IsStreaming-compress, Behaves-done, Behaves-fault, compress_prefix}
 use Rattle.zfpi.proofs.compress.compress.Goals as goal
 
 pub returns-in-Ok-clause-behaves : goal.returns-in-Ok-clause-behaves
@@ -17,5 +17,5 @@ returns-in-Err-clause-behaves g c = λ files.
     let e = c.in-Err.fault in
     let done = c.in-Err.ensures in
     let left = done.err in
-    rw c.from.ensures (Behaves-fault (Compress h) (compress_answer h) e [] left.bytes left.bytes _ _ _ _ files (IsStreaming-compress h) (λ w. refl) done.answer done.possible tt (λ input told memory. tt) left.taken refl
-    (λ w. compress_front e (stream_text h left.bytes) _ _ left.written (λ want. done.unwritten (ap Err want))))
+    rw c.from.ensures (Behaves-fault (Compress h) (compress_answer h) e [] left.bytes left.bytes _ _ _ _ files (IsStreaming-compress h) (λ w. refl) done.answer done.possible tt (λ input exposed memory. tt) left.taken refl
+    (λ w. compress_prefix e (stream_text h left.bytes) _ _ left.written (λ starved. done.unwritten (ap Err starved))))

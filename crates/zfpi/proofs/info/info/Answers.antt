@@ -10,7 +10,7 @@ returns-in-Ok-write_all-clause-behaves g c = λ files.
 pub returns-in-Err-write_all-clause-behaves : goal.returns-in-Err-write_all-clause-behaves
 returns-in-Err-write_all-clause-behaves g c = λ files.
     let line = c.as_bytes.ensures.value ∙ (c.as_str.ensures.value ∙ c.info_line-line.ensures) in
-    Behaves-cut_line c.in-Ok.header c.in-Ok.bits c.as_bytes.result.now _ _ _ _ files c.in-Ok.ensures.ok line c.write_all.ensures.front
+    Behaves-cut_line c.in-Ok.header c.in-Ok.bits c.as_bytes.result.now _ _ _ _ files c.in-Ok.ensures.ok line c.write_all.ensures.prefix
 
 pub returns-in-Err-clause-behaves : goal.returns-in-Err-clause-behaves
 returns-in-Err-clause-behaves g c = λ files. rw c.from.ensures (Behaves-lacks c.in-Err.fault _ _ _ files c.in-Err.ensures.err)

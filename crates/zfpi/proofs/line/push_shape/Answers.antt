@@ -10,9 +10,9 @@ loop-axis-preserved c =
     let at = c.loop-axis.axis in
     let digits = decimal c.size-in-loop-axis.result in
     let text = c.push_number-in-loop-axis.ensures.text
-    ∙ (ap (λ front. front ++ digits) c.push_str.ensures.bytes
+    ∙ (ap (λ prefix. prefix ++ digits) c.push_str.ensures.bytes
     ∙ (append_assoc c.loop-axis.line.bytes (120 ∷ []) digits
-    ∙ (ap (λ front. front ++ 120 ∷ digits) c.loop-axis.invariant.text
+    ∙ (ap (λ prefix. prefix ++ 120 ∷ digits) c.loop-axis.invariant.text
     ∙ ap (λ n. (start ++ shape_word (take at ns)) ++ 120 ∷ decimal n) c.size-in-loop-axis.ensures))) in
     record {
       text = shape_word_more ns c.push_number-in-loop-axis.new.line.bytes start at (omega arith) (omega arith) text;

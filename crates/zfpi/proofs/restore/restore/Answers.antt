@@ -3,7 +3,7 @@ use Rattle.zf_parse.specs.Parsing.{restore_answer, restored_text}
 use Rattle.zf_parse.specs.ReadStreams.{HasGoodHeader}
 use Rattle.zfpi.specs.declared.command.Command.TheVariants.{Restore}
 use Rattle.zfpi.specs.Answer.{status_of}
-use Rattle.zfpi.proofs.Streaming.{IsStreaming-restore, Behaves-done, Behaves-fault, restore_front, nothing_written, one_stream, one_stream-good}
+use Rattle.zfpi.proofs.Streaming.{IsStreaming-restore, Behaves-done, Behaves-fault, restore_prefix, nothing_written, one_stream, one_stream-good}
 use Rattle.zfpi.proofs.restore.restore.Goals as goal
 
 pub returns-in-Ok-clause-behaves : goal.returns-in-Ok-clause-behaves
@@ -17,5 +17,5 @@ returns-in-Err-clause-behaves g c = λ files.
     let done = c.in-Err.ensures in
     let left = done.err in
     rw c.from.ensures (Behaves-fault Restore restore_answer e one_stream left.bytes left.bytes _ _ _ _ files IsStreaming-restore (λ w. refl) done.answer done.possible one_stream-good
-    (λ input told memory. subst HasGoodHeader told (done.memory (ap Err memory))) left.taken refl
-    (λ w. restore_front e (restored_text left.bytes) _ _ left.written (λ before. nothing_written _ _ (done.unwritten before))))
+    (λ input exposed memory. subst HasGoodHeader exposed (done.memory (ap Err memory))) left.taken refl
+    (λ w. restore_prefix e (restored_text left.bytes) _ _ left.written (λ before. nothing_written _ _ (done.unwritten before))))

@@ -1,10 +1,10 @@
 use Rattle.std.proofs.Common.{[], Err, ap, sym, refl, subst}
-use Rattle.zf_dev.proofs.Appending.{AppendsFront-all}
+use Rattle.zf_dev.proofs.Appending.{AppendsPrefix-all}
 use Rattle.zf_parse.specs.ReadStreams.{HasGoodHeader}
 use Rattle.zf_narrow.specs.Texts.{narrow_restored}
 use Rattle.zfpi.specs.declared.command.Command.TheVariants.{RestoreNarrow}
 use Rattle.zfpi.specs.Answer.{narrow_status_of}
-use Rattle.zfpi.proofs.Streaming.{IsStreaming-restore_narrow, Behaves-done, Behaves-narrow_fault, narrow_front}
+use Rattle.zfpi.proofs.Streaming.{IsStreaming-restore_narrow, Behaves-done, Behaves-narrow_fault, narrow_prefix}
 use Rattle.zfpi.proofs.restore_narrow.restore_narrow.Goals as goal
 
 pub returns-in-Ok-clause-behaves : goal.returns-in-Ok-clause-behaves
@@ -20,5 +20,5 @@ returns-in-Err-clause-behaves g c = λ files.
     let done = c.in-Err.ensures in
     let left = done.err in
     rw c.from.ensures (Behaves-narrow_fault n e left.bytes _ _ _ _ files done.answer done.possible (λ not_narrow. done.other (ap Err not_narrow))
-    (λ input told memory. subst HasGoodHeader told (done.memory (ap Err memory))) left.taken
-    (narrow_front e (narrow_restored n left.bytes) _ _ left.written (λ before. AppendsFront-all _ _ [] (done.unwritten before))))
+    (λ input exposed memory. subst HasGoodHeader exposed (done.memory (ap Err memory))) left.taken
+    (narrow_prefix e (narrow_restored n left.bytes) _ _ left.written (λ before. AppendsPrefix-all _ _ [] (done.unwritten before))))

@@ -12,7 +12,7 @@ returns-in-Done-clause-behaves g c = λ known lines src rest holds kept takes en
     let a = c.args.array in
     let r = c.in-Done.ensures.runs in
     let now = c.run.new.a in
-    Behaves-run c.args.name.now (Direct lines) known _ g.T.Lane.width (stored a) (state a) holds kept c.args.script.now r.wants most (shape now) (state now) now.header.mode 0 Done c.save.result c.save_bytes.result.now src rest _ _ _ _ _ _
+    Behaves-run c.args.name.now (Direct lines) known _ g.T.Lane.width (stored a) (state a) holds kept c.args.script.now r.starved most (shape now) (state now) now.header.mode 0 Done c.save.result c.save_bytes.result.now src rest _ _ _ _ _ _
     r.ended c.save.ensures.stays r.same_mode c.save_bytes.ensures.saved refl c.save.ensures.saved takes end
 
 pub returns-in-Lines-clause-behaves : goal.returns-in-Lines-clause-behaves
@@ -21,7 +21,7 @@ returns-in-Lines-clause-behaves g c = λ known lines src rest holds kept takes e
     let r = c.in-Lines.ensures.runs in
     let n = c.in-Lines.count in
     let now = c.run.new.a in
-    Behaves-run c.args.name.now (Direct lines) known _ g.T.Lane.width (stored a) (state a) holds kept c.args.script.now r.wants most (shape now) (state now) now.header.mode n (Lines n) c.save-in-Lines.result c.save_bytes-in-Lines.result.now src rest _ _ _ _ _ _
+    Behaves-run c.args.name.now (Direct lines) known _ g.T.Lane.width (stored a) (state a) holds kept c.args.script.now r.starved most (shape now) (state now) now.header.mode n (Lines n) c.save-in-Lines.result c.save_bytes-in-Lines.result.now src rest _ _ _ _ _ _
     r.ended.1 c.save-in-Lines.ensures.stays r.same_mode c.save_bytes-in-Lines.ensures.saved (lines_status-some n r.ended.0) c.save-in-Lines.ensures.saved takes end
 
 pub returns-clause-behaves : goal.returns-clause-behaves
@@ -29,7 +29,7 @@ returns-clause-behaves g c = λ known lines src rest holds kept takes end most.
     let a = c.args.array in
     let r = c.in-Write.ensures.runs in
     let now = c.run.new.a in
-    Behaves-cut_run c.args.name.now (Direct lines) known _ g.T.Lane.width (stored a) (state a) holds kept c.args.script.now r.wants most (shape now) (state now) c.send.result src rest _ _ _ r.ended c.send.ensures.stays (cut_sent c.send.result c.send.ensures) takes end
+    Behaves-cut_run c.args.name.now (Direct lines) known _ g.T.Lane.width (stored a) (state a) holds kept c.args.script.now r.starved most (shape now) (state now) c.send.result src rest _ _ _ r.ended c.send.ensures.stays (cut_sent c.send.result c.send.ensures) takes end
 
 pub returns-in-Done-clause-causes : goal.returns-in-Done-clause-causes
 returns-in-Done-clause-causes g c = λ lines src.

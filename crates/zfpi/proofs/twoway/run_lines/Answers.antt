@@ -15,7 +15,7 @@ returns-in-Done-clause-behaves g c = λ known lines src rest holds kept takes en
     let o = c.args.opened in let value = g.T.Lane.value in let w = g.T.Lane.width in
     let r = c.in-Done.ensures.runs in
     let s = c.run_two.new.store in let d = c.run_two.new.cache in
-    Behaves-run c.args.name.now (TwoWay lines) known _ w o.store (pair_state value o.store o.cache) holds kept c.args.script.now r.wants most s.header.shape (pair_state value s d) s.header.mode 0 Done c.save_store.result (file_of s) src rest _ _ _ _ _ _
+    Behaves-run c.args.name.now (TwoWay lines) known _ w o.store (pair_state value o.store o.cache) holds kept c.args.script.now r.starved most s.header.shape (pair_state value s d) s.header.mode 0 Done c.save_store.result (file_of s) src rest _ _ _ _ _ _
     r.ended c.save_store.ensures.stays (ap (λ (h : Header). h.mode) r.same_header) (saved_two value w g.row.D s d c.save_store.ensures.whole) refl c.save_store.ensures.saved takes end
 
 pub returns-in-Lines-clause-behaves : goal.returns-in-Lines-clause-behaves
@@ -24,7 +24,7 @@ returns-in-Lines-clause-behaves g c = λ known lines src rest holds kept takes e
     let r = c.in-Lines.ensures.runs in
     let n = c.in-Lines.count in
     let s = c.run_two.new.store in let d = c.run_two.new.cache in
-    Behaves-run c.args.name.now (TwoWay lines) known _ w o.store (pair_state value o.store o.cache) holds kept c.args.script.now r.wants most s.header.shape (pair_state value s d) s.header.mode n (Lines n) c.save_store-in-Lines.result (file_of s) src rest _ _ _ _ _ _
+    Behaves-run c.args.name.now (TwoWay lines) known _ w o.store (pair_state value o.store o.cache) holds kept c.args.script.now r.starved most s.header.shape (pair_state value s d) s.header.mode n (Lines n) c.save_store-in-Lines.result (file_of s) src rest _ _ _ _ _ _
     r.ended.1 c.save_store-in-Lines.ensures.stays (ap (λ (h : Header). h.mode) r.same_header) (saved_two value w g.row.D s d c.save_store-in-Lines.ensures.whole) (lines_status-some n r.ended.0) c.save_store-in-Lines.ensures.saved takes end
 
 pub returns-clause-behaves : goal.returns-clause-behaves
@@ -32,7 +32,7 @@ returns-clause-behaves g c = λ known lines src rest holds kept takes end most.
     let o = c.args.opened in let value = g.T.Lane.value in let w = g.T.Lane.width in
     let r = c.in-Write.ensures.runs in
     let s = c.run_two.new.store in let d = c.run_two.new.cache in
-    Behaves-cut_run c.args.name.now (TwoWay lines) known _ w o.store (pair_state value o.store o.cache) holds kept c.args.script.now r.wants most s.header.shape (pair_state value s d) c.send.result src rest _ _ _ r.ended c.send.ensures.stays (cut_sent c.send.result c.send.ensures) takes end
+    Behaves-cut_run c.args.name.now (TwoWay lines) known _ w o.store (pair_state value o.store o.cache) holds kept c.args.script.now r.starved most s.header.shape (pair_state value s d) c.send.result src rest _ _ _ r.ended c.send.ensures.stays (cut_sent c.send.result c.send.ensures) takes end
 
 pub returns-in-Done-clause-causes : goal.returns-in-Done-clause-causes
 returns-in-Done-clause-causes g c = λ lines src.

@@ -13,4 +13,4 @@ returns-clause-held c =
     let copied : part ≡ take count text = c.copy_from_slice.ensures.after in
     let long : length part ≡ count = ap length copied ∙ length-take-le count text (omega arith) in
     held_more b.bytes part b.start b.end _ count c.self.invariant.0 (omega arith) (omega arith)
-    ∙ (ap (λ front. front ++ take count part) c.self.view_is ∙ (ap (λ piece. held ++ take count piece) copied ∙ ap (λ piece. held ++ piece) (take-take count count text (omega arith))))
+    ∙ (ap (λ prefix. prefix ++ take count part) c.self.view_is ∙ (ap (λ piece. held ++ take count piece) copied ∙ ap (λ piece. held ++ piece) (take-take count count text (omega arith))))

@@ -56,7 +56,7 @@ use denote.Array.{Array}
 use denote.Slice.{MutSlice, slice_val}
 use denote.Follow.{follows}
 use denote.FollowSlice.{Elements, lends_Elements}
-use lib.Seq.{take_at as take_front}
+use lib.Seq.{take_at as take_prefix}
 use Rattle.std.specs.List.{refill}
 use Rattle.zf_lines.specs.Lends.{with_slots, spliced}
 use types.Run.{size_word}
@@ -112,7 +112,7 @@ module _ (E : El) {M : Type 1} {𝓤 : Ura M} (𝓛 : Logic 𝓤) (C : Calls �
     unfolding part_of
     back e within small count ws same =
         let old = somes (take len (drop_l from d.slots)) in
-        let all : refill len old ws ≡ ws = take_front ws (drop_l (length ws) old) len (same ∙ count) in
+        let all : refill len old ws ≡ ws = take_prefix ws (drop_l (length ws) old) len (same ∙ count) in
         let rest = drop_l (from + len) d.slots in
         let long : length (new ws).slots ≡ length d.slots = ap (λ l. length (spliced d.slots from len l)) all
         ∙ omega (arith, length-append (take from d.slots) (map Some ws ++ rest), length-append (map Some ws) rest, length-map ws Some, length-take from d.slots, length-drop (from + len) d.slots) in

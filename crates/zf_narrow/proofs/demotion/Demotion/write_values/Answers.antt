@@ -2,7 +2,7 @@ use Rattle.std.proofs.Common.{◌≡◌, ◌%◌, ◌*◌, ◌≤◌, ◌++◌, 
 use Rattle.zf_narrow.specs.Values.{size_of}
 use Rattle.zf_narrow.specs.RawNarrow.{demoted_bytes}
 use Rattle.zf_narrow.specs.Promoting.{listed}
-use Rattle.zf_narrow.proofs.Demoting.{begun_values, begun_values-bounds, owes_one, owes_none, within_front, written_is}
+use Rattle.zf_narrow.proofs.Demoting.{begun_values, begun_values-bounds, owes_one, owes_none, within_prefix, written_is}
 use Rattle.zf_narrow.proofs.demotion.Demotion.write_values.Goals as goal
 use Rattle.zf_narrow.proofs.demotion.Demotion.write_values.Goals.{then-written-values, else-written-values}
 
@@ -20,7 +20,7 @@ invariant_of-self-clause-written g c =
     let values_is : values ≡ begun_values n k = c.div_ceil-values.ensures ∙ ap (λ m. k / m + min 1 (k % m)) len_is in
     let before : c.args.self.now.given.bytes ≡ demoted_bytes n c.args.self.now.taken.bytes = sym (append-nil c.args.self.now.given.bytes) ∙ ap (λ o. c.args.self.now.given.bytes ++ listed o) (sym c.requires.settled) ∙ c.args.self.now.written in
     let part = c.put_demoted.new.narrow in
-    let bound : k ≤ count * size_of n = within_front n count k len _ len_is c.in_ok-written.ensures.bound in
+    let bound : k ≤ count * size_of n = within_prefix n count k len _ len_is c.in_ok-written.ensures.bound in
     let few : values ≤ count = omega (arith, (begun_values-bounds n k count bound).0, values_is) in
     ap (λ (bs : List ℕ). bs ++ listed c.if-written-values.self) c.push.ensures
     ∙ written_is n count values k raw part _ c.args.self.now.given.bytes c.args.self.now.taken.bytes (listed c.if-written-values.self) few room c.put_demoted.ensures before c.args.self.now.whole

@@ -15,8 +15,8 @@ returns g c =
     let s = c.self.inside in
     let n = c.len.result in
     let m = c.code_bits.result in
-    let front = word_bits c.words.result.now in
-    let made = λ (ws : List ℕ). to_bytes (with_fill (take n front ++ take m (word_bits ws))) in
+    let prefix = word_bits c.words.result.now in
+    let made = λ (ws : List ℕ). to_bytes (with_fill (take n prefix ++ take m (word_bits ws))) in
     c.write_bytes.ensures ∙ ap made c.deref.ensures.value
-    ∙ file_is g.T.Lane.width g.row.D s.header s.words.items s.room s.code s.head c.self.invariant front n m c.words.ensures.bits c.len.ensures.count c.code_bits.ensures.value
+    ∙ file_is g.T.Lane.width g.row.D s.header s.words.items s.room s.code s.head c.self.invariant prefix n m c.words.ensures.bits c.len.ensures.count c.code_bits.ensures.value
     ∙ ap file_of c.self.view_is

@@ -5,8 +5,8 @@ use Rattle.zf_stream.proofs.window.Window.new.Goals as goal
 
 pub returns-clause-bits : goal.returns-clause-bits
 returns-clause-bits c =
-    let front = c.args.front.now in
+    let prefix = c.args.prefix.now in
     let new = c.put_words_at.new.words in
-    let count : 8 * length front ≡ 64 * 0 + 8 * length front = omega arith in
-    ap (λ ws. take (8 * length front) (word_bits ws)) (with_items_is c.in_ok-words.words new (search (rules, places)))
+    let count : 8 * length prefix ≡ 64 * 0 + 8 * length prefix = omega arith in
+    ap (λ ws. take (8 * length prefix) (word_bits ws)) (with_items_is c.in_ok-words.words new (search (rules, places)))
     ∙ ap (λ n. take n (word_bits new)) count ∙ c.put_words_at.ensures.bits

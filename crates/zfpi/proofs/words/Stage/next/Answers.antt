@@ -50,4 +50,4 @@ returns-in_ok-new-in-Scripting-clause-leads c = λ words leads.
     let named = c.in_ok-new-in-Scripting.ensures.name in
     let first : words ≡ script_word script ∷ [] = subst (LeadsTo words) c.in-Scripting.is leads in
     rw c.command-in-Scripting.ensures (IsSpelled-script script name None (words ++ c.args.word.now ∷ []) named.0 tt
-    (ap (λ front. front ++ c.args.word.now ∷ []) first ∙ ap (λ word. script_word script ∷ word ∷ []) (sym named.1)))
+    (ap (λ prefix. prefix ++ c.args.word.now ∷ []) first ∙ ap (λ word. script_word script ∷ word ∷ []) (sym named.1)))

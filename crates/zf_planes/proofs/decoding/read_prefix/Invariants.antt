@@ -4,7 +4,7 @@ use Rattle.zf_spec.specs.HeldPlanes.{digits_held, IsClearFrom}
 use Rattle.zf_bits.specs.Reader.{rest}
 use Rattle.zf_planes.specs.Decoding.{IsWindow}
 use Rattle.zf_planes.proofs.Passing.{Passes}
-use Rattle.zf_planes.proofs.decoding.read_front.Given as goal
+use Rattle.zf_planes.proofs.decoding.read_prefix.Given as goal
 
 abbrev pub invariant-loop-at : goal.invariant-loop-at
 invariant-loop-at g l =

@@ -14,33 +14,33 @@ use Rattle.zf_spec.proofs.Beginnings.{begins_is_first, begins_itself, first_bits
 use Rattle.zf_index.proofs.Longest.{found_some}
 use Rattle.zf_spec.proofs.Full.{length-planes_in, planes_in-length, full_begins, full_only}
 
--- bits that begin others, as far as those go, are their front
+-- bits that begin others, as far as those go, are their prefix
 begins_take : (a s : List Bool) → length a ≤ length s → Begins a s → a ≡ take (length a) s
 begins_take a s within begins =
     begins_is_first a s begins ∙ ap (λ (t : List Bool). first_bits (length a) t) (sym (append-nil s)) ∙ first_bits-append s [] (length a) within
 
 -- planes are known from the bits of their code
-pub planes_front : (p size : ℕ) (s : List Bool) → length (code (planes_in p size s)) ≤ length s → planes_in p size (take (length (code (planes_in p size s))) s) ≡ planes_in p size s
-planes_front p size s within =
+pub planes_prefix : (p size : ℕ) (s : List Bool) → length (code (planes_in p size s)) ≤ length s → planes_in p size (take (length (code (planes_in p size s))) s) ≡ planes_in p size s
+planes_prefix p size s within =
     let ps = planes_in p size s in
-    let front : code ps ≡ take (length (code ps)) s = begins_take (code ps) s within (full_begins p size s) in
+    let prefix : code ps ≡ take (length (code ps)) s = begins_take (code ps) s within (full_begins p size s) in
     let Begun : List Bool → Type 0 = λ t. Begins (code ps) t in
-    let begins : Begins (code ps) (take (length (code ps)) s) = subst Begun (append-nil (code ps) ∙ front) (begins_itself (code ps) []) in
+    let begins : Begins (code ps) (take (length (code ps)) s) = subst Begun (append-nil (code ps) ∙ prefix) (begins_itself (code ps) []) in
     sym (full_only size ps (take (length (code ps)) s) (planes_in-length p size s) begins
     ∙ ap (λ k. planes_in k size (take (length (code ps)) s)) (length-planes_in p size s))
 
 -- planes that were found, as they are found where just so many bits are there
-found_again : {A : Type 0} (of : List (List Bool) → A) (front : ℕ) (s t : List Bool) (ps qs : List (List Bool)) (b : A) (k : ℕ) → length t ≡ k → qs ≡ ps → front + length (code ps) ≡ k → of ps ≡ b
-    → cond {A = Option (A × ℕ)} (ltb (length t) (front + length (code qs))) None (Some (of qs, front + length (code qs))) ≡ Some (b, k)
-found_again {A} of front s t ps qs b k long same count is =
-    let Answer : List (List Bool) → Option (A × ℕ) = λ rs. cond {A = Option (A × ℕ)} (ltb (length t) (front + length (code rs))) None (Some (of rs, front + length (code rs))) in
-    let enough : ltb (length t) (front + length (code ps)) ≡ false = le-ltb (length t) (front + length (code ps)) (omega (arith, long, count)) in
-    ap Answer same ∙ ap (λ x. cond {A = Option (A × ℕ)} x None (Some (of ps, front + length (code ps)))) enough
-    ∙ ap (λ (a : A). Some (a, front + length (code ps))) is ∙ ap (λ n. Some (b, n)) count
+found_again : {A : Type 0} (of : List (List Bool) → A) (prefix : ℕ) (s t : List Bool) (ps qs : List (List Bool)) (b : A) (k : ℕ) → length t ≡ k → qs ≡ ps → prefix + length (code ps) ≡ k → of ps ≡ b
+    → cond {A = Option (A × ℕ)} (ltb (length t) (prefix + length (code qs))) None (Some (of qs, prefix + length (code qs))) ≡ Some (b, k)
+found_again {A} of prefix s t ps qs b k long same count is =
+    let Answer : List (List Bool) → Option (A × ℕ) = λ rs. cond {A = Option (A × ℕ)} (ltb (length t) (prefix + length (code rs))) None (Some (of rs, prefix + length (code rs))) in
+    let enough : ltb (length t) (prefix + length (code ps)) ≡ false = le-ltb (length t) (prefix + length (code ps)) (omega (arith, long, count)) in
+    ap Answer same ∙ ap (λ x. cond {A = Option (A × ℕ)} x None (Some (of ps, prefix + length (code ps)))) enough
+    ∙ ap (λ (a : A). Some (a, prefix + length (code ps))) is ∙ ap (λ n. Some (b, n)) count
 
-pub read_rev-front : (w : Width) (es : List ℕ) (s : List Bool) (block : List ℤ) (k : ℕ) → read_rev w es s ≡ Some (block, k) → read_rev w es (take k s) ≡ Some (block, k)
+pub read_rev-prefix : (w : Width) (es : List ℕ) (s : List Bool) (block : List ℤ) (k : ℕ) → read_rev w es s ≡ Some (block, k) → read_rev w es (take k s) ≡ Some (block, k)
 unfolding read_rev
-read_rev-front w es s block k e =
+read_rev-prefix w es s block k e =
     let n = count_bits w in
     let size = 4 ^ length es in
     let p = number (take n s) + 1 in
@@ -56,12 +56,12 @@ read_rev-front w es s block k e =
     let qs = planes_in (number (take n t) + 1) size (drop n t) in
     let same : qs ≡ ps =
     ap (λ (u : List Bool). planes_in (number u + 1) size (drop n t)) number_same ∙ ap (planes_in p size) rest_same
-    ∙ planes_front p size rest (omega (arith, enough, length-drop n s)) in
+    ∙ planes_prefix p size rest (omega (arith, enough, length-drop n s)) in
     found_again of n s t ps qs block k long same is.count is.same
 
-pub read_prec-front : (w : Width) (p : ℕ) (es : List ℕ) (s : List Bool) (block : List ℤ) (k : ℕ) → read_prec w p es s ≡ Some (block, k) → read_prec w p es (take k s) ≡ Some (block, k)
+pub read_prec-prefix : (w : Width) (p : ℕ) (es : List ℕ) (s : List Bool) (block : List ℤ) (k : ℕ) → read_prec w p es s ≡ Some (block, k) → read_prec w p es (take k s) ≡ Some (block, k)
 unfolding read_prec
-read_prec-front w p es s block k e =
+read_prec-prefix w p es s block k e =
     let size = 4 ^ length es in
     let q = min p (bits w) in
     let ps = planes_in q size s in
@@ -70,7 +70,7 @@ read_prec-front w p es s block k e =
     let enough : length (code ps) ≤ length s = ltb-false (length s) (length (code ps)) is.enough in
     let t = take k s in
     let long : length t ≡ k = length-take-le k s (omega (arith, enough, is.count)) in
-    let same : planes_in q size t ≡ ps = ap (λ m. planes_in q size (take m s)) (sym is.count) ∙ planes_front q size s enough in
+    let same : planes_in q size t ≡ ps = ap (λ m. planes_in q size (take m s)) (sym is.count) ∙ planes_prefix q size s enough in
     let none : (n : ℕ) → 0 + n ≡ n = λ n. omega arith in
     let Answer : ℕ → Option (List ℤ × ℕ) = λ n. cond {A = Option (List ℤ × ℕ)} (ltb (length t) n) None (Some (of (planes_in q size t), n)) in
     ap Answer (sym (none (length (code (planes_in q size t))))) ∙ found_again of 0 s t ps (planes_in q size t) block k long same (none (length (code ps)) ∙ is.count) is.same

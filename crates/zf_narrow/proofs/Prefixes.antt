@@ -25,9 +25,9 @@ values_from-first w (suc n) s =
     let rest = first_bytes (n * k) (drop k s) in
     let more : suc n * k ≡ k + n * k = omega (arith, suc-mul n k) in
     let long : length here ≡ k = length-first_bytes k s in
-    let front : first_bytes k (here ++ rest) ≡ here = ap (λ m. first_bytes m (here ++ rest)) (sym long) ∙ first_bytes-append here rest in
+    let prefix : first_bytes k (here ++ rest) ≡ here = ap (λ m. first_bytes m (here ++ rest)) (sym long) ∙ first_bytes-append here rest in
     ap (values_from w (suc n)) (ap (λ m. first_bytes m s) more ∙ first_bytes-add k (n * k) s)
-    ∙ ap (λ (bs : List ℕ). cast_signed w (from_le_bytes w bs) ∷ values_from w n (drop k (here ++ rest))) front
+    ∙ ap (λ (bs : List ℕ). cast_signed w (from_le_bytes w bs) ∷ values_from w n (drop k (here ++ rest))) prefix
     ∙ ap (λ (bs : List ℕ). cast_signed w (from_le_bytes w here) ∷ values_from w n bs) (drop_at here rest k long)
     ∙ ap (λ (vs : List ℤ). cast_signed w (from_le_bytes w here) ∷ vs) (values_from-first w n (drop k s))
 

@@ -8,8 +8,8 @@ use Rattle.zf_planes.specs.Decoding.{Lacks, Takes}
 use Rattle.zf_spec.proofs.HeldPlanes.{digits_held-none}
 use Rattle.zf_planes.proofs.Passing.{Passes-start, Passes-part, Passes-end, Passes-lacks, Passes-rest, if_none}
 use Rattle.zf_planes.proofs.Placing.{clear_zeros, clear_later, held_behind, word_filled}
-use Rattle.zf_planes.proofs.PlaneAhead.{front_read}
-use Rattle.zf_planes.proofs.decoding.read_front.Goals as goal
+use Rattle.zf_planes.proofs.PlaneAhead.{prefix_read}
+use Rattle.zf_planes.proofs.decoding.read_prefix.Goals as goal
 
 pub loop-at-init : goal.loop-at-init
 loop-at-init g c =
@@ -104,7 +104,7 @@ returns-clause-digits g c =
     held_behind at n ws (omega arith) (omega (arith, c.requires.words, g.met.P.Plane.long c.loop-at.plane)) before.clear
     ∙ ap (λ (bs : List Bool). bs ++ replicate (n - at) false) before.digits
     ∙ ap (λ k. take k s ++ replicate (n - k) false) all
-    ∙ sym (front_read c.args.ahead.now.left n s there)
+    ∙ sym (prefix_read c.args.ahead.now.left n s there)
 
 pub returns-clause-clear : goal.returns-clause-clear
 returns-clause-clear g c = clear_later c.loop-at.at c.args.n (g.P.Plane.words c.loop-at.plane) (omega (arith, c.loop-at.invariant.within, c.min-count.ensures)) c.loop-at.invariant.clear

@@ -3,9 +3,9 @@ use Rattle.std.proofs.Common.{◌≡◌, sym, ap, subst, ◌∙◌, ℕ, ◌+◌
 use Rattle.std.proofs.lemmas.Bool.{cases_lt}
 
 -- the place at the front gets a value
-pub front_set : {X : Type 0} (xs : List X) (d : X) (f : ℕ → X) (n : ℕ) (x : X) → n < length xs → x ≡ f n
+pub prefix_set : {X : Type 0} (xs : List X) (d : X) (f : ℕ → X) (n : ℕ) (x : X) → n < length xs → x ≡ f n
     → ((j : ℕ) → j < n → get_or xs j d ≡ f j) → (j : ℕ) → j < n + 1 → get_or (set xs n x) j d ≡ f j
-front_set xs d f n x within here before j h = ⊎_elim
+prefix_set xs d f n x within here before j h = ⊎_elim
     (λ (earlier : j < n). get_or-set_other xs n j x d (λ (e : j ≡ n). absurd (omega arith)) ∙ before j earlier)
     (λ (last : n ≤ j).
     let same : j ≡ n = omega arith in
@@ -18,9 +18,9 @@ pub rest_set : {X : Type 0} (xs : List X) (d : X) (f : ℕ → X) (n : ℕ) (x :
 rest_set xs d f n x rest j h = get_or-set_other xs n j x d (λ (e : j ≡ n). absurd (omega arith)) ∙ rest j (omega arith)
 
 -- the same of what is told of each value, where two lists are written at once
-pub front_tells : {X : Type 0} (P : ℕ → X → Type 0) (xs : List X) (d : X) (n : ℕ) (x : X) → n < length xs → P n x
+pub prefix_tells : {X : Type 0} (P : ℕ → X → Type 0) (xs : List X) (d : X) (n : ℕ) (x : X) → n < length xs → P n x
     → ((j : ℕ) → j < n → P j (get_or xs j d)) → (j : ℕ) → j < n + 1 → P j (get_or (set xs n x) j d)
-front_tells P xs d n x within here before j h = ⊎_elim
+prefix_tells P xs d n x within here before j h = ⊎_elim
     (λ (earlier : j < n). subst (P j) (sym (get_or-set_other xs n j x d (λ (e : j ≡ n). absurd (omega arith)))) (before j earlier))
     (λ (last : n ≤ j).
     let same : n ≡ j = omega arith in

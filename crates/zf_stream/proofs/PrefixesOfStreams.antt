@@ -1,4 +1,4 @@
--- What was written of a stream: a front, or all of it.
+-- What was written of a stream: a prefix, or all of it.
 use Rattle.std.proofs.Common.{◌≡◌, refl, sym, ap, subst, ◌∙◌, ℕ, suc, ◌+◌, ◌-◌, ◌/◌, ◌<◌, ◌≤◌, Bool, false, List, [], ◌∷◌, ◌++◌, map, length, drop, replicate, All, Option, append_assoc, length-append, take_at, drop_at, arith}
 use Rattle.std.proofs.lemmas.List.{append-nil}
 use Rattle.std.proofs.lemmas.List.Elements.{All-head, All-tail}
@@ -12,35 +12,35 @@ use Rattle.zf_spec.proofs.Bytes.{length-to_bits, to_bytes-to_bits, fill_whole}
 use Rattle.zf_base.specs.Widths.{width_of}
 use Rattle.zf_pad.specs.Slabs.{rows_of, row_len, IsSlab, first_block}
 use Rattle.zf_dev.specs.Source.{Takes}
-use Rattle.zf_dev.specs.Sink.{Appends, AppendsFront}
+use Rattle.zf_dev.specs.Sink.{Appends, AppendsPrefix}
 use Rattle.zf_dev.proofs.Taking.{Takes-append}
-use Rattle.zf_dev.proofs.Appending.{AppendsFront-more}
+use Rattle.zf_dev.proofs.Appending.{AppendsPrefix-more}
 use Rattle.zf_header.specs.declared.header.Header.{Header}
 use Rattle.zf_header.specs.HeaderBits.{coding, header_bits}
 use Rattle.zf_parse.specs.Raw.{stream_text}
-use Rattle.zf_stream.specs.Outcomes.{LeavesFront}
+use Rattle.zf_stream.specs.Outcomes.{LeavesPrefix}
 use Rattle.zf_stream.specs.Flows.{Flows, Spills}
 use Rattle.zf_stream.specs.Rows.{rows_len, code_of_block, codes_of_rows, Compresses, Stops}
-use Rattle.zf_parse.proofs.Codes.{joined-front}
+use Rattle.zf_parse.proofs.Codes.{joined-prefix}
 use Rattle.zf_stream.proofs.Flowing.{Flows-more, Flows-next, Flows-spill, Spills-flows}
 use Rattle.zf_stream.proofs.Rows.{codes_of_rows-more, codes_of_all_rows}
 
 -- ---- bytes in front of bits
 
-pub to_bytes-front : (bytes : List ℕ) (s : List Bool) → All (λ b. b < 256) bytes → to_bytes (to_bits bytes ++ s) ≡ bytes ++ to_bytes s
-to_bytes-front [] s small = refl
-to_bytes-front (b ∷ bytes) s small =
+pub to_bytes-prefix : (bytes : List ℕ) (s : List Bool) → All (λ b. b < 256) bytes → to_bytes (to_bits bytes ++ s) ≡ bytes ++ to_bytes s
+to_bytes-prefix [] s small = refl
+to_bytes-prefix (b ∷ bytes) s small =
     let rest = to_bits bytes ++ s in
     let all = field 8 b ++ rest in
     let together : to_bits (b ∷ bytes) ++ s ≡ all = append_assoc (field 8 b) (to_bits bytes) s in
     let count : length all / 8 ≡ suc (length rest / 8) = omega (arith, length-append (field 8 b) rest, length-field 8 b) in
-    let front = take_at (field 8 b) rest 8 (length-field 8 b) in
+    let prefix = take_at (field 8 b) rest 8 (length-field 8 b) in
     let behind = drop_at (field 8 b) rest 8 (length-field 8 b) in
-    let byte = ap number front ∙ number-field 8 b ∙ mod-eq_of_lt (All-head (λ c. c < 256) b bytes small) in
+    let byte = ap number prefix ∙ number-field 8 b ∙ mod-eq_of_lt (All-head (λ c. c < 256) b bytes small) in
     ap to_bytes together ∙ ap (λ n. bytes_from n all) count
     ∙ ap (λ c. c ∷ bytes_from (length rest / 8) (drop 8 all)) byte
     ∙ ap (λ (bs : List Bool). b ∷ bytes_from (length rest / 8) bs) behind
-    ∙ ap (λ (cs : List ℕ). b ∷ cs) (to_bytes-front bytes s (All-tail (λ c. c < 256) b bytes small))
+    ∙ ap (λ (cs : List ℕ). b ∷ cs) (to_bytes-prefix bytes s (All-tail (λ c. c < 256) b bytes small))
 
 -- ---- the bits of a stream
 
@@ -56,18 +56,18 @@ whole_text h bytes = refl
 pub stream_text-bits : (h : Header) (bytes : List ℕ) → 1 ≤ length h.shape → stream_text h bytes ≡ to_bytes (with_fill (stream_bits h bytes))
 stream_text-bits h bytes some = whole_text h bytes ∙ ap (λ (cs : List Bool). to_bytes (with_fill (header_bits h ++ cs))) (sym (codes_of_all_rows h bytes some))
 
--- what was written of a front of the bits with their fill is a front of the text
-pub front_of_text : (h : Header) (bytes : List ℕ) (bits rest : List Bool) {src0 now out0 out : Option (List ℕ)} → 1 ≤ length h.shape → bits ++ rest ≡ with_fill (stream_bits h bytes)
-    → Takes src0 now bytes → Spills out0 out bits → LeavesFront (stream_text h) src0 now out0 out
-front_of_text h bytes bits rest {src0} {now} {out0} {out} some is taken spills =
+-- what was written of a prefix of the bits with their fill is a prefix of the text
+pub prefix_of_text : (h : Header) (bytes : List ℕ) (bits rest : List Bool) {src0 now out0 out : Option (List ℕ)} → 1 ≤ length h.shape → bits ++ rest ≡ with_fill (stream_bits h bytes)
+    → Takes src0 now bytes → Spills out0 out bits → LeavesPrefix (stream_text h) src0 now out0 out
+prefix_of_text h bytes bits rest {src0} {now} {out0} {out} some is taken spills =
     let parts : to_bits spills.bytes ++ (spills.left ++ rest) ≡ with_fill (stream_bits h bytes) =
     sym (append_assoc (to_bits spills.bytes) spills.left rest) ∙ ap (λ (bs : List Bool). bs ++ rest) spills.parts ∙ is in
     let text : spills.bytes ++ to_bytes (spills.left ++ rest) ≡ stream_text h bytes =
-    sym (to_bytes-front spills.bytes (spills.left ++ rest) spills.small) ∙ ap to_bytes parts ∙ sym (stream_text-bits h bytes some) in
-    let P : List ℕ → Type 0 = λ bs. AppendsFront out0 out bs in
-    record { bytes = bytes; taken = taken; written = subst P text (AppendsFront-more out0 out spills.bytes (to_bytes (spills.left ++ rest)) spills.written) }
+    sym (to_bytes-prefix spills.bytes (spills.left ++ rest) spills.small) ∙ ap to_bytes parts ∙ sym (stream_text-bits h bytes some) in
+    let P : List ℕ → Type 0 = λ bs. AppendsPrefix out0 out bs in
+    record { bytes = bytes; taken = taken; written = subst P text (AppendsPrefix-more out0 out spills.bytes (to_bytes (spills.left ++ rest)) spills.written) }
 
--- the codes of some rows are a front of those of all
+-- the codes of some rows are a prefix of those of all
 pub codes_behind : (h : Header) (rows : ℕ) (bytes more : List ℕ) → IsSlab h.shape 0 rows → length bytes ≡ rows_len h rows
     → (rest : List Bool) × (codes_of_rows h rows bytes ++ rest ≡ codes_of_rows h (rows_of h.shape) (bytes ++ more))
 codes_behind h rows bytes more whole long =
@@ -80,12 +80,12 @@ codes_behind h rows bytes more whole long =
     let all : k + (n - k) ≡ n = omega arith in
     let rest = flat_map (λ c. c) (map f (count_from k (n - k))) in (
       rest,
-      ap (λ (bs : List Bool). bs ++ rest) (sym (codes_of_rows-more h rows bytes more whole long)) ∙ sym (joined-front f k (n - k)) ∙ ap (λ m. flat_map (λ c. c) (map f (upto m))) all,
+      ap (λ (bs : List Bool). bs ++ rest) (sym (codes_of_rows-more h rows bytes more whole long)) ∙ sym (joined-prefix f k (n - k)) ∙ ap (λ m. flat_map (λ c. c) (map f (upto m))) all,
     )
 
 -- where the work stopped
-pub front_where_stopped : (h : Header) {src0 now out0 out : Option (List ℕ)} → Stops h src0 now out0 out (header_bits h) → LeavesFront (stream_text h) src0 now out0 out
-front_where_stopped h {src0} {now} {out0} {out} stops =
+pub prefix_where_stopped : (h : Header) {src0 now out0 out : Option (List ℕ)} → Stops h src0 now out0 out (header_bits h) → LeavesPrefix (stream_text h) src0 now out0 out
+prefix_where_stopped h {src0} {now} {out0} {out} stops =
     let all = stops.bytes ++ stops.more in
     let behind = codes_behind h stops.rows stops.bytes stops.more stops.whole stops.long in
     let rest = behind.0 ++ fill (stream_bits h all) in
@@ -93,7 +93,7 @@ front_where_stopped h {src0} {now} {out0} {out} stops =
     let is : bits ++ rest ≡ with_fill (stream_bits h all) =
     sym (append_assoc bits behind.0 (fill (stream_bits h all)))
     ∙ ap (λ (bs : List Bool). bs ++ fill (stream_bits h all)) (append_assoc (header_bits h) (codes_of_rows h stops.rows stops.bytes) behind.0 ∙ ap (λ (cs : List Bool). header_bits h ++ cs) behind.1) in
-    front_of_text h all bits rest stops.whole.some_axis is stops.taken stops.spills
+    prefix_of_text h all bits rest stops.whole.some_axis is stops.taken stops.spills
 
 -- behind what was written before
 pub Stops-behind : (h : Header) {src now out0 out1 out2 : Option (List ℕ)} {bits left : List Bool} → Flows out0 out1 bits left → Stops h src now out1 out2 left → Stops h src now out0 out2 bits
@@ -156,8 +156,8 @@ module _ (h : Header) {src now out0 out1 : Option (List ℕ)} {left : List Bool}
       subst P fill_same (Flows-more (fill left) done.flows)
 
   -- the last words were not written
-  pub front_at_end : {out2 : Option (List ℕ)} → Spills out1 out2 (left ++ fill left) → LeavesFront (stream_text h) src now out0 out2
-  front_at_end {out2} spills = front_of_text h done.bytes (with_fill (stream_bits h done.bytes)) [] done.whole.some_axis (append-nil _) done.taken (Flows-spill filled spills)
+  pub prefix_at_end : {out2 : Option (List ℕ)} → Spills out1 out2 (left ++ fill left) → LeavesPrefix (stream_text h) src now out0 out2
+  prefix_at_end {out2} spills = prefix_of_text h done.bytes (with_fill (stream_bits h done.bytes)) [] done.whole.some_axis (append-nil _) done.taken (Flows-spill filled spills)
 
   -- they were
   pub text_at_end : {out2 : Option (List ℕ)} {last : List Bool} → Flows out1 out2 (left ++ fill left) last → length last < 64 → Appends out0 out2 (stream_text h done.bytes)
