@@ -221,7 +221,7 @@ def unsnipped(page):
 
 def error_lines():
     """The texts of the error lines, as the program has them; a number in one is N."""
-    text = (CRATES / "zfpi/src/line.rt").read_text()
+    text = (CRATES / "zfpi/src/commands/line.rt").read_text()
     lines = [line for line in re.findall(r'plain\("([^"]+)"\)', text)]
     return lines + [
         f"{before}N{after}" for before, after in re.findall(r'counted\("([^"]*)", .*?, "([^"]*)"\)', text)

@@ -1,7 +1,7 @@
 mod Decimals
 mod ShapeWords
 mod Completed
-mod Commands
+mod CommandWords
 mod Exposed
 mod Streaming
 mod Heading

@@ -34,7 +34,7 @@ use Rattle.zfpi.specs.Opened.{array_in, stream_in, opened, said_or_status, said_
 use Rattle.zfpi.specs.Scripts.{Answering, run_replies, look_replies, lines_status, script_status}
 use Rattle.zfpi.specs.Answer.{TakesMemory, MayLoad, MaySave, MayFail, IsPossible, CompressEnds, RestoreEnds, RestoreNarrowEnds, InfoEnds, FileEnds, LookEnds, RunEnds, BoundEnds, status_of, narrow_status_of, header_status, status_for, text_for, draft_for}
 use Rattle.zfpi.specs.Headline.{OfCommand, Writes, Behaves, HasCauses, AreQuiet, IsComplete, IsFromOutside, IsCausedOnShelf, FailedLoad, FailedSave, IsBack, GivesBack}
-use Rattle.zfpi.proofs.Commands.{one_command}
+use Rattle.zfpi.proofs.CommandWords.{one_command}
 use Rattle.zfpi.proofs.Loading.{ComesFirst}
 
 -- what holds of one command that the words are holds of each

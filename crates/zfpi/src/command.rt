@@ -1,6 +1,6 @@
 //! The commands.
 
-use crate::name::Name;
+use crate::words::name::Name;
 use zf_base::{Shape, Ty};
 use zf_header::Header;
 use zf_narrow::Narrow;

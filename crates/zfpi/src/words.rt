@@ -7,9 +7,12 @@ ghost use Rattle.zf_header.specs.HeaderBits.{IsRate, IsMode};
 ghost use Rattle.zfpi.specs.Words.{type_word, narrow_word, IsLines, IsSpelled, BeginsCommand, IsUsage};
 ghost use Rattle.zfpi.specs.Stages.{LeadsTo, IsRateWord, IsLinesWord, IsPrecisionWord, command_of, script_command};
 
+pub mod name;
+pub mod numbers;
+
 use crate::command::{Caching, Command};
-use crate::name::Name;
-use crate::numbers::{number_in, shape_in};
+use crate::words::name::Name;
+use crate::words::numbers::{number_in, shape_in};
 use zf_base::{Shape, Ty};
 use zf_header::{Header, MAX_FILE, MAX_PRECISION, MAX_RATE, Mode, rate_bytes};
 use zf_narrow::Narrow;

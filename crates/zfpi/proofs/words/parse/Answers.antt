@@ -2,7 +2,7 @@ use Rattle.std.proofs.Common.{◌≡◌, take, map, length, subst, sym, arith, s
 use Rattle.std.proofs.lemmas.List.{length-map, take_all}
 use Rattle.zfpi.specs.Words.{BeginsCommand}
 use Rattle.zfpi.specs.Stages.{LeadsTo}
-use Rattle.zfpi.proofs.Commands.{word_more, IsUsage-stopped, IsUsage-ended}
+use Rattle.zfpi.proofs.CommandWords.{word_more, IsUsage-stopped, IsUsage-ended}
 use Rattle.zfpi.proofs.words.parse.Goals as goal
 
 pub returns-in_default-clause-usage : goal.returns-in_default-clause-usage

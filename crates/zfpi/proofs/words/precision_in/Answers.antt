@@ -2,7 +2,7 @@ use Rattle.std.proofs.Common.{subst, arith}
 use Rattle.std.proofs.lemmas.Bool.{false≢true}
 use Rattle.zf_header.specs.declared.header.Mode.TheVariants.{Precision}
 use Rattle.zf_header.specs.HeaderBits.{IsMode}
-use Rattle.zfpi.proofs.Commands.{IsPrecisionWord-number}
+use Rattle.zfpi.proofs.CommandWords.{IsPrecisionWord-number}
 use Rattle.zfpi.proofs.words.precision_in.Goals as goal
 
 pub returns-else-is_precision-clause-none : goal.returns-else-is_precision-clause-none

@@ -2,7 +2,7 @@ use Rattle.std.proofs.Common.{◌≤◌, subst, arith}
 use Rattle.std.proofs.lemmas.Bool.{false≢true}
 use Rattle.zf_header.specs.declared.header.Mode.TheVariants.{Rate}
 use Rattle.zf_header.specs.HeaderBits.{IsRate, rate_bytes_of}
-use Rattle.zfpi.proofs.Commands.{IsRateWord-number}
+use Rattle.zfpi.proofs.CommandWords.{IsRateWord-number}
 use Rattle.zfpi.proofs.words.rate_in.Goals as goal
 
 pub returns-then-not-is_rate-clause-none : goal.returns-then-not-is_rate-clause-none

@@ -1,7 +1,7 @@
 use Rattle.std.proofs.Common.{◌≡◌, ◌++◌, ◌∷◌, [], None, ap, sym, subst, ◌∙◌}
 use Rattle.zfpi.specs.Stages.{script_word, LeadsTo}
 use Rattle.zfpi.proofs.Completed.{IsSpelled-script}
-use Rattle.zfpi.proofs.Commands.{IsRateWord-begun, IsRateWord-begun_new, IsPrecisionWord-begun, IsLinesWord-begun, IsLinesWord-begun_twoway}
+use Rattle.zfpi.proofs.CommandWords.{IsRateWord-begun, IsRateWord-begun_new, IsPrecisionWord-begun, IsLinesWord-begun, IsLinesWord-begun_twoway}
 use Rattle.zfpi.proofs.words.Stage.next.Goals as goal
 
 pub returns-in_err-rate_in-in-AtRate-clause-none : goal.returns-in_err-rate_in-in-AtRate-clause-none

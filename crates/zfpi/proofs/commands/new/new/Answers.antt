@@ -1,0 +1,16 @@
+use Rattle.std.proofs.Common.{◌∙◌}
+use Rattle.zfpi.proofs.Making.{Behaves-saved, Behaves-unsaved, Behaves-starved}
+use Rattle.zfpi.proofs.commands.new.new.Goals as goal
+
+pub returns-in-Ok-save-clause-behaves : goal.returns-in-Ok-save-clause-behaves
+returns-in-Ok-save-clause-behaves g c = λ src out.
+    let saved = rw c.as_str.ensures at c.in-Ok-save.ensures.ok in
+    Behaves-saved c.args.name.now c.args.ty c.args.shape c.args.bits src out _ _ c.deref.result.now (c.deref.ensures.value ∙ c.in-Ok.ensures) saved
+
+pub returns-in-Ok-clause-behaves : goal.returns-in-Ok-clause-behaves
+returns-in-Ok-clause-behaves g c = λ src out.
+    let others = rw c.as_str.ensures at c.save.ensures.others in
+    Behaves-unsaved c.args.name.now c.args.ty c.args.shape c.args.bits src out _ _ others
+
+pub returns-clause-behaves : goal.returns-clause-behaves
+returns-clause-behaves g c = λ src out. Behaves-starved c.args.name.now c.args.ty c.args.shape c.args.bits src out _

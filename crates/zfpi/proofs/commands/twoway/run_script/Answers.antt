@@ -1,0 +1,23 @@
+use Rattle.std.proofs.Common.{◌≤◌, length, Err, ap, sym, subst}
+use Rattle.zf_dev.specs.Source.{Takes}
+use Rattle.zfpi.proofs.Causes.{HasCauses-taken}
+use Rattle.zfpi.specs.declared.command.Caching.TheVariants.{TwoWay}
+use Rattle.zfpi.specs.declared.command.Command.TheVariants.{Run}
+use Rattle.zfpi.specs.Opened.{array_in}
+use Rattle.zfpi.specs.Scripts.{run_replies}
+use Rattle.zfpi.proofs.Scripting.{IsScripted-run, Behaves-untaken}
+use Rattle.zfpi.proofs.commands.twoway.run_script.Goals as goal
+
+pub returns-in-Ok-clause-behaves : goal.returns-in-Ok-clause-behaves
+returns-in-Ok-clause-behaves g c = λ known lines holds kept.
+    let same = sym c.deref.ensures.value in
+    c.run_lines.ensures.behaves known lines _ _ holds kept (subst (Takes _ _) same c.in-Ok.ensures.ok) c.in-Ok.ensures.end (subst (λ script. length script ≤ 16777216) same c.in-Ok.ensures.bound)
+
+pub returns-in-Ok-clause-causes : goal.returns-in-Ok-clause-causes
+returns-in-Ok-clause-causes g c = λ lines.
+    HasCauses-taken _ c.run_lines.result _ _ _ _ _ _ c.take_all.ensures.cause.0 tt (λ sure. (c.take_all.ensures.sure sure).1) (c.run_lines.ensures.causes lines _)
+
+pub returns-in-Err-clause-behaves : goal.returns-in-Err-clause-behaves
+returns-in-Err-clause-behaves g c = λ known lines holds kept.
+    let name = c.args.name.now in
+    rw c.from.ensures (Behaves-untaken (Run name (TwoWay lines)) name array_in (run_replies (TwoWay lines)) (IsScripted-run name (TwoWay lines)) known _ holds.bytes _ holds.file holds.array kept c.in-Err.error _ _ _ (λ long. c.in-Err.ensures.long (ap Err long)) c.take_all.ensures.taken)

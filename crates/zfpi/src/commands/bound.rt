@@ -1,0 +1,108 @@
+//! `bound`: how far the values of a stream are from whatever was stored in it, as a line.
+
+ghost use Rattle.std.specs.Prelude.{◌≡◌, ◌≢◌, ℕ, List, Option, IfOk, IfErr, OnOk};
+ghost use Rattle.zf_dev.specs.Shelf.{Files, KeepsFiles};
+ghost use Rattle.zf_header.specs.HeaderBits.{IsRate};
+ghost use Rattle.zf_index.specs.Files.{HasHeader, stream_fault};
+ghost use Rattle.zf_parse.specs.Parsing.{parse};
+ghost use Rattle.zf_parse.specs.ReadStreams.{IsFault};
+ghost use Rattle.zf_bound.specs.Bounds.{IsGood, certified_of};
+ghost use Rattle.zfpi.specs.declared.command.Command.TheVariants.{Bound};
+ghost use Rattle.zfpi.specs.World.{seen, counts};
+ghost use Rattle.zfpi.specs.Loaded.{HoldsFile};
+ghost use Rattle.zfpi.specs.Headline.{Behaves, HasCauses, FailedLoad, FailedSave};
+
+use crate::commands::line::bound_line;
+use crate::status::Status;
+use crate::words::name::Name;
+use std::alloc::Global;
+use zf_base::Ty;
+use zf_bound::Certified;
+use zf_dev::{Shelf, Sink, write_all};
+use zf_header::{Header, MAX_FILE, Mode, mode_number};
+use zf_index::IndexFault;
+
+/// Loads the file of this name, which is a stream of a fixed rate, and writes a line that says how far its values are at most from whatever was
+/// stored in it, if that had magnitudes up to `most`. No file changes.
+pub fn bound<O: Sink, F: Shelf>(
+    alloc: Global,
+    name: &Name,
+    most: u64,
+    out: &mut O,
+    shelf: &mut F,
+) -> Status
+    ensures behaves { (src : Option (List ℕ)) → Behaves (Bound name.now most) result
+        (seen src (O.contents out.old) (F.files shelf.old)) (seen src (O.contents out.new) (F.files shelf.new)) }
+    ensures causes { (src : ℕ) → HasCauses (Bound name.now most) result
+        (counts src (O.faults out.old) (F.faults shelf.old)) (counts src (O.faults out.new) (F.faults shelf.new))
+        (FailedLoad F.loads F.faults shelf.old shelf.new) (FailedSave F.saves F.faults shelf.old shelf.new) (Unit {0}) (Unit {0}) }
+    ensures sure_shelf { F.never_fails shelf.old → (result ≢ Status.LoadFault) × F.never_fails shelf.new }
+{
+    match shelf.load(alloc, name.as_str(), MAX_FILE) {
+        Ok(file) => bound_file(alloc, name, most, &file, out),
+        Err(error) => Status::from(error),
+    }
+}
+
+// The same with the file that was loaded.
+fn bound_file<O: Sink>(alloc: Global, name: &Name, most: u64, file: &[u8], out: &mut O) -> Status
+    ensures behaves { (src : Option (List ℕ)) (known now : Option Files) → HoldsFile known name.now file.now → KeepsFiles known now
+        → Behaves (Bound name.now most) result (seen src (O.contents out.old) known) (seen src (O.contents out.new) now) }
+    ensures causes { (src shelf : ℕ) → HasCauses (Bound name.now most) result
+        (counts src (O.faults out.old) shelf) (counts src (O.faults out.new) shelf) ⊥ ⊥ (Unit {0}) (Unit {0}) }
+{
+    match zf_header::read(file) {
+        Ok((header, _)) => match header.mode {
+            Mode::Rate(_) => bound_stream(alloc, name, most, &header, file, out),
+            mode => Status::NotRate(mode_number(&mode)),
+        },
+        Err(fault) => Status::Header(fault),
+    }
+}
+
+// The same with the header of the file.
+fn bound_stream<O: Sink>(
+    alloc: Global,
+    name: &Name,
+    most: u64,
+    header: &Header,
+    file: &[u8],
+    out: &mut O,
+) -> Status
+    requires header { HasHeader file.now header.now }
+    requires rate { IsRate header.now.mode }
+    ensures behaves { (src : Option (List ℕ)) (known now : Option Files) → HoldsFile known name.now file.now → KeepsFiles known now
+        → Behaves (Bound name.now most) result (seen src (O.contents out.old) known) (seen src (O.contents out.new) now) }
+    ensures causes { (src shelf : ℕ) → HasCauses (Bound name.now most) result
+        (counts src (O.faults out.old) shelf) (counts src (O.faults out.new) shelf) ⊥ ⊥ (Unit {0}) (Unit {0}) }
+{
+    match certified(alloc, header, file, most) {
+        Ok(certified) => {
+            let line = bound_line(&certified);
+            match write_all(out, line.as_str().as_bytes()) {
+                Ok(()) => Status::Done,
+                Err(_) => Status::WriteFault,
+            }
+        }
+        Err(fault) => Status::from(fault),
+    }
+}
+
+// What is certified of a stream, in the type of its values.
+fn certified(
+    alloc: Global,
+    header: &Header,
+    file: &[u8],
+    most: u64,
+) -> Result<Certified, IndexFault>
+    requires header { HasHeader file.now header.now }
+    requires rate { IsRate header.now.mode }
+    ensures good { OnOk result (IsGood file.now) }
+    ensures certified { IfOk result (λ c. IfOk (parse file.now) (λ said. c ≡ certified_of header.now said.codes most)) }
+    ensures fault { IfErr result (λ e. IsFault (parse file.now) (stream_fault e)) }
+{
+    match header.ty {
+        Ty::I32 => zf_bound::bound::<i32>(alloc, header, file, most),
+        Ty::I64 => zf_bound::bound::<i64>(alloc, header, file, most),
+    }
+}

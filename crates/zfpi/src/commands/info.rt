@@ -1,0 +1,31 @@
+//! `info`: the header of a stream as a line.
+
+ghost use Rattle.std.specs.Prelude.{ℕ, Option};
+ghost use Rattle.zf_dev.specs.Shelf.{Files};
+ghost use Rattle.zfpi.specs.declared.command.Command.TheVariants.{Info};
+ghost use Rattle.zfpi.specs.World.{seen, counts};
+ghost use Rattle.zfpi.specs.Headline.{Behaves, HasCauses};
+
+use crate::commands::line::info_line;
+use crate::status::Status;
+use zf_dev::{Sink, Source, write_all};
+
+/// Reads the header that the source begins with, and writes a line that says it. The rest of the source is left.
+pub fn info<S: Source, O: Sink>(src: &mut S, out: &mut O) -> Status
+    ensures behaves { (files : Option Files) → Behaves Info result
+        (seen (S.contents src.old) (O.contents out.old) files) (seen (S.contents src.new) (O.contents out.new) files) }
+    ensures causes { (shelf : ℕ) → HasCauses Info result
+        (counts (S.faults src.old) (O.faults out.old) shelf) (counts (S.faults src.new) (O.faults out.new) shelf)
+        ⊥ ⊥ (S.never_fails src.old) (S.never_fails src.new) }
+{
+    match zf_stream::read_header(src) {
+        Ok((header, bits)) => {
+            let line = info_line(&header, bits);
+            match write_all(out, line.as_str().as_bytes()) {
+                Ok(()) => Status::Done,
+                Err(_) => Status::WriteFault,
+            }
+        }
+        Err(fault) => Status::from(fault),
+    }
+}

@@ -1,0 +1,69 @@
+//! `new`: an array of zeros as a file.
+
+ghost use Rattle.std.specs.Prelude.{◌≡◌, ◌≢◌, ℕ, List, Option, length, IfOk};
+ghost use Rattle.zf_header.specs.declared.header.Mode.TheVariants.{Rate};
+ghost use Rattle.zf_header.specs.HeaderBits.{IsRate};
+ghost use Rattle.zf_store.specs.Stored.{file_of, zeros};
+ghost use Rattle.zfpi.specs.declared.command.Command.TheVariants.{New};
+ghost use Rattle.zfpi.specs.World.{seen, counts};
+ghost use Rattle.zfpi.specs.Answer.{CanRun};
+ghost use Rattle.zfpi.specs.Headline.{Behaves, HasCauses, FailedLoad, FailedSave};
+
+use crate::commands::kinds::in_kind;
+use crate::status::Status;
+use crate::words::name::Name;
+use std::alloc::{AllocError, Global};
+use zf_base::{Lane, Shape, Ty};
+use zf_dev::Shelf;
+use zf_header::rate_bytes;
+use zf_store::Store;
+
+/// Saves an array of zeros of this type and shape, with `bits` bits per block, in place of what the name held.
+pub fn new<F: Shelf>(
+    alloc: Global,
+    name: &Name,
+    ty: Ty,
+    shape: Shape,
+    bits: u32,
+    shelf: &mut F,
+) -> Status
+    requires { CanRun (New name.now ty shape bits) }
+    ensures behaves { (src out : Option (List ℕ)) → Behaves (New name.now ty shape bits) result
+        (seen src out (F.files shelf.old)) (seen src out (F.files shelf.new)) }
+    ensures causes { (src out : ℕ) → HasCauses (New name.now ty shape bits) result
+        (counts src out (F.faults shelf.old)) (counts src out (F.faults shelf.new))
+        (FailedLoad F.loads F.faults shelf.old shelf.new) (FailedSave F.saves F.faults shelf.old shelf.new) (Unit {0}) (Unit {0}) }
+    ensures sure_shelf { F.never_fails shelf.old → (result ≢ Status.LoadFault) × F.never_fails shelf.new }
+{
+    match file_of_zeros(alloc, ty, shape, bits) {
+        Ok(file) => match shelf.save(name.as_str(), &file) {
+            Ok(()) => Status::Done,
+            Err(_) => Status::SaveFault,
+        },
+        Err(_) => Status::Memory,
+    }
+}
+
+// The bytes of the file of zeros.
+fn file_of_zeros(alloc: Global, ty: Ty, shape: Shape, bits: u32) -> Result<Vec<u8>, AllocError>
+    requires { IsRate (Rate bits) }
+    ensures { IfOk result (λ file. file.items ≡ file_of (zeros ty shape bits)) }
+{
+    in_kind!(ty, shape, file_of_store, [], (alloc, shape, bits))
+}
+
+// The same in the type and the number of dimensions.
+fn file_of_store<T: Lane, const D: usize>(
+    alloc: Global,
+    shape: Shape,
+    bits: u32,
+) -> Result<Vec<u8>, AllocError>
+    requires dims { length shape ≡ D }
+    requires rate { IsRate (Rate bits) }
+    ensures { IfOk result (λ file. file.items ≡ file_of (zeros T.TY shape bits)) }
+{
+    let store = Store::<T, D>::zeros(alloc, shape, bits)?;
+    let mut file = vec![in alloc; 0; rate_bytes(&store.header()) as usize]?;
+    store.write_file(&mut file);
+    Ok(file)
+}
