@@ -12,4 +12,5 @@ pub mod laws_of_runs;
 pub mod laws_of_touches;
 pub mod laws_of_windows;
 pub mod tables;
+pub mod tables_of_limits;
 pub mod tables_of_lines;

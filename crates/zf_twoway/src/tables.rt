@@ -31,3 +31,10 @@ pub fn refused_lines()
     ensures { twoway_text w32 64 (8 ∷ []) 2 (codes "view 0 8 1\nslice 0 1\nvget 0\nvset 0 1\nvsum\nresize 4\nlines 0\nget 8\nfill 3\nsum\n")
         ≡ codes "! word\n! word\n! word\n! word\n! word\n! word\n! size\n! range\n24\n" }
 {}
+
+/// A sum wraps within the type, and a discard gives back what was last written back; private views are none of the language here.
+pub fn sums_and_discards()
+    ensures { twoway_text w32 64 (16 ∷ []) 2
+        (codes "set 0 2147483647\nadd 0 1\nget 0\nadd 4 5\nget 4\ndiscard\nget 0\nget 4\nstats\nsplit 1 1\njoin\n@0 stats\nlines 3\nstats\n")
+        ≡ codes "-2147483648\n5\n0\n0\nhits 3 misses 4 writes 0\n! word\n! word\n! word\nhits 3 misses 4 writes 0\n" }
+{}
