@@ -10,6 +10,8 @@ pub mod laws_of_changes;
 pub mod laws_of_lines;
 pub mod laws_of_runs;
 pub mod laws_of_touches;
+pub mod laws_of_views;
 pub mod laws_of_windows;
+pub mod placing;
 pub mod tables;
 pub mod tables_of_lines;
