@@ -1,8 +1,8 @@
 -- What the acts of a view keep, and what they leave of blocks that are not its own.
-use Rattle.std.proofs.Common.{◌≡◌, refl, sym, ap, ◌∙◌, ℕ, ℤ, pos, ◌+ℤ◌, Bool, true, false, List, get_or, set}
+use Rattle.std.proofs.Common.{◌≡◌, refl, ℕ, ℤ, pos, ◌+ℤ◌, Bool, true, false, get_or, set}
 use Rattle.std.specs.Int.{Width}
 use Rattle.zf_spec.specs.Numbers.{wrap}
-use Rattle.zf_base.specs.Formats.{Format, existing_of}
+use Rattle.zf_base.specs.Formats.{Format}
 use Rattle.zf_base.proofs.Formats.{with_at-same, existing_of-set}
 use Rattle.zf_cached.specs.State.{State}
 use Rattle.zf_cached.specs.Touch.{touch, soiled, touch_for_writing, with_values}

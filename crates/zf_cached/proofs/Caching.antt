@@ -1,10 +1,10 @@
 -- Touches and write-backs, and what becomes of each block.
-use Rattle.std.proofs.Common.{◌≡◌, ◌≢◌, refl, sym, ap, subst, ◌∙◌, ℕ, ◌%◌, ℤ, Bool, true, false, eqb, eqb-true, eq-eqb, List, Option, Some, None, ◌⊎◌, inl, inr}
+use Rattle.std.proofs.Common.{◌≡◌, ◌≢◌, refl, sym, ap, subst, ◌∙◌, ℕ, ◌%◌, Bool, true, false, eqb, eqb-true, eq-eqb, Option, Some, None, ◌⊎◌, inl, inr}
 use Rattle.std.proofs.lemmas.Bool.{cases_eq}
-use Rattle.zf_base.specs.Formats.{Format, existing_of, meant, encoded, rounded, with_at}
-use Rattle.zf_base.proofs.Formats.{with_at-same, with_at-other, existing_of-meant}
+use Rattle.zf_base.specs.Formats.{Format, rounded, with_at}
+use Rattle.zf_base.proofs.Formats.{with_at-same, with_at-other}
 use Rattle.zf_cached.specs.State.{State, own_line, is_block, is_here}
-use Rattle.zf_cached.specs.Touch.{write_back, write_back_dirty, write_back_line, hit, miss, touch, soiled, touch_for_writing, with_values}
+use Rattle.zf_cached.specs.Touch.{write_back, write_back_dirty, write_back_line, hit, miss, touch, soiled, touch_for_writing}
 use Rattle.zf_cached.specs.Fates.{IsLeft, IsRounded}
 
 pub true_is_not_false : {P : Type 0} (b : Bool) → b ≡ true → b ≡ false → P

@@ -1,5 +1,5 @@
 -- The end of a split: each view's dirty blocks are rounded, and all other codes stay.
-use Rattle.std.proofs.Common.{◌≡◌, ◌≢◌, refl, sym, ap, subst, ◌∙◌, ℕ, zero, suc, ◌<◌, ◌≤◌, Bool, true, false, List, [], length, Option, Some, None, is_some, ◌⊎◌, inl, inr, arith}
+use Rattle.std.proofs.Common.{◌≡◌, ◌≢◌, refl, sym, ap, subst, ◌∙◌, ℕ, zero, suc, ◌<◌, ◌≤◌, Bool, true, false, length, ◌⊎◌, inl, inr, arith}
 use Rattle.std.proofs.lemmas.Bool.{cases_eq}
 use Rattle.std.proofs.lemmas.List.{get_or-set_other}
 use Rattle.zf_base.specs.Formats.{Format, meant, encoded, rounded}
@@ -7,7 +7,6 @@ use Rattle.zf_cached.specs.State.{State}
 use Rattle.zf_cached.specs.Changes.{flush}
 use Rattle.zf_cached.specs.Arrays.{array_format}
 use Rattle.zf_cached.specs.Placing.{Line, IsPlacing, direct, IsDirect, direct_placing}
-use Rattle.zf_cached.specs.Acts.{Act}
 use Rattle.zf_cached.specs.Views.{View, with_codes, acted}
 use Rattle.zf_cached.specs.Splits.{is_owner, no_view, view_at, coded}
 use Rattle.zf_cached.specs.Steps.{Setting, Session, format_of, is_split, views_of, state_of_view, by_view, with_view, flushed_views, joined}

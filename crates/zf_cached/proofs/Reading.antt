@@ -1,5 +1,5 @@
 -- Lines that only read leave the sizes, the codes and the values as they are, and nothing dirty.
-use Rattle.std.proofs.Common.{◌≡◌, refl, sym, ap, subst, ◌∙◌, ℕ, zero, suc, ℤ, Bool, true, false, eqb, List, [], ◌∷◌, map, length, Option, Some, None}
+use Rattle.std.proofs.Common.{◌≡◌, refl, sym, subst, ℕ, zero, suc, ℤ, Bool, true, false, eqb, List, [], ◌∷◌, map, length, Option, Some, None}
 use Rattle.std.specs.List.{list_any}
 use Rattle.zf_base.specs.Formats.{Format}
 use Rattle.std.specs.Int.{Width}
@@ -9,15 +9,14 @@ use Rattle.zf_base.specs.Places.{block_number}
 use Rattle.zf_cached.specs.State.{State}
 use Rattle.zf_cached.specs.Touch.{write_back_line, hit, miss}
 use Rattle.zf_cached.specs.Changes.{write_back_lines, emptied, flush, relined}
-use Rattle.zf_cached.specs.Windows.{Window, mapped, whole}
+use Rattle.zf_cached.specs.Windows.{mapped}
 use Rattle.zf_cached.specs.Placing.{Line, direct, touch_at}
 use Rattle.zf_cached.specs.Arrays.{codes_of, saved_file}
 use Rattle.zf_cached.specs.Commands.{Command}
 use Rattle.zf_cached.specs.Replies.{Refusal, Reply}
 use Rattle.zf_cached.specs.Grammar.{read_line}
-use Rattle.zf_cached.specs.Splits.{view_at}
 use Rattle.zf_cached.specs.Views.{View}
-use Rattle.zf_cached.specs.Steps.{Setting, Session, format_of, touched, summed, is_split, views_in, views_of, flushed_views, joined, done, step}
+use Rattle.zf_cached.specs.Steps.{Setting, Session, format_of, touched, summed, is_split, views_in, flushed_views, joined, done, step}
 use Rattle.zf_cached.specs.Runs.{lines_of, only_reads, read_step, line_step, run_lines, run_script, ended, run, look, array_setting}
 use Rattle.zf_cached.specs.Consistency.{IsCached}
 use Rattle.zf_cached.specs.Unwritten.{IsUnwritten, ReadAlone}

@@ -1,5 +1,5 @@
 -- The steps of a script keep the array in a state that is reached, and the window in the array.
-use Rattle.std.proofs.Common.{◌≡◌, ◌≢◌, refl, sym, ap, subst, ◌∙◌, ℕ, zero, suc, ◌<◌, ◌≤◌, ℤ, Bool, true, false, not, ◌&&◌, cond, eqb, eqb-true, List, [], ◌∷◌, map, length, set, replicate, Option, Some, None, is_none, is_some, ◌⊎◌, inl, inr, arith}
+use Rattle.std.proofs.Common.{◌≡◌, ◌≢◌, refl, sym, ap, subst, ◌∙◌, ℕ, zero, suc, ◌<◌, ◌≤◌, ℤ, Bool, true, false, ◌&&◌, cond, eqb, eqb-true, List, [], ◌∷◌, map, length, set, replicate, Option, Some, None, is_none, is_some, ◌⊎◌, inl, inr, arith}
 use Rattle.std.specs.Int.{Width}
 use Rattle.std.proofs.lemmas.Bool.{and_parts, not-false, cases_eq, ltb-true}
 use Rattle.std.proofs.lemmas.List.{length-set, get_or-set_same, get_or-set_other}
@@ -28,7 +28,7 @@ use Rattle.zf_cached.specs.Consistency.{every, IsPossible, IsConsistent, IsCache
 use Rattle.zf_cached.proofs.Placed.{touch-consistent, touched_here, soiled-consistent, with_values-consistent, flush-consistent, flush-empty, discard-consistent, relined-consistent, resized-consistent}
 use Rattle.zf_cached.proofs.Windows.{mapped_inside, length-mapped, LiesIn-whole, LiesIn-sliced}
 use Rattle.zf_cached.proofs.Powers.{raised-some}
-use Rattle.zf_cached.specs.Placing.{Line, IsPlacing, direct, line_in, touch_at}
+use Rattle.zf_cached.specs.Placing.{Line, IsPlacing, direct, line_in}
 use Rattle.zf_cached.proofs.Acting.{acted-codes, acted-consistent}
 use Rattle.zf_cached.proofs.Parts.{one_owner}
 

@@ -2,7 +2,7 @@
 use Rattle.std.proofs.Common.{◌≡◌, ◌⊎◌, inl, inr, refl, sym, ap, subst, ◌∙◌, ℕ, Bool, true, false, not, ◌||◌, eq-eqb, Option, Some, None, is_none}
 use Rattle.std.proofs.Math.Path.{fun_ext}
 use Rattle.std.specs.Int.{Width}
-use Rattle.zf_base.specs.Formats.{Format, with_at}
+use Rattle.zf_base.specs.Formats.{Format}
 use Rattle.zf_base.proofs.Formats.{with_at-same}
 use Rattle.zf_cached.specs.State.{State, is_block}
 use Rattle.zf_cached.specs.Touch.{write_back_line, hit, miss, soiled}

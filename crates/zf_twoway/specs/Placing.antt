@@ -1,11 +1,11 @@
 -- In which line a block is, or goes, as a state tells, and as the tags of the lines tell.
-use Rattle.std.specs.Prelude.{◌≡◌, ℕ, Bool, true, false, List, Option, Some, None, is_none, if◌then◌else◌, refl}
-use Rattle.std.proofs.Common.{◌⊎◌, inl, inr, sym, ap, ◌∙◌, ◌<◌, ◌≢◌}
+use Rattle.std.specs.Prelude.{◌≡◌, ℕ, Bool, true, false, List, Option, Some, is_none, if◌then◌else◌, refl}
+use Rattle.std.proofs.Common.{◌⊎◌, inl, inr, ap, ◌∙◌, ◌<◌}
 use Rattle.std.proofs.lemmas.Nat.{mod_below}
 use Rattle.zf_cached.specs.State.{is_block}
 use Rattle.zf_cache.specs.Kept.{IsIn, tag_at, block_in, dirty_of}
 use Rattle.zf_cache.specs.Rules.{IsRule}
-use Rattle.zf_cache.proofs.Tags.{same_or_not, is_or_not, is_block-same, is_block-other}
+use Rattle.zf_cache.proofs.Tags.{is_or_not, is_block-same, is_block-other}
 use Rattle.zf_cached.specs.Placing.{Line, IsPlacing}
 use Rattle.zf_twoway.specs.Touch.{first_line, second_line, choice, is_clean_in}
 
