@@ -1,15 +1,13 @@
 -- The codes of arrays: what they mean, how values are rounded, and the code of zeros.
-use Rattle.std.proofs.Common.{◌≡◌, sym, ap, ◌∙◌, ℕ, ◌^◌, ◌<◌, ℤ, pos, cond, Bool, false, List, [], map, length, get_or, replicate, All, ◌+◌, ◌-◌, ◌*◌, ◌/◌, ◌%◌, ◌∷◌, ◌++◌, arith, length-append, suc-mul}
+use Rattle.std.proofs.Common.{◌≡◌, sym, ap, ◌∙◌, ℕ, ◌^◌, ◌<◌, ℤ, pos, cond, Bool, false, List, map, length, get_or, replicate, All, ◌+◌, ◌*◌}
 use Rattle.std.proofs.lemmas.List.Elements.{All-from_recursion}
 use Rattle.std.specs.Int.{Width, div_ceil}
-use Rattle.std.specs.List.{flat_map}
-use Rattle.std.proofs.lemmas.List.{length-replicate}
 use Rattle.zf_spec.specs.Grid.{upto, blocks, indices, is_inside, extent_of}
 use Rattle.zf_spec.specs.Lift.{lift}
 use Rattle.zf_spec.specs.Planes.{code}
 use Rattle.zf_spec.specs.ReadPlanes.{first_bits}
 use Rattle.zf_spec.specs.Codes.{planes, existing_values, rate, round, read_rate}
-use Rattle.zf_spec.specs.Stream.{header, with_fill, file, fixed_rate}
+use Rattle.zf_spec.specs.Stream.{header, file, fixed_rate}
 use Rattle.zf_spec.proofs.Counting.{length-upto, map-get_or-upto}
 use Rattle.zf_spec.proofs.Files.{length-file}
 use Rattle.zf_spec.proofs.Padding.{IsExtent, pad-existing_values, existing_values-existing_values}

@@ -1,11 +1,10 @@
--- Touches and write-backs keep what holds of every state, and say what becomes of each block.
-use Rattle.std.proofs.Common.{◌≡◌, ◌≢◌, refl, sym, ap, subst, ◌∙◌, ℕ, ◌%◌, ℤ, Bool, true, false, eqb, eqb-true, eq-eqb, List, Option, Some, None, ◌⊎◌, inl, inr}
+-- Touches and write-backs, and what becomes of each block.
+use Rattle.std.proofs.Common.{◌≡◌, ◌≢◌, refl, sym, ap, subst, ◌∙◌, ℕ, ◌%◌, Bool, true, false, eqb, eqb-true, eq-eqb, Option, Some, None, ◌⊎◌, inl, inr}
 use Rattle.std.proofs.lemmas.Bool.{cases_eq}
-use Rattle.zf_base.specs.Formats.{Format, existing_of, meant, encoded, rounded, with_at}
-use Rattle.zf_base.proofs.Formats.{with_at-same, with_at-other, existing_of-meant}
+use Rattle.zf_base.specs.Formats.{Format, rounded, with_at}
+use Rattle.zf_base.proofs.Formats.{with_at-same, with_at-other}
 use Rattle.zf_cached.specs.State.{State, own_line, is_block, is_here}
-use Rattle.zf_cached.specs.Touch.{write_back, write_back_dirty, write_back_line, hit, miss, touch, soiled, touch_for_writing, with_values}
-use Rattle.zf_cached.specs.Consistency.{IsConsistent}
+use Rattle.zf_cached.specs.Touch.{write_back, write_back_dirty, write_back_line, hit, miss, touch, soiled, touch_for_writing}
 use Rattle.zf_cached.specs.Fates.{IsLeft, IsRounded}
 
 pub true_is_not_false : {P : Type 0} (b : Bool) → b ≡ true → b ≡ false → P
@@ -20,26 +19,6 @@ at_change P f k a n here other = by (cases_eq n k)
     by (inr ne) = subst (P n) (sym (with_at-other f k a n ne)) (other ne)
 
 -- ---- write-back
-
-pub write_back-consistent : {Code : Type 0} (format : Format Code) (s : State Code) (b : ℕ) → IsConsistent format s → IsConsistent format (write_back format s b)
-unfolding write_back
-write_back-consistent {Code} format s b h = record {
-  some_line = h.some_line;
-  in_own_line = h.in_own_line;
-  dirty_is_here = λ n. at_change (λ m d. d ≡ true → s.held (own_line s m) ≡ Some m) s.dirty b false n (λ e. absurd (cc)) (λ ne. h.dirty_is_here n);
-  clean_is_coded = λ n. by n (cases_eq n b);
-  whole = λ n. at_change (λ m values. existing_of format m values ≡ values) s.values b (meant format b code) n (existing_of-meant format b code) (λ ne. h.whole n);
-}
-  where
-    code : Code
-    code = encoded format b (s.values b)
-
-    by : (n : ℕ) → (n ≡ b) ⊎ (n ≡ b → ⊥) → with_at s.dirty b false n ≡ false → with_at s.values b (meant format b code) n ≡ meant format n (with_at s.codes b code n)
-    by n (inl e) clean =
-        subst (λ m. with_at s.values b (meant format b code) m ≡ meant format m (with_at s.codes b code m)) (sym e)
-        (with_at-same s.values b (meant format b code) ∙ ap (meant format b) (sym (with_at-same s.codes b code)))
-    by n (inr ne) clean =
-        with_at-other s.values b (meant format b code) n ne ∙ h.clean_is_coded n (sym (with_at-other s.dirty b false n ne) ∙ clean) ∙ ap (meant format n) (sym (with_at-other s.codes b code n ne))
 
 -- what is written back only where it is dirty
 pub write_back_dirty_by : {Code : Type 0} (format : Format Code) (s : State Code) (b : ℕ) (P : State Code → Type 0) → (s.dirty b ≡ true → P (write_back format s b)) → (s.dirty b ≡ false → P s) → P (write_back_dirty format s b)
@@ -58,10 +37,6 @@ write_back_line_by format s l P dirty clean nothing = by (s.held l) refl
     by : (o : Option ℕ) → s.held l ≡ o → P (elim o [ None ↦ s | Some b ↦ write_back_dirty format s b ])
     by None e = nothing e
     by (Some b) e = write_back_dirty_by format s b P (dirty b e) (clean b e)
-
-pub write_back_line-consistent : {Code : Type 0} (format : Format Code) (s : State Code) (l : ℕ) → IsConsistent format s → IsConsistent format (write_back_line format s l)
-write_back_line-consistent format s l h =
-    write_back_line_by format s l (IsConsistent format) (λ b here dirty. write_back-consistent format s b h) (λ b here clean. h) (λ nothing. h)
 
 -- what a write-back leaves
 pub write_back_line-lines : {Code : Type 0} (format : Format Code) (s : State Code) (l : ℕ) → (write_back_line format s l).lines ≡ s.lines
@@ -101,48 +76,6 @@ pub is_block-false : (o : Option ℕ) (b : ℕ) → is_block o b ≡ false → o
 is_block-false None b h e = cc
 is_block-false (Some a) b h e = let same : a ≡ b = cc in let t = eq-eqb a b same in true_is_not_false (eqb a b) t h
 
-pub hit-consistent : {Code : Type 0} (format : Format Code) (s : State Code) → IsConsistent format s → IsConsistent format (hit s)
-unfolding hit
-hit-consistent format s h = record {
-  some_line = h.some_line;
-  in_own_line = h.in_own_line;
-  dirty_is_here = h.dirty_is_here;
-  clean_is_coded = h.clean_is_coded;
-  whole = h.whole;
-}
-
--- a block that comes into a line: nothing that is dirty is lost
-pub miss-consistent : {Code : Type 0} (format : Format Code) (s : State Code) (b : ℕ) → IsConsistent format s → IsConsistent format (miss format s (own_line s b) b)
-unfolding miss
-miss-consistent {Code} format s b h = record {
-  some_line = k.some_line;
-  in_own_line = λ m n. at_change (λ j o. o ≡ Some n → j ≡ own_line t n) t.held l (Some b) m (λ e. let same : b ≡ n = cc in here n same) (λ ne. k.in_own_line m n);
-  dirty_is_here = λ n dirty. stays n dirty (cases_eq (own_line t n) l);
-  clean_is_coded = k.clean_is_coded;
-  whole = k.whole;
-}
-  where
-    l : ℕ
-    l = own_line s b
-
-    t : State Code
-    t = write_back_line format s (own_line s b)
-
-    k : IsConsistent format (write_back_line format s (own_line s b))
-    k = write_back_line-consistent format s (own_line s b) h
-
-    same_lines : t.lines ≡ s.lines
-    same_lines = write_back_line-lines format s (own_line s b)
-
-    here : (n : ℕ) → b ≡ n → own_line s b ≡ own_line (write_back_line format s (own_line s b)) n
-    here n same = ap (λ m. m % s.lines) same ∙ ap (λ m. n % m) (sym same_lines)
-
-    stays : (n : ℕ) → t.dirty n ≡ true → (own_line t n ≡ l) ⊎ (own_line t n ≡ l → ⊥) → with_at t.held l (Some b) (own_line t n) ≡ Some n
-    stays n dirty (inl e) =
-        let was : s.held l ≡ Some n = sym (ap (λ f. f l) (write_back_line-held format s l)) ∙ ap t.held (sym e) ∙ k.dirty_is_here n dirty in
-        true_is_not_false (t.dirty n) dirty (write_back_line-clean format s l n was)
-    stays n dirty (inr ne) = with_at-other t.held l (Some b) (own_line t n) ne ∙ k.dirty_is_here n dirty
-
 pub touch_by : {Code : Type 0} (format : Format Code) (s : State Code) (b : ℕ) (P : State Code → Type 0) → (is_here s b ≡ true → P (hit s)) → (is_here s b ≡ false → P (miss format s (own_line s b) b)) → P (touch format s b)
 unfolding touch
 touch_by format s b P here away = by (is_here s b) here away
@@ -150,9 +83,6 @@ touch_by format s b P here away = by (is_here s b) here away
     by : (t : Bool) → (t ≡ true → P (hit s)) → (t ≡ false → P (miss format s (own_line s b) b)) → P (elim t [ true ↦ hit s | false ↦ miss format s (own_line s b) b ])
     by true here away = here refl
     by false here away = away refl
-
-pub touch-consistent : {Code : Type 0} (format : Format Code) (s : State Code) (b : ℕ) → IsConsistent format s → IsConsistent format (touch format s b)
-touch-consistent format s b h = touch_by format s b (IsConsistent format) (λ here. hit-consistent format s h) (λ away. miss-consistent format s b h)
 
 pub touch-lines : {Code : Type 0} (format : Format Code) (s : State Code) (b : ℕ) → (touch format s b).lines ≡ s.lines
 unfolding hit miss
@@ -194,31 +124,6 @@ touch-keeps_clean {Code} format s a b clean = touch_by format s a P (λ here. (c
     P t = (t.dirty b ≡ false) × (t.values b ≡ s.values b) × (t.codes b ≡ s.codes b)
 
 -- ---- writing
-
-pub soiled-consistent : {Code : Type 0} (format : Format Code) (s : State Code) (b : ℕ) → s.held (own_line s b) ≡ Some b → IsConsistent format s → IsConsistent format (soiled s b)
-unfolding soiled
-soiled-consistent format s b here h = record {
-  some_line = h.some_line;
-  in_own_line = h.in_own_line;
-  dirty_is_here = λ n. at_change (λ m d. d ≡ true → s.held (own_line s m) ≡ Some m) s.dirty b true n (λ e. here) (λ ne. h.dirty_is_here n);
-  clean_is_coded = λ n. at_change (λ m d. d ≡ false → s.values m ≡ meant format m (s.codes m)) s.dirty b true n (λ e. absurd (cc)) (λ ne. h.clean_is_coded n);
-  whole = h.whole;
-}
-
-pub touch_for_writing-consistent : {Code : Type 0} (format : Format Code) (s : State Code) (b : ℕ) → IsConsistent format s → IsConsistent format (touch_for_writing format s b)
-unfolding touch_for_writing
-touch_for_writing-consistent format s b h =
-    soiled-consistent format (touch format s b) b (ap (λ n. (touch format s b).held (b % n)) (touch-lines format s b) ∙ touch-here format s b) (touch-consistent format s b h)
-
-pub with_values-consistent : {Code : Type 0} (format : Format Code) (s : State Code) (b : ℕ) (values : List ℤ) → s.dirty b ≡ true → existing_of format b values ≡ values → IsConsistent format s → IsConsistent format (with_values s b values)
-unfolding with_values
-with_values-consistent format s b values dirty whole h = record {
-  some_line = h.some_line;
-  in_own_line = h.in_own_line;
-  dirty_is_here = h.dirty_is_here;
-  clean_is_coded = λ n. at_change (λ m vs. s.dirty m ≡ false → vs ≡ meant format m (s.codes m)) s.values b values n (λ clean. true_is_not_false (s.dirty b) dirty clean) (λ ne. h.clean_is_coded n);
-  whole = λ n. at_change (λ m vs. existing_of format m vs ≡ vs) s.values b values n whole (λ ne. h.whole n);
-}
 
 -- ---- what becomes of a block, as the laws say it
 

@@ -1,21 +1,15 @@
--- What a flush, a discard, a new number of lines and a resize leave, and what an array is that is opened.
-use Rattle.std.proofs.Common.{◌≡◌, refl, sym, ap, subst, ◌∙◌, ℕ, zero, suc, ◌%◌, ◌<◌, ◌≤◌, Bool, true, false, cond, Some, ◌⊎◌, inl, inr, arith}
+-- What a flush and a discard leave.
+use Rattle.std.proofs.Common.{◌≡◌, refl, sym, ap, ◌∙◌, ℕ, zero, suc, ◌<◌, Bool, true, false, cond, Some, ◌⊎◌, inl, inr, arith}
 use Rattle.std.proofs.lemmas.Bool.{cases_eq}
-use Rattle.zf_base.specs.Formats.{Format, existing_of, meant, encoded, rounded, with_at}
-use Rattle.zf_base.proofs.Formats.{with_at-same, with_at-other, existing_of-meant}
+use Rattle.zf_base.specs.Formats.{Format, meant, encoded, rounded, with_at}
+use Rattle.zf_base.proofs.Formats.{with_at-same, with_at-other}
 use Rattle.zf_cached.specs.State.{State}
 use Rattle.zf_cached.specs.Touch.{write_back, write_back_line}
-use Rattle.zf_cached.specs.Changes.{write_back_lines, emptied, flush, discard, relined, opened, zeros, resized}
-use Rattle.zf_cached.specs.Consistency.{IsConsistent, IsEmpty}
-use Rattle.zf_cached.specs.Fates.{IsLeft, IsRounded}
-use Rattle.zf_cached.proofs.Caching.{true_is_not_false, write_back_line_by, write_back_line-consistent, write_back_line-lines, write_back_line-held, write_back_line-clean, write_back_line-keeps_clean}
+use Rattle.zf_cached.specs.Changes.{write_back_lines, emptied, flush, discard}
+use Rattle.zf_cached.specs.Consistency.{IsEmpty}
+use Rattle.zf_cached.proofs.Caching.{true_is_not_false, write_back_line_by, write_back_line-lines, write_back_line-held, write_back_line-clean, write_back_line-keeps_clean}
 
 -- ---- the lines of a cache, one after the other
-
-pub write_back_lines-consistent : {Code : Type 0} (format : Format Code) (s : State Code) (n : ℕ) → IsConsistent format s → IsConsistent format (write_back_lines format s n)
-unfolding write_back_lines
-write_back_lines-consistent format s zero h = h
-write_back_lines-consistent format s (suc n) h = write_back_line-consistent format (write_back_lines format s n) n (write_back_lines-consistent format s n h)
 
 pub write_back_lines-lines : {Code : Type 0} (format : Format Code) (s : State Code) (n : ℕ) → (write_back_lines format s n).lines ≡ s.lines
 unfolding write_back_lines
@@ -28,7 +22,7 @@ write_back_lines-held format s zero = refl
 write_back_lines-held format s (suc n) = write_back_line-held format (write_back_lines format s n) n ∙ write_back_lines-held format s n
 
 -- no block of the first n lines is dirty
-write_back_lines-clean : {Code : Type 0} (format : Format Code) (s : State Code) (n l b : ℕ) → l < n → s.held l ≡ Some b → (write_back_lines format s n).dirty b ≡ false
+pub write_back_lines-clean : {Code : Type 0} (format : Format Code) (s : State Code) (n l b : ℕ) → l < n → s.held l ≡ Some b → (write_back_lines format s n).dirty b ≡ false
 unfolding write_back_lines
 write_back_lines-clean format s zero l b below here = absurd (omega arith)
 write_back_lines-clean {Code} format s (suc n) l b below here = by (cases_eq l n) (λ h. write_back_lines-clean format s n l b h here)
@@ -36,22 +30,6 @@ write_back_lines-clean {Code} format s (suc n) l b below here = by (cases_eq l n
     by : (l ≡ n) ⊎ (l ≡ n → ⊥) → (l < n → (write_back_lines format s n).dirty b ≡ false) → (write_back_line format (write_back_lines format s n) n).dirty b ≡ false
     by (inl e) before = write_back_line-clean format (write_back_lines format s n) n b (ap (λ f. f n) (write_back_lines-held format s n) ∙ ap s.held (sym e) ∙ here)
     by (inr ne) before = (write_back_line-keeps_clean format (write_back_lines format s n) n b (before (omega arith))).0
-
--- no block is dirty once all lines are written back
-pub all_clean : {Code : Type 0} (format : Format Code) (s : State Code) → IsConsistent format s → (b : ℕ) → (write_back_lines format s s.lines).dirty b ≡ false
-all_clean {Code} format s h b = by ((write_back_lines format s s.lines).dirty b) refl
-  where
-    t : State Code
-    t = write_back_lines format s s.lines
-
-    by : (d : Bool) → (write_back_lines format s s.lines).dirty b ≡ d → (write_back_lines format s s.lines).dirty b ≡ false
-    by false e = e
-    by true e =
-        let some : 1 ≤ s.lines = h.some_line in
-        let here : s.held (b % s.lines) ≡ Some b =
-        sym (ap (λ f. f (b % s.lines)) (write_back_lines-held format s s.lines)) ∙ ap (λ m. t.held (b % m)) (sym (write_back_lines-lines format s s.lines))
-        ∙ (write_back_lines-consistent format s s.lines h).dirty_is_here b e in
-        write_back_lines-clean format s s.lines (b % s.lines) b (omega arith) here
 
 -- ---- what becomes of a block
 
@@ -94,34 +72,17 @@ pub flush-lines : {Code : Type 0} (format : Format Code) (s : State Code) → (f
 unfolding flush emptied
 flush-lines format s = write_back_lines-lines format s s.lines
 
--- nothing is dirty or in any line
-pub flush-empty : {Code : Type 0} (format : Format Code) (s : State Code) → IsConsistent format s → IsEmpty (flush format s)
-unfolding flush emptied
-flush-empty format s h = record { none_dirty = all_clean format s h; none_held = λ l b e. absurd (cc) }
-
-pub flush-consistent : {Code : Type 0} (format : Format Code) (s : State Code) → IsConsistent format s → IsConsistent format (flush format s)
-unfolding flush emptied
-flush-consistent format s h =
-    let k = write_back_lines-consistent format s s.lines h in
-    record {
-      some_line = k.some_line;
-      in_own_line = λ l b e. absurd (cc);
-      dirty_is_here = λ b dirty. true_is_not_false ((write_back_lines format s s.lines).dirty b) dirty (all_clean format s h b);
-      clean_is_coded = k.clean_is_coded;
-      whole = k.whole;
-    }
-
--- a dirty block has the code of its values then, and what this code means
-pub flush-dirty : {Code : Type 0} (format : Format Code) (s : State Code) (b : ℕ) → IsConsistent format s → s.dirty b ≡ true
+-- a dirty block that is clean after a flush has the code of its values then, and what this code means
+pub flush-dirty_codes : {Code : Type 0} (format : Format Code) (s : State Code) (b : ℕ) → (flush format s).dirty b ≡ false → s.dirty b ≡ true
     → ((flush format s).codes b ≡ encoded format b (s.values b)) × ((flush format s).values b ≡ rounded format b (s.values b))
 unfolding flush emptied
-flush-dirty {Code} format s b h dirty = by (fate format s s.lines b)
+flush-dirty_codes {Code} format s b cleaned dirty = by (fate format s s.lines b)
   where
     t : State Code
     t = write_back_lines format s s.lines
 
     by : IsKept s t b ⊎ IsWritten format s t b → (t.codes b ≡ encoded format b (s.values b)) × (t.values b ≡ rounded format b (s.values b))
-    by (inl kept) = true_is_not_false (s.dirty b) dirty (sym kept.0 ∙ all_clean format s h b)
+    by (inl kept) = true_is_not_false (s.dirty b) dirty (sym kept.0 ∙ cleaned)
     by (inr was) = (was.3, was.2)
 
 -- a clean block keeps its code and its values
@@ -154,72 +115,14 @@ pub discard-empty : {Code : Type 0} (format : Format Code) (s : State Code) → 
 unfolding discard
 discard-empty format s = record { none_dirty = λ b. refl; none_held = λ l b e. absurd (cc) }
 
--- each block has the values that its code means
-pub discard-values : {Code : Type 0} (format : Format Code) (s : State Code) (b : ℕ) → IsConsistent format s → (discard format s).values b ≡ meant format b (s.codes b)
+-- each block has the values that its code means, where a clean one had them
+pub discard-values_by : {Code : Type 0} (format : Format Code) (s : State Code) (b : ℕ) → (s.dirty b ≡ false → s.values b ≡ meant format b (s.codes b)) → (discard format s).values b ≡ meant format b (s.codes b)
 unfolding discard
-discard-values format s b h = by (s.dirty b) refl
+discard-values_by format s b coded = by (s.dirty b) refl
   where
     by : (d : Bool) → s.dirty b ≡ d → cond d (meant format b (s.codes b)) (s.values b) ≡ meant format b (s.codes b)
     by true e = refl
-    by false e = h.clean_is_coded b e
-
-pub discard-consistent : {Code : Type 0} (format : Format Code) (s : State Code) → IsConsistent format s → IsConsistent format (discard format s)
-unfolding discard
-discard-consistent format s h = record {
-  some_line = h.some_line;
-  in_own_line = λ l b e. absurd (cc);
-  dirty_is_here = λ b e. absurd (cc);
-  clean_is_coded = λ b e. discard-values format s b h;
-  whole = λ b. subst (λ vs. existing_of format b vs ≡ vs) (sym (discard-values format s b h)) (existing_of-meant format b (s.codes b));
-}
-
--- ---- a new number of lines, an array that is opened, and resize
-
-pub relined-consistent : {Code : Type 0} (format : Format Code) (s : State Code) (lines : ℕ) → 1 ≤ lines → IsConsistent format s → IsConsistent format (relined format s lines)
-unfolding relined
-relined-consistent format s lines some h =
-    let e = flush-empty format s h in
-    let k = flush-consistent format s h in
-    record {
-      some_line = some;
-      in_own_line = λ l b held. absurd (e.none_held l b held);
-      dirty_is_here = λ b dirty. true_is_not_false ((flush format s).dirty b) dirty (e.none_dirty b);
-      clean_is_coded = k.clean_is_coded;
-      whole = k.whole;
-    }
-
-pub opened-consistent : {Code : Type 0} (format : Format Code) (codes : ℕ → Code) (lines : ℕ) → 1 ≤ lines → IsConsistent format (opened format codes lines)
-unfolding opened
-opened-consistent format codes lines some = record {
-  some_line = some;
-  in_own_line = λ l b e. absurd (cc);
-  dirty_is_here = λ b e. absurd (cc);
-  clean_is_coded = λ b e. refl;
-  whole = λ b. existing_of-meant format b (codes b);
-}
-
--- where the code of zeros means zeros
-pub resized-consistent : {Code : Type 0} (format new : Format Code) (code : Code) (s : State Code) → ((b : ℕ) → meant new b code ≡ zeros new) → IsConsistent format s → IsConsistent new (resized new code s)
-unfolding resized
-resized-consistent format new code s means h = record {
-  some_line = h.some_line;
-  in_own_line = λ l b e. absurd (cc);
-  dirty_is_here = λ b e. absurd (cc);
-  clean_is_coded = λ b e. sym (means b);
-  whole = λ b. subst (λ vs. existing_of new b vs ≡ vs) (means b) (existing_of-meant new b code);
-}
-
--- ---- what becomes of a block, as the laws say it
-
-pub flush-rounded : {Code : Type 0} (format : Format Code) (s : State Code) (b : ℕ) → IsConsistent format s → s.dirty b ≡ true → IsRounded format s (flush format s) b
-flush-rounded format s b h dirty =
-    let k = flush-dirty format s b h dirty in
-    record { clean = (flush-empty format s h).none_dirty b; values = k.1; code = k.0 }
-
-pub flush-left : {Code : Type 0} (format : Format Code) (s : State Code) (b : ℕ) → IsConsistent format s → s.dirty b ≡ false → IsLeft s (flush format s) b
-flush-left format s b h clean =
-    let k = flush-clean format s b clean in
-    record { dirty = (flush-empty format s h).none_dirty b ∙ sym clean; values = k.1; code = k.0 }
+    by false e = coded e
 
 -- the hits and misses are not changed by write-backs
 write_back_lines-touches : {Code : Type 0} (format : Format Code) (s : State Code) (n : ℕ) →

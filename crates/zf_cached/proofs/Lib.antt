@@ -15,6 +15,9 @@
 pub mod States
 pub mod Caching
 pub mod Flushing
+pub mod Placed
+pub mod Acting
+pub mod Parts
 pub mod Powers
 pub mod CodeOfZeros
 pub mod Arrays
@@ -23,5 +26,7 @@ pub mod Numerals
 pub mod Cutting
 pub mod ReadLines
 pub mod Sessions
+pub mod Joining
+pub mod Reading
 pub mod Passes
 pub mod Runs

@@ -7,7 +7,8 @@ use Rattle.zf_base.proofs.Formats.{with_at-same, with_at-other}
 use Rattle.zf_cached.specs.State.{State, risen, most_counted, own_line}
 use Rattle.zf_cached.specs.Touch.{touch, miss, write_back, write_back_line}
 use Rattle.zf_cached.specs.Passes.{touched_below, HasLastBlocks}
-use Rattle.zf_cached.specs.Consistency.{IsConsistent}
+use Rattle.zf_cached.specs.Placing.{direct}
+use Rattle.zf_cached.specs.Consistency.{every, IsConsistent}
 use Rattle.zf_cached.proofs.Caching.{is_block-true, touch-lines, touch_by, write_back_line-held, write_back_line_by}
 
 -- after k touches: a line has one of the last blocks before k, or else one from before the pass, where its first block is still to come
@@ -94,10 +95,10 @@ passed {Code} format s n (suc k) below room h =
       misses = m.misses ∙ one;
     }
 
-pub pass-misses : {Code : Type 0} (format : Format Code) (s : State Code) (n : ℕ) → IsConsistent format s → HasLastBlocks n s → s.counts.misses + n ≤ most_counted
+pub pass-misses : {Code : Type 0} (format : Format Code) (s : State Code) (n : ℕ) → IsConsistent direct every format s → HasLastBlocks n s → s.counts.misses + n ≤ most_counted
     → ((touched_below format s n).counts.hits ≡ s.counts.hits) × ((touched_below format s n).counts.misses ≡ s.counts.misses + n) × HasLastBlocks n (touched_below format s n)
 pass-misses {Code} format s n c h room =
-    let start : IsUnderway n 0 s.lines s.held = record { enough = h.two_for_a_line; some = c.some_line; blocks = λ l b e. (sym (c.in_own_line l b e), inr (omega arith, h.last l b e)) } in
+    let start : IsUnderway n 0 s.lines s.held = record { enough = h.two_for_a_line; some = c.some_line; blocks = λ l b e. (c.in_its_line l b e, inr (omega arith, h.last l b e)) } in
     let p = passed format s n n (omega arith) room start in (
       p.hits,
       p.misses,

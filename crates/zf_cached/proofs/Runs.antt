@@ -5,39 +5,20 @@ use Rattle.std.specs.Option.{option_to_list}
 use Rattle.std.specs.Int.{Width}
 use Rattle.zf_spec.specs.Grid.{IsShape}
 use Rattle.zf_cached.specs.State.{State}
+use Rattle.zf_cached.specs.Touch.{touch}
 use Rattle.zf_cached.specs.Arrays.{array_format}
 use Rattle.zf_cached.specs.Commands.{Command}
 use Rattle.zf_cached.specs.Replies.{Refusal, Reply}
 use Rattle.zf_cached.specs.Grammar.{read_line}
 use Rattle.zf_cached.specs.Steps.{Setting, Session, joined, format_of, refuses_split, refuses_size, refuses_range, refuses_value, takes_memory, refusal, step}
-use Rattle.zf_cached.specs.Consistency.{IsConsistent, IsCached, IsEmpty, IsSound}
+use Rattle.zf_cached.specs.Consistency.{every, IsConsistent, IsCached, IsEmpty, IsSound}
 use Rattle.zf_cached.specs.Runs.{lines_of, read_step, line_step, run_lines, run_script, ended, run, array_setting}
-use Rattle.zf_cached.proofs.Flushing.{flush-consistent, flush-empty}
+use Rattle.zf_cached.proofs.Placed.{flush-consistent, flush-empty}
 use Rattle.zf_cached.proofs.Windows.{LiesIn-whole}
 use Rattle.zf_cached.proofs.Arrays.{meant-zeros}
 use Rattle.zf_cached.proofs.ReadLines.{read_line-Some}
 use Rattle.zf_cached.proofs.Sessions.{first_refusal, step_by, step-sound, joined-sound}
-
--- ---- lines
-
-line_step-sound : {Code : Type 0} (setting : Setting Code) (s : Session Code) (line : List ℕ) (starving : Bool) → IsCached setting → IsSound setting s → IsSound setting (line_step setting s line starving).0
-unfolding line_step read_step
-line_step-sound setting s [] starving cached h = h
-line_step-sound {Code} setting s (b ∷ bs) starving cached h = by (read_line (length s.shape) (b ∷ bs)) refl
-  where
-    by : (o : Option Command) → read_line (length s.shape) (b ∷ bs) ≡ o → IsSound setting (read_step setting s o starving).0
-    by None e = h
-    by (Some c) e = allowed (setting.allows c)
-      where
-        allowed : (t : Bool) → IsSound setting (elim t as (λ x. Session Code × Option Reply) [ true ↦ step setting s c starving | false ↦ (s, Some (Reply.refused Refusal.word)) ]).0
-        allowed true = step-sound setting s c starving (read_line-Some (length s.shape) (b ∷ bs) c e).0 cached h
-        allowed false = h
-
-pub run_lines-sound : {Code : Type 0} (setting : Setting Code) (starved : List ℕ) (k : ℕ) (lines : List (List ℕ)) (s : Session Code) → IsCached setting → IsSound setting s → IsSound setting (run_lines setting starved k lines s).0
-unfolding run_lines
-run_lines-sound setting starved k [] s cached h = h
-run_lines-sound setting starved k (line ∷ lines) s cached h =
-    run_lines-sound setting starved (suc k) lines _ cached (line_step-sound setting s line (list_any (λ n. eqb n k) starved) cached h)
+use Rattle.zf_cached.specs.Placing.{Line, IsPlacing, direct, touch_at}
 
 -- lines, and then more lines
 pub run_lines-append : {Code : Type 0} (setting : Setting Code) (starved : List ℕ) (k : ℕ) (lines more : List (List ℕ)) (s : Session Code)
@@ -54,41 +35,8 @@ run_lines-append {Code} setting starved k (line ∷ lines) more s =
     ∙ ap (λ (rs : List Reply). ((then_more (suc k + length lines)).0, rs)) (sym (append_assoc o first.1 (then_more (suc k + length lines)).1))
     ∙ ap (λ (n : ℕ). ((then_more n).0, (o ++ first.1) ++ (then_more n).1)) e
 
--- ---- runs
-
-pub run_script-sound : {Code : Type 0} (setting : Setting Code) (starved shape : List ℕ) (s : State Code) (script : List ℕ) → IsCached setting → IsShape shape → IsConsistent (array_format setting.coding shape) s → IsSound setting (run_script setting starved shape s script).0
-unfolding run_script
-run_script-sound setting starved shape s script cached is h =
-    run_lines-sound setting starved 0 (lines_of script) _ cached (record { shape = is; state = h; window = LiesIn-whole shape is.not_zero; split = λ e. absurd (cc) })
-
-ended-sound : {Code : Type 0} (setting : Setting Code) (s : Session Code) → IsSound setting s → IsSound setting (ended setting s)
-unfolding ended joined
-ended-sound setting s h =
-    let t = joined setting s in
-    let k = joined-sound setting s h in
-    record { shape = k.shape; state = flush-consistent (format_of setting t) t.state k.state; window = k.window; split = λ e. absurd (cc) }
-
-ended-empty : {Code : Type 0} (setting : Setting Code) (s : Session Code) → IsSound setting s → IsEmpty (ended setting s).state
-unfolding ended
-ended-empty setting s h = let t = joined setting s in flush-empty (format_of setting t) t.state (joined-sound setting s h).state
-
-pub run-sound : {Code : Type 0} (setting : Setting Code) (starved shape : List ℕ) (s : State Code) (script : List ℕ) → IsCached setting → IsShape shape → IsConsistent (array_format setting.coding shape) s → IsSound setting (run setting starved shape s script).0
-unfolding run
-run-sound setting starved shape s script cached is h = ended-sound setting (run_script setting starved shape s script).0 (run_script-sound setting starved shape s script cached is h)
-
--- nothing is dirty after a run
-pub run-empty : {Code : Type 0} (setting : Setting Code) (starved shape : List ℕ) (s : State Code) (script : List ℕ) → IsCached setting → IsShape shape → IsConsistent (array_format setting.coding shape) s → IsEmpty (run setting starved shape s script).0.state
-unfolding run
-run-empty setting starved shape s script cached is h = ended-empty setting (run_script setting starved shape s script).0 (run_script-sound setting starved shape s script cached is h)
-
--- ---- refusals
-
 pub step-refused : {Code : Type 0} (setting : Setting Code) (s : Session Code) (c : Command) (starving : Bool) (why : Refusal) → refusal setting s c starving ≡ Some why → step setting s c starving ≡ (s, Some (Reply.refused why))
 step-refused setting s c starving why e = step_by setting s c starving (λ r. r ≡ (s, Some (Reply.refused why))) (λ y is. let same : y ≡ why = cc in ap (λ x. (s, Some (Reply.refused x))) same) (λ none. absurd (cc))
-
-pub array_setting-cached : (w : Width) (budget : ℕ) → IsCached (array_setting w budget)
-unfolding array_setting
-array_setting-cached w budget = record { touches = refl; zero = meant-zeros w budget }
 
 refusal_memory : (p a b v t m : Bool) → first_refusal p a b v (t && m) ≡ Some Refusal.memory → (t ≡ true) × (m ≡ true) × (first_refusal p a b v (t && false) ≡ None)
 refusal_memory false false false false true true e = (refl, refl, refl)
@@ -115,3 +63,56 @@ refusal_word true a b v m e = cc
 pub refusal-word : {Code : Type 0} (setting : Setting Code) (s : Session Code) (c : Command) (starving : Bool) → refusal setting s c starving ≡ Some Refusal.word → ⊥
 unfolding refusal
 refusal-word setting s c starving e = refusal_word (refuses_split s c) (refuses_size setting s c) (refuses_range s c) (refuses_value setting.width c) (takes_memory c && starving) e
+
+pub array_setting-cached : (w : Width) (budget : ℕ) → IsCached direct (array_setting w budget)
+unfolding array_setting touch touch_at
+array_setting-cached w budget = record { touches = refl; zero = meant-zeros w budget }
+
+module _ (at : Line) (may_hold : ℕ → ℕ → ℕ → Type 0) (placing : IsPlacing at may_hold) where
+  -- ---- lines
+
+  line_step-sound : {Code : Type 0} (setting : Setting Code) (s : Session Code) (line : List ℕ) (starving : Bool) → IsCached at setting → IsSound at setting s → IsSound at setting (line_step setting s line starving).0
+  unfolding line_step read_step
+  line_step-sound setting s [] starving cached h = h
+  line_step-sound {Code} setting s (b ∷ bs) starving cached h = by (read_line (length s.shape) (b ∷ bs)) refl
+    where
+      by : (o : Option Command) → read_line (length s.shape) (b ∷ bs) ≡ o → IsSound at setting (read_step setting s o starving).0
+      by None e = h
+      by (Some c) e = allowed (setting.allows c)
+        where
+          allowed : (t : Bool) → IsSound at setting (elim t as (λ x. Session Code × Option Reply) [ true ↦ step setting s c starving | false ↦ (s, Some (Reply.refused Refusal.word)) ]).0
+          allowed true = step-sound at may_hold placing setting s c starving (read_line-Some (length s.shape) (b ∷ bs) c e).0 cached h
+          allowed false = h
+
+  pub run_lines-sound : {Code : Type 0} (setting : Setting Code) (starved : List ℕ) (k : ℕ) (lines : List (List ℕ)) (s : Session Code) → IsCached at setting → IsSound at setting s → IsSound at setting (run_lines setting starved k lines s).0
+  unfolding run_lines
+  run_lines-sound setting starved k [] s cached h = h
+  run_lines-sound setting starved k (line ∷ lines) s cached h =
+      run_lines-sound setting starved (suc k) lines _ cached (line_step-sound setting s line (list_any (λ n. eqb n k) starved) cached h)
+
+  -- ---- runs
+
+  pub run_script-sound : {Code : Type 0} (setting : Setting Code) (starved shape : List ℕ) (s : State Code) (script : List ℕ) → IsCached at setting → IsShape shape → IsConsistent at every (array_format setting.coding shape) s → IsSound at setting (run_script setting starved shape s script).0
+  unfolding run_script
+  run_script-sound setting starved shape s script cached is h =
+      run_lines-sound setting starved 0 (lines_of script) _ cached (record { shape = is; state = h; window = LiesIn-whole shape is.not_zero; split = λ e. absurd (cc); views = λ i lt. absurd (omega (arith, lt)) })
+
+  ended-sound : {Code : Type 0} (setting : Setting Code) (s : Session Code) → IsSound at setting s → IsSound at setting (ended setting s)
+  unfolding ended joined
+  ended-sound setting s h =
+      let t = joined setting s in
+      let k = joined-sound at may_hold placing setting s h in
+      record { shape = k.shape; state = flush-consistent at may_hold placing every (format_of setting t) t.state k.state; window = k.window; split = λ e. absurd (cc); views = λ i lt. absurd (omega (arith, lt)) }
+
+  ended-empty : {Code : Type 0} (setting : Setting Code) (s : Session Code) → IsSound at setting s → IsEmpty (ended setting s).state
+  unfolding ended
+  ended-empty setting s h = let t = joined setting s in flush-empty at may_hold placing every (format_of setting t) t.state (joined-sound at may_hold placing setting s h).state
+
+  pub run-sound : {Code : Type 0} (setting : Setting Code) (starved shape : List ℕ) (s : State Code) (script : List ℕ) → IsCached at setting → IsShape shape → IsConsistent at every (array_format setting.coding shape) s → IsSound at setting (run setting starved shape s script).0
+  unfolding run
+  run-sound setting starved shape s script cached is h = ended-sound setting (run_script setting starved shape s script).0 (run_script-sound setting starved shape s script cached is h)
+
+  -- nothing is dirty after a run
+  pub run-empty : {Code : Type 0} (setting : Setting Code) (starved shape : List ℕ) (s : State Code) (script : List ℕ) → IsCached at setting → IsShape shape → IsConsistent at every (array_format setting.coding shape) s → IsEmpty (run setting starved shape s script).0.state
+  unfolding run
+  run-empty setting starved shape s script cached is h = ended-empty setting (run_script setting starved shape s script).0 (run_script-sound setting starved shape s script cached is h)

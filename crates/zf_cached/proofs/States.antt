@@ -1,7 +1,7 @@
 -- States whose parts are equal.
 use Rattle.std.proofs.Common.{◌≡◌, ℕ}
 use Rattle.std.proofs.Math.Path.{fun_ext}
-use Rattle.zf_cached.specs.State.{Counts, State}
+use Rattle.zf_cached.specs.State.{State}
 
 -- two states are equal where they have the same number of lines, the same in each line, and the same of each block
 pub same_state : {Code : Type 0} (s t : State Code) → s.lines ≡ t.lines → ((l : ℕ) → s.held l ≡ t.held l) → ((b : ℕ) → s.dirty b ≡ t.dirty b)

@@ -1,6 +1,7 @@
 -- The definitions of cached arrays and scripts, that every crate above the codec cites. One file for each subject:
 --     State        the state of a cached array, and the line of a block
 --     Touch        a touch of a block, a touch for writing, and write-back
+--     Placing      in which line a block is, or goes: all in which caches differ
 --     Changes      flush, discard, a new number of lines, resize, and an array as it is opened
 --     Arrays       the codes of an array of whole numbers, and its file
 --     Windows      windows of an array and their positions
@@ -15,9 +16,11 @@
 --     Consistency  what holds of every state that is reached
 --     Fates        what becomes of a block
 --     Passes       passes over all blocks
+--     Unwritten    how much a flush writes, and lines that write nothing
 --     Runs         the run of a script, and the look at an array that is only read
 pub mod State
 pub mod Touch
+pub mod Placing
 pub mod Changes
 pub mod Arrays
 pub mod Windows
@@ -33,3 +36,4 @@ pub mod Consistency
 pub mod Fates
 pub mod Passes
 pub mod Runs
+pub mod Unwritten

@@ -4,15 +4,18 @@ ghost use Rattle.std.specs.Prelude.{◌≡◌, ℕ, ◌+◌, Bool, true, false, 
 ghost use Rattle.std.specs.Int.{Width};
 ghost use Rattle.zf_spec.specs.Grid.{IsShape};
 ghost use Rattle.zf_cached.specs.State.{State};
-ghost use Rattle.zf_cached.specs.Arrays.{array_format};
+ghost use Rattle.zf_cached.specs.Arrays.{array_format, saved_file};
 ghost use Rattle.zf_cached.specs.Commands.{Command};
 ghost use Rattle.zf_cached.specs.Replies.{Refusal, Reply};
 ghost use Rattle.zf_cached.specs.Grammar.{is_writable};
 ghost use Rattle.zf_cached.specs.Steps.{Setting, Session, takes_memory, refusal, step};
-ghost use Rattle.zf_cached.specs.Consistency.{IsConsistent, IsEmpty, IsCached, IsSound};
-ghost use Rattle.zf_cached.specs.Runs.{run_lines, run, array_setting};
+ghost use Rattle.zf_cached.specs.Placing.{direct};
+ghost use Rattle.zf_cached.specs.Consistency.{every, IsConsistent, IsEmpty, IsCached, IsSound};
+ghost use Rattle.zf_cached.specs.Runs.{lines_of, only_reads, run_lines, run, look, array_setting};
+ghost use Rattle.zf_cached.specs.Unwritten.{IsUnwritten, ReadAlone};
 
 use crate::coded::Coded;
+use crate::placing::Placing;
 
 /// A refused command changes nothing; out of memory is only a command that takes some, and only after all other tests.
 pub fn refused_commands<C: Coded>()
@@ -25,19 +28,39 @@ pub fn refused_commands<C: Coded>()
         → refusal setting s c starving ≡ Some Refusal.word → ⊥ }
 {}
 
-/// Each step of a script, and its whole run, keeps the array in a state that is reached and the window in the array; nothing is dirty after a run.
-pub fn scripts_keep_states_consistent<C: Coded>()
+/// Whatever the placing, each step of a script, and its whole run, keeps the array in a state that is reached and the window in the array; nothing
+/// is dirty after a run.
+pub fn scripts_keep_states_consistent<C: Coded, P: Placing>()
     ensures step { (setting : Setting C.Code) (s : Session C.Code) (c : Command) (starving : Bool)
-        → is_writable (length s.shape) c ≡ true → IsCached setting
-        → IsSound setting s → IsSound setting (step setting s c starving).0 }
+        → is_writable (length s.shape) c ≡ true → IsCached P.line setting
+        → IsSound P.line setting s → IsSound P.line setting (step setting s c starving).0 }
     ensures lines { (setting : Setting C.Code) (starved : List ℕ) (k : ℕ) (lines : List (List ℕ)) (s : Session C.Code)
-        → IsCached setting → IsSound setting s → IsSound setting (run_lines setting starved k lines s).0 }
+        → IsCached P.line setting → IsSound P.line setting s → IsSound P.line setting (run_lines setting starved k lines s).0 }
     ensures run { (setting : Setting C.Code) (starved shape : List ℕ) (s : State C.Code) (script : List ℕ)
-        → IsCached setting → IsShape shape → IsConsistent (array_format setting.coding shape) s
-        → IsSound setting (run setting starved shape s script).0 }
+        → IsCached P.line setting → IsShape shape → IsConsistent P.line every (array_format setting.coding shape) s
+        → IsSound P.line setting (run setting starved shape s script).0 }
     ensures flushed { (setting : Setting C.Code) (starved shape : List ℕ) (s : State C.Code) (script : List ℕ)
-        → IsCached setting → IsShape shape → IsConsistent (array_format setting.coding shape) s
+        → IsCached P.line setting → IsShape shape → IsConsistent P.line every (array_format setting.coding shape) s
         → IsEmpty (run setting starved shape s script).0.state }
+{}
+
+/// Lines that only read, and a look of any lines, leave the sizes, the codes and the values as they are, and nothing dirty, where nothing was.
+pub fn reading_changes_nothing<C: Coded, P: Placing>()
+    ensures run { (setting : Setting C.Code) (starved shape : List ℕ) (s : State C.Code) (script : List ℕ)
+        → IsCached P.line setting → ((b : ℕ) → s.dirty b ≡ false) → ReadAlone setting (length shape) (lines_of script)
+        → let t = (run setting starved shape s script).0 in (t.shape ≡ shape) × IsUnwritten s.codes s.values t.state }
+    ensures look { (setting : Setting C.Code) (starved shape : List ℕ) (s : State C.Code) (script : List ℕ)
+        → IsCached P.line setting → ((b : ℕ) → s.dirty b ≡ false)
+        → ((c : Command) → setting.allows c ≡ true → only_reads c ≡ true)
+        → let t = (look setting starved shape s script).0 in (t.shape ≡ shape) × IsUnwritten s.codes s.values t.state }
+{}
+
+/// A script of lines that only read saves the file of an array bit for bit.
+pub fn reading_saves_the_file()
+    ensures { (w : Width) (budget : ℕ) (starved shape : List ℕ) (s : State (List Bool)) (script : List ℕ)
+        → ReadAlone (array_setting w budget) (length shape) (lines_of script) → ((b : ℕ) → s.dirty b ≡ false)
+        → let t = (run (array_setting w budget) starved shape s script).0 in
+        saved_file w budget t.shape t.state ≡ saved_file w budget shape s }
 {}
 
 /// Lines run one after the other: more lines run from where the first ones end, and their replies follow.
@@ -50,5 +73,5 @@ pub fn lines_in_order<C: Coded>()
 
 /// An array of a fixed rate has the touch of a cache with one line for a block, and a code of zeros.
 pub fn settings_of_arrays()
-    ensures { (w : Width) (budget : ℕ) → IsCached (array_setting w budget) }
+    ensures { (w : Width) (budget : ℕ) → IsCached direct (array_setting w budget) }
 {}

@@ -1,5 +1,5 @@
 -- Two-way caches that fit, and a touch of them, in the words of their contracts.
-use Rattle.std.proofs.Common.{◌≡◌, ◌⊎◌, inl, inr, refl, sym, ap, subst, ◌∙◌, ℕ, zero, suc, ◌+◌, ◌*◌, ◌/◌, ◌%◌, ◌<◌, ◌==◌, Bool, true, false, not, ◌||◌, ℤ, Option, Some, None, List, map, length, replicate, is_none, eq-eqb, arith}
+use Rattle.std.proofs.Common.{◌≡◌, inl, inr, refl, sym, ap, subst, ◌∙◌, ℕ, zero, suc, ◌+◌, ◌/◌, ◌%◌, ◌==◌, Bool, true, false, not, ◌||◌, ℤ, Option, Some, None, List, map, length, replicate, is_none, eq-eqb, arith}
 use Rattle.std.proofs.lemmas.Bool.{ne_eqb}
 use Rattle.zf_base.specs.Formats.{Format, existing_of, meant}
 use Rattle.std.proofs.lemmas.List.{length-replicate}
@@ -17,7 +17,7 @@ use Rattle.zf_cache.proofs.Tags.{names-dirty, is_or_not, is_block-same, is_block
 use Rattle.zf_cache.proofs.Stands.{standing_at, vals-in, vals-out, dirty-in, dirty-out}
 use Rattle.zf_cache.proofs.Touches.{no_tag, state_stands, all_meant_at}
 use Rattle.zf_cache.proofs.Lent.{state_now, fits_now, row_held, lent_state, lent_fits}
-use Rattle.zf_twoway.specs.Touch.{first_line, second_line, choice, is_clean_line, is_here, goes_to, touch, touch_for_writing, put}
+use Rattle.zf_twoway.specs.Touch.{first_line, second_line, choice, is_clean_line, goes_to, touch, touch_for_writing, put}
 use Rattle.zf_twoway.specs.Placing.{place_by, taking_line, skewed, either, skewed-first, skewed-second, IsOneOfTwo, skewed_rule}
 use Rattle.zf_twoway.specs.Standing.{line_of, is_dirty, state_of, values_of, Fits}
 use Rattle.zf_twoway.specs.Loans.{StandsFor, LendsBlock, lent_block}

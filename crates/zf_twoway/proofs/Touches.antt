@@ -1,16 +1,21 @@
--- Touches of a two-way cache keep what holds of every state, and say what becomes of each block.
-use Rattle.std.proofs.Common.{◌≡◌, ◌≢◌, ◌⊎◌, inl, inr, refl, sym, ap, subst, ◌∙◌, ℕ, ◌<◌, ◌≤◌, Bool, true, false, not, ◌||◌, eq-eqb, Option, Some, None, is_none, ℤ, List, arith}
-use Rattle.std.proofs.lemmas.Bool.{cases_eq}
-use Rattle.zf_base.specs.Formats.{Format, existing_of, meant, encoded, with_at}
-use Rattle.zf_base.proofs.Formats.{with_at-same, with_at-other, existing_of-meant}
+-- Touches of a two-way cache, and what becomes of each block.
+use Rattle.std.proofs.Common.{◌≡◌, ◌⊎◌, inl, inr, refl, sym, ap, subst, ◌∙◌, ℕ, Bool, true, false, not, ◌||◌, eq-eqb, Option, Some, None, is_none}
+use Rattle.std.proofs.Math.Path.{fun_ext}
+use Rattle.std.specs.Int.{Width}
+use Rattle.zf_base.specs.Formats.{Format}
+use Rattle.zf_base.proofs.Formats.{with_at-same}
 use Rattle.zf_cached.specs.State.{State, is_block}
-use Rattle.zf_cached.specs.Touch.{write_back, write_back_line, hit, miss, soiled, with_values}
-use Rattle.zf_cached.specs.Changes.{write_back_lines, emptied, flush, discard, relined, opened}
+use Rattle.zf_cached.specs.Touch.{write_back_line, hit, miss, soiled}
+use Rattle.zf_cached.specs.Placing.{line_in, touch_at}
 use Rattle.zf_cached.specs.Fates.{IsLeft, IsRounded}
-use Rattle.zf_cached.proofs.Caching.{true_is_not_false, at_change, write_back_line_by, write_back_line-lines, write_back_line-held, write_back_line-clean, write_back_line-other, write_back_line-keeps_clean, write_back_line-rounded, is_block-true, is_block-false}
+use Rattle.zf_cached.specs.Consistency.{IsCached}
+use Rattle.zf_cached.proofs.Arrays.{meant-zeros}
+use Rattle.zf_cached.proofs.Caching.{true_is_not_false, write_back_line_by, write_back_line-lines, write_back_line-other, write_back_line-keeps_clean, write_back_line-rounded, is_block-true}
+use Rattle.zf_cached.proofs.Placed.{touch_at-hit, touch_at-miss}
+use Rattle.zf_cache.proofs.Tags.{is_or_not}
 use Rattle.zf_twoway.specs.Touch.{first_line, second_line, choice, is_clean_line, is_here, goes_to, touch, touch_for_writing}
-use Rattle.zf_twoway.specs.Placing.{IsOneOfTwo, chosen}
-use Rattle.zf_twoway.specs.Consistency.{IsConsistent}
+use Rattle.zf_twoway.specs.Placing.{IsOneOfTwo, chosen, two_lines, in_first, in_second, in_neither, two_placing}
+use Rattle.zf_twoway.specs.Runs.{twoway_setting}
 
 is_here-by : (first second : Option ℕ) (b : ℕ) → (first ≡ Some b) ⊎ (second ≡ Some b) → (is_block first b || is_block second b) ≡ true
 is_here-by first second b (inl is) = ap (λ o. is_block o b || is_block second b) is ∙ ap (λ x. x || is_block second b) (eq-eqb b b refl)
@@ -141,122 +146,34 @@ module _ {Code : Type 0} where
             ap (λ (o : Option ℕ). elim o [ None ↦ true | Some n ↦ not (s.dirty n) ]) held
             ∙ ap not dirty
 
-  -- ---- what holds of every state
+  -- ---- a touch is that of the placing
 
-  pub hit-consistent : (format : Format Code) (s : State Code) → IsConsistent format s → IsConsistent format (hit s)
-  unfolding hit
-  hit-consistent format s h = record {
-    some_line = h.some_line;
-    in_one_of_two = h.in_one_of_two;
-    in_no_other = h.in_no_other;
-    dirty_is_here = h.dirty_is_here;
-    clean_is_coded = h.clean_is_coded;
-    whole = h.whole;
-  }
+  touch-miss : (format : Format Code) (s : State Code) (b : ℕ) → is_here s b ≡ false → touch format s b ≡ miss format s (goes_to s b) b
+  touch-miss format s b away = touch_by format s b (λ t. t ≡ miss format s (goes_to s b) b) (λ yes. true_is_not_false (is_here s b) yes away) (λ no. refl)
 
-  pub write_back-consistent : (format : Format Code) (s : State Code) (b : ℕ) → IsConsistent format s → IsConsistent format (write_back format s b)
-  unfolding write_back
-  write_back-consistent format s b h = record {
-    some_line = h.some_line;
-    in_one_of_two = h.in_one_of_two;
-    in_no_other = h.in_no_other;
-    dirty_is_here = λ n. at_change (λ m d. d ≡ true → is_here s m ≡ true) s.dirty b false n (λ e. absurd (cc)) (λ ne. h.dirty_is_here n);
-    clean_is_coded = λ n. by n (cases_eq n b);
-    whole = λ n. at_change (λ m values. existing_of format m values ≡ values) s.values b (meant format b code) n (existing_of-meant format b code) (λ ne. h.whole n);
-  }
+  -- a block that is here is in its line
+  in_its_line : (s : State Code) (b : ℕ) → IsInOne s b → s.held (line_in two_lines s b) ≡ Some b
+  in_its_line s b is = elim (is_or_not (s.held (first_line s.lines b)) b) [
+    | inl first ↦ ap s.held (in_first s.lines s.held s.dirty b first) ∙ first
+    | inr out ↦ elim is [
+      | inl first ↦ absurd (out first)
+      | inr second ↦ ap s.held (in_second s.lines s.held s.dirty b out second) ∙ second
+    ]
+  ]
+
+  pub touch-placed : (format : Format Code) (s : State Code) (b : ℕ) → touch format s b ≡ touch_at two_lines format s b
+  touch-placed format s b = by (is_here s b) refl
     where
-      code : Code
-      code = encoded format b (s.values b)
+      by : (x : Bool) → is_here s b ≡ x → touch format s b ≡ touch_at two_lines format s b
+      by true e = touch-hit format s b e ∙ sym (touch_at-hit two_lines format s b (in_its_line s b (is_here-in s b e)))
+      by false e =
+          touch-miss format s b e
+          ∙ ap (λ m. miss format s m b) (sym (in_neither s.lines s.held s.dirty b (not_in s (first_line s.lines b) b e (inl refl)) (not_in s (second_line s.lines b) b e (inr refl))))
+          ∙ sym (touch_at-miss two_lines format s b (not_in s (line_in two_lines s b) b e (two_placing.allowed s.lines s.held s.dirty b)))
 
-      by : (n : ℕ) → (n ≡ b) ⊎ (n ≡ b → ⊥) → with_at s.dirty b false n ≡ false → with_at s.values b (meant format b code) n ≡ meant format n (with_at s.codes b code n)
-      by n (inl e) clean =
-          subst (λ m. with_at s.values b (meant format b code) m ≡ meant format m (with_at s.codes b code m)) (sym e)
-          (with_at-same s.values b (meant format b code) ∙ ap (meant format b) (sym (with_at-same s.codes b code)))
-      by n (inr ne) clean =
-          with_at-other s.values b (meant format b code) n ne ∙ h.clean_is_coded n (sym (with_at-other s.dirty b false n ne) ∙ clean) ∙ ap (meant format n) (sym (with_at-other s.codes b code n ne))
-
-  pub write_back_line-consistent : (format : Format Code) (s : State Code) (l : ℕ) → IsConsistent format s → IsConsistent format (write_back_line format s l)
-  write_back_line-consistent format s l h =
-      write_back_line_by format s l (IsConsistent format) (λ b here dirty. write_back-consistent format s b h) (λ b here clean. h) (λ nothing. h)
-
-  -- a block that is not here comes into one of its lines: it is in no other, and nothing that is dirty is lost
-  pub miss-consistent : (format : Format Code) (s : State Code) (b : ℕ) → is_here s b ≡ false → IsConsistent format s → IsConsistent format (miss format s (goes_to s b) b)
-  unfolding miss
-  miss-consistent format s b away h = record {
-    some_line = k.some_line;
-    in_one_of_two = λ m n. at_change (λ j o. o ≡ Some n → IsOneOfTwo t.lines n j) t.held l (Some b) m (λ e. let same : b ≡ n = cc in subst (λ j. IsOneOfTwo t.lines j l) same may) (λ ne. k.in_one_of_two m n);
-    in_no_other = λ i j n one two. only i j n one two (cases_eq i l) (cases_eq j l);
-    dirty_is_here = λ n dirty. elim (is_here-in t n (k.dirty_is_here n dirty)) [
-      | inl is ↦ stays n (first_line t.lines n) dirty (inl refl) is (cases_eq (first_line t.lines n) l)
-      | inr is ↦ stays n (second_line t.lines n) dirty (inr refl) is (cases_eq (second_line t.lines n) l)
-    ];
-    clean_is_coded = k.clean_is_coded;
-    whole = k.whole;
-  }
-    where
-      l : ℕ
-      l = goes_to s b
-
-      t : State Code
-      t = write_back_line format s (goes_to s b)
-
-      k : IsConsistent format (write_back_line format s (goes_to s b))
-      k = write_back_line-consistent format s (goes_to s b) h
-
-      may : IsOneOfTwo t.lines b l
-      may = subst (λ n. IsOneOfTwo n b l) (sym (write_back_line-lines format s (goes_to s b))) (goes-allowed s b)
-
-      held_before : (m n : ℕ) → t.held m ≡ Some n → s.held m ≡ Some n
-      held_before m n e = sym (ap (λ f. f m) (write_back_line-held format s (goes_to s b))) ∙ e
-
-      nowhere : (m : ℕ) → t.held m ≡ Some b → ⊥
-      nowhere m e = not_in s m b away (h.in_one_of_two m b (held_before m b e)) (held_before m b e)
-
-      is_taken : (n : ℕ) → with_at t.held l (Some b) l ≡ Some n → b ≡ n
-      is_taken n e = let both : Some b ≡ Some n = sym (with_at-same t.held l (Some b)) ∙ e in cc
-
-      only : (i j n : ℕ) → with_at t.held l (Some b) i ≡ Some n → with_at t.held l (Some b) j ≡ Some n → (i ≡ l) ⊎ (i ≡ l → ⊥) → (j ≡ l) ⊎ (j ≡ l → ⊥) → i ≡ j
-      only i j n one two (inl e) (inl f) = e ∙ sym f
-      only i j n one two (inl e) (inr ne) =
-          let same : b ≡ n = is_taken n (ap (with_at t.held l (Some b)) (sym e) ∙ one) in
-          absurd (nowhere j (sym (with_at-other t.held l (Some b) j ne) ∙ two ∙ ap Some (sym same)))
-      only i j n one two (inr ne) (inl f) =
-          let same : b ≡ n = is_taken n (ap (with_at t.held l (Some b)) (sym f) ∙ two) in
-          absurd (nowhere i (sym (with_at-other t.held l (Some b) i ne) ∙ one ∙ ap Some (sym same)))
-      only i j n one two (inr ne) (inr nf) =
-          k.in_no_other i j n (sym (with_at-other t.held l (Some b) i ne) ∙ one) (sym (with_at-other t.held l (Some b) j nf) ∙ two)
-
-      stays : (n j : ℕ) → t.dirty n ≡ true → IsOneOfTwo t.lines n j → t.held j ≡ Some n → (j ≡ l) ⊎ (j ≡ l → ⊥) → is_here (miss format s (goes_to s b) b) n ≡ true
-      stays n j dirty one is (inl e) =
-          true_is_not_false (t.dirty n) dirty (write_back_line-clean format s l n (held_before l n (ap t.held (sym e) ∙ is)))
-      stays n j dirty one is (inr ne) = is_here-at (miss format s (goes_to s b) b) j n one (with_at-other t.held l (Some b) j ne ∙ is)
-
-  module _ (format : Format Code) (s : State Code) (b : ℕ) (h : IsConsistent format s) where
-    pub touch-consistent : IsConsistent format (touch format s b)
-    touch-consistent = touch_by format s b (IsConsistent format) (λ here. hit-consistent format s h) (λ away. miss-consistent format s b away h)
-
-    pub soiled-consistent : is_here s b ≡ true → IsConsistent format (soiled s b)
-    unfolding soiled
-    soiled-consistent here = record {
-      some_line = h.some_line;
-      in_one_of_two = h.in_one_of_two;
-      in_no_other = h.in_no_other;
-      dirty_is_here = λ n. at_change (λ m d. d ≡ true → is_here s m ≡ true) s.dirty b true n (λ e. here) (λ ne. h.dirty_is_here n);
-      clean_is_coded = λ n. at_change (λ m d. d ≡ false → s.values m ≡ meant format m (s.codes m)) s.dirty b true n (λ e. absurd (cc)) (λ ne. h.clean_is_coded n);
-      whole = h.whole;
-    }
-
-    pub with_values-consistent : (values : List ℤ) → s.dirty b ≡ true → existing_of format b values ≡ values → IsConsistent format (with_values s b values)
-    unfolding with_values
-    with_values-consistent values dirty whole = record {
-      some_line = h.some_line;
-      in_one_of_two = h.in_one_of_two;
-      in_no_other = h.in_no_other;
-      dirty_is_here = h.dirty_is_here;
-      clean_is_coded = λ n. at_change (λ m vs. s.dirty m ≡ false → vs ≡ meant format m (s.codes m)) s.values b values n (λ clean. true_is_not_false (s.dirty b) dirty clean) (λ ne. h.clean_is_coded n);
-      whole = λ n. at_change (λ m vs. existing_of format m vs ≡ vs) s.values b values n whole (λ ne. h.whole n);
-    }
-
-  pub touch_for_writing-consistent : (format : Format Code) (s : State Code) (b : ℕ) → IsConsistent format s → IsConsistent format (touch_for_writing format s b)
-  unfolding touch_for_writing
-  touch_for_writing-consistent format s b h = soiled-consistent format (touch format s b) b (touch-consistent format s b h) (touch-here format s b)
+pub twoway-cached : (w : Width) (budget : ℕ) → IsCached two_lines (twoway_setting w budget)
+unfolding twoway_setting
+twoway-cached w budget = record {
+  touches = fun_ext (λ format. fun_ext (λ s. fun_ext (λ b. touch-placed format s b)));
+  zero = meant-zeros w budget;
+}

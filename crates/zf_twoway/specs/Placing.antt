@@ -1,16 +1,24 @@
--- In which line a block is, or goes, as the tags of the lines tell.
-use Rattle.std.specs.Prelude.{◌≡◌, ℕ, Bool, true, false, List, Option, Some, None, is_none, if◌then◌else◌, refl}
-use Rattle.std.proofs.Common.{◌⊎◌, inl, inr, sym, ap, ◌∙◌, ◌<◌, ◌≢◌}
+-- In which line a block is, or goes, as a state tells, and as the tags of the lines tell.
+use Rattle.std.specs.Prelude.{◌≡◌, ℕ, Bool, true, false, List, Option, Some, is_none, if◌then◌else◌, refl}
+use Rattle.std.proofs.Common.{◌⊎◌, inl, inr, ap, ◌∙◌, ◌<◌}
 use Rattle.std.proofs.lemmas.Nat.{mod_below}
 use Rattle.zf_cached.specs.State.{is_block}
 use Rattle.zf_cache.specs.Kept.{IsIn, tag_at, block_in, dirty_of}
 use Rattle.zf_cache.specs.Rules.{IsRule}
-use Rattle.zf_cache.proofs.Tags.{same_or_not, is_or_not, is_block-same, is_block-other}
-use Rattle.zf_twoway.specs.Touch.{first_line, second_line, choice}
+use Rattle.zf_cache.proofs.Tags.{is_or_not, is_block-same, is_block-other}
+use Rattle.zf_cached.specs.Placing.{Line, IsPlacing}
+use Rattle.zf_twoway.specs.Touch.{first_line, second_line, choice, is_clean_in}
 
 -- the line that holds the block, or else the line that takes it in: whether the first holds it, whether the second does, and which takes it in
 abbrev pub place_by : Bool → Bool → ℕ → ℕ → ℕ → ℕ
 place_by in_first in_second taking first second = if in_first then first else (if in_second then second else taking)
+
+-- the line of block b among n lines that hold these blocks, where these are dirty
+abbrev pub two_lines : Line
+two_lines n held dirty b =
+    let first = first_line n b in let second = second_line n b in
+    place_by (is_block (held first) b) (is_block (held second) b)
+    (choice (is_none (held first)) (is_none (held second)) (is_clean_in held dirty first) (is_clean_in held dirty second) first second) first second
 
 -- which of two lines with these tags takes a block in
 abbrev pub taking_line : ℕ → ℕ → ℕ → ℕ → ℕ
@@ -68,6 +76,48 @@ skewed_rule = record {
     | inr at ↦ elim (is_or_not (block_in (tag_at tags (first_line n b))) b) [
       | inl first ↦ skewed-first n tags b first ∙ only (first_line n b) first
       | inr out ↦ skewed-second n tags b out (ap (λ j. block_in (tag_at tags j)) at ∙ is) ∙ at
+    ]
+  ];
+}
+
+-- ---- the same, where the state tells
+
+module _ (n : ℕ) (held : ℕ → Option ℕ) (dirty : ℕ → Bool) (b : ℕ) where
+  abbrev goes : ℕ
+  goes =
+      let first = first_line n b in let second = second_line n b in
+      choice (is_none (held first)) (is_none (held second)) (is_clean_in held dirty first) (is_clean_in held dirty second) first second
+
+  pub either_line : (P : ℕ → Type 0) → P (first_line n b) → P (second_line n b) → P (two_lines n held dirty b)
+  either_line P p q =
+      let first = first_line n b in let second = second_line n b in
+      placed P (is_block (held first) b) (is_block (held second) b) goes first second p q
+      (chosen P (is_none (held first)) (is_none (held second)) (is_clean_in held dirty first) (is_clean_in held dirty second) first second p q)
+
+  pub in_first : held (first_line n b) ≡ Some b → two_lines n held dirty b ≡ first_line n b
+  in_first is =
+      let first = first_line n b in let second = second_line n b in
+      ap (λ x. place_by x (is_block (held second) b) goes first second) (is_block-same (held first) b is)
+
+  pub in_second : (held (first_line n b) ≡ Some b → ⊥) → held (second_line n b) ≡ Some b → two_lines n held dirty b ≡ second_line n b
+  in_second out is =
+      let first = first_line n b in let second = second_line n b in
+      (λ i. place_by (is_block-other (held first) b out i) (is_block-same (held second) b is i) goes first second)
+
+  pub in_neither : (held (first_line n b) ≡ Some b → ⊥) → (held (second_line n b) ≡ Some b → ⊥) → two_lines n held dirty b ≡ goes
+  in_neither out none =
+      let first = first_line n b in let second = second_line n b in
+      (λ i. place_by (is_block-other (held first) b out i) (is_block-other (held second) b none i) goes first second)
+
+pub two_placing : IsPlacing two_lines IsOneOfTwo
+two_placing = record {
+  inside = λ n held dirty b some. either_line n held dirty b (λ l. l < n) (mod_below b n some) (mod_below _ n some);
+  allowed = λ n held dirty b. either_line n held dirty b (IsOneOfTwo n b) (inl refl) (inr refl);
+  found = λ n held dirty b l may is only. elim may [
+    | inl at ↦ in_first n held dirty b (ap held at ∙ is) ∙ at
+    | inr at ↦ elim (is_or_not (held (first_line n b)) b) [
+      | inl first ↦ in_first n held dirty b first ∙ only (first_line n b) first
+      | inr out ↦ in_second n held dirty b out (ap held at ∙ is) ∙ at
     ]
   ];
 }

@@ -1,5 +1,5 @@
 -- What a touch of a block does where each block may be in one of two lines (this project's own).
-use Rattle.std.specs.Prelude.{ℕ, ◌/◌, ◌%◌, ℤ, Bool, true, false, not, ◌||◌, Some, None, is_none, if◌then◌else◌, bit_xor}
+use Rattle.std.specs.Prelude.{ℕ, ◌/◌, ◌%◌, ℤ, Bool, true, false, not, ◌||◌, Option, Some, None, is_none, if◌then◌else◌, bit_xor}
 use Rattle.zf_base.specs.Formats.{Format}
 use Rattle.zf_cached.specs.State.{State, is_block}
 use Rattle.zf_cached.specs.Touch.{hit, miss, soiled}
@@ -22,10 +22,14 @@ choice first_empty second_empty first_clean second_clean first second =
     else (if second_clean then second
     else first)))
 
+-- no dirty block is in line l, where the lines hold these blocks and these are dirty
+abbrev pub is_clean_in : (ℕ → Option ℕ) → (ℕ → Bool) → ℕ → Bool
+is_clean_in held dirty l = elim (held l) [ None ↦ true | Some b ↦ not (dirty b) ]
+
 module _ {Code : Type 0} where
   -- no dirty block is in line l
   abbrev pub is_clean_line : State Code → ℕ → Bool
-  is_clean_line s l = elim (s.held l) [ None ↦ true | Some b ↦ not (s.dirty b) ]
+  is_clean_line s l = is_clean_in s.held s.dirty l
 
   -- block b is here: one of its two lines holds it
   abbrev pub is_here : State Code → ℕ → Bool

@@ -1,26 +1,24 @@
 //! Laws of touches of a two-way cache, over the definitions alone.
 
-ghost use Rattle.std.specs.Prelude.{◌≡◌, ℕ, ◌⊎◌, true, false, List, ℤ, Some};
-ghost use Rattle.zf_base.specs.Formats.{Format, existing_of};
+ghost use Rattle.std.specs.Prelude.{◌≡◌, ℕ, ◌⊎◌, true, false, Some};
+ghost use Rattle.std.specs.Int.{Width};
+ghost use Rattle.zf_base.specs.Formats.{Format};
 ghost use Rattle.zf_cached.specs.State.{State};
-ghost use Rattle.zf_cached.specs.Touch.{hit, write_back, with_values};
+ghost use Rattle.zf_cached.specs.Touch.{hit};
 ghost use Rattle.zf_cached.specs.Fates.{IsLeft, IsRounded};
 ghost use Rattle.zf_twoway.specs.Touch.{first_line, second_line, is_clean_line, is_here, goes_to, touch, touch_for_writing};
-ghost use Rattle.zf_twoway.specs.Consistency.{IsConsistent};
+ghost use Rattle.zf_cached.specs.Placing.{touch_at};
+ghost use Rattle.zf_cached.specs.Consistency.{IsCached};
+ghost use Rattle.zf_twoway.specs.Placing.{two_lines};
+ghost use Rattle.zf_twoway.specs.Runs.{twoway_setting};
 
 use zf_cached::coded::Coded;
 
-/// What holds of every state that is reached is kept by a touch, by a touch for writing, by what is then written, and by a write-back.
-pub fn touches_keep_states_consistent<C: Coded>()
-    ensures touch { (format : Format C.Code) (s : State C.Code) (b : ℕ)
-        → IsConsistent format s → IsConsistent format (touch format s b) }
-    ensures for_writing { (format : Format C.Code) (s : State C.Code) (b : ℕ)
-        → IsConsistent format s → IsConsistent format (touch_for_writing format s b) }
-    ensures written { (format : Format C.Code) (s : State C.Code) (b : ℕ) (values : List ℤ)
-        → s.dirty b ≡ true → existing_of format b values ≡ values
-        → IsConsistent format s → IsConsistent format (with_values s b values) }
-    ensures write_back { (format : Format C.Code) (s : State C.Code) (b : ℕ)
-        → IsConsistent format s → IsConsistent format (write_back format s b) }
+/// A touch is that of a placing, so that what holds of every state that is reached is kept by it, by changes and by whole scripts as for any
+/// placing: with the laws of `zf_cached` at `Skewed`.
+pub fn touches_are_placed<C: Coded>()
+    ensures touch { (format : Format C.Code) (s : State C.Code) (b : ℕ) → touch format s b ≡ touch_at two_lines format s b }
+    ensures setting { (w : Width) (budget : ℕ) → IsCached two_lines (twoway_setting w budget) }
 {}
 
 /// A touched block is here, with the values, the code and the mark that it had: where it was here, only the hits rise, and touching it again is a hit.

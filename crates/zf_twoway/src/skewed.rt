@@ -4,9 +4,10 @@ ghost use Rattle.zf_cached.specs.State.{is_block};
 ghost use Rattle.zf_cache.specs.Bodies.{IsMask};
 ghost use Rattle.zf_cache.specs.Kept.{block_in, dirty_of};
 ghost use Rattle.zf_twoway.specs.Touch.{second_line};
-ghost use Rattle.zf_twoway.specs.Placing.{skewed, taking_line, IsOneOfTwo, skewed_rule};
+ghost use Rattle.zf_twoway.specs.Placing.{skewed, taking_line, IsOneOfTwo, skewed_rule, two_lines, two_placing};
 
 use zf_cache::Rule;
+use zf_cached::placing::Placing;
 
 /// Each block has two lines, and is in one of them. It goes to one that is empty or clean where it can.
 pub struct Skewed;
@@ -61,6 +62,14 @@ fn second_of(b: u64, lines: u64) -> u64
     ensures { result ≡ second_line lines b }
 {
     (b ^ (b / lines)) & (lines - 1)
+}
+
+impl Placing for Skewed {
+    ghost line = { two_lines };
+
+    ghost may_hold = { IsOneOfTwo };
+
+    ghost placing = { two_placing };
 }
 
 impl Rule for Skewed {

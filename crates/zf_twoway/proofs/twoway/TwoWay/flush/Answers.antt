@@ -1,5 +1,3 @@
-use Rattle.std.proofs.Common.{ap, ◌∙◌}
-use Rattle.zf_cache.specs.Kept.{Kept}
 use Rattle.zf_cache.specs.Bodies.{kept_of}
 use Rattle.zf_twoway.proofs.Standing.{sound_of, fits_of}
 use Rattle.zf_twoway.proofs.twoway.TwoWay.flush.Goals as goal

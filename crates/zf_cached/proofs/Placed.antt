@@ -1,0 +1,359 @@
+-- Touches, write-backs and changes keep what holds of every state, whatever the placing.
+use Rattle.std.proofs.Common.{◌≡◌, refl, sym, ap, subst, ◌∙◌, ℕ, zero, suc, ◌+◌, ◌<◌, ◌≤◌, min, ℤ, Bool, true, false, List, Option, Some, None, ◌⊎◌, inl, inr, arith}
+use Rattle.std.proofs.lemmas.Bool.{cases_eq}
+use Rattle.zf_base.specs.Formats.{Format, existing_of, meant, encoded, with_at}
+use Rattle.zf_base.proofs.Formats.{with_at-same, with_at-other, existing_of-meant}
+use Rattle.zf_cached.specs.State.{State, is_block, most_counted}
+use Rattle.zf_cached.specs.Touch.{write_back, write_back_line, hit, miss, soiled, with_values}
+use Rattle.zf_cached.specs.Changes.{write_back_lines, emptied, flush, discard, relined, opened, zeros, resized}
+use Rattle.zf_cached.specs.Fates.{IsLeft, IsRounded}
+use Rattle.zf_cached.specs.Unwritten.{holds_dirty, dirty_lines}
+use Rattle.zf_cached.specs.Placing.{Line, IsPlacing, line_in, touch_at}
+use Rattle.zf_cached.specs.Consistency.{IsConsistent, IsEmpty}
+use Rattle.zf_cached.proofs.Caching.{true_is_not_false, at_change, is_block-true, is_block-false, write_back_line_by, write_back_line-lines, write_back_line-held, write_back_line-clean, write_back_line-other}
+use Rattle.zf_cached.proofs.Flushing.{write_back_lines-lines, write_back_lines-held, write_back_lines-clean, flush-dirty_codes, flush-clean, discard-values_by}
+
+-- ---- a touch, by whether the block is in its line
+
+module _ {Code : Type 0} (line : Line) (format : Format Code) (s : State Code) (b : ℕ) where
+  abbrev l : ℕ
+  l = line_in line s b
+
+  pub touch_at_by : (P : State Code → Type 0) → (s.held l ≡ Some b → P (hit s)) → ((s.held l ≡ Some b → ⊥) → P (miss format s l b)) → P (touch_at line format s b)
+  unfolding touch_at
+  touch_at_by P here away = by (is_block (s.held l) b) refl
+    where
+      by : (t : Bool) → is_block (s.held l) b ≡ t → P (elim t [ true ↦ hit s | false ↦ miss format s l b ])
+      by true is = here (is_block-true (s.held l) b is)
+      by false is = away (is_block-false (s.held l) b is)
+
+  pub touch_at-lines : (touch_at line format s b).lines ≡ s.lines
+  unfolding hit miss
+  touch_at-lines = touch_at_by (λ t. t.lines ≡ s.lines) (λ here. refl) (λ away. write_back_line-lines format s l)
+
+  pub touch_at-hit : s.held l ≡ Some b → touch_at line format s b ≡ hit s
+  touch_at-hit is = touch_at_by (λ t. t ≡ hit s) (λ here. refl) (λ away. absurd (away is))
+
+  pub touch_at-miss : (s.held l ≡ Some b → ⊥) → touch_at line format s b ≡ miss format s l b
+  touch_at-miss out = touch_at_by (λ t. t ≡ miss format s l b) (λ here. absurd (out here)) (λ away. refl)
+
+  -- the line holds the block then
+  pub touch_at-here : (touch_at line format s b).held l ≡ Some b
+  unfolding hit miss
+  touch_at-here = touch_at_by (λ t. t.held l ≡ Some b) (λ here. here) (λ away. with_at-same (write_back_line format s l).held l (Some b))
+
+one_more : (w d x most : ℕ) → x ≡ min (w + d) most → min (x + 1) most ≡ min (w + (d + 1)) most
+one_more w d x most e = omega (arith, e)
+
+-- ---- what holds of every state
+
+module _ (line : Line) (may_hold : ℕ → ℕ → ℕ → Type 0) (placing : IsPlacing line may_hold) {Code : Type 0} where
+  -- each block in a line is where it is looked for
+  abbrev IsFound : State Code → Type 0
+  IsFound s = (m b : ℕ) → s.held m ≡ Some b → line_in line s b ≡ m
+
+  may : (s : State Code) → IsFound s → (m b : ℕ) → s.held m ≡ Some b → may_hold s.lines b m
+  may s found m b is = subst (may_hold s.lines b) (found m b is) (placing.allowed s.lines s.held s.dirty b)
+
+  once : (s : State Code) → IsFound s → (m j b : ℕ) → s.held m ≡ Some b → s.held j ≡ Some b → j ≡ m
+  once s found m j b is there = sym (found j b there) ∙ found m b is
+
+  -- it is found again among as many lines that hold the same
+  found_again : (s t : State Code) → t.lines ≡ s.lines → t.held ≡ s.held → IsFound s → IsFound t
+  found_again s t lines held found m b is =
+      let was : s.held m ≡ Some b = sym (ap (λ h. h m) held) ∙ is in
+      placing.found t.lines t.held t.dirty b m (subst (λ n. may_hold n b m) (sym lines) (may s found m b was)) is (λ j there. once s found m j b was (sym (ap (λ h. h j) held) ∙ there))
+
+  here_again : (s t : State Code) → t.held ≡ s.held → IsFound t → (b : ℕ) → s.held (line_in line s b) ≡ Some b → t.held (line_in line t b) ≡ Some b
+  here_again s t held found b is =
+      let there : t.held (line_in line s b) ≡ Some b = ap (λ h. h (line_in line s b)) held ∙ is in
+      ap t.held (found (line_in line s b) b there) ∙ there
+
+  module _ (owned : ℕ → Bool) where
+    -- what is changed of blocks alone, and not of what the lines hold
+    pub hit-consistent : (format : Format Code) (s : State Code) → IsConsistent line owned format s → IsConsistent line owned format (hit s)
+    unfolding hit
+    hit-consistent format s h = record {
+      some_line = h.some_line;
+      in_its_line = h.in_its_line;
+      held_is_owned = h.held_is_owned;
+      dirty_is_here = h.dirty_is_here;
+      clean_is_coded = h.clean_is_coded;
+      whole = h.whole;
+    }
+
+    pub write_back-consistent : (format : Format Code) (s : State Code) (b : ℕ) → IsConsistent line owned format s → IsConsistent line owned format (write_back format s b)
+    unfolding write_back
+    write_back-consistent format s b h = record {
+      some_line = h.some_line;
+      in_its_line = found;
+      held_is_owned = h.held_is_owned;
+      dirty_is_here = λ n. at_change (λ m d. d ≡ true → s.held (line_in line (write_back format s b) m) ≡ Some m) s.dirty b false n (λ e. absurd (cc))
+          (λ ne dirty. here_again s (write_back format s b) refl found n (h.dirty_is_here n dirty));
+      clean_is_coded = λ n own. by n own (cases_eq n b);
+      whole = λ n own. at_change (λ m values. existing_of format m values ≡ values) s.values b (meant format b code) n (existing_of-meant format b code) (λ ne. h.whole n own);
+    }
+      where
+        code : Code
+        code = encoded format b (s.values b)
+
+        found : IsFound (write_back format s b)
+        found = found_again s (write_back format s b) refl refl h.in_its_line
+
+        by : (n : ℕ) → owned n ≡ true → (n ≡ b) ⊎ (n ≡ b → ⊥) → with_at s.dirty b false n ≡ false → with_at s.values b (meant format b code) n ≡ meant format n (with_at s.codes b code n)
+        by n own (inl e) clean =
+            subst (λ m. with_at s.values b (meant format b code) m ≡ meant format m (with_at s.codes b code m)) (sym e)
+            (with_at-same s.values b (meant format b code) ∙ ap (meant format b) (sym (with_at-same s.codes b code)))
+        by n own (inr ne) clean =
+            with_at-other s.values b (meant format b code) n ne ∙ h.clean_is_coded n own (sym (with_at-other s.dirty b false n ne) ∙ clean) ∙ ap (meant format n) (sym (with_at-other s.codes b code n ne))
+
+    pub write_back_line-consistent : (format : Format Code) (s : State Code) (m : ℕ) → IsConsistent line owned format s → IsConsistent line owned format (write_back_line format s m)
+    write_back_line-consistent format s m h =
+        write_back_line_by format s m (IsConsistent line owned format) (λ b here dirty. write_back-consistent format s b h) (λ b here clean. h) (λ nothing. h)
+
+    -- a block that is in no line comes into its own: it is in no other, and nothing that is dirty is lost
+    pub miss-consistent : (format : Format Code) (s : State Code) (b : ℕ) → owned b ≡ true → (s.held (line_in line s b) ≡ Some b → ⊥) → IsConsistent line owned format s → IsConsistent line owned format (miss format s (line_in line s b) b)
+    unfolding miss
+    miss-consistent format s b own away h = record {
+      some_line = k.some_line;
+      in_its_line = found;
+      held_is_owned = λ m n is. owns m n is (cases_eq m (line_in line s b));
+      dirty_is_here = λ n dirty. let j = line_in line t n in let there = stays n j dirty (k.dirty_is_here n dirty) (cases_eq j (line_in line s b)) in ap u.held (found j n there) ∙ there;
+      clean_is_coded = k.clean_is_coded;
+      whole = k.whole;
+    }
+      where
+        t : State Code
+        t = write_back_line format s (line_in line s b)
+
+        u : State Code
+        u = miss format s (line_in line s b) b
+
+        k : IsConsistent line owned format (write_back_line format s (line_in line s b))
+        k = write_back_line-consistent format s (line_in line s b) h
+
+        held_before : (m n : ℕ) → (write_back_line format s (line_in line s b)).held m ≡ Some n → s.held m ≡ Some n
+        held_before m n e = sym (ap (λ f. f m) (write_back_line-held format s (line_in line s b))) ∙ e
+
+        nowhere : (m : ℕ) → (write_back_line format s (line_in line s b)).held m ≡ Some b → ⊥
+        nowhere m e = let was = held_before m b e in away (ap s.held (h.in_its_line m b was) ∙ was)
+
+        taken : (n : ℕ) → with_at (write_back_line format s (line_in line s b)).held (line_in line s b) (Some b) (line_in line s b) ≡ Some n → b ≡ n
+        taken n e = let both : Some b ≡ Some n = sym (with_at-same (write_back_line format s (line_in line s b)).held (line_in line s b) (Some b)) ∙ e in cc
+
+        before : (m n : ℕ) → (m ≡ line_in line s b → ⊥) → with_at (write_back_line format s (line_in line s b)).held (line_in line s b) (Some b) m ≡ Some n → (write_back_line format s (line_in line s b)).held m ≡ Some n
+        before m n ne e = sym (with_at-other (write_back_line format s (line_in line s b)).held (line_in line s b) (Some b) m ne) ∙ e
+
+        owns : (m n : ℕ) → with_at (write_back_line format s (line_in line s b)).held (line_in line s b) (Some b) m ≡ Some n → (m ≡ line_in line s b) ⊎ (m ≡ line_in line s b → ⊥) → owned n ≡ true
+        owns m n is (inl e) = subst (λ a. owned a ≡ true) (taken n (ap (with_at (write_back_line format s (line_in line s b)).held (line_in line s b) (Some b)) (sym e) ∙ is)) own
+        owns m n is (inr ne) = k.held_is_owned m n (before m n ne is)
+
+        only_taken : (n j : ℕ) → b ≡ n → with_at (write_back_line format s (line_in line s b)).held (line_in line s b) (Some b) j ≡ Some n → (j ≡ line_in line s b) ⊎ (j ≡ line_in line s b → ⊥) → j ≡ line_in line s b
+        only_taken n j same there (inl e) = e
+        only_taken n j same there (inr ne) = absurd (nowhere j (before j n ne there ∙ ap Some (sym same)))
+
+        only_other : (m n j : ℕ) → (write_back_line format s (line_in line s b)).held m ≡ Some n → with_at (write_back_line format s (line_in line s b)).held (line_in line s b) (Some b) j ≡ Some n
+            → (j ≡ line_in line s b) ⊎ (j ≡ line_in line s b → ⊥) → j ≡ m
+        only_other m n j is there (inl e) =
+            let same : b ≡ n = taken n (ap (with_at (write_back_line format s (line_in line s b)).held (line_in line s b) (Some b)) (sym e) ∙ there) in
+            absurd (nowhere m (is ∙ ap Some (sym same)))
+        only_other m n j is there (inr ne) = once (write_back_line format s (line_in line s b)) k.in_its_line m j n is (before j n ne there)
+
+        found : IsFound (miss format s (line_in line s b) b)
+        found m n is = elim (cases_eq m (line_in line s b)) [
+          | inl e ↦
+              let same : b ≡ n = taken n (ap (with_at (write_back_line format s (line_in line s b)).held (line_in line s b) (Some b)) (sym e) ∙ is) in
+              placing.found u.lines u.held u.dirty n m
+              (subst (may_hold u.lines n) (sym e) (subst (λ a. may_hold u.lines a (line_in line s b)) same (subst (λ i. may_hold i b (line_in line s b)) (sym (write_back_line-lines format s (line_in line s b))) (placing.allowed s.lines s.held s.dirty b))))
+              is (λ j there. only_taken n j same there (cases_eq j (line_in line s b)) ∙ sym e)
+          | inr ne ↦
+              let was = before m n ne is in
+              placing.found u.lines u.held u.dirty n m (may (write_back_line format s (line_in line s b)) k.in_its_line m n was) is (λ j there. only_other m n j was there (cases_eq j (line_in line s b)))
+        ]
+
+        stays : (n j : ℕ) → (write_back_line format s (line_in line s b)).dirty n ≡ true → (write_back_line format s (line_in line s b)).held j ≡ Some n → (j ≡ line_in line s b) ⊎ (j ≡ line_in line s b → ⊥)
+            → with_at (write_back_line format s (line_in line s b)).held (line_in line s b) (Some b) j ≡ Some n
+        stays n j dirty is (inl e) =
+            true_is_not_false ((write_back_line format s (line_in line s b)).dirty n) dirty (write_back_line-clean format s (line_in line s b) n (ap s.held (sym e) ∙ held_before j n is))
+        stays n j dirty is (inr ne) = with_at-other (write_back_line format s (line_in line s b)).held (line_in line s b) (Some b) j ne ∙ is
+
+    pub touch-consistent : (format : Format Code) (s : State Code) (b : ℕ) → owned b ≡ true → IsConsistent line owned format s → IsConsistent line owned format (touch_at line format s b)
+    touch-consistent format s b own h = touch_at_by line format s b (IsConsistent line owned format) (λ here. hit-consistent format s h) (λ away. miss-consistent format s b own away h)
+
+    -- the block is in its line then
+    pub touched_here : (format : Format Code) (s : State Code) (b : ℕ) → owned b ≡ true → IsConsistent line owned format s → (touch_at line format s b).held (line_in line (touch_at line format s b) b) ≡ Some b
+    touched_here format s b own h =
+        let there = touch_at-here line format s b in
+        ap (touch_at line format s b).held ((touch-consistent format s b own h).in_its_line (line_in line s b) b there) ∙ there
+
+    pub soiled-consistent : (format : Format Code) (s : State Code) (b : ℕ) → s.held (line_in line s b) ≡ Some b → IsConsistent line owned format s → IsConsistent line owned format (soiled s b)
+    unfolding soiled
+    soiled-consistent format s b here h = record {
+      some_line = h.some_line;
+      in_its_line = found;
+      held_is_owned = h.held_is_owned;
+      dirty_is_here = λ n. at_change (λ m d. d ≡ true → s.held (line_in line (soiled s b) m) ≡ Some m) s.dirty b true n (λ e. here_again s (soiled s b) refl found b here)
+          (λ ne dirty. here_again s (soiled s b) refl found n (h.dirty_is_here n dirty));
+      clean_is_coded = λ n own. at_change (λ m d. d ≡ false → s.values m ≡ meant format m (s.codes m)) s.dirty b true n (λ e. absurd (cc)) (λ ne. h.clean_is_coded n own);
+      whole = h.whole;
+    }
+      where
+        found : IsFound (soiled s b)
+        found = found_again s (soiled s b) refl refl h.in_its_line
+
+    pub touch_for_writing-consistent : (format : Format Code) (s : State Code) (b : ℕ) → owned b ≡ true → IsConsistent line owned format s → IsConsistent line owned format (soiled (touch_at line format s b) b)
+    touch_for_writing-consistent format s b own h =
+        soiled-consistent format (touch_at line format s b) b (touched_here format s b own h) (touch-consistent format s b own h)
+
+    pub with_values-consistent : (format : Format Code) (s : State Code) (b : ℕ) (values : List ℤ) → s.dirty b ≡ true → existing_of format b values ≡ values → IsConsistent line owned format s → IsConsistent line owned format (with_values s b values)
+    unfolding with_values
+    with_values-consistent format s b values dirty whole h = record {
+      some_line = h.some_line;
+      in_its_line = h.in_its_line;
+      held_is_owned = h.held_is_owned;
+      dirty_is_here = h.dirty_is_here;
+      clean_is_coded = λ n own. at_change (λ m vs. s.dirty m ≡ false → vs ≡ meant format m (s.codes m)) s.values b values n (λ clean. true_is_not_false (s.dirty b) dirty clean) (λ ne. h.clean_is_coded n own);
+      whole = λ n own. at_change (λ m vs. existing_of format m vs ≡ vs) s.values b values n whole (λ ne. h.whole n own);
+    }
+
+    -- ---- changes of a whole array
+
+    write_back_lines-consistent : (format : Format Code) (s : State Code) (n : ℕ) → IsConsistent line owned format s → IsConsistent line owned format (write_back_lines format s n)
+    unfolding write_back_lines
+    write_back_lines-consistent format s zero h = h
+    write_back_lines-consistent format s (suc n) h = write_back_line-consistent format (write_back_lines format s n) n (write_back_lines-consistent format s n h)
+
+    -- no block is dirty once all lines are written back
+    all_clean : (format : Format Code) (s : State Code) → IsConsistent line owned format s → (b : ℕ) → (write_back_lines format s s.lines).dirty b ≡ false
+    all_clean format s h b = by ((write_back_lines format s s.lines).dirty b) refl
+      where
+        by : (d : Bool) → (write_back_lines format s s.lines).dirty b ≡ d → (write_back_lines format s s.lines).dirty b ≡ false
+        by false e = e
+        by true e =
+            let t = write_back_lines format s s.lines in
+            let k = write_back_lines-consistent format s s.lines h in
+            let j = line_in line t b in
+            let below : j < s.lines = subst (λ n. j < n) (write_back_lines-lines format s s.lines) (placing.inside t.lines t.held t.dirty b (omega (arith, k.some_line))) in
+            write_back_lines-clean format s s.lines j b below (sym (ap (λ f. f j) (write_back_lines-held format s s.lines)) ∙ k.dirty_is_here b e)
+
+    -- what is in none of the first n lines is not made clean by writing these back
+    lines-other : (format : Format Code) (s : State Code) (n b : ℕ) → ((m : ℕ) → m < n → s.held m ≡ Some b → ⊥) → (write_back_lines format s n).dirty b ≡ s.dirty b
+    unfolding write_back_lines
+    lines-other format s zero b away = refl
+    lines-other format s (suc n) b away =
+        (write_back_line-other format (write_back_lines format s n) n b (λ e. away n (omega arith) (sym (ap (λ h. h n) (write_back_lines-held format s n)) ∙ e))).0
+        ∙ lines-other format s n b (λ m lt. away m (omega (arith, lt)))
+
+    lines-writes : (format : Format Code) (s : State Code) (n : ℕ) → IsConsistent line owned format s → s.counts.writes ≤ most_counted
+        → (write_back_lines format s n).counts.writes ≡ min (s.counts.writes + dirty_lines s n) most_counted
+    unfolding write_back_lines write_back dirty_lines
+    lines-writes format s zero h within = omega (arith, within)
+    lines-writes format s (suc n) h within = let before = lines-writes format s n h within in write_back_line_by format t n counted
+        (λ b here dirty. one_more s.counts.writes (dirty_lines s n) t.counts.writes most_counted before ∙ ap risen_by (sym (marked (Some b) (held_before (Some b) here) ∙ sym (dirty_before b here) ∙ dirty)))
+        (λ b here clean. before ∙ ap risen_by (sym (marked (Some b) (held_before (Some b) here) ∙ sym (dirty_before b here) ∙ clean)))
+        (λ nothing. before ∙ ap risen_by (sym (marked None (held_before None nothing))))
+      where
+        t : State Code
+        t = write_back_lines format s n
+
+        -- the writes once line n is written back, where it holds a dirty block or none
+        risen_by : Bool → ℕ
+        risen_by d = min (s.counts.writes + (elim d [ true ↦ dirty_lines s n + 1 | false ↦ dirty_lines s n ])) most_counted
+
+        counted : State Code → Type 0
+        counted v = v.counts.writes ≡ risen_by (holds_dirty s n)
+
+        held_before : (o : Option ℕ) → (write_back_lines format s n).held n ≡ o → s.held n ≡ o
+        held_before o e = sym (ap (λ f. f n) (write_back_lines-held format s n)) ∙ e
+
+        marked : (o : Option ℕ) → s.held n ≡ o → holds_dirty s n ≡ elim o [ None ↦ false | Some b ↦ s.dirty b ]
+        marked o e = ap (λ (p : Option ℕ). elim p [ None ↦ false | Some b ↦ s.dirty b ]) e
+
+        dirty_before : (b : ℕ) → (write_back_lines format s n).held n ≡ Some b → (write_back_lines format s n).dirty b ≡ s.dirty b
+        dirty_before b here = lines-other format s n b (λ m lt is. let same = once s h.in_its_line n m b (held_before (Some b) here) is in omega (arith, lt, same))
+
+    -- each dirty block is one write
+    pub flush-writes : (format : Format Code) (s : State Code) → IsConsistent line owned format s → s.counts.writes ≤ most_counted → (flush format s).counts.writes ≡ min (s.counts.writes + dirty_lines s s.lines) most_counted
+    unfolding flush emptied
+    flush-writes format s h within = lines-writes format s s.lines h within
+
+    -- nothing is dirty or in any line after a flush
+    pub flush-empty : (format : Format Code) (s : State Code) → IsConsistent line owned format s → IsEmpty (flush format s)
+    unfolding flush emptied
+    flush-empty format s h = record { none_dirty = all_clean format s h; none_held = λ m b e. absurd (cc) }
+
+    pub flush-consistent : (format : Format Code) (s : State Code) → IsConsistent line owned format s → IsConsistent line owned format (flush format s)
+    unfolding flush emptied
+    flush-consistent format s h =
+        let k = write_back_lines-consistent format s s.lines h in
+        record {
+          some_line = k.some_line;
+          in_its_line = λ m b e. absurd (cc);
+          held_is_owned = λ m b e. absurd (cc);
+          dirty_is_here = λ b dirty. true_is_not_false ((write_back_lines format s s.lines).dirty b) dirty (all_clean format s h b);
+          clean_is_coded = k.clean_is_coded;
+          whole = k.whole;
+        }
+
+    pub discard-values : (format : Format Code) (s : State Code) (b : ℕ) → owned b ≡ true → IsConsistent line owned format s → (discard format s).values b ≡ meant format b (s.codes b)
+    discard-values format s b own h = discard-values_by format s b (h.clean_is_coded b own)
+
+    pub discard-consistent : (format : Format Code) (s : State Code) → IsConsistent line owned format s → IsConsistent line owned format (discard format s)
+    unfolding discard
+    discard-consistent format s h = record {
+      some_line = h.some_line;
+      in_its_line = λ m b e. absurd (cc);
+      held_is_owned = λ m b e. absurd (cc);
+      dirty_is_here = λ b e. absurd (cc);
+      clean_is_coded = λ b own e. discard-values format s b own h;
+      whole = λ b own. subst (λ vs. existing_of format b vs ≡ vs) (sym (discard-values format s b own h)) (existing_of-meant format b (s.codes b));
+    }
+
+    pub relined-consistent : (format : Format Code) (s : State Code) (lines : ℕ) → 1 ≤ lines → IsConsistent line owned format s → IsConsistent line owned format (relined format s lines)
+    unfolding relined
+    relined-consistent format s lines some h =
+        let e = flush-empty format s h in
+        let k = flush-consistent format s h in
+        record {
+          some_line = some;
+          in_its_line = λ m b held. absurd (e.none_held m b held);
+          held_is_owned = λ m b held. absurd (e.none_held m b held);
+          dirty_is_here = λ b dirty. true_is_not_false ((flush format s).dirty b) dirty (e.none_dirty b);
+          clean_is_coded = k.clean_is_coded;
+          whole = k.whole;
+        }
+
+    -- a dirty block has the code of its values after a flush, and what this code means
+    pub flush-rounded : (format : Format Code) (s : State Code) (b : ℕ) → IsConsistent line owned format s → s.dirty b ≡ true → IsRounded format s (flush format s) b
+    flush-rounded format s b h dirty =
+        let e = flush-empty format s h in
+        let k = flush-dirty_codes format s b (e.none_dirty b) dirty in
+        record { clean = e.none_dirty b; values = k.1; code = k.0 }
+
+    pub flush-left : (format : Format Code) (s : State Code) (b : ℕ) → IsConsistent line owned format s → s.dirty b ≡ false → IsLeft s (flush format s) b
+    flush-left format s b h clean =
+        let k = flush-clean format s b clean in
+        record { dirty = (flush-empty format s h).none_dirty b ∙ sym clean; values = k.1; code = k.0 }
+
+  pub opened-consistent : (owned : ℕ → Bool) (format : Format Code) (codes : ℕ → Code) (lines : ℕ) → 1 ≤ lines → IsConsistent line owned format (opened format codes lines)
+  unfolding opened
+  opened-consistent owned format codes lines some = record {
+    some_line = some;
+    in_its_line = λ m b e. absurd (cc);
+    held_is_owned = λ m b e. absurd (cc);
+    dirty_is_here = λ b e. absurd (cc);
+    clean_is_coded = λ b own e. refl;
+    whole = λ b own. existing_of-meant format b (codes b);
+  }
+
+  -- where the code of zeros means zeros
+  pub resized-consistent : (owned : ℕ → Bool) (format new : Format Code) (code : Code) (s : State Code) → ((b : ℕ) → meant new b code ≡ zeros new) → IsConsistent line owned format s → IsConsistent line owned new (resized new code s)
+  unfolding resized
+  resized-consistent owned format new code s means h = record {
+    some_line = h.some_line;
+    in_its_line = λ m b e. absurd (cc);
+    held_is_owned = λ m b e. absurd (cc);
+    dirty_is_here = λ b e. absurd (cc);
+    clean_is_coded = λ b own e. sym (means b);
+    whole = λ b own. subst (λ vs. existing_of new b vs ≡ vs) (means b) (existing_of-meant new b code);
+  }
