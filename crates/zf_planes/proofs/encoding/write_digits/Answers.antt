@@ -5,7 +5,7 @@ use Rattle.zf_spec.proofs.HeldPlanes.{length-digits_held}
 use Rattle.zf_bits.proofs.Appending.{Appends-same}
 use Rattle.zf_planes.proofs.Budgets.{Remains-start, Remains-same, Remains-more, Remains-end}
 use Rattle.zf_planes.proofs.Digits.{field_in_word}
-use Rattle.zf_planes.proofs.encoding.write_part.Goals as goal
+use Rattle.zf_planes.proofs.encoding.write_digits.Goals as goal
 
 -- the next n digits, and those behind them
 split_next : (at n : ℕ) (ds : List Bool) → drop at ds ≡ take n (drop at ds) ++ drop (at + n) ds

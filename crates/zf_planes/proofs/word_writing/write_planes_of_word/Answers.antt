@@ -7,9 +7,9 @@ use Rattle.zf_spec.proofs.Fields.{length-field}
 use Rattle.zf_planes.proofs.Budgets.{Remains-same, Remains-fits, Remains-more, Remains-end}
 use Rattle.zf_planes.proofs.Unpacking.{length-top_held}
 use Rattle.zf_planes.proofs.PlainPlanes.{next_word}
-use Rattle.zf_planes.proofs.gathered.write_planes_of_word.Given.{Over}
-use Rattle.zf_planes.proofs.gathered.write_planes_of_word.Goals as goal
-use Rattle.zf_planes.proofs.gathered.write_planes_of_word.Goals.{then-loop-i-test+else-left-part, else-loop-i-test}
+use Rattle.zf_planes.proofs.word_writing.write_planes_of_word.Given.{Over}
+use Rattle.zf_planes.proofs.word_writing.write_planes_of_word.Goals as goal
+use Rattle.zf_planes.proofs.word_writing.write_planes_of_word.Goals.{then-loop-i-test+else-left-part, else-loop-i-test}
 
 pub write_part-left-requires-clause-fits : goal.write_part-left-requires-clause-fits
 write_part-left-requires-clause-fits g c = omega (arith, Remains-fits (field c.loop-i.part.len c.loop-i.part.bits) _ c.loop-i.invariant.remains, length-field c.loop-i.part.len c.loop-i.part.bits)

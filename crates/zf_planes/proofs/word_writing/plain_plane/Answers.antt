@@ -3,7 +3,7 @@ use Rattle.zf_spec.specs.Numbers.{field}
 use Rattle.zf_spec.proofs.Fields.{length-field}
 use Rattle.zf_spec.proofs.Reach.{reach-le}
 use Rattle.zf_planes.proofs.PlainPlanes.{none_new, whole_code, plain_code, plain_small, reach_below}
-use Rattle.zf_planes.proofs.gathered.plain_plane.Goals as goal
+use Rattle.zf_planes.proofs.word_writing.plain_plane.Goals as goal
 
 pub returns-then-n-size-clause-code : goal.returns-then-n-size-clause-code
 returns-then-n-size-clause-code c = whole_code c.args.n c.args.size c.args.digits c.if-n-size.true

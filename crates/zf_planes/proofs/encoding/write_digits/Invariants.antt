@@ -2,7 +2,7 @@
 use Rattle.std.proofs.Common.{◌-◌, ◌≤◌, drop}
 use Rattle.zf_spec.specs.HeldPlanes.{digits_held}
 use Rattle.zf_planes.proofs.Budgets.{Remains}
-use Rattle.zf_planes.proofs.encoding.write_part.Given as goal
+use Rattle.zf_planes.proofs.encoding.write_digits.Given as goal
 
 abbrev pub invariant-loop-at : goal.invariant-loop-at
 invariant-loop-at g l =
