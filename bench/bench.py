@@ -1,26 +1,27 @@
 #!/usr/bin/env python3
 """Times zfpi beside zfp, and shows how much memory zfpi holds and how its time grows.
 
-    python3 bench/bench.py [PROGRAM] [MEBIBYTES] [FIELD] [NUMBER] [ROUNDS]
+    python3 bench/bench.py [PROGRAM] [MEBIBYTES] [FIELDS] [NUMBER] [ROUNDS]
 
-PROGRAM is the built program, by default crates/zfpi/out/zfpi; MEBIBYTES the size of each array, by default 64; FIELD one of bench/fields.py, by default
-waves, made from NUMBER, by default 0; ROUNDS how often each row is run, by default 7: more on a machine that others share. Needs the programs zfp and time
+PROGRAM is the built program, by default crates/zfpi/out/zfpi; MEBIBYTES the size of each array, by default 64; FIELDS fields of bench/fields.py, joined by
+commas, by default waves,sparse,constant,noise, made from NUMBER, by default 0; ROUNDS how often each row is run, by default 7: more on a machine that others share. Needs the programs zfp and time
 (Debian's packages of these names) and numpy, and 50 times MEBIBYTES of memory.
 
-The arrays are nearly cubes, of one to four dimensions, of int32 and int64, each in three modes; every side is a multiple of four. All are made before
+One field is measured after the other. The arrays are nearly cubes, of one to four dimensions, of int32 and int64, each in three modes; every side is a multiple of four. All are made before
 anything is timed, and lie in memory (/dev/shm, where there is such a folder), so that no disk has a part in the times. A round goes over all rows, an array
 in one mode, and runs ours and zfp's by turns; of each the least of all rounds counts. So what slows the machine for some seconds meets one round
 of a row, and a change of its clock both programs.
 
 Of each row the table has bits a value of our stream, and of compress and of restore: nanoseconds a value of processor time (user and system), how many
 times as fast ours is as zfp's, by processor time and by the clock on the wall, the most memory that ours held, and its time a value at a quarter of the size and at
-four times it, as parts of that at once the size. Plain numbers: nothing is claimed of them.
+four times it, as parts of that at once the size. Below it stand the least and the median of the rows. Plain numbers: nothing is claimed of them.
 """
 
 import filecmp
 import math
 import os
 import pathlib
+import statistics
 import subprocess
 import sys
 import tempfile
@@ -147,15 +148,12 @@ def print_table(rows):
         print(row.text())
     for way in WAYS:
         least = min(rows, key=lambda row: row.times(way))
-        print(f"least of {way}: {least.times(way):.3f} times zfp, {' '.join(least.names())}")
+        median = statistics.median(row.times(way) for row in rows)
+        print(f"{way}: least {least.times(way):.3f} times zfp, {' '.join(least.names())}; median {median:.3f}")
 
 
-def main():
-    program = sys.argv[1] if len(sys.argv) > 1 else "crates/zfpi/out/zfpi"
-    mebibytes = int(sys.argv[2]) if len(sys.argv) > 2 else 64
-    field = sys.argv[3] if len(sys.argv) > 3 else "waves"
-    number = sys.argv[4] if len(sys.argv) > 4 else "0"
-    rounds = int(sys.argv[5]) if len(sys.argv) > 5 else 7
+def measure_field(program, mebibytes, field, number, rounds):
+    """The table of one field. Its arrays are gone before those of the next are made."""
     with tempfile.TemporaryDirectory(dir=MEMORY if MEMORY.is_dir() else None) as name:
         folder = pathlib.Path(name)
         rows = []
@@ -164,10 +162,22 @@ def main():
                 arrays = {size: array_made(folder, width, dims, size * mebibytes, field, number) for size in SIZES}
                 rows += [Row(arrays, bits) for bits in (8, 16, None)]
         for round_number in range(1, rounds + 1):
-            print(f"round {round_number} of {rounds}", file=sys.stderr, flush=True)
+            print(f"{field}: round {round_number} of {rounds}", file=sys.stderr, flush=True)
             for row in rows:
                 row.measure(program, folder)
+        print(f"{field}:\n")
         print_table(rows)
+        print()
+
+
+def main():
+    program = sys.argv[1] if len(sys.argv) > 1 else "crates/zfpi/out/zfpi"
+    mebibytes = int(sys.argv[2]) if len(sys.argv) > 2 else 64
+    fields = sys.argv[3] if len(sys.argv) > 3 else "waves,sparse,constant,noise"
+    number = sys.argv[4] if len(sys.argv) > 4 else "0"
+    rounds = int(sys.argv[5]) if len(sys.argv) > 5 else 7
+    for field in fields.split(","):
+        measure_field(program, mebibytes, field, number, rounds)
 
 
 if __name__ == "__main__":

@@ -3,11 +3,12 @@
 
     python3 bench/fields.py FIELD WIDTH SHAPE NUMBER FILE
 
-FIELD is waves or sample, WIDTH 32 or 64, SHAPE one to four sizes joined by x, x first, NUMBER below 2^64. Needs numpy.
+FIELD is waves, sparse, constant, noise or sample, WIDTH 32 or 64, SHAPE one to four sizes joined by x, x first, NUMBER below 2^64. Needs numpy.
 
 waves looks like what a simulation puts out: along each axis two waves of parabolas, a long high one and a short low one, which begin where the
 number says, and some noise; all by whole-number arithmetic. sample is what `zfpi sample` makes of the number (docs/FORMAT.md): no two values have to
-do with one another.
+do with one another. sparse is zero but for one value in 256, of those of sample. constant is one value everywhere. noise fills the type up to a quarter of
+its range, no two values of which have to do with one another.
 """
 
 import math
@@ -43,6 +44,22 @@ def sample(width, sizes, number):
     return word.astype(numpy.int64) >> 32
 
 
+def sparse(width, sizes, number):
+    marks = words_of(number + 1, math.prod(sizes))
+    return numpy.where(marks % 256 == 0, sample(width, sizes, number), 0)
+
+
+def constant(width, sizes, number):
+    return numpy.full(math.prod(sizes), sample(width, [1], number)[0])
+
+
+def noise(width, sizes, number):
+    word = words_of(number, math.prod(sizes))
+    if width == 32:
+        return word.astype(numpy.uint32).astype(numpy.int32) >> 2
+    return word.astype(numpy.int64) >> 2
+
+
 def wave(size, length, height, start):
     """Parabolas of this length and height, above and below zero by turns."""
     at = numpy.arange(size, dtype=numpy.int64) + start
@@ -70,10 +87,12 @@ def waves(width, sizes, number):
     return total
 
 
+FIELDS = {"waves": waves, "sparse": sparse, "constant": constant, "noise": noise, "sample": sample}
+
+
 def main():
     name, width, shape, number, path = sys.argv[1:]
-    make = {"waves": waves, "sample": sample}[name]
-    values = make(int(width), [int(size) for size in shape.split("x")], int(number))
+    values = FIELDS[name](int(width), [int(size) for size in shape.split("x")], int(number))
     values.astype("<i%d" % (int(width) // 8)).tofile(path)
 
 

@@ -5,7 +5,9 @@
 #![tactic(auto)]
 
 mod axes;
+mod filling;
 mod line;
 
 pub use axes::{pass, passes, passes_back};
+pub use filling::fill;
 pub use line::LineMap;

@@ -1,15 +1,17 @@
 -- Digits of coefficients, and the planes that they have.
-use Rattle.std.proofs.Common.{◌≡◌, sym, ap, ◌∙◌, ℕ, ◌<◌, ◌≤◌, ◌^◌, ◌+◌, ◌*◌, ℤ, List, [], map, length, take, get_or, All, ext_get_or, arith}
+use Rattle.std.proofs.Common.{◌≡◌, refl, sym, ap, ◌∙◌, ℕ, ◌<◌, ◌≤◌, ◌^◌, ◌+◌, ◌*◌, ℤ, Bool, List, [], ◌∷◌, map, length, take, get_or, All, ext_get_or, arith}
 use Rattle.std.proofs.lemmas.List.{length-map, get_or-map, length-take-le}
 use Rattle.std.proofs.lemmas.List.Elements.{All-take}
 use Rattle.std.specs.Int.{Width}
 use mir.Val.{bits}
-use Rattle.zf_spec.specs.Numbers.{field}
+use Rattle.zf_spec.specs.Numbers.{field, digits, value_of}
 use Rattle.zf_spec.specs.Grid.{upto}
 use Rattle.zf_spec.specs.Planes.{planes_of, digits_in_planes, code}
 use Rattle.zf_spec.specs.Codes.{planes, coefficients_of}
 use Rattle.zf_spec.proofs.Counting.{length-map-upto, get_or-map-upto}
 use Rattle.zf_spec.proofs.Fields.{length-field}
+use Rattle.zf_spec.proofs.Negabinary.{digits-value_of}
+use Rattle.zf_spec.proofs.Ranking.{by_rank-by_place}
 use Rattle.zf_spec.proofs.PlaneCode.{length-code-le}
 use Rattle.zf_spec.proofs.PlaneDigits.{digits_at, digits_at-planes_of, length-planes_of, planes_of-length}
 use Rattle.zf_coef.specs.HeldDigits.{digits_in, ranked_digits, unranked_values}
@@ -18,6 +20,19 @@ use Rattle.zf_coef.specs.HeldDigits.{digits_in, ranked_digits, unranked_values}
 pub planes_of-ranked : (w : Width) (d n : ℕ) (coefficients : List ℤ) (words : List ℕ) → n ≡ bits w → digits_in (bits w) words ≡ ranked_digits w d coefficients
     → planes_of n (digits_in n words) ≡ planes w d coefficients
 planes_of-ranked w d n coefficients words width by_rank = ap (λ k. planes_of k (digits_in k words)) width ∙ ap (planes_of (bits w)) by_rank
+
+-- digits by rank are those of the coefficients that they stand for
+pub ranked-unranked : (w : Width) (d : ℕ) (words : List ℕ) → length words ≡ 4 ^ d → ranked_digits w d (unranked_values w d (digits_in (bits w) words)) ≡ digits_in (bits w) words
+ranked-unranked w d words size =
+    let values = map (value_of w) (digits_in (bits w) words) in
+    let long : length values ≡ 4 ^ d = length-map (digits_in (bits w) words) (value_of w) ∙ length-map words (field (bits w)) ∙ size in
+    ap (map (digits (bits w))) (by_rank-by_place d values long) ∙ back words
+  where
+    back : (words : List ℕ) → map (digits (bits w)) (map (value_of w) (digits_in (bits w) words)) ≡ digits_in (bits w) words
+    back [] = refl
+    back (u ∷ words) =
+        ap (λ (ds : List Bool). ds ∷ map (digits (bits w)) (map (value_of w) (digits_in (bits w) words))) (digits-value_of w (field (bits w) u) (length-field (bits w) u))
+        ∙ ap (λ (dss : List (List Bool)). field (bits w) u ∷ dss) (back words)
 
 -- the planes of digits have these digits
 pub digits_in_planes-planes_of : (w : ℕ) (words : List ℕ) → digits_in_planes w (length words) (planes_of w (digits_in w words)) ≡ digits_in w words

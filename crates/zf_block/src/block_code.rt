@@ -1,6 +1,6 @@
 //! What the codes of a block differ in: the transform of its values, and how the planes of the coefficients are written and read.
 
-ghost use Rattle.std.specs.Prelude.{◌≡◌, ◌≤◌, ◌<◌, ◌*◌, ◌^◌, ℕ, ℤ, Bool, List, map, length, take, replicate, OnSome, IfNone};
+ghost use Rattle.std.specs.Prelude.{◌≡◌, ◌≤◌, ◌<◌, ◌-◌, ◌*◌, ◌^◌, ℕ, ℤ, pos, ◌∷◌, Bool, IsTrue, List, map, length, take, replicate, OnSome, IfNone};
 ghost use Rattle.zf_spec.specs.Grid.{IsDimension, IsBlockSize};
 ghost use Rattle.zf_spec.specs.HeldPlanes.{planes_held};
 ghost use Rattle.zf_spec.specs.Planes.{planes_of};
@@ -41,6 +41,16 @@ pub(crate) trait BlockCode<T: Lane> {
         requires dimension { IsDimension d }
         requires size { length block.old ≡ 4 ^ d }
         ensures { map T.value block.new ≡ back d (map T.value block.old) };
+
+    /// Whether the coefficients of a block of this value everywhere are the value and then zeros.
+    fn keeps_first(value: T) -> bool
+        ensures { IsTrue result → (d : ℕ) → IsDimension d → forth d (replicate (4 ^ d) (T.value value)) ≡ T.value value ∷ replicate (4 ^ d - 1) (pos 0) };
+
+    /// The inverse of coefficients of which all but the first are zero.
+    fn inverse_of_first(d: u8, first: T, block: &mut [T])
+        requires dimension { IsDimension d }
+        requires size { length block.old ≡ 4 ^ d }
+        ensures { map T.value block.new ≡ back d (T.value first ∷ replicate (4 ^ d - 1) (pos 0)) };
 
     /// Appends the code of planes, which have these digits, in room that is there already.
     fn write<P: Plane>(&self, size: usize, digits: &[u64], planes: &[P], out: &mut BitWriter)

@@ -6,13 +6,18 @@ ghost use Rattle.zf_spec.specs.Codes as codes;
 ghost use Rattle.zf_spec.specs.Codes.{coefficients_of};
 ghost use Rattle.zf_spec.specs.Padding.{pad};
 ghost use Rattle.zf_spec.specs.HeldPlanes.{planes_held};
+ghost use Rattle.zf_spec.specs.Planes.{planes_of};
+ghost use Rattle.zf_coef.specs.HeldDigits.{digits_in};
 ghost use Rattle.zf_base.specs.Positions.{used_axes, IsExtent};
 ghost use Rattle.zf_bits.specs.Writer.{Appends};
 ghost use Rattle.zf_bits.specs.Reader.{rest, Reads};
 
 use crate::Scratch;
 use crate::block_code::BlockCode;
-use crate::coefficients::{copy_padded, from_digits, from_planes, to_digits, to_planes};
+use crate::coefficients::{
+    copy_padded, first_alone, from_digits, from_planes, is_all, to_digits, to_planes,
+    to_planes_of_first,
+};
 use zf_base::{Extent, Lane};
 use zf_bits::{BitReader, BitWriter, Plane};
 
@@ -145,9 +150,34 @@ fn write_block<C: BlockCode<T>, T: Lane, P: Plane>(
         (C.code_of code.now (codes.planes T.width d (C.forth d (pad (used_axes d e.now.size) (map T.value block.now))))) }
 {
     copy_padded(d, e, block, values);
+    make_planes::<C, T, P>(d, values, digits, planes);
+    code.write(block.len(), digits, planes, out);
+}
+
+/// Makes the planes of the coefficients of a block, which is padded, by way of their digits. The block becomes anything.
+#[inline(always)]
+fn make_planes<C: BlockCode<T>, T: Lane, P: Plane>(
+    d: u8,
+    values: &mut [T],
+    digits: &mut [u64],
+    planes: &mut [P],
+)
+    requires dimension { IsDimension d }
+    requires words { 4 ^ d ≤ 64 * P.word_count }
+    requires values { length values.old ≡ 4 ^ d }
+    requires digits { length digits.old ≡ 4 ^ d }
+    requires planes { length planes.old ≡ T.WIDTH }
+    ensures planes { planes_held (4 ^ d) (map P.words planes.new) ≡ codes.planes T.width d (C.forth d (map T.value values.old)) }
+    ensures digits { planes_held (4 ^ d) (map P.words planes.new) ≡ planes_of T.WIDTH (digits_in T.WIDTH digits.new) }
+{
+    let first = values[0];
+    // A block of one value, as where a field is empty, needs no transform.
+    if is_all(first, values) && C::keeps_first(first) {
+        to_planes_of_first(d, first, digits, planes);
+        return;
+    }
     C::forward(d, values);
     to_planes(d, values, digits, planes);
-    code.write(block.len(), digits, planes, out);
 }
 
 /// Reads the code of a block, or answers `None` where the bits end before it does.
@@ -279,6 +309,11 @@ fn read_block<C: BlockCode<T>, T: Lane, P: Plane, const N: usize>(
         ≡ C.back d (coefficients_of T.width d (C.planes_at code.now (4 ^ d) (rest reader.old)))) }
 {
     code.read(N, reader, planes)?;
+    // A block of one value, as where a field is empty, needs no transform.
+    if let Some(first) = first_alone(d, planes) {
+        C::inverse_of_first(d, first, block);
+        return Some(());
+    }
     // They stand here, behind the reading, so that no block clears those of another size.
     let mut digits = [0; N];
     from_planes(d, planes, &mut digits, block);

@@ -1,6 +1,6 @@
 //! The padded values of a block, and the digits and bit planes of its coefficients.
 
-ghost use Rattle.std.specs.Prelude.{◌≡◌, ◌≤◌, ◌*◌, ◌^◌, map, length};
+ghost use Rattle.std.specs.Prelude.{◌≡◌, ◌≤◌, ◌-◌, ◌*◌, ◌^◌, pos, ◌∷◌, IsTrue, IfSome, map, length, replicate};
 ghost use Rattle.zf_spec.specs.Grid.{IsDimension};
 ghost use Rattle.zf_spec.specs.Codes as codes;
 ghost use Rattle.zf_spec.specs.Codes.{coefficients_of};
@@ -10,7 +10,7 @@ ghost use Rattle.zf_spec.specs.Planes.{planes_of};
 ghost use Rattle.zf_coef.specs.HeldDigits.{digits_in};
 ghost use Rattle.zf_base.specs.Positions.{used_axes, IsExtent};
 
-use zf_base::{Extent, Lane};
+use zf_base::{Extent, Lane, block_len};
 use zf_bits::Plane;
 
 /// Copies a block, padded.
@@ -46,6 +46,37 @@ pub(crate) fn to_planes<T: Lane, P: Plane>(
 {
     zf_coef::ranked(d, coefficients, digits);
     zf_coef::planes_of_digits(digits, planes);
+}
+
+/// Whether all values are this one.
+#[inline(always)]
+pub(crate) fn is_all<T: Lane>(value: T, values: &[T]) -> bool
+    ensures { IsTrue result → map T.value values.now ≡ replicate (length values.now) (T.value value) }
+{
+    for other in values {
+        if *other != value {
+            return false;
+        }
+    }
+    true
+}
+
+/// Makes the planes of coefficients of which all but the first are zero.
+#[inline(always)]
+pub(crate) fn to_planes_of_first<T: Lane, P: Plane>(
+    d: u8,
+    first: T,
+    digits: &mut [u64],
+    planes: &mut [P],
+)
+    requires dimension { IsDimension d }
+    requires words { 4 ^ d ≤ 64 * P.word_count }
+    requires digits { length digits.old ≡ 4 ^ d }
+    requires planes { length planes.old ≡ T.WIDTH }
+    ensures planes { planes_held (4 ^ d) (map P.words planes.new) ≡ codes.planes T.width d (T.value first ∷ replicate (4 ^ d - 1) (pos 0)) }
+    ensures digits { planes_held (4 ^ d) (map P.words planes.new) ≡ planes_of T.WIDTH (digits_in T.WIDTH digits.new) }
+{
+    zf_coef::planes_of_first(zf_coef::to_digits(first), digits, planes);
 }
 
 /// Makes the digits of coefficients, which are their planes too.
@@ -87,4 +118,16 @@ pub(crate) fn from_planes<T: Lane, P: Plane>(
 {
     zf_coef::digits_of_planes(planes, digits);
     zf_coef::unranked(d, digits, coefficients);
+}
+
+/// The first of the coefficients of which these are the planes, where no other has a one.
+#[inline(always)]
+pub(crate) fn first_alone<T: Lane, P: Plane>(d: u8, planes: &[P]) -> Option<T>
+    requires dimension { IsDimension d }
+    requires words { 4 ^ d ≤ 64 * P.word_count }
+    requires planes { length planes.now ≡ T.WIDTH }
+    ensures { IfSome result (λ first. coefficients_of T.width d (planes_held (4 ^ d) (map P.words planes.now)) ≡ T.value first ∷ replicate (4 ^ d - 1) (pos 0)) }
+{
+    let digits = zf_coef::first_digits(planes, block_len(d))?;
+    Some(zf_coef::from_digits(digits))
 }

@@ -93,6 +93,14 @@ impl<T: Lane> BlockCode<T> for Precision {
         zf_lift::inverse(d, block);
     }
 
+    fn keeps_first(value: T) -> bool {
+        zf_lift::keeps_first(value)
+    }
+
+    fn inverse_of_first(d: u8, first: T, block: &mut [T]) {
+        zf_lift::inverse_of_first(d, first, block);
+    }
+
     fn write<P: Plane>(&self, size: usize, digits: &[u64], planes: &[P], out: &mut BitWriter) {
         let width = T::WIDTH;
         let prec = self.prec.min(width);

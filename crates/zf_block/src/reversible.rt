@@ -88,6 +88,14 @@ impl<T: Lane> BlockCode<T> for Reversible {
         zf_lorenzo::inverse(d, block);
     }
 
+    fn keeps_first(value: T) -> bool {
+        zf_lorenzo::keeps_first(value)
+    }
+
+    fn inverse_of_first(d: u8, first: T, block: &mut [T]) {
+        zf_lorenzo::inverse_of_first(d, first, block);
+    }
+
     fn write<P: Plane>(&self, size: usize, digits: &[u64], planes: &[P], out: &mut BitWriter) {
         let prec = write_count::<T>(digits, out);
         let zeros = zeros_above(prec, T::WIDTH, digits);

@@ -8,16 +8,14 @@ use std::process::Abort;
 use std::test::Fail;
 use zf_bits::{BitReader, BitWriter};
 use zf_planes::{
-    code_len, decode, encode, planes_len, planes_used, planes_within, read_planes, used_planes,
-    write_planes,
+    code_len, decode, encode, planes_len, planes_within, read_planes, write_planes_below,
 };
 
-// Three planes of a size, each one by plane and rank; how many planes are used; where the ones of their code
-// are, of so many bits; and the ones that each budget keeps.
+// Three planes of a size, each one by plane and rank; where the ones of their code are, of so many bits; and
+// the ones that each budget keeps.
 struct Case {
     size: usize,
     ones: &'static [(usize, usize)],
-    used: u32,
     code_len: u64,
     code: &'static [u64],
     kept: &'static [(u64, &'static [(usize, usize)])],
@@ -26,7 +24,6 @@ struct Case {
 const SIZE_4: Case = Case {
     size: 4,
     ones: &[(2, 2), (1, 0), (0, 1), (0, 3)],
-    used: 3,
     code_len: 13,
     code: &[0, 3, 5, 10, 12],
     kept: &[
@@ -50,7 +47,6 @@ const SIZE_4: Case = Case {
 const SIZE_16: Case = Case {
     size: 16,
     ones: &[(2, 9), (1, 0), (1, 15), (0, 1), (0, 2), (0, 10)],
-    used: 3,
     code_len: 44,
     code: &[0, 10, 12, 22, 29, 30, 38],
     kept: &[
@@ -69,7 +65,6 @@ const SIZE_16: Case = Case {
 const SIZE_64: Case = Case {
     size: 64,
     ones: &[(1, 40), (0, 0), (0, 1), (0, 2)],
-    used: 3,
     code_len: 86,
     code: &[1, 42, 44, 45, 46],
     kept: &[
@@ -88,7 +83,6 @@ const SIZE_64: Case = Case {
 const SIZE_256: Case = Case {
     size: 256,
     ones: &[(2, 130), (0, 0), (0, 200)],
-    used: 3,
     code_len: 468,
     code: &[0, 131, 265, 396, 466],
     kept: &[
@@ -150,9 +144,7 @@ fn is_kept(rt: &impl Abort, alloc: Global, case: &Case) -> Result<(), Fail>
 {
     let size = case.size;
     let planes = planes_with(rt, case.ones);
-    assert!(rt;
-        used_planes(size, &planes) == case.used && code_len(3, size, &planes) == case.code_len
-    );
+    assert!(rt; code_len(3, size, &planes) == case.code_len);
     for (budget, ones) in case.kept {
         let mut writer = BitWriter::new(alloc);
         writer.reserve(1024)?;
@@ -221,13 +213,11 @@ fn one_word_a_plane_does_the_same(rt: HostRuntime) -> Result<(), Fail> {
         assert!(rt; 0 < size && size <= 64);
         let planes = planes_with(&rt, case.ones);
         let words = [planes[0][0], planes[1][0], planes[2][0]];
-        assert!(rt;
-            planes_used(size, &words) == case.used && planes_len(3, size, &words) == case.code_len
-        );
+        assert!(rt; planes_len(3, size, &words) == case.code_len);
         for (budget, ones) in case.kept {
             let mut writer = BitWriter::new(rt.alloc());
             writer.reserve(256)?;
-            let count = write_planes(*budget, 3, size, &words, &mut writer);
+            let count = write_planes_below(0, *budget, 3, size, &words, &mut writer);
             assert!(rt; count == case.code_len.min(*budget) && writer.len() == count);
             has_ones(&rt, &writer, case.code);
             gives_back_words(&rt, *budget, size, &writer, &planes_with(&rt, ones));
@@ -281,7 +271,7 @@ fn several_planes_have_one_code(rt: HostRuntime) -> Result<(), Fail> {
         for (budget, kept) in case.kept {
             let mut writer = BitWriter::new(rt.alloc());
             writer.reserve(256)?;
-            let count = write_planes(budget, 8, case.size, &case.planes, &mut writer);
+            let count = write_planes_below(0, budget, 8, case.size, &case.planes, &mut writer);
             assert!(rt; count == case.len.min(budget) && 0 < count && count <= 64);
             let code = case.code & u64::MAX >> (64 - count);
             assert!(rt; writer.words() == [code].as_slice());

@@ -7,7 +7,7 @@ use std::alloc::Global;
 use std::process::Abort;
 use std::test::Fail;
 use zf_bits::{BitReader, BitWriter};
-use zf_planes::{read_four, read_planes, write_four, write_planes};
+use zf_planes::{read_four, read_planes, write_four, write_planes_below};
 
 // The digits of four coefficients, of `width` planes, and the code of the top `prec` planes.
 struct Case {
@@ -114,7 +114,7 @@ fn written_as_planes(
     let used = &planes[..case.width as usize];
     let mut writer = BitWriter::new(alloc);
     writer.reserve(512)?;
-    let count = write_planes(budget, case.prec, 4, used, &mut writer);
+    let count = write_planes_below(0, budget, case.prec, 4, used, &mut writer);
     assert!(rt; count == writer.len());
     Ok(writer)
 }

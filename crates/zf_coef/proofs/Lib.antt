@@ -11,6 +11,7 @@
 --     ByRank       the digits of a block by rank, and blocks that are filled by rank
 --     Transposed   planes that are made of coefficients, and coefficients that are made of planes
 --     AnyDigits    the digits that any coefficient has, and the planes that are needed
+--     FirstAlone   planes in which no coefficient but the first has a one, and their coefficients
 --     Composed     what the calls of this crate make of a block together
 pub mod Mask
 pub mod ShiftedBits
@@ -24,4 +25,5 @@ pub mod Filling
 pub mod ByRank
 pub mod Transposed
 pub mod AnyDigits
+pub mod FirstAlone
 pub mod Composed

@@ -10,7 +10,7 @@ ghost use Rattle.zf_coef.specs.Turned.{bit_of};
 ghost use Rattle.std.specs.Int.{bit_at};
 
 use crate::planes::{WORD_BITS, have_four_words};
-use crate::turning::{turn_4, turn_16, turn_32};
+use crate::turning::{turn_16, turn_32};
 use zf_bits::Plane;
 
 /// The way back: writes the digits of as many coefficients as `digits` has words, at most 256, of at most 64
@@ -63,7 +63,6 @@ fn take_group<P: Plane>(planes: &[P], number: usize, digits: &mut [u64])
     ensures { IsOfGroup number (map P.words planes.now) digits.new }
 {
     match digits.len() {
-        4 => take_4(planes, number, digits),
         16 => take_16(planes, number, digits),
         64 => take_64(planes, number, digits),
         _ => {
@@ -82,19 +81,6 @@ fn copy_prefix(words: &[u64], digits: &mut [u64])
     for r in 0..digits.len() {
         digits[r] = words[r];
     }
-}
-
-/// The same of four digits.
-#[inline(never)]
-fn take_4<P: Plane>(planes: &[P], number: usize, digits: &mut [u64])
-    requires number { number < P.word_count }
-    requires planes { length planes.now ≤ 64 }
-    requires digits { length digits.old ≡ 4 }
-    ensures { IsOfGroup number (map P.words planes.now) digits.new }
-{
-    let mut words = tiles::<P, 4>(planes, number);
-    turn_4(&mut words);
-    digits.copy_from_slice(&words);
 }
 
 /// The same of sixteen digits. Where this is compiled into its caller, their words stay in registers.

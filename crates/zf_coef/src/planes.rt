@@ -8,7 +8,7 @@ ghost use Rattle.zf_coef.specs.HeldDigits.{digits_in};
 ghost use Rattle.zf_coef.specs.Groups.{word_of, HoldsGroup, HoldsHalf, KeepsOthers, HoldsFrom, HoldsTiles};
 ghost use Rattle.zf_coef.specs.Turned.{bit_of};
 
-use crate::turning::{turn_4, turn_16, turn_32};
+use crate::turning::{turn_16, turn_32};
 use zf_bits::Plane;
 
 /// How many ranks a word of a plane has.
@@ -65,7 +65,6 @@ fn put_group<P: Plane>(digits: &[u64], number: usize, planes: &mut [P])
 {
     match digits.len() {
         0 => put_none(number, planes),
-        4 => put_4(digits, number, planes),
         16 => put_16(digits, number, planes),
         64 => put_64(digits, number, planes),
         _ => put_64(&padded(digits), number, planes),
@@ -92,21 +91,6 @@ fn padded(digits: &[u64]) -> [u64; WORD_BITS]
         whole[r] = digits[r];
     }
     whole
-}
-
-/// The same of four digits.
-#[inline(never)]
-fn put_4<P: Plane>(digits: &[u64], number: usize, planes: &mut [P])
-    requires number { number < P.word_count }
-    requires digits { length digits.now ≡ 4 }
-    requires planes { length planes.old ≤ 64 }
-    ensures bits { HoldsGroup number digits.now (map P.words planes.new) }
-    ensures others { KeepsOthers number (map P.words planes.old) (map P.words planes.new) }
-{
-    let mut words = [0; 4];
-    words.copy_from_slice(digits);
-    turn_4(&mut words);
-    put_tiles(words, number, planes);
 }
 
 /// The same of sixteen digits.

@@ -68,15 +68,6 @@ fn step<const N: usize, const S: usize>(words: &mut [u64; N], mask: u64)
     }
 }
 
-/// Turns the tiles of four rows.
-#[inline(always)]
-pub(crate) fn turn_4(words: &mut [u64; 4])
-    ensures { IsTurned 4 words.old words.new }
-{
-    step::<4, 2>(words, 0x3333_3333_3333_3333);
-    step_next(words, 0x5555_5555_5555_5555);
-}
-
 /// Turns the tiles of sixteen rows.
 #[inline(always)]
 pub(crate) fn turn_16(words: &mut [u64; 16])

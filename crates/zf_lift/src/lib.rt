@@ -4,4 +4,4 @@
 mod line;
 mod transform;
 
-pub use transform::{forward, inverse};
+pub use transform::{forward, inverse, inverse_of_first, keeps_first};

@@ -1,11 +1,11 @@
 //! The transform of a block: a pass along each axis.
 
-ghost use Rattle.std.specs.Prelude.{◌≡◌, ◌≤◌, ◌^◌, map, length};
+ghost use Rattle.std.specs.Prelude.{◌≡◌, ℕ, ◌-◌, ◌≤◌, ◌^◌, IsTrue, pos, ◌∷◌, map, length, replicate};
 ghost use Rattle.zf_spec.specs.Grid.{IsDimension};
 ghost use Rattle.zf_spec.specs.Lift.{lift, unlift};
 
 use crate::line::{Lift, Unlift};
-use zf_axes::{passes, passes_back};
+use zf_axes::{fill, passes, passes_back};
 use zf_base::Lane;
 
 /// Makes the coefficients of a block: halved sums and differences along x, then along y, z and w.
@@ -30,4 +30,22 @@ pub fn inverse<T: Lane>(d: u8, block: &mut [T])
     ensures { map T.value block.new ≡ unlift T.width d (map T.value block.old) }
 {
     passes_back(&Unlift, d, block);
+}
+
+/// Whether the coefficients of a block of this value everywhere are the value and then zeros: where twice the value is no overflow.
+#[inline(always)]
+pub fn keeps_first<T: Lane>(value: T) -> bool
+    ensures { IsTrue result → (d : ℕ) → lift T.width d (replicate (4 ^ d) (T.value value)) ≡ T.value value ∷ replicate (4 ^ d - 1) (pos 0) }
+{
+    value.add(value).halve() == value
+}
+
+/// The inverse of coefficients of which all but the first are zero: each value is the first coefficient.
+#[inline(always)]
+pub fn inverse_of_first<T: Lane>(d: u8, first: T, block: &mut [T])
+    requires dimension { IsDimension d }
+    requires size { length block.old ≡ 4 ^ d }
+    ensures { map T.value block.new ≡ unlift T.width d (T.value first ∷ replicate (4 ^ d - 1) (pos 0)) }
+{
+    fill(first, block);
 }

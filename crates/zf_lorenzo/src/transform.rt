@@ -1,12 +1,12 @@
 //! The transform of a block: a pass along each axis.
 
-ghost use Rattle.std.specs.Prelude.{◌≡◌, ◌≤◌, ◌^◌, map, length};
+ghost use Rattle.std.specs.Prelude.{◌≡◌, ℕ, ◌-◌, ◌≤◌, ◌^◌, IsTrue, pos, ◌∷◌, map, length, replicate};
 ghost use Rattle.zf_spec.specs.Grid.{IsDimension};
 ghost use Rattle.zf_spec.specs.Numbers.{AreValues};
 ghost use Rattle.zf_spec.specs.Lorenzo.{lorenzo, unlorenzo};
 
 use crate::line::{Differences, Sums};
-use zf_axes::passes;
+use zf_axes::{fill, passes};
 use zf_base::Lane;
 
 /// Makes the coefficients of a block: the block becomes its signed binomial sums, wrapped.
@@ -33,4 +33,24 @@ pub fn inverse<T: Lane>(d: u8, block: &mut [T])
 {
     // Passes of binomial sums may come in any order of axes, so this way too begins with x.
     passes(&Sums, d, block);
+}
+
+/// Whether the coefficients of a block of this value everywhere are the value and then zeros. They always are.
+#[inline(always)]
+pub fn keeps_first<T: Lane>(value: T) -> bool
+    ensures { IsTrue result → (d : ℕ) → IsDimension d → lorenzo T.width d (replicate (4 ^ d) (T.value value)) ≡ T.value value ∷ replicate (4 ^ d - 1) (pos 0) }
+{
+    // Known by this call: the number is one of the type's.
+    let _word = value.to_word();
+    true
+}
+
+/// The inverse of coefficients of which all but the first are zero: each value is the first coefficient.
+#[inline(always)]
+pub fn inverse_of_first<T: Lane>(d: u8, first: T, block: &mut [T])
+    requires dimension { IsDimension d }
+    requires size { length block.old ≡ 4 ^ d }
+    ensures { map T.value block.new ≡ unlorenzo T.width d (T.value first ∷ replicate (4 ^ d - 1) (pos 0)) }
+{
+    fill(first, block);
 }

@@ -70,6 +70,27 @@ pub row_index : (layout : Layout) (e : Extent) (r k : ℕ) → k < 4 → layout.
 row_index layout e r k small one =
     index_by_row layout e r k small ∙ beside layout e r k one ∙ ap (λ i. i + k) (sym (index_by_row layout e r 0 (omega arith)) ∙ ap (index_at layout e) (omega arith))
 
+-- ---- a slice of four rows: each begins as far behind the one before
+
+index_in_slice : Layout → Extent → ℕ → ℕ → ℕ
+index_in_slice layout e y s = index_of layout (moved e.origin (record { x = 0; y = y; z = s % 4; w = s / 4 % 4 }))
+
+index_by_slice : (layout : Layout) (e : Extent) (s y : ℕ) → y < 4 → index_in_row layout e 0 (4 * s + y) ≡ index_in_slice layout e y s
+unfolding index_in_row index_in_slice
+index_by_slice layout e s y small =
+    ap (λ i. index_of layout (moved e.origin (record { x = 0; y = i; z = (4 * s + y) / 4 % 4; w = (4 * s + y) / 4 / 4 % 4 }))) (first_of_row s y small)
+    ∙ ap (λ j. index_of layout (moved e.origin (record { x = 0; y = y; z = j % 4; w = j / 4 % 4 }))) (row_of_place s y small)
+
+behind_first : (layout : Layout) (e : Extent) (s y : ℕ) → index_in_slice layout e y s ≡ index_in_slice layout e 0 s + y * layout.step.y
+unfolding index_in_slice index_of moved
+behind_first layout e s y = omega arith
+
+pub slice_index : (layout : Layout) (e : Extent) (s y : ℕ) → y < 4 → index_at layout e (4 * (4 * s + y)) ≡ index_at layout e (4 * (4 * s)) + y * layout.step.y
+slice_index layout e s y small =
+    let at : (r : ℕ) → index_at layout e (4 * r) ≡ index_in_row layout e 0 r = λ r. ap (index_at layout e) (omega arith) ∙ index_by_row layout e r 0 (omega arith) in
+    let start : index_in_row layout e 0 (4 * s) ≡ index_in_slice layout e 0 s = ap (index_in_row layout e 0) (omega arith) ∙ index_by_slice layout e s 0 (omega arith) in
+    at (4 * s + y) ∙ index_by_slice layout e s y small ∙ behind_first layout e s y ∙ ap (λ i. i + y * layout.step.y) (sym (at (4 * s) ∙ start))
+
 -- so all of them lie within a list where the extent does
 pub row_within : (layout : Layout) (e : Extent) (r k n first : ℕ) → k < 4 → 4 * r + k < 256 → HasWholeRows layout e → LiesWithin layout e n → exists e (4 * r) ≡ true → first ≡ index_at layout e (4 * r) → first + k < n
 row_within layout e r k n first small below rows within here is =

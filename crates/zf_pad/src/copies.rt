@@ -25,7 +25,7 @@ pub fn gather<T: Lane>(layout: &Layout, e: &Extent, d: u8, values: &[T], block: 
 {
     if !has_whole_rows(layout, e) {
         gather_places(layout, e, d, values, block);
-    } else if is_whole(&e.size, d) {
+    } else if d > 1 && is_whole(&e.size, d) {
         gather_whole(layout, e, d, values, block);
     } else {
         gather_rows(layout, e, d, values, block);
@@ -39,8 +39,9 @@ fn has_whole_rows(layout: &Layout, e: &Extent) -> bool
     layout.step.x == 1 && e.size.x == 4
 }
 
-// The same of a whole block.
+// The same of a whole block of more than one dimension.
 fn gather_whole<T: Lane>(layout: &Layout, e: &Extent, d: u8, values: &[T], block: &mut [T])
+    requires more { 1 < d }
     requires four_at_most { d ≤ 4 }
     requires extent { IsExtent d e.now }
     requires rows { HasWholeRows layout.now e.now }
@@ -50,30 +51,29 @@ fn gather_whole<T: Lane>(layout: &Layout, e: &Extent, d: u8, values: &[T], block
     ensures { IsGathered layout.now e.now
         (map T.value values.now) (map T.value block.old) (map T.value block.new) }
 {
-    // A number of rows that is known needs no loop where it is small.
+    // A number of slices that is known needs no loop where it is small.
     match d {
-        1 => gather_all_rows(layout, e, d, 1, values, block),
-        2 => gather_all_rows(layout, e, d, 4, values, block),
-        3 => gather_all_rows(layout, e, d, 16, values, block),
-        _ => gather_all_rows(layout, e, d, block_len(d) / 4, values, block),
+        2 => gather_slices(layout, e, d, 1, values, block),
+        3 => gather_slices(layout, e, d, 4, values, block),
+        _ => gather_slices(layout, e, d, 16, values, block),
     }
 }
 
-// The same by so many rows.
+// The same by so many slices of four rows, in which each row begins as far behind the one before.
 #[inline(always)]
-fn gather_all_rows<T: Lane>(
+fn gather_slices<T: Lane>(
     layout: &Layout,
     e: &Extent,
     d: u8,
-    rows: usize,
+    slices: usize,
     values: &[T],
     block: &mut [T],
 )
     requires four_at_most { d ≤ 4 }
     requires extent { IsExtent d e.now }
     requires beside { HasWholeRows layout.now e.now }
-    requires rows { 4 * rows ≡ 4 ^ d }
-    requires few { rows ≤ 64 }
+    requires slices { 16 * slices ≡ 4 ^ d }
+    requires few { slices ≤ 16 }
     requires whole { length block.old ≡ 4 ^ d }
     requires all { used_axes d e.now.size ≡ fours d }
     requires within { LiesWithin layout.now e.now (length values.now) }
@@ -81,9 +81,12 @@ fn gather_all_rows<T: Lane>(
         (map T.value values.now) (map T.value block.old) (map T.value block.new) }
 {
     let from_origin = layout.counted_from(&e.origin);
-    for row in 0..rows {
-        let first = from_origin.index(&indices(4 * row)) as usize;
-        copy_row(values, first, block, 4 * row);
+    let step = layout.step.y as usize;
+    for slice in 0..slices {
+        let first = from_origin.index(&indices(4 * (4 * slice))) as usize;
+        for y in 0..4 {
+            copy_row(values, first + y * step, block, 4 * (4 * slice + y));
+        }
     }
 }
 
@@ -140,15 +143,16 @@ pub fn scatter<T: Lane>(layout: &Layout, e: &Extent, d: u8, block: &[T], values:
 {
     if !has_whole_rows(layout, e) {
         scatter_places(layout, e, d, block, values);
-    } else if is_whole(&e.size, d) {
+    } else if d > 1 && is_whole(&e.size, d) {
         scatter_whole(layout, e, d, block, values);
     } else {
         scatter_rows(layout, e, d, block, values);
     }
 }
 
-// The same of a whole block.
+// The same of a whole block of more than one dimension.
 fn scatter_whole<T: Lane>(layout: &Layout, e: &Extent, d: u8, block: &[T], values: &mut [T])
+    requires more { 1 < d }
     requires four_at_most { d ≤ 4 }
     requires extent { IsExtent d e.now }
     requires rows { HasWholeRows layout.now e.now }
@@ -160,28 +164,27 @@ fn scatter_whole<T: Lane>(layout: &Layout, e: &Extent, d: u8, block: &[T], value
         (map T.value block.now) (map T.value values.old) (map T.value values.new) }
 {
     match d {
-        1 => scatter_all_rows(layout, e, d, 1, block, values),
-        2 => scatter_all_rows(layout, e, d, 4, block, values),
-        3 => scatter_all_rows(layout, e, d, 16, block, values),
-        _ => scatter_all_rows(layout, e, d, block_len(d) / 4, block, values),
+        2 => scatter_slices(layout, e, d, 1, block, values),
+        3 => scatter_slices(layout, e, d, 4, block, values),
+        _ => scatter_slices(layout, e, d, 16, block, values),
     }
 }
 
-// The same by so many rows.
+// The same by so many slices of four rows.
 #[inline(always)]
-fn scatter_all_rows<T: Lane>(
+fn scatter_slices<T: Lane>(
     layout: &Layout,
     e: &Extent,
     d: u8,
-    rows: usize,
+    slices: usize,
     block: &[T],
     values: &mut [T],
 )
     requires four_at_most { d ≤ 4 }
     requires extent { IsExtent d e.now }
     requires beside { HasWholeRows layout.now e.now }
-    requires rows { 4 * rows ≡ 4 ^ d }
-    requires few { rows ≤ 64 }
+    requires slices { 16 * slices ≡ 4 ^ d }
+    requires few { slices ≤ 16 }
     requires whole { length block.now ≡ 4 ^ d }
     requires all { used_axes d e.now.size ≡ fours d }
     requires within { LiesWithin layout.now e.now (length values.old) }
@@ -190,9 +193,12 @@ fn scatter_all_rows<T: Lane>(
         (map T.value block.now) (map T.value values.old) (map T.value values.new) }
 {
     let from_origin = layout.counted_from(&e.origin);
-    for row in 0..rows {
-        let first = from_origin.index(&indices(4 * row)) as usize;
-        copy_row(block, 4 * row, values, first);
+    let step = layout.step.y as usize;
+    for slice in 0..slices {
+        let first = from_origin.index(&indices(4 * (4 * slice))) as usize;
+        for y in 0..4 {
+            copy_row(block, 4 * (4 * slice + y), values, first + y * step);
+        }
     }
 }
 

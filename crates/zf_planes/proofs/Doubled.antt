@@ -1,6 +1,7 @@
 -- The code of runs: digits before others are doubled, and zeros behind the last one but the first make no difference.
 use Rattle.std.proofs.Common.{◌≡◌, ◌≢◌, ℕ, zero, suc, ◌+◌, ◌-◌, ◌*◌, ◌/◌, ◌%◌, ◌^◌, ◌<◌, ◌≤◌, ⊎_elim, Bool, true, false, cond, ◌&&◌, ◌||◌, ltb, eqb, List, [], ◌∷◌, ◌++◌, get_or, replicate, refl, sym, ap, ◌∙◌, arith, pow-suc, lit<, take, drop, append-nil}
 use Rattle.std.proofs.Math.Nat.{pow-le-pow_right, div-eq_of_lt}
+use Rattle.std.specs.Int.{leading_zeros, w64}
 use Rattle.std.proofs.lemmas.Nat.{pow-add, shr_below}
 use Rattle.std.proofs.lemmas.Bool.{cases_lt, false≢true, and_parts, ltb-true, lt-ltb, eqb-false}
 use Rattle.std.proofs.lemmas.Bool.Decides.{nat_tests}
@@ -12,7 +13,7 @@ use Rattle.zf_spec.proofs.Full.{tail-some}
 use Rattle.zf_bits.proofs.Fields.{take-field, drop-field, field_more}
 use Rattle.zf_spec.proofs.Reach.{has_one-zeros}
 use Rattle.zf_planes.specs.Doubled.{doubled}
-use Rattle.zf_planes.specs.declared.doubling.TheConstants.{DOUBLED, RUNS}
+use Rattle.zf_planes.specs.declared.doubled_table.TheConstants.{DOUBLED}
 use Rattle.zf_planes.proofs.Tables.{same_digits, same_digits-true, each_below, each_below-true}
 
 -- ---- digits of a run before others
@@ -101,19 +102,30 @@ double_of_entry digits e eight is =
 abbrev pub implied : ℕ → ℕ → ℕ
 implied most digits = cond (eqb (digits / 2 ^ (most - 1)) 0) 0 2
 
+-- the bits of eight digits doubled, up to the last one, whose second bit is a group bit of zero
+abbrev pub run_len : ℕ → ℕ → ℕ
+run_len digits e = e / 65536 - leading_zeros w64 (digits * 2 ^ 56 % 2 ^ 64)
+
+abbrev pub run_bits : ℕ → ℕ → ℕ
+run_bits digits e = e % 65536 - 2 ^ (run_len digits e - 1)
+
 abbrev test_run : ℕ → ℕ → ℕ → Bool
 test_run most digits e =
-    cond (eqb digits 0) true (cond (ltb digits (2 ^ most)) (same_digits (field (e / 65536 - implied most digits) (e % 65536)) (code_from_run (field most digits)) && (ltb (e / 65536) 17 && ltb 1 (e / 65536))) true)
+    cond (eqb digits 0) true (cond (ltb digits (2 ^ most)) (same_digits (field (run_len digits e - implied most digits) (run_bits digits e)) (code_from_run (field most digits))
+    && (ltb (run_len digits e) 17 && (ltb 1 (run_len digits e) && (ltb (leading_zeros w64 (digits * 2 ^ 56 % 2 ^ 64)) (e / 65536) && ltb (2 ^ (run_len digits e - 1)) (e % 65536 + 1))))) true)
 
-test_runs : each_below (λ i. test_run (i / 256 + 1) (i % 256) (get_or RUNS (i % 256) 0)) 2304 ≡ true
+test_runs : each_below (λ i. test_run (i / 256 + 1) (i % 256) (get_or DOUBLED (i % 256) 0)) 2304 ≡ true
+unfolding lib.Count.count_leading_zeros
 test_runs = refl
 
 pub record IsRunCode (most digits e : ℕ) : Type 0 where
-  pub bits : field (e / 65536 - implied most digits) (e % 65536) ≡ code_from_run (field most digits)
-  pub len : e / 65536 < 17
-  pub two : 1 < e / 65536
+  pub bits : field (run_len digits e - implied most digits) (run_bits digits e) ≡ code_from_run (field most digits)
+  pub len : run_len digits e < 17
+  pub two : 1 < run_len digits e
+  pub digits_enough : leading_zeros w64 (digits * 2 ^ 56 % 2 ^ 64) < e / 65536
+  pub bits_enough : 2 ^ (run_len digits e - 1) < e % 65536 + 1
 
-run_of_entry_to_9 : (most digits e : ℕ) → 0 < most → most ≤ 9 → 0 < digits → digits < 256 → digits < 2 ^ most → e ≡ get_or RUNS digits 0 → IsRunCode most digits e
+run_of_entry_to_9 : (most digits e : ℕ) → 0 < most → most ≤ 9 → 0 < digits → digits < 256 → digits < 2 ^ most → e ≡ get_or DOUBLED digits 0 → IsRunCode most digits e
 run_of_entry_to_9 most digits e some nine one eight within is =
     let i = 256 * (most - 1) + digits in
     let prefix : i / 256 + 1 ≡ most = omega arith in
@@ -121,14 +133,22 @@ run_of_entry_to_9 most digits e some nine one eight within is =
     let whole : test_run most digits e ≡ true =
     ap (λ k. test_run k digits e) (sym prefix)
     ∙ ap (λ k. test_run (i / 256 + 1) k e) (sym low)
-    ∙ ap (test_run (i / 256 + 1) (i % 256)) (is ∙ ap (λ k. get_or RUNS k 0) (sym low))
-    ∙ each_below-true (λ j. test_run (j / 256 + 1) (j % 256) (get_or RUNS (j % 256) 0)) 2304 i test_runs (omega arith) in
+    ∙ ap (test_run (i / 256 + 1) (i % 256)) (is ∙ ap (λ k. get_or DOUBLED k 0) (sym low))
+    ∙ each_below-true (λ j. test_run (j / 256 + 1) (j % 256) (get_or DOUBLED (j % 256) 0)) 2304 i test_runs (omega arith) in
     let there : eqb digits 0 ≡ false = grind (arith, nat_tests) in
     let below : ltb digits (2 ^ most) ≡ true = lt-ltb digits (2 ^ most) within in
     let test = rw (there, below) at whole in
-    let one = and_parts (same_digits (field (e / 65536 - implied most digits) (e % 65536)) (code_from_run (field most digits))) _ test in
-    let two = and_parts (ltb (e / 65536) 17) _ one.1 in
-    record { bits = same_digits-true _ _ one.0; len = ltb-true _ _ two.0; two = ltb-true _ _ two.1 }
+    let first = and_parts (same_digits (field (run_len digits e - implied most digits) (run_bits digits e)) (code_from_run (field most digits))) _ test in
+    let second = and_parts (ltb (run_len digits e) 17) _ first.1 in
+    let third = and_parts (ltb 1 (run_len digits e)) _ second.1 in
+    let fourth = and_parts (ltb (leading_zeros w64 (digits * 2 ^ 56 % 2 ^ 64)) (e / 65536)) _ third.1 in
+    record {
+      bits = same_digits-true _ _ first.0;
+      len = ltb-true _ _ second.0;
+      two = ltb-true _ _ third.0;
+      digits_enough = ltb-true _ _ fourth.0;
+      bits_enough = ltb-true _ _ fourth.1;
+    }
 
 -- more digits make no difference, where they are zeros
 pub eight_of : (most digits : ℕ) → 9 ≤ most → digits < 256 → field most digits ≡ field 8 digits ++ replicate (suc (most - 9)) false
@@ -155,7 +175,7 @@ not_last most digits nine eight =
     order : 8 ≤ most - 1
     order = omega arith
 
-pub run_of_entry : (most digits e : ℕ) → 0 < digits → digits < 256 → digits < 2 ^ most → e ≡ get_or RUNS digits 0 → IsRunCode most digits e
+pub run_of_entry : (most digits e : ℕ) → 0 < digits → digits < 256 → digits < 2 ^ most → e ≡ get_or DOUBLED digits 0 → IsRunCode most digits e
 run_of_entry most digits e one eight within is = ⊎_elim
     (λ (few : most < 9). run_of_entry_to_9 most digits e (some most digits one within) (omega arith) one eight within is)
     (λ (nine : 9 ≤ most).
@@ -163,9 +183,11 @@ run_of_entry most digits e one eight within is = ⊎_elim
     let all = not_last most digits nine eight in
     let all_of_9 = not_last 9 digits (omega arith) eight in
     record {
-      bits = ap (λ k. field (e / 65536 - k) (e % 65536)) (all ∙ sym all_of_9) ∙ short.bits ∙ sym (nine_digits most digits nine one eight);
+      bits = ap (λ k. field (run_len digits e - k) (run_bits digits e)) (all ∙ sym all_of_9) ∙ short.bits ∙ sym (nine_digits most digits nine one eight);
       len = short.len;
       two = short.two;
+      digits_enough = short.digits_enough;
+      bits_enough = short.bits_enough;
     })
     (cases_lt most 9)
   where

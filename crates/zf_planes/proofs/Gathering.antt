@@ -11,7 +11,7 @@ use Rattle.zf_spec.specs.Planes.{plane_code, code_from, reach}
 use Rattle.zf_spec.specs.HeldPlanes.{digits_held, planes_held, IsClearFrom}
 use Rattle.zf_planes.proofs.Unpacking.{code_held, top_more}
 use Rattle.zf_planes.proofs.Placing.{clear_zeros, word_filled}
-use Rattle.zf_planes.specs.Fours.{fours}
+use Rattle.zf_planes.specs.Fours.{string_planes}
 use Rattle.zf_spec.proofs.Fields.{length-field, field-add, field-zero, field-mod}
 use Rattle.zf_spec.proofs.HeldPlanes.{length-digits_held}
 use Rattle.zf_bits.proofs.Fields.{take-field}

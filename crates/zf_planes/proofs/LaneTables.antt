@@ -1,5 +1,6 @@
 -- Tables of planes of four digits in lanes, each entry of which is what the definitions say, by computation.
 use Rattle.std.proofs.Common.{◌≡◌, ℕ, suc, ◌+◌, ◌*◌, ◌/◌, ◌%◌, ◌^◌, ◌-◌, ◌<◌, ◌≤◌, max, Bool, true, false, ◌&&◌, eqb, ltb, List, [], ◌∷◌, get_or, refl, sym, ap, ◌∙◌, arith}
+use lib.Bits.{bit_and}
 use Rattle.std.proofs.lemmas.Nat.{shr_high, mod_low, mul-add-lt}
 use Rattle.std.proofs.lemmas.Bool.{false≢true, and_parts, eqb-true, ltb-true}
 use Rattle.zf_spec.specs.Numbers.{field}
@@ -7,7 +8,8 @@ use Rattle.zf_spec.specs.Planes.{code_from, reach_of_all}
 use Rattle.zf_planes.specs.Decoding.{planes_ahead, planes_bits}
 use Rattle.zf_planes.specs.Lanes.{low_planes, lanes_in, lanes_apart, AreBelow}
 use Rattle.zf_planes.proofs.Tables.{same_digits, same_digits-true, each_below, each_below-true}
-use Rattle.zf_planes.specs.declared.four_reading.TheConstants.{LANES, ENDS, LANES_OF_4}
+use Rattle.zf_planes.specs.declared.lanes_table.TheConstants.{LANES}
+use Rattle.zf_planes.specs.declared.ends_table.TheConstants.{ENDS}
 
 -- ---- tests that compute
 
@@ -169,12 +171,12 @@ last_of_entry n left bits e in_plane some few small is =
 abbrev test_one : ℕ → ℕ → Bool
 test_one digits e = same_planes (low_planes 1 (lanes_in 4 e)) (field 4 digits ∷ []) && are_below 1 (lanes_in 4 e)
 
-test_all_ones : each_below (λ i. test_one i (get_or LANES_OF_4 i 0)) 16 ≡ true
+test_all_ones : each_below (λ i. test_one i (bit_and (i * 0x2000_4000_8001) 0x0001_0001_0001_0001)) 16 ≡ true
 unfolding low_planes lanes_in
 test_all_ones = refl
 
-pub one_of_entry : (digits e : ℕ) → digits < 16 → e ≡ get_or LANES_OF_4 digits 0 → (low_planes 1 (lanes_in 4 e) ≡ field 4 digits ∷ []) × AreBelow 1 (lanes_in 4 e)
-one_of_entry digits e four is =
-    let test : test_one digits e ≡ true = ap (test_one digits) is ∙ each_below-true (λ i. test_one i (get_or LANES_OF_4 i 0)) 16 digits test_all_ones four in
+pub one_of_digits : (digits e : ℕ) → digits < 16 → e ≡ bit_and (digits * 0x2000_4000_8001) 0x0001_0001_0001_0001 → (low_planes 1 (lanes_in 4 e) ≡ field 4 digits ∷ []) × AreBelow 1 (lanes_in 4 e)
+one_of_digits digits e four is =
+    let test : test_one digits e ≡ true = ap (test_one digits) is ∙ each_below-true (λ i. test_one i (bit_and (i * 0x2000_4000_8001) 0x0001_0001_0001_0001)) 16 digits test_all_ones four in
     let parts = and_parts (same_planes (low_planes 1 (lanes_in 4 e)) (field 4 digits ∷ [])) _ test in
     (same_planes-true _ _ parts.0, are_below-true 1 (lanes_in 4 e) parts.1)

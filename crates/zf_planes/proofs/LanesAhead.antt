@@ -121,19 +121,19 @@ reach_of_all-four c v = omega (arith, reach_of_all-le (low_planes c (lanes_in 4 
         omega (arith, here, reach-le ds, reach_of_all-le planes (All-tail (λ es. length es ≡ 4) ds planes all))
 
 -- planes of which each has the next four digits
-abbrev pub planes_of_digits : ℕ → ℕ → List (List Bool)
-planes_of_digits zero v = []
-planes_of_digits (suc k) v = field 4 (v % 16) ∷ planes_of_digits k (v / 16)
+abbrev pub planes_of_sixteen : ℕ → ℕ → List (List Bool)
+planes_of_sixteen zero v = []
+planes_of_sixteen (suc k) v = field 4 (v % 16) ∷ planes_of_sixteen k (v / 16)
 
 -- and then their code is these digits
-pub code_of_digits : (k v : ℕ) → code_from 4 (planes_of_digits k v) ≡ field (4 * k) v
+pub code_of_digits : (k v : ℕ) → code_from 4 (planes_of_sixteen k v) ≡ field (4 * k) v
 code_of_digits zero v = refl
 code_of_digits (suc k) v =
     let ds = field 4 (v % 16) in
     let four : max 4 (reach ds) ≡ 4 = omega (arith, reach-le ds, length-field 4 (v % 16)) in
     let parts : 4 * suc k ≡ 4 + 4 * k = omega arith in
-    ap (λ n. plane_code 4 ds ++ code_from n (planes_of_digits k (v / 16))) four
-    ∙ ap (λ (bs : List Bool). bs ++ code_from 4 (planes_of_digits k (v / 16))) (plane_whole 4 (v % 16) ∙ field-mod 4 0 v)
+    ap (λ n. plane_code 4 ds ++ code_from n (planes_of_sixteen k (v / 16))) four
+    ∙ ap (λ (bs : List Bool). bs ++ code_from 4 (planes_of_sixteen k (v / 16))) (plane_whole 4 (v % 16) ∙ field-mod 4 0 v)
     ∙ ap (λ (bs : List Bool). field 4 v ++ bs) (code_of_digits k (v / 16))
     ∙ sym (field-add 4 (4 * k) v)
     ∙ ap (λ n. field n v) (sym parts)
@@ -164,15 +164,6 @@ at_end {now} {new} {left} {after} most n c v len bits count above window all wit
 pub planes_bits-le : (r p size n : ℕ) (s : List Bool) → planes_bits r p size n s ≤ r
 unfolding planes_bits
 planes_bits-le r p size n s = omega arith
-
--- one plane whose code is in sight
-pub one_in_sight : (left n digits len bits count : ℕ) (s : List Bool) → IsWindow left bits count s → n ≤ 4 → plane_code n (field 4 digits) ≡ field len (bits % 128) → len ≤ 7 → len ≤ count
-    → (plane_bits left 4 n s ≡ len) × (plane_ahead left 4 n s ≡ field 4 digits)
-one_in_sight left n digits len bits count s window within code short few =
-    let seven : len + (7 - len) ≡ 7 = omega arith in
-    let low : field len (bits % 128) ≡ field len bits = rw seven at (field-mod len (7 - len) bits) in
-    let next : plane_code n (field 4 digits) ≡ take len s = code ∙ low ∙ window_prefix s bits count len window.bits few in
-    whole_plane left n len (field 4 digits) s within next (omega (arith, window_long s bits count window.bits)) (omega (arith, window.within))
 
 -- one plane that was read, and the others are to come
 pub one_read : {now new : Reader} {left after : ℕ} (most n v len above : ℕ) → 0 < most → n ≤ 4 → low_planes 1 (lanes_in 4 v) ≡ plane_ahead left 4 n (rest now) ∷ [] → len ≡ plane_bits left 4 n (rest now)

@@ -6,7 +6,7 @@ use Rattle.zf_spec.specs.Planes.{plane_code, code_from, reach, reach_of_all}
 use Rattle.zf_spec.proofs.Fields.{length-field, field-add, field-mod}
 use Rattle.zf_spec.proofs.Reach.{reach-le}
 use Rattle.zf_bits.specs.Writer.{Writer}
-use Rattle.zf_planes.specs.Fours.{fours}
+use Rattle.zf_planes.specs.Fours.{string_planes}
 use Rattle.zf_planes.proofs.Doubled.{plane_whole}
 use Rattle.zf_planes.proofs.Budgets.{Remains, Remains-same}
 
@@ -28,12 +28,12 @@ GoesOn-more {n} {m} {k} {planes} {rest} {last} {prefix} {back} both first second
 
 -- by one plane
 pub plane_of_string : (n k string next : ℕ) (bits : List Bool) → bits ≡ plane_code n (field 4 (string % 16)) → next ≡ max n (reach (field 4 (string % 16)))
-    → GoesOn n (fours (suc k) string) bits next (fours k (string / 16))
-unfolding fours
+    → GoesOn n (string_planes (suc k) string) bits next (string_planes k (string / 16))
+unfolding string_planes
 plane_of_string n k string next bits is reached =
     let low : field 4 (string % 16) ≡ field 4 string = field-mod 4 string in
     let far : next ≡ max n (reach (field 4 string)) = reached ∙ ap (λ (ds : List Bool). max n (reach ds)) low in
-    let rest = fours k (string / 16) in
+    let rest = string_planes k (string / 16) in
     record {
       code =
           ap (λ m. plane_code n (field 4 string) ++ code_from m rest) (sym far)
@@ -46,7 +46,7 @@ plane_of_string n k string next bits is reached =
 pub pair_of_string : (n k string next : ℕ) (bits : List Bool) → 1 < k
     → bits ≡ plane_code n (field 4 (string % 16)) ++ plane_code (max n (reach (field 4 (string % 16)))) (field 4 (string / 16 % 16))
     → next ≡ max (max n (reach (field 4 (string % 16)))) (reach (field 4 (string / 16 % 16)))
-    → GoesOn n (fours k string) bits next (fours (k - 2) (string / 256))
+    → GoesOn n (string_planes k string) bits next (string_planes (k - 2) (string / 256))
 pair_of_string n zero string next bits some is reached = absurd (omega arith)
 pair_of_string n (suc zero) string next bits some is reached = absurd (omega arith)
 pair_of_string n (suc (suc k)) string next bits some is reached =
@@ -59,23 +59,23 @@ pair_of_string n (suc (suc k)) string next bits some is reached =
 
 -- the same of one plane
 pub next_of_string : (n k string next : ℕ) (bits : List Bool) → 0 < k → bits ≡ plane_code n (field 4 (string % 16)) → next ≡ max n (reach (field 4 (string % 16)))
-    → GoesOn n (fours k string) bits next (fours (k - 1) (string / 16))
+    → GoesOn n (string_planes k string) bits next (string_planes (k - 1) (string / 16))
 next_of_string n zero string next bits some is reached = absurd (omega arith)
 next_of_string n (suc k) string next bits some is reached = let left : suc k - 1 ≡ k = omega arith in rw left (plane_of_string n k string next bits is reached)
 
 -- no plane is left
-pub string_end : (planes above string : ℕ) → planes ≤ 0 → (code_from above (fours planes string) ≡ []) × (reach_of_all (fours planes string) ≡ 0)
-unfolding fours
+pub string_end : (planes above string : ℕ) → planes ≤ 0 → (code_from above (string_planes planes string) ≡ []) × (reach_of_all (string_planes planes string) ≡ 0)
+unfolding string_planes
 string_end zero above string none = (refl, refl)
 string_end (suc planes) above string none = absurd (omega arith)
 
 -- the first planes of a string
-pub take-fours : (m k string : ℕ) → take m (fours (m + k) string) ≡ fours m string
-unfolding fours
+pub take-fours : (m k string : ℕ) → take m (string_planes (m + k) string) ≡ string_planes m string
+unfolding string_planes
 take-fours zero k string = refl
 take-fours (suc m) k string =
     let more : suc m + k ≡ suc (m + k) = omega arith in
-    ap (λ n. take (suc m) (fours n string)) more ∙ ap (λ (ps : List (List Bool)). field 4 string ∷ ps) (take-fours m k (string / 16))
+    ap (λ n. take (suc m) (string_planes n string)) more ∙ ap (λ (ps : List (List Bool)). field 4 string ∷ ps) (take-fours m k (string / 16))
 
 -- planes and those below them
 pub code_from-append : (n : ℕ) (planes below : List (List Bool)) → code_from n (planes ++ below) ≡ code_from n planes ++ code_from (max n (reach_of_all planes)) below
@@ -88,21 +88,21 @@ code_from-append n (ds ∷ planes) below =
 
 -- ---- all ranks have had a one
 
-pub whole_string : (k string : ℕ) → code_from 4 (fours k string) ≡ field (4 * k) string
-unfolding fours
+pub whole_string : (k string : ℕ) → code_from 4 (string_planes k string) ≡ field (4 * k) string
+unfolding string_planes
 whole_string zero string = refl
 whole_string (suc k) string =
     let digits = field 4 string in
     let far : max 4 (reach digits) ≡ 4 = omega (arith, reach-le digits, length-field 4 string) in
     let whole : plane_code 4 digits ≡ digits = plane_whole 4 string in
     let count : 4 * suc k ≡ 4 + 4 * k = omega arith in
-    ap (λ (bs : List Bool). bs ++ code_from (max 4 (reach digits)) (fours k (string / 16))) whole
-    ∙ ap (λ n. digits ++ code_from n (fours k (string / 16))) far
+    ap (λ (bs : List Bool). bs ++ code_from (max 4 (reach digits)) (string_planes k (string / 16))) whole
+    ∙ ap (λ n. digits ++ code_from n (string_planes k (string / 16))) far
     ∙ ap (λ (bs : List Bool). digits ++ bs) (whole_string k (string / 16))
     ∙ sym (ap (λ n. field n string) count ∙ field-add 4 (4 * k) string)
 
-pub reach_of_string-le : (k string : ℕ) → reach_of_all (fours k string) ≤ 4
-unfolding fours
+pub reach_of_string-le : (k string : ℕ) → reach_of_all (string_planes k string) ≤ 4
+unfolding string_planes
 reach_of_string-le zero string = omega arith
 reach_of_string-le (suc k) string = omega (arith, reach-le (field 4 string), length-field 4 string, reach_of_string-le k (string / 16))
 

@@ -1,9 +1,9 @@
 -- Tables of planes of four digits, each entry of which is what the definitions say, by computation.
-use Rattle.std.proofs.Common.{◌≡◌, ℕ, zero, suc, ◌+◌, ◌*◌, ◌/◌, ◌%◌, ◌^◌, ◌<◌, ◌≤◌, ⊎_elim, max, Bool, true, false, ◌&&◌, eqb, ltb, List, [], ◌∷◌, ◌++◌, get_or, refl, sym, ap, subst, ◌∙◌, arith}
+use Rattle.std.proofs.Common.{◌≡◌, ℕ, zero, suc, ◌+◌, ◌-◌, ◌*◌, ◌/◌, ◌%◌, ◌^◌, ◌<◌, ◌≤◌, ⊎_elim, min, max, Bool, true, false, ◌&&◌, eqb, ltb, List, [], ◌∷◌, ◌++◌, get_or, refl, sym, ap, subst, ◌∙◌, arith}
 use Rattle.std.proofs.lemmas.Bool.{cases_lt, false≢true, and_parts, eqb-true, ltb-true}
 use Rattle.zf_spec.specs.Numbers.{field}
 use Rattle.zf_spec.specs.Planes.{plane_code, reach}
-use Rattle.zf_planes.specs.declared.four.TheConstants.{CODES, PAIRS, PLANES}
+use Rattle.zf_planes.specs.declared.pairs_table.TheConstants.{PAIRS}
 
 -- ---- tests that compute
 
@@ -40,36 +40,53 @@ each_below-true test (suc k) i all below =
     (λ (late : k ≤ i). let here : k ≡ i = omega arith in subst (λ j. test j ≡ true) here parts.0)
     (cases_lt i k)
 
--- ---- codes
+-- ---- codes of one plane, in front of a plane of zeros
+
+-- how many bits an entry has before the code of a plane of zeros: that has a digit for each rank that has had a one, and a group bit where ranks are left
+abbrev pub len_of_first : ℕ → ℕ
+len_of_first e = e / 16384 % 16 - min (e / 262144 + 1) 4
 
 -- an entry has the code of these digits, its length and how far the ones reach
 abbrev test_code : ℕ → ℕ → ℕ → Bool
 test_code n digits e =
-    same_digits (field (e / 128 % 8) (e % 128)) (plane_code n (field 4 digits)) && (ltb (e % 128) (2 ^ (e / 128 % 8)) && (eqb (e / 1024) (max n (reach (field 4 digits))) && ltb (e / 1024) 5))
+    same_digits (field (len_of_first e) (e % 16384)) (plane_code n (field 4 digits))
+    && (ltb (e % 16384) (2 ^ len_of_first e) && (ltb (min (e / 262144 + 1) 4) (e / 16384 % 16 + 1) && (ltb (len_of_first e) 8 && (eqb (e / 262144) (max n (reach (field 4 digits))) && ltb (e / 262144) 5))))
 
-test_codes : each_below (λ i. test_code (i / 16) (i % 16) (get_or CODES i 0)) 80 ≡ true
+test_codes : each_below (λ i. test_code (i / 16) (i % 16) (get_or PAIRS (256 * (i / 16) + i % 16) 0)) 80 ≡ true
 test_codes = refl
 
 pub record IsCode (n digits e : ℕ) : Type 0 where
-  pub bits : field (e / 128 % 8) (e % 128) ≡ plane_code n (field 4 digits)
-  pub small : e % 128 < 2 ^ (e / 128 % 8)
-  pub above : e / 1024 ≡ max n (reach (field 4 digits))
-  pub within : e / 1024 < 5
+  pub bits : field (len_of_first e) (e % 16384) ≡ plane_code n (field 4 digits)
+  pub small : e % 16384 < 2 ^ len_of_first e
+  pub some : min (e / 262144 + 1) 4 < e / 16384 % 16 + 1
+  pub len : len_of_first e < 8
+  pub above : e / 262144 ≡ max n (reach (field 4 digits))
+  pub within : e / 262144 < 5
 
-pub code_of_entry : (n digits e : ℕ) → n ≤ 4 → digits < 16 → e ≡ get_or CODES (16 * n + digits) 0 → IsCode n digits e
+pub code_of_entry : (n digits e : ℕ) → n ≤ 4 → digits < 16 → e ≡ get_or PAIRS (256 * n + digits) 0 → IsCode n digits e
 code_of_entry n digits e in_plane four is =
     let i = 16 * n + digits in
     let prefix : i / 16 ≡ n = omega arith in
     let low : i % 16 ≡ digits = omega arith in
+    let place : 256 * n + digits ≡ 256 * (i / 16) + i % 16 = omega arith in
     let test : test_code n digits e ≡ true =
     ap (λ k. test_code k digits e) (sym prefix)
     ∙ ap (λ k. test_code (i / 16) k e) (sym low)
-    ∙ ap (test_code (i / 16) (i % 16)) is
-    ∙ each_below-true (λ j. test_code (j / 16) (j % 16) (get_or CODES j 0)) 80 i test_codes (omega arith) in
-    let one = and_parts (same_digits (field (e / 128 % 8) (e % 128)) (plane_code n (field 4 digits))) _ test in
-    let two = and_parts (ltb (e % 128) (2 ^ (e / 128 % 8))) _ one.1 in
-    let three = and_parts (eqb (e / 1024) (max n (reach (field 4 digits)))) _ two.1 in
-    record { bits = same_digits-true _ _ one.0; small = ltb-true _ _ two.0; above = eqb-true _ _ three.0; within = ltb-true _ _ three.1 }
+    ∙ ap (test_code (i / 16) (i % 16)) (is ∙ ap (λ k. get_or PAIRS k 0) place)
+    ∙ each_below-true (λ j. test_code (j / 16) (j % 16) (get_or PAIRS (256 * (j / 16) + j % 16) 0)) 80 i test_codes (omega arith) in
+    let one = and_parts (same_digits (field (len_of_first e) (e % 16384)) (plane_code n (field 4 digits))) _ test in
+    let two = and_parts (ltb (e % 16384) (2 ^ len_of_first e)) _ one.1 in
+    let three = and_parts (ltb (min (e / 262144 + 1) 4) (e / 16384 % 16 + 1)) _ two.1 in
+    let four = and_parts (ltb (len_of_first e) 8) _ three.1 in
+    let five = and_parts (eqb (e / 262144) (max n (reach (field 4 digits)))) _ four.1 in
+    record {
+      bits = same_digits-true _ _ one.0;
+      small = ltb-true _ _ two.0;
+      some = ltb-true _ _ three.0;
+      len = ltb-true _ _ four.0;
+      above = eqb-true _ _ five.0;
+      within = ltb-true _ _ five.1;
+    }
 
 -- ---- codes of two planes
 
@@ -112,32 +129,3 @@ pair_of_entry n first second e in_plane four other is =
       above = eqb-true _ _ four.0;
       within = ltb-true _ _ four.1;
     }
-
--- ---- planes
-
--- an entry has the digits whose code begins these bits, its length and how far the ones reach
-abbrev test_plane : ℕ → ℕ → ℕ → Bool
-test_plane n bits e =
-    same_digits (plane_code n (field 4 (e % 16))) (field (e / 16 % 8) bits) && (ltb 0 (e / 16 % 8) && eqb (e / 128) (max n (reach (field 4 (e % 16)))))
-
-test_planes : each_below (λ i. test_plane (i / 128) (i % 128) (get_or PLANES i 0)) 640 ≡ true
-test_planes = refl
-
-pub record IsPlane (n bits e : ℕ) : Type 0 where
-  pub code : plane_code n (field 4 (e % 16)) ≡ field (e / 16 % 8) bits
-  pub some : 0 < e / 16 % 8
-  pub above : e / 128 ≡ max n (reach (field 4 (e % 16)))
-
-pub plane_of_entry : (n bits e : ℕ) → n ≤ 4 → bits < 128 → e ≡ get_or PLANES (128 * n + bits) 0 → IsPlane n bits e
-plane_of_entry n bits e in_plane seven is =
-    let i = 128 * n + bits in
-    let prefix : i / 128 ≡ n = omega arith in
-    let low : i % 128 ≡ bits = omega arith in
-    let test : test_plane n bits e ≡ true =
-    ap (λ k. test_plane k bits e) (sym prefix)
-    ∙ ap (λ k. test_plane (i / 128) k e) (sym low)
-    ∙ ap (test_plane (i / 128) (i % 128)) is
-    ∙ each_below-true (λ j. test_plane (j / 128) (j % 128) (get_or PLANES j 0)) 640 i test_planes (omega arith) in
-    let one = and_parts (same_digits (plane_code n (field 4 (e % 16))) (field (e / 16 % 8) bits)) _ test in
-    let two = and_parts (ltb 0 (e / 16 % 8)) _ one.1 in
-    record { code = same_digits-true _ _ one.0; some = ltb-true _ _ two.0; above = eqb-true _ _ two.1 }

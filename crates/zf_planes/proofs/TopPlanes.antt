@@ -15,9 +15,9 @@ use Rattle.zf_spec.proofs.PlaneCode.{length-code-le}
 use Rattle.zf_bits.specs.Writer.{Writer, Appends}
 use Rattle.zf_bits.proofs.Appending.{Appends-same}
 use Rattle.zf_bits.proofs.Words.{shl_in_word}
-use Rattle.zf_planes.specs.Fours.{fours}
+use Rattle.zf_planes.specs.Fours.{string_planes}
 use Rattle.zf_planes.specs.Spread.{top_digit, top_planes, spread}
-use Rattle.zf_planes.specs.declared.four_writing.TheConstants.{SPREAD}
+use Rattle.zf_planes.specs.declared.spread_table.TheConstants.{SPREAD}
 use Rattle.zf_planes.proofs.Tables.{each_below, each_below-true}
 use Rattle.zf_planes.proofs.Budgets.{Remains, Remains-start, Remains-same, Remains-more}
 use Rattle.zf_planes.proofs.Zeros.{take_zeros, zero_code}
@@ -167,16 +167,16 @@ spread-next : (k : ℕ) (f : ℕ → Bool) → spread (suc k) f ≡ digit_value 
 unfolding spread
 spread-next k f = refl
 
-fours-next : (k v : ℕ) (ds : List Bool) (r : ℕ) → length ds ≡ 4 → v ≡ number ds + 16 * r → number ds < 16 → fours (suc k) v ≡ ds ∷ fours k r
-unfolding fours
+fours-next : (k v : ℕ) (ds : List Bool) (r : ℕ) → length ds ≡ 4 → v ≡ number ds + 16 * r → number ds < 16 → string_planes (suc k) v ≡ ds ∷ string_planes k r
+unfolding string_planes
 fours-next k v ds r four is small =
     let low : v % 16 ≡ number ds = omega arith in
     let high : v / 16 ≡ r = omega arith in
-    ap (λ (bs : List Bool). bs ∷ fours k (v / 16)) (sym (field-mod 4 v) ∙ ap (field 4) low ∙ field-number 4 ds four)
-    ∙ ap (λ n. ds ∷ fours k n) high
+    ap (λ (bs : List Bool). bs ∷ string_planes k (v / 16)) (sym (field-mod 4 v) ∙ ap (field 4) low ∙ field-number 4 ds four)
+    ∙ ap (λ n. ds ∷ string_planes k n) high
 
-string-is : (k : ℕ) (f g h e : ℕ → Bool) → fours k (spread k f + 2 * spread k g + 4 * spread k h + 8 * spread k e) ≡ map (λ i. f i ∷ g i ∷ h i ∷ e i ∷ []) (upto k)
-unfolding fours
+string-is : (k : ℕ) (f g h e : ℕ → Bool) → string_planes k (spread k f + 2 * spread k g + 4 * spread k h + 8 * spread k e) ≡ map (λ i. f i ∷ g i ∷ h i ∷ e i ∷ []) (upto k)
+unfolding string_planes
 string-is zero f g h e = refl
 string-is (suc k) f g h e =
     let next = λ (d : ℕ → Bool) (i : ℕ). d (suc i) in
@@ -191,31 +191,31 @@ string-is (suc k) f g h e =
     ∙ ap (λ (ps : List (List Bool)). row 0 ∷ ps) (map-from row row' 1 k [] (λ i here. let place : 1 + i ≡ suc i = omega arith in ap row place))
 
 pub string_of_words : (k : ℕ) (words : List ℕ) → length words ≡ 4
-    → fours k (spread k (top_digit (get_or words 0 0)) + 2 * spread k (top_digit (get_or words 1 0)) + 4 * spread k (top_digit (get_or words 2 0)) + 8 * spread k (top_digit (get_or words 3 0))) ≡ top_planes k words
+    → string_planes k (spread k (top_digit (get_or words 0 0)) + 2 * spread k (top_digit (get_or words 1 0)) + 4 * spread k (top_digit (get_or words 2 0)) + 8 * spread k (top_digit (get_or words 3 0))) ≡ top_planes k words
 unfolding top_planes
 string_of_words k words four =
     string-is k (top_digit (get_or words 0 0)) (top_digit (get_or words 1 0)) (top_digit (get_or words 2 0)) (top_digit (get_or words 3 0))
     ∙ ap (λ (ws : List ℕ). map (λ i. map (λ word. top_digit word i) ws) (upto k)) (four_elements words four)
 
 -- the planes of a string of sixteen, as many as there are, and those below them
-pub string-split : (planes count string : ℕ) (words : List ℕ) → planes ≤ 64 → count ≡ min planes 16 → fours 16 string ≡ top_planes 16 words
-    → top_planes planes words ≡ fours count string ++ top_planes (planes - count) (map (below 16) words)
+pub string-split : (planes count string : ℕ) (words : List ℕ) → planes ≤ 64 → count ≡ min planes 16 → string_planes 16 string ≡ top_planes 16 words
+    → top_planes planes words ≡ string_planes count string ++ top_planes (planes - count) (map (below 16) words)
 string-split planes count string words most is same = ⊎_elim
     (λ (few : planes < 16).
     let all : count ≡ planes = omega arith in
     let parts : 16 ≡ planes + (16 - planes) = omega arith in
-    let first : fours planes string ≡ top_planes planes words =
+    let first : string_planes planes string ≡ top_planes planes words =
     sym (take-fours planes (16 - planes) string)
-    ∙ ap (λ n. take planes (fours n string)) (sym parts)
+    ∙ ap (λ n. take planes (string_planes n string)) (sym parts)
     ∙ ap (take planes) (same ∙ top_planes-split 16 planes words (omega arith) (omega arith))
     ∙ take_at (top_planes planes words) (top_planes (16 - planes) (map (below planes) words)) planes (length-top_planes planes words) in
     let none : top_planes (planes - count) (map (below 16) words) ≡ [] = no_top_planes (planes - count) (map (below 16) words) (omega arith) in
-    sym (ap (λ (ps : List (List Bool)). fours count string ++ ps) none ∙ append-nil (fours count string) ∙ ap (λ n. fours n string) all ∙ first))
+    sym (ap (λ (ps : List (List Bool)). string_planes count string ++ ps) none ∙ append-nil (string_planes count string) ∙ ap (λ n. string_planes n string) all ∙ first))
     (λ (many : 16 ≤ planes).
     let all : 16 ≡ count = omega arith in
     top_planes-split planes 16 words many most
     ∙ ap (λ (ps : List (List Bool)). ps ++ top_planes (planes - 16) (map (below 16) words)) (sym same)
-    ∙ ap (λ n. fours n string ++ top_planes (planes - n) (map (below 16) words)) all)
+    ∙ ap (λ n. string_planes n string ++ top_planes (planes - n) (map (below 16) words)) all)
     (cases_lt planes 16)
 
 -- ---- digits of four coefficients, behind planes without a one

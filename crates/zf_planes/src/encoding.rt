@@ -6,12 +6,12 @@ ghost use Rattle.zf_spec.specs.Planes.{plane_code, tail, code, reach};
 ghost use Rattle.zf_bits.specs.Writer.{Appends};
 ghost use Rattle.zf_spec.specs.HeldPlanes.{digits_held, planes_held};
 
-use crate::gathered::write_planes_of_word;
+use crate::word_writing::write_planes_of_word;
 use crate::words::{reach_in, zeros_from};
 use zf_bits::{BitWriter, Plane};
 
 /// Appends the digits of the ranks from `from` on and below `to` as they are, as far as `left` bits reach. The answer is the bits that are left.
-fn write_part<P: Plane>(left: u64, from: usize, to: usize, plane: &P, out: &mut BitWriter) -> u64
+fn write_digits<P: Plane>(left: u64, from: usize, to: usize, plane: &P, out: &mut BitWriter) -> u64
     requires order { from ≤ to }
     requires size { to ≤ 256 }
     requires words { to ≤ 64 * P.word_count }
@@ -77,7 +77,7 @@ fn write_tail<P: Plane>(
             out.write_bit_reserved(true);
             // The one of the last rank is implied: its run stops before it.
             let next = n + zeros_from(plane, n, size) + 1;
-            left = write_part(left - 1, n, next.min(size - 1), plane, out);
+            left = write_digits(left - 1, n, next.min(size - 1), plane, out);
             n = next;
         }
     }
@@ -102,31 +102,8 @@ fn write_plane<P: Plane>(
     ensures bits { Appends out.old out.new (take left (plane_code n (digits_held size (P.words plane.now)))) }
     ensures left { result ≡ left - length (plane_code n (digits_held size (P.words plane.now))) }
 {
-    let left = write_part(left, 0, n, plane, out);
+    let left = write_digits(left, 0, n, plane, out);
     write_tail(left, n, size, end, plane, out)
-}
-
-/// How many of the top `prec` planes have no one, down to the first one that has; at most 64.
-#[inline(always)]
-fn zero_planes<P: Plane>(prec: u32, size: usize, planes: &[P]) -> u32
-    requires size { size ≤ 256 }
-    requires words { size ≤ 64 * P.word_count }
-    requires planes { prec ≤ length planes.now }
-    ensures within { result ≤ prec }
-    ensures in_word { result ≤ 64 }
-    ensures some { (result ≡ 0) ⊎ (0 < size) }
-    ensures zeros { take result (planes_held size (map P.words planes.now)) ≡ replicate result (replicate size false) }
-{
-    if size == 0 {
-        return 0;
-    }
-    let most = prec.min(64);
-    for i in 0..most {
-        if reach_in(&planes[planes.len() - 1 - i as usize], size) > 0 {
-            return i;
-        }
-    }
-    most
 }
 
 /// Appends the code of the top `prec` planes, or its first `budget` bits where it is longer. The top `zeros` planes have no one.
@@ -152,7 +129,7 @@ fn write_sized<P: Plane>(
 {
     let count = budget.min(u64::from(zeros));
     out.write_reserved(0, count as u32);
-    if size == 4 || size == 16 || size == 64 {
+    if size == 16 || size == 64 {
         return budget
             - write_planes_of_word(budget - count, zeros as usize, prec, size, planes, out);
     }
@@ -169,54 +146,11 @@ fn write_sized<P: Plane>(
     budget - left
 }
 
-/// Appends the code of the top `prec` planes, or its first `budget` bits where it is longer. The answer is the number of bits appended.
+/// Appends the code of the top `prec` planes, or its first `budget` bits where it is longer. The answer is the number of bits appended. The top `zeros`
+/// planes, which may be 0, are known to have no one.
 ///
 /// `planes[k]` holds digit k of each coefficient by rank, and bits from rank `size` on are not looked at.
 /// Embedded coding as in the zfp 1.0 documentation, chapter Algorithm.
-pub fn write_planes<P: Plane>(
-    budget: u64,
-    prec: u32,
-    size: usize,
-    planes: &[P],
-    out: &mut BitWriter,
-) -> u64
-    requires size { size ≤ 256 }
-    requires words { size ≤ 64 * P.word_count }
-    requires planes { prec ≤ length planes.now }
-    requires fits { min budget (size * prec + size) ≤ out.old.room }
-    ensures bits { Appends out.old out.new (take budget (code (take prec (planes_held size (map P.words planes.now))))) }
-    ensures count { result ≡ min budget (length (code (take prec (planes_held size (map P.words planes.now))))) }
-{
-    // A size that is known makes its own program, without the others' steps.
-    match size {
-        4 => write_from_top(budget, prec, size, planes, out),
-        16 => write_from_top(budget, prec, size, planes, out),
-        64 => write_from_top(budget, prec, size, planes, out),
-        _ => write_from_top(budget, prec, size, planes, out),
-    }
-}
-
-/// The same of any size: the planes at the top that have no one are looked for first.
-#[inline(always)]
-fn write_from_top<P: Plane>(
-    budget: u64,
-    prec: u32,
-    size: usize,
-    planes: &[P],
-    out: &mut BitWriter,
-) -> u64
-    requires size { size ≤ 256 }
-    requires words { size ≤ 64 * P.word_count }
-    requires planes { prec ≤ length planes.now }
-    requires fits { min budget (size * prec + size) ≤ out.old.room }
-    ensures bits { Appends out.old out.new (take budget (code (take prec (planes_held size (map P.words planes.now))))) }
-    ensures count { result ≡ min budget (length (code (take prec (planes_held size (map P.words planes.now))))) }
-{
-    let zeros = zero_planes(prec, size, planes);
-    write_sized(zeros, budget, prec, size, planes, out)
-}
-
-/// The same, where it is known that the top `zeros` planes have no one.
 pub fn write_planes_below<P: Plane>(
     zeros: u32,
     budget: u64,
@@ -236,8 +170,8 @@ pub fn write_planes_below<P: Plane>(
     ensures bits { Appends out.old out.new (take budget (code (take prec (planes_held size (map P.words planes.now))))) }
     ensures count { result ≡ min budget (length (code (take prec (planes_held size (map P.words planes.now))))) }
 {
+    // A size that is known makes its own program, without the others' steps.
     match size {
-        4 => write_sized(zeros, budget, prec, size, planes, out),
         16 => write_sized(zeros, budget, prec, size, planes, out),
         64 => write_sized(zeros, budget, prec, size, planes, out),
         _ => write_sized(zeros, budget, prec, size, planes, out),
@@ -245,7 +179,8 @@ pub fn write_planes_below<P: Plane>(
 }
 
 /// Appends the code of the top `prec` planes, or its first `budget` bits where it is longer. The answer is
-/// the number of bits appended.
+/// the number of bits appended. It is there for callers of the library: the program has planes in one word each,
+/// and knows which have no one.
 ///
 /// `size` is 4, 16, 64 or 256, and there are at least `prec` planes. There is room for the smaller of
 /// `budget` and `size * prec + size` bits.
@@ -259,5 +194,5 @@ pub fn encode(budget: u64, prec: u32, size: usize, planes: &[[u64; 4]], out: &mu
     ensures bits { Appends out.old out.new (take budget (code (take prec (planes_held size planes.now)))) }
     ensures count { result ≡ min budget (length (code (take prec (planes_held size planes.now)))) }
 {
-    write_planes(budget, prec, size, planes, out)
+    write_planes_below(0, budget, prec, size, planes, out)
 }

@@ -1,8 +1,8 @@
-//! How long the code of planes is, and how many planes it needs.
+//! How long the code of planes is.
 
-ghost use Rattle.std.specs.Prelude.{◌≡◌, ◌+◌, ◌*◌, ◌<◌, ◌≤◌, ◌⊎◌, count_by, length, map, take, drop};
+ghost use Rattle.std.specs.Prelude.{◌≡◌, ◌+◌, ◌*◌, ◌<◌, ◌≤◌, length, map, take};
 ghost use Rattle.zf_spec.specs.Grid.{IsBlockSize};
-ghost use Rattle.zf_spec.specs.Planes.{reach, plane_code, code, needed_planes};
+ghost use Rattle.zf_spec.specs.Planes.{reach, plane_code, code};
 ghost use Rattle.zf_spec.specs.HeldPlanes.{digits_held, planes_held};
 
 use crate::words::{ones_from, reach_in};
@@ -48,7 +48,7 @@ pub fn planes_len<P: Plane>(prec: u32, size: usize, planes: &[P]) -> u64
     len
 }
 
-/// The number of bits of the code of the top `prec` planes without a budget.
+/// The number of bits of the code of the top `prec` planes without a budget. It is there for callers of the library: the program asks for no length.
 ///
 /// `size` is 4, 16, 64 or 256, and there are at least `prec` planes. `planes[k]` holds digit k of each
 /// coefficient by rank: rank r is bit `r % 64` of word `r / 64`, and bits from rank `size` on are not looked
@@ -87,33 +87,4 @@ pub fn planes_within<P: Plane>(budget: u64, size: usize, planes: &[P]) -> u32
         above = above.max(end);
     }
     planes.len() as u32
-}
-
-/// How many planes there are from the top one down to the lowest that has a one; 0 where none has.
-///
-/// `planes[k]` holds digit k of each coefficient by rank, and bits from rank `size` on are not looked at.
-pub fn planes_used<P: Plane>(size: usize, planes: &[P]) -> u32
-    requires size { size ≤ 256 }
-    requires words { size ≤ 64 * P.word_count }
-    requires planes { length planes.now ≤ 64 }
-    ensures { result ≡ needed_planes (planes_held size (map P.words planes.now)) }
-{
-    for (k, plane) in planes.iter().enumerate() {
-        if reach_in(plane, size) > 0 {
-            return (planes.len() - k) as u32;
-        }
-    }
-    0
-}
-
-/// How many planes there are from the top one down to the lowest that has a one; 0 where none has.
-///
-/// `size` is 4, 16, 64 or 256, and there are at most 64 planes. `planes[k]` holds digit k of each coefficient
-/// by rank, and bits from rank `size` on are not looked at.
-pub fn used_planes(size: usize, planes: &[[u64; 4]]) -> u32
-    requires size { IsBlockSize size }
-    requires planes { length planes.now ≤ 64 }
-    ensures { result ≡ needed_planes (planes_held size planes.now) }
-{
-    planes_used(size, planes)
 }

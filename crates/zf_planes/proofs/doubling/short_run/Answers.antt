@@ -1,13 +1,37 @@
-use Rattle.std.proofs.Common.{◌≡◌, ◌-◌, ◌/◌, ◌^◌, false, cond, eqb, ap, sym, ◌∙◌, arith}
+use Rattle.std.proofs.Common.{◌≡◌, ℕ, ◌-◌, ◌*◌, ◌/◌, ◌%◌, ◌^◌, ◌<◌, false, cond, eqb, ap, sym, ◌∙◌, arith}
 use Rattle.std.proofs.lemmas.Bool.{eq-eqb}
 use Rattle.std.proofs.lemmas.Bool.Decides.{nat_tests}
-use Rattle.zf_planes.proofs.Doubled.{IsRunCode, run_of_entry, implied}
+use Rattle.std.proofs.lemmas.Nat.{one_shl}
+use Rattle.zf_spec.specs.Numbers.{field}
+use Rattle.zf_planes.proofs.Doubled.{IsRunCode, run_of_entry, run_len, run_bits, implied}
 use Rattle.zf_planes.proofs.doubling.short_run.Goals as goal
 use Rattle.zf_planes.proofs.doubling.short_run.Goals.{then-digits-most-eq0, else-digits-most-eq0}
 
--- what the entry says
-entry : (c : goal.After-row_known-1) → IsRunCode c.args.most c.args.digits c.run_entry-entry.result
-entry c = run_of_entry c.args.most c.args.digits c.run_entry-entry.result c.requires.some c.requires.eight c.requires.within c.run_entry-entry.ensures
+pub overflow_sub-len : goal.overflow_sub-len
+overflow_sub-len c =
+    let entry = run_of_entry c.args.most c.args.digits c.doubled_entry-entry.result c.requires.some c.requires.eight c.requires.within c.doubled_entry-entry.ensures in
+    omega (arith, c.from.ensures, c.from-2.ensures, entry.digits_enough)
+
+pub overflow_sub-bits : goal.overflow_sub-bits
+overflow_sub-bits c =
+    let entry = run_of_entry c.args.most c.args.digits c.doubled_entry-entry.result c.requires.some c.requires.eight c.requires.within c.doubled_entry-entry.ensures in
+    omega (arith, c.from.ensures, c.from-2.ensures, entry.two)
+
+pub overflow_shl-bits : goal.overflow_shl-bits
+overflow_shl-bits c =
+    let entry = run_of_entry c.args.most c.args.digits c.doubled_entry-entry.result c.requires.some c.requires.eight c.requires.within c.doubled_entry-entry.ensures in
+    omega (arith, c.from.ensures, c.from-2.ensures, entry.len)
+
+-- what is taken off the bits
+last_bit : (digits e len : ℕ) → len ≡ run_len digits e → run_len digits e < 17 → 1 * 2 ^ (len - 1) % 2 ^ 64 ≡ 2 ^ (run_len digits e - 1)
+last_bit digits e len is few = one_shl (len - 1) 64 (omega (arith, is, few)) ∙ ap (λ k. 2 ^ (k - 1)) is
+
+pub overflow_sub-bits-2 : goal.overflow_sub-bits-2
+overflow_sub-bits-2 c =
+    let e = c.doubled_entry-entry.result in
+    let entry = run_of_entry c.args.most c.args.digits e c.requires.some c.requires.eight c.requires.within c.doubled_entry-entry.ensures in
+    let len : c.from.result - c.from-2.result ≡ run_len c.args.digits e = omega (arith, c.from.ensures, c.from-2.ensures) in
+    omega (arith, c.from-3.ensures, last_bit c.args.digits e (c.from.result - c.from-2.result) len entry.len, entry.bits_enough)
 
 bits_less : (c : goal.After-row_known-1) → c.if-digits-most-eq0.implied ≡ implied c.args.most c.args.digits
 bits_less c = elim c.if-digits-most-eq0.branch [
@@ -18,13 +42,24 @@ bits_less c = elim c.if-digits-most-eq0.branch [
 ]
 
 pub overflow_sub-result : goal.overflow_sub-result
-overflow_sub-result c = elim c.if-digits-most-eq0.branch [
-  | then-digits-most-eq0 w ↦ omega (arith, w.implied-is)
-  | else-digits-most-eq0 w ↦ omega (arith, w.implied-is, c.from-2.ensures, (entry c).two)
-]
+overflow_sub-result c =
+    let entry = run_of_entry c.args.most c.args.digits c.doubled_entry-entry.result c.requires.some c.requires.eight c.requires.within c.doubled_entry-entry.ensures in
+    elim c.if-digits-most-eq0.branch [
+      | then-digits-most-eq0 w ↦ omega (arith, w.implied-is)
+      | else-digits-most-eq0 w ↦ omega (arith, w.implied-is, c.from.ensures, c.from-2.ensures, entry.two)
+    ]
 
 pub returns-clause-bits : goal.returns-clause-bits
-returns-clause-bits c = rw (c.from.ensures, c.from-2.ensures, bits_less c) (entry c).bits
+returns-clause-bits c =
+    let e = c.doubled_entry-entry.result in
+    let digits = c.args.digits in
+    let entry = run_of_entry c.args.most digits e c.requires.some c.requires.eight c.requires.within c.doubled_entry-entry.ensures in
+    let len : c.from.result - c.from-2.result ≡ run_len digits e = omega (arith, c.from.ensures, c.from-2.ensures) in
+    let last = last_bit digits e (c.from.result - c.from-2.result) len entry.len in
+    let bits : c.from-3.result - 1 * 2 ^ (c.from.result - c.from-2.result - 1) % 2 ^ 64 ≡ run_bits digits e = omega (arith, last, c.from-3.ensures) in
+    rw (bits, len, bits_less c) entry.bits
 
 pub returns-clause-len : goal.returns-clause-len
-returns-clause-len c = omega (arith, c.from-2.ensures, (entry c).len)
+returns-clause-len c =
+    let entry = run_of_entry c.args.most c.args.digits c.doubled_entry-entry.result c.requires.some c.requires.eight c.requires.within c.doubled_entry-entry.ensures in
+    omega (arith, c.from.ensures, c.from-2.ensures, entry.len)

@@ -7,10 +7,10 @@ use Rattle.zf_planes.proofs.encoding.encode.Goals as goal
 
 pub returns-clause-bits : goal.returns-clause-bits
 returns-clause-bits c =
-    let P : List (List ℕ) → Type 0 = λ planes. Appends c.args.out.now c.write_planes.new.out (take c.args.budget (code (take c.args.prec (planes_held c.args.size planes)))) in
-    subst P (arrays_as_words c.args.planes.now c.told-planes) c.write_planes.ensures.bits
+    let P : List (List ℕ) → Type 0 = λ planes. Appends c.args.out.now c.write_planes_below.new.out (take c.args.budget (code (take c.args.prec (planes_held c.args.size planes)))) in
+    subst P (arrays_as_words c.args.planes.now c.told-planes) c.write_planes_below.ensures.bits
 
 pub returns-clause-count : goal.returns-clause-count
 returns-clause-count c =
-    let P : List (List ℕ) → Type 0 = λ planes. c.write_planes.result ≡ min c.args.budget (length (code (take c.args.prec (planes_held c.args.size planes)))) in
-    subst P (arrays_as_words c.args.planes.now c.told-planes) c.write_planes.ensures.count
+    let P : List (List ℕ) → Type 0 = λ planes. c.write_planes_below.result ≡ min c.args.budget (length (code (take c.args.prec (planes_held c.args.size planes)))) in
+    subst P (arrays_as_words c.args.planes.now c.told-planes) c.write_planes_below.ensures.count

@@ -11,8 +11,8 @@ use Rattle.zf_planes.proofs.encoding.write_plane.Goals as goal
 prefix_long : (size n k : ℕ) (ws : List ℕ) → size ≤ 64 * k → length ws ≡ k → n ≤ size → length (take n (digits_held size ws)) ≡ n
 prefix_long size n k ws words long within = omega (arith, length-take n (digits_held size ws), length-digits_held size ws (omega arith))
 
-pub write_part-left-requires-clause-fits : goal.write_part-left-requires-clause-fits
-write_part-left-requires-clause-fits g c =
+pub write_digits-left-requires-clause-fits : goal.write_digits-left-requires-clause-fits
+write_digits-left-requires-clause-fits g c =
     let n = c.args.n in
     let ws = g.P.Plane.words c.args.plane.now in
     let ds = digits_held c.args.size ws in
@@ -23,7 +23,7 @@ write_tail-requires-clause-fits g c =
     let n = c.args.n in
     let ws = g.P.Plane.words c.args.plane.now in
     let ds = digits_held c.args.size ws in
-    let first = Appends-same c.write_part-left.ensures.bits (ap (take c.args.left) (held_prefix c.args.size n ws c.requires.in_plane)) in
+    let first = Appends-same c.write_digits-left.ensures.bits (ap (take c.args.left) (held_prefix c.args.size n ws c.requires.in_plane)) in
     omega (
       arith,
       c.requires.fits,
@@ -31,7 +31,7 @@ write_tail-requires-clause-fits g c =
       prefix_long c.args.size n _ ws c.requires.words (g.met.P.Plane.long c.args.plane.now) c.requires.in_plane,
       first.room,
       length-take c.args.left (take n ds),
-      c.write_part-left.ensures.left,
+      c.write_digits-left.ensures.left,
     )
 
 pub returns-clause-bits : goal.returns-clause-bits
@@ -39,9 +39,9 @@ returns-clause-bits g c =
     let n = c.args.n in
     let ws = g.P.Plane.words c.args.plane.now in
     let ds = digits_held c.args.size ws in
-    let first = Appends-same c.write_part-left.ensures.bits (ap (take c.args.left) (held_prefix c.args.size n ws c.requires.in_plane)) in
-    let spent : c.write_part-left.result ≡ c.args.left - length (take n ds) =
-    omega (arith, c.write_part-left.ensures.left, prefix_long c.args.size n _ ws c.requires.words (g.met.P.Plane.long c.args.plane.now) c.requires.in_plane) in
+    let first = Appends-same c.write_digits-left.ensures.bits (ap (take c.args.left) (held_prefix c.args.size n ws c.requires.in_plane)) in
+    let spent : c.write_digits-left.result ≡ c.args.left - length (take n ds) =
+    omega (arith, c.write_digits-left.ensures.left, prefix_long c.args.size n _ ws c.requires.words (g.met.P.Plane.long c.args.plane.now) c.requires.in_plane) in
     let second = rw spent at c.write_tail.ensures.bits in
     Appends-same (Appends-append first second) (sym (take_append c.args.left (take n ds) (tail (drop n ds))))
 
@@ -52,7 +52,7 @@ returns-clause-left g c =
     let ds = digits_held c.args.size ws in
     omega (
       arith,
-      c.write_part-left.ensures.left,
+      c.write_digits-left.ensures.left,
       c.write_tail.ensures.left,
       length-append (take n ds) (tail (drop n ds)),
       prefix_long c.args.size n _ ws c.requires.words (g.met.P.Plane.long c.args.plane.now) c.requires.in_plane,

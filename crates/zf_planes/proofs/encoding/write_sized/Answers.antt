@@ -76,8 +76,8 @@ write_planes_of_word-requires-clause-fits g c =
     zeros.some zeros.within zeros.zeros count c.write_reserved.ensures.bits in
     omega (arith, remains.fits)
 
-pub returns-then-size-eq4-clause-bits : goal.returns-then-size-eq4-clause-bits
-returns-then-size-eq4-clause-bits g c =
+pub returns-then-size-eq16-clause-bits : goal.returns-then-size-eq16-clause-bits
+returns-then-size-eq16-clause-bits g c =
     let k = c.args.zeros in
     let zeros = c.requires in
     let count : c.min-count.result ≡ min c.args.budget k = omega (arith, c.min-count.ensures, c.from.ensures) in
@@ -86,8 +86,8 @@ returns-then-size-eq4-clause-bits g c =
     let rest = code_from 0 (drop k (take c.args.prec (planes_held c.args.size (map g.P.Plane.words c.args.planes.now)))) in
     Remains-end (Remains-more rest [] (Remains-same remains (sym (append-nil rest))) c.write_planes_of_word.ensures.bits) (omega arith)
 
-pub returns-then-size-eq4-clause-count : goal.returns-then-size-eq4-clause-count
-returns-then-size-eq4-clause-count g c =
+pub returns-then-size-eq16-clause-count : goal.returns-then-size-eq16-clause-count
+returns-then-size-eq16-clause-count g c =
     let k = c.args.zeros in
     let zeros = c.requires in
     let count : c.min-count.result ≡ min c.args.budget k = omega (arith, c.min-count.ensures, c.from.ensures) in

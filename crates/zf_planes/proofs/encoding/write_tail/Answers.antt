@@ -145,8 +145,8 @@ after_bit : {old now new : Writer} {budget left : ℕ} {whole : List Bool} (size
     → m ≡ min (n + j + 1) (size - 1) → Appends now new (true ∷ []) → Remains old new budget (left - 1) whole (take (m - n) (drop n ds) ++ tail (drop (n + j + 1) ds))
 after_bit size n j m ds remains long run some e appends = Remains-bit true _ some (remains_run ds n j m remains run.within run.split (omega arith)) appends
 
-pub write_part-left-requires-clause-fits : goal.write_part-left-requires-clause-fits
-write_part-left-requires-clause-fits g c =
+pub write_digits-left-requires-clause-fits : goal.write_digits-left-requires-clause-fits
+write_digits-left-requires-clause-fits g c =
     let n = c.loop-n.n in
     let ds = digits_held c.args.size (g.P.Plane.words c.args.plane.now) in
     let all = held_long g c.args.plane.now c.args.size c.requires.words in
@@ -166,10 +166,10 @@ loop-n-preserved g c =
     let m = c.min.result in
     let run : IsRun ds n j = record { within = omega (arith, all, c.zeros_from.ensures.bound); split = c.zeros_from.ensures.split } in
     let next = after_bit c.args.size n j m ds c.loop-n.invariant.remains all run c.if-left-gt0.true c.min.ensures c.write_bit_reserved-else-zeros-lt63.ensures.bits in
-    let part = Appends-same c.write_part-left.ensures.bits (ap (take (c.loop-n.left - 1)) (held_part c.args.size n m ws (omega (arith, c.min.ensures, c.loop-n-test.true)) (omega (arith, c.min.ensures)))) in
+    let part = Appends-same c.write_digits-left.ensures.bits (ap (take (c.loop-n.left - 1)) (held_part c.args.size n m ws (omega (arith, c.min.ensures, c.loop-n-test.true)) (omega (arith, c.min.ensures)))) in
     let written = Remains-more (take (m - n) (drop n ds)) (tail (drop (n + j + 1) ds)) next part in
     let count : length (take (m - n) (drop n ds)) ≡ m - n = omega (arith, all, length-take (m - n) (drop n ds), length-drop n ds, c.min.ensures) in
-    let spent : c.write_part-left.result ≡ c.loop-n.left - 1 - length (take (m - n) (drop n ds)) = omega (arith, count, c.write_part-left.ensures.left) in
+    let spent : c.write_digits-left.result ≡ c.loop-n.left - 1 - length (take (m - n) (drop n ds)) = omega (arith, count, c.write_digits-left.ensures.left) in
     record {
       remains = rw spent written;
       within = omega (arith, c.zeros_from.ensures.bound);

@@ -4,7 +4,7 @@ use Rattle.std.proofs.lemmas.Nat.{one_shl, pow_pos}
 use Rattle.zf_spec.specs.Numbers.{field}
 use Rattle.zf_spec.proofs.Fields.{field-mod}
 use Rattle.zf_planes.specs.Decoding.{planes_ahead, planes_bits}
-use Rattle.zf_planes.specs.declared.four_reading.TheConstants.{ENDS}
+use Rattle.zf_planes.specs.declared.ends_table.TheConstants.{ENDS}
 use Rattle.zf_planes.proofs.LanesAhead.{planes_bits-le}
 use Rattle.zf_planes.specs.Lanes.{lanes_apart}
 use Rattle.zf_planes.proofs.LaneTables.{AreLast, last_of_entry}

@@ -3,7 +3,7 @@ use Rattle.zf_spec.specs.Numbers.{field}
 use Rattle.zf_spec.specs.Planes.{code_from}
 use Rattle.zf_spec.proofs.Fields.{length-field}
 use Rattle.zf_bits.specs.Writer.{Writer}
-use Rattle.zf_planes.specs.Fours.{fours}
+use Rattle.zf_planes.specs.Fours.{string_planes}
 use Rattle.zf_planes.proofs.Budgets.{Remains, Remains-start, Remains-same, Remains-fits, Remains-more, Remains-end}
 use Rattle.zf_planes.proofs.Strings.{next_of_string, whole_string, string_end, reach_of_string-le}
 use Rattle.zf_planes.proofs.four_writing.write_rest.Goals as goal
@@ -11,10 +11,10 @@ use Rattle.zf_planes.proofs.four_writing.write_rest.Goals as goal
 -- ---- all ranks have had a one
 
 -- the planes that are left are their own code
-digits_left : {old now : Writer} {budget left : ℕ} {whole : List Bool} (above planes string len : ℕ) → above ≡ 4 → len ≡ 4 * planes → Remains old now budget left whole (code_from above (fours planes string))
+digits_left : {old now : Writer} {budget left : ℕ} {whole : List Bool} (above planes string len : ℕ) → above ≡ 4 → len ≡ 4 * planes → Remains old now budget left whole (code_from above (string_planes planes string))
     → Remains old now budget left whole (field len string ++ [])
 digits_left above planes string len all count remains =
-    Remains-same remains (ap (λ n. code_from n (fours planes string)) all ∙ whole_string planes string ∙ ap (λ n. field n string) (sym count) ∙ sym (append-nil (field len string)))
+    Remains-same remains (ap (λ n. code_from n (string_planes planes string)) all ∙ whole_string planes string ∙ ap (λ n. field n string) (sym count) ∙ sym (append-nil (field len string)))
 
 pub write_part-requires-clause-fits : goal.write_part-requires-clause-fits
 write_part-requires-clause-fits c =
@@ -41,20 +41,22 @@ returns-then-above-eq4-clause-reached c = λ some. omega (arith, c.if-above-eq4.
 
 pub write_part-left-requires-clause-fits : goal.write_part-left-requires-clause-fits
 write_part-left-requires-clause-fits c =
-    let part = c.code_of_4-part.result in
-    let on = next_of_string c.loop-planes.above c.loop-planes.planes c.loop-planes.string part.above (field part.len part.bits) (omega (arith, c.loop-planes-test.true)) c.code_of_4-part.ensures.bits c.code_of_4-part.ensures.above in
+    let code = c.code_of_4-code.result in
+    let part = code.part in
+    let on = next_of_string c.loop-planes.above c.loop-planes.planes c.loop-planes.string code.above (field part.len part.bits) (omega (arith, c.loop-planes-test.true)) c.code_of_4-code.ensures.bits c.code_of_4-code.ensures.above in
     omega (arith, Remains-fits (field part.len part.bits) _ (Remains-same c.loop-planes.invariant.remains on.code), length-field part.len part.bits)
 
 pub loop-planes-preserved : goal.loop-planes-preserved
 loop-planes-preserved c =
-    let part = c.code_of_4-part.result in
-    let on = next_of_string c.loop-planes.above c.loop-planes.planes c.loop-planes.string part.above (field part.len part.bits) (omega (arith, c.loop-planes-test.true)) c.code_of_4-part.ensures.bits c.code_of_4-part.ensures.above in
+    let code = c.code_of_4-code.result in
+    let part = code.part in
+    let on = next_of_string c.loop-planes.above c.loop-planes.planes c.loop-planes.string code.above (field part.len part.bits) (omega (arith, c.loop-planes-test.true)) c.code_of_4-code.ensures.bits c.code_of_4-code.ensures.above in
     let written = Remains-more (field part.len part.bits) _ (Remains-same c.loop-planes.invariant.remains on.code) c.write_part-left.ensures.bits in
     let spent : c.loop-planes.left - length (field part.len part.bits) ≡ c.write_part-left.result = omega (arith, length-field part.len part.bits, c.write_part-left.ensures.left) in
     record {
       remains = rw spent at written;
       reached = c.loop-planes.invariant.reached ∙ on.reached;
-      above = c.code_of_4-part.ensures.within;
+      above = c.code_of_4-code.ensures.within;
       few = omega (arith, c.loop-planes.invariant.few);
     }
 

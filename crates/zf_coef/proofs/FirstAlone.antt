@@ -1,0 +1,203 @@
+-- Planes in which no coefficient but the first has a one: their bits as a number, and the coefficients that they stand for.
+use Rattle.std.proofs.Common.{◌≡◌, ◌≢◌, refl, sym, ap, subst, ◌∙◌, ℕ, zero, suc, ◌+◌, ◌-◌, ◌*◌, ◌/◌, ◌%◌, ◌^◌, ◌<◌, ◌≤◌, ⊎_elim, max, Bool, false, ℤ, pos, List, [], ◌∷◌, map, length, get_or, set, replicate, get_or-set_same, get_or-set_other, arith}
+use Rattle.std.specs.Int.{Width, bit_at}
+use Rattle.std.specs.Int.RustNames.{bit_or}
+use Rattle.std.proofs.lemmas.Bool.{cases_lt, cases_eq}
+use Rattle.std.proofs.lemmas.List.{length-replicate}
+use Rattle.std.proofs.lemmas.Nat.Bits.{bit_at_or, bit_at-zero, bit_at_above}
+use mir.Val.{bits}
+use Rattle.zf_spec.specs.Grid.{IsDimension}
+use Rattle.zf_spec.specs.Numbers.{field, value_of, digits_sum, wrap}
+use Rattle.zf_spec.specs.Ranks.{order, by_place}
+use Rattle.zf_spec.specs.Planes.{digits_in_planes}
+use Rattle.zf_spec.specs.HeldPlanes.{planes_held}
+use Rattle.zf_spec.proofs.Fields.{field-zero}
+use Rattle.zf_spec.proofs.Ranking.{rank_of-order}
+use Rattle.zf_spec.proofs.Ranking.{rank_of}
+use Rattle.zf_spec.proofs.Wrapping.{wrap_value, zero_fits}
+use Rattle.zf_coef.specs.Turned.{bit_of}
+use Rattle.zf_coef.specs.Groups.{word_of}
+use Rattle.zf_coef.specs.HeldDigits.{digits_in, unranked_values}
+use Rattle.zf_coef.proofs.ByRank.{ranks_all}
+use Rattle.zf_coef.proofs.ShiftedBits.{bit_at-mod, bit_at-shl_low, bit_at-shl_high}
+use Rattle.zf_coef.proofs.Transposed.{IsOfGroups, HoldsGroups, digits_of_groups}
+
+-- ---- the bits of planes as a number
+
+-- bit k of a number is the word of plane k, for so many planes
+pub record HasBits (planes : List (List ℕ)) (digits count : ℕ) : Type 0 where
+  pub inside : (k : ℕ) → k < count → bit_at digits k ≡ word_of planes 0 k
+  pub above : (k : ℕ) → count ≤ k → bit_at digits k ≡ 0
+
+pub bits_none : (planes : List (List ℕ)) → HasBits planes 0 0
+bits_none planes = record { inside = λ k h. absurd (omega arith); above = λ k h. bit_at-zero k }
+
+-- a bit at its place in a word
+bit_here : (w k : ℕ) → k < 64 → w < 2 → bit_at (w * 2 ^ k % 2 ^ 64) k ≡ w
+bit_here w k small one =
+    let none : k - k ≡ 0 = omega arith in
+    bit_at-mod (w * 2 ^ k) k small ∙ bit_at-shl_high w k k (omega arith) ∙ ap (bit_at w) none ∙ omega arith
+
+bit_elsewhere : (w k j : ℕ) → k < 64 → w < 2 → j ≢ k → bit_at (w * 2 ^ k % 2 ^ 64) j ≡ 0
+bit_elsewhere w k j small one other = ⊎_elim
+    (λ (inside : j < 64).
+    bit_at-mod (w * 2 ^ k) j inside
+    ∙ ⊎_elim
+    (λ (below : j < k). bit_at-shl_low w k j below)
+    (λ (from : k ≤ j). bit_at-shl_high w k j from ∙ bit_at_above w 1 (j - k) (omega arith) (omega arith))
+    (cases_lt j k))
+    (λ (past : 64 ≤ j). bit_at_above (w * 2 ^ k % 2 ^ 64) 64 j (omega arith) past)
+    (cases_lt j 64)
+
+pub bits_more : (planes : List (List ℕ)) (digits k w : ℕ) → k < 64 → word_of planes 0 k < 2 → w ≡ word_of planes 0 k → HasBits planes digits k
+    → HasBits planes (bit_or digits (w * 2 ^ k % 2 ^ 64)) (k + 1)
+bits_more planes digits k w small one is before =
+    let bit : w < 2 = omega arith in
+    record {
+      inside = λ j h. ⊎_elim
+          (λ (earlier : j < k).
+          bit_at_or digits (w * 2 ^ k % 2 ^ 64) j ∙ omega (arith, bit_elsewhere w k j small bit (λ (e : j ≡ k). omega arith), before.inside j earlier))
+          (λ (last : k ≤ j).
+          let same : k ≡ j = omega arith in
+          subst (λ i. bit_at (bit_or digits (w * 2 ^ k % 2 ^ 64)) i ≡ word_of planes 0 i) same
+          (bit_at_or digits (w * 2 ^ k % 2 ^ 64) k ∙ omega (arith, bit_here w k small bit, before.above k (omega arith), is)))
+          (cases_lt j k);
+      above = λ j h. bit_at_or digits (w * 2 ^ k % 2 ^ 64) j ∙ omega (arith, bit_elsewhere w k j small bit (λ (e : j ≡ k). omega arith), before.above j (omega arith));
+    }
+
+-- ---- the digits of all coefficients
+
+zero_at : (n r : ℕ) → let none : ℕ = 0 in get_or (replicate n none) r none ≡ none
+zero_at zero r = refl
+zero_at (suc n) zero = refl
+zero_at (suc n) (suc r) = zero_at n r
+
+pub digits_of_first : (number size u : ℕ) (planes : List (List ℕ)) → 0 < size → size ≤ 64 * number → length planes ≤ 64
+    → ((k : ℕ) → k < length planes → length (get_or planes k []) ≡ number)
+    → ((p k : ℕ) → 0 < p → p < number → word_of planes p k ≡ 0) → ((k : ℕ) → word_of planes 0 k < 2) → ((k : ℕ) → bit_at u k ≡ word_of planes 0 k)
+    → digits_in (length planes) (u ∷ replicate (size - 1) 0) ≡ digits_in_planes (length planes) size (planes_held size planes)
+digits_of_first number size u planes some room few each others one first =
+    let digits = u ∷ replicate (size - 1) 0 in
+    let n = length planes in
+    let long : length digits ≡ size = omega (arith, length-replicate {A = ℕ} (size - 1) 0) in
+    digits_of_groups number planes digits few (omega arith)
+    (λ r k below within. let wide = ap (λ m. 64 * m) (each k within) in omega arith)
+    (record { each = bit })
+    ∙ ap (λ s. digits_in_planes n s (planes_held s planes)) long
+  where
+    bit : (r k : ℕ) → r < 64 * number → r < length (u ∷ replicate (size - 1) 0) → k < 64 → bit_of (u ∷ replicate (size - 1) 0) r k ≡ bit_at (word_of planes (r / 64) k) (r % 64)
+    bit zero k inside below small =
+        let whole : word_of planes 0 k ≡ word_of planes 0 k / 2 ^ 0 % 2 = let b = one k in omega arith in
+        first k ∙ whole
+    bit (suc r) k inside below small = ap (λ v. bit_at v k) (zero_at (size - 1) r) ∙ bit_at-zero k ∙ sym (none (suc r / 64) (suc r % 64) (omega arith) (omega arith))
+      where
+        none : (p i : ℕ) → p < number → (0 < p + i) → bit_at (word_of planes p k) i ≡ 0
+        none zero i inside' later = bit_at_above (word_of planes 0 k) 1 i (one k) (omega arith)
+        none (suc p) i inside' later = ap (λ v. bit_at v i) (others (suc p) k (omega arith) inside') ∙ bit_at-zero i
+
+-- ---- the coefficients
+
+-- rank 0 is at place 0
+pub first_place : (d : ℕ) → IsDimension d → get_or (order d) 0 0 ≡ 0
+first_place zero dims = absurd (omega (arith, dims.0))
+first_place (suc zero) dims = refl
+first_place (suc (suc zero)) dims = refl
+first_place (suc (suc (suc zero))) dims = refl
+first_place (suc (suc (suc (suc zero)))) dims = refl
+first_place (suc (suc (suc (suc (suc d))))) dims = absurd (omega (arith, dims.1))
+
+zero_value_at : (n k : ℕ) → get_or (replicate n (pos 0)) k (pos 0) ≡ pos 0
+zero_value_at zero k = refl
+zero_value_at (suc n) zero = refl
+zero_value_at (suc n) (suc k) = zero_value_at n k
+
+-- behind the first place of a block all values are zero
+behind_first : (v : ℤ) (n k : ℕ) → 0 < k → get_or (v ∷ replicate n (pos 0)) k (pos 0) ≡ pos 0
+behind_first v n zero later = absurd (omega arith)
+behind_first v n (suc k) later = zero_value_at n k
+
+by_place_first : (d : ℕ) (v : ℤ) → IsDimension d → 0 < 4 ^ d → by_place d (v ∷ replicate (4 ^ d - 1) (pos 0)) ≡ v ∷ replicate (4 ^ d - 1) (pos 0)
+by_place_first d v dims some =
+    let block = v ∷ replicate (4 ^ d - 1) (pos 0) in
+    let long : length block ≡ 4 ^ d = omega (arith, length-replicate (4 ^ d - 1) (pos 0)) in
+    sym (ranks_all d block block long (λ k below. ⊎_elim
+    (λ (none : k ≡ 0). ap (λ r. get_or block (get_or (order d) r 0) (pos 0)) none ∙ ap (λ p. get_or block p (pos 0)) (first_place d dims) ∙ ap (λ r. get_or block r (pos 0)) (sym none))
+    (λ later.
+    let apart : 0 < get_or (order d) k 0 = ⊎_elim
+    (λ (same : get_or (order d) k 0 ≡ 0).
+    let rank : k ≡ 0 = sym (rank_of-order d k below) ∙ ap (rank_of d) (same ∙ sym (first_place d dims)) ∙ rank_of-order d 0 some in
+    absurd (omega arith))
+    (λ other. omega arith)
+    (cases_eq (get_or (order d) k 0) 0) in
+    behind_first v (4 ^ d - 1) (get_or (order d) k 0) apart ∙ sym (behind_first v (4 ^ d - 1) k (omega arith)))
+    (cases_eq k 0)))
+
+sum_of_none : (n : ℕ) → digits_sum (replicate n false) ≡ pos 0
+sum_of_none zero = refl
+sum_of_none (suc n) = rw (sum_of_none n) refl
+
+values_of_zeros : (w : Width) (m n : ℕ) → map (value_of w) (digits_in m (replicate n 0)) ≡ replicate n (pos 0)
+values_of_zeros w m zero = refl
+values_of_zeros w m (suc n) =
+    let none : value_of w (field m 0) ≡ pos 0 = ap (value_of w) (field-zero m) ∙ ap (wrap w) (sum_of_none m) ∙ wrap_value w (pos 0) (zero_fits w) in
+    ap (λ v. v ∷ map (value_of w) (digits_in m (replicate n 0))) none ∙ ap (λ (vs : List ℤ). pos 0 ∷ vs) (values_of_zeros w m n)
+
+-- the coefficients whose digits these are
+pub unranked_first : (w : Width) (d u : ℕ) → IsDimension d → 0 < 4 ^ d
+    → unranked_values w d (digits_in (bits w) (u ∷ replicate (4 ^ d - 1) 0)) ≡ value_of w (field (bits w) u) ∷ replicate (4 ^ d - 1) (pos 0)
+unranked_first w d u dims some =
+    ap (λ vs. by_place d (value_of w (field (bits w) u) ∷ vs)) (values_of_zeros w (bits w) (4 ^ d - 1)) ∙ by_place_first d (value_of w (field (bits w) u)) dims some
+
+-- ---- the way there
+
+-- the planes below the count hold the digits of the first coefficient alone
+pub record HoldsFirst (first count : ℕ) (planes : List (List ℕ)) : Type 0 where
+  pub word : (k : ℕ) → k < count → word_of planes 0 k ≡ first / 2 ^ k % 2
+  pub others : (p k : ℕ) → 0 < p → k < count → word_of planes p k ≡ 0
+
+pub set_first : (n x : ℕ) → 0 < n → set (replicate n 0) 0 x ≡ x ∷ replicate (n - 1) 0
+set_first zero x some = absurd (omega arith)
+set_first (suc n) x some = let less : n ≡ suc n - 1 = omega arith in ap (λ k. x ∷ replicate k 0) less
+
+pub first_none : (first : ℕ) (planes : List (List ℕ)) → HoldsFirst first 0 planes
+first_none first planes = record { word = λ k h. absurd (omega arith); others = λ p k some h. absurd (omega arith) }
+
+pub first_more : (number first k : ℕ) (planes : List (List ℕ)) (words : List ℕ) → k < length planes → 0 < number → words ≡ set (replicate number 0) 0 (first / 2 ^ k % 2)
+    → HoldsFirst first k planes → HoldsFirst first (k + 1) (set planes k words)
+first_more number first k planes words within some is before =
+    let bit = first / 2 ^ k % 2 in
+    let blank : List ℕ = replicate number 0 in
+    record {
+      word = λ j h. ⊎_elim
+          (λ (earlier : j < k). ap (λ ws. get_or ws 0 0) (get_or-set_other planes k j words [] (λ (e : j ≡ k). absurd (omega arith))) ∙ before.word j earlier)
+          (λ (last : k ≤ j).
+          let same : k ≡ j = omega arith in
+          subst (λ i. word_of (set planes k words) 0 i ≡ first / 2 ^ i % 2) same
+          (ap (λ ws. get_or ws 0 0) (get_or-set_same planes k words [] within ∙ is) ∙ get_or-set_same blank 0 bit 0 (omega (arith, length-replicate {A = ℕ} number 0))))
+          (cases_lt j k);
+      others = λ p j positive h. ⊎_elim
+          (λ (earlier : j < k). ap (λ ws. get_or ws p 0) (get_or-set_other planes k j words [] (λ (e : j ≡ k). absurd (omega arith))) ∙ before.others p j positive earlier)
+          (λ (last : k ≤ j).
+          let same : k ≡ j = omega arith in
+          subst (λ i. word_of (set planes k words) p i ≡ 0) same
+          (ap (λ ws. get_or ws p 0) (get_or-set_same planes k words [] within ∙ is) ∙ get_or-set_other blank 0 p bit 0 (λ (e : p ≡ 0). absurd (omega arith)) ∙ zero_at number p))
+          (cases_lt j k);
+    }
+
+pub groups_of_first : (number first size : ℕ) (planes : List (List ℕ)) → 0 < size → length planes ≤ 64 → HoldsFirst first (length planes) planes
+    → HoldsGroups number (first ∷ replicate (size - 1) 0) planes
+groups_of_first number first size planes some few holds = record { each = bit }
+  where
+    bit : (p k r : ℕ) → p < number → k < length planes → r < 64 → bit_at (word_of planes p k) r ≡ bit_of (first ∷ replicate (size - 1) 0) (64 * p + r) k
+    bit zero k zero inside below small =
+        let place : 64 * 0 + 0 ≡ 0 = omega arith in
+        let whole : word_of planes 0 k / 2 ^ 0 % 2 ≡ word_of planes 0 k = omega (arith, holds.word k below) in
+        whole ∙ holds.word k below ∙ ap (λ i. bit_of (first ∷ replicate (size - 1) 0) i k) (sym place)
+    bit zero k (suc r) inside below small =
+        let place : 64 * 0 + suc r ≡ suc r = omega arith in
+        bit_at_above (word_of planes 0 k) 1 (suc r) (omega (arith, holds.word k below)) (omega arith)
+        ∙ sym (ap (λ i. bit_of (first ∷ replicate (size - 1) 0) i k) place ∙ ap (λ v. bit_at v k) (zero_at (size - 1) r) ∙ bit_at-zero k)
+    bit (suc p) k r inside below small =
+        let place : 64 * suc p + r ≡ suc (64 * suc p + r - 1) = omega arith in
+        ap (λ v. bit_at v r) (holds.others (suc p) k (omega arith) below) ∙ bit_at-zero r
+        ∙ sym (ap (λ i. bit_of (first ∷ replicate (size - 1) 0) i k) place ∙ ap (λ v. bit_at v k) (zero_at (size - 1) (64 * suc p + r - 1)) ∙ bit_at-zero k)

@@ -1,0 +1,48 @@
+use Rattle.std.proofs.Common.{◌≡◌, ℕ, ◌+◌, ◌-◌, ◌/◌, ◌%◌, ◌^◌, List, ◌∷◌, map, length, replicate, set, sym, ap, subst, ◌∙◌, arith}
+use Rattle.std.proofs.lemmas.List.{length-map, map-set, length-replicate}
+use Rattle.zf_spec.specs.Planes.{planes_of}
+use Rattle.zf_spec.specs.HeldPlanes.{planes_held}
+use Rattle.zf_coef.specs.HeldDigits.{digits_in}
+use Rattle.zf_coef.proofs.Prefixes.{each_long}
+use Rattle.zf_coef.proofs.Transposed.{planes_of_groups}
+use Rattle.zf_coef.proofs.FirstAlone.{HoldsFirst, first_none, first_more, groups_of_first, set_first}
+use Rattle.zf_coef.proofs.first.planes_of_first.Given.{Over}
+use Rattle.zf_coef.proofs.first.planes_of_first.Goals as goal
+
+pub loop-k-init : goal.loop-k-init
+loop-k-init g c = first_none c.args.first (map g.P.Plane.words c.args.planes.now)
+
+pub loop-k-preserved : goal.loop-k-preserved
+loop-k-preserved g c =
+    let words = g.P.Plane.words in
+    let planes = c.loop-k.planes in
+    let k = c.loop-k.k in
+    let first = c.args.first in
+    subst (HoldsFirst first (k + 1)) (sym (map-set words planes k c.set_word.new.self))
+    (first_more g.P.Plane.word_count first k (map words planes) (words c.set_word.new.self) (omega (arith, length-map planes words)) (omega arith)
+    (c.set_word.ensures ∙ ap (λ ws. set ws 0 (first / 2 ^ k % 2)) c.zero-plane.ensures) c.loop-k.invariant)
+
+-- the digits
+written : (g : Over) (c : goal.After-loop-k g) → set c.fill.new.self 0 c.args.first ≡ c.args.first ∷ replicate (length c.args.digits.now - 1) 0
+written g c =
+    let size = length c.args.digits.now in
+    ap (λ ds. set ds 0 c.args.first) (c.fill.ensures.after (λ y same. same)) ∙ set_first size c.args.first c.requires.some
+
+pub returns-clause-digits : goal.returns-clause-digits
+returns-clause-digits g c = written g c
+
+pub returns-clause-planes : goal.returns-clause-planes
+returns-clause-planes g c =
+    let words = g.P.Plane.words in
+    let planes = map words c.loop-k.planes in
+    let first = c.args.first in
+    let size = length c.args.digits.now in
+    let digits = first ∷ replicate (size - 1) 0 in
+    let same : length planes ≡ length c.loop-k.planes = length-map c.loop-k.planes words in
+    let long : length digits ≡ size = omega (arith, length-replicate {A = ℕ} (size - 1) 0) in
+    let all : c.loop-k.k ≡ length planes = omega arith in
+    let Held : ℕ → List ℕ → Type 0 = λ n ds. planes_held (length ds) planes ≡ planes_of n (digits_in n ds) in
+    subst (Held (length c.loop-k.planes)) (sym (written g c))
+    (subst (λ n. Held n digits) same
+    (planes_of_groups g.P.Plane.word_count digits planes (omega (arith, long)) (each_long words g.P.Plane.word_count g.met.P.Plane.long c.loop-k.planes)
+    (groups_of_first g.P.Plane.word_count first size planes c.requires.some (omega arith) (subst (λ n. HoldsFirst first n planes) all c.loop-k.invariant))))

@@ -1,0 +1,172 @@
+#!/usr/bin/env python3
+"""Makes the tables of this crate from the rule of the plane code.
+
+    python3 crates/zf_planes/tables.py [TABLE]
+
+With the name of a table, such as PAIRS, it prints the entries. Else it compares each table with the one in src/, and says which are the same. A table stands
+in a file of its own there, with the rule of its entries above it; `rt fmt` lays the lines out.
+"""
+
+import pathlib
+import re
+import sys
+
+HERE = pathlib.Path(__file__).resolve().parent
+
+
+def digits_of(number, size):
+    """The digits of a plane, that of rank 0 first."""
+    return [number >> rank & 1 for rank in range(size)]
+
+
+def number_of(bits):
+    return sum(bit << place for place, bit in enumerate(bits))
+
+
+def reach(digits):
+    return max((rank + 1 for rank, digit in enumerate(digits) if digit), default=0)
+
+
+def run_code(digits):
+    """The code from a run on: its digits up to the first one, of which that of the last rank is implied, and all behind it."""
+    if len(digits) < 2:
+        return []
+    if not digits[0]:
+        return [0] + run_code(digits[1:])
+    return [1] + tail_code(digits[1:])
+
+
+def tail_code(digits):
+    """The code of the digits of ranks that have had no one above."""
+    if not digits:
+        return []
+    return [1] + run_code(digits) if any(digits) else [0]
+
+
+def plane_code(above, digits):
+    """The code of a plane in which the ranks below `above` have had a one above."""
+    return digits[:above] + tail_code(digits[above:])
+
+
+def plane_in(above, bits, size=4):
+    """The plane whose code these bits begin with, or none where they are too few."""
+    for number in range(2**size):
+        digits = digits_of(number, size)
+        code = plane_code(above, digits)
+        if bits[: len(code)] == code:
+            return digits, len(code)
+    return None
+
+
+def cut_plane(above, bits, size=4):
+    """The plane that the last bits of a budget stand for, too few for a whole code: a run that is cut has a one where it is cut."""
+    first = bits[:above]
+    digits = first + [0] * (above - len(first))
+    rest = bits[above:]
+    while len(digits) < size and rest and rest[0]:
+        rest = rest[1:]
+        while True:
+            last = len(digits) == size - 1
+            if not rest and not last or last:
+                digits.append(1)
+                break
+            digit, rest = rest[0], rest[1:]
+            digits.append(digit)
+            if digit:
+                break
+        if not rest:
+            break
+    return digits + [0] * (size - len(digits))
+
+
+def in_lanes(planes):
+    """The digits of up to four planes in four lanes of four bits, a lane for each rank, those of the last plane lowest."""
+    lanes = 0
+    for rank in range(4):
+        lane = 0
+        for digits in planes:
+            lane = 2 * lane + digits[rank]
+        lanes += lane << 4 * rank
+    return lanes
+
+
+def doubled():
+    for number in range(256):
+        bits = [bit for digit in digits_of(number, 8) for bit in ([1, 1] if digit else [0])]
+        yield number_of(bits) + (len(bits) << 16)
+
+
+def pairs():
+    for above in range(5):
+        for number in range(256):
+            first, second = digits_of(number % 16, 4), digits_of(number // 16, 4)
+            between = max(above, reach(first))
+            code = plane_code(above, first) + plane_code(between, second)
+            yield number_of(code) + (len(code) << 14) + (max(between, reach(second)) << 18)
+
+
+def planes_in(above, bits, at_end):
+    """Up to four planes whose codes are whole in these bits, and at the end of a budget the one that it cuts; the entry of both tables."""
+    planes, taken = [], 0
+    while len(planes) < 4 and taken < len(bits):
+        found = plane_in(above, bits[taken:])
+        if found is None and not at_end:
+            break
+        digits, count = found or (cut_plane(above, bits[taken:]), len(bits) - taken)
+        planes.append(digits)
+        above = max(above, reach(digits))
+        taken += count
+    return in_lanes(planes) + (taken << 16) + (len(planes) << 20) + (above << 23)
+
+
+def lanes():
+    for above in range(5):
+        for number in range(256):
+            yield planes_in(above, digits_of(number, 8), False)
+
+
+def ends():
+    for above in range(5):
+        for number in range(256):
+            count = max(number.bit_length() - 1, 0)
+            yield 0 if count == 0 else planes_in(above, digits_of(number - (1 << count), count), True)
+
+
+def spread():
+    for number in range(256):
+        yield sum((number >> 7 - k & 1) << 4 * k for k in range(8))
+
+
+def tails():
+    for most in range(1, 10):
+        for number in range(256):
+            bits = [1] + digits_of(number, 8)
+            known = 127 << 12
+            for value in range(1, min(2**most, 256)):
+                digits = digits_of(value, most)
+                code = tail_code(digits)
+                if bits[: len(code)] == code:
+                    known = value + (reach(digits) << 8) + (len(code) << 12)
+            yield known
+
+
+TABLES = {"DOUBLED": doubled, "PAIRS": pairs, "LANES": lanes, "ENDS": ends, "SPREAD": spread, "TAILS": tails}
+
+
+def in_source(name):
+    text = (HERE / "src" / f"{name.lower()}_table.rt").read_text()
+    return [int(entry) for entry in re.search(rf"static {name}: .*? = \[(.*?)\];", text, re.S)[1].replace(",", " ").split()]
+
+
+def main():
+    if len(sys.argv) > 1:
+        print(", ".join(map(str, TABLES[sys.argv[1]]())))
+        return 0
+    others = [name for name, made in TABLES.items() if list(made()) != in_source(name)]
+    for name in TABLES:
+        print(f"{name}: {'another' if name in others else 'the same'}")
+    return 1 if others else 0
+
+
+if __name__ == "__main__":
+    sys.exit(main())
