@@ -153,7 +153,7 @@ module _ {F : Type 0} (loads saves : F → F → Type 0) (faults : F → ℕ) (c
     loaded = now;
     load = subst (λ b. Makes b loads faults (load_status e ≡ LoadFault) before now) (sym loading) (step, (cause.0, λ is. cause.1 (no_failure e is)));
     save = Makes-none saves faults ((meaning c).saves && is_work_done (load_status e)) (load_status e ≡ SaveFault) now
-    (ap (λ b. (meaning c).saves && b) (no_work e) ∙ and_false (meaning c).saves) (λ is. no_bool (sym (ap is_work_done is) ∙ no_work e));
+        (ap (λ b. (meaning c).saves && b) (no_work e) ∙ and_false (meaning c).saves) (λ is. no_bool (sym (ap is_work_done is) ∙ no_work e));
   }
 
   -- the same steps once what was written was handed on or not
