@@ -21,7 +21,7 @@ use Rattle.zfpi.specs.declared.command.Command.{Command}
 use Rattle.zfpi.specs.declared.command.Command.TheVariants.{Compress, CompressNarrow, Restore, RestoreNarrow, Info, New, Run, Look, Bound, Sample}
 use Rattle.zfpi.specs.Faults.{load_status}
 use Rattle.zfpi.specs.Opened.{array_in, stream_in, opened}
-use Rattle.zfpi.specs.Scripts.{Answering, look_replies, lines_status, script_status}
+use Rattle.zfpi.specs.Scripts.{Answering, reads_script, look_replies, lines_status, script_status}
 use Rattle.zfpi.specs.Certified.{certified_status}
 use Rattle.zfpi.specs.World.{Seen, seen, counts}
 use Rattle.zfpi.specs.Answer.{meaning, OfUsed}
@@ -30,6 +30,7 @@ use Rattle.zfpi.specs.Loaded.{SavesOrFails}
 use Rattle.zfpi.specs.Sending.{IsDone, EndsSent, HandsOn}
 use Rattle.zfpi.specs.Steps.{IsShelfless}
 use Rattle.zfpi.specs.Headline.{IsWorkDone, IsSent, Writes, Saves, Behaves, HasCauses, IsIdle, Sends}
+use Rattle.zfpi.proofs.Causes.{IsIdle-same}
 use Rattle.zfpi.proofs.Loading.{ComesFirst, by_first}
 use Rattle.zfpi.proofs.Promises.{IsRefusal, opened_first_array, opened_first_stream, IsPossible-behaves}
 
@@ -191,6 +192,19 @@ writes_used (Look name lines) unsaved before now = tt
 writes_used (Bound name most) unsaved before now = tt
 writes_used (Sample h seed) unsaved before now = tt
 
+-- where they may have come to the source by a status, they may have by a write fault
+reads_cut : (c : Command) → SavesNothing c → (status : Status) (m n : ℕ) → IsIdle ((meaning c).reads status) m n → IsIdle ((meaning c).reads WriteFault) m n
+reads_cut (Compress h) unsaved status m n idle = tt
+reads_cut (CompressNarrow k h) unsaved status m n idle = tt
+reads_cut Restore unsaved status m n idle = tt
+reads_cut (RestoreNarrow k) unsaved status m n idle = tt
+reads_cut Info unsaved status m n idle = tt
+reads_cut (New name ty ns b) unsaved status m n idle = absurd unsaved
+reads_cut (Run name caching) unsaved status m n idle = absurd unsaved
+reads_cut (Look name lines) unsaved status m n idle = tt
+reads_cut (Bound name most) unsaved status m n idle = idle
+reads_cut (Sample h seed) unsaved status m n idle = idle
+
 module _ (c : Command) (status ended : Status) (unsaved : SavesNothing c) where
   -- what such a command did once what it wrote was handed on
   pub Behaves-sent : (before : Seen) (src mid now : Option (List ℕ)) (shelf : Option Files) {m n : ℕ} {Flushed : Type 0} → Behaves c status before (seen src mid shelf) → HandsOn status ended mid now m n Flushed → Behaves c ended before (seen src now shelf)
@@ -207,7 +221,10 @@ module _ (c : Command) (status ended : Status) (unsaved : SavesNothing c) where
   HasCauses-sent src src_now out mid now {before} {after} {Sure} {Still} causes sent = record {
     reading = (causes.reading.0, λ is. by_read sent.ends is);
     writing = (omega (arith, causes.writing.0, sent.kept), λ is. by_write sent.ends is);
-    no_reading = causes.no_reading;
+    no_reading = elim sent.ends [
+      | inl same ↦ subst (λ s. IsIdle ((meaning c).reads s) src src_now) (sym same) causes.no_reading
+      | inr failed ↦ subst (λ s. IsIdle ((meaning c).reads s) src src_now) (sym failed.0) (reads_cut c unsaved status src src_now causes.no_reading)
+    ];
     no_writing = writes_used c unsaved out now;
     sure = λ sure. (λ is. no_read sent.ends (causes.sure sure).0 is, (causes.sure sure).1);
   }
@@ -283,6 +300,18 @@ IsSent-cut ended first m n kept sent = λ why. sent.flushed (elim why [
   | inr quiet ↦ inr (omega (arith, kept, quiet))
 ])
 
+-- the script was read by then
+reads_done : (status : Status) → IsDone status → reads_script status ≡ true
+reads_done Done done = refl
+reads_done (Lines n) done = refl
+reads_done status done = absurd done
+
+pub reads_saved : (status ended : Status) (before now : Option Files) (file bytes : List ℕ) {Writing : Type 0} → IsDone status → SavesOrFails before now file bytes status ended Writing → reads_script ended ≡ true
+reads_saved status ended before now file bytes done saves = elim saves [
+  | inl good ↦ ap reads_script good.0 ∙ reads_done status done
+  | inr others ↦ elim others [ inl bad ↦ ap reads_script bad.0 | inr unsaved ↦ ap reads_script unsaved.0 ]
+]
+
 module _ (name : List ℕ) (caching : Caching) (src out mid out_now : ℕ) where
   Caused : Status → Type 0
   Caused s = HasCauses (Run name caching) s (counts src out) (counts src out_now) (Unit {0}) (Unit {0})
@@ -292,7 +321,7 @@ module _ (name : List ℕ) (caching : Caching) (src out mid out_now : ℕ) where
   ran ended first then unread writing = record {
     reading = (omega arith, λ is. absurd (unread is));
     writing = (omega arith, writing);
-    no_reading = tt;
+    no_reading = IsIdle-same (reads_script ended) src;
     no_writing = tt;
     sure = λ sure. (unread, tt);
   }

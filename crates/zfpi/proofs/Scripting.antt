@@ -46,7 +46,7 @@ pub record IsScripted (c : Command) (name : List ℕ) (reading : List ℕ → Re
   pub draft : (w : World) (starved : List ℕ) (status : Status) (taken : List ℕ) → (meaning c).draft status ((meaning c).text w starved taken) ≡ cut_draft status ((meaning c).text w starved taken)
   pub starved_are : (w : World) (starved : List ℕ) (status : Status) → OnWholeScript status (AreStarved replies (opened reading (w.files name)) starved w.input) → (meaning c).starved_are status w starved
   pub extent : (status : Status) (input taken : List ℕ) → TakesScript status input taken → (meaning c).extent status input taken
-  pub reads : (w : World) → IsOk (opened reading (w.files name)) → OfUsed (meaning c).reads ((meaning c).opens w)
+  pub reads : (w : World) → IsOk (opened reading (w.files name)) → OfUsed ((meaning c).reads statuses.ReadFault) ((meaning c).opens w)
   pub writes : (w : World) → IsRunnable (opened reading (w.files name)) w → OfUsed (meaning c).writes ((meaning c).works w)
 
 pub IsScripted-run : (name : List ℕ) (caching : Caching) → IsScripted (Run name caching) name array_in (run_replies caching)

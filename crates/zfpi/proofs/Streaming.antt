@@ -84,7 +84,7 @@ pub record IsStreaming (c : Command) : Type 0 where
   pub nothing_saved : (w : World) → (meaning c).saved w [] ≡ None
   pub to_end : (input : List ℕ) → (meaning c).extent statuses.Done input input
   pub cut_extent : (e : StreamFault) (input taken : List ℕ) → (meaning c).extent (fault_status e) input taken
-  pub reads : (w : World) → OfUsed (meaning c).reads ((meaning c).opens w)
+  pub reads : (w : World) → OfUsed ((meaning c).reads statuses.ReadFault) ((meaning c).opens w)
   pub writes : (w : World) → OfUsed (meaning c).writes ((meaning c).works w)
 
 pub IsStreaming-compress : (h : Header) → IsStreaming (Compress h)

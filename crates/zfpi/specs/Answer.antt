@@ -20,7 +20,7 @@ use Rattle.zfpi.specs.World.{World}
 use Rattle.zfpi.specs.Words.{IsLines, IsCaching}
 use Rattle.zfpi.specs.Info.{header_bytes, TakesHeader, info_text}
 use Rattle.zfpi.specs.Opened.{array_in, stream_in, opened}
-use Rattle.zfpi.specs.Scripts.{Answering, TakesScript, OnWholeScript, IsRunnable, run_replies, run_file, look_replies, script_status, script_text, saved_of, AreStarved}
+use Rattle.zfpi.specs.Scripts.{Answering, TakesScript, reads_script, OnWholeScript, IsRunnable, run_replies, run_file, look_replies, script_status, script_text, saved_of, AreStarved}
 use Rattle.zfpi.specs.Certified.{certified_text, certified_status}
 use Rattle.zfpi.specs.Sample.{sample_text}
 
@@ -41,8 +41,9 @@ pub record Meaning : Type 1 where
   pub extent : Status → List ℕ → List ℕ → Type 0
   -- the raw bytes of what was taken of this source, as far as it exposes them
   pub raw : Status → Option (List ℕ) → List ℕ → List ℕ → Type 0
-  -- which devices it uses at all
-  pub reads : Bool
+  -- it may have come to the source by this status
+  pub reads : Status → Bool
+  -- it uses these devices at all
   pub writes : Bool
   pub loads : Bool
   pub saves : Bool
@@ -91,7 +92,7 @@ plain = record {
   saved = λ w starved. None;
   extent = λ status input taken. taken ≡ [];
   raw = λ status src taken raw. raw ≡ taken;
-  reads = false;
+  reads = λ status. false;
   writes = false;
   loads = false;
   saves = false;
@@ -102,7 +103,7 @@ plain = record {
 
 -- a stream is written of what is read, or values of a stream
 abbrev pub streaming : Meaning
-streaming = record plain { draft = compress_draft; extent = TakesStream; reads = true; writes = true }
+streaming = record plain { draft = compress_draft; extent = TakesStream; reads = λ status. true; writes = true }
 
 -- a script is answered so, over what a file is opened as
 abbrev pub scripting : Answering → (World → Result Said Status) → Meaning
@@ -111,7 +112,7 @@ scripting replies file = record plain {
   starved_are = λ status w starved. OnWholeScript status (AreStarved replies (file w) starved w.input);
   text = λ w starved raw. script_text replies (file w) starved w.input;
   extent = TakesScript;
-  reads = true;
+  reads = reads_script;
   writes = true;
   loads = true;
   opens = λ w. IsOk (file w);
@@ -146,7 +147,7 @@ meaning Info = record plain {
   status = λ w starved. header_status (header_fault (take header_bytes w.input));
   text = λ w starved raw. info_text raw;
   extent = TakesHeader;
-  reads = true;
+  reads = λ status. true;
   writes = true;
   memory = λ w. ⊥;
 }
@@ -181,7 +182,7 @@ OfUsed false P = ⊥
 
 -- the statuses that no world determines: faults of the devices that a command comes to, and out of memory where it takes any
 abbrev pub MayFail : Status → Command → World → Type 0
-MayFail statuses.ReadFault c w = OfUsed (meaning c).reads ((meaning c).opens w)
+MayFail statuses.ReadFault c w = OfUsed ((meaning c).reads statuses.ReadFault) ((meaning c).opens w)
 MayFail statuses.WriteFault c w = OfUsed (meaning c).writes ((meaning c).works w)
 MayFail statuses.LoadFault c w = OfUsed (meaning c).loads (Unit {0})
 MayFail statuses.SaveFault c w = OfUsed (meaning c).saves ((meaning c).works w)

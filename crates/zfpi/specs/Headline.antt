@@ -71,7 +71,7 @@ pub record Behaves (c : Command) (status : Status) (before now : Seen) : Type 0 
   pub written : Writes status ((meaning c).text world starved raw) ((meaning c).draft status ((meaning c).text world starved raw)) before.out now.out
   pub saved : Saves ((meaning c).saved world starved) status before.shelf now.shelf
 
--- a count rises only where the device is used
+-- a count rises only where the device may have been used
 abbrev pub IsIdle : Bool → ℕ → ℕ → Type 0
 IsIdle true before now = Unit {0}
 IsIdle false before now = now ≡ before
@@ -80,7 +80,7 @@ IsIdle false before now = now ≡ before
 pub record HasCauses (c : Command) (status : Status) (before now : Counts) (Sure Still : Type 0) : Type 0 where
   pub reading : HasCause (status ≡ ReadFault) before.src now.src
   pub writing : HasCause (status ≡ WriteFault) before.out now.out
-  pub no_reading : IsIdle (meaning c).reads before.src now.src
+  pub no_reading : IsIdle ((meaning c).reads status) before.src now.src
   pub no_writing : IsIdle (meaning c).writes before.out now.out
   pub sure : Sure → (status ≢ ReadFault) × Still
 

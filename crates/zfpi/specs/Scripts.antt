@@ -1,5 +1,5 @@
 -- What `run` and `look` do with what a file is opened as and a script.
-use Rattle.std.specs.Prelude.{◌≡◌, ℕ, zero, suc, ◌<◌, ◌≤◌, nat_lt, Bool, List, [], length, count_by, Option, Some, None, Result, Ok, Err, IsOk, if◌then◌else◌}
+use Rattle.std.specs.Prelude.{◌≡◌, ℕ, zero, suc, ◌<◌, ◌≤◌, nat_lt, Bool, true, false, List, [], length, count_by, Option, Some, None, Result, Ok, Err, IsOk, if◌then◌else◌}
 use Rattle.std.specs.Int.{Width}
 use Rattle.zf_spec.specs.Grid.{blocks}
 use Rattle.zf_base.specs.Widths.{width_of}
@@ -102,6 +102,17 @@ TakesScript statuses.ScriptLong input taken = max_script < length taken
 TakesScript statuses.ReadFault input taken = Unit {0}
 TakesScript statuses.Memory input taken = Unit {0}
 TakesScript status input taken = taken ≡ []
+
+-- by these statuses it may have been read
+abbrev pub reads_script : Status → Bool
+reads_script statuses.Done = true
+reads_script (statuses.Lines n) = true
+reads_script statuses.WriteFault = true
+reads_script statuses.SaveFault = true
+reads_script statuses.ScriptLong = true
+reads_script statuses.ReadFault = true
+reads_script statuses.Memory = true
+reads_script status = false
 
 -- this holds where the whole of a script was run
 abbrev pub OnWholeScript : Status → Type 0 → Type 0

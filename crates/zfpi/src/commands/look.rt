@@ -1,6 +1,6 @@
 //! `look`: a script that only reads, on the values of a stream.
 
-ghost use Rattle.std.specs.Prelude.{◌≡◌, ◌≢◌, ℕ, List, Option, ◌≤◌, length};
+ghost use Rattle.std.specs.Prelude.{◌≡◌, ◌≢◌, ℕ, List, Option, ◌≤◌, length, true};
 ghost use Rattle.zf_base.specs.Widths.{width_of};
 ghost use Rattle.zf_dev.specs.Shelf.{Files, KeepsFiles};
 ghost use Rattle.zf_dev.specs.Source.{Takes, IsAtEnd};
@@ -9,7 +9,7 @@ ghost use Rattle.zfpi.specs.declared.command.Command.TheVariants.{Look};
 ghost use Rattle.zfpi.specs.Words.{IsLines};
 ghost use Rattle.zfpi.specs.World.{seen, counts};
 ghost use Rattle.zfpi.specs.Answer.{meaning};
-ghost use Rattle.zfpi.specs.Scripts.{max_script};
+ghost use Rattle.zfpi.specs.Scripts.{max_script, reads_script};
 ghost use Rattle.zfpi.specs.Loaded.{HoldsFile, HoldsStream};
 ghost use Rattle.zfpi.specs.Steps.{Steps, IsShelfless};
 ghost use Rattle.zfpi.specs.Headline.{Behaves, HasCauses};
@@ -168,6 +168,7 @@ fn look_lines<T: Lane, const D: usize, O: Sink>(
         → Behaves (Look name.now lines) result (seen src (O.contents out.old) known) (seen rest (O.contents out.new) now) }
     ensures causes { (lines : Option ℕ) (src : ℕ) → HasCauses (Look name.now lines) result
         (counts src (O.faults out.old)) (counts src (O.faults out.new)) (Unit {0}) (Unit {0}) }
+    ensures read { reads_script result ≡ true }
     ensures shelfless { IsShelfless result }
 {
     let mut array = array;

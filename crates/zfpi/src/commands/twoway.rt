@@ -1,6 +1,6 @@
 //! `run` over a two-way cache: a script on the codes of a file.
 
-ghost use Rattle.std.specs.Prelude.{◌≡◌, ℕ, List, [], Option, Some, ◌≤◌, length, vec_len, IfOk, IfErr};
+ghost use Rattle.std.specs.Prelude.{◌≡◌, ℕ, List, [], Option, Some, true, ◌≤◌, length, vec_len, IfOk, IfErr};
 ghost use Rattle.zf_base.specs.Widths.{width_of};
 ghost use Rattle.zf_dev.specs.Faults.{Rose, IsQuiet};
 ghost use Rattle.zf_dev.specs.Shelf.{Files, KeepsFiles};
@@ -19,7 +19,7 @@ ghost use Rattle.zfpi.specs.declared.command.Caching.TheVariants.{TwoWay as TwoW
 ghost use Rattle.zfpi.specs.declared.command.Command.TheVariants.{Run};
 ghost use Rattle.zfpi.specs.Words.{IsLines};
 ghost use Rattle.zfpi.specs.World.{seen, counts};
-ghost use Rattle.zfpi.specs.Scripts.{max_script};
+ghost use Rattle.zfpi.specs.Scripts.{max_script, reads_script};
 ghost use Rattle.zfpi.specs.Loaded.{HoldsFile, HoldsArray, SavesOrFails};
 ghost use Rattle.zfpi.specs.Sending.{IsDone};
 ghost use Rattle.zfpi.specs.Steps.{SavesOnce};
@@ -183,6 +183,7 @@ fn run_lines<T: Lane, const D: usize, O: Sink, F: Shelf>(
         (seen rest (O.contents out.new) (F.files shelf.new)) }
     ensures causes { (lines : ℕ) (src : ℕ) → HasCauses (Run name.now (TwoWays lines)) result
         (counts src (O.faults out.old)) (counts src (O.faults out.new)) (Unit {0}) (Unit {0}) }
+    ensures read { reads_script result ≡ true }
     ensures once { SavesOnce F.saves F.faults result shelf.old shelf.new }
     ensures sent { IsSent result (IsQuiet (O.faults out.old) (O.faults out.new)) (O.is_flushed out.new) }
     ensures still { F.never_fails shelf.old → F.never_fails shelf.new }

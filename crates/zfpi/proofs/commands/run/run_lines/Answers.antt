@@ -1,11 +1,12 @@
-use Rattle.std.proofs.Common.{refl}
+use Rattle.std.proofs.Common.{refl, ap}
 use Rattle.zf_array.specs.Standing.{stored, shape, state}
 use Rattle.zfpi.specs.declared.command.Caching.TheVariants.{Direct}
 use Rattle.zfpi.specs.declared.status.Status.TheVariants.{Done, Lines}
+use Rattle.zfpi.specs.Scripts.{reads_script}
 use Rattle.zfpi.proofs.Scripting.{lines_status-some}
 use Rattle.zfpi.proofs.Running.{Behaves-run, Behaves-cut_run}
 use Rattle.zfpi.proofs.Stepping.{SavesOnce-cut}
-use Rattle.zfpi.proofs.HandedOn.{cut_sent, IsSent-later, IsSent-cut, HasCauses-ran, HasCauses-cut}
+use Rattle.zfpi.proofs.HandedOn.{cut_sent, reads_saved, IsSent-later, IsSent-cut, HasCauses-ran, HasCauses-cut}
 use Rattle.zfpi.proofs.commands.run.run_lines.Goals as goal
 
 pub returns-in-Done-clause-behaves : goal.returns-in-Done-clause-behaves
@@ -61,3 +62,12 @@ returns-in-Lines-clause-once g c = c.save-in-Lines.ensures.once tt
 
 pub returns-clause-once : goal.returns-clause-once
 returns-clause-once g c = SavesOnce-cut g.F.Shelf.saves g.F.Shelf.faults c.send.result _ (cut_sent c.send.result c.send.ensures)
+
+pub returns-in-Done-clause-read : goal.returns-in-Done-clause-read
+returns-in-Done-clause-read g c = reads_saved Done c.save.result _ _ _ _ tt c.save.ensures.saved
+
+pub returns-in-Lines-clause-read : goal.returns-in-Lines-clause-read
+returns-in-Lines-clause-read g c = reads_saved (Lines c.in-Lines.count) c.save-in-Lines.result _ _ _ _ tt c.save-in-Lines.ensures.saved
+
+pub returns-clause-read : goal.returns-clause-read
+returns-clause-read g c = ap reads_script (cut_sent c.send.result c.send.ensures)

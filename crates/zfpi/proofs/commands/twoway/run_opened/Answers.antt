@@ -1,6 +1,8 @@
 use Rattle.std.proofs.Common.{refl}
 use Rattle.zf_run.specs.Pairs.{pair_state}
 use Rattle.zfpi.specs.declared.command.Caching.TheVariants.{TwoWay}
+use Rattle.zfpi.specs.declared.command.Command.TheVariants.{Run}
+use Rattle.zfpi.proofs.Causes.{HasCauses-store}
 use Rattle.zfpi.proofs.Stepping.{SavesOnce-store}
 use Rattle.zfpi.proofs.Running.{Behaves-no_array, HoldsArray-opened}
 use Rattle.zfpi.proofs.commands.twoway.run_opened.Goals as goal
@@ -20,3 +22,6 @@ returns-in-Err-clause-behaves g c = λ known holds kept.
 
 pub returns-in-Err-clause-once : goal.returns-in-Err-clause-once
 returns-in-Err-clause-once g c = rw c.from.ensures (SavesOnce-store g.F.Shelf.saves g.F.Shelf.faults c.in-Err.fault _)
+
+pub returns-in-Err-clause-causes : goal.returns-in-Err-clause-causes
+returns-in-Err-clause-causes g c = rw c.from.ensures (HasCauses-store (Run c.args.name.now (TwoWay c.args.lines)) c.in-Err.fault _ _)
