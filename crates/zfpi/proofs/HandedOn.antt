@@ -28,8 +28,8 @@ use Rattle.zfpi.specs.Answer.{meaning, OfUsed}
 use Rattle.zfpi.proofs.Ends.{IsPossible}
 use Rattle.zfpi.specs.Loaded.{SavesOrFails}
 use Rattle.zfpi.specs.Sending.{IsDone, EndsSent, HandsOn}
-use Rattle.zfpi.specs.Steps.{IsShelfless}
-use Rattle.zfpi.specs.Headline.{IsWorkDone, IsSent, Writes, Saves, Behaves, HasCauses, IsIdle, Sends}
+use Rattle.zfpi.specs.Steps.{is_work_done, IsShelfless}
+use Rattle.zfpi.specs.Headline.{IsSent, Writes, Saves, Behaves, HasCauses, IsIdle, Sends}
 use Rattle.zfpi.proofs.Causes.{IsIdle-same}
 use Rattle.zfpi.proofs.Loading.{ComesFirst, by_first}
 use Rattle.zfpi.proofs.Promises.{IsRefusal, opened_first_array, opened_first_stream, IsPossible-behaves}
@@ -173,11 +173,11 @@ no_save (Look name lines) unsaved may = may
 no_save (Bound name most) unsaved may = may
 no_save (Sample h seed) unsaved may = may
 
-done_work : (c : Command) (status : Status) → SavesNothing c → IsPossible c status → IsWorkDone status → IsDone status
+done_work : (c : Command) (status : Status) → SavesNothing c → IsPossible c status → is_work_done status ≡ true → IsDone status
 done_work c Done unsaved may work = tt
 done_work c (Lines n) unsaved may work = tt
 done_work c SaveFault unsaved may work = absurd (no_save c unsaved may)
-done_work c status unsaved may work = work
+done_work c status unsaved may work = absurd (cc)
 
 -- a sink that they write to may have had a fault
 writes_used : (c : Command) → SavesNothing c → (before now : ℕ) → IsIdle (meaning c).writes before now
@@ -294,9 +294,12 @@ Sends-stays text before mid now first m n sends stays kept = record {
 pub cut_sent : (ended : Status) {before now : Option (List ℕ)} {m n : ℕ} {Flushed : Type 0} → HandsOn WriteFault ended before now m n Flushed → ended ≡ WriteFault
 cut_sent ended sent = elim sent.ends [ inl same ↦ same | inr failed ↦ failed.0 ]
 
+undone : false ≡ true → ⊥
+undone is = cc
+
 pub IsSent-cut : (ended : Status) (first m n : ℕ) {before now : Option (List ℕ)} {Flushed : Type 0} → first ≤ m → HandsOn WriteFault ended before now m n Flushed → IsSent ended (IsQuiet first n) Flushed
 IsSent-cut ended first m n kept sent = λ why. sent.flushed (elim why [
-  | inl work ↦ absurd (subst IsWorkDone (cut_sent ended sent) work)
+  | inl work ↦ absurd (undone (sym (ap is_work_done (cut_sent ended sent)) ∙ work))
   | inr quiet ↦ inr (omega (arith, kept, quiet))
 ])
 

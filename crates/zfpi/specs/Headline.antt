@@ -17,6 +17,7 @@ use Rattle.zfpi.specs.declared.command.Command.{Command}
 use Rattle.zfpi.specs.Words.{narrow_word, IsSpelled, IsUsage}
 use Rattle.zfpi.specs.World.{World, Seen, Counts, IsExposed}
 use Rattle.zfpi.specs.Answer.{meaning, MayFail}
+use Rattle.zfpi.specs.Steps.{is_work_done}
 
 -- this holds of the command that the words are, where they are one
 abbrev pub OfCommand : List (List ℕ) → (Command → Type 0) → Type 0
@@ -84,16 +85,9 @@ pub record HasCauses (c : Command) (status : Status) (before now : Counts) (Sure
   pub no_writing : IsIdle (meaning c).writes before.out now.out
   pub sure : Sure → (status ≢ ReadFault) × Still
 
--- the whole work was done, but for the saving maybe
-abbrev pub IsWorkDone : Status → Type 0
-IsWorkDone Done = Unit {0}
-IsWorkDone (Lines n) = Unit {0}
-IsWorkDone SaveFault = Unit {0}
-IsWorkDone status = ⊥
-
 -- all that was written was handed on, unless the sink failed before the work was done
 abbrev pub IsSent : Status → Type 0 → Type 0 → Type 0
-IsSent status Quiet Sent = (IsWorkDone status ⊎ Quiet) → Sent
+IsSent status Quiet Sent = ((is_work_done status ≡ true) ⊎ Quiet) → Sent
 
 -- a device failed, or there was no memory
 abbrev pub IsFromOutside : Status → Type 0
