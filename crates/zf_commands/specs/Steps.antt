@@ -22,7 +22,7 @@ is_starved (script.Reply.refused script.Refusal.memory) = true
 is_starved reply = false
 
 -- a line with this reply, if any, was out of memory
-abbrev pub starved_are : Option script.Reply → Bool
+abbrev pub starves : Option script.Reply → Bool
 starves None = false
 starves (Some reply) = is_starved reply
 

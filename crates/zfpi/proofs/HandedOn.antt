@@ -10,10 +10,9 @@ use Rattle.zf_dev.specs.declared.faults.LoadError.TheVariants as loading
 use Rattle.zf_dev.specs.Shelf.{Files}
 use Rattle.zf_dev.specs.Sink.{Appends, AppendsPrefix}
 use Rattle.zf_dev.proofs.Appending.{Appends-append, AppendsPrefix-all}
-use Rattle.zf_parse.specs.Raw.{stream_text}
-use Rattle.zf_parse.specs.Parsing.{Said, restored_text}
+use Rattle.zf_parse.specs.Parsing.{Said}
 use Rattle.zf_narrow.specs.declared.narrow.Narrow.{Narrow}
-use Rattle.zf_narrow.specs.Texts.{narrow_restored, ArePromoted, ArePromotedNearly}
+use Rattle.zf_narrow.specs.Texts.{ArePromoted, ArePromotedNearly}
 use Rattle.zfpi.specs.declared.status.Status.{Status}
 use Rattle.zfpi.specs.declared.status.Status.TheVariants.{Done, Lines, ReadFault, WriteFault, LoadFault, SaveFault}
 use Rattle.zfpi.specs.declared.status.Status.TheVariants as statuses
@@ -21,15 +20,17 @@ use Rattle.zfpi.specs.declared.command.Caching.{Caching}
 use Rattle.zfpi.specs.declared.command.Command.{Command}
 use Rattle.zfpi.specs.declared.command.Command.TheVariants.{Compress, CompressNarrow, Restore, RestoreNarrow, Info, New, Run, Look, Bound, Sample}
 use Rattle.zfpi.specs.Faults.{load_status}
-use Rattle.zfpi.specs.Info.{info_text}
 use Rattle.zfpi.specs.Opened.{array_in, stream_in, opened}
-use Rattle.zfpi.specs.Scripts.{Answering, look_replies, lines_status, script_status}
+use Rattle.zfpi.specs.Scripts.{Answering, reads_script, look_replies, lines_status, script_status}
 use Rattle.zfpi.specs.Certified.{certified_status}
 use Rattle.zfpi.specs.World.{Seen, seen, counts}
-use Rattle.zfpi.specs.Answer.{uses, MayWrite, HasStarved, IsExtent, IsRaw, IsPossible, text_for, draft_for, saved_for, status_for}
+use Rattle.zfpi.specs.Answer.{meaning, OfUsed}
+use Rattle.zfpi.proofs.Ends.{IsPossible}
 use Rattle.zfpi.specs.Loaded.{SavesOrFails}
 use Rattle.zfpi.specs.Sending.{IsDone, EndsSent, HandsOn}
-use Rattle.zfpi.specs.Headline.{IsWorkDone, IsSent, Writes, Saves, Behaves, HasCauses, IsCausedOnShelf, IsIdle, Sends}
+use Rattle.zfpi.specs.Steps.{is_work_done, IsShelfless}
+use Rattle.zfpi.specs.Headline.{IsSent, Writes, Saves, Behaves, HasCauses, IsIdle, Sends}
+use Rattle.zfpi.proofs.Causes.{IsIdle-same}
 use Rattle.zfpi.proofs.Loading.{ComesFirst, by_first}
 use Rattle.zfpi.proofs.Promises.{IsRefusal, opened_first_array, opened_first_stream, IsPossible-behaves}
 
@@ -60,7 +61,7 @@ Behaves-stays c status before src mid now shelf stays b = record {
   extent = b.extent;
   raw = b.raw;
   raw_is = b.raw_is;
-  written = Writes-stays status (text_for c b.world b.starved b.raw) (draft_for c status b.world b.starved b.raw) before.out mid now stays b.written;
+  written = Writes-stays status ((meaning c).text b.world b.starved b.raw) ((meaning c).draft status ((meaning c).text b.world b.starved b.raw)) before.out mid now stays b.written;
   saved = b.saved;
 }
 
@@ -90,8 +91,8 @@ script_done replies (Ok said) starved script status refusal done same = (refl, s
 script_done replies (Err e) starved script status refusal done same = absurd (first_undone e refusal (subst IsDone same done))
 
 -- a write fault in the place of a status, with all that was written
-instead : (c : Command) (status : Status) (before now : Seen) (b : Behaves c status before now) → MayWrite c b.world → HasStarved c WriteFault b.world b.starved → IsExtent c WriteFault b.world.input b.taken → IsRaw c WriteFault before.src b.taken b.raw
-    → Appends before.out now.out (draft_for c WriteFault b.world b.starved b.raw) → Saves (saved_for c b.world b.starved) WriteFault before.shelf now.shelf → Behaves c WriteFault before now
+instead : (c : Command) (status : Status) (before now : Seen) (b : Behaves c status before now) → OfUsed (meaning c).writes ((meaning c).works b.world) → (meaning c).starved_are WriteFault b.world b.starved → (meaning c).extent WriteFault b.world.input b.taken → (meaning c).raw WriteFault before.src b.taken b.raw
+    → Appends before.out now.out ((meaning c).draft WriteFault ((meaning c).text b.world b.starved b.raw)) → Saves ((meaning c).saved b.world b.starved) WriteFault before.shelf now.shelf → Behaves c WriteFault before now
 instead c status before now b may starved_are extent raw_is written saved = record {
   ends = tt;
   world = b.world;
@@ -104,7 +105,7 @@ instead c status before now b may starved_are extent raw_is written saved = reco
   extent = extent;
   raw = b.raw;
   raw_is = raw_is;
-  written = AppendsPrefix-all before.out now.out (draft_for c WriteFault b.world b.starved b.raw) written;
+  written = AppendsPrefix-all before.out now.out ((meaning c).draft WriteFault ((meaning c).text b.world b.starved b.raw)) written;
   saved = saved;
 }
 
@@ -114,17 +115,17 @@ nearly n None bytes raw are = tt
 nearly n (Some exposed) bytes raw are = (sym (take-length raw) ∙ ap (take (length raw)) are, omega (arith, ap length are))
 
 -- the status was stated, since no work that was done comes from outside
-stated_done : (c : Command) (status : Status) (before now : Seen) → IsDone status → (b : Behaves c status before now) → status ≡ status_for c b.world b.starved
+stated_done : (c : Command) (status : Status) (before now : Seen) → IsDone status → (b : Behaves c status before now) → status ≡ (meaning c).status b.world b.starved
 stated_done c Done before now done b = elim b.stated [ inl same ↦ same | inr may ↦ absurd may ]
 stated_done c (Lines n) before now done b = elim b.stated [ inl same ↦ same | inr may ↦ absurd may ]
 stated_done c status before now done b = absurd done
 
 unsent : (c : Command) (status : Status) (before now : Seen) → SavesNothing c → IsDone status → Behaves c status before now → Behaves c WriteFault before now
-unsent (Compress h) Done before now unsaved done b = instead (Compress h) Done before now b tt b.starved_are tt b.raw_is (subst (λ bytes. Appends before.out now.out (stream_text h bytes)) (sym (b.raw_is ∙ b.extent)) b.written) b.saved
+unsent (Compress h) Done before now unsaved done b = instead (Compress h) Done before now b tt b.starved_are tt b.raw_is b.written b.saved
 unsent (CompressNarrow n h) Done before now unsaved done b = instead (CompressNarrow n h) Done before now b tt b.starved_are tt (nearly n before.src b.taken b.raw b.raw_is) b.written b.saved
-unsent Restore Done before now unsaved done b = instead Restore Done before now b tt b.starved_are tt b.raw_is (subst (λ bytes. Appends before.out now.out (restored_text bytes)) (sym (b.raw_is ∙ b.extent)) b.written) b.saved
-unsent (RestoreNarrow n) Done before now unsaved done b = instead (RestoreNarrow n) Done before now b tt b.starved_are tt b.raw_is (subst (λ bytes. Appends before.out now.out (narrow_restored n bytes)) (sym (b.raw_is ∙ b.extent)) b.written) b.saved
-unsent Info Done before now unsaved done b = instead Info Done before now b tt b.starved_are b.extent b.raw_is (subst (λ bytes. Appends before.out now.out (info_text bytes)) (sym (b.raw_is ∙ b.extent)) b.written) b.saved
+unsent Restore Done before now unsaved done b = instead Restore Done before now b tt b.starved_are tt b.raw_is b.written b.saved
+unsent (RestoreNarrow n) Done before now unsaved done b = instead (RestoreNarrow n) Done before now b tt b.starved_are tt b.raw_is b.written b.saved
+unsent Info Done before now unsaved done b = instead Info Done before now b tt b.starved_are b.extent b.raw_is b.written b.saved
 unsent (Look name lines) Done before now unsaved done b =
     let file = opened stream_in (b.world.files name) in
     let may = script_done (look_replies lines) file b.starved b.world.input Done (opened_first_stream (b.world.files name)) tt (stated_done (Look name lines) Done before now tt b) in
@@ -148,6 +149,17 @@ unsent (Bound name most) (Lines n) before now unsaved done b = absurd (IsPossibl
 unsent (Sample h seed) (Lines n) before now unsaved done b = absurd (IsPossible-behaves (Sample h seed) (Lines n) before now b)
 unsent c status before now unsaved done b = absurd done
 
+-- a command that loads nothing ends with no fault of a load
+no_load : (c : Command) → (meaning c).loads ≡ false → IsPossible c LoadFault → ⊥
+no_load (Compress h) none may = may
+no_load (CompressNarrow n h) none may = may
+no_load Restore none may = may
+no_load (RestoreNarrow n) none may = may
+no_load Info none may = may
+no_load (New name ty ns b) none may = may
+no_load (Sample h seed) none may = may
+no_load c none may = absurd (cc)
+
 -- and they never end with a fault of a save
 no_save : (c : Command) → SavesNothing c → IsPossible c SaveFault → ⊥
 no_save (Compress h) unsaved may = may
@@ -161,14 +173,14 @@ no_save (Look name lines) unsaved may = may
 no_save (Bound name most) unsaved may = may
 no_save (Sample h seed) unsaved may = may
 
-done_work : (c : Command) (status : Status) → SavesNothing c → IsPossible c status → IsWorkDone status → IsDone status
+done_work : (c : Command) (status : Status) → SavesNothing c → IsPossible c status → is_work_done status ≡ true → IsDone status
 done_work c Done unsaved may work = tt
 done_work c (Lines n) unsaved may work = tt
 done_work c SaveFault unsaved may work = absurd (no_save c unsaved may)
-done_work c status unsaved may work = work
+done_work c status unsaved may work = absurd (cc)
 
 -- a sink that they write to may have had a fault
-writes_used : (c : Command) → SavesNothing c → (before now : ℕ) → IsIdle (uses c).writes before now
+writes_used : (c : Command) → SavesNothing c → (before now : ℕ) → IsIdle (meaning c).writes before now
 writes_used (Compress h) unsaved before now = tt
 writes_used (CompressNarrow n h) unsaved before now = tt
 writes_used Restore unsaved before now = tt
@@ -179,6 +191,19 @@ writes_used (Run name caching) unsaved before now = absurd unsaved
 writes_used (Look name lines) unsaved before now = tt
 writes_used (Bound name most) unsaved before now = tt
 writes_used (Sample h seed) unsaved before now = tt
+
+-- where they may have come to the source by a status, they may have by a write fault
+reads_cut : (c : Command) → SavesNothing c → (status : Status) (m n : ℕ) → IsIdle ((meaning c).reads status) m n → IsIdle ((meaning c).reads WriteFault) m n
+reads_cut (Compress h) unsaved status m n idle = tt
+reads_cut (CompressNarrow k h) unsaved status m n idle = tt
+reads_cut Restore unsaved status m n idle = tt
+reads_cut (RestoreNarrow k) unsaved status m n idle = tt
+reads_cut Info unsaved status m n idle = tt
+reads_cut (New name ty ns b) unsaved status m n idle = absurd unsaved
+reads_cut (Run name caching) unsaved status m n idle = absurd unsaved
+reads_cut (Look name lines) unsaved status m n idle = tt
+reads_cut (Bound name most) unsaved status m n idle = idle
+reads_cut (Sample h seed) unsaved status m n idle = idle
 
 module _ (c : Command) (status ended : Status) (unsaved : SavesNothing c) where
   -- what such a command did once what it wrote was handed on
@@ -191,19 +216,16 @@ module _ (c : Command) (status ended : Status) (unsaved : SavesNothing c) where
       ]
 
   -- its causes
-  pub HasCauses-sent : (src src_now out mid now shelf shelf_now : ℕ) {before after : Option (List ℕ)} {Loading Saving Sure Still Flushed : Type 0} → HasCauses c status (counts src out shelf) (counts src_now mid shelf_now) Loading Saving Sure Still → HandsOn status ended before after mid now Flushed
-      → HasCauses c ended (counts src out shelf) (counts src_now now shelf_now) Loading Saving Sure Still
-  HasCauses-sent src src_now out mid now shelf shelf_now {before} {after} {Loading} {Saving} {Sure} {Still} causes sent = record {
+  pub HasCauses-sent : (src src_now out mid now : ℕ) {before after : Option (List ℕ)} {Sure Still Flushed : Type 0} → HasCauses c status (counts src out) (counts src_now mid) Sure Still → HandsOn status ended before after mid now Flushed
+      → HasCauses c ended (counts src out) (counts src_now now) Sure Still
+  HasCauses-sent src src_now out mid now {before} {after} {Sure} {Still} causes sent = record {
     reading = (causes.reading.0, λ is. by_read sent.ends is);
     writing = (omega (arith, causes.writing.0, sent.kept), λ is. by_write sent.ends is);
-    shelf_kept = causes.shelf_kept;
-    shelving = elim sent.ends [
-      | inl same ↦ subst (λ s. IsCausedOnShelf s Loading Saving) (sym same) causes.shelving
-      | inr failed ↦ subst (λ s. IsCausedOnShelf s Loading Saving) (sym failed.0) tt
+    no_reading = elim sent.ends [
+      | inl same ↦ subst (λ s. IsIdle ((meaning c).reads s) src src_now) (sym same) causes.no_reading
+      | inr failed ↦ subst (λ s. IsIdle ((meaning c).reads s) src src_now) (sym failed.0) (reads_cut c unsaved status src src_now causes.no_reading)
     ];
-    no_reading = causes.no_reading;
     no_writing = writes_used c unsaved out now;
-    no_shelving = causes.no_shelving;
     sure = λ sure. (λ is. no_read sent.ends (causes.sure sure).0 is, (causes.sure sure).1);
   }
     where
@@ -222,6 +244,13 @@ module _ (c : Command) (status ended : Status) (unsaved : SavesNothing c) where
       no_read : EndsSent status ended (Rose mid now) → (status ≢ ReadFault) → ended ≡ ReadFault → ⊥
       no_read ends none is = elim ends [ inl same ↦ none (sym same ∙ is) | inr failed ↦ no_fault (sym failed.0 ∙ is) ]
 
+  -- no fault of a shelf where there is none
+  pub IsShelfless-sent : (before now : Seen) → (meaning c).loads ≡ false → Behaves c ended before now → IsShelfless ended
+  IsShelfless-sent before now none b = record {
+    no_load = λ is. no_load c none (subst (IsPossible c) is (IsPossible-behaves c ended before now b));
+    no_save = λ is. no_save c unsaved (subst (IsPossible c) is (IsPossible-behaves c ended before now b));
+  }
+
   -- and that all was handed on
   pub IsSent-sent : (before now : Seen) (out mid after : ℕ) {was is : Option (List ℕ)} {Flushed : Type 0} → Behaves c ended before now → out ≤ mid → HandsOn status ended was is mid after Flushed → IsSent ended (IsQuiet out after) Flushed
   IsSent-sent before now out mid after {was} {is} {Flushed} b kept sent = λ why. sent.flushed (elim why [
@@ -229,15 +258,11 @@ module _ (c : Command) (status ended : Status) (unsaved : SavesNothing c) where
     | inr quiet ↦ inr (omega (arith, kept, quiet))
   ])
 
--- no load failed where no load may have
-pub unloaded : (status : Status) (Saving : Type 0) → IsCausedOnShelf status ⊥ Saving → status ≢ LoadFault
-unloaded status Saving caused = λ is. subst (λ s. IsCausedOnShelf s ⊥ Saving) is caused
-
 pub unloaded_sent : (status ended : Status) {before now : Option (List ℕ)} {m n : ℕ} {Flushed : Type 0} → status ≢ LoadFault → HandsOn status ended before now m n Flushed → ended ≢ LoadFault
-unloaded_sent status ended none sent = λ is. elim sent.ends [ inl same ↦ none (sym same ∙ is) | inr failed ↦ no_load (sym failed.0 ∙ is) ]
+unloaded_sent status ended none sent = λ is. elim sent.ends [ inl same ↦ none (sym same ∙ is) | inr failed ↦ other (sym failed.0 ∙ is) ]
   where
-    no_load : WriteFault ≡ LoadFault → ⊥
-    no_load is = cc
+    other : WriteFault ≡ LoadFault → ⊥
+    other is = cc
 
 -- a file that was not loaded was no fault of the shelf, where the load was none
 pub unloaded_status : (e : LoadError) → e ≢ loading.Failed → load_status e ≢ LoadFault
@@ -269,47 +294,59 @@ Sends-stays text before mid now first m n sends stays kept = record {
 pub cut_sent : (ended : Status) {before now : Option (List ℕ)} {m n : ℕ} {Flushed : Type 0} → HandsOn WriteFault ended before now m n Flushed → ended ≡ WriteFault
 cut_sent ended sent = elim sent.ends [ inl same ↦ same | inr failed ↦ failed.0 ]
 
+undone : false ≡ true → ⊥
+undone is = cc
+
 pub IsSent-cut : (ended : Status) (first m n : ℕ) {before now : Option (List ℕ)} {Flushed : Type 0} → first ≤ m → HandsOn WriteFault ended before now m n Flushed → IsSent ended (IsQuiet first n) Flushed
 IsSent-cut ended first m n kept sent = λ why. sent.flushed (elim why [
-  | inl work ↦ absurd (subst IsWorkDone (cut_sent ended sent) work)
+  | inl work ↦ absurd (undone (sym (ap is_work_done (cut_sent ended sent)) ∙ work))
   | inr quiet ↦ inr (omega (arith, kept, quiet))
 ])
 
-module _ (name : List ℕ) (caching : Caching) (src out mid out_now shelf shelf_now : ℕ) (Saving : Type 0) where
-  Caused : Status → Type 0
-  Caused s = HasCauses (Run name caching) s (counts src out shelf) (counts src out_now shelf_now) ⊥ Saving (Unit {0}) (Unit {0})
+-- the script was read by then
+reads_done : (status : Status) → IsDone status → reads_script status ≡ true
+reads_done Done done = refl
+reads_done (Lines n) done = refl
+reads_done status done = absurd done
 
-  ran : (ended : Status) → out ≤ mid → mid ≤ out_now → shelf ≤ shelf_now → (ended ≢ ReadFault) → (ended ≡ WriteFault → Rose out out_now) → IsCausedOnShelf ended ⊥ Saving → Caused ended
+pub reads_saved : (status ended : Status) (before now : Option Files) (file bytes : List ℕ) {Writing : Type 0} → IsDone status → SavesOrFails before now file bytes status ended Writing → reads_script ended ≡ true
+reads_saved status ended before now file bytes done saves = elim saves [
+  | inl good ↦ ap reads_script good.0 ∙ reads_done status done
+  | inr others ↦ elim others [ inl bad ↦ ap reads_script bad.0 | inr unsaved ↦ ap reads_script unsaved.0 ]
+]
+
+module _ (name : List ℕ) (caching : Caching) (src out mid out_now : ℕ) where
+  Caused : Status → Type 0
+  Caused s = HasCauses (Run name caching) s (counts src out) (counts src out_now) (Unit {0}) (Unit {0})
+
+  ran : (ended : Status) → out ≤ mid → mid ≤ out_now → (ended ≢ ReadFault) → (ended ≡ WriteFault → Rose out out_now) → Caused ended
   unfolding Caused
-  ran ended first then kept unread writing shelving = record {
+  ran ended first then unread writing = record {
     reading = (omega arith, λ is. absurd (unread is));
     writing = (omega arith, writing);
-    shelf_kept = kept;
-    shelving = shelving;
-    no_reading = tt;
+    no_reading = IsIdle-same (reads_script ended) src;
     no_writing = tt;
-    no_shelving = tt;
     sure = λ sure. (unread, tt);
   }
 
-  by_done : (status : Status) → IsDone status → out ≤ mid → mid ≤ out_now → shelf ≤ shelf_now → Caused status
-  by_done Done done first then kept = ran Done first then kept (λ is. cc) (λ is. absurd (cc)) tt
-  by_done (Lines n) done first then kept = ran (Lines n) first then kept (λ is. cc) (λ is. absurd (cc)) tt
-  by_done status done first then kept = absurd done
+  by_done : (status : Status) → IsDone status → out ≤ mid → mid ≤ out_now → Caused status
+  by_done Done done first then = ran Done first then (λ is. cc) (λ is. absurd (cc))
+  by_done (Lines n) done first then = ran (Lines n) first then (λ is. cc) (λ is. absurd (cc))
+  by_done status done first then = absurd done
 
   -- all lines were run, and the file was saved or was to be
-  pub HasCauses-ran : (status ended : Status) (before now : Option Files) (file bytes : List ℕ) → IsDone status → out ≤ mid → mid ≤ out_now → shelf ≤ shelf_now → SavesOrFails before now file bytes status ended (Rose mid out_now) Saving
-      → HasCauses (Run name caching) ended (counts src out shelf) (counts src out_now shelf_now) ⊥ Saving (Unit {0}) (Unit {0})
+  pub HasCauses-ran : (status ended : Status) (before now : Option Files) (file bytes : List ℕ) → IsDone status → out ≤ mid → mid ≤ out_now → SavesOrFails before now file bytes status ended (Rose mid out_now)
+      → HasCauses (Run name caching) ended (counts src out) (counts src out_now) (Unit {0}) (Unit {0})
   unfolding Caused
-  HasCauses-ran status ended before now file bytes done first then kept saves = elim saves [
-    | inl good ↦ subst Caused (sym good.0) (by_done status done first then kept)
+  HasCauses-ran status ended before now file bytes done first then saves = elim saves [
+    | inl good ↦ subst Caused (sym good.0) (by_done status done first then)
     | inr others ↦ elim others [
-      | inl bad ↦ subst Caused (sym bad.0) (ran SaveFault first then kept (λ is. cc) (λ is. absurd (cc)) bad.2)
-      | inr unsaved ↦ subst Caused (sym unsaved.0) (ran WriteFault first then kept (λ is. cc) (λ is. omega (arith, unsaved.2)) tt)
+      | inl bad ↦ subst Caused (sym bad.0) (ran SaveFault first then (λ is. cc) (λ is. absurd (cc)))
+      | inr unsaved ↦ subst Caused (sym unsaved.0) (ran WriteFault first then (λ is. cc) (λ is. omega (arith, unsaved.2)))
     ]
   ]
 
   -- a reply was not written whole
-  pub HasCauses-cut : (ended : Status) → ended ≡ WriteFault → out ≤ mid → mid ≤ out_now → shelf ≤ shelf_now → Rose out mid → HasCauses (Run name caching) ended (counts src out shelf) (counts src out_now shelf_now) ⊥ Saving (Unit {0}) (Unit {0})
+  pub HasCauses-cut : (ended : Status) → ended ≡ WriteFault → out ≤ mid → mid ≤ out_now → Rose out mid → HasCauses (Run name caching) ended (counts src out) (counts src out_now) (Unit {0}) (Unit {0})
   unfolding Caused
-  HasCauses-cut ended is first then kept rose = subst Caused (sym is) (ran WriteFault first then kept (λ same. cc) (λ same. omega arith) tt)
+  HasCauses-cut ended is first then rose = subst Caused (sym is) (ran WriteFault first then (λ same. cc) (λ same. omega arith))

@@ -15,10 +15,10 @@ use Rattle.zf_stream.specs.Headed.{ReadsHeader, LacksHeader}
 use Rattle.zfpi.specs.declared.status.Status.{Status}
 use Rattle.zfpi.specs.declared.status.Status.TheVariants as statuses
 use Rattle.zfpi.specs.declared.command.Command.TheVariants.{Info}
-use Rattle.zfpi.specs.Faults.{fault_status}
-use Rattle.zfpi.specs.Info.{info_line, info_text}
+use Rattle.zfpi.specs.Faults.{fault_status, header_status}
+use Rattle.zfpi.specs.Info.{info_line, info_text, TakesHeader}
 use Rattle.zfpi.specs.World.{World, ExposesInput, seen}
-use Rattle.zfpi.specs.Answer.{header_status, MayFail, TakesHeader, cut_draft}
+use Rattle.zfpi.specs.Answer.{MayFail, cut_draft}
 use Rattle.zfpi.specs.Headline.{IsOfCommand, Writes, Behaves}
 use Rattle.zfpi.proofs.Exposed.{some_input, world_of, ExposesFiles-same, KeepsFiles-none}
 
@@ -38,7 +38,7 @@ begins (Some all) bytes is within = record { input = all; exposed = refl; first 
 
 -- the first bytes were read: the status is that of their header, or the line was not written
 Behaves-first : (status : Status) (bytes : List ℕ) (src_before src_now out_before out_now : Option (List ℕ)) (shelf : Option Files) → IsOfCommand status → TakesFirst 19 src_before src_now bytes
-    → ((status ≡ header_status (header_fault bytes)) ⊎ ((w : World) → MayFail status Info w [])) → ((input : List ℕ) → bytes ≡ take 19 input → TakesHeader status input bytes)
+    → ((status ≡ header_status (header_fault bytes)) ⊎ ((w : World) → MayFail status Info w)) → ((input : List ℕ) → bytes ≡ take 19 input → TakesHeader status input bytes)
     → Writes status (info_text bytes) (cut_draft status (info_text bytes)) out_before out_now → Behaves Info status (seen src_before out_before shelf) (seen src_now out_now shelf)
 Behaves-first status bytes src_before src_now out_before out_now shelf ends first stated extent written =
     let b = begins src_before bytes first.first first.within in
@@ -58,7 +58,7 @@ Behaves-first status bytes src_before src_now out_before out_now shelf ends firs
       extent = extent b.input b.first;
       raw = bytes;
       raw_is = refl;
-      written = subst (λ prefix. Writes status (info_text prefix) (cut_draft status (info_text bytes)) out_before out_now) b.first written;
+      written = written;
       saved = KeepsFiles-none shelf;
     }
 

@@ -6,6 +6,8 @@ mod Exposed
 mod Streaming
 mod Heading
 mod Causes
+mod Stepping
+mod Ends
 mod Promises
 pub mod Making
 mod Sampling

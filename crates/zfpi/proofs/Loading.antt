@@ -19,7 +19,9 @@ use Rattle.zfpi.specs.Faults.{fault_status, load_status, index_status}
 use Rattle.zfpi.specs.Opened.{opened}
 use Rattle.zfpi.specs.Loaded.{HoldsFile}
 use Rattle.zfpi.specs.World.{World, ExposesInput, ExposesFiles, seen}
-use Rattle.zfpi.specs.Answer.{OnWholeScript, TakesScript, FileEnds, status_for, text_for, draft_for, saved_for, cut_draft, IsRaw, HasStarved, IsExtent, TakesMemory, MayLoad, MayFail}
+use Rattle.zfpi.specs.Scripts.{OnWholeScript, TakesScript}
+use Rattle.zfpi.specs.Answer.{meaning, cut_draft, MayFail, OfUsed}
+use Rattle.zfpi.proofs.Ends.{FileEnds}
 use Rattle.zfpi.specs.Headline.{IsOfCommand, Writes, Saves, Behaves}
 use Rattle.zfpi.proofs.Exposed.{files_of, files_of-none, ExposesFiles-same, some_input, Takes-none}
 
@@ -125,18 +127,18 @@ module _ (reading : List ℕ → Result Said Status) where
 
 -- a command that loads the file of this name, and does no more where it is not opened
 pub record IsLoading (c : Command) (name : List ℕ) (reading : List ℕ → Result Said Status) : Type 0 where
-  pub refuses : (w : World) (status : Status) → opened reading (w.files name) ≡ Err status → status ≡ status_for c w []
-  pub starved_are : (w : World) (status : Status) → ComesFirst status → HasStarved c status w []
-  pub extent : (input : List ℕ) (status : Status) → ComesFirst status → IsExtent c status input []
-  pub plain : (status : Status) (src : Option (List ℕ)) (taken : List ℕ) → IsRaw c status src taken taken
-  pub draft : (w : World) (status : Status) (taken : List ℕ) → draft_for c status w [] taken ≡ cut_draft status (text_for c w [] taken)
-  pub loads : (w : World) → MayLoad c w
-  pub starves : (w : World) → TakesMemory c w
+  pub refuses : (w : World) (status : Status) → opened reading (w.files name) ≡ Err status → status ≡ (meaning c).status w []
+  pub starved_are : (w : World) (status : Status) → ComesFirst status → (meaning c).starved_are status w []
+  pub extent : (input : List ℕ) (status : Status) → ComesFirst status → (meaning c).extent status input []
+  pub plain : (status : Status) (src : Option (List ℕ)) (taken : List ℕ) → (meaning c).raw status src taken taken
+  pub draft : (w : World) (status : Status) (taken : List ℕ) → (meaning c).draft status ((meaning c).text w [] taken) ≡ cut_draft status ((meaning c).text w [] taken)
+  pub loads : (w : World) → OfUsed (meaning c).loads (Unit {0})
+  pub starves : (w : World) → (meaning c).memory w
 
 module _ (c : Command) (name : List ℕ) (reading : List ℕ → Result Said Status) (is : IsLoading c name reading) where
   -- nothing was done but a load: this status with the files of this world
   idle : (status : Status) (src out : Option (List ℕ)) (before now : Option Files) (input : List ℕ) (files : Files) → ComesFirst status → ExposesInput src input → ExposesFiles before files
-      → (status ≡ status_for c (record { input = input; files = files }) []) ⊎ MayFail status c (record { input = input; files = files }) []
+      → (status ≡ (meaning c).status (record { input = input; files = files }) []) ⊎ MayFail status c (record { input = input; files = files })
       → KeepsFiles before now → Behaves c status (seen src out before) (seen src out now)
   idle status src out before now input files first exposed_input exposed_files stated kept =
       let w : World = record { input = input; files = files } in
@@ -152,8 +154,8 @@ module _ (c : Command) (name : List ℕ) (reading : List ℕ → Result Said Sta
         extent = is.extent input status first;
         raw = [];
         raw_is = is.plain status src [];
-        written = subst (λ draft. Writes status (text_for c w [] []) draft out out) (sym (is.draft w status [])) (Writes-first (text_for c w [] []) out status first);
-        saved = Saves-unsaved (saved_for c w []) status before now (Unsaved-first status first) kept;
+        written = subst (λ draft. Writes status ((meaning c).text w [] []) draft out out) (sym (is.draft w status [])) (Writes-first ((meaning c).text w [] []) out status first);
+        saved = Saves-unsaved ((meaning c).saved w []) status before now (Unsaved-first status first) kept;
       }
 
   -- there was no memory

@@ -1,5 +1,5 @@
 -- What `new` does: nothing is read or written, and a file is saved.
-use Rattle.std.proofs.Common.{◌≡◌, ◌≢◌, ℕ, ◌≤◌, List, [], Option, Some, ◌⊎◌, inl, inr, refl, subst, arith}
+use Rattle.std.proofs.Common.{◌≡◌, ℕ, List, [], Option, Some, ◌⊎◌, inl, inr, refl, subst}
 use Rattle.zf_dev.specs.Shelf.{Files, KeepsOthers, SavesFile}
 use Rattle.zf_dev.proofs.Appending.{Appends-none, AppendsPrefix-none}
 use Rattle.zf_base.specs.declared.lane.Ty.{Ty}
@@ -7,16 +7,16 @@ use Rattle.zf_store.specs.Stored.{file_of, zeros}
 use Rattle.zfpi.specs.declared.status.Status.{Status}
 use Rattle.zfpi.specs.declared.status.Status.TheVariants as statuses
 use Rattle.zfpi.specs.declared.command.Command.TheVariants.{New}
-use Rattle.zfpi.specs.World.{World, seen, counts}
-use Rattle.zfpi.specs.Answer.{status_for, MayFail}
-use Rattle.zfpi.specs.Headline.{IsOfCommand, Writes, Saves, Behaves, HasCauses, IsCausedOnShelf}
+use Rattle.zfpi.specs.World.{World, seen}
+use Rattle.zfpi.specs.Answer.{cut_draft, meaning, MayFail}
+use Rattle.zfpi.specs.Headline.{IsOfCommand, Writes, Saves, Behaves}
 use Rattle.zfpi.proofs.Exposed.{world_of, ExposesFiles-same, KeepsFiles-none, some_input, Takes-none}
 
 module _ (name : List ℕ) (ty : Ty) (ns : List ℕ) (b : ℕ) where
   -- so it ended, with these files
   behaves_so : (status : Status) (src out : Option (List ℕ)) (before now : Option Files) → IsOfCommand status
-      → ((w : World) → (status ≡ status_for (New name ty ns b) w []) ⊎ MayFail status (New name ty ns b) w [])
-      → Writes status [] [] out out
+      → ((w : World) → (status ≡ (meaning (New name ty ns b)).status w []) ⊎ MayFail status (New name ty ns b) w)
+      → Writes status [] (cut_draft status []) out out
       → Saves (Some (name, file_of (zeros ty ns b))) status before now
       → Behaves (New name ty ns b) status (seen src out before) (seen src out now)
   behaves_so status src out before now ends stated written saved =
@@ -51,17 +51,3 @@ module _ (name : List ℕ) (ty : Ty) (ns : List ℕ) (b : ℕ) where
       → Behaves (New name ty ns b) statuses.Memory (seen src out shelf) (seen src out shelf)
   Behaves-starved src out shelf =
       behaves_so statuses.Memory src out shelf shelf tt (λ w. inr tt) (AppendsPrefix-none out []) (KeepsFiles-none shelf)
-
-  -- nothing was read or written, so no fault of it comes
-  pub HasCauses-made : (status : Status) (src out before now : ℕ) (Loading Saving : Type 0) → status ≢ statuses.ReadFault → status ≢ statuses.WriteFault → before ≤ now → IsCausedOnShelf status Loading Saving
-      → HasCauses (New name ty ns b) status (counts src out before) (counts src out now) Loading Saving (Unit {0}) (Unit {0})
-  HasCauses-made status src out before now Loading Saving no_read no_write kept caused = record {
-    reading = (omega arith, λ is. absurd (no_read is));
-    writing = (omega arith, λ is. absurd (no_write is));
-    shelf_kept = kept;
-    shelving = caused;
-    no_reading = refl;
-    no_writing = refl;
-    no_shelving = tt;
-    sure = λ sure. (no_read, sure);
-  }

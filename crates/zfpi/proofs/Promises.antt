@@ -21,7 +21,7 @@ use Rattle.zf_commands.specs.Steps.{is_refusal}
 use Rattle.zf_parse.proofs.StreamsBack.{answer-stream_text, text-reversible_text}
 use Rattle.zf_narrow.proofs.StreamsBack.{answer-narrow_text, text-narrow_text}
 use Rattle.zf_narrow.specs.Texts.{narrow_len, narrow_text, answer_behind, restore_narrow_answer, narrow_restored}
-use Rattle.zfpi.specs.Faults.{fault_status}
+use Rattle.zfpi.specs.Faults.{fault_status, status_of, narrow_status_of, header_status}
 use Rattle.zfpi.specs.declared.status.Status.{Status}
 use Rattle.zfpi.specs.declared.status.Status.TheVariants as statuses
 use Rattle.zfpi.specs.declared.status.Status.TheVariants.{Done, Lines, Usage, NotRate, Missing, ScriptLong, FileLong, ReadFault, WriteFault, LoadFault, SaveFault, Memory}
@@ -32,8 +32,10 @@ use Rattle.zfpi.specs.World.{World, Seen, Counts, ExposesInput}
 use Rattle.zfpi.specs.Certified.{certified_status}
 use Rattle.zfpi.specs.Opened.{array_in, stream_in, opened, said_or_status, said_at_rate, array_behind}
 use Rattle.zfpi.specs.Scripts.{Answering, run_replies, look_replies, lines_status, script_status}
-use Rattle.zfpi.specs.Answer.{TakesMemory, MayLoad, MaySave, MayFail, IsPossible, CompressEnds, RestoreEnds, RestoreNarrowEnds, InfoEnds, FileEnds, LookEnds, RunEnds, BoundEnds, status_of, narrow_status_of, header_status, status_for, text_for, draft_for}
-use Rattle.zfpi.specs.Headline.{OfCommand, Writes, Behaves, HasCauses, AreQuiet, IsComplete, IsFromOutside, IsCausedOnShelf, FailedLoad, FailedSave, IsBack, GivesBack}
+use Rattle.zfpi.specs.Answer.{meaning, MayFail, OfUsed}
+use Rattle.zfpi.proofs.Ends.{IsPossible, CompressEnds, RestoreEnds, RestoreNarrowEnds, InfoEnds, FileEnds, LookEnds, RunEnds, BoundEnds}
+use Rattle.zfpi.specs.Steps.{IsShelfless}
+use Rattle.zfpi.specs.Headline.{OfCommand, Behaves, HasCauses, IsComplete, IsFromOutside, IsBack, GivesBack}
 use Rattle.zfpi.proofs.CommandWords.{one_command}
 use Rattle.zfpi.proofs.Loading.{ComesFirst}
 
@@ -44,7 +46,7 @@ OfCommand-one words c spelled P this = λ d other. subst P (one_command words c 
 -- ---- what follows from the two records of a command
 
 -- a status from outside that is no fault of a device is out of memory
-only_memory : (status : Status) (c : Command) (w : World) (starved : List ℕ) → MayFail status c w starved → (status ≢ ReadFault) × (status ≢ WriteFault) × (status ≢ LoadFault) × (status ≢ SaveFault) → (status ≡ Memory) × TakesMemory c w
+only_memory : (status : Status) (c : Command) (w : World) (starved : List ℕ) → MayFail status c w → (status ≢ ReadFault) × (status ≢ WriteFault) × (status ≢ LoadFault) × (status ≢ SaveFault) → (status ≡ Memory) × (meaning c).memory w
 only_memory ReadFault c w starved may none = absurd (none.0 refl)
 only_memory WriteFault c w starved may none = absurd (none.1 refl)
 only_memory LoadFault c w starved may none = absurd (none.2 refl)
@@ -52,27 +54,11 @@ only_memory SaveFault c w starved may none = absurd (none.3 refl)
 only_memory Memory c w starved may none = (refl, may)
 only_memory status c w starved may none = absurd (first_of (assumption may, cc))
 
--- a fault of a load has a load that failed
-load_failed : (status : Status) (Loading Saving : Type 0) → status ≡ LoadFault → IsCausedOnShelf status Loading Saving → Loading
-load_failed status Loading Saving failed caused = subst (λ s. IsCausedOnShelf s Loading Saving) failed caused
-
--- a fault of a save has a save that failed
-save_failed : (status : Status) (Loading Saving : Type 0) → status ≡ SaveFault → IsCausedOnShelf status Loading Saving → Saving
-save_failed status Loading Saving failed caused = subst (λ s. IsCausedOnShelf s Loading Saving) failed caused
-
--- and no save failed where the count did not rise
-pub FailedSave-quiet : {F : Type 0} (saves : F → F → Type 0) (faults : F → ℕ) (before now : F) → IsQuiet (faults before) (faults now) → FailedSave saves faults before now → ⊥
-FailedSave-quiet saves faults before now quiet failed = omega (arith, quiet, failed.2, failed.2)
-
--- nor did a load
-pub FailedLoad-quiet : {F : Type 0} (loads : F → F → Type 0) (faults : F → ℕ) (before now : F) → IsQuiet (faults before) (faults now) → FailedLoad loads faults before now → ⊥
-FailedLoad-quiet loads faults before now quiet failed = omega (arith, quiet, failed.2, failed.3)
-
 -- where no count rose, no fault is answered
-pub IsComplete-quiet : (c : Command) (status : Status) (before now : Seen) (old new : Counts) (Loading Saving Sure Still : Type 0) → Behaves c status before now → HasCauses c status old new Loading Saving Sure Still → AreQuiet old new → (Loading → ⊥) → (Saving → ⊥) → IsComplete c status before
-IsComplete-quiet c status before now old new Loading Saving Sure Still behaves causes quiet no_load no_save =
+pub IsComplete-quiet : (c : Command) (status : Status) (before now : Seen) (old new : Counts) (Sure Still : Type 0) → Behaves c status before now → HasCauses c status old new Sure Still → IsQuiet old.src new.src → IsQuiet old.out new.out → IsShelfless status → IsComplete c status before
+IsComplete-quiet c status before now old new Sure Still behaves causes src out shelf =
     let none : (status ≢ ReadFault) × (status ≢ WriteFault) × (status ≢ LoadFault) × (status ≢ SaveFault) =
-    (HasCause-quiet old.src new.src causes.reading quiet.src, HasCause-quiet old.out new.out causes.writing quiet.out, λ failed. no_load (load_failed status Loading Saving failed causes.shelving), λ failed. no_save (save_failed status Loading Saving failed causes.shelving)) in
+    (HasCause-quiet old.src new.src causes.reading src, HasCause-quiet old.out new.out causes.writing out, shelf.no_load, shelf.no_save) in
     record {
       world = behaves.world;
       exposed = behaves.exposed;
@@ -86,7 +72,7 @@ IsComplete-quiet c status before now old new Loading Saving Sure Still behaves c
     }
 
 -- the statuses from outside that a command may end with are among those that it can end with
-possible_fault : (status : Status) (c : Command) (w : World) (starved : List ℕ) → MayFail status c w starved → IsPossible c status
+possible_fault : (status : Status) (c : Command) (w : World) (starved : List ℕ) → MayFail status c w → IsPossible c status
 possible_fault ReadFault (Compress h) w starved may = tt
 possible_fault ReadFault (CompressNarrow n h) w starved may = tt
 possible_fault ReadFault Restore w starved may = tt
@@ -274,7 +260,7 @@ lines_end : (n : ℕ) → LookEnds (lines_status n)
 lines_end zero = tt
 lines_end (suc n) = omega arith
 
-possible_status : (c : Command) (w : World) (starved : List ℕ) → IsPossible c (status_for c w starved)
+possible_status : (c : Command) (w : World) (starved : List ℕ) → IsPossible c ((meaning c).status w starved)
 possible_status (Compress h) w starved =
     let n = length w.input in
     compress_ends (raw_len h) n (ltb n (raw_len h)) (ltb (raw_len h) n) (ltb-true n (raw_len h))
@@ -299,48 +285,47 @@ IsPossible-behaves c status before now behaves = elim behaves.stated [
   | inr may ↦ possible_fault status c behaves.world behaves.starved may
 ]
 
-from_outside : (status : Status) (c : Command) (w : World) (starved : List ℕ) → (MayLoad c w → ⊥) → (MaySave c w → ⊥) → MayFail status c w starved → IsFromOutside status
-from_outside ReadFault c w starved no_load no_save may = inl refl
-from_outside WriteFault c w starved no_load no_save may = inr (inl refl)
-from_outside Memory c w starved no_load no_save may = inr (inr refl)
-from_outside LoadFault c w starved no_load no_save may = absurd (no_load may)
-from_outside SaveFault c w starved no_load no_save may = absurd (no_save may)
-from_outside status c w starved no_load no_save may = absurd (first_of (assumption may, cc))
+from_outside : (status : Status) (c : Command) (w : World) → (meaning c).loads ≡ false → (meaning c).saves ≡ false → MayFail status c w → IsFromOutside status
+from_outside ReadFault c w no_load no_save may = inl refl
+from_outside WriteFault c w no_load no_save may = inr (inl refl)
+from_outside Memory c w no_load no_save may = inr (inr refl)
+from_outside LoadFault c w no_load no_save may = absurd (subst (λ b. OfUsed b (Unit {0})) no_load may)
+from_outside SaveFault c w no_load no_save may = absurd (subst (λ b. OfUsed b ((meaning c).works w)) no_save may)
+from_outside status c w no_load no_save may = absurd (first_of (assumption may, cc))
 
 -- a source that exposes these bytes exposes no other
 the_input : (known : Option (List ℕ)) (bytes input : List ℕ) → known ≡ Some bytes → ExposesInput known input → input ≡ bytes
 the_input None bytes input is exposed = absurd (cc)
 the_input (Some all) bytes input is exposed = let same : all ≡ bytes = cc in sym exposed ∙ same
 
--- these bytes are written by a command that is done over what the source holds
-comes_back : (c : Command) (status : Status) (before now : Seen) (held bytes : List ℕ) → before.src ≡ Some held → ((w : World) → MayLoad c w → ⊥) → ((w : World) → MaySave c w → ⊥)
-    → ((w : World) (starved : List ℕ) → w.input ≡ held → (status_for c w starved ≡ Done) × ((raw : List ℕ) → text_for c w starved raw ≡ bytes)) → Behaves c status before now → IsBack status before.out now.out bytes ⊎ IsFromOutside status
-comes_back c status before now held bytes holds no_load no_save gives behaves =
+-- these bytes are written by a command that is done over what the source holds, and reads all of it
+comes_back : (c : Command) (status : Status) (before now : Seen) (held bytes : List ℕ) → before.src ≡ Some held → (meaning c).loads ≡ false → (meaning c).saves ≡ false
+    → ((w : World) (starved : List ℕ) → w.input ≡ held → (meaning c).status w starved ≡ Done) → ((w : World) (starved raw : List ℕ) → raw ≡ held → (meaning c).text w starved raw ≡ bytes)
+    → ((b : Behaves c Done before now) → b.raw ≡ b.world.input) → Behaves c status before now → IsBack status before.out now.out bytes ⊎ IsFromOutside status
+comes_back c status before now held bytes holds no_load no_save is_done gives whole behaves =
     let w = behaves.world in
-    let starved = behaves.starved in
-    let good = gives w starved (the_input before.src held w.input holds behaves.exposed.input) in
+    let input = the_input before.src held w.input holds behaves.exposed.input in
     elim behaves.stated [
       | inl same ↦
-          let done : status ≡ Done = same ∙ good.0 in
-          let written = subst (λ s. Writes s (text_for c w starved behaves.raw) (draft_for c s w starved behaves.raw) before.out now.out) done behaves.written in
-          inl (record { done = done; written = subst (Appends before.out now.out) (good.1 behaves.raw) written })
-      | inr may ↦ inr (from_outside status c w starved (no_load w) (no_save w) may)
+          let done : status ≡ Done = same ∙ is_done w behaves.starved input in
+          inl (record { done = done; written = by (subst (λ s. Behaves c s before now) done behaves) })
+      | inr may ↦ inr (from_outside status c w no_load no_save may)
     ]
+  where
+    by : Behaves c Done before now → Appends before.out now.out bytes
+    by b = subst (Appends before.out now.out) (gives b.world b.starved b.raw (whole b ∙ the_input before.src held b.world.input holds b.exposed.input)) b.written
 
 -- what `restore` does with a reversible stream
 pub GivesBack-behaves : (words : List (List ℕ)) (status : Status) (before now : Seen) → OfCommand words (λ c. Behaves c status before now) → GivesBack words status before now
 GivesBack-behaves words status before now command None h bytes holds =
-    comes_back Restore status before now (stream_text h bytes) bytes holds.stream (λ w may. may) (λ w may. may)
-    (λ w starved input. (
-      ap (λ xs. status_of (restore_answer xs)) input ∙ ap status_of (answer-stream_text h bytes holds.header),
-      λ raw. ap restored_text input ∙ text-reversible_text h bytes holds.header holds.mode holds.whole holds.small,
-    ))
+    comes_back Restore status before now (stream_text h bytes) bytes holds.stream refl refl
+    (λ w starved input. ap (λ xs. status_of (restore_answer xs)) input ∙ ap status_of (answer-stream_text h bytes holds.header))
+    (λ w starved raw is. ap restored_text is ∙ text-reversible_text h bytes holds.header holds.mode holds.whole holds.small)
+    (λ b. b.raw_is ∙ b.extent)
     (command Restore holds.words_are)
 GivesBack-behaves words status before now command (Some n) h bytes holds =
-    let held = narrow_text n h bytes in
-    comes_back (RestoreNarrow n) status before now held bytes holds.stream (λ w may. may) (λ w may. may)
-    (λ w starved input. (
-      ap (λ xs. narrow_status_of (restore_narrow_answer xs)) input ∙ ap narrow_status_of (answer-narrow_text n h bytes holds.header holds.typed),
-      λ raw. ap (narrow_restored n) input ∙ text-narrow_text n h bytes holds.header holds.typed holds.mode holds.whole holds.small,
-    ))
+    comes_back (RestoreNarrow n) status before now (narrow_text n h bytes) bytes holds.stream refl refl
+    (λ w starved input. ap (λ xs. narrow_status_of (restore_narrow_answer xs)) input ∙ ap narrow_status_of (answer-narrow_text n h bytes holds.header holds.typed))
+    (λ w starved raw is. ap (narrow_restored n) is ∙ text-narrow_text n h bytes holds.header holds.typed holds.mode holds.whole holds.small)
+    (λ b. b.raw_is ∙ b.extent)
     (command (RestoreNarrow n) holds.words_are)

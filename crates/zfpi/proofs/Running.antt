@@ -120,11 +120,11 @@ module _ (name : List ℕ) (caching : Caching) where
     saved_is = ap (λ file. saved_of name (run_file caching) file starved script) (is_open (Run name caching) name array_in (run_replies caching) (IsScripted-run name caching) known mid holds.bytes (said s) holds.file holds.array kept)
 
     -- the whole script was run, and its replies were handed on before the file was saved
-    pub Behaves-run : (ns : List ℕ) (now : State (List Bool)) (mode : Mode) (refused : ℕ) (status ended : Status) (file : List ℕ) (src rest out sent out_now : Option (List ℕ)) (shelf : Option Files) (Writing Saving : Type 0)
+    pub Behaves-run : (ns : List ℕ) (now : State (List Bool)) (mode : Mode) (refused : ℕ) (status ended : Status) (file : List ℕ) (src rest out sent out_now : Option (List ℕ)) (shelf : Option Files) (Writing : Type 0)
         → Completes ns now starved out sent ran refused → Appends sent out_now [] → mode ≡ s.header.mode → file ≡ saved_file w (block_bits mode) ns now
-        → lines_status refused ≡ status → SavesOrFails mid shelf name file status ended Writing Saving → Takes src rest script → IsAtEnd rest
+        → lines_status refused ≡ status → SavesOrFails mid shelf name file status ended Writing → Takes src rest script → IsAtEnd rest
         → Behaves (Run name caching) ended (seen src out known) (seen rest out_now shelf)
-    Behaves-run ns now mode refused status ended file src rest out sent out_now shelf Writing Saving done stays same_mode is status_same saves takes end =
+    Behaves-run ns now mode refused status ended file src rest out sent out_now shelf Writing done stays same_mode is status_same saves takes end =
         let starved_are = ap (count_by is_starved) (sym replies_are) ∙ done.starved_are in
         let written = Appends-stays out sent out_now _ (subst (Appends out sent) (ap replies_text replies_are) done.written) stays in
         elim saves [

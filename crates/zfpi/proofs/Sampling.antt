@@ -11,14 +11,14 @@ use Rattle.zfpi.specs.declared.status.Status.TheVariants as statuses
 use Rattle.zfpi.specs.declared.command.Command.TheVariants.{Sample}
 use Rattle.zfpi.specs.Sample.{summary_line, sample_text}
 use Rattle.zfpi.specs.World.{World, seen}
-use Rattle.zfpi.specs.Answer.{status_for, MayFail, cut_draft}
+use Rattle.zfpi.specs.Answer.{meaning, MayFail, cut_draft}
 use Rattle.zfpi.specs.Headline.{IsOfCommand, Writes, Behaves}
 use Rattle.zfpi.proofs.Exposed.{world_of, ExposesFiles-same, KeepsFiles-none, some_input, Takes-none}
 
 module _ (h : Header) (seed : ℕ) where
   -- so it ended, with this output
   behaves_so : (status : Status) (src before now : Option (List ℕ)) (shelf : Option Files) → IsOfCommand status
-      → ((w : World) → (status ≡ status_for (Sample h seed) w []) ⊎ MayFail status (Sample h seed) w [])
+      → ((w : World) → (status ≡ (meaning (Sample h seed)).status w []) ⊎ MayFail status (Sample h seed) w)
       → Writes status (sample_text h seed) (cut_draft status (sample_text h seed)) before now
       → Behaves (Sample h seed) status (seen src before shelf) (seen src now shelf)
   behaves_so status src before now shelf ends stated written =

@@ -25,10 +25,10 @@ use Rattle.zfpi.specs.declared.command.Command.{Command}
 use Rattle.zfpi.specs.declared.command.Command.TheVariants.{Run, Look}
 use Rattle.zfpi.specs.Faults.{take_status}
 use Rattle.zfpi.specs.Opened.{array_in, stream_in, opened}
-use Rattle.zfpi.specs.Scripts.{Answering, run_replies, look_replies, lines_status, script_status, script_text, AreStarved}
+use Rattle.zfpi.specs.Scripts.{Answering, run_replies, look_replies, lines_status, script_status, script_text, AreStarved, OnWholeScript, TakesScript, IsRunnable}
 use Rattle.zfpi.specs.Loaded.{HoldsFile}
 use Rattle.zfpi.specs.World.{World, ExposesInput, IsExposed, seen}
-use Rattle.zfpi.specs.Answer.{OnWholeScript, TakesScript, IsRunnable, status_for, text_for, draft_for, saved_for, cut_draft, HasStarved, IsExtent, MayRead, MayWrite, MayFail}
+use Rattle.zfpi.specs.Answer.{meaning, cut_draft, MayFail, OfUsed}
 use Rattle.zfpi.specs.Headline.{IsOfCommand, Writes, Saves, Behaves}
 use Rattle.zfpi.proofs.Exposed.{some_input, ExposesInput-taken}
 use Rattle.zfpi.proofs.Loading.{OnWholeScript-first, TakesScript-first, Unsaved, Saves-unsaved, files_with, world_with, ExposesFiles-with, opened-held, IsLoading}
@@ -41,13 +41,13 @@ lines_status-some (suc n) some = refl
 -- a command that answers a script so, on what the file of this name is opened as
 pub record IsScripted (c : Command) (name : List ℕ) (reading : List ℕ → Result Said Status) (replies : Answering) : Type 0 where
   pub loading : IsLoading c name reading
-  pub status : (w : World) (starved : List ℕ) → status_for c w starved ≡ script_status replies (opened reading (w.files name)) starved w.input
-  pub text : (w : World) (starved taken : List ℕ) → text_for c w starved taken ≡ script_text replies (opened reading (w.files name)) starved w.input
-  pub draft : (w : World) (starved : List ℕ) (status : Status) (taken : List ℕ) → draft_for c status w starved taken ≡ cut_draft status (text_for c w starved taken)
-  pub starved_are : (w : World) (starved : List ℕ) (status : Status) → OnWholeScript status (AreStarved replies (opened reading (w.files name)) starved w.input) → HasStarved c status w starved
-  pub extent : (status : Status) (input taken : List ℕ) → TakesScript status input taken → IsExtent c status input taken
-  pub reads : (w : World) → IsOk (opened reading (w.files name)) → MayRead c w
-  pub writes : (w : World) → IsRunnable (opened reading (w.files name)) w → MayWrite c w
+  pub status : (w : World) (starved : List ℕ) → (meaning c).status w starved ≡ script_status replies (opened reading (w.files name)) starved w.input
+  pub text : (w : World) (starved taken : List ℕ) → (meaning c).text w starved taken ≡ script_text replies (opened reading (w.files name)) starved w.input
+  pub draft : (w : World) (starved : List ℕ) (status : Status) (taken : List ℕ) → (meaning c).draft status ((meaning c).text w starved taken) ≡ cut_draft status ((meaning c).text w starved taken)
+  pub starved_are : (w : World) (starved : List ℕ) (status : Status) → OnWholeScript status (AreStarved replies (opened reading (w.files name)) starved w.input) → (meaning c).starved_are status w starved
+  pub extent : (status : Status) (input taken : List ℕ) → TakesScript status input taken → (meaning c).extent status input taken
+  pub reads : (w : World) → IsOk (opened reading (w.files name)) → OfUsed ((meaning c).reads statuses.ReadFault) ((meaning c).opens w)
+  pub writes : (w : World) → IsRunnable (opened reading (w.files name)) w → OfUsed (meaning c).writes ((meaning c).works w)
 
 pub IsScripted-run : (name : List ℕ) (caching : Caching) → IsScripted (Run name caching) name array_in (run_replies caching)
 IsScripted-run name caching = record {
@@ -104,23 +104,23 @@ module _ (c : Command) (name : List ℕ) (reading : List ℕ → Result Said Sta
   open_ok = subst IsOk (sym is_open) refl
 
   -- the status of a script, by the number of its lines that are refused
-  status_is : (starved script : List ℕ) → length script ≤ 16777216 → lines_status (count_by is_refusal (replies said starved script)) ≡ status_for c (world_with known bytes script) starved
+  status_is : (starved script : List ℕ) → length script ≤ 16777216 → lines_status (count_by is_refusal (replies said starved script)) ≡ (meaning c).status (world_with known bytes script) starved
   status_is starved script most =
       sym (ap (λ t. cond t statuses.ScriptLong (lines_status (count_by is_refusal (replies said starved script)))) (le-ltb 16777216 (length script) most))
       ∙ (sym (ap (λ file. script_status replies file starved script) is_open) ∙ sym (is.status (world_with known bytes script) starved))
 
-  too_long : (input : List ℕ) → 16777216 < length input → statuses.ScriptLong ≡ status_for c (world_with known bytes input) []
+  too_long : (input : List ℕ) → 16777216 < length input → statuses.ScriptLong ≡ (meaning c).status (world_with known bytes input) []
   too_long input long =
       sym (ap (λ t. cond t statuses.ScriptLong (lines_status (count_by is_refusal (replies said [] input)))) (lt-ltb 16777216 (length input) long))
       ∙ (sym (ap (λ file. script_status replies file [] input) is_open) ∙ sym (is.status (world_with known bytes input) []))
 
   -- its text
-  text_is : (starved script taken : List ℕ) → replies_text (replies said starved script) ≡ text_for c (world_with known bytes script) starved taken
+  text_is : (starved script taken : List ℕ) → replies_text (replies said starved script) ≡ (meaning c).text (world_with known bytes script) starved taken
   text_is starved script taken = sym (ap (λ file. script_text replies file starved script) is_open) ∙ sym (is.text (world_with known bytes script) starved taken)
 
   -- no line was run, and nothing was written
   unread : (status : Status) (src src_now out : Option (List ℕ)) (input taken : List ℕ) → IsOfCommand status → ExposesInput src input → OnWholeScript status (AreStarved replies (opened reading (files_with known bytes name)) [] input)
-      → (status ≡ status_for c (world_with known bytes input) []) ⊎ MayFail status c (world_with known bytes input) [] → Takes src src_now taken → TakesScript status input taken
+      → (status ≡ (meaning c).status (world_with known bytes input) []) ⊎ MayFail status c (world_with known bytes input) → Takes src src_now taken → TakesScript status input taken
       → ((text : List ℕ) → Writes status text (cut_draft status text) out out) → Unsaved status → Behaves c status (seen src out known) (seen src_now out mid)
   unread status src src_now out input taken ends exposed starved_are stated takes extent written un = record {
     ends = ends;
@@ -134,8 +134,8 @@ module _ (c : Command) (name : List ℕ) (reading : List ℕ → Result Said Sta
     extent = is.extent status input taken extent;
     raw = taken;
     raw_is = is.loading.plain status src taken;
-    written = subst (λ draft. Writes status (text_for c (world_with known bytes input) [] taken) draft out out) (sym (is.draft (world_with known bytes input) [] status taken)) (written (text_for c (world_with known bytes input) [] taken));
-    saved = Saves-unsaved (saved_for c (world_with known bytes input) []) status known mid un kept;
+    written = subst (λ draft. Writes status ((meaning c).text (world_with known bytes input) [] taken) draft out out) (sym (is.draft (world_with known bytes input) [] status taken)) (written ((meaning c).text (world_with known bytes input) [] taken));
+    saved = Saves-unsaved ((meaning c).saved (world_with known bytes input) []) status known mid un kept;
   }
 
   -- the script was not read to its end
@@ -162,8 +162,8 @@ module _ (c : Command) (name : List ℕ) (reading : List ℕ → Result Said Sta
 
     -- all its lines were run, and it ended so
     pub Behaves-whole : (status : Status) (out out_now : Option (List ℕ)) (shelf : Option Files) → IsOfCommand status → ((P : Type 0) → P → OnWholeScript status P) → TakesScript status script script
-        → ((text draft : List ℕ) → Appends out out_now text → Writes status text draft out out_now) → (status ≡ status_for c (world_with known bytes script) starved) ⊎ MayFail status c (world_with known bytes script) starved
-        → count_by is_starved (replies said starved script) ≡ length starved → Appends out out_now (replies_text (replies said starved script)) → Saves (saved_for c (world_with known bytes script) starved) status known shelf
+        → ((text draft : List ℕ) → Appends out out_now text → Writes status text draft out out_now) → (status ≡ (meaning c).status (world_with known bytes script) starved) ⊎ MayFail status c (world_with known bytes script)
+        → count_by is_starved (replies said starved script) ≡ length starved → Appends out out_now (replies_text (replies said starved script)) → Saves ((meaning c).saved (world_with known bytes script) starved) status known shelf
         → Behaves c status (seen src out known) (seen rest out_now shelf)
     Behaves-whole status out out_now shelf ends on_whole extent writes stated starved_are written saved = record {
       ends = ends;
@@ -183,7 +183,7 @@ module _ (c : Command) (name : List ℕ) (reading : List ℕ → Result Said Sta
 
     -- so many lines were refused, or none
     pub Behaves-lines : (n : ℕ) (out out_now : Option (List ℕ)) (shelf : Option Files) → n ≡ count_by is_refusal (replies said starved script) → count_by is_starved (replies said starved script) ≡ length starved
-        → Appends out out_now (replies_text (replies said starved script)) → Saves (saved_for c (world_with known bytes script) starved) (lines_status n) known shelf → Behaves c (lines_status n) (seen src out known) (seen rest out_now shelf)
+        → Appends out out_now (replies_text (replies said starved script)) → Saves ((meaning c).saved (world_with known bytes script) starved) (lines_status n) known shelf → Behaves c (lines_status n) (seen src out known) (seen rest out_now shelf)
     Behaves-lines zero out out_now shelf refused starved_are written saved =
         Behaves-whole statuses.Done out out_now shelf tt (λ P p. p) refl (λ text draft all. all) (inl (ap lines_status refused ∙ status_is starved script most)) starved_are written saved
     Behaves-lines (suc n) out out_now shelf refused starved_are written saved =
@@ -207,7 +207,7 @@ module _ (c : Command) (name : List ℕ) (reading : List ℕ → Result Said Sta
           raw = script;
           raw_is = is.loading.plain statuses.WriteFault src script;
           written = subst (AppendsPrefix out out_now) (text_is starved script script ∙ sym (is.draft w starved statuses.WriteFault script)) (AppendsPrefix-all out out_now text written);
-          saved = Saves-unsaved (saved_for c w starved) statuses.WriteFault known mid tt kept;
+          saved = Saves-unsaved ((meaning c).saved w starved) statuses.WriteFault known mid tt kept;
         }
 
     -- a reply was not written whole
@@ -233,7 +233,7 @@ module _ (c : Command) (name : List ℕ) (reading : List ℕ → Result Said Sta
           let one : replies_text (stops.reply ∷ []) ≡ reply = append-nil reply in
           let replied : replies_text (run_lines setting starved 0 (take (stops.at + 1) (lines_of script)) start).1 ≡ first ++ reply =
           ap replies_text stops.replied ∙ (flat_map-append reply_text (run_lines setting starved 0 (take stops.at (lines_of script)) start).1 (stops.reply ∷ []) ∙ ap (λ r. first ++ r) one) in
-          let whole : (first ++ reply) ++ prefix.0 ≡ text_for c (world_with known bytes script) starved script =
+          let whole : (first ++ reply) ++ prefix.0 ≡ (meaning c).text (world_with known bytes script) starved script =
           ap (λ text. text ++ prefix.0) (sym replied) ∙ (sym prefix.1 ∙ text_is starved script script) in
           let part : AppendsPrefix out out_now (first ++ reply) =
           (length first + stops.count, omega (arith, length-append first reply, stops.not_whole), rw (take-append-add first reply stops.count) stops.written) in
@@ -250,5 +250,5 @@ module _ (c : Command) (name : List ℕ) (reading : List ℕ → Result Said Sta
             raw = script;
             raw_is = is.loading.plain statuses.WriteFault src script;
             written = subst (AppendsPrefix out out_now) (whole ∙ sym (is.draft (world_with known bytes script) starved statuses.WriteFault script)) (AppendsPrefix-more out out_now (first ++ reply) prefix.0 part);
-            saved = Saves-unsaved (saved_for c (world_with known bytes script) starved) statuses.WriteFault known mid tt kept;
+            saved = Saves-unsaved ((meaning c).saved (world_with known bytes script) starved) statuses.WriteFault known mid tt kept;
           }

@@ -26,9 +26,9 @@ use Rattle.zfpi.specs.declared.status.Status.{Status}
 use Rattle.zfpi.specs.declared.status.Status.TheVariants as statuses
 use Rattle.zfpi.specs.declared.command.Command.{Command}
 use Rattle.zfpi.specs.declared.command.Command.TheVariants.{Compress, CompressNarrow, Restore, RestoreNarrow}
-use Rattle.zfpi.specs.Faults.{fault_status, narrow_status}
+use Rattle.zfpi.specs.Faults.{fault_status, narrow_status, status_of, narrow_status_of}
 use Rattle.zfpi.specs.World.{World, ExposesInput, seen}
-use Rattle.zfpi.specs.Answer.{TakesNarrow, status_of, narrow_status_of, status_for, text_for, draft_for, saved_for, IsRaw, IsNarrowRaw, IsExtent, HasStarved, TakesMemory, MayRead, MayWrite, MayFail, compress_draft, restore_draft, TakesWhole}
+use Rattle.zfpi.specs.Answer.{meaning, TakesStream, IsNarrowRaw, MayFail, compress_draft, restore_draft, OfUsed}
 use Rattle.zfpi.specs.Headline.{IsOfCommand, Writes, Saves, Behaves}
 use Rattle.zfpi.proofs.Completed.{one_value}
 use Rattle.zfpi.proofs.Exposed.{world_of, ExposesFiles-same, KeepsFiles-none, ExposesInput-taken}
@@ -55,11 +55,6 @@ Writes-cut (statuses.Lines n) text draft before now cut prefix = absurd cut
 Writes-cut statuses.SaveFault text draft before now cut prefix = absurd cut
 Writes-cut status text draft before now cut prefix = prefix
 
-TakesWhole-cut : (status : Status) (input taken : List ℕ) → IsCut status → TakesWhole status input taken
-unfolding IsCut
-TakesWhole-cut statuses.Done input taken cut = absurd cut
-TakesWhole-cut status input taken cut = tt
-
 IsCut-fault : (e : StreamFault) → IsCut (fault_status e)
 unfolding IsCut
 IsCut-fault (faults.RawShort m) = tt
@@ -72,32 +67,32 @@ IsCut-fault faults.Read = tt
 IsCut-fault faults.Write = tt
 IsCut-fault faults.Memory = tt
 
-TakesNarrow-fault : (e : StreamFault) (input taken : List ℕ) → TakesNarrow (fault_status e) input taken
-TakesNarrow-fault (faults.RawShort m) input taken = tt
-TakesNarrow-fault faults.RawLong input taken = tt
-TakesNarrow-fault (faults.Header f) input taken = tt
-TakesNarrow-fault (faults.Truncated b) input taken = tt
-TakesNarrow-fault faults.Pad input taken = tt
-TakesNarrow-fault faults.Trailing input taken = tt
-TakesNarrow-fault faults.Read input taken = tt
-TakesNarrow-fault faults.Write input taken = tt
-TakesNarrow-fault faults.Memory input taken = tt
+TakesStream-fault : (e : StreamFault) (input taken : List ℕ) → TakesStream (fault_status e) input taken
+TakesStream-fault (faults.RawShort m) input taken = tt
+TakesStream-fault faults.RawLong input taken = tt
+TakesStream-fault (faults.Header f) input taken = tt
+TakesStream-fault (faults.Truncated b) input taken = tt
+TakesStream-fault faults.Pad input taken = tt
+TakesStream-fault faults.Trailing input taken = tt
+TakesStream-fault faults.Read input taken = tt
+TakesStream-fault faults.Write input taken = tt
+TakesStream-fault faults.Memory input taken = tt
 
 -- a command that reads a stream to its end and saves nothing
 pub record IsStreaming (c : Command) : Type 0 where
-  pub not_starved : (status : Status) (w : World) → HasStarved c status w []
-  pub nothing_saved : (w : World) → saved_for c w [] ≡ None
-  pub to_end : (input : List ℕ) → IsExtent c statuses.Done input input
-  pub cut_extent : (e : StreamFault) (input taken : List ℕ) → IsExtent c (fault_status e) input taken
-  pub reads : (w : World) → MayRead c w
-  pub writes : (w : World) → MayWrite c w
+  pub not_starved : (status : Status) (w : World) → (meaning c).starved_are status w []
+  pub nothing_saved : (w : World) → (meaning c).saved w [] ≡ None
+  pub to_end : (input : List ℕ) → (meaning c).extent statuses.Done input input
+  pub cut_extent : (e : StreamFault) (input taken : List ℕ) → (meaning c).extent (fault_status e) input taken
+  pub reads : (w : World) → OfUsed ((meaning c).reads statuses.ReadFault) ((meaning c).opens w)
+  pub writes : (w : World) → OfUsed (meaning c).writes ((meaning c).works w)
 
 pub IsStreaming-compress : (h : Header) → IsStreaming (Compress h)
 IsStreaming-compress h = record {
   not_starved = λ status w. refl;
   nothing_saved = λ w. refl;
   to_end = λ input. refl;
-  cut_extent = λ e input taken. TakesWhole-cut (fault_status e) input taken (IsCut-fault e);
+  cut_extent = TakesStream-fault;
   reads = λ w. tt;
   writes = λ w. tt;
 }
@@ -107,7 +102,7 @@ IsStreaming-compress_narrow n h = record {
   not_starved = λ status w. refl;
   nothing_saved = λ w. refl;
   to_end = λ input. refl;
-  cut_extent = λ e input taken. TakesWhole-cut (fault_status e) input taken (IsCut-fault e);
+  cut_extent = TakesStream-fault;
   reads = λ w. tt;
   writes = λ w. tt;
 }
@@ -117,7 +112,7 @@ IsStreaming-restore = record {
   not_starved = λ status w. refl;
   nothing_saved = λ w. refl;
   to_end = λ input. refl;
-  cut_extent = λ e input taken. TakesWhole-cut (fault_status e) input taken (IsCut-fault e);
+  cut_extent = TakesStream-fault;
   reads = λ w. tt;
   writes = λ w. tt;
 }
@@ -127,7 +122,7 @@ IsStreaming-restore_narrow n = record {
   not_starved = λ status w. refl;
   nothing_saved = λ w. refl;
   to_end = λ input. refl;
-  cut_extent = TakesNarrow-fault;
+  cut_extent = TakesStream-fault;
   reads = λ w. tt;
   writes = λ w. tt;
 }
@@ -135,7 +130,7 @@ IsStreaming-restore_narrow n = record {
 -- ---- after Ok
 
 pub Behaves-done : (c : Command) (bytes raw : List ℕ) (src_before src_now out_before out_now : Option (List ℕ)) (shelf : Option Files) → IsStreaming c
-    → statuses.Done ≡ status_for c (world_of bytes shelf) [] → Takes src_before src_now bytes → IsAtEnd src_now → IsRaw c statuses.Done src_before bytes raw → Appends out_before out_now (text_for c (world_of bytes shelf) [] raw)
+    → statuses.Done ≡ (meaning c).status (world_of bytes shelf) [] → Takes src_before src_now bytes → IsAtEnd src_now → (meaning c).raw statuses.Done src_before bytes raw → Appends out_before out_now ((meaning c).text (world_of bytes shelf) [] raw)
     → Behaves c statuses.Done (seen src_before out_before shelf) (seen src_now out_now shelf)
 Behaves-done c bytes raw src_before src_now out_before out_now shelf is stated taken ended raw_is written =
     let w = world_of bytes shelf in
@@ -159,7 +154,7 @@ Behaves-done c bytes raw src_before src_now out_before out_now shelf is stated t
 
 -- the status is stated for this input, or comes from outside
 IsStated : Command → Status → Option Files → List ℕ → Type 0
-IsStated c status shelf input = (status ≡ status_for c (world_of input shelf) []) ⊎ MayFail status c (world_of input shelf) []
+IsStated c status shelf input = (status ≡ (meaning c).status (world_of input shelf) []) ⊎ MayFail status c (world_of input shelf)
 
 -- an input that the source exposes, and which explains the status
 record Explains (c : Command) (status : Status) (known : Option (List ℕ)) (shelf : Option Files) : Type 0 where
@@ -172,8 +167,8 @@ explain c status None shelf exposed some = record { input = some.0; exposed = tt
 explain c status (Some input) shelf exposed some = record { input = input; exposed = refl; stated = exposed input refl }
 
 Behaves-cut : (c : Command) (status : Status) (taken raw : List ℕ) (src_before src_now out_before out_now : Option (List ℕ)) (shelf : Option Files) → IsStreaming c → IsCut status
-    → (why : Explains c status src_before shelf) → IsExtent c status why.input taken
-    → Takes src_before src_now taken → IsRaw c status src_before taken raw → ((w : World) → AppendsPrefix out_before out_now (draft_for c status w [] raw))
+    → (why : Explains c status src_before shelf) → (meaning c).extent status why.input taken
+    → Takes src_before src_now taken → (meaning c).raw status src_before taken raw → ((w : World) → AppendsPrefix out_before out_now ((meaning c).draft status ((meaning c).text w [] raw)))
     → Behaves c status (seen src_before out_before shelf) (seen src_now out_now shelf)
 unfolding IsStated
 Behaves-cut c status taken raw src_before src_now out_before out_now shelf is cut why extent takes raw_is prefix =
@@ -190,26 +185,26 @@ Behaves-cut c status taken raw src_before src_now out_before out_now shelf is cu
       extent = extent;
       raw = raw;
       raw_is = raw_is;
-      written = Writes-cut status (text_for c w [] raw) (draft_for c status w [] raw) out_before out_now cut (prefix w);
+      written = Writes-cut status ((meaning c).text w [] raw) ((meaning c).draft status ((meaning c).text w [] raw)) out_before out_now cut (prefix w);
       saved = subst (λ file. Saves file status shelf shelf) (sym (is.nothing_saved w)) (KeepsFiles-none shelf);
     }
 
 -- ---- faults of a stream
 
-may_outside : (c : Command) (e : StreamFault) (w : World) → IsStreaming c → (e ≡ faults.Memory → TakesMemory c w) → streams.IsFromOutside e → MayFail (fault_status e) c w []
+may_outside : (c : Command) (e : StreamFault) (w : World) → IsStreaming c → (e ≡ faults.Memory → (meaning c).memory w) → streams.IsFromOutside e → MayFail (fault_status e) c w
 may_outside c e w is takes outside = elim outside [
-  | inl read ↦ subst (λ f. MayFail (fault_status f) c w []) (sym read) (is.reads w)
+  | inl read ↦ subst (λ f. MayFail (fault_status f) c w) (sym read) (is.reads w)
   | inr others ↦ elim others [
-    | inl write ↦ subst (λ f. MayFail (fault_status f) c w []) (sym write) (is.writes w)
-    | inr memory ↦ subst (λ f. MayFail (fault_status f) c w []) (sym memory) (takes memory)
+    | inl write ↦ subst (λ f. MayFail (fault_status f) c w) (sym write) (is.writes w)
+    | inr memory ↦ subst (λ f. MayFail (fault_status f) c w) (sym memory) (takes memory)
   ]
 ]
 
 -- a fault is the one that is stated for the input, or for some input where none is exposed. For this input the command takes memory
 pub Behaves-fault : (c : Command) (answer : List ℕ → Result (Unit {0}) StreamFault) (e : StreamFault) (large taken raw : List ℕ) (src_before src_now out_before out_now : Option (List ℕ)) (shelf : Option Files) → IsStreaming c
-    → ((w : World) → status_of (answer w.input) ≡ status_for c w []) → streams.Answers (Err e) src_before answer → streams.CanRefuse answer e
-    → TakesMemory c (world_of large shelf) → ((input : List ℕ) → src_before ≡ Some input → e ≡ faults.Memory → TakesMemory c (world_of input shelf))
-    → Takes src_before src_now taken → IsRaw c (fault_status e) src_before taken raw → ((w : World) → AppendsPrefix out_before out_now (draft_for c (fault_status e) w [] raw))
+    → ((w : World) → status_of (answer w.input) ≡ (meaning c).status w []) → streams.Answers (Err e) src_before answer → streams.CanRefuse answer e
+    → (meaning c).memory (world_of large shelf) → ((input : List ℕ) → src_before ≡ Some input → e ≡ faults.Memory → (meaning c).memory (world_of input shelf))
+    → Takes src_before src_now taken → (meaning c).raw (fault_status e) src_before taken raw → ((w : World) → AppendsPrefix out_before out_now ((meaning c).draft (fault_status e) ((meaning c).text w [] raw)))
     → Behaves c (fault_status e) (seen src_before out_before shelf) (seen src_now out_now shelf)
 unfolding IsStated
 Behaves-fault c answer e large taken raw src_before src_now out_before out_now shelf is status answers refuses has_room takes takes_bytes raw_is prefix =
@@ -293,14 +288,14 @@ pub narrow_prefix : (e : NarrowFault) (text : List ℕ) (before now : Option (Li
 narrow_prefix NotNarrow text before now prefix none = none tt
 narrow_prefix (Stream e) text before now prefix none = restore_prefix e text before now prefix none
 
-may_outside_narrow : (n : Narrow) (e : NarrowFault) (w : World) → (e ≡ Stream faults.Memory → TakesMemory (RestoreNarrow n) w) → IsFromOutside e → MayFail (narrow_status e) (RestoreNarrow n) w []
+may_outside_narrow : (n : Narrow) (e : NarrowFault) (w : World) → (e ≡ Stream faults.Memory → (meaning (RestoreNarrow n)).memory w) → IsFromOutside e → MayFail (narrow_status e) (RestoreNarrow n) w
 may_outside_narrow n NotNarrow w takes outside = absurd outside
 may_outside_narrow n (Stream e) w takes outside = may_outside (RestoreNarrow n) e w (IsStreaming-restore_narrow n) (λ memory. takes (ap Stream memory)) outside
 
 -- the status is the one that is stated for the input, or for some input where none is exposed
 narrow_why : (n : Narrow) (e : NarrowFault) (src_before : Option (List ℕ)) (shelf : Option Files)
     → AnswersNarrow (Err e) src_before → CanRefuseNarrow e
-    → ((input : List ℕ) → src_before ≡ Some input → e ≡ Stream faults.Memory → TakesMemory (RestoreNarrow n) (world_of input shelf))
+    → ((input : List ℕ) → src_before ≡ Some input → e ≡ Stream faults.Memory → (meaning (RestoreNarrow n)).memory (world_of input shelf))
     → Explains (RestoreNarrow n) (narrow_status e) src_before shelf
 unfolding IsStated
 narrow_why n e src_before shelf answers refuses takes = explain c (narrow_status e) src_before shelf exposed some
@@ -357,7 +352,7 @@ Behaves-wide n (Some input) src_now out_before out_now shelf answers wide prefix
 
 pub Behaves-narrow_fault : (n : Narrow) (e : NarrowFault) (taken : List ℕ) (src_before src_now out_before out_now : Option (List ℕ))
     (shelf : Option Files) → AnswersNarrow (Err e) src_before → CanRefuseNarrow e → (e ≡ NotNarrow → HasWideType src_before src_now)
-    → ((input : List ℕ) → src_before ≡ Some input → e ≡ Stream faults.Memory → TakesMemory (RestoreNarrow n) (world_of input shelf))
+    → ((input : List ℕ) → src_before ≡ Some input → e ≡ Stream faults.Memory → (meaning (RestoreNarrow n)).memory (world_of input shelf))
     → Takes src_before src_now taken → AppendsPrefix out_before out_now (restore_draft (narrow_status e) (narrow_restored n taken))
     → Behaves (RestoreNarrow n) (narrow_status e) (seen src_before out_before shelf) (seen src_now out_now shelf)
 Behaves-narrow_fault n NotNarrow taken src_before src_now out_before out_now shelf answers refuses wide takes takes_bytes prefix =
@@ -365,4 +360,4 @@ Behaves-narrow_fault n NotNarrow taken src_before src_now out_before out_now she
 Behaves-narrow_fault n (Stream f) taken src_before src_now out_before out_now shelf answers refuses wide takes takes_bytes prefix =
     let why = narrow_why n (Stream f) src_before shelf answers refuses takes in
     Behaves-cut (RestoreNarrow n) (fault_status f) taken taken src_before src_now out_before out_now shelf
-    (IsStreaming-restore_narrow n) (IsCut-fault f) why (TakesNarrow-fault f why.input taken) takes_bytes refl (λ w. prefix)
+    (IsStreaming-restore_narrow n) (IsCut-fault f) why (TakesStream-fault f why.input taken) takes_bytes refl (λ w. prefix)

@@ -1,4 +1,6 @@
 -- The status of each fault that a call answers.
+use Rattle.std.specs.Prelude.{Option, Some, None, Result, Ok, Err}
+use Rattle.zf_header.specs.declared.header.HeaderFault.{HeaderFault}
 use Rattle.zf_dev.specs.declared.faults.LoadError.{LoadError}
 use Rattle.zf_dev.specs.declared.faults.LoadError.TheVariants as loading
 use Rattle.zf_dev.specs.declared.faults.TakeError.{TakeError}
@@ -30,6 +32,21 @@ fault_status faults.Memory = statuses.Memory
 abbrev pub narrow_status : NarrowFault → Status
 narrow_status NotNarrow = statuses.NotNarrow
 narrow_status (Stream e) = fault_status e
+
+-- the status of a fault of a header, or of none
+abbrev pub header_status : Option HeaderFault → Status
+header_status None = statuses.Done
+header_status (Some fault) = statuses.Header fault
+
+-- the status of how a call on a stream ended
+abbrev pub status_of : Result (Unit {0}) StreamFault → Status
+status_of (Ok done) = statuses.Done
+status_of (Err fault) = fault_status fault
+
+-- and of how one on a stream of narrow values did
+abbrev pub narrow_status_of : Result (Unit {0}) NarrowFault → Status
+narrow_status_of (Ok done) = statuses.Done
+narrow_status_of (Err fault) = narrow_status fault
 
 -- the status of a file that was not loaded
 abbrev pub load_status : LoadError → Status

@@ -1,5 +1,5 @@
 -- What the program promises of every command: the words of the contract of the top call. No command is named here but in `back`.
-use Rattle.std.specs.Prelude.{ℕ, ◌≡◌, ◌≢◌, ◌<◌, ◌≤◌, ◌⊎◌, ◌||◌, Bool, true, false, List, [], ◌∷◌, length, Option, Some, None, codes, All}
+use Rattle.std.specs.Prelude.{ℕ, ◌≡◌, ◌≢◌, ◌<◌, ◌≤◌, ◌⊎◌, Bool, true, false, List, [], ◌∷◌, length, Option, Some, None, codes, All}
 use Rattle.zf_header.specs.declared.header.Header.{Header}
 use Rattle.zf_header.specs.declared.header.Mode.TheVariants.{Reversible}
 use Rattle.zf_header.specs.HeaderBits.{IsHeader}
@@ -7,7 +7,7 @@ use Rattle.zf_parse.specs.Raw.{raw_len, stream_text}
 use Rattle.zf_base.specs.declared.lane.Ty.TheVariants.{I32}
 use Rattle.zf_narrow.specs.declared.narrow.Narrow.{Narrow}
 use Rattle.zf_narrow.specs.Texts.{narrow_len, narrow_text}
-use Rattle.zf_dev.specs.Faults.{Rose, IsQuiet, HasCause}
+use Rattle.zf_dev.specs.Faults.{IsQuiet, HasCause}
 use Rattle.zf_dev.specs.Shelf.{Files, KeepsFiles, KeepsOthers, SavesFile}
 use Rattle.zf_dev.specs.Source.{Takes}
 use Rattle.zf_dev.specs.Sink.{Appends, AppendsPrefix}
@@ -16,7 +16,8 @@ use Rattle.zfpi.specs.declared.status.Status.TheVariants.{Done, Lines, Usage, Re
 use Rattle.zfpi.specs.declared.command.Command.{Command}
 use Rattle.zfpi.specs.Words.{narrow_word, IsSpelled, IsUsage}
 use Rattle.zfpi.specs.World.{World, Seen, Counts, IsExposed}
-use Rattle.zfpi.specs.Answer.{status_for, text_for, draft_for, IsRaw, saved_for, uses, IsExtent, HasStarved, TakesMemory, MayFail}
+use Rattle.zfpi.specs.Answer.{meaning, MayFail}
+use Rattle.zfpi.specs.Steps.{is_work_done}
 
 -- this holds of the command that the words are, where they are one
 abbrev pub OfCommand : List (List ℕ) → (Command → Type 0) → Type 0
@@ -59,76 +60,52 @@ pub record Behaves (c : Command) (status : Status) (before now : Seen) : Type 0 
   pub exposed : IsExposed before world
   -- the lines of the script that answered `! memory`
   pub starved : List ℕ
-  pub starved_are : HasStarved c status world starved
-  pub stated : (status ≡ status_for c world starved) ⊎ MayFail status c world starved
+  pub starved_are : (meaning c).starved_are status world starved
+  pub stated : (status ≡ (meaning c).status world starved) ⊎ MayFail status c world
   -- the bytes that were read
   pub taken : List ℕ
   pub takes : Takes before.src now.src taken
-  pub extent : IsExtent c status world.input taken
+  pub extent : (meaning c).extent status world.input taken
   -- the raw bytes of these
   pub raw : List ℕ
-  pub raw_is : IsRaw c status before.src taken raw
-  pub written : Writes status (text_for c world starved raw) (draft_for c status world starved raw) before.out now.out
-  pub saved : Saves (saved_for c world starved) status before.shelf now.shelf
+  pub raw_is : (meaning c).raw status before.src taken raw
+  pub written : Writes status ((meaning c).text world starved raw) ((meaning c).draft status ((meaning c).text world starved raw)) before.out now.out
+  pub saved : Saves ((meaning c).saved world starved) status before.shelf now.shelf
 
--- a count rises only where the device is used
+-- a count rises only where the device may have been used
 abbrev pub IsIdle : Bool → ℕ → ℕ → Type 0
 IsIdle true before now = Unit {0}
 IsIdle false before now = now ≡ before
 
--- a fault of a load comes only where a load failed, and one of a save where a save did
-abbrev pub IsCausedOnShelf : Status → Type 0 → Type 0 → Type 0
-IsCausedOnShelf LoadFault Loading Saving = Loading
-IsCausedOnShelf SaveFault Loading Saving = Saving
-IsCausedOnShelf status Loading Saving = Unit {0}
-
--- no fault without a cause: a count that rose, a load that failed, a save that failed. Where the source was sure never to fail, it still is
-pub record HasCauses (c : Command) (status : Status) (before now : Counts) (Loading Saving Sure Still : Type 0) : Type 0 where
+-- no fault without a cause: a count that rose. Where the source was sure never to fail, it still is
+pub record HasCauses (c : Command) (status : Status) (before now : Counts) (Sure Still : Type 0) : Type 0 where
   pub reading : HasCause (status ≡ ReadFault) before.src now.src
   pub writing : HasCause (status ≡ WriteFault) before.out now.out
-  pub shelf_kept : before.shelf ≤ now.shelf
-  pub shelving : IsCausedOnShelf status Loading Saving
-  pub no_reading : IsIdle (uses c).reads before.src now.src
-  pub no_writing : IsIdle (uses c).writes before.out now.out
-  pub no_shelving : IsIdle ((uses c).loads || (uses c).saves) before.shelf now.shelf
+  pub no_reading : IsIdle ((meaning c).reads status) before.src now.src
+  pub no_writing : IsIdle (meaning c).writes before.out now.out
   pub sure : Sure → (status ≢ ReadFault) × Still
-
--- the whole work was done, but for the saving maybe
-abbrev pub IsWorkDone : Status → Type 0
-IsWorkDone Done = Unit {0}
-IsWorkDone (Lines n) = Unit {0}
-IsWorkDone SaveFault = Unit {0}
-IsWorkDone status = ⊥
 
 -- all that was written was handed on, unless the sink failed before the work was done
 abbrev pub IsSent : Status → Type 0 → Type 0 → Type 0
-IsSent status Quiet Sent = (IsWorkDone status ⊎ Quiet) → Sent
-
--- a load from the shelf as it was before failed
-abbrev pub FailedLoad : {F : Type 0} → (F → F → Type 0) → (F → ℕ) → F → F → Type 0
-FailedLoad {F} loads faults before now = (mid : F) × loads before mid × Rose (faults before) (faults mid) × (faults mid ≤ faults now)
-
--- a save that led to the shelf as it is now failed
-abbrev pub FailedSave : {F : Type 0} → (F → F → Type 0) → (F → ℕ) → F → F → Type 0
-FailedSave {F} saves faults before now = (mid : F) × (faults before ≤ faults mid) × saves mid now × Rose (faults mid) (faults now)
+IsSent status Quiet Sent = ((is_work_done status ≡ true) ⊎ Quiet) → Sent
 
 -- a device failed, or there was no memory
 abbrev pub IsFromOutside : Status → Type 0
 IsFromOutside status = (status ≡ ReadFault) ⊎ (status ≡ WriteFault) ⊎ (status ≡ Memory)
 
 -- no count rose, and none stands at its last value
-pub record AreQuiet (before now : Counts) : Type 0 where
+pub record AreQuiet (before now : Counts) (shelf_before shelf_now : ℕ) : Type 0 where
   pub src : IsQuiet before.src now.src
   pub out : IsQuiet before.out now.out
-  pub shelf : IsQuiet before.shelf now.shelf
+  pub shelf : IsQuiet shelf_before shelf_now
 
 -- the status is the one that is stated for what the devices expose, or out of memory where memory is taken; it is no fault
 pub record IsComplete (c : Command) (status : Status) (before : Seen) : Type 0 where
   pub world : World
   pub exposed : IsExposed before world
   pub starved : List ℕ
-  pub starved_are : HasStarved c status world starved
-  pub stated : (status ≡ status_for c world starved) ⊎ ((status ≡ Memory) × TakesMemory c world)
+  pub starved_are : (meaning c).starved_are status world starved
+  pub stated : (status ≡ (meaning c).status world starved) ⊎ ((status ≡ Memory) × (meaning c).memory world)
   pub no_fault : (status ≢ ReadFault) × (status ≢ WriteFault) × (status ≢ LoadFault) × (status ≢ SaveFault)
 
 -- the words of `restore`, which writes raw values of the stream's own type or narrow ones

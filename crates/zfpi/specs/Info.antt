@@ -1,5 +1,5 @@
--- The line that `info` writes.
-use Rattle.std.specs.Prelude.{ℕ, List, [], ◌++◌, length, is_none, if◌then◌else◌, codes, decimal}
+-- How far `info` reads, and the line that it writes.
+use Rattle.std.specs.Prelude.{◌≡◌, ℕ, ◌≤◌, List, [], ◌++◌, length, take, is_none, if◌then◌else◌, codes, decimal}
 use Rattle.zf_spec.specs.Grid.{blocks}
 use Rattle.zf_spec.specs.Stream.{to_bits}
 use Rattle.zf_header.specs.declared.header.Header.{Header}
@@ -8,6 +8,8 @@ use Rattle.zf_header.specs.declared.header.Mode.TheVariants.{Reversible, Rate, P
 use Rattle.zf_header.specs.HeaderBits.{header_bits}
 use Rattle.zf_header.specs.HeaderFields.{header_in}
 use Rattle.zf_header.specs.HeaderFaults.{header_fault}
+use Rattle.zfpi.specs.declared.status.Status.{Status}
+use Rattle.zfpi.specs.declared.status.Status.TheVariants as statuses
 use Rattle.zfpi.specs.Words.{type_word, shape_word}
 
 -- `reversible`, `rate B` or `precision P`
@@ -25,3 +27,12 @@ info_line h =
 -- the line for the header that bytes begin with; nothing where they have no good one
 abbrev pub info_text : List ℕ → List ℕ
 info_text bytes = if is_none (header_fault bytes) then info_line (header_in (to_bits bytes)) else []
+
+-- the bytes that the longest header lies in
+abbrev pub header_bytes : ℕ
+header_bytes = 19
+
+-- these were taken and no more, unless the source failed within them
+abbrev pub TakesHeader : Status → List ℕ → List ℕ → Type 0
+TakesHeader statuses.ReadFault input taken = length taken ≤ header_bytes
+TakesHeader status input taken = taken ≡ take header_bytes input

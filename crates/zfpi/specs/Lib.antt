@@ -4,13 +4,14 @@
 --     Stages      what each stage of reading words knows
 --     Statuses    the exit code of each status, and its line for the error output
 --     Faults      the status of each fault that a call answers
---     Info        the line that `info` writes
+--     World       what a call works on, and what is seen of its devices
+--     Info        how far `info` reads, and the line that it writes
 --     Sample      the line that `sample` writes
 --     Opened      what the file of a name is opened as
 --     Scripts     what `run` and `look` do with it and a script
 --     Certified   the line that `bound` writes
---     World       what a call works on, and what is seen of its devices
---     Answer      what each command does: one case for each command
+--     Answer      what a command is: one record a command
+--     Steps       the loads and saves of a call, one after another
 --     Loaded      what a command has loaded, and how a run is saved
 --     Sending     how what a command wrote is handed on
 --     Headline    what the program promises of every command
@@ -19,13 +20,14 @@ pub mod Words
 pub mod Stages
 pub mod Statuses
 pub mod Faults
+pub mod World
 pub mod Info
 pub mod Sample
 pub mod Opened
 pub mod Scripts
 pub mod Certified
-pub mod World
 pub mod Answer
+pub mod Steps
 pub mod Loaded
 pub mod Sending
 pub mod Headline

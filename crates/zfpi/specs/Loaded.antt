@@ -30,9 +30,9 @@ pub record HoldsArray (known : Option Files) (name : List ℕ) (caching : Cachin
   pub state_is : start ≡ open_array w (block_bits s.header.mode) s.header.shape s.codes (first_lines caching s.header.shape)
 
 -- the file was saved and the status is this one, or a save failed, or what was written was not handed on and nothing was saved
-abbrev pub SavesOrFails : Option Files → Option Files → List ℕ → List ℕ → Status → Status → Type 0 → Type 0 → Type 0
-SavesOrFails before now name bytes status ended Writing Saving =
-    ((ended ≡ status) × SavesFile before now name bytes) ⊎ ((ended ≡ SaveFault) × KeepsOthers before now name × Saving) ⊎ ((ended ≡ WriteFault) × (now ≡ before) × Writing)
+abbrev pub SavesOrFails : Option Files → Option Files → List ℕ → List ℕ → Status → Status → Type 0 → Type 0
+SavesOrFails before now name bytes status ended Writing =
+    ((ended ≡ status) × SavesFile before now name bytes) ⊎ ((ended ≡ SaveFault) × KeepsOthers before now name) ⊎ ((ended ≡ WriteFault) × (now ≡ before) × Writing)
 
 -- the stream is that of the file of this name, has values of this width, and a cache of as many lines as are asked for or suit it
 pub record HoldsStream (known : Option Files) (name : List ℕ) (lines : Option ℕ) (w : Width) (a : streams.Held) : Type 0 where

@@ -1,5 +1,5 @@
 -- What `run` and `look` do with what a file is opened as and a script.
-use Rattle.std.specs.Prelude.{◌≡◌, ℕ, zero, suc, nat_lt, Bool, List, [], length, count_by, Option, Some, None, Result, Ok, Err, if◌then◌else◌}
+use Rattle.std.specs.Prelude.{◌≡◌, ℕ, zero, suc, ◌<◌, ◌≤◌, nat_lt, Bool, true, false, List, [], length, count_by, Option, Some, None, Result, Ok, Err, IsOk, if◌then◌else◌}
 use Rattle.std.specs.Int.{Width}
 use Rattle.zf_spec.specs.Grid.{blocks}
 use Rattle.zf_base.specs.Widths.{width_of}
@@ -17,6 +17,7 @@ use Rattle.zfpi.specs.declared.command.Caching.{Caching}
 use Rattle.zfpi.specs.declared.command.Caching.TheVariants.{Direct, TwoWay}
 use Rattle.zfpi.specs.declared.status.Status.{Status}
 use Rattle.zfpi.specs.declared.status.Status.TheVariants as statuses
+use Rattle.zfpi.specs.World.{World}
 
 -- the most bytes of a script
 abbrev pub max_script : ℕ
@@ -90,3 +91,36 @@ saved_of name file (Err status) starved script = None
 abbrev pub AreStarved : Answering → Result Said Status → List ℕ → List ℕ → Type 0
 AreStarved replies (Ok said) starved script = count_by is_starved (replies said starved script) ≡ length starved
 AreStarved replies (Err status) starved script = Unit {0}
+
+-- a script is taken whole before its first line is run, and only once the file is opened
+abbrev pub TakesScript : Status → List ℕ → List ℕ → Type 0
+TakesScript statuses.Done input taken = taken ≡ input
+TakesScript (statuses.Lines n) input taken = taken ≡ input
+TakesScript statuses.WriteFault input taken = taken ≡ input
+TakesScript statuses.SaveFault input taken = taken ≡ input
+TakesScript statuses.ScriptLong input taken = max_script < length taken
+TakesScript statuses.ReadFault input taken = Unit {0}
+TakesScript statuses.Memory input taken = Unit {0}
+TakesScript status input taken = taken ≡ []
+
+-- by these statuses it may have been read
+abbrev pub reads_script : Status → Bool
+reads_script statuses.Done = true
+reads_script (statuses.Lines n) = true
+reads_script statuses.WriteFault = true
+reads_script statuses.SaveFault = true
+reads_script statuses.ScriptLong = true
+reads_script statuses.ReadFault = true
+reads_script statuses.Memory = true
+reads_script status = false
+
+-- this holds where the whole of a script was run
+abbrev pub OnWholeScript : Status → Type 0 → Type 0
+OnWholeScript statuses.Done P = P
+OnWholeScript (statuses.Lines n) P = P
+OnWholeScript statuses.SaveFault P = P
+OnWholeScript status P = Unit {0}
+
+-- the file is opened so, and the input a script
+abbrev pub IsRunnable : Result Said Status → World → Type 0
+IsRunnable file w = IsOk file × (length w.input ≤ max_script)

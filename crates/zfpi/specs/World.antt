@@ -16,14 +16,13 @@ pub record Seen : Type 0 where
 abbrev pub seen : Option (List ℕ) → Option (List ℕ) → Option Files → Seen
 seen s o f = record { src = s; out = o; shelf = f }
 
--- how many faults the source, the sink and the shelf had
+-- how many faults the source and the sink had
 pub record Counts : Type 0 where
   pub src : ℕ
   pub out : ℕ
-  pub shelf : ℕ
 
-abbrev pub counts : ℕ → ℕ → ℕ → Counts
-counts s o f = record { src = s; out = o; shelf = f }
+abbrev pub counts : ℕ → ℕ → Counts
+counts s o = record { src = s; out = o }
 
 -- these are the bytes to come, where they are exposed
 abbrev pub ExposesInput : Option (List ℕ) → List ℕ → Type 0

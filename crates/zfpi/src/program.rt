@@ -4,8 +4,9 @@ ghost use Rattle.std.specs.Prelude.{◌≡◌, ◌≢◌, map, string_bytes};
 ghost use Rattle.zf_dev.specs.Faults.{IsQuiet};
 ghost use Rattle.zfpi.specs.Statuses.{error_line};
 ghost use Rattle.zfpi.specs.World.{seen, counts};
-ghost use Rattle.zfpi.specs.Answer.{CanRun, IsPossible};
-ghost use Rattle.zfpi.specs.Headline.{OfCommand, OnUsage, RefusesWords, Behaves, HasCauses, IsSent, FailedLoad, FailedSave, AreQuiet, IsComplete, GivesBack, Sends};
+ghost use Rattle.zfpi.specs.Answer.{meaning};
+ghost use Rattle.zfpi.specs.Steps.{Steps};
+ghost use Rattle.zfpi.specs.Headline.{OfCommand, OnUsage, RefusesWords, Behaves, HasCauses, IsSent, AreQuiet, IsComplete, GivesBack, Sends};
 
 use crate::command::Command;
 use crate::commands::bound::bound;
@@ -41,17 +42,15 @@ pub fn zfpi<S: Source, O: Sink, E: Sink, F: Shelf>(
         (seen (S.contents src.old) (O.contents out.old) (F.files shelf.old))
         (seen (S.contents src.new) (O.contents out.new) (F.files shelf.new))) }
     ensures causes { OfCommand (map string_bytes words.now) (λ c. HasCauses c result
-        (counts (S.faults src.old) (O.faults out.old) (F.faults shelf.old))
-        (counts (S.faults src.new) (O.faults out.new) (F.faults shelf.new))
-        (FailedLoad F.loads F.faults shelf.old shelf.new) (FailedSave F.saves F.faults shelf.old shelf.new)
+        (counts (S.faults src.old) (O.faults out.old)) (counts (S.faults src.new) (O.faults out.new))
         (S.never_fails src.old) (S.never_fails src.new)) }
+    ensures steps { OfCommand (map string_bytes words.now) (λ c. Steps F.loads F.saves F.faults c result shelf.old shelf.new) }
     ensures sure_shelf { F.never_fails shelf.old → (result ≢ Status.LoadFault) × F.never_fails shelf.new }
     // What was written was handed on where the work was done, and where the sink did not fail.
     ensures sent { O.is_flushed out.old → IsSent result (IsQuiet (O.faults out.old) (O.faults out.new)) (O.is_flushed out.new) }
-    ensures possible { OfCommand (map string_bytes words.now) (λ c. IsPossible c result) }
     ensures complete { AreQuiet
-        (counts (S.faults src.old) (O.faults out.old) (F.faults shelf.old))
-        (counts (S.faults src.new) (O.faults out.new) (F.faults shelf.new))
+        (counts (S.faults src.old) (O.faults out.old)) (counts (S.faults src.new) (O.faults out.new))
+        (F.faults shelf.old) (F.faults shelf.new)
         → OfCommand (map string_bytes words.now) (λ c. IsComplete c result
         (seen (S.contents src.old) (O.contents out.old) (F.files shelf.old))) }
     ensures back { GivesBack (map string_bytes words.now) result
@@ -79,10 +78,9 @@ fn answer<S: Source, O: Sink, F: Shelf>(
         (seen (S.contents src.old) (O.contents out.old) (F.files shelf.old))
         (seen (S.contents src.new) (O.contents out.new) (F.files shelf.new))) }
     ensures causes { OfCommand (map string_bytes words.now) (λ c. HasCauses c result
-        (counts (S.faults src.old) (O.faults out.old) (F.faults shelf.old))
-        (counts (S.faults src.new) (O.faults out.new) (F.faults shelf.new))
-        (FailedLoad F.loads F.faults shelf.old shelf.new) (FailedSave F.saves F.faults shelf.old shelf.new)
+        (counts (S.faults src.old) (O.faults out.old)) (counts (S.faults src.new) (O.faults out.new))
         (S.never_fails src.old) (S.never_fails src.new)) }
+    ensures steps { OfCommand (map string_bytes words.now) (λ c. Steps F.loads F.saves F.faults c result shelf.old shelf.new) }
     ensures sure_shelf { F.never_fails shelf.old → (result ≢ Status.LoadFault) × F.never_fails shelf.new }
     ensures sent { O.is_flushed out.old → IsSent result (IsQuiet (O.faults out.old) (O.faults out.new)) (O.is_flushed out.new) }
 {
@@ -100,15 +98,14 @@ fn do_command<S: Source, O: Sink, F: Shelf>(
     out: &mut O,
     shelf: &mut F,
 ) -> Status
-    requires { CanRun command }
+    requires { (meaning command).can_run }
     ensures behaves { Behaves command result
         (seen (S.contents src.old) (O.contents out.old) (F.files shelf.old))
         (seen (S.contents src.new) (O.contents out.new) (F.files shelf.new)) }
     ensures causes { HasCauses command result
-        (counts (S.faults src.old) (O.faults out.old) (F.faults shelf.old))
-        (counts (S.faults src.new) (O.faults out.new) (F.faults shelf.new))
-        (FailedLoad F.loads F.faults shelf.old shelf.new) (FailedSave F.saves F.faults shelf.old shelf.new)
+        (counts (S.faults src.old) (O.faults out.old)) (counts (S.faults src.new) (O.faults out.new))
         (S.never_fails src.old) (S.never_fails src.new) }
+    ensures steps { Steps F.loads F.saves F.faults command result shelf.old shelf.new }
     ensures sure_shelf { F.never_fails shelf.old → (result ≢ Status.LoadFault) × F.never_fails shelf.new }
     ensures sent { O.is_flushed out.old → IsSent result (IsQuiet (O.faults out.old) (O.faults out.new)) (O.is_flushed out.new) }
 {

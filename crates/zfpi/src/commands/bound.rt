@@ -10,7 +10,8 @@ ghost use Rattle.zf_bound.specs.Bounds.{IsGood, certified_of};
 ghost use Rattle.zfpi.specs.declared.command.Command.TheVariants.{Bound};
 ghost use Rattle.zfpi.specs.World.{seen, counts};
 ghost use Rattle.zfpi.specs.Loaded.{HoldsFile};
-ghost use Rattle.zfpi.specs.Headline.{Behaves, HasCauses, FailedLoad, FailedSave};
+ghost use Rattle.zfpi.specs.Steps.{Steps, IsShelfless};
+ghost use Rattle.zfpi.specs.Headline.{Behaves, HasCauses};
 
 use crate::commands::line::bound_line;
 use crate::status::Status;
@@ -34,8 +35,8 @@ pub fn bound<O: Sink, F: Shelf>(
     ensures behaves { (src : Option (List ℕ)) → Behaves (Bound name.now most) result
         (seen src (O.contents out.old) (F.files shelf.old)) (seen src (O.contents out.new) (F.files shelf.new)) }
     ensures causes { (src : ℕ) → HasCauses (Bound name.now most) result
-        (counts src (O.faults out.old) (F.faults shelf.old)) (counts src (O.faults out.new) (F.faults shelf.new))
-        (FailedLoad F.loads F.faults shelf.old shelf.new) (FailedSave F.saves F.faults shelf.old shelf.new) (Unit {0}) (Unit {0}) }
+        (counts src (O.faults out.old)) (counts src (O.faults out.new)) (Unit {0}) (Unit {0}) }
+    ensures steps { Steps F.loads F.saves F.faults (Bound name.now most) result shelf.old shelf.new }
     ensures sure_shelf { F.never_fails shelf.old → (result ≢ Status.LoadFault) × F.never_fails shelf.new }
 {
     match shelf.load(alloc, name.as_str(), MAX_FILE) {
@@ -48,8 +49,9 @@ pub fn bound<O: Sink, F: Shelf>(
 fn bound_file<O: Sink>(alloc: Global, name: &Name, most: u64, file: &[u8], out: &mut O) -> Status
     ensures behaves { (src : Option (List ℕ)) (known now : Option Files) → HoldsFile known name.now file.now → KeepsFiles known now
         → Behaves (Bound name.now most) result (seen src (O.contents out.old) known) (seen src (O.contents out.new) now) }
-    ensures causes { (src shelf : ℕ) → HasCauses (Bound name.now most) result
-        (counts src (O.faults out.old) shelf) (counts src (O.faults out.new) shelf) ⊥ ⊥ (Unit {0}) (Unit {0}) }
+    ensures causes { (src : ℕ) → HasCauses (Bound name.now most) result
+        (counts src (O.faults out.old)) (counts src (O.faults out.new)) (Unit {0}) (Unit {0}) }
+    ensures shelfless { IsShelfless result }
 {
     match zf_header::read(file) {
         Ok((header, _)) => match header.mode {
@@ -73,8 +75,9 @@ fn bound_stream<O: Sink>(
     requires rate { IsRate header.now.mode }
     ensures behaves { (src : Option (List ℕ)) (known now : Option Files) → HoldsFile known name.now file.now → KeepsFiles known now
         → Behaves (Bound name.now most) result (seen src (O.contents out.old) known) (seen src (O.contents out.new) now) }
-    ensures causes { (src shelf : ℕ) → HasCauses (Bound name.now most) result
-        (counts src (O.faults out.old) shelf) (counts src (O.faults out.new) shelf) ⊥ ⊥ (Unit {0}) (Unit {0}) }
+    ensures causes { (src : ℕ) → HasCauses (Bound name.now most) result
+        (counts src (O.faults out.old)) (counts src (O.faults out.new)) (Unit {0}) (Unit {0}) }
+    ensures shelfless { IsShelfless result }
 {
     match certified(alloc, header, file, most) {
         Ok(certified) => {

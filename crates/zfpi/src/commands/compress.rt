@@ -1,10 +1,10 @@
 //! `compress`: raw values to their stream.
 
-ghost use Rattle.std.specs.Prelude.{ℕ, Option};
+ghost use Rattle.std.specs.Prelude.{Option};
 ghost use Rattle.zf_dev.specs.Shelf.{Files};
 ghost use Rattle.zfpi.specs.declared.command.Command.TheVariants.{Compress};
 ghost use Rattle.zfpi.specs.World.{seen, counts};
-ghost use Rattle.zfpi.specs.Answer.{CanRun};
+ghost use Rattle.zfpi.specs.Answer.{meaning};
 ghost use Rattle.zfpi.specs.Headline.{Behaves, HasCauses};
 
 use crate::status::Status;
@@ -14,12 +14,12 @@ use zf_header::Header;
 
 /// Reads raw values, and writes the stream that has this header.
 pub fn compress<S: Source, O: Sink>(alloc: Global, h: Header, src: &mut S, out: &mut O) -> Status
-    requires { CanRun (Compress h) }
+    requires { (meaning (Compress h)).can_run }
     ensures behaves { (files : Option Files) → Behaves (Compress h) result
         (seen (S.contents src.old) (O.contents out.old) files) (seen (S.contents src.new) (O.contents out.new) files) }
-    ensures causes { (shelf : ℕ) → HasCauses (Compress h) result
-        (counts (S.faults src.old) (O.faults out.old) shelf) (counts (S.faults src.new) (O.faults out.new) shelf)
-        ⊥ ⊥ (S.never_fails src.old) (S.never_fails src.new) }
+    ensures causes { HasCauses (Compress h) result
+        (counts (S.faults src.old) (O.faults out.old)) (counts (S.faults src.new) (O.faults out.new))
+        (S.never_fails src.old) (S.never_fails src.new) }
 {
     match zf_stream::compress(alloc, &h, src, out) {
         Ok(()) => Status::Done,

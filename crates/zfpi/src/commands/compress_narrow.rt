@@ -1,10 +1,10 @@
 //! `compress` of narrow values: raw values of 8 or 16 bits to the stream of the int32 values that stand for them.
 
-ghost use Rattle.std.specs.Prelude.{ℕ, Option};
+ghost use Rattle.std.specs.Prelude.{Option};
 ghost use Rattle.zf_dev.specs.Shelf.{Files};
 ghost use Rattle.zfpi.specs.declared.command.Command.TheVariants.{CompressNarrow};
 ghost use Rattle.zfpi.specs.World.{seen, counts};
-ghost use Rattle.zfpi.specs.Answer.{CanRun};
+ghost use Rattle.zfpi.specs.Answer.{meaning};
 ghost use Rattle.zfpi.specs.Headline.{Behaves, HasCauses};
 
 use crate::status::Status;
@@ -21,12 +21,12 @@ pub fn compress_narrow<S: Source, O: Sink>(
     src: &mut S,
     out: &mut O,
 ) -> Status
-    requires { CanRun (CompressNarrow narrow h) }
+    requires { (meaning (CompressNarrow narrow h)).can_run }
     ensures behaves { (files : Option Files) → Behaves (CompressNarrow narrow h) result
         (seen (S.contents src.old) (O.contents out.old) files) (seen (S.contents src.new) (O.contents out.new) files) }
-    ensures causes { (shelf : ℕ) → HasCauses (CompressNarrow narrow h) result
-        (counts (S.faults src.old) (O.faults out.old) shelf) (counts (S.faults src.new) (O.faults out.new) shelf)
-        ⊥ ⊥ (S.never_fails src.old) (S.never_fails src.new) }
+    ensures causes { HasCauses (CompressNarrow narrow h) result
+        (counts (S.faults src.old) (O.faults out.old)) (counts (S.faults src.new) (O.faults out.new))
+        (S.never_fails src.old) (S.never_fails src.new) }
 {
     match zf_narrow::compress_narrow(alloc, narrow, &h, src, out) {
         Ok(()) => Status::Done,

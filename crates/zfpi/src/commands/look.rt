@@ -1,6 +1,6 @@
 //! `look`: a script that only reads, on the values of a stream.
 
-ghost use Rattle.std.specs.Prelude.{◌≡◌, ◌≢◌, ℕ, List, Option, ◌≤◌, length};
+ghost use Rattle.std.specs.Prelude.{◌≡◌, ◌≢◌, ℕ, List, Option, ◌≤◌, length, true};
 ghost use Rattle.zf_base.specs.Widths.{width_of};
 ghost use Rattle.zf_dev.specs.Shelf.{Files, KeepsFiles};
 ghost use Rattle.zf_dev.specs.Source.{Takes, IsAtEnd};
@@ -8,10 +8,11 @@ ghost use Rattle.zf_index.specs.Files.{HasHeader};
 ghost use Rattle.zfpi.specs.declared.command.Command.TheVariants.{Look};
 ghost use Rattle.zfpi.specs.Words.{IsLines};
 ghost use Rattle.zfpi.specs.World.{seen, counts};
-ghost use Rattle.zfpi.specs.Answer.{CanRun};
-ghost use Rattle.zfpi.specs.Scripts.{max_script};
+ghost use Rattle.zfpi.specs.Answer.{meaning};
+ghost use Rattle.zfpi.specs.Scripts.{max_script, reads_script};
 ghost use Rattle.zfpi.specs.Loaded.{HoldsFile, HoldsStream};
-ghost use Rattle.zfpi.specs.Headline.{Behaves, HasCauses, FailedLoad, FailedSave};
+ghost use Rattle.zfpi.specs.Steps.{Steps, IsShelfless};
+ghost use Rattle.zfpi.specs.Headline.{Behaves, HasCauses};
 
 use crate::commands::kinds::in_kind;
 use crate::commands::scripts::{MAX_SCRIPT, line_count};
@@ -34,15 +35,14 @@ pub fn look<S: Source, O: Sink, F: Shelf>(
     out: &mut O,
     shelf: &mut F,
 ) -> Status
-    requires { CanRun (Look name.now lines) }
+    requires { (meaning (Look name.now lines)).can_run }
     ensures behaves { Behaves (Look name.now lines) result
         (seen (S.contents src.old) (O.contents out.old) (F.files shelf.old))
         (seen (S.contents src.new) (O.contents out.new) (F.files shelf.new)) }
     ensures causes { HasCauses (Look name.now lines) result
-        (counts (S.faults src.old) (O.faults out.old) (F.faults shelf.old))
-        (counts (S.faults src.new) (O.faults out.new) (F.faults shelf.new))
-        (FailedLoad F.loads F.faults shelf.old shelf.new) (FailedSave F.saves F.faults shelf.old shelf.new)
+        (counts (S.faults src.old) (O.faults out.old)) (counts (S.faults src.new) (O.faults out.new))
         (S.never_fails src.old) (S.never_fails src.new) }
+    ensures steps { Steps F.loads F.saves F.faults (Look name.now lines) result shelf.old shelf.new }
     ensures sure_shelf { F.never_fails shelf.old → (result ≢ Status.LoadFault) × F.never_fails shelf.new }
 {
     match shelf.load(alloc, name.as_str(), MAX_FILE) {
@@ -64,9 +64,10 @@ fn look_file<S: Source, O: Sink>(
     ensures behaves { (known now : Option Files) → HoldsFile known name.now file.items → KeepsFiles known now
         → Behaves (Look name.now lines) result (seen (S.contents src.old) (O.contents out.old) known)
         (seen (S.contents src.new) (O.contents out.new) now) }
-    ensures causes { (shelf : ℕ) → HasCauses (Look name.now lines) result
-        (counts (S.faults src.old) (O.faults out.old) shelf) (counts (S.faults src.new) (O.faults out.new) shelf)
-        ⊥ ⊥ (S.never_fails src.old) (S.never_fails src.new) }
+    ensures causes { HasCauses (Look name.now lines) result
+        (counts (S.faults src.old) (O.faults out.old)) (counts (S.faults src.new) (O.faults out.new))
+        (S.never_fails src.old) (S.never_fails src.new) }
+    ensures shelfless { IsShelfless result }
 {
     match zf_header::read(&file) {
         Ok((header, _)) => look_typed(alloc, name, lines, &header, file, src, out),
@@ -89,9 +90,10 @@ fn look_typed<S: Source, O: Sink>(
     ensures behaves { (known now : Option Files) → HoldsFile known name.now file.items → KeepsFiles known now
         → Behaves (Look name.now lines) result (seen (S.contents src.old) (O.contents out.old) known)
         (seen (S.contents src.new) (O.contents out.new) now) }
-    ensures causes { (shelf : ℕ) → HasCauses (Look name.now lines) result
-        (counts (S.faults src.old) (O.faults out.old) shelf) (counts (S.faults src.new) (O.faults out.new) shelf)
-        ⊥ ⊥ (S.never_fails src.old) (S.never_fails src.new) }
+    ensures causes { HasCauses (Look name.now lines) result
+        (counts (S.faults src.old) (O.faults out.old)) (counts (S.faults src.new) (O.faults out.new))
+        (S.never_fails src.old) (S.never_fails src.new) }
+    ensures shelfless { IsShelfless result }
 {
     in_kind!(
         header.ty,
@@ -119,9 +121,10 @@ fn look_stream<T: Lane, const D: usize, S: Source, O: Sink>(
     ensures behaves { (known now : Option Files) → HoldsFile known name.now file.items → KeepsFiles known now
         → Behaves (Look name.now lines) result (seen (S.contents src.old) (O.contents out.old) known)
         (seen (S.contents src.new) (O.contents out.new) now) }
-    ensures causes { (shelf : ℕ) → HasCauses (Look name.now lines) result
-        (counts (S.faults src.old) (O.faults out.old) shelf) (counts (S.faults src.new) (O.faults out.new) shelf)
-        ⊥ ⊥ (S.never_fails src.old) (S.never_fails src.new) }
+    ensures causes { HasCauses (Look name.now lines) result
+        (counts (S.faults src.old) (O.faults out.old)) (counts (S.faults src.new) (O.faults out.new))
+        (S.never_fails src.old) (S.never_fails src.new) }
+    ensures shelfless { IsShelfless result }
 {
     let count = line_count(lines, &header.shape);
     match ConstArray::<T, D>::from_file(alloc, header, file, count) {
@@ -141,9 +144,10 @@ fn look_script<T: Lane, const D: usize, S: Source, O: Sink>(
     ensures behaves { (known now : Option Files) (lines : Option ℕ) → HoldsStream known name.now lines T.width array → KeepsFiles known now
         → Behaves (Look name.now lines) result (seen (S.contents src.old) (O.contents out.old) known)
         (seen (S.contents src.new) (O.contents out.new) now) }
-    ensures causes { (lines : Option ℕ) (shelf : ℕ) → HasCauses (Look name.now lines) result
-        (counts (S.faults src.old) (O.faults out.old) shelf) (counts (S.faults src.new) (O.faults out.new) shelf)
-        ⊥ ⊥ (S.never_fails src.old) (S.never_fails src.new) }
+    ensures causes { (lines : Option ℕ) → HasCauses (Look name.now lines) result
+        (counts (S.faults src.old) (O.faults out.old)) (counts (S.faults src.new) (O.faults out.new))
+        (S.never_fails src.old) (S.never_fails src.new) }
+    ensures shelfless { IsShelfless result }
 {
     match take_all(alloc, src, MAX_SCRIPT) {
         Ok(script) => look_lines(name, array, &script, out),
@@ -162,8 +166,10 @@ fn look_lines<T: Lane, const D: usize, O: Sink>(
         → HoldsStream known name.now lines T.width array → KeepsFiles known now
         → Takes src rest script.now → IsAtEnd rest → length script.now ≤ max_script
         → Behaves (Look name.now lines) result (seen src (O.contents out.old) known) (seen rest (O.contents out.new) now) }
-    ensures causes { (lines : Option ℕ) (src shelf : ℕ) → HasCauses (Look name.now lines) result
-        (counts src (O.faults out.old) shelf) (counts src (O.faults out.new) shelf) ⊥ ⊥ (Unit {0}) (Unit {0}) }
+    ensures causes { (lines : Option ℕ) (src : ℕ) → HasCauses (Look name.now lines) result
+        (counts src (O.faults out.old)) (counts src (O.faults out.new)) (Unit {0}) (Unit {0}) }
+    ensures read { reads_script result ≡ true }
+    ensures shelfless { IsShelfless result }
 {
     let mut array = array;
     match zf_run::look(&mut array, script, out) {

@@ -6,8 +6,9 @@ ghost use Rattle.zf_header.specs.HeaderBits.{IsRate};
 ghost use Rattle.zf_store.specs.Stored.{file_of, zeros};
 ghost use Rattle.zfpi.specs.declared.command.Command.TheVariants.{New};
 ghost use Rattle.zfpi.specs.World.{seen, counts};
-ghost use Rattle.zfpi.specs.Answer.{CanRun};
-ghost use Rattle.zfpi.specs.Headline.{Behaves, HasCauses, FailedLoad, FailedSave};
+ghost use Rattle.zfpi.specs.Answer.{meaning};
+ghost use Rattle.zfpi.specs.Steps.{Steps};
+ghost use Rattle.zfpi.specs.Headline.{Behaves, HasCauses};
 
 use crate::commands::kinds::in_kind;
 use crate::status::Status;
@@ -27,12 +28,12 @@ pub fn new<F: Shelf>(
     bits: u32,
     shelf: &mut F,
 ) -> Status
-    requires { CanRun (New name.now ty shape bits) }
+    requires { (meaning (New name.now ty shape bits)).can_run }
     ensures behaves { (src out : Option (List ℕ)) → Behaves (New name.now ty shape bits) result
         (seen src out (F.files shelf.old)) (seen src out (F.files shelf.new)) }
     ensures causes { (src out : ℕ) → HasCauses (New name.now ty shape bits) result
-        (counts src out (F.faults shelf.old)) (counts src out (F.faults shelf.new))
-        (FailedLoad F.loads F.faults shelf.old shelf.new) (FailedSave F.saves F.faults shelf.old shelf.new) (Unit {0}) (Unit {0}) }
+        (counts src out) (counts src out) (Unit {0}) (Unit {0}) }
+    ensures steps { Steps F.loads F.saves F.faults (New name.now ty shape bits) result shelf.old shelf.new }
     ensures sure_shelf { F.never_fails shelf.old → (result ≢ Status.LoadFault) × F.never_fails shelf.new }
 {
     match file_of_zeros(alloc, ty, shape, bits) {

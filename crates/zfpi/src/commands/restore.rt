@@ -1,6 +1,6 @@
 //! `restore`: a stream to its raw values.
 
-ghost use Rattle.std.specs.Prelude.{ℕ, Option};
+ghost use Rattle.std.specs.Prelude.{Option};
 ghost use Rattle.zf_dev.specs.Shelf.{Files};
 ghost use Rattle.zfpi.specs.declared.command.Command.TheVariants.{Restore};
 ghost use Rattle.zfpi.specs.World.{seen, counts};
@@ -14,9 +14,9 @@ use zf_dev::{Sink, Source};
 pub fn restore<S: Source, O: Sink>(alloc: Global, src: &mut S, out: &mut O) -> Status
     ensures behaves { (files : Option Files) → Behaves Restore result
         (seen (S.contents src.old) (O.contents out.old) files) (seen (S.contents src.new) (O.contents out.new) files) }
-    ensures causes { (shelf : ℕ) → HasCauses Restore result
-        (counts (S.faults src.old) (O.faults out.old) shelf) (counts (S.faults src.new) (O.faults out.new) shelf)
-        ⊥ ⊥ (S.never_fails src.old) (S.never_fails src.new) }
+    ensures causes { HasCauses Restore result
+        (counts (S.faults src.old) (O.faults out.old)) (counts (S.faults src.new) (O.faults out.new))
+        (S.never_fails src.old) (S.never_fails src.new) }
 {
     match zf_stream::restore(alloc, src, out) {
         Ok(()) => Status::Done,

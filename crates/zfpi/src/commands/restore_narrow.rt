@@ -1,6 +1,6 @@
 //! `restore` of narrow values: a stream of int32 values to the raw values of 8 or 16 bits that they stand for.
 
-ghost use Rattle.std.specs.Prelude.{ℕ, Option};
+ghost use Rattle.std.specs.Prelude.{Option};
 ghost use Rattle.zf_dev.specs.Shelf.{Files};
 ghost use Rattle.zfpi.specs.declared.command.Command.TheVariants.{RestoreNarrow};
 ghost use Rattle.zfpi.specs.World.{seen, counts};
@@ -20,9 +20,9 @@ pub fn restore_narrow<S: Source, O: Sink>(
 ) -> Status
     ensures behaves { (files : Option Files) → Behaves (RestoreNarrow narrow) result
         (seen (S.contents src.old) (O.contents out.old) files) (seen (S.contents src.new) (O.contents out.new) files) }
-    ensures causes { (shelf : ℕ) → HasCauses (RestoreNarrow narrow) result
-        (counts (S.faults src.old) (O.faults out.old) shelf) (counts (S.faults src.new) (O.faults out.new) shelf)
-        ⊥ ⊥ (S.never_fails src.old) (S.never_fails src.new) }
+    ensures causes { HasCauses (RestoreNarrow narrow) result
+        (counts (S.faults src.old) (O.faults out.old)) (counts (S.faults src.new) (O.faults out.new))
+        (S.never_fails src.old) (S.never_fails src.new) }
 {
     match zf_narrow::restore_narrow(alloc, narrow, src, out) {
         Ok(()) => Status::Done,

@@ -1,6 +1,6 @@
 //! `run`: a script on the array of a file.
 
-ghost use Rattle.std.specs.Prelude.{◌≡◌, ◌≢◌, ℕ, List, Option, ◌≤◌, length};
+ghost use Rattle.std.specs.Prelude.{◌≡◌, ◌≢◌, ℕ, List, Option, ◌≤◌, length, true};
 ghost use Rattle.zf_base.specs.Widths.{width_of};
 ghost use Rattle.zf_dev.specs.Faults.{IsQuiet};
 ghost use Rattle.zf_dev.specs.Shelf.{Files, KeepsFiles};
@@ -11,10 +11,11 @@ ghost use Rattle.zfpi.specs.declared.command.Caching.TheVariants.{Direct};
 ghost use Rattle.zfpi.specs.declared.command.Command.TheVariants.{Run};
 ghost use Rattle.zfpi.specs.Words.{IsLines, IsCaching};
 ghost use Rattle.zfpi.specs.World.{seen, counts};
-ghost use Rattle.zfpi.specs.Answer.{CanRun};
-ghost use Rattle.zfpi.specs.Scripts.{max_script};
+ghost use Rattle.zfpi.specs.Answer.{meaning};
+ghost use Rattle.zfpi.specs.Scripts.{max_script, reads_script};
 ghost use Rattle.zfpi.specs.Loaded.{HoldsFile, HoldsArray};
-ghost use Rattle.zfpi.specs.Headline.{Behaves, HasCauses, IsSent, FailedLoad, FailedSave};
+ghost use Rattle.zfpi.specs.Steps.{SavesOnce, Steps};
+ghost use Rattle.zfpi.specs.Headline.{Behaves, HasCauses, IsSent};
 
 use crate::command::Caching;
 use crate::commands::kinds::in_kind;
@@ -40,15 +41,14 @@ pub fn run<S: Source, O: Sink, F: Shelf>(
     out: &mut O,
     shelf: &mut F,
 ) -> Status
-    requires { CanRun (Run name.now caching) }
+    requires { (meaning (Run name.now caching)).can_run }
     ensures behaves { Behaves (Run name.now caching) result
         (seen (S.contents src.old) (O.contents out.old) (F.files shelf.old))
         (seen (S.contents src.new) (O.contents out.new) (F.files shelf.new)) }
     ensures causes { HasCauses (Run name.now caching) result
-        (counts (S.faults src.old) (O.faults out.old) (F.faults shelf.old))
-        (counts (S.faults src.new) (O.faults out.new) (F.faults shelf.new))
-        (FailedLoad F.loads F.faults shelf.old shelf.new) (FailedSave F.saves F.faults shelf.old shelf.new)
+        (counts (S.faults src.old) (O.faults out.old)) (counts (S.faults src.new) (O.faults out.new))
         (S.never_fails src.old) (S.never_fails src.new) }
+    ensures steps { Steps F.loads F.saves F.faults (Run name.now caching) result shelf.old shelf.new }
     ensures sent { O.is_flushed out.old → IsSent result (IsQuiet (O.faults out.old) (O.faults out.new)) (O.is_flushed out.new) }
     ensures sure_shelf { F.never_fails shelf.old → (result ≢ Status.LoadFault) × F.never_fails shelf.new }
 {
@@ -73,9 +73,9 @@ fn run_file<S: Source, O: Sink, F: Shelf>(
         → Behaves (Run name.now caching) result (seen (S.contents src.old) (O.contents out.old) known)
         (seen (S.contents src.new) (O.contents out.new) (F.files shelf.new)) }
     ensures causes { HasCauses (Run name.now caching) result
-        (counts (S.faults src.old) (O.faults out.old) (F.faults shelf.old))
-        (counts (S.faults src.new) (O.faults out.new) (F.faults shelf.new))
-        ⊥ (FailedSave F.saves F.faults shelf.old shelf.new) (S.never_fails src.old) (S.never_fails src.new) }
+        (counts (S.faults src.old) (O.faults out.old)) (counts (S.faults src.new) (O.faults out.new))
+        (S.never_fails src.old) (S.never_fails src.new) }
+    ensures once { SavesOnce F.saves F.faults result shelf.old shelf.new }
     ensures sent { O.is_flushed out.old → IsSent result (IsQuiet (O.faults out.old) (O.faults out.new)) (O.is_flushed out.new) }
     ensures still { F.never_fails shelf.old → F.never_fails shelf.new }
 {
@@ -105,9 +105,9 @@ fn run_over<S: Source, O: Sink, F: Shelf>(
         → Behaves (Run name.now caching) result (seen (S.contents src.old) (O.contents out.old) known)
         (seen (S.contents src.new) (O.contents out.new) (F.files shelf.new)) }
     ensures causes { HasCauses (Run name.now caching) result
-        (counts (S.faults src.old) (O.faults out.old) (F.faults shelf.old))
-        (counts (S.faults src.new) (O.faults out.new) (F.faults shelf.new))
-        ⊥ (FailedSave F.saves F.faults shelf.old shelf.new) (S.never_fails src.old) (S.never_fails src.new) }
+        (counts (S.faults src.old) (O.faults out.old)) (counts (S.faults src.new) (O.faults out.new))
+        (S.never_fails src.old) (S.never_fails src.new) }
+    ensures once { SavesOnce F.saves F.faults result shelf.old shelf.new }
     ensures sent { O.is_flushed out.old → IsSent result (IsQuiet (O.faults out.old) (O.faults out.new)) (O.is_flushed out.new) }
     ensures still { F.never_fails shelf.old → F.never_fails shelf.new }
 {
@@ -136,9 +136,9 @@ fn run_typed<S: Source, O: Sink, F: Shelf>(
         → Behaves (Run name.now (Direct lines)) result (seen (S.contents src.old) (O.contents out.old) known)
         (seen (S.contents src.new) (O.contents out.new) (F.files shelf.new)) }
     ensures causes { HasCauses (Run name.now (Direct lines)) result
-        (counts (S.faults src.old) (O.faults out.old) (F.faults shelf.old))
-        (counts (S.faults src.new) (O.faults out.new) (F.faults shelf.new))
-        ⊥ (FailedSave F.saves F.faults shelf.old shelf.new) (S.never_fails src.old) (S.never_fails src.new) }
+        (counts (S.faults src.old) (O.faults out.old)) (counts (S.faults src.new) (O.faults out.new))
+        (S.never_fails src.old) (S.never_fails src.new) }
+    ensures once { SavesOnce F.saves F.faults result shelf.old shelf.new }
     ensures sent { O.is_flushed out.old → IsSent result (IsQuiet (O.faults out.old) (O.faults out.new)) (O.is_flushed out.new) }
     ensures still { F.never_fails shelf.old → F.never_fails shelf.new }
 {
@@ -170,9 +170,9 @@ fn run_array<T: Lane, const D: usize, S: Source, O: Sink, F: Shelf>(
         → Behaves (Run name.now (Direct lines)) result (seen (S.contents src.old) (O.contents out.old) known)
         (seen (S.contents src.new) (O.contents out.new) (F.files shelf.new)) }
     ensures causes { HasCauses (Run name.now (Direct lines)) result
-        (counts (S.faults src.old) (O.faults out.old) (F.faults shelf.old))
-        (counts (S.faults src.new) (O.faults out.new) (F.faults shelf.new))
-        ⊥ (FailedSave F.saves F.faults shelf.old shelf.new) (S.never_fails src.old) (S.never_fails src.new) }
+        (counts (S.faults src.old) (O.faults out.old)) (counts (S.faults src.new) (O.faults out.new))
+        (S.never_fails src.old) (S.never_fails src.new) }
+    ensures once { SavesOnce F.saves F.faults result shelf.old shelf.new }
     ensures sent { O.is_flushed out.old → IsSent result (IsQuiet (O.faults out.old) (O.faults out.new)) (O.is_flushed out.new) }
     ensures still { F.never_fails shelf.old → F.never_fails shelf.new }
 {
@@ -197,9 +197,9 @@ fn run_script<T: Lane, const D: usize, S: Source, O: Sink, F: Shelf>(
         → Behaves (Run name.now (Direct lines)) result (seen (S.contents src.old) (O.contents out.old) known)
         (seen (S.contents src.new) (O.contents out.new) (F.files shelf.new)) }
     ensures causes { (lines : Option ℕ) → HasCauses (Run name.now (Direct lines)) result
-        (counts (S.faults src.old) (O.faults out.old) (F.faults shelf.old))
-        (counts (S.faults src.new) (O.faults out.new) (F.faults shelf.new))
-        ⊥ (FailedSave F.saves F.faults shelf.old shelf.new) (S.never_fails src.old) (S.never_fails src.new) }
+        (counts (S.faults src.old) (O.faults out.old)) (counts (S.faults src.new) (O.faults out.new))
+        (S.never_fails src.old) (S.never_fails src.new) }
+    ensures once { SavesOnce F.saves F.faults result shelf.old shelf.new }
     ensures sent { O.is_flushed out.old → IsSent result (IsQuiet (O.faults out.old) (O.faults out.new)) (O.is_flushed out.new) }
     ensures still { F.never_fails shelf.old → F.never_fails shelf.new }
 {
@@ -224,8 +224,9 @@ fn run_lines<T: Lane, const D: usize, O: Sink, F: Shelf>(
         → Behaves (Run name.now (Direct lines)) result (seen src (O.contents out.old) known)
         (seen rest (O.contents out.new) (F.files shelf.new)) }
     ensures causes { (lines : Option ℕ) (src : ℕ) → HasCauses (Run name.now (Direct lines)) result
-        (counts src (O.faults out.old) (F.faults shelf.old)) (counts src (O.faults out.new) (F.faults shelf.new))
-        ⊥ (FailedSave F.saves F.faults shelf.old shelf.new) (Unit {0}) (Unit {0}) }
+        (counts src (O.faults out.old)) (counts src (O.faults out.new)) (Unit {0}) (Unit {0}) }
+    ensures read { reads_script result ≡ true }
+    ensures once { SavesOnce F.saves F.faults result shelf.old shelf.new }
     ensures sent { IsSent result (IsQuiet (O.faults out.old) (O.faults out.new)) (O.is_flushed out.new) }
     ensures still { F.never_fails shelf.old → F.never_fails shelf.new }
 {

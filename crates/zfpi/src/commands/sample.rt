@@ -4,7 +4,7 @@ ghost use Rattle.std.specs.Prelude.{ℕ, List, Option};
 ghost use Rattle.zf_dev.specs.Shelf.{Files};
 ghost use Rattle.zfpi.specs.declared.command.Command.TheVariants.{Sample};
 ghost use Rattle.zfpi.specs.World.{seen, counts};
-ghost use Rattle.zfpi.specs.Answer.{CanRun};
+ghost use Rattle.zfpi.specs.Answer.{meaning};
 ghost use Rattle.zfpi.specs.Headline.{Behaves, HasCauses};
 
 use crate::commands::line::summary_line;
@@ -16,11 +16,11 @@ use zf_header::Header;
 /// Makes an array of this type and shape from a number, compresses and restores it in memory, and writes a line that says what became of
 /// it.
 pub fn sample<O: Sink>(alloc: Global, h: Header, seed: u64, out: &mut O) -> Status
-    requires { CanRun (Sample h seed) }
+    requires { (meaning (Sample h seed)).can_run }
     ensures behaves { (src : Option (List ℕ)) (files : Option Files) → Behaves (Sample h seed) result
         (seen src (O.contents out.old) files) (seen src (O.contents out.new) files) }
-    ensures causes { (src shelf : ℕ) → HasCauses (Sample h seed) result
-        (counts src (O.faults out.old) shelf) (counts src (O.faults out.new) shelf) ⊥ ⊥ (Unit {0}) (Unit {0}) }
+    ensures causes { (src : ℕ) → HasCauses (Sample h seed) result
+        (counts src (O.faults out.old)) (counts src (O.faults out.new)) (Unit {0}) (Unit {0}) }
 {
     match zf_sample::sample(alloc, &h, seed) {
         Ok(summary) => {

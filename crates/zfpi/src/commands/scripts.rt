@@ -6,7 +6,9 @@ ghost use Rattle.zf_dev.specs.Sink.{Appends};
 ghost use Rattle.zfpi.specs.Words.{IsLines};
 ghost use Rattle.zfpi.specs.Scripts.{lines_for};
 ghost use Rattle.zfpi.specs.Loaded.{SavesOrFails};
-ghost use Rattle.zfpi.specs.Headline.{IsSent, FailedSave};
+ghost use Rattle.zfpi.specs.Sending.{IsDone};
+ghost use Rattle.zfpi.specs.Steps.{SavesOnce};
+ghost use Rattle.zfpi.specs.Headline.{IsSent};
 
 use crate::status::Status;
 use crate::words::name::Name;
@@ -39,8 +41,8 @@ pub fn save<O: Sink, F: Shelf>(
     shelf: &mut F,
 ) -> Status
     ensures saved { SavesOrFails (F.files shelf.old) (F.files shelf.new) name.now file.now status result
-        (Rose (O.faults out.old) (O.faults out.new)) (FailedSave F.saves F.faults shelf.old shelf.new) }
-    ensures kept { F.faults shelf.old ≤ F.faults shelf.new }
+        (Rose (O.faults out.old) (O.faults out.new)) }
+    ensures once { IsDone status → SavesOnce F.saves F.faults result shelf.old shelf.new }
     ensures still { F.never_fails shelf.old → F.never_fails shelf.new }
     ensures stays { Appends (O.contents out.old) (O.contents out.new) [] }
     ensures out_kept { O.faults out.old ≤ O.faults out.new }

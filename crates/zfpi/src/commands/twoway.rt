@@ -1,6 +1,6 @@
 //! `run` over a two-way cache: a script on the codes of a file.
 
-ghost use Rattle.std.specs.Prelude.{◌≡◌, ℕ, List, [], Option, Some, ◌≤◌, length, vec_len, IfOk, IfErr};
+ghost use Rattle.std.specs.Prelude.{◌≡◌, ℕ, List, [], Option, Some, true, ◌≤◌, length, vec_len, IfOk, IfErr};
 ghost use Rattle.zf_base.specs.Widths.{width_of};
 ghost use Rattle.zf_dev.specs.Faults.{Rose, IsQuiet};
 ghost use Rattle.zf_dev.specs.Shelf.{Files, KeepsFiles};
@@ -19,9 +19,11 @@ ghost use Rattle.zfpi.specs.declared.command.Caching.TheVariants.{TwoWay as TwoW
 ghost use Rattle.zfpi.specs.declared.command.Command.TheVariants.{Run};
 ghost use Rattle.zfpi.specs.Words.{IsLines};
 ghost use Rattle.zfpi.specs.World.{seen, counts};
-ghost use Rattle.zfpi.specs.Scripts.{max_script};
+ghost use Rattle.zfpi.specs.Scripts.{max_script, reads_script};
 ghost use Rattle.zfpi.specs.Loaded.{HoldsFile, HoldsArray, SavesOrFails};
-ghost use Rattle.zfpi.specs.Headline.{Behaves, HasCauses, IsSent, FailedSave};
+ghost use Rattle.zfpi.specs.Sending.{IsDone};
+ghost use Rattle.zfpi.specs.Steps.{SavesOnce};
+ghost use Rattle.zfpi.specs.Headline.{Behaves, HasCauses, IsSent};
 
 use crate::commands::kinds::in_kind;
 use crate::commands::scripts::{MAX_SCRIPT, save};
@@ -63,9 +65,9 @@ pub fn run_typed<S: Source, O: Sink, F: Shelf>(
         → Behaves (Run name.now (TwoWays lines)) result (seen (S.contents src.old) (O.contents out.old) known)
         (seen (S.contents src.new) (O.contents out.new) (F.files shelf.new)) }
     ensures causes { HasCauses (Run name.now (TwoWays lines)) result
-        (counts (S.faults src.old) (O.faults out.old) (F.faults shelf.old))
-        (counts (S.faults src.new) (O.faults out.new) (F.faults shelf.new))
-        ⊥ (FailedSave F.saves F.faults shelf.old shelf.new) (S.never_fails src.old) (S.never_fails src.new) }
+        (counts (S.faults src.old) (O.faults out.old)) (counts (S.faults src.new) (O.faults out.new))
+        (S.never_fails src.old) (S.never_fails src.new) }
+    ensures once { SavesOnce F.saves F.faults result shelf.old shelf.new }
     ensures sent { O.is_flushed out.old → IsSent result (IsQuiet (O.faults out.old) (O.faults out.new)) (O.is_flushed out.new) }
     ensures still { F.never_fails shelf.old → F.never_fails shelf.new }
 {
@@ -97,9 +99,9 @@ fn run_opened<T: Lane, const D: usize, S: Source, O: Sink, F: Shelf>(
         → Behaves (Run name.now (TwoWays lines)) result (seen (S.contents src.old) (O.contents out.old) known)
         (seen (S.contents src.new) (O.contents out.new) (F.files shelf.new)) }
     ensures causes { HasCauses (Run name.now (TwoWays lines)) result
-        (counts (S.faults src.old) (O.faults out.old) (F.faults shelf.old))
-        (counts (S.faults src.new) (O.faults out.new) (F.faults shelf.new))
-        ⊥ (FailedSave F.saves F.faults shelf.old shelf.new) (S.never_fails src.old) (S.never_fails src.new) }
+        (counts (S.faults src.old) (O.faults out.old)) (counts (S.faults src.new) (O.faults out.new))
+        (S.never_fails src.old) (S.never_fails src.new) }
+    ensures once { SavesOnce F.saves F.faults result shelf.old shelf.new }
     ensures sent { O.is_flushed out.old → IsSent result (IsQuiet (O.faults out.old) (O.faults out.new)) (O.is_flushed out.new) }
     ensures still { F.never_fails shelf.old → F.never_fails shelf.new }
 {
@@ -151,9 +153,9 @@ fn run_script<T: Lane, const D: usize, S: Source, O: Sink, F: Shelf>(
         → Behaves (Run name.now (TwoWays lines)) result (seen (S.contents src.old) (O.contents out.old) known)
         (seen (S.contents src.new) (O.contents out.new) (F.files shelf.new)) }
     ensures causes { (lines : ℕ) → HasCauses (Run name.now (TwoWays lines)) result
-        (counts (S.faults src.old) (O.faults out.old) (F.faults shelf.old))
-        (counts (S.faults src.new) (O.faults out.new) (F.faults shelf.new))
-        ⊥ (FailedSave F.saves F.faults shelf.old shelf.new) (S.never_fails src.old) (S.never_fails src.new) }
+        (counts (S.faults src.old) (O.faults out.old)) (counts (S.faults src.new) (O.faults out.new))
+        (S.never_fails src.old) (S.never_fails src.new) }
+    ensures once { SavesOnce F.saves F.faults result shelf.old shelf.new }
     ensures sent { O.is_flushed out.old → IsSent result (IsQuiet (O.faults out.old) (O.faults out.new)) (O.is_flushed out.new) }
     ensures still { F.never_fails shelf.old → F.never_fails shelf.new }
 {
@@ -180,8 +182,9 @@ fn run_lines<T: Lane, const D: usize, O: Sink, F: Shelf>(
         → Behaves (Run name.now (TwoWays lines)) result (seen src (O.contents out.old) known)
         (seen rest (O.contents out.new) (F.files shelf.new)) }
     ensures causes { (lines : ℕ) (src : ℕ) → HasCauses (Run name.now (TwoWays lines)) result
-        (counts src (O.faults out.old) (F.faults shelf.old)) (counts src (O.faults out.new) (F.faults shelf.new))
-        ⊥ (FailedSave F.saves F.faults shelf.old shelf.new) (Unit {0}) (Unit {0}) }
+        (counts src (O.faults out.old)) (counts src (O.faults out.new)) (Unit {0}) (Unit {0}) }
+    ensures read { reads_script result ≡ true }
+    ensures once { SavesOnce F.saves F.faults result shelf.old shelf.new }
     ensures sent { IsSent result (IsQuiet (O.faults out.old) (O.faults out.new)) (O.is_flushed out.new) }
     ensures still { F.never_fails shelf.old → F.never_fails shelf.new }
 {
@@ -209,9 +212,9 @@ fn save_store<T: Lane, const D: usize, O: Sink, F: Shelf>(
 ) -> Status
     requires room { vec_len file ≡ rate_bytes_of store.now.header }
     ensures saved { SavesOrFails (F.files shelf.old) (F.files shelf.new) name.now (file_of store.now) status result
-        (Rose (O.faults out.old) (O.faults out.new)) (FailedSave F.saves F.faults shelf.old shelf.new) }
+        (Rose (O.faults out.old) (O.faults out.new)) }
+    ensures once { IsDone status → SavesOnce F.saves F.faults result shelf.old shelf.new }
     ensures whole { IsStore T.width D store.now }
-    ensures kept { F.faults shelf.old ≤ F.faults shelf.new }
     ensures still { F.never_fails shelf.old → F.never_fails shelf.new }
     ensures stays { Appends (O.contents out.old) (O.contents out.new) [] }
     ensures out_kept { O.faults out.old ≤ O.faults out.new }

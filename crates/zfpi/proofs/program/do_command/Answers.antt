@@ -1,74 +1,90 @@
-use Rattle.std.proofs.Common.{None}
+use Rattle.std.proofs.Common.{None, refl}
 use Rattle.zfpi.specs.declared.command.Command.TheVariants.{Compress, CompressNarrow, Restore, RestoreNarrow, Info, Look, Bound, Sample}
-use Rattle.zfpi.proofs.Causes.{HasCauses-more, HasCauses-sure}
-use Rattle.zfpi.proofs.HandedOn.{Behaves-sent, HasCauses-sent, IsSent-sent, unloaded, unloaded_sent}
+use Rattle.zfpi.proofs.Causes.{HasCauses-sure}
+use Rattle.zfpi.proofs.Stepping.{Steps-none, Steps-sent}
+use Rattle.zfpi.proofs.HandedOn.{Behaves-sent, HasCauses-sent, IsSent-sent, IsShelfless-sent, unloaded_sent}
 use Rattle.zfpi.proofs.program.do_command.Goals as goal
 
 pub returns-in-Compress-clause-behaves : goal.returns-in-Compress-clause-behaves
 returns-in-Compress-clause-behaves g c = rw c.in-Compress.is (Behaves-sent (Compress c.in-Compress.header) c.compress.result c.send.result tt _ _ _ _ _ (c.compress.ensures.behaves _) c.send.ensures)
 
 pub returns-in-Compress-clause-causes : goal.returns-in-Compress-clause-causes
-returns-in-Compress-clause-causes g c = rw c.in-Compress.is (HasCauses-sent (Compress c.in-Compress.header) c.compress.result c.send.result tt _ _ _ _ _ _ _ (HasCauses-more _ _ _ _ _ _ _ (c.compress.ensures.causes _)) c.send.ensures)
+returns-in-Compress-clause-causes g c = rw c.in-Compress.is (HasCauses-sent (Compress c.in-Compress.header) c.compress.result c.send.result tt _ _ _ _ _ c.compress.ensures.causes c.send.ensures)
 
 pub returns-in-Compress-clause-sent : goal.returns-in-Compress-clause-sent
-returns-in-Compress-clause-sent g c = λ flushed. IsSent-sent (Compress c.in-Compress.header) c.compress.result c.send.result tt _ _ _ _ _ (Behaves-sent (Compress c.in-Compress.header) c.compress.result c.send.result tt _ _ _ _ _ (c.compress.ensures.behaves None) c.send.ensures) (c.compress.ensures.causes 0).writing.0 c.send.ensures
+returns-in-Compress-clause-sent g c = λ flushed. IsSent-sent (Compress c.in-Compress.header) c.compress.result c.send.result tt _ _ _ _ _ (Behaves-sent (Compress c.in-Compress.header) c.compress.result c.send.result tt _ _ _ _ _ (c.compress.ensures.behaves None) c.send.ensures) c.compress.ensures.causes.writing.0 c.send.ensures
 
 pub returns-in-Compress-clause-sure_shelf : goal.returns-in-Compress-clause-sure_shelf
-returns-in-Compress-clause-sure_shelf g c = λ sure. (unloaded_sent c.compress.result c.send.result (unloaded c.compress.result _ (c.compress.ensures.causes 0).shelving) c.send.ensures, sure)
+returns-in-Compress-clause-sure_shelf g c = λ sure. ((IsShelfless-sent (Compress c.in-Compress.header) c.compress.result c.send.result tt _ _ refl (Behaves-sent (Compress c.in-Compress.header) c.compress.result c.send.result tt _ _ _ _ _ (c.compress.ensures.behaves None) c.send.ensures)).no_load, sure)
+
+pub returns-in-Compress-clause-steps : goal.returns-in-Compress-clause-steps
+returns-in-Compress-clause-steps g c = rw c.in-Compress.is (Steps-none g.F.Shelf.loads g.F.Shelf.saves g.F.Shelf.faults (Compress c.in-Compress.header) c.send.result _ refl refl (IsShelfless-sent (Compress c.in-Compress.header) c.compress.result c.send.result tt _ _ refl (Behaves-sent (Compress c.in-Compress.header) c.compress.result c.send.result tt _ _ _ _ _ (c.compress.ensures.behaves None) c.send.ensures)))
 
 pub returns-in-CompressNarrow-clause-behaves : goal.returns-in-CompressNarrow-clause-behaves
 returns-in-CompressNarrow-clause-behaves g c = rw c.in-CompressNarrow.is (Behaves-sent (CompressNarrow c.in-CompressNarrow.narrow c.in-CompressNarrow.header) c.compress_narrow.result c.send-in-CompressNarrow.result tt _ _ _ _ _ (c.compress_narrow.ensures.behaves _) c.send-in-CompressNarrow.ensures)
 
 pub returns-in-CompressNarrow-clause-causes : goal.returns-in-CompressNarrow-clause-causes
-returns-in-CompressNarrow-clause-causes g c = rw c.in-CompressNarrow.is (HasCauses-sent (CompressNarrow c.in-CompressNarrow.narrow c.in-CompressNarrow.header) c.compress_narrow.result c.send-in-CompressNarrow.result tt _ _ _ _ _ _ _ (HasCauses-more _ _ _ _ _ _ _ (c.compress_narrow.ensures.causes _)) c.send-in-CompressNarrow.ensures)
+returns-in-CompressNarrow-clause-causes g c = rw c.in-CompressNarrow.is (HasCauses-sent (CompressNarrow c.in-CompressNarrow.narrow c.in-CompressNarrow.header) c.compress_narrow.result c.send-in-CompressNarrow.result tt _ _ _ _ _ c.compress_narrow.ensures.causes c.send-in-CompressNarrow.ensures)
 
 pub returns-in-CompressNarrow-clause-sent : goal.returns-in-CompressNarrow-clause-sent
-returns-in-CompressNarrow-clause-sent g c = λ flushed. IsSent-sent (CompressNarrow c.in-CompressNarrow.narrow c.in-CompressNarrow.header) c.compress_narrow.result c.send-in-CompressNarrow.result tt _ _ _ _ _ (Behaves-sent (CompressNarrow c.in-CompressNarrow.narrow c.in-CompressNarrow.header) c.compress_narrow.result c.send-in-CompressNarrow.result tt _ _ _ _ _ (c.compress_narrow.ensures.behaves None) c.send-in-CompressNarrow.ensures) (c.compress_narrow.ensures.causes 0).writing.0 c.send-in-CompressNarrow.ensures
+returns-in-CompressNarrow-clause-sent g c = λ flushed. IsSent-sent (CompressNarrow c.in-CompressNarrow.narrow c.in-CompressNarrow.header) c.compress_narrow.result c.send-in-CompressNarrow.result tt _ _ _ _ _ (Behaves-sent (CompressNarrow c.in-CompressNarrow.narrow c.in-CompressNarrow.header) c.compress_narrow.result c.send-in-CompressNarrow.result tt _ _ _ _ _ (c.compress_narrow.ensures.behaves None) c.send-in-CompressNarrow.ensures) c.compress_narrow.ensures.causes.writing.0 c.send-in-CompressNarrow.ensures
 
 pub returns-in-CompressNarrow-clause-sure_shelf : goal.returns-in-CompressNarrow-clause-sure_shelf
-returns-in-CompressNarrow-clause-sure_shelf g c = λ sure. (unloaded_sent c.compress_narrow.result c.send-in-CompressNarrow.result (unloaded c.compress_narrow.result _ (c.compress_narrow.ensures.causes 0).shelving) c.send-in-CompressNarrow.ensures, sure)
+returns-in-CompressNarrow-clause-sure_shelf g c = λ sure. ((IsShelfless-sent (CompressNarrow c.in-CompressNarrow.narrow c.in-CompressNarrow.header) c.compress_narrow.result c.send-in-CompressNarrow.result tt _ _ refl (Behaves-sent (CompressNarrow c.in-CompressNarrow.narrow c.in-CompressNarrow.header) c.compress_narrow.result c.send-in-CompressNarrow.result tt _ _ _ _ _ (c.compress_narrow.ensures.behaves None) c.send-in-CompressNarrow.ensures)).no_load, sure)
+
+pub returns-in-CompressNarrow-clause-steps : goal.returns-in-CompressNarrow-clause-steps
+returns-in-CompressNarrow-clause-steps g c = rw c.in-CompressNarrow.is (Steps-none g.F.Shelf.loads g.F.Shelf.saves g.F.Shelf.faults (CompressNarrow c.in-CompressNarrow.narrow c.in-CompressNarrow.header) c.send-in-CompressNarrow.result _ refl refl (IsShelfless-sent (CompressNarrow c.in-CompressNarrow.narrow c.in-CompressNarrow.header) c.compress_narrow.result c.send-in-CompressNarrow.result tt _ _ refl (Behaves-sent (CompressNarrow c.in-CompressNarrow.narrow c.in-CompressNarrow.header) c.compress_narrow.result c.send-in-CompressNarrow.result tt _ _ _ _ _ (c.compress_narrow.ensures.behaves None) c.send-in-CompressNarrow.ensures)))
 
 pub returns-in-Restore-clause-behaves : goal.returns-in-Restore-clause-behaves
 returns-in-Restore-clause-behaves g c = rw c.in-Restore.is (Behaves-sent Restore c.restore.result c.send-in-Restore.result tt _ _ _ _ _ (c.restore.ensures.behaves _) c.send-in-Restore.ensures)
 
 pub returns-in-Restore-clause-causes : goal.returns-in-Restore-clause-causes
-returns-in-Restore-clause-causes g c = rw c.in-Restore.is (HasCauses-sent Restore c.restore.result c.send-in-Restore.result tt _ _ _ _ _ _ _ (HasCauses-more _ _ _ _ _ _ _ (c.restore.ensures.causes _)) c.send-in-Restore.ensures)
+returns-in-Restore-clause-causes g c = rw c.in-Restore.is (HasCauses-sent Restore c.restore.result c.send-in-Restore.result tt _ _ _ _ _ c.restore.ensures.causes c.send-in-Restore.ensures)
 
 pub returns-in-Restore-clause-sent : goal.returns-in-Restore-clause-sent
-returns-in-Restore-clause-sent g c = λ flushed. IsSent-sent Restore c.restore.result c.send-in-Restore.result tt _ _ _ _ _ (Behaves-sent Restore c.restore.result c.send-in-Restore.result tt _ _ _ _ _ (c.restore.ensures.behaves None) c.send-in-Restore.ensures) (c.restore.ensures.causes 0).writing.0 c.send-in-Restore.ensures
+returns-in-Restore-clause-sent g c = λ flushed. IsSent-sent Restore c.restore.result c.send-in-Restore.result tt _ _ _ _ _ (Behaves-sent Restore c.restore.result c.send-in-Restore.result tt _ _ _ _ _ (c.restore.ensures.behaves None) c.send-in-Restore.ensures) c.restore.ensures.causes.writing.0 c.send-in-Restore.ensures
 
 pub returns-in-Restore-clause-sure_shelf : goal.returns-in-Restore-clause-sure_shelf
-returns-in-Restore-clause-sure_shelf g c = λ sure. (unloaded_sent c.restore.result c.send-in-Restore.result (unloaded c.restore.result _ (c.restore.ensures.causes 0).shelving) c.send-in-Restore.ensures, sure)
+returns-in-Restore-clause-sure_shelf g c = λ sure. ((IsShelfless-sent Restore c.restore.result c.send-in-Restore.result tt _ _ refl (Behaves-sent Restore c.restore.result c.send-in-Restore.result tt _ _ _ _ _ (c.restore.ensures.behaves None) c.send-in-Restore.ensures)).no_load, sure)
+
+pub returns-in-Restore-clause-steps : goal.returns-in-Restore-clause-steps
+returns-in-Restore-clause-steps g c = rw c.in-Restore.is (Steps-none g.F.Shelf.loads g.F.Shelf.saves g.F.Shelf.faults Restore c.send-in-Restore.result _ refl refl (IsShelfless-sent Restore c.restore.result c.send-in-Restore.result tt _ _ refl (Behaves-sent Restore c.restore.result c.send-in-Restore.result tt _ _ _ _ _ (c.restore.ensures.behaves None) c.send-in-Restore.ensures)))
 
 pub returns-in-RestoreNarrow-clause-behaves : goal.returns-in-RestoreNarrow-clause-behaves
 returns-in-RestoreNarrow-clause-behaves g c = rw c.in-RestoreNarrow.is (Behaves-sent (RestoreNarrow c.in-RestoreNarrow.narrow) c.restore_narrow.result c.send-in-RestoreNarrow.result tt _ _ _ _ _ (c.restore_narrow.ensures.behaves _) c.send-in-RestoreNarrow.ensures)
 
 pub returns-in-RestoreNarrow-clause-causes : goal.returns-in-RestoreNarrow-clause-causes
-returns-in-RestoreNarrow-clause-causes g c = rw c.in-RestoreNarrow.is (HasCauses-sent (RestoreNarrow c.in-RestoreNarrow.narrow) c.restore_narrow.result c.send-in-RestoreNarrow.result tt _ _ _ _ _ _ _ (HasCauses-more _ _ _ _ _ _ _ (c.restore_narrow.ensures.causes _)) c.send-in-RestoreNarrow.ensures)
+returns-in-RestoreNarrow-clause-causes g c = rw c.in-RestoreNarrow.is (HasCauses-sent (RestoreNarrow c.in-RestoreNarrow.narrow) c.restore_narrow.result c.send-in-RestoreNarrow.result tt _ _ _ _ _ c.restore_narrow.ensures.causes c.send-in-RestoreNarrow.ensures)
 
 pub returns-in-RestoreNarrow-clause-sent : goal.returns-in-RestoreNarrow-clause-sent
-returns-in-RestoreNarrow-clause-sent g c = λ flushed. IsSent-sent (RestoreNarrow c.in-RestoreNarrow.narrow) c.restore_narrow.result c.send-in-RestoreNarrow.result tt _ _ _ _ _ (Behaves-sent (RestoreNarrow c.in-RestoreNarrow.narrow) c.restore_narrow.result c.send-in-RestoreNarrow.result tt _ _ _ _ _ (c.restore_narrow.ensures.behaves None) c.send-in-RestoreNarrow.ensures) (c.restore_narrow.ensures.causes 0).writing.0 c.send-in-RestoreNarrow.ensures
+returns-in-RestoreNarrow-clause-sent g c = λ flushed. IsSent-sent (RestoreNarrow c.in-RestoreNarrow.narrow) c.restore_narrow.result c.send-in-RestoreNarrow.result tt _ _ _ _ _ (Behaves-sent (RestoreNarrow c.in-RestoreNarrow.narrow) c.restore_narrow.result c.send-in-RestoreNarrow.result tt _ _ _ _ _ (c.restore_narrow.ensures.behaves None) c.send-in-RestoreNarrow.ensures) c.restore_narrow.ensures.causes.writing.0 c.send-in-RestoreNarrow.ensures
 
 pub returns-in-RestoreNarrow-clause-sure_shelf : goal.returns-in-RestoreNarrow-clause-sure_shelf
-returns-in-RestoreNarrow-clause-sure_shelf g c = λ sure. (unloaded_sent c.restore_narrow.result c.send-in-RestoreNarrow.result (unloaded c.restore_narrow.result _ (c.restore_narrow.ensures.causes 0).shelving) c.send-in-RestoreNarrow.ensures, sure)
+returns-in-RestoreNarrow-clause-sure_shelf g c = λ sure. ((IsShelfless-sent (RestoreNarrow c.in-RestoreNarrow.narrow) c.restore_narrow.result c.send-in-RestoreNarrow.result tt _ _ refl (Behaves-sent (RestoreNarrow c.in-RestoreNarrow.narrow) c.restore_narrow.result c.send-in-RestoreNarrow.result tt _ _ _ _ _ (c.restore_narrow.ensures.behaves None) c.send-in-RestoreNarrow.ensures)).no_load, sure)
+
+pub returns-in-RestoreNarrow-clause-steps : goal.returns-in-RestoreNarrow-clause-steps
+returns-in-RestoreNarrow-clause-steps g c = rw c.in-RestoreNarrow.is (Steps-none g.F.Shelf.loads g.F.Shelf.saves g.F.Shelf.faults (RestoreNarrow c.in-RestoreNarrow.narrow) c.send-in-RestoreNarrow.result _ refl refl (IsShelfless-sent (RestoreNarrow c.in-RestoreNarrow.narrow) c.restore_narrow.result c.send-in-RestoreNarrow.result tt _ _ refl (Behaves-sent (RestoreNarrow c.in-RestoreNarrow.narrow) c.restore_narrow.result c.send-in-RestoreNarrow.result tt _ _ _ _ _ (c.restore_narrow.ensures.behaves None) c.send-in-RestoreNarrow.ensures)))
 
 pub returns-in-Info-clause-behaves : goal.returns-in-Info-clause-behaves
 returns-in-Info-clause-behaves g c = rw c.in-Info.is (Behaves-sent Info c.info.result c.send-in-Info.result tt _ _ _ _ _ (c.info.ensures.behaves _) c.send-in-Info.ensures)
 
 pub returns-in-Info-clause-causes : goal.returns-in-Info-clause-causes
-returns-in-Info-clause-causes g c = rw c.in-Info.is (HasCauses-sent Info c.info.result c.send-in-Info.result tt _ _ _ _ _ _ _ (HasCauses-more _ _ _ _ _ _ _ (c.info.ensures.causes _)) c.send-in-Info.ensures)
+returns-in-Info-clause-causes g c = rw c.in-Info.is (HasCauses-sent Info c.info.result c.send-in-Info.result tt _ _ _ _ _ c.info.ensures.causes c.send-in-Info.ensures)
 
 pub returns-in-Info-clause-sent : goal.returns-in-Info-clause-sent
-returns-in-Info-clause-sent g c = λ flushed. IsSent-sent Info c.info.result c.send-in-Info.result tt _ _ _ _ _ (Behaves-sent Info c.info.result c.send-in-Info.result tt _ _ _ _ _ (c.info.ensures.behaves None) c.send-in-Info.ensures) (c.info.ensures.causes 0).writing.0 c.send-in-Info.ensures
+returns-in-Info-clause-sent g c = λ flushed. IsSent-sent Info c.info.result c.send-in-Info.result tt _ _ _ _ _ (Behaves-sent Info c.info.result c.send-in-Info.result tt _ _ _ _ _ (c.info.ensures.behaves None) c.send-in-Info.ensures) c.info.ensures.causes.writing.0 c.send-in-Info.ensures
 
 pub returns-in-Info-clause-sure_shelf : goal.returns-in-Info-clause-sure_shelf
-returns-in-Info-clause-sure_shelf g c = λ sure. (unloaded_sent c.info.result c.send-in-Info.result (unloaded c.info.result _ (c.info.ensures.causes 0).shelving) c.send-in-Info.ensures, sure)
+returns-in-Info-clause-sure_shelf g c = λ sure. ((IsShelfless-sent Info c.info.result c.send-in-Info.result tt _ _ refl (Behaves-sent Info c.info.result c.send-in-Info.result tt _ _ _ _ _ (c.info.ensures.behaves None) c.send-in-Info.ensures)).no_load, sure)
+
+pub returns-in-Info-clause-steps : goal.returns-in-Info-clause-steps
+returns-in-Info-clause-steps g c = rw c.in-Info.is (Steps-none g.F.Shelf.loads g.F.Shelf.saves g.F.Shelf.faults Info c.send-in-Info.result _ refl refl (IsShelfless-sent Info c.info.result c.send-in-Info.result tt _ _ refl (Behaves-sent Info c.info.result c.send-in-Info.result tt _ _ _ _ _ (c.info.ensures.behaves None) c.send-in-Info.ensures)))
 
 pub returns-in-Look-clause-behaves : goal.returns-in-Look-clause-behaves
 returns-in-Look-clause-behaves g c = rw c.in-Look.is (Behaves-sent (Look c.in-Look.name c.in-Look.lines) c.look.result c.send-in-Look.result tt _ _ _ _ _ c.look.ensures.behaves c.send-in-Look.ensures)
 
 pub returns-in-Look-clause-causes : goal.returns-in-Look-clause-causes
-returns-in-Look-clause-causes g c = rw c.in-Look.is (HasCauses-sent (Look c.in-Look.name c.in-Look.lines) c.look.result c.send-in-Look.result tt _ _ _ _ _ _ _ c.look.ensures.causes c.send-in-Look.ensures)
+returns-in-Look-clause-causes g c = rw c.in-Look.is (HasCauses-sent (Look c.in-Look.name c.in-Look.lines) c.look.result c.send-in-Look.result tt _ _ _ _ _ c.look.ensures.causes c.send-in-Look.ensures)
 
 pub returns-in-Look-clause-sent : goal.returns-in-Look-clause-sent
 returns-in-Look-clause-sent g c = λ flushed. IsSent-sent (Look c.in-Look.name c.in-Look.lines) c.look.result c.send-in-Look.result tt _ _ _ _ _ (Behaves-sent (Look c.in-Look.name c.in-Look.lines) c.look.result c.send-in-Look.result tt _ _ _ _ _ c.look.ensures.behaves c.send-in-Look.ensures) c.look.ensures.causes.writing.0 c.send-in-Look.ensures
@@ -76,11 +92,14 @@ returns-in-Look-clause-sent g c = λ flushed. IsSent-sent (Look c.in-Look.name c
 pub returns-in-Look-clause-sure_shelf : goal.returns-in-Look-clause-sure_shelf
 returns-in-Look-clause-sure_shelf g c = λ sure. let loaded = c.look.ensures.sure_shelf sure in (unloaded_sent c.look.result c.send-in-Look.result loaded.0 c.send-in-Look.ensures, loaded.1)
 
+pub returns-in-Look-clause-steps : goal.returns-in-Look-clause-steps
+returns-in-Look-clause-steps g c = rw c.in-Look.is (Steps-sent g.F.Shelf.loads g.F.Shelf.saves g.F.Shelf.faults (Look c.in-Look.name c.in-Look.lines) c.look.result c.send-in-Look.result _ _ refl c.send-in-Look.ensures.ends c.look.ensures.steps)
+
 pub returns-in-Bound-clause-behaves : goal.returns-in-Bound-clause-behaves
 returns-in-Bound-clause-behaves g c = rw c.in-Bound.is (Behaves-sent (Bound c.in-Bound.name c.in-Bound.most) c.bound.result c.send-in-Bound.result tt _ _ _ _ _ (c.bound.ensures.behaves _) c.send-in-Bound.ensures)
 
 pub returns-in-Bound-clause-causes : goal.returns-in-Bound-clause-causes
-returns-in-Bound-clause-causes g c = rw c.in-Bound.is (HasCauses-sent (Bound c.in-Bound.name c.in-Bound.most) c.bound.result c.send-in-Bound.result tt _ _ _ _ _ _ _ (HasCauses-sure _ _ _ _ (c.bound.ensures.causes _)) c.send-in-Bound.ensures)
+returns-in-Bound-clause-causes g c = rw c.in-Bound.is (HasCauses-sent (Bound c.in-Bound.name c.in-Bound.most) c.bound.result c.send-in-Bound.result tt _ _ _ _ _ (HasCauses-sure _ _ _ _ (c.bound.ensures.causes _)) c.send-in-Bound.ensures)
 
 pub returns-in-Bound-clause-sent : goal.returns-in-Bound-clause-sent
 returns-in-Bound-clause-sent g c = λ flushed. IsSent-sent (Bound c.in-Bound.name c.in-Bound.most) c.bound.result c.send-in-Bound.result tt _ _ _ _ _ (Behaves-sent (Bound c.in-Bound.name c.in-Bound.most) c.bound.result c.send-in-Bound.result tt _ _ _ _ _ (c.bound.ensures.behaves None) c.send-in-Bound.ensures) (c.bound.ensures.causes 0).writing.0 c.send-in-Bound.ensures
@@ -88,17 +107,23 @@ returns-in-Bound-clause-sent g c = λ flushed. IsSent-sent (Bound c.in-Bound.nam
 pub returns-in-Bound-clause-sure_shelf : goal.returns-in-Bound-clause-sure_shelf
 returns-in-Bound-clause-sure_shelf g c = λ sure. let loaded = c.bound.ensures.sure_shelf sure in (unloaded_sent c.bound.result c.send-in-Bound.result loaded.0 c.send-in-Bound.ensures, loaded.1)
 
+pub returns-in-Bound-clause-steps : goal.returns-in-Bound-clause-steps
+returns-in-Bound-clause-steps g c = rw c.in-Bound.is (Steps-sent g.F.Shelf.loads g.F.Shelf.saves g.F.Shelf.faults (Bound c.in-Bound.name c.in-Bound.most) c.bound.result c.send-in-Bound.result _ _ refl c.send-in-Bound.ensures.ends c.bound.ensures.steps)
+
 pub returns-in-Sample-clause-behaves : goal.returns-in-Sample-clause-behaves
 returns-in-Sample-clause-behaves g c = rw c.in-Sample.is (Behaves-sent (Sample c.in-Sample.header c.in-Sample.seed) c.sample.result c.send-in-Sample.result tt _ _ _ _ _ (c.sample.ensures.behaves _ _) c.send-in-Sample.ensures)
 
 pub returns-in-Sample-clause-causes : goal.returns-in-Sample-clause-causes
-returns-in-Sample-clause-causes g c = rw c.in-Sample.is (HasCauses-sent (Sample c.in-Sample.header c.in-Sample.seed) c.sample.result c.send-in-Sample.result tt _ _ _ _ _ _ _ (HasCauses-sure _ _ _ _ (HasCauses-more _ _ _ _ _ _ _ (c.sample.ensures.causes _ _))) c.send-in-Sample.ensures)
+returns-in-Sample-clause-causes g c = rw c.in-Sample.is (HasCauses-sent (Sample c.in-Sample.header c.in-Sample.seed) c.sample.result c.send-in-Sample.result tt _ _ _ _ _ (HasCauses-sure _ _ _ _ (c.sample.ensures.causes _)) c.send-in-Sample.ensures)
 
 pub returns-in-Sample-clause-sent : goal.returns-in-Sample-clause-sent
-returns-in-Sample-clause-sent g c = λ flushed. IsSent-sent (Sample c.in-Sample.header c.in-Sample.seed) c.sample.result c.send-in-Sample.result tt _ _ _ _ _ (Behaves-sent (Sample c.in-Sample.header c.in-Sample.seed) c.sample.result c.send-in-Sample.result tt _ _ _ _ _ (c.sample.ensures.behaves None None) c.send-in-Sample.ensures) (c.sample.ensures.causes 0 0).writing.0 c.send-in-Sample.ensures
+returns-in-Sample-clause-sent g c = λ flushed. IsSent-sent (Sample c.in-Sample.header c.in-Sample.seed) c.sample.result c.send-in-Sample.result tt _ _ _ _ _ (Behaves-sent (Sample c.in-Sample.header c.in-Sample.seed) c.sample.result c.send-in-Sample.result tt _ _ _ _ _ (c.sample.ensures.behaves None None) c.send-in-Sample.ensures) (c.sample.ensures.causes 0).writing.0 c.send-in-Sample.ensures
 
 pub returns-in-Sample-clause-sure_shelf : goal.returns-in-Sample-clause-sure_shelf
-returns-in-Sample-clause-sure_shelf g c = λ sure. (unloaded_sent c.sample.result c.send-in-Sample.result (unloaded c.sample.result _ (c.sample.ensures.causes 0 0).shelving) c.send-in-Sample.ensures, sure)
+returns-in-Sample-clause-sure_shelf g c = λ sure. ((IsShelfless-sent (Sample c.in-Sample.header c.in-Sample.seed) c.sample.result c.send-in-Sample.result tt _ _ refl (Behaves-sent (Sample c.in-Sample.header c.in-Sample.seed) c.sample.result c.send-in-Sample.result tt _ _ _ _ _ (c.sample.ensures.behaves None None) c.send-in-Sample.ensures)).no_load, sure)
+
+pub returns-in-Sample-clause-steps : goal.returns-in-Sample-clause-steps
+returns-in-Sample-clause-steps g c = rw c.in-Sample.is (Steps-none g.F.Shelf.loads g.F.Shelf.saves g.F.Shelf.faults (Sample c.in-Sample.header c.in-Sample.seed) c.send-in-Sample.result _ refl refl (IsShelfless-sent (Sample c.in-Sample.header c.in-Sample.seed) c.sample.result c.send-in-Sample.result tt _ _ refl (Behaves-sent (Sample c.in-Sample.header c.in-Sample.seed) c.sample.result c.send-in-Sample.result tt _ _ _ _ _ (c.sample.ensures.behaves None None) c.send-in-Sample.ensures)))
 
 pub returns-in-New-clause-behaves : goal.returns-in-New-clause-behaves
 returns-in-New-clause-behaves g c = rw c.in-New.is (c.new.ensures.behaves _ _)
@@ -111,3 +136,9 @@ returns-in-Run-clause-behaves g c = rw c.in-Run.is c.run.ensures.behaves
 
 pub returns-in-Run-clause-causes : goal.returns-in-Run-clause-causes
 returns-in-Run-clause-causes g c = rw c.in-Run.is c.run.ensures.causes
+
+pub returns-in-New-clause-steps : goal.returns-in-New-clause-steps
+returns-in-New-clause-steps g c = rw c.in-New.is c.new.ensures.steps
+
+pub returns-in-Run-clause-steps : goal.returns-in-Run-clause-steps
+returns-in-Run-clause-steps g c = rw c.in-Run.is c.run.ensures.steps

@@ -1,6 +1,7 @@
 use Rattle.std.proofs.Common.{◌≡◌, IfOk, subst, ◌∙◌}
 use Rattle.zf_bound.specs.Bounds.{certified_of}
 use Rattle.zf_parse.specs.Parsing.{parse}
+use Rattle.zfpi.proofs.Stepping.{IsShelfless-index}
 use Rattle.zfpi.proofs.Certifying.{said_good, Behaves-certified, Behaves-cut_certified, Behaves-no_codes}
 use Rattle.zfpi.proofs.commands.bound.bound_stream.Goals as goal
 
@@ -21,3 +22,6 @@ returns-in-Err-write_all-clause-behaves g c = λ src known now holds kept.
 pub returns-in-Err-clause-behaves : goal.returns-in-Err-clause-behaves
 returns-in-Err-clause-behaves g c = λ src known now holds kept.
     rw c.from.ensures (Behaves-no_codes c.args.name.now c.args.most c.in-Err.fault c.args.file.now c.args.header.now src _ known now holds kept c.requires.header c.requires.rate c.in-Err.ensures.fault)
+
+pub returns-in-Err-clause-shelfless : goal.returns-in-Err-clause-shelfless
+returns-in-Err-clause-shelfless g c = rw c.from.ensures (IsShelfless-index c.in-Err.fault)

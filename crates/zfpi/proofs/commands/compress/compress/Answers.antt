@@ -1,7 +1,7 @@
 use Rattle.std.proofs.Common.{[], Err, ap, sym, refl}
 use Rattle.zf_parse.specs.Raw.{compress_answer, stream_text}
 use Rattle.zfpi.specs.declared.command.Command.TheVariants.{Compress}
-use Rattle.zfpi.specs.Answer.{status_of}
+use Rattle.zfpi.specs.Faults.{status_of}
 use Rattle.zfpi.proofs.Streaming.{IsStreaming-compress, Behaves-done, Behaves-fault, compress_prefix}
 use Rattle.zfpi.proofs.commands.compress.compress.Goals as goal
 

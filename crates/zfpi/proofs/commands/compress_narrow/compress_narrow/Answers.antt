@@ -2,7 +2,7 @@ use Rattle.std.proofs.Common.{[], Err, ap, sym, refl}
 use Rattle.zf_parse.specs.Raw.{stream_text}
 use Rattle.zf_narrow.specs.Texts.{compress_narrow_answer}
 use Rattle.zfpi.specs.declared.command.Command.TheVariants.{CompressNarrow}
-use Rattle.zfpi.specs.Answer.{status_of}
+use Rattle.zfpi.specs.Faults.{status_of}
 use Rattle.zfpi.proofs.Streaming.{IsStreaming-compress_narrow, Behaves-done, Behaves-fault, IsNarrowRaw-fault, compress_prefix}
 use Rattle.zfpi.proofs.commands.compress_narrow.compress_narrow.Goals as goal
 

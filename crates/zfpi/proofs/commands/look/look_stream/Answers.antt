@@ -1,3 +1,6 @@
+use Rattle.zfpi.specs.declared.command.Command.TheVariants.{Look}
+use Rattle.zfpi.proofs.Causes.{HasCauses-index}
+use Rattle.zfpi.proofs.Stepping.{IsShelfless-index}
 use Rattle.zfpi.proofs.Looking.{Behaves-no_stream, HoldsStream-opened}
 use Rattle.zfpi.proofs.commands.look.look_stream.Goals as goal
 
@@ -13,3 +16,9 @@ returns-in-Ok-clause-causes g c = c.look_script.ensures.causes c.args.lines
 pub returns-in-Err-clause-behaves : goal.returns-in-Err-clause-behaves
 returns-in-Err-clause-behaves g c = λ known now holds kept.
     rw c.from.ensures (Behaves-no_stream c.args.name.now c.args.lines c.in-Err.fault c.args.file.items _ _ known now holds kept c.in-Err.ensures.fault)
+
+pub returns-in-Err-clause-shelfless : goal.returns-in-Err-clause-shelfless
+returns-in-Err-clause-shelfless g c = rw c.from.ensures (IsShelfless-index c.in-Err.fault)
+
+pub returns-in-Err-clause-causes : goal.returns-in-Err-clause-causes
+returns-in-Err-clause-causes g c = rw c.from.ensures (HasCauses-index (Look c.args.name.now c.args.lines) c.in-Err.fault _ _)

@@ -1,4 +1,4 @@
-use Rattle.std.proofs.Common.{◌∙◌}
+use Rattle.std.proofs.Common.{refl, ◌∙◌}
 use Rattle.zfpi.proofs.Making.{Behaves-saved, Behaves-unsaved, Behaves-starved}
 use Rattle.zfpi.proofs.commands.new.new.Goals as goal
 
@@ -14,3 +14,20 @@ returns-in-Ok-clause-behaves g c = λ src out.
 
 pub returns-clause-behaves : goal.returns-clause-behaves
 returns-clause-behaves g c = λ src out. Behaves-starved c.args.name.now c.args.ty c.args.shape c.args.bits src out _
+
+pub returns-in-Ok-save-clause-steps : goal.returns-in-Ok-save-clause-steps
+returns-in-Ok-save-clause-steps g c = record {
+  loaded = c.args.shelf.now;
+  load = (refl, λ is. cc);
+  save = (c.save.ensures.step, (c.save.ensures.cause.0, λ is. cc));
+}
+
+pub returns-in-Ok-clause-steps : goal.returns-in-Ok-clause-steps
+returns-in-Ok-clause-steps g c = record {
+  loaded = c.args.shelf.now;
+  load = (refl, λ is. cc);
+  save = (c.save.ensures.step, (c.save.ensures.cause.0, λ is. c.in-Err-save.ensures.cause.1 refl));
+}
+
+pub returns-clause-steps : goal.returns-clause-steps
+returns-clause-steps g c = record { loaded = c.args.shelf.now; load = (refl, λ is. cc); save = (refl, λ is. cc) }

@@ -2,7 +2,7 @@ use Rattle.std.proofs.Common.{Err, ap, sym, refl, subst}
 use Rattle.zf_parse.specs.Parsing.{restore_answer, restored_text}
 use Rattle.zf_parse.specs.ReadStreams.{HasGoodHeader}
 use Rattle.zfpi.specs.declared.command.Command.TheVariants.{Restore}
-use Rattle.zfpi.specs.Answer.{status_of}
+use Rattle.zfpi.specs.Faults.{status_of}
 use Rattle.zfpi.proofs.Streaming.{IsStreaming-restore, Behaves-done, Behaves-fault, restore_prefix, nothing_written, one_stream, one_stream-good}
 use Rattle.zfpi.proofs.commands.restore.restore.Goals as goal
 

@@ -3,7 +3,7 @@ use Rattle.zf_dev.proofs.Appending.{AppendsPrefix-all}
 use Rattle.zf_parse.specs.ReadStreams.{HasGoodHeader}
 use Rattle.zf_narrow.specs.Texts.{narrow_restored}
 use Rattle.zfpi.specs.declared.command.Command.TheVariants.{RestoreNarrow}
-use Rattle.zfpi.specs.Answer.{narrow_status_of}
+use Rattle.zfpi.specs.Faults.{narrow_status_of}
 use Rattle.zfpi.proofs.Streaming.{IsStreaming-restore_narrow, Behaves-done, Behaves-narrow_fault, narrow_prefix}
 use Rattle.zfpi.proofs.commands.restore_narrow.restore_narrow.Goals as goal
 

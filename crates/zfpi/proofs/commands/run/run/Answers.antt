@@ -1,10 +1,11 @@
-use Rattle.std.proofs.Common.{ap, Err}
-use Rattle.zfpi.proofs.Causes.{HasCauses-after_load, HasCauses-unloaded}
+use Rattle.std.proofs.Common.{refl, ap, Err}
+use Rattle.zfpi.proofs.Causes.{HasCauses-unloaded}
+use Rattle.zfpi.proofs.Stepping.{Steps-saved, Steps-unloaded}
 use Rattle.zfpi.specs.declared.command.Command.TheVariants.{Run}
 use Rattle.zfpi.specs.Opened.{array_in}
 use Rattle.zfpi.proofs.Loading.{Behaves-unloaded}
 use Rattle.zfpi.proofs.Scripting.{IsScripted-run}
-use Rattle.zfpi.proofs.HandedOn.{unloaded, unloaded_status}
+use Rattle.zfpi.proofs.HandedOn.{unloaded_status}
 use Rattle.zfpi.proofs.commands.run.run.Goals as goal
 
 pub returns-in-Ok-clause-behaves : goal.returns-in-Ok-clause-behaves
@@ -13,8 +14,11 @@ returns-in-Ok-clause-behaves g c =
     c.run_file.ensures.behaves (g.F.Shelf.files c.args.shelf.now) (record { held = held; size = c.in-Ok.ensures.bound }) c.load.ensures.files_stay
 
 pub returns-in-Ok-clause-causes : goal.returns-in-Ok-clause-causes
-returns-in-Ok-clause-causes g c =
-    HasCauses-after_load g.F.Shelf.saves g.F.Shelf.faults c.args.shelf.now c.load.new.self c.run_file.new.shelf _ c.run_file.result _ _ _ _ c.load.ensures.cause.0 c.run_file.ensures.causes tt
+returns-in-Ok-clause-causes g c = c.run_file.ensures.causes
+
+pub returns-in-Ok-clause-steps : goal.returns-in-Ok-clause-steps
+returns-in-Ok-clause-steps g c =
+    Steps-saved g.F.Shelf.loads g.F.Shelf.saves g.F.Shelf.faults (Run c.args.name.now c.args.caching) c.run_file.result c.args.shelf.now c.load.new.self _ refl refl c.load.ensures.step c.load.ensures.cause.0 c.run_file.ensures.once
 
 pub returns-in-Err-clause-behaves : goal.returns-in-Err-clause-behaves
 returns-in-Err-clause-behaves g c =
@@ -23,12 +27,15 @@ returns-in-Err-clause-behaves g c =
     rw c.from.ensures (Behaves-unloaded (Run name c.args.caching) name array_in (IsScripted-run name c.args.caching).loading c.in-Err.error _ _ _ _ why c.load.ensures.files_stay)
 
 pub returns-in-Err-clause-causes : goal.returns-in-Err-clause-causes
-returns-in-Err-clause-causes g c =
-    rw c.from.ensures (HasCauses-unloaded (Run c.args.name.now c.args.caching) g.F.Shelf.loads g.F.Shelf.faults c.args.shelf.now c.load.new.self c.in-Err.error _ _ tt c.load.ensures.step
+returns-in-Err-clause-causes g c = rw c.from.ensures (HasCauses-unloaded (Run c.args.name.now c.args.caching) c.in-Err.error _ _)
+
+pub returns-in-Err-clause-steps : goal.returns-in-Err-clause-steps
+returns-in-Err-clause-steps g c =
+    rw c.from.ensures (Steps-unloaded g.F.Shelf.loads g.F.Shelf.saves g.F.Shelf.faults (Run c.args.name.now c.args.caching) c.in-Err.error _ _ refl c.load.ensures.step
     (c.in-Err.ensures.cause.0, λ is. c.in-Err.ensures.cause.1 (ap Err is)))
 
 pub returns-in-Ok-clause-sure_shelf : goal.returns-in-Ok-clause-sure_shelf
-returns-in-Ok-clause-sure_shelf g c = λ sure. (unloaded c.run_file.result _ c.run_file.ensures.causes.shelving, c.run_file.ensures.still (c.load.ensures.sure sure).1)
+returns-in-Ok-clause-sure_shelf g c = λ sure. (c.run_file.ensures.once.no_load, c.run_file.ensures.still (c.load.ensures.sure sure).1)
 
 pub returns-in-Err-clause-sure_shelf : goal.returns-in-Err-clause-sure_shelf
 returns-in-Err-clause-sure_shelf g c = λ sure.

@@ -1,10 +1,12 @@
-use Rattle.std.proofs.Common.{refl, arith}
+use Rattle.std.proofs.Common.{refl, ap}
 use Rattle.zf_array.specs.Standing.{stored, shape, state}
 use Rattle.zfpi.specs.declared.command.Caching.TheVariants.{Direct}
 use Rattle.zfpi.specs.declared.status.Status.TheVariants.{Done, Lines}
+use Rattle.zfpi.specs.Scripts.{reads_script}
 use Rattle.zfpi.proofs.Scripting.{lines_status-some}
 use Rattle.zfpi.proofs.Running.{Behaves-run, Behaves-cut_run}
-use Rattle.zfpi.proofs.HandedOn.{cut_sent, IsSent-later, IsSent-cut, HasCauses-ran, HasCauses-cut}
+use Rattle.zfpi.proofs.Stepping.{SavesOnce-cut}
+use Rattle.zfpi.proofs.HandedOn.{cut_sent, reads_saved, IsSent-later, IsSent-cut, HasCauses-ran, HasCauses-cut}
 use Rattle.zfpi.proofs.commands.run.run_lines.Goals as goal
 
 pub returns-in-Done-clause-behaves : goal.returns-in-Done-clause-behaves
@@ -12,7 +14,7 @@ returns-in-Done-clause-behaves g c = λ known lines src rest holds kept takes en
     let a = c.args.array in
     let r = c.in-Done.ensures.runs in
     let now = c.run.new.a in
-    Behaves-run c.args.name.now (Direct lines) known _ g.T.Lane.width (stored a) (state a) holds kept c.args.script.now r.starved most (shape now) (state now) now.header.mode 0 Done c.save.result c.save_bytes.result.now src rest _ _ _ _ _ _
+    Behaves-run c.args.name.now (Direct lines) known _ g.T.Lane.width (stored a) (state a) holds kept c.args.script.now r.starved most (shape now) (state now) now.header.mode 0 Done c.save.result c.save_bytes.result.now src rest _ _ _ _ _
     r.ended c.save.ensures.stays r.same_mode c.save_bytes.ensures.saved refl c.save.ensures.saved takes end
 
 pub returns-in-Lines-clause-behaves : goal.returns-in-Lines-clause-behaves
@@ -21,7 +23,7 @@ returns-in-Lines-clause-behaves g c = λ known lines src rest holds kept takes e
     let r = c.in-Lines.ensures.runs in
     let n = c.in-Lines.count in
     let now = c.run.new.a in
-    Behaves-run c.args.name.now (Direct lines) known _ g.T.Lane.width (stored a) (state a) holds kept c.args.script.now r.starved most (shape now) (state now) now.header.mode n (Lines n) c.save-in-Lines.result c.save_bytes-in-Lines.result.now src rest _ _ _ _ _ _
+    Behaves-run c.args.name.now (Direct lines) known _ g.T.Lane.width (stored a) (state a) holds kept c.args.script.now r.starved most (shape now) (state now) now.header.mode n (Lines n) c.save-in-Lines.result c.save_bytes-in-Lines.result.now src rest _ _ _ _ _
     r.ended.1 c.save-in-Lines.ensures.stays r.same_mode c.save_bytes-in-Lines.ensures.saved (lines_status-some n r.ended.0) c.save-in-Lines.ensures.saved takes end
 
 pub returns-clause-behaves : goal.returns-clause-behaves
@@ -33,21 +35,39 @@ returns-clause-behaves g c = λ known lines src rest holds kept takes end most.
 
 pub returns-in-Done-clause-causes : goal.returns-in-Done-clause-causes
 returns-in-Done-clause-causes g c = λ lines src.
-    HasCauses-ran c.args.name.now (Direct lines) src _ _ _ _ _ _ Done c.save.result _ _ _ _ tt c.run.ensures.cause.0 c.save.ensures.out_kept c.save.ensures.kept c.save.ensures.saved
+    HasCauses-ran c.args.name.now (Direct lines) src _ _ _ Done c.save.result _ _ _ _ tt c.run.ensures.cause.0 c.save.ensures.out_kept c.save.ensures.saved
 
 pub returns-in-Done-clause-sent : goal.returns-in-Done-clause-sent
 returns-in-Done-clause-sent g c = IsSent-later c.save.result _ _ _ c.run.ensures.cause.0 c.save.ensures.sent
 
 pub returns-in-Lines-clause-causes : goal.returns-in-Lines-clause-causes
 returns-in-Lines-clause-causes g c = λ lines src.
-    HasCauses-ran c.args.name.now (Direct lines) src _ _ _ _ _ _ (Lines c.in-Lines.count) c.save-in-Lines.result _ _ _ _ tt c.run.ensures.cause.0 c.save-in-Lines.ensures.out_kept c.save-in-Lines.ensures.kept c.save-in-Lines.ensures.saved
+    HasCauses-ran c.args.name.now (Direct lines) src _ _ _ (Lines c.in-Lines.count) c.save-in-Lines.result _ _ _ _ tt c.run.ensures.cause.0 c.save-in-Lines.ensures.out_kept c.save-in-Lines.ensures.saved
 
 pub returns-in-Lines-clause-sent : goal.returns-in-Lines-clause-sent
 returns-in-Lines-clause-sent g c = IsSent-later c.save-in-Lines.result _ _ _ c.run.ensures.cause.0 c.save-in-Lines.ensures.sent
 
 pub returns-clause-causes : goal.returns-clause-causes
 returns-clause-causes g c = λ lines src.
-    HasCauses-cut c.args.name.now (Direct lines) src _ _ _ _ _ _ c.send.result (cut_sent c.send.result c.send.ensures) c.run.ensures.cause.0 c.send.ensures.kept (omega arith) (c.in-Write.ensures.cause.1 refl)
+    HasCauses-cut c.args.name.now (Direct lines) src _ _ _ c.send.result (cut_sent c.send.result c.send.ensures) c.run.ensures.cause.0 c.send.ensures.kept (c.in-Write.ensures.cause.1 refl)
 
 pub returns-clause-sent : goal.returns-clause-sent
 returns-clause-sent g c = IsSent-cut c.send.result _ _ _ c.run.ensures.cause.0 c.send.ensures
+
+pub returns-in-Done-clause-once : goal.returns-in-Done-clause-once
+returns-in-Done-clause-once g c = c.save.ensures.once tt
+
+pub returns-in-Lines-clause-once : goal.returns-in-Lines-clause-once
+returns-in-Lines-clause-once g c = c.save-in-Lines.ensures.once tt
+
+pub returns-clause-once : goal.returns-clause-once
+returns-clause-once g c = SavesOnce-cut g.F.Shelf.saves g.F.Shelf.faults c.send.result _ (cut_sent c.send.result c.send.ensures)
+
+pub returns-in-Done-clause-read : goal.returns-in-Done-clause-read
+returns-in-Done-clause-read g c = reads_saved Done c.save.result _ _ _ _ tt c.save.ensures.saved
+
+pub returns-in-Lines-clause-read : goal.returns-in-Lines-clause-read
+returns-in-Lines-clause-read g c = reads_saved (Lines c.in-Lines.count) c.save-in-Lines.result _ _ _ _ tt c.save-in-Lines.ensures.saved
+
+pub returns-clause-read : goal.returns-clause-read
+returns-clause-read g c = ap reads_script (cut_sent c.send.result c.send.ensures)

@@ -1,6 +1,7 @@
 use Rattle.std.proofs.Common.{◌≤◌, length, Err, ap, sym, subst}
 use Rattle.zf_dev.specs.Source.{Takes}
-use Rattle.zfpi.proofs.Causes.{HasCauses-taken}
+use Rattle.zfpi.proofs.Stepping.{SavesOnce-take}
+use Rattle.zfpi.proofs.Causes.{IsIdle-used, HasCauses-taken, HasCauses-untaken, reads_take}
 use Rattle.zfpi.specs.declared.command.Caching.TheVariants.{Direct}
 use Rattle.zfpi.specs.declared.command.Command.TheVariants.{Run}
 use Rattle.zfpi.specs.Opened.{array_in}
@@ -15,9 +16,17 @@ returns-in-Ok-clause-behaves g c = λ known lines holds kept.
 
 pub returns-in-Ok-clause-causes : goal.returns-in-Ok-clause-causes
 returns-in-Ok-clause-causes g c = λ lines.
-    HasCauses-taken _ c.run_lines.result _ _ _ _ _ _ c.take_all.ensures.cause.0 tt (λ sure. (c.take_all.ensures.sure sure).1) (c.run_lines.ensures.causes lines _)
+    HasCauses-taken _ c.run_lines.result _ _ _ _ c.take_all.ensures.cause.0 (IsIdle-used _ _ _ c.run_lines.ensures.read) (λ sure. (c.take_all.ensures.sure sure).1) (c.run_lines.ensures.causes lines _)
 
 pub returns-in-Err-clause-behaves : goal.returns-in-Err-clause-behaves
 returns-in-Err-clause-behaves g c = λ known lines holds kept.
     let name = c.args.name.now in
     rw c.from.ensures (Behaves-untaken (Run name (Direct lines)) name array_in (run_replies (Direct lines)) (IsScripted-run name (Direct lines)) known _ holds.bytes _ holds.file holds.array kept c.in-Err.error _ _ _ (λ long. c.in-Err.ensures.long (ap Err long)) c.take_all.ensures.taken)
+
+pub returns-in-Err-clause-once : goal.returns-in-Err-clause-once
+returns-in-Err-clause-once g c = rw c.from.ensures (SavesOnce-take g.F.Shelf.saves g.F.Shelf.faults c.in-Err.error _)
+
+pub returns-in-Err-clause-causes : goal.returns-in-Err-clause-causes
+returns-in-Err-clause-causes g c = λ lines.
+    rw c.from.ensures (HasCauses-untaken (Run c.args.name.now (Direct lines)) c.in-Err.error _ _ _ (reads_take c.in-Err.error) (c.in-Err.ensures.cause.0, λ is. c.in-Err.ensures.cause.1 (ap Err is))
+    (λ sure. let s = c.in-Err.ensures.sure sure in (λ is. s.0 (ap Err is), s.1)))

@@ -1,0 +1,172 @@
+-- The steps of a call on the shelf.
+use Rattle.std.proofs.Common.{◌≡◌, ◌≢◌, ℕ, ◌≤◌, ◌&&◌, Bool, true, false, inl, inr, refl, ap, sym, subst, ◌∙◌, arith}
+use Rattle.zf_dev.specs.Faults.{Rose, IsQuiet, HasCause}
+use Rattle.zf_dev.specs.declared.faults.LoadError.{LoadError}
+use Rattle.zf_dev.specs.declared.faults.LoadError.TheVariants as loading
+use Rattle.zf_dev.specs.declared.faults.TakeError.{TakeError}
+use Rattle.zf_dev.specs.declared.faults.TakeError.TheVariants as taking
+use Rattle.zf_index.specs.declared.fault.IndexFault.{IndexFault}
+use Rattle.zf_index.specs.declared.fault.IndexFault.TheVariants as index
+use Rattle.zf_store.specs.declared.fault.StoreFault.{StoreFault}
+use Rattle.zf_store.specs.declared.fault.StoreFault.TheVariants as stores
+use Rattle.zfpi.specs.declared.status.Status.{Status}
+use Rattle.zfpi.specs.declared.status.Status.TheVariants.{Done, Lines, WriteFault, LoadFault, SaveFault}
+use Rattle.zfpi.specs.declared.command.Command.{Command}
+use Rattle.zfpi.specs.Faults.{load_status, index_status, store_status, take_status}
+use Rattle.zfpi.specs.Answer.{meaning}
+use Rattle.zfpi.specs.Sending.{IsDone, EndsSent}
+use Rattle.zfpi.specs.Steps.{is_work_done, Makes, SavesOnce, Steps, IsShelfless}
+
+no_bool : true ≡ false → ⊥
+no_bool is = cc
+
+and_false : (b : Bool) → b && false ≡ false
+and_false true = refl
+and_false false = refl
+
+-- ---- one step, or none
+
+module _ {F : Type 0} (step : F → F → Type 0) (faults : F → ℕ) where
+  pub Makes-none : (b : Bool) (fault : Type 0) (shelf : F) → b ≡ false → (fault → ⊥) → Makes b step faults fault shelf shelf
+  Makes-none b fault shelf is none = subst (λ t. Makes t step faults fault shelf shelf) (sym is) (refl, none)
+
+  -- no count falls
+  Makes-kept : (b : Bool) (fault : Type 0) (before now : F) → Makes b step faults fault before now → faults before ≤ faults now
+  Makes-kept true fault before now makes = makes.1.0
+  Makes-kept false fault before now makes = subst (λ s. faults before ≤ faults s) (sym makes.0) (omega arith)
+
+  -- where the count did not rise there is no fault
+  Makes-quiet : (b : Bool) (fault : Type 0) (before now : F) (first last : ℕ) → first ≤ faults before → faults now ≤ last → IsQuiet first last → Makes b step faults fault before now → fault → ⊥
+  Makes-quiet true fault before now first last low high quiet makes is = omega (arith, makes.1.1 is, low, high, quiet)
+  Makes-quiet false fault before now first last low high quiet makes is = makes.1 is
+
+  -- the same steps without this fault
+  Makes-other : (b : Bool) (fault other : Type 0) (before now : F) → (other → ⊥) → Makes b step faults fault before now → Makes b step faults other before now
+  Makes-other true fault other before now none makes = (makes.0, (makes.1.0, λ is. absurd (none is)))
+  Makes-other false fault other before now none makes = (makes.0, none)
+
+-- ---- at most one save, behind a load
+
+module _ {F : Type 0} (saves : F → F → Type 0) (faults : F → ℕ) where
+  pub SavesOnce-none : (status : Status) (shelf : F) → is_work_done status ≡ false → status ≢ LoadFault → SavesOnce saves faults status shelf shelf
+  SavesOnce-none status shelf undone no_load = record {
+    save = Makes-none saves faults (is_work_done status) (status ≡ SaveFault) shelf undone (λ is. no_bool (sym (ap is_work_done is) ∙ undone));
+    no_load = no_load;
+  }
+
+  -- the file was no array's
+  pub SavesOnce-store : (e : StoreFault) (shelf : F) → SavesOnce saves faults (store_status e) shelf shelf
+  SavesOnce-store (stores.Truncated b) shelf = SavesOnce-none (store_status (stores.Truncated b)) shelf refl (λ is. cc)
+  SavesOnce-store stores.Pad shelf = SavesOnce-none (store_status stores.Pad) shelf refl (λ is. cc)
+  SavesOnce-store stores.Trailing shelf = SavesOnce-none (store_status stores.Trailing) shelf refl (λ is. cc)
+  SavesOnce-store stores.Memory shelf = SavesOnce-none (store_status stores.Memory) shelf refl (λ is. cc)
+
+  -- the script was not read
+  pub SavesOnce-take : (e : TakeError) (shelf : F) → SavesOnce saves faults (take_status e) shelf shelf
+  SavesOnce-take taking.Long shelf = SavesOnce-none (take_status taking.Long) shelf refl (λ is. cc)
+  SavesOnce-take taking.Failed shelf = SavesOnce-none (take_status taking.Failed) shelf refl (λ is. cc)
+  SavesOnce-take taking.Memory shelf = SavesOnce-none (take_status taking.Memory) shelf refl (λ is. cc)
+
+  -- the sink failed
+  pub SavesOnce-cut : (ended : Status) (shelf : F) → ended ≡ WriteFault → SavesOnce saves faults ended shelf shelf
+  SavesOnce-cut ended shelf is = subst (λ s. SavesOnce saves faults s shelf shelf) (sym is) (SavesOnce-none WriteFault shelf refl (λ same. cc))
+
+  -- a save was made of work that was done, and it was good
+  pub SavesOnce-done : (status : Status) (before now : F) → IsDone status → saves before now → faults before ≤ faults now → SavesOnce saves faults status before now
+  SavesOnce-done Done before now done step kept = record { save = (step, (kept, λ is. cc)); no_load = λ is. cc }
+  SavesOnce-done (Lines n) before now done step kept = record { save = (step, (kept, λ is. cc)); no_load = λ is. cc }
+  SavesOnce-done status before now done step kept = absurd done
+
+  -- or it failed
+  pub SavesOnce-failed : (before now : F) → saves before now → faults before ≤ faults now → Rose (faults before) (faults now) → SavesOnce saves faults SaveFault before now
+  SavesOnce-failed before now step kept rose = record { save = (step, (kept, λ is. rose)); no_load = λ is. cc }
+
+-- ---- statuses that are no fault of a shelf
+
+pub IsShelfless-index : (e : IndexFault) → IsShelfless (index_status e)
+IsShelfless-index (index.Truncated b) = record { no_load = λ is. cc; no_save = λ is. cc }
+IsShelfless-index index.Pad = record { no_load = λ is. cc; no_save = λ is. cc }
+IsShelfless-index index.Trailing = record { no_load = λ is. cc; no_save = λ is. cc }
+IsShelfless-index index.Memory = record { no_load = λ is. cc; no_save = λ is. cc }
+
+pub IsShelfless-take : (e : TakeError) → IsShelfless (take_status e)
+IsShelfless-take taking.Long = record { no_load = λ is. cc; no_save = λ is. cc }
+IsShelfless-take taking.Failed = record { no_load = λ is. cc; no_save = λ is. cc }
+IsShelfless-take taking.Memory = record { no_load = λ is. cc; no_save = λ is. cc }
+
+-- ---- the steps of a call
+
+no_failure : (e : LoadError) → load_status e ≡ LoadFault → e ≡ loading.Failed
+no_failure loading.Missing is = absurd (cc)
+no_failure loading.Long is = absurd (cc)
+no_failure loading.Failed is = refl
+no_failure loading.Memory is = absurd (cc)
+
+no_work : (e : LoadError) → is_work_done (load_status e) ≡ false
+no_work loading.Missing = refl
+no_work loading.Long = refl
+no_work loading.Failed = refl
+no_work loading.Memory = refl
+
+module _ {F : Type 0} (loads saves : F → F → Type 0) (faults : F → ℕ) (c : Command) where
+  -- where the count did not rise there was no fault of the shelf
+  pub Steps-quiet : (status : Status) (before now : F) → Steps loads saves faults c status before now → IsQuiet (faults before) (faults now) → IsShelfless status
+  Steps-quiet status before now steps quiet =
+      let first = Makes-kept loads faults (meaning c).loads (status ≡ LoadFault) before steps.loaded steps.load in
+      let last = Makes-kept saves faults ((meaning c).saves && is_work_done status) (status ≡ SaveFault) steps.loaded now steps.save in
+      record {
+        no_load = Makes-quiet loads faults (meaning c).loads (status ≡ LoadFault) before steps.loaded (faults before) (faults now) (omega arith) last quiet steps.load;
+        no_save = Makes-quiet saves faults ((meaning c).saves && is_work_done status) (status ≡ SaveFault) steps.loaded now (faults before) (faults now) first (omega arith) quiet steps.save;
+      }
+
+  -- a command without a shelf left it as it was
+  pub Steps-none : (status : Status) (shelf : F) → (meaning c).loads ≡ false → (meaning c).saves ≡ false → IsShelfless status → Steps loads saves faults c status shelf shelf
+  Steps-none status shelf no_load no_save none = record {
+    loaded = shelf;
+    load = Makes-none loads faults (meaning c).loads (status ≡ LoadFault) shelf no_load none.no_load;
+    save = Makes-none saves faults ((meaning c).saves && is_work_done status) (status ≡ SaveFault) shelf (ap (λ b. b && is_work_done status) no_save) none.no_save;
+  }
+
+  -- a load that was good
+  loaded_well : (status : Status) (before loaded : F) → (meaning c).loads ≡ true → loads before loaded → faults before ≤ faults loaded → status ≢ LoadFault → Makes (meaning c).loads loads faults (status ≡ LoadFault) before loaded
+  loaded_well status before loaded loading step kept none = subst (λ b. Makes b loads faults (status ≡ LoadFault) before loaded) (sym loading) (step, (kept, λ is. absurd (none is)))
+
+  -- and nothing behind it
+  pub Steps-loaded : (status : Status) (before loaded : F) → (meaning c).loads ≡ true → (meaning c).saves ≡ false → loads before loaded → faults before ≤ faults loaded → IsShelfless status → Steps loads saves faults c status before loaded
+  Steps-loaded status before loaded loading no_save step kept none = record {
+    loaded = loaded;
+    load = loaded_well status before loaded loading step kept none.no_load;
+    save = Makes-none saves faults ((meaning c).saves && is_work_done status) (status ≡ SaveFault) loaded (ap (λ b. b && is_work_done status) no_save) none.no_save;
+  }
+
+  -- or a save behind it
+  pub Steps-saved : (status : Status) (before loaded now : F) → (meaning c).loads ≡ true → (meaning c).saves ≡ true → loads before loaded → faults before ≤ faults loaded → SavesOnce saves faults status loaded now → Steps loads saves faults c status before now
+  Steps-saved status before loaded now loading saving step kept once = record {
+    loaded = loaded;
+    load = loaded_well status before loaded loading step kept once.no_load;
+    save = subst (λ b. Makes (b && is_work_done status) saves faults (status ≡ SaveFault) loaded now) (sym saving) once.save;
+  }
+
+  -- a load that was not
+  pub Steps-unloaded : (e : LoadError) (before now : F) → (meaning c).loads ≡ true → loads before now → HasCause (e ≡ loading.Failed) (faults before) (faults now) → Steps loads saves faults c (load_status e) before now
+  Steps-unloaded e before now loading step cause = record {
+    loaded = now;
+    load = subst (λ b. Makes b loads faults (load_status e ≡ LoadFault) before now) (sym loading) (step, (cause.0, λ is. cause.1 (no_failure e is)));
+    save = Makes-none saves faults ((meaning c).saves && is_work_done (load_status e)) (load_status e ≡ SaveFault) now
+        (ap (λ b. (meaning c).saves && b) (no_work e) ∙ and_false (meaning c).saves) (λ is. no_bool (sym (ap is_work_done is) ∙ no_work e));
+  }
+
+  -- the same steps once what was written was handed on or not
+  pub Steps-sent : (status ended : Status) (before now : F) {Failed : Type 0} → (meaning c).saves ≡ false → EndsSent status ended Failed → Steps loads saves faults c status before now → Steps loads saves faults c ended before now
+  Steps-sent status ended before now no_save ends steps = elim ends [
+    | inl same ↦ subst (λ s. Steps loads saves faults c s before now) (sym same) steps
+    | inr failed ↦ subst (λ s. Steps loads saves faults c s before now) (sym failed.0) (record {
+      loaded = steps.loaded;
+      load = Makes-other loads faults (meaning c).loads (status ≡ LoadFault) (WriteFault ≡ LoadFault) before steps.loaded (λ is. cc) steps.load;
+      save = unsaved (meaning c).saves no_save steps.save;
+    })
+  ]
+    where
+      unsaved : (b : Bool) → b ≡ false → Makes (b && is_work_done status) saves faults (status ≡ SaveFault) steps.loaded now → Makes (b && false) saves faults (WriteFault ≡ SaveFault) steps.loaded now
+      unsaved true is makes = absurd (no_bool is)
+      unsaved false is makes = (makes.0, λ same. cc)
