@@ -21,7 +21,7 @@ loop-number-preserved g c =
       behind = subst (IsBehind (number + 1) digits) (sym c.split_at.ensures.back) (behind_more number n digits rest size c.loop-number.invariant.behind);
       groups = groups_more number n digits rest old new size (omega (arith, length-map c.loop-number.planes words, length-map c.put_group.new.planes words))
           c.loop-number.invariant.behind c.loop-number.invariant.groups
-          (subst (λ ds. HoldsGroup number ds new) c.split_at.ensures.prefix c.put_group.ensures.bits) c.put_group.ensures.others;
+          (subst (λ ds. HoldsGroup number ds new) c.split_at.ensures.front c.put_group.ensures.bits) c.put_group.ensures.others;
     }
 
 pub returns-clause-digits : goal.returns-clause-digits
