@@ -19,7 +19,7 @@ use Rattle.zfpi.specs.Faults.{fault_status, load_status, index_status}
 use Rattle.zfpi.specs.Opened.{opened}
 use Rattle.zfpi.specs.Loaded.{HoldsFile}
 use Rattle.zfpi.specs.World.{World, ExposesInput, ExposesFiles, seen}
-use Rattle.zfpi.specs.Answer.{OnWholeScript, TakesScript, FileEnds, status_for, text_for, draft_for, saved_for, cut_draft, IsRaw, HasStarved, IsExtent, TakesMemory, MayLoad, MayFail}
+use Rattle.zfpi.specs.Answer.{OnWholeScript, TakesScript, FileEnds, status_for, text_for, draft_for, saved_for, cut_draft, HasStarved, IsExtent, TakesMemory, MayLoad, MayFail}
 use Rattle.zfpi.specs.Headline.{IsOfCommand, Writes, Saves, Behaves}
 use Rattle.zfpi.proofs.Exposed.{files_of, files_of-none, ExposesFiles-same, some_input, Takes-none}
 
@@ -128,8 +128,7 @@ pub record IsLoading (c : Command) (name : List ℕ) (reading : List ℕ → Res
   pub refuses : (w : World) (status : Status) → opened reading (w.files name) ≡ Err status → status ≡ status_for c w []
   pub starved_are : (w : World) (status : Status) → ComesFirst status → HasStarved c status w []
   pub extent : (input : List ℕ) (status : Status) → ComesFirst status → IsExtent c status input []
-  pub plain : (status : Status) (src : Option (List ℕ)) (taken : List ℕ) → IsRaw c status src taken taken
-  pub draft : (w : World) (status : Status) (taken : List ℕ) → draft_for c status w [] taken ≡ cut_draft status (text_for c w [] taken)
+  pub draft : (w : World) (status : Status) (taken : List ℕ) → draft_for c status w [] taken ≡ cut_draft status (text_for c w [])
   pub loads : (w : World) → MayLoad c w
   pub starves : (w : World) → TakesMemory c w
 
@@ -150,9 +149,7 @@ module _ (c : Command) (name : List ℕ) (reading : List ℕ → Result Said Sta
         taken = [];
         takes = Takes-none src;
         extent = is.extent input status first;
-        raw = [];
-        raw_is = is.plain status src [];
-        written = subst (λ draft. Writes status (text_for c w [] []) draft out out) (sym (is.draft w status [])) (Writes-first (text_for c w [] []) out status first);
+        written = subst (λ draft. Writes status (text_for c w []) draft out out) (sym (is.draft w status [])) (Writes-first (text_for c w []) out status first);
         saved = Saves-unsaved (saved_for c w []) status before now (Unsaved-first status first) kept;
       }
 

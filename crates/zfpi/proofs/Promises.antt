@@ -314,7 +314,7 @@ the_input (Some all) bytes input is exposed = let same : all ≡ bytes = cc in s
 
 -- these bytes are written by a command that is done over what the source holds
 comes_back : (c : Command) (status : Status) (before now : Seen) (held bytes : List ℕ) → before.src ≡ Some held → ((w : World) → MayLoad c w → ⊥) → ((w : World) → MaySave c w → ⊥)
-    → ((w : World) (starved : List ℕ) → w.input ≡ held → (status_for c w starved ≡ Done) × ((raw : List ℕ) → text_for c w starved raw ≡ bytes)) → Behaves c status before now → IsBack status before.out now.out bytes ⊎ IsFromOutside status
+    → ((w : World) (starved : List ℕ) → w.input ≡ held → (status_for c w starved ≡ Done) × (text_for c w starved ≡ bytes)) → Behaves c status before now → IsBack status before.out now.out bytes ⊎ IsFromOutside status
 comes_back c status before now held bytes holds no_load no_save gives behaves =
     let w = behaves.world in
     let starved = behaves.starved in
@@ -322,8 +322,8 @@ comes_back c status before now held bytes holds no_load no_save gives behaves =
     elim behaves.stated [
       | inl same ↦
           let done : status ≡ Done = same ∙ good.0 in
-          let written = subst (λ s. Writes s (text_for c w starved behaves.raw) (draft_for c s w starved behaves.raw) before.out now.out) done behaves.written in
-          inl (record { done = done; written = subst (Appends before.out now.out) (good.1 behaves.raw) written })
+          let written = subst (λ s. Writes s (text_for c w starved) (draft_for c s w starved behaves.taken) before.out now.out) done behaves.written in
+          inl (record { done = done; written = subst (Appends before.out now.out) good.1 written })
       | inr may ↦ inr (from_outside status c w starved (no_load w) (no_save w) may)
     ]
 
@@ -333,7 +333,7 @@ GivesBack-behaves words status before now command None h bytes holds =
     comes_back Restore status before now (stream_text h bytes) bytes holds.stream (λ w may. may) (λ w may. may)
     (λ w starved input. (
       ap (λ xs. status_of (restore_answer xs)) input ∙ ap status_of (answer-stream_text h bytes holds.header),
-      λ raw. ap restored_text input ∙ text-reversible_text h bytes holds.header holds.mode holds.whole holds.small,
+      ap restored_text input ∙ text-reversible_text h bytes holds.header holds.mode holds.whole holds.small,
     ))
     (command Restore holds.words_are)
 GivesBack-behaves words status before now command (Some n) h bytes holds =
@@ -341,6 +341,6 @@ GivesBack-behaves words status before now command (Some n) h bytes holds =
     comes_back (RestoreNarrow n) status before now held bytes holds.stream (λ w may. may) (λ w may. may)
     (λ w starved input. (
       ap (λ xs. narrow_status_of (restore_narrow_answer xs)) input ∙ ap narrow_status_of (answer-narrow_text n h bytes holds.header holds.typed),
-      λ raw. ap (narrow_restored n) input ∙ text-narrow_text n h bytes holds.header holds.typed holds.mode holds.whole holds.small,
+      ap (narrow_restored n) input ∙ text-narrow_text n h bytes holds.header holds.typed holds.mode holds.whole holds.small,
     ))
     (command (RestoreNarrow n) holds.words_are)

@@ -42,8 +42,8 @@ lines_status-some (suc n) some = refl
 pub record IsScripted (c : Command) (name : List ℕ) (reading : List ℕ → Result Said Status) (replies : Answering) : Type 0 where
   pub loading : IsLoading c name reading
   pub status : (w : World) (starved : List ℕ) → status_for c w starved ≡ script_status replies (opened reading (w.files name)) starved w.input
-  pub text : (w : World) (starved taken : List ℕ) → text_for c w starved taken ≡ script_text replies (opened reading (w.files name)) starved w.input
-  pub draft : (w : World) (starved : List ℕ) (status : Status) (taken : List ℕ) → draft_for c status w starved taken ≡ cut_draft status (text_for c w starved taken)
+  pub text : (w : World) (starved : List ℕ) → text_for c w starved ≡ script_text replies (opened reading (w.files name)) starved w.input
+  pub draft : (w : World) (starved : List ℕ) (status : Status) (taken : List ℕ) → draft_for c status w starved taken ≡ cut_draft status (text_for c w starved)
   pub starved_are : (w : World) (starved : List ℕ) (status : Status) → OnWholeScript status (AreStarved replies (opened reading (w.files name)) starved w.input) → HasStarved c status w starved
   pub extent : (status : Status) (input taken : List ℕ) → TakesScript status input taken → IsExtent c status input taken
   pub reads : (w : World) → IsOk (opened reading (w.files name)) → MayRead c w
@@ -55,13 +55,12 @@ IsScripted-run name caching = record {
     refuses = λ w status none. sym (ap (λ file. script_status (run_replies caching) file [] w.input) none);
     starved_are = λ w status first. OnWholeScript-first _ status first;
     extent = TakesScript-first;
-    plain = λ status src taken. refl;
     draft = λ w status taken. refl;
     loads = λ w. tt;
     starves = λ w. tt;
   };
   status = λ w starved. refl;
-  text = λ w starved taken. refl;
+  text = λ w starved. refl;
   draft = λ w starved status taken. refl;
   starved_are = λ w starved status are. are;
   extent = λ status input taken is. is;
@@ -75,13 +74,12 @@ IsScripted-look name lines = record {
     refuses = λ w status none. sym (ap (λ file. script_status (look_replies lines) file [] w.input) none);
     starved_are = λ w status first. OnWholeScript-first _ status first;
     extent = TakesScript-first;
-    plain = λ status src taken. refl;
     draft = λ w status taken. refl;
     loads = λ w. tt;
     starves = λ w. tt;
   };
   status = λ w starved. refl;
-  text = λ w starved taken. refl;
+  text = λ w starved. refl;
   draft = λ w starved status taken. refl;
   starved_are = λ w starved status are. are;
   extent = λ status input taken is. is;
@@ -115,8 +113,8 @@ module _ (c : Command) (name : List ℕ) (reading : List ℕ → Result Said Sta
       ∙ (sym (ap (λ file. script_status replies file [] input) is_open) ∙ sym (is.status (world_with known bytes input) []))
 
   -- its text
-  text_is : (starved script taken : List ℕ) → replies_text (replies said starved script) ≡ text_for c (world_with known bytes script) starved taken
-  text_is starved script taken = sym (ap (λ file. script_text replies file starved script) is_open) ∙ sym (is.text (world_with known bytes script) starved taken)
+  text_is : (starved script : List ℕ) → replies_text (replies said starved script) ≡ text_for c (world_with known bytes script) starved
+  text_is starved script = sym (ap (λ file. script_text replies file starved script) is_open) ∙ sym (is.text (world_with known bytes script) starved)
 
   -- no line was run, and nothing was written
   unread : (status : Status) (src src_now out : Option (List ℕ)) (input taken : List ℕ) → IsOfCommand status → ExposesInput src input → OnWholeScript status (AreStarved replies (opened reading (files_with known bytes name)) [] input)
@@ -132,9 +130,7 @@ module _ (c : Command) (name : List ℕ) (reading : List ℕ → Result Said Sta
     taken = taken;
     takes = takes;
     extent = is.extent status input taken extent;
-    raw = taken;
-    raw_is = is.loading.plain status src taken;
-    written = subst (λ draft. Writes status (text_for c (world_with known bytes input) [] taken) draft out out) (sym (is.draft (world_with known bytes input) [] status taken)) (written (text_for c (world_with known bytes input) [] taken));
+    written = subst (λ draft. Writes status (text_for c (world_with known bytes input) []) draft out out) (sym (is.draft (world_with known bytes input) [] status taken)) (written (text_for c (world_with known bytes input) []));
     saved = Saves-unsaved (saved_for c (world_with known bytes input) []) status known mid un kept;
   }
 
@@ -175,9 +171,7 @@ module _ (c : Command) (name : List ℕ) (reading : List ℕ → Result Said Sta
       taken = script;
       takes = takes;
       extent = is.extent status script script extent;
-      raw = script;
-      raw_is = is.loading.plain status src script;
-      written = writes _ _ (subst (Appends out out_now) (text_is starved script script) written);
+      written = writes _ _ (subst (Appends out out_now) (text_is starved script) written);
       saved = saved;
     }
 
@@ -204,9 +198,7 @@ module _ (c : Command) (name : List ℕ) (reading : List ℕ → Result Said Sta
           taken = script;
           takes = takes;
           extent = is.extent statuses.WriteFault script script refl;
-          raw = script;
-          raw_is = is.loading.plain statuses.WriteFault src script;
-          written = subst (AppendsPrefix out out_now) (text_is starved script script ∙ sym (is.draft w starved statuses.WriteFault script)) (AppendsPrefix-all out out_now text written);
+          written = subst (AppendsPrefix out out_now) (text_is starved script ∙ sym (is.draft w starved statuses.WriteFault script)) (AppendsPrefix-all out out_now text written);
           saved = Saves-unsaved (saved_for c w starved) statuses.WriteFault known mid tt kept;
         }
 
@@ -233,8 +225,8 @@ module _ (c : Command) (name : List ℕ) (reading : List ℕ → Result Said Sta
           let one : replies_text (stops.reply ∷ []) ≡ reply = append-nil reply in
           let replied : replies_text (run_lines setting starved 0 (take (stops.at + 1) (lines_of script)) start).1 ≡ first ++ reply =
           ap replies_text stops.replied ∙ (flat_map-append reply_text (run_lines setting starved 0 (take stops.at (lines_of script)) start).1 (stops.reply ∷ []) ∙ ap (λ r. first ++ r) one) in
-          let whole : (first ++ reply) ++ prefix.0 ≡ text_for c (world_with known bytes script) starved script =
-          ap (λ text. text ++ prefix.0) (sym replied) ∙ (sym prefix.1 ∙ text_is starved script script) in
+          let whole : (first ++ reply) ++ prefix.0 ≡ text_for c (world_with known bytes script) starved =
+          ap (λ text. text ++ prefix.0) (sym replied) ∙ (sym prefix.1 ∙ text_is starved script) in
           let part : AppendsPrefix out out_now (first ++ reply) =
           (length first + stops.count, omega (arith, length-append first reply, stops.not_whole), rw (take-append-add first reply stops.count) stops.written) in
           record {
@@ -247,8 +239,6 @@ module _ (c : Command) (name : List ℕ) (reading : List ℕ → Result Said Sta
             taken = script;
             takes = takes;
             extent = is.extent statuses.WriteFault script script refl;
-            raw = script;
-            raw_is = is.loading.plain statuses.WriteFault src script;
             written = subst (AppendsPrefix out out_now) (whole ∙ sym (is.draft (world_with known bytes script) starved statuses.WriteFault script)) (AppendsPrefix-more out out_now (first ++ reply) prefix.0 part);
             saved = Saves-unsaved (saved_for c (world_with known bytes script) starved) statuses.WriteFault known mid tt kept;
           }

@@ -9,7 +9,7 @@ use Rattle.zf_parse.specs.Parsing.{Said, restore_answer, restored_text}
 use Rattle.zf_stream.specs.Headed.{prefix_room}
 use Rattle.zf_narrow.specs.declared.fault.NarrowFault.{NarrowFault}
 use Rattle.zf_narrow.specs.declared.narrow.Narrow.{Narrow}
-use Rattle.zf_narrow.specs.Texts.{narrow_len, compress_narrow_answer, ArePromoted, ArePromotedNearly, restore_narrow_answer, narrow_restored}
+use Rattle.zf_narrow.specs.Texts.{narrow_len, narrow_text, compress_narrow_answer, restore_narrow_answer, narrow_restored}
 use Rattle.zfpi.specs.Faults.{fault_status, narrow_status}
 use Rattle.zfpi.specs.declared.status.Status.{Status}
 use Rattle.zfpi.specs.declared.status.Status.TheVariants as statuses
@@ -73,29 +73,18 @@ status_for (Look name lines) w starved = script_status (look_replies lines) (ope
 status_for (Bound name most) w starved = certified_status (opened array_in (w.files name))
 status_for (Sample h seed) w starved = statuses.Done
 
--- what the bytes that were read of narrow values stand for: int32 bytes, of which the last three may lack where a device failed
-abbrev pub IsNarrowRaw : Narrow → Status → Option (List ℕ) → List ℕ → List ℕ → Type 0
-IsNarrowRaw n statuses.ReadFault src taken raw = ArePromotedNearly n src taken raw
-IsNarrowRaw n statuses.WriteFault src taken raw = ArePromotedNearly n src taken raw
-IsNarrowRaw n status src taken raw = ArePromoted n src taken raw
-
--- the raw bytes of what was read: as it is, but for narrow values, as far as the source exposes them
-abbrev pub IsRaw : Command → Status → Option (List ℕ) → List ℕ → List ℕ → Type 0
-IsRaw (CompressNarrow n h) status src taken raw = IsNarrowRaw n status src taken raw
-IsRaw c status src taken raw = raw ≡ taken
-
--- what is written where the whole work was done; the last list has the raw bytes of what was read
-abbrev pub text_for : Command → World → List ℕ → List ℕ → List ℕ
-text_for (Compress h) w starved raw = stream_text h w.input
-text_for (CompressNarrow n h) w starved raw = stream_text h raw
-text_for Restore w starved raw = restored_text w.input
-text_for (RestoreNarrow n) w starved raw = narrow_restored n w.input
-text_for Info w starved raw = info_text (take header_bytes w.input)
-text_for (New name ty ns b) w starved raw = []
-text_for (Run name caching) w starved raw = script_text (run_replies caching) (opened array_in (w.files name)) starved w.input
-text_for (Look name lines) w starved raw = script_text (look_replies lines) (opened stream_in (w.files name)) starved w.input
-text_for (Bound name most) w starved raw = certified_text most (opened array_in (w.files name))
-text_for (Sample h seed) w starved raw = sample_text h seed
+-- what is written where the whole work was done
+abbrev pub text_for : Command → World → List ℕ → List ℕ
+text_for (Compress h) w starved = stream_text h w.input
+text_for (CompressNarrow n h) w starved = narrow_text n h w.input
+text_for Restore w starved = restored_text w.input
+text_for (RestoreNarrow n) w starved = narrow_restored n w.input
+text_for Info w starved = info_text (take header_bytes w.input)
+text_for (New name ty ns b) w starved = []
+text_for (Run name caching) w starved = script_text (run_replies caching) (opened array_in (w.files name)) starved w.input
+text_for (Look name lines) w starved = script_text (look_replies lines) (opened stream_in (w.files name)) starved w.input
+text_for (Bound name most) w starved = certified_text most (opened array_in (w.files name))
+text_for (Sample h seed) w starved = sample_text h seed
 
 -- nothing after out of memory, which comes before the first write
 abbrev pub compress_draft : Status → List ℕ → List ℕ
@@ -114,18 +103,18 @@ abbrev pub cut_draft : Status → List ℕ → List ℕ
 cut_draft statuses.WriteFault text = text
 cut_draft status text = []
 
--- after each other status a prefix of this is written; the last list has the raw bytes of what was read
+-- after each other status a prefix of this is written; the last list has the bytes that were read
 abbrev pub draft_for : Command → Status → World → List ℕ → List ℕ → List ℕ
-draft_for (Compress h) status w starved raw = compress_draft status (stream_text h raw)
-draft_for (CompressNarrow n h) status w starved raw = compress_draft status (stream_text h raw)
-draft_for Restore status w starved raw = restore_draft status (restored_text raw)
-draft_for (RestoreNarrow n) status w starved raw = restore_draft status (narrow_restored n raw)
-draft_for Info status w starved raw = cut_draft status (info_text raw)
-draft_for (New name ty ns b) status w starved raw = []
-draft_for (Run name caching) status w starved raw = cut_draft status (script_text (run_replies caching) (opened array_in (w.files name)) starved w.input)
-draft_for (Look name lines) status w starved raw = cut_draft status (script_text (look_replies lines) (opened stream_in (w.files name)) starved w.input)
-draft_for (Bound name most) status w starved raw = cut_draft status (certified_text most (opened array_in (w.files name)))
-draft_for (Sample h seed) status w starved raw = cut_draft status (sample_text h seed)
+draft_for (Compress h) status w starved taken = compress_draft status (stream_text h taken)
+draft_for (CompressNarrow n h) status w starved taken = compress_draft status (narrow_text n h taken)
+draft_for Restore status w starved taken = restore_draft status (restored_text taken)
+draft_for (RestoreNarrow n) status w starved taken = restore_draft status (narrow_restored n taken)
+draft_for Info status w starved taken = cut_draft status (info_text taken)
+draft_for (New name ty ns b) status w starved taken = []
+draft_for (Run name caching) status w starved taken = cut_draft status (script_text (run_replies caching) (opened array_in (w.files name)) starved w.input)
+draft_for (Look name lines) status w starved taken = cut_draft status (script_text (look_replies lines) (opened stream_in (w.files name)) starved w.input)
+draft_for (Bound name most) status w starved taken = cut_draft status (certified_text most (opened array_in (w.files name)))
+draft_for (Sample h seed) status w starved taken = cut_draft status (sample_text h seed)
 
 -- what is saved, and under which name
 abbrev pub saved_for : Command → World → List ℕ → Option (List ℕ × List ℕ)

@@ -16,7 +16,7 @@ use Rattle.zfpi.specs.declared.status.Status.TheVariants.{Done, Lines, Usage, Re
 use Rattle.zfpi.specs.declared.command.Command.{Command}
 use Rattle.zfpi.specs.Words.{narrow_word, IsSpelled, IsUsage}
 use Rattle.zfpi.specs.World.{World, Seen, Counts, IsExposed}
-use Rattle.zfpi.specs.Answer.{status_for, text_for, draft_for, IsRaw, saved_for, uses, IsExtent, HasStarved, TakesMemory, MayFail}
+use Rattle.zfpi.specs.Answer.{status_for, text_for, draft_for, saved_for, uses, IsExtent, HasStarved, TakesMemory, MayFail}
 
 -- this holds of the command that the words are, where they are one
 abbrev pub OfCommand : List (List ℕ) → (Command → Type 0) → Type 0
@@ -65,10 +65,7 @@ pub record Behaves (c : Command) (status : Status) (before now : Seen) : Type 0 
   pub taken : List ℕ
   pub takes : Takes before.src now.src taken
   pub extent : IsExtent c status world.input taken
-  -- the raw bytes of these
-  pub raw : List ℕ
-  pub raw_is : IsRaw c status before.src taken raw
-  pub written : Writes status (text_for c world starved raw) (draft_for c status world starved raw) before.out now.out
+  pub written : Writes status (text_for c world starved) (draft_for c status world starved taken) before.out now.out
   pub saved : Saves (saved_for c world starved) status before.shelf now.shelf
 
 -- a count rises only where the device is used
