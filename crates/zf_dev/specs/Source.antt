@@ -19,6 +19,14 @@ TakesMoreThan old new most = (bytes : List ℕ) × (most < length bytes) × Take
 abbrev pub TakesSome : Option (List ℕ) → Option (List ℕ) → Type 0
 TakesSome old new = (bytes : List ℕ) × Takes old new bytes
 
+-- what a source may have given so far is handed on: these bytes more were given. It is said of every source, also of one that exposes nothing
+pub record Gives (before now : List ℕ → Type 0) (bytes : List ℕ) : Type 0 where
+  pub goes_on : (so_far : List ℕ) → before so_far → now (so_far ++ bytes)
+
+-- some bytes were given, maybe none
+abbrev pub GivesSome : (List ℕ → Type 0) → (List ℕ → Type 0) → Type 0
+GivesSome before now = (bytes : List ℕ) × Gives before now bytes
+
 -- no byte is to come
 abbrev pub IsAtEnd : Option (List ℕ) → Type 0
 IsAtEnd None = Unit {0}

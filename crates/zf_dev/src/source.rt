@@ -2,7 +2,7 @@
 
 ghost use Rattle.std.specs.Prelude.{◌≡◌, ℕ, ◌<◌, ◌≤◌, List, [], Option, length, take, drop, IsOk, IsErr, IfOk, OnOk, OnErr};
 ghost use Rattle.zf_dev.specs.Faults.{HasCause};
-ghost use Rattle.zf_dev.specs.Source.{Takes, TakesAtMost, IsAtEnd, EndsAt, IsFill};
+ghost use Rattle.zf_dev.specs.Source.{Takes, TakesAtMost, Gives, GivesSome, IsAtEnd, EndsAt, IsFill};
 
 use crate::Failed;
 
@@ -13,6 +13,9 @@ pub trait Source {
 
     /// The bytes still to come, where the source exposes them.
     ghost contents: { Self → Option (List ℕ) };
+
+    /// These may be all the bytes that it gave so far. By default it says nothing: then `contents` alone tells.
+    ghost gave: { Self → List ℕ → Type 0 } = { λ _ _. Unit {0} };
 
     /// How many faults there were. It stands still at the last value of a `u64`.
     ghost faults: { Self → ℕ };
@@ -32,6 +35,8 @@ pub trait Source {
         ensures rest { IfOk result (λ n. drop n buf.new ≡ drop n buf.old) }
         ensures end { IfOk result (λ n. EndsAt (contents self.old) (contents self.new) n) }
         ensures untaken { OnErr result (Takes (contents self.old) (contents self.new) []) }
+        ensures gave { IfOk result (λ n. Gives (gave self.old) (gave self.new) (take n buf.new)) }
+        ensures ungiven { OnErr result (Gives (gave self.old) (gave self.new) []) }
         ensures unchanged { OnOk result (faults self.new ≡ faults self.old) }
         ensures kept { kept self.new ≡ kept self.old }
         ensures cause { HasCause (IsErr result) (faults self.old) (faults self.new) }
@@ -40,6 +45,7 @@ pub trait Source {
     /// Says that this source will be read to its end, so it may take more of what it reads from than it is asked for.
     fn read_ahead(&mut self)
         ensures contents_stay { contents self.new ≡ contents self.old }
+        ensures ungiven { Gives (gave self.old) (gave self.new) [] }
         ensures faults_stay { faults self.new ≡ faults self.old }
         ensures kept { kept self.new ≡ kept self.old }
         ensures sure { never_fails self.old → never_fails self.new }
@@ -58,6 +64,8 @@ pub fn fill<S: Source>(src: &mut S, buf: &mut [u8]) -> Result<usize, Failed>
     ensures end { IfOk result (λ n. n < length buf.old → IsAtEnd (S.contents src.new)) }
     // After a fault, some of the next bytes are gone, at most as many as there was room for.
     ensures lost { OnErr result (TakesAtMost (S.contents src.old) (S.contents src.new) (length buf.old)) }
+    ensures gave { IfOk result (λ n. Gives (S.gave src.old) (S.gave src.new) (take n buf.new)) }
+    ensures gave_some { GivesSome (S.gave src.old) (S.gave src.new) }
     ensures unchanged { OnOk result (S.faults src.new ≡ S.faults src.old) }
     ensures same_source { S.kept src.new ≡ S.kept src.old }
     ensures cause { HasCause (IsErr result) (S.faults src.old) (S.faults src.new) }

@@ -1,5 +1,5 @@
 -- How a compression of narrow values ends, from how that of their int32 bytes does.
-use Rattle.std.proofs.Common.{◌≡◌, refl, sym, ap, subst, ◌∙◌, ℕ, ◌+◌, ◌*◌, ◌/◌, ◌%◌, ◌≤◌, ◌<◌, ◌⊎◌, inl, inr, ⊎_elim, Bool, false, IsTrue, List, [], ◌++◌, length, drop, replicate, Option, Some, None, Result, Ok, Err, append-nil, length-append, arith}
+use Rattle.std.proofs.Common.{◌≡◌, refl, sym, ap, subst, ◌∙◌, ℕ, ◌+◌, ◌*◌, ◌/◌, ◌%◌, ◌≤◌, ◌<◌, ◌⊎◌, inl, inr, ⊎_elim, Bool, true, false, IsTrue, List, [], ◌++◌, length, drop, replicate, Option, Some, None, Result, Ok, Err, append-nil, length-append, arith}
 use Rattle.std.specs.Prelude.{IsErrAnd}
 use Rattle.std.proofs.lemmas.Bool.{cases_lt}
 use Rattle.std.proofs.lemmas.List.{append_cancel_right, drop_all, length-drop, length-replicate}
@@ -9,14 +9,13 @@ use Rattle.zf_base.specs.Widths.{width_of}
 use Rattle.zf_base.specs.declared.lane.Ty.{Ty}
 use Rattle.zf_base.specs.declared.lane.Ty.TheVariants.{I32}
 use Rattle.zf_header.specs.declared.header.Header.{Header}
-use Rattle.zf_dev.specs.Source.{Takes, TakesMoreThan, IsAtEnd}
-use Rattle.zf_dev.specs.Sink.{AppendsPrefix}
+use Rattle.zf_dev.specs.Source.{Takes, TakesMoreThan, Gives, IsAtEnd}
+use Rattle.zf_dev.specs.Sink.{Appends, AppendsPrefix}
 use Rattle.zf_dev.proofs.Taking.{Takes-to_end}
-use Rattle.zf_dev.proofs.Appending.{AppendsPrefix-none}
 use Rattle.zf_parse.specs.declared.fault.StreamFault.{StreamFault}
 use Rattle.zf_parse.specs.declared.fault.StreamFault.TheVariants as faults
 use Rattle.zf_parse.specs.Raw.{raw_len, length_answer, compress_answer, stream_text}
-use Rattle.zf_stream.specs.Outcomes.{Answers, CanRefuse, ShowsLength, Finishes, LeavesPrefix, IsFromOutside}
+use Rattle.zf_stream.specs.Outcomes.{Answers, CanRefuse, ShowsLength, Finishes, LeavesPrefix, WritesText, WritesPrefix, IsFromOutside}
 use Rattle.zf_stream.proofs.RawRows.{short_answer, long_answer, good_answer}
 use Rattle.zf_stream.proofs.Refusals.{CanRefuse-short, CanRefuse-long}
 use Rattle.zf_narrow.specs.declared.narrow.Narrow.{Narrow}
@@ -25,12 +24,12 @@ use Rattle.zf_narrow.specs.Values.{size_of}
 use Rattle.zf_narrow.specs.RawNarrow.{promoted_bytes, promoted_all}
 use Rattle.zf_narrow.specs.declared.promotion.Promotion.{Promotion}
 use Rattle.zf_narrow.specs.Promoting.{listed, exposed_by}
-use Rattle.zf_narrow.specs.Promotions.{exposed, read_so_far}
-use Rattle.zf_narrow.specs.Texts.{narrow_len, narrow_count, narrow_fault, compress_narrow_answer, ArePromotedAfter, CompressesNarrow, LeavesNarrow}
+use Rattle.zf_narrow.specs.Promotions.{exposed, read_so_far, zeros_given, HasGiven}
+use Rattle.zf_narrow.specs.Texts.{narrow_len, narrow_count, narrow_fault, compress_narrow_answer, narrow_text}
 use Rattle.zf_narrow.proofs.Whole.{length-promoted_bytes, length-promoted_all}
-use Rattle.zf_narrow.proofs.Prefixes.{stream_text-zeros}
+use Rattle.zf_stream.proofs.LookedAt.{stream_text-zeros}
 use Rattle.zf_narrow.proofs.Reading.{exposed_unspent}
-use Rattle.zf_narrow.proofs.Giving.{Gave, gave, source_ended, Nearly, nearly, all_given_text}
+use Rattle.zf_narrow.proofs.Giving.{Gave, gave, source_ended, IsGiven, promoted_bytes-half, part_given_text, all_given_text}
 
 -- ---- lengths
 
@@ -67,6 +66,13 @@ count_few I8 k p few = omega (arith, few)
 count_few U8 k p few = omega (arith, few)
 count_few I16 k p few = omega (arith, few)
 count_few U16 k p few = omega (arith, few)
+
+-- as many bytes as values have, though some be pending or a zero byte was given
+count_given : (n : Narrow) (t k half z p : ℕ) → t % size_of n ≡ 0 → 4 * p + k ≡ t / size_of n * 4 + z → k ≤ 3 → half < size_of n → (z ≡ 0) ⊎ ((z ≡ half) × (k ≡ 0)) → t ≡ size_of n * p
+count_given I8 t k half z p whole is few less one = ⊎_elim (λ none. omega (arith, whole, is, few, none)) (λ both. omega (arith, whole, is, less, both.0, both.1)) one
+count_given U8 t k half z p whole is few less one = ⊎_elim (λ none. omega (arith, whole, is, few, none)) (λ both. omega (arith, whole, is, less, both.0, both.1)) one
+count_given I16 t k half z p whole is few less one = ⊎_elim (λ none. omega (arith, whole, is, few, none)) (λ both. omega (arith, whole, is, less, both.0, both.1)) one
+count_given U16 t k half z p whole is few less one = ⊎_elim (λ none. omega (arith, whole, is, few, none)) (λ both. omega (arith, whole, is, less, both.0, both.1)) one
 
 -- ---- answers
 
@@ -184,28 +190,6 @@ fault_possible n h (faults.Truncated b) int32 can = absurd (can_come h (faults.T
 fault_possible n h faults.Pad int32 can = absurd (can_come h faults.Pad can)
 fault_possible n h faults.Trailing int32 can = absurd (can_come h faults.Trailing can)
 
-pub read_back : (n : Narrow) (e : StreamFault) → narrow_fault n e ≡ faults.Read → e ≡ faults.Read
-read_back n (faults.RawShort k) is = cc
-read_back n faults.RawLong is = is
-read_back n (faults.Header f) is = is
-read_back n (faults.Truncated b) is = is
-read_back n faults.Pad is = is
-read_back n faults.Trailing is = is
-read_back n faults.Read is = is
-read_back n faults.Write is = is
-read_back n faults.Memory is = is
-
-pub write_back : (n : Narrow) (e : StreamFault) → narrow_fault n e ≡ faults.Write → e ≡ faults.Write
-write_back n (faults.RawShort k) is = cc
-write_back n faults.RawLong is = is
-write_back n (faults.Header f) is = is
-write_back n (faults.Truncated b) is = is
-write_back n faults.Pad is = is
-write_back n faults.Trailing is = is
-write_back n faults.Read is = is
-write_back n faults.Write is = is
-write_back n faults.Memory is = is
-
 -- ---- what was read and written
 
 -- a promotion that began with nothing read, once some bytes were given: what was read, and what is to come
@@ -216,11 +200,6 @@ pub record Promotes (n : Narrow) (known now : Option (List ℕ)) (spent : Bool) 
   pub all : IsTrue spent → pending ≡ []
   pub spent_end : IsTrue spent → IsAtEnd now
   pub read : Takes known now (taken ++ half)
-
--- of a source that exposes its contents only one list can have been taken
-same_taken : (left : List ℕ) (now : Option (List ℕ)) (a b : List ℕ) → Takes (Some left) now a → Takes (Some left) now b → a ≡ b
-same_taken left None a b x y = absurd x
-same_taken left (Some rest) a b x y = append_cancel_right a b rest (sym x ∙ y)
 
 module _ (n : Narrow) (h : Header) (int32 : h.ty ≡ I32) (spent : Bool) (pending half taken : List ℕ) where
   -- all that was read
@@ -239,19 +218,37 @@ module _ (n : Narrow) (h : Header) (int32 : h.ty ≡ I32) (spent : Bool) (pendin
       sym (Takes-to_end (promoted_all n input) (exposed_by n spent pending half now) raw given end)
       ∙ ap (promoted_all n) (Takes-to_end input now bytes p.read (source_ended n spent pending half now end p.spent_end))
 
+  -- what was given of what was read
+  abbrev WasGiven : List ℕ → Type 0
+  WasGiven raw = IsGiven n h pending taken (zeros_given spent half) raw
+
+  -- where as many int32 bytes were given as the array has, as many narrow ones were read
+  whole_read : (raw : List ℕ) → length half < size_of n → length taken % size_of n ≡ 0 → length pending ≤ 3 → (IsTrue spent → pending ≡ []) → WasGiven raw → length raw ≡ raw_len h → length taken ≡ narrow_len n h
+  whole_read raw less whole few all given long =
+      let z = zeros_given spent half in
+      let counts : length raw + length pending ≡ length taken / size_of n * 4 + z =
+      sym (length-append raw pending) ∙ ap length given ∙ length-append (promoted_bytes n taken) (replicate z 0)
+      ∙ ap (λ k. k + length (replicate {A = ℕ} z 0)) (length-promoted_bytes n taken) ∙ ap (λ k. length taken / size_of n * 4 + k) (length-replicate z 0) in
+      count_given n (length taken) (length pending) (length half) z (product h.shape) whole (omega (arith, counts, long, raw_len-int32 h int32)) few less (one_of_both spent all)
+    where
+      one_of_both : (b : Bool) → (IsTrue b → pending ≡ []) → (zeros_given b half ≡ 0) ⊎ ((zeros_given b half ≡ length half) × (length pending ≡ 0))
+      one_of_both false all = inl refl
+      one_of_both true all = inr (refl, ap length (all refl))
+
   -- all of the input was read and given, and its stream written
   pub compresses : (known now out0 out1 : Option (List ℕ)) → Promotes n known now spent pending half taken
-      → Finishes (compress_answer h) (stream_text h) (exposed_by n false [] [] known) (exposed_by n spent pending half now) out0 out1 → CompressesNarrow n h known now out0 out1
-  compresses None now out0 out1 p fin = record {
-    bytes = replicate (narrow_len n h) 0;
-    taken = tt;
-    ended = source_ended n spent pending half now fin.ended p.spent_end;
-    good = good_answer (narrow_len n h) (replicate (narrow_len n h) 0) (length-replicate (narrow_len n h) 0);
-    raw = fin.bytes;
-    raw_is = tt;
-    written = fin.written;
-  }
-  compresses (Some input) now out0 out1 p fin =
+      → Finishes (compress_answer h) (stream_text h) (exposed_by n false [] [] known) (exposed_by n spent pending half now) out0 out1 → WritesText (compress_answer h) (stream_text h) WasGiven out0 out1
+      → Finishes (compress_narrow_answer n h) (narrow_text n h) known now out0 out1
+  compresses None now out0 out1 p fin writes =
+      let all : length writes.bytes ≡ raw_len h = length_says (raw_len h) writes.bytes (Ok tt) writes.good in
+      record {
+        bytes = taken;
+        taken = tt;
+        ended = source_ended n spent pending half now fin.ended p.spent_end;
+        good = good_answer (narrow_len n h) taken (whole_read writes.bytes p.less p.whole p.few p.all writes.given all);
+        written = subst (λ text. Appends out0 out1 text) (all_given_text n h pending taken (zeros_given spent half) writes.bytes writes.given (omega (arith, all))) writes.written;
+      }
+  compresses (Some input) now out0 out1 p fin writes =
       let is : fin.bytes ≡ promoted_all n bytes = gave_all input now fin.bytes p fin.taken fin.ended in
       let all : length fin.bytes ≡ raw_len h = length_says (raw_len h) fin.bytes (Ok tt) fin.good in
       let counts = same_all n (length bytes) (product h.shape) (sym (length-promoted_all n bytes) ∙ sym (ap length is) ∙ all ∙ raw_len-int32 h int32) in
@@ -260,9 +257,7 @@ module _ (n : Narrow) (h : Header) (int32 : h.ty ≡ I32) (spent : Bool) (pendin
         taken = p.read;
         ended = source_ended n spent pending half now fin.ended p.spent_end;
         good = good_answer (narrow_len n h) bytes counts.0;
-        raw = fin.bytes;
-        raw_is = is ∙ ap (λ k. promoted_bytes n bytes ++ replicate k 0) counts.1 ∙ append-nil (promoted_bytes n bytes);
-        written = fin.written;
+        written = subst (λ text. Appends out0 out1 text) (ap (stream_text h) is ∙ stream_text-zeros h (promoted_bytes n bytes) (length bytes % size_of n)) fin.written;
       }
 
   -- how much was read where the length was refused
@@ -284,65 +279,15 @@ module _ (n : Narrow) (h : Header) (int32 : h.ty ≡ I32) (spent : Bool) (pendin
   shows known now faults.Write p shown = tt
   shows known now faults.Memory p shown = tt
 
-  -- of a source that exposes nothing there is nothing to say
-  untold : (e : StreamFault) (bs raw : List ℕ) → ArePromotedAfter e n None bs raw
-  untold (faults.RawShort k) bs raw = tt
-  untold faults.RawLong bs raw = tt
-  untold (faults.Header f) bs raw = tt
-  untold (faults.Truncated b) bs raw = tt
-  untold faults.Pad bs raw = tt
-  untold faults.Trailing bs raw = tt
-  untold faults.Read bs raw = tt
-  untold faults.Write bs raw = tt
-  untold faults.Memory bs raw = tt
-
   -- a part was read, and a prefix of the stream of its values written
-  pub leaves : (known now out0 out1 : Option (List ℕ)) (e : StreamFault) → Promotes n known now spent pending half taken → CanRefuse (compress_answer h) e
-      → ShowsLength (raw_len h) (exposed_by n false [] [] known) (exposed_by n spent pending half now) e → (e ≡ faults.Memory → out1 ≡ out0)
-      → LeavesPrefix (stream_text h) (exposed_by n false [] [] known) (exposed_by n spent pending half now) out0 out1 → LeavesNarrow (narrow_fault n e) n h known now out0 out1
-  leaves None now out0 out1 e p can shown unwritten left = record {
-    bytes = [];
-    taken = tt;
-    raw = left.bytes;
-    raw_is = untold (narrow_fault n e) [] left.bytes;
-    written = left.written;
-  }
-  leaves (Some input) now out0 out1 e p can shown unwritten left = by e can shown unwritten
-    where
-      g : Gave n bytes left.bytes
-      g = gave_exposed input now left.bytes p left.taken
-
-      near : Nearly n h bytes left.bytes
-      near = nearly n h bytes left.bytes g
-
-      all : stream_text h left.bytes ≡ stream_text h (promoted_bytes n bytes) → (e : StreamFault) → ArePromotedAfter e n (Some input) bytes (promoted_bytes n bytes) → LeavesNarrow e n h (Some input) now out0 out1
-      all same e are = record { bytes = bytes; taken = p.read; raw = promoted_bytes n bytes; raw_is = are; written = subst (λ text. AppendsPrefix out0 out1 text) same left.written }
-
-      part : (e : StreamFault) → ArePromotedAfter e n (Some input) bytes near.some → LeavesNarrow e n h (Some input) now out0 out1
-      part e are = record { bytes = bytes; taken = p.read; raw = near.some; raw_is = are; written = subst (λ text. AppendsPrefix out0 out1 text) near.same left.written }
-
-      -- a source that exposes its contents has given just these bytes
-      enough : TakesMoreThan (exposed_by n false [] [] (Some input)) (exposed_by n spent pending half now) (raw_len h) → raw_len h ≤ length left.bytes
-      enough shown = omega (arith, shown.1, ap length (same_taken (promoted_all n input) (exposed_by n spent pending half now) left.bytes shown.0 left.taken shown.2))
-
-      by : (e : StreamFault) → CanRefuse (compress_answer h) e → ShowsLength (raw_len h) (exposed_by n false [] [] (Some input)) (exposed_by n spent pending half now) e → (e ≡ faults.Memory → out1 ≡ out0)
-          → LeavesNarrow (narrow_fault n e) n h (Some input) now out0 out1
-      by (faults.RawShort k) can shown unwritten =
-          all (ap (stream_text h) (gave_all input now left.bytes p left.taken shown) ∙ stream_text-zeros h (promoted_bytes n bytes) (length bytes % size_of n)) (faults.RawShort (narrow_count n k)) refl
-      by faults.RawLong can shown unwritten = all (all_given_text n h bytes left.bytes g (enough shown)) faults.RawLong refl
-      by faults.Read can shown unwritten = part faults.Read (near.prefix, near.most)
-      by faults.Write can shown unwritten = part faults.Write (near.prefix, near.most)
-      by faults.Memory can shown unwritten = record {
+  pub leaves : (known now out0 out1 : Option (List ℕ)) → Promotes n known now spent pending half taken → WritesPrefix (stream_text h) WasGiven out0 out1 → LeavesPrefix (narrow_text n h) known now out0 out1
+  leaves known now out0 out1 p writes =
+      let text = part_given_text n h pending taken (zeros_given spent half) writes.bytes writes.lost writes.given in
+      record {
         bytes = bytes;
         taken = p.read;
-        raw = promoted_bytes n bytes;
-        raw_is = refl;
-        written = subst (λ o. AppendsPrefix out0 o (stream_text h (promoted_bytes n bytes))) (sym (unwritten refl)) (AppendsPrefix-none out0 (stream_text h (promoted_bytes n bytes)));
+        written = subst (λ text. AppendsPrefix out0 out1 text) (text ∙ ap (stream_text h) (sym (promoted_bytes-half n taken half p.whole p.less))) (writes.written (writes.lost ++ pending));
       }
-      by (faults.Header f) can shown unwritten = absurd (can_come h (faults.Header f) can)
-      by (faults.Truncated b) can shown unwritten = absurd (can_come h (faults.Truncated b) can)
-      by faults.Pad can shown unwritten = absurd (can_come h faults.Pad can)
-      by faults.Trailing can shown unwritten = absurd (can_come h faults.Trailing can)
 
 -- ---- the promotion that the source had when the call began, and the one that it has now
 
@@ -354,6 +299,7 @@ pub record Runs (n : Narrow) (known now : Option (List ℕ)) (old new : Promotio
   pub unspent_old : IsTrue old.spent → ⊥
   pub same : new.narrow ≡ n
   pub four : length new.value ≡ 4
+  pub taken_old : old.taken.bytes ≡ []
   pub spent_end : IsTrue new.spent → IsAtEnd now
   pub read : Takes known now (read_so_far new)
 
@@ -376,11 +322,36 @@ module _ (n : Narrow) {known now : Option (List ℕ)} (old new : Promotion) (r :
     read = r.read;
   }
 
-  pub run_compresses : (h : Header) (out0 out1 : Option (List ℕ)) → h.ty ≡ I32 → Finishes (compress_answer h) (stream_text h) (exposed old known) (exposed new now) out0 out1 → CompressesNarrow n h known now out0 out1
-  run_compresses h out0 out1 int32 fin =
+  -- nothing was given before
+  none_given : HasGiven old []
+  none_given =
+      let zeros : zeros_given old.spent (listed old.half) ≡ 0 = no_zeros old.spent r.unspent_old in
+      drop_all old.at old.value (omega (arith, r.at_old, r.four_old))
+      ∙ sym (nothing old.narrow) ∙ ap (promoted_bytes old.narrow) (sym r.taken_old)
+      ∙ sym (append-nil (promoted_bytes old.narrow old.taken.bytes)) ∙ ap (λ k. promoted_bytes old.narrow old.taken.bytes ++ replicate k 0) (sym zeros)
+    where
+      no_zeros : (b : Bool) → (IsTrue b → ⊥) → zeros_given b (listed old.half) ≡ 0
+      no_zeros false unspent = refl
+      no_zeros true unspent = absurd (unspent refl)
+
+      nothing : (n : Narrow) → promoted_bytes n [] ≡ []
+      nothing I8 = refl
+      nothing U8 = refl
+      nothing I16 = refl
+      nothing U16 = refl
+
+  -- what was given since then
+  given_by : (h : Header) (raw : List ℕ) → Gives (HasGiven old) (HasGiven new) raw → IsGiven n h (drop new.at new.value) new.taken.bytes (zeros_given new.spent (listed new.half)) raw
+  given_by h raw gives =
+      gives.goes_on [] none_given ∙ ap (λ m. promoted_bytes m new.taken.bytes ++ replicate (zeros_given new.spent (listed new.half)) 0) r.same
+
+  pub run_compresses : (h : Header) (out0 out1 : Option (List ℕ)) → h.ty ≡ I32 → Finishes (compress_answer h) (stream_text h) (exposed old known) (exposed new now) out0 out1
+      → WritesText (compress_answer h) (stream_text h) (Gives (HasGiven old) (HasGiven new)) out0 out1 → Finishes (compress_narrow_answer n h) (narrow_text n h) known now out0 out1
+  run_compresses h out0 out1 int32 fin writes =
       compresses n h int32 new.spent (drop new.at new.value) (listed new.half) new.taken.bytes known now out0 out1 promotes
       (subst (λ b. Finishes (compress_answer h) (stream_text h) (exposed_by n false [] [] known) b out0 out1) exposed_new
       (subst (λ a. Finishes (compress_answer h) (stream_text h) a (exposed new now) out0 out1) exposed_old fin))
+      (record { bytes = writes.bytes; given = given_by h writes.bytes writes.given; good = writes.good; written = writes.written })
 
   shown_too : (h : Header) (e : StreamFault) → ShowsLength (raw_len h) (exposed old known) (exposed new now) e
       → ShowsLength (raw_len h) (exposed_by n false [] [] known) (exposed_by n new.spent (drop new.at new.value) (listed new.half) now) e
@@ -391,12 +362,10 @@ module _ (n : Narrow) {known now : Option (List ℕ)} (old new : Promotion) (r :
   pub run_shows : (h : Header) (e : StreamFault) → h.ty ≡ I32 → ShowsLength (raw_len h) (exposed old known) (exposed new now) e → ShowsLength (narrow_len n h) known now (narrow_fault n e)
   run_shows h e int32 shown = shows n h int32 new.spent (drop new.at new.value) (listed new.half) new.taken.bytes known now e promotes (shown_too h e shown)
 
-  pub run_leaves : (h : Header) (out0 out1 : Option (List ℕ)) (e : StreamFault) → h.ty ≡ I32 → CanRefuse (compress_answer h) e → ShowsLength (raw_len h) (exposed old known) (exposed new now) e → (e ≡ faults.Memory → out1 ≡ out0)
-      → LeavesPrefix (stream_text h) (exposed old known) (exposed new now) out0 out1 → LeavesNarrow (narrow_fault n e) n h known now out0 out1
-  run_leaves h out0 out1 e int32 can shown unwritten left =
-      leaves n h int32 new.spent (drop new.at new.value) (listed new.half) new.taken.bytes known now out0 out1 e promotes can (shown_too h e shown) unwritten
-      (subst (λ b. LeavesPrefix (stream_text h) (exposed_by n false [] [] known) b out0 out1) exposed_new
-      (subst (λ a. LeavesPrefix (stream_text h) a (exposed new now) out0 out1) exposed_old left))
+  pub run_leaves : (h : Header) (out0 out1 : Option (List ℕ)) → h.ty ≡ I32 → WritesPrefix (stream_text h) (Gives (HasGiven old) (HasGiven new)) out0 out1 → LeavesPrefix (narrow_text n h) known now out0 out1
+  run_leaves h out0 out1 int32 writes =
+      leaves n h int32 new.spent (drop new.at new.value) (listed new.half) new.taken.bytes known now out0 out1 promotes
+      (record { bytes = writes.bytes; lost = writes.lost; given = given_by h (writes.bytes ++ writes.lost) writes.given; written = writes.written })
 
   pub run_good_answers : (h : Header) → h.ty ≡ I32 → Answers (Ok tt) (exposed old known) (compress_answer h) → Answers (Ok tt) known (compress_narrow_answer n h)
   run_good_answers h int32 answers = narrow_answers n h known (Ok tt) int32 (subst (λ a. Answers (Ok tt) a (compress_answer h)) exposed_old answers)

@@ -1,6 +1,6 @@
 -- What a source that promotes has given, of what it has read.
-use Rattle.std.proofs.Common.{◌≡◌, refl, sym, ap, ◌∙◌, ℕ, ◌+◌, ◌*◌, ◌%◌, ◌≤◌, ◌<◌, ◌⊎◌, inl, inr, ⊎_elim, Bool, true, false, IsTrue, List, [], ◌∷◌, ◌++◌, length, take, replicate, Option, Some, None, append_assoc, append-nil, length-append, mul_comm, arith}
-use Rattle.std.proofs.lemmas.List.{append_cancel_right, take_at, take_all}
+use Rattle.std.proofs.Common.{◌≡◌, refl, sym, ap, ◌∙◌, ℕ, ◌+◌, ◌*◌, ◌%◌, ◌≤◌, ◌<◌, ◌⊎◌, inl, inr, ⊎_elim, Bool, true, false, IsTrue, List, [], ◌∷◌, ◌++◌, length, replicate, Option, Some, None, append_assoc, append-nil, length-append, mul_comm, arith}
+use Rattle.std.proofs.lemmas.List.{append_cancel_right}
 use Rattle.std.specs.Int.{byte_len}
 use Rattle.zf_spec.specs.Grid.{product}
 use Rattle.zf_base.specs.Widths.{width_of}
@@ -11,8 +11,14 @@ use Rattle.zf_narrow.specs.declared.narrow.Narrow.{Narrow}
 use Rattle.zf_narrow.specs.Values.{size_of}
 use Rattle.zf_narrow.specs.RawNarrow.{promoted_bytes, promoted_all}
 use Rattle.zf_narrow.specs.Promoting.{coming, exposed_by}
+use Rattle.zf_narrow.specs.Texts.{narrow_text}
 use Rattle.zf_narrow.proofs.Whole.{promoted_bytes-append, promoted_bytes-few, promoted_all-append, no_bytes}
-use Rattle.zf_narrow.proofs.Prefixes.{stream_text-zeros, stream_text-more}
+use Rattle.zf_stream.proofs.LookedAt.{stream_text-zeros, stream_text-more}
+
+-- less than a value has no int32 bytes
+pub promoted_bytes-half : (n : Narrow) (taken half : List ℕ) → length taken % size_of n ≡ 0 → length half < size_of n → promoted_bytes n (taken ++ half) ≡ promoted_bytes n taken
+promoted_bytes-half n taken half whole less =
+    promoted_bytes-append n taken half whole ∙ ap (λ (bs : List ℕ). promoted_bytes n taken ++ bs) (promoted_bytes-few n half less) ∙ append-nil (promoted_bytes n taken)
 
 -- of the int32 bytes of what was read these were given: all but those of a part of the last value, or all and a zero byte for half a value
 pub record Gave (n : Narrow) (bytes raw : List ℕ) : Type 0 where
@@ -30,8 +36,7 @@ gave n false pending half taken input left raw read given whole less few all end
     let behind = promoted_all n (half ++ left) in
     let before : promoted_all n input ≡ promoted_bytes n taken ++ behind = ap (promoted_all n) (read ∙ append_assoc taken half left) ∙ promoted_all-append n taken (half ++ left) whole in
     let same : raw ++ pending ≡ promoted_bytes n taken = append_cancel_right (raw ++ pending) (promoted_bytes n taken) behind (append_assoc raw pending behind ∙ sym given ∙ before) in
-    let none : promoted_bytes n (taken ++ half) ≡ promoted_bytes n taken =
-    promoted_bytes-append n taken half whole ∙ ap (λ (bs : List ℕ). promoted_bytes n taken ++ bs) (promoted_bytes-few n half less) ∙ append-nil (promoted_bytes n taken) in
+    let none = promoted_bytes-half n taken half whole less in
     record {
       pending = pending;
       zeros = 0;
@@ -64,40 +69,17 @@ source_ended n false pending half (Some left) end spent_end = behind half left (
 
 -- ---- the stream of what was given
 
--- all but three bytes at most of the int32 bytes make the same stream
-pub record Nearly (n : Narrow) (h : Header) (bytes raw : List ℕ) : Type 0 where
-  pub some : List ℕ
-  pub prefix : some ≡ take (length some) (promoted_bytes n bytes)
-  pub most : length (promoted_bytes n bytes) ≤ length some + 3
-  pub same : stream_text h raw ≡ stream_text h some
+module _ (n : Narrow) (h : Header) (pending taken : List ℕ) (zeros : ℕ) where
+  -- these bytes were given of what was read, and others are pending
+  abbrev pub IsGiven : List ℕ → Type 0
+  IsGiven raw = raw ++ pending ≡ promoted_bytes n taken ++ replicate zeros 0
 
-pub nearly : (n : Narrow) (h : Header) (bytes raw : List ℕ) → Gave n bytes raw → Nearly n h bytes raw
-nearly n h bytes raw g = ⊎_elim no_zeros no_pending g.one_of_both
-  where
-    no_zeros : g.zeros ≡ 0 → Nearly n h bytes raw
-    no_zeros none =
-        let t = promoted_bytes n bytes in
-        let is : raw ++ g.pending ≡ t = g.parts ∙ ap (λ k. t ++ replicate k 0) none ∙ append-nil t in
-        record {
-          some = raw;
-          prefix = sym (ap (take (length raw)) (sym is) ∙ take_at raw g.pending (length raw) refl);
-          most = omega (arith, ap length is, length-append raw g.pending, g.few);
-          same = refl;
-        }
+  -- with what was lost and what is pending they make the stream of all
+  pub part_given_text : (raw lost : List ℕ) → IsGiven (raw ++ lost) → stream_text h (raw ++ (lost ++ pending)) ≡ narrow_text n h taken
+  part_given_text raw lost given = ap (stream_text h) (sym (append_assoc raw lost pending) ∙ given) ∙ stream_text-zeros h (promoted_bytes n taken) zeros
 
-    no_pending : g.pending ≡ [] → Nearly n h bytes raw
-    no_pending none =
-        let t = promoted_bytes n bytes in
-        let is : raw ≡ t ++ replicate g.zeros 0 = sym (append-nil raw) ∙ ap (λ (bs : List ℕ). raw ++ bs) (sym none) ∙ g.parts in
-        record {
-          some = t;
-          prefix = sym (take_all (length t) t (omega arith));
-          most = omega arith;
-          same = ap (stream_text h) is ∙ stream_text-zeros h t g.zeros;
-        }
-
--- where as many were given as the array has, they make the stream of all
-pub all_given_text : (n : Narrow) (h : Header) (bytes raw : List ℕ) → Gave n bytes raw → raw_len h ≤ length raw → stream_text h raw ≡ stream_text h (promoted_bytes n bytes)
-all_given_text n h bytes raw g enough =
-    let within : product h.shape * byte_len (width_of h.ty) ≤ length raw = omega (arith, enough, mul_comm (byte_len (width_of h.ty)) (product h.shape)) in
-    sym (stream_text-more h raw g.pending within) ∙ ap (stream_text h) g.parts ∙ stream_text-zeros h (promoted_bytes n bytes) g.zeros
+  -- where as many were given as the array has, they do so alone
+  pub all_given_text : (raw : List ℕ) → IsGiven raw → raw_len h ≤ length raw → stream_text h raw ≡ narrow_text n h taken
+  all_given_text raw given enough =
+      let within : product h.shape * byte_len (width_of h.ty) ≤ length raw = omega (arith, enough, mul_comm (byte_len (width_of h.ty)) (product h.shape)) in
+      sym (stream_text-more h raw pending within) ∙ ap (stream_text h) given ∙ stream_text-zeros h (promoted_bytes n taken) zeros

@@ -7,7 +7,7 @@
 --     Demoting   one write of a demotion
 --     Back       narrow values and what stands for them, there and back
 --     RoundTrip  raw narrow bytes, there and back
---     Prefixes     what the stream of raw bytes looks at
+--     Given      one read of a promotion, as the log of what was given sees it
 --     Giving     what a source that promotes has given, of what it has read
 --     Compressed how a compression of narrow values ends
 --     Restored   how a restoration of narrow values ends
@@ -20,7 +20,7 @@ pub mod Reading
 pub mod Demoting
 pub mod Back
 pub mod RoundTrip
-pub mod Prefixes
+pub mod Given
 pub mod Giving
 pub mod Compressed
 pub mod Restored

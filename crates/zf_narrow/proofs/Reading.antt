@@ -11,7 +11,7 @@ use Rattle.zf_narrow.specs.Promotions.{exposed, TakesRaw}
 use Rattle.zf_narrow.proofs.Whole.{no_values}
 use Rattle.zf_narrow.proofs.Stepping.{values_given, half_given, none_comes}
 
-unspent_is : (spent : Bool) → (IsTrue spent → ⊥) → spent ≡ false
+pub unspent_is : (spent : Bool) → (IsTrue spent → ⊥) → spent ≡ false
 unspent_is true is_not = absurd (is_not refl)
 unspent_is false is_not = refl
 

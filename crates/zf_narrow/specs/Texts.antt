@@ -1,5 +1,5 @@
 -- What `compress_narrow` and `restore_narrow` answer and write for an input, and how they end.
-use Rattle.std.specs.Prelude.{ℕ, ◌≡◌, ◌≢◌, ◌≤◌, ◌+◌, ◌-◌, ◌*◌, ◌/◌, ◌%◌, min, ◌⊎◌, List, length, take, Option, Some, None, Result, Ok, Err, IsErrAnd}
+use Rattle.std.specs.Prelude.{ℕ, ◌≡◌, ◌≢◌, ◌+◌, ◌-◌, ◌*◌, ◌/◌, ◌%◌, min, ◌⊎◌, List, Option, Some, None, Result, Ok, Err, IsErrAnd}
 use Rattle.zf_spec.specs.Grid.{product}
 use Rattle.zf_base.specs.declared.lane.Ty.{Ty}
 use Rattle.zf_base.specs.declared.lane.Ty.TheVariants.{I32, I64}
@@ -42,40 +42,6 @@ compress_narrow_answer n h bytes = length_answer (narrow_len n h) bytes
 -- the stream of the values that stand for the whole narrow values of these bytes, continued with zeros or cut at the array's length
 abbrev pub narrow_text : Narrow → Header → List ℕ → List ℕ
 narrow_text n h bytes = stream_text h (promoted_bytes n bytes)
-
--- these are the raw int32 bytes of the values that stand for the narrow values of the bytes that a source that exposes its contents gave
-abbrev pub ArePromoted : Narrow → Option (List ℕ) → List ℕ → List ℕ → Type 0
-ArePromoted n None bytes raw = Unit {0}
-ArePromoted n (Some exposed) bytes raw = raw ≡ promoted_bytes n bytes
-
--- the same, but for the last bytes, three at most
-abbrev pub ArePromotedNearly : Narrow → Option (List ℕ) → List ℕ → List ℕ → Type 0
-ArePromotedNearly n None bytes raw = Unit {0}
-ArePromotedNearly n (Some exposed) bytes raw = (raw ≡ take (length raw) (promoted_bytes n bytes)) × (length (promoted_bytes n bytes) ≤ length raw + 3)
-
--- the same after a fault of a device, and else all of them
-abbrev pub ArePromotedAfter : StreamFault → Narrow → Option (List ℕ) → List ℕ → List ℕ → Type 0
-ArePromotedAfter faults.Read n before bytes raw = ArePromotedNearly n before bytes raw
-ArePromotedAfter faults.Write n before bytes raw = ArePromotedNearly n before bytes raw
-ArePromotedAfter e n before bytes raw = ArePromoted n before bytes raw
-
--- the input was read to its end and is a good one, and the stream of its values was written
-pub record CompressesNarrow (n : Narrow) (h : Header) (src_before src_now out_before out_now : Option (List ℕ)) : Type 0 where
-  pub bytes : List ℕ
-  pub taken : Takes src_before src_now bytes
-  pub ended : IsAtEnd src_now
-  pub good : compress_narrow_answer n h bytes ≡ Ok tt
-  pub raw : List ℕ
-  pub raw_is : ArePromoted n src_before bytes raw
-  pub written : Appends out_before out_now (stream_text h raw)
-
--- some bytes were read, and a prefix of the stream of their values was written, maybe nothing
-pub record LeavesNarrow (e : StreamFault) (n : Narrow) (h : Header) (src_before src_now out_before out_now : Option (List ℕ)) : Type 0 where
-  pub bytes : List ℕ
-  pub taken : Takes src_before src_now bytes
-  pub raw : List ℕ
-  pub raw_is : ArePromotedAfter e n src_before bytes raw
-  pub written : AppendsPrefix out_before out_now (stream_text h raw)
 
 -- ---- from a stream to narrow values
 

@@ -1,12 +1,12 @@
 //! From raw narrow values to a stream.
 
-ghost use Rattle.std.specs.Prelude.{◌≡◌, ◌≢◌, IfErr, OnOk, Err};
+ghost use Rattle.std.specs.Prelude.{◌≡◌, ◌≢◌, IfErr, OnOk, OnErr, Err};
 ghost use Rattle.zf_base.specs.declared.lane.Ty.TheVariants as types;
 ghost use Rattle.zf_header.specs.HeaderBits.{IsMode};
 ghost use Rattle.zf_dev.specs.Faults.{HasCause};
-ghost use Rattle.zf_stream.specs.Outcomes.{CanRefuse, ShowsLength, Answers};
+ghost use Rattle.zf_stream.specs.Outcomes.{CanRefuse, ShowsLength, Answers, Finishes, LeavesPrefix};
 ghost use Rattle.zf_parse.specs.declared.fault.StreamFault.TheVariants.{Read, Write, Memory};
-ghost use Rattle.zf_narrow.specs.Texts.{narrow_len, narrow_count, narrow_fault, compress_narrow_answer, CompressesNarrow, LeavesNarrow};
+ghost use Rattle.zf_narrow.specs.Texts.{narrow_len, narrow_count, narrow_fault, compress_narrow_answer, narrow_text};
 
 use crate::Narrow;
 use crate::begun::Begun;
@@ -40,10 +40,9 @@ pub fn compress_narrow<S: Source, O: Sink>(
     ensures answer { Answers result (S.contents src.old) (compress_narrow_answer n h.now) }
     ensures possible { IfErr result (CanRefuse (compress_narrow_answer n h.now)) }
     ensures length { IfErr result (ShowsLength (narrow_len n h.now) (S.contents src.old) (S.contents src.new)) }
-    ensures ok { OnOk result (CompressesNarrow n h.now
+    ensures ok { OnOk result (Finishes (compress_narrow_answer n h.now) (narrow_text n h.now)
         (S.contents src.old) (S.contents src.new) (O.contents out.old) (O.contents out.new)) }
-    // After a fault of a device the raw int32 bytes of the last value read may be missing, three at most.
-    ensures err { IfErr result (λ e. LeavesNarrow e n h.now
+    ensures err { OnErr result (LeavesPrefix (narrow_text n h.now)
         (S.contents src.old) (S.contents src.new) (O.contents out.old) (O.contents out.new)) }
     ensures unwritten { result ≡ Err Memory → O.contents out.new ≡ O.contents out.old }
     ensures same_source { S.kept src.new ≡ S.kept src.old }
@@ -70,10 +69,9 @@ fn compress_begun<S: Source, O: Sink, K: Begun>(
     ensures answer { Answers result (S.contents src.old) (compress_narrow_answer n h.now) }
     ensures possible { IfErr result (CanRefuse (compress_narrow_answer n h.now)) }
     ensures length { IfErr result (ShowsLength (narrow_len n h.now) (S.contents src.old) (S.contents src.new)) }
-    ensures ok { OnOk result (CompressesNarrow n h.now
+    ensures ok { OnOk result (Finishes (compress_narrow_answer n h.now) (narrow_text n h.now)
         (S.contents src.old) (S.contents src.new) (O.contents out.old) (O.contents out.new)) }
-    // After a fault of a device the raw int32 bytes of the last value read may be missing, three at most.
-    ensures err { IfErr result (λ e. LeavesNarrow e n h.now
+    ensures err { OnErr result (LeavesPrefix (narrow_text n h.now)
         (S.contents src.old) (S.contents src.new) (O.contents out.old) (O.contents out.new)) }
     ensures unwritten { result ≡ Err Memory → O.contents out.new ≡ O.contents out.old }
     ensures same_source { S.kept src.new ≡ S.kept src.old }

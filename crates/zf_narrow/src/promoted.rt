@@ -4,7 +4,7 @@ ghost use Rattle.std.specs.Prelude.{◌≡◌, ◌<◌, ◌≤◌, [], length, t
 ghost use Rattle.std.specs.Coded.{→_prop};
 ghost use Rattle.zf_dev.specs.Faults.{HasCause};
 ghost use Rattle.zf_dev.specs.Source.{Takes, IsAtEnd, EndsAt};
-ghost use Rattle.zf_narrow.specs.Promotions.{exposed, read_so_far};
+ghost use Rattle.zf_narrow.specs.Promotions.{exposed, read_so_far, HasGiven};
 ghost use Rattle.zf_narrow.specs.Facts.{IsAtEnd-prop, Takes-prop};
 
 use crate::begun::Begun;
@@ -31,6 +31,8 @@ impl<'a, S: Source, K: Begun> Source for Promoted<'a, S, K> {
     ghost Kept = { GName × S.Kept };
 
     ghost contents = { λ p. exposed p.promotion (S.contents p.src.now) };
+
+    ghost gave = { λ p bytes. HasGiven p.promotion bytes };
 
     ghost faults = { λ p. S.faults p.src.now };
 

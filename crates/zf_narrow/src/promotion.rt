@@ -2,7 +2,7 @@
 
 ghost use Rattle.std.specs.Prelude.{◌≡◌, ◌+◌, ◌-◌, ◌%◌, ◌<◌, ◌≤◌, ◌++◌, ◌↔◌, [], length, take, drop, replicate, IsTrue, IsOk, IsErr, IfOk, OnOk, OnErr};
 ghost use Rattle.zf_dev.specs.Faults.{HasCause};
-ghost use Rattle.zf_dev.specs.Source.{Takes, IsAtEnd};
+ghost use Rattle.zf_dev.specs.Source.{Takes, Gives, IsAtEnd};
 ghost use Rattle.zf_narrow.specs.Values.{size_of};
 ghost use Rattle.zf_narrow.specs.Promoting.{listed};
 
@@ -36,7 +36,7 @@ pub(crate) struct Promotion {
 }
 
 impl Promotion {
-    ghost use Rattle.zf_narrow.specs.Promotions.{exposed, Logs, TakesRaw};
+    ghost use Rattle.zf_narrow.specs.Promotions.{exposed, HasGiven, Logs, TakesRaw};
 
     /// Nothing was read.
     pub(crate) fn new(narrow: Narrow) -> Promotion
@@ -74,6 +74,8 @@ impl Promotion {
         ensures rest { IfOk result (λ k. drop k buf.new ≡ drop k buf.old) }
         ensures end { IfOk result (λ k. k ≡ 0 → IsAtEnd (exposed self.new (S.contents src.new))) }
         ensures ungiven { OnErr result (Takes (exposed self.old (S.contents src.old)) (exposed self.new (S.contents src.new)) []) }
+        ensures gave { IfOk result (λ k. Gives (HasGiven self.old) (HasGiven self.new) (take k buf.new)) }
+        ensures gave_none { OnErr result (Gives (HasGiven self.old) (HasGiven self.new) []) }
         ensures taken { Logs self.old self.new (S.contents src.old) (S.contents src.new) }
         ensures at_end { IsTrue self.new.spent → IsAtEnd (S.contents src.new) }
         ensures unchanged { OnOk result (S.faults src.new ≡ S.faults src.old) }
@@ -108,6 +110,8 @@ impl Promotion {
         ensures rest { IfOk result (λ k. drop k buf.new ≡ drop k buf.old) }
         ensures end { IfOk result (λ k. k ≡ 0 → IsAtEnd (exposed self.new (S.contents src.new))) }
         ensures ungiven { OnErr result (Takes (exposed self.old (S.contents src.old)) (exposed self.new (S.contents src.new)) []) }
+        ensures gave { IfOk result (λ k. Gives (HasGiven self.old) (HasGiven self.new) (take k buf.new)) }
+        ensures gave_none { OnErr result (Gives (HasGiven self.old) (HasGiven self.new) []) }
         ensures taken { Logs self.old self.new (S.contents src.old) (S.contents src.new) }
         ensures at_end { IsTrue self.new.spent → IsAtEnd (S.contents src.new) }
         ensures unchanged { OnOk result (S.faults src.new ≡ S.faults src.old) }

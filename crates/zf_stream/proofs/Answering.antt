@@ -1,12 +1,13 @@
 -- What an answer says of the input.
-use Rattle.std.proofs.Common.{◌≡◌, sym, ap, subst, ◌∙◌, ℕ, ◌⊎◌, inl, inr, ⊎_elim, List, [], Option, Some, None, Result, Ok, Err}
+use Rattle.std.proofs.Common.{◌≡◌, sym, ap, subst, ◌∙◌, ℕ, ◌⊎◌, inl, inr, ⊎_elim, List, [], ◌++◌, Option, Some, None, Result, Ok, Err}
 use Rattle.std.specs.Prelude.{IfErr, OnOk, OnErr, IsErrAnd}
-use Rattle.zf_dev.specs.Source.{Takes, IsAtEnd}
+use Rattle.zf_dev.specs.Source.{Takes, Gives, IsAtEnd}
 use Rattle.zf_dev.proofs.Taking.{Takes-none, Takes-to_end}
+use Rattle.zf_dev.proofs.Giving.{Gives-none, Gives-from}
 use Rattle.zf_dev.proofs.Appending.{AppendsPrefix-none}
 use Rattle.zf_parse.specs.declared.fault.StreamFault.{StreamFault}
 use Rattle.zf_parse.specs.declared.fault.StreamFault.TheVariants.{Write, Memory}
-use Rattle.zf_stream.specs.Outcomes.{Answers, IsRefusal, IsFromOutside, LeavesPrefix}
+use Rattle.zf_stream.specs.Outcomes.{Answers, IsRefusal, IsFromOutside, LeavesPrefix, WritesText, WritesPrefix}
 
 -- a refusal is an answer
 pub answer_of_refusal : (r : Result (Unit {0}) StreamFault) (e : StreamFault) (known : Option (List ℕ)) (answer : List ℕ → Result (Unit {0}) StreamFault) → r ≡ Err e → IsRefusal known answer e → Answers r known answer
@@ -40,6 +41,17 @@ answer_of_memory r e (Some input) answer is memory =
 -- nothing was read, and nothing written
 pub nothing_left : (text : List ℕ → List ℕ) (src out : Option (List ℕ)) → LeavesPrefix text src src out out
 nothing_left text src out = record { bytes = []; taken = Takes-none src; written = AppendsPrefix-none out (text []) }
+
+pub nothing_given : (text : List ℕ → List ℕ) (gave : List ℕ → Type 0) (out : Option (List ℕ)) → WritesPrefix text (Gives gave gave) out out
+nothing_given text gave out = record { bytes = []; lost = []; given = Gives-none gave; written = λ rest. AppendsPrefix-none out (text rest) }
+
+-- nothing was given before
+module _ {text : List ℕ → List ℕ} {a b c : List ℕ → Type 0} {out_before out_now : Option (List ℕ)} (none : Gives a b []) where
+  pub text_from : {answer : List ℕ → Result (Unit {0}) StreamFault} → WritesText answer text (Gives b c) out_before out_now → WritesText answer text (Gives a c) out_before out_now
+  text_from {answer} writes = record { bytes = writes.bytes; given = Gives-from writes.bytes none writes.given; good = writes.good; written = writes.written }
+
+  pub prefix_from : WritesPrefix text (Gives b c) out_before out_now → WritesPrefix text (Gives a c) out_before out_now
+  prefix_from writes = record { bytes = writes.bytes; lost = writes.lost; given = Gives-from (writes.bytes ++ writes.lost) none writes.given; written = writes.written }
 
 pub on_ok_weaker : {T E : Type 0} {P R : Type 0} (r : Result T E) → OnOk r P → (P → R) → OnOk r R
 on_ok_weaker (Ok x) p f = f p

@@ -8,6 +8,7 @@
 --     RawRows        what is read of raw values
 --     ReadingValues  values that are read piece by piece
 --     Slabwise       an array that is compressed slab by slab
+--     LookedAt       what the stream of raw bytes looks at
 --     PrefixesOfStreams    what was written of a stream
 --     Headed         what the first bytes of a source say of all of it
 --     Answering      what an answer says of the input
@@ -30,6 +31,7 @@ pub mod Rows
 pub mod RawRows
 pub mod ReadingValues
 pub mod Slabwise
+pub mod LookedAt
 pub mod PrefixesOfStreams
 pub mod Headed
 pub mod Answering

@@ -1,9 +1,10 @@
 -- What was written of a stream: a prefix, or all of it.
-use Rattle.std.proofs.Common.{◌≡◌, refl, sym, ap, subst, ◌∙◌, ℕ, suc, ◌+◌, ◌-◌, ◌/◌, ◌<◌, ◌≤◌, Bool, false, List, [], ◌∷◌, ◌++◌, map, length, drop, replicate, All, Option, append_assoc, length-append, take_at, drop_at, arith}
+use Rattle.std.proofs.Common.{◌≡◌, refl, sym, ap, subst, ◌∙◌, ℕ, suc, ◌+◌, ◌-◌, ◌*◌, ◌/◌, ◌<◌, ◌≤◌, Bool, false, List, [], ◌∷◌, ◌++◌, map, length, drop, replicate, All, Option, append_assoc, length-append, mul_comm, take_at, drop_at, arith}
 use Rattle.std.proofs.lemmas.List.{append-nil}
 use Rattle.std.proofs.lemmas.List.Elements.{All-head, All-tail}
 use Rattle.std.proofs.Math.Nat.{mul-le-mul_left, mod-eq_of_lt}
 use Rattle.std.specs.List.{flat_map}
+use Rattle.std.specs.Int.{byte_len}
 use Rattle.zf_spec.specs.Numbers.{field, number}
 use Rattle.zf_spec.specs.Grid.{product, grid, upto, count_from}
 use Rattle.zf_spec.specs.Stream.{fill_len, fill, with_fill, bytes_from, to_bytes, to_bits, codes, values_from, file, stream, stream_of_bytes}
@@ -11,19 +12,22 @@ use Rattle.zf_spec.proofs.Fields.{length-field, number-field}
 use Rattle.zf_spec.proofs.Bytes.{length-to_bits, to_bytes-to_bits, fill_whole}
 use Rattle.zf_base.specs.Widths.{width_of}
 use Rattle.zf_pad.specs.Slabs.{rows_of, row_len, IsSlab, first_block}
-use Rattle.zf_dev.specs.Source.{Takes}
+use Rattle.zf_dev.specs.Source.{Takes, Gives, GivesSome}
 use Rattle.zf_dev.specs.Sink.{Appends, AppendsPrefix}
 use Rattle.zf_dev.proofs.Taking.{Takes-append}
+use Rattle.zf_dev.proofs.Giving.{Gives-append, Gives-still}
 use Rattle.zf_dev.proofs.Appending.{AppendsPrefix-more}
 use Rattle.zf_header.specs.declared.header.Header.{Header}
 use Rattle.zf_header.specs.HeaderBits.{coding, header_bits}
 use Rattle.zf_parse.specs.Raw.{stream_text}
-use Rattle.zf_stream.specs.Outcomes.{LeavesPrefix}
+use Rattle.zf_stream.specs.Outcomes.{LeavesPrefix, WritesPrefix}
 use Rattle.zf_stream.specs.Flows.{Flows, Spills}
 use Rattle.zf_stream.specs.Rows.{rows_len, code_of_block, codes_of_rows, Compresses, Stops}
 use Rattle.zf_parse.proofs.Codes.{joined-prefix}
 use Rattle.zf_stream.proofs.Flowing.{Flows-more, Flows-next, Flows-spill, Spills-flows}
 use Rattle.zf_stream.proofs.Rows.{codes_of_rows-more, codes_of_all_rows}
+use Rattle.zf_stream.proofs.Slabwise.{rows_len-all}
+use Rattle.zf_stream.proofs.LookedAt.{stream_text-more}
 
 -- ---- bytes in front of bits
 
@@ -57,15 +61,15 @@ pub stream_text-bits : (h : Header) (bytes : List ℕ) → 1 ≤ length h.shape 
 stream_text-bits h bytes some = whole_text h bytes ∙ ap (λ (cs : List Bool). to_bytes (with_fill (header_bits h ++ cs))) (sym (codes_of_all_rows h bytes some))
 
 -- what was written of a prefix of the bits with their fill is a prefix of the text
-pub prefix_of_text : (h : Header) (bytes : List ℕ) (bits rest : List Bool) {src0 now out0 out : Option (List ℕ)} → 1 ≤ length h.shape → bits ++ rest ≡ with_fill (stream_bits h bytes)
-    → Takes src0 now bytes → Spills out0 out bits → LeavesPrefix (stream_text h) src0 now out0 out
-prefix_of_text h bytes bits rest {src0} {now} {out0} {out} some is taken spills =
+prefix_of_text : (h : Header) (bytes : List ℕ) (bits rest : List Bool) {out0 out : Option (List ℕ)} → 1 ≤ length h.shape → bits ++ rest ≡ with_fill (stream_bits h bytes) → Spills out0 out bits
+    → AppendsPrefix out0 out (stream_text h bytes)
+prefix_of_text h bytes bits rest {out0} {out} some is spills =
     let parts : to_bits spills.bytes ++ (spills.left ++ rest) ≡ with_fill (stream_bits h bytes) =
     sym (append_assoc (to_bits spills.bytes) spills.left rest) ∙ ap (λ (bs : List Bool). bs ++ rest) spills.parts ∙ is in
     let text : spills.bytes ++ to_bytes (spills.left ++ rest) ≡ stream_text h bytes =
     sym (to_bytes-prefix spills.bytes (spills.left ++ rest) spills.small) ∙ ap to_bytes parts ∙ sym (stream_text-bits h bytes some) in
     let P : List ℕ → Type 0 = λ bs. AppendsPrefix out0 out bs in
-    record { bytes = bytes; taken = taken; written = subst P text (AppendsPrefix-more out0 out spills.bytes (to_bytes (spills.left ++ rest)) spills.written) }
+    subst P text (AppendsPrefix-more out0 out spills.bytes (to_bytes (spills.left ++ rest)) spills.written)
 
 -- the codes of some rows are a prefix of those of all
 pub codes_behind : (h : Header) (rows : ℕ) (bytes more : List ℕ) → IsSlab h.shape 0 rows → length bytes ≡ rows_len h rows
@@ -83,35 +87,48 @@ codes_behind h rows bytes more whole long =
       ap (λ (bs : List Bool). bs ++ rest) (sym (codes_of_rows-more h rows bytes more whole long)) ∙ sym (joined-prefix f k (n - k)) ∙ ap (λ m. flat_map (λ c. c) (map f (upto m))) all,
     )
 
--- where the work stopped
-pub prefix_where_stopped : (h : Header) {src0 now out0 out : Option (List ℕ)} → Stops h src0 now out0 out (header_bits h) → LeavesPrefix (stream_text h) src0 now out0 out
-prefix_where_stopped h {src0} {now} {out0} {out} stops =
-    let all = stops.bytes ++ stops.more in
-    let behind = codes_behind h stops.rows stops.bytes stops.more stops.whole stops.long in
+-- what the codes of some rows tell, whatever follows these rows
+prefix_of_rows : (h : Header) (rows : ℕ) (bytes more : List ℕ) {out0 out : Option (List ℕ)} → IsSlab h.shape 0 rows → length bytes ≡ rows_len h rows → Spills out0 out (header_bits h ++ codes_of_rows h rows bytes)
+    → AppendsPrefix out0 out (stream_text h (bytes ++ more))
+prefix_of_rows h rows bytes more {out0} {out} whole long spills =
+    let all = bytes ++ more in
+    let behind = codes_behind h rows bytes more whole long in
     let rest = behind.0 ++ fill (stream_bits h all) in
-    let bits = header_bits h ++ codes_of_rows h stops.rows stops.bytes in
+    let bits = header_bits h ++ codes_of_rows h rows bytes in
     let is : bits ++ rest ≡ with_fill (stream_bits h all) =
     sym (append_assoc bits behind.0 (fill (stream_bits h all)))
-    ∙ ap (λ (bs : List Bool). bs ++ fill (stream_bits h all)) (append_assoc (header_bits h) (codes_of_rows h stops.rows stops.bytes) behind.0 ∙ ap (λ (cs : List Bool). header_bits h ++ cs) behind.1) in
-    prefix_of_text h all bits rest stops.whole.some_axis is stops.taken stops.spills
+    ∙ ap (λ (bs : List Bool). bs ++ fill (stream_bits h all)) (append_assoc (header_bits h) (codes_of_rows h rows bytes) behind.0 ∙ ap (λ (cs : List Bool). header_bits h ++ cs) behind.1) in
+    prefix_of_text h all bits rest whole.some_axis is spills
+
+-- where the work stopped
+module _ (h : Header) {src0 now out0 out : Option (List ℕ)} {gives : List ℕ → Type 0} (stops : Stops h src0 now gives out0 out (header_bits h)) where
+  pub prefix_where_stopped : LeavesPrefix (stream_text h) src0 now out0 out
+  prefix_where_stopped = record { bytes = stops.bytes ++ stops.more; taken = stops.taken; written = prefix_of_rows h stops.rows stops.bytes stops.more stops.whole stops.long stops.spills }
+
+  pub prefix_of_given : WritesPrefix (stream_text h) gives out0 out
+  prefix_of_given = record { bytes = stops.bytes; lost = stops.lost; given = stops.given; written = λ rest. prefix_of_rows h stops.rows stops.bytes rest stops.whole stops.long stops.spills }
 
 -- behind what was written before
-pub Stops-behind : (h : Header) {src now out0 out1 out2 : Option (List ℕ)} {bits left : List Bool} → Flows out0 out1 bits left → Stops h src now out1 out2 left → Stops h src now out0 out2 bits
-Stops-behind h {src} {now} {out0} {out1} {out2} {bits} {left} flows stops = record {
+pub Stops-behind : (h : Header) {src now out0 out1 out2 : Option (List ℕ)} {gives : List ℕ → Type 0} {bits left : List Bool} → Flows out0 out1 bits left → Stops h src now gives out1 out2 left → Stops h src now gives out0 out2 bits
+Stops-behind h {src} {now} {out0} {out1} {out2} {gives} {bits} {left} flows stops = record {
   rows = stops.rows;
   whole = stops.whole;
   bytes = stops.bytes;
   more = stops.more;
   taken = stops.taken;
+  lost = stops.lost;
+  given = stops.given;
   long = stops.long;
   spills = Flows-spill (Flows-more (codes_of_rows h stops.rows stops.bytes) flows) stops.spills;
 }
 
-pub Compresses-behind : (h : Header) (rows : ℕ) {src now out0 out1 out2 : Option (List ℕ)} {bits left last : List Bool} → Flows out0 out1 bits left → Compresses h rows src now out1 out2 left last → Compresses h rows src now out0 out2 bits last
-Compresses-behind h rows {src} {now} {out0} {out1} {out2} {bits} {left} {last} flows done = record {
+pub Compresses-behind : (h : Header) (rows : ℕ) {src now out0 out1 out2 : Option (List ℕ)} {gives : List ℕ → Type 0} {bits left last : List Bool} → Flows out0 out1 bits left → Compresses h rows src now gives out1 out2 left last
+    → Compresses h rows src now gives out0 out2 bits last
+Compresses-behind h rows {src} {now} {out0} {out1} {out2} {gives} {bits} {left} {last} flows done = record {
   whole = done.whole;
   bytes = done.bytes;
   taken = done.taken;
+  given = done.given;
   long = done.long;
   flows = Flows-next (Flows-more (codes_of_rows h rows done.bytes) flows) done.flows;
 }
@@ -119,30 +136,35 @@ Compresses-behind h rows {src} {now} {out0} {out1} {out2} {bits} {left} {last} f
 -- ---- the end
 
 -- the source was read further
-pub Compresses-read : (h : Header) (rows : ℕ) {src mid now out0 out : Option (List ℕ)} {bits left : List Bool} → Compresses h rows src mid out0 out bits left → Takes mid now [] → Compresses h rows src now out0 out bits left
-Compresses-read h rows {src} {mid} {now} {out0} {out} {bits} {left} done none =
+pub Compresses-read : (h : Header) (rows : ℕ) {src mid now out0 out : Option (List ℕ)} {a b c : List ℕ → Type 0} {bits left : List Bool} → Compresses h rows src mid (Gives a b) out0 out bits left → Takes mid now [] → Gives b c []
+    → Compresses h rows src now (Gives a c) out0 out bits left
+Compresses-read h rows {src} {mid} {now} {out0} {out} {a} {b} {c} {bits} {left} done none nothing =
     let P : List ℕ → Type 0 = λ bs. Takes src now bs in
     record {
       whole = done.whole;
       bytes = done.bytes;
       taken = subst P (append-nil done.bytes) (Takes-append src mid now done.bytes [] done.taken none);
+      given = Gives-still done.bytes done.given nothing;
       long = done.long;
       flows = done.flows;
     }
 
-pub Compresses-stop : (h : Header) (rows : ℕ) {src mid now out0 out : Option (List ℕ)} {bits left : List Bool} (more : List ℕ) → Compresses h rows src mid out0 out bits left → Takes mid now more → Stops h src now out0 out bits
-Compresses-stop h rows {src} {mid} {now} {out0} {out} {bits} {left} more done taken = record {
+pub Compresses-stop : (h : Header) (rows : ℕ) {src mid now out0 out : Option (List ℕ)} {a b c : List ℕ → Type 0} {bits left : List Bool} (more : List ℕ) → Compresses h rows src mid (Gives a b) out0 out bits left → Takes mid now more → GivesSome b c
+    → Stops h src now (Gives a c) out0 out bits
+Compresses-stop h rows {src} {mid} {now} {out0} {out} {a} {b} {c} {bits} {left} more done taken lost = record {
   rows = rows;
   whole = done.whole;
   bytes = done.bytes;
   more = more;
   taken = Takes-append src mid now done.bytes more done.taken taken;
+  lost = lost.0;
+  given = Gives-append done.bytes lost.0 done.given lost.1;
   long = done.long;
   spills = Spills-flows done.flows;
 }
 
 -- the fill of what is left is that of all bits
-module _ (h : Header) {src now out0 out1 : Option (List ℕ)} {left : List Bool} (done : Compresses h (rows_of h.shape) src now out0 out1 (header_bits h) left) where
+module _ (h : Header) {src now out0 out1 : Option (List ℕ)} {gives : List ℕ → Type 0} {left : List Bool} (done : Compresses h (rows_of h.shape) src now gives out0 out1 (header_bits h) left) where
   fill_same : fill left ≡ fill (stream_bits h done.bytes)
   fill_same =
       let parts = ap length done.flows.parts in
@@ -156,8 +178,23 @@ module _ (h : Header) {src now out0 out1 : Option (List ℕ)} {left : List Bool}
       subst P fill_same (Flows-more (fill left) done.flows)
 
   -- the last words were not written
+  prefix_of_all : {out2 : Option (List ℕ)} → Spills out1 out2 (left ++ fill left) → AppendsPrefix out0 out2 (stream_text h done.bytes)
+  prefix_of_all {out2} spills = prefix_of_text h done.bytes (with_fill (stream_bits h done.bytes)) [] done.whole.some_axis (append-nil _) (Flows-spill filled spills)
+
   pub prefix_at_end : {out2 : Option (List ℕ)} → Spills out1 out2 (left ++ fill left) → LeavesPrefix (stream_text h) src now out0 out2
-  prefix_at_end {out2} spills = prefix_of_text h done.bytes (with_fill (stream_bits h done.bytes)) [] done.whole.some_axis (append-nil _) done.taken (Flows-spill filled spills)
+  prefix_at_end {out2} spills = record { bytes = done.bytes; taken = done.taken; written = prefix_of_all spills }
+
+  -- bytes behind those of the array are not looked at
+  pub given_at_end : {out2 : Option (List ℕ)} → Spills out1 out2 (left ++ fill left) → WritesPrefix (stream_text h) gives out0 out2
+  given_at_end {out2} spills =
+      let long : product h.shape * byte_len (width_of h.ty) ≤ length done.bytes = omega (arith, done.long, rows_len-all h done.whole.some_axis, mul_comm (byte_len (width_of h.ty)) (product h.shape)) in
+      let Of : List ℕ → Type 0 = λ bs. AppendsPrefix out0 out2 bs in
+      record {
+        bytes = done.bytes;
+        lost = [];
+        given = subst gives (sym (append-nil done.bytes)) done.given;
+        written = λ rest. subst Of (sym (stream_text-more h done.bytes rest long)) (prefix_of_all spills);
+      }
 
   -- they were
   pub text_at_end : {out2 : Option (List ℕ)} {last : List Bool} → Flows out1 out2 (left ++ fill left) last → length last < 64 → Appends out0 out2 (stream_text h done.bytes)

@@ -6,21 +6,23 @@ use Rattle.std.proofs.Math.Nat.{add-mul}
 use Rattle.std.specs.Int.{Width, byte_len}
 use borrow.Rule.Slice.PartMut.{put_mid}
 use Rattle.zf_spec.specs.Stream.{values_from}
-use Rattle.zf_dev.specs.Source.{Takes}
+use Rattle.zf_dev.specs.Source.{Takes, Gives}
 use Rattle.zf_dev.proofs.Taking.{Takes-append}
+use Rattle.zf_dev.proofs.Giving.{Gives-append}
 use Rattle.zf_parse.specs.declared.fault.StreamFault.{StreamFault}
 use Rattle.zf_parse.specs.declared.fault.StreamFault.TheVariants as faults
 use Rattle.zf_stream.specs.ReadRaw.{ReadsValues, LacksRaw}
 use Rattle.zf_stream.proofs.Rows.{values_from-append}
 
 -- the values of the next bytes were put behind those that were read
-pub reads_more : {X : Type 0} (w : Width) (value : X → ℤ) (at n k : ℕ) (xs ys : List X) (old mid new : Option (List ℕ)) (more : List ℕ)
+pub reads_more : {X : Type 0} (w : Width) (value : X → ℤ) (at n k : ℕ) (xs ys : List X) (old mid new : Option (List ℕ)) {a b c : List ℕ → Type 0} (more : List ℕ)
     → at ≤ length xs → length ys ≡ n → length more ≡ n * byte_len w → map value ys ≡ values_from w n more
-    → ReadsValues w at old mid (map value (take at xs)) → Takes mid new more
-    → ReadsValues w (at + n) old new (map value (take (at + n) (put_mid at k xs ys)))
-reads_more w value at n k xs ys old mid new more within count long are done taken = record {
+    → ReadsValues w at old mid (Gives a b) (map value (take at xs)) → Takes mid new more → Gives b c more
+    → ReadsValues w (at + n) old new (Gives a c) (map value (take (at + n) (put_mid at k xs ys)))
+reads_more w value at n k xs ys old mid new {a} {b} {c} more within count long are done taken given = record {
   bytes = done.bytes ++ more;
   taken = Takes-append old mid new done.bytes more done.taken taken;
+  given = Gives-append done.bytes more done.given given;
   long = omega (arith, length-append done.bytes more, done.long, long, add-mul at n (byte_len w));
   are =
       ap (map value) (take-put_mid at k xs ys (at + n) (omega arith) within) ∙ map-append value (take at xs) ys

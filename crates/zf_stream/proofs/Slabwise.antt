@@ -12,8 +12,9 @@ use Rattle.zf_base.specs.Widths.{width_of}
 use Rattle.zf_pad.specs.Slabs.{rows_of, row_len, with_rows, IsSlab, first_block}
 use Rattle.zf_pad.proofs.Slabs.{all_rows, product-with_rows, product-rows}
 use Rattle.zf_header.specs.declared.header.Header.{Header}
-use Rattle.zf_dev.specs.Source.{Takes}
+use Rattle.zf_dev.specs.Source.{Takes, Gives, GivesSome}
 use Rattle.zf_dev.proofs.Taking.{Takes-append}
+use Rattle.zf_dev.proofs.Giving.{Gives-none, Gives-append}
 use Rattle.zf_parse.specs.declared.fault.StreamFault.{StreamFault}
 use Rattle.zf_parse.specs.declared.fault.StreamFault.TheVariants as faults
 use Rattle.zf_header.specs.declared.header.Mode.{Mode}
@@ -109,9 +110,9 @@ module _ (h : Header) (row here : ℕ) (next : IsNext h row here) (whole : IsSla
         rows_len-all h whole.some_axis,
       )
 
-  module _ {src0 mid now out0 out1 out2 : Option (List ℕ)} {bits left : List Bool} (done : Compresses h row src0 mid out0 out1 bits left) where
+  module _ {src0 mid now out0 out1 out2 : Option (List ℕ)} {a b c : List ℕ → Type 0} {bits left : List Bool} (done : Compresses h row src0 mid (Gives a b) out0 out1 bits left) where
     -- one slab more was written
-    pub slab_written : {last : List Bool} → WritesSlab (part_of h here) mid now out1 out2 left last → Compresses h (row + here) src0 now out0 out2 bits last
+    pub slab_written : {last : List Bool} → WritesSlab (part_of h here) mid now (Gives b c) out1 out2 left last → Compresses h (row + here) src0 now (Gives a c) out0 out2 bits last
     slab_written {last} slab =
         let as_long = slab.long ∙ rows_len-part h here whole.some_axis in
         let Of : List Bool → Type 0 = λ bs. Flows out0 out2 bs last in
@@ -119,6 +120,7 @@ module _ (h : Header) (row here : ℕ) (next : IsNext h row here) (whole : IsSla
           whole = next_whole;
           bytes = done.bytes ++ slab.raw;
           taken = Takes-append src0 mid now done.bytes slab.raw done.taken slab.taken;
+          given = Gives-append done.bytes slab.raw done.given slab.given;
           long = length-append done.bytes slab.raw ∙ omega (arith, done.long, as_long, rows_len-add h row here);
           flows = subst Of
               (append_assoc bits (codes_of_rows h row done.bytes) (slab_codes (part_of h here) slab.raw) ∙ ap (λ (bs : List Bool). bits ++ bs) (sym (codes_next done.bytes slab.raw done.long as_long)))
@@ -126,8 +128,8 @@ module _ (h : Header) (row here : ℕ) (next : IsNext h row here) (whole : IsSla
         }
 
     -- or it was not
-    pub slab_broken : (before : ℕ) (e : StreamFault) → BreaksSlab (part_of h here) before mid now out1 out2 left e → Stops h src0 now out0 out2 bits
-    slab_broken before e broken =
+    pub slab_broken : (before : ℕ) (e : StreamFault) → GivesSome b c → BreaksSlab (part_of h here) before mid now (Gives b c) out1 out2 left e → Stops h src0 now (Gives a c) out0 out2 bits
+    slab_broken before e more broken =
         ⊎_elim
         (λ lacks.
         let some = some_taken before (product (with_rows here h.shape) * byte_len (width_of h.ty)) mid now e lacks.0 in
@@ -138,6 +140,8 @@ module _ (h : Header) (row here : ℕ) (next : IsNext h row here) (whole : IsSla
           bytes = done.bytes;
           more = some.0;
           taken = Takes-append src0 mid now done.bytes some.0 done.taken some.1;
+          lost = more.0;
+          given = Gives-append done.bytes more.0 done.given more.1;
           long = done.long;
           spills = subst Out (sym lacks.1) (Spills-flows done.flows);
         })
@@ -146,12 +150,15 @@ module _ (h : Header) (row here : ℕ) (next : IsNext h row here) (whole : IsSla
         let as_long = slab.long ∙ rows_len-part h here whole.some_axis in
         let Of : List Bool → Type 0 = λ bs. Spills out0 out2 bs in
         let Taken : List ℕ → Type 0 = λ bs. Takes src0 now bs in
+        let Given : List ℕ → Type 0 = λ bs. Gives a c bs in
         record {
           rows = row + here;
           whole = next_whole;
           bytes = done.bytes ++ slab.raw;
           more = [];
           taken = subst Taken (sym (append-nil (done.bytes ++ slab.raw))) (Takes-append src0 mid now done.bytes slab.raw done.taken slab.taken);
+          lost = [];
+          given = subst Given (sym (append-nil (done.bytes ++ slab.raw))) (Gives-append done.bytes slab.raw done.given slab.given);
           long = length-append done.bytes slab.raw ∙ omega (arith, done.long, as_long, rows_len-add h row here);
           spills = subst Of
               (append_assoc bits (codes_of_rows h row done.bytes) (slab_codes (part_of h here) slab.raw) ∙ ap (λ (bs : List Bool). bits ++ bs) (sym (codes_next done.bytes slab.raw done.long as_long)))
@@ -159,10 +166,10 @@ module _ (h : Header) (row here : ℕ) (next : IsNext h row here) (whole : IsSla
         })
         broken
 
-    same_before : (before : ℕ) (e : StreamFault) → before ≡ rows_len h row → BreaksSlab (part_of h here) before mid now out1 out2 left e → BreaksSlab (part_of h here) (length done.bytes) mid now out1 out2 left e
-    same_before before e is broken = let P : ℕ → Type 0 = λ n. BreaksSlab (part_of h here) n mid now out1 out2 left e in subst P (is ∙ sym done.long) broken
+    same_before : (before : ℕ) (e : StreamFault) → before ≡ rows_len h row → BreaksSlab (part_of h here) before mid now (Gives b c) out1 out2 left e → BreaksSlab (part_of h here) (length done.bytes) mid now (Gives b c) out1 out2 left e
+    same_before before e is broken = let P : ℕ → Type 0 = λ n. BreaksSlab (part_of h here) n mid now (Gives b c) out1 out2 left e in subst P (is ∙ sym done.long) broken
 
-    pub slab_refused : (before : ℕ) (e : StreamFault) → before ≡ rows_len h row → BreaksSlab (part_of h here) before mid now out1 out2 left e → IsRefusal src0 (compress_answer h) e
+    pub slab_refused : (before : ℕ) (e : StreamFault) → before ≡ rows_len h row → BreaksSlab (part_of h here) before mid now (Gives b c) out1 out2 left e → IsRefusal src0 (compress_answer h) e
     slab_refused before e is broken =
         ⊎_elim (λ lacks. refused_raw h src0 mid now done.bytes done.taken _ (within_all done.bytes done.long) e lacks.0) (λ failed. outside src0 failed.0) (same_before before e is broken)
       where
@@ -170,11 +177,11 @@ module _ (h : Header) (row here : ℕ) (next : IsNext h row here) (whole : IsSla
         outside None is = tt
         outside (Some all) is = inr (inr (inl is))
 
-    pub slab_possible : (before : ℕ) (e : StreamFault) → before ≡ rows_len h row → BreaksSlab (part_of h here) before mid now out1 out2 left e → CanRefuse (compress_answer h) e
+    pub slab_possible : (before : ℕ) (e : StreamFault) → before ≡ rows_len h row → BreaksSlab (part_of h here) before mid now (Gives b c) out1 out2 left e → CanRefuse (compress_answer h) e
     slab_possible before e is broken =
         ⊎_elim (λ lacks. possible_raw h src0 mid now done.bytes done.taken _ (within_all done.bytes done.long) e lacks.0) (λ failed. inr (inr (inl failed.0))) (same_before before e is broken)
 
-    pub slab_wanted : (before : ℕ) (e : StreamFault) → before ≡ rows_len h row → BreaksSlab (part_of h here) before mid now out1 out2 left e → e ≢ faults.Memory
+    pub slab_wanted : (before : ℕ) (e : StreamFault) → before ≡ rows_len h row → BreaksSlab (part_of h here) before mid now (Gives b c) out1 out2 left e → e ≢ faults.Memory
     slab_wanted before e is broken =
         ⊎_elim (λ lacks. wanted_raw h src0 mid now done.bytes done.taken _ (within_all done.bytes done.long) e lacks.0) (λ failed memory. let no : faults.Write ≡ faults.Memory = sym failed.0 ∙ memory in cc) (same_before before e is broken)
 
@@ -208,8 +215,8 @@ raw_small h len row some within few narrow is =
 pub zero_rows : (h : Header) → 0 ≡ rows_len h 0
 zero_rows h = omega (arith, mul_comm (row_len h.shape) 0)
 
-pub no_rows : (h : Header) (bits : List Bool) {src out : Option (List ℕ)} → 1 ≤ length h.shape → Takes src src [] → Flows out out bits bits → Compresses h 0 src src out out bits bits
-no_rows h bits {src} {out} some taken flows =
+pub no_rows : (h : Header) (bits : List Bool) {src out : Option (List ℕ)} (known : List ℕ → Type 0) → 1 ≤ length h.shape → Takes src src [] → Flows out out bits bits → Compresses h 0 src src (Gives known known) out out bits bits
+no_rows h bits {src} {out} known some taken flows =
     let none : first_block h.shape ((0 + 3) / 4) ≡ 0 = omega (arith, mul_comm (row_len (grid h.shape)) 0) in
     let codes : codes_of_rows h 0 [] ≡ [] = ap (λ n. flat_map (λ c. c) (map (code_of_block h []) (upto n))) none in
     let Of : List Bool → Type 0 = λ bs. Flows out out bs bits in
@@ -217,12 +224,13 @@ no_rows h bits {src} {out} some taken flows =
       whole = record { some_axis = some; within = omega arith; whole = inl refl };
       bytes = [];
       taken = taken;
+      given = Gives-none known;
       long = zero_rows h;
       flows = subst Of (sym (append-nil bits) ∙ ap (λ (bs : List Bool). bits ++ bs) (sym codes)) flows;
     }
 
-pub Stops-none : (h : Header) (bits : List Bool) {src out0 out : Option (List ℕ)} → 1 ≤ length h.shape → Takes src src [] → Spills out0 out bits → Stops h src src out0 out bits
-Stops-none h bits {src} {out0} {out} some taken spills =
+pub Stops-none : (h : Header) (bits : List Bool) {src out0 out : Option (List ℕ)} (known : List ℕ → Type 0) → 1 ≤ length h.shape → Takes src src [] → Spills out0 out bits → Stops h src src (Gives known known) out0 out bits
+Stops-none h bits {src} {out0} {out} known some taken spills =
     let none : first_block h.shape ((0 + 3) / 4) ≡ 0 = omega (arith, mul_comm (row_len (grid h.shape)) 0) in
     let codes : codes_of_rows h 0 [] ≡ [] = ap (λ n. flat_map (λ c. c) (map (code_of_block h []) (upto n))) none in
     let Of : List Bool → Type 0 = λ bs. Spills out0 out bs in
@@ -232,6 +240,8 @@ Stops-none h bits {src} {out0} {out} some taken spills =
       bytes = [];
       more = [];
       taken = taken;
+      lost = [];
+      given = Gives-none known;
       long = zero_rows h;
       spills = subst Of (sym (append-nil bits) ∙ ap (λ (bs : List Bool). bits ++ bs) (sym codes)) spills;
     }

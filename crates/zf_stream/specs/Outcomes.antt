@@ -1,5 +1,5 @@
 -- How a call that reads from a source and writes to a sink ends. What a device exposes of its bytes is `Some`, else `None`.
-use Rattle.std.specs.Prelude.{ℕ, ◌≡◌, ◌≤◌, ◌⊎◌, List, length, take, Option, Some, None, Result, Ok, Err, IsErrAnd}
+use Rattle.std.specs.Prelude.{ℕ, ◌≡◌, ◌≤◌, ◌⊎◌, List, ◌++◌, length, take, Option, Some, None, Result, Ok, Err, IsErrAnd}
 use Rattle.zf_dev.specs.Source.{Takes, TakesMoreThan, IsAtEnd}
 use Rattle.zf_dev.specs.Sink.{Appends, AppendsPrefix}
 use Rattle.zf_parse.specs.declared.fault.StreamFault.{StreamFault}
@@ -48,6 +48,20 @@ pub record LeavesPrefix (text : List ℕ → List ℕ) (src_before src_now out_b
   pub bytes : List ℕ
   pub taken : Takes src_before src_now bytes
   pub written : AppendsPrefix out_before out_now (text bytes)
+
+-- what a source says that it gave is a good input, and its text was written
+pub record WritesText (answer : List ℕ → Result (Unit {0}) StreamFault) (text : List ℕ → List ℕ) (gives : List ℕ → Type 0) (out_before out_now : Option (List ℕ)) : Type 0 where
+  pub bytes : List ℕ
+  pub given : gives bytes
+  pub good : answer bytes ≡ Ok tt
+  pub written : Appends out_before out_now (text bytes)
+
+-- a prefix of its text was written, which the first bytes tell alone: whatever follows them, it is a prefix of that text
+pub record WritesPrefix (text : List ℕ → List ℕ) (gives : List ℕ → Type 0) (out_before out_now : Option (List ℕ)) : Type 0 where
+  pub bytes : List ℕ
+  pub lost : List ℕ
+  pub given : gives (bytes ++ lost)
+  pub written : (rest : List ℕ) → AppendsPrefix out_before out_now (text (bytes ++ rest))
 
 -- these are the first n bytes of what a device exposes, or all where there are fewer
 abbrev pub IsPrefix : ℕ → Option (List ℕ) → List ℕ → Type 0

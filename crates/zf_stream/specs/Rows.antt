@@ -35,20 +35,24 @@ abbrev pub codes_of_rows : Header → ℕ → List ℕ → List Bool
 codes_of_rows h rows bytes = flat_map (λ c. c) (map (code_of_block h bytes) (upto (first_block h.shape ((rows + 3) / 4))))
 
 -- the first rows were read, and their codes are on their way behind these bits
-pub record Compresses (h : Header) (rows : ℕ) (src_before src_now out_before out_now : Option (List ℕ)) (bits left : List Bool) : Type 0 where
+pub record Compresses (h : Header) (rows : ℕ) (src_before src_now : Option (List ℕ)) (gives : List ℕ → Type 0) (out_before out_now : Option (List ℕ)) (bits left : List Bool) : Type 0 where
   pub whole : IsSlab h.shape 0 rows
   pub bytes : List ℕ
   pub taken : Takes src_before src_now bytes
+  pub given : gives bytes
   pub long : length bytes ≡ rows_len h rows
   pub flows : Flows out_before out_now (bits ++ codes_of_rows h rows bytes) left
 
 -- some first rows were read, and maybe more; a prefix of the codes of these rows was written
-pub record Stops (h : Header) (src_before src_now out_before out_now : Option (List ℕ)) (bits : List Bool) : Type 0 where
+pub record Stops (h : Header) (src_before src_now : Option (List ℕ)) (gives : List ℕ → Type 0) (out_before out_now : Option (List ℕ)) (bits : List Bool) : Type 0 where
   pub rows : ℕ
   pub whole : IsSlab h.shape 0 rows
   pub bytes : List ℕ
   pub more : List ℕ
   pub taken : Takes src_before src_now (bytes ++ more)
+  -- what the source says that it gave, which may end otherwise: of the bytes behind the rows nothing was made
+  pub lost : List ℕ
+  pub given : gives (bytes ++ lost)
   pub long : length bytes ≡ rows_len h rows
   pub spills : Spills out_before out_now (bits ++ codes_of_rows h rows bytes)
 
@@ -59,21 +63,23 @@ abbrev pub slab_codes : Header → List ℕ → List Bool
 slab_codes part raw = flat_map (λ c. c) (codes (width_of part.ty) part.shape (coding part.mode) (values_from (width_of part.ty) (product part.shape) raw))
 
 -- its raw values were read, and its codes are on their way
-pub record WritesSlab (part : Header) (src_before src_now out_before out_now : Option (List ℕ)) (bits left : List Bool) : Type 0 where
+pub record WritesSlab (part : Header) (src_before src_now : Option (List ℕ)) (gives : List ℕ → Type 0) (out_before out_now : Option (List ℕ)) (bits left : List Bool) : Type 0 where
   pub raw : List ℕ
   pub taken : Takes src_before src_now raw
+  pub given : gives raw
   pub long : length raw ≡ product part.shape * byte_len (width_of part.ty)
   pub flows : Flows out_before out_now (bits ++ slab_codes part raw) left
 
 -- they were read, and a prefix of its codes was written
-pub record SpillsSlab (part : Header) (src_before src_now out_before out_now : Option (List ℕ)) (bits : List Bool) : Type 0 where
+pub record SpillsSlab (part : Header) (src_before src_now : Option (List ℕ)) (gives : List ℕ → Type 0) (out_before out_now : Option (List ℕ)) (bits : List Bool) : Type 0 where
   pub raw : List ℕ
   pub taken : Takes src_before src_now raw
+  pub given : gives raw
   pub long : length raw ≡ product part.shape * byte_len (width_of part.ty)
   pub spills : Spills out_before out_now (bits ++ slab_codes part raw)
 
 -- its raw values were not read, behind so many bytes, or the sink failed
-abbrev pub BreaksSlab : Header → ℕ → Option (List ℕ) → Option (List ℕ) → Option (List ℕ) → Option (List ℕ) → List Bool → StreamFault → Type 0
-BreaksSlab part before src_before src_now out_before out_now bits e =
+abbrev pub BreaksSlab : Header → ℕ → Option (List ℕ) → Option (List ℕ) → (List ℕ → Type 0) → Option (List ℕ) → Option (List ℕ) → List Bool → StreamFault → Type 0
+BreaksSlab part before src_before src_now gives out_before out_now bits e =
     (LacksRaw before (product part.shape * byte_len (width_of part.ty)) src_before src_now e × (out_now ≡ out_before))
-    ⊎ ((e ≡ Write) × SpillsSlab part src_before src_now out_before out_now bits)
+    ⊎ ((e ≡ Write) × SpillsSlab part src_before src_now gives out_before out_now bits)

@@ -9,8 +9,8 @@ ghost use Rattle.zf_base.specs.Widths.{width_of};
 ghost use Rattle.zf_header.specs.HeaderBits.{IsMode, header_bits};
 ghost use Rattle.zf_parse.specs.Raw.{raw_len, compress_answer, stream_text};
 ghost use Rattle.zf_dev.specs.Faults.{HasCause};
-ghost use Rattle.zf_dev.specs.Source.{TakesSome};
-ghost use Rattle.zf_stream.specs.Outcomes.{CanRefuse, ShowsLength, Answers, Finishes, LeavesPrefix, IsRefusal};
+ghost use Rattle.zf_dev.specs.Source.{Gives, GivesSome};
+ghost use Rattle.zf_stream.specs.Outcomes.{CanRefuse, ShowsLength, Answers, Finishes, LeavesPrefix, WritesText, WritesPrefix, IsRefusal};
 ghost use Rattle.zf_parse.specs.Parsing.{longest_code};
 ghost use Rattle.zf_stream.specs.Rows.{ArePieces, Compresses, Stops, WritesSlab, BreaksSlab};
 ghost use Rattle.zf_parse.specs.declared.fault.StreamFault.TheVariants.{Read, Write, Memory};
@@ -56,6 +56,11 @@ pub fn compress<S: Source, O: Sink>(
         (S.contents src.old) (S.contents src.new) (O.contents out.old) (O.contents out.new)) }
     ensures err { OnErr result (LeavesPrefix (stream_text h.now)
         (S.contents src.old) (S.contents src.new) (O.contents out.old) (O.contents out.new)) }
+    // Of every source, also of one that exposes nothing: of what it says that it gave.
+    ensures gave { OnOk result (WritesText (compress_answer h.now) (stream_text h.now)
+        (Gives (S.gave src.old) (S.gave src.new)) (O.contents out.old) (O.contents out.new)) }
+    ensures gave_prefix { OnErr result (WritesPrefix (stream_text h.now)
+        (Gives (S.gave src.old) (S.gave src.new)) (O.contents out.old) (O.contents out.new)) }
     ensures unwritten { result ≡ Err Memory → O.contents out.new ≡ O.contents out.old }
     ensures same_source { S.kept src.new ≡ S.kept src.old }
     ensures read_cause { HasCause (result ≡ Err Read) (S.faults src.old) (S.faults src.new) }
@@ -82,6 +87,10 @@ fn compress_ahead<S: Source, O: Sink>(
         (S.contents src.old) (S.contents src.new) (O.contents out.old) (O.contents out.new)) }
     ensures err { OnErr result (LeavesPrefix (stream_text h.now)
         (S.contents src.old) (S.contents src.new) (O.contents out.old) (O.contents out.new)) }
+    ensures gave { OnOk result (WritesText (compress_answer h.now) (stream_text h.now)
+        (Gives (S.gave src.old) (S.gave src.new)) (O.contents out.old) (O.contents out.new)) }
+    ensures gave_prefix { OnErr result (WritesPrefix (stream_text h.now)
+        (Gives (S.gave src.old) (S.gave src.new)) (O.contents out.old) (O.contents out.new)) }
     ensures unwritten { result ≡ Err Memory → O.contents out.new ≡ O.contents out.old }
     ensures same_source { S.kept src.new ≡ S.kept src.old }
     ensures read_cause { HasCause (result ≡ Err Read) (S.faults src.old) (S.faults src.new) }
@@ -111,6 +120,10 @@ fn compress_as<T: Lane, S: Source, O: Sink>(
         (S.contents src.old) (S.contents src.new) (O.contents out.old) (O.contents out.new)) }
     ensures err { OnErr result (LeavesPrefix (stream_text h.now)
         (S.contents src.old) (S.contents src.new) (O.contents out.old) (O.contents out.new)) }
+    ensures gave { OnOk result (WritesText (compress_answer h.now) (stream_text h.now)
+        (Gives (S.gave src.old) (S.gave src.new)) (O.contents out.old) (O.contents out.new)) }
+    ensures gave_prefix { OnErr result (WritesPrefix (stream_text h.now)
+        (Gives (S.gave src.old) (S.gave src.new)) (O.contents out.old) (O.contents out.new)) }
     ensures unwritten { result ≡ Err Memory → O.contents out.new ≡ O.contents out.old }
     ensures same_source { S.kept src.new ≡ S.kept src.old }
     ensures read_cause { HasCause (result ≡ Err Read) (S.faults src.old) (S.faults src.new) }
@@ -174,6 +187,10 @@ fn write_stream<T: Lane, S: Source, O: Sink>(
         (S.contents src.old) (S.contents src.new) (O.contents out.old) (O.contents out.new)) }
     ensures err { OnErr result (LeavesPrefix (stream_text h.now)
         (S.contents src.old) (S.contents src.new) (O.contents out.old) (O.contents out.new)) }
+    ensures gave { OnOk result (WritesText (compress_answer h.now) (stream_text h.now)
+        (Gives (S.gave src.old) (S.gave src.new)) (O.contents out.old) (O.contents out.new)) }
+    ensures gave_prefix { OnErr result (WritesPrefix (stream_text h.now)
+        (Gives (S.gave src.old) (S.gave src.new)) (O.contents out.old) (O.contents out.new)) }
     ensures unwritten { result ≢ Err Memory }
     ensures same_source { S.kept src.new ≡ S.kept src.old }
     ensures read_cause { HasCause (result ≡ Err Read) (S.faults src.old) (S.faults src.new) }
@@ -212,10 +229,10 @@ fn write_slabs<T: Lane, S: Source, O: Sink>(
     requires some { 64 ≤ most }
     requires few { length codes.old.bits < most }
     requires fits { most + longest_code h.now ≤ length codes.old.bits + codes.old.room }
-    ensures ok { OnOk result (Compresses h.now (rows_of h.now.shape)
-        (S.contents src.old) (S.contents src.new) (O.contents out.old) (O.contents out.new) codes.old.bits codes.new.bits) }
-    ensures err { OnErr result (Stops h.now
-        (S.contents src.old) (S.contents src.new) (O.contents out.old) (O.contents out.new) codes.old.bits) }
+    ensures ok { OnOk result (Compresses h.now (rows_of h.now.shape) (S.contents src.old) (S.contents src.new)
+        (Gives (S.gave src.old) (S.gave src.new)) (O.contents out.old) (O.contents out.new) codes.old.bits codes.new.bits) }
+    ensures err { OnErr result (Stops h.now (S.contents src.old) (S.contents src.new)
+        (Gives (S.gave src.old) (S.gave src.new)) (O.contents out.old) (O.contents out.new) codes.old.bits) }
     ensures refused { IfErr result (IsRefusal (S.contents src.old) (compress_answer h.now)) }
     ensures possible { IfErr result (CanRefuse (compress_answer h.now)) }
     ensures length { IfErr result (ShowsLength (raw_len h.now) (S.contents src.old) (S.contents src.new)) }
@@ -286,10 +303,11 @@ fn write_slab<T: Lane, S: Source, O: Sink>(
     requires few { length codes.old.bits < most }
     requires fits { most + longest_code part.now ≤ length codes.old.bits + codes.old.room }
     requires taken { taken + product part.now.shape * byte_len (width_of part.now.ty) < 2 ^ 64 }
-    ensures ok { OnOk result (WritesSlab part.now
-        (S.contents src.old) (S.contents src.new) (O.contents out.old) (O.contents out.new) codes.old.bits codes.new.bits) }
-    ensures err { IfErr result (BreaksSlab part.now taken
-        (S.contents src.old) (S.contents src.new) (O.contents out.old) (O.contents out.new) codes.old.bits) }
+    ensures ok { OnOk result (WritesSlab part.now (S.contents src.old) (S.contents src.new)
+        (Gives (S.gave src.old) (S.gave src.new)) (O.contents out.old) (O.contents out.new) codes.old.bits codes.new.bits) }
+    ensures err { IfErr result (BreaksSlab part.now taken (S.contents src.old) (S.contents src.new)
+        (Gives (S.gave src.old) (S.gave src.new)) (O.contents out.old) (O.contents out.new) codes.old.bits) }
+    ensures gave_some { GivesSome (S.gave src.old) (S.gave src.new) }
     ensures few { OnOk result (length codes.new.bits < most) }
     ensures room { OnOk result (length codes.old.bits + codes.old.room ≤ length codes.new.bits + codes.new.room) }
     ensures scratch { s.new ≡ s.old }

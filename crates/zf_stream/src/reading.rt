@@ -2,7 +2,7 @@
 
 ghost use Rattle.std.specs.Prelude.{◌≡◌, ◌≢◌, ◌≤◌, ◌<◌, ◌*◌, ◌+◌, ◌^◌, [], map, length, take, IsOk, Err, IfOk, IfErr, OnOk, OnErr};
 ghost use Rattle.std.specs.Int.{byte_len};
-ghost use Rattle.zf_dev.specs.Source.{TakesSome, TakesAtMost, Takes, IsAtEnd};
+ghost use Rattle.zf_dev.specs.Source.{TakesSome, TakesAtMost, Takes, Gives, GivesSome, IsAtEnd};
 ghost use Rattle.zf_dev.specs.Faults.{HasCause};
 ghost use Rattle.zf_stream.specs.Outcomes.{TakesFirst};
 ghost use Rattle.zf_stream.specs.ReadRaw.{ReadsValues, LacksRaw, GoesOn};
@@ -22,6 +22,8 @@ pub(crate) fn read_raw<S: Source>(
     requires fits { before + length raw.old < 2 ^ 64 }
     ensures ok { OnOk result (Takes (S.contents src.old) (S.contents src.new) raw.new) }
     ensures err { IfErr result (LacksRaw before (length raw.old) (S.contents src.old) (S.contents src.new)) }
+    ensures gave { OnOk result (Gives (S.gave src.old) (S.gave src.new) raw.new) }
+    ensures gave_some { GivesSome (S.gave src.old) (S.gave src.new) }
     ensures same_source { S.kept src.new ≡ S.kept src.old }
     ensures cause { HasCause (result ≡ Err Read) (S.faults src.old) (S.faults src.new) }
     ensures sure { S.never_fails src.old → (result ≢ Err Read) × S.never_fails src.new }
@@ -43,8 +45,9 @@ pub(crate) fn read_values<T: Lane, S: Source>(
     requires piece { 8 ≤ length piece.old }
     requires fits { before + length values.old * byte_len T.width < 2 ^ 64 }
     ensures ok { OnOk result (ReadsValues T.width (length values.old)
-        (S.contents src.old) (S.contents src.new) (map T.value values.new)) }
+        (S.contents src.old) (S.contents src.new) (Gives (S.gave src.old) (S.gave src.new)) (map T.value values.new)) }
     ensures err { IfErr result (LacksRaw before (length values.old * byte_len T.width) (S.contents src.old) (S.contents src.new)) }
+    ensures gave_some { GivesSome (S.gave src.old) (S.gave src.new) }
     ensures same_source { S.kept src.new ≡ S.kept src.old }
     ensures cause { HasCause (result ≡ Err Read) (S.faults src.old) (S.faults src.new) }
     ensures sure { S.never_fails src.old → (result ≢ Err Read) × S.never_fails src.new }
@@ -65,6 +68,8 @@ pub(crate) fn read_values<T: Lane, S: Source>(
 pub(crate) fn read_end<S: Source>(src: &mut S) -> Result<(), StreamFault>
     ensures ok { OnOk result (Takes (S.contents src.old) (S.contents src.new) [] × IsAtEnd (S.contents src.new)) }
     ensures err { IfErr result (GoesOn (S.contents src.old) (S.contents src.new)) }
+    ensures gave { OnOk result (Gives (S.gave src.old) (S.gave src.new) []) }
+    ensures gave_some { GivesSome (S.gave src.old) (S.gave src.new) }
     ensures same_source { S.kept src.new ≡ S.kept src.old }
     ensures cause { HasCause (result ≡ Err Read) (S.faults src.old) (S.faults src.new) }
     ensures sure { S.never_fails src.old → (result ≢ Err Read) × S.never_fails src.new }
@@ -84,6 +89,8 @@ pub(crate) fn read_into<S: Source>(src: &mut S, buf: &mut [u8]) -> Result<usize,
     ensures end { IfOk result (λ n. n < length buf.old → IsAtEnd (S.contents src.new)) }
     ensures lost { OnErr result (TakesAtMost (S.contents src.old) (S.contents src.new) (length buf.old)) }
     ensures some { TakesSome (S.contents src.old) (S.contents src.new) }
+    ensures gave { IfOk result (λ n. Gives (S.gave src.old) (S.gave src.new) (take n buf.new)) }
+    ensures gave_some { GivesSome (S.gave src.old) (S.gave src.new) }
     ensures fault { IfErr result (λ e. e ≡ Read) }
     ensures same_source { S.kept src.new ≡ S.kept src.old }
     ensures cause { HasCause (result ≡ Err Read) (S.faults src.old) (S.faults src.new) }

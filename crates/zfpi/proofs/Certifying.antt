@@ -47,7 +47,6 @@ module _ (name : List ℕ) (most : ℕ) where
     refuses = λ w status none. sym (ap certified_status none);
     starved_are = λ w status first. refl;
     extent = λ input status first. refl;
-    plain = λ status src taken. refl;
     draft = λ w status taken. refl;
     loads = λ w. tt;
     starves = λ w. tt;
@@ -85,8 +84,6 @@ module _ (name : List ℕ) (most : ℕ) where
           taken = [];
           takes = Takes-none src;
           extent = refl;
-          raw = [];
-          raw_is = refl;
           written = subst (Appends out out_now) (line_is c line certified text) written;
           saved = kept;
         }
@@ -106,8 +103,6 @@ module _ (name : List ℕ) (most : ℕ) where
           taken = [];
           takes = Takes-none src;
           extent = refl;
-          raw = [];
-          raw_is = refl;
           written = subst (AppendsPrefix out out_now) (line_is c line certified text) written;
           saved = kept;
         }

@@ -12,7 +12,6 @@ use Rattle.zf_dev.specs.Sink.{Appends, AppendsPrefix}
 use Rattle.zf_dev.proofs.Appending.{Appends-append, AppendsPrefix-all}
 use Rattle.zf_parse.specs.Parsing.{Said}
 use Rattle.zf_narrow.specs.declared.narrow.Narrow.{Narrow}
-use Rattle.zf_narrow.specs.Texts.{ArePromoted, ArePromotedNearly}
 use Rattle.zfpi.specs.declared.status.Status.{Status}
 use Rattle.zfpi.specs.declared.status.Status.TheVariants.{Done, Lines, ReadFault, WriteFault, LoadFault, SaveFault}
 use Rattle.zfpi.specs.declared.status.Status.TheVariants as statuses
@@ -59,9 +58,7 @@ Behaves-stays c status before src mid now shelf stays b = record {
   taken = b.taken;
   takes = b.takes;
   extent = b.extent;
-  raw = b.raw;
-  raw_is = b.raw_is;
-  written = Writes-stays status ((meaning c).text b.world b.starved b.raw) ((meaning c).draft status ((meaning c).text b.world b.starved b.raw)) before.out mid now stays b.written;
+  written = Writes-stays status ((meaning c).text b.world b.starved b.taken) ((meaning c).draft status ((meaning c).text b.world b.starved b.taken)) before.out mid now stays b.written;
   saved = b.saved;
 }
 
@@ -91,9 +88,9 @@ script_done replies (Ok said) starved script status refusal done same = (refl, s
 script_done replies (Err e) starved script status refusal done same = absurd (first_undone e refusal (subst IsDone same done))
 
 -- a write fault in the place of a status, with all that was written
-instead : (c : Command) (status : Status) (before now : Seen) (b : Behaves c status before now) → OfUsed (meaning c).writes ((meaning c).works b.world) → (meaning c).starved_are WriteFault b.world b.starved → (meaning c).extent WriteFault b.world.input b.taken → (meaning c).raw WriteFault before.src b.taken b.raw
-    → Appends before.out now.out ((meaning c).draft WriteFault ((meaning c).text b.world b.starved b.raw)) → Saves ((meaning c).saved b.world b.starved) WriteFault before.shelf now.shelf → Behaves c WriteFault before now
-instead c status before now b may starved_are extent raw_is written saved = record {
+instead : (c : Command) (status : Status) (before now : Seen) (b : Behaves c status before now) → OfUsed (meaning c).writes ((meaning c).works b.world) → (meaning c).starved_are WriteFault b.world b.starved → (meaning c).extent WriteFault b.world.input b.taken
+    → Appends before.out now.out ((meaning c).draft WriteFault ((meaning c).text b.world b.starved b.taken)) → Saves ((meaning c).saved b.world b.starved) WriteFault before.shelf now.shelf → Behaves c WriteFault before now
+instead c status before now b may starved_are extent written saved = record {
   ends = tt;
   world = b.world;
   exposed = b.exposed;
@@ -103,16 +100,9 @@ instead c status before now b may starved_are extent raw_is written saved = reco
   taken = b.taken;
   takes = b.takes;
   extent = extent;
-  raw = b.raw;
-  raw_is = raw_is;
-  written = AppendsPrefix-all before.out now.out ((meaning c).draft WriteFault ((meaning c).text b.world b.starved b.raw)) written;
+  written = AppendsPrefix-all before.out now.out ((meaning c).draft WriteFault ((meaning c).text b.world b.starved b.taken)) written;
   saved = saved;
 }
-
--- all bytes of narrow values are all but three at most
-nearly : (n : Narrow) (src : Option (List ℕ)) (bytes raw : List ℕ) → ArePromoted n src bytes raw → ArePromotedNearly n src bytes raw
-nearly n None bytes raw are = tt
-nearly n (Some exposed) bytes raw are = (sym (take-length raw) ∙ ap (take (length raw)) are, omega (arith, ap length are))
 
 -- the status was stated, since no work that was done comes from outside
 stated_done : (c : Command) (status : Status) (before now : Seen) → IsDone status → (b : Behaves c status before now) → status ≡ (meaning c).status b.world b.starved
@@ -121,23 +111,23 @@ stated_done c (Lines n) before now done b = elim b.stated [ inl same ↦ same | 
 stated_done c status before now done b = absurd done
 
 unsent : (c : Command) (status : Status) (before now : Seen) → SavesNothing c → IsDone status → Behaves c status before now → Behaves c WriteFault before now
-unsent (Compress h) Done before now unsaved done b = instead (Compress h) Done before now b tt b.starved_are tt b.raw_is b.written b.saved
-unsent (CompressNarrow n h) Done before now unsaved done b = instead (CompressNarrow n h) Done before now b tt b.starved_are tt (nearly n before.src b.taken b.raw b.raw_is) b.written b.saved
-unsent Restore Done before now unsaved done b = instead Restore Done before now b tt b.starved_are tt b.raw_is b.written b.saved
-unsent (RestoreNarrow n) Done before now unsaved done b = instead (RestoreNarrow n) Done before now b tt b.starved_are tt b.raw_is b.written b.saved
-unsent Info Done before now unsaved done b = instead Info Done before now b tt b.starved_are b.extent b.raw_is b.written b.saved
+unsent (Compress h) Done before now unsaved done b = instead (Compress h) Done before now b tt b.starved_are tt b.written b.saved
+unsent (CompressNarrow n h) Done before now unsaved done b = instead (CompressNarrow n h) Done before now b tt b.starved_are tt b.written b.saved
+unsent Restore Done before now unsaved done b = instead Restore Done before now b tt b.starved_are tt b.written b.saved
+unsent (RestoreNarrow n) Done before now unsaved done b = instead (RestoreNarrow n) Done before now b tt b.starved_are tt b.written b.saved
+unsent Info Done before now unsaved done b = instead Info Done before now b tt b.starved_are b.extent b.written b.saved
 unsent (Look name lines) Done before now unsaved done b =
     let file = opened stream_in (b.world.files name) in
     let may = script_done (look_replies lines) file b.starved b.world.input Done (opened_first_stream (b.world.files name)) tt (stated_done (Look name lines) Done before now tt b) in
-    instead (Look name lines) Done before now b may tt b.extent b.raw_is b.written b.saved
+    instead (Look name lines) Done before now b may tt b.extent b.written b.saved
 unsent (Look name lines) (Lines n) before now unsaved done b =
     let file = opened stream_in (b.world.files name) in
     let may = script_done (look_replies lines) file b.starved b.world.input (Lines n) (opened_first_stream (b.world.files name)) tt (stated_done (Look name lines) (Lines n) before now tt b) in
-    instead (Look name lines) (Lines n) before now b may tt b.extent b.raw_is b.written b.saved
+    instead (Look name lines) (Lines n) before now b may tt b.extent b.written b.saved
 unsent (Bound name most) Done before now unsaved done b =
     let may = certified_done (opened array_in (b.world.files name)) Done (opened_first_array (b.world.files name)) tt (stated_done (Bound name most) Done before now tt b) in
-    instead (Bound name most) Done before now b may b.starved_are b.extent b.raw_is b.written b.saved
-unsent (Sample h seed) Done before now unsaved done b = instead (Sample h seed) Done before now b tt b.starved_are b.extent b.raw_is b.written b.saved
+    instead (Bound name most) Done before now b may b.starved_are b.extent b.written b.saved
+unsent (Sample h seed) Done before now unsaved done b = instead (Sample h seed) Done before now b tt b.starved_are b.extent b.written b.saved
 unsent (New name ty ns bits) status before now unsaved done b = absurd unsaved
 unsent (Run name caching) status before now unsaved done b = absurd unsaved
 unsent (Compress h) (Lines n) before now unsaved done b = absurd (IsPossible-behaves (Compress h) (Lines n) before now b)

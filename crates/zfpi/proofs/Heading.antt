@@ -56,8 +56,6 @@ Behaves-first status bytes src_before src_now out_before out_now shelf ends firs
       taken = bytes;
       takes = first.taken;
       extent = extent b.input b.first;
-      raw = bytes;
-      raw_is = refl;
       written = written;
       saved = KeepsFiles-none shelf;
     }
@@ -94,8 +92,6 @@ Behaves-lacks faults.Read src_before src_now out shelf lacks =
       taken = lacks.0;
       takes = lacks.2;
       extent = lacks.1;
-      raw = lacks.0;
-      raw_is = refl;
       written = AppendsPrefix-none out [];
       saved = KeepsFiles-none shelf;
     }

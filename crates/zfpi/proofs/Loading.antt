@@ -130,7 +130,6 @@ pub record IsLoading (c : Command) (name : List ℕ) (reading : List ℕ → Res
   pub refuses : (w : World) (status : Status) → opened reading (w.files name) ≡ Err status → status ≡ (meaning c).status w []
   pub starved_are : (w : World) (status : Status) → ComesFirst status → (meaning c).starved_are status w []
   pub extent : (input : List ℕ) (status : Status) → ComesFirst status → (meaning c).extent status input []
-  pub plain : (status : Status) (src : Option (List ℕ)) (taken : List ℕ) → (meaning c).raw status src taken taken
   pub draft : (w : World) (status : Status) (taken : List ℕ) → (meaning c).draft status ((meaning c).text w [] taken) ≡ cut_draft status ((meaning c).text w [] taken)
   pub loads : (w : World) → OfUsed (meaning c).loads (Unit {0})
   pub starves : (w : World) → (meaning c).memory w
@@ -152,8 +151,6 @@ module _ (c : Command) (name : List ℕ) (reading : List ℕ → Result Said Sta
         taken = [];
         takes = Takes-none src;
         extent = is.extent input status first;
-        raw = [];
-        raw_is = is.plain status src [];
         written = subst (λ draft. Writes status ((meaning c).text w [] []) draft out out) (sym (is.draft w status [])) (Writes-first ((meaning c).text w [] []) out status first);
         saved = Saves-unsaved ((meaning c).saved w []) status before now (Unsaved-first status first) kept;
       }

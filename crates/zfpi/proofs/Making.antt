@@ -31,8 +31,6 @@ module _ (name : List ℕ) (ty : Ty) (ns : List ℕ) (b : ℕ) where
         taken = [];
         takes = Takes-none src;
         extent = refl;
-        raw = [];
-        raw_is = refl;
         written = written;
         saved = saved;
       }

@@ -300,8 +300,8 @@ the_input (Some all) bytes input is exposed = let same : all ≡ bytes = cc in s
 
 -- these bytes are written by a command that is done over what the source holds, and reads all of it
 comes_back : (c : Command) (status : Status) (before now : Seen) (held bytes : List ℕ) → before.src ≡ Some held → (meaning c).loads ≡ false → (meaning c).saves ≡ false
-    → ((w : World) (starved : List ℕ) → w.input ≡ held → (meaning c).status w starved ≡ Done) → ((w : World) (starved raw : List ℕ) → raw ≡ held → (meaning c).text w starved raw ≡ bytes)
-    → ((b : Behaves c Done before now) → b.raw ≡ b.world.input) → Behaves c status before now → IsBack status before.out now.out bytes ⊎ IsFromOutside status
+    → ((w : World) (starved : List ℕ) → w.input ≡ held → (meaning c).status w starved ≡ Done) → ((w : World) (starved taken : List ℕ) → taken ≡ held → (meaning c).text w starved taken ≡ bytes)
+    → ((b : Behaves c Done before now) → b.taken ≡ b.world.input) → Behaves c status before now → IsBack status before.out now.out bytes ⊎ IsFromOutside status
 comes_back c status before now held bytes holds no_load no_save is_done gives whole behaves =
     let w = behaves.world in
     let input = the_input before.src held w.input holds behaves.exposed.input in
@@ -313,19 +313,19 @@ comes_back c status before now held bytes holds no_load no_save is_done gives wh
     ]
   where
     by : Behaves c Done before now → Appends before.out now.out bytes
-    by b = subst (Appends before.out now.out) (gives b.world b.starved b.raw (whole b ∙ the_input before.src held b.world.input holds b.exposed.input)) b.written
+    by b = subst (Appends before.out now.out) (gives b.world b.starved b.taken (whole b ∙ the_input before.src held b.world.input holds b.exposed.input)) b.written
 
 -- what `restore` does with a reversible stream
 pub GivesBack-behaves : (words : List (List ℕ)) (status : Status) (before now : Seen) → OfCommand words (λ c. Behaves c status before now) → GivesBack words status before now
 GivesBack-behaves words status before now command None h bytes holds =
     comes_back Restore status before now (stream_text h bytes) bytes holds.stream refl refl
     (λ w starved input. ap (λ xs. status_of (restore_answer xs)) input ∙ ap status_of (answer-stream_text h bytes holds.header))
-    (λ w starved raw is. ap restored_text is ∙ text-reversible_text h bytes holds.header holds.mode holds.whole holds.small)
-    (λ b. b.raw_is ∙ b.extent)
+    (λ w starved taken is. ap restored_text is ∙ text-reversible_text h bytes holds.header holds.mode holds.whole holds.small)
+    (λ b. b.extent)
     (command Restore holds.words_are)
 GivesBack-behaves words status before now command (Some n) h bytes holds =
     comes_back (RestoreNarrow n) status before now (narrow_text n h bytes) bytes holds.stream refl refl
     (λ w starved input. ap (λ xs. narrow_status_of (restore_narrow_answer xs)) input ∙ ap narrow_status_of (answer-narrow_text n h bytes holds.header holds.typed))
-    (λ w starved raw is. ap (narrow_restored n) is ∙ text-narrow_text n h bytes holds.header holds.typed holds.mode holds.whole holds.small)
-    (λ b. b.raw_is ∙ b.extent)
+    (λ w starved taken is. ap (narrow_restored n) is ∙ text-narrow_text n h bytes holds.header holds.typed holds.mode holds.whole holds.small)
+    (λ b. b.extent)
     (command (RestoreNarrow n) holds.words_are)

@@ -33,8 +33,6 @@ module _ (h : Header) (seed : ℕ) where
         taken = [];
         takes = Takes-none src;
         extent = refl;
-        raw = [];
-        raw_is = refl;
         written = written;
         saved = KeepsFiles-none shelf;
       }

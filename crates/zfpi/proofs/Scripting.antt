@@ -55,7 +55,6 @@ IsScripted-run name caching = record {
     refuses = λ w status none. sym (ap (λ file. script_status (run_replies caching) file [] w.input) none);
     starved_are = λ w status first. OnWholeScript-first _ status first;
     extent = TakesScript-first;
-    plain = λ status src taken. refl;
     draft = λ w status taken. refl;
     loads = λ w. tt;
     starves = λ w. tt;
@@ -75,7 +74,6 @@ IsScripted-look name lines = record {
     refuses = λ w status none. sym (ap (λ file. script_status (look_replies lines) file [] w.input) none);
     starved_are = λ w status first. OnWholeScript-first _ status first;
     extent = TakesScript-first;
-    plain = λ status src taken. refl;
     draft = λ w status taken. refl;
     loads = λ w. tt;
     starves = λ w. tt;
@@ -132,8 +130,6 @@ module _ (c : Command) (name : List ℕ) (reading : List ℕ → Result Said Sta
     taken = taken;
     takes = takes;
     extent = is.extent status input taken extent;
-    raw = taken;
-    raw_is = is.loading.plain status src taken;
     written = subst (λ draft. Writes status ((meaning c).text (world_with known bytes input) [] taken) draft out out) (sym (is.draft (world_with known bytes input) [] status taken)) (written ((meaning c).text (world_with known bytes input) [] taken));
     saved = Saves-unsaved ((meaning c).saved (world_with known bytes input) []) status known mid un kept;
   }
@@ -175,8 +171,6 @@ module _ (c : Command) (name : List ℕ) (reading : List ℕ → Result Said Sta
       taken = script;
       takes = takes;
       extent = is.extent status script script extent;
-      raw = script;
-      raw_is = is.loading.plain status src script;
       written = writes _ _ (subst (Appends out out_now) (text_is starved script script) written);
       saved = saved;
     }
@@ -204,8 +198,6 @@ module _ (c : Command) (name : List ℕ) (reading : List ℕ → Result Said Sta
           taken = script;
           takes = takes;
           extent = is.extent statuses.WriteFault script script refl;
-          raw = script;
-          raw_is = is.loading.plain statuses.WriteFault src script;
           written = subst (AppendsPrefix out out_now) (text_is starved script script ∙ sym (is.draft w starved statuses.WriteFault script)) (AppendsPrefix-all out out_now text written);
           saved = Saves-unsaved ((meaning c).saved w starved) statuses.WriteFault known mid tt kept;
         }
@@ -247,8 +239,6 @@ module _ (c : Command) (name : List ℕ) (reading : List ℕ → Result Said Sta
             taken = script;
             takes = takes;
             extent = is.extent statuses.WriteFault script script refl;
-            raw = script;
-            raw_is = is.loading.plain statuses.WriteFault src script;
             written = subst (AppendsPrefix out out_now) (whole ∙ sym (is.draft (world_with known bytes script) starved statuses.WriteFault script)) (AppendsPrefix-more out out_now (first ++ reply) prefix.0 part);
             saved = Saves-unsaved ((meaning c).saved (world_with known bytes script) starved) statuses.WriteFault known mid tt kept;
           }

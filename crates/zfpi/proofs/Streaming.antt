@@ -21,14 +21,14 @@ use Rattle.zf_stream.specs.Headed.{prefix_room}
 use Rattle.zf_narrow.specs.declared.narrow.Narrow.{Narrow}
 use Rattle.zf_narrow.specs.declared.fault.NarrowFault.{NarrowFault}
 use Rattle.zf_narrow.specs.declared.fault.NarrowFault.TheVariants.{NotNarrow, Stream}
-use Rattle.zf_narrow.specs.Texts.{restore_narrow_answer, answer_of_type, answer_behind, HasWideType, ArePromotedAfter, narrow_restored, IsFromOutside, IsBeforeWriting, AnswersNarrow, CanRefuseNarrow}
+use Rattle.zf_narrow.specs.Texts.{restore_narrow_answer, answer_of_type, answer_behind, HasWideType, narrow_restored, IsFromOutside, IsBeforeWriting, AnswersNarrow, CanRefuseNarrow}
 use Rattle.zfpi.specs.declared.status.Status.{Status}
 use Rattle.zfpi.specs.declared.status.Status.TheVariants as statuses
 use Rattle.zfpi.specs.declared.command.Command.{Command}
 use Rattle.zfpi.specs.declared.command.Command.TheVariants.{Compress, CompressNarrow, Restore, RestoreNarrow}
 use Rattle.zfpi.specs.Faults.{fault_status, narrow_status, status_of, narrow_status_of}
 use Rattle.zfpi.specs.World.{World, ExposesInput, seen}
-use Rattle.zfpi.specs.Answer.{meaning, TakesStream, IsNarrowRaw, MayFail, compress_draft, restore_draft, OfUsed}
+use Rattle.zfpi.specs.Answer.{meaning, TakesStream, MayFail, compress_draft, restore_draft, OfUsed}
 use Rattle.zfpi.specs.Headline.{IsOfCommand, Writes, Saves, Behaves}
 use Rattle.zfpi.proofs.Completed.{one_value}
 use Rattle.zfpi.proofs.Exposed.{world_of, ExposesFiles-same, KeepsFiles-none, ExposesInput-taken}
@@ -129,10 +129,10 @@ IsStreaming-restore_narrow n = record {
 
 -- ---- after Ok
 
-pub Behaves-done : (c : Command) (bytes raw : List ℕ) (src_before src_now out_before out_now : Option (List ℕ)) (shelf : Option Files) → IsStreaming c
-    → statuses.Done ≡ (meaning c).status (world_of bytes shelf) [] → Takes src_before src_now bytes → IsAtEnd src_now → (meaning c).raw statuses.Done src_before bytes raw → Appends out_before out_now ((meaning c).text (world_of bytes shelf) [] raw)
+pub Behaves-done : (c : Command) (bytes : List ℕ) (src_before src_now out_before out_now : Option (List ℕ)) (shelf : Option Files) → IsStreaming c
+    → statuses.Done ≡ (meaning c).status (world_of bytes shelf) [] → Takes src_before src_now bytes → IsAtEnd src_now → Appends out_before out_now ((meaning c).text (world_of bytes shelf) [] bytes)
     → Behaves c statuses.Done (seen src_before out_before shelf) (seen src_now out_now shelf)
-Behaves-done c bytes raw src_before src_now out_before out_now shelf is stated taken ended raw_is written =
+Behaves-done c bytes src_before src_now out_before out_now shelf is stated taken ended written =
     let w = world_of bytes shelf in
     record {
       ends = tt;
@@ -144,8 +144,6 @@ Behaves-done c bytes raw src_before src_now out_before out_now shelf is stated t
       taken = bytes;
       takes = taken;
       extent = is.to_end bytes;
-      raw = raw;
-      raw_is = raw_is;
       written = written;
       saved = subst (λ file. Saves file statuses.Done shelf shelf) (sym (is.nothing_saved w)) (KeepsFiles-none shelf);
     }
@@ -166,12 +164,12 @@ explain : (c : Command) (status : Status) (known : Option (List ℕ)) (shelf : O
 explain c status None shelf exposed some = record { input = some.0; exposed = tt; stated = some.1 }
 explain c status (Some input) shelf exposed some = record { input = input; exposed = refl; stated = exposed input refl }
 
-Behaves-cut : (c : Command) (status : Status) (taken raw : List ℕ) (src_before src_now out_before out_now : Option (List ℕ)) (shelf : Option Files) → IsStreaming c → IsCut status
+Behaves-cut : (c : Command) (status : Status) (taken : List ℕ) (src_before src_now out_before out_now : Option (List ℕ)) (shelf : Option Files) → IsStreaming c → IsCut status
     → (why : Explains c status src_before shelf) → (meaning c).extent status why.input taken
-    → Takes src_before src_now taken → (meaning c).raw status src_before taken raw → ((w : World) → AppendsPrefix out_before out_now ((meaning c).draft status ((meaning c).text w [] raw)))
+    → Takes src_before src_now taken → ((w : World) → AppendsPrefix out_before out_now ((meaning c).draft status ((meaning c).text w [] taken)))
     → Behaves c status (seen src_before out_before shelf) (seen src_now out_now shelf)
 unfolding IsStated
-Behaves-cut c status taken raw src_before src_now out_before out_now shelf is cut why extent takes raw_is prefix =
+Behaves-cut c status taken src_before src_now out_before out_now shelf is cut why extent takes prefix =
     let w = world_of why.input shelf in
     record {
       ends = IsOfCommand-cut status cut;
@@ -183,9 +181,7 @@ Behaves-cut c status taken raw src_before src_now out_before out_now shelf is cu
       taken = taken;
       takes = takes;
       extent = extent;
-      raw = raw;
-      raw_is = raw_is;
-      written = Writes-cut status ((meaning c).text w [] raw) ((meaning c).draft status ((meaning c).text w [] raw)) out_before out_now cut (prefix w);
+      written = Writes-cut status ((meaning c).text w [] taken) ((meaning c).draft status ((meaning c).text w [] taken)) out_before out_now cut (prefix w);
       saved = subst (λ file. Saves file status shelf shelf) (sym (is.nothing_saved w)) (KeepsFiles-none shelf);
     }
 
@@ -201,15 +197,15 @@ may_outside c e w is takes outside = elim outside [
 ]
 
 -- a fault is the one that is stated for the input, or for some input where none is exposed. For this input the command takes memory
-pub Behaves-fault : (c : Command) (answer : List ℕ → Result (Unit {0}) StreamFault) (e : StreamFault) (large taken raw : List ℕ) (src_before src_now out_before out_now : Option (List ℕ)) (shelf : Option Files) → IsStreaming c
+pub Behaves-fault : (c : Command) (answer : List ℕ → Result (Unit {0}) StreamFault) (e : StreamFault) (large taken : List ℕ) (src_before src_now out_before out_now : Option (List ℕ)) (shelf : Option Files) → IsStreaming c
     → ((w : World) → status_of (answer w.input) ≡ (meaning c).status w []) → streams.Answers (Err e) src_before answer → streams.CanRefuse answer e
     → (meaning c).memory (world_of large shelf) → ((input : List ℕ) → src_before ≡ Some input → e ≡ faults.Memory → (meaning c).memory (world_of input shelf))
-    → Takes src_before src_now taken → (meaning c).raw (fault_status e) src_before taken raw → ((w : World) → AppendsPrefix out_before out_now ((meaning c).draft (fault_status e) ((meaning c).text w [] raw)))
+    → Takes src_before src_now taken → ((w : World) → AppendsPrefix out_before out_now ((meaning c).draft (fault_status e) ((meaning c).text w [] taken)))
     → Behaves c (fault_status e) (seen src_before out_before shelf) (seen src_now out_now shelf)
 unfolding IsStated
-Behaves-fault c answer e large taken raw src_before src_now out_before out_now shelf is status answers refuses has_room takes takes_bytes raw_is prefix =
-    Behaves-cut c (fault_status e) taken raw src_before src_now out_before out_now shelf is (IsCut-fault e) why
-    (is.cut_extent e why.input taken) takes_bytes raw_is prefix
+Behaves-fault c answer e large taken src_before src_now out_before out_now shelf is status answers refuses has_room takes takes_bytes prefix =
+    Behaves-cut c (fault_status e) taken src_before src_now out_before out_now shelf is (IsCut-fault e) why
+    (is.cut_extent e why.input taken) takes_bytes prefix
   where
     exposed : (input : List ℕ) → src_before ≡ Some input → IsStated c (fault_status e) shelf input
     exposed input is_exposed = elim (subst (λ known. streams.Answers (Err e) known answer) is_exposed answers) [
@@ -267,18 +263,6 @@ one_stream-good = good_header (stream_text one_header []) (answer-stream_text on
 
 -- ---- faults of a stream that is restored to narrow values
 
--- the bytes of narrow values, from a fault of the stream on the raw bytes
-pub IsNarrowRaw-fault : (n : Narrow) (e : StreamFault) (src : Option (List ℕ)) (taken raw : List ℕ) → ArePromotedAfter e n src taken raw → IsNarrowRaw n (fault_status e) src taken raw
-IsNarrowRaw-fault n faults.Read src taken raw is = is
-IsNarrowRaw-fault n faults.Write src taken raw is = is
-IsNarrowRaw-fault n (faults.RawShort m) src taken raw is = is
-IsNarrowRaw-fault n faults.RawLong src taken raw is = is
-IsNarrowRaw-fault n (faults.Header f) src taken raw is = is
-IsNarrowRaw-fault n (faults.Truncated b) src taken raw is = is
-IsNarrowRaw-fault n faults.Pad src taken raw is = is
-IsNarrowRaw-fault n faults.Trailing src taken raw is = is
-IsNarrowRaw-fault n faults.Memory src taken raw is = is
-
 IsCut-narrow : (e : NarrowFault) → IsCut (narrow_status e)
 unfolding IsCut
 IsCut-narrow NotNarrow = tt
@@ -335,9 +319,9 @@ Behaves-wide n None src_now out_before out_now shelf answers wide prefix =
       exposed = tt;
       stated = inl (ap narrow_status_of (sym (wide_answer wide.bytes wide.good wide.other)));
     } in
-    Behaves-cut (RestoreNarrow n) statuses.NotNarrow wide.bytes wide.bytes None src_now out_before out_now shelf
+    Behaves-cut (RestoreNarrow n) statuses.NotNarrow wide.bytes None src_now out_before out_now shelf
     (IsStreaming-restore_narrow n) (IsCut-narrow NotNarrow) why
-    (sym (take_all prefix_room wide.bytes wide.first.within)) wide.first.taken refl (λ w. prefix)
+    (sym (take_all prefix_room wide.bytes wide.first.within)) wide.first.taken (λ w. prefix)
 Behaves-wide n (Some input) src_now out_before out_now shelf answers wide prefix =
     let why : Explains (RestoreNarrow n) statuses.NotNarrow (Some input) shelf = record {
       input = input;
@@ -347,8 +331,8 @@ Behaves-wide n (Some input) src_now out_before out_now shelf answers wide prefix
         | inr outside ↦ absurd outside
       ];
     } in
-    Behaves-cut (RestoreNarrow n) statuses.NotNarrow wide.bytes wide.bytes (Some input) src_now out_before out_now shelf
-    (IsStreaming-restore_narrow n) (IsCut-narrow NotNarrow) why wide.first.first wide.first.taken refl (λ w. prefix)
+    Behaves-cut (RestoreNarrow n) statuses.NotNarrow wide.bytes (Some input) src_now out_before out_now shelf
+    (IsStreaming-restore_narrow n) (IsCut-narrow NotNarrow) why wide.first.first wide.first.taken (λ w. prefix)
 
 pub Behaves-narrow_fault : (n : Narrow) (e : NarrowFault) (taken : List ℕ) (src_before src_now out_before out_now : Option (List ℕ))
     (shelf : Option Files) → AnswersNarrow (Err e) src_before → CanRefuseNarrow e → (e ≡ NotNarrow → HasWideType src_before src_now)
@@ -359,5 +343,5 @@ Behaves-narrow_fault n NotNarrow taken src_before src_now out_before out_now she
     Behaves-wide n src_before src_now out_before out_now shelf answers (wide refl) prefix
 Behaves-narrow_fault n (Stream f) taken src_before src_now out_before out_now shelf answers refuses wide takes takes_bytes prefix =
     let why = narrow_why n (Stream f) src_before shelf answers refuses takes in
-    Behaves-cut (RestoreNarrow n) (fault_status f) taken taken src_before src_now out_before out_now shelf
-    (IsStreaming-restore_narrow n) (IsCut-fault f) why (TakesStream-fault f why.input taken) takes_bytes refl (λ w. prefix)
+    Behaves-cut (RestoreNarrow n) (fault_status f) taken src_before src_now out_before out_now shelf
+    (IsStreaming-restore_narrow n) (IsCut-fault f) why (TakesStream-fault f why.input taken) takes_bytes (λ w. prefix)

@@ -9,7 +9,7 @@ use Rattle.zf_parse.specs.Raw.{compress_answer, stream_text}
 use Rattle.zf_parse.specs.Parsing.{Said, restore_answer, restored_text}
 use Rattle.zf_stream.specs.Headed.{prefix_room}
 use Rattle.zf_narrow.specs.declared.narrow.Narrow.{Narrow}
-use Rattle.zf_narrow.specs.Texts.{compress_narrow_answer, ArePromoted, ArePromotedNearly, restore_narrow_answer, narrow_restored}
+use Rattle.zf_narrow.specs.Texts.{narrow_text, compress_narrow_answer, restore_narrow_answer, narrow_restored}
 use Rattle.zf_store.specs.Stored.{file_of, zeros}
 use Rattle.zfpi.specs.declared.status.Status.{Status}
 use Rattle.zfpi.specs.declared.status.Status.TheVariants as statuses
@@ -31,7 +31,7 @@ pub record Meaning : Type 1 where
   pub status : World → List ℕ → Status
   -- these are the lines, after this status
   pub starved_are : Status → World → List ℕ → Type 0
-  -- what is written where the whole work was done; the last list has the raw bytes of what was read
+  -- what is written where the whole work was done; the last list has the bytes that were read
   pub text : World → List ℕ → List ℕ → List ℕ
   -- after each other status a prefix of this much of the text
   pub draft : Status → List ℕ → List ℕ
@@ -39,8 +39,6 @@ pub record Meaning : Type 1 where
   pub saved : World → List ℕ → Option (List ℕ × List ℕ)
   -- how far the input was taken: the input, and what was taken of it
   pub extent : Status → List ℕ → List ℕ → Type 0
-  -- the raw bytes of what was taken of this source, as far as it exposes them
-  pub raw : Status → Option (List ℕ) → List ℕ → List ℕ → Type 0
   -- it may have come to the source by this status
   pub reads : Status → Bool
   -- it uses these devices at all
@@ -75,23 +73,16 @@ TakesStream statuses.Done input taken = taken ≡ input
 TakesStream statuses.NotNarrow input taken = taken ≡ take prefix_room input
 TakesStream status input taken = Unit {0}
 
--- what the bytes that were read of narrow values stand for: int32 bytes, of which the last three may lack where a device failed
-abbrev pub IsNarrowRaw : Narrow → Status → Option (List ℕ) → List ℕ → List ℕ → Type 0
-IsNarrowRaw n statuses.ReadFault src taken raw = ArePromotedNearly n src taken raw
-IsNarrowRaw n statuses.WriteFault src taken raw = ArePromotedNearly n src taken raw
-IsNarrowRaw n status src taken raw = ArePromoted n src taken raw
-
 -- Done, with nothing read, written or saved; memory is taken
 abbrev pub plain : Meaning
 plain = record {
   can_run = Unit {0};
   status = λ w starved. statuses.Done;
   starved_are = λ status w starved. starved ≡ [];
-  text = λ w starved raw. [];
+  text = λ w starved taken. [];
   draft = cut_draft;
   saved = λ w starved. None;
   extent = λ status input taken. taken ≡ [];
-  raw = λ status src taken raw. raw ≡ taken;
   reads = λ status. false;
   writes = false;
   loads = false;
@@ -110,7 +101,7 @@ abbrev pub scripting : Answering → (World → Result Said Status) → Meaning
 scripting replies file = record plain {
   status = λ w starved. script_status replies (file w) starved w.input;
   starved_are = λ status w starved. OnWholeScript status (AreStarved replies (file w) starved w.input);
-  text = λ w starved raw. script_text replies (file w) starved w.input;
+  text = λ w starved taken. script_text replies (file w) starved w.input;
   extent = TakesScript;
   reads = reads_script;
   writes = true;
@@ -123,29 +114,28 @@ abbrev pub meaning : Command → Meaning
 meaning (Compress h) = record streaming {
   can_run = IsMode h.mode;
   status = λ w starved. status_of (compress_answer h w.input);
-  text = λ w starved raw. stream_text h raw;
+  text = λ w starved taken. stream_text h taken;
 }
 meaning (CompressNarrow n h) = record streaming {
   can_run = IsMode h.mode × (h.ty ≡ I32);
   status = λ w starved. status_of (compress_narrow_answer n h w.input);
-  text = λ w starved raw. stream_text h raw;
-  raw = IsNarrowRaw n;
+  text = λ w starved taken. narrow_text n h taken;
 }
 meaning Restore = record streaming {
   status = λ w starved. status_of (restore_answer w.input);
-  text = λ w starved raw. restored_text raw;
+  text = λ w starved taken. restored_text taken;
   draft = restore_draft;
   memory = λ w. header_fault w.input ≡ None;
 }
 meaning (RestoreNarrow n) = record streaming {
   status = λ w starved. narrow_status_of (restore_narrow_answer w.input);
-  text = λ w starved raw. narrow_restored n raw;
+  text = λ w starved taken. narrow_restored n taken;
   draft = restore_draft;
   memory = λ w. header_fault w.input ≡ None;
 }
 meaning Info = record plain {
   status = λ w starved. header_status (header_fault (take header_bytes w.input));
-  text = λ w starved raw. info_text raw;
+  text = λ w starved taken. info_text taken;
   extent = TakesHeader;
   reads = λ status. true;
   writes = true;
@@ -164,14 +154,14 @@ meaning (Run name caching) = record (scripting (run_replies caching) (λ w. open
 meaning (Look name lines) = record (scripting (look_replies lines) (λ w. opened stream_in (w.files name))) { can_run = IsLines lines }
 meaning (Bound name most) = record plain {
   status = λ w starved. certified_status (opened array_in (w.files name));
-  text = λ w starved raw. certified_text most (opened array_in (w.files name));
+  text = λ w starved taken. certified_text most (opened array_in (w.files name));
   writes = true;
   loads = true;
   works = λ w. IsOk (opened array_in (w.files name));
 }
 meaning (Sample h seed) = record plain {
   can_run = IsMode h.mode;
-  text = λ w starved raw. sample_text h seed;
+  text = λ w starved taken. sample_text h seed;
   writes = true;
 }
 

@@ -66,10 +66,7 @@ pub record Behaves (c : Command) (status : Status) (before now : Seen) : Type 0 
   pub taken : List ℕ
   pub takes : Takes before.src now.src taken
   pub extent : (meaning c).extent status world.input taken
-  -- the raw bytes of these
-  pub raw : List ℕ
-  pub raw_is : (meaning c).raw status before.src taken raw
-  pub written : Writes status ((meaning c).text world starved raw) ((meaning c).draft status ((meaning c).text world starved raw)) before.out now.out
+  pub written : Writes status ((meaning c).text world starved taken) ((meaning c).draft status ((meaning c).text world starved taken)) before.out now.out
   pub saved : Saves ((meaning c).saved world starved) status before.shelf now.shelf
 
 -- a count rises only where the device may have been used

@@ -1,11 +1,12 @@
 use Rattle.std.proofs.Common.{length, ◌-◌, ◌≡◌, ◌≤◌, take, drop}
-use Rattle.zf_dev.specs.Source.{Takes}
+use Rattle.zf_dev.specs.Source.{Takes, Gives}
 use Rattle.zf_dev.proofs.source.fill.Given as goal
 
 abbrev pub invariant-loop-filled : goal.invariant-loop-filled
 invariant-loop-filled g l = record {
   in_range : l.filled ≤ length l.buf;
   taken : Takes (g.S.Source.contents l.initial.src) (g.S.Source.contents l.src) (take l.filled l.buf);
+  gave : Gives (g.S.Source.gave l.initial.src) (g.S.Source.gave l.src) (take l.filled l.buf);
   rest : drop l.filled l.buf ≡ drop l.filled l.initial.buf;
   same : g.S.Source.faults l.src ≡ g.S.Source.faults l.initial.src;
   same_source : g.S.Source.kept l.src ≡ g.S.Source.kept l.initial.src;

@@ -1,9 +1,9 @@
 use Rattle.std.proofs.Common.{rules, ◌≡◌, sym, ap, subst, ◌∙◌, ℕ, List, length, Option, Err}
 use Rattle.zf_dev.specs.Source.{Takes}
 use Rattle.zf_parse.specs.declared.fault.StreamFault.{StreamFault}
-use Rattle.zf_stream.specs.Outcomes.{CanRefuse, ShowsLength, Answers}
+use Rattle.zf_stream.specs.Outcomes.{CanRefuse, ShowsLength, Answers, Finishes, LeavesPrefix}
 use Rattle.zf_narrow.specs.Promotions.{read_so_far}
-use Rattle.zf_narrow.specs.Texts.{narrow_len, compress_narrow_answer, CompressesNarrow, LeavesNarrow}
+use Rattle.zf_narrow.specs.Texts.{narrow_len, compress_narrow_answer, narrow_text}
 use Rattle.zf_narrow.proofs.Compressed.{Runs, fault_possible, run_good_answers, run_fault_answers, run_compresses, run_shows, run_leaves}
 use Rattle.zf_narrow.proofs.compressing.compress_begun.Goals as goal
 
@@ -20,6 +20,7 @@ returns-in-Ok-clause-answer g c =
       four_old = four;
       half_old = c.new.ensures.half;
       unspent_old = c.new.ensures.spent;
+      taken_old = c.new.ensures.taken;
       same = source.same_type ∙ c.requires.narrow;
       four = c.pending-pending.ensures.value;
       spent_end = source.at_end;
@@ -40,14 +41,15 @@ returns-in-Ok-clause-ok g c =
       four_old = four;
       half_old = c.new.ensures.half;
       unspent_old = c.new.ensures.spent;
+      taken_old = c.new.ensures.taken;
       same = source.same_type ∙ c.requires.narrow;
       four = c.pending-pending.ensures.value;
       spent_end = source.at_end;
       read = subst Read c.requires.start source.read;
     } in
     let src_is = c.src-1.given.1 (sym (ap (λ (q : _). q.0) c.compress-answer.ensures.same_source)) in
-    subst (λ s. CompressesNarrow n c.args.h.now known (g.S.Source.contents s) (g.O.Sink.contents c.args.out.now) (g.O.Sink.contents c.compress-answer.new.out)) (sym src_is)
-    (run_compresses n old new runs c.args.h.now (g.O.Sink.contents c.args.out.now) (g.O.Sink.contents c.compress-answer.new.out) c.requires.int32 c.in-Ok.ensures.ok)
+    subst (λ s. Finishes (compress_narrow_answer n c.args.h.now) (narrow_text n c.args.h.now) known (g.S.Source.contents s) (g.O.Sink.contents c.args.out.now) (g.O.Sink.contents c.compress-answer.new.out)) (sym src_is)
+    (run_compresses n old new runs c.args.h.now (g.O.Sink.contents c.args.out.now) (g.O.Sink.contents c.compress-answer.new.out) c.requires.int32 c.in-Ok.ensures.ok c.in-Ok.ensures.gave)
 
 pub returns-in-Err-clause-answer : goal.returns-in-Err-clause-answer
 returns-in-Err-clause-answer g c =
@@ -62,6 +64,7 @@ returns-in-Err-clause-answer g c =
       four_old = four;
       half_old = c.new.ensures.half;
       unspent_old = c.new.ensures.spent;
+      taken_old = c.new.ensures.taken;
       same = source.same_type ∙ c.requires.narrow;
       four = c.pending-pending.ensures.value;
       spent_end = source.at_end;
@@ -88,6 +91,7 @@ returns-in-Err-clause-length g c =
       four_old = four;
       half_old = c.new.ensures.half;
       unspent_old = c.new.ensures.spent;
+      taken_old = c.new.ensures.taken;
       same = source.same_type ∙ c.requires.narrow;
       four = c.pending-pending.ensures.value;
       spent_end = source.at_end;
@@ -111,6 +115,7 @@ returns-in-Err-clause-err g c =
       four_old = four;
       half_old = c.new.ensures.half;
       unspent_old = c.new.ensures.spent;
+      taken_old = c.new.ensures.taken;
       same = source.same_type ∙ c.requires.narrow;
       four = c.pending-pending.ensures.value;
       spent_end = source.at_end;
@@ -118,7 +123,5 @@ returns-in-Err-clause-err g c =
     } in
     let src_is = c.src-1.given.1 (sym (ap (λ (q : _). q.0) c.compress-answer.ensures.same_source)) in
     let out0 = g.O.Sink.contents c.args.out.now in let out1 = g.O.Sink.contents c.compress-answer.new.out in
-    let Of : StreamFault → Type 0 = λ e. LeavesNarrow e n c.args.h.now known (g.S.Source.contents source.src.now) out0 out1 in
-    subst (λ s. LeavesNarrow c.in_narrow_bytes.result n c.args.h.now known (g.S.Source.contents s) out0 out1) (sym src_is)
-    (subst Of (sym c.in_narrow_bytes.ensures)
-    (run_leaves n old new runs c.args.h.now out0 out1 c.in-Err.fault c.requires.int32 c.in-Err.ensures.possible c.in-Err.ensures.length (λ is. c.in-Err.ensures.unwritten (ap (λ e. Err e) is)) c.in-Err.ensures.err))
+    subst (λ s. LeavesPrefix (narrow_text n c.args.h.now) known (g.S.Source.contents s) out0 out1) (sym src_is)
+    (run_leaves n old new runs c.args.h.now out0 out1 c.requires.int32 c.in-Err.ensures.gave_prefix)

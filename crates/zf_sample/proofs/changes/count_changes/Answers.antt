@@ -14,7 +14,7 @@ loop-i-preserved c =
       | else-ne w ↦ w.changed-is ∙ (omega arith ∙ sym (ap (λ d. c.loop-i.changed + cond d 1 0) w.if-ne.false))
     ] in
     let next = next_change len k (c.args.count - c.loop-i._i) c.loop-i.changed c.if-ne.changed c.min.result c.min-in-loop-i.result c.loop-i.before.now c.loop-i.after.now a.result.0.now b.result.0.now a.result.1.now b.result.1.now c.ne.result
-    (omega arith) c.min.ensures c.min-in-loop-i.ensures a.ensures.prefix b.ensures.prefix a.ensures.back b.ensures.back c.ne.ensures now in
+    (omega arith) c.min.ensures c.min-in-loop-i.ensures a.ensures.front b.ensures.front a.ensures.back b.ensures.back c.ne.ensures now in
     record {
       all = next ∙ c.loop-i.invariant.all;
       few = elim c.if-ne.branch [

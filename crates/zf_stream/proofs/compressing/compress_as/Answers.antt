@@ -4,7 +4,7 @@ use Rattle.zf_spec.specs.Grid.{product}
 use Rattle.zf_pad.proofs.Slabs.{product-with_rows}
 use Rattle.zf_parse.specs.Raw.{compress_answer, stream_text}
 use Rattle.zf_stream.proofs.OnErrors.{on_err}
-use Rattle.zf_stream.proofs.Answering.{answer_of_memory, nothing_left}
+use Rattle.zf_stream.proofs.Answering.{answer_of_memory, nothing_left, nothing_given}
 use Rattle.zf_stream.proofs.Slabwise.{are_pieces}
 use Rattle.zf_stream.proofs.compressing.compress_as.Goals as goal
 
@@ -39,3 +39,18 @@ returns-in_err-piece-clause-err g c = on_err c.from_residual-in_err-piece.result
 
 pub returns-in_err-reserve-clause-err : goal.returns-in_err-reserve-clause-err
 returns-in_err-reserve-clause-err g c = on_err c.from_residual-in_err-reserve.result _ (nothing_left (stream_text c.args.h.now) (g.S.Source.contents c.args.src.now) (g.O.Sink.contents c.args.out.now))
+
+pub returns-in_err-values-clause-gave_prefix : goal.returns-in_err-values-clause-gave_prefix
+returns-in_err-values-clause-gave_prefix g c = on_err c.from_residual.result _ (nothing_given (stream_text c.args.h.now) (g.S.Source.gave c.args.src.now) (g.O.Sink.contents c.args.out.now))
+
+pub returns-in_err-block-clause-gave_prefix : goal.returns-in_err-block-clause-gave_prefix
+returns-in_err-block-clause-gave_prefix g c = on_err c.from_residual-in_err-block.result _ (nothing_given (stream_text c.args.h.now) (g.S.Source.gave c.args.src.now) (g.O.Sink.contents c.args.out.now))
+
+pub returns-in_err-s-clause-gave_prefix : goal.returns-in_err-s-clause-gave_prefix
+returns-in_err-s-clause-gave_prefix g c = on_err c.from_residual-in_err-s.result _ (nothing_given (stream_text c.args.h.now) (g.S.Source.gave c.args.src.now) (g.O.Sink.contents c.args.out.now))
+
+pub returns-in_err-piece-clause-gave_prefix : goal.returns-in_err-piece-clause-gave_prefix
+returns-in_err-piece-clause-gave_prefix g c = on_err c.from_residual-in_err-piece.result _ (nothing_given (stream_text c.args.h.now) (g.S.Source.gave c.args.src.now) (g.O.Sink.contents c.args.out.now))
+
+pub returns-in_err-reserve-clause-gave_prefix : goal.returns-in_err-reserve-clause-gave_prefix
+returns-in_err-reserve-clause-gave_prefix g c = on_err c.from_residual-in_err-reserve.result _ (nothing_given (stream_text c.args.h.now) (g.S.Source.gave c.args.src.now) (g.O.Sink.contents c.args.out.now))

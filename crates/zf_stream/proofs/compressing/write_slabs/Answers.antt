@@ -3,6 +3,7 @@ use Rattle.std.proofs.lemmas.List.{length-take-le}
 use Rattle.std.specs.Int.{byte_len}
 use Rattle.zf_pad.specs.Rasters.{IsRaster}
 use Rattle.zf_pad.proofs.Slabs.{layout_of_slab, length-with_rows}
+use Rattle.zf_dev.specs.Source.{Gives}
 use Rattle.zf_dev.proofs.Taking.{Takes-none}
 use Rattle.zf_stream.specs.Rows.{WritesSlab, BreaksSlab}
 use Rattle.zf_parse.specs.Raw.{raw_len}
@@ -20,7 +21,7 @@ least here rows all row n is same = ⊎_elim (λ lt. inl (omega arith)) (λ le. 
 
 pub loop-row-init : goal.loop-row-init
 loop-row-init g c = record {
-  done = no_rows c.args.h.now c.args.codes.now.bits c.dims-dims.ensures.shape.some_dimension (Takes-none _) (Flows-none _ _);
+  done = no_rows c.args.h.now c.args.codes.now.bits (g.S.Source.gave c.args.src.now) c.dims-dims.ensures.shape.some_dimension (Takes-none _) (Flows-none _ _);
   taken = zero_rows c.args.h.now;
   few = c.requires.few;
   room = omega arith;
@@ -85,13 +86,14 @@ returns-in_err-write_slab-clause-err g c =
     let here = c.min-here.result in
     let mid = g.S.Source.contents c.loop-row.src in
     let now = g.S.Source.contents c.write_slab.new.src in
+    let gives = Gives (g.S.Source.gave c.loop-row.src) (g.S.Source.gave c.write_slab.new.src) in
     let out1 = g.O.Sink.contents c.loop-row.out in
     let out2 = g.O.Sink.contents c.write_slab.new.out in
     let e = c.in_err-write_slab.field-0.0 in
-    let P : List ℕ → Type 0 = λ s. BreaksSlab (with_shape h s) c.loop-row.taken mid now out1 out2 c.loop-row.codes.bits e in
-    let broken : BreaksSlab (part_of h here) c.loop-row.taken mid now out1 out2 c.loop-row.codes.bits e = subst P c.with_rows.ensures c.in_err-write_slab.ensures.err in
+    let P : List ℕ → Type 0 = λ s. BreaksSlab (with_shape h s) c.loop-row.taken mid now gives out1 out2 c.loop-row.codes.bits e in
+    let broken : BreaksSlab (part_of h here) c.loop-row.taken mid now gives out1 out2 c.loop-row.codes.bits e = subst P c.with_rows.ensures c.in_err-write_slab.ensures.err in
     let next = next_slab c.args.h.now c.args.rows c.loop-row.row c.requires.rows c.loop-row.invariant.done.whole (omega (arith, c.loop-row-test.true, c.rows_of-all.ensures)) c.min-here.result (least _ _ _ _ _ c.min-here.ensures c.rows_of-all.ensures) (omega (arith, c.min-here.ensures)) (omega (arith, c.min-here.ensures, c.rows_of-all.ensures)) in
-    on_err c.from_residual.result _ (slab_broken h c.loop-row.row here next c.loop-row.invariant.done.whole c.loop-row.invariant.done c.loop-row.taken e broken)
+    on_err c.from_residual.result _ (slab_broken h c.loop-row.row here next c.loop-row.invariant.done.whole c.loop-row.invariant.done c.loop-row.taken e c.write_slab.ensures.gave_some broken)
 
 pub returns-in_err-write_slab-clause-refused : goal.returns-in_err-write_slab-clause-refused
 returns-in_err-write_slab-clause-refused g c =
@@ -99,11 +101,12 @@ returns-in_err-write_slab-clause-refused g c =
     let here = c.min-here.result in
     let mid = g.S.Source.contents c.loop-row.src in
     let now = g.S.Source.contents c.write_slab.new.src in
+    let gives = Gives (g.S.Source.gave c.loop-row.src) (g.S.Source.gave c.write_slab.new.src) in
     let out1 = g.O.Sink.contents c.loop-row.out in
     let out2 = g.O.Sink.contents c.write_slab.new.out in
     let e = c.in_err-write_slab.field-0.0 in
-    let P : List ℕ → Type 0 = λ s. BreaksSlab (with_shape h s) c.loop-row.taken mid now out1 out2 c.loop-row.codes.bits e in
-    let broken : BreaksSlab (part_of h here) c.loop-row.taken mid now out1 out2 c.loop-row.codes.bits e = subst P c.with_rows.ensures c.in_err-write_slab.ensures.err in
+    let P : List ℕ → Type 0 = λ s. BreaksSlab (with_shape h s) c.loop-row.taken mid now gives out1 out2 c.loop-row.codes.bits e in
+    let broken : BreaksSlab (part_of h here) c.loop-row.taken mid now gives out1 out2 c.loop-row.codes.bits e = subst P c.with_rows.ensures c.in_err-write_slab.ensures.err in
     let next = next_slab c.args.h.now c.args.rows c.loop-row.row c.requires.rows c.loop-row.invariant.done.whole (omega (arith, c.loop-row-test.true, c.rows_of-all.ensures)) c.min-here.result (least _ _ _ _ _ c.min-here.ensures c.rows_of-all.ensures) (omega (arith, c.min-here.ensures)) (omega (arith, c.min-here.ensures, c.rows_of-all.ensures)) in
     let p = err_from_is_err_and c.from_residual.result c.from_residual.ensures.1 in
     rw (p.1, p.2) (slab_refused h c.loop-row.row here next c.loop-row.invariant.done.whole c.loop-row.invariant.done c.loop-row.taken e c.loop-row.invariant.taken broken)
@@ -114,11 +117,12 @@ returns-in_err-write_slab-clause-possible g c =
     let here = c.min-here.result in
     let mid = g.S.Source.contents c.loop-row.src in
     let now = g.S.Source.contents c.write_slab.new.src in
+    let gives = Gives (g.S.Source.gave c.loop-row.src) (g.S.Source.gave c.write_slab.new.src) in
     let out1 = g.O.Sink.contents c.loop-row.out in
     let out2 = g.O.Sink.contents c.write_slab.new.out in
     let e = c.in_err-write_slab.field-0.0 in
-    let P : List ℕ → Type 0 = λ s. BreaksSlab (with_shape h s) c.loop-row.taken mid now out1 out2 c.loop-row.codes.bits e in
-    let broken : BreaksSlab (part_of h here) c.loop-row.taken mid now out1 out2 c.loop-row.codes.bits e = subst P c.with_rows.ensures c.in_err-write_slab.ensures.err in
+    let P : List ℕ → Type 0 = λ s. BreaksSlab (with_shape h s) c.loop-row.taken mid now gives out1 out2 c.loop-row.codes.bits e in
+    let broken : BreaksSlab (part_of h here) c.loop-row.taken mid now gives out1 out2 c.loop-row.codes.bits e = subst P c.with_rows.ensures c.in_err-write_slab.ensures.err in
     let next = next_slab c.args.h.now c.args.rows c.loop-row.row c.requires.rows c.loop-row.invariant.done.whole (omega (arith, c.loop-row-test.true, c.rows_of-all.ensures)) c.min-here.result (least _ _ _ _ _ c.min-here.ensures c.rows_of-all.ensures) (omega (arith, c.min-here.ensures)) (omega (arith, c.min-here.ensures, c.rows_of-all.ensures)) in
     let p = err_from_is_err_and c.from_residual.result c.from_residual.ensures.1 in
     rw (p.1, p.2) (slab_possible h c.loop-row.row here next c.loop-row.invariant.done.whole c.loop-row.invariant.done c.loop-row.taken e c.loop-row.invariant.taken broken)
@@ -129,11 +133,12 @@ returns-in_err-write_slab-clause-length g c =
     let here = c.min-here.result in
     let mid = g.S.Source.contents c.loop-row.src in
     let now = g.S.Source.contents c.write_slab.new.src in
+    let gives = Gives (g.S.Source.gave c.loop-row.src) (g.S.Source.gave c.write_slab.new.src) in
     let out1 = g.O.Sink.contents c.loop-row.out in
     let out2 = g.O.Sink.contents c.write_slab.new.out in
     let e = c.in_err-write_slab.field-0.0 in
-    let P : List ℕ → Type 0 = λ s. BreaksSlab (with_shape h s) c.loop-row.taken mid now out1 out2 c.loop-row.codes.bits e in
-    let broken : BreaksSlab (part_of h here) c.loop-row.taken mid now out1 out2 c.loop-row.codes.bits e = subst P c.with_rows.ensures c.in_err-write_slab.ensures.err in
+    let P : List ℕ → Type 0 = λ s. BreaksSlab (with_shape h s) c.loop-row.taken mid now gives out1 out2 c.loop-row.codes.bits e in
+    let broken : BreaksSlab (part_of h here) c.loop-row.taken mid now gives out1 out2 c.loop-row.codes.bits e = subst P c.with_rows.ensures c.in_err-write_slab.ensures.err in
     let p = err_from_is_err_and c.from_residual.result c.from_residual.ensures.1 in
     rw (p.1, p.2) (⊎_elim (λ lacks. lacks_shows (raw_len h) _ _ (g.S.Source.contents c.args.src.now) mid now e lacks.0) (λ spills. write_shows (raw_len h) (g.S.Source.contents c.args.src.now) now e spills.0) broken)
 
@@ -143,11 +148,12 @@ returns-in_err-write_slab-clause-unwanted g c =
     let here = c.min-here.result in
     let mid = g.S.Source.contents c.loop-row.src in
     let now = g.S.Source.contents c.write_slab.new.src in
+    let gives = Gives (g.S.Source.gave c.loop-row.src) (g.S.Source.gave c.write_slab.new.src) in
     let out1 = g.O.Sink.contents c.loop-row.out in
     let out2 = g.O.Sink.contents c.write_slab.new.out in
     let e = c.in_err-write_slab.field-0.0 in
-    let P : List ℕ → Type 0 = λ s. BreaksSlab (with_shape h s) c.loop-row.taken mid now out1 out2 c.loop-row.codes.bits e in
-    let broken : BreaksSlab (part_of h here) c.loop-row.taken mid now out1 out2 c.loop-row.codes.bits e = subst P c.with_rows.ensures c.in_err-write_slab.ensures.err in
+    let P : List ℕ → Type 0 = λ s. BreaksSlab (with_shape h s) c.loop-row.taken mid now gives out1 out2 c.loop-row.codes.bits e in
+    let broken : BreaksSlab (part_of h here) c.loop-row.taken mid now gives out1 out2 c.loop-row.codes.bits e = subst P c.with_rows.ensures c.in_err-write_slab.ensures.err in
     let next = next_slab c.args.h.now c.args.rows c.loop-row.row c.requires.rows c.loop-row.invariant.done.whole (omega (arith, c.loop-row-test.true, c.rows_of-all.ensures)) c.min-here.result (least _ _ _ _ _ c.min-here.ensures c.rows_of-all.ensures) (omega (arith, c.min-here.ensures)) (omega (arith, c.min-here.ensures, c.rows_of-all.ensures)) in
     let p = err_from_is_err_and c.from_residual.result c.from_residual.ensures.1 in
     rw (p.1, p.2) (slab_wanted h c.loop-row.row here next c.loop-row.invariant.done.whole c.loop-row.invariant.done c.loop-row.taken e c.loop-row.invariant.taken broken)
@@ -159,11 +165,12 @@ loop-row-preserved g c =
     let row = c.loop-row.row in
     let mid = g.S.Source.contents c.loop-row.src in
     let now = g.S.Source.contents c.write_slab.new.src in
+    let gives = Gives (g.S.Source.gave c.loop-row.src) (g.S.Source.gave c.write_slab.new.src) in
     let out1 = g.O.Sink.contents c.loop-row.out in
     let out2 = g.O.Sink.contents c.write_slab.new.out in
     let sizes = slab_sizes c.args.h.now c.args.rows c.min-here.result c.values-count.result c.value_len.result c.with_rows.result c.dims-dims.ensures.shape.some_dimension (omega (arith, c.min-here.ensures)) c.with_rows.ensures c.values-count.ensures.value (c.value_len.ensures.value ∙ ap byte_len c.requires.same_type) in
-    let P : List ℕ → Type 0 = λ s. WritesSlab (with_shape h s) mid now out1 out2 c.loop-row.codes.bits c.write_slab.new.codes.bits in
-    let slab : WritesSlab (part_of h here) mid now out1 out2 c.loop-row.codes.bits c.write_slab.new.codes.bits = subst P c.with_rows.ensures c.in_ok-write_slab.ensures.ok in
+    let P : List ℕ → Type 0 = λ s. WritesSlab (with_shape h s) mid now gives out1 out2 c.loop-row.codes.bits c.write_slab.new.codes.bits in
+    let slab : WritesSlab (part_of h here) mid now gives out1 out2 c.loop-row.codes.bits c.write_slab.new.codes.bits = subst P c.with_rows.ensures c.in_ok-write_slab.ensures.ok in
     let next = next_slab c.args.h.now c.args.rows c.loop-row.row c.requires.rows c.loop-row.invariant.done.whole (omega (arith, c.loop-row-test.true, c.rows_of-all.ensures)) c.min-here.result (least _ _ _ _ _ c.min-here.ensures c.rows_of-all.ensures) (omega (arith, c.min-here.ensures)) (omega (arith, c.min-here.ensures, c.rows_of-all.ensures)) in
     record {
       done = slab_written h row here next c.loop-row.invariant.done.whole c.loop-row.invariant.done slab;

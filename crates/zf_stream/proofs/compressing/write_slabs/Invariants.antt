@@ -1,11 +1,12 @@
 -- The rows so far were read, and their codes are on their way.
 use Rattle.std.proofs.Common.{◌≡◌, ◌+◌, ◌-◌, ◌≤◌, ◌<◌, length}
 use Rattle.zf_pad.specs.Slabs.{rows_of}
+use Rattle.zf_dev.specs.Source.{Gives}
 use Rattle.zf_stream.specs.Rows.{rows_len, Compresses}
 use Rattle.zf_stream.proofs.compressing.write_slabs.Given as goal
 
 pub record SoFar (g : goal.Over) (l : goal.Live-loop-row g) : Type 0 where
-  pub done : Compresses l.h l.row (g.S.Source.contents l.fn.src) (g.S.Source.contents l.src) (g.O.Sink.contents l.fn.out) (g.O.Sink.contents l.out) l.fn.codes.bits l.codes.bits
+  pub done : Compresses l.h l.row (g.S.Source.contents l.fn.src) (g.S.Source.contents l.src) (Gives (g.S.Source.gave l.fn.src) (g.S.Source.gave l.src)) (g.O.Sink.contents l.fn.out) (g.O.Sink.contents l.out) l.fn.codes.bits l.codes.bits
   pub taken : l.taken ≡ rows_len l.h l.row
   pub few : length l.codes.bits < l.most
   pub room : length l.fn.codes.bits + l.fn.codes.room ≤ length l.codes.bits + l.codes.room

@@ -9,7 +9,7 @@ use Rattle.zf_stream.proofs.OnErrors.{on_err}
 use Rattle.zf_stream.proofs.Answering.{answer_of_refusal, answer_at_end, both_ok, after_err}
 use Rattle.zf_stream.proofs.RawRows.{more_shows, refused_more, possible_more, some_more, good_answer}
 use Rattle.zf_stream.proofs.Slabwise.{Stops-none, rows_len-all}
-use Rattle.zf_stream.proofs.PrefixesOfStreams.{prefix_where_stopped, Stops-behind, Compresses-behind, Compresses-read, Compresses-stop, prefix_at_end, text_at_end}
+use Rattle.zf_stream.proofs.PrefixesOfStreams.{prefix_where_stopped, prefix_of_given, given_at_end, Stops-behind, Compresses-behind, Compresses-read, Compresses-stop, prefix_at_end, text_at_end}
 use Rattle.zf_stream.proofs.compressing.write_stream.Goals as goal
 
 pub returns-in_err-write_whole_words-clause-err : goal.returns-in_err-write_whole_words-clause-err
@@ -17,7 +17,21 @@ returns-in_err-write_whole_words-clause-err g c =
     let h = c.args.h.now in
     let Of : List Bool → Type 0 = λ bs. Spills (g.O.Sink.contents c.args.out.now) (g.O.Sink.contents c.write_whole_words.new.out) bs in
     on_err c.from_residual.result _
-    (prefix_where_stopped h (Stops-none h (header_bits h) c.dims-dims.ensures.shape.some_dimension (Takes-none (g.S.Source.contents c.args.src.now)) (subst Of c.requires.header c.in_err-write_whole_words.ensures.err)))
+    (prefix_where_stopped h (Stops-none h (header_bits h) (g.S.Source.gave c.args.src.now) c.dims-dims.ensures.shape.some_dimension (Takes-none (g.S.Source.contents c.args.src.now)) (subst Of c.requires.header c.in_err-write_whole_words.ensures.err)))
+
+pub returns-in_err-write_whole_words-clause-gave_prefix : goal.returns-in_err-write_whole_words-clause-gave_prefix
+returns-in_err-write_whole_words-clause-gave_prefix g c =
+    let h = c.args.h.now in
+    let Of : List Bool → Type 0 = λ bs. Spills (g.O.Sink.contents c.args.out.now) (g.O.Sink.contents c.write_whole_words.new.out) bs in
+    on_err c.from_residual.result _
+    (prefix_of_given h (Stops-none h (header_bits h) (g.S.Source.gave c.args.src.now) c.dims-dims.ensures.shape.some_dimension (Takes-none (g.S.Source.contents c.args.src.now)) (subst Of c.requires.header c.in_err-write_whole_words.ensures.err)))
+
+pub returns-in_err-write_slabs-clause-gave_prefix : goal.returns-in_err-write_slabs-clause-gave_prefix
+returns-in_err-write_slabs-clause-gave_prefix g c =
+    let h = c.args.h.now in
+    let Of : List Bool → Type 0 = λ bs. Flows (g.O.Sink.contents c.args.out.now) (g.O.Sink.contents c.write_whole_words.new.out) bs c.write_whole_words.new.codes.bits in
+    on_err c.from_residual-in_err-write_slabs.result _
+    (prefix_of_given h (Stops-behind h (subst Of c.requires.header c.in_ok-write_whole_words.ensures.ok) c.in_err-write_slabs.ensures.err))
 
 pub returns-in_err-write_slabs-clause-err : goal.returns-in_err-write_slabs-clause-err
 returns-in_err-write_slabs-clause-err g c =
@@ -61,12 +75,20 @@ returns-in_err-read_end-clause-err g c =
     let Of : List Bool → Type 0 = λ bs. Flows (g.O.Sink.contents c.args.out.now) (g.O.Sink.contents c.write_whole_words.new.out) bs c.write_whole_words.new.codes.bits in
     let done = Compresses-behind h (rows_of h.shape) (subst Of c.requires.header c.in_ok-write_whole_words.ensures.ok) c.in_ok-write_slabs.ensures.ok in
     let more = some_more (g.S.Source.contents c.write_slabs.new.src) (g.S.Source.contents c.read_end.new.src) c.in_err-read_end.field-0.0 c.in_err-read_end.ensures.err in
-    on_err c.from_residual-in_err-read_end.result _ (prefix_where_stopped h (Compresses-stop h (rows_of h.shape) more.0 done more.1))
+    on_err c.from_residual-in_err-read_end.result _ (prefix_where_stopped h (Compresses-stop h (rows_of h.shape) more.0 done more.1 c.read_end.ensures.gave_some))
+
+pub returns-in_err-read_end-clause-gave_prefix : goal.returns-in_err-read_end-clause-gave_prefix
+returns-in_err-read_end-clause-gave_prefix g c =
+    let h = c.args.h.now in
+    let Of : List Bool → Type 0 = λ bs. Flows (g.O.Sink.contents c.args.out.now) (g.O.Sink.contents c.write_whole_words.new.out) bs c.write_whole_words.new.codes.bits in
+    let done = Compresses-behind h (rows_of h.shape) (subst Of c.requires.header c.in_ok-write_whole_words.ensures.ok) c.in_ok-write_slabs.ensures.ok in
+    let more = some_more (g.S.Source.contents c.write_slabs.new.src) (g.S.Source.contents c.read_end.new.src) c.in_err-read_end.field-0.0 c.in_err-read_end.ensures.err in
+    on_err c.from_residual-in_err-read_end.result _ (prefix_of_given h (Compresses-stop h (rows_of h.shape) more.0 done more.1 c.read_end.ensures.gave_some))
 
 pub returns-clause-answer : goal.returns-clause-answer
 returns-clause-answer g c =
     let h = c.args.h.now in
-    let done = Compresses-read h (rows_of h.shape) c.in_ok-write_slabs.ensures.ok c.in_ok-read_end.ensures.ok.0 in
+    let done = Compresses-read h (rows_of h.shape) c.in_ok-write_slabs.ensures.ok c.in_ok-read_end.ensures.ok.0 c.in_ok-read_end.ensures.gave in
     answer_at_end c.write_whole_words-2.result (g.S.Source.contents c.args.src.now) (g.S.Source.contents c.read_end.new.src) (compress_answer h) done.bytes c.write_whole_words-2.ensures.fault done.taken c.in_ok-read_end.ensures.ok.1
     (good_answer (raw_len h) done.bytes (done.long ∙ rows_len-all h done.whole.some_axis))
 
@@ -77,7 +99,7 @@ returns-clause-ok g c =
     let out2 = g.O.Sink.contents c.write_whole_words-2.new.out in
     let left = c.write_slabs.new.codes.bits in
     let Of : List Bool → Type 0 = λ bs. Flows (g.O.Sink.contents c.args.out.now) (g.O.Sink.contents c.write_whole_words.new.out) bs c.write_whole_words.new.codes.bits in
-    let done = Compresses-read h (rows_of h.shape) (Compresses-behind h (rows_of h.shape) (subst Of c.requires.header c.in_ok-write_whole_words.ensures.ok) c.in_ok-write_slabs.ensures.ok) c.in_ok-read_end.ensures.ok.0 in
+    let done = Compresses-read h (rows_of h.shape) (Compresses-behind h (rows_of h.shape) (subst Of c.requires.header c.in_ok-write_whole_words.ensures.ok) c.in_ok-write_slabs.ensures.ok) c.in_ok-read_end.ensures.ok.0 c.in_ok-read_end.ensures.gave in
     let P : List Bool → Type 0 = λ bs. Flows out1 out2 bs c.write_whole_words-2.new.codes.bits in
     both_ok c.write_whole_words-2.result c.write_whole_words-2.ensures.ok c.write_whole_words-2.ensures.few
     (λ flows few. record {
@@ -88,12 +110,39 @@ returns-clause-ok g c =
       written = text_at_end h done (subst P c.pad_to_word.ensures.bits.bits flows) few;
     })
 
+pub returns-clause-gave : goal.returns-clause-gave
+returns-clause-gave g c =
+    let h = c.args.h.now in
+    let out1 = g.O.Sink.contents c.write_slabs.new.out in
+    let out2 = g.O.Sink.contents c.write_whole_words-2.new.out in
+    let left = c.write_slabs.new.codes.bits in
+    let Of : List Bool → Type 0 = λ bs. Flows (g.O.Sink.contents c.args.out.now) (g.O.Sink.contents c.write_whole_words.new.out) bs c.write_whole_words.new.codes.bits in
+    let done = Compresses-read h (rows_of h.shape) (Compresses-behind h (rows_of h.shape) (subst Of c.requires.header c.in_ok-write_whole_words.ensures.ok) c.in_ok-write_slabs.ensures.ok) c.in_ok-read_end.ensures.ok.0 c.in_ok-read_end.ensures.gave in
+    let P : List Bool → Type 0 = λ bs. Flows out1 out2 bs c.write_whole_words-2.new.codes.bits in
+    both_ok c.write_whole_words-2.result c.write_whole_words-2.ensures.ok c.write_whole_words-2.ensures.few
+    (λ flows few. record {
+      bytes = done.bytes;
+      given = done.given;
+      good = good_answer (raw_len h) done.bytes (done.long ∙ rows_len-all h done.whole.some_axis);
+      written = text_at_end h done (subst P c.pad_to_word.ensures.bits.bits flows) few;
+    })
+
 pub returns-clause-err : goal.returns-clause-err
 returns-clause-err g c =
     let h = c.args.h.now in
     let out1 = g.O.Sink.contents c.write_slabs.new.out in
     let out2 = g.O.Sink.contents c.write_whole_words-2.new.out in
     let Of : List Bool → Type 0 = λ bs. Flows (g.O.Sink.contents c.args.out.now) (g.O.Sink.contents c.write_whole_words.new.out) bs c.write_whole_words.new.codes.bits in
-    let done = Compresses-read h (rows_of h.shape) (Compresses-behind h (rows_of h.shape) (subst Of c.requires.header c.in_ok-write_whole_words.ensures.ok) c.in_ok-write_slabs.ensures.ok) c.in_ok-read_end.ensures.ok.0 in
+    let done = Compresses-read h (rows_of h.shape) (Compresses-behind h (rows_of h.shape) (subst Of c.requires.header c.in_ok-write_whole_words.ensures.ok) c.in_ok-write_slabs.ensures.ok) c.in_ok-read_end.ensures.ok.0 c.in_ok-read_end.ensures.gave in
     let P : List Bool → Type 0 = λ bs. Spills out1 out2 bs in
     after_err c.write_whole_words-2.result c.write_whole_words-2.ensures.err (λ spills. prefix_at_end h done (subst P c.pad_to_word.ensures.bits.bits spills))
+
+pub returns-clause-gave_prefix : goal.returns-clause-gave_prefix
+returns-clause-gave_prefix g c =
+    let h = c.args.h.now in
+    let out1 = g.O.Sink.contents c.write_slabs.new.out in
+    let out2 = g.O.Sink.contents c.write_whole_words-2.new.out in
+    let Of : List Bool → Type 0 = λ bs. Flows (g.O.Sink.contents c.args.out.now) (g.O.Sink.contents c.write_whole_words.new.out) bs c.write_whole_words.new.codes.bits in
+    let done = Compresses-read h (rows_of h.shape) (Compresses-behind h (rows_of h.shape) (subst Of c.requires.header c.in_ok-write_whole_words.ensures.ok) c.in_ok-write_slabs.ensures.ok) c.in_ok-read_end.ensures.ok.0 c.in_ok-read_end.ensures.gave in
+    let P : List Bool → Type 0 = λ bs. Spills out1 out2 bs in
+    after_err c.write_whole_words-2.result c.write_whole_words-2.ensures.err (λ spills. given_at_end h done (subst P c.pad_to_word.ensures.bits.bits spills))

@@ -4,6 +4,7 @@ use Rattle.std.proofs.lemmas.Result.{err_from_is_err_and}
 use Rattle.std.proofs.Math.Nat.{add-mul, div-mul-le_self, mul-le-mul_right}
 use Rattle.std.specs.Int.{byte_len}
 use Rattle.zf_spec.specs.Stream.{values_from}
+use Rattle.zf_dev.proofs.Giving.{Gives-append}
 use Rattle.zf_stream.specs.ReadRaw.{LacksRaw}
 use Rattle.zf_stream.proofs.ReadingValues.{reads_more, lacks_behind}
 use Rattle.zf_stream.proofs.reading.read_values.Goals as goal
@@ -35,6 +36,12 @@ returns-in_err-read_raw-clause-err g c =
     rw (p.1, p.2)
     (lacks_behind c.args.before (at * len) (n * len) (all * byte_len w) old mid now done.bytes e done.taken (done.long ∙ ap (λ k. at * k) (sym c.value_len-len.ensures.value)) within lacks)
 
+pub returns-in_err-read_raw-clause-gave_some : goal.returns-in_err-read_raw-clause-gave_some
+returns-in_err-read_raw-clause-gave_some g c =
+    let done = c.loop-at.invariant.done in
+    let more = c.read_raw.ensures.gave_some in
+    (done.bytes ++ more.0, Gives-append done.bytes more.0 done.given more.1)
+
 pub loop-at-preserved : goal.loop-at-preserved
 loop-at-preserved g c =
     let len = c.value_len-len.result in
@@ -57,7 +64,7 @@ loop-at-preserved g c =
     let are : map value ys ≡ values_from w n more = c.put_values.ensures ∙ ap (λ j. values_from w j (take (n * len) (more ++ rest))) count ∙ ap (values_from w n) piece in
     record {
       within = omega (arith, c.loop-at-test.true, c.min-n.ensures);
-      done = reads_more w value at n k xs ys old mid now more (omega (arith, c.loop-at-test.true)) count (long ∙ ap (λ j. n * j) c.value_len-len.ensures.value) are c.loop-at.invariant.done c.in_ok-read_raw.ensures.ok;
+      done = reads_more w value at n k xs ys old mid now more (omega (arith, c.loop-at-test.true)) count (long ∙ ap (λ j. n * j) c.value_len-len.ensures.value) are c.loop-at.invariant.done c.in_ok-read_raw.ensures.ok c.in_ok-read_raw.ensures.gave;
       same_source = c.read_raw.ensures.same_source ∙ c.loop-at.invariant.same_source;
       faults = omega (arith, c.loop-at.invariant.faults, c.read_raw.ensures.cause.0);
       sure = λ sure. (c.read_raw.ensures.sure (c.loop-at.invariant.sure sure)).1;

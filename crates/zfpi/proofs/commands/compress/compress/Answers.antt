@@ -9,7 +9,7 @@ pub returns-in-Ok-clause-behaves : goal.returns-in-Ok-clause-behaves
 returns-in-Ok-clause-behaves g c = λ files.
     let h = c.args.h in
     let done = c.in-Ok.ensures.ok in
-    Behaves-done (Compress h) done.bytes done.bytes _ _ _ _ files (IsStreaming-compress h) (ap status_of (sym done.good)) done.taken done.ended refl done.written
+    Behaves-done (Compress h) done.bytes _ _ _ _ files (IsStreaming-compress h) (ap status_of (sym done.good)) done.taken done.ended done.written
 
 pub returns-in-Err-clause-behaves : goal.returns-in-Err-clause-behaves
 returns-in-Err-clause-behaves g c = λ files.
@@ -17,5 +17,5 @@ returns-in-Err-clause-behaves g c = λ files.
     let e = c.in-Err.fault in
     let done = c.in-Err.ensures in
     let left = done.err in
-    rw c.from.ensures (Behaves-fault (Compress h) (compress_answer h) e [] left.bytes left.bytes _ _ _ _ files (IsStreaming-compress h) (λ w. refl) done.answer done.possible tt (λ input exposed memory. tt) left.taken refl
+    rw c.from.ensures (Behaves-fault (Compress h) (compress_answer h) e [] left.bytes _ _ _ _ files (IsStreaming-compress h) (λ w. refl) done.answer done.possible tt (λ input exposed memory. tt) left.taken
     (λ w. compress_prefix e (stream_text h left.bytes) _ _ left.written (λ starved. done.unwritten (ap Err starved))))

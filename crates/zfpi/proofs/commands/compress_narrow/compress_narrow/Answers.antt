@@ -1,9 +1,8 @@
 use Rattle.std.proofs.Common.{[], Err, ap, sym, refl}
-use Rattle.zf_parse.specs.Raw.{stream_text}
-use Rattle.zf_narrow.specs.Texts.{compress_narrow_answer}
+use Rattle.zf_narrow.specs.Texts.{compress_narrow_answer, narrow_text}
 use Rattle.zfpi.specs.declared.command.Command.TheVariants.{CompressNarrow}
 use Rattle.zfpi.specs.Faults.{status_of}
-use Rattle.zfpi.proofs.Streaming.{IsStreaming-compress_narrow, Behaves-done, Behaves-fault, IsNarrowRaw-fault, compress_prefix}
+use Rattle.zfpi.proofs.Streaming.{IsStreaming-compress_narrow, Behaves-done, Behaves-fault, compress_prefix}
 use Rattle.zfpi.proofs.commands.compress_narrow.compress_narrow.Goals as goal
 
 pub returns-in-Ok-clause-behaves : goal.returns-in-Ok-clause-behaves
@@ -11,7 +10,7 @@ returns-in-Ok-clause-behaves g c = λ files.
     let n = c.args.narrow in
     let h = c.args.h in
     let done = c.in-Ok.ensures.ok in
-    Behaves-done (CompressNarrow n h) done.bytes done.raw _ _ _ _ files (IsStreaming-compress_narrow n h) (ap status_of (sym done.good)) done.taken done.ended done.raw_is done.written
+    Behaves-done (CompressNarrow n h) done.bytes _ _ _ _ files (IsStreaming-compress_narrow n h) (ap status_of (sym done.good)) done.taken done.ended done.written
 
 pub returns-in-Err-clause-behaves : goal.returns-in-Err-clause-behaves
 returns-in-Err-clause-behaves g c = λ files.
@@ -20,5 +19,5 @@ returns-in-Err-clause-behaves g c = λ files.
     let e = c.in-Err.fault in
     let done = c.in-Err.ensures in
     let left = done.err in
-    rw c.from.ensures (Behaves-fault (CompressNarrow n h) (compress_narrow_answer n h) e [] left.bytes left.raw _ _ _ _ files (IsStreaming-compress_narrow n h) (λ w. refl) done.answer done.possible tt (λ input exposed memory. tt) left.taken
-    (IsNarrowRaw-fault n e _ left.bytes left.raw left.raw_is) (λ w. compress_prefix e (stream_text h left.raw) _ _ left.written (λ starved. done.unwritten (ap Err starved))))
+    rw c.from.ensures (Behaves-fault (CompressNarrow n h) (compress_narrow_answer n h) e [] left.bytes _ _ _ _ files (IsStreaming-compress_narrow n h) (λ w. refl) done.answer done.possible tt (λ input exposed memory. tt) left.taken
+    (λ w. compress_prefix e (narrow_text n h left.bytes) _ _ left.written (λ starved. done.unwritten (ap Err starved))))

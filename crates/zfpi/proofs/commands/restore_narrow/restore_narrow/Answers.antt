@@ -11,7 +11,7 @@ pub returns-in-Ok-clause-behaves : goal.returns-in-Ok-clause-behaves
 returns-in-Ok-clause-behaves g c = λ files.
     let n = c.args.narrow in
     let done = c.in-Ok.ensures.ok in
-    Behaves-done (RestoreNarrow n) done.bytes done.bytes _ _ _ _ files (IsStreaming-restore_narrow n) (ap narrow_status_of (sym done.good)) done.taken done.ended refl done.written
+    Behaves-done (RestoreNarrow n) done.bytes _ _ _ _ files (IsStreaming-restore_narrow n) (ap narrow_status_of (sym done.good)) done.taken done.ended done.written
 
 pub returns-in-Err-clause-behaves : goal.returns-in-Err-clause-behaves
 returns-in-Err-clause-behaves g c = λ files.
