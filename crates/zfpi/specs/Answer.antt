@@ -1,4 +1,4 @@
--- What a command is: one record a command, over a world of an input and files. Of this the program's promises speak, and a new command is one more.
+-- What a command is: one record a command, over a world of an input and files. A new command is one more.
 use Rattle.std.specs.Prelude.{◌≡◌, Bool, true, false, ℕ, List, [], take, Option, Some, None, Result, IsOk}
 use Rattle.zf_spec.specs.Grid.{IsShape}
 use Rattle.zf_base.specs.declared.lane.Ty.TheVariants.{I32}
@@ -50,7 +50,7 @@ pub record Meaning : Type 1 where
   pub works : World → Type 0
   pub memory : World → Type 0
 
--- a line, or the replies to a script, are written once all before is done: a prefix is out only after a write fault
+-- a line, or the replies to a script: a prefix is out only after a write fault
 abbrev pub cut_draft : Status → List ℕ → List ℕ
 cut_draft statuses.WriteFault text = text
 cut_draft status text = []
@@ -94,7 +94,7 @@ plain = record {
 
 -- a stream is written of what is read, or values of a stream
 abbrev pub streaming : Meaning
-streaming = record plain { draft = compress_draft; extent = TakesStream; reads = λ status. true; writes = true }
+streaming = record plain { draft = compress_draft; extent = TakesStream; reads = λ s. true; writes = true }
 
 -- a script is answered so, over what a file is opened as
 abbrev pub scripting : Answering → (World → Result Said Status) → Meaning
@@ -151,7 +151,9 @@ meaning (Run name caching) = record (scripting (run_replies caching) (λ w. open
   saved = λ w starved. saved_of name (run_file caching) (opened array_in (w.files name)) starved w.input;
   saves = true;
 }
-meaning (Look name lines) = record (scripting (look_replies lines) (λ w. opened stream_in (w.files name))) { can_run = IsLines lines }
+meaning (Look name lines) = record (scripting (look_replies lines) (λ w. opened stream_in (w.files name))) {
+  can_run = IsLines lines;
+}
 meaning (Bound name most) = record plain {
   status = λ w starved. certified_status (opened array_in (w.files name));
   text = λ w starved taken. certified_text most (opened array_in (w.files name));
@@ -170,7 +172,8 @@ abbrev pub OfUsed : Bool → Type 0 → Type 0
 OfUsed true P = P
 OfUsed false P = ⊥
 
--- the statuses that no world determines: faults of the devices that a command comes to, and out of memory where it takes any
+-- the statuses that no world determines: faults of the devices that a command comes to, and out of memory where it
+-- takes any
 abbrev pub MayFail : Status → Command → World → Type 0
 MayFail statuses.ReadFault c w = OfUsed ((meaning c).reads statuses.ReadFault) ((meaning c).opens w)
 MayFail statuses.WriteFault c w = OfUsed (meaning c).writes ((meaning c).works w)

@@ -15,6 +15,7 @@
 --     Loaded      what a command has loaded, and how a run is saved
 --     Sending     how what a command wrote is handed on
 --     Headline    what the program promises of every command
+--     Rungs       what `run` and `look` promise on each rung behind their load
 pub mod Names
 pub mod Words
 pub mod Stages
@@ -31,3 +32,4 @@ pub mod Steps
 pub mod Loaded
 pub mod Sending
 pub mod Headline
+pub mod Rungs

@@ -10,8 +10,9 @@ ghost use Rattle.zfpi.specs.Words.{IsLines};
 ghost use Rattle.zfpi.specs.World.{seen, counts};
 ghost use Rattle.zfpi.specs.Answer.{meaning};
 ghost use Rattle.zfpi.specs.Scripts.{max_script, reads_script};
-ghost use Rattle.zfpi.specs.Loaded.{HoldsFile, HoldsStream};
+ghost use Rattle.zfpi.specs.Loaded.{HoldsStream};
 ghost use Rattle.zfpi.specs.Steps.{Steps, IsShelfless};
+ghost use Rattle.zfpi.specs.Rungs.{LooksOn};
 ghost use Rattle.zfpi.specs.Headline.{Behaves, HasCauses};
 
 use crate::commands::kinds::in_kind;
@@ -61,13 +62,7 @@ fn look_file<S: Source, O: Sink>(
     out: &mut O,
 ) -> Status
     requires lines { IsLines lines }
-    ensures behaves { (known now : Option Files) → HoldsFile known name.now file.items → KeepsFiles known now
-        → Behaves (Look name.now lines) result (seen (S.contents src.old) (O.contents out.old) known)
-        (seen (S.contents src.new) (O.contents out.new) now) }
-    ensures causes { HasCauses (Look name.now lines) result
-        (counts (S.faults src.old) (O.faults out.old)) (counts (S.faults src.new) (O.faults out.new))
-        (S.never_fails src.old) (S.never_fails src.new) }
-    ensures shelfless { IsShelfless result }
+    ensures { LooksOn S.Source O.Sink name.now lines file.items result src.old src.new out.old out.new }
 {
     match zf_header::read(&file) {
         Ok((header, _)) => look_typed(alloc, name, lines, &header, file, src, out),
@@ -87,13 +82,7 @@ fn look_typed<S: Source, O: Sink>(
 ) -> Status
     requires lines { IsLines lines }
     requires header { HasHeader file.items header.now }
-    ensures behaves { (known now : Option Files) → HoldsFile known name.now file.items → KeepsFiles known now
-        → Behaves (Look name.now lines) result (seen (S.contents src.old) (O.contents out.old) known)
-        (seen (S.contents src.new) (O.contents out.new) now) }
-    ensures causes { HasCauses (Look name.now lines) result
-        (counts (S.faults src.old) (O.faults out.old)) (counts (S.faults src.new) (O.faults out.new))
-        (S.never_fails src.old) (S.never_fails src.new) }
-    ensures shelfless { IsShelfless result }
+    ensures { LooksOn S.Source O.Sink name.now lines file.items result src.old src.new out.old out.new }
 {
     in_kind!(
         header.ty,
@@ -118,13 +107,7 @@ fn look_stream<T: Lane, const D: usize, S: Source, O: Sink>(
     requires header { HasHeader file.items header.now }
     requires same_type { T.width ≡ width_of header.now.ty }
     requires dims { length header.now.shape ≡ D }
-    ensures behaves { (known now : Option Files) → HoldsFile known name.now file.items → KeepsFiles known now
-        → Behaves (Look name.now lines) result (seen (S.contents src.old) (O.contents out.old) known)
-        (seen (S.contents src.new) (O.contents out.new) now) }
-    ensures causes { HasCauses (Look name.now lines) result
-        (counts (S.faults src.old) (O.faults out.old)) (counts (S.faults src.new) (O.faults out.new))
-        (S.never_fails src.old) (S.never_fails src.new) }
-    ensures shelfless { IsShelfless result }
+    ensures { LooksOn S.Source O.Sink name.now lines file.items result src.old src.new out.old out.new }
 {
     let count = line_count(lines, &header.shape);
     match ConstArray::<T, D>::from_file(alloc, header, file, count) {

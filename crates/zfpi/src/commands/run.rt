@@ -13,8 +13,9 @@ ghost use Rattle.zfpi.specs.Words.{IsLines, IsCaching};
 ghost use Rattle.zfpi.specs.World.{seen, counts};
 ghost use Rattle.zfpi.specs.Answer.{meaning};
 ghost use Rattle.zfpi.specs.Scripts.{max_script, reads_script};
-ghost use Rattle.zfpi.specs.Loaded.{HoldsFile, HoldsArray};
+ghost use Rattle.zfpi.specs.Loaded.{HoldsArray};
 ghost use Rattle.zfpi.specs.Steps.{SavesOnce, Steps};
+ghost use Rattle.zfpi.specs.Rungs.{RunsOn};
 ghost use Rattle.zfpi.specs.Headline.{Behaves, HasCauses, IsSent};
 
 use crate::command::Caching;
@@ -69,15 +70,8 @@ fn run_file<S: Source, O: Sink, F: Shelf>(
     shelf: &mut F,
 ) -> Status
     requires caching { IsCaching caching }
-    ensures behaves { (known : Option Files) → HoldsFile known name.now file.items → KeepsFiles known (F.files shelf.old)
-        → Behaves (Run name.now caching) result (seen (S.contents src.old) (O.contents out.old) known)
-        (seen (S.contents src.new) (O.contents out.new) (F.files shelf.new)) }
-    ensures causes { HasCauses (Run name.now caching) result
-        (counts (S.faults src.old) (O.faults out.old)) (counts (S.faults src.new) (O.faults out.new))
-        (S.never_fails src.old) (S.never_fails src.new) }
-    ensures once { SavesOnce F.saves F.faults result shelf.old shelf.new }
-    ensures sent { O.is_flushed out.old → IsSent result (IsQuiet (O.faults out.old) (O.faults out.new)) (O.is_flushed out.new) }
-    ensures still { F.never_fails shelf.old → F.never_fails shelf.new }
+    ensures { RunsOn S.Source O.Sink F.Shelf name.now caching file.items result
+        src.old src.new out.old out.new shelf.old shelf.new }
 {
     match zf_header::read(&file) {
         Ok((header, _)) => match header.mode {
@@ -101,15 +95,8 @@ fn run_over<S: Source, O: Sink, F: Shelf>(
 ) -> Status
     requires caching { IsCaching caching }
     requires header { HasHeader file.items header.now }
-    ensures behaves { (known : Option Files) → HoldsFile known name.now file.items → KeepsFiles known (F.files shelf.old)
-        → Behaves (Run name.now caching) result (seen (S.contents src.old) (O.contents out.old) known)
-        (seen (S.contents src.new) (O.contents out.new) (F.files shelf.new)) }
-    ensures causes { HasCauses (Run name.now caching) result
-        (counts (S.faults src.old) (O.faults out.old)) (counts (S.faults src.new) (O.faults out.new))
-        (S.never_fails src.old) (S.never_fails src.new) }
-    ensures once { SavesOnce F.saves F.faults result shelf.old shelf.new }
-    ensures sent { O.is_flushed out.old → IsSent result (IsQuiet (O.faults out.old) (O.faults out.new)) (O.is_flushed out.new) }
-    ensures still { F.never_fails shelf.old → F.never_fails shelf.new }
+    ensures { RunsOn S.Source O.Sink F.Shelf name.now caching file.items result
+        src.old src.new out.old out.new shelf.old shelf.new }
 {
     match caching {
         Caching::Direct(lines) => run_typed(alloc, name, lines, header, file, src, out, shelf),
@@ -132,15 +119,8 @@ fn run_typed<S: Source, O: Sink, F: Shelf>(
 ) -> Status
     requires lines { IsLines lines }
     requires header { HasHeader file.items header.now }
-    ensures behaves { (known : Option Files) → HoldsFile known name.now file.items → KeepsFiles known (F.files shelf.old)
-        → Behaves (Run name.now (Direct lines)) result (seen (S.contents src.old) (O.contents out.old) known)
-        (seen (S.contents src.new) (O.contents out.new) (F.files shelf.new)) }
-    ensures causes { HasCauses (Run name.now (Direct lines)) result
-        (counts (S.faults src.old) (O.faults out.old)) (counts (S.faults src.new) (O.faults out.new))
-        (S.never_fails src.old) (S.never_fails src.new) }
-    ensures once { SavesOnce F.saves F.faults result shelf.old shelf.new }
-    ensures sent { O.is_flushed out.old → IsSent result (IsQuiet (O.faults out.old) (O.faults out.new)) (O.is_flushed out.new) }
-    ensures still { F.never_fails shelf.old → F.never_fails shelf.new }
+    ensures { RunsOn S.Source O.Sink F.Shelf name.now (Direct lines) file.items result
+        src.old src.new out.old out.new shelf.old shelf.new }
 {
     in_kind!(
         header.ty,
@@ -166,15 +146,8 @@ fn run_array<T: Lane, const D: usize, S: Source, O: Sink, F: Shelf>(
     requires header { HasHeader file.items header.now }
     requires same_type { T.width ≡ width_of header.now.ty }
     requires dims { length header.now.shape ≡ D }
-    ensures behaves { (known : Option Files) → HoldsFile known name.now file.items → KeepsFiles known (F.files shelf.old)
-        → Behaves (Run name.now (Direct lines)) result (seen (S.contents src.old) (O.contents out.old) known)
-        (seen (S.contents src.new) (O.contents out.new) (F.files shelf.new)) }
-    ensures causes { HasCauses (Run name.now (Direct lines)) result
-        (counts (S.faults src.old) (O.faults out.old)) (counts (S.faults src.new) (O.faults out.new))
-        (S.never_fails src.old) (S.never_fails src.new) }
-    ensures once { SavesOnce F.saves F.faults result shelf.old shelf.new }
-    ensures sent { O.is_flushed out.old → IsSent result (IsQuiet (O.faults out.old) (O.faults out.new)) (O.is_flushed out.new) }
-    ensures still { F.never_fails shelf.old → F.never_fails shelf.new }
+    ensures { RunsOn S.Source O.Sink F.Shelf name.now (Direct lines) file.items result
+        src.old src.new out.old out.new shelf.old shelf.new }
 {
     let count = line_count(lines, &header.shape);
     match Array::<T, D>::from_file(alloc, header, file, count) {

@@ -20,9 +20,10 @@ ghost use Rattle.zfpi.specs.declared.command.Command.TheVariants.{Run};
 ghost use Rattle.zfpi.specs.Words.{IsLines};
 ghost use Rattle.zfpi.specs.World.{seen, counts};
 ghost use Rattle.zfpi.specs.Scripts.{max_script, reads_script};
-ghost use Rattle.zfpi.specs.Loaded.{HoldsFile, HoldsArray, SavesOrFails};
+ghost use Rattle.zfpi.specs.Loaded.{HoldsArray, SavesOrFails};
 ghost use Rattle.zfpi.specs.Sending.{IsDone};
 ghost use Rattle.zfpi.specs.Steps.{SavesOnce};
+ghost use Rattle.zfpi.specs.Rungs.{RunsOn};
 ghost use Rattle.zfpi.specs.Headline.{Behaves, HasCauses, IsSent};
 
 use crate::commands::kinds::in_kind;
@@ -61,15 +62,8 @@ pub fn run_typed<S: Source, O: Sink, F: Shelf>(
 ) -> Status
     requires lines { IsLines (Some lines) }
     requires header { HasHeader file.items header.now }
-    ensures behaves { (known : Option Files) → HoldsFile known name.now file.items → KeepsFiles known (F.files shelf.old)
-        → Behaves (Run name.now (TwoWays lines)) result (seen (S.contents src.old) (O.contents out.old) known)
-        (seen (S.contents src.new) (O.contents out.new) (F.files shelf.new)) }
-    ensures causes { HasCauses (Run name.now (TwoWays lines)) result
-        (counts (S.faults src.old) (O.faults out.old)) (counts (S.faults src.new) (O.faults out.new))
-        (S.never_fails src.old) (S.never_fails src.new) }
-    ensures once { SavesOnce F.saves F.faults result shelf.old shelf.new }
-    ensures sent { O.is_flushed out.old → IsSent result (IsQuiet (O.faults out.old) (O.faults out.new)) (O.is_flushed out.new) }
-    ensures still { F.never_fails shelf.old → F.never_fails shelf.new }
+    ensures { RunsOn S.Source O.Sink F.Shelf name.now (TwoWays lines) file.items result
+        src.old src.new out.old out.new shelf.old shelf.new }
 {
     in_kind!(
         header.ty,
@@ -95,15 +89,8 @@ fn run_opened<T: Lane, const D: usize, S: Source, O: Sink, F: Shelf>(
     requires header { HasHeader file.items header.now }
     requires same_type { T.width ≡ width_of header.now.ty }
     requires dims { length header.now.shape ≡ D }
-    ensures behaves { (known : Option Files) → HoldsFile known name.now file.items → KeepsFiles known (F.files shelf.old)
-        → Behaves (Run name.now (TwoWays lines)) result (seen (S.contents src.old) (O.contents out.old) known)
-        (seen (S.contents src.new) (O.contents out.new) (F.files shelf.new)) }
-    ensures causes { HasCauses (Run name.now (TwoWays lines)) result
-        (counts (S.faults src.old) (O.faults out.old)) (counts (S.faults src.new) (O.faults out.new))
-        (S.never_fails src.old) (S.never_fails src.new) }
-    ensures once { SavesOnce F.saves F.faults result shelf.old shelf.new }
-    ensures sent { O.is_flushed out.old → IsSent result (IsQuiet (O.faults out.old) (O.faults out.new)) (O.is_flushed out.new) }
-    ensures still { F.never_fails shelf.old → F.never_fails shelf.new }
+    ensures { RunsOn S.Source O.Sink F.Shelf name.now (TwoWays lines) file.items result
+        src.old src.new out.old out.new shelf.old shelf.new }
 {
     match open::<T, D>(alloc, header, file, lines) {
         Ok(opened) => run_script(alloc, name, opened, src, out, shelf),
