@@ -18,10 +18,10 @@ use Rattle.zfpi.specs.Headline.{Behaves, HasCauses, IsSent}
 pub record RunsOn {A B C : Type 0} (S : Source A) (O : Sink B) (F : Shelf C) (name : List ℕ) (caching : Caching)
     (file : List ℕ) (status : Status) (src src_now : A) (out out_now : B) (shelf shelf_now : C) : Type 0 where
   pub behaves : (known : Option Files) → HoldsFile known name file → KeepsFiles known (F.files shelf)
-    → Behaves (Run name caching) status (seen (S.contents src) (O.contents out) known)
-    (seen (S.contents src_now) (O.contents out_now) (F.files shelf_now))
+      → Behaves (Run name caching) status (seen (S.contents src) (O.contents out) known)
+      (seen (S.contents src_now) (O.contents out_now) (F.files shelf_now))
   pub causes : HasCauses (Run name caching) status (counts (S.faults src) (O.faults out))
-    (counts (S.faults src_now) (O.faults out_now)) (S.never_fails src) (S.never_fails src_now)
+      (counts (S.faults src_now) (O.faults out_now)) (S.never_fails src) (S.never_fails src_now)
   pub once : SavesOnce F.saves F.faults status shelf shelf_now
   pub sent : O.is_flushed out → IsSent status (IsQuiet (O.faults out) (O.faults out_now)) (O.is_flushed out_now)
   pub still : F.never_fails shelf → F.never_fails shelf_now
@@ -30,8 +30,8 @@ pub record RunsOn {A B C : Type 0} (S : Source A) (O : Sink B) (F : Shelf C) (na
 pub record LooksOn {A B : Type 0} (S : Source A) (O : Sink B) (name : List ℕ) (lines : Option ℕ) (file : List ℕ)
     (status : Status) (src src_now : A) (out out_now : B) : Type 0 where
   pub behaves : (known now : Option Files) → HoldsFile known name file → KeepsFiles known now
-    → Behaves (Look name lines) status (seen (S.contents src) (O.contents out) known)
-    (seen (S.contents src_now) (O.contents out_now) now)
+      → Behaves (Look name lines) status (seen (S.contents src) (O.contents out) known)
+      (seen (S.contents src_now) (O.contents out_now) now)
   pub causes : HasCauses (Look name lines) status (counts (S.faults src) (O.faults out))
-    (counts (S.faults src_now) (O.faults out_now)) (S.never_fails src) (S.never_fails src_now)
+      (counts (S.faults src_now) (O.faults out_now)) (S.never_fails src) (S.never_fails src_now)
   pub shelfless : IsShelfless status

@@ -9,8 +9,8 @@ returns-in-Ok g c =
     let a = c.in-Ok.array in
     record {
       behaves = λ known now holds kept.
-      let stream = HoldsStream-opened known c.args.name.now c.args.lines g.T.Lane.width c.args.file.items c.args.header.now a c.line_count-count.result holds c.in-Ok.ensures.opened c.requires.same_type c.line_count-count.ensures.value c.in-Ok.ensures.state in
-      c.look_script.ensures.behaves known now c.args.lines stream kept;
+          let stream = HoldsStream-opened known c.args.name.now c.args.lines g.T.Lane.width c.args.file.items c.args.header.now a c.line_count-count.result holds c.in-Ok.ensures.opened c.requires.same_type c.line_count-count.ensures.value c.in-Ok.ensures.state in
+          c.look_script.ensures.behaves known now c.args.lines stream kept;
       causes = c.look_script.ensures.causes c.args.lines;
       shelfless = c.look_script.ensures.shelfless;
     }

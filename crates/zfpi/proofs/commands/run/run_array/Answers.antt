@@ -11,8 +11,8 @@ returns-in-Ok g c =
     let a = c.in-Ok.array in
     record {
       behaves = λ known holds kept.
-      let array = HoldsArray-opened known c.args.name.now (Direct c.args.lines) g.T.Lane.width c.args.file.items c.args.header.now (stored a) (state a) c.line_count-count.result holds c.requires.header c.in-Ok.ensures.stored c.requires.same_type c.line_count-count.ensures.value c.in-Ok.ensures.state in
-      c.run_script.ensures.behaves known c.args.lines array kept;
+          let array = HoldsArray-opened known c.args.name.now (Direct c.args.lines) g.T.Lane.width c.args.file.items c.args.header.now (stored a) (state a) c.line_count-count.result holds c.requires.header c.in-Ok.ensures.stored c.requires.same_type c.line_count-count.ensures.value c.in-Ok.ensures.state in
+          c.run_script.ensures.behaves known c.args.lines array kept;
       causes = c.run_script.ensures.causes c.args.lines;
       once = c.run_script.ensures.once;
       sent = c.run_script.ensures.sent;

@@ -12,8 +12,8 @@ returns-in-Ok g c =
     let o = c.in-Ok.opened in
     record {
       behaves = λ known holds kept.
-      let array = HoldsArray-opened known c.args.name.now (TwoWay c.args.lines) g.T.Lane.width c.args.file.items c.args.header.now o.store (pair_state g.T.Lane.value o.store o.cache) c.args.lines holds c.requires.header c.in-Ok.ensures.stored c.requires.same_type refl c.in-Ok.ensures.state in
-      c.run_script.ensures.behaves known c.args.lines array kept;
+          let array = HoldsArray-opened known c.args.name.now (TwoWay c.args.lines) g.T.Lane.width c.args.file.items c.args.header.now o.store (pair_state g.T.Lane.value o.store o.cache) c.args.lines holds c.requires.header c.in-Ok.ensures.stored c.requires.same_type refl c.in-Ok.ensures.state in
+          c.run_script.ensures.behaves known c.args.lines array kept;
       causes = c.run_script.ensures.causes c.args.lines;
       once = c.run_script.ensures.once;
       sent = c.run_script.ensures.sent;
