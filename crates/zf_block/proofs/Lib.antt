@@ -4,6 +4,7 @@
 --     Digits      digits of coefficients, and the planes that they have
 --     Kept        planes that a budget keeps whole, and planes that are missing below
 --     Zeros       zero bits that fill a code
+--     ZeroPlanes  planes of zeros: their code, what is read as such, and the block that they stand for
 --     AfterReserve   room that was asked for before
 --     Answered    what follows of an answer that may be nothing
 --     ReadCodes   what reading a code is, from what was read of it
@@ -14,6 +15,7 @@ pub mod Widths
 pub mod Digits
 pub mod Kept
 pub mod Zeros
+pub mod ZeroPlanes
 pub mod AfterReserve
 pub mod Answered
 pub mod ReadCodes

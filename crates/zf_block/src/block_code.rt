@@ -1,6 +1,6 @@
 //! What the codes of a block differ in: the transform of its values, and how the planes of the coefficients are written and read.
 
-ghost use Rattle.std.specs.Prelude.{◌≡◌, ◌≤◌, ◌<◌, ◌-◌, ◌*◌, ◌^◌, ℕ, ℤ, pos, ◌∷◌, Bool, IsTrue, List, map, length, take, replicate, OnSome, IfNone};
+ghost use Rattle.std.specs.Prelude.{◌≡◌, ◌≤◌, ◌<◌, ◌-◌, ◌*◌, ◌^◌, ℕ, ℤ, pos, [], ◌∷◌, Bool, IsTrue, false, List, map, length, take, replicate, OnSome, IfNone};
 ghost use Rattle.zf_spec.specs.Grid.{IsDimension, IsBlockSize};
 ghost use Rattle.zf_spec.specs.HeldPlanes.{planes_held};
 ghost use Rattle.zf_spec.specs.Planes.{planes_of};
@@ -63,12 +63,13 @@ pub(crate) trait BlockCode<T: Lane> {
         ensures { Appends out.old out.new (code_of self.now (planes_held size (map P.words planes.now))) };
 
     /// Reads the code of planes into planes of zeros, or answers `None` where the bits end before it does. The planes below those that it has stay zero.
+    /// The answer is how many bits the planes took.
     fn read<P: Plane>(
         &self,
         size: usize,
         reader: &mut BitReader<'_>,
         planes: &mut [P],
-    ) -> Option<()>
+    ) -> Option<u64>
         requires size { IsBlockSize size }
         requires words { size ≤ 64 * P.word_count }
         requires planes { length planes.old ≡ T.WIDTH }
@@ -92,4 +93,18 @@ pub(crate) trait BlockCode<T: Lane> {
         ensures enough { OnSome result (len_at self.now 4 (rest reader.old) ≤ length (rest reader.old)) }
         ensures reads { OnSome result (Reads reader.old reader.new (take (len_at self.now 4 (rest reader.old)) (rest reader.old))) }
         ensures planes { OnSome result (AreAbove 4 (planes_at self.now 4 (rest reader.old)) (planes_of T.WIDTH (digits_in T.WIDTH digits.new))) };
+
+    /// Passes the code of a block of zeros, where it is seen that one is next.
+    fn pass_zeros(&self, size: usize, reader: &mut BitReader<'_>) -> bool
+        requires size { IsBlockSize size }
+        ensures unread { ¬ IsTrue result → reader.new ≡ reader.old }
+        ensures enough { IsTrue result → len_at self.now size (rest reader.old) ≤ length (rest reader.old) }
+        ensures reads { IsTrue result → Reads reader.old reader.new (take (len_at self.now size (rest reader.old)) (rest reader.old)) }
+        ensures zeros { IsTrue result → AreAbove size [] (planes_at self.now size (rest reader.old)) };
+
+    /// Appends the code of a block of zeros in room that is there already.
+    fn write_zero_block(&self, size: usize, out: &mut BitWriter)
+        requires size { IsBlockSize size }
+        requires fits { longest self.now size ≤ out.old.room }
+        ensures { Appends out.old out.new (code_of self.now (replicate T.WIDTH (replicate size false))) };
 }

@@ -1,6 +1,6 @@
 //! The one way from a block to its code and back, whichever code it is.
 
-ghost use Rattle.std.specs.Prelude.{◌≡◌, ◌≤◌, ◌<◌, ◌*◌, ◌^◌, map, length, take, replicate, OnSome, IfNone};
+ghost use Rattle.std.specs.Prelude.{◌≡◌, ◌≤◌, ◌<◌, ◌*◌, ◌^◌, ℕ, IsTrue, false, map, length, take, replicate, OnSome, IfNone};
 ghost use Rattle.zf_spec.specs.Grid.{IsDimension};
 ghost use Rattle.zf_spec.specs.Codes as codes;
 ghost use Rattle.zf_spec.specs.Codes.{coefficients_of};
@@ -87,6 +87,10 @@ fn write_row<C: BlockCode<T>, T: Lane>(
     let mut values = [T::zero(); 4];
     let mut digits = [0; 4];
     copy_padded(d, e, block, &mut values);
+    if is_zero::<C, T>(&values) {
+        code.write_zero_block(4, out);
+        return;
+    }
     C::forward(d, &mut values);
     to_digits(d, &values, &mut digits);
     code.write_four(&digits, out);
@@ -150,8 +154,21 @@ fn write_block<C: BlockCode<T>, T: Lane, P: Plane>(
         (C.code_of code.now (codes.planes T.width d (C.forth d (pad (used_axes d e.now.size) (map T.value block.now))))) }
 {
     copy_padded(d, e, block, values);
+    if is_zero::<C, T>(values) {
+        code.write_zero_block(block.len(), out);
+        return;
+    }
     make_planes::<C, T, P>(d, values, digits, planes);
     code.write(block.len(), digits, planes, out);
+}
+
+/// Whether a block is all zeros, as where a field is empty, and its coefficients are too.
+#[inline(always)]
+fn is_zero<C: BlockCode<T>, T: Lane>(values: &[T]) -> bool
+    ensures { IsTrue result → (d : ℕ) → IsDimension d → length values.now ≡ 4 ^ d
+        → codes.planes T.width d (C.forth d (map T.value values.now)) ≡ replicate T.WIDTH (replicate (4 ^ d) false) }
+{
+    is_all(T::zero(), values) && C::keeps_first(T::zero())
 }
 
 /// Makes the planes of the coefficients of a block, which is padded, by way of their digits. The block becomes anything.
@@ -171,7 +188,7 @@ fn make_planes<C: BlockCode<T>, T: Lane, P: Plane>(
     ensures digits { planes_held (4 ^ d) (map P.words planes.new) ≡ planes_of T.WIDTH (digits_in T.WIDTH digits.new) }
 {
     let first = values[0];
-    // A block of one value, as where a field is empty, needs no transform.
+    // A block of one value needs no transform.
     if is_all(first, values) && C::keeps_first(first) {
         to_planes_of_first(d, first, digits, planes);
         return;
@@ -197,6 +214,10 @@ pub(crate) fn decode<C: BlockCode<T>, T: Lane>(
     ensures block { OnSome result (map T.value block.new
         ≡ C.back d (coefficients_of T.width d (C.planes_at code.now (4 ^ d) (rest reader.old)))) }
 {
+    if code.pass_zeros(block.len(), reader) {
+        C::inverse_of_first(d, T::zero(), block);
+        return Some(());
+    }
     match d {
         1 => read_row(code, d, reader, block),
         2 => read_narrow::<C, T, 16>(code, d, reader, block),
@@ -308,11 +329,13 @@ fn read_block<C: BlockCode<T>, T: Lane, P: Plane, const N: usize>(
     ensures block { OnSome result (map T.value block.new
         ≡ C.back d (coefficients_of T.width d (C.planes_at code.now (4 ^ d) (rest reader.old)))) }
 {
-    code.read(N, reader, planes)?;
-    // A block of one value, as where a field is empty, needs no transform.
-    if let Some(first) = first_alone(d, planes) {
-        C::inverse_of_first(d, first, block);
-        return Some(());
+    let count = code.read(N, reader, planes)?;
+    // A block of one value needs no transform. It has at most two bits a plane, and one more.
+    if count <= 2 * u64::from(T::WIDTH) + 1 {
+        if let Some(first) = first_alone(d, planes) {
+            C::inverse_of_first(d, first, block);
+            return Some(());
+        }
     }
     // They stand here, behind the reading, so that no block clears those of another size.
     let mut digits = [0; N];

@@ -12,6 +12,7 @@ mod reversible;
 mod scratch;
 mod uncut;
 mod whole;
+mod zero_block;
 
 pub use precision::{decode_prec, encode_prec};
 pub use rate::{decode_rate, encode_rate};

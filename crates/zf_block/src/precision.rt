@@ -14,6 +14,7 @@ use crate::Scratch;
 use crate::block_code::BlockCode;
 use crate::codec::{decode, encode};
 use crate::uncut::{read_uncut, read_uncut_four, write_uncut, write_uncut_four, zeros_above};
+use crate::zero_block::{are_zeros, write_zeros};
 use std::alloc::AllocError;
 use zf_base::{Extent, Lane};
 use zf_bits::{BitReader, BitWriter, Plane};
@@ -113,7 +114,7 @@ impl<T: Lane> BlockCode<T> for Precision {
         size: usize,
         reader: &mut BitReader<'_>,
         planes: &mut [P],
-    ) -> Option<()> {
+    ) -> Option<u64> {
         read_uncut(self.prec.min(T::WIDTH), size, reader, planes)
     }
 
@@ -127,5 +128,18 @@ impl<T: Lane> BlockCode<T> for Precision {
     fn read_four(&self, reader: &mut BitReader<'_>, digits: &mut [u64; 4]) -> Option<()> {
         let width = T::WIDTH;
         read_uncut_four(self.prec.min(width), width, reader, digits)
+    }
+
+    fn pass_zeros(&self, size: usize, reader: &mut BitReader<'_>) -> bool {
+        let prec = self.prec.min(T::WIDTH);
+        if are_zeros(prec, reader) {
+            reader.skip(u64::from(prec));
+            return true;
+        }
+        false
+    }
+
+    fn write_zero_block(&self, size: usize, out: &mut BitWriter) {
+        write_zeros(u64::from(self.prec.min(T::WIDTH)), out);
     }
 }

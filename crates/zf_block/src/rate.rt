@@ -1,6 +1,6 @@
 //! The code of a block at a fixed rate: each block has as many bits, and its values come back rounded.
 
-ghost use Rattle.std.specs.Prelude.{◌≡◌, ◌≤◌, ◌<◌, ◌^◌, false, map, length, take, replicate};
+ghost use Rattle.std.specs.Prelude.{◌≡◌, ◌≤◌, ◌<◌, ◌^◌, map, length, take};
 ghost use Rattle.zf_spec.specs.Grid.{IsDimension};
 ghost use Rattle.zf_spec.specs.Codes.{rate};
 ghost use Rattle.zf_spec.specs.Lift.{lift, unlift};
@@ -15,6 +15,7 @@ ghost use Rattle.zf_block.specs.ReadBlocks.{ReadsRate};
 use crate::Scratch;
 use crate::block_code::BlockCode;
 use crate::codec::{decode, encode};
+use crate::zero_block::{are_zeros, write_zeros};
 use zf_base::{Extent, Lane};
 use zf_bits::{BitReader, BitWriter, Plane};
 
@@ -104,7 +105,7 @@ impl<T: Lane> BlockCode<T> for Rate {
         size: usize,
         reader: &mut BitReader<'_>,
         planes: &mut [P],
-    ) -> Option<()> {
+    ) -> Option<u64> {
         let bits = u64::from(self.bits);
         if reader.left() < bits {
             return None;
@@ -112,7 +113,7 @@ impl<T: Lane> BlockCode<T> for Rate {
         let used = zf_planes::read_planes(bits, T::WIDTH, size, reader, planes)?;
         // Bits that the code of the planes leaves are passed too.
         reader.skip(bits - used);
-        Some(())
+        Some(used)
     }
 
     fn write_four(&self, digits: &[u64; 4], out: &mut BitWriter) {
@@ -133,17 +134,17 @@ impl<T: Lane> BlockCode<T> for Rate {
         reader.skip(bits - used);
         Some(())
     }
-}
 
-/// Appends zero bits, a word at a time.
-fn write_zeros(count: u64, out: &mut BitWriter)
-    requires { count ≤ out.old.room }
-    ensures { Appends out.old out.new (replicate count false) }
-{
-    let mut left = count;
-    while left > 64 {
-        out.write_reserved(0, 64);
-        left -= 64;
+    fn pass_zeros(&self, size: usize, reader: &mut BitReader<'_>) -> bool {
+        let bits = u64::from(self.bits);
+        if bits <= reader.left() && are_zeros(self.bits.min(T::WIDTH), reader) {
+            reader.skip(bits);
+            return true;
+        }
+        false
     }
-    out.write_reserved(0, left as u32);
+
+    fn write_zero_block(&self, size: usize, out: &mut BitWriter) {
+        write_zeros(u64::from(self.bits), out);
+    }
 }

@@ -17,6 +17,7 @@ use crate::Scratch;
 use crate::block_code::BlockCode;
 use crate::codec::{decode, encode};
 use crate::uncut::{read_uncut, read_uncut_four, write_uncut, write_uncut_four, zeros_above};
+use crate::zero_block::are_zeros;
 use std::alloc::AllocError;
 use zf_base::{Extent, Lane};
 use zf_bits::{BitReader, BitWriter, Plane};
@@ -107,13 +108,13 @@ impl<T: Lane> BlockCode<T> for Reversible {
         size: usize,
         reader: &mut BitReader<'_>,
         planes: &mut [P],
-    ) -> Option<()> {
+    ) -> Option<u64> {
         let start = reader.at();
         // Known by this call: the start is within the bits, so that the reader can go back.
         let _left = reader.left();
         let prec = read_count::<T>(reader)?;
         match read_uncut(prec, size, reader, planes) {
-            Some(()) => Some(()),
+            Some(count) => Some(count),
             None => {
                 reader.seek(start);
                 None
@@ -140,6 +141,20 @@ impl<T: Lane> BlockCode<T> for Reversible {
                 None
             }
         }
+    }
+
+    // The count of planes less one, and the bit of one plane.
+    fn pass_zeros(&self, size: usize, reader: &mut BitReader<'_>) -> bool {
+        let count = count_bits::<T>() + 1;
+        if are_zeros(count, reader) {
+            reader.skip(u64::from(count));
+            return true;
+        }
+        false
+    }
+
+    fn write_zero_block(&self, size: usize, out: &mut BitWriter) {
+        out.write_reserved(0, count_bits::<T>() + 1);
     }
 }
 

@@ -62,13 +62,14 @@ pub(crate) fn write_uncut_four(
     zf_planes::write_four(zeros, u64::MAX, prec, width, digits, out);
 }
 
-/// Reads the whole code of the top `prec` planes, or answers `None` where the bits end before it does. The planes below are zero.
+/// Reads the whole code of the top `prec` planes, or answers `None` where the bits end before it does. The planes below are zero. The answer is how many
+/// bits it has.
 pub(crate) fn read_uncut<P: Plane>(
     prec: u32,
     size: usize,
     reader: &mut BitReader<'_>,
     planes: &mut [P],
-) -> Option<()>
+) -> Option<u64>
     requires size { IsBlockSize size }
     requires words { size ≤ 64 * P.word_count }
     requires planes { prec ≤ length planes.old }
@@ -83,8 +84,8 @@ pub(crate) fn read_uncut<P: Plane>(
 {
     // Known by this call: the greatest budget is more than what is left.
     let _left = reader.left();
-    zf_planes::read_planes(u64::MAX, prec, size, reader, planes)?;
-    Some(())
+    let count = zf_planes::read_planes(u64::MAX, prec, size, reader, planes)?;
+    Some(count)
 }
 
 /// The same of the planes of four coefficients, into their digits.

@@ -136,11 +136,13 @@ sum_of_none : (n : ℕ) → digits_sum (replicate n false) ≡ pos 0
 sum_of_none zero = refl
 sum_of_none (suc n) = rw (sum_of_none n) refl
 
+pub value_of_none : (w : Width) (m : ℕ) → value_of w (field m 0) ≡ pos 0
+value_of_none w m = ap (value_of w) (field-zero m) ∙ ap (wrap w) (sum_of_none m) ∙ wrap_value w (pos 0) (zero_fits w)
+
 values_of_zeros : (w : Width) (m n : ℕ) → map (value_of w) (digits_in m (replicate n 0)) ≡ replicate n (pos 0)
 values_of_zeros w m zero = refl
 values_of_zeros w m (suc n) =
-    let none : value_of w (field m 0) ≡ pos 0 = ap (value_of w) (field-zero m) ∙ ap (wrap w) (sum_of_none m) ∙ wrap_value w (pos 0) (zero_fits w) in
-    ap (λ v. v ∷ map (value_of w) (digits_in m (replicate n 0))) none ∙ ap (λ (vs : List ℤ). pos 0 ∷ vs) (values_of_zeros w m n)
+    ap (λ v. v ∷ map (value_of w) (digits_in m (replicate n 0))) (value_of_none w m) ∙ ap (λ (vs : List ℤ). pos 0 ∷ vs) (values_of_zeros w m n)
 
 -- the coefficients whose digits these are
 pub unranked_first : (w : Width) (d u : ℕ) → IsDimension d → 0 < 4 ^ d

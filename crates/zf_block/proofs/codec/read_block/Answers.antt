@@ -17,7 +17,7 @@ returns-clause-block g c =
     let s = rest c.args.reader.now in
     let planes_at = λ (n : ℕ). g.C.BlockCode.planes_at c.args.code.now n s in
     let Held : ℕ → Type 0 = λ n. AreAbove n (planes_at n) (planes_held n (map g.P.Plane.words c.read.new.planes)) in
-    let held = subst Held c.requires.size c.in_ok-read.ensures.planes in
+    let held = subst Held c.requires.size c.in_ok-count.ensures.planes in
     c.inverse.ensures
     ∙ ap (g.C.BlockCode.back d) (c.from_planes.ensures ∙ ap (coefficients_of w d) held.1 ∙ coefficients_of-zeros w d (planes_at (4 ^ d)) held.0 (4 ^ d))
 
@@ -28,6 +28,6 @@ returns-in-Some-clause-block g c =
     let s = rest c.args.reader.now in
     let planes_at = λ (n : ℕ). g.C.BlockCode.planes_at c.args.code.now n s in
     let Held : ℕ → Type 0 = λ n. AreAbove n (planes_at n) (planes_held n (map g.P.Plane.words c.read.new.planes)) in
-    let held = subst Held c.requires.size c.in_ok-read.ensures.planes in
+    let held = subst Held c.requires.size c.in_ok-count.ensures.planes in
     c.inverse_of_first.ensures
     ∙ ap (g.C.BlockCode.back d) (sym c.in-Some.ensures ∙ ap (coefficients_of w d) held.1 ∙ coefficients_of-zeros w d (planes_at (4 ^ d)) held.0 (4 ^ d))

@@ -1,6 +1,6 @@
 use Rattle.std.proofs.Common.{arith}
 use Rattle.zf_block.proofs.Zeros.{WritesZeros-start, WritesZeros-more, WritesZeros-end}
-use Rattle.zf_block.proofs.rate.write_zeros.Goals as goal
+use Rattle.zf_block.proofs.zero_block.write_zeros.Goals as goal
 
 pub loop-left-init : goal.loop-left-init
 loop-left-init c = WritesZeros-start c.args.out.now c.args.count c.requires
