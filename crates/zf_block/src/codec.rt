@@ -1,6 +1,6 @@
 //! The one way from a block to its code and back, whichever code it is.
 
-ghost use Rattle.std.specs.Prelude.{◌≡◌, ◌≤◌, ◌<◌, ◌*◌, ◌^◌, ℕ, IsTrue, false, map, length, take, replicate, OnSome, IfNone};
+ghost use Rattle.std.specs.Prelude.{◌≡◌, ◌≤◌, ◌<◌, ◌*◌, ◌^◌, ℕ, List, IsTrue, false, map, length, take, replicate, OnSome, IfNone};
 ghost use Rattle.zf_spec.specs.Grid.{IsDimension};
 ghost use Rattle.zf_spec.specs.Codes as codes;
 ghost use Rattle.zf_spec.specs.Codes.{coefficients_of};
@@ -24,6 +24,32 @@ use zf_bits::{BitReader, BitWriter, Plane};
 /// Appends the code of a block in room that is there already.
 #[inline(always)]
 pub(crate) fn encode<C: BlockCode<T>, T: Lane>(
+    code: &C,
+    d: u8,
+    e: &Extent,
+    block: &[T],
+    s: &mut Scratch<T>,
+    out: &mut BitWriter,
+)
+    requires dimension { IsDimension d }
+    requires extent { IsExtent d e.now }
+    requires block { length block.now ≡ 4 ^ d }
+    requires scratch { s.old ≡ d }
+    requires fits { C.longest code.now (4 ^ d) ≤ out.old.room }
+    ensures code { Appends out.old out.new
+        (C.code_of code.now (codes.planes T.width d (C.forth d (pad (used_axes d e.now.size) (map T.value block.now))))) }
+    ensures scratch { s.new ≡ d }
+{
+    if is_zero::<C, T>(block) {
+        code.write_zero_block(block.len(), out);
+        return;
+    }
+    encode_any(code, d, e, block, s, out);
+}
+
+/// The same without a look for zeros. It stands apart, so that a block of zeros enters no large function.
+#[inline(never)]
+fn encode_any<C: BlockCode<T>, T: Lane>(
     code: &C,
     d: u8,
     e: &Extent,
@@ -87,10 +113,6 @@ fn write_row<C: BlockCode<T>, T: Lane>(
     let mut values = [T::zero(); 4];
     let mut digits = [0; 4];
     copy_padded(d, e, block, &mut values);
-    if is_zero::<C, T>(&values) {
-        code.write_zero_block(4, out);
-        return;
-    }
     C::forward(d, &mut values);
     to_digits(d, &values, &mut digits);
     code.write_four(&digits, out);
@@ -154,21 +176,17 @@ fn write_block<C: BlockCode<T>, T: Lane, P: Plane>(
         (C.code_of code.now (codes.planes T.width d (C.forth d (pad (used_axes d e.now.size) (map T.value block.now))))) }
 {
     copy_padded(d, e, block, values);
-    if is_zero::<C, T>(values) {
-        code.write_zero_block(block.len(), out);
-        return;
-    }
     make_planes::<C, T, P>(d, values, digits, planes);
     code.write(block.len(), digits, planes, out);
 }
 
 /// Whether a block is all zeros, as where a field is empty, and its coefficients are too.
 #[inline(always)]
-fn is_zero<C: BlockCode<T>, T: Lane>(values: &[T]) -> bool
-    ensures { IsTrue result → (d : ℕ) → IsDimension d → length values.now ≡ 4 ^ d
-        → codes.planes T.width d (C.forth d (map T.value values.now)) ≡ replicate T.WIDTH (replicate (4 ^ d) false) }
+fn is_zero<C: BlockCode<T>, T: Lane>(block: &[T]) -> bool
+    ensures { IsTrue result → (d : ℕ) → (es : List ℕ) → IsDimension d → length es ≡ d → length block.now ≡ 4 ^ d
+        → codes.planes T.width d (C.forth d (pad es (map T.value block.now))) ≡ replicate T.WIDTH (replicate (4 ^ d) false) }
 {
-    is_all(T::zero(), values) && C::keeps_first(T::zero())
+    is_all(T::zero(), block) && C::keeps_first(T::zero())
 }
 
 /// Makes the planes of the coefficients of a block, which is padded, by way of their digits. The block becomes anything.
@@ -214,21 +232,59 @@ pub(crate) fn decode<C: BlockCode<T>, T: Lane>(
     ensures block { OnSome result (map T.value block.new
         ≡ C.back d (coefficients_of T.width d (C.planes_at code.now (4 ^ d) (rest reader.old)))) }
 {
+    if d == 1 {
+        return read_row(code, d, reader, block);
+    }
     if code.pass_zeros(block.len(), reader) {
         C::inverse_of_first(d, T::zero(), block);
         return Some(());
     }
     match d {
-        1 => read_row(code, d, reader, block),
         2 => read_narrow::<C, T, 16>(code, d, reader, block),
         3 => read_narrow::<C, T, 64>(code, d, reader, block),
         _ => read_wide(code, d, reader, block),
     }
 }
 
-/// Reads the code of a block of one dimension, straight into the digits of its coefficients.
+/// Reads the code of a block of one dimension.
 #[inline(always)]
 fn read_row<C: BlockCode<T>, T: Lane>(
+    code: &C,
+    d: u8,
+    reader: &mut BitReader<'_>,
+    block: &mut [T],
+) -> Option<()>
+    requires dimension { IsDimension d }
+    requires size { 4 ≡ 4 ^ d }
+    requires block { length block.old ≡ 4 ^ d }
+    ensures short { IfNone result (length (rest reader.old) < C.len_at code.now (4 ^ d) (rest reader.old)) }
+    ensures unread { IfNone result (reader.new ≡ reader.old) }
+    ensures enough { OnSome result (C.len_at code.now (4 ^ d) (rest reader.old) ≤ length (rest reader.old)) }
+    ensures reads { OnSome result (Reads reader.old reader.new (take (C.len_at code.now (4 ^ d) (rest reader.old)) (rest reader.old))) }
+    ensures block { OnSome result (map T.value block.new
+        ≡ C.back d (coefficients_of T.width d (C.planes_at code.now (4 ^ d) (rest reader.old)))) }
+{
+    if code.pass_zeros(4, reader) {
+        let mut zeros = [T::zero(); 4];
+        C::inverse_of_first(d, T::zero(), &mut zeros);
+        put_four(&zeros, block);
+        return Some(());
+    }
+    read_four(code, d, reader, block)
+}
+
+/// Copies four values, which are a whole block. Their number is known, so it needs no call.
+#[inline(always)]
+fn put_four<T: Lane>(four: &[T; 4], block: &mut [T])
+    requires { length block.old ≡ 4 }
+    ensures { block.new ≡ four.now }
+{
+    block[..4].copy_from_slice(four);
+}
+
+/// The same without a look for zeros, straight into the digits of its coefficients.
+#[inline(always)]
+fn read_four<C: BlockCode<T>, T: Lane>(
     code: &C,
     d: u8,
     reader: &mut BitReader<'_>,

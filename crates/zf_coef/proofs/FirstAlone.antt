@@ -106,7 +106,7 @@ first_place (suc (suc (suc zero))) dims = refl
 first_place (suc (suc (suc (suc zero)))) dims = refl
 first_place (suc (suc (suc (suc (suc d))))) dims = absurd (omega (arith, dims.1))
 
-zero_value_at : (n k : ℕ) → get_or (replicate n (pos 0)) k (pos 0) ≡ pos 0
+pub zero_value_at : (n k : ℕ) → get_or (replicate n (pos 0)) k (pos 0) ≡ pos 0
 zero_value_at zero k = refl
 zero_value_at (suc n) zero = refl
 zero_value_at (suc n) (suc k) = zero_value_at n k
