@@ -1,12 +1,12 @@
 -- Bits of several planes in one word.
-use Rattle.std.proofs.Common.{◌≡◌, ℕ, suc, false, set, replicate, refl, get_or-set_same, ◌∷◌, ◌+◌, ◌-◌, ◌*◌, ◌/◌, ◌%◌, ◌^◌, ◌<◌, ◌≤◌, ⊎_elim, min, max, Bool, List, [], ◌++◌, append_assoc, length, take, drop, get_or, sym, ap, subst, ◌∙◌, arith, lit<}
+use Rattle.std.proofs.Common.{◌≡◌, ℕ, zero, suc, false, set, replicate, refl, get_or-set_same, ◌∷◌, ◌+◌, ◌-◌, ◌*◌, ◌/◌, ◌%◌, ◌^◌, ◌<◌, ◌≤◌, ⊎_elim, min, max, Bool, List, [], ◌++◌, append_assoc, length, take, drop, get_or, sym, ap, subst, ◌∙◌, arith, lit<}
 use Rattle.std.specs.Int.Bits.{bit_or}
 use Rattle.std.proofs.Math.Nat.{pow-le-pow_right, mod-le, div-eq_of_lt}
 use Rattle.std.proofs.Math.Seq.{take-append-add}
 use Rattle.std.proofs.lemmas.Bool.{cases_lt}
 use Rattle.std.proofs.lemmas.Nat.{or_lt, shl_below}
-use Rattle.std.proofs.lemmas.List.{take_all, length-set, length-replicate}
-use Rattle.zf_spec.specs.Numbers.{field}
+use Rattle.std.proofs.lemmas.List.{take_all, drop_at, length-append, length-replicate, replicate-append-replicate}
+use Rattle.zf_spec.specs.Numbers.{field, word_bits}
 use Rattle.zf_spec.specs.Planes.{plane_code, code_from, reach}
 use Rattle.zf_spec.specs.HeldPlanes.{digits_held, planes_held, IsClearFrom}
 use Rattle.zf_planes.proofs.Unpacking.{code_held, top_more}
@@ -72,21 +72,36 @@ pub record Written (size n : ℕ) (ws : List ℕ) : Type 0 where
   pub digits : digits_held size ws ≡ field size n
   pub clear : IsClearFrom size ws
 
-pub written : (size k digits : ℕ) (ws ws' : List ℕ) → size ≤ 64 → size ≤ 64 * k → 0 < k → ws ≡ replicate k 0 → ws' ≡ set ws 0 digits → digits < 2 ^ size → Written size digits ws'
-written size k digits ws ws' narrow enough some blank is small =
-    let long : length ws ≡ k = ap length blank ∙ length-replicate k 0 in
-    let here : digits ≡ get_or (set ws 0 digits) 0 0 = sym (get_or-set_same ws 0 digits 0 (omega (arith, long))) in
+zero_bits : (k : ℕ) → word_bits (replicate k 0) ≡ replicate (64 * k) false
+zero_bits zero = refl
+zero_bits (suc k) =
+    let more : 64 + 64 * k ≡ 64 * suc k = omega arith in
+    ap (λ (bs : List Bool). bs ++ word_bits (replicate k 0)) (field-zero 64)
+    ∙ ap (λ (bs : List Bool). replicate 64 false ++ bs) (zero_bits k)
+    ∙ replicate-append-replicate 64 (64 * k) false
+    ∙ ap (λ n. replicate n false) more
+
+-- the first of some words that are zero but for it
+first_word : (k digits : ℕ) → digits < 2 ^ 64 → word_bits (digits ∷ replicate k 0) ≡ field (64 + 64 * k) digits
+first_word k digits fits =
+    let none : digits / 2 ^ 64 ≡ 0 = div-eq_of_lt fits in
+    ap (λ (bs : List Bool). field 64 digits ++ bs) (zero_bits k ∙ sym (field-zero (64 * k)) ∙ ap (field (64 * k)) (sym none))
+    ∙ sym (field-add 64 (64 * k) digits)
+
+pub written : (size k digits : ℕ) (ws ws' : List ℕ) → digits < 2 ^ 64 → size ≤ 64 * k → 0 < k → ws ≡ replicate k 0 → ws' ≡ set ws 0 digits → digits < 2 ^ size → Written size digits ws'
+unfolding digits_held IsClearFrom
+written size zero digits ws ws' fits enough some blank is small = absurd (omega arith)
+written size (suc k) digits ws ws' fits enough some blank is small =
+    let m = 64 + 64 * k - size in
+    let parts : size + m ≡ 64 + 64 * k = omega arith in
     let none : digits / 2 ^ size ≡ 0 = div-eq_of_lt small in
-    let parts : size + (64 - size) ≡ 64 = omega arith in
-    let zeros : field 64 digits ≡ field size digits ++ replicate (64 - size) false =
-    ap (λ n. field n digits) (sym parts)
-    ∙ field-add size (64 - size) digits
-    ∙ ap (λ v. field size digits ++ field (64 - size) v) none
-    ∙ ap (λ (bs : List Bool). field size digits ++ bs) (field-zero (64 - size)) in
-    let clear : IsClearFrom 0 ws = rw blank (clear_zeros 0 k) in
-    let place : 0 + size ≡ size = omega arith in
-    let Clear : ℕ → Type 0 = λ m. IsClearFrom m (set ws 0 digits) in
-    rw is (record {
-      digits = held_word size digits (set ws 0 digits) here narrow (omega (arith, length-set ws 0 digits, long));
-      clear = subst Clear place (word_filled ws 0 0 size digits (field size digits) (omega arith) narrow (omega (arith, long)) zeros (length-field size digits) clear).1;
-    })
+    let held : ws' ≡ digits ∷ replicate k 0 = is ∙ ap (λ vs. set vs 0 digits) blank in
+    let whole = ap word_bits held ∙ first_word k digits fits ∙ ap (λ n. field n digits) (sym parts) in
+    let split : word_bits ws' ≡ field size digits ++ replicate m false =
+    whole ∙ field-add size m digits ∙ ap (λ v. field size digits ++ field m v) none ∙ ap (λ (bs : List Bool). field size digits ++ bs) (field-zero m) in
+    let behind = ap (drop size) split ∙ drop_at (field size digits) (replicate m false) size (length-field size digits) in
+    let count : m ≡ length (word_bits ws') - size = omega (arith, ap length split, length-append (field size digits) (replicate m false), length-field size digits, length-replicate m false) in
+    record {
+      digits = ap (take size) whole ∙ take-field size m digits;
+      clear = behind ∙ ap (λ n. replicate n false) count;
+    }

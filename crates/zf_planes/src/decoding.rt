@@ -10,7 +10,7 @@ ghost use Rattle.zf_spec.specs.Planes.{reach};
 ghost use Rattle.zf_bits.specs.Reader.{rest, Reads};
 ghost use Rattle.zf_planes.specs.Decoding.{IsWindow, coded, coded_bits, tail_ahead, tail_bits, run_ahead, run_bits, plane_ahead, plane_bits, planes_ahead, planes_bits, Takes, Lacks, ReadsTop};
 
-use crate::word_reading::read_in_words;
+use crate::word_reading::{read_in_words, read_same};
 use crate::words::clear;
 use zf_bits::{BitReader, Plane};
 
@@ -330,11 +330,16 @@ fn read_by_planes<P: Plane>(
     let mut i = pass_zero_planes(prec, &mut ahead, reader) as usize;
     let mut above = 0;
     while i < prec as usize && ahead.left > 0 {
-        let mut plane = P::zero();
-        above = read_by_runs(above, size, &mut plane, &mut ahead, reader)?;
-        let k = planes.len() - 1 - i;
-        planes[k] = plane;
-        i += 1;
+        look_on(above as u64 + 1, &mut ahead, reader);
+        if above < size && (above as u64) < ahead.count && (ahead.bits >> above) % 2 == 0 {
+            i = read_same(above, size, i, prec as usize, planes, &mut ahead, reader);
+        } else {
+            let mut plane = P::zero();
+            above = read_by_runs(above, size, &mut plane, &mut ahead, reader)?;
+            let k = planes.len() - 1 - i;
+            planes[k] = plane;
+            i += 1;
+        }
     }
     Some(ahead.left)
 }

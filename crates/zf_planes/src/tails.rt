@@ -35,7 +35,7 @@ pub(crate) fn plane_of_all(size: usize, bits: u64) -> PlaneOfWord
 #[inline(always)]
 pub(crate) fn plane_without(n: usize, size: usize, bits: u64) -> PlaneOfWord
     requires in_plane { n < size }
-    requires size { size ≤ 64 }
+    requires in_word { n < 64 }
     requires none { bits / 2 ^ n % 2 ≡ 0 }
     ensures read { IsReadAs n size bits result.digits result.len result.above }
     ensures len { result.len ≡ n + 1 }

@@ -47,7 +47,7 @@ fn put_plane<P: Plane>(
 /// Reads planes that have no one at ranks which have had none above, as many as are in sight, from the one of number `from` on and before that of number
 /// `to`: the first digits of each, and a group bit of zero. The answer is the number of the first plane that was not read.
 #[inline(always)]
-fn read_same<P: Plane>(
+pub(crate) fn read_same<P: Plane>(
     n: usize,
     size: usize,
     from: usize,
@@ -57,7 +57,6 @@ fn read_same<P: Plane>(
     reader: &mut BitReader<'_>,
 ) -> usize
     requires in_plane { n < size }
-    requires size { size ≤ 64 }
     requires words { size ≤ 64 * P.word_count }
     requires some { from < to }
     requires there { n < ahead.old.count }

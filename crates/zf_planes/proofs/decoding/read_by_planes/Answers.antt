@@ -18,19 +18,21 @@ pub read_by_runs-requires-clause-in_plane : goal.read_by_runs-requires-clause-in
 read_by_runs-requires-clause-in_plane g c = c.loop-i.invariant.read.ranks
 
 pub read_by_runs-requires-clause-window : goal.read_by_runs-requires-clause-window
-read_by_runs-requires-clause-window g c = c.loop-i.invariant.window
+read_by_runs-requires-clause-window g c = c.look_on.ensures.window
 
 pub returns-in_err-above-clause-short : goal.returns-in_err-above-clause-short
-returns-in_err-above-clause-short g c = if_none _ (AreRead-lacks c.loop-i.invariant.read c.loop-i-test.true c.in_err-above.ensures.short)
+returns-in_err-above-clause-short g c = if_none _ (AreRead-lacks c.loop-i.invariant.read c.loop-i-test.true (rw c.look_on.ensures.left at c.in_err-above.ensures.short))
 
 pub loop-i-preserved : goal.loop-i-preserved
 loop-i-preserved g c =
     let before = c.loop-i.invariant in
     let ok = c.in_ok-above.ensures in
     let plane = c.read_by_runs.new.plane in
+    let taken = rw c.look_on.ensures.left at ok.taken in
+    let digits = rw c.look_on.ensures.left at ok.digits in
     record {
       window = ok.window;
-      read = AreRead-more g.P.Plane.words _ _ c.loop-i.planes plane before.read c.requires.some (omega (arith, c.requires.words, g.met.P.Plane.long plane)) c.loop-i-test.true (omega (arith, before.long, c.requires.planes)) ok.taken ok.digits ok.clear ok.above;
+      read = AreRead-more g.P.Plane.words _ _ c.loop-i.planes plane before.read c.requires.some (omega (arith, c.requires.words, g.met.P.Plane.long plane)) c.loop-i-test.true (omega (arith, before.long, c.requires.planes)) taken digits ok.clear ok.above;
       long = length-set c.loop-i.planes _ plane ∙ before.long;
     }
 

@@ -15,7 +15,7 @@ read : (g : Over) (c : goal.After-pass g)
 read g c = known_plane _ _ _ _ _ _ _ _ _ c.requires.in_plane c.requires.window c.requires.read c.requires.there
 
 here : (g : Over) (c : goal.After-pass g) → Written c.args.size c.args.next.digits (g.P.Plane.words c.set_word.new.self)
-here g c = written _ _ _ _ _ c.requires.size c.requires.words (omega (arith, c.requires.words, c.requires.ranks)) c.requires.blank c.set_word.ensures c.requires.read.small
+here g c = written _ _ _ _ _ (omega arith) c.requires.words (omega (arith, c.requires.words, c.requires.ranks)) c.requires.blank c.set_word.ensures c.requires.read.small
 
 pub returns-clause-taken : goal.returns-clause-taken
 returns-clause-taken g c = rw (read g c).0 c.pass.ensures.taken
