@@ -1,6 +1,6 @@
 //! The one way from a block to its code and back, whichever code it is.
 
-ghost use Rattle.std.specs.Prelude.{◌≡◌, ◌≤◌, ◌<◌, ◌*◌, ◌^◌, ℕ, pos, List, IsTrue, false, map, length, take, replicate, OnSome, IfNone};
+ghost use Rattle.std.specs.Prelude.{◌≡◌, ◌≤◌, ◌<◌, ◌*◌, ◌^◌, ℕ, List, IsTrue, false, map, length, take, replicate, OnSome, IfNone};
 ghost use Rattle.zf_spec.specs.Grid.{IsDimension};
 ghost use Rattle.zf_spec.specs.Codes as codes;
 ghost use Rattle.zf_spec.specs.Codes.{coefficients_of};
@@ -186,19 +186,7 @@ fn is_zero<C: BlockCode<T>, T: Lane>(block: &[T]) -> bool
     ensures { IsTrue result → (d : ℕ) → (es : List ℕ) → IsDimension d → length es ≡ d → length block.now ≡ 4 ^ d
         → codes.planes T.width d (C.forth d (pad es (map T.value block.now))) ≡ replicate T.WIDTH (replicate (4 ^ d) false) }
 {
-    are_zero(block) && C::keeps_first(T::zero())
-}
-
-/// Whether all values are zero.
-#[inline(always)]
-fn are_zero<T: Lane>(block: &[T]) -> bool
-    ensures { IsTrue result → map T.value block.now ≡ replicate (length block.now) (pos 0) }
-{
-    // A row, whose number of values is known, needs no loop.
-    if block.len() == 4 {
-        return is_all(T::zero(), &block[..4]);
-    }
-    is_all(T::zero(), block)
+    is_all(T::zero(), block) && C::keeps_first(T::zero())
 }
 
 /// Makes the planes of the coefficients of a block, which is padded, by way of their digits. The block becomes anything.

@@ -4,11 +4,14 @@ use Rattle.zf_spec.specs.Padding.{pad}
 use Rattle.zf_block.proofs.ZeroPlanes.{pad-zeros, planes-zeros}
 use Rattle.zf_block.proofs.codec.is_zero.Goals as goal
 
-pub returns-then-are_zero : goal.returns-then-are_zero
-returns-then-are_zero g c = λ keeps d es dims axes long.
+pub returns-then-is_all : goal.returns-then-is_all
+returns-then-is_all g c = λ keeps d es dims axes long.
     let w = g.T.Lane.width in
-    let zero = c.zero.ensures.value in
-    let zeros = c.are_zero.ensures c.if-are_zero.true ∙ ap (λ n. replicate n (pos 0)) long in
+    let zero = c.zero-then-is_all.ensures.value in
+    let zeros =
+    c.is_all.ensures c.if-is_all.true
+    ∙ ap (λ n. replicate n (g.T.Lane.value c.zero.result)) long
+    ∙ ap (replicate (4 ^ d)) c.zero.ensures.value in
     let padded =
     ap (pad es) zeros
     ∙ pad-zeros es (4 ^ d)
