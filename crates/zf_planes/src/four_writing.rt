@@ -85,9 +85,7 @@ fn next_pairs(left: u64, above: usize, planes: &mut u32, string: &mut u64) -> Pl
     let mut above = above;
     let mut k = *planes;
     let mut rest = *string;
-    // A pair has at most fourteen bits, and a word 64.
-    let most = left.min(51);
-    while above < 4 && k > 1 && part.len < most {
+    while above < 4 && k > 1 && part.len <= 50 && part.len < left {
         let pair = code_of_two(above, rest);
         part = join(part, pair.part);
         above = pair.above;

@@ -16,7 +16,7 @@ loop-above-preserved c =
     let both = GoesOn-more (field joined.result.len joined.result.bits) prefix back joined.ensures.bits in
     record {
       within = omega (arith, c.loop-above.invariant.within);
-      len = omega (arith, pair.ensures.len, joined.ensures.len, c.if-part-most.true, c.min-most.ensures);
+      len = omega (arith, pair.ensures.len, joined.ensures.len, c.if-part-le50.true);
       small = joined.ensures.small pair.ensures.small;
       above = pair.ensures.within;
       bits = both.code;
