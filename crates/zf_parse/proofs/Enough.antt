@@ -146,7 +146,7 @@ enough_for_all h s =
 
 -- ---- what is restored
 
-length-values_of_blocks : (ns : List ℕ) (bs : List (List ℤ)) → length (values_of_blocks ns bs) ≡ product ns
+pub length-values_of_blocks : (ns : List ℕ) (bs : List (List ℤ)) → length (values_of_blocks ns bs) ≡ product ns
 length-values_of_blocks ns bs = length-map-upto _ (product ns)
 
 length-raw_bytes : (h : Header) (bs : List (List ℤ)) → length (raw_bytes h (values_of_blocks h.shape bs)) ≡ raw_len h

@@ -150,7 +150,7 @@ read_codes_more h b (suc n) s more found e =
 
 -- ---- the parts of a good answer
 
-header_good : {T : Type 0} (f : Option HeaderFault) (rest : Result T StreamFault) (good : T) → header_or f rest ≡ Ok good → (f ≡ None) × (rest ≡ Ok good)
+pub header_good : {T : Type 0} (f : Option HeaderFault) (rest : Result T StreamFault) (good : T) → header_or f rest ≡ Ok good → (f ≡ None) × (rest ≡ Ok good)
 header_good None rest good e = (refl, e)
 header_good (Some f) rest good e = absurd cc
 
@@ -158,7 +158,7 @@ values_good : (found values : List ℤ) (r : Result (Unit {0}) StreamFault) → 
 values_good found values (Ok good) e = cc
 values_good found values (Err f) e = absurd cc
 
-codes_good : (h : Header) (all : ℕ) (r : Result (List (List ℤ) × List Bool) ℕ) (values : List ℤ) → codes_answer h all r ≡ Ok values
+pub codes_good : (h : Header) (all : ℕ) (r : Result (List (List ℤ) × List Bool) ℕ) (values : List ℤ) → codes_answer h all r ≡ Ok values
     → (found : List (List ℤ) × List Bool) × (r ≡ Ok found) × (values_of_blocks h.shape found.0 ≡ values)
 codes_good h all (Err b) values e = absurd cc
 codes_good h all (Ok found) values e = (found, refl, values_good (values_of_blocks h.shape found.0) values (fill_answer h (all - length found.1) found.1) e)
