@@ -1,6 +1,6 @@
 -- The values that a stream says are those that its codes mean.
 use Rattle.std.proofs.Common.{◌≡◌, refl, sym, ap, subst, ◌∙◌, ℕ, zero, suc, ◌+◌, ◌<◌, ℤ, pos, Bool, Ok, List, [], ◌∷◌, ◌++◌, map, length, get_or, arith}
-use Rattle.std.proofs.lemmas.List.{take_at}
+use Rattle.std.proofs.lemmas.List.{length-map, take_at}
 use Rattle.zf_spec.specs.Grid.{blocks, upto, raster}
 use Rattle.zf_spec.proofs.Counting.{from_places}
 use Rattle.zf_base.specs.declared.position.Pos.{Pos}
@@ -14,44 +14,36 @@ use Rattle.zf_header.proofs.Good.{good}
 use Rattle.zf_header.proofs.Found.{read_is_header}
 use Rattle.zf_cached.specs.Changes.{opened}
 use Rattle.zf_cached.specs.Arrays.{array_format}
-use Rattle.zf_parse.specs.Parsing.{Said, parse, header_of, code_bits, codes_said, values_of_blocks}
+use Rattle.zf_parse.specs.Parsing.{Said, parse, header_of, code_bits, values_of_blocks}
 use Rattle.zf_parse.proofs.Whole.{Stand, read_whole}
 use Rattle.zf_parse.proofs.Parts.{parts_of}
 use Rattle.zf_const.specs.Standing.{coding_of, code_of, open_stream}
 use Rattle.zf_const.proofs.Meaning.{meant-read}
 use Rattle.zf_const.proofs.Values.{value_there}
 
--- as many blocks as codes
-stand_count : (h : Header) (b : ℕ) (cs : List (List Bool)) (vs : List (List ℤ)) → Stand h b cs vs → length vs ≡ length cs
-stand_count h b [] [] stand = omega arith
-stand_count h b [] (v ∷ vs) stand = absurd stand
-stand_count h b (c ∷ cs) [] stand = absurd stand
-stand_count h b (c ∷ cs) (v ∷ vs) stand = ap suc (stand_count h (suc b) cs vs stand.1)
-
 -- each block is what its code means
-stand_meant : (h : Header) (b : ℕ) (cs : List (List Bool)) (vs : List (List ℤ)) (none : List Bool) (k : ℕ) → Stand h b cs vs → k < length cs
-    → meant (array_format (coding_of h) h.shape) (b + k) (get_or cs k none) ≡ get_or vs k []
-stand_meant h b [] vs none k stand lt = absurd (omega arith)
-stand_meant h b (c ∷ cs) [] none k stand lt = absurd stand
-stand_meant h b (c ∷ cs) (v ∷ vs) none zero stand lt =
+stand_meant : (h : Header) (b : ℕ) (cs : List (List Bool × List ℤ)) (none : List Bool) (k : ℕ) → Stand h b cs → k < length cs
+    → meant (array_format (coding_of h) h.shape) (b + k) (get_or (map (λ c. c.0) cs) k none) ≡ get_or (map (λ c. c.1) cs) k []
+stand_meant h b [] none k stand lt = absurd (omega arith)
+stand_meant h b (c ∷ cs) none zero stand lt =
     let at : b + 0 ≡ b = omega arith in
-    ap (λ j. meant (array_format (coding_of h) h.shape) j c) at
-    ∙ ap (λ (u : List Bool). meant (array_format (coding_of h) h.shape) b u) (sym (take_at c [] (length c) refl))
-    ∙ meant-read h b (c ++ []) v (length c) (stand.0 [])
-stand_meant h b (c ∷ cs) (v ∷ vs) none (suc k) stand lt =
+    ap (λ j. meant (array_format (coding_of h) h.shape) j c.0) at
+    ∙ ap (λ (u : List Bool). meant (array_format (coding_of h) h.shape) b u) (sym (take_at c.0 [] (length c.0) refl))
+    ∙ meant-read h b (c.0 ++ []) c.1 (length c.0) (stand.0 [])
+stand_meant h b (c ∷ cs) none (suc k) stand lt =
     let at : b + suc k ≡ suc b + k = omega arith in
-    ap (λ j. meant (array_format (coding_of h) h.shape) j (get_or cs k none)) at ∙ stand_meant h (suc b) cs vs none k stand.1 (omega arith)
+    ap (λ j. meant (array_format (coding_of h) h.shape) j (get_or (map (λ d. d.0) cs) k none)) at ∙ stand_meant h (suc b) cs none k stand.1 (omega arith)
 
 -- the block of number b that these codes mean
 abbrev block_meant : Header → List (List Bool) → ℕ → List ℤ
 block_meant h cs b = meant (array_format (coding_of h) h.shape) b (code_of h cs b)
 
-blocks_meant : (h : Header) (n : ℕ) (cs : List (List Bool)) (vs : List (List ℤ)) → Stand h 0 cs vs → length cs ≡ n → map (block_meant h cs) (upto n) ≡ vs
-blocks_meant h n cs vs stand count =
-    from_places (block_meant h cs) n [] vs (stand_count h 0 cs vs stand ∙ count)
+blocks_meant : (h : Header) (n : ℕ) (cs : List (List Bool × List ℤ)) → Stand h 0 cs → length cs ≡ n → map (block_meant h (map (λ c. c.0) cs)) (upto n) ≡ map (λ c. c.1) cs
+blocks_meant h n cs stand count =
+    from_places (block_meant h (map (λ c. c.0) cs)) n [] (map (λ c. c.1) cs) (length-map cs (λ c. c.1) ∙ count)
     (λ k lt.
     let at : 0 + k ≡ k = omega arith in
-    sym (stand_meant h 0 cs vs (coding_of h).zero k stand (omega (arith, lt, count))) ∙ ap (λ j. meant (array_format (coding_of h) h.shape) j (get_or cs k (coding_of h).zero)) at)
+    sym (stand_meant h 0 cs (coding_of h).zero k stand (omega (arith, lt, count))) ∙ ap (λ j. meant (array_format (coding_of h) h.shape) j (get_or (map (λ c. c.0) cs) k (coding_of h).zero)) at)
 
 -- what holds of what is said
 record Meant (it : Said) : Type 0 where
@@ -63,14 +55,13 @@ said_meant : (bytes : List ℕ) (it : Said) → parse bytes ≡ Ok it → Meant 
 said_meant bytes it e =
     let h = header_of bytes in
     let n = blocks h.shape in
-    let cs = codes_said h 0 n (code_bits bytes) in
     let parts = parts_of bytes it e in
     let whole = read_whole h 0 n (code_bits bytes) parts.found parts.read in
     subst (λ (t : Said). Meant t) parts.is
     (record {
       header = read_is_header bytes (good bytes (sym parts.good));
-      count = whole.count;
-      values = ap (values_of_blocks h.shape) (sym (blocks_meant h n cs parts.found.0 whole.stand whole.count));
+      count = length-map parts.found.0 (λ c. c.0) ∙ whole.count;
+      values = ap (values_of_blocks h.shape) (sym (blocks_meant h n parts.found.0 whole.stand whole.count));
     })
 
 pub codes_counted : (bytes : List ℕ) (it : Said) → parse bytes ≡ Ok it → length it.codes ≡ blocks it.header.shape

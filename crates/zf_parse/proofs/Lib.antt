@@ -1,4 +1,5 @@
 -- Lemmas on what streams say.
+--     Steps          what a stream says, step by step
 --     Codes          the codes of blocks, one after another; a code says of a block only what its padded block says
 --     Fill           the fill behind the codes
 --     Joining        the blocks of a stream, read one after another
@@ -16,6 +17,7 @@
 --     Cuts           a stream is cut in the block whose code is the first that is short
 --     Fits           what reading gives is of the type
 --     Parts          the parts of what a good stream says, and that its values are of its type
+pub mod Steps
 pub mod Codes
 pub mod Fill
 pub mod Joining
