@@ -1,6 +1,6 @@
 -- What is certified of a file whose codes an index has.
 use Rattle.std.proofs.Common.{◌≡◌, sym, ap, subst, ◌∙◌, ℕ, ◌+◌, ◌*◌, ◌<◌, ◌≤◌, Bool, true, false, cond, ltb, ℤ, Some, None, Option, List, [], map, length, get_or, take, drop, arith}
-use Rattle.std.specs.Prelude.{IfOk}
+use Rattle.std.specs.Prelude.{IfOk, is_ok}
 use Rattle.std.specs.Int.{Width}
 use Rattle.std.proofs.lemmas.Option.{none-some}
 use mir.Val.{bits}
@@ -15,7 +15,7 @@ use Rattle.zf_header.specs.declared.header.Mode.{Mode}
 use Rattle.zf_header.specs.declared.header.Mode.TheVariants.{Rate}
 use Rattle.zf_header.specs.HeaderBits.{IsRate, block_bits}
 use Rattle.zf_header.proofs.Modes.{mode_is_rate, rate_is_some}
-use Rattle.zf_parse.specs.Parsing.{Said, parse, without_said, read_code, values_of_blocks, longest_code}
+use Rattle.zf_parse.specs.Parsing.{Said, parse, read_code, values_of_blocks, longest_code}
 use Rattle.zf_index.specs.Spans.{Index, place, len_at, code_in, codes_in}
 use Rattle.zf_index.specs.Files.{IsIndexOf, found, block_read, len_read, blocks_found}
 use Rattle.zf_index.proofs.Places.{ends_within}
@@ -45,7 +45,7 @@ rate_found w b n es s = by (ltb (length s) b)
 
 module _ (bytes : List ℕ) (h : Header) (i : Index) (index : IsIndexOf bytes h i) where
   pub is_good : IsGood bytes
-  is_good = ap without_said index.said
+  is_good = ap is_ok index.said
 
   -- what is known of any stream is known of this one
   pub is_said : (P : Said → Type 0) → P (record { header = h; codes = codes_in i (to_bits bytes); values = values_of_blocks h.shape (blocks_found h i (to_bits bytes)) }) → IfOk (parse bytes) P

@@ -1,6 +1,6 @@
 -- What is certified of a stream of a fixed rate.
 --     Planes are numbered by their digit, the lowest is plane 0.
-use Rattle.std.specs.Prelude.{ℕ, ◌≡◌, ◌+◌, ◌-◌, ◌*◌, ◌^◌, max, nat_lt, ℤ, Bool, List, [], ◌∷◌, ◌++◌, length, Ok, codes, decimal, if◌then◌else◌}
+use Rattle.std.specs.Prelude.{ℕ, ◌≡◌, ◌+◌, ◌-◌, ◌*◌, ◌^◌, max, nat_lt, ℤ, Bool, List, [], ◌∷◌, ◌++◌, length, IsOk, codes, decimal, if◌then◌else◌}
 use Rattle.std.specs.Int.{Width}
 use mir.Val.{bits}
 use Rattle.zf_spec.specs.Grid.{product}
@@ -8,14 +8,14 @@ use Rattle.zf_spec.specs.Stream as stream
 use Rattle.zf_base.specs.Widths.{width_of}
 use Rattle.zf_header.specs.declared.header.Header.{Header}
 use Rattle.zf_header.specs.HeaderBits.{coding}
-use Rattle.zf_parse.specs.Parsing.{parse, without_said}
+use Rattle.zf_parse.specs.Parsing.{parse}
 use Rattle.zf_block.specs.WholePlanes.{rate_whole_from}
 use Rattle.zf_bound.specs.declared.certified.Certified.{Certified}
 use Rattle.zf_bound.specs.Errors.{AreWithin, AreClose, lost_below, grown}
 
 -- the bytes are a good stream
 abbrev pub IsGood : List ℕ → Type 0
-IsGood bytes = without_said (parse bytes) ≡ Ok tt
+IsGood bytes = IsOk (parse bytes)
 
 -- the plane from which on the planes of each block are whole in its code: the greatest over the codes
 abbrev pub plane_of : Width → ℕ → List (List Bool) → ℕ

@@ -18,17 +18,16 @@ use Rattle.zf_index.specs.Spans.{Index, len_at, place, code_in, codes_in}
 use Rattle.zf_index.specs.Files.{AreRead, found, block_read}
 use Rattle.zf_index.proofs.Read.{read_parts}
 use Rattle.zf_const.specs.Standing.{coding_of, code_of}
-use Rattle.zf_index.proofs.Longest.{found_some}
-use Rattle.zf_const.proofs.Prefixes.{read_rev-prefix, read_prec-prefix}
+use Rattle.zf_parse.proofs.Prefixes.{found_some, read_code-prefix}
 
 -- a code of just so many bits means the block that is read
 code_means : (w : Width) (mode : Mode) (es : List ℕ) (s : List Bool) (block : List ℤ) (k : ℕ) → read_code w mode es s ≡ Some (block, k) → (mode_coding w (coding mode)).meaning es (take k s) ≡ block
 unfolding mode_coding rate_coding
-code_means w Reversible es s block k e = ap read_values (read_rev-prefix w es s block k e)
+code_means w Reversible es s block k e = ap read_values (read_code-prefix w Reversible es s block k e)
 code_means w (Rate b) es s block k e =
     let is = found_some (ltb (length s) b) (read_rate w es (take b s)) block b k e in
     ap (λ n. read_rate w es (take n s)) (sym is.count) ∙ is.same
-code_means w (Precision p) es s block k e = ap read_values (read_prec-prefix w p es s block k e)
+code_means w (Precision p) es s block k e = ap read_values (read_code-prefix w (Precision p) es s block k e)
 
 meant-code : (h : Header) (b : ℕ) (s : List Bool) (block : List ℤ) (k : ℕ) → existing_values (extent_of h.shape b) block ≡ block
     → read_code (width_of h.ty) h.mode (extent_of h.shape b) s ≡ Some (block, k) → meant (array_format (coding_of h) h.shape) b (take k s) ≡ block

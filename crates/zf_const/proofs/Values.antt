@@ -20,7 +20,7 @@ use Rattle.zf_const.specs.Standing.{Held, format, state, values_at, shape, block
 use Rattle.zf_const.specs.Files.{IsOpened, said}
 
 -- the value of a position, among those of blocks
-value_there : (ns ps : List ℕ) (f : ℕ → List ℤ) → length ps ≡ length ns → is_inside ns ps ≡ true
+pub value_there : (ns ps : List ℕ) (f : ℕ → List ℤ) → length ps ≡ length ns → is_inside ns ps ≡ true
     → get_or (values_of_blocks ns (map f (upto (blocks ns)))) (raster ns ps) (pos 0) ≡ get_or (f (block_number ns ps)) (place_of ps) (pos 0)
 value_there ns ps f long inside =
     let bs = map f (upto (blocks ns)) in

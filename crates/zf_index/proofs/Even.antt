@@ -8,7 +8,7 @@ use Rattle.zf_header.specs.declared.header.Header.{Header}
 use Rattle.zf_header.specs.declared.header.Mode.TheVariants.{Rate}
 use Rattle.zf_bits.specs.Reader.{Reader, rest}
 use Rattle.zf_parse.specs.declared.fault.StreamFault.{StreamFault}
-use Rattle.zf_parse.specs.Parsing.{read_code, read_codes, codes_answer, fill_answer}
+use Rattle.zf_parse.specs.Parsing.{read_code, fill_answer, said_behind}
 use Rattle.zf_parse.proofs.RateStreams.{read_code-rate}
 use Rattle.zf_index.specs.Spans.{place, even_index}
 use Rattle.zf_index.specs.Files.{len_read, AreRead}
@@ -53,7 +53,7 @@ module _ (h : Header) (rate start : ℕ) (s : List Bool) (is : h.mode ≡ Rate r
     pub even_walked : fill_answer h r.at (rest r) ≡ Ok tt → IsWalked h s (even_index start rate (blocks h.shape))
     even_walked good = record { count = even_count start rate (blocks h.shape); read = even_read; within = even_within; fill = sym seen ∙ good }
 
-    pub even_fault : (e : StreamFault) → fill_answer h r.at (rest r) ≡ Err e → codes_answer h (length s) (read_codes h 0 (blocks h.shape) (drop start s)) ≡ Err e
+    pub even_fault : (e : StreamFault) → fill_answer h r.at (rest r) ≡ Err e → said_behind h (length s) (drop start s) ≡ Err e
     even_fault e bad =
         let n = blocks h.shape in
         judged_behind h (even_index start rate n) s even_read (even_count start rate n) even_within e (sym seen ∙ bad)

@@ -1,5 +1,5 @@
 -- How many bits a code has at most.
-use Rattle.std.proofs.Common.{◌≡◌, refl, ap, ℕ, ◌+◌, ◌*◌, ◌^◌, ◌≤◌, min, Bool, true, false, cond, ltb, ℤ, Option, Some, None, List, length, take, drop, arith}
+use Rattle.std.proofs.Common.{◌≡◌, ℕ, ◌+◌, ◌*◌, ◌^◌, ◌≤◌, min, Bool, ltb, ℤ, Some, List, length, take, drop, arith}
 use Rattle.std.proofs.Math.Nat.{pow-le-pow_right, mul-le-mul}
 use mir.Val.{bits}
 use Rattle.zf_spec.specs.Numbers.{number}
@@ -14,18 +14,7 @@ use Rattle.zf_header.specs.HeaderBits.{IsMode}
 use Rattle.zf_parse.specs.Parsing.{read_code}
 use Rattle.zf_parse.proofs.BlocksBack.{width_at_most_64}
 use Rattle.zf_parse.proofs.Enough.{planes_fit, count_fits}
-
--- what is found where enough bits are there
-pub record Found {A : Type 0} (short : Bool) (a : A) (n : ℕ) (b : A) (k : ℕ) : Type 0 where
-  pub enough : short ≡ false
-  pub same : a ≡ b
-  pub count : n ≡ k
-
-pub found_some : {A : Type 0} (short : Bool) (a b : A) (n k : ℕ) → cond {A = Option (A × ℕ)} short None (Some (a, n)) ≡ Some (b, k) → Found short a n b k
-found_some true a b n k e = absurd cc
-found_some {A} false a b n k e =
-    let same : (a, n) ≡ (b, k) = cc in
-    record { enough = refl; same = ap (λ (c : A × ℕ). c.0) same; count = ap (λ (c : A × ℕ). c.1) same }
+use Rattle.zf_parse.proofs.Prefixes.{found_some}
 
 -- the planes of a block have few bits
 few : (ty : Ty) (d : ℕ) → d ≤ 4 → 4 ^ d * (bits (width_of ty) + 1) ≤ 16640

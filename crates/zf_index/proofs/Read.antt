@@ -1,6 +1,7 @@
 -- Codes that are read where they begin, and what a stream of them says.
 use Rattle.std.proofs.Common.{◌≡◌, refl, sym, ap, subst, ◌∙◌, inl, inr, ⊎_elim, ℕ, zero, suc, ◌+◌, ◌-◌, ◌*◌, ◌%◌, ◌^◌, ◌<◌, ◌≤◌, Bool, ℤ, Option, Some, None, Result, Ok, Err, List, [], ◌∷◌, ◌++◌, map, length, get_or, take, drop, length-append, length-drop, arith}
 use Rattle.std.proofs.lemmas.Bool.{cases_lt}
+use Rattle.std.specs.Result.{result_map_both}
 use Rattle.std.proofs.lemmas.Simd.{map-map}
 use Rattle.std.proofs.lemmas.List.{drop-drop, length-take, length-take-le}
 use Rattle.zf_spec.specs.Grid.{count_from, upto, grid, blocks, extent_of}
@@ -16,10 +17,10 @@ use Rattle.zf_header.proofs.Good.{good}
 use Rattle.zf_header.proofs.Found.{read_is_header}
 use Rattle.zf_parse.specs.declared.fault.StreamFault.{StreamFault}
 use Rattle.zf_parse.specs.declared.fault.StreamFault.TheVariants as faults
-use Rattle.zf_parse.specs.Parsing.{read_code, read_codes, read_next, with_block, codes_said, code_before, Said, said_with, parse, values_said, values_of_blocks, values_or_fault, fill_answer, codes_answer, longest_code}
+use Rattle.zf_parse.specs.Parsing.{read_code, coded_blocks, read_codes, Said, said_behind, parse, values_of_blocks, fill_answer, longest_code}
+use Rattle.zf_parse.proofs.Steps.{Coded, blocks_in, codes_answer, with_coded, next_coded, by_coded, behind_err}
 use Rattle.zf_parse.specs.ReadStreams.{BeginsWithHeader, IsFault}
-use Rattle.zf_parse.proofs.Parsed.{parse_is}
-use Rattle.zf_parse.proofs.RateStreams.{parse_err}
+use Rattle.zf_parse.proofs.Parsed.{parse_behind}
 use Rattle.zf_parse.proofs.Joining.{read_codes-cut}
 use Rattle.zf_parse.proofs.Fill.{fill_place}
 use Rattle.zf_parse.proofs.Excerpts.{cut_told, fill_cut}
@@ -42,56 +43,68 @@ module _ (h : Header) (i : Index) (s : List Bool) (read : AreRead h i s) where
   here : (b : ℕ) → b < length i.lens → found h i s b ≡ Some (block_read (found h i s b), len_at i b)
   here b lt = read_parts (found h i s b) (len_at i b) (read b lt)
 
-  -- the codes from block b on, bit for bit
-  codes_from : (b m : ℕ) → b + m ≤ length i.lens → codes_said h b m (drop (place i b) s) ≡ map (code_in i s) (count_from b m)
-  codes_from b zero le = refl
-  codes_from b (suc m) le =
-      ap (λ (c : Option (List ℤ × ℕ)). code_before (drop (place i b) s) c (codes_said h (suc b) m)) (here b (omega (arith, le)))
-      ∙ ap (λ (t : List Bool). code_in i s b ∷ codes_said h (suc b) m t) (left b)
-      ∙ ap (λ (cs : List (List Bool)). code_in i s b ∷ cs) (codes_from (suc b) m (omega (arith, le)))
+  -- a code and its block
+  abbrev coded : ℕ → List Bool × List ℤ
+  coded k = (code_in i s k, block_read (found h i s k))
 
-  -- and their blocks
-  blocks_from : (b m : ℕ) → b + m ≤ length i.lens → read_codes h b m (drop (place i b) s) ≡ Ok (map (λ k. block_read (found h i s k)) (count_from b m), drop (place i (b + m)) s)
-  blocks_from b zero le = let same : b ≡ b + 0 = omega arith in ap (λ k. Ok ([], drop (place i k) s)) same
-  blocks_from b (suc m) le =
-      let f = λ (k : ℕ). block_read (found h i s k) in
-      let behind = read_codes h (suc b) m in
-      let count : suc b + m ≡ b + suc m = omega arith in
-      ap (λ (c : Option (List ℤ × ℕ)). read_next b (drop (place i b) s) c behind) (here b (omega (arith, le)))
-      ∙ ap (λ (t : List Bool). with_block (f b) (behind t)) (left b)
-      ∙ ap (with_block (f b)) (blocks_from (suc b) m (omega (arith, le)))
-      ∙ ap (λ k. Ok (f b ∷ map f (count_from (suc b) m), drop (place i k) s)) count
+  -- those from block b on
+  coded_from : (b m : ℕ) → b + m ≤ length i.lens → coded_blocks h b m (drop (place i b) s) ≡ Ok (map coded (count_from b m), drop (place i (b + m)) s)
+  coded_from b zero le = let same : b ≡ b + 0 = omega arith in ap (λ k. Ok ([], drop (place i k) s)) same
+  coded_from b (suc m) le = by (coded_from (suc b) m (omega (arith, le)))
+    where
+      behind : List Bool → Result Coded ℕ
+      behind = coded_blocks h (suc b) m
 
-  pub codes_read : codes_said h 0 (length i.lens) (drop i.start s) ≡ codes_in i s
-  codes_read = codes_from 0 (length i.lens) (omega arith)
+      by : coded_blocks h (suc b) m (drop (place i (suc b)) s) ≡ Ok (map coded (count_from (suc b) m), drop (place i (suc b + m)) s)
+          → coded_blocks h b (suc m) (drop (place i b) s) ≡ Ok (map coded (count_from b (suc m)), drop (place i (b + suc m)) s)
+      by rest =
+          let count : suc b + m ≡ b + suc m = omega arith in
+          ap (λ (c : Option (List ℤ × ℕ)). next_coded b (drop (place i b) s) c behind) (here b (omega (arith, le)))
+          ∙ ap (λ (t : List Bool). with_coded (code_in i s b) (block_read (found h i s b)) (behind t)) (left b)
+          ∙ ap (with_coded (code_in i s b) (block_read (found h i s b))) rest
+          ∙ ap (λ k. Ok (coded b ∷ map coded (count_from (suc b) m), drop (place i k) s)) count
+
+  coded_read : (n : ℕ) → n ≤ length i.lens → coded_blocks h 0 n (drop i.start s) ≡ Ok (map coded (upto n), drop (place i n) s)
+  coded_read n le = coded_from 0 n (omega (arith, le)) ∙ (let same : 0 + n ≡ n = omega arith in ap (λ k. Ok (map coded (upto n), drop (place i k) s)) same)
 
   pub blocks_read : (n : ℕ) → n ≤ length i.lens → read_codes h 0 n (drop i.start s) ≡ Ok (map (λ k. block_read (found h i s k)) (upto n), drop (place i n) s)
-  blocks_read n le = blocks_from 0 n (omega (arith, le)) ∙ (let same : 0 + n ≡ n = omega arith in ap (λ k. Ok (map (λ j. block_read (found h i s j)) (upto n), drop (place i k) s)) same)
+  blocks_read n le =
+      ap (λ (r : Result Coded ℕ). result_map_both blocks_in (λ k. k) r) (coded_read n le)
+      ∙ ap (λ (bs : List (List ℤ)). Ok (bs, drop (place i n) s)) (map-map (λ (c : List Bool × List ℤ). c.1) coded (upto n))
 
   -- a code that ends too early
   pub cut_behind : length i.lens < blocks h.shape → read_code (width_of h.ty) h.mode (extent_of h.shape (length i.lens)) (drop (place i (length i.lens)) s) ≡ None
-      → (all : ℕ) → codes_answer h all (read_codes h 0 (blocks h.shape) (drop i.start s)) ≡ Err (faults.Truncated (length i.lens))
+      → (all : ℕ) → said_behind h all (drop i.start s) ≡ Err (faults.Truncated (length i.lens))
   cut_behind lt none all =
       let n = length i.lens in
-      ap (codes_answer h all) (read_codes-cut h n (blocks h.shape) (drop i.start s) (drop (place i n) s) (map (λ k. block_read (found h i s k)) (upto n)) lt (blocks_read n (omega arith)) none)
+      behind_err h all (drop i.start s) (faults.Truncated n)
+      (ap (codes_answer h all) (read_codes-cut h n (blocks h.shape) (drop i.start s) (drop (place i n) s) (map (λ k. block_read (found h i s k)) (upto n)) lt (blocks_read n (omega arith)) none))
 
   -- all codes are there, so the answer is that of what stands behind them
   module _ (count : length i.lens ≡ blocks h.shape) (within : place i (length i.lens) ≤ length s) where
-    pub answer_behind : codes_answer h (length s) (read_codes h 0 (blocks h.shape) (drop i.start s))
-        ≡ values_or_fault (values_of_blocks h.shape (blocks_found h i s)) (fill_answer h (place i (length i.lens)) (drop (place i (length i.lens)) s))
+    pub answer_behind : said_behind h (length s) (drop i.start s)
+        ≡ result_map_both (λ good. record { header = h; codes = codes_in i s; values = values_of_blocks h.shape (blocks_found h i s) }) (λ e. e)
+        (fill_answer h (place i (length i.lens)) (drop (place i (length i.lens)) s))
     answer_behind =
         let n = length i.lens in
         let p = place i n in
         let rest = drop p s in
         let used : length s - length rest ≡ p = omega (arith, length-drop p s, within) in
-        ap (λ k. codes_answer h (length s) (read_codes h 0 k (drop i.start s))) (sym count)
-        ∙ ap (codes_answer h (length s)) (blocks_read n (omega arith))
-        ∙ ap (λ k. values_or_fault (values_of_blocks h.shape (blocks_found h i s)) (fill_answer h k rest)) used
+        let Saying : List (List Bool) → List (List ℤ) → ℕ → Result Said StreamFault = λ cs bs k.
+        result_map_both (λ good. record { header = h; codes = cs; values = values_of_blocks h.shape bs }) (λ e. e) (fill_answer h k rest) in
+        let first : ℕ → List Bool × List ℤ = coded in
+        ap (λ k. by_coded h (length s) (coded_blocks h 0 k (drop i.start s))) (sym count)
+        ∙ ap (by_coded h (length s)) (coded_read n (omega arith))
+        ∙ ap (λ cs. Saying cs (map (λ (c : List Bool × List ℤ). c.1) (map first (upto n))) (length s - length rest)) (map-map (λ (c : List Bool × List ℤ). c.0) first (upto n))
+        ∙ ap (λ bs. Saying (codes_in i s) bs (length s - length rest)) (map-map (λ (c : List Bool × List ℤ). c.1) first (upto n))
+        ∙ ap (Saying (codes_in i s) (blocks_found h i s)) used
 
     -- what stands behind them has a fault
     pub judged_behind : (e : StreamFault) → fill_answer h (place i (length i.lens)) (drop (place i (length i.lens)) s) ≡ Err e
-        → codes_answer h (length s) (read_codes h 0 (blocks h.shape) (drop i.start s)) ≡ Err e
-    judged_behind e bad = answer_behind ∙ ap (values_or_fault (values_of_blocks h.shape (blocks_found h i s))) bad
+        → said_behind h (length s) (drop i.start s) ≡ Err e
+    judged_behind e bad =
+        let said : Said = record { header = h; codes = codes_in i s; values = values_of_blocks h.shape (blocks_found h i s) } in
+        answer_behind ∙ ap (λ (r : Result (Unit {0}) StreamFault). result_map_both (λ good. said) (λ e. e) r) bad
 
     -- which one judges who sees only so many of the bits from there on
     pub fill_seen : (r : Reader) (m : ℕ) → r.at ≡ place i (length i.lens) % 64 → rest r ≡ take m (drop (place i (length i.lens)) s) → 64 ≤ m
@@ -139,32 +152,25 @@ module _ (bytes : List ℕ) (h : Header) (has : HasHeader bytes h) where
         let bits = to_bits bytes in
         let left : rest r ≡ drop start bits = ap (λ (s : List Bool). drop r.at s) all ∙ ap (λ k. drop k bits) at in
         ⊎_elim
-        (λ said. inl (parse_err bytes (stream_fault e)
-        (parse_is bytes h start begun
-        ∙ ap (λ (s : List Bool). codes_answer h (length bits) (read_codes h 0 (blocks h.shape) s)) (sym left)
-        ∙ ap (λ (s : List Bool). codes_answer h (length s) (read_codes h 0 (blocks h.shape) (rest r))) (sym all) ∙ said)))
+        (λ said. inl
+        (parse_behind bytes h start begun
+        ∙ ap (λ (s : List Bool). said_behind h (length bits) s) (sym left)
+        ∙ ap (λ (s : List Bool). said_behind h (length s) (rest r)) (sym all) ∙ said))
         (λ starved. inr (ap stream_fault starved)) fault
 
     pub index_is : (lens : List ℕ) → length (to_bits bytes) < 2 ^ 64 → IsWalked h (to_bits bytes) (record { start = start; lens = lens }) → IsIndexOf bytes h (record { start = start; lens = lens })
-    unfolding parse
     index_is lens small walked =
         let bits = to_bits bytes in
         let i : Index = record { start = start; lens = lens } in
         let cs = codes_in i bits in
-        let values = values_of_blocks h.shape (blocks_found h i bits) in
-        let Of : Header → Result Said StreamFault = λ g. said_with g (codes_said g 0 (blocks g.shape) (drop (length (header_bits g)) bits)) (values_said bytes) in
-        let good_values : values_said bytes ≡ Ok values =
-        parse_is bytes h start begun ∙ answer_behind h i bits walked.read walked.count walked.within ∙ ap (values_or_fault values) walked.fill in
+        let said : Said = record { header = h; codes = cs; values = values_of_blocks h.shape (blocks_found h i bits) } in
         let long : (b : ℕ) → b < length lens → length (code_in i bits b) ≡ len_at i b =
         λ b lt. length-take-le (len_at i b) (drop (place i b) bits) (omega (arith, length-drop (place i b) bits, ends_within i b (length lens) lt, walked.within)) in
         record {
           start = is;
           count = walked.count;
-          said = ap Of (sym has.header)
-              ∙ ap (λ k. said_with h (codes_said h 0 (blocks h.shape) (drop k bits)) (values_said bytes)) (sym is)
-              ∙ ap (λ k. said_with h (codes_said h 0 k (drop start bits)) (values_said bytes)) (sym walked.count)
-              ∙ ap (λ (ds : List (List Bool)). said_with h ds (values_said bytes)) (codes_read h i bits walked.read)
-              ∙ ap (said_with h cs) good_values;
+          said = parse_behind bytes h start begun ∙ answer_behind h i bits walked.read walked.count walked.within
+              ∙ ap (λ (r : Result (Unit {0}) StreamFault). result_map_both (λ good. said) (λ e. e) r) walked.fill;
           lens = lens_are i bits long;
           read = walked.read;
           within = walked.within;

@@ -5,7 +5,7 @@ use Rattle.zf_spec.specs.Grid.{blocks}
 use Rattle.zf_bits.specs.Reader.{Reader, rest}
 use Rattle.zf_header.specs.declared.header.Header.{Header}
 use Rattle.zf_header.specs.declared.header.Mode.{Mode}
-use Rattle.zf_parse.specs.Parsing.{read_code, read_codes, codes_answer, fill_answer}
+use Rattle.zf_parse.specs.Parsing.{read_code, fill_answer, said_behind}
 use Rattle.zf_index.specs.declared.fault.IndexFault.{IndexFault}
 use Rattle.zf_index.specs.declared.fault.IndexFault.TheVariants.{Memory}
 use Rattle.zf_index.specs.Spans.{Index, place}
@@ -25,4 +25,4 @@ pub record IsWalked (h : Header) (s : List Bool) (i : Index) : Type 0 where
 
 -- the fault of the codes and the fill from this place on, unless there was no memory
 abbrev pub HasFault : Header → Reader → IndexFault → Type 0
-HasFault h r e = (codes_answer h (length r.all) (read_codes h 0 (blocks h.shape) (rest r)) ≡ Err (stream_fault e)) ⊎ (e ≡ Memory)
+HasFault h r e = (said_behind h (length r.all) (rest r) ≡ Err (stream_fault e)) ⊎ (e ≡ Memory)

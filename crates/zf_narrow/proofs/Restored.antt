@@ -12,7 +12,8 @@ use Rattle.zf_header.specs.HeaderFaults.{header_fault}
 use Rattle.zf_dev.specs.Sink.{Appends, AppendsPrefix}
 use Rattle.zf_dev.proofs.Appending.{AppendsPrefix-all, AppendsPrefix-more}
 use Rattle.zf_parse.specs.declared.fault.StreamFault.{StreamFault}
-use Rattle.zf_parse.specs.Parsing.{header_of, header_or, code_bits, read_codes, blocks_text, longest_codes, restore_answer, restored_text}
+use Rattle.zf_parse.specs.Parsing.{header_of, code_bits, read_codes, longest_codes, restore_answer, restored_text}
+use Rattle.zf_parse.proofs.Steps.{header_or, blocks_text}
 use Rattle.zf_stream.specs.Outcomes.{Answers, LeavesPrefix}
 use Rattle.zf_stream.specs.Outcomes as outcomes
 use Rattle.zf_stream.specs.Typed.{answer_of_types, typed_answer, CanRefuseTyped, RestoresTyped, HasOtherType}

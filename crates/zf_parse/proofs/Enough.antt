@@ -26,7 +26,8 @@ use Rattle.zf_header.specs.declared.header.Mode.TheVariants.{Reversible, Rate, P
 use Rattle.zf_header.specs.HeaderFaults.{header_fault}
 use Rattle.zf_block.specs.Room.{longest_rev, longest_prec}
 use Rattle.zf_parse.specs.Raw.{raw_len, raw_bytes}
-use Rattle.zf_parse.specs.Parsing.{read_code, with_block, read_next, read_codes, values_of_blocks, header_of, code_bits, longest_code, longest_codes, blocks_text, restored_text}
+use Rattle.zf_parse.specs.Parsing.{read_code, read_codes, values_of_blocks, header_of, code_bits, longest_code, longest_codes, restored_text}
+use Rattle.zf_parse.proofs.Steps.{with_block, read_next, read_codes-suc, blocks_text}
 use Rattle.zf_base.proofs.Extents.{length-extent_of}
 
 -- ---- one code
@@ -109,7 +110,7 @@ reads_all h most b (suc n) s each enough =
     let behind = reads_all h most (suc b) n rest each left in
     record {
       all = (here.code.0 ∷ behind.all.0, behind.all.1);
-      is = ap (λ (c : Option (List ℤ × ℕ)). read_next b s c (read_codes h (suc b) n)) here.is ∙ ap (with_block here.code.0) behind.is;
+      is = read_codes-suc h b n s ∙ ap (λ (c : Option (List ℤ × ℕ)). read_next b s c (read_codes h (suc b) n)) here.is ∙ ap (with_block here.code.0) behind.is;
     }
 
 longest-is : (h : Header) → longest_code h ≡ longest h.ty h.mode (length h.shape)
@@ -146,7 +147,7 @@ enough_for_all h s =
 
 -- ---- what is restored
 
-length-values_of_blocks : (ns : List ℕ) (bs : List (List ℤ)) → length (values_of_blocks ns bs) ≡ product ns
+pub length-values_of_blocks : (ns : List ℕ) (bs : List (List ℤ)) → length (values_of_blocks ns bs) ≡ product ns
 length-values_of_blocks ns bs = length-map-upto _ (product ns)
 
 length-raw_bytes : (h : Header) (bs : List (List ℤ)) → length (raw_bytes h (values_of_blocks h.shape bs)) ≡ raw_len h

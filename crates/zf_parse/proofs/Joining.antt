@@ -6,7 +6,8 @@ use Rattle.zf_spec.proofs.Counting.{map-upto_same}
 use Rattle.zf_base.specs.Widths.{width_of}
 use Rattle.zf_bits.specs.Reader.{Reader, rest, Reads}
 use Rattle.zf_header.specs.declared.header.Header.{Header}
-use Rattle.zf_parse.specs.Parsing.{read_code, read_codes, read_next, with_block}
+use Rattle.zf_parse.specs.Parsing.{read_code, read_codes}
+use Rattle.zf_parse.proofs.Steps.{read_next, with_block, read_codes-suc}
 use Rattle.zf_parse.proofs.Codes.{upto-more}
 
 -- ---- one block more
@@ -58,9 +59,9 @@ read_codes-then h b zero n s found e =
 read_codes-then h b (suc m) n s found e =
     let count : suc m + n ≡ suc (m + n) = omega arith in
     let place : suc b + m ≡ b + suc m = omega arith in
-    ap (λ k. read_codes h b k s) count
+    ap (λ k. read_codes h b k s) count ∙ read_codes-suc h b (m + n) s
     ∙ read_next_then b s (read_code (width_of h.ty) h.mode (extent_of h.shape b) s) (read_codes h (suc b) m) (read_codes h (suc b) (m + n)) found (read_codes h (b + suc m) n)
-    (λ t rest is. read_codes-then h (suc b) m n t rest is ∙ ap (λ j. with_blocks rest.0 (read_codes h j n rest.1)) place) e
+    (λ t rest is. read_codes-then h (suc b) m n t rest is ∙ ap (λ j. with_blocks rest.0 (read_codes h j n rest.1)) place) (sym (read_codes-suc h b m s) ∙ e)
 
 -- a code that ends too early does so with more blocks behind
 with_block_cut : (block : List ℤ) (r q : Result (List (List ℤ) × List Bool) ℕ) (k : ℕ) → (r ≡ Err k → q ≡ Err k) → with_block block r ≡ Err k → with_block block q ≡ Err k
@@ -78,8 +79,8 @@ pub read_codes-cut_more : (h : Header) (b m n : ℕ) (s : List Bool) (k : ℕ) �
 read_codes-cut_more h b zero n s k e = absurd cc
 read_codes-cut_more h b (suc m) n s k e =
     let count : suc m + n ≡ suc (m + n) = omega arith in
-    ap (λ j. read_codes h b j s) count
-    ∙ read_next_cut b s (read_code (width_of h.ty) h.mode (extent_of h.shape b) s) (read_codes h (suc b) m) (read_codes h (suc b) (m + n)) k (λ t is. read_codes-cut_more h (suc b) m n t k is) e
+    ap (λ j. read_codes h b j s) count ∙ read_codes-suc h b (m + n) s
+    ∙ read_next_cut b s (read_code (width_of h.ty) h.mode (extent_of h.shape b) s) (read_codes h (suc b) m) (read_codes h (suc b) (m + n)) k (λ t is. read_codes-cut_more h (suc b) m n t k is) (sym (read_codes-suc h b m s) ∙ e)
 
 -- one code more
 pub read_codes-next : (h : Header) (b k : ℕ) (s behind : List Bool) (blocks : List (List ℤ)) (block : List ℤ) (left : List Bool) → read_codes h 0 b s ≡ Ok (blocks, behind)
@@ -88,6 +89,7 @@ read_codes-next h b k s behind blocks block left read code is =
     let place : 0 + b ≡ b = omega arith in
     read_codes-then h 0 b 1 s (blocks, behind) read
     ∙ ap (λ j. with_blocks blocks (read_codes h j 1 behind)) place
+    ∙ ap (with_blocks blocks) (read_codes-suc h b 0 behind)
     ∙ ap (λ found. with_blocks blocks (read_next b behind found (read_codes h (suc b) 0))) code
     ∙ with_blocks-both blocks (block ∷ []) (drop k behind) ∙ ap (λ (t : List Bool). Ok (blocks ++ block ∷ [], t)) (sym is)
 
@@ -100,6 +102,7 @@ read_codes-cut h b n s behind blocks lt read none =
     let place : 0 + b ≡ b = omega arith in
     ap (λ k. read_codes h 0 k s) count ∙ read_codes-then h 0 b (suc m) s (blocks, behind) read
     ∙ ap (λ j. with_blocks blocks (read_codes h j (suc m) behind)) place
+    ∙ ap (with_blocks blocks) (read_codes-suc h b m behind)
     ∙ ap (λ found. with_blocks blocks (read_next b behind found (read_codes h (suc b) m))) none ∙ with_blocks-cut blocks b
 
 -- the blocks so far, where those before the last stay

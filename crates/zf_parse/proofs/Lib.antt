@@ -1,4 +1,5 @@
 -- Lemmas on what streams say.
+--     Steps          what a stream says, step by step
 --     Codes          the codes of blocks, one after another; a code says of a block only what its padded block says
 --     Fill           the fill behind the codes
 --     Joining        the blocks of a stream, read one after another
@@ -11,6 +12,12 @@
 --     BlocksBack     the codes of blocks read back
 --     StreamsBack    what compress writes, restore reads
 --     Excerpts       what is read of a few of the bits of a file
+--     Prefixes       a code is read alike with any bits behind it, and with none
+--     Whole          the codes that are read, each whole, and the first that is short
+--     Cuts           a stream is cut in the block whose code is the first that is short
+--     Fits           what reading gives is of the type
+--     Parts          the parts of what a good stream says, and that its values are of its type
+pub mod Steps
 pub mod Codes
 pub mod Fill
 pub mod Joining
@@ -23,3 +30,8 @@ pub mod RateStreams
 pub mod BlocksBack
 pub mod StreamsBack
 pub mod Excerpts
+pub mod Prefixes
+pub mod Whole
+pub mod Cuts
+pub mod Fits
+pub mod Parts

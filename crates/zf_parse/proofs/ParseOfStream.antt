@@ -1,6 +1,8 @@
 -- A stream parses to what its codes say.
-use Rattle.std.proofs.Common.{◌≡◌, refl, sym, ap, ◌∙◌, ℕ, zero, suc, ◌+◌, ◌-◌, ◌%◌, ◌<◌, ◌≤◌, Bool, false, cond, ltb, le-ltb, ℤ, Option, Some, Result, Ok, Err, List, ◌∷◌, ◌++◌, map, length, take, drop, replicate, append_assoc, length-append, arith}
+use Rattle.std.proofs.Common.{◌≡◌, refl, sym, ap, ◌∙◌, ℕ, zero, suc, ◌+◌, ◌-◌, ◌%◌, ◌<◌, ◌≤◌, Bool, false, cond, ltb, le-ltb, ℤ, Option, Some, Result, Ok, Err, List, ◌++◌, map, length, take, drop, replicate, append_assoc, length-append, arith}
 use Rattle.std.specs.List.{flat_map}
+use Rattle.std.specs.Result.{result_map_both}
+use Rattle.std.proofs.lemmas.Simd.{map-map}
 use Rattle.std.proofs.lemmas.List.{length-replicate}
 use Rattle.std.proofs.Math.Seq.{take-append_seam, drop-append_seam, take-length}
 use Rattle.zf_spec.specs.Grid.{count_from, upto, blocks, extent_of}
@@ -15,7 +17,8 @@ use Rattle.zf_header.specs.HeaderBits.{IsHeader, BeginsWith, header_bits}
 use Rattle.zf_header.proofs.Spelled.{spelled_is_read, spelled_is_good}
 use Rattle.zf_parse.specs.declared.fault.StreamFault.{StreamFault}
 use Rattle.zf_parse.specs.declared.fault.StreamFault.TheVariants as faults
-use Rattle.zf_parse.specs.Parsing.{read_code, with_block, read_next, read_codes, values_of_blocks, fill_answer, values_or_fault, codes_answer, header_of, header_or, values_said, code_before, codes_said, Said, said_with, parse}
+use Rattle.zf_parse.specs.Parsing.{read_code, coded_blocks, read_codes, values_of_blocks, fill_answer, header_of, Said, said_behind, parse}
+use Rattle.zf_parse.proofs.Steps.{Coded, blocks_in, with_coded, next_coded, header_or, by_coded, values_in, values_said}
 
 -- ---- the codes of blocks, one after another
 
@@ -27,44 +30,33 @@ end_to_end code bs = flat_map (λ c. c) (map code bs)
 abbrev pub ReadsBack : Header → (ℕ → List Bool) → (ℕ → List ℤ) → ℕ → Type 0
 ReadsBack h code back b = (more : List Bool) → read_code (width_of h.ty) h.mode (extent_of h.shape b) (code b ++ more) ≡ Some (back b, length (code b))
 
+pub coded_blocks-codes : (h : Header) (code : ℕ → List Bool) (back : ℕ → List ℤ) (b n : ℕ) (more : List Bool)
+    → ((k : ℕ) → b ≤ k → k < b + n → ReadsBack h code back k)
+    → coded_blocks h b n (end_to_end code (count_from b n) ++ more) ≡ Ok (map (λ k. (code k, back k)) (count_from b n), more)
+coded_blocks-codes h code back b zero more reads = refl
+coded_blocks-codes h code back b (suc n) more reads =
+    let rest = end_to_end code (count_from (suc b) n) in
+    let s = (code b ++ rest) ++ more in
+    let together : s ≡ code b ++ (rest ++ more) = append_assoc (code b) rest more in
+    let w = width_of h.ty in
+    let es = extent_of h.shape b in
+    let behind = coded_blocks h (suc b) n in
+    let here : read_code w h.mode es s ≡ Some (back b, length (code b)) =
+    ap (read_code w h.mode es) together ∙ reads b (omega arith) (omega arith) (rest ++ more) in
+    let this : take (length (code b)) s ≡ code b = ap (take (length (code b))) together ∙ take-append_seam (code b) (rest ++ more) in
+    let left : drop (length (code b)) s ≡ rest ++ more = ap (drop (length (code b))) together ∙ drop-append_seam (code b) (rest ++ more) in
+    ap (λ (c : Option (List ℤ × ℕ)). next_coded b s c behind) here
+    ∙ ap (λ (c : List Bool). with_coded c (back b) (behind (drop (length (code b)) s))) this
+    ∙ ap (λ (t : List Bool). with_coded (code b) (back b) (behind t)) left
+    ∙ ap (with_coded (code b) (back b)) (coded_blocks-codes h code back (suc b) n more (λ k low high. reads k (omega arith) (omega arith)))
+
+-- the blocks alone
 pub read_codes-codes : (h : Header) (code : ℕ → List Bool) (back : ℕ → List ℤ) (b n : ℕ) (more : List Bool)
     → ((k : ℕ) → b ≤ k → k < b + n → ReadsBack h code back k)
     → read_codes h b n (end_to_end code (count_from b n) ++ more) ≡ Ok (map back (count_from b n), more)
-read_codes-codes h code back b zero more reads = refl
-read_codes-codes h code back b (suc n) more reads =
-    let rest = end_to_end code (count_from (suc b) n) in
-    let s = (code b ++ rest) ++ more in
-    let together : s ≡ code b ++ (rest ++ more) = append_assoc (code b) rest more in
-    let w = width_of h.ty in
-    let es = extent_of h.shape b in
-    let behind = read_codes h (suc b) n in
-    let here : read_code w h.mode es s ≡ Some (back b, length (code b)) =
-    ap (read_code w h.mode es) together ∙ reads b (omega arith) (omega arith) (rest ++ more) in
-    let left : drop (length (code b)) s ≡ rest ++ more = ap (drop (length (code b))) together ∙ drop-append_seam (code b) (rest ++ more) in
-    ap (λ (c : Option (List ℤ × ℕ)). read_next b s c behind) here
-    ∙ ap (λ (t : List Bool). with_block (back b) (behind t)) left
-    ∙ ap (with_block (back b)) (read_codes-codes h code back (suc b) n more (λ k low high. reads k (omega arith) (omega arith)))
-
--- and bit for bit
-codes_said-codes : (h : Header) (code : ℕ → List Bool) (back : ℕ → List ℤ) (b n : ℕ) (more : List Bool)
-    → ((k : ℕ) → b ≤ k → k < b + n → ReadsBack h code back k)
-    → codes_said h b n (end_to_end code (count_from b n) ++ more) ≡ map code (count_from b n)
-codes_said-codes h code back b zero more reads = refl
-codes_said-codes h code back b (suc n) more reads =
-    let rest = end_to_end code (count_from (suc b) n) in
-    let s = (code b ++ rest) ++ more in
-    let together : s ≡ code b ++ (rest ++ more) = append_assoc (code b) rest more in
-    let w = width_of h.ty in
-    let es = extent_of h.shape b in
-    let behind = codes_said h (suc b) n in
-    let here : read_code w h.mode es s ≡ Some (back b, length (code b)) =
-    ap (read_code w h.mode es) together ∙ reads b (omega arith) (omega arith) (rest ++ more) in
-    let left : drop (length (code b)) s ≡ rest ++ more = ap (drop (length (code b))) together ∙ drop-append_seam (code b) (rest ++ more) in
-    let this : take (length (code b)) s ≡ code b = ap (take (length (code b))) together ∙ take-append_seam (code b) (rest ++ more) in
-    ap (λ (c : Option (List ℤ × ℕ)). code_before s c behind) here
-    ∙ ap (λ (c : List Bool). c ∷ behind (drop (length (code b)) s)) this
-    ∙ ap (λ (t : List Bool). code b ∷ behind t) left
-    ∙ ap (λ (cs : List (List Bool)). code b ∷ cs) (codes_said-codes h code back (suc b) n more (λ k low high. reads k (omega arith) (omega arith)))
+read_codes-codes h code back b n more reads =
+    ap (λ (r : Result Coded ℕ). result_map_both blocks_in (λ k. k) r) (coded_blocks-codes h code back b n more reads)
+    ∙ ap (λ (bs : List (List ℤ)). Ok (bs, more)) (map-map (λ (c : List Bool × List ℤ). c.1) (λ k. (code k, back k)) (count_from b n))
 
 -- ---- the fill
 
@@ -101,35 +93,23 @@ module _ (h : Header) (bytes : List ℕ) (codes : List Bool) (n : ℕ) (is_heade
   behind_header = ap (drop (length (header_bits h))) together ∙ drop-append_seam (header_bits h) (codes ++ replicate n false)
 
   -- and parse to what the codes say
-  said_bits : (found : List (List ℤ)) → n ≡ fill_len (length (header_bits h ++ codes))
-      → read_codes h 0 (blocks h.shape) (codes ++ replicate n false) ≡ Ok (found, replicate n false)
-      → values_said bytes ≡ Ok (values_of_blocks h.shape found)
-  unfolding values_said
-  said_bits found fill reads =
+  parse_bits : (found : List (List Bool × List ℤ)) → n ≡ fill_len (length (header_bits h ++ codes))
+      → coded_blocks h 0 (blocks h.shape) (codes ++ replicate n false) ≡ Ok (found, replicate n false)
+      → parse bytes ≡ Ok (record { header = h; codes = map (λ c. c.0) found; values = values_of_blocks h.shape (map (λ c. c.1) found) })
+  unfolding parse
+  parse_bits found fill reads =
       let prefix = header_bits h in
       let zeros : List Bool = replicate n false in
       let all = length (to_bits bytes) in
-      let Answer : Header → Result (List ℤ) StreamFault = λ g.
-      codes_answer g all (read_codes g 0 (blocks g.shape) (drop (length (header_bits g)) (to_bits bytes))) in
+      let said : Said = record { header = h; codes = map (λ c. c.0) found; values = values_of_blocks h.shape (map (λ c. c.1) found) } in
+      let Answer : Header → Result Said StreamFault = λ g. said_behind g all (drop (length (header_bits g)) (to_bits bytes)) in
       let used : all - length zeros ≡ length (prefix ++ codes) = omega (arith, ap length bits, length-append (prefix ++ codes) zeros) in
       let fill_is_good : fill_answer h (all - length zeros) zeros ≡ Ok tt = ap (λ k. fill_answer h k zeros) used ∙ fill_good h (length (prefix ++ codes)) n fill in
       ap (λ (f : Option HeaderFault). header_or f (Answer (header_of bytes))) (sym (spelled_is_good bytes h is_header begins))
       ∙ ap Answer header_is
-      ∙ ap (λ (s : List Bool). codes_answer h all (read_codes h 0 (blocks h.shape) s)) behind_header
-      ∙ ap (codes_answer h all) reads
-      ∙ ap (values_or_fault (values_of_blocks h.shape found)) fill_is_good
-
-  parse_bits : (found : List (List ℤ)) (cs : List (List Bool)) → n ≡ fill_len (length (header_bits h ++ codes))
-      → read_codes h 0 (blocks h.shape) (codes ++ replicate n false) ≡ Ok (found, replicate n false)
-      → codes_said h 0 (blocks h.shape) (codes ++ replicate n false) ≡ cs
-      → parse bytes ≡ Ok (record { header = h; codes = cs; values = values_of_blocks h.shape found })
-  unfolding parse
-  parse_bits found cs fill reads said =
-      let Of : Header → Result Said StreamFault = λ g. said_with g (codes_said g 0 (blocks g.shape) (drop (length (header_bits g)) (to_bits bytes))) (values_said bytes) in
-      ap Of header_is
-      ∙ ap (λ (s : List Bool). said_with h (codes_said h 0 (blocks h.shape) s) (values_said bytes)) behind_header
-      ∙ ap (λ (ds : List (List Bool)). said_with h ds (values_said bytes)) said
-      ∙ ap (said_with h cs) (said_bits found fill reads)
+      ∙ ap (λ (s : List Bool). said_behind h all s) behind_header
+      ∙ ap (by_coded h all) reads
+      ∙ ap (λ (r : Result (Unit {0}) StreamFault). result_map_both (λ g. said) (λ e. e) r) fill_is_good
 
 -- the file of a header and codes
 module _ (h : Header) (code : ℕ → List Bool) (is_header : IsHeader h) where
@@ -149,12 +129,18 @@ module _ (h : Header) (code : ℕ → List Bool) (is_header : IsHeader h) where
       → let bytes = to_bytes (with_fill (header_bits h ++ end_to_end code (upto (blocks h.shape)))) in
       let values = values_of_blocks h.shape (map back (upto (blocks h.shape))) in
       (values_said bytes ≡ Ok values) × (parse bytes ≡ Ok (record { header = h; codes = map code (upto (blocks h.shape)); values = values }))
+  unfolding values_said
   parse-file back reads =
-      let codes = end_to_end code (upto (blocks h.shape)) in
+      let ks = upto (blocks h.shape) in
+      let codes = end_to_end code ks in
       let bytes = to_bytes (with_fill (header_bits h ++ codes)) in
       let n = fill_len (length (header_bits h ++ codes)) in
-      let found = map back (upto (blocks h.shape)) in
+      let coded : ℕ → List Bool × List ℤ = λ k. (code k, back k) in
       let each = λ (k : ℕ) (low : 0 ≤ k) (high : k < 0 + blocks h.shape). reads k (omega (arith, high)) in
-      let read = read_codes-codes h code back 0 (blocks h.shape) (replicate n false) each in
-      let said = codes_said-codes h code back 0 (blocks h.shape) (replicate n false) each in
-      (said_bits h bytes codes n is_header file_bits found refl read, parse_bits h bytes codes n is_header file_bits found (map code (upto (blocks h.shape))) refl read said)
+      let read = coded_blocks-codes h code back 0 (blocks h.shape) (replicate n false) each in
+      let Saying : List (List Bool) → List (List ℤ) → Said = λ cs bs. record { header = h; codes = cs; values = values_of_blocks h.shape bs } in
+      let said : parse bytes ≡ Ok (Saying (map code ks) (map back ks)) =
+      parse_bits h bytes codes n is_header file_bits (map coded ks) refl read
+      ∙ ap (λ (cs : List (List Bool)). Ok (Saying cs (map (λ (c : List Bool × List ℤ). c.1) (map coded ks)))) (map-map (λ (c : List Bool × List ℤ). c.0) coded ks)
+      ∙ ap (λ (bs : List (List ℤ)). Ok (Saying (map code ks) bs)) (map-map (λ (c : List Bool × List ℤ). c.1) coded ks) in
+      (ap values_in said, said)

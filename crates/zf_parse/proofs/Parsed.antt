@@ -16,7 +16,8 @@ use Rattle.zf_header.proofs.Found.{read_is_spelled, read_is_header}
 use Rattle.zf_header.proofs.Spelled.{spelled_is_read, spelled_is_good}
 use Rattle.zf_parse.specs.declared.fault.StreamFault.{StreamFault}
 use Rattle.zf_parse.specs.declared.fault.StreamFault.TheVariants as faults
-use Rattle.zf_parse.specs.Parsing.{values_said, header_of, code_bits, header_or, codes_answer, read_codes, restore_answer, without_values}
+use Rattle.zf_parse.specs.Parsing.{Said, header_of, code_bits, read_codes, said_behind, parse, restore_answer}
+use Rattle.zf_parse.proofs.Steps.{values_said, values_said-is, header_or, codes_answer, without_values, restore_answer-values}
 use Rattle.zf_parse.specs.ReadStreams.{BeginsWithHeader}
 
 -- the answer of what stands behind the header
@@ -25,12 +26,23 @@ answer_of fault h bytes s = header_or fault (codes_answer h (length (to_bits byt
 
 pub parse_is : (bytes : List ℕ) (h : Header) (len : ℕ) → BeginsWithHeader bytes h len
     → values_said bytes ≡ codes_answer h (length (to_bits bytes)) (read_codes h 0 (blocks h.shape) (drop len (to_bits bytes)))
-unfolding values_said answer_of
+unfolding answer_of
 parse_is bytes h len begun =
     let s = to_bits bytes in
     let behind : code_bits bytes ≡ drop len s = ap (λ g. drop (length (header_bits g)) s) (sym begun.header) ∙ ap (λ n. drop n s) (sym begun.bits_is) in
-    ap (λ fault. answer_of fault (header_of bytes) bytes (code_bits bytes)) begun.good
+    values_said-is bytes ∙ ap (λ fault. answer_of fault (header_of bytes) bytes (code_bits bytes)) begun.good
     ∙ ap (λ g. answer_of None g bytes (code_bits bytes)) (sym begun.header) ∙ ap (answer_of None h bytes) behind
+
+-- and what is said
+pub parse_behind : (bytes : List ℕ) (h : Header) (len : ℕ) → BeginsWithHeader bytes h len → parse bytes ≡ said_behind h (length (to_bits bytes)) (drop len (to_bits bytes))
+unfolding parse
+parse_behind bytes h len begun =
+    let s = to_bits bytes in
+    let all = length s in
+    let Of : Option HeaderFault → Header → List Bool → Result Said StreamFault = λ fault g t. header_or fault (said_behind g all t) in
+    let behind : code_bits bytes ≡ drop len s = ap (λ g. drop (length (header_bits g)) s) (sym begun.header) ∙ ap (λ n. drop n s) (sym begun.bits_is) in
+    ap (λ fault. Of fault (header_of bytes) (code_bits bytes)) begun.good
+    ∙ ap (λ g. Of None g (code_bits bytes)) (sym begun.header) ∙ ap (Of None h) behind
 
 -- bytes behind a header change nothing of it
 pub begun_more : (prefix more : List ℕ) (h : Header) (len : ℕ) → BeginsWithHeader prefix h len → BeginsWithHeader (prefix ++ more) h len
@@ -56,15 +68,14 @@ fault_first n all within = sym (header_fault-first (take n all)) ∙ ap header_f
 
 -- and where it has a fault, the stream has it
 pub parse_fault : (n : ℕ) (all prefix : List ℕ) (f : HeaderFault) → 19 ≤ n → prefix ≡ take n all → header_fault prefix ≡ Some f → restore_answer all ≡ Err (faults.Header f)
-unfolding values_said answer_of
+unfolding answer_of
 parse_fault n all prefix f within is fault =
     let known : header_fault all ≡ Some f = sym (fault_first n all within) ∙ ap header_fault (sym is) ∙ fault in
-    ap (λ o. without_values (answer_of o (header_of all) all (code_bits all))) known
+    restore_answer-values all ∙ ap without_values (values_said-is all) ∙ ap (λ o. without_values (answer_of o (header_of all) all (code_bits all))) known
 
 -- where an input is a good stream, its header is one
 pub good_header : (bytes : List ℕ) → restore_answer bytes ≡ Ok tt → header_fault bytes ≡ None
-unfolding values_said
-good_header bytes good = by (header_fault bytes) _ good
+good_header bytes good = by (header_fault bytes) _ (sym (restore_answer-values bytes ∙ ap without_values (values_said-is bytes)) ∙ good)
   where
     by : (fault : Option HeaderFault) (rest : Result (List ℤ) StreamFault) → without_values (header_or fault rest) ≡ Ok tt → fault ≡ None
     by None rest is = refl

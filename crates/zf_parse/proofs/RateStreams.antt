@@ -14,7 +14,8 @@ use Rattle.zf_header.specs.declared.header.Header.{Header}
 use Rattle.zf_header.specs.declared.header.Mode.TheVariants.{Rate}
 use Rattle.zf_parse.specs.declared.fault.StreamFault.{StreamFault}
 use Rattle.zf_parse.specs.declared.fault.StreamFault.TheVariants as faults
-use Rattle.zf_parse.specs.Parsing.{read_code, with_block, read_next, read_codes, values_of_blocks, fill_answer, values_or_fault, codes_answer, header_of, code_bits, codes_said, values_said, said_with, parse}
+use Rattle.zf_parse.specs.Parsing.{read_code, read_codes, values_of_blocks, fill_answer, parse}
+use Rattle.zf_parse.proofs.Steps.{with_block, read_next, read_codes-suc, values_or_fault, codes_answer, values_said, values_err}
 use Rattle.zf_parse.specs.ReadStreams.{BeginsWithHeader}
 use Rattle.zf_parse.proofs.Codes.{joined-more}
 use Rattle.zf_parse.proofs.Fill.{fill_short, fill_one, fill_more}
@@ -86,14 +87,14 @@ read_codes-cut h budget b (suc n) s is some short = by (ltb (length s) budget) r
     by : (t : Bool) → ltb (length s) budget ≡ t → (length (drop budget s) < n * budget → read_codes h (suc b) n (drop budget s) ≡ Err (suc b + length (drop budget s) / budget)) → read_codes h b (suc n) s ≡ Err (b + length s / budget)
     by true e next =
         let here : b ≡ b + length s / budget = omega (arith, div-eq_of_lt (ltb-true (length s) budget e)) in
-        ap (λ (c : Option (List ℤ × ℕ)). read_next b s c behind) (read true e) ∙ ap (λ (k : ℕ). Err k) here
+        read_codes-suc h b n s ∙ ap (λ (c : Option (List ℤ × ℕ)). read_next b s c behind) (read true e) ∙ ap (λ (k : ℕ). Err k) here
     by false e next =
         let long : budget ≤ length s = ltb-false (length s) budget e in
         let left : length (drop budget s) ≡ length s - budget = length-drop budget s in
         let fewer : length (drop budget s) < n * budget = omega (arith, suc-mul n budget) in
         let count : suc b + length (drop budget s) / budget ≡ b + length s / budget =
         ap (λ k. suc b + k / budget) left ∙ omega (arith, div-eq-sub-div some long) in
-        ap (λ (c : Option (List ℤ × ℕ)). read_next b s c behind) (read false e)
+        read_codes-suc h b n s ∙ ap (λ (c : Option (List ℤ × ℕ)). read_next b s c behind) (read false e)
         ∙ ap (with_block (read_rate w es (take budget s))) (next fewer)
         ∙ ap (λ (k : ℕ). Err k) count
 
@@ -104,9 +105,8 @@ abbrev pub behind_codes : Header → ℕ → ℕ → List ℕ → List Bool
 behind_codes h len budget bytes = drop (blocks h.shape * budget) (drop len (to_bits bytes))
 
 pub parse_err : (bytes : List ℕ) (e : StreamFault) → values_said bytes ≡ Err e → parse bytes ≡ Err e
-unfolding parse
-parse_err bytes e is =
-    let h = header_of bytes in ap (λ (r : Result (List ℤ) StreamFault). said_with h (codes_said h 0 (blocks h.shape) (code_bits bytes)) r) is
+unfolding values_said
+parse_err bytes e is = values_err (parse bytes) e is
 
 module _ (bytes : List ℕ) (h : Header) (len budget : ℕ) (begun : BeginsWithHeader bytes h len) (is : h.mode ≡ Rate budget) where
   -- the code of a block ends too early

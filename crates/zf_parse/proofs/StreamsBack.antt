@@ -12,7 +12,8 @@ use Rattle.zf_header.specs.declared.header.Mode.{Mode}
 use Rattle.zf_header.specs.declared.header.Mode.TheVariants.{Reversible, Rate, Precision}
 use Rattle.zf_header.specs.HeaderBits.{coding, IsHeader, header_bits}
 use Rattle.zf_parse.specs.Raw.{raw_len, raw_bytes, stream_of, stream_text}
-use Rattle.zf_parse.specs.Parsing.{read_code, values_of_blocks, header_of, values_said, said_of, parse, restored_text, restore_answer, without_values}
+use Rattle.zf_parse.specs.Parsing.{read_code, values_of_blocks, header_of, said_of, parse, restored_text, restore_answer}
+use Rattle.zf_parse.proofs.Steps.{values_said, without_values, restore_answer-values}
 use Rattle.zf_parse.proofs.TextOfParse.{text_of_parse}
 use Rattle.zf_parse.proofs.Joined.{values_of_blocks-blocks}
 use Rattle.zf_parse.proofs.ParseOfStream.{end_to_end, ReadsBack, header_of-file, parse-file}
@@ -114,9 +115,9 @@ module _ (h : Header) (bytes : List ℕ) (is_header : IsHeader h) where
 
   -- each stream is good
   pub answer-stream_text : restore_answer (stream_text h bytes) ≡ Ok tt
-  answer-stream_text = by h.mode refl
+  answer-stream_text = restore_answer-values (stream_text h bytes) ∙ by h.mode refl
     where
-      by : (m : Mode) → h.mode ≡ m → restore_answer (stream_text h bytes) ≡ Ok tt
+      by : (m : Mode) → h.mode ≡ m → without_values (values_said (stream_text h bytes)) ≡ Ok tt
       by Reversible mode = ap without_values (said-reversible_text mode)
       by (Rate b) mode = ap without_values (said-rate_text b mode)
       by (Precision p) mode = ap without_values (said-prec_text p mode)

@@ -22,7 +22,8 @@ use Rattle.zf_header.specs.declared.header.HeaderFault.{HeaderFault}
 use Rattle.zf_header.specs.HeaderFaults.{header_fault}
 use Rattle.zf_parse.specs.declared.fault.StreamFault.{StreamFault}
 use Rattle.zf_parse.specs.Raw.{raw_bytes}
-use Rattle.zf_parse.specs.Parsing.{read_code, with_block, read_next, read_codes, values_of_blocks, fill_answer, values_or_fault, codes_answer, header_of, code_bits, header_or, values_said, longest_codes, blocks_text, restored_text}
+use Rattle.zf_parse.specs.Parsing.{read_code, read_codes, values_of_blocks, fill_answer, header_of, code_bits, longest_codes, restored_text}
+use Rattle.zf_parse.proofs.Steps.{with_block, read_next, read_codes-suc, values_or_fault, codes_answer, header_or, values_said, values_said-is, blocks_text}
 
 -- ---- one code
 
@@ -145,12 +146,13 @@ read_codes_more h b zero s more found e =
 read_codes_more h b (suc n) s more found e =
     let w = width_of h.ty in
     let es = extent_of h.shape b in
-    read_next_more b s more (read_code w h.mode es s) (read_code w h.mode es (s ++ more)) (read_codes h (suc b) n) found
-    (λ code is. read_code_more w h.mode es s more code is) (λ t rest is. read_codes_more h (suc b) n t more rest is) e
+    read_codes-suc h b n (s ++ more)
+    ∙ read_next_more b s more (read_code w h.mode es s) (read_code w h.mode es (s ++ more)) (read_codes h (suc b) n) found
+    (λ code is. read_code_more w h.mode es s more code is) (λ t rest is. read_codes_more h (suc b) n t more rest is) (sym (read_codes-suc h b n s) ∙ e)
 
 -- ---- the parts of a good answer
 
-header_good : {T : Type 0} (f : Option HeaderFault) (rest : Result T StreamFault) (good : T) → header_or f rest ≡ Ok good → (f ≡ None) × (rest ≡ Ok good)
+pub header_good : {T : Type 0} (f : Option HeaderFault) (rest : Result T StreamFault) (good : T) → header_or f rest ≡ Ok good → (f ≡ None) × (rest ≡ Ok good)
 header_good None rest good e = (refl, e)
 header_good (Some f) rest good e = absurd cc
 
@@ -158,20 +160,20 @@ values_good : (found values : List ℤ) (r : Result (Unit {0}) StreamFault) → 
 values_good found values (Ok good) e = cc
 values_good found values (Err f) e = absurd cc
 
-codes_good : (h : Header) (all : ℕ) (r : Result (List (List ℤ) × List Bool) ℕ) (values : List ℤ) → codes_answer h all r ≡ Ok values
+pub codes_good : (h : Header) (all : ℕ) (r : Result (List (List ℤ) × List Bool) ℕ) (values : List ℤ) → codes_answer h all r ≡ Ok values
     → (found : List (List ℤ) × List Bool) × (r ≡ Ok found) × (values_of_blocks h.shape found.0 ≡ values)
 codes_good h all (Err b) values e = absurd cc
 codes_good h all (Ok found) values e = (found, refl, values_good (values_of_blocks h.shape found.0) values (fill_answer h (all - length found.1) found.1) e)
 
 -- what is restored of a stream that is good is the raw bytes of its values
 pub text_of_parse : (bytes : List ℕ) (values : List ℤ) → values_said bytes ≡ Ok values → restored_text bytes ≡ raw_bytes (header_of bytes) values
-unfolding values_said restored_text
+unfolding restored_text
 text_of_parse bytes values e =
     let h = header_of bytes in
     let all = length (to_bits bytes) in
     let r = read_codes h 0 (blocks h.shape) (code_bits bytes) in
     let zeros = replicate (longest_codes h) false in
-    let good = header_good (header_fault bytes) (codes_answer h all r) values e in
+    let good = header_good (header_fault bytes) (codes_answer h all r) values (sym (values_said-is bytes) ∙ e) in
     let read = codes_good h all r values good.1 in
     let more = read_codes_more h 0 (blocks h.shape) (code_bits bytes) zeros read.0 read.1 in
     ap (λ (f : Option HeaderFault). cond (is_none f) (blocks_text h (read_codes h 0 (blocks h.shape) (code_bits bytes ++ zeros))) []) good.0

@@ -1,5 +1,6 @@
 -- What a stream says: its header, the codes of its blocks and its values, or why it says nothing. No decoder is in these definitions but the reading of one code.
 use Rattle.std.specs.Prelude.{ℕ, zero, suc, ◌-◌, ◌*◌, nat_lt, ℤ, pos, Bool, false, List, [], ◌∷◌, ◌++◌, map, length, take, drop, replicate, slice_index_or, Option, Some, None, is_none, Result, Ok, Err, if◌then◌else◌}
+use Rattle.std.specs.Result.{result_map_both}
 use Rattle.std.specs.Int.{Width}
 use mir.Val.{bits}
 use Rattle.zf_spec.specs.Grid.{product, blocks, coordinates, extent_of, upto}
@@ -12,7 +13,6 @@ use Rattle.zf_base.specs.Places.{block_number, place_of}
 use Rattle.zf_header.specs.declared.header.Header.{Header}
 use Rattle.zf_header.specs.declared.header.Mode.{Mode}
 use Rattle.zf_header.specs.declared.header.Mode.TheVariants.{Reversible, Rate, Precision}
-use Rattle.zf_header.specs.declared.header.HeaderFault.{HeaderFault}
 use Rattle.zf_header.specs.HeaderBits.{coding, header_bits}
 use Rattle.zf_header.specs.HeaderFields.{header_in}
 use Rattle.zf_header.specs.HeaderFaults.{header_fault}
@@ -27,20 +27,17 @@ read_code w Reversible es s = read_rev w es s
 read_code w (Rate b) es s = if nat_lt (length s) b then None else Some (read_rate w es (take b s), b)
 read_code w (Precision p) es s = read_prec w p es s
 
--- a block before what the blocks behind it are
-abbrev pub with_block : List ℤ → Result (List (List ℤ) × List Bool) ℕ → Result (List (List ℤ) × List Bool) ℕ
-with_block block (Ok rest) = Ok (block ∷ rest.0, rest.1)
-with_block block (Err b) = Err b
+-- the codes of n blocks from block b on, each with the block that it stands for, and the bits behind them; or the number of the first block whose code ends too early
+abbrev pub coded_blocks : Header → ℕ → ℕ → List Bool → Result (List (List Bool × List ℤ) × List Bool) ℕ
+coded_blocks h b zero s = Ok ([], s)
+coded_blocks h b (suc n) s = elim (read_code (width_of h.ty) h.mode (extent_of h.shape b) s) [
+  | None ↦ Err b
+  | Some code ↦ result_map_both (λ rest. ((take code.1 s, code.0) ∷ rest.0, rest.1)) (λ k. k) (coded_blocks h (suc b) n (drop code.1 s))
+]
 
--- the block of a code in front and what the bits behind the code give, or the number of the block whose code ends too early
-abbrev pub read_next : ℕ → List Bool → Option (List ℤ × ℕ) → (List Bool → Result (List (List ℤ) × List Bool) ℕ) → Result (List (List ℤ) × List Bool) ℕ
-read_next b s None behind = Err b
-read_next b s (Some code) behind = with_block code.0 (behind (drop code.1 s))
-
--- n blocks from block b on, and the bits behind their codes; or the number of the first block whose code ends too early
+-- the blocks alone
 abbrev pub read_codes : Header → ℕ → ℕ → List Bool → Result (List (List ℤ) × List Bool) ℕ
-read_codes h b zero s = Ok ([], s)
-read_codes h b (suc n) s = read_next b s (read_code (width_of h.ty) h.mode (extent_of h.shape b) s) (read_codes h (suc b) n)
+read_codes h b n s = result_map_both (λ found. (map (λ c. c.1) found.0, found.1)) (λ k. k) (coded_blocks h b n s)
 
 -- the values of an array, of its blocks: each position has the value at its place in its block
 abbrev pub values_of_blocks : List ℕ → List (List ℤ) → List ℤ
@@ -54,43 +51,12 @@ fill_answer h used s =
     else (if has_one (take fill s) then Err faults.Pad
     else (if nat_lt fill (length s) then Err faults.Trailing else Ok tt))
 
--- the values, where nothing is wrong with what stands behind the codes
-abbrev pub values_or_fault : List ℤ → Result (Unit {0}) StreamFault → Result (List ℤ) StreamFault
-values_or_fault values (Ok good) = Ok values
-values_or_fault values (Err e) = Err e
-
--- the codes and the fill of a stream of so many bits that has this header
-abbrev pub codes_answer : Header → ℕ → Result (List (List ℤ) × List Bool) ℕ → Result (List ℤ) StreamFault
-codes_answer h all (Err b) = Err (faults.Truncated b)
-codes_answer h all (Ok found) = values_or_fault (values_of_blocks h.shape found.0) (fill_answer h (all - length found.1) found.1)
-
 -- the header that bytes begin with, and the bits behind it
 abbrev pub header_of : List ℕ → Header
 header_of bytes = header_in (to_bits bytes)
 
 abbrev pub code_bits : List ℕ → List Bool
 code_bits bytes = drop (length (header_bits (header_of bytes))) (to_bits bytes)
-
--- a fault of the header, or else what the rest says
-abbrev pub header_or : {T : Type 0} → Option HeaderFault → Result T StreamFault → Result T StreamFault
-header_or None rest = rest
-header_or (Some f) rest = Err (faults.Header f)
-
--- the values of the stream that these bytes are, or why they are none
-unfoldable pub values_said : List ℕ → Result (List ℤ) StreamFault
-values_said bytes =
-    let h = header_of bytes in
-    header_or (header_fault bytes) (codes_answer h (length (to_bits bytes)) (read_codes h 0 (blocks h.shape) (code_bits bytes)))
-
--- the bits of a code in front and what the bits behind give, as far as codes can be read
-abbrev pub code_before : List Bool → Option (List ℤ × ℕ) → (List Bool → List (List Bool)) → List (List Bool)
-code_before s None behind = []
-code_before s (Some code) behind = take code.1 s ∷ behind (drop code.1 s)
-
--- the codes of n blocks from block b on, bit for bit
-abbrev pub codes_said : Header → ℕ → ℕ → List Bool → List (List Bool)
-codes_said h b zero s = []
-codes_said h b (suc n) s = code_before s (read_code (width_of h.ty) h.mode (extent_of h.shape b) s) (codes_said h (suc b) n)
 
 -- what a good stream says
 pub record Said : Type 0 where
@@ -102,26 +68,29 @@ pub record Said : Type 0 where
 abbrev pub said_of : Header → List ℤ → List ℤ → Said
 said_of h values back = record { header = h; codes = stream.codes (width_of h.ty) h.shape (coding h.mode) values; values = back }
 
-abbrev pub said_with : Header → List (List Bool) → Result (List ℤ) StreamFault → Result Said StreamFault
-said_with h cs (Ok values) = Ok (record { header = h; codes = cs; values = values })
-said_with h cs (Err e) = Err e
+-- what codes with their blocks say, and the bits behind them, of a stream of so many bits that has this header
+abbrev pub said_with : Header → ℕ → List (List Bool × List ℤ) × List Bool → Result Said StreamFault
+said_with h all found =
+    let said : Said = record { header = h; codes = map (λ c. c.0) found.0; values = values_of_blocks h.shape (map (λ c. c.1) found.0) } in
+    result_map_both (λ good. said) (λ e. e) (fill_answer h (all - length found.1) found.1)
+
+-- what the bits behind the header say
+abbrev pub said_behind : Header → ℕ → List Bool → Result Said StreamFault
+said_behind h all s = elim (coded_blocks h 0 (blocks h.shape) s) [
+  | Err b ↦ Err (faults.Truncated b)
+  | Ok found ↦ said_with h all found
+]
 
 -- what the stream that these bytes are says, or why they are none
 unfoldable pub parse : List ℕ → Result Said StreamFault
-parse bytes = let h = header_of bytes in said_with h (codes_said h 0 (blocks h.shape) (code_bits bytes)) (values_said bytes)
-
--- what is found is good
-abbrev pub without_values : Result (List ℤ) StreamFault → Result (Unit {0}) StreamFault
-without_values (Ok values) = Ok tt
-without_values (Err e) = Err e
-
-abbrev pub without_said : Result Said StreamFault → Result (Unit {0}) StreamFault
-without_said (Ok said) = Ok tt
-without_said (Err e) = Err e
+parse bytes = elim (header_fault bytes) [
+  | Some f ↦ Err (faults.Header f)
+  | None ↦ said_behind (header_of bytes) (length (to_bits bytes)) (code_bits bytes)
+]
 
 -- what `restore` answers for an input of these bytes
 abbrev pub restore_answer : List ℕ → Result (Unit {0}) StreamFault
-restore_answer bytes = without_values (values_said bytes)
+restore_answer bytes = result_map_both (λ said. tt) (λ e. e) (parse bytes)
 
 -- as many bits as the longest code of a block has, and the longest codes of all blocks have together
 abbrev pub longest_code : Header → ℕ
@@ -135,13 +104,13 @@ longest_code h = longest_of h.mode
 abbrev pub longest_codes : Header → ℕ
 longest_codes h = blocks h.shape * longest_code h
 
--- the raw values of blocks that were read
-abbrev pub blocks_text : Header → Result (List (List ℤ) × List Bool) ℕ → List ℕ
-blocks_text h (Ok found) = raw_bytes h (values_of_blocks h.shape found.0)
-blocks_text h (Err b) = []
+-- the raw values that are read of bits continued with zeros
+abbrev pub text_behind : Header → List Bool → List ℕ
+text_behind h s = elim (read_codes h 0 (blocks h.shape) (s ++ replicate (longest_codes h) false)) [
+  | Ok found ↦ raw_bytes h (values_of_blocks h.shape found.0)
+  | Err b ↦ []
+]
 
--- the raw values that are read from bytes continued with zeros; nothing where they have no good header
+-- and those of bytes; nothing where they have no good header
 unfoldable pub restored_text : List ℕ → List ℕ
-restored_text bytes =
-    let h = header_of bytes in
-    if is_none (header_fault bytes) then blocks_text h (read_codes h 0 (blocks h.shape) (code_bits bytes ++ replicate (longest_codes h) false)) else []
+restored_text bytes = if is_none (header_fault bytes) then text_behind (header_of bytes) (code_bits bytes) else []

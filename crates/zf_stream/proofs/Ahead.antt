@@ -10,7 +10,8 @@ use Rattle.zf_dev.specs.Source.{Takes, IsAtEnd}
 use Rattle.zf_dev.specs.Sink.{AppendsPrefix}
 use Rattle.zf_dev.proofs.Taking.{Takes-append}
 use Rattle.zf_parse.specs.declared.fault.StreamFault.{StreamFault}
-use Rattle.zf_parse.specs.Parsing.{read_codes, values_of_blocks, values_or_fault, codes_answer}
+use Rattle.zf_parse.specs.Parsing.{read_codes, values_of_blocks}
+use Rattle.zf_parse.proofs.Steps.{values_or_fault, codes_answer, values_behind}
 use Rattle.zf_parse.proofs.Fill.{fill_place}
 use Rattle.zf_stream.specs.Rows.{ArePieces}
 use Rattle.zf_stream.specs.Windows.{Window, left_of, Refills}
@@ -46,8 +47,10 @@ module _ (h : Header) {src0 mid : Option (List ℕ)} {w0 w1 : Window} (refill : 
       let moved = refill.goes.moved in
       let place : w0.reader.at ≡ w1.reader.at + 64 * moved = omega (arith, refill.goes.place, ap length refill.bits) in
       ap (λ (t : List Bool). answer_of_codes h w0.reader.at t) (stream_on bytes)
+      ∙ values_behind h (w0.reader.at + length s) s
       ∙ answer_moved h (w0.reader.at + length s) (w1.reader.at + length s) moved (read_codes h 0 n s) (omega (arith, place))
       (λ found is. omega (arith, codes_least h 0 n s found is))
+      ∙ sym (values_behind h (w1.reader.at + length s) s)
 
   taken_on : (now : Option (List ℕ)) (bytes : List ℕ) → Takes mid now bytes → Takes src0 now (refill.bytes ++ bytes)
   taken_on now bytes taken = Takes-append src0 mid now refill.bytes bytes refill.goes.taken taken

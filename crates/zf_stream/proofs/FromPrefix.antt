@@ -18,7 +18,8 @@ use Rattle.zf_dev.proofs.Taking.{Takes-none}
 use Rattle.zf_dev.proofs.Appending.{AppendsPrefix-none}
 use Rattle.zf_parse.specs.declared.fault.StreamFault.{StreamFault}
 use Rattle.zf_parse.specs.Raw.{raw_bytes}
-use Rattle.zf_parse.specs.Parsing.{read_codes, values_said, header_of, code_bits, codes_answer, blocks_text, longest_codes, restore_answer, restored_text, without_values}
+use Rattle.zf_parse.specs.Parsing.{read_codes, header_of, code_bits, longest_codes, restore_answer, restored_text}
+use Rattle.zf_parse.proofs.Steps.{values_said, codes_answer, values_behind, blocks_text, without_values, restore_answer-values}
 use Rattle.zf_parse.specs.ReadStreams.{BeginsWithHeader}
 use Rattle.zf_stream.specs.Outcomes.{Answers, IsRefusal, Finishes, LeavesPrefix}
 use Rattle.zf_stream.specs.Windows.{Window}
@@ -83,7 +84,8 @@ module _ (h : Header) (len : ℕ) (prefix : List ℕ) (begun : BeginsWithHeader 
       let s = to_bits (prefix ++ bytes) in
       let size : w.reader.at + length (stream_from w bytes) ≡ length s =
       omega (arith, at, ap length (stream_is bytes), length-drop len s, begun.within, length-to_bits (prefix ++ bytes), length-append prefix bytes) in
-      ap (λ n. codes_answer h n (read_codes h 0 (blocks h.shape) (stream_from w bytes))) size
+      values_behind h (w.reader.at + length (stream_from w bytes)) (stream_from w bytes)
+      ∙ ap (λ n. codes_answer h n (read_codes h 0 (blocks h.shape) (stream_from w bytes))) size
       ∙ ap (λ (t : List Bool). codes_answer h (length s) (read_codes h 0 (blocks h.shape) t)) (stream_is bytes)
       ∙ sym (parse_is (prefix ++ bytes) h len (begun_more prefix bytes h len begun))
 
@@ -100,7 +102,7 @@ module _ (h : Header) (len : ℕ) (prefix : List ℕ) (begun : BeginsWithHeader 
         bytes = bytes;
         taken = Takes-behind prefix done.bytes src now done.taken;
         ended = done.ended;
-        good = ap without_values said;
+        good = restore_answer-values bytes ∙ ap without_values said;
         written = subst P same done.written;
       }
 
@@ -118,7 +120,7 @@ module _ (h : Header) (len : ℕ) (prefix : List ℕ) (begun : BeginsWithHeader 
       }
 
   fault_is : {src now : Option (List ℕ)} {e : StreamFault} (fault : HasFault h src now w e) → restore_answer (prefix ++ (fault.bytes ++ still now)) ≡ Err e
-  fault_is {src} {now} {e} fault = ap without_values (sym (answer_is (fault.bytes ++ still now)) ∙ fault.answer)
+  fault_is {src} {now} {e} fault = restore_answer-values (prefix ++ (fault.bytes ++ still now)) ∙ ap without_values (sym (answer_is (fault.bytes ++ still now)) ∙ fault.answer)
 
   pub can_refuse : (src now : Option (List ℕ)) (e : StreamFault) → Refuses h src now w e → CanRefuseBehind prefix e
   can_refuse src now e refuses =

@@ -1,5 +1,5 @@
 -- What is said of the bytes of a stream is never a fault of a device, nor one of raw values; what is said of codes is none of a header either.
-use Rattle.std.proofs.Common.{◌≡◌, ℕ, ℤ, Bool, true, false, cond, nat_lt, List, ◌++◌, Option, Some, None, Result, Ok, Err, take, length, ◌+◌, ◌-◌, ◌⊎◌, subst, ◌%◌, refl, ⊎_elim}
+use Rattle.std.proofs.Common.{◌≡◌, ℕ, ℤ, Bool, true, false, cond, nat_lt, List, ◌++◌, Option, Some, None, Result, Ok, Err, take, length, ◌+◌, ◌-◌, ◌⊎◌, subst, ◌%◌, refl, sym, ap, ◌∙◌, ⊎_elim}
 use Rattle.std.specs.Prelude.{IfErr}
 use Rattle.std.proofs.lemmas.Result.{IfErr-at_err}
 use Rattle.zf_spec.specs.Grid.{blocks}
@@ -10,7 +10,8 @@ use Rattle.zf_header.specs.declared.header.HeaderFault.{HeaderFault}
 use Rattle.zf_header.specs.HeaderFaults.{header_fault}
 use Rattle.zf_parse.specs.declared.fault.StreamFault.{StreamFault}
 use Rattle.zf_parse.specs.declared.fault.StreamFault.TheVariants as faults
-use Rattle.zf_parse.specs.Parsing.{values_said, header_of, code_bits, header_or, codes_answer, read_codes, values_or_fault, restore_answer, without_values}
+use Rattle.zf_parse.specs.Parsing.{header_of, code_bits, read_codes, restore_answer}
+use Rattle.zf_parse.proofs.Steps.{values_said, values_said-is, values_behind, header_or, codes_answer, values_or_fault, without_values, restore_answer-values}
 use Rattle.zf_stream.specs.Outcomes.{IsBeforeWriting}
 use Rattle.zf_stream.specs.Windows.{Window}
 use Rattle.zf_stream.specs.Restoring.{still, stream_from, Refuses}
@@ -56,11 +57,11 @@ own_text (Err e) own = own
 
 -- the answer for the bytes of a stream is none
 pub own_answer : (bytes : List ℕ) → blames_foreign (restore_answer bytes) ≡ false
-unfolding values_said
 own_answer bytes =
     let h = header_of bytes in
     let found = read_codes h 0 (blocks h.shape) (code_bits bytes) in
-    own_text (values_said bytes) (own_header (header_fault bytes) (codes_answer h (length (to_bits bytes)) found) (own_codes h (length (to_bits bytes)) found))
+    let own = own_header (header_fault bytes) (codes_answer h (length (to_bits bytes)) found) (own_codes h (length (to_bits bytes)) found) in
+    ap blames_foreign (restore_answer-values bytes) ∙ own_text (values_said bytes) (ap blames_foreign (values_said-is bytes) ∙ own)
 
 -- ---- what is said of codes is none of a header, nor out of memory
 
@@ -102,5 +103,5 @@ refused_later h src now w e refuses =
     let s = stream_from w (fault.bytes ++ still now) in
     let all = w.reader.at + length s in
     let found = read_codes h 0 (blocks h.shape) s in
-    not_before e (IfErr-at_err IsOfCodes fault.answer (of_codes h all found)))
+    not_before e (IfErr-at_err IsOfCodes (sym (values_behind h all s) ∙ fault.answer) (of_codes h all found)))
     (device_not_before e) refuses

@@ -16,7 +16,8 @@ use Rattle.zf_dev.proofs.Appending.{Appends-none, Appends-append, AppendsPrefix-
 use Rattle.zf_parse.specs.declared.fault.StreamFault.{StreamFault}
 use Rattle.zf_parse.specs.declared.fault.StreamFault.TheVariants as faults
 use Rattle.zf_parse.specs.Raw.{raw_bytes}
-use Rattle.zf_parse.specs.Parsing.{read_codes, values_of_blocks, codes_answer, blocks_text, longest_codes}
+use Rattle.zf_parse.specs.Parsing.{read_codes, values_of_blocks, longest_codes}
+use Rattle.zf_parse.proofs.Steps.{codes_answer, blocks_text, values_behind}
 use Rattle.zf_stream.specs.Windows.{Window, left_of}
 use Rattle.zf_stream.specs.Restoring.{still, stream_from, ReadsSlab, LacksSlab, blocks_of_rows, Restores, text_of_codes, answer_of_codes, LeavesRows, Refuses}
 use Rattle.zf_parse.proofs.Enough.{enough_for_all}
@@ -206,6 +207,7 @@ module _ (h : Header) (row here : ℕ) (next : IsNext h row here) {src0 mid out0
         taken = Takes-append src0 mid now done.bytes cut.bytes done.goes.taken cut.taken;
         answer = ap (λ (more : List ℕ). answer_of_codes h w0.reader.at (stream_from w0 (bytes ++ more))) none
             ∙ ap (λ (bs : List ℕ). answer_of_codes h w0.reader.at (stream_from w0 bs)) (append-nil bytes)
+            ∙ values_behind h (w0.reader.at + length (stream_from w0 bytes)) (stream_from w0 bytes)
             ∙ ap (codes_answer h (w0.reader.at + length (stream_from w0 bytes))) codes;
       })
   slab_cut now first faults.Read is lacks = inr (inl refl)

@@ -9,7 +9,8 @@ use Rattle.zf_pad.proofs.Slabs.{product-rows}
 use Rattle.zf_header.specs.declared.header.Header.{Header}
 use Rattle.zf_dev.specs.Source.{IsAtEnd}
 use Rattle.zf_parse.specs.declared.fault.StreamFault.{StreamFault}
-use Rattle.zf_parse.specs.Parsing.{read_codes, values_or_fault, fill_answer, codes_answer}
+use Rattle.zf_parse.specs.Parsing.{read_codes, fill_answer}
+use Rattle.zf_parse.proofs.Steps.{values_or_fault, codes_answer, values_behind}
 use Rattle.zf_stream.specs.Windows.{Window, left_of, KnowsEnd, Refills}
 use Rattle.zf_stream.specs.Restoring.{still, stream_from, Restores, answer_of_codes, LeavesRows, HasFault, RestoresAll}
 use Rattle.zf_parse.proofs.Fill.{fill_place, fill_told, fill_not_good}
@@ -51,7 +52,7 @@ module _ (h : Header) {src0 mid now out0 out : Option (List ℕ)} {w0 w1 w2 : Wi
       ap (read_codes h 0 (blocks h.shape)) (sym joined) ∙ read_codes_more h 0 (blocks h.shape) s (to_bits more) (blocks_of h.shape done.values, left_of w2) codes_all in
       let place : all - length left ≡ w2.reader.at + 64 * goes.moved = omega (arith, goes.place, ap length joined, length-append s (to_bits more), length-append (left_of w2) (to_bits more)) in
       let same : (all - length left) % 64 ≡ w2.reader.at % 64 = omega (arith, place) in
-      ap (codes_answer h all) read
+      values_behind h all (stream_from w0 (bytes ++ more)) ∙ ap (codes_answer h all) read
       ∙ ap (λ (vs : List ℤ). values_or_fault vs (fill_answer h (all - length left) left)) (values_of_blocks-blocks h.shape done.values (done.long ∙ sym (product-rows h.shape done.whole.some_axis)))
       ∙ ap (values_or_fault done.values) (fill_place h (all - length left) w2.reader.at left same)
 

@@ -1,6 +1,6 @@
 -- How many bits codes have at the least, and that they lie within the bits that they are read of.
 use Rattle.std.proofs.Common.{◌≡◌, refl, sym, ap, ◌∙◌, ℕ, zero, suc, ◌+◌, ◌*◌, ◌^◌, ◌<◌, ◌≤◌, ◌⊎◌, inl, inr, min, max}
-use Rattle.std.proofs.Common.{Bool, true, false, cond, ltb, lt-ltb, le-ltb, ℤ, Option, Some, None, Result, Ok, Err}
+use Rattle.std.proofs.Common.{Bool, cond, ltb, lt-ltb, le-ltb, ℤ, Option, Some, None, Result, Ok, Err}
 use Rattle.std.proofs.Common.{List, [], ◌∷◌, length, take, drop, All, suc-mul, length-drop, length-append, arith}
 use Rattle.std.proofs.lemmas.Bool.{cases_lt}
 use Rattle.std.proofs.lemmas.List.Elements.{All-head, All-tail}
@@ -18,7 +18,8 @@ use Rattle.zf_base.specs.Widths.{width_of}
 use Rattle.zf_header.specs.declared.header.Header.{Header}
 use Rattle.zf_header.specs.declared.header.Mode.{Mode}
 use Rattle.zf_header.specs.declared.header.Mode.TheVariants.{Reversible, Rate, Precision}
-use Rattle.zf_parse.specs.Parsing.{read_code, read_codes, read_next, with_block}
+use Rattle.zf_parse.specs.Parsing.{read_code, read_codes}
+use Rattle.zf_parse.proofs.Steps.{read_next, with_block, read_codes-suc}
 use Rattle.zf_stream.specs.Restoring.{shortest_of, shortest_code}
 
 -- ---- planes
@@ -124,4 +125,4 @@ codes_least h b (suc n) s found e =
     let es = extent_of h.shape b in
     next_least (shortest_code h) b n s (read_code w h.mode es s) (read_codes h (suc b) n) found
     (λ code is. code_least w h.mode es s code is)
-    (λ t rest is. codes_least h (suc b) n t rest is) e
+    (λ t rest is. codes_least h (suc b) n t rest is) (sym (read_codes-suc h b n s) ∙ e)

@@ -13,7 +13,8 @@ use Rattle.zf_pad.specs.Slabs.{rows_of, row_len, with_rows, IsSlab, slab_of, fir
 use Rattle.zf_pad.proofs.Slabs.{product-rows, product-with_rows, length-with_rows, grid-with_rows, blocks-with_rows, coordinates-rows_on, raster-rows_on, rows_on-none, block_of-slab}
 use Rattle.zf_pad.proofs.Blocks.{value_of_block}
 use Rattle.zf_header.specs.declared.header.Header.{Header}
-use Rattle.zf_parse.specs.Parsing.{read_code, read_codes, read_next, with_block, values_of_blocks}
+use Rattle.zf_parse.specs.Parsing.{read_code, read_codes, values_of_blocks}
+use Rattle.zf_parse.proofs.Steps.{read_next, with_block, read_codes-suc}
 use Rattle.zf_stream.specs.Restoring.{blocks_of_rows}
 use Rattle.zf_stream.proofs.Rows.{map-count_from}
 use Rattle.zf_stream.proofs.Slabwise.{with_shape}
@@ -42,9 +43,11 @@ read_codes-slab h shape first b zero s same = refl
 read_codes-slab h shape first b (suc n) s same =
     let w = width_of h.ty in
     let next : suc (first + b) ≡ first + suc b = omega arith in
-    ap (λ es. read_next (first + b) s (read_code w h.mode es s) (read_codes h (suc (first + b)) n)) (same b (omega arith))
+    read_codes-suc h (first + b) n s
+    ∙ ap (λ es. read_next (first + b) s (read_code w h.mode es s) (read_codes h (suc (first + b)) n)) (same b (omega arith))
     ∙ read_next-counted first b s (read_code w h.mode (extent_of shape b) s) (read_codes h (suc (first + b)) n) (read_codes (with_shape h shape) (suc b) n)
     (λ t. ap (λ k. read_codes h k n t) next ∙ read_codes-slab h shape first (suc b) n t (λ j lt. same j (omega (arith, lt))))
+    ∙ ap (counted_from first) (sym (read_codes-suc (with_shape h shape) b n s))
 
 -- ---- the blocks of first rows
 

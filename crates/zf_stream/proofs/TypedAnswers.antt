@@ -8,7 +8,8 @@ use Rattle.zf_header.specs.HeaderFaults.{header_fault}
 use Rattle.zf_dev.specs.Source.{Takes}
 use Rattle.zf_parse.specs.declared.fault.StreamFault.{StreamFault}
 use Rattle.zf_parse.specs.declared.fault.StreamFault.TheVariants as faults
-use Rattle.zf_parse.specs.Parsing.{header_of, header_or, restore_answer}
+use Rattle.zf_parse.specs.Parsing.{header_of, restore_answer}
+use Rattle.zf_parse.proofs.Steps.{header_or}
 use Rattle.zf_stream.specs.Outcomes.{Answers, IsPrefix, IsFromOutside}
 use Rattle.zf_parse.specs.ReadStreams.{BeginsWithHeader, IsFaultOf}
 use Rattle.zf_stream.specs.Restoring.{behind, FinishesBehind, CanRefuseBehind}

@@ -1,6 +1,7 @@
 -- An array that is restored slab by slab: how far its codes were read, and its values written. The codes are those of the bits that were left in a window,
 -- and of the bytes that were taken of the source behind them.
-use Rattle.std.specs.Prelude.{ℕ, ◌≡◌, ◌+◌, ◌*◌, ◌/◌, min, ◌⊎◌, ℤ, Bool, false, List, [], ◌++◌, map, length, replicate, Option, Some, None, Result, Ok, Err}
+use Rattle.std.specs.Prelude.{ℕ, ◌≡◌, ◌+◌, ◌*◌, ◌/◌, min, ◌⊎◌, ℤ, Bool, List, [], ◌++◌, map, length, Option, Some, None, Result, Ok, Err}
+use Rattle.std.specs.Result.{result_map_both}
 use Rattle.std.specs.Int.{Width}
 use mir.Val.{bits}
 use Rattle.zf_spec.specs.Grid.{blocks, upto, block_of, blocks_of}
@@ -16,7 +17,7 @@ use Rattle.zf_dev.specs.Sink.{Appends, AppendsPrefix}
 use Rattle.zf_parse.specs.declared.fault.StreamFault.{StreamFault}
 use Rattle.zf_parse.specs.declared.fault.StreamFault.TheVariants as faults
 use Rattle.zf_parse.specs.Raw.{raw_bytes}
-use Rattle.zf_parse.specs.Parsing.{read_codes, codes_answer, blocks_text, longest_codes, restore_answer, restored_text}
+use Rattle.zf_parse.specs.Parsing.{read_codes, said_behind, text_behind, restore_answer, restored_text}
 use Rattle.zf_stream.specs.Outcomes.{Finishes, IsFromOutside}
 use Rattle.zf_stream.specs.Windows.{Window, left_of, Goes}
 
@@ -97,11 +98,11 @@ pub record Restores (h : Header) (rows : ℕ) (src_before src_now out_before out
 
 -- the raw values that are read of bits continued with zeros
 abbrev pub text_of_codes : Header → List Bool → List ℕ
-text_of_codes h s = blocks_text h (read_codes h 0 (blocks h.shape) (s ++ replicate (longest_codes h) false))
+text_of_codes h s = text_behind h s
 
 -- what is answered for bits of which so many came before
 abbrev pub answer_of_codes : Header → ℕ → List Bool → Result (List ℤ) StreamFault
-answer_of_codes h before s = codes_answer h (before + length s) (read_codes h 0 (blocks h.shape) s)
+answer_of_codes h before s = result_map_both (λ said. said.values) (λ e. e) (said_behind h (before + length s) s)
 
 -- some bytes were taken, and a prefix of the text was written
 pub record LeavesRows (h : Header) (src_before src_now out_before out_now : Option (List ℕ)) (old : Window) : Type 0 where

@@ -1,14 +1,15 @@
 -- A stream that is restored where its values are of one type.
-use Rattle.std.specs.Prelude.{ℕ, ◌≡◌, ◌≢◌, ◌⊎◌, Bool, true, false, List, Option, None, Result, Ok, Err}
+use Rattle.std.specs.Prelude.{ℕ, ◌≡◌, ◌≢◌, ◌⊎◌, Bool, true, false, List, Option, Some, None, Result, Ok, Err}
 use Rattle.zf_base.specs.declared.lane.Ty.{Ty}
 use Rattle.zf_base.specs.declared.lane.Ty.TheVariants.{I32, I64}
 use Rattle.zf_header.specs.HeaderFaults.{header_fault}
 use Rattle.zf_dev.specs.Source.{Takes, IsAtEnd}
 use Rattle.zf_dev.specs.Sink.{Appends}
 use Rattle.zf_parse.specs.declared.fault.StreamFault.{StreamFault}
+use Rattle.zf_parse.specs.declared.fault.StreamFault.TheVariants as faults
 use Rattle.zf_stream.specs.Outcomes.{IsFromOutside, TakesFirst}
 use Rattle.zf_stream.specs.Headed.{prefix_room}
-use Rattle.zf_parse.specs.Parsing.{header_of, header_or, restore_answer, restored_text}
+use Rattle.zf_parse.specs.Parsing.{header_of, restore_answer, restored_text}
 
 -- a good stream is of the wanted type
 abbrev pub with_true : Result (Unit {0}) StreamFault → Result Bool StreamFault
@@ -24,7 +25,10 @@ answer_of_types I64 I32 answer = Ok false
 
 -- what `restore_where` answers for an input of these bytes: a fault of the header comes first, then the type
 abbrev pub typed_answer : Ty → List ℕ → Result Bool StreamFault
-typed_answer wanted bytes = header_or (header_fault bytes) (answer_of_types wanted (header_of bytes).ty (restore_answer bytes))
+typed_answer wanted bytes = elim (header_fault bytes) [
+  | Some f ↦ Err (faults.Header f)
+  | None ↦ answer_of_types wanted (header_of bytes).ty (restore_answer bytes)
+]
 
 -- some input has this refusal, or it comes from outside
 abbrev pub CanRefuseTyped : Ty → StreamFault → Type 0

@@ -1,6 +1,6 @@
 //! Laws of streams. Each is a function with no parameters and an empty body, whose contract is the theorem.
 
-ghost use Rattle.std.specs.Prelude.{◌≡◌, ◌<◌, ℕ, ℤ, List, map, length, None, Ok, All};
+ghost use Rattle.std.specs.Prelude.{◌≡◌, ◌↔◌, ◌<◌, ℕ, ℤ, List, map, length, None, Ok, Err, IsOk, All};
 ghost use Rattle.zf_spec.specs.Grid.{product, blocks, upto, extent_of, block_of, blocks_of};
 ghost use Rattle.zf_spec.specs.Codes.{round, round_prec};
 ghost use Rattle.zf_spec.specs.Stream.{values_from};
@@ -10,13 +10,14 @@ ghost use Rattle.zf_header.specs.declared.header.Mode.TheVariants.{Reversible, R
 ghost use Rattle.zf_header.specs.HeaderBits.{IsHeader};
 ghost use Rattle.zf_header.specs.HeaderFaults.{header_fault};
 ghost use Rattle.zf_parse.specs.Raw.{raw_len, raw_bytes, stream_of, stream_text};
-ghost use Rattle.zf_parse.specs.Parsing.{header_of, values_of_blocks, values_said, said_of, without_said, parse, restore_answer, restored_text};
+ghost use Rattle.zf_parse.specs.Parsing.{Said, header_of, values_of_blocks, said_of, parse, restore_answer, restored_text};
+ghost use Rattle.zf_parse.specs.declared.fault.StreamFault.{StreamFault};
 ghost use Rattle.zf_spec.specs.Numbers.{AreValues};
 
 /// What is restored of a stream is the raw bytes of its values.
 pub fn text_of_a_stream()
-    ensures { (bytes : List ℕ) (values : List ℤ) → values_said bytes ≡ Ok values → restored_text bytes
-        ≡ raw_bytes (header_of bytes) values }
+    ensures { (bytes : List ℕ) (said : Said) → parse bytes ≡ Ok said → restored_text bytes
+        ≡ raw_bytes said.header said.values }
 {}
 
 /// The values of an array are joined of its blocks.
@@ -33,7 +34,8 @@ pub fn length_of_what_is_restored()
 
 /// A stream is good exactly where it is parsed, and bad for the same fault.
 pub fn restore_answers_as_parse_does()
-    ensures { (bytes : List ℕ) → restore_answer bytes ≡ without_said (parse bytes) }
+    ensures ok { (bytes : List ℕ) → (restore_answer bytes ≡ Ok tt) ↔ IsOk (parse bytes) }
+    ensures err { (bytes : List ℕ) (e : StreamFault) → (restore_answer bytes ≡ Err e) ↔ (parse bytes ≡ Err e) }
 {}
 
 /// The stream of an array says its header, the codes of its blocks bit for bit, and its values, or what the fixed rate or the fixed precision

@@ -8,7 +8,7 @@ use Rattle.zf_dev.specs.Sink.{Appends, AppendsPrefix}
 use Rattle.zf_header.specs.declared.header.Header.{Header}
 use Rattle.zf_header.specs.HeaderBits.{IsRate}
 use Rattle.zf_parse.specs.declared.fault.StreamFault.{StreamFault}
-use Rattle.zf_parse.specs.Parsing.{Said, parse, without_said}
+use Rattle.zf_parse.specs.Parsing.{Said, parse}
 use Rattle.zf_parse.specs.ReadStreams.{IsFault}
 use Rattle.zf_index.specs.declared.fault.IndexFault.{IndexFault}
 use Rattle.zf_index.specs.Files.{HasHeader, stream_fault}
@@ -37,7 +37,7 @@ certified_all w h m (Ok c) (Err e) same plane error holds = tt
 certified_all w h m (Err e) answer same plane error holds = tt
 
 -- a good answer says something
-pub said_good : (answer : Result Said StreamFault) → without_said answer ≡ Ok tt → (said : Said) × (answer ≡ Ok said)
+pub said_good : (answer : Result Said StreamFault) → IsOk answer → (said : Said) × (answer ≡ Ok said)
 said_good (Ok said) good = (said, refl)
 said_good (Err e) good = absurd (cc)
 

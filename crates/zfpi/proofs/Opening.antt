@@ -1,6 +1,5 @@
 -- What a file is opened as, by what is known of its header and of the stream.
-use Rattle.std.proofs.Common.{◌≡◌, ℕ, ℤ, Bool, List, length, Some, None, Result, Ok, Err, refl, ap, sym, ◌∙◌}
-use Rattle.zf_spec.specs.Grid.{blocks}
+use Rattle.std.proofs.Common.{◌≡◌, ℕ, List, length, Some, None, Result, Ok, Err, refl, ap, sym, ◌∙◌}
 use Rattle.zf_spec.specs.Stream.{to_bits, mode_number}
 use Rattle.zf_header.specs.declared.header.Header.{Header}
 use Rattle.zf_header.specs.declared.header.Mode.{Mode}
@@ -9,7 +8,9 @@ use Rattle.zf_header.specs.declared.header.HeaderFault.{HeaderFault}
 use Rattle.zf_header.specs.HeaderBits.{IsRate, coding}
 use Rattle.zf_header.specs.HeaderFaults.{header_fault}
 use Rattle.zf_parse.specs.declared.fault.StreamFault.{StreamFault}
-use Rattle.zf_parse.specs.Parsing.{Said, header_of, code_bits, read_codes, codes_answer, header_or, values_said, codes_said, said_with, parse}
+use Rattle.zf_parse.specs.Parsing.{Said, header_of, code_bits, said_behind, parse}
+use Rattle.zf_parse.proofs.Steps.{header_or}
+use Rattle.zf_parse.proofs.Parts.{parts_of}
 use Rattle.zfpi.specs.declared.status.Status.TheVariants as statuses
 use Rattle.zfpi.specs.Opened.{said_or_status, said_at_rate, array_behind, array_in, stream_in}
 
@@ -19,8 +20,8 @@ unfolding array_in
 array_in-header bytes f is = ap (λ fault. array_behind fault (said_at_rate (header_of bytes).mode (parse bytes))) is
 
 pub stream_in-header : (bytes : List ℕ) (f : HeaderFault) → header_fault bytes ≡ Some f → stream_in bytes ≡ Err (statuses.Header f)
-unfolding stream_in parse values_said
-stream_in-header bytes f is = ap (λ fault. said_or_status (said_with (header_of bytes) (codes_said (header_of bytes) 0 (blocks (header_of bytes).shape) (code_bits bytes)) (header_or fault (codes_answer (header_of bytes) (length (to_bits bytes)) (read_codes (header_of bytes) 0 (blocks (header_of bytes).shape) (code_bits bytes)))))) is
+unfolding stream_in parse
+stream_in-header bytes f is = ap (λ fault. said_or_status (header_or fault (said_behind (header_of bytes) (length (to_bits bytes)) (code_bits bytes)))) is
 
 array_in-good : (bytes : List ℕ) (h : Header) → header_fault bytes ≡ None → h ≡ header_of bytes → array_in bytes ≡ said_at_rate h.mode (parse bytes)
 unfolding array_in
@@ -45,22 +46,9 @@ no_rate (Precision p) answer not = refl
 pub array_in-no_rate : (bytes : List ℕ) (h : Header) (number : ℕ) → header_fault bytes ≡ None → h ≡ header_of bytes → ((b : ℕ) → h.mode ≡ Rate b → ⊥) → number ≡ mode_number (coding h.mode) → array_in bytes ≡ Err (statuses.NotRate number)
 array_in-no_rate bytes h number good is not number_is = array_in-good bytes h good is ∙ (no_rate h.mode (parse bytes) not ∙ ap (λ n. Err (statuses.NotRate n)) (sym number_is))
 
--- the header of what is said, or else another
-header_in_said : Header → Result Said StreamFault → Header
-header_in_said other (Ok said) = said.header
-header_in_said other (Err e) = other
-
-header_in_said-with : (h : Header) (cs : List (List Bool)) (values : Result (List ℤ) StreamFault) → header_in_said h (said_with h cs values) ≡ h
-unfolding header_in_said
-header_in_said-with h cs (Ok values) = refl
-header_in_said-with h cs (Err e) = refl
-
 -- what a stream says has the header that it begins with
 pub header_said : (bytes : List ℕ) (said : Said) → parse bytes ≡ Ok said → said.header ≡ header_of bytes
-unfolding parse header_in_said
-header_said bytes said is =
-    let h = header_of bytes in
-    sym (ap (header_in_said h) is) ∙ header_in_said-with h (codes_said h 0 (blocks h.shape) (code_bits bytes)) (values_said bytes)
+header_said bytes said is = sym (ap (λ (t : Said). t.header) (parts_of bytes said is).is)
 
 -- it is a stream
 pub stream_in-said : (bytes : List ℕ) (answer : Result Said StreamFault) → parse bytes ≡ answer → stream_in bytes ≡ said_or_status answer

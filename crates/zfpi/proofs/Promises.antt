@@ -1,5 +1,5 @@
 -- From the promises of a command to those of the program.
-use Rattle.std.proofs.Common.{◌≡◌, ◌≢◌, ℕ, zero, suc, ℤ, ◌<◌, count_by, Bool, true, false, cond, ltb, length, take, ◌⊎◌, inl, inr, List, Option, Some, None, Result, Ok, Err, refl, ap, sym, subst, ◌∙◌, arith}
+use Rattle.std.proofs.Common.{◌≡◌, ◌≢◌, ℕ, zero, suc, ◌<◌, count_by, Bool, true, false, cond, ltb, length, take, ◌⊎◌, inl, inr, List, Option, Some, None, Result, Ok, Err, refl, ap, sym, subst, ◌∙◌, arith}
 use Rattle.std.proofs.lemmas.Bool.{ltb-true}
 use Rattle.zf_base.specs.declared.lane.Ty.{Ty}
 use Rattle.zf_base.specs.declared.lane.Ty.TheVariants.{I32, I64}
@@ -9,13 +9,12 @@ use Rattle.zf_dev.proofs.Counts.{HasCause-quiet}
 use Rattle.zf_header.specs.declared.header.HeaderFault.{HeaderFault}
 use Rattle.zf_header.specs.declared.header.Mode.{Mode}
 use Rattle.zf_header.specs.declared.header.Mode.TheVariants.{Reversible, Rate, Precision}
-use Rattle.zf_header.specs.declared.header.Header.{Header}
 use Rattle.zf_header.specs.HeaderFaults.{header_fault}
 use Rattle.zf_parse.specs.declared.fault.StreamFault.{StreamFault}
 use Rattle.zf_parse.specs.declared.fault.StreamFault.TheVariants as faults
 use Rattle.zf_parse.specs.Raw.{raw_len, stream_text}
-use Rattle.zf_spec.specs.Grid.{blocks}
-use Rattle.zf_parse.specs.Parsing.{Said, header_of, code_bits, codes_said, values_said, said_with, parse, without_values, without_said, restore_answer, restored_text}
+use Rattle.zf_parse.specs.Parsing.{Said, header_of, parse, restore_answer, restored_text}
+use Rattle.zf_parse.proofs.Steps.{without_said}
 use Rattle.zf_stream.proofs.OwnFaults.{is_foreign, blames_foreign, own_answer}
 use Rattle.zf_commands.specs.Steps.{is_refusal}
 use Rattle.zf_parse.proofs.StreamsBack.{answer-stream_text, text-reversible_text}
@@ -191,15 +190,8 @@ array_ends Ends header no_rate more None Reversible answer own = no_rate _
 array_ends Ends header no_rate more None (Precision p) answer own = no_rate _
 array_ends Ends header no_rate more None (Rate b) answer own = refusal_of FileEnds Ends more (said_or_status answer) (said_ends answer own)
 
-without_same : (h : Header) (cs : List (List Bool)) (said : Result (List ℤ) StreamFault) → without_values said ≡ without_said (said_with h cs said)
-without_same h cs (Ok values) = refl
-without_same h cs (Err e) = refl
-
 own_said : (bytes : List ℕ) → blames_foreign (without_said (parse bytes)) ≡ false
-unfolding parse
-own_said bytes =
-    let h = header_of bytes in
-    subst (λ answer. blames_foreign answer ≡ false) (without_same h (codes_said h 0 (blocks h.shape) (code_bits bytes)) (values_said bytes)) (own_answer bytes)
+own_said bytes = own_answer bytes
 
 array_in-ends : (bytes : List ℕ) → IsRefusal RunEnds (array_in bytes)
 unfolding array_in

@@ -7,7 +7,8 @@ use Rattle.zf_spec.proofs.Bytes.{length-to_bits}
 use Rattle.zf_bits.specs.Reader.{Reader, rest}
 use Rattle.zf_header.specs.declared.header.Header.{Header}
 use Rattle.zf_header.specs.HeaderBits.{IsMode}
-use Rattle.zf_parse.specs.Parsing.{codes_answer}
+use Rattle.zf_parse.specs.declared.fault.StreamFault.TheVariants as faults
+use Rattle.zf_parse.proofs.Steps.{codes_answer, behind_err}
 use Rattle.zf_parse.proofs.RateStreams.{read_codes-cut}
 use Rattle.zf_index.specs.declared.fault.IndexFault.TheVariants.{Truncated}
 use Rattle.zf_index.specs.Files.{IsIndexOf, stream_fault}
@@ -32,7 +33,7 @@ returns-then-whole-blocks-clause-fault c =
     let first : 0 + length left / rate ≡ whole = omega (arith, same) in
     let all : Reader = record { all = s; at = start } in
     fault_is file h c.requires.header start c.requires.start c.requires.within all (Truncated whole) refl refl
-    (inl (ap (codes_answer h (length s)) (read_codes-cut h rate 0 (blocks h.shape) left c.requires.rate some cut ∙ ap (λ (k : ℕ). Err k) first)))
+    (inl (behind_err h (length s) left (faults.Truncated whole) (ap (codes_answer h (length s)) (read_codes-cut h rate 0 (blocks h.shape) left c.requires.rate some cut ∙ ap (λ (k : ℕ). Err k) first))))
 
 -- what stands behind the codes, which are all there
 record Behind (file : List ℕ) (h : Header) (rate start : ℕ) (r : Reader) : Type 0 where

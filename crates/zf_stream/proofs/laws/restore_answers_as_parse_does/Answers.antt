@@ -1,13 +1,20 @@
-use Rattle.std.proofs.Common.{◌≡◌, refl, ℤ, Bool, Result, Ok, Err, List}
-use Rattle.zf_header.specs.declared.header.Header.{Header}
+use Rattle.std.proofs.Common.{◌≡◌, ◌↔◌, refl, ap, Result, Ok, Err}
+use Rattle.std.specs.Prelude.{IsOk}
 use Rattle.zf_parse.specs.declared.fault.StreamFault.{StreamFault}
-use Rattle.zf_parse.specs.Parsing.{values_said, said_with, without_values, without_said, parse}
+use Rattle.zf_parse.specs.Parsing.{Said, parse}
+use Rattle.zf_parse.proofs.Steps.{without_said}
 use Rattle.zf_stream.proofs.laws.restore_answers_as_parse_does.Goals as goal
 
-same : (h : Header) (cs : List (List Bool)) (said : Result (List ℤ) StreamFault) → without_values said ≡ without_said (said_with h cs said)
-same h cs (Ok values) = refl
-same h cs (Err e) = refl
+ok_same : (answer : Result Said StreamFault) → (without_said answer ≡ Ok tt) ↔ IsOk answer
+ok_same (Ok said) = (λ e. refl, λ e. refl)
+ok_same (Err f) = (λ e. absurd (cc), λ e. absurd (cc))
 
-pub returns : goal.returns
-unfolding parse
-returns c bytes = same _ _ (values_said bytes)
+err_same : (answer : Result Said StreamFault) (e : StreamFault) → (without_said answer ≡ Err e) ↔ (answer ≡ Err e)
+err_same (Ok said) e = (λ is. absurd (cc), λ is. absurd (cc))
+err_same (Err f) e = (λ is. let same : f ≡ e = cc in ap (λ (g : StreamFault). Err g) same, λ is. let same : f ≡ e = cc in ap (λ (g : StreamFault). Err g) same)
+
+pub returns-clause-ok : goal.returns-clause-ok
+returns-clause-ok c bytes = ok_same (parse bytes)
+
+pub returns-clause-err : goal.returns-clause-err
+returns-clause-err c bytes e = err_same (parse bytes) e

@@ -1,5 +1,5 @@
--- A code that is cut behind its last bit reads the same.
-use Rattle.std.proofs.Common.{◌≡◌, sym, ap, subst, ◌∙◌, ℕ, ◌+◌, ◌^◌, ◌≤◌, min, Bool, false, cond, ltb, ℤ, Option, Some, None, List, [], length, take, drop, length-drop, take-take, arith}
+-- A code that is cut behind its last bit reads the same, and so it does with any bits behind it.
+use Rattle.std.proofs.Common.{◌≡◌, refl, sym, ap, subst, ◌∙◌, ℕ, ◌+◌, ◌^◌, ◌≤◌, min, Bool, true, false, cond, ltb, ℤ, Option, Some, None, List, [], ◌++◌, length, take, drop, length-drop, take-take, arith}
 use Rattle.std.specs.Int.{Width}
 use mir.Val.{bits}
 use Rattle.std.proofs.lemmas.Bool.{le-ltb, ltb-false}
@@ -9,10 +9,25 @@ use Rattle.zf_spec.specs.Planes.{code}
 use Rattle.zf_spec.specs.ReadPlanes.{Begins, first_bits, planes_in}
 use Rattle.zf_spec.specs.Lorenzo.{unlorenzo}
 use Rattle.zf_spec.specs.Lift.{unlift}
-use Rattle.zf_spec.specs.Codes.{count_bits, coefficients_of, existing_values, read_rev, read_prec}
+use Rattle.zf_spec.specs.Codes.{count_bits, coefficients_of, existing_values, read_rev, read_rate, read_prec}
 use Rattle.zf_spec.proofs.Beginnings.{begins_is_first, begins_itself, first_bits-append}
-use Rattle.zf_index.proofs.Longest.{found_some}
 use Rattle.zf_spec.proofs.Full.{length-planes_in, planes_in-length, full_begins, full_only}
+use Rattle.zf_header.specs.declared.header.Mode.{Mode}
+use Rattle.zf_header.specs.declared.header.Mode.TheVariants.{Reversible, Rate, Precision}
+use Rattle.zf_parse.specs.Parsing.{read_code}
+use Rattle.zf_parse.proofs.TextOfParse.{read_code_more}
+
+-- what is found where enough bits are there
+pub record Found {A : Type 0} (short : Bool) (a : A) (n : ℕ) (b : A) (k : ℕ) : Type 0 where
+  pub enough : short ≡ false
+  pub same : a ≡ b
+  pub count : n ≡ k
+
+pub found_some : {A : Type 0} (short : Bool) (a b : A) (n k : ℕ) → cond {A = Option (A × ℕ)} short None (Some (a, n)) ≡ Some (b, k) → Found short a n b k
+found_some true a b n k e = absurd cc
+found_some {A} false a b n k e =
+    let same : (a, n) ≡ (b, k) = cc in
+    record { enough = refl; same = ap (λ (c : A × ℕ). c.0) same; count = ap (λ (c : A × ℕ). c.1) same }
 
 -- bits that begin others, as far as those go, are their prefix
 begins_take : (a s : List Bool) → length a ≤ length s → Begins a s → a ≡ take (length a) s
@@ -20,7 +35,7 @@ begins_take a s within begins =
     begins_is_first a s begins ∙ ap (λ (t : List Bool). first_bits (length a) t) (sym (append-nil s)) ∙ first_bits-append s [] (length a) within
 
 -- planes are known from the bits of their code
-pub planes_prefix : (p size : ℕ) (s : List Bool) → length (code (planes_in p size s)) ≤ length s → planes_in p size (take (length (code (planes_in p size s))) s) ≡ planes_in p size s
+planes_prefix : (p size : ℕ) (s : List Bool) → length (code (planes_in p size s)) ≤ length s → planes_in p size (take (length (code (planes_in p size s))) s) ≡ planes_in p size s
 planes_prefix p size s within =
     let ps = planes_in p size s in
     let prefix : code ps ≡ take (length (code ps)) s = begins_take (code ps) s within (full_begins p size s) in
@@ -38,7 +53,7 @@ found_again {A} of prefix s t ps qs b k long same count is =
     ap Answer same ∙ ap (λ x. cond {A = Option (A × ℕ)} x None (Some (of ps, prefix + length (code ps)))) enough
     ∙ ap (λ (a : A). Some (a, prefix + length (code ps))) is ∙ ap (λ n. Some (b, n)) count
 
-pub read_rev-prefix : (w : Width) (es : List ℕ) (s : List Bool) (block : List ℤ) (k : ℕ) → read_rev w es s ≡ Some (block, k) → read_rev w es (take k s) ≡ Some (block, k)
+read_rev-prefix : (w : Width) (es : List ℕ) (s : List Bool) (block : List ℤ) (k : ℕ) → read_rev w es s ≡ Some (block, k) → read_rev w es (take k s) ≡ Some (block, k)
 unfolding read_rev
 read_rev-prefix w es s block k e =
     let n = count_bits w in
@@ -59,7 +74,7 @@ read_rev-prefix w es s block k e =
     ∙ planes_prefix p size rest (omega (arith, enough, length-drop n s)) in
     found_again of n s t ps qs block k long same is.count is.same
 
-pub read_prec-prefix : (w : Width) (p : ℕ) (es : List ℕ) (s : List Bool) (block : List ℤ) (k : ℕ) → read_prec w p es s ≡ Some (block, k) → read_prec w p es (take k s) ≡ Some (block, k)
+read_prec-prefix : (w : Width) (p : ℕ) (es : List ℕ) (s : List Bool) (block : List ℤ) (k : ℕ) → read_prec w p es s ≡ Some (block, k) → read_prec w p es (take k s) ≡ Some (block, k)
 unfolding read_prec
 read_prec-prefix w p es s block k e =
     let size = 4 ^ length es in
@@ -74,3 +89,26 @@ read_prec-prefix w p es s block k e =
     let none : (n : ℕ) → 0 + n ≡ n = λ n. omega arith in
     let Answer : ℕ → Option (List ℤ × ℕ) = λ n. cond {A = Option (List ℤ × ℕ)} (ltb (length t) n) None (Some (of (planes_in q size t), n)) in
     ap Answer (sym (none (length (code (planes_in q size t))))) ∙ found_again of 0 s t ps (planes_in q size t) block k long same (none (length (code ps)) ∙ is.count) is.same
+
+read_rate-prefix : (w : Width) (b : ℕ) (es : List ℕ) (s : List Bool) (block : List ℤ) (k : ℕ) → read_code w (Rate b) es s ≡ Some (block, k) → read_code w (Rate b) es (take k s) ≡ Some (block, k)
+read_rate-prefix w b es s block k e =
+    let is = found_some (ltb (length s) b) (read_rate w es (take b s)) block b k e in
+    let enough : b ≤ length s = ltb-false (length s) b is.enough in
+    let t = take k s in
+    let long : ltb (length t) b ≡ false = le-ltb (length t) b (omega (arith, enough, is.count, length-take-le k s (omega (arith, enough, is.count)))) in
+    let same : take b t ≡ take b s = take-take b k s (omega (arith, is.count)) in
+    ap (λ x. cond {A = Option (List ℤ × ℕ)} x None (Some (read_rate w es (take b t), b))) long
+    ∙ ap (λ (u : List Bool). Some (read_rate w es u, b)) same
+    ∙ ap (λ (v : List ℤ). Some (v, b)) is.same ∙ ap (λ n. Some (block, n)) is.count
+
+pub read_code-prefix : (w : Width) (mode : Mode) (es : List ℕ) (s : List Bool) (block : List ℤ) (k : ℕ) → read_code w mode es s ≡ Some (block, k) → read_code w mode es (take k s) ≡ Some (block, k)
+read_code-prefix w Reversible es s block k e = read_rev-prefix w es s block k e
+read_code-prefix w (Rate b) es s block k e = read_rate-prefix w b es s block k e
+read_code-prefix w (Precision p) es s block k e = read_prec-prefix w p es s block k e
+
+-- a code in front of bits is whole: whatever follows it, just its bits are read
+pub read_code_whole : (w : Width) (mode : Mode) (es : List ℕ) (s : List Bool) (block : List ℤ) (k : ℕ) → read_code w mode es s ≡ Some (block, k)
+    → (k ≤ length s) × ((more : List Bool) → read_code w mode es (take k s ++ more) ≡ Some (block, length (take k s)))
+read_code_whole w mode es s block k e =
+    let within : k ≤ length s = (read_code_more w mode es s [] (block, k) e).1 in
+    (within, λ more. (read_code_more w mode es (take k s) more (block, k) (read_code-prefix w mode es s block k e)).0 ∙ ap (λ n. Some (block, n)) (sym (length-take-le k s within)))

@@ -1,0 +1,139 @@
+-- What reading gives is of the type.
+use Rattle.std.proofs.Common.{◌≡◌, ◌⊎◌, inl, inr, sym, subst, ℕ, zero, suc, ◌*◌, ◌/◌, ◌%◌, ◌^◌, ◌-◌, ◌+◌, ◌<◌, ◌≤◌, min, Bool, true, false, cond, ltb, ℤ, pos, FitsSigned, Some, List, [], map, length, take, drop, get_or, All, arith}
+use Rattle.std.proofs.lemmas.Bool.{cases_lt}
+use Rattle.std.proofs.lemmas.List.{get_or_past}
+use Rattle.std.proofs.lemmas.List.Elements.{All-nil, All-get_or, All-map}
+use Rattle.std.specs.List.{position_or_len}
+use Rattle.std.specs.Prelude.{◌==◌}
+use Rattle.std.specs.Int.{Width}
+use mir.Val.{bits}
+use Rattle.zf_spec.specs.Numbers.{wrap, value_of, number}
+use Rattle.zf_spec.specs.Grid.{upto, product, coordinates, indices, is_inside}
+use Rattle.zf_spec.specs.Ranks.{order}
+use Rattle.zf_spec.specs.Lorenzo.{plain_choose, weight, weighted_sum, unlorenzo}
+use Rattle.zf_spec.specs.Lift.{unlift_line, line_value, along, along_axes_back, unlift}
+use Rattle.zf_spec.specs.Planes.{digits_in_planes, code}
+use Rattle.zf_spec.specs.Kept.{kept_planes}
+use Rattle.zf_spec.specs.ReadPlanes.{planes_in}
+use Rattle.zf_spec.specs.Codes.{count_bits, coefficients_of, existing_values, read_rev, read_rate, read_prec}
+use Rattle.zf_spec.proofs.Wrapping.{wrap_fits, zero_fits}
+use Rattle.zf_spec.proofs.Negabinary.{value_of_fits}
+use Rattle.zf_spec.proofs.Padding.{get_or_all}
+use Rattle.zf_base.specs.Places.{block_number, place_of}
+use Rattle.zf_header.specs.declared.header.Mode.{Mode}
+use Rattle.zf_header.specs.declared.header.Mode.TheVariants.{Reversible, Rate, Precision}
+use Rattle.zf_parse.specs.Parsing.{read_code, values_of_blocks}
+use Rattle.zf_parse.proofs.Prefixes.{found_some}
+
+module _ (w : Width) where
+  -- values of the type
+  abbrev Fit : List ℤ → Type 0
+  Fit values = All (λ v. FitsSigned w v) values
+
+  -- values at other places, and 0 where there is none
+  placed_fit : (at : ℕ → ℕ) (n : ℕ) (values : List ℤ) → Fit values → Fit (map (λ p. get_or values (at p) (pos 0)) (upto n))
+  placed_fit at n values fit =
+      All-map (λ v. FitsSigned w v) (λ p. get_or values (at p) (pos 0)) (upto n)
+      (λ k e inside. get_or_all (λ v. FitsSigned w v) values (at (get_or (upto n) k e)) (zero_fits w) fit)
+
+  existing_fit : (es : List ℕ) (block : List ℤ) → Fit block → Fit (existing_values es block)
+  unfolding existing_values
+  existing_fit es block fit =
+      let n = 4 ^ length es in
+      All-map (λ v. FitsSigned w v) (λ p. cond (is_inside es (indices (length es) p)) (get_or block p (pos 0)) (pos 0)) (upto n)
+      (λ k e inside. by (get_or (upto n) k e) (is_inside es (indices (length es) (get_or (upto n) k e))))
+    where
+      by : (p : ℕ) (t : Bool) → FitsSigned w (cond t (get_or block p (pos 0)) (pos 0))
+      by p true = get_or_all (λ v. FitsSigned w v) block p (zero_fits w) fit
+      by p false = zero_fits w
+
+  coefficients_fit : (d : ℕ) (planes : List (List Bool)) → Fit (coefficients_of w d planes)
+  coefficients_fit d planes =
+      let ds = digits_in_planes (bits w) (4 ^ d) planes in
+      placed_fit (λ p. position_or_len (λ q. q == p) (order d)) (4 ^ d) (map (value_of w) ds)
+      (All-map (λ v. FitsSigned w v) (value_of w) ds (λ k e inside. value_of_fits w (get_or ds k e)))
+
+  unlorenzo_fits : (d : ℕ) (block : List ℤ) → Fit (unlorenzo w d block)
+  unfolding unlorenzo
+  unlorenzo_fits d block =
+      All-map (λ v. FitsSigned w v) (λ m. wrap w (weighted_sum (weight plain_choose d m) 0 block)) (upto (4 ^ d))
+      (λ k e inside. wrap_fits w (weighted_sum (weight plain_choose d (get_or (upto (4 ^ d)) k e)) 0 block))
+
+  -- a line of the inverse lift
+  line_fits : (a b c d : ℤ) (i : ℕ) → i < 4 → FitsSigned w (get_or (unlift_line w a b c d) i (pos 0))
+  line_fits a b c d zero lt = wrap_fits w _
+  line_fits a b c d (suc zero) lt = wrap_fits w _
+  line_fits a b c d (suc (suc zero)) lt = wrap_fits w _
+  line_fits a b c d (suc (suc (suc zero))) lt = wrap_fits w _
+  line_fits a b c d (suc (suc (suc (suc i)))) lt = absurd (omega arith)
+
+  along_fits : (step : ℕ) (block : List ℤ) → Fit (along (unlift_line w) step block)
+  unfolding along
+  along_fits step block =
+      All-map (λ v. FitsSigned w v) (line_value (unlift_line w) step block) (upto (length block)) (λ k e inside. value (get_or (upto (length block)) k e))
+    where
+      value : (p : ℕ) → FitsSigned w (line_value (unlift_line w) step block p)
+      value p =
+          let i = p / step % 4 in
+          let at : ℕ → ℤ = λ k. get_or block (p - step * i + step * k) (pos 0) in
+          line_fits (at 0) (at 1) (at 2) (at 3) i (omega arith)
+
+  axes_fit : (step d : ℕ) (block : List ℤ) → Fit block → Fit (along_axes_back (unlift_line w) step d block)
+  axes_fit step zero block fit = fit
+  axes_fit step (suc d) block fit = along_fits step (along_axes_back (unlift_line w) (4 * step) d block)
+
+  unlift_fits : (d : ℕ) (block : List ℤ) → Fit block → Fit (unlift w d block)
+  unlift_fits d block fit = axes_fit 1 d block fit
+
+  -- ---- what reading a code gives
+
+  lifted_fits : (es : List ℕ) (planes : List (List Bool)) → Fit (existing_values es (unlift w (length es) (coefficients_of w (length es) planes)))
+  lifted_fits es planes = existing_fit es (unlift w (length es) (coefficients_of w (length es) planes)) (unlift_fits (length es) (coefficients_of w (length es) planes) (coefficients_fit (length es) planes))
+
+  rev_fits : (es : List ℕ) (s : List Bool) (block : List ℤ) (k : ℕ) → read_rev w es s ≡ Some (block, k) → Fit block
+  unfolding read_rev
+  rev_fits es s block k e =
+      let d = length es in
+      let ps = planes_in (number (take (count_bits w) s) + 1) (4 ^ d) (drop (count_bits w) s) in
+      let len = count_bits w + length (code ps) in
+      let values = existing_values es (unlorenzo w d (coefficients_of w d ps)) in
+      let is = found_some (ltb (length s) len) values block len k e in
+      subst (λ vs. Fit vs) is.same (existing_fit es (unlorenzo w d (coefficients_of w d ps)) (unlorenzo_fits d (coefficients_of w d ps)))
+
+  prec_fits : (p : ℕ) (es : List ℕ) (s : List Bool) (block : List ℤ) (k : ℕ) → read_prec w p es s ≡ Some (block, k) → Fit block
+  unfolding read_prec
+  prec_fits p es s block k e =
+      let d = length es in
+      let ps = planes_in (min p (bits w)) (4 ^ d) s in
+      let is = found_some (ltb (length s) (length (code ps))) (existing_values es (unlift w d (coefficients_of w d ps))) block (length (code ps)) k e in
+      subst (λ vs. Fit vs) is.same (lifted_fits es ps)
+
+  read_rate_fits : (es : List ℕ) (s : List Bool) → Fit (read_rate w es s)
+  unfolding read_rate
+  read_rate_fits es s = lifted_fits es (kept_planes (length s) (planes_in (bits w) (4 ^ length es) s))
+
+  pub code_fits : (mode : Mode) (es : List ℕ) (s : List Bool) (block : List ℤ) (k : ℕ) → read_code w mode es s ≡ Some (block, k) → All (λ v. FitsSigned w v) block
+  code_fits Reversible es s block k e = rev_fits es s block k e
+  code_fits (Precision p) es s block k e = prec_fits p es s block k e
+  code_fits (Rate b) es s block k e =
+      let is = found_some (ltb (length s) b) (read_rate w es (take b s)) block b k e in
+      subst (λ vs. Fit vs) is.same (read_rate_fits es (take b s))
+
+  -- ---- the values of an array
+
+  -- a block among those of the type, and an empty one where there is none
+  block_fits : (bs : List (List ℤ)) (b : ℕ) → All Fit bs → Fit (get_or bs b [])
+  block_fits bs b fit = by (cases_lt b (length bs))
+    where
+      by : (b < length bs) ⊎ (length bs ≤ b) → Fit (get_or bs b [])
+      by (inl lt) = All-get_or Fit bs b [] lt fit
+      by (inr le) = subst (λ vs. Fit vs) (sym (get_or_past bs b [] le)) (All-nil (λ v. FitsSigned w v))
+
+  pub joined_fit : (ns : List ℕ) (bs : List (List ℤ)) → All (λ vs. All (λ v. FitsSigned w v) vs) bs → All (λ v. FitsSigned w v) (values_of_blocks ns bs)
+  joined_fit ns bs fit =
+      let n = product ns in
+      let value : ℕ → ℤ = λ k. get_or (get_or bs (block_number ns (coordinates ns k)) []) (place_of (coordinates ns k)) (pos 0) in
+      All-map (λ v. FitsSigned w v) value (upto n)
+      (λ k e inside.
+      let ps = coordinates ns (get_or (upto n) k e) in
+      get_or_all (λ v. FitsSigned w v) (get_or bs (block_number ns ps) []) (place_of ps) (zero_fits w) (block_fits bs (block_number ns ps) fit))
