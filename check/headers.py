@@ -1,5 +1,6 @@
 #!/usr/bin/env python3
-"""A header and little behind it take no memory for values that the stream cannot hold.
+"""A header and little behind it take no memory for values that the stream cannot hold, and lines of a cache none
+beyond the number of blocks.
 
     python3 check/headers.py [PROGRAM] [--seed N] [--quick]
 
@@ -51,9 +52,28 @@ def peaks(check):
                 check.expect(ended.code == 5 and held <= most, what, ended)
 
 
+def lines_beyond(check):
+    """Lines of a cache beyond the number of blocks have no values: 16 views of 65536 lines, over 16 blocks."""
+    measure = Measure(check)
+    if not measure.is_possible():
+        return
+    folder = check.folder()
+    check.run(["new", "a", "int64", "64x4x4x4", "256"], folder=folder)
+    for words, script in (
+        (["run", "a"], b"split 16 65536\n@0 stats\n"),
+        (["run", "a", "lines", "65536"], b"set 0,0,0,0 1\nlines 65536\nresize 60x4x4x4\nstats\n"),
+        (["run", "a", "twoway", "65536"], b"set 0,0,0,0 1\nlines 32768\nstats\n"),
+        (["look", "a", "lines", "65536"], b"get 0,0,0,0\nlines 32768\nstats\n"),
+    ):
+        ended, held, seconds = measure.run(words, script, folder)
+        what = f"{' '.join(words)}: {held} KB, {seconds:.2f} s"
+        check.expect(ended.code == 0 and held <= 2 * ROOM, what, ended)
+
+
 def main():
     check = Check(__doc__)
     peaks(check)
+    lines_beyond(check)
     check.end()
 
 

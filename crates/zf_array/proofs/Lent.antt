@@ -15,10 +15,10 @@ use Rattle.zf_cached.specs.State.{State}
 use Rattle.zf_cached.specs.Touch.{touch_for_writing, with_values}
 use Rattle.zf_cached.specs.Changes.{zeros}
 use Rattle.zf_cached.proofs.States.{same_state}
-use Rattle.zf_lines.specs.Rows.{line_at, part, over, over_part, HasSize}
+use Rattle.zf_lines.specs.Rows.{line_at, part, over, over_part}
 use Rattle.zf_lines.specs.Rows as rows
 use Rattle.zf_lines.proofs.Sizes.{length-over}
-use Rattle.zf_cache.specs.Kept.{Kept, IsDirty, tag_at, block_in, line_of, dirty_tag}
+use Rattle.zf_cache.specs.Kept.{Kept, HasRow, IsDirty, tag_at, block_in, line_of, dirty_tag}
 use Rattle.zf_cache.specs.Standing.{state_of}
 use Rattle.zf_cache.specs.Loans.{StandsFor}
 use Rattle.zf_cache.proofs.Steps.{part_written}
@@ -203,19 +203,12 @@ module _ {X : Type 0} (value : X → ℤ) (w : Width) (d : ℕ) (s : Stored) (c 
   unfolding state_of
   tag_is b dirty = eqb-true (tag_at c.tags (line_of c b)) (dirty_tag b) (sym (ap (λ (u : State (List Bool)). u.dirty b) (state_now value w d s c room joined now is)) ∙ dirty)
 
-  module _ (b a n : ℕ) (dirty : (state now).dirty b ≡ true) (within : a + n ≤ 4 ^ d) (size : HasSize c.lines (length c.tags) (4 ^ d)) where
+  module _ (b a n : ℕ) (dirty : (state now).dirty b ≡ true) (within : a + n ≤ 4 ^ d) (size : HasRow c b (4 ^ d)) where
     names_b : block_in (tag_at c.tags (line_of c b)) ≡ Some b
     names_b = ap block_in (tag_is b dirty) ∙ names-dirty b
 
-    in_line : line_of c b < length c.tags
-    in_line = by (cases_lt (line_of c b) (length c.tags))
-      where
-        by : (line_of c b < length c.tags) ⊎ (length c.tags ≤ line_of c b) → line_of c b < length c.tags
-        by (inl h) = h
-        by (inr h) = let none = get_or_past c.tags (line_of c b) 0 h in absurd (omega (arith, none, tag_is b dirty))
-
     row_whole : length (line_at c.lines (line_of c b)) ≡ (format_of s).block_len
-    row_whole = size.1 (line_of c b) in_line ∙ ap (λ k. 4 ^ k) (sym joined.dims) ∙ sym (block_len_is s)
+    row_whole = size.size.1 (line_of c b) size.there ∙ ap (λ k. 4 ^ k) (sym joined.dims) ∙ sym (block_len_is s)
 
     row_within : a + n ≤ (format_of s).block_len
     row_within = subst (λ k. a + n ≤ k) (ap (λ k. 4 ^ k) (sym joined.dims) ∙ sym (block_len_is s)) within
@@ -227,7 +220,7 @@ module _ {X : Type 0} (value : X → ℤ) (w : Width) (d : ℕ) (s : Stored) (c 
 
     written : (ws : List X) → StandsFor value (record c { lines = rows.with_part c.lines (line_of c b) a n ws }) (format_of s) (code_at s)
         (with_values (state_of value c (format_of s) (code_at s)) b (existing_of (format_of s) b (map value (over_part (line_at c.lines (line_of c b)) a n ws))))
-    written ws = part_written value (format_of s) (code_at s) c b a n ws joined.fits (tag_is b dirty) size.0
+    written ws = part_written value (format_of s) (code_at s) c b a n ws joined.fits (tag_is b dirty) size.there
 
     -- the fields stay joined, whatever is written
     pub joined_lent : (ws : List X) → IsJoined value w d s (record c { lines = rows.with_part c.lines (line_of c b) a n ws }) room

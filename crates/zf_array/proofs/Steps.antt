@@ -22,12 +22,13 @@ use Rattle.zf_cached.specs.Changes.{opened, raised, resized, zeros}
 use Rattle.zf_cached.specs.Arrays.{rate_coding, array_format, zero_codes, open_array, new_array, codes_of, saved_file}
 use Rattle.zf_cached.proofs.States.{same_state}
 use Rattle.zf_cache.specs.Kept.{Kept, IsEmpty, tag_at, block_in, dirty_tag}
-use Rattle.zf_cache.specs.Standing.{state_of, Fits}
+use Rattle.zf_cache.specs.Standing.{state_of, Fits, HasRoom}
 use Rattle.zf_cache.proofs.Stands.{standing}
 use Rattle.zf_cache.proofs.Steps.{empty_fits}
 use Rattle.zf_cache.proofs.Touches.{state_is, no_tag, all_meant}
 use Rattle.zf_store.specs.Stored as store
 use Rattle.zf_store.specs.Stored.{Stored, code_at, format_of, frame_of, rate_of}
+use Rattle.zf_store.proofs.Kept.{blocks_is}
 use Rattle.zf_array.specs.Standing.{Held, stored, format, state, array_of, block_at, place_at}
 use Rattle.zf_array.specs.Parts.{held_by, IsJoined}
 use Rattle.zf_array.proofs.Standing.{zero_meant, stored_held, state_held, state_now, format_now, header_now, header_kept, state_after}
@@ -87,15 +88,19 @@ module _ {X : Type 0} (value : X → ℤ) (w : Width) (d : ℕ) (s : Stored) (c 
 
 -- ---- an array as it is made
 
+-- room for the blocks of its sizes
+pub room_of : {X : Type 0} (s : Stored) (c : Kept X) (n : ℕ) → HasRoom c n → n ≡ blocks s.header.shape → HasRoom c (format_of s).blocks
+room_of s c n room is = subst (λ m. HasRoom c m) (is ∙ sym (blocks_is s)) room
+
 module _ {X : Type 0} (value : X → ℤ) where
   -- an empty cache and a store stand for an array as it is opened
-  pub opens : (s : Stored) (c : Kept X) (n : ℕ) → length s.codes ≡ blocks s.header.shape → IsEmpty c n → c.counts ≡ no_counts
+  pub opens : (s : Stored) (c : Kept X) (n : ℕ) → length s.codes ≡ blocks s.header.shape → IsEmpty c n → c.counts ≡ no_counts → HasRoom c (format_of s).blocks
       → state (held_by value s c) ≡ opened (format (held_by value s c)) (code_at (stored (held_by value s c))) n
   unfolding opened
-  opens s c n count empty counts =
+  opens s c n count empty counts room =
       let f = format_of s in
       let k = code_at s in
-      let fits = empty_fits value f k c n empty in
+      let fits = empty_fits value f k c n empty room in
       let none : ℕ = 0 in
       let long : length c.tags ≡ n = ap length empty ∙ length-replicate n none in
       let made : standing value f n c.lines (replicate n 0) no_counts k ≡ opened f k n =
@@ -109,15 +114,15 @@ module _ {X : Type 0} (value : X → ℤ) where
 
   -- an empty cache over zeros stands for an array as it is resized
   pub resizes : (old : Stored) (c : Kept X) (t : Stored) (e : Kept X) (ty : Ty) (ns : List ℕ) (budget : ℕ) → t ≡ store.zeros ty ns budget
-      → IsEmpty e (length c.tags) → e.counts ≡ c.counts
+      → IsEmpty e (length c.tags) → e.counts ≡ c.counts → HasRoom e (format_of t).blocks
       → state (held_by value t e) ≡ resized (format (held_by value t e)) (replicate budget false) (state_of value c (format_of old) (code_at old))
   unfolding resized state_of
-  resizes old c t e ty ns budget is empty counts =
+  resizes old c t e ty ns budget is empty counts room =
       let f = format_of t in
       let k = code_at t in
       let n = length c.tags in
       let count : length t.codes ≡ blocks t.header.shape = subst (λ (u : Stored). length u.codes ≡ blocks u.header.shape) (sym is) (length-replicate (blocks ns) (replicate budget false)) in
-      let fits = empty_fits value f k e n empty in
+      let fits = empty_fits value f k e n empty room in
       let none : ℕ = 0 in
       let long : length e.tags ≡ n = ap length empty ∙ length-replicate n none in
       let code : (b : ℕ) → code_at t b ≡ replicate budget false = λ b. ap (λ (u : Stored). code_at u b) is ∙ zero_code ns budget b (cases_lt b (blocks ns)) in

@@ -72,7 +72,8 @@ impl<T: Lane, const D: usize> Array<T, D> {
         ensures state { IfOk result (λ a. state a ≡ new_array T.width bits shape lines) }
     {
         let store = Store::zeros(alloc, shape, bits)?;
-        let cache = Cache::new(alloc, raised(lines))?;
+        let blocks = shape.blocks();
+        let cache = Cache::for_blocks(alloc, raised(lines), blocks)?;
         let buffer = vec![in alloc; 0; rate_bytes(&store.header()) as usize]?;
         Ok(Array {
             alloc,
@@ -105,7 +106,8 @@ impl<T: Lane, const D: usize> Array<T, D> {
         ensures fault { IfErr result (λ e. IsFault (parse file.items) (stream_fault e)) }
     {
         let store = Store::from_file(alloc, h, &file)?;
-        let Ok(cache) = Cache::new(alloc, raised(lines)) else {
+        let blocks = h.shape.blocks();
+        let Ok(cache) = Cache::for_blocks(alloc, raised(lines), blocks) else {
             return Err(StoreFault::Memory);
         };
         Ok(Array {
@@ -270,7 +272,9 @@ impl<T: Lane, const D: usize> Array<T, D> {
     {
         let store = Store::zeros(self.alloc, shape, self.bits())?;
         let buffer = vec![in self.alloc; 0; rate_bytes(&store.header()) as usize]?;
-        self.cache.discard();
+        let blocks = shape.blocks();
+        let cache = self.cache.emptied_for(blocks)?;
+        self.cache = cache;
         self.store = store;
         self.buffer = buffer;
         Ok(())
@@ -367,7 +371,7 @@ mod tests {
     use std::test::Fail;
 
     // No copy of the values stands beside words and lines: after each block was written back once, the buffer is as long as the file.
-    // The cache is told no number of blocks, and the store has a test of its own.
+    // The cache has one line, and the store has a test of its own.
     #[test]
     fn array_fields(rt: HostRuntime) -> Result<(), Fail> {
         let shape = Shape::new(1, 64, 1, 1, 1).ok().ok_or("a shape")?;

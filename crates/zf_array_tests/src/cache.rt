@@ -80,7 +80,6 @@ fn goes(
             Ok(true)
         }
         Act::Discard => {
-            empty_caches_fit::<i32, Counted>();
             cache.discard();
             Ok(true)
         }
@@ -200,6 +199,21 @@ fn a_cache_that_only_reads(rt: HostRuntime) -> Result<(), Fail> {
     cache.relined_read(8)?;
     assert!(rt; (whole, cache.lines()) == (4, 8));
     assert!(rt; cache.stats() == stats(2, 2, 0));
+    Ok(())
+}
+
+// The second line has no values, as there is one block; it is a number alone.
+#[test]
+fn a_cache_of_more_lines_than_blocks(rt: HostRuntime) -> Result<(), Fail> {
+    let mut back = Counted::new(rt.alloc(), 1)?;
+    let mut cache = Cache::<i32, 1>::for_blocks(rt.alloc(), 2, 1)?;
+    empty_caches_fit::<i32, Counted>();
+    cache.set(&mut back, 0, 2, 7);
+    let kept = cache.get(&mut back, 0, 2);
+    cache.flush(&mut back);
+    let rounded = cache.get(&mut back, 0, 2);
+    assert!(rt; (cache.lines(), kept, rounded) == (2, 7, 6));
+    assert!(rt; cache.stats() == stats(1, 2, 1));
     Ok(())
 }
 

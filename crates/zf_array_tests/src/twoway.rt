@@ -11,7 +11,7 @@ use std::test::Fail;
 use zf_base::{Lane, Reading};
 use zf_cache::{Counted, raised};
 use zf_twoway::TwoWay;
-use zf_twoway::laws::empty_caches_fit;
+use zf_twoway::laws::{discards, empty_caches_fit};
 
 // A call of a cache with its answer, or what then holds.
 enum Act {
@@ -66,7 +66,7 @@ fn goes(
             Ok(true)
         }
         Act::Discard => {
-            empty_caches_fit::<i32, Counted>();
+            discards::<i32, Counted>();
             cache.discard();
             Ok(true)
         }

@@ -26,12 +26,12 @@ on_true false f = tt
 
 module _ (place : ℕ → List ℕ → ℕ → ℕ) (may_hold : ℕ → ℕ → ℕ → Type 0) (rule : IsRule place may_hold) {X Code : Type 0} (value : X → ℤ)
     (f h : Format Code) (j : ℕ → Code) (c : Kept X) (t : Body X) (b l : ℕ)
-    (same : h ≡ f) (sound : IsSound place value t h j) (at : l ≡ line_by place c b) (others : OnlyLine c (kept_of t) l) where
+    (same : h ≡ f) (sound : IsSound place value t h j) (at : l ≡ line_by place c b) (others : OnlyLine c (kept_of t) l) (has_row : l < length t.lines) where
   lt : l < length t.tags.items
   lt = (line_below place may_hold rule value t h j sound c b l at others).0
 
   pub whole : length (line_at t.lines l) ≡ h.block_len
-  whole = sound.whole.size.1 l lt
+  whole = sound.whole.size.1 l has_row
 
   module _ (half : tag_at t.tags.items l / 2 ≡ b + 1) where
     here : (state_at place value (kept_of t) h j).values b ≡ existing_of h b (map value (line_at t.lines l))

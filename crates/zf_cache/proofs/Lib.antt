@@ -2,6 +2,7 @@ pub mod Doubled
 pub mod Lent
 pub mod OwnLines
 pub mod Puts
+pub mod Rooms
 pub mod Sound
 pub mod Stands
 pub mod Steps

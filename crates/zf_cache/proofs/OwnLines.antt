@@ -1,5 +1,5 @@
 -- The cache in which each block has one line: what is proved of its parts, in the words of its contracts.
-use Rattle.std.proofs.Common.{◌≡◌, refl, sym, ap, subst, ◌∙◌, ℕ, ℤ, List, map}
+use Rattle.std.proofs.Common.{◌≡◌, refl, sym, ap, subst, ◌∙◌, ℕ, ◌<◌, ℤ, List, map, length}
 use Rattle.zf_base.specs.Formats.{Format, existing_of}
 use Rattle.zf_cached.specs.State.{State}
 use Rattle.zf_cached.specs.Touch.{touch, touch_for_writing, soiled, with_values}
@@ -40,11 +40,11 @@ module _ {X Code : Type 0} (value : X → ℤ) (f h : Format Code) (k j : ℕ �
   relined_own m state = sym (one_line_state value h d j) ∙ state ∙ ap (λ t. relined f t m) (one_line_state value f c k)
 
 module _ {X Code : Type 0} (value : X → ℤ) (f h : Format Code) (j : ℕ → Code) (c : Kept X) (t : Body X) (b l : ℕ)
-    (same : h ≡ f) (sound : IsSound one_line value t h j) (at : l ≡ line_by one_line c b) (others : OnlyLine c (kept_of t) l) where
+    (same : h ≡ f) (sound : IsSound one_line value t h j) (at : l ≡ line_by one_line c b) (others : OnlyLine c (kept_of t) l) (has_row : l < length t.lines) where
   pub stands : (s : State Code) → state_of value (kept_of t) h j ≡ s → StandsFor value (kept_of t) f j s
   stands s state = record {
     state = ap (λ q. state_of value (kept_of t) q j) (sym same) ∙ state;
-    fits = fits_now one_line IsOneLine one_line_rule value f h j c t b l same sound at others;
+    fits = fits_now one_line IsOneLine one_line_rule value f h j c t b l same sound at others has_row;
   }
 
   module _ (k : ℕ → Code) (dirty : tag_at t.tags.items l ≡ dirty_tag b) (state : state_at one_line value (kept_of t) h j ≡ soiled (touch_in f (state_at one_line value c f k) l b) b)
@@ -58,11 +58,11 @@ module _ {X Code : Type 0} (value : X → ℤ) (f h : Format Code) (j : ℕ → 
     pub loans : LendsBlock value f k j c b row
     unfolding touch_for_writing
     loans = record {
-      held = row_held one_line IsOneLine one_line_rule value f h j c t b l same sound at others k dirty state row is ∙ ap (λ (u : State Code). u.values b) touched;
+      held = row_held one_line IsOneLine one_line_rule value f h j c t b l same sound at others has_row k dirty state row is ∙ ap (λ (u : State Code). u.values b) touched;
       written = λ w. record {
         state = ap (λ d. state_of value d f j) (sym (lent_is w)) ∙ sym (one_line_state value f (written_in c l b (over row w) (touch_in f (state_at one_line value c f k) l b).counts) j)
-            ∙ lent_state one_line IsOneLine one_line_rule value f h j c t b l same sound at others k dirty state row is w
+            ∙ lent_state one_line IsOneLine one_line_rule value f h j c t b l same sound at others has_row k dirty state row is w
             ∙ ap (λ u. with_values (soiled u b) b (existing_of f b (map value (over row w)))) touched;
-        fits = subst (λ d. Fits value d f j) (lent_is w) (lent_fits one_line IsOneLine one_line_rule value f h j c t b l same sound at others k dirty state row is w);
+        fits = subst (λ d. Fits value d f j) (lent_is w) (lent_fits one_line IsOneLine one_line_rule value f h j c t b l same sound at others has_row k dirty state row is w);
       };
     }

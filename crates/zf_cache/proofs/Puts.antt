@@ -1,5 +1,5 @@
 -- A value put into the line of a dirty block.
-use Rattle.std.proofs.Common.{◌≡◌, refl, sym, ap, ◌∙◌, ℕ, ◌<◌, ℤ, List, map, length, set}
+use Rattle.std.proofs.Common.{◌≡◌, refl, sym, ap, ◌∙◌, ℕ, ◌<◌, ℤ, List, map, length, set, arith}
 use Rattle.std.proofs.lemmas.List.{length-set, length-map, map-set}
 use Rattle.zf_base.specs.Formats.{Format, existing_of}
 use Rattle.zf_cached.specs.State.{State}
@@ -12,19 +12,28 @@ use Rattle.zf_cache.specs.Rules.{IsRule}
 use Rattle.zf_cache.specs.Bodies.{IsSound, kept_of, counts_of}
 use Rattle.zf_cache.specs.Standing.{state_at}
 use Rattle.zf_cache.specs.Steps.{with_value}
-use Rattle.zf_cache.proofs.Sound.{writes_row, values_there, existing_of-set}
+use Rattle.zf_cache.proofs.Sound.{row_there, writes_row, values_there, existing_of-set}
 use Rattle.zf_cache.proofs.Tags.{names-dirty, named}
 
 module _ (place : ℕ → List ℕ → ℕ → ℕ) (may_hold : ℕ → ℕ → ℕ → Type 0) (rule : IsRule place may_hold) {X Code : Type 0} (value : X → ℤ)
     (t d : Body X) (h f : Format Code) (j : ℕ → Code) (b l : ℕ) (s : State Code) (sound : IsSound place value t h j) (same : h ≡ f)
     (lt : l < length t.tags.items) (dirty : tag_at t.tags.items l ≡ dirty_tag b) (state : state_at place value (kept_of t) h j ≡ s) where
+  -- the line that holds b has a row
+  has_row : l < length t.lines
+  has_row = row_there t h.block_len sound.whole l (omega (arith, dirty))
+
+  pub puts_sound : (line : List X) (p : ℕ) (v : X) → d.lines ≡ set t.lines l (over (line_at t.lines l) (set line p v)) → d.tags.items ≡ t.tags.items → d.counts ≡ t.counts → IsSound place value d h j
+  puts_sound line p v lines tags counts =
+      let old = line_at t.lines l in
+      (writes_row place may_hold rule value t d h h j j refl sound l lt b (over old (set line p v)) (length-over old (set line p v) ∙ sound.whole.size.1 l has_row) dirty lines tags (ap counts_of counts) refl).0
+
   pub puts : (line : List X) (p : ℕ) (v : X) → line ≡ line_at t.lines l → p < h.block_len → d.lines ≡ set t.lines l (over (line_at t.lines l) (set line p v)) → d.tags.items ≡ t.tags.items → d.counts ≡ t.counts
       → state_at place value (kept_of d) h j ≡ with_value f s b p (value v)
   unfolding with_value
   puts line p v is at lines tags counts =
       let old = line_at t.lines l in
       let row = over old (set line p v) in
-      let whole : length old ≡ h.block_len = sound.whole.size.1 l lt in
+      let whole : length old ≡ h.block_len = sound.whole.size.1 l has_row in
       let row_is : row ≡ set old p v = ap (λ r. over old (set r p v)) is ∙ over_same old (set old p v) (length-set old p v) in
       let there : IsIn t.tags.items l b = ap block_in dirty ∙ names-dirty b in
       let here = values_there place value h (kept_of t) j b l (sound.fits.own l b there).0 (named (tag_at t.tags.items l) b there) in

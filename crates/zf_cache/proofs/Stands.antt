@@ -2,7 +2,7 @@
 -- block b is `place n tags b`.
 use Rattle.std.proofs.Common.{◌≡◌, ◌≢◌, ◌⊎◌, inl, inr, refl, sym, ap, subst, ◌∙◌, ℕ, ◌+◌, ◌/◌, ◌<◌, ◌==◌, ℤ, Bool, true, false, Option, Some, None, List, [], map, length, set, eq-eqb, arith}
 use Rattle.std.proofs.lemmas.Bool.{ne_eqb}
-use Rattle.std.proofs.lemmas.List.{get_or-set_same, get_or-set_other}
+use Rattle.std.proofs.lemmas.List.{get_or-set_same, get_or-set_other, length-set}
 use Rattle.zf_base.specs.Formats.{Format, existing_of, meant, encoded, with_at}
 use Rattle.zf_base.proofs.Formats.{with_at-same, with_at-other, encoded-existing_of}
 use Rattle.zf_cached.specs.State.{Counts, State, is_block, risen}
@@ -63,6 +63,7 @@ module _ (place : ℕ → List ℕ → ℕ → ℕ) {X Code : Type 0} (value : X
   pub record Fit (lines : List (List X)) (tags : List ℕ) (k : ℕ → Code) : Type 0 where
     pub own : (l b : ℕ) → IsIn tags l b → (place n tags b ≡ l) × (b < f.blocks)
     pub clean : (l b : ℕ) → tag_at tags l ≡ clean_tag b → in_line lines l b ≡ meant f b (k b)
+    pub room : (ts : List ℕ) (b : ℕ) → b < f.blocks → place n ts b < length lines
 
   -- a block that is in line l: its values, and whether it is dirty
   pub vals-in : (lines : List (List X)) (tags : List ℕ) (k : ℕ → Code) (b l : ℕ) → place n tags b ≡ l → IsIn tags l b → vals lines tags k b ≡ in_line lines l b
@@ -230,6 +231,7 @@ module _ (place : ℕ → List ℕ → ℕ → ℕ) {X Code : Type 0} (value : X
             let is = ap block_in e ∙ names-clean b in
             let ne = gone m b is in
             fit.clean m b (sym (tag-set_other tags l 0 m ne) ∙ e) ∙ ap (meant f b) (sym (same b (λ at. out-emptied b at m is)));
+        room = fit.room;
       }
 
       -- a line is emptied whose block was written back
@@ -334,6 +336,9 @@ module _ (place : ℕ → List ℕ → ℕ → ℕ) {X Code : Type 0} (value : X
         row-other : (m : ℕ) → m ≢ l → line_at rows m ≡ line_at lines m
         row-other m ne = get_or-set_other lines l m row [] ne
 
+        room-rows : (ts : List ℕ) (a : ℕ) → a < f.blocks → place n ts a < length rows
+        room-rows ts a below = subst (λ m. place n ts a < m) (sym (length-set lines l row)) (fit.room ts a below)
+
         -- ---- block b, which is in no line, goes into line l, which is empty
 
         module _ (may : may_hold n b l) (zero_there : tag_at tags l ≡ 0) (none : IsAway tags b) (loaded : existing_of f b (map value row) ≡ meant f b (k b)) where
@@ -436,6 +441,7 @@ module _ (place : ℕ → List ℕ → ℕ → ℕ) {X Code : Type 0} (value : X
                   ap (λ j. in_line rows j a) at ∙ subst (λ j. in_line rows l j ≡ meant f j (k j)) is in-after
               | inr off ↦ ap (λ r. existing_of f a (map value r)) (row-other m off) ∙ fit.clean m a (sym (tag-other m off) ∙ e)
             ];
+            room = room-rows;
           }
 
         -- ---- what is written through a loan of the dirty block b
@@ -469,6 +475,7 @@ module _ (place : ℕ → List ℕ → ℕ → ℕ) {X Code : Type 0} (value : X
               | inl at ↦ let both : dirty_tag b ≡ clean_tag a = sym is ∙ ap (tag_at tags) (sym at) ∙ e in absurd (omega (arith, both))
               | inr off ↦ ap (λ r. existing_of f a (map value r)) (row-other m off) ∙ fit.clean m a e
             ];
+            room = room-rows;
           }
 
       -- ---- block b, which is in line l, becomes dirty
@@ -530,6 +537,7 @@ module _ (place : ℕ → List ℕ → ℕ → ℕ) {X Code : Type 0} (value : X
             | inl at ↦ let both : dirty_tag b ≡ clean_tag a = sym mark-same ∙ ap (tag_at marked) (sym at) ∙ e in absurd (omega (arith, both))
             | inr off ↦ fit.clean m a (sym (mark-other m off) ∙ e)
           ];
+          room = fit.room;
         }
 
 -- where each block has one line

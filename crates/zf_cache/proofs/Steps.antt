@@ -10,18 +10,25 @@ use Rattle.zf_cached.proofs.States.{same_state}
 use Rattle.zf_lines.specs.Rows.{line_at, over_part, with_part}
 use Rattle.zf_cache.specs.Kept.{Kept, IsClean, IsDirty, IsEmpty, line_of, tag_at, block_in, dirty_tag}
 use Rattle.zf_cache.specs.Rules.{one_line, IsOneLine, one_line_rule}
-use Rattle.zf_cache.specs.Standing.{state_at, state_of, FitsAt, Fits}
+use Rattle.zf_cache.specs.Standing.{state_at, state_of, FitsAt, Fits, HasRoomAt, HasRoom}
 use Rattle.zf_cache.specs.Loans.{StandsFor}
 use Rattle.zf_cache.proofs.Stands.{standing_at, standing, Fit, write_back_line-none, write_back_line-some, write_back_dirty-false, undirty_values, writes, fits_written}
+use Rattle.zf_cache.proofs.Rooms.{room_stays}
 use Rattle.zf_cache.proofs.Touches.{no_tag, state_stands, state_is, one_line_state, fit_of, fits_of, fits_empty, all_meant_at, all_meant, discards}
 
 module _ (place : ℕ → List ℕ → ℕ → ℕ) {X Code : Type 0} (value : X → ℤ) (f : Format Code) (k : ℕ → Code) where
   empty_count : (c : Kept X) (n : ℕ) → IsEmpty c n → length c.tags ≡ n
   empty_count c n e = let none : ℕ = 0 in ap length e ∙ length-replicate n none
 
-  -- an empty cache fits every backing
-  pub empty_fits_at : (c : Kept X) (n : ℕ) → IsEmpty c n → FitsAt place value c f k
-  empty_fits_at c n e = fits_of place value f c k n (empty_count c n e) (subst (λ ts. Fit place value f n c.lines ts k) (sym e) (fits_empty place value f n c.lines c.counts k))
+  -- an empty cache fits every backing that it has room for
+  pub empty_fits_at : (c : Kept X) (n : ℕ) → IsEmpty c n → HasRoomAt place c f.blocks → FitsAt place value c f k
+  empty_fits_at c n e room =
+      let there : (ts : List ℕ) (b : ℕ) → b < f.blocks → place n ts b < length c.lines = λ ts b below. subst (λ m. place m ts b < length c.lines) (empty_count c n e) (room ts b below) in
+      fits_of place value f c k n (empty_count c n e) (subst (λ ts. Fit place value f n c.lines ts k) (sym e) (fits_empty place value f n c.lines c.counts k there))
+
+  -- a cache that was emptied, with the rows that it had
+  pub emptied_fits_at : (c d : Kept X) → FitsAt place value c f k → IsEmpty d (length c.tags) → length d.lines ≡ length c.lines → FitsAt place value d f k
+  emptied_fits_at c d fits e rows = empty_fits_at d (length c.tags) e (room_stays place c d f.blocks (empty_count d (length c.tags) e) rows fits.room)
 
   pub discarded_at : (c d : Kept X) → FitsAt place value c f k → IsEmpty d (length c.tags) → d.counts ≡ c.counts → state_at place value d f k ≡ discard f (state_at place value c f k)
   discarded_at c d fits e counts =
@@ -40,8 +47,11 @@ module _ (place : ℕ → List ℕ → ℕ → ℕ) {X Code : Type 0} (value : X
 -- ---- where each block has one line
 
 module _ {X Code : Type 0} (value : X → ℤ) (f : Format Code) (k : ℕ → Code) where
-  pub empty_fits : (c : Kept X) (n : ℕ) → IsEmpty c n → Fits value c f k
-  empty_fits c n e = empty_fits_at one_line value f k c n e
+  pub empty_fits : (c : Kept X) (n : ℕ) → IsEmpty c n → HasRoom c f.blocks → Fits value c f k
+  empty_fits c n e room = empty_fits_at one_line value f k c n e room
+
+  pub emptied_fits : (c d : Kept X) → Fits value c f k → IsEmpty d (length c.tags) → length d.lines ≡ length c.lines → Fits value d f k
+  emptied_fits c d fits e rows = emptied_fits_at one_line value f k c d fits e rows
 
   pub discarded : (c d : Kept X) → Fits value c f k → IsEmpty d (length c.tags) → d.counts ≡ c.counts → state_of value d f k ≡ discard f (state_of value c f k)
   discarded c d fits e counts = sym (one_line_state value f d k) ∙ discarded_at one_line value f k c d fits e counts ∙ ap (discard f) (one_line_state value f c k)
@@ -74,15 +84,14 @@ module _ {X Code : Type 0} (value : X → ℤ) (f : Format Code) (k : ℕ → Co
       ∙ ap (λ (t : State Code). record t { lines = n }) (sym (flush_clean s undirty) ∙ ap (flush f) (sym (state_is value f c k m refl)))
 
   -- what is written through a loan of a part of the dirty block b
-  pub part_written : (c : Kept X) (b a n : ℕ) (ws : List X) → Fits value c f k → IsDirty c b → length c.lines ≡ length c.tags
+  pub part_written : (c : Kept X) (b a n : ℕ) (ws : List X) → Fits value c f k → IsDirty c b → line_of c b < length c.lines
       → StandsFor value (record c { lines = with_part c.lines (line_of c b) a n ws }) f k
       (with_values (state_of value c f k) b (existing_of f b (map value (over_part (line_at c.lines (line_of c b)) a n ws))))
-  part_written c b a n ws fits dirty long =
+  part_written c b a n ws fits dirty here =
       let m = length c.tags in let l = line_of c b in let row = over_part (line_at c.lines l) a n ws in
       let d : Kept X = record c { lines = with_part c.lines l a n ws } in
       let fit = fit_of one_line value f c k m refl fits in
       let lt : l < m = inside c l (dirty_tag b) dirty (omega arith) in
-      let here : l < length c.lines = subst (λ j. l < j) (sym long) lt in
       record {
         state = state_is value f d k m refl ∙ writes one_line value f m IsOneLine one_line_rule c.lines c.tags c.counts k fit l lt b here row dirty
             ∙ ap (λ (s : State Code). with_values s b (existing_of f b (map value row))) (sym (state_is value f c k m refl));

@@ -1,5 +1,5 @@
 -- Touches, flush and discard, from the changes of single lines.
-use Rattle.std.proofs.Common.{◌≡◌, ◌≢◌, inl, inr, refl, sym, ap, ◌∙◌, ℕ, zero, suc, ◌%◌, ◌<◌, ◌≤◌, ℤ, Bool, true, false, cond, nat_lt, Option, Some, None, List, length, replicate, eq-eqb, arith}
+use Rattle.std.proofs.Common.{◌≡◌, ◌≢◌, inl, inr, refl, sym, ap, subst, ◌∙◌, ℕ, zero, suc, ◌%◌, ◌<◌, ◌≤◌, ℤ, Bool, true, false, cond, nat_lt, Option, Some, None, List, length, replicate, eq-eqb, arith}
 use Rattle.std.proofs.lemmas.Bool.{cases_lt, lt-ltb, le-ltb}
 use Rattle.std.proofs.lemmas.List.{length-replicate, get_or-replicate, get_or_past}
 use Rattle.zf_base.specs.Formats.{Format, meant, with_at}
@@ -144,11 +144,12 @@ module _ (place : ℕ → List ℕ → ℕ → ℕ) {X Code : Type 0} (value : X
   pub all_meant_at : (b : ℕ) → (standing_at place value f n lines (replicate n 0) counts k).values b ≡ meant f b (k b)
   all_meant_at b = vals-out place value f n lines (replicate n 0) k b (none_in n b (place n (replicate n 0) b))
 
-  -- an empty cache fits every backing
-  pub fits_empty : Fit place value f n lines (replicate n 0) k
-  fits_empty = record {
+  -- an empty cache fits every backing that it has room for
+  pub fits_empty : ((ts : List ℕ) (b : ℕ) → b < f.blocks → place n ts b < length lines) → Fit place value f n lines (replicate n 0) k
+  fits_empty room = record {
     own = λ l b e. absurd (none_in n b l e);
     clean = λ l b e. let none : 0 ≡ clean_tag b = sym (no_tag n l) ∙ e in absurd (omega (arith, none));
+    room = room;
   }
 
   -- empty lines of another number
@@ -186,12 +187,14 @@ module _ (place : ℕ → List ℕ → ℕ → ℕ) {X Code : Type 0} (value : X
   fit_of n e fits = record {
     own = λ l b is. let o = fits.own l b is in (ap (λ m. place m c.tags b) (sym e) ∙ o.0, o.1);
     clean = fits.clean;
+    room = λ ts b below. subst (λ m. place m ts b < length c.lines) e (fits.room ts b below);
   }
 
   pub fits_of : (n : ℕ) → length c.tags ≡ n → Fit place value f n c.lines c.tags k → FitsAt place value c f k
   fits_of n e fit = record {
     own = λ l b is. let o = fit.own l b is in (ap (λ m. place m c.tags b) e ∙ o.0, o.1);
     clean = fit.clean;
+    room = λ ts b below. subst (λ m. place m ts b < length c.lines) (sym e) (fit.room ts b below);
   }
 
   -- nothing is in a line past the last

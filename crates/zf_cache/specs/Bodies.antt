@@ -5,7 +5,7 @@ use Rattle.zf_cached.specs.State.{Counts}
 use Rattle.zf_base.specs.declared.stats.Stats.{Stats}
 use Rattle.zf_lines.specs.Rows.{HasSize}
 use Rattle.zf_cache.specs.declared.body.Body.{Body}
-use Rattle.zf_cache.specs.Kept.{Kept}
+use Rattle.zf_cache.specs.Kept.{Kept, tag_at}
 use Rattle.zf_cache.specs.Standing.{FitsAt}
 
 -- to cut a number by n - 1 is to take it modulo n
@@ -19,11 +19,12 @@ module _ {X : Type 0} where
   abbrev pub kept_of : Body X → Kept X
   kept_of c = record { lines = c.lines; tags = c.tags.items; counts = counts_of c.counts }
 
-  -- a tag for each line, and lines of so many values
+  -- a tag for each line, and rows of so many values for the first lines; a line without a row is empty
   pub record IsWhole (c : Body X) (len : ℕ) : Type 0 where
-    pub size : HasSize c.lines (length c.tags.items) len
+    pub size : HasSize c.lines (length c.lines) len
     pub count : (0 < length c.tags.items) × (length c.tags.items ≤ 2 ^ 16)
     pub mask : IsMask (length c.tags.items)
+    pub blank : (l : ℕ) → length c.lines ≤ l → tag_at c.tags.items l ≡ 0
 
   -- the fields are whole, and fit the backing
   pub record IsSound (place : ℕ → List ℕ → ℕ → ℕ) {Code : Type 0} (value : X → ℤ) (c : Body X) (format : Format Code) (codes : ℕ → Code) : Type 0 where

@@ -1,11 +1,12 @@
 -- What a cache is seen as: the values in its lines, a tag for each line, and the counts.
-use Rattle.std.specs.Prelude.{◌≡◌, ℕ, zero, suc, ◌+◌, ◌*◌, ◌/◌, ◌%◌, ◌^◌, ◌≤◌, ◌==◌, Bool, true, false, List, length, replicate, slice_index_or, slice_set, Option, Some, None, refl}
+use Rattle.std.specs.Prelude.{◌≡◌, ℕ, zero, suc, ◌+◌, ◌*◌, ◌/◌, ◌%◌, ◌^◌, ◌<◌, ◌≤◌, ◌==◌, Bool, true, false, List, length, replicate, slice_index_or, slice_set, Option, Some, None, refl}
 use Rattle.std.specs.Coded.{Coded, code_by, coded×, coded_list, coded_ℕ}
 use Rattle.zf_base.specs.Formats.{Format}
 use Rattle.zf_cached.specs.State.{Counts}
-use Rattle.zf_lines.specs.Rows.{line_at}
+use Rattle.zf_lines.specs.Rows.{line_at, HasSize}
 
 pub record Kept (X : Type 0) : Type 0 where
+  -- a row of values for each of the first lines
   pub lines : List (List X)
   pub tags : List ℕ
   pub counts : Counts
@@ -78,6 +79,11 @@ module _ {X : Type 0} where
   pub record OnlyLine (c d : Kept X) (l : ℕ) : Type 0 where
     pub lines : d.lines ≡ slice_set c.lines l (line_at d.lines l)
     pub tags : d.tags ≡ slice_set c.tags l (tag_at d.tags l)
+
+  -- the line of block b has a row of values, as long as all rows are
+  pub record HasRow (c : Kept X) (b len : ℕ) : Type 0 where
+    pub there : line_of c b < length c.lines
+    pub size : HasSize c.lines (length c.lines) len
 
   -- no block is in any of the n lines
   abbrev pub IsEmpty : Kept X → ℕ → Type 0

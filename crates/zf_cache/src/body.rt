@@ -13,10 +13,11 @@ use std::alloc::{AllocError, Global};
 use zf_base::{Backing, Lane, Reading, Stats};
 use zf_lines::Lines;
 
-/// The lines, a tag for each of them, and the counts.
+/// A tag for each line, a row of values for each of the first lines, and the counts.
 ///
 /// A tag is 0 for an empty line, `2 * b + 2` for the clean block `b`, and `2 * b + 3` for the dirty block `b`. In which line a block is,
-/// or goes, is told by a `Rule`.
+/// or goes, is told by a `Rule`. A line without a row is empty: where there are
+/// fewer blocks than lines, no rule puts one into the lines beyond.
 #[derive(Drop)]
 pub struct Body<T> {
     pub lines: Lines<T>,
@@ -39,16 +40,32 @@ impl<T: Lane> Body<T> {
     ghost use Rattle.zf_cache.specs.Bodies.{IsMask, IsWhole, IsSound, kept_of, counts_of};
     ghost use Rattle.zf_cache.specs.Steps.{taken_in, touch_in, with_value};
 
-    /// Empty lines of `len` values each, and counts of 0.
-    pub fn new(alloc: Global, lines: u32, len: usize) -> Result<Body<T>, AllocError>
+    /// Empty lines, of which the first `rows` have room for `len` values each, and counts of 0.
+    pub fn new(alloc: Global, lines: u32, rows: u32, len: usize) -> Result<Body<T>, AllocError>
         requires count { IsLineCount lines }
+        requires few { rows ≤ lines }
         requires size { len ≤ 2 ^ 8 }
         ensures whole { IfOk result (λ c. IsWhole c len) }
         ensures empty { IfOk result (λ c. c.tags.items ≡ replicate lines 0) }
+        ensures rows { IfOk result (λ c. length c.lines ≡ rows) }
+        ensures counts { IfOk result (λ c. counts_of c.counts ≡ no_counts) }
+    {
+        Body::empty(alloc, lines, rows, len)
+    }
+
+    /// The same, of a number of lines to which masks cut.
+    pub fn empty(alloc: Global, lines: u32, rows: u32, len: usize) -> Result<Body<T>, AllocError>
+        requires count { (0 < lines) × (lines ≤ 2 ^ 16) }
+        requires mask { IsMask lines }
+        requires few { rows ≤ lines }
+        requires size { len ≤ 2 ^ 8 }
+        ensures whole { IfOk result (λ c. IsWhole c len) }
+        ensures empty { IfOk result (λ c. c.tags.items ≡ replicate lines 0) }
+        ensures rows { IfOk result (λ c. length c.lines ≡ rows) }
         ensures counts { IfOk result (λ c. counts_of c.counts ≡ no_counts) }
     {
         let tags = Vec::from_elem(alloc, 0u64, lines as usize)?;
-        let lines = Lines::new(alloc, lines, len, T::zero())?;
+        let lines = Lines::new(alloc, rows, len, T::zero())?;
         let counts = Stats {
             hits: 0,
             misses: 0,
@@ -66,6 +83,7 @@ impl<T: Lane> Body<T> {
         ensures lines { self.new.lines ≡ other.lines }
         ensures tags { self.new.tags.items ≡ other.tags.items }
         ensures counts { self.new.counts ≡ self.old.counts }
+        ensures whole { (len : ℕ) → IsWhole other len → IsWhole self.new len }
     {
         let Body {
             lines,
@@ -81,6 +99,7 @@ impl<T: Lane> Body<T> {
         ensures lines { self.new.lines ≡ self.old.lines }
         ensures tags { self.new.tags.items ≡ replicate (length self.old.tags.items) 0 }
         ensures counts { self.new.counts ≡ self.old.counts }
+        ensures whole { (len : ℕ) → IsWhole self.old len → IsWhole self.new len }
     {
         self.tags.fill(0);
     }
@@ -103,6 +122,19 @@ impl<T: Lane> Body<T> {
         ensures inside { result < length self.now.tags.items }
     {
         R::line_for(&self.tags, b)
+    }
+
+    /// The line of block `b`, which is there: so the line has a row.
+    #[inline]
+    pub fn line_holding<R: Rule>(&self, b: u64) -> u32
+        requires count { (0 < length self.now.tags.items) × (length self.now.tags.items ≤ 2 ^ 16) }
+        requires mask { IsMask (length self.now.tags.items) }
+        requires blank { (l : ℕ) → length self.now.lines ≤ l → tag_at self.now.tags.items l ≡ 0 }
+        requires here { tag_at self.now.tags.items (line_by R.place (kept_of self.now) b) / 2 ≡ b + 1 }
+        ensures place { result ≡ line_by R.place (kept_of self.now) b }
+        ensures row { result < length self.now.lines }
+    {
+        self.line_of::<R>(b)
     }
 
     /// Writes the block of line `l` back where it is dirty, and empties the line.
@@ -132,6 +164,7 @@ impl<T: Lane> Body<T> {
     pub fn take_in<R: Rule, B: Reading<T>>(&mut self, back: &mut B, l: u32, b: u64)
         requires sound { IsSound R.place T.value self.old (B.format back.old) (B.codes back.old) }
         requires line { (l < length self.old.tags.items) × R.may_hold (length self.old.tags.items) b l }
+        requires row { l < length self.old.lines }
         requires empty { tag_at self.old.tags.items l ≡ 0 }
         requires away { IsAway self.old.tags.items b }
         requires block { (b < (B.format back.old).blocks) × ((B.format back.old).blocks ≤ 2 ^ 32) }
@@ -158,6 +191,7 @@ impl<T: Lane> Body<T> {
             ≡ touch_in (B.format back.old)
             (state_at R.place T.value (kept_of self.old) (B.format back.old) (B.codes back.old)) result b }
         ensures line { result ≡ line_by R.place (kept_of self.old) b }
+        ensures row { result < length self.new.lines }
         ensures here { tag_at self.new.tags.items result / 2 ≡ b + 1 }
         ensures others { OnlyLine (kept_of self.old) (kept_of self.new) result }
         ensures format { B.format back.new ≡ B.format back.old }
@@ -183,6 +217,7 @@ impl<T: Lane> Body<T> {
             ≡ soiled (touch_in (B.format back.old)
             (state_at R.place T.value (kept_of self.old) (B.format back.old) (B.codes back.old)) result b) b }
         ensures line { result ≡ line_by R.place (kept_of self.old) b }
+        ensures row { result < length self.new.lines }
         ensures dirty { tag_at self.new.tags.items result ≡ dirty_tag b }
         ensures others { OnlyLine (kept_of self.old) (kept_of self.new) result }
         ensures format { B.format back.new ≡ B.format back.old }
@@ -205,6 +240,7 @@ impl<T: Lane> Body<T> {
             (state_at R.place T.value (kept_of self.old) (B.format back.old) (B.codes back.old)) result b }
         ensures clean { IsClean (kept_of self.new) }
         ensures line { result ≡ line_by R.place (kept_of self.old) b }
+        ensures row { result < length self.new.lines }
         ensures here { tag_at self.new.tags.items result / 2 ≡ b + 1 }
         ensures others { OnlyLine (kept_of self.old) (kept_of self.new) result }
         ensures format { B.format back.new ≡ B.format back.old }

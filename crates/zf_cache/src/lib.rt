@@ -11,5 +11,5 @@ mod rule;
 pub use body::Body;
 pub use cache::Cache;
 pub use counted::Counted;
-pub use counts::{default_lines, raised};
+pub use counts::{default_lines, raised, rows_for};
 pub use rule::{OneLine, Rule};

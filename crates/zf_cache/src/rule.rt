@@ -18,7 +18,8 @@ pub trait Rule {
         ensures place { result ≡ place (length tags.now) tags.now b }
         ensures inside { result < length tags.now };
 
-    // Laws. The line is one that may hold the block, and a block that is in such a line, and in no other, is found there.
+    // Laws. The line is one that may hold the block; a block that is in such a line, and in no other, is found there; and
+    // a block whose number is below the number of lines has the line of its number.
     ghost rule: { IsRule place may_hold };
 }
 

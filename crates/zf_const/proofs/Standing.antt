@@ -19,7 +19,7 @@ use Rattle.zf_cached.specs.Arrays.{array_format}
 use Rattle.zf_cached.proofs.States.{same_state}
 use Rattle.zf_cached.proofs.Caching.{is_block-true}
 use Rattle.zf_cache.specs.Kept.{Kept, HasBlocks, IsClean, IsEmpty, tag_at, block_in, line_of, dirty_tag, clean_tag}
-use Rattle.zf_cache.specs.Standing.{state_of, values_of, line_values, Fits}
+use Rattle.zf_cache.specs.Standing.{state_of, values_of, line_values, Fits, HasRoom}
 use Rattle.zf_cache.proofs.Tags.{named}
 use Rattle.zf_cache.proofs.Touches.{no_tag}
 use Rattle.zf_const.specs.Standing.{Held, format, state, touched}
@@ -63,6 +63,11 @@ module _ {X : Type 0} (value : X → ℤ) (s : Coded) (c : Kept X) (fits : Fits 
       values_meant
       (λ b. refl)
       refl
+
+-- room for the blocks of its sizes
+pub room_of : {X : Type 0} (s : Coded) (c : Kept X) (n : ℕ) → HasRoom c n → n ≡ blocks s.header.shape → HasRoom c (format_of s).blocks
+unfolding array_format
+room_of s c n room is = subst (λ m. HasRoom c m) is room
 
 -- an array as it is made
 pub opens : {X : Type 0} (value : X → ℤ) (s : Coded) (c : Kept X) (n : ℕ) → IsEmpty c n → c.counts ≡ no_counts → state (held_by value s c) ≡ opened (format_of s) (code_at s) n

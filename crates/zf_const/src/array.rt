@@ -74,7 +74,8 @@ impl<T: Lane, const D: usize> ConstArray<T, D> {
     {
         let index = Index::build(alloc, h, &file)?;
         let codes = Codes::of_file(alloc, h, file, index)?;
-        let cache = Cache::new(alloc, raised(lines))?;
+        let blocks = h.shape.blocks();
+        let cache = Cache::for_blocks(alloc, raised(lines), blocks)?;
         Ok(ConstArray { codes, cache })
     }
 
@@ -113,7 +114,8 @@ impl<T: Lane, const D: usize> ConstArray<T, D> {
         ensures header { self.new.header ≡ self.old.header }
         ensures codes { self.new.codes ≡ self.old.codes }
     {
-        self.cache.relined_read(raised(lines))
+        let blocks = self.codes.header().shape.blocks();
+        self.cache.relined_read_for(raised(lines), blocks)
     }
 
     /// The sizes.

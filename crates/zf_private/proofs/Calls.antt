@@ -1,8 +1,7 @@
 -- What a call of the cache makes of a view.
-use Rattle.std.proofs.Common.{◌≡◌, inl, inr, refl, sym, ap, subst, ◌∙◌, ℕ, suc, ◌+◌, ◌^◌, ◌<◌, ℤ, pos, ◌+ℤ◌, Bool, true, false, eqb-true, Some, List, [], ◌∷◌, ◌++◌, map, length, get_or, set, take, drop, arith}
+use Rattle.std.proofs.Common.{◌≡◌, refl, sym, ap, subst, ◌∙◌, ℕ, suc, ◌+◌, ◌^◌, ◌<◌, ℤ, pos, ◌+ℤ◌, Bool, true, false, eqb-true, Some, List, [], ◌∷◌, ◌++◌, map, length, get_or, set, take, drop, arith}
 use Rattle.std.specs.Int.{Width}
-use Rattle.std.proofs.lemmas.Bool.{cases_lt}
-use Rattle.std.proofs.lemmas.List.{length-take-le, set_split, map-set, length-map, length-drop, drop-drop, get_or-map, get_or_past}
+use Rattle.std.proofs.lemmas.List.{length-take-le, set_split, map-set, length-map, length-drop, drop-drop, get_or-map}
 use Rattle.zf_spec.specs.Numbers.{wrap}
 use Rattle.zf_base.specs.declared.position.Pos.{Pos}
 use Rattle.zf_base.specs.Positions.{used_axes}
@@ -13,9 +12,9 @@ use Rattle.zf_base.proofs.Sizes.{blocks_le}
 use Rattle.zf_cached.specs.State.{State, is_block}
 use Rattle.zf_cached.specs.Touch.{touch, soiled, touch_for_writing, with_values}
 use Rattle.zf_cached.proofs.Caching.{touch-same}
-use Rattle.zf_lines.specs.Rows.{line_at, part, over_part, with_part, HasSize}
+use Rattle.zf_lines.specs.Rows.{line_at, part, over_part, with_part}
 use Rattle.zf_lines.proofs.Sizes.{over_same}
-use Rattle.zf_cache.specs.Kept.{Kept, HasBlocks, IsIn, IsDirty, tag_at, block_in, dirty_tag, line_of}
+use Rattle.zf_cache.specs.Kept.{Kept, HasBlocks, HasRow, IsIn, IsDirty, tag_at, block_in, dirty_tag, line_of}
 use Rattle.zf_cache.specs.Standing.{state_of, values_of, line_values, Fits}
 use Rattle.zf_cache.specs.Steps.{with_value, put}
 use Rattle.zf_cache.proofs.Tags.{names-dirty, named}
@@ -114,13 +113,9 @@ module _ {X Code : Type 0} (value : X → ℤ) (w : Width) (d : ℕ) (v now : He
         (subst (λ n. IsWhole d (record { cache = new; shape = v.shape; first = v.first; count = n })) ec
         (record { dims = whole.dims; shape = whole.shape; some = whole.some; inside = whole.inside; own = back.held })))
 
--- a line with a tag is there
-tag_inside : (tags : List ℕ) (l t : ℕ) → tag_at tags l ≡ t → 0 < t → l < length tags
-tag_inside tags l t e some = elim (cases_lt l (length tags)) [ inl lt ↦ lt | inr ge ↦ let none = get_or_past tags l 0 ge in absurd (omega (arith, e, none)) ]
-
 -- a value of a dirty block is added to, through a loan
 module _ {X Code : Type 0} (value : X → ℤ) (w : Width) (f h : Format Code) (k j : ℕ → Code) (s : State Code) (c : Kept X) (b p : ℕ) (r sum v : X)
-    (same : h ≡ f) (state_is : state_of value c h j ≡ touch_for_writing f s b) (fits : Fits value c h j) (dirty : IsDirty c b) (size : HasSize c.lines (length c.tags) h.block_len)
+    (same : h ≡ f) (state_is : state_of value c h j ≡ touch_for_writing f s b) (fits : Fits value c h j) (dirty : IsDirty c b) (size : HasRow c b h.block_len)
     (within : p < h.block_len) (exists : f.exists b p ≡ true) (read : get_or (line_at c.lines (line_of c b)) p r ≡ r) (added : value sum ≡ wrap w (value r +ℤ value v)) where
   abbrev row : List X
   row = line_at c.lines (line_of c b)
@@ -132,7 +127,7 @@ module _ {X Code : Type 0} (value : X → ℤ) (w : Width) (f h : Format Code) (
   here = ap block_in dirty ∙ names-dirty b
 
   long : length row ≡ h.block_len
-  long = size.1 (line_of c b) (tag_inside c.tags (line_of c b) (dirty_tag b) dirty (omega arith))
+  long = size.size.1 (line_of c b) size.there
 
   row_is : existing_of h b (map value row) ≡ vals
   row_is = sym (values_here value h c j b (line_of c b) refl (named (tag_at c.tags (line_of c b)) b here)) ∙ ap (λ (t : State Code). t.values b) state_is
@@ -162,7 +157,7 @@ module _ {X Code : Type 0} (value : X → ℤ) (w : Width) (f h : Format Code) (
   lent = record c { lines = with_part c.lines (line_of c b) p 1 (sum ∷ []) }
 
   stands : StandsFor value lent h j (with_values (state_of value c h j) b (existing_of h b (map value (over_part row p 1 (sum ∷ [])))))
-  stands = part_written value h j c b p 1 (sum ∷ []) fits dirty size.0
+  stands = part_written value h j c b p 1 (sum ∷ []) fits dirty size.there
 
   pub added_fits : Fits value lent h j
   added_fits = stands.fits

@@ -4,5 +4,4 @@ pub mod Calls
 pub mod Others
 pub mod Several
 pub mod Ready
-pub mod Parts
 pub mod Scripts

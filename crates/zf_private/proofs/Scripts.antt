@@ -24,7 +24,7 @@ use Rattle.zf_cached.specs.Runs.{read_step, line_step, run_lines}
 use Rattle.zf_cached.proofs.Sessions.{first_refusal, step_by}
 use Rattle.zf_private.specs.Scripts.{Answered, answered_lines, view_named, named, is_accepted, is_on, is_elsewhere, without_others}
 use Rattle.zf_private.proofs.Alike.{own-acted, stay-acted, alike-acted, alike-answered, alike-refl}
-use Rattle.zf_private.proofs.Parts.{one_owner}
+use Rattle.zf_cached.proofs.Parts.{one_owner}
 use Rattle.zf_private.proofs.Several.{alike-trans}
 
 module _ {Code : Type 0} (setting : Setting Code) (ns : List ℕ) (n : ℕ) (some : 0 < n) where

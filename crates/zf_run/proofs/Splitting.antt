@@ -26,13 +26,13 @@ use Rattle.zf_cached.specs.Steps.{Setting, Session, format_of, by_view, split_in
 use Rattle.zf_cached.specs.Runs.{array_setting, ended}
 use Rattle.zf_cached.proofs.States.{same_state}
 use Rattle.zf_cache.specs.Kept.{Kept, IsEmpty, tag_at, block_in, dirty_tag}
-use Rattle.zf_cache.specs.Standing.{state_of}
+use Rattle.zf_cache.specs.Standing.{state_of, HasRoom}
 use Rattle.zf_cache.proofs.Stands.{standing}
 use Rattle.zf_cache.proofs.Steps.{empty_fits}
 use Rattle.zf_cache.proofs.Touches.{state_is, no_tag, all_meant}
 use Rattle.zf_private.specs.Standing as private
 use Rattle.zf_private.proofs.Others.{first_of-last}
-use Rattle.zf_private.proofs.Parts.{rising}
+use Rattle.zf_cached.proofs.Parts.{rising}
 use Rattle.zf_array.specs.Standing.{Held, shape, state, format}
 use Rattle.zf_array.specs.Coded.{IsCoded}
 use Rattle.zf_run.specs.Sessions.{setting_of, session_of, kind}
@@ -161,7 +161,7 @@ module _ {X : Type 0} (value : X → ℤ) where
             record {
               ready = record {
                 whole = is.whole;
-                fits = empty_fits value (format b) (state b).codes v.cache lines is.empty;
+                fits = empty_fits value (format b) (state b).codes v.cache lines is.empty (subst (λ (ns : List ℕ). HasRoom v.cache (blocks ns)) (sym same_shape) is.room);
                 over = (ap blocks (sym shapes), ap (λ (ns : List ℕ). 4 ^ length ns) (sym shapes));
                 places = λ k p own below. ap (λ (ns : List ℕ). is_inside (extent_of ns k) (indices (length ns) p)) (sym shapes);
               };

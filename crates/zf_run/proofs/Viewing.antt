@@ -31,7 +31,7 @@ use Rattle.zf_private.specs.Standing.{Own, IsSameView, IsWhole}
 use Rattle.zf_private.proofs.Alike.{stay-acted, quiet-acted, alike-acted, alike-answered}
 use Rattle.zf_private.proofs.Calls.{own_state}
 use Rattle.zf_private.proofs.Others.{other_codes_alike}
-use Rattle.zf_private.proofs.Parts.{part_end, parts_apart}
+use Rattle.zf_cached.proofs.Parts.{part_end, parts_apart}
 use Rattle.zf_private.proofs.Ready.{ready_after, ready_beside}
 use Rattle.zf_array.specs.Standing.{Held, shape, state, format}
 use Rattle.zf_array.specs.Coded.{IsCoded}

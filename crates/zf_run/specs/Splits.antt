@@ -9,6 +9,7 @@ use Rattle.zf_cached.specs.Ownership.{first_of, count_of}
 use Rattle.zf_cached.specs.Splits.{is_view_count}
 use Rattle.zf_cached.specs.Steps.{Session}
 use Rattle.zf_cache.specs.Kept.{IsEmpty}
+use Rattle.zf_cache.specs.Standing.{HasRoom}
 use Rattle.zf_private.specs.Standing as private
 use Rattle.zf_private.specs.Several.{IsReady}
 use Rattle.zf_array.specs.Standing.{Held, shape, state, format}
@@ -69,9 +70,10 @@ module _ {X : Type 0} (value : X → ℤ) where
   FitTogether d a None = Unit {0}
   FitTogether d a (Some views) = AreParts d a views
 
--- a view as it is made: nothing is in its lines, and nothing is counted
+-- a view as it is made: nothing is in its lines, which have room for the blocks of the array, and nothing is counted
 pub record IsNewPart {X : Type 0} (d : ℕ) (ns : List ℕ) (n lines i : ℕ) (v : private.Held X) : Type 0 where
   pub empty : IsEmpty v.cache lines
+  pub room : HasRoom v.cache (blocks ns)
   pub counts : v.cache.counts ≡ no_counts
   pub shape : v.shape ≡ ns
   pub first : v.first ≡ first_of (blocks ns) n i

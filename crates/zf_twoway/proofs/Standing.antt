@@ -1,5 +1,5 @@
 -- Two-way caches that fit, and a touch of them, in the words of their contracts.
-use Rattle.std.proofs.Common.{◌≡◌, inl, inr, refl, sym, ap, subst, ◌∙◌, ℕ, zero, suc, ◌+◌, ◌/◌, ◌%◌, ◌==◌, Bool, true, false, not, ◌||◌, ℤ, Option, Some, None, List, map, length, replicate, is_none, eq-eqb, arith}
+use Rattle.std.proofs.Common.{◌≡◌, inl, inr, refl, sym, ap, subst, ◌∙◌, ℕ, zero, suc, ◌+◌, ◌/◌, ◌%◌, ◌<◌, ◌==◌, Bool, true, false, not, ◌||◌, ℤ, Option, Some, None, List, map, length, replicate, is_none, eq-eqb, arith}
 use Rattle.std.proofs.lemmas.Bool.{ne_eqb}
 use Rattle.zf_base.specs.Formats.{Format, existing_of, meant}
 use Rattle.std.proofs.lemmas.List.{length-replicate}
@@ -31,6 +31,7 @@ module _ {X Code : Type 0} (value : X → ℤ) (c : Kept X) (f : Format Code) (k
         let own = fits.own l b is in
         (skewed_rule.found (length c.tags) c.tags b l own.0 is (λ m there. fits.once m l b there is), own.1);
     clean = fits.clean;
+    room = fits.room;
   }
 
   pub fits_of : FitsAt skewed value c f k → Fits value c f k
@@ -40,6 +41,7 @@ module _ {X Code : Type 0} (value : X → ℤ) (c : Kept X) (f : Format Code) (k
         (subst (IsOneOfTwo (length c.tags) b) own.0 (skewed_rule.allowed (length c.tags) c.tags b), own.1);
     once = λ l m b is there. sym (fits.own l b is).0 ∙ (fits.own m b there).0;
     clean = fits.clean;
+    room = fits.room;
   }
 
   pub values_stand : (b : ℕ) → (state_of value c f k).values b ≡ values_of value c f k b
@@ -211,11 +213,11 @@ module _ {X Code : Type 0} (value : X → ℤ) (f h : Format Code) (k j : ℕ �
 -- ---- loans
 
 module _ {X Code : Type 0} (value : X → ℤ) (f h : Format Code) (j : ℕ → Code) (c : Kept X) (t : Body X) (b l : ℕ)
-    (same : h ≡ f) (sound : IsSound skewed value t h j) (at : l ≡ line_by skewed c b) (others : OnlyLine c (kept_of t) l) where
+    (same : h ≡ f) (sound : IsSound skewed value t h j) (at : l ≡ line_by skewed c b) (others : OnlyLine c (kept_of t) l) (has_row : l < length t.lines) where
   pub stands : (s : State Code) → state_of value (kept_of t) h j ≡ s → StandsFor value (kept_of t) f j s
   stands s state = record {
-    state = state_now skewed IsOneOfTwo skewed_rule value f h j c t b l same sound at others s state;
-    fits = fits_of value (kept_of t) f j (fits_now skewed IsOneOfTwo skewed_rule value f h j c t b l same sound at others);
+    state = state_now skewed IsOneOfTwo skewed_rule value f h j c t b l same sound at others has_row s state;
+    fits = fits_of value (kept_of t) f j (fits_now skewed IsOneOfTwo skewed_rule value f h j c t b l same sound at others has_row);
   }
 
   module _ (k : ℕ → Code) (fits : Fits value c f k) (dirty : tag_at t.tags.items l ≡ dirty_tag b)
@@ -230,12 +232,12 @@ module _ {X Code : Type 0} (value : X → ℤ) (f h : Format Code) (j : ℕ → 
     pub loans : LendsBlock value f k j c b row
     unfolding touch_for_writing
     loans = record {
-      held = row_held skewed IsOneOfTwo skewed_rule value f h j c t b l same sound at others k dirty state row is ∙ ap (λ (u : State Code). u.values b) touched;
+      held = row_held skewed IsOneOfTwo skewed_rule value f h j c t b l same sound at others has_row k dirty state row is ∙ ap (λ (u : State Code). u.values b) touched;
       written = λ w. record {
         state = ap (λ d. state_of value d f j) (sym (lent_is w))
-            ∙ lent_state skewed IsOneOfTwo skewed_rule value f h j c t b l same sound at others k dirty state row is w
+            ∙ lent_state skewed IsOneOfTwo skewed_rule value f h j c t b l same sound at others has_row k dirty state row is w
             ∙ ap (λ u. with_values (soiled u b) b (existing_of f b (map value (over row w)))) touched;
         fits = fits_of value (lent_block value f k c b row w) f j
-            (subst (λ d. FitsAt skewed value d f j) (lent_is w) (lent_fits skewed IsOneOfTwo skewed_rule value f h j c t b l same sound at others k dirty state row is w));
+            (subst (λ d. FitsAt skewed value d f j) (lent_is w) (lent_fits skewed IsOneOfTwo skewed_rule value f h j c t b l same sound at others has_row k dirty state row is w));
       };
     }

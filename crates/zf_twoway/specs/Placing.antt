@@ -1,6 +1,8 @@
 -- In which line a block is, or goes, as a state tells, and as the tags of the lines tell.
-use Rattle.std.specs.Prelude.{◌≡◌, ℕ, Bool, true, false, List, Option, Some, is_none, if◌then◌else◌, refl}
+use Rattle.std.specs.Prelude.{◌≡◌, ℕ, ◌%◌, Bool, true, false, List, Option, Some, is_none, if◌then◌else◌, bit_xor, refl}
+use Rattle.std.specs.Int.Bits.{xor_zero_r}
 use Rattle.std.proofs.Common.{◌⊎◌, inl, inr, ap, ◌∙◌, ◌<◌}
+use Rattle.std.proofs.Math.Nat.{mod-eq_of_lt, div-eq_of_lt}
 use Rattle.std.proofs.lemmas.Nat.{mod_below}
 use Rattle.zf_cached.specs.State.{is_block}
 use Rattle.zf_cache.specs.Kept.{IsIn, tag_at, block_in, dirty_of}
@@ -67,6 +69,10 @@ skewed-second n tags b out is =
     let first = first_line n b in let second = second_line n b in let t = tag_at tags first in let u = tag_at tags second in
     (λ i. place_by (is_block-other (block_in t) b out i) (is_block-same (block_in u) b is i) (taking_line t u first second) first second)
 
+-- a block whose number is below the number of lines has the line of its number as its second line, too
+pub second-low : (n b : ℕ) → b < n → second_line n b ≡ b
+second-low n b lt = ap (λ q. bit_xor b q % n) (div-eq_of_lt lt) ∙ ap (λ m. m % n) (xor_zero_r b) ∙ mod-eq_of_lt lt
+
 pub skewed_rule : IsRule skewed IsOneOfTwo
 skewed_rule = record {
   inside = λ n tags b some. either (λ l. l < n) n tags b (mod_below b n some) (mod_below _ n some);
@@ -78,6 +84,7 @@ skewed_rule = record {
       | inr out ↦ skewed-second n tags b out (ap (λ j. block_in (tag_at tags j)) at ∙ is) ∙ at
     ]
   ];
+  low = λ n tags b lt. either (λ l. l ≡ b) n tags b (mod-eq_of_lt lt) (second-low n b lt);
 }
 
 -- ---- the same, where the state tells

@@ -7,13 +7,14 @@ ghost use Rattle.zf_cached.specs.Changes.{discard, opened};
 ghost use Rattle.zf_cache.specs.Kept.{Kept, IsEmpty, IsIn, IsAway, tag_at, dirty_tag};
 ghost use Rattle.zf_cache.specs.Standing.{line_values};
 ghost use Rattle.zf_twoway.specs.Touch.{first_line, second_line};
-ghost use Rattle.zf_twoway.specs.Standing.{is_dirty, state_of, Fits};
+ghost use Rattle.zf_twoway.specs.Standing.{is_dirty, state_of, Fits, HasRoom};
 
 use zf_base::{Lane, Reading};
 
-/// An empty cache fits every backing.
+/// An empty cache fits every backing that it has room for.
 pub fn empty_caches_fit<T: Lane, B: Reading<T>>()
-    ensures { (c : Kept T) (n : ℕ) (back : B) → IsEmpty c n → Fits T.value c (B.format back) (B.codes back) }
+    ensures { (c : Kept T) (n : ℕ) (back : B) → IsEmpty c n → HasRoom c (B.format back).blocks
+        → Fits T.value c (B.format back) (B.codes back) }
 {}
 
 /// An empty cache, with counts of 0, stands with its backing for an array as it is opened.
@@ -22,12 +23,14 @@ pub fn empty_caches_open<T: Lane, B: Reading<T>>()
         → state_of T.value c (B.format back) (B.codes back) ≡ opened (B.format back) (B.codes back) n }
 {}
 
-/// What `discard` does is the discard of the state that cache and backing stand for.
+/// What `discard` does is the discard of the state that cache and backing stand for, and the two fit afterwards.
 pub fn discards<T: Lane, B: Reading<T>>()
-    ensures { (c d : Kept T) (back : B) → Fits T.value c (B.format back) (B.codes back)
+    ensures state { (c d : Kept T) (back : B) → Fits T.value c (B.format back) (B.codes back)
         → IsEmpty d (length c.tags) → d.counts ≡ c.counts
         → state_of T.value d (B.format back) (B.codes back)
         ≡ discard (B.format back) (state_of T.value c (B.format back) (B.codes back)) }
+    ensures fits { (c d : Kept T) (back : B) → Fits T.value c (B.format back) (B.codes back)
+        → IsEmpty d (length c.tags) → length d.lines ≡ length c.lines → Fits T.value d (B.format back) (B.codes back) }
 {}
 
 /// In the state of a cache that fits, a block that is in a line has the values there, and is dirty where the tag says so; one that is in no

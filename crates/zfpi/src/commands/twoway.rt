@@ -1,6 +1,7 @@
 //! `run` over a two-way cache: a script on the codes of a file.
 
 ghost use Rattle.std.specs.Prelude.{◌≡◌, ℕ, List, [], Option, Some, true, ◌≤◌, length, vec_len, IfOk, IfErr};
+ghost use Rattle.zf_spec.specs.Grid.{blocks};
 ghost use Rattle.zf_base.specs.Widths.{width_of};
 ghost use Rattle.zf_dev.specs.Faults.{Rose, IsQuiet};
 ghost use Rattle.zf_dev.specs.Shelf.{Files, KeepsFiles};
@@ -14,6 +15,7 @@ ghost use Rattle.zf_cached.specs.Changes.{raised as raised_lines};
 ghost use Rattle.zf_store.specs.Files.{HasHeader, IsOpened, stream_fault};
 ghost use Rattle.zf_store.specs.Stored.{IsStore, file_of};
 ghost use Rattle.zf_cache.specs.Kept.{IsEmpty};
+ghost use Rattle.zf_twoway.specs.Standing.{HasRoom};
 ghost use Rattle.zf_run.specs.Pairs.{pair_state};
 ghost use Rattle.zfpi.specs.declared.command.Caching.TheVariants.{TwoWay as TwoWays};
 ghost use Rattle.zfpi.specs.declared.command.Command.TheVariants.{Run};
@@ -98,7 +100,8 @@ fn run_opened<T: Lane, const D: usize, S: Source, O: Sink, F: Shelf>(
     }
 }
 
-// The codes of a file with this header, and an empty cache of as many lines, raised to a power of two. The file becomes the bytes for saving.
+// The codes of a file with this header, and an empty cache of as many lines, raised to a power of two, with room for its
+// blocks. The file becomes the bytes for saving.
 fn open<T: Lane, const D: usize>(
     alloc: Global,
     header: &Header,
@@ -111,13 +114,15 @@ fn open<T: Lane, const D: usize>(
     requires dims { length header.now.shape ≡ D }
     ensures stored { IfOk result (λ o. IsOpened file.items header.now o.store) }
     ensures empty { IfOk result (λ o. IsEmpty o.cache (raised_lines lines)) }
+    ensures rows { IfOk result (λ o. HasRoom o.cache (blocks o.store.header.shape)) }
     ensures state { IfOk result (λ o. pair_state T.value o.store o.cache
         ≡ open_array T.width (block_bits header.now.mode) header.now.shape o.store.codes lines) }
     ensures room { IfOk result (λ o. vec_len o.file ≡ rate_bytes_of o.store.header) }
     ensures fault { IfErr result (λ e. IsFault (parse file.items) (stream_fault e)) }
 {
     let store = Store::from_file(alloc, header, &file)?;
-    let Ok(cache) = TwoWay::new(alloc, raised(lines)) else {
+    let blocks = header.shape.blocks();
+    let Ok(cache) = TwoWay::for_blocks(alloc, raised(lines), blocks) else {
         return Err(StoreFault::Memory);
     };
     Ok(Opened { store, cache, file })
@@ -133,6 +138,7 @@ fn run_script<T: Lane, const D: usize, S: Source, O: Sink, F: Shelf>(
     shelf: &mut F,
 ) -> Status
     requires empty { IsEmpty opened.cache (length opened.cache.tags) }
+    requires rows { HasRoom opened.cache (blocks opened.store.header.shape) }
     requires room { vec_len opened.file ≡ rate_bytes_of opened.store.header }
     ensures behaves { (known : Option Files) (lines : ℕ)
         → HoldsArray known name.now (TwoWays lines) T.width opened.store (pair_state T.value opened.store opened.cache)
@@ -161,6 +167,7 @@ fn run_lines<T: Lane, const D: usize, O: Sink, F: Shelf>(
     shelf: &mut F,
 ) -> Status
     requires empty { IsEmpty opened.cache (length opened.cache.tags) }
+    requires rows { HasRoom opened.cache (blocks opened.store.header.shape) }
     requires room { vec_len opened.file ≡ rate_bytes_of opened.store.header }
     ensures behaves { (known : Option Files) (lines : ℕ) (src rest : Option (List ℕ))
         → HoldsArray known name.now (TwoWays lines) T.width opened.store (pair_state T.value opened.store opened.cache)

@@ -1,4 +1,6 @@
-use Rattle.zf_private.proofs.Ready.{ready_beside, own_before}
+use Rattle.std.proofs.Common.{refl}
+use Rattle.zf_cache.proofs.Steps.{emptied_fits}
+use Rattle.zf_private.proofs.Ready.{ready_after, ready_beside, own_before}
 use Rattle.zf_array_tests.proofs.private.goes.Goals as goal
 
 pub returns-in-Get-clause-other : goal.returns-in-Get-clause-other
@@ -24,6 +26,11 @@ returns-in-Flush-clause-other g c = ready_beside _ 1 _ _ _ _ c.flush.ensures.for
 
 pub returns-in-Flush-clause-apart : goal.returns-in-Flush-clause-apart
 returns-in-Flush-clause-apart g c = λ b mine own. c.requires.apart b (own_before c.args.view.now c.flush.new.self c.flush.ensures.same b mine) own
+
+pub returns-in-Discard-clause-ready : goal.returns-in-Discard-clause-ready
+returns-in-Discard-clause-ready g c =
+    let fits = emptied_fits _ _ _ c.args.view.now.cache c.discard.new.self.cache c.requires.ready.fits c.discard.ensures.empty c.discard.ensures.rows in
+    ready_after _ 1 _ _ _ _ refl c.args.view.now c.discard.new.self c.requires.ready c.discard.ensures.same c.discard.ensures.whole fits
 
 pub returns-in-Discard-clause-apart : goal.returns-in-Discard-clause-apart
 returns-in-Discard-clause-apart g c = λ b mine own. c.requires.apart b (own_before c.args.view.now c.discard.new.self c.discard.ensures.same b mine) own

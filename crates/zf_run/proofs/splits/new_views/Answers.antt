@@ -13,6 +13,7 @@ loop-i-preserved g c =
     subst (AreNewParts g.row.D ns n c.args.lines (i + 1)) (sym c.in_ok-push.ensures.items)
     (one_made g.row.D ns n c.args.lines i c.loop-i.views.items c.in_ok-new.field-0 c.loop-i.invariant (record {
       empty = made.empty;
+      room = made.room;
       counts = made.counts;
       shape = made.blocks.0;
       first = made.blocks.1 ∙ ap (λ m. first_of m n i) c.blocks-blocks.ensures.value;

@@ -4,7 +4,9 @@ use Rattle.zf_cached.specs.Windows.{whole}
 use Rattle.zf_cache.proofs.Steps.{empty_fits_at}
 use Rattle.zf_cache.specs.Kept.{Kept}
 use Rattle.zf_store.specs.Stored.{Stored, format_of, code_at}
+use Rattle.zf_store.proofs.Kept.{blocks_is}
 use Rattle.zf_twoway.specs.Placing.{skewed}
+use Rattle.zf_twoway.specs.Standing.{HasRoom}
 use Rattle.zf_twoway.proofs.Standing.{fits_of}
 use Rattle.zf_run.specs.declared.end.RunEnd.TheVariants.{Write}
 use Rattle.zf_run.specs.Ends.{RunsTwo}
@@ -14,7 +16,7 @@ use Rattle.zf_run.proofs.two_runs.run_two.Goals as goal
 pub run_lines-requires-clause-sound : goal.run_lines-requires-clause-sound
 run_lines-requires-clause-sound g c =
     let s = c.args.store.now in let k = c.args.cache.now in let value = g.T.Lane.value in
-    fits_of value k (format_of s) (code_at s) (empty_fits_at skewed value (format_of s) (code_at s) k (length k.tags) c.requires.empty)
+    fits_of value k (format_of s) (code_at s) (empty_fits_at skewed value (format_of s) (code_at s) k (length k.tags) c.requires.empty (subst (λ n. HasRoom k n) (sym (blocks_is s)) c.requires.room))
 
 pub returns-in-Ok-clause-runs : goal.returns-in-Ok-clause-runs
 returns-in-Ok-clause-runs g c =

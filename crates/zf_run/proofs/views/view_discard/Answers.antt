@@ -1,9 +1,9 @@
-use Rattle.std.proofs.Common.{refl, ap, ◌∙◌, not, length, get_or, None}
+use Rattle.std.proofs.Common.{refl, ap, ◌∙◌, not, get_or, None}
 use Rattle.zf_cached.specs.Commands.{Command}
 use Rattle.zf_cached.specs.Acts.{Act}
 use Rattle.zf_cached.specs.Views.{answered}
 use Rattle.zf_cached.specs.Steps.{done}
-use Rattle.zf_cache.proofs.Steps.{empty_fits, discarded}
+use Rattle.zf_cache.proofs.Steps.{emptied_fits, discarded}
 use Rattle.zf_private.proofs.Others.{acted-discard}
 use Rattle.zf_array.specs.Standing.{state, format}
 use Rattle.zf_run.specs.Sessions.{setting_of}
@@ -30,7 +30,7 @@ returns-clause-does g c v lies =
     let lt = c.if-i-views.false in
     let ready = (c.requires.parts.each i x lt at).ready in
     let step = discarded value (format a) (state a).codes x.cache c.discard.new.self.cache ready.fits c.discard.ensures.empty c.discard.ensures.counts ∙ acted-discard g.T.Lane.width (format a) (view_state value a x) in
-    let fits = empty_fits value (format a) (state a).codes c.discard.new.self.cache (length x.cache.tags) c.discard.ensures.empty in
+    let fits = emptied_fits value (format a) (state a).codes x.cache c.discard.new.self.cache ready.fits c.discard.ensures.empty c.discard.ensures.rows in
     takes value g.T.Lane.width g.row.D a a views i x c.discard.new.self Act.discard c.shape-shape.ensures.same_type c.requires.parts lt at refl refl refl c.requires.parts.is_coded step tt (λ k not. refl)
     c.discard.ensures.same c.discard.ensures.whole fits v (Command.pdiscard i) None lies refl refl (ap not (has_view_is value a views i v lt)) refl refl refl refl
 
@@ -45,6 +45,6 @@ returns-clause-parts g c =
     let lt = c.if-i-views.false in
     let ready = (c.requires.parts.each i x lt at).ready in
     let step = discarded value (format a) (state a).codes x.cache c.discard.new.self.cache ready.fits c.discard.ensures.empty c.discard.ensures.counts ∙ acted-discard g.T.Lane.width (format a) (view_state value a x) in
-    let fits = empty_fits value (format a) (state a).codes c.discard.new.self.cache (length x.cache.tags) c.discard.ensures.empty in
+    let fits = emptied_fits value (format a) (state a).codes x.cache c.discard.new.self.cache ready.fits c.discard.ensures.empty c.discard.ensures.rows in
     still_parts value g.T.Lane.width g.row.D a a views i x c.discard.new.self Act.discard c.shape-shape.ensures.same_type c.requires.parts lt at refl refl refl c.requires.parts.is_coded step tt (λ k not. refl)
     c.discard.ensures.same c.discard.ensures.whole fits

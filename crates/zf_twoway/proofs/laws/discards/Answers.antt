@@ -1,9 +1,14 @@
-use Rattle.zf_cache.proofs.Steps.{discarded_at}
+use Rattle.zf_cache.proofs.Steps.{discarded_at, emptied_fits_at}
 use Rattle.zf_twoway.specs.Placing.{skewed}
-use Rattle.zf_twoway.proofs.Standing.{fits_at}
+use Rattle.zf_twoway.proofs.Standing.{fits_at, fits_of}
 use Rattle.zf_twoway.proofs.laws.discards.Goals as goal
 
 pub returns : goal.returns
-returns g c = λ d e back fits.
-    let f = g.B.Reading.format back in let k = g.B.Reading.codes back in
-    discarded_at skewed g.T.Lane.value f k d e (fits_at g.T.Lane.value d f k fits)
+returns g c = record {
+  state = λ d e back fits.
+      let f = g.B.Reading.format back in let k = g.B.Reading.codes back in
+      discarded_at skewed g.T.Lane.value f k d e (fits_at g.T.Lane.value d f k fits);
+  fits = λ d e back fits empty rows.
+      let f = g.B.Reading.format back in let k = g.B.Reading.codes back in
+      fits_of g.T.Lane.value e f k (emptied_fits_at skewed g.T.Lane.value f k d e (fits_at g.T.Lane.value d f k fits) empty rows);
+}

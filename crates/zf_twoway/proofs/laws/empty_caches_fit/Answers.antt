@@ -4,6 +4,6 @@ use Rattle.zf_twoway.proofs.Standing.{fits_of}
 use Rattle.zf_twoway.proofs.laws.empty_caches_fit.Goals as goal
 
 pub returns : goal.returns
-returns g c = λ d n back e.
+returns g c = λ d n back e room.
     let f = g.B.Reading.format back in let k = g.B.Reading.codes back in
-    fits_of g.T.Lane.value d f k (empty_fits_at skewed g.T.Lane.value f k d n e)
+    fits_of g.T.Lane.value d f k (empty_fits_at skewed g.T.Lane.value f k d n e room)

@@ -1,8 +1,9 @@
 use Rattle.std.proofs.Common.{sym, ap, ◌∙◌, false, length, replicate}
+use Rattle.zf_spec.specs.Grid.{blocks}
 use Rattle.std.specs.Vec.{vec_len}
 use Rattle.zf_cache.specs.Standing.{state_of}
 use Rattle.zf_header.specs.declared.header.Header.{Header}
-use Rattle.zf_store.specs.Stored.{code_at, format_of}
+use Rattle.zf_store.specs.Stored.{Stored, code_at, format_of}
 use Rattle.zf_header.specs.HeaderBits.{block_bits, rate_bytes_of}
 use Rattle.zf_cached.specs.Changes.{resized}
 use Rattle.zf_cache.proofs.Steps.{empty_fits}
@@ -12,20 +13,21 @@ use Rattle.zf_array.proofs.Standing.{stored_held}
 use Rattle.zf_array.proofs.Steps.{same_ty}
 use Rattle.zf_array.specs.Standing.{format}
 use Rattle.zf_array.proofs.Standing.{state_now, header_now}
-use Rattle.zf_array.proofs.Steps.{resizes}
+use Rattle.zf_array.proofs.Steps.{resizes, room_of}
 use Rattle.zf_array.proofs.array.Array.resize.Goals as goal
 
 pub invariant_of-self : goal.invariant_of-self
 invariant_of-self g c =
     let t = c.in_ok-store.store in
     let whole = c.header.ensures.whole in
+    let room = room_of t c.in_ok-cache.cache c.blocks-blocks.result c.in_ok-cache.ensures.room (c.blocks-blocks.ensures.value ∙ ap (λ (u : Stored). blocks u.header.shape) (sym c.in_ok-store.ensures)) in
     record {
       same_type = whole.same_type;
       dims = whole.dims;
       shape = whole.shape;
       rate = whole.rate;
       count = whole.count;
-      fits = empty_fits g.T.Lane.value (format_of t) (code_at t) c.discard.new.self (length c.self.inside.cache.tags) c.discard.ensures.empty;
+      fits = empty_fits g.T.Lane.value (format_of t) (code_at t) c.in_ok-cache.cache (length c.self.inside.cache.tags) c.in_ok-cache.ensures.empty room;
       room_is = c.in_ok-buffer.ensures.len ∙ c.rate_bytes.ensures ∙ ap rate_bytes_of c.header.ensures.value;
     }
 
@@ -33,8 +35,9 @@ pub returns-clause-stored : goal.returns-clause-stored
 returns-clause-stored g c =
     let s = c.self.inside in
     let t = c.in_ok-store.store in
-    let e = c.discard.new.self in
-    let fits = empty_fits g.T.Lane.value (format_of t) (code_at t) e (length s.cache.tags) c.discard.ensures.empty in
+    let e = c.in_ok-cache.cache in
+    let room = room_of t c.in_ok-cache.cache c.blocks-blocks.result c.in_ok-cache.ensures.room (c.blocks-blocks.ensures.value ∙ ap (λ (u : Stored). blocks u.header.shape) (sym c.in_ok-store.ensures)) in
+    let fits = empty_fits g.T.Lane.value (format_of t) (code_at t) e (length s.cache.tags) c.in_ok-cache.ensures.empty room in
     let ty = same_ty g.T.Lane.TY s.store.header.ty (sym g.met.T.Lane.width_of_type ∙ c.self.invariant.same_type) ∙ ap (λ (h : Header). h.ty) (sym (header_now g.T.Lane.value g.T.Lane.width g.row.D s.store s.cache (vec_len s.buffer) c.self.invariant c.args.self.now c.self.view_is)) in
     stored_held g.T.Lane.value t e c.header.ensures.whole.count fits ∙ c.in_ok-store.ensures
     ∙ ap (λ y. zeros y c.args.shape c.bits.result) ty ∙ ap (zeros c.args.self.now.header.ty c.args.shape) c.bits.ensures.value
@@ -43,8 +46,9 @@ pub returns-clause-ok : goal.returns-clause-ok
 returns-clause-ok g c =
     let s = c.self.inside in
     let t = c.in_ok-store.store in
-    let e = c.discard.new.self in
+    let e = c.in_ok-cache.cache in
+    let room = room_of t c.in_ok-cache.cache c.blocks-blocks.result c.in_ok-cache.ensures.room (c.blocks-blocks.ensures.value ∙ ap (λ (u : Stored). blocks u.header.shape) (sym c.in_ok-store.ensures)) in
     let a = held_by g.T.Lane.value t e in
-    resizes g.T.Lane.value s.store s.cache t e g.T.Lane.TY c.args.shape c.bits.result c.in_ok-store.ensures c.discard.ensures.empty c.discard.ensures.counts
+    resizes g.T.Lane.value s.store s.cache t e g.T.Lane.TY c.args.shape c.bits.result c.in_ok-store.ensures c.in_ok-cache.ensures.empty c.in_ok-cache.ensures.counts room
     ∙ ap (λ k. resized (format a) (replicate k false) (state_of g.T.Lane.value s.cache (format_of s.store) (code_at s.store))) c.bits.ensures.value
     ∙ ap (resized (format a) (replicate (block_bits c.args.self.now.header.mode) false)) (sym (state_now g.T.Lane.value g.T.Lane.width g.row.D s.store s.cache (vec_len s.buffer) c.self.invariant c.args.self.now c.self.view_is))

@@ -1,13 +1,28 @@
-use Rattle.std.proofs.Common.{refl, sym, ap, ◌∙◌, map, set, Some, None}
+use Rattle.std.proofs.Common.{refl, sym, ap, ◌∙◌, map, length, set, Some, None, arith}
 use Rattle.std.proofs.lemmas.List.{get_or_default}
 use Rattle.zf_base.specs.Formats.{with_at, encoded}
 use Rattle.std.specs.Vec.{with_item}
 use Rattle.zf_cache.specs.declared.body.Body.{Body}
 use Rattle.zf_cache.specs.Bodies.{counts_of}
-use Rattle.zf_cache.specs.Kept.{dirty_of}
-use Rattle.zf_cache.proofs.Sound.{evicts, evicts_below}
+use Rattle.zf_cache.specs.Kept.{dirty_of, tag_at}
+use Rattle.zf_cache.proofs.Sound.{row_there, evicts, evicts_below}
+use Rattle.zf_cache.proofs.Tags.{dirty_of-some}
 use Rattle.zf_cache.proofs.body.Body.evict.Goals.{in-Some, in_default}
 use Rattle.zf_cache.proofs.body.Body.evict.Goals as goal
+
+pub line-requires : goal.line-requires
+line-requires g c =
+    let a = c.args.self.now in let f = g.B.Reading.format c.args.back.now in
+    let tag = get_or_default a.tags.items c.args.l 0 c.index.result.now c.requires.line ∙ sym c.index.ensures in
+    let is = dirty_of-some (tag_at a.tags.items c.args.l) c.in-Some.b (ap dirty_of tag ∙ sym c.dirty_block.ensures ∙ c.in-Some.is) in
+    row_there a f.block_len c.requires.sound.whole c.args.l (omega (arith, is))
+
+pub store-requires-clause-whole : goal.store-requires-clause-whole
+store-requires-clause-whole g c =
+    let a = c.args.self.now in let f = g.B.Reading.format c.args.back.now in
+    let tag = get_or_default a.tags.items c.args.l 0 c.index.result.now c.requires.line ∙ sym c.index.ensures in
+    let is = dirty_of-some (tag_at a.tags.items c.args.l) c.in-Some.b (ap dirty_of tag ∙ sym c.dirty_block.ensures ∙ c.in-Some.is) in
+    ap length c.line.ensures ∙ c.requires.sound.whole.size.1 c.args.l (row_there a f.block_len c.requires.sound.whole c.args.l (omega (arith, is)))
 
 pub store-requires-clause-block : goal.store-requires-clause-block
 store-requires-clause-block g c =

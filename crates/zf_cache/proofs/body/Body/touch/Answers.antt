@@ -1,7 +1,8 @@
-use Rattle.std.proofs.Common.{◌≡◌, refl, sym, ap, subst, ◌∙◌, ◌/◌, length, arith}
+use Rattle.std.proofs.Common.{◌≡◌, ◌<◌, refl, sym, ap, subst, ◌∙◌, ◌/◌, length, arith}
 use Rattle.std.proofs.lemmas.List.{get_or_default, length-set}
 use Rattle.zf_cache.specs.declared.body.Body.{Body}
 use Rattle.zf_cache.specs.Kept.{IsAway}
+use Rattle.zf_lines.specs.Rows.{line_at}
 use Rattle.zf_cache.specs.Bodies.{kept_of}
 use Rattle.zf_cache.specs.Standing.{state_at}
 use Rattle.zf_cache.proofs.Sound.{none_in, hits_block, misses_block}
@@ -19,6 +20,24 @@ returns-then-index-b-clause-state g c =
     } in
     (hits_block g.R.Rule.place g.R.Rule.may_hold g.met.R.Rule.rule value a d f f k k refl c.requires.sound b l (ap (λ t. t / 2) tag ∙ c.if-index-b.true) refl refl
     (ap (λ n. record { hits = n; misses = a.counts.misses; writes = a.counts.writes }) c.saturating_add-self.ensures) refl).1
+
+pub returns-then-index-b-clause-row : goal.returns-then-index-b-clause-row
+returns-then-index-b-clause-row g c =
+    let a = c.args.self.now in
+    subst (λ m. m < length a.lines) (sym c.line_of-l.ensures.place) (c.requires.sound.fits.room a.tags.items c.args.b c.requires.block.0)
+
+pub take_in-requires-clause-row : goal.take_in-requires-clause-row
+take_in-requires-clause-row g c =
+    let a = c.args.self.now in let l = c.line_of-l.result in
+    let row = subst (λ m. m < length a.lines) (sym c.line_of-l.ensures.place) (c.requires.sound.fits.room a.tags.items c.args.b c.requires.block.0) in
+    subst (λ ls. l < length ls) (sym c.evict.ensures.lines) row
+
+pub returns-clause-row : goal.returns-clause-row
+returns-clause-row g c =
+    let a = c.args.self.now in let l = c.line_of-l.result in let t = c.evict.new.self in
+    let row = subst (λ m. m < length a.lines) (sym c.line_of-l.ensures.place) (c.requires.sound.fits.room a.tags.items c.args.b c.requires.block.0) in
+    let size = ap length c.take_in.ensures.lines ∙ length-set t.lines l (line_at c.take_in.new.self.lines l) ∙ ap length c.evict.ensures.lines in
+    subst (λ m. l < m) (sym size) row
 
 pub take_in-requires-clause-line : goal.take_in-requires-clause-line
 take_in-requires-clause-line g c =

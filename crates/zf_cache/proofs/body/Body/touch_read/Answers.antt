@@ -1,6 +1,7 @@
-use Rattle.std.proofs.Common.{◌≡◌, refl, sym, ap, subst, ◌∙◌, ◌/◌, length, set, None, arith}
+use Rattle.std.proofs.Common.{◌≡◌, ◌<◌, refl, sym, ap, subst, ◌∙◌, ◌/◌, length, set, None, arith}
 use Rattle.std.proofs.lemmas.List.{get_or_default, set-set, length-set}
 use Rattle.std.specs.Vec.{with_item}
+use Rattle.zf_lines.specs.Rows.{line_at}
 use Rattle.zf_cache.specs.declared.body.Body.{Body}
 use Rattle.zf_cache.specs.Kept.{tag_at, clean_tag}
 use Rattle.zf_cache.specs.Bodies.{kept_of}
@@ -21,6 +22,23 @@ returns-then-index-b-clause-state g c =
     } in
     (hits_block g.R.Rule.place g.R.Rule.may_hold g.met.R.Rule.rule value a d f f k k refl c.requires.sound b l (ap (λ t. t / 2) tag ∙ c.if-index-b.true) refl refl
     (ap (λ n. record { hits = n; misses = a.counts.misses; writes = a.counts.writes }) c.saturating_add-self.ensures) refl).1
+
+pub returns-then-index-b-clause-row : goal.returns-then-index-b-clause-row
+returns-then-index-b-clause-row g c =
+    let a = c.args.self.now in
+    subst (λ m. m < length a.lines) (sym c.line_of-l.ensures.place) (c.requires.sound.fits.room a.tags.items c.args.b c.requires.block.0)
+
+pub take_in-requires-clause-row : goal.take_in-requires-clause-row
+take_in-requires-clause-row g c =
+    let a = c.args.self.now in
+    subst (λ m. m < length a.lines) (sym c.line_of-l.ensures.place) (c.requires.sound.fits.room a.tags.items c.args.b c.requires.block.0)
+
+pub returns-clause-row : goal.returns-clause-row
+returns-clause-row g c =
+    let a = c.args.self.now in let l = c.line_of-l.result in
+    let row = subst (λ m. m < length a.lines) (sym c.line_of-l.ensures.place) (c.requires.sound.fits.room a.tags.items c.args.b c.requires.block.0) in
+    let size = ap length c.take_in.ensures.lines ∙ length-set a.lines l (line_at c.take_in.new.self.lines l) in
+    subst (λ m. l < m) (sym size) row
 
 pub take_in-requires-clause-line : goal.take_in-requires-clause-line
 take_in-requires-clause-line g c =

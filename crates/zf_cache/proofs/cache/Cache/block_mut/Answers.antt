@@ -1,9 +1,9 @@
-use Rattle.std.proofs.Common.{refl, ap, subst, ◌∙◌}
+use Rattle.std.proofs.Common.{refl, ap, subst, ◌∙◌, length}
 use Rattle.zf_cache.specs.Bodies.{kept_of}
 use Rattle.zf_cache.specs.Kept.{Kept}
 use Rattle.zf_cache.specs.Loans.{LendsBlock, lent_block}
 use Rattle.zf_cache.specs.Rules.{one_line, IsOneLine, one_line_rule}
-use Rattle.zf_cache.proofs.Lent.{lends}
+use Rattle.zf_cache.proofs.Lent.{lends, whole}
 use Rattle.zf_cache.proofs.OwnLines.{lent_is, loans}
 use Rattle.zf_cache.proofs.cache.Cache.block_mut.Goals as goal
 
@@ -16,12 +16,13 @@ returns g c =
     let row = c.line_mut.result.now in let row_is = c.line_mut.ensures.value in (
       (
         refl,
-        λ w. lends one_line IsOneLine one_line_rule value f h j (kept_of o) t b l e.format e.sound e.line e.others k e.dirty e.state row row_is w
-            ∙ lent_is value f h j (kept_of o) t b l e.format e.sound e.line e.others k e.dirty e.state row row_is w ∙ ap (λ (q : Kept g.row.T.Denot). lent_block value f k q b row w) is,
+        λ w. lends one_line IsOneLine one_line_rule value f h j (kept_of o) t b l e.format e.sound e.line e.others e.row k e.dirty e.state row row_is w
+            ∙ lent_is value f h j (kept_of o) t b l e.format e.sound e.line e.others e.row k e.dirty e.state row row_is w ∙ ap (λ (q : Kept g.row.T.Denot). lent_block value f k q b row w) is,
       ),
       record {
         writes_back = tt;
-        loan = subst (λ (q : Kept g.row.T.Denot). LendsBlock value f k j q b row) is (loans value f h j (kept_of o) t b l e.format e.sound e.line e.others k e.dirty e.state row row_is);
+        loan = subst (λ (q : Kept g.row.T.Denot). LendsBlock value f k j q b row) is (loans value f h j (kept_of o) t b l e.format e.sound e.line e.others e.row k e.dirty e.state row row_is);
+        size = ap length row_is ∙ whole one_line IsOneLine one_line_rule value f h j (kept_of o) t b l e.format e.sound e.line e.others e.row ∙ ap (λ q. q.block_len) e.format ∙ c.requires.blocks.0;
         format = e.format;
         kept = e.kept;
       },

@@ -1,11 +1,11 @@
-use Rattle.std.proofs.Common.{refl, ap, ◌∙◌}
+use Rattle.std.proofs.Common.{refl, ap, ◌∙◌, length}
 use Rattle.zf_cached.specs.Touch.{touch}
 use Rattle.zf_cache.specs.Bodies.{kept_of}
 use Rattle.zf_cache.specs.Standing.{state_of}
 use Rattle.zf_cache.specs.Kept.{Kept}
 use Rattle.zf_cache.specs.Rules.{one_line, IsOneLine, one_line_rule}
 use Rattle.zf_cache.proofs.Touches.{one_line_state}
-use Rattle.zf_cache.proofs.Lent.{shows}
+use Rattle.zf_cache.proofs.Lent.{shows, whole}
 use Rattle.zf_cache.proofs.OwnLines.{touches, stands}
 use Rattle.zf_cache.proofs.cache.Cache.block_read.Goals as goal
 
@@ -17,10 +17,11 @@ returns g c =
     let h = g.B.Reading.format c.touch_read-l.new.back in let j = g.B.Reading.codes c.touch_read-l.new.back in
     let state = touches value f h k j (kept_of o) (kept_of t) l b e.line e.state ∙ ap (λ (q : Kept g.row.T.Denot). touch f (state_of value q f k) b) is in
     let s = touch f (state_of value c.args.self.now f k) b in (
-      (refl, λ _. tt, (stands value f h j (kept_of o) t b l e.format e.sound e.line e.others s state, e.clean)),
+      (refl, λ _. tt, (stands value f h j (kept_of o) t b l e.format e.sound e.line e.others e.row s state, e.clean)),
       record {
         touched = tt;
-        value = shows one_line IsOneLine one_line_rule value f h j (kept_of o) t b l e.format e.sound e.line e.others e.here s c.line.result.now (one_line_state value h (kept_of t) j ∙ state) c.line.ensures;
+        value = shows one_line IsOneLine one_line_rule value f h j (kept_of o) t b l e.format e.sound e.line e.others e.row e.here s c.line.result.now (one_line_state value h (kept_of t) j ∙ state) c.line.ensures;
+        size = ap length c.line.ensures ∙ whole one_line IsOneLine one_line_rule value f h j (kept_of o) t b l e.format e.sound e.line e.others e.row ∙ ap (λ q. q.block_len) e.format ∙ c.requires.blocks.0;
         format = e.format;
         kept = e.kept;
       },

@@ -22,5 +22,5 @@ returns-clause-value g c =
     let t = c.touch_read-l.new.self in let l = c.touch_read-l.result in let e = c.touch_read-l.ensures in
     let h = g.B.Reading.format c.touch_read-l.new.back in let j = g.B.Reading.codes c.touch_read-l.new.back in
     let within = subst (λ n. c.args.p < n) (sym (ap (λ q. q.block_len) e.format ∙ c.requires.blocks.0)) c.requires.place in
-    gets one_line IsOneLine one_line_rule value f h j (kept_of c.self.inside.body) t b l e.format e.sound e.line e.others e.here (values_of value (kept_of t) h j b) (one_line_values value h (kept_of t) j b)
+    gets one_line IsOneLine one_line_rule value f h j (kept_of c.self.inside.body) t b l e.format e.sound e.line e.others e.row e.here (values_of value (kept_of t) h j b) (one_line_values value h (kept_of t) j b)
     c.args.p c.line.result.now c.index-line-p.result within c.line.ensures c.index-line-p.is

@@ -1,6 +1,6 @@
-use Rattle.std.proofs.Common.{refl, sym, ap, subst, ◌∙◌, ◌<◌, length, [], ◌∷◌, lit<}
-use Rattle.zf_lines.specs.Rows.{with_part, HasSize}
-use Rattle.zf_cache.specs.Kept.{line_of}
+use Rattle.std.proofs.Common.{refl, sym, ap, subst, ◌∙◌, ◌<◌, [], ◌∷◌, lit<}
+use Rattle.zf_lines.specs.Rows.{with_part}
+use Rattle.zf_cache.specs.Kept.{HasRow, line_of}
 use Rattle.zf_cached.specs.Acts.{Act}
 use Rattle.zf_private.specs.Standing.{Held, block_at, place_at, state}
 use Rattle.zf_cache.specs.Standing.{state_of}
@@ -26,7 +26,7 @@ returns-clause-state g c =
     let p = c.args.p in let b = c.place-b.result.0 in let place = c.place-b.result.1 in let e = c.place-b.ensures in
     let h = g.B.Reading.format c.touch_mut.new.back in let j = g.B.Reading.codes c.touch_mut.new.back in let new = record c.touch_mut.new.self { lines = with_part c.touch_mut.new.self.lines (line_of c.touch_mut.new.self b) place 1 (c.add.result ∷ []) } in
     let len = ap (λ q. q.block_len) c.touch_mut.ensures.format ∙ (has_blocks value w d v now is whole f k c.requires.blocks).0 in
-    let step = acts_at value w d v now is whole f k p b place e.block e.place e.at (λ m n. Act.add m n (value c.args.v)) (state_of value new h j) ((added_state value w f h k j (state value v f k) c.touch_mut.new.self b place c.value_mut-value.result.now c.add.result c.args.v c.touch_mut.ensures.format c.touch_mut.ensures.state c.touch_mut.ensures.fits c.touch_mut.ensures.dirty (subst (λ n. HasSize c.touch_mut.new.self.lines (length c.touch_mut.new.self.tags) n) (sym len) c.value_mut-value.ensures.size) (subst (λ n. place < n) (sym len) (place_below value w d v now is whole f k p b place e.block e.place e.at)) (exists_there value w d v now is whole f k p b place e.block e.place e.at c.requires.places c.requires.owned) c.value_mut-value.ensures.value c.add.ensures.value (touched_whole f (state value v f k) b (values_whole value v.cache f k b))) ∙ acted-add w f (state value v f k) b place (value c.args.v)) in
+    let step = acts_at value w d v now is whole f k p b place e.block e.place e.at (λ m n. Act.add m n (value c.args.v)) (state_of value new h j) ((added_state value w f h k j (state value v f k) c.touch_mut.new.self b place c.value_mut-value.result.now c.add.result c.args.v c.touch_mut.ensures.format c.touch_mut.ensures.state c.touch_mut.ensures.fits c.touch_mut.ensures.dirty (subst (λ n. HasRow c.touch_mut.new.self b n) (sym len) c.value_mut-value.ensures.size) (subst (λ n. place < n) (sym len) (place_below value w d v now is whole f k p b place e.block e.place e.at)) (exists_there value w d v now is whole f k p b place e.block e.place e.at c.requires.places c.requires.owned) c.value_mut-value.ensures.value c.add.ensures.value (touched_whole f (state value v f k) b (values_whole value v.cache f k b))) ∙ acted-add w f (state value v f k) b place (value c.args.v)) in
     step
 
 pub returns-clause-others : goal.returns-clause-others
@@ -38,7 +38,7 @@ returns-clause-others g c =
     let p = c.args.p in let b = c.place-b.result.0 in let place = c.place-b.result.1 in let e = c.place-b.ensures in
     let h = g.B.Reading.format c.touch_mut.new.back in let j = g.B.Reading.codes c.touch_mut.new.back in let new = record c.touch_mut.new.self { lines = with_part c.touch_mut.new.self.lines (line_of c.touch_mut.new.self b) place 1 (c.add.result ∷ []) } in
     let len = ap (λ q. q.block_len) c.touch_mut.ensures.format ∙ (has_blocks value w d v now is whole f k c.requires.blocks).0 in
-    let step = acts_at value w d v now is whole f k p b place e.block e.place e.at (λ m n. Act.add m n (value c.args.v)) (state_of value new h j) ((added_state value w f h k j (state value v f k) c.touch_mut.new.self b place c.value_mut-value.result.now c.add.result c.args.v c.touch_mut.ensures.format c.touch_mut.ensures.state c.touch_mut.ensures.fits c.touch_mut.ensures.dirty (subst (λ n. HasSize c.touch_mut.new.self.lines (length c.touch_mut.new.self.tags) n) (sym len) c.value_mut-value.ensures.size) (subst (λ n. place < n) (sym len) (place_below value w d v now is whole f k p b place e.block e.place e.at)) (exists_there value w d v now is whole f k p b place e.block e.place e.at c.requires.places c.requires.owned) c.value_mut-value.ensures.value c.add.ensures.value (touched_whole f (state value v f k) b (values_whole value v.cache f k b))) ∙ acted-add w f (state value v f k) b place (value c.args.v)) in
+    let step = acts_at value w d v now is whole f k p b place e.block e.place e.at (λ m n. Act.add m n (value c.args.v)) (state_of value new h j) ((added_state value w f h k j (state value v f k) c.touch_mut.new.self b place c.value_mut-value.result.now c.add.result c.args.v c.touch_mut.ensures.format c.touch_mut.ensures.state c.touch_mut.ensures.fits c.touch_mut.ensures.dirty (subst (λ n. HasRow c.touch_mut.new.self b n) (sym len) c.value_mut-value.ensures.size) (subst (λ n. place < n) (sym len) (place_below value w d v now is whole f k p b place e.block e.place e.at)) (exists_there value w d v now is whole f k p b place e.block e.place e.at c.requires.places c.requires.owned) c.value_mut-value.ensures.value c.add.ensures.value (touched_whole f (state value v f k) b (values_whole value v.cache f k b))) ∙ acted-add w f (state value v f k) b place (value c.args.v)) in
     others_stay value w d v now is whole f k new h j (Act.add (block_at now p) (place_at now p) (value c.args.v)) step
 
 pub invariant_of-self : goal.invariant_of-self
@@ -50,7 +50,7 @@ invariant_of-self g c =
     let p = c.args.p in let b = c.place-b.result.0 in let place = c.place-b.result.1 in let e = c.place-b.ensures in
     let h = g.B.Reading.format c.touch_mut.new.back in let j = g.B.Reading.codes c.touch_mut.new.back in let new = record c.touch_mut.new.self { lines = with_part c.touch_mut.new.self.lines (line_of c.touch_mut.new.self b) place 1 (c.add.result ∷ []) } in
     let len = ap (λ q. q.block_len) c.touch_mut.ensures.format ∙ (has_blocks value w d v now is whole f k c.requires.blocks).0 in
-    let step = acts_at value w d v now is whole f k p b place e.block e.place e.at (λ m n. Act.add m n (value c.args.v)) (state_of value new h j) ((added_state value w f h k j (state value v f k) c.touch_mut.new.self b place c.value_mut-value.result.now c.add.result c.args.v c.touch_mut.ensures.format c.touch_mut.ensures.state c.touch_mut.ensures.fits c.touch_mut.ensures.dirty (subst (λ n. HasSize c.touch_mut.new.self.lines (length c.touch_mut.new.self.tags) n) (sym len) c.value_mut-value.ensures.size) (subst (λ n. place < n) (sym len) (place_below value w d v now is whole f k p b place e.block e.place e.at)) (exists_there value w d v now is whole f k p b place e.block e.place e.at c.requires.places c.requires.owned) c.value_mut-value.ensures.value c.add.ensures.value (touched_whole f (state value v f k) b (values_whole value v.cache f k b))) ∙ acted-add w f (state value v f k) b place (value c.args.v)) in
+    let step = acts_at value w d v now is whole f k p b place e.block e.place e.at (λ m n. Act.add m n (value c.args.v)) (state_of value new h j) ((added_state value w f h k j (state value v f k) c.touch_mut.new.self b place c.value_mut-value.result.now c.add.result c.args.v c.touch_mut.ensures.format c.touch_mut.ensures.state c.touch_mut.ensures.fits c.touch_mut.ensures.dirty (subst (λ n. HasRow c.touch_mut.new.self b n) (sym len) c.value_mut-value.ensures.size) (subst (λ n. place < n) (sym len) (place_below value w d v now is whole f k p b place e.block e.place e.at)) (exists_there value w d v now is whole f k p b place e.block e.place e.at c.requires.places c.requires.owned) c.value_mut-value.ensures.value c.add.ensures.value (touched_whole f (state value v f k) b (values_whole value v.cache f k b))) ∙ acted-add w f (state value v f k) b place (value c.args.v)) in
     still_whole value w d v now is whole f k new h j (Act.add (block_at now p) (place_at now p) (value c.args.v)) step o.shape o.first o.count refl refl refl c.requires.owned
 
 pub returns-clause-fits : goal.returns-clause-fits
@@ -62,7 +62,7 @@ returns-clause-fits g c =
     let p = c.args.p in let b = c.place-b.result.0 in let place = c.place-b.result.1 in let e = c.place-b.ensures in
     let h = g.B.Reading.format c.touch_mut.new.back in let j = g.B.Reading.codes c.touch_mut.new.back in
     let len = ap (λ q. q.block_len) c.touch_mut.ensures.format ∙ (has_blocks value w d v now is whole f k c.requires.blocks).0 in
-    added_fits value w f h k j (state value v f k) c.touch_mut.new.self b place c.value_mut-value.result.now c.add.result c.args.v c.touch_mut.ensures.format c.touch_mut.ensures.state c.touch_mut.ensures.fits c.touch_mut.ensures.dirty (subst (λ n. HasSize c.touch_mut.new.self.lines (length c.touch_mut.new.self.tags) n) (sym len) c.value_mut-value.ensures.size) (subst (λ n. place < n) (sym len) (place_below value w d v now is whole f k p b place e.block e.place e.at)) (exists_there value w d v now is whole f k p b place e.block e.place e.at c.requires.places c.requires.owned) c.value_mut-value.ensures.value c.add.ensures.value
+    added_fits value w f h k j (state value v f k) c.touch_mut.new.self b place c.value_mut-value.result.now c.add.result c.args.v c.touch_mut.ensures.format c.touch_mut.ensures.state c.touch_mut.ensures.fits c.touch_mut.ensures.dirty (subst (λ n. HasRow c.touch_mut.new.self b n) (sym len) c.value_mut-value.ensures.size) (subst (λ n. place < n) (sym len) (place_below value w d v now is whole f k p b place e.block e.place e.at)) (exists_there value w d v now is whole f k p b place e.block e.place e.at c.requires.places c.requires.owned) c.value_mut-value.ensures.value c.add.ensures.value
 
 pub returns-clause-whole : goal.returns-clause-whole
 returns-clause-whole g c = invariant_of-self g c

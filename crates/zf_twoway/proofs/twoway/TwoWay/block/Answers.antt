@@ -23,11 +23,11 @@ returns g c =
     let b = c.args.b in let l = c.touch-l.result in
     let state = touches value f h k j o (kept_of t) fits l b e.line e.state ∙ ap (λ (q : Kept g.row.T.Denot). touch f (state_of value q f k) b) is in
     let s = touch f (state_of value c.args.self.now f k) b in (
-      (refl, λ _. tt, stands value f h j o t b l e.format e.sound e.line e.others s state),
+      (refl, λ _. tt, stands value f h j o t b l e.format e.sound e.line e.others e.row s state),
       record {
         touched = tt;
-        value = shows skewed IsOneOfTwo skewed_rule value f h j o t b l e.format e.sound e.line e.others e.here s c.line.result.now state c.line.ensures;
-        size = ap length c.line.ensures ∙ whole skewed IsOneOfTwo skewed_rule value f h j o t b l e.format e.sound e.line e.others ∙ ap (λ q. q.block_len) e.format ∙ c.requires.blocks.0;
+        value = shows skewed IsOneOfTwo skewed_rule value f h j o t b l e.format e.sound e.line e.others e.row e.here s c.line.result.now state c.line.ensures;
+        size = ap length c.line.ensures ∙ whole skewed IsOneOfTwo skewed_rule value f h j o t b l e.format e.sound e.line e.others e.row ∙ ap (λ q. q.block_len) e.format ∙ c.requires.blocks.0;
         format = e.format;
         kept = e.kept;
       },

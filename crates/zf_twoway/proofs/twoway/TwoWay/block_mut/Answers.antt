@@ -1,7 +1,10 @@
-use Rattle.std.proofs.Common.{refl, sym, ap, subst, ◌∙◌, length}
+use Rattle.std.proofs.Common.{◌^◌, refl, sym, ap, subst, ◌∙◌, length}
+use Rattle.zf_lines.specs.Rows.{line_at, over}
+use Rattle.zf_lines.proofs.Sizes.{length-over}
 use Rattle.zf_cache.specs.Kept.{Kept}
-use Rattle.zf_cache.specs.Bodies.{kept_of}
+use Rattle.zf_cache.specs.Bodies.{IsWhole, kept_of}
 use Rattle.zf_cache.proofs.Lent.{lends, whole}
+use Rattle.zf_cache.proofs.Sound.{whole_written}
 use Rattle.zf_twoway.specs.Placing.{skewed, IsOneOfTwo, skewed_rule}
 use Rattle.zf_twoway.specs.Standing.{Fits}
 use Rattle.zf_twoway.specs.Loans.{LendsBlock, lent_block}
@@ -12,6 +15,12 @@ pub touch_for_writing-l-requires-clause-sound : goal.touch_for_writing-l-require
 touch_for_writing-l-requires-clause-sound g c =
     sound_of g.T.Lane.value c.self.inside.body c.args.self.now (g.B.Reading.format c.args.back.now) (g.B.Reading.codes c.args.back.now) _
     c.self.view_is c.self.invariant.0 c.requires.blocks.0 c.requires.fits
+
+pub invariant_of-self-lent : goal.invariant_of-self-lent
+invariant_of-self-lent g c = λ w.
+    let t = c.touch_for_writing-l.new.self in let e = c.touch_for_writing-l.ensures in let l = c.touch_for_writing-l.result in
+    let is : IsWhole t (4 ^ g.row.D) = subst (IsWhole t) (ap (λ q. q.block_len) e.format ∙ c.requires.blocks.0) e.sound.whole in
+    (whole_written t _ (4 ^ g.row.D) l (over (line_at t.lines l) w) is e.row (length-over (line_at t.lines l) w ∙ is.size.1 l e.row) refl refl, c.self.invariant.1)
 
 pub returns : goal.returns
 returns g c =
@@ -24,13 +33,13 @@ returns g c =
     let row = c.line_mut.result.now in let row_is = c.line_mut.ensures.value in (
       (
         refl,
-        λ w. lends skewed IsOneOfTwo skewed_rule value f h j o t b l e.format e.sound e.line e.others k e.dirty e.state row row_is w
-            ∙ lent_is value f h j o t b l e.format e.sound e.line e.others k fits e.dirty e.state row row_is w ∙ ap (λ (q : Kept g.row.T.Denot). lent_block value f k q b row w) is,
+        λ w. lends skewed IsOneOfTwo skewed_rule value f h j o t b l e.format e.sound e.line e.others e.row k e.dirty e.state row row_is w
+            ∙ lent_is value f h j o t b l e.format e.sound e.line e.others e.row k fits e.dirty e.state row row_is w ∙ ap (λ (q : Kept g.row.T.Denot). lent_block value f k q b row w) is,
       ),
       record {
         writes_back = tt;
-        loan = subst (λ (q : Kept g.row.T.Denot). LendsBlock value f k j q b row) is (loans value f h j o t b l e.format e.sound e.line e.others k fits e.dirty e.state row row_is);
-        size = ap length row_is ∙ whole skewed IsOneOfTwo skewed_rule value f h j o t b l e.format e.sound e.line e.others ∙ ap (λ q. q.block_len) e.format ∙ c.requires.blocks.0;
+        loan = subst (λ (q : Kept g.row.T.Denot). LendsBlock value f k j q b row) is (loans value f h j o t b l e.format e.sound e.line e.others e.row k fits e.dirty e.state row row_is);
+        size = ap length row_is ∙ whole skewed IsOneOfTwo skewed_rule value f h j o t b l e.format e.sound e.line e.others e.row ∙ ap (λ q. q.block_len) e.format ∙ c.requires.blocks.0;
         format = e.format;
         kept = e.kept;
       },

@@ -35,5 +35,5 @@ returns-clause-value g c =
     let h = g.B.Reading.format c.touch-l.new.back in let j = g.B.Reading.codes c.touch-l.new.back in
     let b = c.args.b in let l = c.touch-l.result in
     let within = subst (λ n. c.args.p < n) (sym (ap (λ q. q.block_len) e.format ∙ c.requires.blocks.0)) c.requires.place in
-    gets skewed IsOneOfTwo skewed_rule value f h j o t b l e.format e.sound e.line e.others e.here (values_of value (kept_of t) h j b) (values_stand value (kept_of t) h j b)
+    gets skewed IsOneOfTwo skewed_rule value f h j o t b l e.format e.sound e.line e.others e.row e.here (values_of value (kept_of t) h j b) (values_stand value (kept_of t) h j b)
     c.args.p c.line.result.now c.index-line-p.result within c.line.ensures c.index-line-p.is

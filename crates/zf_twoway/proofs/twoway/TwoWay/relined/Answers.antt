@@ -1,10 +1,14 @@
-use Rattle.std.proofs.Common.{ap, ◌∙◌, length}
+use Rattle.std.proofs.Common.{sym, ap, ◌∙◌, ℕ, length, min}
+use Rattle.std.proofs.lemmas.List.{length-replicate}
+use Rattle.zf_base.specs.Formats.{Format}
 use Rattle.zf_cache.specs.Kept.{Kept}
 use Rattle.zf_cache.specs.Bodies.{kept_of, counts_of}
 use Rattle.zf_cached.specs.Changes.{relined}
 use Rattle.zf_cache.proofs.Lent.{reline}
+use Rattle.zf_cache.proofs.Rooms.{room_for_blocks}
 use Rattle.zf_cache.proofs.Steps.{empty_fits_at}
-use Rattle.zf_twoway.specs.Placing.{skewed}
+use Rattle.zf_cache.proofs.Tags.{counts_lines}
+use Rattle.zf_twoway.specs.Placing.{skewed, IsOneOfTwo, skewed_rule}
 use Rattle.zf_twoway.specs.Standing.{state_of}
 use Rattle.zf_twoway.proofs.Standing.{sound_of, fits_of}
 use Rattle.zf_twoway.proofs.twoway.TwoWay.relined.Goals as goal
@@ -20,7 +24,10 @@ pub returns-clause-fits : goal.returns-clause-fits
 returns-clause-fits g c =
     let h = g.B.Reading.format c.flush.new.back in let j = g.B.Reading.codes c.flush.new.back in
     let new = kept_of c.replace.new.self in
-    fits_of g.T.Lane.value new h j (empty_fits_at skewed g.T.Lane.value h j new c.args.lines (c.replace.ensures.tags ∙ c.in_ok-taken.ensures.empty))
+    let n = c.args.lines in let made = c.in_ok-taken.ensures in let put = c.replace.ensures in let none : ℕ = 0 in
+    fits_of g.T.Lane.value new h j (empty_fits_at skewed g.T.Lane.value h j new n (put.tags ∙ made.empty)
+    (room_for_blocks skewed IsOneOfTwo skewed_rule new n (counts_lines n c.requires.count).0 (ap length (put.tags ∙ made.empty) ∙ length-replicate n none) h.blocks
+    (ap length put.lines ∙ made.rows ∙ c.rows_for-rows.ensures ∙ ap (min n) (c.blocks-blocks.ensures ∙ ap (λ (q : Format g.B.Reading.Code). q.blocks) (sym c.flush.ensures.format)))))
 
 pub returns-clause-ok : goal.returns-clause-ok
 returns-clause-ok g c =
