@@ -232,16 +232,9 @@ FileEnds-first : (status : Status) → FileEnds status → ComesFirst status
 FileEnds-first (NotRate m) ends = tt
 FileEnds-first status ends = ends
 
-stream_in-first : (bytes : List ℕ) → IsRefusal ComesFirst (stream_in bytes)
-unfolding stream_in
-stream_in-first bytes = refusal_of FileEnds ComesFirst FileEnds-first (said_or_status (parse bytes)) (said_ends (parse bytes) (own_said bytes))
-
 array_in-first : (bytes : List ℕ) → IsRefusal ComesFirst (array_in bytes)
 unfolding array_in
 array_in-first bytes = array_ends ComesFirst (λ f. tt) (λ m. tt) FileEnds-first (header_fault bytes) (header_of bytes).mode (parse bytes) (own_said bytes)
-
-pub opened_first_stream : (file : Option (List ℕ)) → IsRefusal ComesFirst (opened stream_in file)
-opened_first_stream file = opened_ends ComesFirst stream_in tt tt stream_in-first file
 
 pub opened_first_array : (file : Option (List ℕ)) → IsRefusal ComesFirst (opened array_in file)
 opened_first_array file = opened_ends ComesFirst array_in tt tt array_in-first file
