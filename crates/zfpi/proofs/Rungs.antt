@@ -1,8 +1,7 @@
 -- What a command on a script promises on each rung of its way, from what the calls there answer.
-use Rattle.std.proofs.Common.{◌≡◌, ◌≢◌, ℕ, zero, suc, ◌≤◌, ◌&&◌, Bool, true, false, List, [], length, Option, Some, None, Ok, Err, is_some, ◌⊎◌, inl, inr, refl, ap, sym, subst, ◌∙◌, arith}
+use Rattle.std.proofs.Common.{◌≡◌, ◌≢◌, ℕ, ◌≤◌, ◌&&◌, Bool, true, false, List, length, Option, Some, None, inl, inr, refl, ap, sym, subst, ◌∙◌, arith}
 use Rattle.std.specs.Prelude.{count_by}
 use Rattle.zf_dev.specs.Faults.{Rose, IsQuiet, HasCause}
-use Rattle.zf_dev.specs.Shelf.{Files}
 use Rattle.zf_dev.specs.Source.{Takes, IsAtEnd, TakesMoreThan, TakesSome}
 use Rattle.zf_dev.specs.Sink.{Appends}
 use Rattle.zf_dev.specs.declared.faults.TakeError.{TakeError}
@@ -17,25 +16,23 @@ use Rattle.zf_header.specs.declared.header.Mode.TheVariants.{Reversible, Rate, P
 use Rattle.zf_header.specs.declared.header.HeaderFault.{HeaderFault}
 use Rattle.zf_header.specs.HeaderBits.{IsMode, coding}
 use Rattle.zf_header.specs.HeaderFaults.{header_fault}
-use Rattle.zf_parse.specs.Parsing.{Said, header_of}
-use Rattle.zf_cached.specs.Runs.{lines_of, ended, replies_text}
+use Rattle.zf_parse.specs.Parsing.{header_of}
+use Rattle.zf_cached.specs.Runs.{ended, replies_text}
 use Rattle.zf_cached.specs.Steps.{Session}
-use Rattle.zf_commands.specs.Steps.{is_refusal, is_starved}
-use Rattle.zf_commands.specs.Runs.{AreStarved, RunsAll, StopsAt}
+use Rattle.zf_commands.specs.Steps.{is_refusal}
+use Rattle.zf_commands.specs.Runs.{RunsAll}
 use Rattle.zf_run.specs.declared.end.RunEnd.TheVariants as ends
 use Rattle.zfpi.specs.declared.status.Status.{Status}
-use Rattle.zfpi.specs.declared.status.Status.TheVariants.{Done, Lines, Header as NoHeader, NotRate, Truncated, Pad, Trailing, ReadFault, WriteFault, LoadFault, SaveFault, Memory}
+use Rattle.zfpi.specs.declared.status.Status.TheVariants.{Header as NoHeader, NotRate, Truncated, Pad, Trailing, ReadFault, WriteFault, LoadFault, SaveFault, Memory}
 use Rattle.zfpi.specs.declared.command.Access.{Access}
 use Rattle.zfpi.specs.declared.command.Access.TheVariants.{Run, Look}
-use Rattle.zfpi.specs.declared.command.Caching.{Caching}
-use Rattle.zfpi.specs.declared.command.Command.{Command}
 use Rattle.zfpi.specs.Faults.{take_status}
-use Rattle.zfpi.specs.World.{seen, counts}
+use Rattle.zfpi.specs.World.{seen}
 use Rattle.zfpi.specs.Answer.{meaning}
-use Rattle.zfpi.specs.Scripts.{Answering, reads_script, lines_status}
-use Rattle.zfpi.specs.Accesses.{command_on, Admits, admits, reading_of, replies_of, file_of, named}
-use Rattle.zfpi.specs.Subjects.{Subject, ran_all, Ran}
-use Rattle.zfpi.specs.Loaded.{HoldsFile, StandsFor, RefusesFile, IsRefused}
+use Rattle.zfpi.specs.Scripts.{reads_script, lines_status}
+use Rattle.zfpi.specs.Accesses.{command_on, Admits, admits, reading_of, answers_of, file_of, named}
+use Rattle.zfpi.specs.Subjects.{Subject, Ran}
+use Rattle.zfpi.specs.Loaded.{StandsFor, RefusesFile, IsRefused}
 use Rattle.zfpi.specs.Sending.{HandsOn}
 use Rattle.zfpi.specs.Steps.{is_work_done, Makes}
 use Rattle.zfpi.specs.Headline.{Behaves, IsSent}
@@ -128,7 +125,7 @@ module _ {A B C : Type 0} {S : Source A} {O : Sink B} {F : Shelf C} (access : Ac
       let c = command_on access name in
       let is = IsScripted-on access name in
       record {
-        behaves = λ known holds kept. Behaves-untaken c name (reading_of access) (replies_of access) (file_of access) is known (F.files shelf) file stands.said holds stands.opened kept e (S.contents src) (S.contents src_now) (O.contents out) long took;
+        behaves = λ known holds kept. Behaves-untaken c name (reading_of access) (answers_of access) (file_of access) is known (F.files shelf) file stands.said holds stands.opened kept e (S.contents src) (S.contents src_now) (O.contents out) long took;
         causes = HasCauses-untaken c e (S.faults src) (S.faults src_now) (O.faults out) (is.reads_script_by (take_status e) ∙ reads_take e) cause sure;
         once = SavesOnce-take F.saves F.faults c e shelf;
         sent = λ flushed why. flushed;
@@ -147,7 +144,7 @@ module _ {B C : Type 0} {O : Sink B} {F : Shelf C} (access : Access) (name : Lis
       subst At (sym cut) (record {
         behaves = λ known src rest holds files_kept takes at_end most.
             Behaves-stays c WriteFault (seen src (O.contents out) known) rest (O.contents mid) (O.contents out_now) (F.files shelf) sent.stays
-            (Behaves-cut_script c name (reading_of access) (replies_of access) (file_of access) is known (F.files shelf) file stands.said holds stands.opened files_kept script ran.starved most src rest takes at_end
+            (Behaves-cut_script c name (reading_of access) (answers_of access) (file_of access) is known (F.files shelf) file stands.said holds stands.opened files_kept script ran.starved most src rest takes at_end
             s.setting s.start (stands.replies ran.starved script) ran.last (O.contents out) (O.contents mid) ran.how);
         causes = λ src. HasCauses-wrote c WriteFault src (O.faults out) (O.faults out_now) is.writes_replies (omega (arith, kept, sent.kept)) (λ same. cc) (λ same. omega (arith, rose, sent.kept));
         read = is.reads_script_by WriteFault;
@@ -172,8 +169,8 @@ module _ {B C : Type 0} {O : Sink B} {F : Shelf C} (access : Access) (name : Lis
       record {
         behaves = λ known src rest holds files_kept takes at_end most.
             let written = subst (λ rs. Appends (O.contents out) (O.contents mid) (replies_text rs)) replies_are ran.written in
-            Behaves-closed c name (reading_of access) (replies_of access) (file_of access) is known (F.files shelf) file said holds stands.opened files_kept script starved most src rest takes at_end
-            n end (O.contents out) (O.contents mid) (O.contents out_now) (F.files shelf_now) (ran.refused_is ∙ ap (count_by is_refusal) replies_are) (subst (AreStarved starved) replies_are ran.starved_are) written closes.stays closes.ends closes.saves;
+            Behaves-closed c name (reading_of access) (answers_of access) (file_of access) is known (F.files shelf) file said holds stands.opened files_kept script starved most src rest takes at_end
+            n end (O.contents out) (O.contents mid) (O.contents out_now) (F.files shelf_now) (ran.refused_is ∙ ap (count_by is_refusal) replies_are) (ran.starved_are ∙ stands.starved starved script) written closes.stays closes.ends closes.saves;
         causes = λ src. HasCauses-wrote c end src (O.faults out) (O.faults out_now) is.writes_replies (omega (arith, kept, closes.kept))
             (of_end (λ status. status ≢ ReadFault) (by_lines (λ status. status ≢ ReadFault) (λ same. cc) (λ m same. cc) n) (λ saving same. cc) (λ rose same. cc))
             (of_end (λ status. status ≡ WriteFault → Rose (O.faults out) (O.faults out_now))

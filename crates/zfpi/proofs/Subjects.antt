@@ -3,9 +3,8 @@ use Rattle.std.proofs.Common.{◌≡◌, ℕ, ℤ, Bool, List, Option, Some, Non
 use Rattle.std.specs.Int.{Width}
 use Rattle.zf_base.specs.Widths.{width_of}
 use Rattle.zf_header.specs.declared.header.Header.{Header}
-use Rattle.zf_header.specs.HeaderBits.{IsRate, block_bits}
-use Rattle.zf_header.specs.HeaderFaults.{header_fault}
-use Rattle.zf_parse.specs.Parsing.{parse, header_of}
+use Rattle.zf_header.specs.HeaderBits.{block_bits}
+use Rattle.zf_parse.specs.Parsing.{parse}
 use Rattle.zf_parse.specs.ReadStreams.{IsFault}
 use Rattle.zf_cached.specs.Arrays.{open_array, saved_file}
 use Rattle.zf_cached.specs.State.{State}
@@ -25,17 +24,16 @@ use Rattle.zf_const.specs.Standing as streams
 use Rattle.zf_const.specs.Files as contents
 use Rattle.zf_cache.specs.Kept.{Kept}
 use Rattle.zf_commands.specs.Sittings.{session}
-use Rattle.zf_commands.specs.Runs.{RunsAll, StopsAt}
+use Rattle.zf_commands.specs.Runs.{starved_lines, RunsAll}
 use Rattle.zf_run.specs.declared.end.RunEnd.{RunEnd}
 use Rattle.zf_run.specs.declared.end.RunEnd.TheVariants.{Done, Lines, Write}
-use Rattle.zf_run.specs.Sessions.{setting_of, start_of, look_setting_of, look_start_of}
+use Rattle.zf_run.specs.Sessions.{setting_of, look_setting_of, look_start_of}
 use Rattle.zf_run.specs.Pairs.{pair_state, two_setting_of}
 use Rattle.zf_run.specs.Ends.{Completes, Halts, IsEnd, Runs, Looks, RunsTwo}
 use Rattle.zfpi.specs.declared.command.Caching.{Caching}
 use Rattle.zfpi.specs.declared.command.Access.TheVariants.{Run, Look}
 use Rattle.zfpi.specs.Faults.{fault_status, store_status, index_status}
-use Rattle.zfpi.specs.Opened.{array_in, stream_in}
-use Rattle.zfpi.specs.Scripts.{lines_for, first_lines, setting_over, ran_over, run_file, look_replies}
+use Rattle.zfpi.specs.Scripts.{lines_for, first_lines, setting_over, ran_over, starved_over, run_file, look_answers}
 use Rattle.zfpi.specs.Subjects.{Subject, Ran}
 use Rattle.zfpi.specs.Loaded.{StandsFor, RefusesFile, IsRefused}
 use Rattle.zfpi.proofs.Opening.{array_in-rate, stream_in-said}
@@ -54,7 +52,7 @@ module _ (setting : Setting (List Bool)) (w : Width) (bits : ℕ) (ns ns_now : L
   last : Session (List Bool)
   last = (run_lines setting starved 0 (lines_of script) (session ns s (whole ns))).0
 
-  all_ran : (n : ℕ) → Completes ns_now s_now starved old new (run setting starved ns s script) n
+  all_ran : (n : ℕ) → Completes ns_now s_now starved old new setting (session ns s (whole ns)) script (run setting starved ns s script) n
       → RunsAll setting starved script (session ns s (whole ns)) last old new n × (Some (saved_file w bits ns_now s_now) ≡ Some (saved_file w bits (ended setting last).shape (ended setting last).state))
   unfolding run run_script last
   all_ran n done = (
@@ -64,7 +62,7 @@ module _ (setting : Setting (List Bool)) (w : Width) (bits : ℕ) (ns ns_now : L
 
 -- a run over an array or over codes, by its end
 Ran-array : (setting : Setting (List Bool)) (w : Width) (bits : ℕ) (ns ns_now : List ℕ) (s s_now : State (List Bool)) (script starved : List ℕ) (old new : Option (List ℕ)) (end : RunEnd)
-    → IsEnd (Completes ns_now s_now starved old new (run setting starved ns s script)) (Halts ns_now s_now starved old new setting (session ns s (whole ns)) script) end
+    → IsEnd (Completes ns_now s_now starved old new setting (session ns s (whole ns)) script (run setting starved ns s script)) (Halts ns_now s_now starved old new setting (session ns s (whole ns)) script) end
     → Ran (array_subject setting w bits ns s) script old new (Some (saved_file w bits ns_now s_now)) end
 Ran-array setting w bits ns ns_now s s_now script starved old new Done is =
     record { starved = starved; last = last setting w bits ns ns_now s s_now script starved old new; how = all_ran setting w bits ns ns_now s s_now script starved old new 0 is }
@@ -92,7 +90,7 @@ module _ (w : Width) (a b : streams.Held) (script starved : List ℕ) (old new :
   seen_last : Session (List Bool)
   seen_last = (run_lines (look_setting_of w a.header) starved 0 (lines_of script) (look_start_of a)).0
 
-  all_seen : (n : ℕ) → Completes (streams.shape b) (streams.state b) starved old new (look (look_setting_of w a.header) starved (streams.shape a) (streams.state a) script) n
+  all_seen : (n : ℕ) → Completes (streams.shape b) (streams.state b) starved old new (look_setting_of w a.header) (look_start_of a) script (look (look_setting_of w a.header) starved (streams.shape a) (streams.state a) script) n
       → RunsAll (look_setting_of w a.header) starved script (look_start_of a) seen_last old new n × (None ≡ (stream_subject w a).filed (ended (look_setting_of w a.header) seen_last))
   unfolding look run_script seen_last
   all_seen n done = (record { session = refl; starved_are = done.starved_are; refused_is = done.refused_is; written = done.written }, refl)
@@ -132,12 +130,20 @@ module _ (caching : Caching) (w : Width) (bytes : List ℕ) (h : Header) (s : St
         ap (λ r. saved_file w bits r.0.shape r.0.state) ran_is
         ∙ ap (λ v. saved_file v bits (ran_over caching (store.said s) starved script).0.shape (ran_over caching (store.said s) starved script).0.state) type_is
 
+    starved_is : starved_lines setting starved 0 (lines_of script) (session s.header.shape start (whole s.header.shape)) ≡ starved_over caching (store.said s) starved script
+    unfolding starved_over
+    starved_is =
+        let ns = s.header.shape in
+        ap (λ at. starved_lines setting starved 0 (lines_of script) (session ns at (whole ns))) start_is
+        ∙ ap (λ v. starved_lines (setting_over caching v bits) starved 0 (lines_of script) (session ns (open_array v bits ns s.codes (first_lines caching ns)) (whole ns))) type_is
+
   pub StandsFor-array : StandsFor (array_subject setting w bits s.header.shape start) (Run caching) bytes
   unfolding run run_script
   StandsFor-array = record {
     said = store.said s;
     opened = array_in-rate bytes h (Ok (store.said s)) has.good has.header has.rate opened.said_is;
     replies = λ starved script. ap (λ r. r.1) (ran_is starved script);
+    starved = starved_is;
     file = λ starved script. ap Some (file_is starved script);
   }
 
@@ -147,19 +153,22 @@ module _ (lines : Option ℕ) (w : Width) (bytes : List ℕ) (h : Header) (a : s
   look_start_is = state_is ∙ (ap (streams.open_stream h a.codes) count_is ∙ ap (λ g. streams.open_stream g a.codes (lines_for lines g.shape)) (sym opened.header))
 
   -- the look at the array is the look at its file
-  look_is : (starved script : List ℕ) → (look (look_setting_of w a.header) starved (streams.shape a) (streams.state a) script).1 ≡ look_replies lines (contents.said a) starved script
-  unfolding look_replies
+  look_is : (starved script : List ℕ) → ((look (look_setting_of w a.header) starved (streams.shape a) (streams.state a) script).1, starved_lines (look_setting_of w a.header) starved 0 (lines_of script) (look_start_of a)) ≡ look_answers lines (contents.said a) starved script
+  unfolding look_answers
   look_is starved script =
       let h = a.header in
-      ap (λ s. (look (look_setting w (streams.coding_of h)) starved h.shape s script).1) look_start_is
-      ∙ ap (λ v. (look (look_setting v (streams.coding_of h)) starved h.shape (streams.open_stream h a.codes (lines_for lines h.shape)) script).1) (same_type ∙ ap (λ g. width_of g.ty) (sym opened.header))
+      let answers : Width → State (List Bool) → List Reply × List ℕ = λ v s.
+      let setting = look_setting v (streams.coding_of h) in
+      ((look setting starved h.shape s script).1, starved_lines setting starved 0 (lines_of script) (session h.shape s (whole h.shape))) in
+      ap (answers w) look_start_is ∙ ap (λ v. answers v (streams.open_stream h a.codes (lines_for lines h.shape))) (same_type ∙ ap (λ g. width_of g.ty) (sym opened.header))
 
   pub StandsFor-stream : StandsFor (stream_subject w a) (Look lines) bytes
   unfolding look run_script
   StandsFor-stream = record {
     said = contents.said a;
     opened = stream_in-said bytes (Ok (contents.said a)) opened.said_is;
-    replies = look_is;
+    replies = λ starved script. ap (λ r. r.0) (look_is starved script);
+    starved = λ starved script. ap (λ r. r.1) (look_is starved script);
     file = λ starved script. refl;
   }
 

@@ -1,4 +1,4 @@
--- What a script does with a file by its access: which command it is, what the file is opened as, what is replied and saved.
+-- What a script does with a file by its access: which command it is, what the file is opened as, how the script is answered, and what is saved.
 use Rattle.std.specs.Prelude.{ℕ, Bool, true, false, List, Option, Some, None, Result}
 use Rattle.zf_header.specs.declared.header.Mode.{Mode}
 use Rattle.zf_header.specs.declared.header.Mode.TheVariants.{Rate}
@@ -11,7 +11,7 @@ use Rattle.zfpi.specs.declared.command.Command.TheVariants as commands
 use Rattle.zfpi.specs.declared.status.Status.{Status}
 use Rattle.zfpi.specs.Words.{IsLines, IsCaching}
 use Rattle.zfpi.specs.Opened.{array_in, stream_in}
-use Rattle.zfpi.specs.Scripts.{Answering, run_replies, run_file, look_replies}
+use Rattle.zfpi.specs.Scripts.{Answering, run_answers, run_file, look_answers}
 
 -- the number of lines, where there is one, is in range
 abbrev pub IsAccess : Access → Type 0
@@ -38,10 +38,10 @@ abbrev pub reading_of : Access → List ℕ → Result Said Status
 reading_of (Run caching) = array_in
 reading_of (Look lines) = stream_in
 
--- the replies
-abbrev pub replies_of : Access → Answering
-replies_of (Run caching) = run_replies caching
-replies_of (Look lines) = look_replies lines
+-- how the script is answered
+abbrev pub answers_of : Access → Answering
+answers_of (Run caching) = run_answers caching
+answers_of (Look lines) = look_answers lines
 
 -- the file that is saved, if any
 abbrev pub file_of : Access → Said → List ℕ → List ℕ → Option (List ℕ)

@@ -3,11 +3,12 @@ use Rattle.std.specs.Prelude.{◌≡◌, ℕ, ◌≤◌, ◌⊎◌, List, length
 use Rattle.zf_dev.specs.Shelf.{Files, HasFile}
 use Rattle.zf_parse.specs.Parsing.{Said}
 use Rattle.zf_cached.specs.Arrays.{max_file}
-use Rattle.zf_cached.specs.Runs.{ended}
+use Rattle.zf_cached.specs.Runs.{lines_of, ended}
+use Rattle.zf_commands.specs.Runs.{starved_lines}
 use Rattle.zfpi.specs.declared.command.Access.{Access}
 use Rattle.zfpi.specs.declared.status.Status.{Status}
 use Rattle.zfpi.specs.declared.status.Status.TheVariants.{Header, NotRate, Truncated, Pad, Trailing, Memory}
-use Rattle.zfpi.specs.Accesses.{reading_of, replies_of, file_of}
+use Rattle.zfpi.specs.Accesses.{reading_of, answers_of, file_of}
 use Rattle.zfpi.specs.Subjects.{Subject, ran_all}
 
 -- the file of this name has these bytes, and not more than a file may have
@@ -19,7 +20,8 @@ pub record HoldsFile (known : Option Files) (name bytes : List ℕ) : Type 0 whe
 pub record StandsFor (s : Subject) (access : Access) (bytes : List ℕ) : Type 0 where
   pub said : Said
   pub opened : reading_of access bytes ≡ Ok said
-  pub replies : (starved script : List ℕ) → (ran_all s starved script).1 ≡ replies_of access said starved script
+  pub replies : (starved script : List ℕ) → (ran_all s starved script).1 ≡ (answers_of access said starved script).0
+  pub starved : (starved script : List ℕ) → starved_lines s.setting starved 0 (lines_of script) s.start ≡ (answers_of access said starved script).1
   pub file : (starved script : List ℕ) → s.filed (ended s.setting (ran_all s starved script).0) ≡ file_of access said starved script
 
 -- a file that was loaded may be refused so
