@@ -1,5 +1,5 @@
 -- Lines one after the other, with the replies that are written.
-use Rattle.std.proofs.Common.{◌≡◌, refl, sym, ap, subst, ◌∙◌, ℕ, suc, ◌+◌, ◌≤◌, ◌<◌, Bool, true, false, ◌||◌, cond, eqb, List, [], ◌∷◌, ◌++◌, length, take, count_by, Option, Some, None, append_assoc, length-append, ne_eqb, eq-eqb, zero-add, arith}
+use Rattle.std.proofs.Common.{◌≡◌, ◌≢◌, refl, sym, ap, subst, ◌∙◌, ℕ, suc, ◌+◌, ◌≤◌, ◌<◌, Bool, true, false, ◌||◌, cond, eqb, List, [], ◌∷◌, ◌++◌, length, take, count_by, Option, Some, None, append_assoc, length-append, ne_eqb, eq-eqb, zero-add, arith}
 use mir.Val.{bool_byte}
 use Rattle.std.proofs.Common.{Result, Ok, Err, OnErr}
 use Rattle.std.specs.List.{list_any}
@@ -14,9 +14,9 @@ use Rattle.zf_cached.specs.Replies.{Reply, reply_text}
 use Rattle.zf_cached.specs.Steps.{Setting, Session}
 use Rattle.zf_cached.specs.Runs.{lines_of, line_step, run_lines, replies_text}
 use Rattle.zf_cached.proofs.Runs.{run_lines-append}
-use Rattle.zf_commands.specs.Steps.{LeadsTo, starves, is_starved, is_refusal}
+use Rattle.zf_commands.specs.Steps.{LeadsTo, starves, is_refusal}
 use Rattle.zf_commands.specs.Lines.{refuses, Replies, Breaks}
-use Rattle.zf_commands.specs.Runs.{AreStarved, AllRun, HasStopped}
+use Rattle.zf_commands.specs.Runs.{number_if, starved_lines, AreStarved, AllRun, HasStopped}
 
 -- a line's number is in a list
 abbrev listed : List ℕ → ℕ → Bool
@@ -34,35 +34,59 @@ run_lines-same {Code} setting xs ys k (line ∷ lines) s same =
     let one = line_step setting s line (listed ys k) in
     ap step (same k (omega arith)) ∙ ap (λ (r : Session Code × List Reply). (r.0, option_to_list one.1 ++ r.1)) (run_lines-same setting xs ys (suc k) lines one.0 (λ n lt. same n (omega arith)))
 
--- line k starved memory too, or does not
-abbrev with_line : Bool → ℕ → List ℕ → List ℕ
-with_line true k starved = k ∷ starved
-with_line false k starved = starved
+starved_lines-same : {Code : Type 0} (setting : Setting Code) (xs ys : List ℕ) (k : ℕ) (lines : List (List ℕ)) (s : Session Code)
+    → ((n : ℕ) → n < k + length lines → listed xs n ≡ listed ys n) → starved_lines setting xs k lines s ≡ starved_lines setting ys k lines s
+unfolding starved_lines
+starved_lines-same setting xs ys k [] s same = refl
+starved_lines-same {Code} setting xs ys k (line ∷ lines) s same =
+    let step : Bool → List ℕ = λ t. let one = line_step setting s line t in number_if (starves one.1) k ++ starved_lines setting xs (suc k) lines one.0 in
+    let one = line_step setting s line (listed ys k) in
+    ap step (same k (omega arith)) ∙ ap (λ (ns : List ℕ). number_if (starves one.1) k ++ ns) (starved_lines-same setting xs ys (suc k) lines one.0 (λ n lt. same n (omega arith)))
 
-with_line-before : (t : Bool) (k n : ℕ) (starved : List ℕ) → n < k → listed (with_line t k starved) n ≡ listed starved n
-with_line-before true k n starved lt = ap (λ b. b || listed starved n) (ne_eqb k n (λ e. omega (arith, e)))
-with_line-before false k n starved lt = refl
+-- lines, and then more lines
+starved_lines-append : {Code : Type 0} (setting : Setting Code) (starved : List ℕ) (k : ℕ) (lines more : List (List ℕ)) (s : Session Code)
+    → starved_lines setting starved k (lines ++ more) s ≡ starved_lines setting starved k lines s ++ starved_lines setting starved (k + length lines) more (run_lines setting starved k lines s).0
+unfolding run_lines starved_lines
+starved_lines-append setting starved k [] more s = let e : k ≡ k + 0 = omega arith in ap (λ n. starved_lines setting starved n more s) e
+starved_lines-append setting starved k (line ∷ lines) more s =
+    let one = line_step setting s line (listed starved k) in
+    let e : suc k + length lines ≡ k + suc (length lines) = omega arith in
+    let first = run_lines setting starved (suc k) lines one.0 in
+    let own = number_if (starves one.1) k in
+    let behind = starved_lines setting starved (suc k) lines one.0 in
+    ap (λ (ns : List ℕ). own ++ ns) (starved_lines-append setting starved (suc k) lines more one.0)
+    ∙ sym (append_assoc own behind (starved_lines setting starved (suc k + length lines) more first.0))
+    ∙ ap (λ (n : ℕ). (own ++ behind) ++ starved_lines setting starved n more first.0) e
+
+-- line k is out of memory too, or is not
+abbrev with_line : Bool → ℕ → List ℕ → List ℕ
+with_line t k starved = starved ++ number_if t k
+
+or_assoc : (a b c : Bool) → (a || b) || c ≡ a || (b || c)
+or_assoc true b c = refl
+or_assoc false b c = refl
+
+or_false : (a : Bool) → a || false ≡ a
+or_false true = refl
+or_false false = refl
+
+listed-append : (xs ys : List ℕ) (n : ℕ) → listed (xs ++ ys) n ≡ listed xs n || listed ys n
+listed-append [] ys n = refl
+listed-append (x ∷ xs) ys n = ap (λ b. eqb x n || b) (listed-append xs ys n) ∙ sym (or_assoc (eqb x n) (listed xs n) (listed ys n))
+
+-- no other line is
+with_line-other : (t : Bool) (k n : ℕ) (starved : List ℕ) → k ≢ n → listed (with_line t k starved) n ≡ listed starved n
+with_line-other true k n starved other = listed-append starved (k ∷ []) n ∙ ap (λ b. listed starved n || (b || false)) (ne_eqb k n other) ∙ or_false (listed starved n)
+with_line-other false k n starved other = ap (λ ns. listed ns n) (append-nil starved)
 
 with_line-at : (t : Bool) (k : ℕ) (starved : List ℕ) → listed starved k ≡ false → listed (with_line t k starved) k ≡ t
-with_line-at true k starved none = ap (λ b. b || listed starved k) (eq-eqb k k refl)
-with_line-at false k starved none = none
-
-with_line-behind : (t : Bool) (k n : ℕ) (starved : List ℕ) → k < n → listed starved n ≡ false → listed (with_line t k starved) n ≡ false
-with_line-behind true k n starved lt none = ap (λ b. b || listed starved n) (ne_eqb k n (λ e. omega (arith, e))) ∙ none
-with_line-behind false k n starved lt none = none
-
-length-with_line : (t : Bool) (k : ℕ) (starved : List ℕ) → length (with_line t k starved) ≡ length starved + cond t 1 0
-length-with_line true k starved = omega arith
-length-with_line false k starved = omega arith
+with_line-at true k starved none = listed-append starved (k ∷ []) k ∙ ap (λ b. listed starved k || (b || false)) (eq-eqb k k refl) ∙ ap (λ b. b || true) none
+with_line-at false k starved none = ap (λ ns. listed ns k) (append-nil starved) ∙ none
 
 -- ---- counts
 
 count_by-append : {X : Type 0} (p : X → Bool) (xs ys : List X) → count_by p (xs ++ ys) ≡ count_by p xs + count_by p ys
 count_by-append p xs ys = sum_by-append (λ x. cond (p x) 1 0) xs ys
-
-count-starved : (reply : Option Reply) → count_by is_starved (option_to_list reply) ≡ cond (starves reply) 1 0
-count-starved None = refl
-count-starved (Some reply) = zero-add _
 
 count-refusal : (reply : Option Reply) → count_by is_refusal (option_to_list reply) ≡ cond (refuses reply) 1 0
 count-refusal None = refl
@@ -77,13 +101,13 @@ pub record HasRun {Code : Type 0} (setting : Setting Code) (all left : List (Lis
   pub starved : List ℕ
   pub none_behind : (n : ℕ) → length lines ≤ n → listed starved n ≡ false
   pub session : now ≡ (run_lines setting starved 0 lines start).0
-  pub starved_are : AreStarved starved (run_lines setting starved 0 lines start).1
+  pub starved_are : AreStarved setting starved lines start
   pub refused_is : refused ≡ count_by is_refusal (run_lines setting starved 0 lines start).1
   pub written : Appends old new (replies_text (run_lines setting starved 0 lines start).1)
 
 -- at first none
 pub none_run : {Code : Type 0} (setting : Setting Code) (all : List (List ℕ)) (start : Session Code) (known : Option (List ℕ)) → HasRun setting all all start start known known 0
-unfolding run_lines
+unfolding run_lines starved_lines
 none_run setting all start known = record {
   lines = [];
   parts = refl;
@@ -109,7 +133,7 @@ module _ {Code : Type 0} (setting : Setting Code) (all : List (List ℕ)) (line 
   -- the lines before run as they did
   before : run_lines setting starved 0 run.lines start ≡ run_lines setting run.starved 0 run.lines start
   unfolding starved k
-  before = run_lines-same setting starved run.starved 0 run.lines start (λ n lt. with_line-before (starves reply) (length run.lines) n run.starved (omega arith))
+  before = run_lines-same setting starved run.starved 0 run.lines start (λ n lt. with_line-other (starves reply) (length run.lines) n run.starved (λ e. omega (arith, e, lt)))
 
   one : run_lines setting starved k (line ∷ []) now ≡ (next, option_to_list reply)
   unfolding run_lines starved k
@@ -127,9 +151,25 @@ module _ {Code : Type 0} (setting : Setting Code) (all : List (List ℕ)) (line 
       let from : ℕ → Session Code × List Reply = λ n. let r = run_lines setting starved 0 run.lines start in let q = run_lines setting starved n (line ∷ []) r.0 in (q.0, r.1 ++ q.1) in
       run_lines-append setting starved 0 run.lines (line ∷ []) start ∙ ap from (zero-add (length run.lines)) ∙ ap then_one before ∙ ap here (sym run.session) ∙ ap (λ (q : Session Code × List Reply). (q.0, prefix ++ q.1)) one
 
-  many : AreStarved starved (prefix ++ option_to_list reply)
-  unfolding prefix starved k
-  many = omega (arith, count_by-append is_starved prefix (option_to_list reply), count-starved reply, length-with_line (starves reply) (length run.lines) run.starved, run.starved_are)
+  one_starved : starved_lines setting starved k (line ∷ []) now ≡ number_if (starves reply) k
+  unfolding starved_lines starved k
+  one_starved =
+      let step : Bool → List ℕ = λ t. number_if (starves (line_step setting now line t).1) (length run.lines) ++ [] in
+      ap step (with_line-at (starves reply) (length run.lines) run.starved (run.none_behind (length run.lines) (omega arith)))
+      ∙ ap (λ (r : Session Code × Option Reply). number_if (starves r.1) (length run.lines) ++ []) leads ∙ append-nil (number_if (starves reply) (length run.lines))
+
+  -- the lines that are out of memory are those that say so
+  all_starved : AreStarved setting starved (run.lines ++ line ∷ []) start
+  unfolding starved k
+  all_starved =
+      let one_behind : ℕ → Session Code → List ℕ = λ n s. starved_lines setting starved n (line ∷ []) s in
+      let same = starved_lines-same setting starved run.starved 0 run.lines start (λ n lt. with_line-other (starves reply) (length run.lines) n run.starved (λ e. omega (arith, e, lt))) in
+      sym (starved_lines-append setting starved 0 run.lines (line ∷ []) start
+      ∙ ap (λ (ns : List ℕ). ns ++ one_behind (0 + length run.lines) (run_lines setting starved 0 run.lines start).0) (same ∙ sym run.starved_are)
+      ∙ ap (λ (n : ℕ). run.starved ++ one_behind n (run_lines setting starved 0 run.lines start).0) (zero-add (length run.lines))
+      ∙ ap (λ (r : Session Code × List Reply). run.starved ++ one_behind (length run.lines) r.0) before
+      ∙ ap (λ (s : Session Code). run.starved ++ one_behind (length run.lines) s) (sym run.session)
+      ∙ ap (λ (ns : List ℕ). run.starved ++ ns) one_starved)
 
   -- its reply is written
   pub one_more : (new : Option (List ℕ)) → Appends mid new (replies_text (option_to_list reply)) → (more : ℕ) → more ≡ refused + cond (refuses reply) 1 0 → HasRun setting all left start next old new more
@@ -138,9 +178,9 @@ module _ {Code : Type 0} (setting : Setting Code) (all : List (List ℕ)) (line 
     lines = run.lines ++ line ∷ [];
     parts = run.parts ∙ sym (append_assoc run.lines (line ∷ []) left);
     starved = starved;
-    none_behind = λ n h. with_line-behind (starves reply) (length run.lines) n run.starved (omega (arith, length-append run.lines (line ∷ []))) (run.none_behind n (omega (arith, length-append run.lines (line ∷ []))));
+    none_behind = λ n h. with_line-other (starves reply) (length run.lines) n run.starved (λ e. omega (arith, length-append run.lines (line ∷ []), e, h)) ∙ run.none_behind n (omega (arith, length-append run.lines (line ∷ [])));
     session = sym (ap (λ (r : Session Code × List Reply). r.0) after);
-    starved_are = subst (λ (r : Session Code × List Reply). AreStarved starved r.1) (sym after) many;
+    starved_are = all_starved;
     refused_is = is ∙ subst (λ (r : Session Code × List Reply). refused + cond (refuses reply) 1 0 ≡ count_by is_refusal r.1) (sym after)
         (omega (arith, count_by-append is_refusal prefix (option_to_list reply), count-refusal reply, run.refused_is));
     written = subst (λ (r : Session Code × List Reply). Appends old new (replies_text r.1)) (sym after)
@@ -177,7 +217,7 @@ module _ {Code : Type 0} (setting : Setting Code) (all : List (List ℕ)) (line 
             reply = last;
             replied = ap (λ (r : Session Code × List Reply). r.1) then ∙ ap (λ (o : Option Reply). prefix ++ option_to_list o) is ∙ ap (λ (r : Session Code × List Reply). r.1 ++ last ∷ []) (sym first);
             session = sym (ap (λ (r : Session Code × List Reply). r.0) then);
-            starved_are = subst (λ (r : Session Code × List Reply). AreStarved starved r.1) (sym then) many;
+            starved_are = subst (λ (ls : List (List ℕ)). AreStarved setting starved ls start) (sym (ap (take (k + 1)) lines ∙ prefixes_and_line)) all_starved;
             count = part.0;
             not_whole = part.1;
             written = subst (λ (r : Session Code × List Reply). Appends old new (replies_text r.1 ++ take part.0 (reply_text last))) (sym first)
@@ -194,7 +234,7 @@ all_run {Code} setting script all start now old new refused lines run =
       run.starved,
       record {
         session = run.session ∙ ap (λ (ls : List (List ℕ)). (Ran ls).0) same;
-        starved_are = subst (λ (ls : List (List ℕ)). AreStarved run.starved (Ran ls).1) same run.starved_are;
+        starved_are = subst (λ (ls : List (List ℕ)). AreStarved setting run.starved ls start) same run.starved_are;
         refused_is = run.refused_is ∙ ap (λ (ls : List (List ℕ)). count_by is_refusal (Ran ls).1) same;
         written = subst (λ (ls : List (List ℕ)). Appends old new (replies_text (Ran ls).1)) same run.written;
       },

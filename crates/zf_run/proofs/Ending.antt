@@ -23,7 +23,7 @@ use Rattle.zf_commands.specs.Steps.{is_refusal}
 use Rattle.zf_run.specs.Pairs.{pair_state, PairFits, two_setting_of}
 use Rattle.zf_commands.specs.Sittings.{session}
 use Rattle.zf_run.specs.Sessions.{setting_of, session_of, kind, look_setting_of, look_start_of, stream_of}
-use Rattle.zf_commands.specs.Runs.{AreStarved, RunsAll, StopsAt, AllRun, HasStopped}
+use Rattle.zf_commands.specs.Runs.{RunsAll, StopsAt, AllRun, HasStopped}
 use Rattle.zf_run.specs.Ends.{RunsTwo, FinishesTwo, StopsTwo, two_start_of, Finishes, Stops, IsEnd, end_of, Runs, FinishesLook, StopsLook, Looks}
 
 -- an end says that all lines were run
@@ -142,7 +142,7 @@ module _ {X : Type 0} (value : X → ℤ) (w : Width) (s mid t : Stored) (c e d 
     finished_two = record {
       shape_is = ap (λ (x : Session (List Bool)). x.shape) (sym at_two_end);
       state_is = ap (λ (x : Session (List Bool)). x.state) (sym at_two_end);
-      starved_are = subst (AreStarved all.0) (sym same_replies) ran_two.starved_are;
+      starved_are = ran_two.starved_are;
       refused_is = ran_two.refused_is ∙ ap (count_by is_refusal) (sym same_replies);
       written = subst (λ r. Appends old new (replies_text r)) (sym same_replies) ran_two.written;
     }

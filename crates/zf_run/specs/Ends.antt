@@ -6,7 +6,7 @@ use Rattle.zf_cached.specs.State.{State}
 use Rattle.zf_cached.specs.Windows.{whole}
 use Rattle.zf_cached.specs.Replies.{Reply}
 use Rattle.zf_cached.specs.Steps.{Setting, Session}
-use Rattle.zf_cached.specs.Runs.{run, replies_text}
+use Rattle.zf_cached.specs.Runs.{lines_of, run, replies_text}
 use Rattle.zf_array.specs.Standing.{Held, shape, state}
 use Rattle.zf_run.specs.declared.end.RunEnd.{RunEnd}
 use Rattle.zf_run.specs.declared.end.RunEnd.TheVariants.{Done, Lines, Write}
@@ -22,11 +22,12 @@ use Rattle.zf_commands.specs.Steps.{is_refusal}
 -- ---- what is left: an array of these sizes, in this state
 
 module _ {Code : Type 0} (ns : List ℕ) (s : State Code) (starved : List ℕ) (old new : Option (List ℕ)) where
-  -- all lines were run and each reply was written, where the lines lead to a session and replies; so many replies are refusals
-  pub record Completes (ran : Session Code × List Reply) (refused : ℕ) : Type 0 where
+  -- all lines were run and each reply was written, where the lines of a script lead from a start to a session and replies; so many replies are
+  -- refusals, and the lines that were out of memory are just those that say so
+  pub record Completes (setting : Setting Code) (start : Session Code) (script : List ℕ) (ran : Session Code × List Reply) (refused : ℕ) : Type 0 where
     pub shape_is : ns ≡ ran.0.shape
     pub state_is : s ≡ ran.0.state
-    pub starved_are : AreStarved starved ran.1
+    pub starved_are : AreStarved setting starved (lines_of script) start
     pub refused_is : refused ≡ count_by is_refusal ran.1
     pub written : Appends old new (replies_text ran.1)
 
@@ -53,7 +54,7 @@ end_of (suc n) = Lines (suc n)
 module _ (w : Width) (before now : Held) (script starved : List ℕ) (old new : Option (List ℕ)) where
   -- all lines were run, each reply was written, and then the array was flushed
   abbrev pub Finishes : ℕ → Type 0
-  Finishes refused = Completes (shape now) (state now) starved old new (run_of w before starved script) refused
+  Finishes refused = Completes (shape now) (state now) starved old new (setting_of w before) (start_of before) script (run_of w before starved script) refused
 
   -- a line's reply was not written whole, and the array was not flushed
   abbrev pub Stops : Type 0
@@ -70,7 +71,7 @@ pub record Runs (w : Width) (before now : Held) (script : List ℕ) (old new : O
 
 module _ (w : Width) (before now : read.Held) (script starved : List ℕ) (old new : Option (List ℕ)) where
   abbrev pub FinishesLook : ℕ → Type 0
-  FinishesLook refused = Completes (read.shape now) (read.state now) starved old new (look_of w before starved script) refused
+  FinishesLook refused = Completes (read.shape now) (read.state now) starved old new (look_setting_of w before.header) (look_start_of before) script (look_of w before starved script) refused
 
   abbrev pub StopsLook : Type 0
   StopsLook = Halts (read.shape now) (read.state now) starved old new (look_setting_of w before.header) (look_start_of before) script
@@ -91,7 +92,7 @@ module _ {X : Type 0} (value : X → ℤ) (w : Width) (s t : Stored) (c d : Kept
 
   -- all lines were run, each reply was written, and then the cache was flushed
   abbrev pub FinishesTwo : ℕ → Type 0
-  FinishesTwo refused = Completes t.header.shape (pair_state value t d) starved old new (run (two_setting_of w s.header) starved s.header.shape (pair_state value s c) script) refused
+  FinishesTwo refused = Completes t.header.shape (pair_state value t d) starved old new (two_setting_of w s.header) two_start_of script (run (two_setting_of w s.header) starved s.header.shape (pair_state value s c) script) refused
 
   -- a line's reply was not written whole, and the cache was not flushed
   abbrev pub StopsTwo : Type 0

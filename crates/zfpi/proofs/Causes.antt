@@ -5,14 +5,10 @@ use Rattle.zfpi.specs.declared.status.Status.TheVariants.{ReadFault, WriteFault}
 use Rattle.zfpi.specs.declared.command.Command.{Command}
 use Rattle.zf_dev.specs.declared.faults.LoadError.{LoadError}
 use Rattle.zf_dev.specs.declared.faults.LoadError.TheVariants as loading
-use Rattle.zf_dev.specs.Faults.{HasCause}
+use Rattle.zf_dev.specs.Faults.{Rose, HasCause}
 use Rattle.zf_dev.specs.declared.faults.TakeError.{TakeError}
 use Rattle.zf_dev.specs.declared.faults.TakeError.TheVariants as taking
-use Rattle.zf_index.specs.declared.fault.IndexFault.{IndexFault}
-use Rattle.zf_index.specs.declared.fault.IndexFault.TheVariants as index
-use Rattle.zf_store.specs.declared.fault.StoreFault.{StoreFault}
-use Rattle.zf_store.specs.declared.fault.StoreFault.TheVariants as stores
-use Rattle.zfpi.specs.Faults.{load_status, index_status, store_status, take_status}
+use Rattle.zfpi.specs.Faults.{load_status, take_status}
 use Rattle.zfpi.specs.Scripts.{reads_script}
 use Rattle.zfpi.specs.World.{Counts, counts}
 use Rattle.zfpi.specs.Answer.{meaning}
@@ -59,26 +55,23 @@ HasCauses-refused c status src out no_read no_write = record {
   sure = λ sure. (no_read, sure);
 }
 
+-- a command that wrote and came to no source
+pub HasCauses-wrote : (c : Command) (status : Status) (src out out_now : ℕ) → (meaning c).writes ≡ true → out ≤ out_now → status ≢ ReadFault → (status ≡ WriteFault → Rose out out_now)
+    → HasCauses c status (counts src out) (counts src out_now) (Unit {0}) (Unit {0})
+HasCauses-wrote c status src out out_now used kept no_read rose = record {
+  reading = (omega arith, λ is. absurd (no_read is));
+  writing = (kept, rose);
+  no_reading = IsIdle-same ((meaning c).reads status) src;
+  no_writing = IsIdle-used (meaning c).writes out out_now used;
+  sure = λ sure. (no_read, tt);
+}
+
 -- its file was not loaded
 pub HasCauses-unloaded : (c : Command) (e : LoadError) (src out : ℕ) {Sure : Type 0} → HasCauses c (load_status e) (counts src out) (counts src out) Sure Sure
 HasCauses-unloaded c loading.Missing src out = HasCauses-refused c (load_status loading.Missing) src out (λ is. cc) (λ is. cc)
 HasCauses-unloaded c loading.Long src out = HasCauses-refused c (load_status loading.Long) src out (λ is. cc) (λ is. cc)
 HasCauses-unloaded c loading.Failed src out = HasCauses-refused c (load_status loading.Failed) src out (λ is. cc) (λ is. cc)
 HasCauses-unloaded c loading.Memory src out = HasCauses-refused c (load_status loading.Memory) src out (λ is. cc) (λ is. cc)
-
--- it is no array's
-pub HasCauses-store : (c : Command) (e : StoreFault) (src out : ℕ) {Sure : Type 0} → HasCauses c (store_status e) (counts src out) (counts src out) Sure Sure
-HasCauses-store c (stores.Truncated b) src out = HasCauses-refused c (store_status (stores.Truncated b)) src out (λ is. cc) (λ is. cc)
-HasCauses-store c stores.Pad src out = HasCauses-refused c (store_status stores.Pad) src out (λ is. cc) (λ is. cc)
-HasCauses-store c stores.Trailing src out = HasCauses-refused c (store_status stores.Trailing) src out (λ is. cc) (λ is. cc)
-HasCauses-store c stores.Memory src out = HasCauses-refused c (store_status stores.Memory) src out (λ is. cc) (λ is. cc)
-
--- it is no stream
-pub HasCauses-index : (c : Command) (e : IndexFault) (src out : ℕ) {Sure : Type 0} → HasCauses c (index_status e) (counts src out) (counts src out) Sure Sure
-HasCauses-index c (index.Truncated b) src out = HasCauses-refused c (index_status (index.Truncated b)) src out (λ is. cc) (λ is. cc)
-HasCauses-index c index.Pad src out = HasCauses-refused c (index_status index.Pad) src out (λ is. cc) (λ is. cc)
-HasCauses-index c index.Trailing src out = HasCauses-refused c (index_status index.Trailing) src out (λ is. cc) (λ is. cc)
-HasCauses-index c index.Memory src out = HasCauses-refused c (index_status index.Memory) src out (λ is. cc) (λ is. cc)
 
 take_failed : (e : TakeError) → take_status e ≡ ReadFault → e ≡ taking.Failed
 take_failed taking.Long is = absurd (cc)

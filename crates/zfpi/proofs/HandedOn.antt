@@ -1,8 +1,6 @@
 -- What a command wrote is handed on once it has ended: what stays of what is known of it, and what a fault makes of it.
-use Rattle.std.proofs.Common.{◌≡◌, ◌≢◌, ℕ, ◌≤◌, cond, ltb, Bool, true, false, List, [], length, take, inl, inr, Option, Some, None, Result, Ok, Err, IsOk, IsErr, refl, ap, sym, subst, ◌∙◌, append-nil, arith}
+use Rattle.std.proofs.Common.{◌≡◌, ◌≢◌, ℕ, ◌≤◌, true, false, List, [], take, inl, inr, Option, Result, Ok, Err, IsOk, IsErr, refl, ap, sym, subst, ◌∙◌, append-nil, arith}
 use Rattle.std.specs.Prelude.{OnOk}
-use Rattle.std.proofs.lemmas.Bool.{ltb-false}
-use Rattle.std.proofs.Math.Seq.{take-length}
 use Rattle.zf_dev.specs.Faults.{Rose, IsQuiet, HasCause}
 use Rattle.zf_dev.specs.declared.faults.Failed.{Failed}
 use Rattle.zf_dev.specs.declared.faults.LoadError.{LoadError}
@@ -11,27 +9,21 @@ use Rattle.zf_dev.specs.Shelf.{Files}
 use Rattle.zf_dev.specs.Sink.{Appends, AppendsPrefix}
 use Rattle.zf_dev.proofs.Appending.{Appends-append, AppendsPrefix-all}
 use Rattle.zf_parse.specs.Parsing.{Said}
-use Rattle.zf_narrow.specs.declared.narrow.Narrow.{Narrow}
 use Rattle.zfpi.specs.declared.status.Status.{Status}
 use Rattle.zfpi.specs.declared.status.Status.TheVariants.{Done, Lines, ReadFault, WriteFault, LoadFault, SaveFault}
-use Rattle.zfpi.specs.declared.status.Status.TheVariants as statuses
-use Rattle.zfpi.specs.declared.command.Caching.{Caching}
 use Rattle.zfpi.specs.declared.command.Command.{Command}
 use Rattle.zfpi.specs.declared.command.Command.TheVariants.{Compress, CompressNarrow, Restore, RestoreNarrow, Info, New, Run, Look, Bound, Sample}
 use Rattle.zfpi.specs.Faults.{load_status}
-use Rattle.zfpi.specs.Opened.{array_in, stream_in, opened}
-use Rattle.zfpi.specs.Scripts.{Answering, reads_script, look_replies, lines_status, script_status}
+use Rattle.zfpi.specs.Opened.{array_in, opened}
 use Rattle.zfpi.specs.Certified.{certified_status}
 use Rattle.zfpi.specs.World.{Seen, seen, counts}
 use Rattle.zfpi.specs.Answer.{meaning, OfUsed}
 use Rattle.zfpi.proofs.Ends.{IsPossible}
-use Rattle.zfpi.specs.Loaded.{SavesOrFails}
 use Rattle.zfpi.specs.Sending.{IsDone, EndsSent, HandsOn}
 use Rattle.zfpi.specs.Steps.{is_work_done, IsShelfless}
 use Rattle.zfpi.specs.Headline.{IsSent, Writes, Saves, Behaves, HasCauses, IsIdle, Sends}
-use Rattle.zfpi.proofs.Causes.{IsIdle-same}
 use Rattle.zfpi.proofs.Loading.{ComesFirst, by_first}
-use Rattle.zfpi.proofs.Promises.{IsRefusal, opened_first_array, opened_first_stream, IsPossible-behaves}
+use Rattle.zfpi.proofs.Promises.{IsRefusal, opened_first_array, IsPossible-behaves}
 
 -- ---- what was written stays what it was
 
@@ -62,12 +54,14 @@ Behaves-stays c status before src mid now shelf stays b = record {
   saved = b.saved;
 }
 
--- ---- commands that save nothing may end with a fault of the sink where their work was done
+-- ---- commands whose output is handed on once they have ended, which may make a fault of the sink of work that was done
 
-abbrev pub SavesNothing : Command → Type 0
-SavesNothing (New name ty ns b) = ⊥
-SavesNothing (Run name caching) = ⊥
-SavesNothing c = Unit {0}
+-- all but those that have none, or hand it on themselves
+abbrev pub IsSentAfter : Command → Type 0
+IsSentAfter (New name ty ns b) = ⊥
+IsSentAfter (Run name caching) = ⊥
+IsSentAfter (Look name lines) = ⊥
+IsSentAfter c = Unit {0}
 
 -- a file that was opened so is open where the work was done
 first_undone : (status : Status) → ComesFirst status → IsDone status → ⊥
@@ -77,15 +71,6 @@ certified_done : (file : Result Said Status) (status : Status) → IsRefusal Com
 unfolding IsRefusal
 certified_done (Ok said) status refusal done same = refl
 certified_done (Err e) status refusal done same = absurd (first_undone e refusal (subst IsDone same done))
-
-short_done : (is_long : Bool) (n m : ℕ) (status : Status) → ltb 16777216 m ≡ is_long → IsDone status → status ≡ cond is_long statuses.ScriptLong (lines_status n) → m ≤ 16777216
-short_done true n m status long done same = absurd (subst IsDone same done)
-short_done false n m status long done same = ltb-false 16777216 m long
-
-script_done : (replies : Answering) (file : Result Said Status) (starved script : List ℕ) (status : Status) → IsRefusal ComesFirst file → IsDone status → status ≡ script_status replies file starved script → IsOk file × (length script ≤ 16777216)
-unfolding IsRefusal
-script_done replies (Ok said) starved script status refusal done same = (refl, short_done (ltb 16777216 (length script)) _ (length script) status refl done same)
-script_done replies (Err e) starved script status refusal done same = absurd (first_undone e refusal (subst IsDone same done))
 
 -- a write fault in the place of a status, with all that was written
 instead : (c : Command) (status : Status) (before now : Seen) (b : Behaves c status before now) → OfUsed (meaning c).writes ((meaning c).works b.world) → (meaning c).starved_are WriteFault b.world b.starved → (meaning c).extent WriteFault b.world.input b.taken
@@ -110,26 +95,19 @@ stated_done c Done before now done b = elim b.stated [ inl same ↦ same | inr m
 stated_done c (Lines n) before now done b = elim b.stated [ inl same ↦ same | inr may ↦ absurd may ]
 stated_done c status before now done b = absurd done
 
-unsent : (c : Command) (status : Status) (before now : Seen) → SavesNothing c → IsDone status → Behaves c status before now → Behaves c WriteFault before now
+unsent : (c : Command) (status : Status) (before now : Seen) → IsSentAfter c → IsDone status → Behaves c status before now → Behaves c WriteFault before now
 unsent (Compress h) Done before now unsaved done b = instead (Compress h) Done before now b tt b.starved_are tt b.written b.saved
 unsent (CompressNarrow n h) Done before now unsaved done b = instead (CompressNarrow n h) Done before now b tt b.starved_are tt b.written b.saved
 unsent Restore Done before now unsaved done b = instead Restore Done before now b tt b.starved_are tt b.written b.saved
 unsent (RestoreNarrow n) Done before now unsaved done b = instead (RestoreNarrow n) Done before now b tt b.starved_are tt b.written b.saved
 unsent Info Done before now unsaved done b = instead Info Done before now b tt b.starved_are b.extent b.written b.saved
-unsent (Look name lines) Done before now unsaved done b =
-    let file = opened stream_in (b.world.files name) in
-    let may = script_done (look_replies lines) file b.starved b.world.input Done (opened_first_stream (b.world.files name)) tt (stated_done (Look name lines) Done before now tt b) in
-    instead (Look name lines) Done before now b may tt b.extent b.written b.saved
-unsent (Look name lines) (Lines n) before now unsaved done b =
-    let file = opened stream_in (b.world.files name) in
-    let may = script_done (look_replies lines) file b.starved b.world.input (Lines n) (opened_first_stream (b.world.files name)) tt (stated_done (Look name lines) (Lines n) before now tt b) in
-    instead (Look name lines) (Lines n) before now b may tt b.extent b.written b.saved
 unsent (Bound name most) Done before now unsaved done b =
     let may = certified_done (opened array_in (b.world.files name)) Done (opened_first_array (b.world.files name)) tt (stated_done (Bound name most) Done before now tt b) in
     instead (Bound name most) Done before now b may b.starved_are b.extent b.written b.saved
 unsent (Sample h seed) Done before now unsaved done b = instead (Sample h seed) Done before now b tt b.starved_are b.extent b.written b.saved
 unsent (New name ty ns bits) status before now unsaved done b = absurd unsaved
 unsent (Run name caching) status before now unsaved done b = absurd unsaved
+unsent (Look name lines) status before now unsaved done b = absurd unsaved
 unsent (Compress h) (Lines n) before now unsaved done b = absurd (IsPossible-behaves (Compress h) (Lines n) before now b)
 unsent (CompressNarrow k h) (Lines n) before now unsaved done b = absurd (IsPossible-behaves (CompressNarrow k h) (Lines n) before now b)
 unsent Restore (Lines n) before now unsaved done b = absurd (IsPossible-behaves Restore (Lines n) before now b)
@@ -151,7 +129,7 @@ no_load (Sample h seed) none may = may
 no_load c none may = absurd (cc)
 
 -- and they never end with a fault of a save
-no_save : (c : Command) → SavesNothing c → IsPossible c SaveFault → ⊥
+no_save : (c : Command) → IsSentAfter c → IsPossible c SaveFault → ⊥
 no_save (Compress h) unsaved may = may
 no_save (CompressNarrow n h) unsaved may = may
 no_save Restore unsaved may = may
@@ -159,18 +137,18 @@ no_save (RestoreNarrow n) unsaved may = may
 no_save Info unsaved may = may
 no_save (New name ty ns b) unsaved may = unsaved
 no_save (Run name caching) unsaved may = unsaved
-no_save (Look name lines) unsaved may = may
+no_save (Look name lines) unsaved may = unsaved
 no_save (Bound name most) unsaved may = may
 no_save (Sample h seed) unsaved may = may
 
-done_work : (c : Command) (status : Status) → SavesNothing c → IsPossible c status → is_work_done status ≡ true → IsDone status
+done_work : (c : Command) (status : Status) → IsSentAfter c → IsPossible c status → is_work_done status ≡ true → IsDone status
 done_work c Done unsaved may work = tt
 done_work c (Lines n) unsaved may work = tt
 done_work c SaveFault unsaved may work = absurd (no_save c unsaved may)
 done_work c status unsaved may work = absurd (cc)
 
 -- a sink that they write to may have had a fault
-writes_used : (c : Command) → SavesNothing c → (before now : ℕ) → IsIdle (meaning c).writes before now
+writes_used : (c : Command) → IsSentAfter c → (before now : ℕ) → IsIdle (meaning c).writes before now
 writes_used (Compress h) unsaved before now = tt
 writes_used (CompressNarrow n h) unsaved before now = tt
 writes_used Restore unsaved before now = tt
@@ -178,12 +156,12 @@ writes_used (RestoreNarrow n) unsaved before now = tt
 writes_used Info unsaved before now = tt
 writes_used (New name ty ns b) unsaved before now = absurd unsaved
 writes_used (Run name caching) unsaved before now = absurd unsaved
-writes_used (Look name lines) unsaved before now = tt
+writes_used (Look name lines) unsaved before now = absurd unsaved
 writes_used (Bound name most) unsaved before now = tt
 writes_used (Sample h seed) unsaved before now = tt
 
 -- where they may have come to the source by a status, they may have by a write fault
-reads_cut : (c : Command) → SavesNothing c → (status : Status) (m n : ℕ) → IsIdle ((meaning c).reads status) m n → IsIdle ((meaning c).reads WriteFault) m n
+reads_cut : (c : Command) → IsSentAfter c → (status : Status) (m n : ℕ) → IsIdle ((meaning c).reads status) m n → IsIdle ((meaning c).reads WriteFault) m n
 reads_cut (Compress h) unsaved status m n idle = tt
 reads_cut (CompressNarrow k h) unsaved status m n idle = tt
 reads_cut Restore unsaved status m n idle = tt
@@ -191,11 +169,11 @@ reads_cut (RestoreNarrow k) unsaved status m n idle = tt
 reads_cut Info unsaved status m n idle = tt
 reads_cut (New name ty ns b) unsaved status m n idle = absurd unsaved
 reads_cut (Run name caching) unsaved status m n idle = absurd unsaved
-reads_cut (Look name lines) unsaved status m n idle = tt
+reads_cut (Look name lines) unsaved status m n idle = absurd unsaved
 reads_cut (Bound name most) unsaved status m n idle = idle
 reads_cut (Sample h seed) unsaved status m n idle = idle
 
-module _ (c : Command) (status ended : Status) (unsaved : SavesNothing c) where
+module _ (c : Command) (status ended : Status) (unsaved : IsSentAfter c) where
   -- what such a command did once what it wrote was handed on
   pub Behaves-sent : (before : Seen) (src mid now : Option (List ℕ)) (shelf : Option Files) {m n : ℕ} {Flushed : Type 0} → Behaves c status before (seen src mid shelf) → HandsOn status ended mid now m n Flushed → Behaves c ended before (seen src now shelf)
   Behaves-sent before src mid now shelf b sent =
@@ -292,51 +270,3 @@ IsSent-cut ended first m n kept sent = λ why. sent.flushed (elim why [
   | inl work ↦ absurd (undone (sym (ap is_work_done (cut_sent ended sent)) ∙ work))
   | inr quiet ↦ inr (omega (arith, kept, quiet))
 ])
-
--- the script was read by then
-reads_done : (status : Status) → IsDone status → reads_script status ≡ true
-reads_done Done done = refl
-reads_done (Lines n) done = refl
-reads_done status done = absurd done
-
-pub reads_saved : (status ended : Status) (before now : Option Files) (file bytes : List ℕ) {Writing : Type 0} → IsDone status → SavesOrFails before now file bytes status ended Writing → reads_script ended ≡ true
-reads_saved status ended before now file bytes done saves = elim saves [
-  | inl good ↦ ap reads_script good.0 ∙ reads_done status done
-  | inr others ↦ elim others [ inl bad ↦ ap reads_script bad.0 | inr unsaved ↦ ap reads_script unsaved.0 ]
-]
-
-module _ (name : List ℕ) (caching : Caching) (src out mid out_now : ℕ) where
-  Caused : Status → Type 0
-  Caused s = HasCauses (Run name caching) s (counts src out) (counts src out_now) (Unit {0}) (Unit {0})
-
-  ran : (ended : Status) → out ≤ mid → mid ≤ out_now → (ended ≢ ReadFault) → (ended ≡ WriteFault → Rose out out_now) → Caused ended
-  unfolding Caused
-  ran ended first then unread writing = record {
-    reading = (omega arith, λ is. absurd (unread is));
-    writing = (omega arith, writing);
-    no_reading = IsIdle-same (reads_script ended) src;
-    no_writing = tt;
-    sure = λ sure. (unread, tt);
-  }
-
-  by_done : (status : Status) → IsDone status → out ≤ mid → mid ≤ out_now → Caused status
-  by_done Done done first then = ran Done first then (λ is. cc) (λ is. absurd (cc))
-  by_done (Lines n) done first then = ran (Lines n) first then (λ is. cc) (λ is. absurd (cc))
-  by_done status done first then = absurd done
-
-  -- all lines were run, and the file was saved or was to be
-  pub HasCauses-ran : (status ended : Status) (before now : Option Files) (file bytes : List ℕ) → IsDone status → out ≤ mid → mid ≤ out_now → SavesOrFails before now file bytes status ended (Rose mid out_now)
-      → HasCauses (Run name caching) ended (counts src out) (counts src out_now) (Unit {0}) (Unit {0})
-  unfolding Caused
-  HasCauses-ran status ended before now file bytes done first then saves = elim saves [
-    | inl good ↦ subst Caused (sym good.0) (by_done status done first then)
-    | inr others ↦ elim others [
-      | inl bad ↦ subst Caused (sym bad.0) (ran SaveFault first then (λ is. cc) (λ is. absurd (cc)))
-      | inr unsaved ↦ subst Caused (sym unsaved.0) (ran WriteFault first then (λ is. cc) (λ is. omega (arith, unsaved.2)))
-    ]
-  ]
-
-  -- a reply was not written whole
-  pub HasCauses-cut : (ended : Status) → ended ≡ WriteFault → out ≤ mid → mid ≤ out_now → Rose out mid → HasCauses (Run name caching) ended (counts src out) (counts src out_now) (Unit {0}) (Unit {0})
-  unfolding Caused
-  HasCauses-cut ended is first then rose = subst Caused (sym is) (ran WriteFault first then (λ same. cc) (λ same. omega arith))

@@ -13,9 +13,9 @@ pub mod Making
 mod Sampling
 mod Opening
 mod Loading
-mod Scripting
-mod Running
-mod Looking
-mod TwoWays
-mod Certifying
 mod HandedOn
+mod Scripting
+mod TwoWays
+mod Subjects
+mod Certifying
+mod Rungs

@@ -3,7 +3,7 @@ use Rattle.std.proofs.Common.{◌≡◌, ℕ, suc, ◌≤◌, ◌<◌, cond, Lis
 use Rattle.std.specs.Prelude.{replicate}
 use Rattle.std.proofs.lemmas.Bool.{lt-ltb, le-ltb}
 use Rattle.std.proofs.lemmas.List.{length-replicate}
-use Rattle.zf_dev.specs.Shelf.{Files, HasFile, HasLongFile, ExplainsLoad, KeepsFiles}
+use Rattle.zf_dev.specs.Shelf.{Files, HasFile, HasLongFile, ExplainsLoad, KeepsFiles, KeepsOthers, SavesFile}
 use Rattle.zf_dev.specs.declared.faults.LoadError.{LoadError}
 use Rattle.zf_dev.specs.declared.faults.LoadError.TheVariants as loading
 use Rattle.zf_dev.proofs.Appending.{AppendsPrefix-none}
@@ -87,6 +87,29 @@ Unsaved-first : (status : Status) → ComesFirst status → Unsaved status
 Unsaved-first = by_first Unsaved tt tt tt (λ f. tt) (λ b. tt) tt tt tt (λ m. tt)
 
 -- ---- shelves
+
+KeepsFiles-kept : (before mid now : Option Files) → KeepsFiles before mid → KeepsFiles mid now → KeepsFiles before now
+KeepsFiles-kept None mid now a b = tt
+KeepsFiles-kept (Some x) None now a b = absurd a
+KeepsFiles-kept (Some x) (Some y) None a b = b
+KeepsFiles-kept (Some x) (Some y) (Some z) a b = λ name. b name ∙ a name
+
+KeepsOthers-kept : (before mid now : Option Files) (name : List ℕ) → KeepsFiles before mid → KeepsOthers mid now name → KeepsOthers before now name
+KeepsOthers-kept None mid now name a b = tt
+KeepsOthers-kept (Some x) None now name a b = absurd a
+KeepsOthers-kept (Some x) (Some y) None name a b = b
+KeepsOthers-kept (Some x) (Some y) (Some z) name a b = λ other not. b other not ∙ a other
+
+SavesFile-kept : (before mid now : Option Files) (name bytes : List ℕ) → KeepsFiles before mid → SavesFile mid now name bytes → SavesFile before now name bytes
+SavesFile-kept before mid now name bytes kept saves = record { saved = saves.saved; others = KeepsOthers-kept before mid now name kept saves.others }
+
+-- what is saved of files that were kept before is saved of those
+pub Saves-kept : (file : Option (List ℕ × List ℕ)) (status : Status) (before mid now : Option Files) → KeepsFiles before mid → Saves file status mid now → Saves file status before now
+Saves-kept None status before mid now kept saves = KeepsFiles-kept before mid now kept saves
+Saves-kept (Some f) statuses.Done before mid now kept saves = SavesFile-kept before mid now f.0 f.1 kept saves
+Saves-kept (Some f) (statuses.Lines n) before mid now kept saves = SavesFile-kept before mid now f.0 f.1 kept saves
+Saves-kept (Some f) statuses.SaveFault before mid now kept saves = KeepsOthers-kept before mid now f.0 kept saves
+Saves-kept (Some f) status before mid now kept saves = KeepsFiles-kept before mid now kept saves
 
 -- the files that are exposed, or else these bytes under each name
 pub files_with : Option Files → List ℕ → Files

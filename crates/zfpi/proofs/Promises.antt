@@ -30,7 +30,7 @@ use Rattle.zfpi.specs.Words.{IsSpelled}
 use Rattle.zfpi.specs.World.{World, Seen, Counts, ExposesInput}
 use Rattle.zfpi.specs.Certified.{certified_status}
 use Rattle.zfpi.specs.Opened.{array_in, stream_in, opened, said_or_status, said_at_rate, array_behind}
-use Rattle.zfpi.specs.Scripts.{Answering, run_replies, look_replies, lines_status, script_status}
+use Rattle.zfpi.specs.Scripts.{Answering, run_answers, look_answers, lines_status, script_status}
 use Rattle.zfpi.specs.Answer.{meaning, MayFail, OfUsed}
 use Rattle.zfpi.proofs.Ends.{IsPossible, CompressEnds, RestoreEnds, RestoreNarrowEnds, InfoEnds, FileEnds, LookEnds, RunEnds, BoundEnds}
 use Rattle.zfpi.specs.Steps.{IsShelfless}
@@ -224,24 +224,17 @@ FileEnds-first : (status : Status) → FileEnds status → ComesFirst status
 FileEnds-first (NotRate m) ends = tt
 FileEnds-first status ends = ends
 
-stream_in-first : (bytes : List ℕ) → IsRefusal ComesFirst (stream_in bytes)
-unfolding stream_in
-stream_in-first bytes = refusal_of FileEnds ComesFirst FileEnds-first (said_or_status (parse bytes)) (said_ends (parse bytes) (own_said bytes))
-
 array_in-first : (bytes : List ℕ) → IsRefusal ComesFirst (array_in bytes)
 unfolding array_in
 array_in-first bytes = array_ends ComesFirst (λ f. tt) (λ m. tt) FileEnds-first (header_fault bytes) (header_of bytes).mode (parse bytes) (own_said bytes)
 
-pub opened_first_stream : (file : Option (List ℕ)) → IsRefusal ComesFirst (opened stream_in file)
-opened_first_stream file = opened_ends ComesFirst stream_in tt tt stream_in-first file
-
 pub opened_first_array : (file : Option (List ℕ)) → IsRefusal ComesFirst (opened array_in file)
 opened_first_array file = opened_ends ComesFirst array_in tt tt array_in-first file
 
-script_ends : (Ends : Status → Type 0) (replies : Answering) → Ends ScriptLong → ((n : ℕ) → Ends (lines_status n)) → (file : Result Said Status) → IsRefusal Ends file → (starved script : List ℕ) → Ends (script_status replies file starved script)
+script_ends : (Ends : Status → Type 0) (answers : Answering) → Ends ScriptLong → ((n : ℕ) → Ends (lines_status n)) → (file : Result Said Status) → IsRefusal Ends file → (starved script : List ℕ) → Ends (script_status answers file starved script)
 unfolding IsRefusal
-script_ends Ends replies long ends (Err status) refusal starved script = refusal
-script_ends Ends replies long ends (Ok said) refusal starved script = by (ltb 16777216 (length script)) (count_by is_refusal (replies said starved script))
+script_ends Ends answers long ends (Err status) refusal starved script = refusal
+script_ends Ends answers long ends (Ok said) refusal starved script = by (ltb 16777216 (length script)) (count_by is_refusal (answers said starved script).0)
   where
     by : (is_long : Bool) (refused : ℕ) → Ends (cond is_long ScriptLong (lines_status refused))
     by true refused = long
@@ -265,9 +258,9 @@ possible_status (RestoreNarrow n) w starved = narrow_ends (header_fault w.input)
 possible_status Info w starved = info_ends (header_fault (take 19 w.input))
 possible_status (New name ty ns b) w starved = tt
 possible_status (Run name caching) w starved =
-    script_ends RunEnds (run_replies caching) tt (λ n. LookEnds-run (lines_status n) (lines_end n)) (opened array_in (w.files name)) (opened_ends RunEnds array_in tt tt array_in-ends (w.files name)) starved w.input
+    script_ends RunEnds (run_answers caching) tt (λ n. LookEnds-run (lines_status n) (lines_end n)) (opened array_in (w.files name)) (opened_ends RunEnds array_in tt tt array_in-ends (w.files name)) starved w.input
 possible_status (Look name l) w starved =
-    script_ends LookEnds (look_replies l) tt lines_end (opened stream_in (w.files name)) (opened_ends LookEnds stream_in tt tt stream_in-ends (w.files name)) starved w.input
+    script_ends LookEnds (look_answers l) tt lines_end (opened stream_in (w.files name)) (opened_ends LookEnds stream_in tt tt stream_in-ends (w.files name)) starved w.input
 possible_status (Bound name most) w starved = certified_ends (opened array_in (w.files name)) (opened_ends BoundEnds array_in tt tt array_in-certified (w.files name))
 possible_status (Sample h seed) w starved = tt
 

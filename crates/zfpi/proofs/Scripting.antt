@@ -1,5 +1,5 @@
 -- What a command does that works on a script, once its file is opened.
-use Rattle.std.proofs.Common.{◌≡◌, ℕ, zero, suc, ◌+◌, ◌≤◌, ◌<◌, cond, List, [], ◌∷◌, ◌++◌, length, take, drop, Option, Some, None, Result, Ok, IsOk, ◌⊎◌, inl, inr, refl, ap, sym, subst, ◌∙◌, arith, append-nil, length-append}
+use Rattle.std.proofs.Common.{◌≡◌, ℕ, zero, suc, ◌+◌, ◌≤◌, ◌<◌, cond, List, [], ◌∷◌, ◌++◌, length, take, drop, true, false, Option, Some, None, Result, Ok, IsOk, is_some, ◌⊎◌, inl, inr, refl, ap, sym, subst, ◌∙◌, arith, append-nil, length-append}
 use Rattle.std.specs.Prelude.{count_by}
 use Rattle.std.proofs.lemmas.Bool.{lt-ltb, le-ltb}
 use Rattle.std.proofs.lemmas.Grind.{flat_map-append}
@@ -16,43 +16,65 @@ use Rattle.zf_cached.specs.Replies.{reply_text}
 use Rattle.zf_cached.specs.Steps.{Setting, Session}
 use Rattle.zf_cached.specs.Runs.{lines_of, run_lines, replies_text}
 use Rattle.zf_cached.proofs.Runs.{run_lines-append}
-use Rattle.zf_commands.specs.Steps.{is_refusal, is_starved}
+use Rattle.zf_commands.specs.Steps.{is_refusal}
 use Rattle.zf_commands.specs.Runs.{StopsAt}
 use Rattle.zfpi.specs.declared.status.Status.{Status}
 use Rattle.zfpi.specs.declared.status.Status.TheVariants as statuses
-use Rattle.zfpi.specs.declared.command.Caching.{Caching}
+use Rattle.zfpi.specs.declared.command.Access.{Access}
+use Rattle.zfpi.specs.declared.command.Access.TheVariants.{Run, Look}
 use Rattle.zfpi.specs.declared.command.Command.{Command}
-use Rattle.zfpi.specs.declared.command.Command.TheVariants.{Run, Look}
 use Rattle.zfpi.specs.Faults.{take_status}
-use Rattle.zfpi.specs.Opened.{array_in, stream_in, opened}
-use Rattle.zfpi.specs.Scripts.{Answering, run_replies, look_replies, lines_status, script_status, script_text, AreStarved, OnWholeScript, TakesScript, IsRunnable}
+use Rattle.zfpi.specs.Opened.{opened}
+use Rattle.zfpi.specs.Scripts.{Answering, run_answers, run_file, look_answers, lines_status, script_status, script_text, saved_of, reads_script, AreStarved, OnWholeScript, TakesScript, IsRunnable}
+use Rattle.zfpi.specs.Accesses.{command_on, reading_of, answers_of, file_of, named}
 use Rattle.zfpi.specs.Loaded.{HoldsFile}
 use Rattle.zfpi.specs.World.{World, ExposesInput, IsExposed, seen}
 use Rattle.zfpi.specs.Answer.{meaning, cut_draft, MayFail, OfUsed}
 use Rattle.zfpi.specs.Headline.{IsOfCommand, Writes, Saves, Behaves}
 use Rattle.zfpi.proofs.Exposed.{some_input, ExposesInput-taken}
-use Rattle.zfpi.proofs.Loading.{OnWholeScript-first, TakesScript-first, Unsaved, Saves-unsaved, files_with, world_with, ExposesFiles-with, opened-held, IsLoading}
+use Rattle.zfpi.proofs.Loading.{OnWholeScript-first, TakesScript-first, Unsaved, Saves-unsaved, Saves-kept, files_with, world_with, ExposesFiles-with, opened-held, IsLoading}
+use Rattle.zfpi.proofs.HandedOn.{Appends-stays}
 
 -- some lines are refused
 pub lines_status-some : (n : ℕ) → 1 ≤ n → lines_status n ≡ statuses.Lines n
 lines_status-some zero some = absurd (omega arith)
 lines_status-some (suc n) some = refl
 
--- a command that answers a script so, on what the file of this name is opened as
-pub record IsScripted (c : Command) (name : List ℕ) (reading : List ℕ → Result Said Status) (replies : Answering) : Type 0 where
+-- statuses where a whole script was run
+pub by_lines : (P : Status → Type 0) → P statuses.Done → ((m : ℕ) → P (statuses.Lines m)) → (n : ℕ) → P (lines_status n)
+by_lines P done lines zero = done
+by_lines P done lines (suc n) = lines (suc n)
+
+-- how it ends once the replies were to be handed on, and a file to be saved
+pub by_end : {Saving Unsent : Type 0} (P : Status → Type 0) (status end : Status) → (end ≡ status) ⊎ ((end ≡ statuses.SaveFault) × Saving) ⊎ ((end ≡ statuses.WriteFault) × Unsent) → P status → (Saving → P statuses.SaveFault) → (Unsent → P statuses.WriteFault) → P end
+by_end P status end how good bad unsent = elim how [
+  | inl same ↦ subst P (sym same) good
+  | inr others ↦ elim others [ inl b ↦ subst P (sym b.0) (bad b.1) | inr u ↦ subst P (sym u.0) (unsent u.1) ]
+]
+
+-- a command that answers a script so, on what the file of this name is opened as, and saves this, if anything
+pub record IsScripted (c : Command) (name : List ℕ) (reading : List ℕ → Result Said Status) (answers : Answering) (filed : Said → List ℕ → List ℕ → Option (List ℕ)) : Type 0 where
   pub loading : IsLoading c name reading
-  pub status : (w : World) (starved : List ℕ) → (meaning c).status w starved ≡ script_status replies (opened reading (w.files name)) starved w.input
-  pub text : (w : World) (starved taken : List ℕ) → (meaning c).text w starved taken ≡ script_text replies (opened reading (w.files name)) starved w.input
+  pub status : (w : World) (starved : List ℕ) → (meaning c).status w starved ≡ script_status answers (opened reading (w.files name)) starved w.input
+  pub text : (w : World) (starved taken : List ℕ) → (meaning c).text w starved taken ≡ script_text answers (opened reading (w.files name)) starved w.input
   pub draft : (w : World) (starved : List ℕ) (status : Status) (taken : List ℕ) → (meaning c).draft status ((meaning c).text w starved taken) ≡ cut_draft status ((meaning c).text w starved taken)
-  pub starved_are : (w : World) (starved : List ℕ) (status : Status) → OnWholeScript status (AreStarved replies (opened reading (w.files name)) starved w.input) → (meaning c).starved_are status w starved
+  pub starved_are : (w : World) (starved : List ℕ) (status : Status) → OnWholeScript status (AreStarved answers (opened reading (w.files name)) starved w.input) → (meaning c).starved_are status w starved
   pub extent : (status : Status) (input taken : List ℕ) → TakesScript status input taken → (meaning c).extent status input taken
+  pub saved : (w : World) (starved : List ℕ) (said : Said) → opened reading (w.files name) ≡ Ok said → (meaning c).saved w starved ≡ named name (filed said starved w.input)
+  pub saving : (said : Said) (starved script : List ℕ) → is_some (named name (filed said starved script)) ≡ (meaning c).saves
+  pub reads_script_by : (status : Status) → (meaning c).reads status ≡ reads_script status
+  pub writes_replies : (meaning c).writes ≡ true
   pub reads : (w : World) → IsOk (opened reading (w.files name)) → OfUsed ((meaning c).reads statuses.ReadFault) ((meaning c).opens w)
   pub writes : (w : World) → IsRunnable (opened reading (w.files name)) w → OfUsed (meaning c).writes ((meaning c).works w)
+  pub saves : (w : World) → (meaning c).saves ≡ true → IsRunnable (opened reading (w.files name)) w → OfUsed (meaning c).saves ((meaning c).works w)
 
-pub IsScripted-run : (name : List ℕ) (caching : Caching) → IsScripted (Run name caching) name array_in (run_replies caching)
-IsScripted-run name caching = record {
+other_bool : false ≡ true → ⊥
+other_bool is = cc
+
+pub IsScripted-on : (access : Access) (name : List ℕ) → IsScripted (command_on access name) name (reading_of access) (answers_of access) (file_of access)
+IsScripted-on (Run caching) name = record {
   loading = record {
-    refuses = λ w status none. sym (ap (λ file. script_status (run_replies caching) file [] w.input) none);
+    refuses = λ w status none. sym (ap (λ file. script_status (run_answers caching) file [] w.input) none);
     starved_are = λ w status first. OnWholeScript-first _ status first;
     extent = TakesScript-first;
     draft = λ w status taken. refl;
@@ -64,14 +86,17 @@ IsScripted-run name caching = record {
   draft = λ w starved status taken. refl;
   starved_are = λ w starved status are. are;
   extent = λ status input taken is. is;
+  saved = λ w starved said is. ap (λ file. saved_of name (run_file caching) file starved w.input) is;
+  saving = λ said starved script. refl;
+  reads_script_by = λ status. refl;
+  writes_replies = refl;
   reads = λ w good. good;
   writes = λ w good. good;
+  saves = λ w saving good. good;
 }
-
-pub IsScripted-look : (name : List ℕ) (lines : Option ℕ) → IsScripted (Look name lines) name stream_in (look_replies lines)
-IsScripted-look name lines = record {
+IsScripted-on (Look lines) name = record {
   loading = record {
-    refuses = λ w status none. sym (ap (λ file. script_status (look_replies lines) file [] w.input) none);
+    refuses = λ w status none. sym (ap (λ file. script_status (look_answers lines) file [] w.input) none);
     starved_are = λ w status first. OnWholeScript-first _ status first;
     extent = TakesScript-first;
     draft = λ w status taken. refl;
@@ -83,9 +108,18 @@ IsScripted-look name lines = record {
   draft = λ w starved status taken. refl;
   starved_are = λ w starved status are. are;
   extent = λ status input taken is. is;
+  saved = λ w starved said is. refl;
+  saving = λ said starved script. refl;
+  reads_script_by = λ status. refl;
+  writes_replies = refl;
   reads = λ w good. good;
   writes = λ w good. good;
+  saves = λ w saving good. absurd (other_bool saving);
 }
+
+pub loads-on : (access : Access) (name : List ℕ) → (meaning (command_on access name)).loads ≡ true
+loads-on (Run caching) name = refl
+loads-on (Look lines) name = refl
 
 -- a script of more bytes than a script may have
 long_input : (src src_now : Option (List ℕ)) (bytes : List ℕ) → 16777216 < length bytes → Takes src src_now bytes → (input : List ℕ) × ExposesInput src input × (16777216 < length input)
@@ -93,31 +127,35 @@ long_input None src_now bytes long takes = (bytes, tt, long)
 long_input (Some all) None bytes long takes = absurd takes
 long_input (Some all) (Some left) bytes long takes = (all, refl, omega (arith, ap length takes, length-append bytes left, long))
 
-module _ (c : Command) (name : List ℕ) (reading : List ℕ → Result Said Status) (replies : Answering) (is : IsScripted c name reading replies) (known mid : Option Files) (bytes : List ℕ) (said : Said)
+module _ (c : Command) (name : List ℕ) (reading : List ℕ → Result Said Status) (answers : Answering) (filed : Said → List ℕ → List ℕ → Option (List ℕ)) (is : IsScripted c name reading answers filed) (known mid : Option Files) (bytes : List ℕ) (said : Said)
     (holds : HoldsFile known name bytes) (opens : reading bytes ≡ Ok said) (kept : KeepsFiles known mid) where
-  pub is_open : opened reading (files_with known bytes name) ≡ Ok said
+  is_open : opened reading (files_with known bytes name) ≡ Ok said
   is_open = opened-held reading known name bytes holds ∙ opens
 
   open_ok : IsOk (opened reading (files_with known bytes name))
   open_ok = subst IsOk (sym is_open) refl
 
   -- the status of a script, by the number of its lines that are refused
-  status_is : (starved script : List ℕ) → length script ≤ 16777216 → lines_status (count_by is_refusal (replies said starved script)) ≡ (meaning c).status (world_with known bytes script) starved
+  status_is : (starved script : List ℕ) → length script ≤ 16777216 → lines_status (count_by is_refusal (answers said starved script).0) ≡ (meaning c).status (world_with known bytes script) starved
   status_is starved script most =
-      sym (ap (λ t. cond t statuses.ScriptLong (lines_status (count_by is_refusal (replies said starved script)))) (le-ltb 16777216 (length script) most))
-      ∙ (sym (ap (λ file. script_status replies file starved script) is_open) ∙ sym (is.status (world_with known bytes script) starved))
+      sym (ap (λ t. cond t statuses.ScriptLong (lines_status (count_by is_refusal (answers said starved script).0))) (le-ltb 16777216 (length script) most))
+      ∙ (sym (ap (λ file. script_status answers file starved script) is_open) ∙ sym (is.status (world_with known bytes script) starved))
 
   too_long : (input : List ℕ) → 16777216 < length input → statuses.ScriptLong ≡ (meaning c).status (world_with known bytes input) []
   too_long input long =
-      sym (ap (λ t. cond t statuses.ScriptLong (lines_status (count_by is_refusal (replies said [] input)))) (lt-ltb 16777216 (length input) long))
-      ∙ (sym (ap (λ file. script_status replies file [] input) is_open) ∙ sym (is.status (world_with known bytes input) []))
+      sym (ap (λ t. cond t statuses.ScriptLong (lines_status (count_by is_refusal (answers said [] input).0))) (lt-ltb 16777216 (length input) long))
+      ∙ (sym (ap (λ file. script_status answers file [] input) is_open) ∙ sym (is.status (world_with known bytes input) []))
 
   -- its text
-  text_is : (starved script taken : List ℕ) → replies_text (replies said starved script) ≡ (meaning c).text (world_with known bytes script) starved taken
-  text_is starved script taken = sym (ap (λ file. script_text replies file starved script) is_open) ∙ sym (is.text (world_with known bytes script) starved taken)
+  text_is : (starved script taken : List ℕ) → replies_text (answers said starved script).0 ≡ (meaning c).text (world_with known bytes script) starved taken
+  text_is starved script taken = sym (ap (λ file. script_text answers file starved script) is_open) ∙ sym (is.text (world_with known bytes script) starved taken)
+
+  -- and what it saves
+  saved_is : (starved script : List ℕ) → (meaning c).saved (world_with known bytes script) starved ≡ named name (filed said starved script)
+  saved_is starved script = is.saved (world_with known bytes script) starved said is_open
 
   -- no line was run, and nothing was written
-  unread : (status : Status) (src src_now out : Option (List ℕ)) (input taken : List ℕ) → IsOfCommand status → ExposesInput src input → OnWholeScript status (AreStarved replies (opened reading (files_with known bytes name)) [] input)
+  unread : (status : Status) (src src_now out : Option (List ℕ)) (input taken : List ℕ) → IsOfCommand status → ExposesInput src input → OnWholeScript status (AreStarved answers (opened reading (files_with known bytes name)) [] input)
       → (status ≡ (meaning c).status (world_with known bytes input) []) ⊎ MayFail status c (world_with known bytes input) → Takes src src_now taken → TakesScript status input taken
       → ((text : List ℕ) → Writes status text (cut_draft status text) out out) → Unsaved status → Behaves c status (seen src out known) (seen src_now out mid)
   unread status src src_now out input taken ends exposed starved_are stated takes extent written un = record {
@@ -153,20 +191,20 @@ module _ (c : Command) (name : List ℕ) (reading : List ℕ → Result Said Sta
     exposed_script out = record { input = ExposesInput-taken src rest script takes end; files = ExposesFiles-with known bytes }
 
     -- it can be run here
-    pub runnable : IsRunnable (opened reading (files_with known bytes name)) (world_with known bytes script)
+    runnable : IsRunnable (opened reading (files_with known bytes name)) (world_with known bytes script)
     runnable = (open_ok, most)
 
     -- all its lines were run, and it ended so
-    pub Behaves-whole : (status : Status) (out out_now : Option (List ℕ)) (shelf : Option Files) → IsOfCommand status → ((P : Type 0) → P → OnWholeScript status P) → TakesScript status script script
+    Behaves-whole : (status : Status) (out out_now : Option (List ℕ)) (shelf : Option Files) → IsOfCommand status → ((P : Type 0) → P → OnWholeScript status P) → TakesScript status script script
         → ((text draft : List ℕ) → Appends out out_now text → Writes status text draft out out_now) → (status ≡ (meaning c).status (world_with known bytes script) starved) ⊎ MayFail status c (world_with known bytes script)
-        → count_by is_starved (replies said starved script) ≡ length starved → Appends out out_now (replies_text (replies said starved script)) → Saves ((meaning c).saved (world_with known bytes script) starved) status known shelf
+        → starved ≡ (answers said starved script).1 → Appends out out_now (replies_text (answers said starved script).0) → Saves ((meaning c).saved (world_with known bytes script) starved) status known shelf
         → Behaves c status (seen src out known) (seen rest out_now shelf)
     Behaves-whole status out out_now shelf ends on_whole extent writes stated starved_are written saved = record {
       ends = ends;
       world = world_with known bytes script;
       exposed = exposed_script out;
       starved = starved;
-      starved_are = is.starved_are (world_with known bytes script) starved status (on_whole _ (subst (λ file. AreStarved replies file starved script) (sym is_open) starved_are));
+      starved_are = is.starved_are (world_with known bytes script) starved status (on_whole _ (subst (λ file. AreStarved answers file starved script) (sym is_open) starved_are));
       stated = stated;
       taken = script;
       takes = takes;
@@ -176,18 +214,19 @@ module _ (c : Command) (name : List ℕ) (reading : List ℕ → Result Said Sta
     }
 
     -- so many lines were refused, or none
-    pub Behaves-lines : (n : ℕ) (out out_now : Option (List ℕ)) (shelf : Option Files) → n ≡ count_by is_refusal (replies said starved script) → count_by is_starved (replies said starved script) ≡ length starved
-        → Appends out out_now (replies_text (replies said starved script)) → Saves ((meaning c).saved (world_with known bytes script) starved) (lines_status n) known shelf → Behaves c (lines_status n) (seen src out known) (seen rest out_now shelf)
+    Behaves-lines : (n : ℕ) (out out_now : Option (List ℕ)) (shelf : Option Files) → n ≡ count_by is_refusal (answers said starved script).0 → starved ≡ (answers said starved script).1
+        → Appends out out_now (replies_text (answers said starved script).0) → Saves ((meaning c).saved (world_with known bytes script) starved) (lines_status n) known shelf → Behaves c (lines_status n) (seen src out known) (seen rest out_now shelf)
     Behaves-lines zero out out_now shelf refused starved_are written saved =
         Behaves-whole statuses.Done out out_now shelf tt (λ P p. p) refl (λ text draft all. all) (inl (ap lines_status refused ∙ status_is starved script most)) starved_are written saved
     Behaves-lines (suc n) out out_now shelf refused starved_are written saved =
         Behaves-whole (statuses.Lines (suc n)) out out_now shelf tt (λ P p. p) refl (λ text draft all. all) (inl (ap lines_status refused ∙ status_is starved script most)) starved_are written saved
 
     -- all its lines were run, and the replies were written but not handed on
-    pub Behaves-unsent : (out out_now : Option (List ℕ)) → Appends out out_now (replies_text (replies said starved script)) → Behaves c statuses.WriteFault (seen src out known) (seen rest out_now mid)
-    Behaves-unsent out out_now written =
+    Behaves-unsent : (out out_now : Option (List ℕ)) (shelf : Option Files) → Appends out out_now (replies_text (answers said starved script).0) → Saves ((meaning c).saved (world_with known bytes script) starved) statuses.WriteFault known shelf
+        → Behaves c statuses.WriteFault (seen src out known) (seen rest out_now shelf)
+    Behaves-unsent out out_now shelf written saved =
         let w = world_with known bytes script in
-        let text = replies_text (replies said starved script) in
+        let text = replies_text (answers said starved script).0 in
         record {
           ends = tt;
           world = w;
@@ -199,13 +238,29 @@ module _ (c : Command) (name : List ℕ) (reading : List ℕ → Result Said Sta
           takes = takes;
           extent = is.extent statuses.WriteFault script script refl;
           written = subst (AppendsPrefix out out_now) (text_is starved script script ∙ sym (is.draft w starved statuses.WriteFault script)) (AppendsPrefix-all out out_now text written);
-          saved = Saves-unsaved ((meaning c).saved w starved) statuses.WriteFault known mid tt kept;
+          saved = saved;
         }
 
+    -- all its lines were run, the replies were handed on and a file was saved, if any, unless one of both failed
+    pub Behaves-closed : {Unsent : Type 0} (n : ℕ) (end : Status) (out sent out_now : Option (List ℕ)) (shelf : Option Files) → n ≡ count_by is_refusal (answers said starved script).0 → starved ≡ (answers said starved script).1
+        → Appends out sent (replies_text (answers said starved script).0) → Appends sent out_now [] → (end ≡ lines_status n) ⊎ ((end ≡ statuses.SaveFault) × (is_some (named name (filed said starved script)) ≡ true)) ⊎ ((end ≡ statuses.WriteFault) × Unsent)
+        → Saves (named name (filed said starved script)) end mid shelf → Behaves c end (seen src out known) (seen rest out_now shelf)
+    Behaves-closed n end out sent out_now shelf refused starved_are written stays ends saves =
+        let file = named name (filed said starved script) in
+        let text = Appends-stays out sent out_now (replies_text (answers said starved script).0) written stays in
+        let saved = λ (status : Status) (saves : Saves file status mid shelf).
+        subst (λ f. Saves f status known shelf) (sym (saved_is starved script)) (Saves-kept file status known mid shelf kept saves) in
+        by_end (λ status. Saves file status mid shelf → Behaves c status (seen src out known) (seen rest out_now shelf)) (lines_status n) end ends
+        (λ saves. Behaves-lines n out out_now shelf refused starved_are text (saved (lines_status n) saves))
+        (λ saving saves. Behaves-whole statuses.SaveFault out out_now shelf tt (λ P p. p) refl (λ text draft all. all)
+        (inr (is.saves (world_with known bytes script) (sym (is.saving said starved script) ∙ saving) runnable)) starved_are text (saved statuses.SaveFault saves))
+        (λ unsent saves. Behaves-unsent out out_now shelf text (saved statuses.WriteFault saves))
+        saves
+
     -- a reply was not written whole
-    module _ {Code : Type 0} (setting : Setting Code) (start : Session Code) (same : (run_lines setting starved 0 (lines_of script) start).1 ≡ replies said starved script) where
+    module _ {Code : Type 0} (setting : Setting Code) (start : Session Code) (same : (run_lines setting starved 0 (lines_of script) start).1 ≡ (answers said starved script).0) where
       -- the text of the first lines is a prefix of the text of all
-      prefix_of_text : (n : ℕ) → (more : List ℕ) × (replies_text (replies said starved script) ≡ replies_text (run_lines setting starved 0 (take n (lines_of script)) start).1 ++ more)
+      prefix_of_text : (n : ℕ) → (more : List ℕ) × (replies_text (answers said starved script).0 ≡ replies_text (run_lines setting starved 0 (take n (lines_of script)) start).1 ++ more)
       prefix_of_text n =
           let all = lines_of script in
           let prefix = run_lines setting starved 0 (take n all) start in

@@ -1,20 +1,18 @@
 -- The steps of a call on the shelf.
 use Rattle.std.proofs.Common.{◌≡◌, ◌≢◌, ℕ, ◌≤◌, ◌&&◌, Bool, true, false, inl, inr, refl, ap, sym, subst, ◌∙◌, arith}
-use Rattle.zf_dev.specs.Faults.{Rose, IsQuiet, HasCause}
+use Rattle.zf_dev.specs.Faults.{IsQuiet, HasCause}
 use Rattle.zf_dev.specs.declared.faults.LoadError.{LoadError}
 use Rattle.zf_dev.specs.declared.faults.LoadError.TheVariants as loading
 use Rattle.zf_dev.specs.declared.faults.TakeError.{TakeError}
 use Rattle.zf_dev.specs.declared.faults.TakeError.TheVariants as taking
 use Rattle.zf_index.specs.declared.fault.IndexFault.{IndexFault}
 use Rattle.zf_index.specs.declared.fault.IndexFault.TheVariants as index
-use Rattle.zf_store.specs.declared.fault.StoreFault.{StoreFault}
-use Rattle.zf_store.specs.declared.fault.StoreFault.TheVariants as stores
 use Rattle.zfpi.specs.declared.status.Status.{Status}
-use Rattle.zfpi.specs.declared.status.Status.TheVariants.{Done, Lines, WriteFault, LoadFault, SaveFault}
+use Rattle.zfpi.specs.declared.status.Status.TheVariants.{WriteFault, LoadFault, SaveFault}
 use Rattle.zfpi.specs.declared.command.Command.{Command}
-use Rattle.zfpi.specs.Faults.{load_status, index_status, store_status, take_status}
+use Rattle.zfpi.specs.Faults.{load_status, index_status, take_status}
 use Rattle.zfpi.specs.Answer.{meaning}
-use Rattle.zfpi.specs.Sending.{IsDone, EndsSent}
+use Rattle.zfpi.specs.Sending.{EndsSent}
 use Rattle.zfpi.specs.Steps.{is_work_done, Makes, SavesOnce, Steps, IsShelfless}
 
 no_bool : true ≡ false → ⊥
@@ -47,39 +45,19 @@ module _ {F : Type 0} (step : F → F → Type 0) (faults : F → ℕ) where
 
 -- ---- at most one save, behind a load
 
-module _ {F : Type 0} (saves : F → F → Type 0) (faults : F → ℕ) where
-  pub SavesOnce-none : (status : Status) (shelf : F) → is_work_done status ≡ false → status ≢ LoadFault → SavesOnce saves faults status shelf shelf
+module _ {F : Type 0} (saves : F → F → Type 0) (faults : F → ℕ) (c : Command) where
+  pub SavesOnce-none : (status : Status) (shelf : F) → is_work_done status ≡ false → status ≢ LoadFault → SavesOnce saves faults c status shelf shelf
   SavesOnce-none status shelf undone no_load = record {
-    save = Makes-none saves faults (is_work_done status) (status ≡ SaveFault) shelf undone (λ is. no_bool (sym (ap is_work_done is) ∙ undone));
+    save = Makes-none saves faults ((meaning c).saves && is_work_done status) (status ≡ SaveFault) shelf (ap (λ b. (meaning c).saves && b) undone ∙ and_false (meaning c).saves)
+        (λ is. no_bool (sym (ap is_work_done is) ∙ undone));
     no_load = no_load;
   }
 
-  -- the file was no array's
-  pub SavesOnce-store : (e : StoreFault) (shelf : F) → SavesOnce saves faults (store_status e) shelf shelf
-  SavesOnce-store (stores.Truncated b) shelf = SavesOnce-none (store_status (stores.Truncated b)) shelf refl (λ is. cc)
-  SavesOnce-store stores.Pad shelf = SavesOnce-none (store_status stores.Pad) shelf refl (λ is. cc)
-  SavesOnce-store stores.Trailing shelf = SavesOnce-none (store_status stores.Trailing) shelf refl (λ is. cc)
-  SavesOnce-store stores.Memory shelf = SavesOnce-none (store_status stores.Memory) shelf refl (λ is. cc)
-
   -- the script was not read
-  pub SavesOnce-take : (e : TakeError) (shelf : F) → SavesOnce saves faults (take_status e) shelf shelf
+  pub SavesOnce-take : (e : TakeError) (shelf : F) → SavesOnce saves faults c (take_status e) shelf shelf
   SavesOnce-take taking.Long shelf = SavesOnce-none (take_status taking.Long) shelf refl (λ is. cc)
   SavesOnce-take taking.Failed shelf = SavesOnce-none (take_status taking.Failed) shelf refl (λ is. cc)
   SavesOnce-take taking.Memory shelf = SavesOnce-none (take_status taking.Memory) shelf refl (λ is. cc)
-
-  -- the sink failed
-  pub SavesOnce-cut : (ended : Status) (shelf : F) → ended ≡ WriteFault → SavesOnce saves faults ended shelf shelf
-  SavesOnce-cut ended shelf is = subst (λ s. SavesOnce saves faults s shelf shelf) (sym is) (SavesOnce-none WriteFault shelf refl (λ same. cc))
-
-  -- a save was made of work that was done, and it was good
-  pub SavesOnce-done : (status : Status) (before now : F) → IsDone status → saves before now → faults before ≤ faults now → SavesOnce saves faults status before now
-  SavesOnce-done Done before now done step kept = record { save = (step, (kept, λ is. cc)); no_load = λ is. cc }
-  SavesOnce-done (Lines n) before now done step kept = record { save = (step, (kept, λ is. cc)); no_load = λ is. cc }
-  SavesOnce-done status before now done step kept = absurd done
-
-  -- or it failed
-  pub SavesOnce-failed : (before now : F) → saves before now → faults before ≤ faults now → Rose (faults before) (faults now) → SavesOnce saves faults SaveFault before now
-  SavesOnce-failed before now step kept rose = record { save = (step, (kept, λ is. rose)); no_load = λ is. cc }
 
 -- ---- statuses that are no fault of a shelf
 
@@ -88,11 +66,6 @@ IsShelfless-index (index.Truncated b) = record { no_load = λ is. cc; no_save = 
 IsShelfless-index index.Pad = record { no_load = λ is. cc; no_save = λ is. cc }
 IsShelfless-index index.Trailing = record { no_load = λ is. cc; no_save = λ is. cc }
 IsShelfless-index index.Memory = record { no_load = λ is. cc; no_save = λ is. cc }
-
-pub IsShelfless-take : (e : TakeError) → IsShelfless (take_status e)
-IsShelfless-take taking.Long = record { no_load = λ is. cc; no_save = λ is. cc }
-IsShelfless-take taking.Failed = record { no_load = λ is. cc; no_save = λ is. cc }
-IsShelfless-take taking.Memory = record { no_load = λ is. cc; no_save = λ is. cc }
 
 -- ---- the steps of a call
 
@@ -139,12 +112,12 @@ module _ {F : Type 0} (loads saves : F → F → Type 0) (faults : F → ℕ) (c
     save = Makes-none saves faults ((meaning c).saves && is_work_done status) (status ≡ SaveFault) loaded (ap (λ b. b && is_work_done status) no_save) none.no_save;
   }
 
-  -- or a save behind it
-  pub Steps-saved : (status : Status) (before loaded now : F) → (meaning c).loads ≡ true → (meaning c).saves ≡ true → loads before loaded → faults before ≤ faults loaded → SavesOnce saves faults status loaded now → Steps loads saves faults c status before now
-  Steps-saved status before loaded now loading saving step kept once = record {
+  -- or at most one save behind it
+  pub Steps-saved : (status : Status) (before loaded now : F) → (meaning c).loads ≡ true → loads before loaded → faults before ≤ faults loaded → SavesOnce saves faults c status loaded now → Steps loads saves faults c status before now
+  Steps-saved status before loaded now loading step kept once = record {
     loaded = loaded;
     load = loaded_well status before loaded loading step kept once.no_load;
-    save = subst (λ b. Makes (b && is_work_done status) saves faults (status ≡ SaveFault) loaded now) (sym saving) once.save;
+    save = once.save;
   }
 
   -- a load that was not

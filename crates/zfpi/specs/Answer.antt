@@ -8,7 +8,6 @@ use Rattle.zf_header.specs.HeaderFaults.{header_fault}
 use Rattle.zf_parse.specs.Raw.{compress_answer, stream_text}
 use Rattle.zf_parse.specs.Parsing.{Said, restore_answer, restored_text}
 use Rattle.zf_stream.specs.Headed.{prefix_room}
-use Rattle.zf_narrow.specs.declared.narrow.Narrow.{Narrow}
 use Rattle.zf_narrow.specs.Texts.{narrow_text, compress_narrow_answer, restore_narrow_answer, narrow_restored}
 use Rattle.zf_store.specs.Stored.{file_of, zeros}
 use Rattle.zfpi.specs.declared.status.Status.{Status}
@@ -20,7 +19,7 @@ use Rattle.zfpi.specs.World.{World}
 use Rattle.zfpi.specs.Words.{IsLines, IsCaching}
 use Rattle.zfpi.specs.Info.{header_bytes, TakesHeader, info_text}
 use Rattle.zfpi.specs.Opened.{array_in, stream_in, opened}
-use Rattle.zfpi.specs.Scripts.{Answering, TakesScript, reads_script, OnWholeScript, IsRunnable, run_replies, run_file, look_replies, script_status, script_text, saved_of, AreStarved}
+use Rattle.zfpi.specs.Scripts.{Answering, TakesScript, reads_script, OnWholeScript, IsRunnable, run_answers, run_file, look_answers, script_status, script_text, saved_of, AreStarved}
 use Rattle.zfpi.specs.Certified.{certified_text, certified_status}
 use Rattle.zfpi.specs.Sample.{sample_text}
 
@@ -98,10 +97,10 @@ streaming = record plain { draft = compress_draft; extent = TakesStream; reads =
 
 -- a script is answered so, over what a file is opened as
 abbrev pub scripting : Answering → (World → Result Said Status) → Meaning
-scripting replies file = record plain {
-  status = λ w starved. script_status replies (file w) starved w.input;
-  starved_are = λ status w starved. OnWholeScript status (AreStarved replies (file w) starved w.input);
-  text = λ w starved taken. script_text replies (file w) starved w.input;
+scripting answers file = record plain {
+  status = λ w starved. script_status answers (file w) starved w.input;
+  starved_are = λ status w starved. OnWholeScript status (AreStarved answers (file w) starved w.input);
+  text = λ w starved taken. script_text answers (file w) starved w.input;
   extent = TakesScript;
   reads = reads_script;
   writes = true;
@@ -146,12 +145,12 @@ meaning (New name ty ns b) = record plain {
   saved = λ w starved. Some (name, file_of (zeros ty ns b));
   saves = true;
 }
-meaning (Run name caching) = record (scripting (run_replies caching) (λ w. opened array_in (w.files name))) {
+meaning (Run name caching) = record (scripting (run_answers caching) (λ w. opened array_in (w.files name))) {
   can_run = IsCaching caching;
   saved = λ w starved. saved_of name (run_file caching) (opened array_in (w.files name)) starved w.input;
   saves = true;
 }
-meaning (Look name lines) = record (scripting (look_replies lines) (λ w. opened stream_in (w.files name))) {
+meaning (Look name lines) = record (scripting (look_answers lines) (λ w. opened stream_in (w.files name))) {
   can_run = IsLines lines;
 }
 meaning (Bound name most) = record plain {

@@ -12,10 +12,12 @@
 --     Certified   the line that `bound` writes
 --     Answer      what a command is: one record a command
 --     Steps       the loads and saves of a call, one after another
---     Loaded      what a command has loaded, and how a run is saved
+--     Accesses    what a script does with a file by its access
+--     Subjects    what a script works on, and how a run over it ends
+--     Loaded      what a command has loaded, and what it is opened as
 --     Sending     how what a command wrote is handed on
 --     Headline    what the program promises of every command
---     Rungs       what `run` and `look` promise on each rung behind their load
+--     Rungs       what a command on a script promises on each rung of its way
 pub mod Names
 pub mod Words
 pub mod Stages
@@ -29,6 +31,8 @@ pub mod Scripts
 pub mod Certified
 pub mod Answer
 pub mod Steps
+pub mod Accesses
+pub mod Subjects
 pub mod Loaded
 pub mod Sending
 pub mod Headline

@@ -9,10 +9,13 @@ use Rattle.zf_cached.specs.Changes.{default_lines}
 use Rattle.zf_cached.specs.Arrays.{open_array, saved_file}
 use Rattle.zf_cached.specs.Replies.{Reply}
 use Rattle.zf_cached.specs.Steps.{Setting, Session}
-use Rattle.zf_cached.specs.Runs.{array_setting, look_setting, run, look, replies_text}
+use Rattle.zf_cached.specs.Windows.{whole}
+use Rattle.zf_cached.specs.Runs.{array_setting, look_setting, lines_of, run, look, replies_text}
 use Rattle.zf_twoway.specs.Runs.{twoway_setting}
 use Rattle.zf_const.specs.Standing.{coding_of, open_stream}
-use Rattle.zf_commands.specs.Steps.{is_refusal, is_starved}
+use Rattle.zf_commands.specs.Sittings.{session}
+use Rattle.zf_commands.specs.Runs.{starved_lines}
+use Rattle.zf_commands.specs.Steps.{is_refusal}
 use Rattle.zfpi.specs.declared.command.Caching.{Caching}
 use Rattle.zfpi.specs.declared.command.Caching.TheVariants.{Direct, TwoWay}
 use Rattle.zfpi.specs.declared.status.Status.{Status}
@@ -38,9 +41,10 @@ abbrev pub first_lines : Caching → List ℕ → ℕ
 first_lines (Direct lines) ns = lines_for lines ns
 first_lines (TwoWay l) ns = l
 
--- how a script is answered: its replies, by what the file says, the lines that found no memory, and the script
+-- how a script is answered, by what the file says, the lines that found no memory, and the script: its replies, and the numbers of
+-- the lines that say so
 abbrev pub Answering : Type 0
-Answering = Said → List ℕ → List ℕ → List Reply
+Answering = Said → List ℕ → List ℕ → List Reply × List ℕ
 
 -- the run of a script on an array: what it comes to, and the replies
 unfoldable pub ran_over : Caching → Said → List ℕ → List ℕ → Session (List Bool) × List Reply
@@ -50,9 +54,17 @@ ran_over caching said starved script =
     let bits = block_bits h.mode in
     run (setting_over caching w bits) starved h.shape (open_array w bits h.shape said.codes (first_lines caching h.shape)) script
 
--- its replies
-abbrev pub run_replies : Caching → Answering
-run_replies caching said starved script = (ran_over caching said starved script).1
+-- its lines that find no memory
+unfoldable pub starved_over : Caching → Said → List ℕ → List ℕ → List ℕ
+starved_over caching said starved script =
+    let h = said.header in
+    let w = width_of h.ty in
+    let bits = block_bits h.mode in
+    starved_lines (setting_over caching w bits) starved 0 (lines_of script) (session h.shape (open_array w bits h.shape said.codes (first_lines caching h.shape)) (whole h.shape))
+
+-- how it is answered
+abbrev pub run_answers : Caching → Answering
+run_answers caching said starved script = ((ran_over caching said starved script).1, starved_over caching said starved script)
 
 -- the file that is saved then
 abbrev pub run_file : Caching → Said → List ℕ → List ℕ → List ℕ
@@ -60,11 +72,13 @@ run_file caching said starved script =
     let after = (ran_over caching said starved script).0 in
     saved_file (width_of said.header.ty) (block_bits said.header.mode) after.shape after.state
 
--- the replies where it looks at a stream
-unfoldable pub look_replies : Option ℕ → Answering
-look_replies lines said starved script =
+-- how it is answered where it looks at a stream
+unfoldable pub look_answers : Option ℕ → Answering
+look_answers lines said starved script =
     let h = said.header in
-    (look (look_setting (width_of h.ty) (coding_of h)) starved h.shape (open_stream h said.codes (lines_for lines h.shape)) script).1
+    let setting = look_setting (width_of h.ty) (coding_of h) in
+    let s = open_stream h said.codes (lines_for lines h.shape) in
+    ((look setting starved h.shape s script).1, starved_lines setting starved 0 (lines_of script) (session h.shape s (whole h.shape)))
 
 -- the status where so many lines are refused
 abbrev pub lines_status : ℕ → Status
@@ -73,24 +87,24 @@ lines_status (suc n) = statuses.Lines (suc n)
 
 -- the status of a script, where the file is opened so
 abbrev pub script_status : Answering → Result Said Status → List ℕ → List ℕ → Status
-script_status replies (Ok said) starved script =
-    if nat_lt max_script (length script) then statuses.ScriptLong else lines_status (count_by is_refusal (replies said starved script))
-script_status replies (Err status) starved script = status
+script_status answers (Ok said) starved script =
+    if nat_lt max_script (length script) then statuses.ScriptLong else lines_status (count_by is_refusal (answers said starved script).0)
+script_status answers (Err status) starved script = status
 
 -- its text
 abbrev pub script_text : Answering → Result Said Status → List ℕ → List ℕ → List ℕ
-script_text replies (Ok said) starved script = replies_text (replies said starved script)
-script_text replies (Err status) starved script = []
+script_text answers (Ok said) starved script = replies_text (answers said starved script).0
+script_text answers (Err status) starved script = []
 
 -- what a run saves, and under which name
 abbrev pub saved_of : List ℕ → (Said → List ℕ → List ℕ → List ℕ) → Result Said Status → List ℕ → List ℕ → Option (List ℕ × List ℕ)
 saved_of name file (Ok said) starved script = Some (name, file said starved script)
 saved_of name file (Err status) starved script = None
 
--- as many lines were out of memory as say so
+-- the lines that were out of memory are just those that say so
 abbrev pub AreStarved : Answering → Result Said Status → List ℕ → List ℕ → Type 0
-AreStarved replies (Ok said) starved script = count_by is_starved (replies said starved script) ≡ length starved
-AreStarved replies (Err status) starved script = Unit {0}
+AreStarved answers (Ok said) starved script = starved ≡ (answers said starved script).1
+AreStarved answers (Err status) starved script = Unit {0}
 
 -- a script is taken whole before its first line is run, and only once the file is opened
 abbrev pub TakesScript : Status → List ℕ → List ℕ → Type 0

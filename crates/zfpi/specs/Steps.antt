@@ -20,10 +20,10 @@ abbrev pub Makes : {F : Type 0} → Bool → (F → F → Type 0) → (F → ℕ
 Makes true step faults fault before now = step before now × HasCause fault (faults before) (faults now)
 Makes false step faults fault before now = (now ≡ before) × (fault → ⊥)
 
--- behind a load that was good: one save where the work was done, and else none
-pub record SavesOnce {F : Type 0} (saves : F → F → Type 0) (faults : F → ℕ) (status : Status)
+-- behind a load that was good: one save, where the command saves and its work was done, and else none
+pub record SavesOnce {F : Type 0} (saves : F → F → Type 0) (faults : F → ℕ) (c : Command) (status : Status)
     (before now : F) : Type 0 where
-  pub save : Makes (is_work_done status) saves faults (status ≡ SaveFault) before now
+  pub save : Makes ((meaning c).saves && is_work_done status) saves faults (status ≡ SaveFault) before now
   pub no_load : status ≢ LoadFault
 
 -- one load, where the command loads, from the shelf as it was; then one save, where it saves and its work was

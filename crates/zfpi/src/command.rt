@@ -14,6 +14,15 @@ pub enum Caching {
     TwoWay(u32),
 }
 
+/// What a script does with the file that it is for.
+#[derive(Clone, Copy, Debug)]
+pub enum Access {
+    /// It runs on the array of the file, over such a cache, and the array is saved.
+    Run(Caching),
+    /// It only reads the stream of the file, over a cache of so many lines, or of as many as suit the stream.
+    Look(Option<u32>),
+}
+
 /// What the program is asked to do.
 #[derive(Debug, Drop)]
 pub enum Command {

@@ -8,18 +8,17 @@ ghost use Rattle.zfpi.specs.Answer.{meaning};
 ghost use Rattle.zfpi.specs.Steps.{Steps};
 ghost use Rattle.zfpi.specs.Headline.{OfCommand, OnUsage, RefusesWords, Behaves, HasCauses, IsSent, AreQuiet, IsComplete, GivesBack, Sends};
 
-use crate::command::Command;
+use crate::command::{Access, Command};
 use crate::commands::bound::bound;
 use crate::commands::compress::compress;
 use crate::commands::compress_narrow::compress_narrow;
 use crate::commands::info::info;
 use crate::commands::line::error_line;
-use crate::commands::look::look;
 use crate::commands::new::new;
 use crate::commands::restore::restore;
 use crate::commands::restore_narrow::restore_narrow;
-use crate::commands::run::run;
 use crate::commands::sample::sample;
+use crate::commands::script::script;
 use crate::commands::sending::send;
 use crate::status::Status;
 use crate::words::parse;
@@ -123,9 +122,11 @@ fn do_command<S: Source, O: Sink, F: Shelf>(
             shape,
             bits,
         } => new(alloc, &name, ty, shape, bits, shelf),
-        // It hands on what it wrote before it saves.
-        Command::Run { name, caching } => run(alloc, &name, caching, src, out, shelf),
-        Command::Look { name, lines } => send(look(alloc, &name, lines, src, out, shelf), out),
+        // A script hands on its replies before it saves.
+        Command::Run { name, caching } => {
+            script(alloc, &name, Access::Run(caching), src, out, shelf)
+        }
+        Command::Look { name, lines } => script(alloc, &name, Access::Look(lines), src, out, shelf),
         Command::Bound { name, most } => send(bound(alloc, &name, most, out, shelf), out),
         Command::Sample(header, seed) => send(sample(alloc, header, seed, out), out),
     }

@@ -1,14 +1,10 @@
 //! What the commands on a script share.
 
-ghost use Rattle.std.specs.Prelude.{◌≡◌, ◌≤◌, ◌<◌, ◌^◌, []};
-ghost use Rattle.zf_dev.specs.Faults.{Rose, IsQuiet};
-ghost use Rattle.zf_dev.specs.Sink.{Appends};
+ghost use Rattle.std.specs.Prelude.{◌≡◌, ◌≤◌, ◌<◌, ◌^◌, Some};
 ghost use Rattle.zfpi.specs.Words.{IsLines};
 ghost use Rattle.zfpi.specs.Scripts.{lines_for};
-ghost use Rattle.zfpi.specs.Loaded.{SavesOrFails};
 ghost use Rattle.zfpi.specs.Sending.{IsDone};
-ghost use Rattle.zfpi.specs.Steps.{SavesOnce};
-ghost use Rattle.zfpi.specs.Headline.{IsSent};
+ghost use Rattle.zfpi.specs.Rungs.{Closes};
 
 use crate::status::Status;
 use crate::words::name::Name;
@@ -31,8 +27,8 @@ pub fn line_count(lines: Option<u32>, shape: &Shape) -> u32
     }
 }
 
-/// Hands on what was written and then saves a file; the status is this one, unless one of both fails. Where what was written
-/// was not handed on, nothing is saved.
+/// Hands on the replies to a script that was run with this status, and then saves a file; the status stays, unless one of both
+/// fails. Where the replies were not handed on, nothing is saved.
 pub fn save<O: Sink, F: Shelf>(
     name: &Name,
     file: &[u8],
@@ -40,13 +36,8 @@ pub fn save<O: Sink, F: Shelf>(
     out: &mut O,
     shelf: &mut F,
 ) -> Status
-    ensures saved { SavesOrFails (F.files shelf.old) (F.files shelf.new) name.now file.now status result
-        (Rose (O.faults out.old) (O.faults out.new)) }
-    ensures once { IsDone status → SavesOnce F.saves F.faults result shelf.old shelf.new }
-    ensures still { F.never_fails shelf.old → F.never_fails shelf.new }
-    ensures stays { Appends (O.contents out.old) (O.contents out.new) [] }
-    ensures out_kept { O.faults out.old ≤ O.faults out.new }
-    ensures sent { IsSent result (IsQuiet (O.faults out.old) (O.faults out.new)) (O.is_flushed out.new) }
+    requires { IsDone status }
+    ensures { Closes O.Sink F.Shelf (Some (name.now, file.now)) status result out.old out.new shelf.old shelf.new }
 {
     if out.flush().is_err() {
         return Status::WriteFault;

@@ -1,5 +1,5 @@
 use Rattle.std.proofs.Common.{None, refl}
-use Rattle.zfpi.specs.declared.command.Command.TheVariants.{Compress, CompressNarrow, Restore, RestoreNarrow, Info, Look, Bound, Sample}
+use Rattle.zfpi.specs.declared.command.Command.TheVariants.{Compress, CompressNarrow, Restore, RestoreNarrow, Info, Bound, Sample}
 use Rattle.zfpi.proofs.Causes.{HasCauses-sure}
 use Rattle.zfpi.proofs.Stepping.{Steps-none, Steps-sent}
 use Rattle.zfpi.proofs.HandedOn.{Behaves-sent, HasCauses-sent, IsSent-sent, IsShelfless-sent, unloaded_sent}
@@ -81,19 +81,13 @@ pub returns-in-Info-clause-steps : goal.returns-in-Info-clause-steps
 returns-in-Info-clause-steps g c = rw c.in-Info.is (Steps-none g.F.Shelf.loads g.F.Shelf.saves g.F.Shelf.faults Info c.send-in-Info.result _ refl refl (IsShelfless-sent Info c.info.result c.send-in-Info.result tt _ _ refl (Behaves-sent Info c.info.result c.send-in-Info.result tt _ _ _ _ _ (c.info.ensures.behaves None) c.send-in-Info.ensures)))
 
 pub returns-in-Look-clause-behaves : goal.returns-in-Look-clause-behaves
-returns-in-Look-clause-behaves g c = rw c.in-Look.is (Behaves-sent (Look c.in-Look.name c.in-Look.lines) c.look.result c.send-in-Look.result tt _ _ _ _ _ c.look.ensures.behaves c.send-in-Look.ensures)
+returns-in-Look-clause-behaves g c = rw c.in-Look.is c.script-in-Look.ensures.behaves
 
 pub returns-in-Look-clause-causes : goal.returns-in-Look-clause-causes
-returns-in-Look-clause-causes g c = rw c.in-Look.is (HasCauses-sent (Look c.in-Look.name c.in-Look.lines) c.look.result c.send-in-Look.result tt _ _ _ _ _ c.look.ensures.causes c.send-in-Look.ensures)
-
-pub returns-in-Look-clause-sent : goal.returns-in-Look-clause-sent
-returns-in-Look-clause-sent g c = λ flushed. IsSent-sent (Look c.in-Look.name c.in-Look.lines) c.look.result c.send-in-Look.result tt _ _ _ _ _ (Behaves-sent (Look c.in-Look.name c.in-Look.lines) c.look.result c.send-in-Look.result tt _ _ _ _ _ c.look.ensures.behaves c.send-in-Look.ensures) c.look.ensures.causes.writing.0 c.send-in-Look.ensures
-
-pub returns-in-Look-clause-sure_shelf : goal.returns-in-Look-clause-sure_shelf
-returns-in-Look-clause-sure_shelf g c = λ sure. let loaded = c.look.ensures.sure_shelf sure in (unloaded_sent c.look.result c.send-in-Look.result loaded.0 c.send-in-Look.ensures, loaded.1)
+returns-in-Look-clause-causes g c = rw c.in-Look.is c.script-in-Look.ensures.causes
 
 pub returns-in-Look-clause-steps : goal.returns-in-Look-clause-steps
-returns-in-Look-clause-steps g c = rw c.in-Look.is (Steps-sent g.F.Shelf.loads g.F.Shelf.saves g.F.Shelf.faults (Look c.in-Look.name c.in-Look.lines) c.look.result c.send-in-Look.result _ _ refl c.send-in-Look.ensures.ends c.look.ensures.steps)
+returns-in-Look-clause-steps g c = rw c.in-Look.is c.script-in-Look.ensures.steps
 
 pub returns-in-Bound-clause-behaves : goal.returns-in-Bound-clause-behaves
 returns-in-Bound-clause-behaves g c = rw c.in-Bound.is (Behaves-sent (Bound c.in-Bound.name c.in-Bound.most) c.bound.result c.send-in-Bound.result tt _ _ _ _ _ (c.bound.ensures.behaves _) c.send-in-Bound.ensures)
@@ -132,13 +126,13 @@ pub returns-in-New-clause-causes : goal.returns-in-New-clause-causes
 returns-in-New-clause-causes g c = rw c.in-New.is (HasCauses-sure _ _ _ _ (c.new.ensures.causes _ _))
 
 pub returns-in-Run-clause-behaves : goal.returns-in-Run-clause-behaves
-returns-in-Run-clause-behaves g c = rw c.in-Run.is c.run.ensures.behaves
+returns-in-Run-clause-behaves g c = rw c.in-Run.is c.script.ensures.behaves
 
 pub returns-in-Run-clause-causes : goal.returns-in-Run-clause-causes
-returns-in-Run-clause-causes g c = rw c.in-Run.is c.run.ensures.causes
+returns-in-Run-clause-causes g c = rw c.in-Run.is c.script.ensures.causes
 
 pub returns-in-New-clause-steps : goal.returns-in-New-clause-steps
 returns-in-New-clause-steps g c = rw c.in-New.is c.new.ensures.steps
 
 pub returns-in-Run-clause-steps : goal.returns-in-Run-clause-steps
-returns-in-Run-clause-steps g c = rw c.in-Run.is c.run.ensures.steps
+returns-in-Run-clause-steps g c = rw c.in-Run.is c.script.ensures.steps

@@ -1,4 +1,4 @@
-use Rattle.std.proofs.Common.{[], Err, ap, sym, refl, subst}
+use Rattle.std.proofs.Common.{[], Err, ap, sym, subst}
 use Rattle.zf_dev.proofs.Appending.{AppendsPrefix-all}
 use Rattle.zf_parse.specs.ReadStreams.{HasGoodHeader}
 use Rattle.zf_narrow.specs.Texts.{narrow_restored}

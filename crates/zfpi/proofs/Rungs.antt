@@ -1,0 +1,185 @@
+-- What a command on a script promises on each rung of its way, from what the calls there answer.
+use Rattle.std.proofs.Common.{◌≡◌, ◌≢◌, ℕ, ◌≤◌, ◌&&◌, Bool, true, false, List, length, Option, Some, None, inl, inr, refl, ap, sym, subst, ◌∙◌, arith}
+use Rattle.std.specs.Prelude.{count_by}
+use Rattle.zf_dev.specs.Faults.{Rose, IsQuiet, HasCause}
+use Rattle.zf_dev.specs.Source.{Takes, IsAtEnd, TakesMoreThan, TakesSome}
+use Rattle.zf_dev.specs.Sink.{Appends}
+use Rattle.zf_dev.specs.declared.faults.TakeError.{TakeError}
+use Rattle.zf_dev.specs.declared.faults.TakeError.TheVariants as taking
+use Rattle.zf_dev.specs.declared.source.Source.{Ghosts as Source}
+use Rattle.zf_dev.specs.declared.sink.Sink.{Ghosts as Sink}
+use Rattle.zf_dev.specs.declared.shelf.Shelf.{Ghosts as Shelf}
+use Rattle.zf_spec.specs.Stream.{mode_number}
+use Rattle.zf_header.specs.declared.header.Header.{Header}
+use Rattle.zf_header.specs.declared.header.Mode.{Mode}
+use Rattle.zf_header.specs.declared.header.Mode.TheVariants.{Reversible, Rate, Precision}
+use Rattle.zf_header.specs.declared.header.HeaderFault.{HeaderFault}
+use Rattle.zf_header.specs.HeaderBits.{IsMode, coding}
+use Rattle.zf_header.specs.HeaderFaults.{header_fault}
+use Rattle.zf_parse.specs.Parsing.{header_of}
+use Rattle.zf_cached.specs.Runs.{ended, replies_text}
+use Rattle.zf_cached.specs.Steps.{Session}
+use Rattle.zf_commands.specs.Steps.{is_refusal}
+use Rattle.zf_commands.specs.Runs.{RunsAll}
+use Rattle.zf_run.specs.declared.end.RunEnd.TheVariants as ends
+use Rattle.zfpi.specs.declared.status.Status.{Status}
+use Rattle.zfpi.specs.declared.status.Status.TheVariants.{Header as NoHeader, NotRate, Truncated, Pad, Trailing, ReadFault, WriteFault, LoadFault, SaveFault, Memory}
+use Rattle.zfpi.specs.declared.command.Access.{Access}
+use Rattle.zfpi.specs.declared.command.Access.TheVariants.{Run, Look}
+use Rattle.zfpi.specs.Faults.{take_status}
+use Rattle.zfpi.specs.World.{seen}
+use Rattle.zfpi.specs.Answer.{meaning}
+use Rattle.zfpi.specs.Scripts.{reads_script, lines_status}
+use Rattle.zfpi.specs.Accesses.{command_on, Admits, admits, reading_of, answers_of, file_of, named}
+use Rattle.zfpi.specs.Subjects.{Subject, Ran}
+use Rattle.zfpi.specs.Loaded.{StandsFor, RefusesFile, IsRefused}
+use Rattle.zfpi.specs.Sending.{HandsOn}
+use Rattle.zfpi.specs.Steps.{is_work_done, Makes}
+use Rattle.zfpi.specs.Headline.{Behaves, IsSent}
+use Rattle.zfpi.specs.Rungs.{WorksOn, Answers, Closes}
+use Rattle.zfpi.proofs.Opening.{array_in-header, stream_in-header, array_in-no_rate}
+use Rattle.zfpi.proofs.Causes.{IsIdle-used, HasCauses-refused, HasCauses-taken, HasCauses-untaken, HasCauses-wrote, reads_take}
+use Rattle.zfpi.proofs.Stepping.{SavesOnce-none, SavesOnce-take}
+use Rattle.zfpi.proofs.Loading.{ComesFirst, Behaves-starved, Behaves-refused}
+use Rattle.zfpi.proofs.Scripting.{by_lines, by_end, IsScripted-on, Behaves-untaken, Behaves-closed, Behaves-cut_script}
+use Rattle.zfpi.proofs.HandedOn.{Behaves-stays, cut_sent, IsSent-later, IsSent-cut}
+
+-- ---- files that are refused
+
+no_bool : true ≡ false → ⊥
+no_bool is = cc
+
+-- it has no good header
+pub IsRefused-header : (access : Access) (bytes : List ℕ) (fault : HeaderFault) → header_fault bytes ≡ Some fault → IsRefused access bytes (NoHeader fault)
+IsRefused-header (Run caching) bytes fault is = record { refusal = tt; why = inl (array_in-header bytes fault is) }
+IsRefused-header (Look lines) bytes fault is = record { refusal = tt; why = inl (stream_in-header bytes fault is) }
+
+-- its mode is not admitted
+pub IsRefused-mode : (access : Access) (bytes : List ℕ) (h : Header) (number : ℕ) → header_fault bytes ≡ None → h ≡ header_of bytes → admits access h.mode ≡ false → number ≡ mode_number (coding h.mode) → IsRefused access bytes (NotRate number)
+IsRefused-mode (Run caching) bytes h number good is not number_is =
+    record { refusal = tt; why = inl (array_in-no_rate bytes h number good is (λ b rate. no_bool (sym (ap (admits (Run caching)) rate) ∙ not)) number_is) }
+IsRefused-mode (Look lines) bytes h number good is not number_is = absurd (no_bool not)
+
+-- or it is
+pub Admits-mode : (access : Access) (mode : Mode) → IsMode mode → admits access mode ≡ true → Admits access mode
+Admits-mode (Look lines) mode is admitted = tt
+Admits-mode (Run caching) (Rate b) is admitted = is
+Admits-mode (Run caching) Reversible is admitted = absurd (no_bool (sym admitted))
+Admits-mode (Run caching) (Precision p) is admitted = absurd (no_bool (sym admitted))
+
+-- such a status comes before anything was done
+record Refuses (status : Status) : Type 0 where
+  first : ComesFirst status
+  no_read : status ≢ ReadFault
+  no_write : status ≢ WriteFault
+  no_load : status ≢ LoadFault
+  undone : is_work_done status ≡ false
+
+refuses : (status : Status) → RefusesFile status → Refuses status
+refuses (NoHeader fault) why = record { first = tt; no_read = λ is. cc; no_write = λ is. cc; no_load = λ is. cc; undone = refl }
+refuses (NotRate m) why = record { first = tt; no_read = λ is. cc; no_write = λ is. cc; no_load = λ is. cc; undone = refl }
+refuses (Truncated b) why = record { first = tt; no_read = λ is. cc; no_write = λ is. cc; no_load = λ is. cc; undone = refl }
+refuses Pad why = record { first = tt; no_read = λ is. cc; no_write = λ is. cc; no_load = λ is. cc; undone = refl }
+refuses Trailing why = record { first = tt; no_read = λ is. cc; no_write = λ is. cc; no_load = λ is. cc; undone = refl }
+refuses Memory why = record { first = tt; no_read = λ is. cc; no_write = λ is. cc; no_load = λ is. cc; undone = refl }
+refuses status why = absurd (first_of (assumption why, cc))
+
+-- ---- the rungs
+
+module _ {A B C : Type 0} {S : Source A} {O : Sink B} {F : Shelf C} (access : Access) (name : List ℕ) (file : List ℕ) where
+  -- the file is not opened
+  pub WorksOn-refused : (status : Status) (src : A) (out : B) (shelf : C) → IsRefused access file status → WorksOn O F S (command_on access name) name file status src src out out shelf shelf
+  WorksOn-refused status src out shelf refused =
+      let c = command_on access name in
+      let loading = (IsScripted-on access name).loading in
+      let r = refuses status refused.refusal in
+      record {
+        behaves = λ known holds kept. elim refused.why [
+          | inl none ↦ Behaves-refused c name (reading_of access) loading status file (S.contents src) (O.contents out) known (F.files shelf) r.first none holds kept
+          | inr memory ↦ subst (λ s. Behaves c s (seen (S.contents src) (O.contents out) known) (seen (S.contents src) (O.contents out) (F.files shelf))) (sym memory)
+              (Behaves-starved c name (reading_of access) loading (S.contents src) (O.contents out) known (F.files shelf) kept)
+        ];
+        causes = HasCauses-refused c status (S.faults src) (O.faults out) r.no_read r.no_write;
+        once = SavesOnce-none F.saves F.faults c status shelf r.undone r.no_load;
+        sent = λ flushed why. flushed;
+        still = λ sure. sure;
+      }
+
+  -- the script was read to its end, and the rest answers it
+  pub WorksOn-taken : (script : List ℕ) (status : Status) (src src_now : A) (out out_now : B) (shelf shelf_now : C) → Takes (S.contents src) (S.contents src_now) script → IsAtEnd (S.contents src_now) → length script ≤ 16777216 → S.faults src ≤ S.faults src_now
+      → (S.never_fails src → S.never_fails src_now) → Answers O F (command_on access name) name file script status out out_now shelf shelf_now → WorksOn O F S (command_on access name) name file status src src_now out out_now shelf shelf_now
+  WorksOn-taken script status src src_now out out_now shelf shelf_now takes end most rose sure a = record {
+    behaves = λ known holds kept. a.behaves known (S.contents src) (S.contents src_now) holds kept takes end most;
+    causes = HasCauses-taken (command_on access name) status (S.faults src) (S.faults src_now) (O.faults out) (O.faults out_now) rose
+        (IsIdle-used ((meaning (command_on access name)).reads status) (S.faults src) (S.faults src_now) a.read) sure (a.causes (S.faults src));
+    once = a.once;
+    sent = λ flushed. a.sent;
+    still = a.still;
+  }
+
+  -- it was not
+  pub WorksOn-untaken : (s : Subject) (stands : StandsFor s access file) (e : TakeError) (src src_now : A) (out : B) (shelf : C) → (e ≡ taking.Long → TakesMoreThan (S.contents src) (S.contents src_now) 16777216) → TakesSome (S.contents src) (S.contents src_now)
+      → HasCause (e ≡ taking.Failed) (S.faults src) (S.faults src_now) → (S.never_fails src → (e ≢ taking.Failed) × S.never_fails src_now)
+      → WorksOn O F S (command_on access name) name file (take_status e) src src_now out out shelf shelf
+  WorksOn-untaken s stands e src src_now out shelf long took cause sure =
+      let c = command_on access name in
+      let is = IsScripted-on access name in
+      record {
+        behaves = λ known holds kept. Behaves-untaken c name (reading_of access) (answers_of access) (file_of access) is known (F.files shelf) file stands.said holds stands.opened kept e (S.contents src) (S.contents src_now) (O.contents out) long took;
+        causes = HasCauses-untaken c e (S.faults src) (S.faults src_now) (O.faults out) (is.reads_script_by (take_status e) ∙ reads_take e) cause sure;
+        once = SavesOnce-take F.saves F.faults c e shelf;
+        sent = λ flushed why. flushed;
+        still = λ sure. sure;
+      }
+
+module _ {B C : Type 0} {O : Sink B} {F : Shelf C} (access : Access) (name : List ℕ) (file : List ℕ) (s : Subject) (stands : StandsFor s access file) where
+  -- a reply was not written whole
+  pub Answers-cut : (script : List ℕ) (last : Option (List ℕ)) (end : Status) (out mid out_now : B) (shelf : C) → Ran s script (O.contents out) (O.contents mid) last ends.Write → O.faults out ≤ O.faults mid → Rose (O.faults out) (O.faults mid)
+      → HandsOn WriteFault end (O.contents mid) (O.contents out_now) (O.faults mid) (O.faults out_now) (O.is_flushed out_now) → Answers O F (command_on access name) name file script end out out_now shelf shelf
+  Answers-cut script last end out mid out_now shelf ran kept rose sent =
+      let c = command_on access name in
+      let is = IsScripted-on access name in
+      let cut = cut_sent end sent in
+      let At = λ (status : Status). Answers O F c name file script status out out_now shelf shelf in
+      subst At (sym cut) (record {
+        behaves = λ known src rest holds files_kept takes at_end most.
+            Behaves-stays c WriteFault (seen src (O.contents out) known) rest (O.contents mid) (O.contents out_now) (F.files shelf) sent.stays
+            (Behaves-cut_script c name (reading_of access) (answers_of access) (file_of access) is known (F.files shelf) file stands.said holds stands.opened files_kept script ran.starved most src rest takes at_end
+            s.setting s.start (stands.replies ran.starved script) ran.last (O.contents out) (O.contents mid) ran.how);
+        causes = λ src. HasCauses-wrote c WriteFault src (O.faults out) (O.faults out_now) is.writes_replies (omega (arith, kept, sent.kept)) (λ same. cc) (λ same. omega (arith, rose, sent.kept));
+        read = is.reads_script_by WriteFault;
+        once = SavesOnce-none F.saves F.faults c WriteFault shelf refl (λ same. cc);
+        sent = subst (λ status. IsSent status (IsQuiet (O.faults out) (O.faults out_now)) (O.is_flushed out_now)) cut (IsSent-cut end (O.faults out) (O.faults mid) (O.faults out_now) kept sent);
+        still = λ sure. sure;
+      })
+
+  -- all lines were run, so many of them were refused, and the work was closed
+  pub Answers-closed : (script starved : List ℕ) (after : Session (List Bool)) (last : Option (List ℕ)) (n : ℕ) (status end : Status) (out mid out_now : B) (shelf shelf_now : C) → RunsAll s.setting starved script s.start after (O.contents out) (O.contents mid) n
+      → last ≡ s.filed (ended s.setting after) → O.faults out ≤ O.faults mid → lines_status n ≡ status → Closes O F (named name last) status end mid out_now shelf shelf_now → Answers O F (command_on access name) name file script end out out_now shelf shelf_now
+  Answers-closed script starved after last n status end out mid out_now shelf shelf_now ran last_is kept status_is closing =
+      let c = command_on access name in
+      let is = IsScripted-on access name in
+      let said = stands.said in
+      let replies_are = stands.replies starved script in
+      let file_is : last ≡ file_of access said starved script =
+      last_is ∙ (ap (λ t. s.filed (ended s.setting t)) ran.session ∙ stands.file starved script) in
+      let closes = subst (λ f. Closes O F (named name f) (lines_status n) end mid out_now shelf shelf_now) file_is
+      (subst (λ s. Closes O F (named name last) s end mid out_now shelf shelf_now) (sym status_is) closing) in
+      let of_end = λ (P : Status → Type 0). by_end P (lines_status n) end closes.ends in
+      record {
+        behaves = λ known src rest holds files_kept takes at_end most.
+            let written = subst (λ rs. Appends (O.contents out) (O.contents mid) (replies_text rs)) replies_are ran.written in
+            Behaves-closed c name (reading_of access) (answers_of access) (file_of access) is known (F.files shelf) file said holds stands.opened files_kept script starved most src rest takes at_end
+            n end (O.contents out) (O.contents mid) (O.contents out_now) (F.files shelf_now) (ran.refused_is ∙ ap (count_by is_refusal) replies_are) (ran.starved_are ∙ stands.starved starved script) written closes.stays closes.ends closes.saves;
+        causes = λ src. HasCauses-wrote c end src (O.faults out) (O.faults out_now) is.writes_replies (omega (arith, kept, closes.kept))
+            (of_end (λ status. status ≢ ReadFault) (by_lines (λ status. status ≢ ReadFault) (λ same. cc) (λ m same. cc) n) (λ saving same. cc) (λ rose same. cc))
+            (of_end (λ status. status ≡ WriteFault → Rose (O.faults out) (O.faults out_now))
+            (by_lines (λ status. status ≡ WriteFault → Rose (O.faults out) (O.faults out_now)) (λ same. absurd (cc)) (λ m same. absurd (cc)) n) (λ saving same. absurd (cc)) (λ rose same. omega (arith, rose, kept)));
+        read = is.reads_script_by end ∙ of_end (λ status. reads_script status ≡ true) (by_lines (λ status. reads_script status ≡ true) refl (λ m. refl) n) (λ saving. refl) (λ rose. refl);
+        once = record {
+          save = subst (λ b. Makes (b && is_work_done end) F.saves F.faults (end ≡ SaveFault) shelf shelf_now) (is.saving said starved script) closes.step;
+          no_load = of_end (λ status. status ≢ LoadFault) (by_lines (λ status. status ≢ LoadFault) (λ same. cc) (λ m same. cc) n) (λ saving same. cc) (λ rose same. cc);
+        };
+        sent = IsSent-later end (O.faults out) (O.faults mid) (O.faults out_now) kept closes.sent;
+        still = closes.still;
+      }

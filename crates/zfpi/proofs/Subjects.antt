@@ -1,0 +1,201 @@
+-- What a script works on, as it is opened and run: for each target.
+use Rattle.std.proofs.Common.{◌≡◌, ℕ, ℤ, Bool, List, Option, Some, None, Ok, Err, inl, inr, refl, ap, sym, subst, ◌∙◌}
+use Rattle.std.specs.Int.{Width}
+use Rattle.zf_base.specs.Widths.{width_of}
+use Rattle.zf_header.specs.declared.header.Header.{Header}
+use Rattle.zf_header.specs.HeaderBits.{block_bits}
+use Rattle.zf_parse.specs.Parsing.{parse}
+use Rattle.zf_parse.specs.ReadStreams.{IsFault}
+use Rattle.zf_cached.specs.Arrays.{open_array, saved_file}
+use Rattle.zf_cached.specs.State.{State}
+use Rattle.zf_cached.specs.Replies.{Reply}
+use Rattle.zf_cached.specs.Windows.{whole}
+use Rattle.zf_cached.specs.Steps.{Setting, Session}
+use Rattle.zf_cached.specs.Runs.{lines_of, run_lines, run_script, run, look, look_setting, ended}
+use Rattle.zf_store.specs.declared.fault.StoreFault.{StoreFault}
+use Rattle.zf_store.specs.declared.fault.StoreFault.TheVariants as stores
+use Rattle.zf_store.specs.Files as store
+use Rattle.zf_store.specs.Stored.{Stored}
+use Rattle.zf_index.specs.declared.fault.IndexFault.{IndexFault}
+use Rattle.zf_index.specs.declared.fault.IndexFault.TheVariants as index
+use Rattle.zf_index.specs.Files as stream
+use Rattle.zf_array.specs.Standing as arrays
+use Rattle.zf_const.specs.Standing as streams
+use Rattle.zf_const.specs.Files as contents
+use Rattle.zf_cache.specs.Kept.{Kept}
+use Rattle.zf_commands.specs.Sittings.{session}
+use Rattle.zf_commands.specs.Runs.{starved_lines, RunsAll}
+use Rattle.zf_run.specs.declared.end.RunEnd.{RunEnd}
+use Rattle.zf_run.specs.declared.end.RunEnd.TheVariants.{Done, Lines, Write}
+use Rattle.zf_run.specs.Sessions.{setting_of, look_setting_of, look_start_of}
+use Rattle.zf_run.specs.Pairs.{pair_state, two_setting_of}
+use Rattle.zf_run.specs.Ends.{Completes, Halts, IsEnd, Runs, Looks, RunsTwo}
+use Rattle.zfpi.specs.declared.command.Caching.{Caching}
+use Rattle.zfpi.specs.declared.command.Access.TheVariants.{Run, Look}
+use Rattle.zfpi.specs.Faults.{fault_status, store_status, index_status}
+use Rattle.zfpi.specs.Scripts.{lines_for, first_lines, setting_over, ran_over, starved_over, run_file, look_answers}
+use Rattle.zfpi.specs.Subjects.{Subject, Ran}
+use Rattle.zfpi.specs.Loaded.{StandsFor, RefusesFile, IsRefused}
+use Rattle.zfpi.proofs.Opening.{array_in-rate, stream_in-said}
+
+-- ---- how a run ends
+
+-- an array that is saved as its state says, of such a width and so many bits a block, whatever its setting
+abbrev array_subject : Setting (List Bool) → Width → ℕ → List ℕ → State (List Bool) → Subject
+array_subject setting w bits ns s = record {
+  setting = setting;
+  start = session ns s (whole ns);
+  filed = λ t. Some (saved_file w bits t.shape t.state);
+}
+
+module _ (setting : Setting (List Bool)) (w : Width) (bits : ℕ) (ns ns_now : List ℕ) (s s_now : State (List Bool)) (script starved : List ℕ) (old new : Option (List ℕ)) where
+  last : Session (List Bool)
+  last = (run_lines setting starved 0 (lines_of script) (session ns s (whole ns))).0
+
+  all_ran : (n : ℕ) → Completes ns_now s_now starved old new setting (session ns s (whole ns)) script (run setting starved ns s script) n
+      → RunsAll setting starved script (session ns s (whole ns)) last old new n × (Some (saved_file w bits ns_now s_now) ≡ Some (saved_file w bits (ended setting last).shape (ended setting last).state))
+  unfolding run run_script last
+  all_ran n done = (
+    record { session = refl; starved_are = done.starved_are; refused_is = done.refused_is; written = done.written },
+    ap Some (ap (λ ms. saved_file w bits ms s_now) done.shape_is ∙ ap (saved_file w bits (ended setting last).shape) done.state_is),
+  )
+
+-- a run over an array or over codes, by its end
+Ran-array : (setting : Setting (List Bool)) (w : Width) (bits : ℕ) (ns ns_now : List ℕ) (s s_now : State (List Bool)) (script starved : List ℕ) (old new : Option (List ℕ)) (end : RunEnd)
+    → IsEnd (Completes ns_now s_now starved old new setting (session ns s (whole ns)) script (run setting starved ns s script)) (Halts ns_now s_now starved old new setting (session ns s (whole ns)) script) end
+    → Ran (array_subject setting w bits ns s) script old new (Some (saved_file w bits ns_now s_now)) end
+Ran-array setting w bits ns ns_now s s_now script starved old new Done is =
+    record { starved = starved; last = last setting w bits ns ns_now s s_now script starved old new; how = all_ran setting w bits ns ns_now s s_now script starved old new 0 is }
+Ran-array setting w bits ns ns_now s s_now script starved old new (Lines n) is =
+    record { starved = starved; last = last setting w bits ns ns_now s s_now script starved old new; how = (is.0, all_ran setting w bits ns ns_now s s_now script starved old new n is.1) }
+Ran-array setting w bits ns ns_now s s_now script starved old new Write is = record { starved = starved; last = is.session; how = is.at_line }
+
+pub Ran-direct : (w : Width) (a b : arrays.Held) (script : List ℕ) (old new : Option (List ℕ)) (end : RunEnd) → Runs w a b script old new end
+    → Ran (array_subject (setting_of w a) w (block_bits a.header.mode) (arrays.shape a) (arrays.state a)) script old new (Some (saved_file w (block_bits b.header.mode) (arrays.shape b) (arrays.state b))) end
+Ran-direct w a b script old new end ran =
+    subst (λ m. Ran (array_subject (setting_of w a) w (block_bits a.header.mode) (arrays.shape a) (arrays.state a)) script old new (Some (saved_file w (block_bits m) (arrays.shape b) (arrays.state b))) end) (sym ran.same_mode)
+    (Ran-array (setting_of w a) w (block_bits a.header.mode) (arrays.shape a) (arrays.shape b) (arrays.state a) (arrays.state b) script ran.starved old new end ran.ended)
+
+pub Ran-two : {X : Type 0} (value : X → ℤ) (w : Width) (s t : Stored) (c d : Kept X) (script : List ℕ) (old new : Option (List ℕ)) (end : RunEnd) → RunsTwo value w s t c d script old new end
+    → Ran (array_subject (two_setting_of w s.header) w (block_bits s.header.mode) s.header.shape (pair_state value s c)) script old new (Some (saved_file w (block_bits t.header.mode) t.header.shape (pair_state value t d))) end
+Ran-two value w s t c d script old new end ran =
+    subst (λ (h : Header). Ran (array_subject (two_setting_of w s.header) w (block_bits s.header.mode) s.header.shape (pair_state value s c)) script old new (Some (saved_file w (block_bits h.mode) t.header.shape (pair_state value t d))) end) (sym ran.same_header)
+    (Ran-array (two_setting_of w s.header) w (block_bits s.header.mode) s.header.shape t.header.shape (pair_state value s c) (pair_state value t d) script ran.starved old new end ran.ended)
+
+-- a look
+abbrev stream_subject : Width → streams.Held → Subject
+stream_subject w a = record { setting = look_setting_of w a.header; start = look_start_of a; filed = λ s. None }
+
+module _ (w : Width) (a b : streams.Held) (script starved : List ℕ) (old new : Option (List ℕ)) where
+  seen_last : Session (List Bool)
+  seen_last = (run_lines (look_setting_of w a.header) starved 0 (lines_of script) (look_start_of a)).0
+
+  all_seen : (n : ℕ) → Completes (streams.shape b) (streams.state b) starved old new (look_setting_of w a.header) (look_start_of a) script (look (look_setting_of w a.header) starved (streams.shape a) (streams.state a) script) n
+      → RunsAll (look_setting_of w a.header) starved script (look_start_of a) seen_last old new n × (None ≡ (stream_subject w a).filed (ended (look_setting_of w a.header) seen_last))
+  unfolding look run_script seen_last
+  all_seen n done = (record { session = refl; starved_are = done.starved_are; refused_is = done.refused_is; written = done.written }, refl)
+
+pub Ran-look : (w : Width) (a b : streams.Held) (script : List ℕ) (old new : Option (List ℕ)) (end : RunEnd) → Looks w a b script old new end → Ran (stream_subject w a) script old new None end
+Ran-look w a b script old new Done ran = record { starved = ran.starved; last = seen_last w a b script ran.starved old new; how = all_seen w a b script ran.starved old new 0 ran.ended }
+Ran-look w a b script old new (Lines n) ran = record { starved = ran.starved; last = seen_last w a b script ran.starved old new; how = (ran.ended.0, all_seen w a b script ran.starved old new n ran.ended.1) }
+Ran-look w a b script old new Write ran = record { starved = ran.starved; last = ran.ended.session; how = ran.ended.at_line }
+
+-- ---- how a file is opened
+
+module _ (caching : Caching) (w : Width) (bytes : List ℕ) (h : Header) (s : Stored) (start : State (List Bool)) (count : ℕ) (has : store.HasHeader bytes h) (opened : store.IsOpened bytes h s) (same_type : w ≡ width_of h.ty)
+    (count_is : count ≡ first_lines caching h.shape) (state_is : start ≡ open_array w (block_bits h.mode) h.shape s.codes count) where
+  abbrev bits : ℕ
+  bits = block_bits s.header.mode
+
+  abbrev setting : Setting (List Bool)
+  setting = setting_over caching w bits
+
+  type_is : w ≡ width_of s.header.ty
+  type_is = same_type ∙ ap (λ g. width_of g.ty) (sym opened.header)
+
+  start_is : start ≡ open_array w bits s.header.shape s.codes (first_lines caching s.header.shape)
+  start_is = state_is ∙ (ap (open_array w (block_bits h.mode) h.shape s.codes) count_is ∙ ap (λ g. open_array w (block_bits g.mode) g.shape s.codes (first_lines caching g.shape)) (sym opened.header))
+
+  module _ (starved script : List ℕ) where
+    -- the run of the array is the run of its file
+    ran_is : run setting starved s.header.shape start script ≡ ran_over caching (store.said s) starved script
+    unfolding ran_over
+    ran_is =
+        let ns = s.header.shape in
+        ap (λ at. run setting starved ns at script) start_is
+        ∙ ap (λ v. run (setting_over caching v bits) starved ns (open_array v bits ns s.codes (first_lines caching ns)) script) type_is
+
+    file_is : saved_file w bits (run setting starved s.header.shape start script).0.shape (run setting starved s.header.shape start script).0.state ≡ run_file caching (store.said s) starved script
+    file_is =
+        ap (λ r. saved_file w bits r.0.shape r.0.state) ran_is
+        ∙ ap (λ v. saved_file v bits (ran_over caching (store.said s) starved script).0.shape (ran_over caching (store.said s) starved script).0.state) type_is
+
+    starved_is : starved_lines setting starved 0 (lines_of script) (session s.header.shape start (whole s.header.shape)) ≡ starved_over caching (store.said s) starved script
+    unfolding starved_over
+    starved_is =
+        let ns = s.header.shape in
+        ap (λ at. starved_lines setting starved 0 (lines_of script) (session ns at (whole ns))) start_is
+        ∙ ap (λ v. starved_lines (setting_over caching v bits) starved 0 (lines_of script) (session ns (open_array v bits ns s.codes (first_lines caching ns)) (whole ns))) type_is
+
+  pub StandsFor-array : StandsFor (array_subject setting w bits s.header.shape start) (Run caching) bytes
+  unfolding run run_script
+  StandsFor-array = record {
+    said = store.said s;
+    opened = array_in-rate bytes h (Ok (store.said s)) has.good has.header has.rate opened.said_is;
+    replies = λ starved script. ap (λ r. r.1) (ran_is starved script);
+    starved = starved_is;
+    file = λ starved script. ap Some (file_is starved script);
+  }
+
+module _ (lines : Option ℕ) (w : Width) (bytes : List ℕ) (h : Header) (a : streams.Held) (count : ℕ) (opened : contents.IsOpened bytes h a) (same_type : w ≡ width_of h.ty) (count_is : count ≡ lines_for lines h.shape)
+    (state_is : streams.state a ≡ streams.open_stream h a.codes count) where
+  look_start_is : streams.state a ≡ streams.open_stream a.header a.codes (lines_for lines a.header.shape)
+  look_start_is = state_is ∙ (ap (streams.open_stream h a.codes) count_is ∙ ap (λ g. streams.open_stream g a.codes (lines_for lines g.shape)) (sym opened.header))
+
+  -- the look at the array is the look at its file
+  look_is : (starved script : List ℕ) → ((look (look_setting_of w a.header) starved (streams.shape a) (streams.state a) script).1, starved_lines (look_setting_of w a.header) starved 0 (lines_of script) (look_start_of a)) ≡ look_answers lines (contents.said a) starved script
+  unfolding look_answers
+  look_is starved script =
+      let h = a.header in
+      let answers : Width → State (List Bool) → List Reply × List ℕ = λ v s.
+      let setting = look_setting v (streams.coding_of h) in
+      ((look setting starved h.shape s script).1, starved_lines setting starved 0 (lines_of script) (session h.shape s (whole h.shape))) in
+      ap (answers w) look_start_is ∙ ap (λ v. answers v (streams.open_stream h a.codes (lines_for lines h.shape))) (same_type ∙ ap (λ g. width_of g.ty) (sym opened.header))
+
+  pub StandsFor-stream : StandsFor (stream_subject w a) (Look lines) bytes
+  unfolding look run_script
+  StandsFor-stream = record {
+    said = contents.said a;
+    opened = stream_in-said bytes (Ok (contents.said a)) opened.said_is;
+    replies = λ starved script. ap (λ r. r.0) (look_is starved script);
+    starved = λ starved script. ap (λ r. r.1) (look_is starved script);
+    file = λ starved script. refl;
+  }
+
+-- ---- a file that is not opened
+
+RefusesFile-store : (e : StoreFault) → RefusesFile (store_status e)
+RefusesFile-store (stores.Truncated b) = tt
+RefusesFile-store stores.Pad = tt
+RefusesFile-store stores.Trailing = tt
+RefusesFile-store stores.Memory = tt
+
+RefusesFile-index : (e : IndexFault) → RefusesFile (index_status e)
+RefusesFile-index (index.Truncated b) = tt
+RefusesFile-index index.Pad = tt
+RefusesFile-index index.Trailing = tt
+RefusesFile-index index.Memory = tt
+
+-- it is no array's
+pub IsRefused-array : (caching : Caching) (bytes : List ℕ) (h : Header) (e : StoreFault) → store.HasHeader bytes h → IsFault (parse bytes) (store.stream_fault e) → IsRefused (Run caching) bytes (store_status e)
+IsRefused-array caching bytes h e has why = record {
+  refusal = RefusesFile-store e;
+  why = elim why [ inl is ↦ inl (array_in-rate bytes h (Err (store.stream_fault e)) has.good has.header has.rate is) | inr memory ↦ inr (ap fault_status memory) ];
+}
+
+-- it is no stream
+pub IsRefused-stream : (lines : Option ℕ) (bytes : List ℕ) (e : IndexFault) → IsFault (parse bytes) (stream.stream_fault e) → IsRefused (Look lines) bytes (index_status e)
+IsRefused-stream lines bytes e why = record {
+  refusal = RefusesFile-index e;
+  why = elim why [ inl is ↦ inl (stream_in-said bytes (Err (stream.stream_fault e)) is) | inr memory ↦ inr (ap fault_status memory) ];
+}

@@ -1,0 +1,16 @@
+use Rattle.std.proofs.Common.{◌≤◌, length, Err, ap, sym, subst}
+use Rattle.zf_dev.specs.Source.{Takes}
+use Rattle.zfpi.specs.Subjects.{subject}
+use Rattle.zfpi.proofs.Rungs.{WorksOn-taken, WorksOn-untaken}
+use Rattle.zfpi.proofs.commands.script.on_target.Goals as goal
+
+pub returns-in-Ok : goal.returns-in-Ok
+returns-in-Ok g c = λ access file stands.
+    let same = sym c.deref.ensures.value in
+    WorksOn-taken access c.args.name.now file c.deref.result.now c.on_script.result _ _ _ _ _ _ (subst (Takes _ _) same c.in-Ok.ensures.ok) c.in-Ok.ensures.end (subst (λ script. length script ≤ 16777216) same c.in-Ok.ensures.bound)
+    c.take_all.ensures.cause.0 (λ sure. (c.take_all.ensures.sure sure).1) (c.on_script.ensures access file stands)
+
+pub returns-in-Err : goal.returns-in-Err
+returns-in-Err g c = λ access file stands.
+    rw c.from.ensures (WorksOn-untaken access c.args.name.now file (subject g.T.Lane.value g.T.Lane.width c.args.target) stands c.in-Err.error _ _ _ _ (λ long. c.in-Err.ensures.long (ap Err long)) c.take_all.ensures.taken
+    (c.in-Err.ensures.cause.0, λ is. c.in-Err.ensures.cause.1 (ap Err is)) (λ sure. let s = c.in-Err.ensures.sure sure in (λ is. s.0 (ap Err is), s.1)))

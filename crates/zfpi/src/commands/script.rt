@@ -1,0 +1,185 @@
+//! `run` and `look`: a script on the array, or on the stream, of a file.
+
+ghost use Rattle.std.specs.Prelude.{◌≡◌, ◌≢◌, ℕ, List, length};
+ghost use Rattle.zf_base.specs.Widths.{width_of};
+ghost use Rattle.zf_dev.specs.Faults.{IsQuiet};
+ghost use Rattle.zf_index.specs.Files.{HasHeader};
+ghost use Rattle.zfpi.specs.declared.command.Access.{Access};
+ghost use Rattle.zfpi.specs.World.{seen, counts};
+ghost use Rattle.zfpi.specs.Accesses.{IsAccess, command_on, Admits, admits};
+ghost use Rattle.zfpi.specs.Subjects.{subject, IsFresh, HasRoom};
+ghost use Rattle.zfpi.specs.Loaded.{StandsFor};
+ghost use Rattle.zfpi.specs.Steps.{Steps};
+ghost use Rattle.zfpi.specs.Rungs.{WorksOn, Answers};
+ghost use Rattle.zfpi.specs.Headline.{Behaves, HasCauses, IsSent};
+
+use crate::command::Access;
+use crate::commands::kinds::in_kind;
+use crate::commands::scripts::MAX_SCRIPT;
+use crate::commands::sending::send;
+use crate::commands::target::{Loaded, Target};
+use crate::status::Status;
+use crate::words::name::Name;
+use std::alloc::Global;
+use zf_base::{Lane, Ty};
+use zf_dev::{Shelf, Sink, Source, take_all};
+use zf_header::{MAX_FILE, Mode, mode_number};
+use zf_run::RunEnd;
+
+/// Loads the file of this name, reads a script to its end, does with the file by this access what it says, and
+/// hands the replies on. An array that was run on is then saved under the same name; no other file changes.
+pub fn script<S: Source, O: Sink, F: Shelf>(
+    alloc: Global,
+    name: &Name,
+    access: Access,
+    src: &mut S,
+    out: &mut O,
+    shelf: &mut F,
+) -> Status
+    requires { IsAccess access }
+    ensures behaves { Behaves (command_on access name.now) result
+        (seen (S.contents src.old) (O.contents out.old) (F.files shelf.old))
+        (seen (S.contents src.new) (O.contents out.new) (F.files shelf.new)) }
+    ensures causes { HasCauses (command_on access name.now) result
+        (counts (S.faults src.old) (O.faults out.old)) (counts (S.faults src.new) (O.faults out.new))
+        (S.never_fails src.old) (S.never_fails src.new) }
+    ensures steps { Steps F.loads F.saves F.faults (command_on access name.now) result shelf.old shelf.new }
+    ensures sent { O.is_flushed out.old
+        → IsSent result (IsQuiet (O.faults out.old) (O.faults out.new)) (O.is_flushed out.new) }
+    ensures sure_shelf { F.never_fails shelf.old → (result ≢ Status.LoadFault) × F.never_fails shelf.new }
+{
+    match shelf.load(alloc, name.as_str(), MAX_FILE) {
+        Ok(file) => on_file(alloc, name, access, file, src, out, shelf),
+        Err(error) => Status::from(error),
+    }
+}
+
+// The same with the file that was loaded: reads its header.
+fn on_file<S: Source, O: Sink, F: Shelf>(
+    alloc: Global,
+    name: &Name,
+    access: Access,
+    file: Vec<u8>,
+    src: &mut S,
+    out: &mut O,
+    shelf: &mut F,
+) -> Status
+    requires { IsAccess access }
+    ensures { WorksOn O.Sink F.Shelf S.Source (command_on access name.now) name.now file.items result
+        src.old src.new out.old out.new shelf.old shelf.new }
+{
+    match zf_header::read(&file) {
+        Ok((header, _)) => {
+            if may_access(access, &header.mode) {
+                let loaded = Loaded { header, file };
+                on_header(alloc, name, access, loaded, src, out, shelf)
+            } else {
+                Status::NotRate(mode_number(&header.mode))
+            }
+        }
+        Err(fault) => Status::Header(fault),
+    }
+}
+
+// Whether a stream of this mode may be accessed so: an array has a fixed rate.
+fn may_access(access: Access, mode: &Mode) -> bool
+    ensures { result ≡ admits access mode.now }
+{
+    match access {
+        Access::Run(_) => matches!(mode, Mode::Rate(_)),
+        Access::Look(_) => true,
+    }
+}
+
+// The same with the header of the file: chooses the type of its values and the number of its dimensions.
+fn on_header<S: Source, O: Sink, F: Shelf>(
+    alloc: Global,
+    name: &Name,
+    access: Access,
+    loaded: Loaded,
+    src: &mut S,
+    out: &mut O,
+    shelf: &mut F,
+) -> Status
+    requires access { IsAccess access }
+    requires header { HasHeader loaded.file.items loaded.header }
+    requires mode { Admits access loaded.header.mode }
+    ensures { WorksOn O.Sink F.Shelf S.Source (command_on access name.now) name.now loaded.file.items result
+        src.old src.new out.old out.new shelf.old shelf.new }
+{
+    in_kind!(
+        loaded.header.ty,
+        loaded.header.shape,
+        on_kind,
+        [S, O, F],
+        (alloc, name, access, loaded, src, out, shelf)
+    )
+}
+
+// The same in the type and the number of dimensions: opens it.
+fn on_kind<T: Lane, const D: usize, S: Source, O: Sink, F: Shelf>(
+    alloc: Global,
+    name: &Name,
+    access: Access,
+    loaded: Loaded,
+    src: &mut S,
+    out: &mut O,
+    shelf: &mut F,
+) -> Status
+    requires access { IsAccess access }
+    requires header { HasHeader loaded.file.items loaded.header }
+    requires mode { Admits access loaded.header.mode }
+    requires same_type { T.width ≡ width_of loaded.header.ty }
+    requires dims { length loaded.header.shape ≡ D }
+    ensures { WorksOn O.Sink F.Shelf S.Source (command_on access name.now) name.now loaded.file.items result
+        src.old src.new out.old out.new shelf.old shelf.new }
+{
+    match Target::<T, D>::open(alloc, access, loaded) {
+        Ok(target) => on_target(alloc, name, target, src, out, shelf),
+        Err(status) => status,
+    }
+}
+
+// The same with what the script works on: reads the script.
+fn on_target<T: Lane, const D: usize, S: Source, O: Sink, F: Shelf>(
+    alloc: Global,
+    name: &Name,
+    target: Target<T, D>,
+    src: &mut S,
+    out: &mut O,
+    shelf: &mut F,
+) -> Status
+    requires fresh { IsFresh target }
+    requires room { HasRoom target }
+    ensures { (access : Access) (file : List ℕ) → StandsFor (subject T.value T.width target) access file
+        → WorksOn O.Sink F.Shelf S.Source (command_on access name.now) name.now file result
+        src.old src.new out.old out.new shelf.old shelf.new }
+{
+    match take_all(alloc, src, MAX_SCRIPT) {
+        Ok(script) => on_script(alloc, name, target, &script, out, shelf),
+        Err(error) => Status::from(error),
+    }
+}
+
+// The same with the script: runs it, hands the replies on, and saves what is to be saved.
+fn on_script<T: Lane, const D: usize, O: Sink, F: Shelf>(
+    alloc: Global,
+    name: &Name,
+    target: Target<T, D>,
+    script: &[u8],
+    out: &mut O,
+    shelf: &mut F,
+) -> Status
+    requires fresh { IsFresh target }
+    requires room { HasRoom target }
+    ensures { (access : Access) (file : List ℕ) → StandsFor (subject T.value T.width target) access file
+        → Answers O.Sink F.Shelf (command_on access name.now) name.now file script.now result
+        out.old out.new shelf.old shelf.new }
+{
+    let mut target = target;
+    match target.run(alloc, script, out) {
+        RunEnd::Done => target.close(name, Status::Done, out, shelf),
+        RunEnd::Lines(count) => target.close(name, Status::Lines(count), out, shelf),
+        RunEnd::Write => send(Status::WriteFault, out),
+    }
+}
