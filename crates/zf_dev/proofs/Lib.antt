@@ -1,5 +1,6 @@
 pub mod Appending
 pub mod Counts
+mod Ending
 pub mod Giving
 mod Held
 mod Pieces

@@ -12,7 +12,8 @@ use Rattle.zfpi.specs.declared.command.Command.TheVariants.{Run, Look}
 use Rattle.zfpi.specs.World.{seen, counts}
 use Rattle.zfpi.specs.Steps.{SavesOnce, IsShelfless}
 use Rattle.zfpi.specs.Loaded.{HoldsFile}
-use Rattle.zfpi.specs.Headline.{Behaves, HasCauses, IsSent}
+use Rattle.zfpi.specs.Scripts.{reads_script}
+use Rattle.zfpi.specs.Headline.{Behaves, HasCauses, StopsAtEnd, IsSent}
 
 -- the file of this name that was loaded has these bytes, and the rest of the run did what a run does with it
 pub record RunsOn {A B C : Type 0} (S : Source A) (O : Sink B) (F : Shelf C) (name : List ℕ) (caching : Caching)
@@ -22,6 +23,7 @@ pub record RunsOn {A B C : Type 0} (S : Source A) (O : Sink B) (F : Shelf C) (na
       (seen (S.contents src_now) (O.contents out_now) (F.files shelf_now))
   pub causes : HasCauses (Run name caching) status (counts (S.faults src) (O.faults out))
       (counts (S.faults src_now) (O.faults out_now)) (S.never_fails src) (S.never_fails src_now)
+  pub stops : StopsAtEnd (reads_script status) (S.ends_seen src) (S.ends_seen src_now)
   pub once : SavesOnce F.saves F.faults status shelf shelf_now
   pub sent : O.is_flushed out → IsSent status (IsQuiet (O.faults out) (O.faults out_now)) (O.is_flushed out_now)
   pub still : F.never_fails shelf → F.never_fails shelf_now
@@ -34,4 +36,5 @@ pub record LooksOn {A B : Type 0} (S : Source A) (O : Sink B) (name : List ℕ) 
       (seen (S.contents src_now) (O.contents out_now) now)
   pub causes : HasCauses (Look name lines) status (counts (S.faults src) (O.faults out))
       (counts (S.faults src_now) (O.faults out_now)) (S.never_fails src) (S.never_fails src_now)
+  pub stops : StopsAtEnd (reads_script status) (S.ends_seen src) (S.ends_seen src_now)
   pub shelfless : IsShelfless status

@@ -13,7 +13,7 @@ ghost use Rattle.zfpi.specs.Scripts.{max_script, reads_script};
 ghost use Rattle.zfpi.specs.Loaded.{HoldsStream};
 ghost use Rattle.zfpi.specs.Steps.{Steps, IsShelfless};
 ghost use Rattle.zfpi.specs.Rungs.{LooksOn};
-ghost use Rattle.zfpi.specs.Headline.{Behaves, HasCauses};
+ghost use Rattle.zfpi.specs.Headline.{Behaves, HasCauses, StopsAtEnd};
 
 use crate::commands::kinds::in_kind;
 use crate::commands::scripts::{MAX_SCRIPT, line_count};
@@ -43,6 +43,7 @@ pub fn look<S: Source, O: Sink, F: Shelf>(
     ensures causes { HasCauses (Look name.now lines) result
         (counts (S.faults src.old) (O.faults out.old)) (counts (S.faults src.new) (O.faults out.new))
         (S.never_fails src.old) (S.never_fails src.new) }
+    ensures stops { StopsAtEnd ((meaning (Look name.now lines)).reads result) (S.ends_seen src.old) (S.ends_seen src.new) }
     ensures steps { Steps F.loads F.saves F.faults (Look name.now lines) result shelf.old shelf.new }
     ensures sure_shelf { F.never_fails shelf.old → (result ≢ Status.LoadFault) × F.never_fails shelf.new }
 {
@@ -130,6 +131,7 @@ fn look_script<T: Lane, const D: usize, S: Source, O: Sink>(
     ensures causes { (lines : Option ℕ) → HasCauses (Look name.now lines) result
         (counts (S.faults src.old) (O.faults out.old)) (counts (S.faults src.new) (O.faults out.new))
         (S.never_fails src.old) (S.never_fails src.new) }
+    ensures stops { StopsAtEnd (reads_script result) (S.ends_seen src.old) (S.ends_seen src.new) }
     ensures shelfless { IsShelfless result }
 {
     match take_all(alloc, src, MAX_SCRIPT) {

@@ -16,7 +16,7 @@ ghost use Rattle.zfpi.specs.Scripts.{max_script, reads_script};
 ghost use Rattle.zfpi.specs.Loaded.{HoldsArray};
 ghost use Rattle.zfpi.specs.Steps.{SavesOnce, Steps};
 ghost use Rattle.zfpi.specs.Rungs.{RunsOn};
-ghost use Rattle.zfpi.specs.Headline.{Behaves, HasCauses, IsSent};
+ghost use Rattle.zfpi.specs.Headline.{Behaves, HasCauses, StopsAtEnd, IsSent};
 
 use crate::command::Caching;
 use crate::commands::kinds::in_kind;
@@ -49,6 +49,7 @@ pub fn run<S: Source, O: Sink, F: Shelf>(
     ensures causes { HasCauses (Run name.now caching) result
         (counts (S.faults src.old) (O.faults out.old)) (counts (S.faults src.new) (O.faults out.new))
         (S.never_fails src.old) (S.never_fails src.new) }
+    ensures stops { StopsAtEnd ((meaning (Run name.now caching)).reads result) (S.ends_seen src.old) (S.ends_seen src.new) }
     ensures steps { Steps F.loads F.saves F.faults (Run name.now caching) result shelf.old shelf.new }
     ensures sent { O.is_flushed out.old → IsSent result (IsQuiet (O.faults out.old) (O.faults out.new)) (O.is_flushed out.new) }
     ensures sure_shelf { F.never_fails shelf.old → (result ≢ Status.LoadFault) × F.never_fails shelf.new }
@@ -172,6 +173,7 @@ fn run_script<T: Lane, const D: usize, S: Source, O: Sink, F: Shelf>(
     ensures causes { (lines : Option ℕ) → HasCauses (Run name.now (Direct lines)) result
         (counts (S.faults src.old) (O.faults out.old)) (counts (S.faults src.new) (O.faults out.new))
         (S.never_fails src.old) (S.never_fails src.new) }
+    ensures stops { StopsAtEnd (reads_script result) (S.ends_seen src.old) (S.ends_seen src.new) }
     ensures once { SavesOnce F.saves F.faults result shelf.old shelf.new }
     ensures sent { O.is_flushed out.old → IsSent result (IsQuiet (O.faults out.old) (O.faults out.new)) (O.is_flushed out.new) }
     ensures still { F.never_fails shelf.old → F.never_fails shelf.new }

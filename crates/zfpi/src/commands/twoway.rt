@@ -24,7 +24,7 @@ ghost use Rattle.zfpi.specs.Loaded.{HoldsArray, SavesOrFails};
 ghost use Rattle.zfpi.specs.Sending.{IsDone};
 ghost use Rattle.zfpi.specs.Steps.{SavesOnce};
 ghost use Rattle.zfpi.specs.Rungs.{RunsOn};
-ghost use Rattle.zfpi.specs.Headline.{Behaves, HasCauses, IsSent};
+ghost use Rattle.zfpi.specs.Headline.{Behaves, HasCauses, StopsAtEnd, IsSent};
 
 use crate::commands::kinds::in_kind;
 use crate::commands::scripts::{MAX_SCRIPT, save};
@@ -142,6 +142,7 @@ fn run_script<T: Lane, const D: usize, S: Source, O: Sink, F: Shelf>(
     ensures causes { (lines : ℕ) → HasCauses (Run name.now (TwoWays lines)) result
         (counts (S.faults src.old) (O.faults out.old)) (counts (S.faults src.new) (O.faults out.new))
         (S.never_fails src.old) (S.never_fails src.new) }
+    ensures stops { StopsAtEnd (reads_script result) (S.ends_seen src.old) (S.ends_seen src.new) }
     ensures once { SavesOnce F.saves F.faults result shelf.old shelf.new }
     ensures sent { O.is_flushed out.old → IsSent result (IsQuiet (O.faults out.old) (O.faults out.new)) (O.is_flushed out.new) }
     ensures still { F.never_fails shelf.old → F.never_fails shelf.new }

@@ -1,7 +1,9 @@
 use Rattle.std.proofs.Common.{refl, ap, Err}
 use Rattle.zfpi.specs.declared.command.Command.TheVariants.{Look}
 use Rattle.zfpi.specs.Opened.{stream_in}
+use Rattle.zfpi.specs.Scripts.{reads_script}
 use Rattle.zfpi.proofs.Causes.{HasCauses-unloaded}
+use Rattle.zfpi.proofs.Stopping.{StopsAtEnd-same}
 use Rattle.zfpi.proofs.Stepping.{Steps-loaded, Steps-unloaded}
 use Rattle.zfpi.proofs.Loading.{Behaves-unloaded}
 use Rattle.zfpi.proofs.Scripting.{IsScripted-look}
@@ -41,3 +43,9 @@ pub returns-in-Err-clause-sure_shelf : goal.returns-in-Err-clause-sure_shelf
 returns-in-Err-clause-sure_shelf g c = λ sure.
     let loaded = c.in-Err.ensures.sure sure in
     rw c.from.ensures (unloaded_status c.in-Err.error (λ is. loaded.0 (ap Err is)), loaded.1)
+
+pub returns-in-Ok-clause-stops : goal.returns-in-Ok-clause-stops
+returns-in-Ok-clause-stops g c = c.look_file.ensures.stops
+
+pub returns-in-Err-clause-stops : goal.returns-in-Err-clause-stops
+returns-in-Err-clause-stops g c = StopsAtEnd-same (reads_script c.from.result) _

@@ -1,10 +1,11 @@
-use Rattle.std.proofs.Common.{refl, sym}
+use Rattle.std.proofs.Common.{false, refl, sym}
 use Rattle.zfpi.specs.declared.command.Command.TheVariants.{Run}
 use Rattle.zfpi.specs.declared.status.Status.TheVariants.{Header, NotRate}
 use Rattle.zfpi.specs.Opened.{array_in}
 use Rattle.zfpi.proofs.Opening.{array_in-header, array_in-no_rate}
 use Rattle.zfpi.proofs.Stepping.{SavesOnce-none}
 use Rattle.zfpi.proofs.Causes.{HasCauses-refused}
+use Rattle.zfpi.proofs.Stopping.{StopsAtEnd-same}
 use Rattle.zfpi.proofs.Loading.{Behaves-refused}
 use Rattle.zfpi.proofs.Scripting.{IsScripted-run}
 use Rattle.zfpi.proofs.commands.run.run_file.Goals as goal
@@ -19,6 +20,7 @@ returns-in_default g c =
     record {
       behaves = λ known holds kept. Behaves-refused (Run name c.args.caching) name array_in (IsScripted-run name c.args.caching).loading status c.args.file.items _ _ known _ tt none holds kept;
       causes = HasCauses-refused (Run name c.args.caching) status _ _ (λ is. cc) (λ is. cc);
+      stops = StopsAtEnd-same false _;
       once = SavesOnce-none g.F.Shelf.saves g.F.Shelf.faults status _ refl (λ is. cc);
       sent = λ flushed why. flushed;
       still = λ sure. sure;
@@ -33,6 +35,7 @@ returns-in-Err g c =
     record {
       behaves = λ known holds kept. Behaves-refused (Run name c.args.caching) name array_in (IsScripted-run name c.args.caching).loading status c.args.file.items _ _ known _ tt none holds kept;
       causes = HasCauses-refused (Run name c.args.caching) status _ _ (λ is. cc) (λ is. cc);
+      stops = StopsAtEnd-same false _;
       once = SavesOnce-none g.F.Shelf.saves g.F.Shelf.faults status _ refl (λ is. cc);
       sent = λ flushed why. flushed;
       still = λ sure. sure;

@@ -2,10 +2,11 @@ use Rattle.std.proofs.Common.{◌≤◌, length, Err, ap, sym, subst}
 use Rattle.zf_dev.specs.Source.{Takes}
 use Rattle.zfpi.proofs.Stepping.{SavesOnce-take}
 use Rattle.zfpi.proofs.Causes.{IsIdle-used, HasCauses-taken, HasCauses-untaken, reads_take}
+use Rattle.zfpi.proofs.Stopping.{StopsAtEnd-used}
 use Rattle.zfpi.specs.declared.command.Caching.TheVariants.{Direct}
 use Rattle.zfpi.specs.declared.command.Command.TheVariants.{Run}
 use Rattle.zfpi.specs.Opened.{array_in}
-use Rattle.zfpi.specs.Scripts.{run_replies}
+use Rattle.zfpi.specs.Scripts.{reads_script, run_replies}
 use Rattle.zfpi.proofs.Scripting.{IsScripted-run, Behaves-untaken}
 use Rattle.zfpi.proofs.commands.run.run_script.Goals as goal
 
@@ -30,3 +31,9 @@ pub returns-in-Err-clause-causes : goal.returns-in-Err-clause-causes
 returns-in-Err-clause-causes g c = λ lines.
     rw c.from.ensures (HasCauses-untaken (Run c.args.name.now (Direct lines)) c.in-Err.error _ _ _ (reads_take c.in-Err.error) (c.in-Err.ensures.cause.0, λ is. c.in-Err.ensures.cause.1 (ap Err is))
     (λ sure. let s = c.in-Err.ensures.sure sure in (λ is. s.0 (ap Err is), s.1)))
+
+pub returns-in-Ok-clause-stops : goal.returns-in-Ok-clause-stops
+returns-in-Ok-clause-stops g c = StopsAtEnd-used (reads_script c.run_lines.result) _ _ c.run_lines.ensures.read c.take_all.ensures.seen.0
+
+pub returns-in-Err-clause-stops : goal.returns-in-Err-clause-stops
+returns-in-Err-clause-stops g c = rw c.from.ensures (StopsAtEnd-used _ _ _ (reads_take c.in-Err.error) c.take_all.ensures.seen.0)
