@@ -1,6 +1,5 @@
 pub mod Appending
 pub mod Counts
-mod Ending
 pub mod Giving
 mod Held
 mod Pieces

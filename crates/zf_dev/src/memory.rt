@@ -2,7 +2,7 @@
 
 ghost use Rattle.std.specs.Prelude.{◌≡◌, ℕ, ◌<◌, ◌≤◌, ◌↔◌, min, List, [], ◌++◌, length, take, drop, Some, IsTrue, IsOk, IsErr, IfOk, OnOk, OnErr, Contains};
 ghost use Rattle.zf_dev.specs.Faults.{HasCause};
-ghost use Rattle.zf_dev.specs.Memory.{given_count, source_after_read, source_after_fault, sink_after_write, sink_after_flush, sink_after_fault, sink_after_starving};
+ghost use Rattle.zf_dev.specs.Memory.{given_count, ends_after, source_after_read, source_after_fault, sink_after_write, sink_after_flush, sink_after_fault, sink_after_starving};
 ghost use Rattle.zf_dev.specs.Sink.{Appends};
 ghost use Rattle.zf_dev.specs.Source.{Takes, EndsAt, SeesEnd};
 
@@ -133,9 +133,7 @@ impl Source for MemSource {
         let count = self.piece.min(buf.len()).min(left.len());
         buf[..count].copy_from_slice(&left[..count]);
         self.at += count;
-        if count == 0 {
-            raise(&mut self.ends);
-        }
+        count_end(count, &mut self.ends);
         Ok(count)
     }
 }
@@ -274,6 +272,16 @@ impl Sink for MemSink {
             return Err(Failed);
         }
         Ok(())
+    }
+}
+
+// Counts that a call saw the end, where it gave so many bytes.
+fn count_end(given: usize, ends: &mut u64)
+    ensures after { ends.new ≡ ends_after given ends.old }
+    ensures seen { SeesEnd (given ≡ 0) ends.old ends.new }
+{
+    if given == 0 {
+        raise(ends);
     }
 }
 
