@@ -25,11 +25,7 @@ pub fn restore<S: Source, O: Sink>(alloc: Global, src: &mut S, out: &mut O) -> S
 }
 
 // The same of a source that the call began with: it is not read behind its end.
-fn restore_begun<S: Source, O: Sink, K: Begun>(
-    alloc: Global,
-    src: &mut S,
-    out: &mut O,
-) -> Status
+fn restore_begun<S: Source, O: Sink, K: Begun>(alloc: Global, src: &mut S, out: &mut O) -> Status
     requires { K.ends_seen ≡ S.ends_seen src.old }
     ensures behaves { (files : Option Files) → Behaves Restore result
         (seen (S.contents src.old) (O.contents out.old) files) (seen (S.contents src.new) (O.contents out.new) files) }
