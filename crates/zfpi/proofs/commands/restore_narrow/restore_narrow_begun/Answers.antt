@@ -1,4 +1,4 @@
-use Rattle.std.proofs.Common.{[], Err, ap, sym, refl, subst, true}
+use Rattle.std.proofs.Common.{[], Err, ap, sym, subst, true}
 use Rattle.zf_dev.proofs.Appending.{AppendsPrefix-all}
 use Rattle.zf_parse.specs.ReadStreams.{HasGoodHeader}
 use Rattle.zf_narrow.specs.Texts.{narrow_restored}
