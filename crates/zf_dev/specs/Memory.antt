@@ -1,5 +1,5 @@
 -- Devices in memory. Their calls are numbered from 0; the number stands still at the last value of a `u64`, as counts do.
-use Rattle.std.specs.Prelude.{◌≡◌, ℕ, min, List, ◌++◌, length, drop}
+use Rattle.std.specs.Prelude.{◌≡◌, ℕ, zero, suc, min, List, ◌++◌, length, drop}
 use Rattle.std.specs.Option.{option_map}
 use Rattle.std.specs.BTreeMap.{get_by_text}
 use Rattle.zf_dev.specs.Faults.{next_count}
@@ -18,14 +18,21 @@ pub record SourceState : Type 0 where
   pub call : ℕ
   -- how many calls failed
   pub faults : ℕ
+  -- how many calls saw the end: they gave no byte
+  pub ends : ℕ
 
 -- how many bytes a call gives where there is this much room
 abbrev pub given_count : SourceState → ℕ → ℕ
 given_count source room = min (min source.piece room) (length source.left)
 
+-- how many calls saw the end after one that gave so many bytes
+abbrev pub ends_after : ℕ → ℕ → ℕ
+ends_after zero ends = next_count ends
+ends_after (suc given) ends = ends
+
 -- the source after a call that gave so many bytes
 abbrev pub source_after_read : SourceState → ℕ → SourceState
-source_after_read source count = record source { left = drop count source.left; call = next_count source.call }
+source_after_read source count = record source { left = drop count source.left; call = next_count source.call; ends = ends_after count source.ends }
 
 -- the source after a call that failed
 abbrev pub source_after_fault : SourceState → SourceState

@@ -5,7 +5,8 @@ use Rattle.zf_dev.specs.declared.real.RealSource.{RealSource}
 use Rattle.zf_dev.specs.declared.real.RealSink.{RealSink}
 use Rattle.zf_dev.specs.declared.real_shelf.RealShelf.{RealShelf}
 
--- the stream that a source reads, what it has read and not given, whether it reads ahead, and how many of its reads failed
+-- the stream that a source reads, what it has read and not given, whether it reads ahead, and how many of its reads failed,
+-- and how many saw the end
 abbrev pub source_stream : {R : Type 0} → RealSource R → R
 source_stream source = source.stream
 
@@ -17,6 +18,9 @@ source_ahead source = source.ahead
 
 abbrev pub source_faults : {R : Type 0} → RealSource R → ℕ
 source_faults source = source.faults
+
+abbrev pub source_ends : {R : Type 0} → RealSource R → ℕ
+source_ends source = source.ends
 
 -- the bytes still to come: those that are held, and then those of the stream
 abbrev pub source_contents : {R : Type 0} → (R → Option (List ℕ)) → RealSource R → Option (List ℕ)

@@ -1,5 +1,5 @@
 -- What is taken from a source. The bytes still to come are `Some` where the source exposes them, and it then goes on exposing them.
-use Rattle.std.specs.Prelude.{◌≡◌, ℕ, ◌<◌, ◌≤◌, ◌↔◌, min, List, [], ◌++◌, length, Option, Some, None}
+use Rattle.std.specs.Prelude.{◌≡◌, ℕ, ◌+◌, ◌<◌, ◌≤◌, ◌↔◌, min, List, [], ◌++◌, length, Option, Some, None}
 
 -- the bytes to come began with these, which are gone
 abbrev pub Takes : Option (List ℕ) → Option (List ℕ) → List ℕ → Type 0
@@ -36,6 +36,10 @@ IsAtEnd (Some left) = left ≡ []
 abbrev pub EndsAt : Option (List ℕ) → Option (List ℕ) → ℕ → Type 0
 EndsAt None now given = given ≡ 0 → IsAtEnd now
 EndsAt (Some left) now given = (given ≡ 0) ↔ (left ≡ [])
+
+-- the end was seen once at most, and only where this holds
+abbrev pub SeesEnd : Type 0 → ℕ → ℕ → Type 0
+SeesEnd Ended before now = (now ≤ before + 1) × (¬ Ended → now ≤ before)
 
 -- as many bytes were given as there is room for, or all where fewer were to come
 abbrev pub IsFill : Option (List ℕ) → ℕ → ℕ → Type 0

@@ -15,6 +15,7 @@ mod retrying;
 mod shelf;
 mod sink;
 mod source;
+mod until_end;
 mod whole;
 
 pub use faults::{Failed, LoadError, TakeError};
@@ -25,4 +26,5 @@ pub use real_shelf::RealShelf;
 pub use shelf::Shelf;
 pub use sink::{Sink, write_all};
 pub use source::{Source, fill};
+pub use until_end::{Begun, UntilEnd};
 pub use whole::take_all;

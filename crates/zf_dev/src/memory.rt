@@ -2,9 +2,9 @@
 
 ghost use Rattle.std.specs.Prelude.{◌≡◌, ℕ, ◌<◌, ◌≤◌, ◌↔◌, min, List, [], ◌++◌, length, take, drop, Some, IsTrue, IsOk, IsErr, IfOk, OnOk, OnErr, Contains};
 ghost use Rattle.zf_dev.specs.Faults.{HasCause};
-ghost use Rattle.zf_dev.specs.Memory.{given_count, source_after_read, source_after_fault, sink_after_write, sink_after_flush, sink_after_fault, sink_after_starving};
+ghost use Rattle.zf_dev.specs.Memory.{given_count, ends_after, source_after_read, source_after_fault, sink_after_write, sink_after_flush, sink_after_fault, sink_after_starving};
 ghost use Rattle.zf_dev.specs.Sink.{Appends};
-ghost use Rattle.zf_dev.specs.Source.{Takes, EndsAt};
+ghost use Rattle.zf_dev.specs.Source.{Takes, EndsAt, SeesEnd};
 
 use crate::faults::raise;
 use crate::{Failed, Sink, Source};
@@ -20,6 +20,7 @@ pub struct MemSource {
     piece: usize,
     call: u64,
     faults: u64,
+    ends: u64,
 }
 
 impl Model for MemSource {
@@ -34,6 +35,7 @@ impl Model for MemSource {
       piece = s.piece;
       call = s.call;
       faults = s.faults;
+      ends = s.ends;
     } };
 
     ghost invariant = { λ s. (s.at ≤ vec_len s.bytes) × (0 < s.piece) };
@@ -50,6 +52,7 @@ impl MemSource {
           piece = piece;
           call = 0;
           faults = 0;
+          ends = 0;
         } }
     {
         MemSource {
@@ -59,6 +62,7 @@ impl MemSource {
             piece,
             call: 0,
             faults: 0,
+            ends: 0,
         }
     }
 
@@ -75,6 +79,13 @@ impl MemSource {
     {
         self.faults
     }
+
+    /// How many calls saw the end.
+    pub fn ends(&self) -> u64
+        ensures { result ≡ self.now.ends }
+    {
+        self.ends
+    }
 }
 
 impl Source for MemSource {
@@ -83,6 +94,8 @@ impl Source for MemSource {
     ghost contents = { λ s. Some s.left };
 
     ghost faults = { λ s. s.faults };
+
+    ghost ends_seen = { λ s. s.ends };
 
     ghost never_fails = { λ s. s.fail ≡ [] };
 
@@ -104,6 +117,8 @@ impl Source for MemSource {
         ensures rest { IfOk result (λ n. drop n buf.new ≡ drop n buf.old) }
         ensures end { IfOk result (λ n. EndsAt (Some self.old.left) (Some self.new.left) n) }
         ensures untaken { OnErr result (Takes (Some self.old.left) (Some self.new.left) []) }
+        ensures seen { IfOk result (λ n. SeesEnd (n ≡ 0) self.old.ends self.new.ends) }
+        ensures unseen { OnErr result (self.new.ends ≤ self.old.ends) }
         ensures unchanged { OnOk result (self.new.faults ≡ self.old.faults) }
         ensures cause { HasCause (IsErr result) self.old.faults self.new.faults }
         ensures sure { self.old.fail ≡ [] → IsOk result × (self.new.fail ≡ []) }
@@ -118,6 +133,7 @@ impl Source for MemSource {
         let count = self.piece.min(buf.len()).min(left.len());
         buf[..count].copy_from_slice(&left[..count]);
         self.at += count;
+        count_end(count, &mut self.ends);
         Ok(count)
     }
 }
@@ -256,6 +272,16 @@ impl Sink for MemSink {
             return Err(Failed);
         }
         Ok(())
+    }
+}
+
+// Counts that a call saw the end, where it gave so many bytes.
+fn count_end(given: usize, ends: &mut u64)
+    ensures after { ends.new ≡ ends_after given ends.old }
+    ensures seen { SeesEnd (given ≡ 0) ends.old ends.new }
+{
+    if given == 0 {
+        raise(ends);
     }
 }
 

@@ -4,7 +4,7 @@
 ghost use Rattle.std.specs.Prelude.{◌≡◌, ◌<◌, ◌≤◌, ◌↔◌, List, [], length, take, drop, Ok, IsTrue, IsErr, IfOk, OnOk, OnErr};
 ghost use Rattle.zf_dev.specs.Faults.{HasCause, next_count};
 ghost use Rattle.zf_dev.specs.Sink.{Appends};
-ghost use Rattle.zf_dev.specs.Source.{Takes, EndsAt};
+ghost use Rattle.zf_dev.specs.Source.{Takes, EndsAt, SeesEnd};
 
 use crate::buffer::{Buffer, ROOM};
 use crate::faults::raise;
@@ -24,23 +24,26 @@ pub struct RealSource<R = Stdin> {
     held: Buffer,
     ahead: bool,
     faults: u64,
+    ends: u64,
     ghost exact: { ¬ IsTrue ahead → held ≡ [] },
 }
 
 impl<R> RealSource<R> {
-    ghost use Rattle.zf_dev.specs.Real.{source_stream, source_held, source_ahead, source_faults};
+    ghost use Rattle.zf_dev.specs.Real.{source_stream, source_held, source_ahead, source_faults, source_ends};
 
     pub fn new(stream: R) -> RealSource<R>
         ensures stream { source_stream result ≡ stream }
         ensures held { source_held result ≡ [] }
         ensures ahead { ¬ IsTrue (source_ahead result) }
         ensures faults { source_faults result ≡ 0 }
+        ensures ends { source_ends result ≡ 0 }
     {
         RealSource {
             stream,
             held: Buffer::new(),
             ahead: false,
             faults: 0,
+            ends: 0,
         }
     }
 
@@ -53,13 +56,15 @@ impl<R> RealSource<R> {
 }
 
 impl<R: Read> Source for RealSource<R> {
-    ghost use Rattle.zf_dev.specs.Real.{source_stream, source_ahead, source_faults, source_contents};
+    ghost use Rattle.zf_dev.specs.Real.{source_stream, source_ahead, source_faults, source_ends, source_contents};
 
     ghost Kept = { Unit {0} };
 
     ghost contents = { source_contents R.remaining };
 
     ghost faults = { λ s. source_faults s };
+
+    ghost ends_seen = { λ s. source_ends s };
 
     ghost never_fails = { λ _. ⊥ };
 
@@ -82,6 +87,8 @@ impl<R: Read> Source for RealSource<R> {
         ensures end { IfOk result (λ n.
             EndsAt (source_contents R.remaining self.old) (source_contents R.remaining self.new) n) }
         ensures untaken { OnErr result (Takes (source_contents R.remaining self.old) (source_contents R.remaining self.new) []) }
+        ensures seen { IfOk result (λ n. SeesEnd (n ≡ 0) (source_ends self.old) (source_ends self.new)) }
+        ensures unseen { OnErr result (source_ends self.new ≤ source_ends self.old) }
         ensures unchanged { OnOk result (source_faults self.new ≡ source_faults self.old) }
         ensures cause { HasCause (IsErr result) (source_faults self.old) (source_faults self.new) }
     {
@@ -92,7 +99,9 @@ impl<R: Read> Source for RealSource<R> {
         let answer = self
             .held
             .fill(&mut self.stream, most_of(self.ahead, buf.len()));
-        counted(answer, &mut self.faults)?;
+        if counted(answer, &mut self.faults)? == 0 {
+            raise(&mut self.ends);
+        }
         Ok(self.held.give(buf))
     }
 
@@ -103,6 +112,7 @@ impl<R: Read> Source for RealSource<R> {
 
         // Those of the trait.
         ensures contents_stay { source_contents R.remaining self.new ≡ source_contents R.remaining self.old }
+        ensures unseen { source_ends self.new ≤ source_ends self.old }
         ensures faults_stay { source_faults self.new ≡ source_faults self.old }
     {
         self.ahead = true;

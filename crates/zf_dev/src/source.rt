@@ -2,7 +2,7 @@
 
 ghost use Rattle.std.specs.Prelude.{◌≡◌, ℕ, ◌<◌, ◌≤◌, List, [], Option, length, take, drop, IsOk, IsErr, IfOk, OnOk, OnErr};
 ghost use Rattle.zf_dev.specs.Faults.{HasCause};
-ghost use Rattle.zf_dev.specs.Source.{Takes, TakesAtMost, Gives, GivesSome, IsAtEnd, EndsAt, IsFill};
+ghost use Rattle.zf_dev.specs.Source.{Takes, TakesAtMost, Gives, GivesSome, IsAtEnd, EndsAt, SeesEnd, IsFill};
 
 use crate::Failed;
 
@@ -19,6 +19,9 @@ pub trait Source {
 
     /// How many faults there were. It stands still at the last value of a `u64`.
     ghost faults: { Self → ℕ };
+
+    /// How many reads saw the end, at most. By default it says nothing.
+    ghost ends_seen: { Self → ℕ } = { λ _. 0 };
 
     /// No call fails from here on.
     ghost never_fails: { Self → Type 0 };
@@ -37,6 +40,8 @@ pub trait Source {
         ensures untaken { OnErr result (Takes (contents self.old) (contents self.new) []) }
         ensures gave { IfOk result (λ n. Gives (gave self.old) (gave self.new) (take n buf.new)) }
         ensures ungiven { OnErr result (Gives (gave self.old) (gave self.new) []) }
+        ensures seen { IfOk result (λ n. SeesEnd (n ≡ 0) (ends_seen self.old) (ends_seen self.new)) }
+        ensures unseen { OnErr result (ends_seen self.new ≤ ends_seen self.old) }
         ensures unchanged { OnOk result (faults self.new ≡ faults self.old) }
         ensures kept { kept self.new ≡ kept self.old }
         ensures cause { HasCause (IsErr result) (faults self.old) (faults self.new) }
@@ -46,6 +51,7 @@ pub trait Source {
     fn read_ahead(&mut self)
         ensures contents_stay { contents self.new ≡ contents self.old }
         ensures ungiven { Gives (gave self.old) (gave self.new) [] }
+        ensures unseen { ends_seen self.new ≤ ends_seen self.old }
         ensures faults_stay { faults self.new ≡ faults self.old }
         ensures kept { kept self.new ≡ kept self.old }
         ensures sure { never_fails self.old → never_fails self.new }
@@ -66,6 +72,9 @@ pub fn fill<S: Source>(src: &mut S, buf: &mut [u8]) -> Result<usize, Failed>
     ensures lost { OnErr result (TakesAtMost (S.contents src.old) (S.contents src.new) (length buf.old)) }
     ensures gave { IfOk result (λ n. Gives (S.gave src.old) (S.gave src.new) (take n buf.new)) }
     ensures gave_some { GivesSome (S.gave src.old) (S.gave src.new) }
+    // It reads no more once it saw the end.
+    ensures seen { IfOk result (λ n. SeesEnd (n < length buf.old) (S.ends_seen src.old) (S.ends_seen src.new)) }
+    ensures unseen { OnErr result (S.ends_seen src.new ≤ S.ends_seen src.old) }
     ensures unchanged { OnOk result (S.faults src.new ≡ S.faults src.old) }
     ensures same_source { S.kept src.new ≡ S.kept src.old }
     ensures cause { HasCause (IsErr result) (S.faults src.old) (S.faults src.new) }

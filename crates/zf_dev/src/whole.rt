@@ -1,9 +1,9 @@
 //! A source read to its end.
 
-ghost use Rattle.std.specs.Prelude.{◌≡◌, ◌≢◌, ◌≤◌, length, Err, IfOk, OnOk};
+ghost use Rattle.std.specs.Prelude.{◌≡◌, ◌≢◌, ◌≤◌, length, Err, IsOk, IfOk, OnOk};
 ghost use Rattle.zf_dev.specs.declared.faults.TakeError.TheVariants as taking;
 ghost use Rattle.zf_dev.specs.Faults.{HasCause};
-ghost use Rattle.zf_dev.specs.Source.{Takes, TakesSome, TakesMoreThan, IsAtEnd};
+ghost use Rattle.zf_dev.specs.Source.{Takes, TakesSome, TakesMoreThan, IsAtEnd, SeesEnd};
 
 use crate::{Source, TakeError};
 use std::alloc::Global;
@@ -22,6 +22,8 @@ pub fn take_all<S: Source>(alloc: Global, src: &mut S, max: u64) -> Result<Vec<u
     ensures long { result ≡ Err taking.Long → TakesMoreThan (S.contents src.old) (S.contents src.new) max }
     // After an error too, what is gone was the next to come.
     ensures taken { TakesSome (S.contents src.old) (S.contents src.new) }
+    // It reads no more once it saw the end.
+    ensures seen { SeesEnd (IsOk result) (S.ends_seen src.old) (S.ends_seen src.new) }
     ensures unchanged { result ≢ Err taking.Failed → S.faults src.new ≡ S.faults src.old }
     ensures same_source { S.kept src.new ≡ S.kept src.old }
     ensures cause { HasCause (result ≡ Err taking.Failed) (S.faults src.old) (S.faults src.new) }
@@ -38,6 +40,7 @@ fn take_pieces<S: Source>(alloc: Global, src: &mut S, max: u64) -> Result<Vec<u8
     ensures bound { IfOk result (λ bytes. length bytes.items ≤ max) }
     ensures long { result ≡ Err taking.Long → TakesMoreThan (S.contents src.old) (S.contents src.new) max }
     ensures taken { TakesSome (S.contents src.old) (S.contents src.new) }
+    ensures seen { SeesEnd (IsOk result) (S.ends_seen src.old) (S.ends_seen src.new) }
     ensures unchanged { result ≢ Err taking.Failed → S.faults src.new ≡ S.faults src.old }
     ensures same_source { S.kept src.new ≡ S.kept src.old }
     ensures cause { HasCause (result ≡ Err taking.Failed) (S.faults src.old) (S.faults src.new) }

@@ -8,8 +8,11 @@ ghost use Rattle.zf_dev.specs.Source.{Takes, IsAtEnd};
 
 use std::io;
 use std::io::{ErrorKind, Read, Write};
+use std::marker::{Brand, PhantomData};
 use std::test::Fail;
-use zf_dev::{Failed, MemSink, MemSource, RealSink, RealSource, Sink, Source, fill, write_all};
+use zf_dev::{
+    Failed, MemSink, MemSource, RealSink, RealSource, Sink, Source, UntilEnd, fill, write_all,
+};
 
 const TEXT: [u8; 11] = *b"hello world";
 
@@ -46,7 +49,26 @@ fn all_bytes_come_in_pieces(rt: HostRuntime) -> Result<(), Fail> {
         }
         assert!(rt; out.bytes() == TEXT.as_slice());
         assert!(rt; src.faults() == 0 && out.faults() == 0 && out.starved() == 0);
+        // The second fill saw the end, and the third one again.
+        assert!(rt; src.ends() == 2);
     }
+    Ok(())
+}
+
+#[test]
+fn an_end_that_was_seen_is_not_seen_again(rt: HostRuntime) -> Result<(), Fail> {
+    let alloc = rt.alloc();
+    let mut src = MemSource::new(TEXT.to_vec(alloc)?, Vec::new(alloc), 100);
+    let mut until_end = UntilEnd::<MemSource, Brand> {
+        src: &mut src,
+        ended: false,
+        begun: PhantomData,
+    };
+    let mut buf = [0; 8];
+    for (count, held) in COPIES {
+        assert!(rt; fill(&mut until_end, &mut buf) == Ok(count) && buf == held);
+    }
+    assert!(rt; until_end.src.ends() == 1);
     Ok(())
 }
 

@@ -6,6 +6,7 @@
 --     Reading    one read of a promotion, as the source sees it
 --     Demoting   one write of a demotion
 --     Back       narrow values and what stands for them, there and back
+--     Nearest    the nearest number, and what is restored by values
 --     RoundTrip  raw narrow bytes, there and back
 --     Given      one read of a promotion, as the log of what was given sees it
 --     Giving     what a source that promotes has given, of what it has read
@@ -19,6 +20,7 @@ pub mod Stepping
 pub mod Reading
 pub mod Demoting
 pub mod Back
+pub mod Nearest
 pub mod RoundTrip
 pub mod Given
 pub mod Giving

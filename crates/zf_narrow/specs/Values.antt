@@ -63,6 +63,10 @@ floor_div (negsuc m) d = negsuc (m / d)
 abbrev pub nearest : Narrow → ℤ → ℤ
 nearest n v = int_min (int_max v (least_of n)) (greatest_of n)
 
+-- the number of the step that an int32 value lies on or next above, where the type had no end
+abbrev pub on_step : Narrow → ℤ → ℤ
+on_step n v = floor_div v (step_of n) +ℤ middle_of n
+
 -- the number of the type that an int32 value stands for
 abbrev pub demoted : Narrow → ℤ → ℤ
-demoted n v = nearest n (floor_div v (step_of n) +ℤ middle_of n)
+demoted n v = nearest n (on_step n v)

@@ -1,7 +1,7 @@
 //! The narrow types, and the int32 values that stand for their numbers.
 
-ghost use Rattle.std.specs.Prelude.{◌≡◌, ◌+ℤ◌};
-ghost use Rattle.zf_narrow.specs.Values.{IsNarrow, promoted, demoted, nearest, floor_div, step_of, middle_of};
+ghost use Rattle.std.specs.Prelude.{◌≡◌};
+ghost use Rattle.zf_narrow.specs.Values.{IsNarrow, promoted, demoted, nearest, on_step};
 
 /// A type of values with 8 or 16 bits, signed or not.
 #[derive(Clone, Copy, Debug, PartialEq, Eq)]
@@ -36,7 +36,7 @@ pub fn demote(n: Narrow, v: i32) -> i32
 
 // The number of the step that a value lies on or next above, where the type had no end.
 fn on_step(n: Narrow, v: i32) -> i32
-    ensures { result ≡ floor_div v (step_of n) +ℤ middle_of n }
+    ensures { result ≡ on_step n v }
 {
     match n {
         Narrow::I8 => v >> 23,

@@ -2,10 +2,11 @@
 
 ghost use Rattle.std.specs.Prelude.{◌≡◌, ◌<◌, ◌≤◌, [], length, take, drop, IsTrue, IsOk, IsErr, IfOk, OnOk, OnErr};
 ghost use Rattle.std.specs.Coded.{→_prop};
+ghost use Rattle.zf_dev.specs.Facts.{IsAtEnd-prop};
 ghost use Rattle.zf_dev.specs.Faults.{HasCause};
 ghost use Rattle.zf_dev.specs.Source.{Takes, IsAtEnd, EndsAt};
 ghost use Rattle.zf_narrow.specs.Promotions.{exposed, read_so_far, HasGiven};
-ghost use Rattle.zf_narrow.specs.Facts.{IsAtEnd-prop, Takes-prop};
+ghost use Rattle.zf_narrow.specs.Facts.{Takes-prop};
 
 use crate::begun::Begun;
 use crate::promotion::Promotion;

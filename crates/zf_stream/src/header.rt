@@ -1,6 +1,6 @@
 //! The header that a source begins with.
 
-ghost use Rattle.std.specs.Prelude.{◌≡◌, ◌≢◌, Err, IfOk, IfErr};
+ghost use Rattle.std.specs.Prelude.{◌≡◌, ◌≢◌, ◌+◌, ◌≤◌, Err, IfOk, IfErr};
 ghost use Rattle.zf_dev.specs.Faults.{HasCause};
 ghost use Rattle.zf_parse.specs.ReadStreams.{BeginsWithHeader, IsFaultOf};
 ghost use Rattle.zf_stream.specs.Headed.{ReadsHeader, LacksHeader};
@@ -21,6 +21,8 @@ use zf_header::{FULL_HEADER_BYTES, Header};
 pub fn read_header<S: Source>(src: &mut S) -> Result<(Header, u32), StreamFault>
     ensures ok { IfOk result (λ found. ReadsHeader (S.contents src.old) (S.contents src.new) found.0 found.1) }
     ensures err { IfErr result (LacksHeader (S.contents src.old) (S.contents src.new)) }
+    // It reads no more once it saw the end.
+    ensures seen { S.ends_seen src.new ≤ S.ends_seen src.old + 1 }
     ensures same_source { S.kept src.new ≡ S.kept src.old }
     ensures cause { HasCause (result ≡ Err Read) (S.faults src.old) (S.faults src.new) }
     ensures sure { S.never_fails src.old → (result ≢ Err Read) × S.never_fails src.new }

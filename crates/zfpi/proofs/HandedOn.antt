@@ -21,7 +21,8 @@ use Rattle.zfpi.specs.Answer.{meaning, OfUsed}
 use Rattle.zfpi.proofs.Ends.{IsPossible}
 use Rattle.zfpi.specs.Sending.{IsDone, EndsSent, HandsOn}
 use Rattle.zfpi.specs.Steps.{is_work_done, IsShelfless}
-use Rattle.zfpi.specs.Headline.{IsSent, Writes, Saves, Behaves, HasCauses, IsIdle, Sends}
+use Rattle.zfpi.specs.Headline.{IsSent, Writes, Saves, Behaves, HasCauses, IsIdle, StopsAtEnd, Sends}
+use Rattle.zfpi.proofs.Causes.{IsIdle-same}
 use Rattle.zfpi.proofs.Loading.{ComesFirst, by_first}
 use Rattle.zfpi.proofs.Promises.{IsRefusal, opened_first_array, IsPossible-behaves}
 
@@ -183,16 +184,23 @@ module _ (c : Command) (status ended : Status) (unsaved : IsSentAfter c) where
         | inr failed ↦ subst (λ s. Behaves c s before (seen src now shelf)) (sym failed.0) (unsent c status before (seen src now shelf) unsaved failed.1 stayed)
       ]
 
+  idle_sent : (m n : ℕ) {Failed : Type 0} → IsIdle ((meaning c).reads status) m n → EndsSent status ended Failed → IsIdle ((meaning c).reads ended) m n
+  idle_sent m n idle ends = elim ends [
+    | inl same ↦ subst (λ s. IsIdle ((meaning c).reads s) m n) (sym same) idle
+    | inr failed ↦ subst (λ s. IsIdle ((meaning c).reads s) m n) (sym failed.0) (reads_cut c unsaved status m n idle)
+  ]
+
+  -- how often it saw the end of its source
+  pub StopsAtEnd-sent : (m n : ℕ) {k l : ℕ} {before now : Option (List ℕ)} {Flushed : Type 0} → StopsAtEnd ((meaning c).reads status) m n → HandsOn status ended before now k l Flushed → StopsAtEnd ((meaning c).reads ended) m n
+  StopsAtEnd-sent m n stops sent = record { once = stops.once; unused = idle_sent m n stops.unused sent.ends }
+
   -- its causes
   pub HasCauses-sent : (src src_now out mid now : ℕ) {before after : Option (List ℕ)} {Sure Still Flushed : Type 0} → HasCauses c status (counts src out) (counts src_now mid) Sure Still → HandsOn status ended before after mid now Flushed
       → HasCauses c ended (counts src out) (counts src_now now) Sure Still
   HasCauses-sent src src_now out mid now {before} {after} {Sure} {Still} causes sent = record {
     reading = (causes.reading.0, λ is. by_read sent.ends is);
     writing = (omega (arith, causes.writing.0, sent.kept), λ is. by_write sent.ends is);
-    no_reading = elim sent.ends [
-      | inl same ↦ subst (λ s. IsIdle ((meaning c).reads s) src src_now) (sym same) causes.no_reading
-      | inr failed ↦ subst (λ s. IsIdle ((meaning c).reads s) src src_now) (sym failed.0) (reads_cut c unsaved status src src_now causes.no_reading)
-    ];
+    no_reading = idle_sent src src_now causes.no_reading sent.ends;
     no_writing = writes_used c unsaved out now;
     sure = λ sure. (λ is. no_read sent.ends (causes.sure sure).0 is, (causes.sure sure).1);
   }

@@ -6,6 +6,7 @@ mod Exposed
 mod Streaming
 mod Heading
 mod Causes
+mod Stopping
 mod Stepping
 mod Ends
 mod Promises

@@ -1,5 +1,5 @@
 -- What a command on a script promises on each rung of its way, from what the calls there answer.
-use Rattle.std.proofs.Common.{◌≡◌, ◌≢◌, ℕ, ◌≤◌, ◌&&◌, Bool, true, false, List, length, Option, Some, None, inl, inr, refl, ap, sym, subst, ◌∙◌, arith}
+use Rattle.std.proofs.Common.{◌≡◌, ◌≢◌, ℕ, ◌+◌, ◌≤◌, ◌&&◌, Bool, true, false, List, length, Option, Some, None, inl, inr, refl, ap, sym, subst, ◌∙◌, arith}
 use Rattle.std.specs.Prelude.{count_by}
 use Rattle.zf_dev.specs.Faults.{Rose, IsQuiet, HasCause}
 use Rattle.zf_dev.specs.Source.{Takes, IsAtEnd, TakesMoreThan, TakesSome}
@@ -40,6 +40,7 @@ use Rattle.zfpi.specs.Rungs.{WorksOn, Answers, Closes}
 use Rattle.zfpi.proofs.Opening.{array_in-header, stream_in-header, array_in-no_rate}
 use Rattle.zfpi.proofs.Causes.{IsIdle-used, HasCauses-refused, HasCauses-taken, HasCauses-untaken, HasCauses-wrote, reads_take}
 use Rattle.zfpi.proofs.Stepping.{SavesOnce-none, SavesOnce-take}
+use Rattle.zfpi.proofs.Stopping.{StopsAtEnd-same, StopsAtEnd-used}
 use Rattle.zfpi.proofs.Loading.{ComesFirst, Behaves-starved, Behaves-refused}
 use Rattle.zfpi.proofs.Scripting.{by_lines, by_end, IsScripted-on, Behaves-untaken, Behaves-closed, Behaves-cut_script}
 use Rattle.zfpi.proofs.HandedOn.{Behaves-stays, cut_sent, IsSent-later, IsSent-cut}
@@ -100,18 +101,20 @@ module _ {A B C : Type 0} {S : Source A} {O : Sink B} {F : Shelf C} (access : Ac
               (Behaves-starved c name (reading_of access) loading (S.contents src) (O.contents out) known (F.files shelf) kept)
         ];
         causes = HasCauses-refused c status (S.faults src) (O.faults out) r.no_read r.no_write;
+        stops = StopsAtEnd-same ((meaning c).reads status) (S.ends_seen src);
         once = SavesOnce-none F.saves F.faults c status shelf r.undone r.no_load;
         sent = λ flushed why. flushed;
         still = λ sure. sure;
       }
 
   -- the script was read to its end, and the rest answers it
-  pub WorksOn-taken : (script : List ℕ) (status : Status) (src src_now : A) (out out_now : B) (shelf shelf_now : C) → Takes (S.contents src) (S.contents src_now) script → IsAtEnd (S.contents src_now) → length script ≤ 16777216 → S.faults src ≤ S.faults src_now
+  pub WorksOn-taken : (script : List ℕ) (status : Status) (src src_now : A) (out out_now : B) (shelf shelf_now : C) → Takes (S.contents src) (S.contents src_now) script → IsAtEnd (S.contents src_now) → length script ≤ 16777216 → S.faults src ≤ S.faults src_now → S.ends_seen src_now ≤ S.ends_seen src + 1
       → (S.never_fails src → S.never_fails src_now) → Answers O F (command_on access name) name file script status out out_now shelf shelf_now → WorksOn O F S (command_on access name) name file status src src_now out out_now shelf shelf_now
-  WorksOn-taken script status src src_now out out_now shelf shelf_now takes end most rose sure a = record {
+  WorksOn-taken script status src src_now out out_now shelf shelf_now takes end most rose seen sure a = record {
     behaves = λ known holds kept. a.behaves known (S.contents src) (S.contents src_now) holds kept takes end most;
     causes = HasCauses-taken (command_on access name) status (S.faults src) (S.faults src_now) (O.faults out) (O.faults out_now) rose
         (IsIdle-used ((meaning (command_on access name)).reads status) (S.faults src) (S.faults src_now) a.read) sure (a.causes (S.faults src));
+    stops = StopsAtEnd-used ((meaning (command_on access name)).reads status) (S.ends_seen src) (S.ends_seen src_now) a.read seen;
     once = a.once;
     sent = λ flushed. a.sent;
     still = a.still;
@@ -119,14 +122,15 @@ module _ {A B C : Type 0} {S : Source A} {O : Sink B} {F : Shelf C} (access : Ac
 
   -- it was not
   pub WorksOn-untaken : (s : Subject) (stands : StandsFor s access file) (e : TakeError) (src src_now : A) (out : B) (shelf : C) → (e ≡ taking.Long → TakesMoreThan (S.contents src) (S.contents src_now) 16777216) → TakesSome (S.contents src) (S.contents src_now)
-      → HasCause (e ≡ taking.Failed) (S.faults src) (S.faults src_now) → (S.never_fails src → (e ≢ taking.Failed) × S.never_fails src_now)
+      → HasCause (e ≡ taking.Failed) (S.faults src) (S.faults src_now) → S.ends_seen src_now ≤ S.ends_seen src + 1 → (S.never_fails src → (e ≢ taking.Failed) × S.never_fails src_now)
       → WorksOn O F S (command_on access name) name file (take_status e) src src_now out out shelf shelf
-  WorksOn-untaken s stands e src src_now out shelf long took cause sure =
+  WorksOn-untaken s stands e src src_now out shelf long took cause seen sure =
       let c = command_on access name in
       let is = IsScripted-on access name in
       record {
         behaves = λ known holds kept. Behaves-untaken c name (reading_of access) (answers_of access) (file_of access) is known (F.files shelf) file stands.said holds stands.opened kept e (S.contents src) (S.contents src_now) (O.contents out) long took;
         causes = HasCauses-untaken c e (S.faults src) (S.faults src_now) (O.faults out) (is.reads_script_by (take_status e) ∙ reads_take e) cause sure;
+        stops = StopsAtEnd-used ((meaning c).reads (take_status e)) (S.ends_seen src) (S.ends_seen src_now) (is.reads_script_by (take_status e) ∙ reads_take e) seen;
         once = SavesOnce-take F.saves F.faults c e shelf;
         sent = λ flushed why. flushed;
         still = λ sure. sure;

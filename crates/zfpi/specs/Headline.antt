@@ -1,5 +1,5 @@
 -- What the program promises of every command: the words of the contract of the top call. No command is named here but in `back`.
-use Rattle.std.specs.Prelude.{ℕ, ◌≡◌, ◌≢◌, ◌<◌, ◌≤◌, ◌⊎◌, Bool, true, false, List, [], ◌∷◌, length, Option, Some, None, codes, All}
+use Rattle.std.specs.Prelude.{ℕ, ◌+◌, ◌≡◌, ◌≢◌, ◌<◌, ◌≤◌, ◌⊎◌, Bool, true, false, List, [], ◌∷◌, length, Option, Some, None, codes, All}
 use Rattle.zf_header.specs.declared.header.Header.{Header}
 use Rattle.zf_header.specs.declared.header.Mode.TheVariants.{Reversible}
 use Rattle.zf_header.specs.HeaderBits.{IsHeader}
@@ -81,6 +81,11 @@ pub record HasCauses (c : Command) (status : Status) (before now : Counts) (Sure
   pub no_reading : IsIdle ((meaning c).reads status) before.src now.src
   pub no_writing : IsIdle (meaning c).writes before.out now.out
   pub sure : Sure → (status ≢ ReadFault) × Still
+
+-- nothing was read behind the end that was seen: it was seen once more at most, and not at all where the source was not used
+pub record StopsAtEnd (used : Bool) (before now : ℕ) : Type 0 where
+  pub once : now ≤ before + 1
+  pub unused : IsIdle used before now
 
 -- all that was written was handed on, unless the sink failed before the work was done
 abbrev pub IsSent : Status → Type 0 → Type 0 → Type 0

@@ -15,7 +15,7 @@ use Rattle.zfpi.specs.Answer.{meaning}
 use Rattle.zfpi.specs.Scripts.{max_script}
 use Rattle.zfpi.specs.Steps.{is_work_done, Makes, SavesOnce}
 use Rattle.zfpi.specs.Loaded.{HoldsFile}
-use Rattle.zfpi.specs.Headline.{Saves, Behaves, HasCauses, IsSent}
+use Rattle.zfpi.specs.Headline.{Saves, Behaves, HasCauses, StopsAtEnd, IsSent}
 
 module _ {B C : Type 0} (O : Sink B) (F : Shelf C) where
   -- the file of this name that was loaded has these bytes, and the rest of the command did what the command does with it
@@ -23,6 +23,7 @@ module _ {B C : Type 0} (O : Sink B) (F : Shelf C) where
     pub behaves : (known : Option Files) → HoldsFile known name file → KeepsFiles known (F.files shelf)
         → Behaves c status (seen (S.contents src) (O.contents out) known) (seen (S.contents src_now) (O.contents out_now) (F.files shelf_now))
     pub causes : HasCauses c status (counts (S.faults src) (O.faults out)) (counts (S.faults src_now) (O.faults out_now)) (S.never_fails src) (S.never_fails src_now)
+    pub stops : StopsAtEnd ((meaning c).reads status) (S.ends_seen src) (S.ends_seen src_now)
     pub once : SavesOnce F.saves F.faults c status shelf shelf_now
     pub sent : O.is_flushed out → IsSent status (IsQuiet (O.faults out) (O.faults out_now)) (O.is_flushed out_now)
     pub still : F.never_fails shelf → F.never_fails shelf_now

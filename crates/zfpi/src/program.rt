@@ -6,7 +6,7 @@ ghost use Rattle.zfpi.specs.Statuses.{error_line};
 ghost use Rattle.zfpi.specs.World.{seen, counts};
 ghost use Rattle.zfpi.specs.Answer.{meaning};
 ghost use Rattle.zfpi.specs.Steps.{Steps};
-ghost use Rattle.zfpi.specs.Headline.{OfCommand, OnUsage, RefusesWords, Behaves, HasCauses, IsSent, AreQuiet, IsComplete, GivesBack, Sends};
+ghost use Rattle.zfpi.specs.Headline.{OfCommand, OnUsage, RefusesWords, Behaves, HasCauses, StopsAtEnd, IsSent, AreQuiet, IsComplete, GivesBack, Sends};
 
 use crate::command::{Access, Command};
 use crate::commands::bound::bound;
@@ -43,6 +43,9 @@ pub fn zfpi<S: Source, O: Sink, E: Sink, F: Shelf>(
     ensures causes { OfCommand (map string_bytes words.now) (λ c. HasCauses c result
         (counts (S.faults src.old) (O.faults out.old)) (counts (S.faults src.new) (O.faults out.new))
         (S.never_fails src.old) (S.never_fails src.new)) }
+    // Nothing is read behind the end that was seen.
+    ensures stops { OfCommand (map string_bytes words.now) (λ c.
+        StopsAtEnd ((meaning c).reads result) (S.ends_seen src.old) (S.ends_seen src.new)) }
     ensures steps { OfCommand (map string_bytes words.now) (λ c. Steps F.loads F.saves F.faults c result shelf.old shelf.new) }
     ensures sure_shelf { F.never_fails shelf.old → (result ≢ Status.LoadFault) × F.never_fails shelf.new }
     // What was written was handed on where the work was done, and where the sink did not fail.
@@ -79,6 +82,8 @@ fn answer<S: Source, O: Sink, F: Shelf>(
     ensures causes { OfCommand (map string_bytes words.now) (λ c. HasCauses c result
         (counts (S.faults src.old) (O.faults out.old)) (counts (S.faults src.new) (O.faults out.new))
         (S.never_fails src.old) (S.never_fails src.new)) }
+    ensures stops { OfCommand (map string_bytes words.now) (λ c.
+        StopsAtEnd ((meaning c).reads result) (S.ends_seen src.old) (S.ends_seen src.new)) }
     ensures steps { OfCommand (map string_bytes words.now) (λ c. Steps F.loads F.saves F.faults c result shelf.old shelf.new) }
     ensures sure_shelf { F.never_fails shelf.old → (result ≢ Status.LoadFault) × F.never_fails shelf.new }
     ensures sent { O.is_flushed out.old → IsSent result (IsQuiet (O.faults out.old) (O.faults out.new)) (O.is_flushed out.new) }
@@ -104,6 +109,7 @@ fn do_command<S: Source, O: Sink, F: Shelf>(
     ensures causes { HasCauses command result
         (counts (S.faults src.old) (O.faults out.old)) (counts (S.faults src.new) (O.faults out.new))
         (S.never_fails src.old) (S.never_fails src.new) }
+    ensures stops { StopsAtEnd ((meaning command).reads result) (S.ends_seen src.old) (S.ends_seen src.new) }
     ensures steps { Steps F.loads F.saves F.faults command result shelf.old shelf.new }
     ensures sure_shelf { F.never_fails shelf.old → (result ≢ Status.LoadFault) × F.never_fails shelf.new }
     ensures sent { O.is_flushed out.old → IsSent result (IsQuiet (O.faults out.old) (O.faults out.new)) (O.is_flushed out.new) }

@@ -4,7 +4,8 @@ ghost use Rattle.std.specs.Prelude.{Option};
 ghost use Rattle.zf_dev.specs.Shelf.{Files};
 ghost use Rattle.zfpi.specs.declared.command.Command.TheVariants.{Info};
 ghost use Rattle.zfpi.specs.World.{seen, counts};
-ghost use Rattle.zfpi.specs.Headline.{Behaves, HasCauses};
+ghost use Rattle.zfpi.specs.Answer.{meaning};
+ghost use Rattle.zfpi.specs.Headline.{Behaves, HasCauses, StopsAtEnd};
 
 use crate::commands::line::info_line;
 use crate::status::Status;
@@ -17,6 +18,7 @@ pub fn info<S: Source, O: Sink>(src: &mut S, out: &mut O) -> Status
     ensures causes { HasCauses Info result
         (counts (S.faults src.old) (O.faults out.old)) (counts (S.faults src.new) (O.faults out.new))
         (S.never_fails src.old) (S.never_fails src.new) }
+    ensures stops { StopsAtEnd ((meaning Info).reads result) (S.ends_seen src.old) (S.ends_seen src.new) }
 {
     match zf_stream::read_header(src) {
         Ok((header, bits)) => {

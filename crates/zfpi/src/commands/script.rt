@@ -11,7 +11,8 @@ ghost use Rattle.zfpi.specs.Subjects.{subject, IsFresh, HasRoom};
 ghost use Rattle.zfpi.specs.Loaded.{StandsFor};
 ghost use Rattle.zfpi.specs.Steps.{Steps};
 ghost use Rattle.zfpi.specs.Rungs.{WorksOn, Answers};
-ghost use Rattle.zfpi.specs.Headline.{Behaves, HasCauses, IsSent};
+ghost use Rattle.zfpi.specs.Answer.{meaning};
+ghost use Rattle.zfpi.specs.Headline.{Behaves, HasCauses, StopsAtEnd, IsSent};
 
 use crate::command::Access;
 use crate::commands::kinds::in_kind;
@@ -43,6 +44,8 @@ pub fn script<S: Source, O: Sink, F: Shelf>(
     ensures causes { HasCauses (command_on access name.now) result
         (counts (S.faults src.old) (O.faults out.old)) (counts (S.faults src.new) (O.faults out.new))
         (S.never_fails src.old) (S.never_fails src.new) }
+    ensures stops { StopsAtEnd ((meaning (command_on access name.now)).reads result)
+        (S.ends_seen src.old) (S.ends_seen src.new) }
     ensures steps { Steps F.loads F.saves F.faults (command_on access name.now) result shelf.old shelf.new }
     ensures sent { O.is_flushed out.old
         → IsSent result (IsQuiet (O.faults out.old) (O.faults out.new)) (O.is_flushed out.new) }

@@ -61,9 +61,12 @@ impl Ended {
         self.shelf.file("a") == Some(file) && self.shelf.file("kept") == Some(KEPT)
     }
 
-    /// Whether the call ended as its row says, but for what is written.
+    /// Whether the call ended as its row says, but for what is written, and saw the end of its input once at most.
     pub fn is_as_said(&self, row: &Row) -> bool {
-        self.status == row.status && self.err.bytes() == row.line && self.holds(row.after)
+        self.status == row.status
+            && self.err.bytes() == row.line
+            && self.holds(row.after)
+            && self.src.ends() <= 1
     }
 
     /// How many calls of the devices failed.

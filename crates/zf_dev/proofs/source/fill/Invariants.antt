@@ -7,6 +7,7 @@ invariant-loop-filled g l = record {
   in_range : l.filled ≤ length l.buf;
   taken : Takes (g.S.Source.contents l.initial.src) (g.S.Source.contents l.src) (take l.filled l.buf);
   gave : Gives (g.S.Source.gave l.initial.src) (g.S.Source.gave l.src) (take l.filled l.buf);
+  unseen : g.S.Source.ends_seen l.src ≤ g.S.Source.ends_seen l.initial.src;
   rest : drop l.filled l.buf ≡ drop l.filled l.initial.buf;
   same : g.S.Source.faults l.src ≡ g.S.Source.faults l.initial.src;
   same_source : g.S.Source.kept l.src ≡ g.S.Source.kept l.initial.src;

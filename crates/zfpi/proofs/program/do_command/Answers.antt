@@ -1,8 +1,9 @@
-use Rattle.std.proofs.Common.{None, refl}
+use Rattle.std.proofs.Common.{false, None, refl}
 use Rattle.zfpi.specs.declared.command.Command.TheVariants.{Compress, CompressNarrow, Restore, RestoreNarrow, Info, Bound, Sample}
 use Rattle.zfpi.proofs.Causes.{HasCauses-sure}
 use Rattle.zfpi.proofs.Stepping.{Steps-none, Steps-sent}
-use Rattle.zfpi.proofs.HandedOn.{Behaves-sent, HasCauses-sent, IsSent-sent, IsShelfless-sent, unloaded_sent}
+use Rattle.zfpi.proofs.Stopping.{StopsAtEnd-same}
+use Rattle.zfpi.proofs.HandedOn.{Behaves-sent, HasCauses-sent, StopsAtEnd-sent, IsSent-sent, IsShelfless-sent, unloaded_sent}
 use Rattle.zfpi.proofs.program.do_command.Goals as goal
 
 pub returns-in-Compress-clause-behaves : goal.returns-in-Compress-clause-behaves
@@ -136,3 +137,33 @@ returns-in-New-clause-steps g c = rw c.in-New.is c.new.ensures.steps
 
 pub returns-in-Run-clause-steps : goal.returns-in-Run-clause-steps
 returns-in-Run-clause-steps g c = rw c.in-Run.is c.script.ensures.steps
+
+pub returns-in-Compress-clause-stops : goal.returns-in-Compress-clause-stops
+returns-in-Compress-clause-stops g c = rw c.in-Compress.is (StopsAtEnd-sent (Compress c.in-Compress.header) c.compress.result c.send.result tt _ _ c.compress.ensures.stops c.send.ensures)
+
+pub returns-in-CompressNarrow-clause-stops : goal.returns-in-CompressNarrow-clause-stops
+returns-in-CompressNarrow-clause-stops g c = rw c.in-CompressNarrow.is (StopsAtEnd-sent (CompressNarrow c.in-CompressNarrow.narrow c.in-CompressNarrow.header) c.compress_narrow.result c.send-in-CompressNarrow.result tt _ _ c.compress_narrow.ensures.stops c.send-in-CompressNarrow.ensures)
+
+pub returns-in-Restore-clause-stops : goal.returns-in-Restore-clause-stops
+returns-in-Restore-clause-stops g c = rw c.in-Restore.is (StopsAtEnd-sent Restore c.restore.result c.send-in-Restore.result tt _ _ c.restore.ensures.stops c.send-in-Restore.ensures)
+
+pub returns-in-RestoreNarrow-clause-stops : goal.returns-in-RestoreNarrow-clause-stops
+returns-in-RestoreNarrow-clause-stops g c = rw c.in-RestoreNarrow.is (StopsAtEnd-sent (RestoreNarrow c.in-RestoreNarrow.narrow) c.restore_narrow.result c.send-in-RestoreNarrow.result tt _ _ c.restore_narrow.ensures.stops c.send-in-RestoreNarrow.ensures)
+
+pub returns-in-Info-clause-stops : goal.returns-in-Info-clause-stops
+returns-in-Info-clause-stops g c = rw c.in-Info.is (StopsAtEnd-sent Info c.info.result c.send-in-Info.result tt _ _ c.info.ensures.stops c.send-in-Info.ensures)
+
+pub returns-in-Look-clause-stops : goal.returns-in-Look-clause-stops
+returns-in-Look-clause-stops g c = rw c.in-Look.is c.script-in-Look.ensures.stops
+
+pub returns-in-Bound-clause-stops : goal.returns-in-Bound-clause-stops
+returns-in-Bound-clause-stops g c = rw c.in-Bound.is (StopsAtEnd-same false _)
+
+pub returns-in-Sample-clause-stops : goal.returns-in-Sample-clause-stops
+returns-in-Sample-clause-stops g c = rw c.in-Sample.is (StopsAtEnd-same false _)
+
+pub returns-in-New-clause-stops : goal.returns-in-New-clause-stops
+returns-in-New-clause-stops g c = rw c.in-New.is (StopsAtEnd-same false _)
+
+pub returns-in-Run-clause-stops : goal.returns-in-Run-clause-stops
+returns-in-Run-clause-stops g c = rw c.in-Run.is c.script.ensures.stops

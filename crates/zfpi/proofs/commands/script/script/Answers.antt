@@ -1,6 +1,8 @@
 use Rattle.std.proofs.Common.{ap, Err}
 use Rattle.zfpi.specs.Accesses.{command_on, reading_of}
+use Rattle.zfpi.specs.Answer.{meaning}
 use Rattle.zfpi.proofs.Causes.{HasCauses-unloaded}
+use Rattle.zfpi.proofs.Stopping.{StopsAtEnd-same}
 use Rattle.zfpi.proofs.Stepping.{Steps-saved, Steps-unloaded}
 use Rattle.zfpi.proofs.Loading.{Behaves-unloaded}
 use Rattle.zfpi.proofs.Scripting.{IsScripted-on, loads-on}
@@ -43,3 +45,9 @@ pub returns-in-Err-clause-sure_shelf : goal.returns-in-Err-clause-sure_shelf
 returns-in-Err-clause-sure_shelf g c = λ sure.
     let loaded = c.in-Err.ensures.sure sure in
     rw c.from.ensures (unloaded_status c.in-Err.error (λ is. loaded.0 (ap Err is)), loaded.1)
+
+pub returns-in-Ok-clause-stops : goal.returns-in-Ok-clause-stops
+returns-in-Ok-clause-stops g c = c.on_file.ensures.stops
+
+pub returns-in-Err-clause-stops : goal.returns-in-Err-clause-stops
+returns-in-Err-clause-stops g c = StopsAtEnd-same ((meaning (command_on c.args.access c.args.name.now)).reads c.from.result) _
