@@ -14,7 +14,7 @@ use Rattle.zf_cached.specs.Replies.{Reply, reply_text}
 use Rattle.zf_cached.specs.Steps.{Setting, Session}
 use Rattle.zf_cached.specs.Runs.{lines_of, line_step, run_lines, replies_text}
 use Rattle.zf_cached.proofs.Runs.{run_lines-append}
-use Rattle.zf_commands.specs.Steps.{LeadsTo, starves, is_refusal}
+use Rattle.zf_commands.specs.Steps.{LeadsTo, starves, is_starved, is_refusal}
 use Rattle.zf_commands.specs.Lines.{refuses, Replies, Breaks}
 use Rattle.zf_commands.specs.Runs.{number_if, starved_lines, AreStarved, AllRun, HasStopped}
 
@@ -266,3 +266,29 @@ at_most_one false = omega arith
 pub of_error : {X E P : Type 0} (r : Result X E) → P → OnErr r P
 of_error (Ok x) p = tt
 of_error (Err e) p = p
+
+-- ---- the lines that are out of memory are as many as say so
+
+count-starved : (reply : Option Reply) (k : ℕ) → count_by is_starved (option_to_list reply) ≡ length (number_if (starves reply) k)
+count-starved None k = refl
+count-starved (Some reply) k = by (is_starved reply)
+  where
+    by : (b : Bool) → 0 + cond b 1 0 ≡ length (number_if b k)
+    by true = refl
+    by false = refl
+
+pub starved-counted : {Code : Type 0} (setting : Setting Code) (starved : List ℕ) (k : ℕ) (lines : List (List ℕ)) (s : Session Code)
+    → length (starved_lines setting starved k lines s) ≡ count_by is_starved (run_lines setting starved k lines s).1
+unfolding run_lines starved_lines
+starved-counted setting starved k [] s = refl
+starved-counted setting starved k (line ∷ lines) s =
+    let one = line_step setting s line (listed starved k) in
+    let rest = run_lines setting starved (suc k) lines one.0 in
+    let behind = starved_lines setting starved (suc k) lines one.0 in
+    omega (
+      arith,
+      count_by-append is_starved (option_to_list one.1) rest.1,
+      count-starved one.1 k,
+      length-append (number_if (starves one.1) k) behind,
+      starved-counted setting starved (suc k) lines one.0,
+    )

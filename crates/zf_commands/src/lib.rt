@@ -4,6 +4,7 @@
 mod blocks;
 mod changes;
 mod commands;
+pub mod laws;
 mod lines;
 mod target;
 mod values;
