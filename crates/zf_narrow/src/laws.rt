@@ -2,7 +2,6 @@
 
 ghost use Rattle.std.specs.Prelude.{◌≡◌, ◌<◌, ◌≤◌, ◌%◌, ℕ, ℤ, ◌-ℤ◌, unsigned_abs, List, length, Ok, All, FitsSigned};
 ghost use Rattle.std.specs.Int.{w32};
-ghost use Rattle.zf_spec.specs.Numbers.{AreValues};
 ghost use Rattle.zf_narrow.specs.declared.narrow.Narrow.{Narrow};
 ghost use Rattle.zf_base.specs.declared.lane.Ty.TheVariants as types;
 ghost use Rattle.zf_header.specs.declared.header.Header.{Header};
@@ -43,7 +42,7 @@ pub fn raw_bytes_come_back()
 /// What is restored of a good stream of int32 values are the numbers that its values stand for.
 pub fn restored_values_stand_for_numbers()
     ensures { (n : Narrow) (bytes : List ℕ) (said : Said) → parse bytes ≡ Ok said → said.header.ty ≡ types.I32
-        → AreValues w32 said.values → narrow_restored n bytes ≡ raw_narrow n said.values }
+        → narrow_restored n bytes ≡ raw_narrow n said.values }
 {}
 
 /// A reversible stream of narrow values is good, and restores exactly the bytes that it was made of.
