@@ -1,5 +1,5 @@
 -- Each command that is not refused, and the refusals of each.
-use Rattle.std.proofs.Common.{◌≡◌, refl, sym, ap, subst, ◌∙◌, ℕ, zero, suc, ◌<◌, ◌≤◌, ℤ, ◌+ℤ◌, Bool, true, false, not, ◌&&◌, ltb, lt-ltb, ltb-true, ◌⊎◌, inl, inr, List, length, set, Option, Some, None, if◌then◌else◌, arith}
+use Rattle.std.proofs.Common.{◌≡◌, refl, sym, ap, subst, ◌∙◌, ℕ, zero, suc, ◌<◌, ◌≤◌, ℤ, ◌+ℤ◌, Bool, true, false, not, ◌&&◌, ltb, lt-ltb, ltb-true, ◌⊎◌, inl, inr, List, length, Option, Some, None, if◌then◌else◌, arith}
 use Rattle.std.proofs.lemmas.Bool.{and_from, and_parts}
 use Rattle.std.specs.Int.{Width}
 use Rattle.zf_spec.specs.Numbers.{wrap}

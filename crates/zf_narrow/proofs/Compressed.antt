@@ -2,14 +2,14 @@
 use Rattle.std.proofs.Common.{◌≡◌, refl, sym, ap, subst, ◌∙◌, ℕ, ◌+◌, ◌*◌, ◌/◌, ◌%◌, ◌≤◌, ◌<◌, ◌⊎◌, inl, inr, ⊎_elim, Bool, true, false, IsTrue, List, [], ◌++◌, length, drop, replicate, Option, Some, None, Result, Ok, Err, append-nil, length-append, arith}
 use Rattle.std.specs.Prelude.{IsErrAnd}
 use Rattle.std.proofs.lemmas.Bool.{cases_lt}
-use Rattle.std.proofs.lemmas.List.{append_cancel_right, drop_all, length-drop, length-replicate}
+use Rattle.std.proofs.lemmas.List.{drop_all, length-drop, length-replicate}
 use Rattle.std.specs.Int.{byte_len}
 use Rattle.zf_spec.specs.Grid.{product}
 use Rattle.zf_base.specs.Widths.{width_of}
 use Rattle.zf_base.specs.declared.lane.Ty.{Ty}
 use Rattle.zf_base.specs.declared.lane.Ty.TheVariants.{I32}
 use Rattle.zf_header.specs.declared.header.Header.{Header}
-use Rattle.zf_dev.specs.Source.{Takes, TakesMoreThan, Gives, IsAtEnd}
+use Rattle.zf_dev.specs.Source.{Takes, Gives, IsAtEnd}
 use Rattle.zf_dev.specs.Sink.{Appends, AppendsPrefix}
 use Rattle.zf_dev.proofs.Taking.{Takes-to_end}
 use Rattle.zf_parse.specs.declared.fault.StreamFault.{StreamFault}

@@ -1,9 +1,8 @@
 -- One read of a promotion, as the log of what was given sees it.
-use Rattle.std.proofs.Common.{◌≡◌, refl, sym, ap, subst, ◌∙◌, ℕ, ◌<◌, Bool, true, false, IsTrue, List, [], ◌++◌, length, drop, replicate, Option, append_assoc, append-nil, arith}
+use Rattle.std.proofs.Common.{◌≡◌, refl, sym, ap, ◌∙◌, ℕ, ◌<◌, Bool, true, false, IsTrue, List, ◌++◌, length, drop, replicate, Option, append_assoc, append-nil, arith}
 use Rattle.std.specs.Prelude.{◌↔◌}
 use Rattle.std.proofs.lemmas.List.{drop_all, nil_from_length}
 use Rattle.zf_dev.specs.Source.{Gives}
-use Rattle.zf_narrow.specs.declared.narrow.Narrow.{Narrow}
 use Rattle.zf_narrow.specs.declared.promotion.Promotion.{Promotion}
 use Rattle.zf_narrow.specs.RawNarrow.{promoted_bytes}
 use Rattle.zf_narrow.specs.Promoting.{listed}

@@ -1,5 +1,5 @@
 -- The nearest number, and what is restored by values.
-use Rattle.std.proofs.Common.{◌≡◌, ap, subst, ◌∙◌, ℕ, ◌/◌, ◌≤◌, ℤ, pos, negsuc, ◌+ℤ◌, ◌-ℤ◌, ◌≤ℤ◌, ◌<ℤ◌, unsigned_abs, List, length, Ok, arith}
+use Rattle.std.proofs.Common.{◌≡◌, ap, subst, ◌∙◌, ℕ, ◌/◌, ◌≤◌, ℤ, ◌-ℤ◌, unsigned_abs, List, length, Ok, arith}
 use Rattle.std.proofs.lemmas.Int.{ints, clamps}
 use Rattle.std.specs.Int.{w32}
 use Rattle.zf_spec.specs.Numbers.{AreValues}

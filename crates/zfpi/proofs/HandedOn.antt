@@ -22,7 +22,6 @@ use Rattle.zfpi.proofs.Ends.{IsPossible}
 use Rattle.zfpi.specs.Sending.{IsDone, EndsSent, HandsOn}
 use Rattle.zfpi.specs.Steps.{is_work_done, IsShelfless}
 use Rattle.zfpi.specs.Headline.{IsSent, Writes, Saves, Behaves, HasCauses, IsIdle, StopsAtEnd, Sends}
-use Rattle.zfpi.proofs.Causes.{IsIdle-same}
 use Rattle.zfpi.proofs.Loading.{ComesFirst, by_first}
 use Rattle.zfpi.proofs.Promises.{IsRefusal, opened_first_array, IsPossible-behaves}
 

@@ -1,7 +1,7 @@
 use Rattle.std.proofs.Common.{rules, ◌≡◌, ◌∙◌, ap, length, take, [], IsTrue, arith}
 use Rattle.zf_stream.proofs.OnErrors.{on_err}
 use Rattle.zf_narrow.proofs.Reading.{all_given, half_read}
-use Rattle.zf_narrow.proofs.Given.{gives_pending, gives_all, gives_half}
+use Rattle.zf_narrow.proofs.Given.{gives_all, gives_half}
 use Rattle.zf_narrow.proofs.promotion.Promotion.read.Goals as goal
 
 pub returns-in_err-count-clause-ungiven : goal.returns-in_err-count-clause-ungiven
