@@ -12,7 +12,8 @@ PROGRAM is the built program, by default crates/zfpi/out/zfpi. Outside the gate;
 - tables behind a line `<!-- table: COMMAND -->`, which the command has to print, or a part of what it prints;
 - what CALLING quotes of contracts (docs/calling.py), and whether what the pages name is in the tree
   (docs/claims.py);
-- the manual page, by mandoc, where there is one, and the completion for bash (docs/complete.py).
+- the manual page, by mandoc, where there is one, and the completion for bash (docs/complete.py);
+- whether a lent slice that is kept across a call is refused (docs/lent.py), where there is `rt`.
 
 A block, or a page, behind a line `<!-- needs: WORD.. -->` is left out where a program or a module of Python
 of such a name is lacking; the last line says how many commands that were. A block behind `<!-- not run: WHY
@@ -180,6 +181,15 @@ def completion(known):
     return Count(run=1, wrong=min(done.returncode, 1))
 
 
+def loans():
+    """Whether a lent slice that is kept across a call compiles."""
+    if shutil.which("rt") is None:
+        return Count(left_out=1)
+    done = run("python3 docs/lent.py", TOP, os.environ)
+    print(done.stdout if done.returncode else "", end="")
+    return Count(run=1, wrong=min(done.returncode, 1))
+
+
 def surroundings(folder, program):
     """The environment of the commands: the program as `zfpi`, and the system's Python."""
     shutil.copy(program, folder / "zfpi")
@@ -207,6 +217,7 @@ def main():
             names(),
             manual(),
             completion(known),
+            loans(),
         ]:
             total = total.plus(count)
     print(f"{total.run} commands, tables and looks, {total.wrong} wrong, {total.left_out} left out")
