@@ -3,7 +3,7 @@
 
     python3 docs/lent.py
 
-It adds a function that keeps one to a copy of crates/zfpi_uses, and looks for the error E0499, as of Rust. Needs `rt`; takes a
+It adds a function that keeps one to a copy of crates/zfpi_uses, and looks for the error borrow-e0499, which is the E0499 of Rust. Needs `rt`; takes a
 minute over what checks kept, and as long as the first check of the crates below where nothing is.
 """
 
@@ -44,7 +44,7 @@ def main():
         print("rt is not there")
         return
     said = refusal()
-    refused = "E0499" in said
+    refused = "borrow-e0499" in said
     print("E0499: a lent slice is not kept across a call" if refused else said)
     sys.exit(0 if refused else 1)
 
