@@ -3,8 +3,9 @@
 
     python3 docs/lent.py
 
-It adds a function that keeps one to a copy of crates/zfpi_uses, and looks for the error borrow-e0499, which is the E0499 of Rust. Needs `rt`; takes a
-minute over what checks kept, and as long as the first check of the crates below where nothing is.
+It adds a function that keeps one to a copy of crates/zfpi_uses, and looks for the error borrow-e0499, which is the E0499
+of Rust. Needs `rt`; takes a minute over what checks kept, and as long as a first check of the crates below where nothing
+is kept.
 """
 
 import pathlib
