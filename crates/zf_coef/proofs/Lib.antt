@@ -6,7 +6,8 @@
 --     Lanes        words that are swapped in lanes of two
 --     Turns        steps that together turn the tiles of words
 --     Putting      words of planes that are written plane by plane
---     Tiles        tiles of words that become planes, and planes that become tiles of words
+--     Halves       halves of digits that become planes, 32 at a time, and planes that become halves of digits
+--     Folded       sixteen digits that become planes, and planes that become sixteen digits, by way of folded rows
 --     Filling      a list that is filled from the front
 --     ByRank       the digits of a block by rank, and blocks that are filled by rank
 --     Transposed   planes that are made of coefficients, and coefficients that are made of planes
@@ -20,7 +21,8 @@ pub mod Steps
 pub mod Lanes
 pub mod Turns
 pub mod Putting
-pub mod Tiles
+pub mod Halves
+pub mod Folded
 pub mod Filling
 pub mod ByRank
 pub mod Transposed

@@ -9,7 +9,7 @@ use Rattle.zf_coef.specs.Turned.{bit_of, moved, swapped_low, swapped_high, IsSwa
 
 -- ---- bits of swapped words
 
-bit_at-moved : (s m a b i : ℕ) → bit_at (moved s m a b) i ≡ min ((bit_at a (s + i) + bit_at b i) % 2) (bit_at m i)
+pub bit_at-moved : (s m a b i : ℕ) → bit_at (moved s m a b) i ≡ min ((bit_at a (s + i) + bit_at b i) % 2) (bit_at m i)
 bit_at-moved s m a b i =
     bit_at_and (bit_xor (a / 2 ^ s) b) m i
     ∙ ap (λ x. min x (bit_at m i)) (bit_at_xor (a / 2 ^ s) b i ∙ ap (λ x. (x + bit_at b i) % 2) (bit_at-shr a s i))

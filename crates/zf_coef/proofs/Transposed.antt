@@ -16,7 +16,7 @@ use Rattle.std.proofs.lemmas.Nat.{pow_pos}
 use Rattle.std.proofs.lemmas.Nat.Bits.{same_from_bits_below}
 use Rattle.std.proofs.lemmas.List.Elements.{All-from_get_or, All-get_or}
 use Rattle.zf_coef.proofs.ShiftedBits.{bit_at-mod_pow, bit_at-mod_above}
-use Rattle.zf_coef.proofs.Tiles.{word_of-past}
+use Rattle.zf_coef.proofs.Halves.{word_of-past}
 use Rattle.zf_coef.specs.HeldDigits.{digits_in, column}
 use Rattle.zf_coef.specs.Turned.{bit_of}
 use Rattle.zf_coef.specs.Groups.{word_of, HoldsGroup, KeepsOthers, IsOfGroup}

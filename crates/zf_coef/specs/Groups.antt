@@ -1,7 +1,7 @@
 -- The digits of up to 64 coefficients, each a word, and the words of planes that have one digit of each.
 use Rattle.std.specs.Prelude.{ℕ, ◌+◌, ◌-◌, ◌%◌, ◌≡◌, ◌≢◌, ◌<◌, ◌≤◌, List, [], length, slice_index_or}
 use Rattle.std.specs.Int.{bit_at}
-use Rattle.zf_coef.specs.Turned.{bit_of}
+use Rattle.zf_coef.specs.Turned.{bit_of, folded_bit}
 
 -- the word of this number of plane k
 abbrev pub word_of : List (List ℕ) → ℕ → ℕ → ℕ
@@ -31,16 +31,16 @@ pub record HoldsFrom (count number from : ℕ) (words : List ℕ) (old new : Lis
   pub below : (k : ℕ) → k < from → word_of new number k ≡ word_of old number k
   pub above : (k : ℕ) → from + count ≤ k → word_of new number k ≡ word_of old number k
 
--- bit r of plane k is bit r of the tile of words that k lies in, word k mod n; there is no bit from n on
-pub record HoldsTiles (n number : ℕ) (words : List ℕ) (planes : List (List ℕ)) : Type 0 where
-  pub inside : (k r : ℕ) → k < length planes → r < n → bit_at (word_of planes number k) r ≡ bit_of words (k % n) (k - k % n + r)
-  pub outside : (k r : ℕ) → k < length planes → n ≤ r → bit_at (word_of planes number k) r ≡ 0
+-- bit r of plane `from + k`, for k below `to`, is place k - k mod 16 + r of the folded row k mod 16; there is no bit from 16 on
+pub record HoldsFolded (number from to : ℕ) (words : List ℕ) (planes : List (List ℕ)) : Type 0 where
+  pub inside : (k r : ℕ) → k < to → from + k < length planes → r < 16 → bit_at (word_of planes number (from + k)) r ≡ folded_bit words (k % 16) (k - k % 16 + r)
+  pub outside : (k r : ℕ) → k < to → from + k < length planes → 16 ≤ r → bit_at (word_of planes number (from + k)) r ≡ 0
 
 -- ---- the way back
 
--- bit b of word j is digit b mod n of the plane that is word j of the tile b lies in
-unfoldable pub AreTiles : ℕ → ℕ → List (List ℕ) → List ℕ → Type 0
-AreTiles n number planes words = (j b : ℕ) → j < n → b < 64 → bit_of words j b ≡ bit_at (word_of planes number (b - b % n + j)) (b % n)
+-- place k - k mod 16 + r of the folded row k mod 16 is bit r of plane `from + k`
+unfoldable pub IsFoldOf : ℕ → ℕ → List (List ℕ) → List ℕ → Type 0
+IsFoldOf number from planes words = (k r : ℕ) → k < 32 → r < 16 → folded_bit words (k % 16) (k - k % 16 + r) ≡ bit_at (word_of planes number (from + k)) r
 
 -- a word with 32 bits of another, those from bit `start` on, behind `from` zeros
 pub record IsMoved (start from old new : ℕ) : Type 0 where

@@ -56,3 +56,17 @@ IsStepped s old new = (j i : ℕ) → j < length old → i < 64 → bit_of new j
 -- the n words have tiles of n places side by side: bit i of a tile's word j comes from its word i, place j
 unfoldable pub IsTurned : ℕ → List ℕ → List ℕ → Type 0
 IsTurned n old new = (j i : ℕ) → j < n → i < 64 → bit_of new j i ≡ bit_of old (i % n) (i - i % n + j)
+
+-- ---- sixteen rows in eight words
+
+-- bit k of row r, below 32: a word has row r, and then the row that is 8 above it
+abbrev pub folded_bit : List ℕ → ℕ → ℕ → ℕ
+folded_bit words r k = bit_of words (r % 8) (r / 8 * 32 + k)
+
+-- the place i with its digits at 8 and at 32 changed
+abbrev pub crossed : ℕ → ℕ
+crossed i = i - i / 8 % 2 * 8 - i / 32 % 2 * 32 + i / 32 % 2 * 8 + i / 8 % 2 * 32
+
+-- the rows have tiles of sixteen places side by side: place k of a tile's row r comes from its row k, place r
+unfoldable pub IsFoldedTurned : List ℕ → List ℕ → Type 0
+IsFoldedTurned old new = (r k : ℕ) → r < 16 → k < 32 → folded_bit new r k ≡ folded_bit old (k % 16) (k - k % 16 + r)

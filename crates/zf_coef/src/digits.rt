@@ -5,12 +5,12 @@ ghost use Rattle.std.specs.Int.RustNames.{bit_or};
 ghost use Rattle.zf_spec.specs.Planes.{digits_in_planes};
 ghost use Rattle.zf_spec.specs.HeldPlanes.{planes_held};
 ghost use Rattle.zf_coef.specs.HeldDigits.{digits_in};
-ghost use Rattle.zf_coef.specs.Groups.{word_of, IsOfGroup, AreTiles, IsMoved};
-ghost use Rattle.zf_coef.specs.Turned.{bit_of};
+ghost use Rattle.zf_coef.specs.Groups.{word_of, IsOfGroup, IsFoldOf, IsMoved};
+ghost use Rattle.zf_coef.specs.Turned.{bit_of, folded_bit};
 ghost use Rattle.std.specs.Int.{bit_at};
 
-use crate::planes::{WORD_BITS, have_four_words};
-use crate::turning::{turn_16, turn_32};
+use crate::planes::{WORD_BITS, have_four_words, place_of_eight};
+use crate::turning::{turn_32, turn_folded};
 use zf_bits::Plane;
 
 /// The way back: writes the digits of as many coefficients as `digits` has words, at most 256, of at most 64
@@ -91,56 +91,74 @@ fn take_16<P: Plane>(planes: &[P], number: usize, digits: &mut [u64])
     requires digits { length digits.old ≡ 16 }
     ensures { IsOfGroup number (map P.words planes.now) digits.new }
 {
-    let mut words = tiles::<P, 16>(planes, number);
-    turn_16(&mut words);
-    digits.copy_from_slice(&words);
-}
-
-/// Planes as tiles: tile t of word j is the first digits of plane `N * t + j`.
-#[inline(always)]
-fn tiles<P: Plane, const N: usize>(planes: &[P], number: usize) -> [u64; N]
-    requires size { (N ≡ 4) ⊎ (N ≡ 16) }
-    requires number { number < P.word_count }
-    requires planes { length planes.now ≤ 64 }
-    ensures { AreTiles N number (map P.words planes.now) result }
-{
     // A number of planes that is known needs no loop.
     match planes.len() {
-        32 => tiles_to(planes, 32, number),
-        64 => tiles_to(planes, 64, number),
-        len => tiles_to(planes, len, number),
+        32 => join::<8>(&half_of_16(planes, 0, number), &[0; 8], digits),
+        64 => join::<8>(
+            &half_of_16(planes, 0, number),
+            &half_of_16(planes, 32, number),
+            digits,
+        ),
+        _ => take_16_of(planes, number, digits),
     }
 }
 
-/// The same of so many planes.
-#[inline(always)]
-fn tiles_to<P: Plane, const N: usize>(planes: &[P], len: usize, number: usize) -> [u64; N]
-    requires size { (N ≡ 4) ⊎ (N ≡ 16) }
-    requires len { len ≡ length planes.now }
+/// The same of planes of any number.
+#[cold]
+#[inline(never)]
+fn take_16_of<P: Plane>(planes: &[P], number: usize, digits: &mut [u64])
     requires number { number < P.word_count }
     requires planes { length planes.now ≤ 64 }
-    ensures { AreTiles N number (map P.words planes.now) result }
+    requires digits { length digits.old ≡ 16 }
+    ensures { IsOfGroup number (map P.words planes.now) digits.new }
 {
-    let whole = len / N;
-    let mut words = [0; N];
-    let last: [u64; N] = words_from(planes, whole * N, number);
-    put_tile_before(&mut words, &last);
-    for done in 0..whole {
-        let tile: [u64; N] = words_at(planes, (whole - 1 - done) * N, number);
-        put_tile_before(&mut words, &tile);
+    let low = half_of_16(planes, 0, number);
+    if planes.len() > 32 {
+        join::<8>(&low, &half_of_16(planes, 32, number), digits);
+    } else {
+        join::<8>(&low, &[0; 8], digits);
+    }
+}
+
+/// The 32 planes from `from` on, turned, of sixteen digits each. Planes past the end are zero.
+#[inline(always)]
+fn half_of_16<P: Plane>(planes: &[P], from: usize, number: usize) -> [u64; 8]
+    requires number { number < P.word_count }
+    requires from { (from ≤ length planes.now) × (from ≤ 32) }
+    ensures { (r k : ℕ) → r < 16 → k < 32 → folded_bit result r k ≡ bit_at (word_of (map P.words planes.now) number (from + k)) r }
+{
+    let mut words = folded_planes(planes, from, number);
+    turn_folded(&mut words);
+    words
+}
+
+/// The first sixteen digits of the 32 planes from `from` on, folded. Planes past the end are zero.
+#[inline(always)]
+fn folded_planes<P: Plane>(planes: &[P], from: usize, number: usize) -> [u64; 8]
+    requires number { number < P.word_count }
+    requires from { (from ≤ length planes.now) × (from ≤ 32) }
+    ensures { IsFoldOf number from (map P.words planes.now) result }
+{
+    let mut words = [0; 8];
+    for eight in 0..4 {
+        let first = from + 8 * eight;
+        if first < planes.len() {
+            let more = words_from(planes, first, number);
+            put_sixteen_bits(&mut words, &more, place_of_eight(eight));
+        }
     }
     words
 }
 
-/// Puts the first `N` bits of each word of a tile before all bits of the other words.
+/// Puts the first sixteen bits of each word of a tile into other words, at a place where these have none.
 #[inline(always)]
-fn put_tile_before<const N: usize>(words: &mut [u64; N], tile: &[u64; N])
-    requires size { (N ≡ 4) ⊎ (N ≡ 16) }
-    ensures { (j : ℕ) → j < N → slice_index_or words.new j 0
-        ≡ bit_or (slice_index_or words.old j 0 * 2 ^ N % 2 ^ 64) (slice_index_or tile.now j 0 % 2 ^ N) }
+fn put_sixteen_bits(words: &mut [u64; 8], tile: &[u64; 8], place: usize)
+    requires place { place ≤ 48 }
+    ensures { (j : ℕ) → j < 8 → slice_index_or words.new j 0
+        ≡ bit_or (slice_index_or words.old j 0) (slice_index_or tile.now j 0 % 2 ^ 16 * 2 ^ place % 2 ^ 64) }
 {
-    for j in 0..N {
-        words[j] = (words[j] << N) | (tile[j] & (u64::MAX >> (WORD_BITS - N)));
+    for j in 0..8 {
+        words[j] |= (tile[j] & 0xffff) << place;
     }
 }
 
@@ -197,7 +215,7 @@ fn take_64<P: Plane>(planes: &[P], number: usize, digits: &mut [u64])
 {
     // A number of planes that is known needs no loop.
     match planes.len() {
-        32 => join(&whole_half(planes, 0, number), &[0; 32], digits),
+        32 => join::<32>(&whole_half(planes, 0, number), &[0; 32], digits),
         64 => take_64_of_64(planes, number, digits),
         _ => take_64_of(planes, number, digits),
     }
@@ -215,7 +233,7 @@ fn take_64_of_64<P: Plane>(planes: &[P], number: usize, digits: &mut [u64])
     if are_zeros(planes, from + 32, number) {
         join_from(&whole_half(planes, from, number), from, digits);
     } else {
-        join(
+        join::<32>(
             &whole_half(planes, 0, number),
             &whole_half(planes, 32, number),
             digits,
@@ -265,9 +283,9 @@ fn take_64_of<P: Plane>(planes: &[P], number: usize, digits: &mut [u64])
 {
     let low = half(planes, 0, number);
     if planes.len() > 32 {
-        join(&low, &half(planes, 32, number), digits);
+        join::<32>(&low, &half(planes, 32, number), digits);
     } else {
-        join(&low, &[0; 32], digits);
+        join::<32>(&low, &[0; 32], digits);
     }
 }
 
@@ -296,19 +314,19 @@ fn half<P: Plane>(planes: &[P], from: usize, number: usize) -> [u64; 32]
     words
 }
 
-/// Each word has 32 digits of a rank below 32, and then those of the rank 32 above it.
+/// Each word has 32 digits of a rank below `N`, and then those of the rank `N` above it.
 #[inline(always)]
-fn join(low: &[u64], high: &[u64], digits: &mut [u64])
-    requires halves { length low.now ≡ 32 }
-    requires others { length high.now ≡ 32 }
-    requires digits { length digits.old ≡ 64 }
-    ensures lower { (r k : ℕ) → r < 32 → k < 32 → (bit_of digits.new r k ≡ bit_of low.now r k) × (bit_of digits.new r (32 + k) ≡ bit_of high.now r k) }
-    ensures upper { (r k : ℕ) → r < 32 → k < 32
-        → (bit_of digits.new (32 + r) k ≡ bit_of low.now r (32 + k)) × (bit_of digits.new (32 + r) (32 + k) ≡ bit_of high.now r (32 + k)) }
+fn join<const N: usize>(low: &[u64], high: &[u64], digits: &mut [u64])
+    requires halves { length low.now ≡ N }
+    requires others { length high.now ≡ N }
+    requires digits { length digits.old ≡ 2 * N }
+    ensures lower { (r k : ℕ) → r < N → k < 32 → (bit_of digits.new r k ≡ bit_of low.now r k) × (bit_of digits.new r (32 + k) ≡ bit_of high.now r k) }
+    ensures upper { (r k : ℕ) → r < N → k < 32
+        → (bit_of digits.new (N + r) k ≡ bit_of low.now r (32 + k)) × (bit_of digits.new (N + r) (32 + k) ≡ bit_of high.now r (32 + k)) }
 {
-    for r in 0..32 {
+    for r in 0..N {
         digits[r] = (low[r] & 0xffff_ffff) | high[r] << 32;
-        digits[r + 32] = (low[r] >> 32) | (high[r] >> 32) << 32;
+        digits[r + N] = (low[r] >> 32) | (high[r] >> 32) << 32;
     }
 }
 

@@ -5,10 +5,10 @@ ghost use Rattle.std.specs.Int.{bit_at};
 ghost use Rattle.zf_spec.specs.Planes.{planes_of};
 ghost use Rattle.zf_spec.specs.HeldPlanes.{planes_held, IsClearFrom};
 ghost use Rattle.zf_coef.specs.HeldDigits.{digits_in};
-ghost use Rattle.zf_coef.specs.Groups.{word_of, HoldsGroup, HoldsHalf, KeepsOthers, HoldsFrom, HoldsTiles};
+ghost use Rattle.zf_coef.specs.Groups.{word_of, HoldsGroup, HoldsHalf, KeepsOthers, HoldsFrom, HoldsFolded};
 ghost use Rattle.zf_coef.specs.Turned.{bit_of};
 
-use crate::turning::{turn_16, turn_32};
+use crate::turning::{turn_32, turn_folded};
 use zf_bits::Plane;
 
 /// How many ranks a word of a plane has.
@@ -102,75 +102,90 @@ fn put_16<P: Plane>(digits: &[u64], number: usize, planes: &mut [P])
     ensures bits { HoldsGroup number digits.now (map P.words planes.new) }
     ensures others { KeepsOthers number (map P.words planes.old) (map P.words planes.new) }
 {
-    let mut words = [0; 16];
-    words.copy_from_slice(digits);
-    turn_16(&mut words);
-    put_tiles(words, number, planes);
-}
-
-/// The planes of turned tiles: tile t of word j is plane `N * t + j`.
-#[inline(always)]
-fn put_tiles<P: Plane, const N: usize>(words: [u64; N], number: usize, planes: &mut [P])
-    requires size { (N ≡ 4) ⊎ (N ≡ 16) }
-    requires number { number < P.word_count }
-    requires planes { length planes.old ≤ 64 }
-    ensures bits { HoldsTiles N number words.entry (map P.words planes.new) }
-    ensures others { KeepsOthers number (map P.words planes.old) (map P.words planes.new) }
-{
     // A number of planes that is known needs no loop.
     match planes.len() {
-        32 => put_tiles_to(words, 32, number, planes),
-        64 => put_tiles_to(words, 64, number, planes),
-        len => put_tiles_to(words, len, number, planes),
+        32 => put_halves_of_16(digits, number, planes),
+        64 => put_halves_of_16(digits, number, planes),
+        _ => put_halves_of_16(digits, number, planes),
     }
 }
 
-/// The same of so many planes.
+/// The same, 32 planes at a time.
 #[inline(always)]
-fn put_tiles_to<P: Plane, const N: usize>(
-    mut words: [u64; N],
-    len: usize,
-    number: usize,
-    planes: &mut [P],
-)
-    requires size { (N ≡ 4) ⊎ (N ≡ 16) }
-    requires len { len ≡ length planes.old }
+fn put_halves_of_16<P: Plane>(digits: &[u64], number: usize, planes: &mut [P])
     requires number { number < P.word_count }
+    requires digits { length digits.now ≡ 16 }
     requires planes { length planes.old ≤ 64 }
-    ensures bits { HoldsTiles N number words.entry (map P.words planes.new) }
+    ensures bits { HoldsGroup number digits.now (map P.words planes.new) }
     ensures others { KeepsOthers number (map P.words planes.old) (map P.words planes.new) }
 {
-    let whole = len / N;
-    for tile in 0..whole {
-        put_words(&first_tile(&words), N, tile * N, number, planes);
-        next_tile(&mut words);
+    put_half_of_16(digits, 0, number, planes);
+    if planes.len() > 32 {
+        put_half_of_16(digits, 32, number, planes);
     }
-    put_words(&first_tile(&words), len % N, whole * N, number, planes);
 }
 
-/// The first `N` bits of each word.
+/// The 32 planes from `from` on.
 #[inline(always)]
-fn first_tile<const N: usize>(words: &[u64; N]) -> [u64; N]
-    requires size { (N ≡ 4) ⊎ (N ≡ 16) }
-    ensures cut { (j : ℕ) → j < N → slice_index_or result j 0 ≡ slice_index_or words.now j 0 % 2 ^ N }
-    ensures long { length result ≡ N }
+fn put_half_of_16<P: Plane>(digits: &[u64], from: usize, number: usize, planes: &mut [P])
+    requires number { number < P.word_count }
+    requires digits { length digits.now ≡ 16 }
+    requires from { from ≤ 32 }
+    requires planes { from ≤ length planes.old }
+    ensures bits { HoldsHalf number from digits.now (map P.words planes.new) }
+    ensures below { (k : ℕ) → k < from → word_of (map P.words planes.new) number k ≡ word_of (map P.words planes.old) number k }
+    ensures others { KeepsOthers number (map P.words planes.old) (map P.words planes.new) }
 {
-    let mut tile = [0; N];
-    for j in 0..N {
-        tile[j] = words[j] & (u64::MAX >> (WORD_BITS - N));
-    }
-    tile
+    let mut words = fold(digits, from);
+    turn_folded(&mut words);
+    put_folded(&words, from, number, planes);
 }
 
-/// Drops the first `N` bits of each word.
+/// The planes from `from` on of turned rows that lie folded, eight at a time.
 #[inline(always)]
-fn next_tile<const N: usize>(words: &mut [u64; N])
-    requires size { (N ≡ 4) ⊎ (N ≡ 16) }
-    ensures { (j : ℕ) → j < N → slice_index_or words.new j 0 ≡ slice_index_or words.old j 0 / 2 ^ N }
+fn put_folded<P: Plane>(words: &[u64; 8], from: usize, number: usize, planes: &mut [P])
+    requires number { number < P.word_count }
+    requires from { from ≤ 32 }
+    requires planes { from ≤ length planes.old }
+    ensures bits { HoldsFolded number from 32 words.now (map P.words planes.new) }
+    ensures below { (k : ℕ) → k < from → word_of (map P.words planes.new) number k ≡ word_of (map P.words planes.old) number k }
+    ensures others { KeepsOthers number (map P.words planes.old) (map P.words planes.new) }
 {
-    for j in 0..N {
-        words[j] >>= N;
+    for eight in 0..4 {
+        let first = from + 8 * eight;
+        if first < planes.len() {
+            put_from(
+                &sixteen_bits(words, place_of_eight(eight)),
+                first,
+                number,
+                planes,
+            );
+        }
     }
+}
+
+/// Where the rows of eight planes begin in folded words: planes 0 to 7 and 16 to 23 are in the lower halves, side by side, and the others above them.
+#[inline(always)]
+pub(crate) fn place_of_eight(eight: usize) -> usize
+    requires { eight < 4 }
+    ensures value { result ≡ eight % 2 * 32 + eight / 2 * 16 }
+    ensures bound { result ≤ 48 }
+{
+    eight % 2 * 32 + eight / 2 * 16
+}
+
+/// Sixteen bits of each word, those from `place` on.
+#[inline(always)]
+fn sixteen_bits(words: &[u64; 8], place: usize) -> [u64; 8]
+    requires place { place < 64 }
+    ensures cut { (j : ℕ) → j < 8 → slice_index_or result j 0 ≡ slice_index_or words.now j 0 / 2 ^ place % 2 ^ 16 }
+    ensures long { length result ≡ 8 }
+{
+    let mut cut = [0; 8];
+    for j in 0..8 {
+        cut[j] = (words[j] >> place) & 0xffff;
+    }
+    cut
 }
 
 /// Puts words into the planes from `from` on, as far as there are any.
@@ -234,21 +249,22 @@ fn put_half<P: Plane>(digits: &[u64], from: usize, number: usize, planes: &mut [
     ensures below { (k : ℕ) → k < from → word_of (map P.words planes.new) number k ≡ word_of (map P.words planes.old) number k }
     ensures others { KeepsOthers number (map P.words planes.old) (map P.words planes.new) }
 {
-    let mut words = half_digits(digits, from);
+    let mut words = fold(digits, from);
     turn_32(&mut words);
     put_from(&words, from, number, planes);
 }
 
-/// 32 digits from this one on: word r has those of rank r, and then those of the rank 32 above it.
+/// 32 digits of each of `2 N` coefficients, from this one on: word r has those of rank r, and then those of the rank `N` above it.
 #[inline(always)]
-fn half_digits(digits: &[u64], from: usize) -> [u64; 32]
-    requires digits { length digits.now ≡ 64 }
+fn fold<const N: usize>(digits: &[u64], from: usize) -> [u64; N]
+    requires few { N ≤ 32 }
+    requires digits { length digits.now ≡ 2 * N }
     requires from { from ≤ 32 }
-    ensures { (r i : ℕ) → r < 32 → i < 64 → bit_of result r i ≡ bit_of digits.now (i - i % 32 + r) (from + i % 32) }
+    ensures { (r i : ℕ) → r < N → i < 64 → bit_of result r i ≡ bit_of digits.now (i / 32 * N + r) (from + i % 32) }
 {
-    let mut words = [0; 32];
-    for r in 0..32 {
-        words[r] = ((digits[r] >> from) & 0xffff_ffff) | (digits[r + 32] >> from) << 32;
+    let mut words = [0; N];
+    for r in 0..N {
+        words[r] = ((digits[r] >> from) & 0xffff_ffff) | (digits[r + N] >> from) << 32;
     }
     words
 }

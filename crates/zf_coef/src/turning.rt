@@ -4,8 +4,8 @@
 //! the numbers of rows and columns to the base 2, the bits whose row has a zero there and whose column has a one with
 //! those of which it is the other way round.
 
-ghost use Rattle.std.specs.Prelude.{◌≡◌, ◌+◌, ◌*◌, ◌%◌, ◌<◌, ◌≤◌, length};
-ghost use Rattle.zf_coef.specs.Turned.{IsSwapped, AreSwapped, IsStep, IsMask, IsStepped, IsTurned};
+ghost use Rattle.std.specs.Prelude.{◌≡◌, ℕ, ◌+◌, ◌*◌, ◌%◌, ◌<◌, ◌≤◌, length};
+ghost use Rattle.zf_coef.specs.Turned.{bit_of, IsSwapped, AreSwapped, IsStep, IsMask, IsStepped, IsTurned, crossed, IsFoldedTurned};
 
 use std::simd::prelude::*;
 
@@ -68,15 +68,35 @@ fn step<const N: usize, const S: usize>(words: &mut [u64; N], mask: u64)
     }
 }
 
-/// Turns the tiles of sixteen rows.
+/// Turns the tiles of eight rows.
 #[inline(always)]
-pub(crate) fn turn_16(words: &mut [u64; 16])
-    ensures { IsTurned 16 words.old words.new }
+fn turn_8(words: &mut [u64; 8])
+    ensures { IsTurned 8 words.old words.new }
 {
-    step::<16, 8>(words, 0x00ff_00ff_00ff_00ff);
-    step::<16, 4>(words, 0x0f0f_0f0f_0f0f_0f0f);
-    step::<16, 2>(words, 0x3333_3333_3333_3333);
+    step::<8, 4>(words, 0x0f0f_0f0f_0f0f_0f0f);
+    step::<8, 2>(words, 0x3333_3333_3333_3333);
     step_next(words, 0x5555_5555_5555_5555);
+}
+
+/// Swaps, in each word, every second byte of its lower half with the byte before it in its upper half.
+#[inline(always)]
+fn cross(words: &mut [u64; 8])
+    ensures { (j i : ℕ) → j < 8 → i < 64 → bit_of words.new j i ≡ bit_of words.old j (crossed i) }
+{
+    for j in 0..8 {
+        let word = words[j];
+        let moved = ((word >> 24) ^ word) & 0xff00_ff00;
+        words[j] = word ^ moved ^ (moved << 24);
+    }
+}
+
+/// Turns the tiles of sixteen rows of 32 places that lie folded in eight words: word j has row j, and then row `j + 8`.
+#[inline(always)]
+pub(crate) fn turn_folded(words: &mut [u64; 8])
+    ensures { IsFoldedTurned words.old words.new }
+{
+    cross(words);
+    turn_8(words);
 }
 
 /// Turns the tiles of 32 rows.

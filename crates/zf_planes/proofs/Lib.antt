@@ -22,6 +22,7 @@
 --     LanesAhead   planes of four digits that are read at once, in lanes
 --     Passing      a reader that passes the bits of a code in parts
 --     Peeking      bits that were looked at and are not yet passed
+--     LastRank     planes of four digits in which three ranks have had a one
 --     Strings      planes of four digits in one number, and their code
 --     TopPlanes    the top planes of words, and those of four words as a string
 pub mod Runs
@@ -47,5 +48,6 @@ pub mod LaneTables
 pub mod LanesAhead
 pub mod Passing
 pub mod Peeking
+pub mod LastRank
 pub mod Strings
 pub mod TopPlanes

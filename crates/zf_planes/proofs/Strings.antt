@@ -1,14 +1,16 @@
 -- Strings: planes of four digits in one number, and their code.
-use Rattle.std.proofs.Common.{◌≡◌, ℕ, zero, suc, ◌+◌, ◌-◌, ◌*◌, ◌/◌, ◌%◌, ◌<◌, ◌≤◌, max, Bool, List, [], ◌∷◌, ◌++◌, append_assoc, take, ⊎_elim, refl, sym, ap, ◌∙◌, arith}
+use Rattle.std.proofs.Common.{◌≡◌, ℕ, zero, suc, ◌+◌, ◌-◌, ◌*◌, ◌/◌, ◌%◌, ◌<◌, ◌≤◌, max, Bool, List, [], ◌∷◌, ◌++◌, length, append_assoc, take, ⊎_elim, refl, sym, ap, ◌∙◌, arith}
 use Rattle.std.proofs.lemmas.Bool.{cases_lt}
 use Rattle.zf_spec.specs.Numbers.{field}
-use Rattle.zf_spec.specs.Planes.{plane_code, code_from, reach, reach_of_all}
+use Rattle.std.proofs.lemmas.List.Elements.{All-nil, All-cons}
+use Rattle.zf_spec.specs.Planes.{plane_code, code_from, reach, reach_of_all, AreOfSize}
 use Rattle.zf_spec.proofs.Fields.{length-field, field-add, field-mod}
 use Rattle.zf_spec.proofs.Reach.{reach-le}
 use Rattle.zf_bits.specs.Writer.{Writer}
-use Rattle.zf_planes.specs.Fours.{string_planes}
+use Rattle.zf_planes.specs.Fours.{string_planes, IsAsGood}
 use Rattle.zf_planes.proofs.Doubled.{plane_whole}
 use Rattle.zf_planes.proofs.Budgets.{Remains, Remains-same}
+use Rattle.zf_planes.proofs.LastRank.{code_of_three, code_as_good}
 
 -- ---- the code of planes goes on behind bits that were put together
 
@@ -86,9 +88,14 @@ code_from-append n (ds ∷ planes) below =
     ap (λ (bs : List Bool). plane_code n ds ++ bs) (code_from-append (max n (reach ds)) planes below ∙ ap (λ m. rest ++ code_from m below) far)
     ∙ sym (append_assoc (plane_code n ds) rest (code_from (max n (max (reach ds) (reach_of_all planes))) below))
 
--- ---- all ranks have had a one
+-- ---- three ranks have had a one
 
-pub whole_string : (k string : ℕ) → code_from 4 (string_planes k string) ≡ field (4 * k) string
+four_digits : (k string : ℕ) → AreOfSize 4 (string_planes k string)
+unfolding string_planes
+four_digits zero string = All-nil (λ es. length es ≡ 4)
+four_digits (suc k) string = All-cons (λ es. length es ≡ 4) (field 4 string) (string_planes k (string / 16)) (length-field 4 string) (four_digits k (string / 16))
+
+whole_string : (k string : ℕ) → code_from 4 (string_planes k string) ≡ field (4 * k) string
 unfolding string_planes
 whole_string zero string = refl
 whole_string (suc k) string =
@@ -100,6 +107,9 @@ whole_string (suc k) string =
     ∙ ap (λ n. digits ++ code_from n (string_planes k (string / 16))) far
     ∙ ap (λ (bs : List Bool). digits ++ bs) (whole_string k (string / 16))
     ∙ sym (ap (λ n. field n string) count ∙ field-add 4 (4 * k) string)
+
+pub own_string : (n k string : ℕ) → 3 ≤ n → n ≤ 4 → code_from n (string_planes k string) ≡ field (4 * k) string
+own_string n k string low high = code_of_three n 4 (string_planes k string) low high (omega arith) (omega arith) (four_digits k string) ∙ whole_string k string
 
 pub reach_of_string-le : (k string : ℕ) → reach_of_all (string_planes k string) ≤ 4
 unfolding string_planes
@@ -119,9 +129,9 @@ Remains-none {old} {now} {budget} {left} {whole} rest rest' none remains = recor
 }
 
 -- how far the ones reach above counts only while bits are left
-pub Remains-above : {old now : Writer} {budget left : ℕ} {whole : List Bool} (m n : ℕ) (planes : List (List Bool)) → (0 < left → m ≡ n) → Remains old now budget left whole (code_from n planes)
-    → Remains old now budget left whole (code_from m planes)
-Remains-above {old} {now} {budget} {left} {whole} m n planes same remains = ⊎_elim
-    (λ (some : 0 < left). Remains-same remains (ap (λ k. code_from k planes) (sym (same some))))
+pub Remains-above : {old now : Writer} {budget left : ℕ} {whole : List Bool} (m n : ℕ) (planes : List (List Bool)) → (0 < left → IsAsGood m n) → m ≤ 4 → n ≤ 4 → AreOfSize 4 planes
+    → Remains old now budget left whole (code_from n planes) → Remains old now budget left whole (code_from m planes)
+Remains-above {old} {now} {budget} {left} {whole} m n planes same high high' sizes remains = ⊎_elim
+    (λ (some : 0 < left). Remains-same remains (sym (code_as_good m n planes (same some) high high' sizes)))
     (λ (none : left ≤ 0). Remains-none (code_from n planes) (code_from m planes) (omega arith) remains)
     (cases_lt 0 left)

@@ -3,6 +3,7 @@ use Rattle.std.proofs.Common.{◌≡◌, ℕ, zero, suc, ◌+◌, ◌-◌, ◌*�
 use Rattle.std.proofs.lemmas.Bool.{eqb-true, cases_lt}
 use Rattle.std.proofs.lemmas.Nat.{shl-shr, shr-shr}
 use Rattle.std.proofs.lemmas.List.{length-map, get_or-map, map-append, get_or-drop, length-take, take_at, take-append-drop, append-nil, length-replicate}
+use Rattle.std.proofs.lemmas.List.Elements.{All-map}
 use Rattle.std.proofs.lemmas.Simd.{map-map}
 use Rattle.zf_bits.proofs.Fields.{digit_value_le}
 use Rattle.zf_spec.specs.Numbers.{field, number, is_odd, digit_value}
@@ -80,6 +81,11 @@ top_planes-split k m words within most =
 pub length-top_planes : (k : ℕ) (words : List ℕ) → length (top_planes k words) ≡ k
 unfolding top_planes
 length-top_planes k words = length-map-upto (λ i. map (λ word. top_digit word i) words) k
+
+pub top_planes-sizes : (k : ℕ) (words : List ℕ) → length words ≡ 4 → AreOfSize 4 (top_planes k words)
+unfolding top_planes
+top_planes-sizes k words four =
+    All-map (λ es. length es ≡ 4) (λ i. map (λ word. top_digit word i) words) (upto k) (λ j d within. length-map (λ word. top_digit word (get_or (upto k) j d)) words ∙ four)
 
 pub no_top_planes : (k : ℕ) (words : List ℕ) → k ≤ 0 → top_planes k words ≡ []
 unfolding top_planes

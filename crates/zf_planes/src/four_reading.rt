@@ -72,7 +72,7 @@ fn planes_in_sight(n: usize, bits: u64) -> PlanesInLanes
     }
 }
 
-/// The four planes whose digits these sixteen bits are, as they are where all ranks have had a one above.
+/// The four planes whose digits these sixteen bits are, as they are where three ranks have had a one above.
 #[inline(always)]
 fn planes_of_sixteen(bits: u64) -> PlanesInLanes
     requires bits { bits < 65536 }
@@ -231,7 +231,7 @@ fn sees(n: u64, ahead: &mut Ahead, reader: &BitReader<'_>) -> bool
     n <= ahead.count
 }
 
-/// Reads four of `most` planes, in which all ranks have had a one above.
+/// Reads four of `most` planes, in which three ranks have had a one above, so that each is its own code. Three are as good as four.
 #[inline(always)]
 fn read_verbatim(most: u32, ahead: &mut Ahead, reader: &mut BitReader<'_>) -> PlanesInLanes
     requires four { 4 ≤ most }
@@ -374,7 +374,7 @@ fn read_gathered(budget: u64, prec: u32, reader: &mut BitReader<'_>) -> Option<R
         let some = read_some(planes, above, &mut ahead, reader)?;
         digits = add(digits, some);
         above = some.above;
-        while above == 4 && digits.done + digits.held + 4 <= prec && sees(16, &mut ahead, reader) {
+        while above >= 3 && digits.done + digits.held + 4 <= prec && sees(16, &mut ahead, reader) {
             let planes = prec - (digits.done + digits.held);
             let four = read_verbatim(planes, &mut ahead, reader);
             digits = add(digits, four);

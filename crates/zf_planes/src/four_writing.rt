@@ -4,7 +4,7 @@ ghost use Rattle.std.specs.Prelude.{◌≡◌, ◌+◌, ◌-◌, ◌*◌, ◌/�
 ghost use Rattle.zf_spec.specs.Numbers.{field};
 ghost use Rattle.zf_spec.specs.Planes.{planes_of, plane_code, code, code_from, reach, reach_of_all};
 ghost use Rattle.zf_bits.specs.Writer.{Appends};
-ghost use Rattle.zf_planes.specs.Fours.{string_planes};
+ghost use Rattle.zf_planes.specs.Fours.{string_planes, IsAsGood};
 ghost use Rattle.zf_planes.specs.Spread.{top_digit, top_planes, spread};
 
 use crate::doubling::{Part, join, write_part};
@@ -70,8 +70,8 @@ fn code_of_two(n: usize, string: u64) -> PlanesCode
     }
 }
 
-/// The code of the next pairs of planes of a string, as many as surely fit a word, and none that `left` bits don't reach. Once each rank has had a one, it
-/// stops: the planes that are left are their own code.
+/// The code of the next pairs of planes of a string, as many as surely fit a word, and none that `left` bits don't reach. Once three ranks have had a one, it
+/// stops: the planes that are left are their own code, as the group bit behind the third digit is the fourth.
 #[inline(always)]
 fn next_pairs(left: u64, above: usize, planes: &mut u32, string: &mut u64) -> PlanesCode
     requires above { above ≤ 4 }
@@ -85,7 +85,7 @@ fn next_pairs(left: u64, above: usize, planes: &mut u32, string: &mut u64) -> Pl
     let mut above = above;
     let mut k = *planes;
     let mut rest = *string;
-    while above < 4 && k > 1 && part.len <= 50 && part.len < left {
+    while above < 3 && k > 1 && part.len <= 50 && part.len < left {
         let pair = code_of_two(above, rest);
         part = join(part, pair.part);
         above = pair.above;
@@ -97,8 +97,8 @@ fn next_pairs(left: u64, above: usize, planes: &mut u32, string: &mut u64) -> Pl
     PlanesCode { part, above }
 }
 
-/// Appends the code of the planes of a string, as far as `left` bits reach: their digits, if each rank has had a one above, else plane by plane. The answer is
-/// the bits that are left; if there are any, `above` becomes how far the ones reach.
+/// Appends the code of the planes of a string, as far as `left` bits reach: their digits, if three ranks have had a one above, else plane by plane. The answer
+/// is the bits that are left; if there are any, `above` becomes how far the ones reach, where three stands for four too.
 #[inline(always)]
 fn write_rest(left: u64, above: &mut usize, planes: u32, string: u64, out: &mut BitWriter) -> u64
     requires above { above.old ≤ 4 }
@@ -107,9 +107,9 @@ fn write_rest(left: u64, above: &mut usize, planes: u32, string: u64, out: &mut 
     ensures bits { Appends out.old out.new (take left (code_from above.old (string_planes planes string))) }
     ensures left { result ≡ left - length (code_from above.old (string_planes planes string)) }
     ensures within { above.new ≤ 4 }
-    ensures reached { 0 < result → above.new ≡ max above.old (reach_of_all (string_planes planes string)) }
+    ensures reached { 0 < result → IsAsGood above.new (max above.old (reach_of_all (string_planes planes string))) }
 {
-    if *above == 4 {
+    if *above >= 3 {
         let digits = Part {
             bits: string,
             len: 4 * u64::from(planes),
@@ -130,7 +130,7 @@ fn write_rest(left: u64, above: &mut usize, planes: u32, string: u64, out: &mut 
 }
 
 /// Appends the code of the planes of a string, as far as `left` bits reach, where the ranks below `above` have had a one above. The answer is the bits that
-/// are left; if there are any, `above` becomes how far the ones reach.
+/// are left; if there are any, `above` becomes how far the ones reach, where three stands for four too.
 #[inline(always)]
 fn write_string(left: u64, above: &mut usize, planes: u32, string: u64, out: &mut BitWriter) -> u64
     requires above { above.old ≤ 4 }
@@ -139,7 +139,7 @@ fn write_string(left: u64, above: &mut usize, planes: u32, string: u64, out: &mu
     ensures bits { Appends out.old out.new (take left (code_from above.old (string_planes planes string))) }
     ensures left { result ≡ left - length (code_from above.old (string_planes planes string)) }
     ensures within { above.new ≤ 4 }
-    ensures reached { 0 < result → above.new ≡ max above.old (reach_of_all (string_planes planes string)) }
+    ensures reached { 0 < result → IsAsGood above.new (max above.old (reach_of_all (string_planes planes string))) }
 {
     let mut planes = planes;
     let mut string = string;

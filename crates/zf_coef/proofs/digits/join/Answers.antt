@@ -9,7 +9,8 @@ use Rattle.zf_coef.proofs.ShiftedBits.{low_half, high_half, low_of_high, high_of
 use Rattle.zf_coef.proofs.digits.join.Goals as goal
 
 pub loop-r-preserved : goal.loop-r-preserved
-loop-r-preserved c =
+loop-r-preserved g c =
+    let n = g.row.N in
     let low = c.args.low.now in
     let high = c.args.high.now in
     let old = c.loop-r.digits in
@@ -23,29 +24,29 @@ loop-r-preserved c =
     let upper : ℕ → ℕ → Type 0 = λ j v. (k : ℕ) → k < 32 → (bit_at v k ≡ bit_of low j (32 + k)) × (bit_at v (32 + k) ≡ bit_of high j (32 + k)) in
     record {
       lower = λ j k h small.
-          subst (lower j) (sym (get_or-set_other mid (r + 32) j y 0 (λ (e : j ≡ r + 32). absurd (omega arith))))
+          subst (lower j) (sym (get_or-set_other mid (r + n) j y 0 (λ (e : j ≡ r + n). absurd (omega arith))))
           (prefix_tells lower old 0 r x (omega arith)
           (λ i less. (low_half a b i less, high_half a b (32 + i) (omega arith) (omega arith) ∙ ap (bit_at b) (omega arith)))
-          (λ i less n small_n. c.loop-r.invariant.lower i n less small_n) j h)
+          (λ i less q small_q. c.loop-r.invariant.lower i q less small_q) j h)
           k small;
       upper = λ j k h small. ⊎_elim
           (λ (earlier : j < r).
-          subst (upper j) (sym (get_or-set_other mid (r + 32) (32 + j) y 0 (λ (e : 32 + j ≡ r + 32). absurd (omega arith))
-          ∙ get_or-set_other old r (32 + j) x 0 (λ (e : 32 + j ≡ r). absurd (omega arith))))
-          (λ n small_n. c.loop-r.invariant.upper j n earlier small_n) k small)
+          subst (upper j) (sym (get_or-set_other mid (r + n) (n + j) y 0 (λ (e : n + j ≡ r + n). absurd (omega arith))
+          ∙ get_or-set_other old r (n + j) x 0 (λ (e : n + j ≡ r). absurd (omega arith))))
+          (λ i small_i. c.loop-r.invariant.upper j i earlier small_i) k small)
           (λ (last : r ≤ j).
           let same : r ≡ j = omega arith in
-          let at : r + 32 ≡ 32 + r = omega arith in
-          let long : r + 32 < length mid = omega (arith, length-set old r x) in
-          subst (λ i. upper i (get_or (set mid (r + 32) y) (32 + i) 0)) same
-          (subst (λ i. upper r (get_or (set mid (r + 32) y) i 0)) at
-          (subst (upper r) (sym (get_or-set_same mid (r + 32) y 0 long))
+          let at : r + n ≡ n + r = omega arith in
+          let long : r + n < length mid = omega (arith, length-set old r x) in
+          subst (λ i. upper i (get_or (set mid (r + n) y) (n + i) 0)) same
+          (subst (λ i. upper r (get_or (set mid (r + n) y) i 0)) at
+          (subst (upper r) (sym (get_or-set_same mid (r + n) y 0 long))
           (λ i less. (low_of_high a b i (c.type_inv.low r).fits less, high_of_high a b i (c.type_inv.low r).fits less)))) k small)
           (cases_lt j r);
     }
 
 pub returns-clause-lower : goal.returns-clause-lower
-returns-clause-lower c r k h small = c.loop-r.invariant.lower r k (omega arith) small
+returns-clause-lower g c r k h small = c.loop-r.invariant.lower r k (omega arith) small
 
 pub returns-clause-upper : goal.returns-clause-upper
-returns-clause-upper c r k h small = c.loop-r.invariant.upper r k (omega arith) small
+returns-clause-upper g c r k h small = c.loop-r.invariant.upper r k (omega arith) small

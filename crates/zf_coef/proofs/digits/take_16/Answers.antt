@@ -1,8 +1,17 @@
-use Rattle.std.proofs.Common.{refl, inr, map, arith}
-use Rattle.zf_coef.proofs.Tiles.{digits_of_tiles}
+use Rattle.std.proofs.Common.{replicate, map, arith}
+use Rattle.std.proofs.lemmas.List.{length-map}
+use Rattle.zf_coef.proofs.Halves.{no_word}
+use Rattle.zf_coef.proofs.Folded.{fold_past, digits_of_folds}
 use Rattle.zf_coef.proofs.digits.take_16.Goals as goal
 
-pub returns : goal.returns
-returns g c =
-    digits_of_tiles 16 c.args.number (map g.P.Plane.words c.args.planes.now) c.tiles-words.result c.turn_16.new.words c.copy_from_slice.new.self (inr refl) (omega arith)
-    c.copy_from_slice.ensures.after c.tiles-words.ensures c.turn_16.ensures
+pub returns-in-32 : goal.returns-in-32
+returns-in-32 g c =
+    let planes = map g.P.Plane.words c.args.planes.now in
+    digits_of_folds c.args.number planes c.half_of_16.result (replicate 8 0) c.join.new.digits (omega arith)
+    c.half_of_16.ensures (fold_past c.args.number planes (replicate 8 0) (omega (arith, length-map c.args.planes.now g.P.Plane.words, c.in-32.is)) (no_word 8))
+    c.join.ensures.lower c.join.ensures.upper
+
+pub returns-in-64 : goal.returns-in-64
+returns-in-64 g c =
+    digits_of_folds c.args.number (map g.P.Plane.words c.args.planes.now) c.half_of_16-in-64.result c.half_of_16-in-64-2.result c.join-in-64.new.digits (omega arith)
+    c.half_of_16-in-64.ensures c.half_of_16-in-64-2.ensures c.join-in-64.ensures.lower c.join-in-64.ensures.upper

@@ -1,7 +1,6 @@
-use Rattle.std.proofs.Common.{◌≡◌, ℕ, ⊎_elim, get_or, replicate, map, arith}
-use Rattle.std.proofs.lemmas.Bool.{cases_lt}
-use Rattle.std.proofs.lemmas.List.{length-map, get_or-replicate, get_or_past}
-use Rattle.zf_coef.proofs.Tiles.{half_past, digits_of_halves}
+use Rattle.std.proofs.Common.{replicate, map, arith}
+use Rattle.std.proofs.lemmas.List.{length-map}
+use Rattle.zf_coef.proofs.Halves.{no_word, half_past, digits_of_halves}
 use Rattle.zf_coef.proofs.digits.take_64_of.Goals as goal
 
 pub returns-then-planes-gt32 : goal.returns-then-planes-gt32
@@ -12,7 +11,6 @@ returns-then-planes-gt32 g c =
 pub returns-else-planes-gt32 : goal.returns-else-planes-gt32
 returns-else-planes-gt32 g c =
     let planes = map g.P.Plane.words c.args.planes.now in
-    let zeros : (j : ℕ) → get_or (replicate 32 0) j 0 ≡ 0 = λ j. ⊎_elim (λ less. get_or-replicate 32 j 0 0 less) (λ past. get_or_past (replicate 32 0) j 0 past) (cases_lt j 32) in
     digits_of_halves c.args.number planes c.half-low.result (replicate 32 0) c.join-else-planes-gt32.new.digits (omega arith)
-    c.half-low.ensures (half_past c.args.number planes (replicate 32 0) (omega (arith, length-map c.args.planes.now g.P.Plane.words)) zeros)
+    c.half-low.ensures (half_past c.args.number planes (replicate 32 0) (omega (arith, length-map c.args.planes.now g.P.Plane.words)) (no_word 32))
     c.join-else-planes-gt32.ensures.lower c.join-else-planes-gt32.ensures.upper

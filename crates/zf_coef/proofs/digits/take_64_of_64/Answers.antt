@@ -1,5 +1,5 @@
 use Rattle.std.proofs.Common.{map, arith}
-use Rattle.zf_coef.proofs.Tiles.{digits_of_halves, digits_of_window}
+use Rattle.zf_coef.proofs.Halves.{digits_of_halves, digits_of_window}
 use Rattle.zf_coef.proofs.digits.take_64_of_64.Goals as goal
 
 pub returns-then-are_zeros : goal.returns-then-are_zeros

@@ -1,5 +1,5 @@
 use Rattle.std.proofs.Common.{map, arith}
-use Rattle.zf_coef.proofs.Tiles.{group_of_prefix}
+use Rattle.zf_coef.proofs.Halves.{group_of_prefix}
 use Rattle.zf_coef.proofs.digits.take_group.Goals as goal
 
 pub returns-in_default : goal.returns-in_default

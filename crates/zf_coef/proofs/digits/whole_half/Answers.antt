@@ -1,5 +1,5 @@
 use Rattle.std.proofs.Common.{map}
-use Rattle.zf_coef.proofs.Tiles.{half_of_planes}
+use Rattle.zf_coef.proofs.Halves.{half_of_planes}
 use Rattle.zf_coef.proofs.digits.whole_half.Goals as goal
 
 pub returns : goal.returns

@@ -3,7 +3,7 @@ use Rattle.std.proofs.lemmas.Bool.{cases_lt}
 use Rattle.std.proofs.lemmas.List.{get_or-map, length-map}
 use Rattle.std.proofs.lemmas.Nat.{le_or_l, le_or_r}
 use Rattle.zf_coef.specs.Groups.{word_of}
-use Rattle.zf_coef.proofs.Tiles.{word_of-past}
+use Rattle.zf_coef.proofs.Halves.{word_of-past}
 use Rattle.zf_coef.proofs.first.any_word.Goals as goal
 
 pub loop-k-preserved : goal.loop-k-preserved

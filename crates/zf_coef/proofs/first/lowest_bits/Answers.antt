@@ -1,7 +1,7 @@
 use Rattle.std.proofs.Common.{◌≡◌, ◌<◌, ◌≤◌, [], get_or, map, ap, sym, ◌∙◌, ⊎_elim, arith}
 use Rattle.std.proofs.lemmas.Bool.{cases_lt}
 use Rattle.std.proofs.lemmas.List.{get_or-map, length-map}
-use Rattle.zf_coef.proofs.Tiles.{word_of-past}
+use Rattle.zf_coef.proofs.Halves.{word_of-past}
 use Rattle.zf_coef.proofs.FirstAlone.{bits_none, bits_more}
 use Rattle.zf_coef.proofs.first.lowest_bits.Goals as goal
 

@@ -1,7 +1,7 @@
 use Rattle.std.proofs.Common.{map, arith}
 use Rattle.std.proofs.lemmas.List.{length-map}
 use Rattle.zf_coef.proofs.Putting.{both_kept}
-use Rattle.zf_coef.proofs.Tiles.{planes_of_both, planes_of_first}
+use Rattle.zf_coef.proofs.Halves.{planes_of_both, planes_of_first}
 use Rattle.zf_coef.proofs.planes.put_64.Goals as goal
 
 pub returns-then-planes-gt32-clause-bits : goal.returns-then-planes-gt32-clause-bits

@@ -1,6 +1,6 @@
 use Rattle.std.proofs.Common.{map, arith}
 use Rattle.std.proofs.lemmas.List.{length-map}
-use Rattle.zf_coef.proofs.Tiles.{group_of_same, group_of_none}
+use Rattle.zf_coef.proofs.Halves.{group_of_same, group_of_none}
 use Rattle.zf_coef.proofs.planes.put_group.Goals as goal
 
 pub returns-in_default-clause-bits : goal.returns-in_default-clause-bits

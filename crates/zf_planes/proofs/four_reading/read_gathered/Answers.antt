@@ -4,6 +4,7 @@ use Rattle.zf_planes.specs.Decoding.{planes_ahead, planes_bits}
 use Rattle.zf_planes.specs.Lanes.{gathered}
 use Rattle.zf_planes.proofs.Lanes.{gathered_words, low_planes-zeros, four_below, no_lanes_below}
 use Rattle.zf_planes.proofs.LanesAhead.{FoursRead-more}
+use Rattle.zf_planes.proofs.LastRank.{ahead_of_three}
 use Rattle.zf_planes.proofs.Passing.{Passes-start, Passes-part, Passes-end, Passes-lacks, if_none}
 use Rattle.zf_planes.proofs.PlanesAhead.{planes_over, zero_planes}
 use Rattle.zf_planes.proofs.four_reading.read_gathered.Goals as goal
@@ -66,13 +67,15 @@ loop-ahead-preserved c =
     let four = c.read_verbatim-four in
     let added = c.add-digits-in-loop-ahead.ensures in
     let left = c.sees.ensures.left in
-    let all : c.in_ok-some.some.above ≡ 4 = c.loop-ahead-test.true in
+    let above = c.in_ok-some.some.above in
+    let now = ahead_of_three c.loop-ahead.ahead.left (c.args.prec - (c.loop-ahead.digits.done + c.loop-ahead.digits.held)) above (rest c.loop-ahead.reader) (omega (arith, c.loop-ahead-test.true)) before.read.high in
+    let behind = ahead_of_three four.new.ahead.left (c.args.prec - (c.loop-ahead.digits.done + c.loop-ahead.digits.held) - 4) above (rest four.new.reader) (omega (arith, c.loop-ahead-test.true)) before.read.high in
     let planes = rw four.ensures.count at added.planes in
     let taken = rw left at four.ensures.taken in
     record {
       window = four.ensures.window;
-      read = FoursRead-more 4 four.result.lanes 16 c.in_ok-some.some.above _ _ _ _ before.read (record { bits = rw (all, ← left) four.ensures.bits; digits = rw (all, ← left) four.ensures.digits }) taken
-          added.gathered planes (omega (arith, added.sum, four.ensures.count)) (omega (arith, c.if-digits-prec.true)) added.held (omega (arith, all));
+      read = FoursRead-more 4 four.result.lanes 16 c.in_ok-some.some.above _ _ _ _ before.read (record { bits = rw (now.0, behind.0, ← left) four.ensures.bits; digits = rw (now.1, behind.1, ← left) four.ensures.digits }) taken
+          added.gathered planes (omega (arith, added.sum, four.ensures.count)) (omega (arith, c.if-digits-prec.true)) added.held before.read.high;
       more = omega (arith, before.more, added.sum);
     }
 

@@ -5,37 +5,37 @@ use Rattle.zf_spec.proofs.Fields.{length-field}
 use Rattle.zf_bits.specs.Writer.{Writer}
 use Rattle.zf_planes.specs.Fours.{string_planes}
 use Rattle.zf_planes.proofs.Budgets.{Remains, Remains-start, Remains-same, Remains-fits, Remains-more, Remains-end}
-use Rattle.zf_planes.proofs.Strings.{next_of_string, whole_string, string_end, reach_of_string-le}
+use Rattle.zf_planes.proofs.Strings.{next_of_string, own_string, string_end, reach_of_string-le}
 use Rattle.zf_planes.proofs.four_writing.write_rest.Goals as goal
 
--- ---- all ranks have had a one
+-- ---- three ranks have had a one
 
 -- the planes that are left are their own code
-digits_left : {old now : Writer} {budget left : ℕ} {whole : List Bool} (above planes string len : ℕ) → above ≡ 4 → len ≡ 4 * planes → Remains old now budget left whole (code_from above (string_planes planes string))
+digits_left : {old now : Writer} {budget left : ℕ} {whole : List Bool} (above planes string len : ℕ) → 3 ≤ above → above ≤ 4 → len ≡ 4 * planes → Remains old now budget left whole (code_from above (string_planes planes string))
     → Remains old now budget left whole (field len string ++ [])
-digits_left above planes string len all count remains =
-    Remains-same remains (ap (λ n. code_from n (string_planes planes string)) all ∙ whole_string planes string ∙ ap (λ n. field n string) (sym count) ∙ sym (append-nil (field len string)))
+digits_left above planes string len low high count remains =
+    Remains-same remains (own_string above planes string low high ∙ ap (λ n. field n string) (sym count) ∙ sym (append-nil (field len string)))
 
 pub write_part-requires-clause-fits : goal.write_part-requires-clause-fits
 write_part-requires-clause-fits c =
     let len = 4 * c.from.result in
-    let remains = digits_left c.args.above.now c.args.planes c.args.string len c.if-above-eq4.true (omega (arith, c.from.ensures)) (Remains-start c.args.out.now c.args.left _ c.requires.fits) in
+    let remains = digits_left c.args.above.now c.args.planes c.args.string len c.if-above-ge3.true c.requires.above (omega (arith, c.from.ensures)) (Remains-start c.args.out.now c.args.left _ c.requires.fits) in
     omega (arith, Remains-fits (field len c.args.string) [] remains, length-field len c.args.string)
 
-pub returns-then-above-eq4-clause-bits : goal.returns-then-above-eq4-clause-bits
-returns-then-above-eq4-clause-bits c =
+pub returns-then-above-ge3-clause-bits : goal.returns-then-above-ge3-clause-bits
+returns-then-above-ge3-clause-bits c =
     let len = 4 * c.from.result in
-    let remains = digits_left c.args.above.now c.args.planes c.args.string len c.if-above-eq4.true (omega (arith, c.from.ensures)) (Remains-start c.args.out.now c.args.left _ c.requires.fits) in
+    let remains = digits_left c.args.above.now c.args.planes c.args.string len c.if-above-ge3.true c.requires.above (omega (arith, c.from.ensures)) (Remains-start c.args.out.now c.args.left _ c.requires.fits) in
     Remains-end (Remains-more (field len c.args.string) [] remains c.write_part.ensures.bits) (omega arith)
 
-pub returns-then-above-eq4-clause-left : goal.returns-then-above-eq4-clause-left
-returns-then-above-eq4-clause-left c =
+pub returns-then-above-ge3-clause-left : goal.returns-then-above-ge3-clause-left
+returns-then-above-ge3-clause-left c =
     let len = 4 * c.from.result in
-    let remains = digits_left c.args.above.now c.args.planes c.args.string len c.if-above-eq4.true (omega (arith, c.from.ensures)) (Remains-start c.args.out.now c.args.left _ c.requires.fits) in
+    let remains = digits_left c.args.above.now c.args.planes c.args.string len c.if-above-ge3.true c.requires.above (omega (arith, c.from.ensures)) (Remains-start c.args.out.now c.args.left _ c.requires.fits) in
     omega (arith, (Remains-more (field len c.args.string) [] remains c.write_part.ensures.bits).spent, c.write_part.ensures.left, length-field len c.args.string)
 
-pub returns-then-above-eq4-clause-reached : goal.returns-then-above-eq4-clause-reached
-returns-then-above-eq4-clause-reached c = λ some. omega (arith, c.if-above-eq4.true, reach_of_string-le c.args.planes c.args.string)
+pub returns-then-above-ge3-clause-reached : goal.returns-then-above-ge3-clause-reached
+returns-then-above-ge3-clause-reached c = λ some. omega (arith, c.if-above-ge3.true, reach_of_string-le c.args.planes c.args.string)
 
 -- ---- the next plane
 

@@ -4,8 +4,8 @@ use Rattle.zf_bits.specs.Writer.{Writer}
 use Rattle.zf_planes.specs.Fours.{string_planes}
 use Rattle.zf_planes.specs.Spread.{top_planes}
 use Rattle.zf_planes.proofs.Budgets.{Remains, Remains-same, Remains-fits, Remains-more, Remains-end}
-use Rattle.zf_planes.proofs.Strings.{code_from-append, Remains-above}
-use Rattle.zf_planes.proofs.TopPlanes.{below, string-split, no_top_planes}
+use Rattle.zf_planes.proofs.Strings.{code_from-append, reach_of_string-le, Remains-above}
+use Rattle.zf_planes.proofs.TopPlanes.{below, string-split, top_planes-sizes, no_top_planes}
 use Rattle.zf_planes.proofs.four_writing.write_top.Goals as goal
 
 -- what remains begins with the code of a string
@@ -33,7 +33,7 @@ loop-planes-preserved c =
     let written = rw (← c.write_string-left.ensures.left) at (Remains-more (code_from now.above (string_planes count string)) _ remains c.write_string-left.ensures.bits) in
     let words = rw (← c.below_top-words.ensures) at written in
     record {
-      remains = Remains-above c.write_string-left.new.above (max now.above (reach_of_all (string_planes count string))) (top_planes (now.planes - count) c.below_top-words.result) c.write_string-left.ensures.reached words;
+      remains = Remains-above c.write_string-left.new.above (max now.above (reach_of_all (string_planes count string))) (top_planes (now.planes - count) c.below_top-words.result) c.write_string-left.ensures.reached c.write_string-left.ensures.within (omega (arith, now.invariant.above, reach_of_string-le count string)) (top_planes-sizes (now.planes - count) c.below_top-words.result (omega arith)) words;
       above = c.write_string-left.ensures.within;
       few = omega (arith, now.invariant.few);
     }

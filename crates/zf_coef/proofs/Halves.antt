@@ -1,0 +1,157 @@
+-- Halves of digits that become planes, 32 at a time, and planes that become halves of digits.
+use Rattle.std.proofs.Common.{◌≡◌, sym, ap, subst, ◌∙◌, ℕ, ◌+◌, ◌-◌, ◌*◌, ◌/◌, ◌%◌, ◌^◌, ◌<◌, ◌≤◌, ◌⊎◌, max, ⊎_elim, List, [], length, get_or, replicate, arith}
+use Rattle.std.specs.Int.{bit_at}
+use Rattle.std.specs.Int.RustNames.{bit_or}
+use Rattle.std.proofs.lemmas.Bool.{cases_lt}
+use Rattle.std.proofs.lemmas.List.{get_or-replicate, get_or_past, length-replicate}
+use Rattle.std.proofs.Math.Nat.{mod-eq_of_lt, mod-le}
+use Rattle.std.proofs.lemmas.Nat.{mod-mul-add}
+use Rattle.std.proofs.lemmas.Nat.Bits.{bit_at_or, bit_at-zero}
+use Rattle.zf_coef.specs.Turned.{bit_of, IsTurned}
+use Rattle.zf_coef.specs.Groups.{word_of, HoldsGroup, HoldsHalf, IsOfGroup, HoldsFrom, IsMoved}
+use Rattle.zf_coef.proofs.ShiftedBits.{bit_at-shr, bit_at-mod_pow, bit_at-mod_above, bit_at-mod, bit_at-shl_low, bit_at-shl_high}
+
+-- ---- planes of halves
+
+-- the turned halves of 64 digits are 32 of their planes
+pub planes_of_half : (number from : ℕ) (digits half turned : List ℕ) (old new : List (List ℕ)) → length half ≡ 32
+    → ((r i : ℕ) → r < 32 → i < 64 → bit_of half r i ≡ bit_of digits (i / 32 * 32 + r) (from + i % 32))
+    → IsTurned 32 half turned → HoldsFrom 32 number from turned old new → HoldsHalf number from digits new
+unfolding IsTurned HoldsHalf
+planes_of_half number from digits half turned old new long cut turn put k r lower upper within small =
+    let j = k - from in
+    let less : j < 32 = omega arith in
+    let at : from + j ≡ k = omega arith in
+    let row : (r - r % 32 + j) / 32 * 32 + r % 32 ≡ r = omega arith in
+    let place : from + (r - r % 32 + j) % 32 ≡ k = omega arith in
+    ap (λ i. bit_at (word_of new number i) r) (sym at)
+    ∙ ap (λ w. bit_at w r) (put.inside j less (omega arith))
+    ∙ turn j r less small
+    ∙ cut (r % 32) (r - r % 32 + j) (omega arith) (omega arith)
+    ∙ ap (λ i. bit_of digits i (from + (r - r % 32 + j) % 32)) row
+    ∙ ap (bit_of digits r) place
+
+-- both halves
+pub planes_of_both : (number : ℕ) (digits : List ℕ) (mid new : List (List ℕ)) → length new ≡ length mid → length new ≤ 64
+    → HoldsHalf number 0 digits mid → HoldsHalf number 32 digits new
+    → ((k : ℕ) → k < 32 → word_of new number k ≡ word_of mid number k) → HoldsGroup number digits new
+unfolding HoldsHalf HoldsGroup
+planes_of_both number digits mid new long few lower upper kept k r within small = ⊎_elim
+    (λ (low : k < 32). ap (λ w. bit_at w r) (kept k low) ∙ lower k r (omega arith) (omega arith) (omega arith) small)
+    (λ (high : 32 ≤ k). upper k r high (omega arith) within small)
+    (cases_lt k 32)
+
+-- one half is enough for few planes
+pub planes_of_first : (number : ℕ) (digits : List ℕ) (planes : List (List ℕ)) → length planes ≤ 32 → HoldsHalf number 0 digits planes → HoldsGroup number digits planes
+unfolding HoldsHalf HoldsGroup
+planes_of_first number digits planes few half k r within small = half k r (omega arith) (omega arith) within small
+
+-- other digits with the same words
+pub group_of_same : (number : ℕ) (digits whole : List ℕ) (planes : List (List ℕ)) → ((r : ℕ) → r < 64 → get_or whole r 0 ≡ get_or digits r 0)
+    → HoldsGroup number whole planes → HoldsGroup number digits planes
+unfolding HoldsGroup
+group_of_same number digits whole planes same group k r within small = group k r within small ∙ ap (λ w. bit_at w k) (same r small)
+
+-- planes past the end have no words
+pub word_of-past : (planes : List (List ℕ)) (number k : ℕ) → length planes ≤ k → word_of planes number k ≡ 0
+word_of-past planes number k past = ap (λ ws. get_or ws number 0) (get_or_past planes k [] past)
+
+-- ---- halves of planes
+
+-- turned words of 32 planes: digits of a rank below 32, and then those of the rank 32 above it
+abbrev pub AreHalf : ℕ → ℕ → List (List ℕ) → List ℕ → Type 0
+AreHalf number from planes words = (j r : ℕ) → j < 32 → r < 64 → bit_of words j r ≡ bit_at (word_of planes number (from + r % 32)) (r - r % 32 + j)
+
+pub half_of_planes : (number from : ℕ) (planes : List (List ℕ)) (words turned : List ℕ)
+    → ((j : ℕ) → j < 32 → get_or words j 0 ≡ word_of planes number (from + j)) → IsTurned 32 words turned → AreHalf number from planes turned
+unfolding IsTurned
+half_of_planes number from planes words turned same turn j r less small =
+    turn j r less small ∙ ap (λ w. bit_at w (r - r % 32 + j)) (same (r % 32) (omega arith))
+
+-- of zeros each word is zero
+pub no_word : (n j : ℕ) → let none : ℕ = 0 in get_or (replicate n none) j none ≡ none
+no_word n j = ⊎_elim (λ (less : j < n). get_or-replicate n j 0 0 less) (λ (past : n ≤ j). get_or_past (replicate n 0) j 0 (let none : ℕ = 0 in omega (arith, length-replicate n none))) (cases_lt j n)
+
+-- no plane has words there
+pub half_past : (number : ℕ) (planes : List (List ℕ)) (words : List ℕ) → length planes ≤ 32 → ((j : ℕ) → get_or words j 0 ≡ 0) → AreHalf number 32 planes words
+half_past number planes words few zeros j r less small =
+    ap (λ w. bit_at w r) (zeros j) ∙ bit_at-zero r ∙ sym (bit_at-zero (r - r % 32 + j))
+    ∙ ap (λ w. bit_at w (r - r % 32 + j)) (sym (word_of-past planes number (32 + r % 32) (omega arith)))
+
+pub digits_of_halves : (number : ℕ) (planes : List (List ℕ)) (low high digits : List ℕ) → length digits ≡ 64
+    → AreHalf number 0 planes low → AreHalf number 32 planes high
+    → ((r k : ℕ) → r < 32 → k < 32 → (bit_of digits r k ≡ bit_of low r k) × (bit_of digits r (32 + k) ≡ bit_of high r k))
+    → ((r k : ℕ) → r < 32 → k < 32 → (bit_of digits (32 + r) k ≡ bit_of low r (32 + k)) × (bit_of digits (32 + r) (32 + k) ≡ bit_of high r (32 + k)))
+    → IsOfGroup number planes digits
+unfolding IsOfGroup
+digits_of_halves number planes low high digits long is_low is_high lower upper r k h small = ⊎_elim
+    (λ (prefix : r < 32). ⊎_elim
+    (λ (first : k < 32). (lower r k prefix first).0 ∙ is_low r k prefix (omega arith) ∙ at 0 k k r r (omega arith) (omega arith))
+    (λ (second : 32 ≤ k).
+    let back : k ≡ 32 + (k - 32) = omega arith in
+    ap (bit_of digits r) back ∙ (lower r (k - 32) prefix (omega arith)).1 ∙ is_high r (k - 32) prefix (omega arith) ∙ at 32 (k - 32) k r r (omega arith) (omega arith))
+    (cases_lt k 32))
+    (λ (behind : 32 ≤ r).
+    let row : r ≡ 32 + (r - 32) = omega arith in
+    ap (λ j. bit_of digits j k) row
+    ∙ ⊎_elim
+    (λ (first : k < 32). (upper (r - 32) k (omega arith) first).0 ∙ is_low (r - 32) (32 + k) (omega arith) (omega arith) ∙ at 0 (32 + k) k (r - 32) r (omega arith) (omega arith))
+    (λ (second : 32 ≤ k).
+    let back : k ≡ 32 + (k - 32) = omega arith in
+    ap (bit_of digits (32 + (r - 32))) back ∙ (upper (r - 32) (k - 32) (omega arith) (omega arith)).1
+    ∙ is_high (r - 32) (32 + (k - 32)) (omega arith) (omega arith) ∙ at 32 (32 + (k - 32)) k (r - 32) r (omega arith) (omega arith))
+    (cases_lt k 32))
+    (cases_lt r 32)
+  where
+    at : (from i plane j rank : ℕ) → from + i % 32 ≡ plane → i - i % 32 + j ≡ rank
+        → bit_at (word_of planes number (from + i % 32)) (i - i % 32 + j) ≡ bit_at (word_of planes number plane) rank
+    at from i plane j rank a b = ap (λ p. bit_at (word_of planes number p) (i - i % 32 + j)) a ∙ ap (bit_at (word_of planes number plane)) b
+
+-- a window of 32 planes has all the ones
+pub digits_of_window : (number from : ℕ) (planes : List (List ℕ)) (words digits : List ℕ) → length digits ≡ 64
+    → ((k : ℕ) → k < from → word_of planes number k ≡ 0)
+    → ((k : ℕ) → from + 32 ≤ k → word_of planes number k ≡ 0)
+    → AreHalf number from planes words
+    → ((r : ℕ) → r < 32 → IsMoved 0 from (get_or words r 0) (get_or digits r 0))
+    → ((r : ℕ) → r < 32 → IsMoved 32 from (get_or words r 0) (get_or digits (32 + r) 0))
+    → IsOfGroup number planes digits
+unfolding IsOfGroup
+digits_of_window number from planes words digits long below above half lower upper r k h small = ⊎_elim
+    (λ (prefix : r < 32). digit 0 r r k prefix small (λ i less. omega arith) (λ i less. omega arith) (lower r prefix))
+    (λ (behind : 32 ≤ r).
+    let row : 32 + (r - 32) ≡ r = omega arith in
+    digit 32 (r - 32) r k (omega arith) small (λ i less. omega arith) (λ i less. omega arith)
+    (subst (λ j. IsMoved 32 from (get_or words (r - 32) 0) (get_or digits j 0)) row (upper (r - 32) (omega arith))))
+    (cases_lt r 32)
+  where
+    none : (r k : ℕ) → bit_of digits r k ≡ 0 → word_of planes number k ≡ 0 → bit_of digits r k ≡ bit_at (word_of planes number k) r
+    none r k zero_here zero_there = zero_here ∙ sym (bit_at-zero r) ∙ ap (λ w. bit_at w r) (sym zero_there)
+
+    digit : (start j r k : ℕ) → j < 32 → k < 64 → ((i : ℕ) → i < 32 → start + i < 64 × ((start + i) % 32 ≡ i)) → ((i : ℕ) → i < 32 → start + i - (start + i) % 32 + j ≡ r)
+        → IsMoved start from (get_or words j 0) (get_or digits r 0) → bit_of digits r k ≡ bit_at (word_of planes number k) r
+    digit start j r k less small column row moved = ⊎_elim
+        (λ (first : k < from). none r k (moved.below k first) (below k first))
+        (λ (later : from ≤ k). ⊎_elim
+        (λ (inside : k - from < 32).
+        let i = k - from in
+        let at : from + i ≡ k = omega arith in
+        ap (bit_of digits r) (sym at) ∙ moved.inside i inside ∙ half j (start + i) less (column i inside).0
+        ∙ ap (λ p. bit_at (word_of planes number (from + p)) (start + i - (start + i) % 32 + j)) (column i inside).1
+        ∙ ap (bit_at (word_of planes number (from + i))) (row i inside)
+        ∙ ap (λ p. bit_at (word_of planes number p) r) at)
+        (λ (past : 32 ≤ k - from). none r k (moved.above k (omega arith) small) (above k (omega arith)))
+        (cases_lt (k - from) 32))
+        (cases_lt k from)
+
+-- the first of more digits
+pub group_of_prefix : (number : ℕ) (planes : List (List ℕ)) (whole digits : List ℕ) → length digits ≤ length whole
+    → ((r : ℕ) → r < length digits → get_or digits r 0 ≡ get_or whole r 0) → IsOfGroup number planes whole → IsOfGroup number planes digits
+unfolding IsOfGroup
+group_of_prefix number planes whole digits short same group r k h small = ap (λ w. bit_at w k) (same r h) ∙ group r k (omega arith) small
+
+-- the words of no digits
+pub group_of_none : (number : ℕ) (digits : List ℕ) (planes : List (List ℕ)) → length digits ≡ 0
+    → ((k : ℕ) → k < length planes → word_of planes number k ≡ 0) → HoldsGroup number digits planes
+unfolding HoldsGroup
+group_of_none number digits planes none zeros k r within small =
+    ap (λ w. bit_at w r) (zeros k within) ∙ bit_at-zero r ∙ sym (bit_at-zero k) ∙ ap (λ w. bit_at w k) (sym (get_or_past digits r 0 (omega arith)))

@@ -1,0 +1,24 @@
+use Rattle.std.proofs.Common.{◌≡◌, ℕ, replicate, map, arith}
+use Rattle.std.proofs.lemmas.List.{length-map}
+use Rattle.zf_coef.proofs.Halves.{no_word}
+use Rattle.zf_coef.proofs.Folded.{no_eights, more_eights, past_eights, all_eights}
+use Rattle.zf_coef.proofs.digits.folded_planes.Goals.{then-first-planes, else-first-planes}
+use Rattle.zf_coef.proofs.digits.folded_planes.Goals as goal
+
+pub loop-eight-init : goal.loop-eight-init
+loop-eight-init g c = no_eights c.args.number c.args.from (map g.P.Plane.words c.args.planes.now) (replicate 8 0) (λ j h. no_word 8 j)
+
+pub loop-eight-preserved : goal.loop-eight-preserved
+loop-eight-preserved g c =
+    let planes = map g.P.Plane.words c.args.planes.now in
+    let eight = c.loop-eight.eight in
+    elim c.if-first-planes.branch [
+      then-first-planes w ↦
+          rw w.words-is (more_eights c.args.number c.args.from eight w.place_of_eight.result planes w.words_from-more.result c.loop-eight.words w.put_sixteen_bits.new.words (omega arith) w.place_of_eight.ensures.value c.loop-eight.invariant
+          (λ j h. w.words_from-more.ensures j h) w.put_sixteen_bits.ensures)
+    | else-first-planes w ↦
+          rw w.words-is (past_eights c.args.number c.args.from eight planes c.loop-eight.words (omega (arith, length-map c.args.planes.now g.P.Plane.words, w.if-first-planes.false)) c.loop-eight.invariant)
+    ]
+
+pub returns : goal.returns
+returns g c = all_eights c.args.number c.args.from c.loop-eight.eight (map g.P.Plane.words c.args.planes.now) c.loop-eight.words (omega arith) c.loop-eight.invariant

@@ -1,0 +1,148 @@
+-- Planes of four digits in which three ranks have had a one: each is its own code, as where all four have.
+use Rattle.std.proofs.Common.{◌≡◌, ℕ, zero, suc, ◌-◌, ◌<◌, ◌≤◌, min, max, Bool, true, false, List, [], ◌∷◌, ◌++◌, length, take, drop, refl, sym, ap, ◌∙◌, ⊎_elim, arith}
+use Rattle.std.proofs.lemmas.Bool.{cases_lt}
+use Rattle.std.proofs.lemmas.List.Elements.{All-nil, All-cons, All-head, All-tail}
+use Rattle.zf_spec.specs.Planes.{plane_code, code_from, reach, AreOfSize}
+use Rattle.zf_spec.specs.Kept.{kept_plane, kept_planes_from}
+use Rattle.zf_spec.specs.ReadPlanes.{plane_in, planes_in_from}
+use Rattle.zf_spec.proofs.Full.{length-plane_in}
+use Rattle.zf_spec.proofs.Reach.{reach_within}
+use Rattle.zf_planes.specs.Decoding.{planes_ahead, planes_bits}
+use Rattle.zf_planes.specs.Fours.{IsAsGood}
+
+-- a list of four
+pub record IsFour (ds : List Bool) : Type 0 where
+  pub first : Bool
+  pub second : Bool
+  pub third : Bool
+  pub fourth : Bool
+  pub is : ds ≡ first ∷ second ∷ third ∷ fourth ∷ []
+
+pub four_of : (ds : List Bool) → length ds ≡ 4 → IsFour ds
+four_of [] long = absurd (omega (arith, long))
+four_of (a ∷ []) long = absurd (omega (arith, long))
+four_of (a ∷ b ∷ []) long = absurd (omega (arith, long))
+four_of (a ∷ b ∷ c ∷ []) long = absurd (omega (arith, long))
+four_of (a ∷ b ∷ c ∷ d ∷ []) long = record { first = a; second = b; third = c; fourth = d; is = refl }
+four_of (a ∷ b ∷ c ∷ d ∷ e ∷ ds) long = absurd (omega (arith, long))
+
+-- ---- one plane
+
+own_code : (n : ℕ) (a b c d : Bool) → 3 ≤ n → n ≤ 4 → plane_code n (a ∷ b ∷ c ∷ d ∷ []) ≡ a ∷ b ∷ c ∷ d ∷ []
+own_code zero a b c d low high = absurd (omega arith)
+own_code (suc zero) a b c d low high = absurd (omega arith)
+own_code (suc (suc zero)) a b c d low high = absurd (omega arith)
+own_code (suc (suc (suc zero))) a b c true low high = refl
+own_code (suc (suc (suc zero))) a b c false low high = refl
+own_code (suc (suc (suc (suc zero)))) a b c d low high = refl
+own_code (suc (suc (suc (suc (suc n))))) a b c d low high = absurd (omega arith)
+
+-- its code
+pub plane_of_three : (n : ℕ) (ds : List Bool) → 3 ≤ n → n ≤ 4 → length ds ≡ 4 → plane_code n ds ≡ ds
+plane_of_three n ds low high long =
+    let four = four_of ds long in
+    rw four.is (own_code n four.first four.second four.third four.fourth low high)
+
+-- what a budget keeps of it
+kept_short : (n r : ℕ) (a b c d : Bool) → 3 ≤ n → n ≤ 4 → kept_plane r n (a ∷ b ∷ c ∷ d ∷ []) ≡ kept_plane r 4 (a ∷ b ∷ c ∷ d ∷ [])
+kept_short zero r a b c d low high = absurd (omega arith)
+kept_short (suc zero) r a b c d low high = absurd (omega arith)
+kept_short (suc (suc zero)) r a b c d low high = absurd (omega arith)
+kept_short (suc (suc (suc zero))) zero a b c true low high = refl
+kept_short (suc (suc (suc zero))) zero a b c false low high = refl
+kept_short (suc (suc (suc zero))) (suc zero) a b c true low high = refl
+kept_short (suc (suc (suc zero))) (suc zero) a b c false low high = refl
+kept_short (suc (suc (suc zero))) (suc (suc zero)) a b c true low high = refl
+kept_short (suc (suc (suc zero))) (suc (suc zero)) a b c false low high = refl
+kept_short (suc (suc (suc zero))) (suc (suc (suc zero))) a b c true low high = refl
+kept_short (suc (suc (suc zero))) (suc (suc (suc zero))) a b c false low high = refl
+kept_short (suc (suc (suc zero))) (suc (suc (suc (suc r)))) a b c true low high = refl
+kept_short (suc (suc (suc zero))) (suc (suc (suc (suc r)))) a b c false low high = refl
+kept_short (suc (suc (suc (suc zero)))) r a b c d low high = refl
+kept_short (suc (suc (suc (suc (suc n))))) r a b c d low high = absurd (omega arith)
+
+kept_of_three : (n r : ℕ) (ds : List Bool) → 3 ≤ n → n ≤ 4 → length ds ≡ 4 → kept_plane r n ds ≡ kept_plane r 4 ds
+kept_of_three n r ds low high long =
+    let four = four_of ds long in
+    rw four.is (kept_short n r four.first four.second four.third four.fourth low high)
+
+-- what bits make of it
+read_of_three : (n : ℕ) (s : List Bool) → 3 ≤ n → n ≤ 4 → plane_in 4 n s ≡ plane_in 4 4 s
+read_of_three zero s low high = absurd (omega arith)
+read_of_three (suc zero) s low high = absurd (omega arith)
+read_of_three (suc (suc zero)) s low high = absurd (omega arith)
+read_of_three (suc (suc (suc zero))) [] low high = refl
+read_of_three (suc (suc (suc zero))) (a ∷ []) low high = refl
+read_of_three (suc (suc (suc zero))) (a ∷ b ∷ []) low high = refl
+read_of_three (suc (suc (suc zero))) (a ∷ b ∷ c ∷ []) low high = refl
+read_of_three (suc (suc (suc zero))) (a ∷ b ∷ c ∷ true ∷ []) low high = refl
+read_of_three (suc (suc (suc zero))) (a ∷ b ∷ c ∷ false ∷ []) low high = refl
+read_of_three (suc (suc (suc zero))) (a ∷ b ∷ c ∷ true ∷ true ∷ s) low high = refl
+read_of_three (suc (suc (suc zero))) (a ∷ b ∷ c ∷ true ∷ false ∷ s) low high = refl
+read_of_three (suc (suc (suc zero))) (a ∷ b ∷ c ∷ false ∷ true ∷ s) low high = refl
+read_of_three (suc (suc (suc zero))) (a ∷ b ∷ c ∷ false ∷ false ∷ s) low high = refl
+read_of_three (suc (suc (suc (suc zero)))) s low high = refl
+read_of_three (suc (suc (suc (suc (suc n))))) s low high = absurd (omega arith)
+
+-- ---- planes
+
+-- their code
+pub code_of_three : (n m : ℕ) (planes : List (List Bool)) → 3 ≤ n → n ≤ 4 → 3 ≤ m → m ≤ 4 → AreOfSize 4 planes → code_from n planes ≡ code_from m planes
+code_of_three n m [] low high low' high' sizes = refl
+code_of_three n m (ds ∷ planes) low high low' high' sizes =
+    let long : length ds ≡ 4 = All-head (λ es. length es ≡ 4) ds planes sizes in
+    let below = All-tail (λ es. length es ≡ 4) ds planes sizes in
+    let rest = code_of_three (max n (reach ds)) (max m (reach ds)) planes (omega arith) (reach_within 4 n ds high long) (omega arith) (reach_within 4 m ds high' long) below in
+    ap (λ (bs : List Bool). bs ++ code_from (max n (reach ds)) planes) (plane_of_three n ds low high long ∙ sym (plane_of_three m ds low' high' long))
+    ∙ ap (λ (bs : List Bool). plane_code m ds ++ bs) rest
+
+-- so the ones reach as far, as a code sees it
+pub code_as_good : (m n : ℕ) (planes : List (List Bool)) → IsAsGood m n → m ≤ 4 → n ≤ 4 → AreOfSize 4 planes → code_from m planes ≡ code_from n planes
+code_as_good m n planes same high high' sizes = ⊎_elim
+    (λ (low : m < 3). let is : m ≡ n = omega arith in ap (λ k. code_from k planes) is)
+    (λ (low : 3 ≤ m). code_of_three m n planes low high (omega arith) high' sizes)
+    (cases_lt m 3)
+
+-- what a budget keeps of them
+kept_of_planes : (n r : ℕ) (planes : List (List Bool)) → 3 ≤ n → n ≤ 4 → AreOfSize 4 planes → kept_planes_from r n planes ≡ kept_planes_from r 4 planes
+kept_of_planes n r [] low high sizes = refl
+kept_of_planes n r (ds ∷ planes) low high sizes =
+    let long : length ds ≡ 4 = All-head (λ es. length es ≡ 4) ds planes sizes in
+    let below = All-tail (λ es. length es ≡ 4) ds planes sizes in
+    let here = kept_of_three n r ds low high long in
+    let own = plane_of_three n ds low high long in
+    let whole = plane_of_three 4 ds (omega arith) (omega arith) long in
+    let reached : max 4 (reach ds) ≡ 4 = omega (arith, reach_within 4 4 ds (omega arith) long) in
+    let rest = kept_of_planes (max n (reach ds)) (r - length ds) planes (omega arith) (reach_within 4 n ds high long) below in
+    rw (own, whole, reached, here, rest) refl
+
+-- what bits make of them
+planes_of_three : (p n : ℕ) (s : List Bool) → 3 ≤ n → n ≤ 4 → planes_in_from p 4 n s ≡ planes_in_from p 4 4 s
+planes_of_three zero n s low high = refl
+planes_of_three (suc p) n s low high =
+    let ds = plane_in 4 4 s in
+    let long : length ds ≡ 4 = length-plane_in 4 4 s (omega arith) in
+    let own = plane_of_three n ds low high long in
+    let whole = plane_of_three 4 ds (omega arith) (omega arith) long in
+    let reached : max 4 (reach ds) ≡ 4 = omega (arith, reach_within 4 4 ds (omega arith) long) in
+    let rest = planes_of_three p (max n (reach ds)) (drop (length ds) s) (omega arith) (reach_within 4 n ds high long) in
+    rw (read_of_three n s low high, own, whole, reached, rest) refl
+
+sizes_of_four : (p : ℕ) (s : List Bool) → AreOfSize 4 (planes_in_from p 4 4 s)
+sizes_of_four zero s = All-nil (λ es. length es ≡ 4)
+sizes_of_four (suc p) s =
+    let ds = plane_in 4 4 s in
+    let long : length ds ≡ 4 = length-plane_in 4 4 s (omega arith) in
+    let reached : max 4 (reach ds) ≡ 4 = omega (arith, reach_within 4 4 ds (omega arith) long) in
+    let t = drop (length (plane_code 4 ds)) s in
+    All-cons (λ es. length es ≡ 4) ds (planes_in_from p 4 (max 4 (reach ds)) t) long (rw reached (sizes_of_four p t))
+
+-- so three ranks are as good as four
+pub ahead_of_three : (left p n : ℕ) (s : List Bool) → 3 ≤ n → n ≤ 4 → (planes_bits left p 4 n s ≡ planes_bits left p 4 4 s) × (planes_ahead left p 4 n s ≡ planes_ahead left p 4 4 s)
+unfolding planes_ahead planes_bits
+ahead_of_three left p n s low high =
+    let t = take left s in
+    let sizes = sizes_of_four p t in
+    let same = planes_of_three p n t low high in
+    (ap (λ (ps : List (List Bool)). min left (length (code_from n ps))) same ∙ ap (λ (bs : List Bool). min left (length bs)) (code_of_three n 4 (planes_in_from p 4 4 t) low high (omega arith) (omega arith) sizes),
+    ap (λ (ps : List (List Bool)). kept_planes_from left n ps) same ∙ kept_of_planes n left (planes_in_from p 4 4 t) low high sizes)
