@@ -97,7 +97,7 @@ def doubled():
 
 
 def pairs():
-    for above in range(5):
+    for above in range(3):
         for number in range(256):
             first, second = digits_of(number % 16, 4), digits_of(number // 16, 4)
             between = max(above, reach(first))
@@ -120,13 +120,13 @@ def planes_in(above, bits, at_end):
 
 
 def lanes():
-    for above in range(5):
+    for above in range(3):
         for number in range(256):
             yield planes_in(above, digits_of(number, 8), False)
 
 
 def ends():
-    for above in range(5):
+    for above in range(3):
         for number in range(256):
             count = max(number.bit_length() - 1, 0)
             yield 0 if count == 0 else planes_in(above, digits_of(number - (1 << count), count), True)

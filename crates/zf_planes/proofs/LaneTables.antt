@@ -49,7 +49,7 @@ test_lanes n bits v l c a =
 abbrev test_entry : ℕ → ℕ → ℕ → Bool
 test_entry n bits e = test_lanes n bits (lanes_apart (e % 65536)) (e / 65536 % 16) (e / 1048576 % 8) (e / 8388608)
 
-test_all_lanes : each_below (λ i. test_entry (i / 256) (i % 256) (get_or LANES i 0)) 1280 ≡ true
+test_all_lanes : each_below (λ i. test_entry (i / 256) (i % 256) (get_or LANES i 0)) 768 ≡ true
 unfolding low_planes lanes_in
 test_all_lanes = refl
 
@@ -83,7 +83,7 @@ lanes_tested n bits v l c a test =
       within = ltb-true _ _ seven.1;
     }
 
-pub lanes_of_entry : (n bits e : ℕ) → n ≤ 4 → bits < 256 → e ≡ get_or LANES (256 * n + bits) 0
+pub lanes_of_entry : (n bits e : ℕ) → n < 3 → bits < 256 → e ≡ get_or LANES (256 * n + bits) 0
     → AreLanes n bits (lanes_apart (e % 65536)) (e / 65536 % 16) (e / 1048576 % 8) (e / 8388608)
 lanes_of_entry n bits e in_plane eight is =
     let i = 256 * n + bits in
@@ -93,7 +93,7 @@ lanes_of_entry n bits e in_plane eight is =
     ap (λ k. test_entry k bits e) (sym prefix)
     ∙ ap (λ k. test_entry (i / 256) k e) (sym low)
     ∙ ap (test_entry (i / 256) (i % 256)) is
-    ∙ each_below-true (λ j. test_entry (j / 256) (j % 256) (get_or LANES j 0)) 1280 i test_all_lanes (omega arith) in
+    ∙ each_below-true (λ j. test_entry (j / 256) (j % 256) (get_or LANES j 0)) 768 i test_all_lanes (omega arith) in
     lanes_tested n bits (lanes_apart (e % 65536)) (e / 65536 % 16) (e / 1048576 % 8) (e / 8388608) test
 
 -- ---- planes by the last bits of a budget
@@ -109,7 +109,7 @@ test_end n left bits e = test_last n left bits (lanes_apart (e % 65536)) (e / 65
 
 -- of as many bits, each entry
 abbrev test_ends : ℕ → Bool
-test_ends left = each_below (λ i. test_end (i / 2 ^ left) left (i % 2 ^ left) (get_or ENDS (256 * (i / 2 ^ left) + (2 ^ left + i % 2 ^ left)) 0)) (5 * 2 ^ left)
+test_ends left = each_below (λ i. test_end (i / 2 ^ left) left (i % 2 ^ left) (get_or ENDS (256 * (i / 2 ^ left) + (2 ^ left + i % 2 ^ left)) 0)) (3 * 2 ^ left)
 
 test_all_ends : each_below (λ k. test_ends (suc k)) 7 ≡ true
 unfolding low_planes lanes_in planes_ahead planes_bits
@@ -146,23 +146,23 @@ last_tested n left bits v l c a test =
     }
 
 -- the entry of so many bits
-end_at : (n left bits p i e : ℕ) → p ≡ 2 ^ left → test_ends left ≡ true → n ≤ 4 → bits < p → i ≡ n * p + bits → i / p ≡ n → i % p ≡ bits → i < 5 * p → e ≡ get_or ENDS (256 * n + (p + bits)) 0 → test_end n left bits e ≡ true
+end_at : (n left bits p i e : ℕ) → p ≡ 2 ^ left → test_ends left ≡ true → n < 3 → bits < p → i ≡ n * p + bits → i / p ≡ n → i % p ≡ bits → i < 3 * p → e ≡ get_or ENDS (256 * n + (p + bits)) 0 → test_end n left bits e ≡ true
 end_at n left bits p i e power tests in_plane small place prefix low below is =
     let high : i / 2 ^ left ≡ n = ap (λ q. i / q) (sym power) ∙ prefix in
     let back : i % 2 ^ left ≡ bits = ap (λ q. i % q) (sym power) ∙ low in
-    let here = each_below-true (λ j. test_end (j / 2 ^ left) left (j % 2 ^ left) (get_or ENDS (256 * (j / 2 ^ left) + (2 ^ left + j % 2 ^ left)) 0)) (5 * 2 ^ left) i tests (omega arith) in
+    let here = each_below-true (λ j. test_end (j / 2 ^ left) left (j % 2 ^ left) (get_or ENDS (256 * (j / 2 ^ left) + (2 ^ left + j % 2 ^ left)) 0)) (3 * 2 ^ left) i tests (omega arith) in
     ap (test_end n left bits) (is ∙ ap (λ q. get_or ENDS (256 * n + (q + bits)) 0) power)
     ∙ ap (λ k. test_end n left k (get_or ENDS (256 * n + (2 ^ left + k)) 0)) (sym back)
     ∙ ap (λ k. test_end k left (i % 2 ^ left) (get_or ENDS (256 * k + (2 ^ left + i % 2 ^ left)) 0)) (sym high)
     ∙ here
 
-pub last_of_entry : (n left bits e : ℕ) → n ≤ 4 → 0 < left → left < 8 → bits < 2 ^ left → e ≡ get_or ENDS (256 * n + (2 ^ left + bits)) 0
+pub last_of_entry : (n left bits e : ℕ) → n < 3 → 0 < left → left < 8 → bits < 2 ^ left → e ≡ get_or ENDS (256 * n + (2 ^ left + bits)) 0
     → AreLast n left bits (lanes_apart (e % 65536)) (e / 65536 % 16) (e / 1048576 % 8) (e / 8388608)
 last_of_entry n left bits e in_plane some few small is =
     let p = 2 ^ left in
     let next : suc (left - 1) ≡ left = omega arith in
     let tests : test_ends left ≡ true = ap test_ends (sym next) ∙ each_below-true (λ k. test_ends (suc k)) 7 (left - 1) test_all_ends (omega arith) in
-    let below : n * p + bits < p * 5 = mul-add-lt n p bits 5 (omega arith) small in
+    let below : n * p + bits < p * 3 = mul-add-lt n p bits 3 (omega arith) small in
     last_tested n left bits (lanes_apart (e % 65536)) (e / 65536 % 16) (e / 1048576 % 8) (e / 8388608)
     (end_at n left bits p (n * p + bits) e refl tests in_plane small refl (shr_high n left bits small) (mod_low n left bits small) (omega arith) is)
 

@@ -1,21 +1,25 @@
 -- Planes of four digits that are read at once, in lanes.
-use Rattle.std.proofs.Common.{◌≡◌, ℕ, zero, suc, ◌+◌, ◌-◌, ◌*◌, ◌/◌, ◌%◌, ◌<◌, ◌≤◌, min, max, Bool, List, [], ◌∷◌, ◌++◌, length, take, drop, refl, sym, ap, subst, ◌∙◌, arith}
-use Rattle.std.proofs.lemmas.List.{append_assoc, drop-drop, take-take}
+use Rattle.std.proofs.Common.{◌≡◌, ℕ, zero, suc, ◌+◌, ◌-◌, ◌*◌, ◌/◌, ◌%◌, ◌^◌, ◌<◌, ◌≤◌, min, max, Bool, false, List, [], ◌∷◌, ◌++◌, length, take, drop, replicate, ⊎_elim, refl, sym, ap, subst, ◌∙◌, arith}
+use Rattle.std.proofs.Math.Nat.{div-eq_of_lt, mod-eq_of_lt}
+use Rattle.std.proofs.Math.Pow.{shr_lt, pow_mono}
+use Rattle.std.proofs.lemmas.Bool.{cases_lt}
+use Rattle.std.proofs.lemmas.List.{append_assoc, drop-drop, length-drop, length-take, take_at, take-take}
 use Rattle.std.proofs.lemmas.List.Elements.{All-head, All-tail}
-use Rattle.zf_spec.specs.Numbers.{field}
+use Rattle.zf_spec.specs.Numbers.{field, number}
 use Rattle.zf_spec.specs.Planes.{plane_code, code_from, reach, reach_of_all, AreOfSize}
 use Rattle.zf_spec.specs.Kept.{kept_planes_from}
 use Rattle.zf_spec.specs.ReadPlanes.{planes_in_from}
-use Rattle.zf_spec.proofs.Fields.{length-field, field-add}
+use Rattle.zf_spec.proofs.Fields.{length-field, number-field, number-lt, number-zeros, number-append, field-add, field-zero}
 use Rattle.zf_spec.proofs.Reach.{reach-le, reach_within}
-use Rattle.zf_bits.proofs.Fields.{field-mod}
+use Rattle.zf_bits.proofs.Fields.{field-mod, take-field}
 use Rattle.zf_bits.specs.Reader.{Reader, rest}
 use Rattle.zf_planes.specs.Decoding.{IsWindow, Takes, plane_ahead, plane_bits, planes_ahead, planes_bits}
-use Rattle.zf_planes.specs.Lanes.{low_planes, lanes_in, IsGathered, gathered}
+use Rattle.zf_planes.specs.Fours.{string_planes}
+use Rattle.zf_planes.specs.Lanes.{low_planes, lanes_in, AreBelow, IsGathered, gathered, ReadsSome}
 use Rattle.zf_planes.proofs.Doubled.{plane_whole}
 use Rattle.zf_planes.proofs.Lanes.{length-low_planes, low_planes-sizes, length-lanes_in}
 use Rattle.zf_planes.proofs.Passing.{Passes, Passes-part, Takes-rest}
-use Rattle.zf_planes.proofs.Peeking.{window_prefix, window_long}
+use Rattle.zf_planes.proofs.Peeking.{window_prefix, window_behind, window_long}
 use Rattle.zf_planes.proofs.PlaneAhead.{whole_plane}
 use Rattle.zf_planes.proofs.PlanesAhead.{whole_planes, next_plane, planes_ahead-none, planes_bits-none}
 
@@ -110,34 +114,6 @@ in_sight most n c v len bits count above window within code short few enough rea
     let eight : len + (8 - len) ≡ 8 = omega arith in
     in_view most n c v len bits count above window within (code ∙ (rw eight at (field-mod len (8 - len) bits))) few enough reached takes
 
--- where all ranks have had a one, no plane brings more
-pub reach_of_all-four : (c v : ℕ) → 4 ≡ max 4 (reach_of_all (low_planes c (lanes_in 4 v)))
-reach_of_all-four c v = omega (arith, reach_of_all-le (low_planes c (lanes_in 4 v)) (sizes c v))
-  where
-    reach_of_all-le : (planes : List (List Bool)) → AreOfSize 4 planes → reach_of_all planes ≤ 4
-    reach_of_all-le [] all = omega arith
-    reach_of_all-le (ds ∷ planes) all =
-        let here : length ds ≡ 4 = All-head (λ es. length es ≡ 4) ds planes all in
-        omega (arith, here, reach-le ds, reach_of_all-le planes (All-tail (λ es. length es ≡ 4) ds planes all))
-
--- planes of which each has the next four digits
-abbrev pub planes_of_sixteen : ℕ → ℕ → List (List Bool)
-planes_of_sixteen zero v = []
-planes_of_sixteen (suc k) v = field 4 (v % 16) ∷ planes_of_sixteen k (v / 16)
-
--- and then their code is these digits
-pub code_of_digits : (k v : ℕ) → code_from 4 (planes_of_sixteen k v) ≡ field (4 * k) v
-code_of_digits zero v = refl
-code_of_digits (suc k) v =
-    let ds = field 4 (v % 16) in
-    let four : max 4 (reach ds) ≡ 4 = omega (arith, reach-le ds, length-field 4 (v % 16)) in
-    let parts : 4 * suc k ≡ 4 + 4 * k = omega arith in
-    ap (λ n. plane_code 4 ds ++ code_from n (planes_of_sixteen k (v / 16))) four
-    ∙ ap (λ (bs : List Bool). bs ++ code_from 4 (planes_of_sixteen k (v / 16))) (plane_whole 4 (v % 16) ∙ field-mod 4 0 v)
-    ∙ ap (λ (bs : List Bool). field 4 v ++ bs) (code_of_digits k (v / 16))
-    ∙ sym (field-add 4 (4 * k) v)
-    ∙ ap (λ n. field n v) (sym parts)
-
 -- planes are what the bits in the budget make of them
 same_ahead : (left m n : ℕ) (s t : List Bool) → take left s ≡ take left t → (planes_ahead left m 4 n s ≡ planes_ahead left m 4 n t) × (planes_bits left m 4 n s ≡ planes_bits left m 4 n t)
 unfolding planes_ahead planes_bits
@@ -192,6 +168,123 @@ reach_of_one n v ds within is =
     let size = All-head (λ es. length es ≡ 4) ds [] all in
     reach_within 4 n ds within size
 
+-- ---- planes that are their own code
+
+-- a plane in which the budget ends
+cut_own : (r : ℕ) (s : List Bool) → r < 4 → r ≤ length s → (plane_bits r 4 4 s ≡ r) × (plane_ahead r 4 4 s ≡ take r s ++ replicate (4 - r) false)
+unfolding plane_bits plane_ahead
+cut_own zero s few there = (refl, refl)
+cut_own (suc zero) [] few there = absurd (omega arith)
+cut_own (suc zero) (a ∷ s) few there = (refl, refl)
+cut_own (suc (suc zero)) [] few there = absurd (omega arith)
+cut_own (suc (suc zero)) (a ∷ []) few there = absurd (omega arith)
+cut_own (suc (suc zero)) (a ∷ b ∷ s) few there = (refl, refl)
+cut_own (suc (suc (suc zero))) [] few there = absurd (omega arith)
+cut_own (suc (suc (suc zero))) (a ∷ []) few there = absurd (omega arith)
+cut_own (suc (suc (suc zero))) (a ∷ b ∷ []) few there = absurd (omega arith)
+cut_own (suc (suc (suc zero))) (a ∷ b ∷ c ∷ s) few there = (refl, refl)
+cut_own (suc (suc (suc (suc r)))) s few there = absurd (omega arith)
+
+-- the first of them
+own_plane : (r v : ℕ) (s : List Bool) → min r 4 ≤ length s → field (min r 4) v ≡ take (min r 4) s → (r < 4 → v < 2 ^ r) → (plane_bits r 4 4 s ≡ min r 4) × (plane_ahead r 4 4 s ≡ field 4 v)
+own_plane r v s there is small = ⊎_elim
+    (λ (few : r < 4).
+    let all : min r 4 ≡ r = omega arith in
+    let cut = cut_own r s few (omega arith) in
+    let parts : r + (4 - r) ≡ 4 = omega arith in
+    let none : v / 2 ^ r ≡ 0 = div-eq_of_lt (small few) in (
+      cut.0 ∙ sym all,
+      cut.1
+          ∙ ap (λ (bs : List Bool). bs ++ replicate (4 - r) false) (sym (rw all at is))
+          ∙ ap (λ (bs : List Bool). field r v ++ bs) (sym (ap (field (4 - r)) none ∙ field-zero (4 - r)))
+          ∙ sym (field-add r (4 - r) v) ∙ ap (λ k. field k v) parts,
+    ))
+    (λ (many : 4 ≤ r).
+    let all : min r 4 ≡ 4 = omega arith in
+    let ds = field 4 v in
+    let long = length-field 4 v in
+    let whole = whole_plane r 4 4 ds s (omega (arith, long)) (plane_whole 4 v ∙ (rw all at is)) (omega arith) many in
+    (rw long at whole.0 ∙ sym all, rw long at whole.1))
+    (cases_lt r 4)
+
+-- k of them, by the next bits as far as the budget has them
+pub own_planes : (k left v : ℕ) (s : List Bool) → min left (4 * k) ≤ length s → field (min left (4 * k)) v ≡ take (min left (4 * k)) s → v < 2 ^ min left (4 * k)
+    → (planes_bits left k 4 4 s ≡ min left (4 * k)) × (planes_ahead left k 4 4 s ≡ string_planes k v)
+unfolding string_planes
+own_planes zero left v s there is small = let none : min left 0 ≡ 0 = omega arith in (planes_bits-none left 4 4 s ∙ sym none, planes_ahead-none left 4 4 s)
+own_planes (suc k) left v s there is small =
+    let all = min left (4 * suc k) in
+    let one = min left 4 in
+    let more : one ≤ all = omega arith in
+    let first = own_plane left v s (omega arith) (window_prefix s v all one is more) (λ few. let same : all ≡ left = omega arith in rw same at small) in
+    let long : length (plane_ahead left 4 4 s) ≡ 4 = ap length first.1 ∙ length-field 4 v in
+    let next = next_plane left k 4 4 s (omega arith) (omega arith) long in
+    let reached : max 4 (reach (plane_ahead left 4 4 s)) ≡ 4 = omega (arith, reach-le (plane_ahead left 4 4 s), long) in
+    let behind = drop one s in
+    let back = behind_is all one refl refl is small in
+    let fewer : all - one ≡ min (left - one) (4 * k) = omega arith in
+    let rest = own_planes k (left - one) (v / 16) behind (omega (arith, length-drop one s)) (subst (λ n. field n (v / 16) ≡ take n behind) fewer back.0) (subst (λ n. v / 16 < 2 ^ n) fewer back.1) in
+    let Bits = rw (first.0, reached) at next.bits in
+    let Digits = rw (first.0, reached) at next.digits in
+    (Bits ∙ omega (arith, rest.0), Digits ∙ ap (λ (ds : List Bool). ds ∷ planes_ahead (left - one) k 4 4 behind) first.1 ∙ ap (λ (ps : List (List Bool)). field 4 v ∷ ps) rest.1)
+  where
+    -- where the first plane has four bits, the others follow; where the budget ends in it, they have none
+    behind_is : (all one : ℕ) → all ≡ min left (4 * suc k) → one ≡ min left 4 → field all v ≡ take all s → v < 2 ^ all → (field (all - one) (v / 16) ≡ take (all - one) (drop one s)) × (v / 16 < 2 ^ (all - one))
+    behind_is all one is_all is_one bits_are below = ⊎_elim
+        (λ (few : left < 4).
+        let none : all - one ≡ 0 = omega arith in
+        let less : 2 ^ all ≤ 2 ^ 4 = pow_mono {i = all} {j = 4} (omega arith) in
+        rw none (refl, omega arith))
+        (λ (many : 4 ≤ left).
+        let four : 4 ≡ one = omega arith in
+        let parts : all ≡ (all - 4) + 4 = omega arith in (
+          subst (λ o. field (all - o) (v / 16) ≡ take (all - o) (drop o s)) four (window_behind s v all 4 bits_are (omega arith)),
+          subst (λ o. v / 16 < 2 ^ (all - o)) four (shr_lt (all - 4) 4 (subst (λ n. v < 2 ^ n) parts below)),
+        ))
+        (cases_lt left 4)
+
+-- some of most planes, c of which have the next bits, were read
+own_read : {now new : Reader} {left after : ℕ} (most c v string len : ℕ) → c ≤ most → len ≡ min left (4 * c) → len ≤ length (rest now) → field len string ≡ take len (rest now) → string < 2 ^ len
+    → low_planes c (lanes_in 4 v) ≡ string_planes c string → Takes now new left after len → SomeRead now new left after most 4 c v len 4
+own_read {now} {new} {left} {after} most c v string len few is there bits_are small lanes takes =
+    let s = rest now in
+    let here = own_planes c left string s (rw is at there) (rw is at bits_are) (rw is at small) in
+    let parts : c + (most - c) ≡ most = omega arith in
+    let next = planes_then c (most - c) left 4 4 len s (low_planes c (lanes_in 4 v)) (omega arith) (omega arith) (sizes c v) (here.1 ∙ sym lanes) (here.0 ∙ sym is) in
+    let spent : after ≡ left - len = omega (arith, takes.spent) in
+    let reached : max 4 (reach_of_all (low_planes c (lanes_in 4 v))) ≡ 4 = omega (arith, reach_of_fours (low_planes c (lanes_in 4 v)) (sizes c v)) in
+    let bits = rw (parts, reached) at next.bits in
+    let digits = rw (parts, reached) at next.digits in
+    record {
+      bits = rw (Takes-rest takes, spent) bits;
+      digits = rw (Takes-rest takes, spent) digits;
+    }
+  where
+    reach_of_fours : (planes : List (List Bool)) → AreOfSize 4 planes → reach_of_all planes ≤ 4
+    reach_of_fours [] all = omega arith
+    reach_of_fours (ds ∷ planes) all =
+        let here : length ds ≡ 4 = All-head (λ es. length es ≡ 4) ds planes all in
+        omega (arith, here, reach-le ds, reach_of_fours planes (All-tail (λ es. length es ≡ 4) ds planes all))
+
+-- the same by a word that was read
+pub word_read : {now new : Reader} {left after : ℕ} (most c v digits len : ℕ) → 0 < c → c ≤ 4 → c ≤ most → len ≡ min left (4 * c) → field 64 digits ≡ take len (rest now) ++ replicate (64 - len) false → digits < 2 ^ 64
+    → low_planes c (lanes_in 4 v) ≡ string_planes c (digits % 2 ^ (4 * c)) → AreBelow c (lanes_in 4 v) → Takes now new left after len → ReadsSome most 4 now new left after c v len 4
+word_read {now} {new} {left} {after} most c v digits len some few fits is bits_are word lanes below takes =
+    let s = rest now in
+    let prefix = take len s in
+    let long : length prefix ≡ len = omega (arith, length-take len s, takes.enough) in
+    let first : field len digits ≡ prefix =
+    (let parts : len + (64 - len) ≡ 64 = omega arith in
+    sym (take-field len (64 - len) digits) ∙ ap (λ k. take len (field k digits)) parts ∙ ap (take len) bits_are ∙ take_at prefix (replicate (64 - len) false) len long) in
+    let none : number (replicate (64 - len) false) ≡ 0 = number-zeros (64 - len) in
+    let whole : digits ≡ number prefix =
+    sym (number-field 64 digits ∙ mod-eq_of_lt word) ∙ ap number bits_are ∙ number-append prefix (replicate (64 - len) false) ∙ ap (λ n. number prefix + 2 ^ length prefix * n) none ∙ omega arith in
+    let small : digits < 2 ^ len = subst (λ n. digits < 2 ^ n) long (rw (← whole) at (number-lt prefix)) in
+    let all : 2 ^ len ≤ 2 ^ (4 * c) = pow_mono {i = len} {j = 4 * c} (omega arith) in
+    let same : digits % 2 ^ (4 * c) ≡ digits = mod-eq_of_lt (omega arith) in
+    let read = own_read most c v digits len fits is takes.enough first small (lanes ∙ ap (string_planes c) same) takes in
+    record { some = some; few = few; fits = fits; below = below; within = omega arith; taken = takes; bits = read.bits; digits = read.digits }
+
 -- ---- planes that are gathered from the greatest on
 
 -- the planes so far are gathered, and what reading makes of the rest is what it makes of the planes below
@@ -205,17 +298,17 @@ pub record FoursRead (start now : Reader) (budget left prec above : ℕ) (words 
 
 -- some planes more
 pub FoursRead-more : {start now new : Reader} {budget left after prec n : ℕ} {words : List ℕ} {done lanes held : ℕ} (c v len above : ℕ) (words' : List ℕ) (done' lanes' held' : ℕ)
-    → FoursRead start now budget left prec n words done lanes held → SomeRead now new left after (prec - (done + held)) n c v len above → Takes now new left after len
+    → FoursRead start now budget left prec n words done lanes held → ReadsSome (prec - (done + held)) n now new left after c v len above
     → IsGathered words' done' lanes' held' → gathered words' done' lanes' held' ≡ gathered words done lanes held ++ low_planes c (lanes_in 4 v) → done' + held' ≡ done + held + c
-    → done + held + c ≤ prec → held' ≤ 12 → above ≤ 4 → FoursRead start new budget after prec above words' done' lanes' held'
-FoursRead-more {start} {now} {new} {budget} {left} {after} {prec} {n} {words} {done} {lanes} {held} c v len above words' done' lanes' held' before some taken put planes sum within few high =
+    → done + held + c ≤ prec → held' ≤ 12 → FoursRead start new budget after prec above words' done' lanes' held'
+FoursRead-more {start} {now} {new} {budget} {left} {after} {prec} {n} {words} {done} {lanes} {held} c v len above words' done' lanes' held' before some put planes sum within few =
     let fewer : prec - (done + held) - c ≡ prec - (done' + held') = omega arith in
     let bits = rw fewer at some.bits in
     let digits = rw fewer at some.digits in
     let below = planes_ahead after (prec - (done' + held')) 4 above (rest new) in
     let prefix = gathered words done lanes held in
     record {
-      passes = Passes-part (planes_bits after (prec - (done' + held')) 4 above (rest new)) before.passes bits taken;
+      passes = Passes-part (planes_bits after (prec - (done' + held')) 4 above (rest new)) before.passes bits some.taken;
       put = put;
       planes =
           before.planes
@@ -224,5 +317,5 @@ FoursRead-more {start} {now} {new} {budget} {left} {after} {prec} {n} {words} {d
           ∙ ap (λ (ps : List (List Bool)). ps ++ below) (sym planes);
       within = omega arith;
       few = few;
-      high = high;
+      high = some.within;
     }

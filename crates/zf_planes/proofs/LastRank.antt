@@ -1,14 +1,18 @@
 -- Planes of four digits in which three ranks have had a one: each is its own code, as where all four have.
-use Rattle.std.proofs.Common.{◌≡◌, ℕ, zero, suc, ◌-◌, ◌<◌, ◌≤◌, min, max, Bool, true, false, List, [], ◌∷◌, ◌++◌, length, take, drop, refl, sym, ap, ◌∙◌, ⊎_elim, arith}
+use Rattle.std.proofs.Common.{◌≡◌, ℕ, zero, suc, ◌+◌, ◌-◌, ◌*◌, ◌<◌, ◌≤◌, min, max, Bool, true, false, List, [], ◌∷◌, ◌++◌, length, take, drop, refl, sym, ap, ◌∙◌, ⊎_elim, arith}
 use Rattle.std.proofs.lemmas.Bool.{cases_lt}
+use Rattle.std.proofs.lemmas.List.{length-append}
 use Rattle.std.proofs.lemmas.List.Elements.{All-nil, All-cons, All-head, All-tail}
 use Rattle.zf_spec.specs.Planes.{plane_code, code_from, reach, AreOfSize}
 use Rattle.zf_spec.specs.Kept.{kept_plane, kept_planes_from}
 use Rattle.zf_spec.specs.ReadPlanes.{plane_in, planes_in_from}
 use Rattle.zf_spec.proofs.Full.{length-plane_in}
+use Rattle.zf_spec.proofs.KeptSame.{kept_whole}
 use Rattle.zf_spec.proofs.Reach.{reach_within}
+use Rattle.zf_bits.specs.Reader.{Reader, rest}
 use Rattle.zf_planes.specs.Decoding.{planes_ahead, planes_bits}
 use Rattle.zf_planes.specs.Fours.{IsAsGood}
+use Rattle.zf_planes.specs.Lanes.{ReadsSome}
 
 -- a list of four
 pub record IsFour (ds : List Bool) : Type 0 where
@@ -44,27 +48,30 @@ plane_of_three n ds low high long =
     rw four.is (own_code n four.first four.second four.third four.fourth low high)
 
 -- what a budget keeps of it
-kept_short : (n r : ℕ) (a b c d : Bool) → 3 ≤ n → n ≤ 4 → kept_plane r n (a ∷ b ∷ c ∷ d ∷ []) ≡ kept_plane r 4 (a ∷ b ∷ c ∷ d ∷ [])
-kept_short zero r a b c d low high = absurd (omega arith)
-kept_short (suc zero) r a b c d low high = absurd (omega arith)
-kept_short (suc (suc zero)) r a b c d low high = absurd (omega arith)
-kept_short (suc (suc (suc zero))) zero a b c true low high = refl
-kept_short (suc (suc (suc zero))) zero a b c false low high = refl
-kept_short (suc (suc (suc zero))) (suc zero) a b c true low high = refl
-kept_short (suc (suc (suc zero))) (suc zero) a b c false low high = refl
-kept_short (suc (suc (suc zero))) (suc (suc zero)) a b c true low high = refl
-kept_short (suc (suc (suc zero))) (suc (suc zero)) a b c false low high = refl
-kept_short (suc (suc (suc zero))) (suc (suc (suc zero))) a b c true low high = refl
-kept_short (suc (suc (suc zero))) (suc (suc (suc zero))) a b c false low high = refl
-kept_short (suc (suc (suc zero))) (suc (suc (suc (suc r)))) a b c true low high = refl
-kept_short (suc (suc (suc zero))) (suc (suc (suc (suc r)))) a b c false low high = refl
-kept_short (suc (suc (suc (suc zero)))) r a b c d low high = refl
-kept_short (suc (suc (suc (suc (suc n))))) r a b c d low high = absurd (omega arith)
+kept_short : (r : ℕ) (a b c d : Bool) → r < 4 → kept_plane r 3 (a ∷ b ∷ c ∷ d ∷ []) ≡ kept_plane r 4 (a ∷ b ∷ c ∷ d ∷ [])
+kept_short zero a b c true few = refl
+kept_short zero a b c false few = refl
+kept_short (suc zero) a b c true few = refl
+kept_short (suc zero) a b c false few = refl
+kept_short (suc (suc zero)) a b c true few = refl
+kept_short (suc (suc zero)) a b c false few = refl
+kept_short (suc (suc (suc zero))) a b c true few = refl
+kept_short (suc (suc (suc zero))) a b c false few = refl
+kept_short (suc (suc (suc (suc r)))) a b c d few = absurd (omega arith)
 
 kept_of_three : (n r : ℕ) (ds : List Bool) → 3 ≤ n → n ≤ 4 → length ds ≡ 4 → kept_plane r n ds ≡ kept_plane r 4 ds
-kept_of_three n r ds low high long =
+kept_of_three n r ds low high long = ⊎_elim
+    (λ (few : r < 4). ⊎_elim
+    (λ (last : n < 4).
     let four = four_of ds long in
-    rw four.is (kept_short n r four.first four.second four.third four.fourth low high)
+    let three : n ≡ 3 = omega arith in
+    rw (three, four.is) (kept_short r four.first four.second four.third four.fourth few))
+    (λ (all : 4 ≤ n). let is : n ≡ 4 = omega arith in rw is refl)
+    (cases_lt n 4))
+    (λ (many : 4 ≤ r).
+    kept_whole r n ds (omega (arith, ap length (plane_of_three n ds low high long), long))
+    ∙ sym (kept_whole r 4 ds (omega (arith, ap length (plane_of_three 4 ds (omega arith) (omega arith) long), long))))
+    (cases_lt r 4)
 
 -- what bits make of it
 read_of_three : (n : ℕ) (s : List Bool) → 3 ≤ n → n ≤ 4 → plane_in 4 n s ≡ plane_in 4 4 s
@@ -113,8 +120,11 @@ kept_of_planes n r (ds ∷ planes) low high sizes =
     let own = plane_of_three n ds low high long in
     let whole = plane_of_three 4 ds (omega arith) (omega arith) long in
     let reached : max 4 (reach ds) ≡ 4 = omega (arith, reach_within 4 4 ds (omega arith) long) in
-    let rest = kept_of_planes (max n (reach ds)) (r - length ds) planes (omega arith) (reach_within 4 n ds high long) below in
-    rw (own, whole, reached, here, rest) refl
+    let left = r - length (plane_code 4 ds) in
+    let rest = kept_of_planes (max n (reach ds)) left planes (omega arith) (reach_within 4 n ds high long) below in
+    ap (λ (es : List Bool). es ∷ kept_planes_from (r - length (plane_code n ds)) (max n (reach ds)) planes) here
+    ∙ ap (λ (ps : List (List Bool)). kept_plane r 4 ds ∷ ps)
+    (ap (λ (es : List Bool). kept_planes_from (r - length es) (max n (reach ds)) planes) (own ∙ sym whole) ∙ rest ∙ ap (λ m. kept_planes_from left m planes) (sym reached))
 
 -- what bits make of them
 planes_of_three : (p n : ℕ) (s : List Bool) → 3 ≤ n → n ≤ 4 → planes_in_from p 4 n s ≡ planes_in_from p 4 4 s
@@ -143,6 +153,40 @@ unfolding planes_ahead planes_bits
 ahead_of_three left p n s low high =
     let t = take left s in
     let sizes = sizes_of_four p t in
-    let same = planes_of_three p n t low high in
-    (ap (λ (ps : List (List Bool)). min left (length (code_from n ps))) same ∙ ap (λ (bs : List Bool). min left (length bs)) (code_of_three n 4 (planes_in_from p 4 4 t) low high (omega arith) (omega arith) sizes),
-    ap (λ (ps : List (List Bool)). kept_planes_from left n ps) same ∙ kept_of_planes n left (planes_in_from p 4 4 t) low high sizes)
+    let same = planes_of_three p n t low high in (
+      ap (λ (ps : List (List Bool)). min left (length (code_from n ps))) same ∙ ap (λ (bs : List Bool). min left (length bs)) (code_of_three n 4 (planes_in_from p 4 4 t) low high (omega arith) (omega arith) sizes),
+      ap (λ (ps : List (List Bool)). kept_planes_from left n ps) same ∙ kept_of_planes n left (planes_in_from p 4 4 t) low high sizes,
+    )
+
+-- ---- bits that are needed
+
+own_length : (p : ℕ) (s : List Bool) → length (code_from 4 (planes_in_from p 4 4 s)) ≡ 4 * p
+own_length zero s = refl
+own_length (suc p) s =
+    let ds = plane_in 4 4 s in
+    let long : length ds ≡ 4 = length-plane_in 4 4 s (omega arith) in
+    let whole = plane_of_three 4 ds (omega arith) (omega arith) long in
+    let reached : max 4 (reach ds) ≡ 4 = omega (arith, reach_within 4 4 ds (omega arith) long) in
+    let t = drop (length (plane_code 4 ds)) s in
+    length-append (plane_code 4 ds) (code_from (max 4 (reach ds)) (planes_in_from p 4 (max 4 (reach ds)) t))
+    ∙ ap (λ m. length (plane_code 4 ds) + length (code_from m (planes_in_from p 4 m t))) reached
+    ∙ omega (arith, ap length whole, long, own_length p t)
+
+pub own_bits : (left p : ℕ) (s : List Bool) → planes_bits left p 4 4 s ≡ min left (4 * p)
+unfolding planes_bits
+own_bits left p s = ap (min left) (own_length p (take left s))
+
+-- planes that were read behind four ranks are those behind three
+pub three_for_four : {old new : Reader} {left after : ℕ} (most n c v len above : ℕ) → 3 ≤ n → n ≤ 4 → ReadsSome most 4 old new left after c v len above → ReadsSome most n old new left after c v len above
+three_for_four {old} {new} {left} most n c v len above low high read =
+    let same = ahead_of_three left most n (rest old) low high in
+    record {
+      some = read.some;
+      few = read.few;
+      fits = read.fits;
+      below = read.below;
+      within = read.within;
+      taken = read.taken;
+      bits = same.0 ∙ read.bits;
+      digits = same.1 ∙ read.digits;
+    }

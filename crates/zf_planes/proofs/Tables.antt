@@ -52,7 +52,7 @@ test_code n digits e =
     same_digits (field (len_of_first e) (e % 16384)) (plane_code n (field 4 digits))
     && (ltb (e % 16384) (2 ^ len_of_first e) && (ltb (min (e / 262144 + 1) 4) (e / 16384 % 16 + 1) && (ltb (len_of_first e) 8 && (eqb (e / 262144) (max n (reach (field 4 digits))) && ltb (e / 262144) 5))))
 
-test_codes : each_below (λ i. test_code (i / 16) (i % 16) (get_or PAIRS (256 * (i / 16) + i % 16) 0)) 80 ≡ true
+test_codes : each_below (λ i. test_code (i / 16) (i % 16) (get_or PAIRS (256 * (i / 16) + i % 16) 0)) 48 ≡ true
 test_codes = refl
 
 pub record IsCode (n digits e : ℕ) : Type 0 where
@@ -63,7 +63,7 @@ pub record IsCode (n digits e : ℕ) : Type 0 where
   pub above : e / 262144 ≡ max n (reach (field 4 digits))
   pub within : e / 262144 < 5
 
-pub code_of_entry : (n digits e : ℕ) → n ≤ 4 → digits < 16 → e ≡ get_or PAIRS (256 * n + digits) 0 → IsCode n digits e
+pub code_of_entry : (n digits e : ℕ) → n < 3 → digits < 16 → e ≡ get_or PAIRS (256 * n + digits) 0 → IsCode n digits e
 code_of_entry n digits e in_plane four is =
     let i = 16 * n + digits in
     let prefix : i / 16 ≡ n = omega arith in
@@ -73,7 +73,7 @@ code_of_entry n digits e in_plane four is =
     ap (λ k. test_code k digits e) (sym prefix)
     ∙ ap (λ k. test_code (i / 16) k e) (sym low)
     ∙ ap (test_code (i / 16) (i % 16)) (is ∙ ap (λ k. get_or PAIRS k 0) place)
-    ∙ each_below-true (λ j. test_code (j / 16) (j % 16) (get_or PAIRS (256 * (j / 16) + j % 16) 0)) 80 i test_codes (omega arith) in
+    ∙ each_below-true (λ j. test_code (j / 16) (j % 16) (get_or PAIRS (256 * (j / 16) + j % 16) 0)) 48 i test_codes (omega arith) in
     let one = and_parts (same_digits (field (len_of_first e) (e % 16384)) (plane_code n (field 4 digits))) _ test in
     let two = and_parts (ltb (e % 16384) (2 ^ len_of_first e)) _ one.1 in
     let three = and_parts (ltb (min (e / 262144 + 1) 4) (e / 16384 % 16 + 1)) _ two.1 in
@@ -96,7 +96,7 @@ test_pair n first second e =
     same_digits (field (e / 16384 % 16) (e % 16384)) (plane_code n (field 4 first) ++ plane_code (max n (reach (field 4 first))) (field 4 second))
     && (ltb (e % 16384) (2 ^ (e / 16384 % 16)) && (ltb (e / 16384 % 16) 15 && (eqb (e / 262144) (max (max n (reach (field 4 first))) (reach (field 4 second))) && ltb (e / 262144) 5)))
 
-test_pairs : each_below (λ i. test_pair (i / 256) (i % 16) (i / 16 % 16) (get_or PAIRS i 0)) 1280 ≡ true
+test_pairs : each_below (λ i. test_pair (i / 256) (i % 16) (i / 16 % 16) (get_or PAIRS i 0)) 768 ≡ true
 test_pairs = refl
 
 pub record IsPair (n first second e : ℕ) : Type 0 where
@@ -106,7 +106,7 @@ pub record IsPair (n first second e : ℕ) : Type 0 where
   pub above : e / 262144 ≡ max (max n (reach (field 4 first))) (reach (field 4 second))
   pub within : e / 262144 < 5
 
-pub pair_of_entry : (n first second e : ℕ) → n ≤ 4 → first < 16 → second < 16 → e ≡ get_or PAIRS (256 * n + (first + 16 * second)) 0 → IsPair n first second e
+pub pair_of_entry : (n first second e : ℕ) → n < 3 → first < 16 → second < 16 → e ≡ get_or PAIRS (256 * n + (first + 16 * second)) 0 → IsPair n first second e
 pair_of_entry n first second e in_plane four other is =
     let i = 256 * n + (first + 16 * second) in
     let prefix : i / 256 ≡ n = omega arith in
@@ -117,7 +117,7 @@ pair_of_entry n first second e in_plane four other is =
     ∙ ap (λ k. test_pair (i / 256) k second e) (sym low)
     ∙ ap (λ k. test_pair (i / 256) (i % 16) k e) (sym high)
     ∙ ap (test_pair (i / 256) (i % 16) (i / 16 % 16)) is
-    ∙ each_below-true (λ j. test_pair (j / 256) (j % 16) (j / 16 % 16) (get_or PAIRS j 0)) 1280 i test_pairs (omega arith) in
+    ∙ each_below-true (λ j. test_pair (j / 256) (j % 16) (j / 16 % 16) (get_or PAIRS j 0)) 768 i test_pairs (omega arith) in
     let one = and_parts (same_digits (field (e / 16384 % 16) (e % 16384)) (plane_code n (field 4 first) ++ plane_code (max n (reach (field 4 first))) (field 4 second))) _ test in
     let two = and_parts (ltb (e % 16384) (2 ^ (e / 16384 % 16))) _ one.1 in
     let three = and_parts (ltb (e / 16384 % 16) 15) _ two.1 in

@@ -85,7 +85,7 @@ length-top_planes k words = length-map-upto (λ i. map (λ word. top_digit word 
 pub top_planes-sizes : (k : ℕ) (words : List ℕ) → length words ≡ 4 → AreOfSize 4 (top_planes k words)
 unfolding top_planes
 top_planes-sizes k words four =
-    All-map (λ es. length es ≡ 4) (λ i. map (λ word. top_digit word i) words) (upto k) (λ j d within. length-map (λ word. top_digit word (get_or (upto k) j d)) words ∙ four)
+    All-map (λ es. length es ≡ 4) (λ i. map (λ word. top_digit word i) words) (upto k) (λ j d within. length-map words (λ word. top_digit word (get_or (upto k) j d)) ∙ four)
 
 pub no_top_planes : (k : ℕ) (words : List ℕ) → k ≤ 0 → top_planes k words ≡ []
 unfolding top_planes

@@ -1,6 +1,8 @@
 -- Digits of four coefficients in words, and in four lanes of one word.
-use Rattle.std.specs.Prelude.{ℕ, suc, zero, ◌≡◌, ◌+◌, ◌*◌, ◌/◌, ◌%◌, ◌^◌, ◌<◌, Bool, List, [], ◌∷◌, ◌++◌, length, map}
+use Rattle.std.specs.Prelude.{ℕ, suc, zero, ◌≡◌, ◌+◌, ◌-◌, ◌*◌, ◌/◌, ◌%◌, ◌^◌, ◌<◌, ◌≤◌, Bool, List, [], ◌∷◌, ◌++◌, length, map}
 use Rattle.zf_spec.specs.Numbers.{is_odd}
+use Rattle.zf_bits.specs.Reader.{Reader, rest}
+use Rattle.zf_planes.specs.Decoding.{planes_ahead, planes_bits, Takes}
 
 -- the planes of the c lowest digits of each word, the greatest first
 unfoldable pub low_planes : ℕ → List ℕ → List (List Bool)
@@ -35,3 +37,16 @@ pub record IsGathered (words : List ℕ) (done lanes held : ℕ) : Type 0 where
 
 unfoldable pub gathered : List ℕ → ℕ → ℕ → ℕ → List (List Bool)
 gathered words done lanes held = low_planes done words ++ low_planes held (lanes_in 4 lanes)
+
+-- ---- planes that were read
+
+-- of at most so many planes, behind ranks below n that have had a one, c were read into the lanes v, by len bits; those behind them are to come
+pub record ReadsSome (most n : ℕ) (old new : Reader) (left after c v len above : ℕ) : Type 0 where
+  pub some : 0 < c
+  pub few : c ≤ 4
+  pub fits : c ≤ most
+  pub below : AreBelow c (lanes_in 4 v)
+  pub within : above ≤ 4
+  pub taken : Takes old new left after len
+  pub bits : planes_bits left most 4 n (rest old) ≡ len + planes_bits after (most - c) 4 above (rest new)
+  pub digits : planes_ahead left most 4 n (rest old) ≡ low_planes c (lanes_in 4 v) ++ planes_ahead after (most - c) 4 above (rest new)

@@ -77,7 +77,7 @@ fn see(n: u64, ahead: &mut Ahead, reader: &BitReader<'_>) -> Option<()>
 
 /// Reads digits of one word as they are, the first one lowest.
 #[inline]
-fn read_word(n: u64, ahead: &mut Ahead, reader: &mut BitReader<'_>) -> Option<u64>
+pub(crate) fn read_word(n: u64, ahead: &mut Ahead, reader: &mut BitReader<'_>) -> Option<u64>
     requires some { 0 < n }
     requires in_word { n ≤ 64 }
     requires in_budget { n ≤ ahead.old.left }

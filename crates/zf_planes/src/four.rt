@@ -19,7 +19,7 @@ pub(crate) struct PlanesCode {
 /// The code of a plane of four digits in which the ranks below `n` have had a one above.
 #[inline]
 pub(crate) fn code_of_4(n: usize, digits: u64) -> PlanesCode
-    requires in_plane { n ≤ 4 }
+    requires in_plane { n < 3 }
     requires digits { digits < 16 }
     ensures bits { field result.part.len result.part.bits ≡ plane_code n (field 4 digits) }
     ensures small { result.part.bits < 2 ^ result.part.len }

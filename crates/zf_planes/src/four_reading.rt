@@ -6,9 +6,10 @@ ghost use Rattle.zf_spec.specs.Planes.{code_from, reach, reach_of_all, planes_of
 ghost use Rattle.zf_spec.specs.Kept.{kept_planes};
 ghost use Rattle.zf_bits.specs.Reader.{rest, Reads};
 ghost use Rattle.zf_planes.specs.Decoding.{IsWindow, coded, coded_bits, plane_ahead, plane_bits, planes_ahead, planes_bits, Takes, Lacks};
-ghost use Rattle.zf_planes.specs.Lanes.{low_planes, lanes_in, lanes_apart, AreBelow, IsGathered, gathered};
+ghost use Rattle.zf_planes.specs.Fours.{string_planes};
+ghost use Rattle.zf_planes.specs.Lanes.{low_planes, lanes_in, lanes_apart, AreBelow, IsGathered, gathered, ReadsSome};
 
-use crate::decoding::{Ahead, look, look_on, pass, pass_zero_planes, read_by_runs};
+use crate::decoding::{Ahead, look, look_on, pass, pass_zero_planes, read_by_runs, read_word};
 use crate::ends_table::entry_of_end;
 use crate::lanes_table::entry_of_lanes;
 use crate::tails::plane_at;
@@ -52,7 +53,7 @@ struct PlanesInLanes {
 /// Planes whose code the next eight bits begin with, where the ranks below `n` have had a one above.
 #[inline(always)]
 fn planes_in_sight(n: usize, bits: u64) -> PlanesInLanes
-    requires in_plane { n ≤ 4 }
+    requires in_plane { n < 3 }
     requires bits { bits < 256 }
     ensures code { code_from n (low_planes result.count (lanes_in 4 result.lanes)) ≡ field result.len bits }
     ensures below { AreBelow result.count (lanes_in 4 result.lanes) }
@@ -72,31 +73,23 @@ fn planes_in_sight(n: usize, bits: u64) -> PlanesInLanes
     }
 }
 
-/// The four planes whose digits these sixteen bits are, as they are where three ranks have had a one above.
+/// Four planes whose digits these sixteen bits are, each in a lane.
 #[inline(always)]
-fn planes_of_sixteen(bits: u64) -> PlanesInLanes
+fn lanes_of_16(bits: u64) -> u64
     requires bits { bits < 65536 }
-    ensures code { code_from 4 (low_planes 4 (lanes_in 4 result.lanes)) ≡ field 16 bits }
-    ensures below { AreBelow 4 (lanes_in 4 result.lanes) }
-    ensures count { result.count ≡ 4 }
-    ensures len { result.len ≡ 16 }
-    ensures above { result.above ≡ 4 }
+    ensures digits { low_planes 4 (lanes_in 4 result) ≡ string_planes 4 bits }
+    ensures below { AreBelow 4 (lanes_in 4 result) }
 {
     let one = lanes_of_4(bits % 16);
     let two = (one << 1) + lanes_of_4(bits / 16 % 16);
     let three = (two << 1) + lanes_of_4(bits / 256 % 16);
-    PlanesInLanes {
-        lanes: (three << 1) + lanes_of_4(bits / 4096),
-        count: 4,
-        len: 16,
-        above: 4,
-    }
+    (three << 1) + lanes_of_4(bits / 4096)
 }
 
 /// The planes that the last bits of a budget stand for, or the first of them, where the ranks below `n` have had a one above.
 #[inline(always)]
 fn planes_at_end(n: usize, left: u64, bits: u64) -> PlanesInLanes
-    requires in_plane { n ≤ 4 }
+    requires in_plane { n < 3 }
     requires some { 0 < left }
     requires few { left < 8 }
     ensures digits { planes_ahead left result.count 4 n (field left bits) ≡ low_planes result.count (lanes_in 4 result.lanes) }
@@ -176,7 +169,7 @@ fn read_one(n: usize, ahead: &mut Ahead, reader: &mut BitReader<'_>) -> Option<P
     Some(one)
 }
 
-/// Reads the code of one plane or more, at most `most`, where the ranks below `n` have had a one above.
+/// Reads the code of one plane or more, at most `most`, where the ranks below `n` have had a one above, and two ranks at least have had none.
 #[inline(always)]
 fn read_some(
     most: u32,
@@ -185,21 +178,12 @@ fn read_some(
     reader: &mut BitReader<'_>,
 ) -> Option<PlanesInLanes>
     requires some { 0 < most }
-    requires in_plane { n ≤ 4 }
+    requires in_plane { n < 3 }
     requires left { 0 < ahead.old.left }
     requires window { IsWindow ahead.old.left ahead.old.bits ahead.old.count (rest reader.old) }
     ensures short { IfNone result (Lacks reader.old reader.new (planes_bits ahead.old.left most 4 n (rest reader.old))) }
     ensures window { OnSome result (IsWindow ahead.new.left ahead.new.bits ahead.new.count (rest reader.new)) }
-    ensures some { IfSome result (λ some. 0 < some.count) }
-    ensures few { IfSome result (λ some. some.count ≤ 4) }
-    ensures most { IfSome result (λ some. some.count ≤ most) }
-    ensures below { IfSome result (λ some. AreBelow some.count (lanes_in 4 some.lanes)) }
-    ensures within { IfSome result (λ some. some.above ≤ 4) }
-    ensures taken { IfSome result (λ some. Takes reader.old reader.new ahead.old.left ahead.new.left some.len) }
-    ensures bits { IfSome result (λ some. planes_bits ahead.old.left most 4 n (rest reader.old)
-        ≡ some.len + planes_bits ahead.new.left (most - some.count) 4 some.above (rest reader.new)) }
-    ensures digits { IfSome result (λ some. planes_ahead ahead.old.left most 4 n (rest reader.old)
-        ≡ low_planes some.count (lanes_in 4 some.lanes) ++ planes_ahead ahead.new.left (most - some.count) 4 some.above (rest reader.new)) }
+    ensures read { IfSome result (λ some. ReadsSome most n reader.old reader.new ahead.old.left ahead.new.left some.count some.lanes some.len some.above) }
 {
     look_on(8, ahead, reader);
     if ahead.count < 8 && ahead.count == ahead.left {
@@ -219,35 +203,57 @@ fn read_some(
     Some(one)
 }
 
-/// Whether so many bits are in sight, after another look where they are not at first.
+/// Reads one plane or four of `most` planes, in which all ranks have had a one above, so that each is its own code. Where the budget ends, zeros follow.
 #[inline(always)]
-fn sees(n: u64, ahead: &mut Ahead, reader: &BitReader<'_>) -> bool
-    requires window { IsWindow ahead.old.left ahead.old.bits ahead.old.count (rest reader.now) }
-    ensures window { IsWindow ahead.new.left ahead.new.bits ahead.new.count (rest reader.now) }
-    ensures left { ahead.new.left ≡ ahead.old.left }
-    ensures there { result ≡ true → n ≤ ahead.new.count }
+fn read_verbatim(most: u32, ahead: &mut Ahead, reader: &mut BitReader<'_>) -> Option<PlanesInLanes>
+    requires some { 0 < most }
+    requires left { 0 < ahead.old.left }
+    requires window { IsWindow ahead.old.left ahead.old.bits ahead.old.count (rest reader.old) }
+    ensures short { IfNone result (Lacks reader.old reader.new (planes_bits ahead.old.left most 4 4 (rest reader.old))) }
+    ensures window { OnSome result (IsWindow ahead.new.left ahead.new.bits ahead.new.count (rest reader.new)) }
+    ensures read { IfSome result (λ some. ReadsSome most 4 reader.old reader.new ahead.old.left ahead.new.left some.count some.lanes some.len some.above) }
 {
-    look_on(n, ahead, reader);
-    n <= ahead.count
+    if most < 4 {
+        let len = ahead.left.min(4);
+        let digits = read_word(len, ahead, reader)?;
+        return Some(PlanesInLanes {
+            lanes: lanes_of_4(digits % 16),
+            count: 1,
+            len,
+            above: 4,
+        });
+    }
+    let len = ahead.left.min(16);
+    let digits = read_word(len, ahead, reader)?;
+    Some(PlanesInLanes {
+        lanes: lanes_of_16(digits % 65536),
+        count: 4,
+        len,
+        above: 4,
+    })
 }
 
-/// Reads four of `most` planes, in which three ranks have had a one above, so that each is its own code. Three are as good as four.
+/// Reads the code of one plane or more, at most `most`, where the ranks below `n` have had a one above. Three are as good as four.
 #[inline(always)]
-fn read_verbatim(most: u32, ahead: &mut Ahead, reader: &mut BitReader<'_>) -> PlanesInLanes
-    requires four { 4 ≤ most }
-    requires there { 16 ≤ ahead.old.count }
+fn read_next(
+    most: u32,
+    n: usize,
+    ahead: &mut Ahead,
+    reader: &mut BitReader<'_>,
+) -> Option<PlanesInLanes>
+    requires some { 0 < most }
+    requires in_plane { n ≤ 4 }
+    requires left { 0 < ahead.old.left }
     requires window { IsWindow ahead.old.left ahead.old.bits ahead.old.count (rest reader.old) }
-    ensures window { IsWindow ahead.new.left ahead.new.bits ahead.new.count (rest reader.new) }
-    ensures count { result.count ≡ 4 }
-    ensures below { AreBelow 4 (lanes_in 4 result.lanes) }
-    ensures taken { Takes reader.old reader.new ahead.old.left ahead.new.left 16 }
-    ensures bits { planes_bits ahead.old.left most 4 4 (rest reader.old) ≡ 16 + planes_bits ahead.new.left (most - 4) 4 4 (rest reader.new) }
-    ensures digits { planes_ahead ahead.old.left most 4 4 (rest reader.old)
-        ≡ low_planes 4 (lanes_in 4 result.lanes) ++ planes_ahead ahead.new.left (most - 4) 4 4 (rest reader.new) }
+    ensures short { IfNone result (Lacks reader.old reader.new (planes_bits ahead.old.left most 4 n (rest reader.old))) }
+    ensures window { OnSome result (IsWindow ahead.new.left ahead.new.bits ahead.new.count (rest reader.new)) }
+    ensures read { IfSome result (λ some. ReadsSome most n reader.old reader.new ahead.old.left ahead.new.left some.count some.lanes some.len some.above) }
 {
-    let four = planes_of_sixteen(ahead.bits % 65536);
-    pass(four.len, ahead, reader);
-    four
+    if n < 3 {
+        read_some(most, n, ahead, reader)
+    } else {
+        read_verbatim(most, ahead, reader)
+    }
 }
 
 /// Digits that were read.
@@ -371,14 +377,9 @@ fn read_gathered(budget: u64, prec: u32, reader: &mut BitReader<'_>) -> Option<R
     let mut above = 0;
     while digits.done + digits.held < prec && ahead.left > 0 {
         let planes = prec - (digits.done + digits.held);
-        let some = read_some(planes, above, &mut ahead, reader)?;
+        let some = read_next(planes, above, &mut ahead, reader)?;
         digits = add(digits, some);
         above = some.above;
-        while above >= 3 && digits.done + digits.held + 4 <= prec && sees(16, &mut ahead, reader) {
-            let planes = prec - (digits.done + digits.held);
-            let four = read_verbatim(planes, &mut ahead, reader);
-            digits = add(digits, four);
-        }
     }
     Some(ReadDigits {
         digits,

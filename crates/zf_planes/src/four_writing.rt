@@ -52,7 +52,7 @@ fn below_top(count: u32, words: &[u64; 4]) -> [u64; 4]
 /// The code of the first two planes of a string, where the ranks below `n` have had a one above.
 #[inline(always)]
 fn code_of_two(n: usize, string: u64) -> PlanesCode
-    requires in_plane { n ≤ 4 }
+    requires in_plane { n < 3 }
     ensures bits { field result.part.len result.part.bits
         ≡ plane_code n (field 4 (string % 16)) ++ plane_code (max n (reach (field 4 (string % 16)))) (field 4 (string / 16 % 16)) }
     ensures small { result.part.bits < 2 ^ result.part.len }
@@ -97,7 +97,7 @@ fn next_pairs(left: u64, above: usize, planes: &mut u32, string: &mut u64) -> Pl
     PlanesCode { part, above }
 }
 
-/// Appends the code of the planes of a string, as far as `left` bits reach: their digits, if three ranks have had a one above, else plane by plane. The answer
+/// Appends the code of the planes of a string, as far as `left` bits reach: plane by plane until three ranks have had a one, and then the digits. The answer
 /// is the bits that are left; if there are any, `above` becomes how far the ones reach, where three stands for four too.
 #[inline(always)]
 fn write_rest(left: u64, above: &mut usize, planes: u32, string: u64, out: &mut BitWriter) -> u64
@@ -109,24 +109,21 @@ fn write_rest(left: u64, above: &mut usize, planes: u32, string: u64, out: &mut 
     ensures within { above.new ≤ 4 }
     ensures reached { 0 < result → IsAsGood above.new (max above.old (reach_of_all (string_planes planes string))) }
 {
-    if *above >= 3 {
-        let digits = Part {
-            bits: string,
-            len: 4 * u64::from(planes),
-        };
-        return write_part(left, digits, out);
-    }
     let mut left = left;
     let mut planes = planes;
     let mut string = string;
-    while planes > 0 && left > 0 {
+    while planes > 0 && left > 0 && *above < 3 {
         let code = code_of_4(*above, string % 16);
         *above = code.above;
         left = write_part(left, code.part, out);
         string /= 16;
         planes -= 1;
     }
-    left
+    let digits = Part {
+        bits: string,
+        len: 4 * u64::from(planes),
+    };
+    write_part(left, digits, out)
 }
 
 /// Appends the code of the planes of a string, as far as `left` bits reach, where the ranks below `above` have had a one above. The answer is the bits that

@@ -4,7 +4,6 @@ use Rattle.zf_planes.specs.Decoding.{planes_ahead, planes_bits}
 use Rattle.zf_planes.specs.Lanes.{gathered}
 use Rattle.zf_planes.proofs.Lanes.{gathered_words, low_planes-zeros, four_below, no_lanes_below}
 use Rattle.zf_planes.proofs.LanesAhead.{FoursRead-more}
-use Rattle.zf_planes.proofs.LastRank.{ahead_of_three}
 use Rattle.zf_planes.proofs.Passing.{Passes-start, Passes-part, Passes-end, Passes-lacks, if_none}
 use Rattle.zf_planes.proofs.PlanesAhead.{planes_over, zero_planes}
 use Rattle.zf_planes.proofs.four_reading.read_gathered.Goals as goal
@@ -41,46 +40,24 @@ loop-digits-init c =
 pub overflow_add-digits : goal.overflow_add-digits
 overflow_add-digits c = omega (arith, c.loop-digits.invariant.read.within, c.requires.planes)
 
-pub read_some-requires-clause-in_plane : goal.read_some-requires-clause-in_plane
-read_some-requires-clause-in_plane c = c.loop-digits.invariant.read.high
+pub read_next-requires-clause-in_plane : goal.read_next-requires-clause-in_plane
+read_next-requires-clause-in_plane c = c.loop-digits.invariant.read.high
 
-pub read_some-requires-clause-window : goal.read_some-requires-clause-window
-read_some-requires-clause-window c = c.loop-digits.invariant.window
+pub read_next-requires-clause-window : goal.read_next-requires-clause-window
+read_next-requires-clause-window c = c.loop-digits.invariant.window
 
 pub returns-in_err-some-clause-short : goal.returns-in_err-some-clause-short
 returns-in_err-some-clause-short c = if_none _ (Passes-lacks c.loop-digits.invariant.read.passes c.in_err-some.ensures.short (omega arith))
 
-pub loop-ahead-init : goal.loop-ahead-init
-loop-ahead-init c =
+pub loop-digits-preserved : goal.loop-digits-preserved
+loop-digits-preserved c =
     let ok = c.in_ok-some.ensures in
     let some = c.in_ok-some.some in
-    let added = c.add-digits in
+    let added = c.add-digits.ensures in
     record {
       window = ok.window;
-      read = FoursRead-more some.count some.lanes some.len some.above _ _ _ _ c.loop-digits.invariant.read (record { bits = ok.bits; digits = ok.digits }) ok.taken added.ensures.gathered added.ensures.planes added.ensures.sum (omega (arith, ok.most, c.loop-digits-test.true)) added.ensures.held ok.within;
-      more = omega arith;
+      read = FoursRead-more some.count some.lanes some.len some.above _ _ _ _ c.loop-digits.invariant.read ok.read added.gathered added.planes added.sum (omega (arith, ok.read.fits, c.loop-digits-test.true)) added.held;
     }
-
-pub loop-ahead-preserved : goal.loop-ahead-preserved
-loop-ahead-preserved c =
-    let before = c.loop-ahead.invariant in
-    let four = c.read_verbatim-four in
-    let added = c.add-digits-in-loop-ahead.ensures in
-    let left = c.sees.ensures.left in
-    let above = c.in_ok-some.some.above in
-    let now = ahead_of_three c.loop-ahead.ahead.left (c.args.prec - (c.loop-ahead.digits.done + c.loop-ahead.digits.held)) above (rest c.loop-ahead.reader) (omega (arith, c.loop-ahead-test.true)) before.read.high in
-    let behind = ahead_of_three four.new.ahead.left (c.args.prec - (c.loop-ahead.digits.done + c.loop-ahead.digits.held) - 4) above (rest four.new.reader) (omega (arith, c.loop-ahead-test.true)) before.read.high in
-    let planes = rw four.ensures.count at added.planes in
-    let taken = rw left at four.ensures.taken in
-    record {
-      window = four.ensures.window;
-      read = FoursRead-more 4 four.result.lanes 16 c.in_ok-some.some.above _ _ _ _ before.read (record { bits = rw (now.0, behind.0, ← left) four.ensures.bits; digits = rw (now.1, behind.1, ← left) four.ensures.digits }) taken
-          added.gathered planes (omega (arith, added.sum, four.ensures.count)) (omega (arith, c.if-digits-prec.true)) added.held before.read.high;
-      more = omega (arith, before.more, added.sum);
-    }
-
-pub loop-digits-preserved : goal.loop-digits-preserved
-loop-digits-preserved c = record { window = c.loop-ahead.invariant.window; read = c.loop-ahead.invariant.read }
 
 -- ---- no bit or no plane is left
 

@@ -1,19 +1,31 @@
-use Rattle.std.proofs.Common.{◌∙◌, arith}
-use Rattle.zf_bits.proofs.Fields.{field-mod}
-use Rattle.zf_planes.proofs.LanesAhead.{SomeRead, in_view, reach_of_all-four}
+use Rattle.std.proofs.Common.{◌≡◌, ◌*◌, ◌%◌, ◌^◌, ◌≤◌, ◌<◌, min, ℕ, suc, sym, ap, ◌∙◌, arith}
+use Rattle.zf_bits.specs.Reader.{rest}
+use Rattle.zf_planes.specs.Decoding.{planes_bits}
+use Rattle.zf_planes.specs.Fours.{string_planes}
+use Rattle.zf_planes.proofs.Passing.{Passes-start, Passes-lacks, if_none}
+use Rattle.zf_planes.proofs.LastRank.{own_bits}
+use Rattle.zf_planes.proofs.LanesAhead.{word_read}
 use Rattle.zf_planes.proofs.four_reading.read_verbatim.Goals as goal
 
-read : (c : goal.After-pass) → SomeRead c.args.reader.now c.pass.new.reader c.args.ahead.now.left c.pass.new.ahead.left c.args.most 4 4 c.planes_of_sixteen-four.result.lanes 16 4
-read c =
-    let four = c.planes_of_sixteen-four in
-    let ahead = c.args.ahead.now in
-    in_view c.args.most 4 4 four.result.lanes 16 ahead.bits ahead.count 4 c.requires.window (omega arith) (four.ensures.code ∙ field-mod 16 0 ahead.bits) c.requires.there c.requires.four (reach_of_all-four 4 four.result.lanes) (rw four.ensures.len at c.pass.ensures.taken)
+pub returns-in_err-digits-clause-short : goal.returns-in_err-digits-clause-short
+returns-in_err-digits-clause-short c =
+    let left = c.args.ahead.now.left in
+    let s = rest c.args.reader.now in
+    if_none _ (Passes-lacks (Passes-start c.args.reader.now left (planes_bits left c.args.most 4 4 s)) c.in_err-digits.ensures.short (omega (arith, own_bits left c.args.most s, c.min-len.ensures, c.requires.some)))
 
-pub returns-clause-taken : goal.returns-clause-taken
-returns-clause-taken c = rw c.planes_of_sixteen-four.ensures.len at c.pass.ensures.taken
+pub returns-then-most-lt4-clause-read : goal.returns-then-most-lt4-clause-read
+unfolding string_planes
+returns-then-most-lt4-clause-read c =
+    let read = c.in_ok-digits in
+    word_read c.args.most 1 c.lanes_of_4.result read.digits c.min-len.result (omega arith) (omega arith) c.requires.some c.min-len.ensures read.ensures.digits (omega arith) c.lanes_of_4.ensures.digits c.lanes_of_4.ensures.below read.ensures.taken
 
-pub returns-clause-bits : goal.returns-clause-bits
-returns-clause-bits c = (read c).bits
+pub returns-in_err-digits-2-clause-short : goal.returns-in_err-digits-2-clause-short
+returns-in_err-digits-2-clause-short c =
+    let left = c.args.ahead.now.left in
+    let s = rest c.args.reader.now in
+    if_none _ (Passes-lacks (Passes-start c.args.reader.now left (planes_bits left c.args.most 4 4 s)) c.in_err-digits-2.ensures.short (omega (arith, own_bits left c.args.most s, c.min-len-2.ensures, c.if-most-lt4.false)))
 
-pub returns-clause-digits : goal.returns-clause-digits
-returns-clause-digits c = (read c).digits
+pub returns-clause-read : goal.returns-clause-read
+returns-clause-read c =
+    let read = c.in_ok-digits-2 in
+    word_read c.args.most 4 c.lanes_of_16.result read.digits c.min-len-2.result (omega arith) (omega arith) c.if-most-lt4.false c.min-len-2.ensures read.ensures.digits (omega arith) c.lanes_of_16.ensures.digits c.lanes_of_16.ensures.below read.ensures.taken

@@ -1,11 +1,12 @@
-use Rattle.std.proofs.Common.{◌≡◌, ℕ, ◌-◌, ◌*◌, Bool, List, [], ◌++◌, length, sym, ap, ◌∙◌, arith, append-nil}
+use Rattle.std.proofs.Common.{◌≡◌, ℕ, ◌-◌, ◌*◌, ◌≤◌, Bool, List, [], ◌++◌, length, sym, ap, ◌∙◌, arith, append-nil}
 use Rattle.zf_spec.specs.Numbers.{field}
 use Rattle.zf_spec.specs.Planes.{code_from}
 use Rattle.zf_spec.proofs.Fields.{length-field}
 use Rattle.zf_bits.specs.Writer.{Writer}
 use Rattle.zf_planes.specs.Fours.{string_planes}
 use Rattle.zf_planes.proofs.Budgets.{Remains, Remains-start, Remains-same, Remains-fits, Remains-more, Remains-end}
-use Rattle.zf_planes.proofs.Strings.{next_of_string, own_string, string_end, reach_of_string-le}
+use Rattle.zf_planes.proofs.Strings.{next_of_string, own_string, string_end, Remains-none}
+use Rattle.zf_planes.proofs.four_writing.write_rest.Goals.{then-loop-planes-test+then-left-gt0+else-above-lt3, then-loop-planes-test+else-left-gt0, else-loop-planes-test}
 use Rattle.zf_planes.proofs.four_writing.write_rest.Goals as goal
 
 -- ---- three ranks have had a one
@@ -15,27 +16,6 @@ digits_left : {old now : Writer} {budget left : ℕ} {whole : List Bool} (above 
     → Remains old now budget left whole (field len string ++ [])
 digits_left above planes string len low high count remains =
     Remains-same remains (own_string above planes string low high ∙ ap (λ n. field n string) (sym count) ∙ sym (append-nil (field len string)))
-
-pub write_part-requires-clause-fits : goal.write_part-requires-clause-fits
-write_part-requires-clause-fits c =
-    let len = 4 * c.from.result in
-    let remains = digits_left c.args.above.now c.args.planes c.args.string len c.if-above-ge3.true c.requires.above (omega (arith, c.from.ensures)) (Remains-start c.args.out.now c.args.left _ c.requires.fits) in
-    omega (arith, Remains-fits (field len c.args.string) [] remains, length-field len c.args.string)
-
-pub returns-then-above-ge3-clause-bits : goal.returns-then-above-ge3-clause-bits
-returns-then-above-ge3-clause-bits c =
-    let len = 4 * c.from.result in
-    let remains = digits_left c.args.above.now c.args.planes c.args.string len c.if-above-ge3.true c.requires.above (omega (arith, c.from.ensures)) (Remains-start c.args.out.now c.args.left _ c.requires.fits) in
-    Remains-end (Remains-more (field len c.args.string) [] remains c.write_part.ensures.bits) (omega arith)
-
-pub returns-then-above-ge3-clause-left : goal.returns-then-above-ge3-clause-left
-returns-then-above-ge3-clause-left c =
-    let len = 4 * c.from.result in
-    let remains = digits_left c.args.above.now c.args.planes c.args.string len c.if-above-ge3.true c.requires.above (omega (arith, c.from.ensures)) (Remains-start c.args.out.now c.args.left _ c.requires.fits) in
-    omega (arith, (Remains-more (field len c.args.string) [] remains c.write_part.ensures.bits).spent, c.write_part.ensures.left, length-field len c.args.string)
-
-pub returns-then-above-ge3-clause-reached : goal.returns-then-above-ge3-clause-reached
-returns-then-above-ge3-clause-reached c = λ some. omega (arith, c.if-above-ge3.true, reach_of_string-le c.args.planes c.args.string)
 
 -- ---- the next plane
 
@@ -59,18 +39,43 @@ loop-planes-preserved c =
       above = c.code_of_4-code.ensures.within;
       few = omega (arith, c.loop-planes.invariant.few);
     }
+-- ---- the digits of the planes that are left
 
-pub returns-after-loop-planes-clause-bits : goal.returns-after-loop-planes-clause-bits
-returns-after-loop-planes-clause-bits c =
-    let none = string_end c.loop-planes.planes c.loop-planes.above c.loop-planes.string c.loop-planes-test.false in
-    Remains-end c.loop-planes.invariant.remains (omega (arith, ap length none.0))
+rest_is : (c : goal.After-write_part-arg-2-1) → Remains c.args.out.now c.loop-planes.out c.args.left c.loop-planes.left (code_from c.args.above.now (string_planes c.args.planes c.args.string)) (field (4 * c.from.result) c.loop-planes.string ++ [])
+rest_is c =
+    let now = c.loop-planes in
+    let len = 4 * c.from.result in
+    elim c.loop-planes-test.branch [
+      then-loop-planes-test+then-left-gt0+else-above-lt3 w ↦ digits_left now.above now.planes now.string len w.if-above-lt3.false now.invariant.above (omega (arith, c.from.ensures)) now.invariant.remains
+    | then-loop-planes-test+else-left-gt0 w ↦ Remains-none (code_from now.above (string_planes now.planes now.string)) (field len now.string ++ []) (omega (arith, w.if-left-gt0.false)) now.invariant.remains
+    | else-loop-planes-test w ↦
+          let none = string_end now.planes now.above now.string w.loop-planes-test.false in
+          let empty : len ≡ 0 = omega (arith, c.from.ensures, w.loop-planes-test.false) in
+          Remains-same now.invariant.remains (none.0 ∙ sym (ap (λ n. field n now.string ++ []) empty))
+    ]
 
-pub returns-after-loop-planes-clause-left : goal.returns-after-loop-planes-clause-left
-returns-after-loop-planes-clause-left c =
-    let none = string_end c.loop-planes.planes c.loop-planes.above c.loop-planes.string c.loop-planes-test.false in
-    omega (arith, c.loop-planes.invariant.remains.spent, ap length none.0)
+pub write_part-requires-clause-fits : goal.write_part-requires-clause-fits
+write_part-requires-clause-fits c =
+    let len = 4 * c.from.result in
+    omega (arith, Remains-fits (field len c.loop-planes.string) [] (rest_is c) , length-field len c.loop-planes.string)
 
-pub returns-after-loop-planes-clause-reached : goal.returns-after-loop-planes-clause-reached
-returns-after-loop-planes-clause-reached c =
-    let none = string_end c.loop-planes.planes c.loop-planes.above c.loop-planes.string c.loop-planes-test.false in
-    λ some. omega (arith, c.loop-planes.invariant.reached, none.1)
+pub returns-clause-bits : goal.returns-clause-bits
+returns-clause-bits c =
+    let len = 4 * c.from.result in
+    Remains-end (Remains-more (field len c.loop-planes.string) [] (rest_is c.before) c.write_part.ensures.bits) (omega arith)
+
+pub returns-clause-left : goal.returns-clause-left
+returns-clause-left c =
+    let len = 4 * c.from.result in
+    omega (arith, (Remains-more (field len c.loop-planes.string) [] (rest_is c.before) c.write_part.ensures.bits).spent, c.write_part.ensures.left, length-field len c.loop-planes.string)
+
+pub returns-clause-reached : goal.returns-clause-reached
+returns-clause-reached c = λ some.
+    let now = c.loop-planes in
+    elim c.loop-planes-test.branch [
+      then-loop-planes-test+then-left-gt0+else-above-lt3 w ↦ omega (arith, w.if-above-lt3.false, now.invariant.reached)
+    | then-loop-planes-test+else-left-gt0 w ↦ absurd (omega (arith, w.if-left-gt0.false, c.write_part.ensures.left))
+    | else-loop-planes-test w ↦
+          let none = string_end now.planes now.above now.string w.loop-planes-test.false in
+          omega (arith, now.invariant.reached, none.1)
+    ]

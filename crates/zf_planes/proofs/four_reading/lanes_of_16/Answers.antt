@@ -1,9 +1,9 @@
 use Rattle.std.proofs.Common.{◌≡◌, ℕ, ◌+◌, ◌*◌, ◌/◌, ◌%◌, ◌^◌, ◌<◌, refl, ap, ◌∙◌, arith}
-use Rattle.zf_spec.specs.Planes.{code_from}
+use Rattle.zf_spec.proofs.Fields.{field-mod}
+use Rattle.zf_planes.specs.Fours.{string_planes}
 use Rattle.zf_planes.specs.Lanes.{low_planes, lanes_in, AreBelow}
 use Rattle.zf_planes.proofs.Lanes.{IsLonger, one_behind}
-use Rattle.zf_planes.proofs.LanesAhead.{planes_of_sixteen, code_of_digits}
-use Rattle.zf_planes.proofs.four_reading.planes_of_sixteen.Goals as goal
+use Rattle.zf_planes.proofs.four_reading.lanes_of_16.Goals as goal
 
 two : (a b : ℕ) → a < 2 ^ 64 → b < 2 ^ 64 → AreBelow 1 (lanes_in 4 a) → AreBelow 1 (lanes_in 4 b) → IsLonger 1 a b
 two a b fit_a fit_b one_a one_b = one_behind 1 a b fit_a fit_b one_a one_b (omega arith)
@@ -28,18 +28,30 @@ overflow_add-result c =
     let second = three c.lanes_of_4-one.result c.lanes_of_4.result c.lanes_of_4-2.result (omega arith) c.lanes_of_4-2.ensures.below first in
     omega (arith, (four _ c.lanes_of_4-2.result c.lanes_of_4-3.result (omega arith) c.lanes_of_4-3.ensures.below second).small)
 
-pub returns-clause-code : goal.returns-clause-code
-returns-clause-code c =
+pub returns-clause-digits : goal.returns-clause-digits
+unfolding string_planes
+returns-clause-digits c =
     let bits = c.args.bits in
     let first = two c.lanes_of_4-one.result c.lanes_of_4.result (omega arith) (omega arith) c.lanes_of_4-one.ensures.below c.lanes_of_4.ensures.below in
     let second = three c.lanes_of_4-one.result c.lanes_of_4.result c.lanes_of_4-2.result (omega arith) c.lanes_of_4-2.ensures.below first in
     let third = four _ c.lanes_of_4-2.result c.lanes_of_4-3.result (omega arith) c.lanes_of_4-3.ensures.below second in
     let three_is : bits / 256 % 16 ≡ bits / 16 / 16 % 16 = omega arith in
     let four_is : bits / 4096 ≡ bits / 16 / 16 / 16 % 16 = omega (arith, c.requires.bits) in
-    let planes : low_planes 4 (lanes_in 4 (((c.lanes_of_4-one.result * 2 % 2 ^ 64 + c.lanes_of_4.result) * 2 % 2 ^ 64 + c.lanes_of_4-2.result) * 2 % 2 ^ 64 + c.lanes_of_4-3.result)) ≡ planes_of_sixteen 4 bits =
     third.planes
-    ∙ (rw (second.planes, first.planes, c.lanes_of_4-one.ensures.digits, c.lanes_of_4.ensures.digits, c.lanes_of_4-2.ensures.digits, c.lanes_of_4-3.ensures.digits, three_is, four_is) refl) in
-    ap (code_from 4) planes ∙ code_of_digits 4 bits
+    ∙ (rw (
+      second.planes,
+      first.planes,
+      c.lanes_of_4-one.ensures.digits,
+      c.lanes_of_4.ensures.digits,
+      c.lanes_of_4-2.ensures.digits,
+      c.lanes_of_4-3.ensures.digits,
+      three_is,
+      four_is,
+      field-mod 4 bits,
+      field-mod 4 (bits / 16),
+      field-mod 4 (bits / 16 / 16),
+      field-mod 4 (bits / 16 / 16 / 16),
+    ) refl)
 
 pub returns-clause-below : goal.returns-clause-below
 returns-clause-below c =

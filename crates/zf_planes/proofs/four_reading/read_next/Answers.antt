@@ -1,0 +1,16 @@
+use Rattle.std.proofs.Common.{◌≡◌, sym, subst, arith, ℕ}
+use Rattle.zf_bits.specs.Reader.{rest}
+use Rattle.zf_planes.specs.Decoding.{Lacks, planes_bits}
+use Rattle.std.proofs.lemmas.Option.{IfSome_then}
+use Rattle.zf_planes.proofs.Passing.{on_none}
+use Rattle.zf_planes.proofs.LastRank.{ahead_of_three, three_for_four}
+use Rattle.zf_planes.proofs.four_reading.read_next.Goals as goal
+
+pub returns-else-n-lt3-clause-short : goal.returns-else-n-lt3-clause-short
+returns-else-n-lt3-clause-short c =
+    let same = ahead_of_three c.args.ahead.now.left c.args.most c.args.n (rest c.args.reader.now) c.if-n-lt3.false c.requires.in_plane in
+    on_none c.read_verbatim.result c.read_verbatim.ensures.short (λ lacks. subst (Lacks c.args.reader.now c.read_verbatim.new.reader) (sym same.0) lacks)
+
+pub returns-else-n-lt3-clause-read : goal.returns-else-n-lt3-clause-read
+returns-else-n-lt3-clause-read c =
+    IfSome_then c.read_verbatim.result c.read_verbatim.ensures.read (λ some read. three_for_four c.args.most c.args.n some.count some.lanes some.len some.above c.if-n-lt3.false c.requires.in_plane read)
