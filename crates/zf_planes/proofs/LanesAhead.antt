@@ -285,6 +285,15 @@ word_read {now} {new} {left} {after} most c v digits len some few fits is bits_a
     let read = own_read most c v digits len fits is takes.enough first small (lanes ∙ ap (string_planes c) same) takes in
     record { some = some; few = few; fits = fits; below = below; within = omega arith; taken = takes; bits = read.bits; digits = read.digits }
 
+-- four of them, whose bits are in sight
+pub sixteen_read : {now new : Reader} {left after : ℕ} (most v bits count : ℕ) → IsWindow left bits count (rest now) → 16 ≤ count → 4 ≤ most → low_planes 4 (lanes_in 4 v) ≡ string_planes 4 (bits % 65536)
+    → AreBelow 4 (lanes_in 4 v) → Takes now new left after 16 → ReadsSome most 4 now new left after 4 v 16 4
+sixteen_read {now} {new} {left} {after} most v bits count window there fits lanes below takes =
+    let s = rest now in
+    let first : field 16 (bits % 65536) ≡ take 16 s = field-mod 16 0 bits ∙ window_prefix s bits count 16 window.bits there in
+    let read = own_read most 4 v (bits % 65536) 16 fits (omega (arith, window.within)) takes.enough first (omega arith) lanes takes in
+    record { some = omega arith; few = omega arith; fits = fits; below = below; within = omega arith; taken = takes; bits = read.bits; digits = read.digits }
+
 -- ---- planes that are gathered from the greatest on
 
 -- the planes so far are gathered, and what reading makes of the rest is what it makes of the planes below

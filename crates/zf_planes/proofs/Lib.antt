@@ -23,6 +23,7 @@
 --     Passing      a reader that passes the bits of a code in parts
 --     Peeking      bits that were looked at and are not yet passed
 --     LastRank     planes of four digits in which three ranks have had a one
+--     Lone         planes of four digits in which the first rank alone has ones
 --     Strings      planes of four digits in one number, and their code
 --     TopPlanes    the top planes of words, and those of four words as a string
 pub mod Runs
@@ -49,5 +50,6 @@ pub mod LanesAhead
 pub mod Passing
 pub mod Peeking
 pub mod LastRank
+pub mod Lone
 pub mod Strings
 pub mod TopPlanes

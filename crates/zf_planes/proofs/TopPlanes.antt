@@ -27,7 +27,7 @@ use Rattle.zf_planes.proofs.Strings.{take-fours}
 -- ---- digits of shifted words
 
 -- only the lowest bits count
-odd_low : (v j t : ℕ) → t < j → is_odd (v % 2 ^ j / 2 ^ t) ≡ is_odd (v / 2 ^ t)
+pub odd_low : (v j t : ℕ) → t < j → is_odd (v % 2 ^ j / 2 ^ t) ≡ is_odd (v / 2 ^ t)
 odd_low v j t below = sym (get_or-field j (v % 2 ^ j) t false below) ∙ ap (λ (bs : List Bool). get_or bs t false) (field-mod j v) ∙ get_or-field j v t false below
 
 -- what is below the top m digits
@@ -50,7 +50,7 @@ top_digit-below word m i within =
 -- ---- the top planes and those below them
 
 -- the same of numbers from another one on
-map-from : {X : Type 0} (f g : ℕ → X) (m k : ℕ) (d : X) → ((i : ℕ) → i < k → f (m + i) ≡ g i) → map g (upto k) ≡ map f (count_from m k)
+pub map-from : {X : Type 0} (f g : ℕ → X) (m k : ℕ) (d : X) → ((i : ℕ) → i < k → f (m + i) ≡ g i) → map g (upto k) ≡ map f (count_from m k)
 map-from f g m k d same =
     from_places g k d (map f (count_from m k)) (length-map (count_from m k) f ∙ length-count_from m k)
     (λ i here. get_or-map f (count_from m k) i 0 d (omega (arith, length-count_from m k)) ∙ ap f (get_or-count_from m k i 0 here) ∙ same i here)

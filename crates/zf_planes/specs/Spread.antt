@@ -1,5 +1,5 @@
 -- Digits of words from the top: the greatest first.
-use Rattle.std.specs.Prelude.{ℕ, suc, zero, ◌+◌, ◌-◌, ◌*◌, ◌/◌, ◌^◌, Bool, List, map}
+use Rattle.std.specs.Prelude.{ℕ, suc, zero, ◌+◌, ◌-◌, ◌*◌, ◌/◌, ◌^◌, Bool, false, List, [], ◌∷◌, map}
 use Rattle.zf_spec.specs.Numbers.{is_odd, digit_value}
 use Rattle.zf_spec.specs.Grid.{upto}
 
@@ -15,3 +15,17 @@ top_planes k words = map (λ i. map (λ word. top_digit word i) words) (upto k)
 unfoldable pub spread : ℕ → (ℕ → Bool) → ℕ
 spread zero digits = 0
 spread (suc k) digits = digit_value (digits 0) + 16 * spread k (λ i. digits (suc i))
+
+-- the number that has digits two apart, k of them, the first one lowest
+unfoldable pub pairs : ℕ → (ℕ → Bool) → ℕ
+pairs zero digits = 0
+pairs (suc k) digits = digit_value (digits 0) + 4 * pairs k (λ i. digits (suc i))
+
+-- planes of four digits in which the first rank alone has ones
+abbrev pub lone_planes : List Bool → List (List Bool)
+lone_planes ds = map (λ d. d ∷ false ∷ false ∷ false ∷ []) ds
+
+-- their code behind that of the first one: each has its digit, and a group bit of zero
+abbrev pub lone_code : List Bool → List Bool
+lone_code [] = []
+lone_code (d ∷ ds) = d ∷ false ∷ lone_code ds

@@ -233,6 +233,38 @@ fn read_verbatim(most: u32, ahead: &mut Ahead, reader: &mut BitReader<'_>) -> Op
     })
 }
 
+/// Reads four of `most` planes, in which all ranks have had a one above, and whose bits are in sight.
+#[inline(always)]
+fn read_sixteen(most: u32, ahead: &mut Ahead, reader: &mut BitReader<'_>) -> PlanesInLanes
+    requires four { 4 ≤ most }
+    requires there { 16 ≤ ahead.old.count }
+    requires window { IsWindow ahead.old.left ahead.old.bits ahead.old.count (rest reader.old) }
+    ensures window { IsWindow ahead.new.left ahead.new.bits ahead.new.count (rest reader.new) }
+    ensures count { result.count ≡ 4 }
+    ensures read { ReadsSome most 4 reader.old reader.new ahead.old.left ahead.new.left 4 result.lanes 16 4 }
+{
+    let lanes = lanes_of_16(ahead.bits % 65536);
+    pass(16, ahead, reader);
+    PlanesInLanes {
+        lanes,
+        count: 4,
+        len: 16,
+        above: 4,
+    }
+}
+
+/// Whether so many bits are in sight, after another look where they are not at first.
+#[inline(always)]
+fn sees(n: u64, ahead: &mut Ahead, reader: &BitReader<'_>) -> bool
+    requires window { IsWindow ahead.old.left ahead.old.bits ahead.old.count (rest reader.now) }
+    ensures window { IsWindow ahead.new.left ahead.new.bits ahead.new.count (rest reader.now) }
+    ensures left { ahead.new.left ≡ ahead.old.left }
+    ensures there { result ≡ true → n ≤ ahead.new.count }
+{
+    look_on(n, ahead, reader);
+    n <= ahead.count
+}
+
 /// Reads the code of one plane or more, at most `most`, where the ranks below `n` have had a one above. Three are as good as four.
 #[inline(always)]
 fn read_next(
@@ -380,6 +412,10 @@ fn read_gathered(budget: u64, prec: u32, reader: &mut BitReader<'_>) -> Option<R
         let some = read_next(planes, above, &mut ahead, reader)?;
         digits = add(digits, some);
         above = some.above;
+        while above >= 3 && digits.done + digits.held + 4 <= prec && sees(16, &mut ahead, reader) {
+            let planes = prec - (digits.done + digits.held);
+            digits = add(digits, read_sixteen(planes, &mut ahead, reader));
+        }
     }
     Some(ReadDigits {
         digits,

@@ -1,11 +1,12 @@
 //! Writing the code of planes of four digits from the digits themselves.
 
-ghost use Rattle.std.specs.Prelude.{◌≡◌, ◌+◌, ◌-◌, ◌*◌, ◌/◌, ◌%◌, ◌^◌, ◌<◌, ◌≤◌, min, max, false, ◌++◌, length, map, take, replicate};
-ghost use Rattle.zf_spec.specs.Numbers.{field};
+ghost use Rattle.std.specs.Prelude.{◌≡◌, ◌+◌, ◌-◌, ◌*◌, ◌/◌, ◌%◌, ◌^◌, ◌<◌, ◌≤◌, min, max, true, false, ◌∷◌, ◌++◌, length, map, take, replicate, slice_index_or};
+ghost use Rattle.zf_spec.specs.Numbers.{field, is_odd};
+ghost use Rattle.zf_spec.specs.Grid.{upto};
 ghost use Rattle.zf_spec.specs.Planes.{planes_of, plane_code, code, code_from, reach, reach_of_all};
 ghost use Rattle.zf_bits.specs.Writer.{Appends};
 ghost use Rattle.zf_planes.specs.Fours.{string_planes, IsAsGood};
-ghost use Rattle.zf_planes.specs.Spread.{top_digit, top_planes, spread};
+ghost use Rattle.zf_planes.specs.Spread.{top_digit, top_planes, spread, pairs, lone_planes, lone_code};
 
 use crate::doubling::{Part, join, write_part};
 use crate::four::{PlanesCode, code_of_4};
@@ -33,6 +34,59 @@ fn string_of(words: &[u64; 4]) -> u64
         + 2 * spread_top(words[1])
         + 4 * spread_top(words[2])
         + 8 * spread_top(words[3])
+}
+
+/// Eight digits of a byte two bits apart, the greatest one lowest: those four apart are pushed together.
+#[inline(always)]
+fn pairs_of_byte(byte: u64) -> u64
+    requires byte { byte < 256 }
+    ensures digits { result ≡ pairs 8 (λ i. is_odd (byte / 2 ^ (7 - i))) }
+    ensures small { result ≤ 21845 }
+{
+    let four_apart = u64::from(spread_entry(byte));
+    let in_bytes = (four_apart | four_apart >> 2) & 0x0505_0505;
+    let in_halves = (in_bytes | in_bytes >> 4) & 0x0055_0055;
+    (in_halves | in_halves >> 8) & 0x5555
+}
+
+/// The top sixteen digits of a word two bits apart, the greatest one lowest.
+#[inline(always)]
+fn pairs_of_top(word: u64) -> u64
+    ensures digits { result ≡ pairs 16 (top_digit word) }
+    ensures small { result < 4294967296 }
+{
+    pairs_of_byte(word >> 56) + (pairs_of_byte((word >> 48) % 256) << 16)
+}
+
+/// In how many planes from the top on, at most sixteen, the first rank alone has ones, if it has one in the first of them.
+#[inline(always)]
+fn count_of_lone(planes: u32, words: &[u64; 4]) -> u32
+    ensures most { result ≤ planes }
+    ensures few { result ≤ 16 }
+    ensures first { 0 < result → top_digit (slice_index_or words.now 0 0) 0 ≡ true }
+    ensures lone { top_planes result words.now ≡ lone_planes (map (top_digit (slice_index_or words.now 0 0)) (upto result)) }
+{
+    let [first, second, third, fourth] = *words;
+    if first >> 63 == 0 {
+        return 0;
+    }
+    let others = second | third | fourth;
+    others.leading_zeros().min(planes).min(16)
+}
+
+/// The code of such planes, of which the first rank has these digits.
+#[inline(always)]
+fn code_of_lone(planes: u32, word: u64) -> Part
+    requires some { 0 < planes }
+    requires few { planes ≤ 16 }
+    requires first { top_digit word 0 ≡ true }
+    ensures bits { field result.len result.bits ≡ true ∷ lone_code (map (top_digit word) (upto planes)) }
+    ensures len { result.len ≤ 33 }
+{
+    Part {
+        bits: 1 + 2 * pairs_of_top(word),
+        len: 1 + 2 * u64::from(planes),
+    }
 }
 
 /// Four words without their top `count` digits.
@@ -161,6 +215,14 @@ fn write_top(left: u64, planes: u32, words: [u64; 4], out: &mut BitWriter) -> u6
     let mut planes = planes;
     let mut words = words;
     let mut above = 0;
+    // Where values are smooth, the first coefficient is the only one of many planes.
+    let lone = count_of_lone(planes, &words);
+    if lone > 0 {
+        left = write_part(left, code_of_lone(lone, words[0]), out);
+        planes -= lone;
+        words = below_top(lone, &words);
+        above = 1;
+    }
     while planes > 0 && left > 0 {
         let count = planes.min(16);
         let string = string_of(&words);

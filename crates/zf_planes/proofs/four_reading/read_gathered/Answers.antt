@@ -4,6 +4,7 @@ use Rattle.zf_planes.specs.Decoding.{planes_ahead, planes_bits}
 use Rattle.zf_planes.specs.Lanes.{gathered}
 use Rattle.zf_planes.proofs.Lanes.{gathered_words, low_planes-zeros, four_below, no_lanes_below}
 use Rattle.zf_planes.proofs.LanesAhead.{FoursRead-more}
+use Rattle.zf_planes.proofs.LastRank.{three_through}
 use Rattle.zf_planes.proofs.Passing.{Passes-start, Passes-part, Passes-end, Passes-lacks, if_none}
 use Rattle.zf_planes.proofs.PlanesAhead.{planes_over, zero_planes}
 use Rattle.zf_planes.proofs.four_reading.read_gathered.Goals as goal
@@ -49,15 +50,34 @@ read_next-requires-clause-window c = c.loop-digits.invariant.window
 pub returns-in_err-some-clause-short : goal.returns-in_err-some-clause-short
 returns-in_err-some-clause-short c = if_none _ (Passes-lacks c.loop-digits.invariant.read.passes c.in_err-some.ensures.short (omega arith))
 
-pub loop-digits-preserved : goal.loop-digits-preserved
-loop-digits-preserved c =
+pub loop-ahead-init : goal.loop-ahead-init
+loop-ahead-init c =
     let ok = c.in_ok-some.ensures in
     let some = c.in_ok-some.some in
     let added = c.add-digits.ensures in
     record {
       window = ok.window;
       read = FoursRead-more some.count some.lanes some.len some.above _ _ _ _ c.loop-digits.invariant.read ok.read added.gathered added.planes added.sum (omega (arith, ok.read.fits, c.loop-digits-test.true)) added.held;
+      more = omega arith;
     }
+
+pub loop-ahead-preserved : goal.loop-ahead-preserved
+loop-ahead-preserved c =
+    let before = c.loop-ahead.invariant in
+    let four = c.read_sixteen in
+    let added = c.add-digits-in-loop-ahead.ensures in
+    let above = c.in_ok-some.some.above in
+    let done = c.loop-ahead.digits.done + c.loop-ahead.digits.held in
+    let read = rw c.sees.ensures.left at four.ensures.read in
+    record {
+      window = four.ensures.window;
+      read = FoursRead-more 4 four.result.lanes 16 above _ _ _ _ before.read (three_through (c.args.prec - done) above 4 four.result.lanes 16 (omega (arith, c.loop-ahead-test.true)) before.read.high read) added.gathered (rw four.ensures.count at added.planes) (omega (arith, added.sum, four.ensures.count))
+          (omega (arith, c.if-digits-prec.true)) added.held;
+      more = omega (arith, before.more, added.sum);
+    }
+
+pub loop-digits-preserved : goal.loop-digits-preserved
+loop-digits-preserved c = record { window = c.loop-ahead.invariant.window; read = c.loop-ahead.invariant.read }
 
 -- ---- no bit or no plane is left
 

@@ -1,0 +1,169 @@
+-- Planes of four digits in which the first rank alone has ones.
+use Rattle.std.proofs.Common.{◌≡◌, ℕ, zero, suc, ◌+◌, ◌-◌, ◌*◌, ◌/◌, ◌%◌, ◌^◌, ◌<◌, ◌≤◌, max, Bool, true, false, eqb, List, [], ◌∷◌, ◌++◌, length, map, get_or, refl, sym, ap, ◌∙◌, arith, pow-suc}
+use Rattle.std.proofs.lemmas.Bool.{eqb-true}
+use Rattle.std.proofs.lemmas.Nat.{shr-shr, le_or_l, le_or_r, leading_length}
+use Rattle.std.specs.Int.{w64, leading_zeros}
+use Rattle.std.proofs.Math.Nat.{div-eq_of_lt}
+use Rattle.std.proofs.Math.Pow.{pow_mono}
+use Rattle.std.specs.Int.RustNames.{bit_or}
+use lib.Bits.{bit_and}
+use Rattle.zf_spec.specs.Numbers.{field, is_odd, digit_value}
+use Rattle.zf_spec.specs.Grid.{count_from, upto}
+use Rattle.zf_spec.specs.Planes.{plane_code, code_from, reach, reach_of_all}
+use Rattle.zf_planes.specs.Spread.{top_digit, top_planes, pairs, lone_planes, lone_code}
+use Rattle.zf_planes.specs.declared.spread_table.TheConstants.{SPREAD}
+use Rattle.zf_spec.proofs.Fields.{field-add, is_odd-digit_value}
+use Rattle.zf_bits.proofs.Fields.{digit_value_le}
+use Rattle.zf_planes.proofs.Tables.{each_below, each_below-true}
+use Rattle.zf_planes.proofs.TopPlanes.{map-from, odd_low, top_planes-split, no_top_planes}
+use Rattle.zf_planes.proofs.Strings.{code_from-append}
+use Rattle.zf_planes.proofs.TopPlanes.{below}
+
+-- ---- their code
+
+lone_from_one : (ds : List Bool) → (code_from 1 (lone_planes ds) ≡ lone_code ds) × (max 1 (reach_of_all (lone_planes ds)) ≡ 1)
+lone_from_one [] = (refl, refl)
+lone_from_one (true ∷ ds) = let rest = lone_from_one ds in (ap (λ (bs : List Bool). true ∷ false ∷ bs) rest.0, omega (arith, rest.1))
+lone_from_one (false ∷ ds) = let rest = lone_from_one ds in (ap (λ (bs : List Bool). false ∷ false ∷ bs) rest.0, omega (arith, rest.1))
+
+pub lone_from_none : (ds : List Bool) → get_or ds 0 false ≡ true → (code_from 0 (lone_planes ds) ≡ true ∷ lone_code ds) × (max 0 (reach_of_all (lone_planes ds)) ≡ 1)
+lone_from_none [] first = cc
+lone_from_none (false ∷ ds) first = cc
+lone_from_none (true ∷ ds) first = let rest = lone_from_one ds in (ap (λ (bs : List Bool). true ∷ true ∷ false ∷ bs) rest.0, omega (arith, rest.1))
+
+-- ---- as numbers
+
+-- the code of m of k planes, as the number of their digits two apart
+pub lone_field : (m k : ℕ) (f : ℕ → Bool) → m ≤ k → field (2 * m) (pairs k f) ≡ lone_code (map f (upto m))
+unfolding pairs
+lone_field zero k f within = refl
+lone_field (suc m) zero f within = absurd (omega arith)
+lone_field (suc m) (suc k) f within =
+    let next : ℕ → Bool = λ i. f (suc i) in
+    let r = pairs k next in
+    let v = digit_value (f 0) + 4 * r in
+    let low = digit_value_le (f 0) in
+    let two : 2 * suc m ≡ 2 + 2 * m = omega arith in
+    let twice : v ≡ digit_value (f 0) + 2 * (2 * r) = omega arith in
+    let half : v / 2 ≡ digit_value false + 2 * r = omega arith in
+    let first : is_odd v ≡ f 0 = ap is_odd twice ∙ is_odd-digit_value (f 0) (2 * r) in
+    let second : is_odd (v / 2) ≡ false = ap is_odd half ∙ is_odd-digit_value false r in
+    let rest : v / 4 ≡ r = omega arith in
+    ap (λ n. field n v) two
+    ∙ field-add 2 (2 * m) v
+    ∙ ap (λ b. b ∷ is_odd (v / 2) ∷ field (2 * m) (v / 4)) first
+    ∙ ap (λ b. f 0 ∷ b ∷ field (2 * m) (v / 4)) second
+    ∙ ap (λ n. f 0 ∷ false ∷ field (2 * m) n) rest
+    ∙ ap (λ (bs : List Bool). f 0 ∷ false ∷ bs) (lone_field m k next (omega arith))
+    ∙ ap (λ (ds : List Bool). f 0 ∷ false ∷ lone_code ds) (map-from f next 1 m false (λ i here. let place : 1 + i ≡ suc i = omega arith in ap f place))
+
+-- and behind the group bit of the first one
+pub lone_bits : (m k : ℕ) (f : ℕ → Bool) → m ≤ k → field (1 + 2 * m) (1 + 2 * pairs k f) ≡ true ∷ lone_code (map f (upto m))
+lone_bits m k f within =
+    let v = 1 + 2 * pairs k f in
+    let half : v / 2 ≡ pairs k f = omega arith in
+    let odd : is_odd v ≡ true = is_odd-digit_value true (pairs k f) in
+    field-add 1 (2 * m) v
+    ∙ ap (λ b. b ∷ field (2 * m) (v / 2)) odd
+    ∙ ap (λ n. true ∷ field (2 * m) n) half
+    ∙ ap (λ (bs : List Bool). true ∷ bs) (lone_field m k f within)
+
+-- ---- digits two apart, by the table of those four apart
+
+abbrev pub pushed : ℕ → ℕ
+pushed e =
+    let bytes = bit_and (bit_or e (e / 4)) 0x0505_0505 in
+    let halves = bit_and (bit_or bytes (bytes / 16)) 0x0055_0055 in
+    bit_and (bit_or halves (halves / 256)) 0x5555
+
+test_pushed : each_below (λ b. eqb (pushed (get_or SPREAD b 0)) (pairs 8 (λ i. is_odd (b / 2 ^ (7 - i))))) 256 ≡ true
+unfolding pairs
+test_pushed = refl
+
+pub pushed_entry : (b e : ℕ) → b < 256 → e ≡ get_or SPREAD b 0 → pushed e ≡ pairs 8 (λ i. is_odd (b / 2 ^ (7 - i)))
+pushed_entry b e eight is = ap pushed is ∙ eqb-true _ _ (each_below-true (λ b. eqb (pushed (get_or SPREAD b 0)) (pairs 8 (λ i. is_odd (b / 2 ^ (7 - i))))) 256 b test_pushed eight)
+
+pub pairs-lt : (k : ℕ) (f : ℕ → Bool) → 3 * pairs k f < 4 ^ k
+unfolding pairs
+pairs-lt zero f = omega arith
+pairs-lt (suc k) f = omega (arith, digit_value_le (f 0), pairs-lt k (λ i. f (suc i)), pow-suc 4 k)
+
+pairs_same : (k : ℕ) (f g : ℕ → Bool) → ((i : ℕ) → i < k → f i ≡ g i) → pairs k f ≡ pairs k g
+unfolding pairs
+pairs_same zero f g same = refl
+pairs_same (suc k) f g same =
+    ap (λ d. digit_value d + 4 * pairs k (λ i. f (suc i))) (same 0 (omega arith))
+    ∙ ap (λ n. digit_value (g 0) + 4 * n) (pairs_same k (λ i. f (suc i)) (λ i. g (suc i)) (λ i here. same (suc i) (omega arith)))
+
+pairs-add : (m k : ℕ) (f g : ℕ → Bool) → ((i : ℕ) → i < k → f (m + i) ≡ g i) → pairs (m + k) f ≡ pairs m f + 4 ^ m * pairs k g
+unfolding pairs
+pairs-add zero k f g same =
+    let none : zero + k ≡ k = omega arith in
+    ap (λ n. pairs n f) none
+    ∙ pairs_same k f g (λ i here. let first : i ≡ zero + i = omega arith in ap f first ∙ same i here)
+    ∙ omega arith
+pairs-add (suc m) k f g same =
+    let more : suc m + k ≡ suc (m + k) = omega arith in
+    let rest : pairs (m + k) (λ i. f (suc i)) ≡ pairs m (λ i. f (suc i)) + 4 ^ m * pairs k g =
+    pairs-add m k (λ i. f (suc i)) g (λ i here. let place : suc (m + i) ≡ suc m + i = omega arith in ap f place ∙ same i here) in
+    ap (λ n. pairs n f) more
+    ∙ ap (λ n. digit_value (f 0) + 4 * n) rest
+    ∙ omega (arith, ap (λ p. p * pairs k g) (pow-suc 4 m))
+
+-- of the top two bytes of a word
+pub pairs_of_bytes : (word prefix back : ℕ) → word < 2 ^ 64 → prefix ≡ pairs 8 (λ i. is_odd (word / 2 ^ 56 / 2 ^ (7 - i))) → back ≡ pairs 8 (λ i. is_odd (word / 2 ^ 48 % 2 ^ 8 / 2 ^ (7 - i)))
+    → prefix + 2 ^ 16 * back ≡ pairs 16 (top_digit word)
+pairs_of_bytes word prefix back small is_prefix is_back =
+    let high : prefix ≡ pairs 8 (top_digit word) =
+    is_prefix
+    ∙ pairs_same 8 (λ i. is_odd (word / 2 ^ 56 / 2 ^ (7 - i))) (top_digit word)
+    (λ i here. let place : 56 + (7 - i) ≡ 63 - i = omega arith in ap is_odd (shr-shr word 56 (7 - i)) ∙ ap (λ n. is_odd (word / 2 ^ n)) place) in
+    let both : pairs 16 (top_digit word) ≡ pairs 8 (top_digit word) + 4 ^ 8 * pairs 8 (λ i. is_odd (word / 2 ^ 48 % 2 ^ 8 / 2 ^ (7 - i))) =
+    pairs-add 8 8 (top_digit word) (λ i. is_odd (word / 2 ^ 48 % 2 ^ 8 / 2 ^ (7 - i)))
+    (λ i here.
+    let place : 63 - (8 + i) ≡ 48 + (7 - i) = omega arith in
+    ap (λ n. is_odd (word / 2 ^ n)) place ∙ ap is_odd (sym (shr-shr word 48 (7 - i))) ∙ sym (odd_low (word / 2 ^ 48) 8 (7 - i) (omega arith))) in
+    omega (arith, high, is_back, both)
+
+-- ---- how many there are
+
+-- a word below a power has no digit above it
+no_top_digit : (word m i : ℕ) → word < 2 ^ (64 - m) → i < m → m ≤ 64 → top_digit word i ≡ false
+no_top_digit word m i small here within =
+    let bound : 2 ^ (64 - m) ≤ 2 ^ (63 - i) = pow_mono {i = 64 - m} {j = 63 - i} (omega arith) in
+    ap is_odd (div-eq_of_lt (omega arith))
+
+pub lone_top : (m a b c d : ℕ) → m ≤ leading_zeros w64 (bit_or (bit_or b c) d) → m ≤ 64 → bit_or (bit_or b c) d < 2 ^ 64 → top_planes m (a ∷ b ∷ c ∷ d ∷ []) ≡ lone_planes (map (top_digit a) (upto m))
+unfolding top_planes
+lone_top m a b c d fewer within word =
+    let others = bit_or (bit_or b c) d in
+    let low = leading_length 64 others word in
+    let bound : 2 ^ low.0 ≤ 2 ^ (64 - m) = pow_mono {i = low.0} {j = 64 - m} (omega (arith, low.1)) in
+    let small : others < 2 ^ (64 - m) = omega (arith, low.2) in
+    let b_small : b < 2 ^ (64 - m) = omega (arith, le_or_l (bit_or b c) d, le_or_l b c) in
+    let c_small : c < 2 ^ (64 - m) = omega (arith, le_or_l (bit_or b c) d, le_or_r b c) in
+    let d_small : d < 2 ^ (64 - m) = omega (arith, le_or_r (bit_or b c) d) in
+    each m 0 (λ i here. let less : i < m = omega arith in (no_top_digit b m i b_small less within, (no_top_digit c m i c_small less within, no_top_digit d m i d_small less within)))
+  where
+    each : (n k : ℕ) → ((i : ℕ) → i < k + n → (top_digit b i ≡ false) × ((top_digit c i ≡ false) × (top_digit d i ≡ false)))
+        → map (λ i. top_digit a i ∷ top_digit b i ∷ top_digit c i ∷ top_digit d i ∷ []) (count_from k n) ≡ lone_planes (map (top_digit a) (count_from k n))
+    each zero k none = refl
+    each (suc n) k none =
+        let here = none k (omega arith) in
+        ap (λ x. (top_digit a k ∷ x ∷ top_digit c k ∷ top_digit d k ∷ []) ∷ map (λ i. top_digit a i ∷ top_digit b i ∷ top_digit c i ∷ top_digit d i ∷ []) (count_from (suc k) n)) here.0
+        ∙ ap (λ x. (top_digit a k ∷ false ∷ x ∷ top_digit d k ∷ []) ∷ map (λ i. top_digit a i ∷ top_digit b i ∷ top_digit c i ∷ top_digit d i ∷ []) (count_from (suc k) n)) here.1.0
+        ∙ ap (λ x. (top_digit a k ∷ false ∷ false ∷ x ∷ []) ∷ map (λ i. top_digit a i ∷ top_digit b i ∷ top_digit c i ∷ top_digit d i ∷ []) (count_from (suc k) n)) here.1.1
+        ∙ ap (λ (ps : List (List Bool)). (top_digit a k ∷ false ∷ false ∷ false ∷ []) ∷ ps) (each n (suc k) (λ i less. none i (omega arith)))
+
+-- planes that begin with such ones
+pub lone_first : (planes m : ℕ) (words : List ℕ) → 0 < m → m ≤ planes → planes ≤ 64 → top_digit (get_or words 0 0) 0 ≡ true → top_planes m words ≡ lone_planes (map (top_digit (get_or words 0 0)) (upto m))
+    → code_from 0 (top_planes planes words) ≡ (true ∷ lone_code (map (top_digit (get_or words 0 0)) (upto m))) ++ code_from 1 (top_planes (planes - m) (map (below m) words))
+lone_first planes zero words some within most first lone = absurd (omega arith)
+lone_first planes (suc m) words some within most first lone =
+    let ds = map (top_digit (get_or words 0 0)) (upto (suc m)) in
+    let rest = top_planes (planes - suc m) (map (below (suc m)) words) in
+    let code = lone_from_none ds first in
+    ap (code_from 0) (top_planes-split planes (suc m) words within most ∙ ap (λ (ps : List (List Bool)). ps ++ rest) lone)
+    ∙ code_from-append 0 (lone_planes ds) rest
+    ∙ ap (λ (bs : List Bool). bs ++ code_from (max 0 (reach_of_all (lone_planes ds))) rest) code.0
+    ∙ ap (λ n. (true ∷ lone_code ds) ++ code_from n rest) code.1

@@ -1,0 +1,9 @@
+use Rattle.std.proofs.Common.{◌∙◌, sym, arith}
+use Rattle.zf_bits.specs.Reader.{rest}
+use Rattle.zf_planes.proofs.LanesAhead.{sixteen_read}
+use Rattle.zf_planes.proofs.four_reading.read_sixteen.Goals as goal
+
+pub returns-clause-read : goal.returns-clause-read
+returns-clause-read c =
+    let ahead = c.args.ahead.now in
+    sixteen_read c.args.most c.lanes_of_16-lanes.result ahead.bits ahead.count c.requires.window c.requires.there c.requires.four c.lanes_of_16-lanes.ensures.digits c.lanes_of_16-lanes.ensures.below c.pass.ensures.taken
