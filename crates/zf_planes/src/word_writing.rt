@@ -1,6 +1,6 @@
 //! The code of planes in one word each, whose bits are gathered before they are written.
 
-ghost use Rattle.std.specs.Prelude.{◌≡◌, ◌+◌, ◌-◌, ◌*◌, ◌/◌, ◌^◌, ◌<◌, ◌≤◌, ◌⊎◌, true, false, min, max, length, map, take, drop};
+ghost use Rattle.std.specs.Prelude.{◌≡◌, ◌+◌, ◌-◌, ◌*◌, ◌/◌, ◌^◌, ◌<◌, ◌≤◌, ◌⊎◌, true, false, min, max, ◌++◌, length, map, take, drop};
 ghost use Rattle.zf_spec.specs.Numbers.{field};
 ghost use Rattle.zf_spec.specs.Planes.{plane_code, code_from, reach};
 ghost use Rattle.zf_spec.specs.HeldPlanes.{planes_held};
@@ -33,11 +33,65 @@ fn plain_plane(n: u64, size: u64, digits: u64) -> Part
     ensures small { result.bits < 2 ^ result.len }
     ensures some { 0 < result.len }
     ensures len { result.len ≤ 64 }
+    ensures shorter { n < size → result.len ≡ n + 1 }
     ensures same { max n (reach (field size digits)) ≡ n }
 {
     Part {
         bits: digits,
         len: if n == size { size } else { n + 1 },
+    }
+}
+
+/// The code of the first planes, which is not written yet.
+#[derive(Clone, Copy)]
+struct Begun {
+    /// Its bits.
+    part: Part,
+    /// How far the ones of these planes reach.
+    above: usize,
+    /// The number of the plane that follows.
+    next: usize,
+}
+
+/// The code of the planes in which the first rank alone has ones, from the one of number `from` on, if that is one of them, as far as it fits a word. Where
+/// values are smooth, these are many.
+#[inline(always)]
+fn lone_planes<P: Plane>(from: usize, prec: u32, size: usize, planes: &[P]) -> Begun
+    requires some { 1 < size }
+    requires size { size ≤ 64 }
+    requires words { size ≤ 64 * P.word_count }
+    requires planes { prec ≤ length planes.now }
+    requires from { from ≤ prec }
+    ensures code { code_from 0 (drop from (take prec (planes_held size (map P.words planes.now))))
+        ≡ field result.part.len result.part.bits ++ code_from result.above (drop result.next (take prec (planes_held size (map P.words planes.now)))) }
+    ensures small { result.part.bits < 2 ^ result.part.len }
+    ensures len { result.part.len ≤ 64 }
+    ensures above { result.above ≤ 1 }
+    ensures next { result.next ≤ prec }
+{
+    let none = Begun {
+        part: Part { bits: 0, len: 0 },
+        above: 0,
+        next: from,
+    };
+    if from == prec as usize || first_word(&planes[planes.len() - 1 - from], size) != 1 {
+        return none;
+    }
+    // A group bit, the one of the first rank, and a group bit that says that no other follows.
+    let mut part = Part { bits: 3, len: 3 };
+    let mut i = from + 1;
+    while i < prec as usize && part.len < 62 {
+        let digits = first_word(&planes[planes.len() - 1 - i], size);
+        if digits > 1 {
+            break;
+        }
+        part = join(part, plain_plane(1, size as u64, digits));
+        i += 1;
+    }
+    Begun {
+        part,
+        above: 1,
+        next: i,
     }
 }
 
@@ -52,7 +106,7 @@ pub(crate) fn write_planes_of_word<P: Plane>(
     planes: &[P],
     out: &mut BitWriter,
 ) -> u64
-    requires some { 0 < size }
+    requires some { 1 < size }
     requires size { size ≤ 64 }
     requires words { size ≤ 64 * P.word_count }
     requires planes { prec ≤ length planes.now }
@@ -61,10 +115,11 @@ pub(crate) fn write_planes_of_word<P: Plane>(
     ensures bits { Appends out.old out.new (take left (code_from 0 (drop from (take prec (planes_held size (map P.words planes.now)))))) }
     ensures left { result ≡ left - length (code_from 0 (drop from (take prec (planes_held size (map P.words planes.now))))) }
 {
+    let begun = lone_planes(from, prec, size, planes);
     let mut left = left;
-    let mut part = Part { bits: 0, len: 0 };
-    let mut above: usize = 0;
-    let mut i = from;
+    let mut part = begun.part;
+    let mut above = begun.above;
+    let mut i = begun.next;
     while i < prec as usize && left > part.len {
         let plane = &planes[planes.len() - 1 - i];
         let digits = first_word(plane, size);

@@ -10,7 +10,7 @@ abbrev pub invariant-loop-i : goal.invariant-loop-i
 invariant-loop-i g l =
     let planes = take l.prec (planes_held l.size (map g.P.Plane.words l.planes)) in
     record {
-      remains : Remains l.fn.out l.out l.initial.left l.left (code_from 0 (drop l.from planes)) (field l.part.len l.part.bits ++ code_from l.above (drop l.i planes));
+      remains : Remains l.fn.out l.out l.fn.left l.left (code_from 0 (drop l.from planes)) (field l.part.len l.part.bits ++ code_from l.above (drop l.i planes));
       above : l.above ≤ l.size;
       place : l.i ≤ l.prec;
       small : l.part.bits < 2 ^ l.part.len;
