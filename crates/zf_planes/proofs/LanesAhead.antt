@@ -1,11 +1,11 @@
 -- Planes of four digits that are read at once, in lanes.
-use Rattle.std.proofs.Common.{◌≡◌, ℕ, zero, suc, ◌+◌, ◌-◌, ◌*◌, ◌/◌, ◌%◌, ◌^◌, ◌<◌, ◌≤◌, min, max, Bool, false, List, [], ◌∷◌, ◌++◌, length, take, drop, replicate, ⊎_elim, refl, sym, ap, subst, ◌∙◌, arith}
+use Rattle.std.proofs.Common.{◌≡◌, ℕ, zero, suc, ◌+◌, ◌-◌, ◌*◌, ◌/◌, ◌%◌, ◌^◌, ◌<◌, ◌≤◌, min, max, Bool, true, false, eqb, List, [], ◌∷◌, ◌++◌, length, take, drop, replicate, ⊎_elim, refl, sym, ap, subst, ◌∙◌, arith}
 use Rattle.std.proofs.Math.Nat.{div-eq_of_lt, mod-eq_of_lt}
 use Rattle.std.proofs.Math.Pow.{shr_lt, pow_mono}
 use Rattle.std.proofs.lemmas.Bool.{cases_lt}
-use Rattle.std.proofs.lemmas.List.{append_assoc, drop-drop, length-drop, length-take, take_at, take-take}
+use Rattle.std.proofs.lemmas.List.{append_assoc, append-nil, drop-drop, length-drop, length-take, take_at, take-take}
 use Rattle.std.proofs.lemmas.List.Elements.{All-head, All-tail}
-use Rattle.zf_spec.specs.Numbers.{field, number}
+use Rattle.zf_spec.specs.Numbers.{field, number, is_odd}
 use Rattle.zf_spec.specs.Planes.{plane_code, code_from, reach, reach_of_all, AreOfSize}
 use Rattle.zf_spec.specs.Kept.{kept_planes_from}
 use Rattle.zf_spec.specs.ReadPlanes.{planes_in_from}
@@ -15,9 +15,10 @@ use Rattle.zf_bits.proofs.Fields.{field-mod, take-field}
 use Rattle.zf_bits.specs.Reader.{Reader, rest}
 use Rattle.zf_planes.specs.Decoding.{IsWindow, Takes, plane_ahead, plane_bits, planes_ahead, planes_bits}
 use Rattle.zf_planes.specs.Fours.{string_planes}
-use Rattle.zf_planes.specs.Lanes.{low_planes, lanes_in, AreBelow, IsGathered, gathered, ReadsSome}
+use Rattle.zf_planes.specs.Lanes.{low_planes, lanes_in, AreBelow, IsGathered, gathered, ReadsPlanes, ReadsSome}
 use Rattle.zf_planes.proofs.Doubled.{plane_whole}
-use Rattle.zf_planes.proofs.Lanes.{length-low_planes, low_planes-sizes, length-lanes_in}
+use Rattle.zf_planes.proofs.Lanes.{length-low_planes, low_planes-sizes, length-lanes_in, one_behind, no_lanes_below}
+use Rattle.zf_planes.proofs.Strings.{code_from-append}
 use Rattle.zf_planes.proofs.Passing.{Passes, Passes-part, Takes-rest}
 use Rattle.zf_planes.proofs.Peeking.{window_prefix, window_behind, window_long}
 use Rattle.zf_planes.proofs.PlaneAhead.{whole_plane}
@@ -283,16 +284,103 @@ word_read {now} {new} {left} {after} most c v digits len some few fits is bits_a
     let all : 2 ^ len ≤ 2 ^ (4 * c) = pow_mono {i = len} {j = 4 * c} (omega arith) in
     let same : digits % 2 ^ (4 * c) ≡ digits = mod-eq_of_lt (omega arith) in
     let read = own_read most c v digits len fits is takes.enough first small (lanes ∙ ap (string_planes c) same) takes in
-    record { some = some; few = few; fits = fits; below = below; within = omega arith; taken = takes; bits = read.bits; digits = read.digits }
+    record { some = some; few = few; read = record { fits = fits; below = below; within = omega arith; taken = takes; bits = read.bits; digits = read.digits } }
 
 -- four of them, whose bits are in sight
 pub sixteen_read : {now new : Reader} {left after : ℕ} (most v bits count : ℕ) → IsWindow left bits count (rest now) → 16 ≤ count → 4 ≤ most → low_planes 4 (lanes_in 4 v) ≡ string_planes 4 (bits % 65536)
-    → AreBelow 4 (lanes_in 4 v) → Takes now new left after 16 → ReadsSome most 4 now new left after 4 v 16 4
+    → AreBelow 4 (lanes_in 4 v) → Takes now new left after 16 → ReadsPlanes most 4 now new left after 4 v 16 4
 sixteen_read {now} {new} {left} {after} most v bits count window there fits lanes below takes =
     let s = rest now in
     let first : field 16 (bits % 65536) ≡ take 16 s = field-mod 16 0 bits ∙ window_prefix s bits count 16 window.bits there in
     let read = own_read most 4 v (bits % 65536) 16 fits (omega (arith, window.within)) takes.enough first (omega arith) lanes takes in
-    record { some = omega arith; few = omega arith; fits = fits; below = below; within = omega arith; taken = takes; bits = read.bits; digits = read.digits }
+    record { fits = fits; below = below; within = omega arith; taken = takes; bits = read.bits; digits = read.digits }
+
+-- ---- planes in which the first rank alone has ones
+
+-- some of them, as lanes, whose code begins these bits
+pub record AreLone (bits c v : ℕ) : Type 0 where
+  pub word : v < 2 ^ 64
+  pub below : AreBelow c (lanes_in 4 v)
+  pub code : code_from 0 (low_planes c (lanes_in 4 v)) ≡ field (1 + 2 * c) bits
+  pub reached : max 0 (reach_of_all (low_planes c (lanes_in 4 v))) ≡ 1
+
+pub first_lone : (bits : ℕ) → bits % 8 ≡ 3 → AreLone bits 1 1
+unfolding low_planes lanes_in AreBelow
+first_lone bits three = record {
+  word = omega arith;
+  below = (omega arith, (omega arith, (omega arith, (omega arith, tt))));
+  code = ap (field 3) (sym three) ∙ field-mod 3 0 bits;
+  reached = refl;
+}
+
+lone_plane : (e : ℕ) → e < 2 → low_planes 1 (lanes_in 4 e) ≡ (is_odd e ∷ false ∷ false ∷ false ∷ []) ∷ []
+unfolding low_planes lanes_in
+lone_plane zero small = refl
+lone_plane (suc zero) small = refl
+lone_plane (suc (suc e)) small = absurd (omega arith)
+
+lone_below : (e : ℕ) → e < 2 → AreBelow 1 (lanes_in 4 e)
+unfolding lanes_in AreBelow
+lone_below e small = (omega arith, (omega arith, (omega arith, (omega arith, tt))))
+
+-- one more, whose digit and group bit of zero come next
+pub more_lone : (bits c v e : ℕ) → e ≡ bits / 2 ^ (1 + 2 * c) % 2 → bits / 2 ^ (1 + 2 * c) % 4 < 2 → c + 1 ≤ 16 → AreLone bits c v → AreLone bits (c + 1) (v * 2 % 2 ^ 64 + e)
+more_lone bits c v e is group room before =
+    let x = bits / 2 ^ (1 + 2 * c) in
+    let small : e < 2 = omega arith in
+    let longer = one_behind c v e before.word (omega arith) before.below (lone_below e small) room in
+    let prefix = low_planes c (lanes_in 4 v) in
+    let plane = lone_plane e small in
+    let odd : is_odd e ≡ is_odd x = ap is_odd is ∙ is_odd-low x in
+    let none : is_odd (x / 2) ≡ false = (let even : x / 2 % 2 ≡ 0 = omega arith in ap (λ n. eqb n 1) even) in
+    let parts : 1 + 2 * (c + 1) ≡ 1 + 2 * c + 2 = omega arith in
+    let here = one_lone (is_odd x) in
+    record {
+      word = longer.small;
+      below = longer.below;
+      code =
+          ap (code_from 0) (longer.planes ∙ ap (λ (ps : List (List Bool)). prefix ++ ps) (plane ∙ ap (λ b. (b ∷ false ∷ false ∷ false ∷ []) ∷ []) odd))
+          ∙ code_from-append 0 prefix ((is_odd x ∷ false ∷ false ∷ false ∷ []) ∷ [])
+          ∙ ap (λ n. code_from 0 prefix ++ code_from n ((is_odd x ∷ false ∷ false ∷ false ∷ []) ∷ [])) before.reached
+          ∙ ap (λ (bs : List Bool). code_from 0 prefix ++ bs) (here.0 ∙ ap (λ b. is_odd x ∷ b ∷ []) (sym none))
+          ∙ ap (λ (bs : List Bool). bs ++ field 2 x) before.code
+          ∙ sym (ap (λ n. field n bits) parts ∙ field-add (1 + 2 * c) 2 bits);
+      reached =
+          ap (λ (ps : List (List Bool)). max 0 (reach_of_all ps)) (longer.planes ∙ ap (λ (ps : List (List Bool)). prefix ++ ps) (plane ∙ ap (λ b. (b ∷ false ∷ false ∷ false ∷ []) ∷ []) odd))
+          ∙ omega (arith, reach_of_all-append prefix ((is_odd x ∷ false ∷ false ∷ false ∷ []) ∷ []), before.reached, here.1);
+    }
+  where
+    one_lone : (d : Bool) → (code_from 1 ((d ∷ false ∷ false ∷ false ∷ []) ∷ []) ≡ d ∷ false ∷ []) × (reach_of_all ((d ∷ false ∷ false ∷ false ∷ []) ∷ []) ≤ 1)
+    one_lone true = (refl, omega arith)
+    one_lone false = (refl, omega arith)
+
+    is_odd-low : (n : ℕ) → is_odd (n % 2) ≡ is_odd n
+    is_odd-low n = let low : n % 2 % 2 ≡ n % 2 = omega arith in ap (λ m. eqb m 1) low
+
+    reach_of_all-append : (ps qs : List (List Bool)) → reach_of_all (ps ++ qs) ≡ max (reach_of_all ps) (reach_of_all qs)
+    reach_of_all-append [] qs = omega arith
+    reach_of_all-append (p ∷ ps) qs = omega (arith, reach_of_all-append ps qs)
+
+-- none was read
+pub none_read : {now : Reader} {left : ℕ} (most : ℕ) → ReadsPlanes most 0 now now left left 0 0 0 0
+unfolding low_planes
+none_read {now} {left} most =
+    let all : most - 0 ≡ most = omega arith in
+    record {
+      fits = omega arith;
+      below = no_lanes_below 0 4;
+      within = omega arith;
+      taken = record { enough = omega arith; place = omega arith; all = refl; spent = omega arith };
+      bits = rw all (omega arith);
+      digits = rw all refl;
+    }
+
+-- those that are in sight were
+pub lone_read : {now new : Reader} {left after : ℕ} (most c v len bits count : ℕ) → IsWindow left bits count (rest now) → code_from 0 (low_planes c (lanes_in 4 v)) ≡ field len bits
+    → max 0 (reach_of_all (low_planes c (lanes_in 4 v))) ≡ 1 → AreBelow c (lanes_in 4 v) → len ≤ count → c ≤ most → Takes now new left after len → ReadsPlanes most 0 now new left after c v len 1
+lone_read most c v len bits count window code reached below within fits takes =
+    let read = in_view most 0 c v len bits count 1 window (omega arith) code within fits (sym reached) takes in
+    record { fits = fits; below = below; within = omega arith; taken = takes; bits = read.bits; digits = read.digits }
 
 -- ---- planes that are gathered from the greatest on
 
@@ -305,9 +393,14 @@ pub record FoursRead (start now : Reader) (budget left prec above : ℕ) (words 
   pub few : held ≤ 12
   pub high : above ≤ 4
 
+-- planes in lanes behind those in words, where there are none yet
+pub gathered-more : (words : List ℕ) (done v c : ℕ) → gathered words done v c ≡ gathered words done 0 0 ++ low_planes c (lanes_in 4 v)
+unfolding gathered low_planes
+gathered-more words done v c = ap (λ (ps : List (List Bool)). ps ++ low_planes c (lanes_in 4 v)) (sym (append-nil (low_planes done words)))
+
 -- some planes more
 pub FoursRead-more : {start now new : Reader} {budget left after prec n : ℕ} {words : List ℕ} {done lanes held : ℕ} (c v len above : ℕ) (words' : List ℕ) (done' lanes' held' : ℕ)
-    → FoursRead start now budget left prec n words done lanes held → ReadsSome (prec - (done + held)) n now new left after c v len above
+    → FoursRead start now budget left prec n words done lanes held → ReadsPlanes (prec - (done + held)) n now new left after c v len above
     → IsGathered words' done' lanes' held' → gathered words' done' lanes' held' ≡ gathered words done lanes held ++ low_planes c (lanes_in 4 v) → done' + held' ≡ done + held + c
     → done + held + c ≤ prec → held' ≤ 12 → FoursRead start new budget after prec above words' done' lanes' held'
 FoursRead-more {start} {now} {new} {budget} {left} {after} {prec} {n} {words} {done} {lanes} {held} c v len above words' done' lanes' held' before some put planes sum within few =

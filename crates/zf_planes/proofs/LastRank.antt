@@ -12,7 +12,7 @@ use Rattle.zf_spec.proofs.Reach.{reach_within}
 use Rattle.zf_bits.specs.Reader.{Reader, rest}
 use Rattle.zf_planes.specs.Decoding.{planes_ahead, planes_bits}
 use Rattle.zf_planes.specs.Fours.{IsAsGood}
-use Rattle.zf_planes.specs.Lanes.{low_planes, lanes_in, ReadsSome}
+use Rattle.zf_planes.specs.Lanes.{low_planes, lanes_in, ReadsPlanes, ReadsSome}
 
 -- a list of four
 pub record IsFour (ds : List Bool) : Type 0 where
@@ -178,27 +178,21 @@ own_bits left p s = ap (min left) (own_length p (take left s))
 
 -- planes that were read behind four ranks are those behind three
 pub three_for_four : {old new : Reader} {left after : ℕ} (most n c v len above : ℕ) → 3 ≤ n → n ≤ 4 → ReadsSome most 4 old new left after c v len above → ReadsSome most n old new left after c v len above
-three_for_four {old} {new} {left} most n c v len above low high read =
+three_for_four {old} {new} {left} most n c v len above low high some =
     let same = ahead_of_three left most n (rest old) low high in
+    let read = some.read in
     record {
-      some = read.some;
-      few = read.few;
-      fits = read.fits;
-      below = read.below;
-      within = read.within;
-      taken = read.taken;
-      bits = same.0 ∙ read.bits;
-      digits = same.1 ∙ read.digits;
+      some = some.some;
+      few = some.few;
+      read = record { fits = read.fits; below = read.below; within = read.within; taken = read.taken; bits = same.0 ∙ read.bits; digits = same.1 ∙ read.digits };
     }
 
 -- and so are those that follow
-pub three_through : {old new : Reader} {left after : ℕ} (most n c v len : ℕ) → 3 ≤ n → n ≤ 4 → ReadsSome most 4 old new left after c v len 4 → ReadsSome most n old new left after c v len n
+pub three_through : {old new : Reader} {left after : ℕ} (most n c v len : ℕ) → 3 ≤ n → n ≤ 4 → ReadsPlanes most 4 old new left after c v len 4 → ReadsPlanes most n old new left after c v len n
 three_through {old} {new} {left} {after} most n c v len low high read =
     let here = ahead_of_three left most n (rest old) low high in
     let behind = ahead_of_three after (most - c) n (rest new) low high in
     record {
-      some = read.some;
-      few = read.few;
       fits = read.fits;
       below = read.below;
       within = high;

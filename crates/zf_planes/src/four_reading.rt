@@ -7,7 +7,7 @@ ghost use Rattle.zf_spec.specs.Kept.{kept_planes};
 ghost use Rattle.zf_bits.specs.Reader.{rest, Reads};
 ghost use Rattle.zf_planes.specs.Decoding.{IsWindow, coded, coded_bits, plane_ahead, plane_bits, planes_ahead, planes_bits, Takes, Lacks};
 ghost use Rattle.zf_planes.specs.Fours.{string_planes};
-ghost use Rattle.zf_planes.specs.Lanes.{low_planes, lanes_in, lanes_apart, AreBelow, IsGathered, gathered, ReadsSome};
+ghost use Rattle.zf_planes.specs.Lanes.{low_planes, lanes_in, lanes_apart, AreBelow, IsGathered, gathered, ReadsPlanes, ReadsSome};
 
 use crate::decoding::{Ahead, look, look_on, pass, pass_zero_planes, read_by_runs, read_word};
 use crate::ends_table::entry_of_end;
@@ -241,7 +241,7 @@ fn read_sixteen(most: u32, ahead: &mut Ahead, reader: &mut BitReader<'_>) -> Pla
     requires window { IsWindow ahead.old.left ahead.old.bits ahead.old.count (rest reader.old) }
     ensures window { IsWindow ahead.new.left ahead.new.bits ahead.new.count (rest reader.new) }
     ensures count { result.count ≡ 4 }
-    ensures read { ReadsSome most 4 reader.old reader.new ahead.old.left ahead.new.left 4 result.lanes 16 4 }
+    ensures read { ReadsPlanes most 4 reader.old reader.new ahead.old.left ahead.new.left 4 result.lanes 16 4 }
 {
     let lanes = lanes_of_16(ahead.bits % 65536);
     pass(16, ahead, reader);
@@ -378,6 +378,70 @@ fn digits_of(digits: Gathered, width: u32) -> [u64; 4]
     shifted.words
 }
 
+/// Whether the next planes, of at most `most`, begin with one in which the first rank alone has a one: a group bit, that one, and a group bit of zero.
+#[inline(always)]
+fn begins_lone(most: u32, ahead: &Ahead) -> bool
+    ensures { result ≡ true → (0 < most) × (3 ≤ ahead.now.count) × (ahead.now.bits % 8 ≡ 3) }
+{
+    most > 0 && ahead.count >= 3 && ahead.bits % 8 == 3
+}
+
+/// The planes in which the first rank alone has ones, at most twelve, whose code these bits begin with, as far as `count` bits are in sight. Behind the first
+/// group bit each has its digit, and a group bit of zero.
+#[inline(always)]
+fn lone_in_sight(most: u32, bits: u64, count: u64) -> PlanesInLanes
+    requires some { 0 < most }
+    requires there { 3 ≤ count }
+    requires first { bits % 8 ≡ 3 }
+    ensures code { code_from 0 (low_planes result.count (lanes_in 4 result.lanes)) ≡ field result.len bits }
+    ensures reached { max 0 (reach_of_all (low_planes result.count (lanes_in 4 result.lanes))) ≡ 1 }
+    ensures below { AreBelow result.count (lanes_in 4 result.lanes) }
+    ensures few { result.count ≤ 12 }
+    ensures fits { result.count ≤ most }
+    ensures some { 0 < result.len }
+    ensures len { result.len ≤ count }
+    ensures above { result.above ≡ 1 }
+{
+    let limit = most.min(12);
+    let mut lanes = 1;
+    let mut rest = bits / 8;
+    let mut planes = 1;
+    let mut len = 3;
+    while planes < limit && len + 2 <= count && rest % 4 < 2 {
+        lanes = (lanes << 1) + rest % 2;
+        rest /= 4;
+        planes += 1;
+        len += 2;
+    }
+    PlanesInLanes {
+        lanes,
+        count: planes,
+        len,
+        above: 1,
+    }
+}
+
+/// Reads the planes at the top in which the first rank alone has ones, of at most `most`, as many as are in sight; it may be none.
+#[inline(always)]
+fn read_lone(most: u32, ahead: &mut Ahead, reader: &mut BitReader<'_>) -> PlanesInLanes
+    requires window { IsWindow ahead.old.left ahead.old.bits ahead.old.count (rest reader.old) }
+    ensures window { IsWindow ahead.new.left ahead.new.bits ahead.new.count (rest reader.new) }
+    ensures few { result.count ≤ 12 }
+    ensures read { ReadsPlanes most 0 reader.old reader.new ahead.old.left ahead.new.left result.count result.lanes result.len result.above }
+{
+    if !begins_lone(most, ahead) {
+        return PlanesInLanes {
+            lanes: 0,
+            count: 0,
+            len: 0,
+            above: 0,
+        };
+    }
+    let lone = lone_in_sight(most, ahead.bits, ahead.count);
+    pass(lone.len, ahead, reader);
+    lone
+}
+
 /// Digits that were read, and what is left of the budget.
 #[derive(Clone, Copy)]
 struct ReadDigits {
@@ -400,13 +464,15 @@ fn read_gathered(budget: u64, prec: u32, reader: &mut BitReader<'_>) -> Option<R
 {
     let mut ahead = look(budget, reader);
     let zeros = pass_zero_planes(prec, &mut ahead, reader);
+    // Where values are smooth, the first coefficient is the only one of many planes.
+    let lone = read_lone(prec - zeros as u32, &mut ahead, reader);
     let mut digits = Gathered {
         words: [0; 4],
         done: zeros as u32,
-        lanes: 0,
-        held: 0,
+        lanes: lone.lanes,
+        held: lone.count,
     };
-    let mut above = 0;
+    let mut above = lone.above;
     while digits.done + digits.held < prec && ahead.left > 0 {
         let planes = prec - (digits.done + digits.held);
         let some = read_next(planes, above, &mut ahead, reader)?;

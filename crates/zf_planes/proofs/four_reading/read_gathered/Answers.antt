@@ -1,9 +1,9 @@
-use Rattle.std.proofs.Common.{◌≡◌, ℕ, ◌+◌, ◌-◌, inl, inr, Bool, false, List, [], ◌∷◌, ◌++◌, replicate, refl, sym, ap, ◌∙◌, arith}
+use Rattle.std.proofs.Common.{◌≡◌, ℕ, ◌+◌, ◌-◌, inl, inr, Bool, false, List, [], ◌∷◌, ◌++◌, replicate, refl, sym, ap, subst, ◌∙◌, arith}
 use Rattle.zf_bits.specs.Reader.{rest}
 use Rattle.zf_planes.specs.Decoding.{planes_ahead, planes_bits}
-use Rattle.zf_planes.specs.Lanes.{gathered}
+use Rattle.zf_planes.specs.Lanes.{gathered, ReadsPlanes}
 use Rattle.zf_planes.proofs.Lanes.{gathered_words, low_planes-zeros, four_below, no_lanes_below}
-use Rattle.zf_planes.proofs.LanesAhead.{FoursRead-more}
+use Rattle.zf_planes.proofs.LanesAhead.{FoursRead, FoursRead-more, gathered-more}
 use Rattle.zf_planes.proofs.LastRank.{three_through}
 use Rattle.zf_planes.proofs.Passing.{Passes-start, Passes-part, Passes-end, Passes-lacks, if_none}
 use Rattle.zf_planes.proofs.PlanesAhead.{planes_over, zero_planes}
@@ -24,16 +24,23 @@ loop-digits-init c =
     let first = rw (← spent) at (zero_planes k c.args.budget c.args.prec 4 (rest c.args.reader.now) behind (omega arith) (omega (arith, taken.spent)) passed.ensures.within passed.ensures.zeros) in
     let all : k + 0 ≡ k = omega arith in
     let held : gathered words k 0 0 ≡ replicate k zeros = gathered_words words k 0 0 refl ∙ low_planes-zeros k in
+    let before : FoursRead c.args.reader.now passed.new.reader c.args.budget after c.args.prec 0 words k 0 0 =
     record {
-      window = passed.ensures.window;
-      read = record {
-        passes = rw all (Passes-part _ (Passes-start c.args.reader.now c.args.budget _) first.0 taken);
-        put = record { four = refl; prefix = four_below k; back = no_lanes_below 0 4 };
-        planes = rw all (first.1 ∙ ap (λ (ps : List (List Bool)). ps ++ planes_ahead after (c.args.prec - k) 4 0 behind) (sym held));
-        within = omega (arith, passed.ensures.within);
-        few = omega arith;
-        high = omega arith;
-      };
+      passes = rw all (Passes-part _ (Passes-start c.args.reader.now c.args.budget _) first.0 taken);
+      put = record { four = refl; prefix = four_below k; back = no_lanes_below 0 4 };
+      planes = rw all (first.1 ∙ ap (λ (ps : List (List Bool)). ps ++ planes_ahead after (c.args.prec - k) 4 0 behind) (sym held));
+      within = omega (arith, passed.ensures.within);
+      few = omega arith;
+      high = omega arith;
+    } in
+    let lone = c.read_lone-lone in
+    let most : c.args.prec - k ≡ c.args.prec - (k + 0) = omega arith in
+    let Read : ℕ → Type 0 = λ m. ReadsPlanes m 0 passed.new.reader lone.new.reader after lone.new.ahead.left lone.result.count lone.result.lanes lone.result.len lone.result.above in
+    let read = subst Read most lone.ensures.read in
+    record {
+      window = lone.ensures.window;
+      read = FoursRead-more lone.result.count lone.result.lanes lone.result.len lone.result.above words k lone.result.lanes lone.result.count before read
+          (record { four = refl; prefix = four_below k; back = read.below }) (gathered-more words k lone.result.lanes lone.result.count) (omega arith) (omega (arith, read.fits, passed.ensures.within)) lone.ensures.few;
     }
 
 -- ---- some planes more
@@ -57,7 +64,7 @@ loop-ahead-init c =
     let added = c.add-digits.ensures in
     record {
       window = ok.window;
-      read = FoursRead-more some.count some.lanes some.len some.above _ _ _ _ c.loop-digits.invariant.read ok.read added.gathered added.planes added.sum (omega (arith, ok.read.fits, c.loop-digits-test.true)) added.held;
+      read = FoursRead-more some.count some.lanes some.len some.above _ _ _ _ c.loop-digits.invariant.read ok.read.read added.gathered added.planes added.sum (omega (arith, ok.read.read.fits, c.loop-digits-test.true)) added.held;
       more = omega arith;
     }
 

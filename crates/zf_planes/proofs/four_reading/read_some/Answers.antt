@@ -25,12 +25,7 @@ returns-then-last-most-clause-read c =
     record {
       some = some.some;
       few = some.most;
-      fits = c.if-last-most.true;
-      below = some.below;
-      within = some.within;
-      taken = rw left at c.pass.ensures.taken;
-      bits = rw left at (last c).bits;
-      digits = rw left at (last c).digits;
+      read = record { fits = c.if-last-most.true; below = some.below; within = some.within; taken = rw left at c.pass.ensures.taken; bits = rw left at (last c).bits; digits = rw left at (last c).digits };
     }
 
 -- ---- planes in sight
@@ -51,12 +46,7 @@ returns-then-some-ahead-clause-read c =
     record {
       some = some.some;
       few = some.most;
-      fits = c.if-some-most.true;
-      below = some.below;
-      within = some.within;
-      taken = rw left at c.pass-then-some-ahead.ensures.taken;
-      bits = rw left at (sight c).bits;
-      digits = rw left at (sight c).digits;
+      read = record { fits = c.if-some-most.true; below = some.below; within = some.within; taken = rw left at c.pass-then-some-ahead.ensures.taken; bits = rw left at (sight c).bits; digits = rw left at (sight c).digits };
     }
 
 -- ---- one plane
@@ -87,10 +77,5 @@ returns-clause-read c =
     subst Read (sym read.ensures.one) (record {
       some = omega arith;
       few = omega arith;
-      fits = c.requires.some;
-      below = read.ensures.below;
-      within = omega (arith, read.ensures.above, reach_of_one c.args.n read.one.lanes _ (omega (arith, c.requires.in_plane)) read.ensures.digits);
-      taken = rw left at (subst Spent (sym read.ensures.len) read.ensures.taken);
-      bits = rw left at (one c).bits;
-      digits = rw left at (one c).digits;
+      read = record { fits = c.requires.some; below = read.ensures.below; within = omega (arith, read.ensures.above, reach_of_one c.args.n read.one.lanes _ (omega (arith, c.requires.in_plane)) read.ensures.digits); taken = rw left at (subst Spent (sym read.ensures.len) read.ensures.taken); bits = rw left at (one c).bits; digits = rw left at (one c).digits };
     })

@@ -39,6 +39,7 @@ loop-planes-preserved c =
       above = c.code_of_4-code.ensures.within;
       few = omega (arith, c.loop-planes.invariant.few);
     }
+
 -- ---- the digits of the planes that are left
 
 rest_is : (c : goal.After-write_part-arg-2-1) → Remains c.args.out.now c.loop-planes.out c.args.left c.loop-planes.left (code_from c.args.above.now (string_planes c.args.planes c.args.string)) (field (4 * c.from.result) c.loop-planes.string ++ [])
@@ -46,9 +47,9 @@ rest_is c =
     let now = c.loop-planes in
     let len = 4 * c.from.result in
     elim c.loop-planes-test.branch [
-      then-loop-planes-test+then-left-gt0+else-above-lt3 w ↦ digits_left now.above now.planes now.string len w.if-above-lt3.false now.invariant.above (omega (arith, c.from.ensures)) now.invariant.remains
-    | then-loop-planes-test+else-left-gt0 w ↦ Remains-none (code_from now.above (string_planes now.planes now.string)) (field len now.string ++ []) (omega (arith, w.if-left-gt0.false)) now.invariant.remains
-    | else-loop-planes-test w ↦
+      | then-loop-planes-test+then-left-gt0+else-above-lt3 w ↦ digits_left now.above now.planes now.string len w.if-above-lt3.false now.invariant.above (omega (arith, c.from.ensures)) now.invariant.remains
+      | then-loop-planes-test+else-left-gt0 w ↦ Remains-none (code_from now.above (string_planes now.planes now.string)) (field len now.string ++ []) (omega (arith, w.if-left-gt0.false)) now.invariant.remains
+      | else-loop-planes-test w ↦
           let none = string_end now.planes now.above now.string w.loop-planes-test.false in
           let empty : len ≡ 0 = omega (arith, c.from.ensures, w.loop-planes-test.false) in
           Remains-same now.invariant.remains (none.0 ∙ sym (ap (λ n. field n now.string ++ []) empty))
@@ -57,7 +58,7 @@ rest_is c =
 pub write_part-requires-clause-fits : goal.write_part-requires-clause-fits
 write_part-requires-clause-fits c =
     let len = 4 * c.from.result in
-    omega (arith, Remains-fits (field len c.loop-planes.string) [] (rest_is c) , length-field len c.loop-planes.string)
+    omega (arith, Remains-fits (field len c.loop-planes.string) [] (rest_is c), length-field len c.loop-planes.string)
 
 pub returns-clause-bits : goal.returns-clause-bits
 returns-clause-bits c =
@@ -73,9 +74,9 @@ pub returns-clause-reached : goal.returns-clause-reached
 returns-clause-reached c = λ some.
     let now = c.loop-planes in
     elim c.loop-planes-test.branch [
-      then-loop-planes-test+then-left-gt0+else-above-lt3 w ↦ omega (arith, w.if-above-lt3.false, now.invariant.reached)
-    | then-loop-planes-test+else-left-gt0 w ↦ absurd (omega (arith, w.if-left-gt0.false, c.write_part.ensures.left))
-    | else-loop-planes-test w ↦
+      | then-loop-planes-test+then-left-gt0+else-above-lt3 w ↦ omega (arith, w.if-above-lt3.false, now.invariant.reached)
+      | then-loop-planes-test+else-left-gt0 w ↦ absurd (omega (arith, w.if-left-gt0.false, c.write_part.ensures.left))
+      | else-loop-planes-test w ↦
           let none = string_end now.planes now.above now.string w.loop-planes-test.false in
           omega (arith, now.invariant.reached, none.1)
     ]

@@ -39,7 +39,7 @@ pub loop-planes-init : goal.loop-planes-init
 loop-planes-init c =
     let lone = c.count_of_lone-lone in
     elim c.if-lone-gt0.branch [
-      then-lone-gt0 w ↦
+      | then-lone-gt0 w ↦
           let part = w.code_of_lone.result in
           let remains = alone c.args.out.now c.args.left c.args.planes lone.result c.args.words part.len part.bits c.requires.planes c.requires.fits w.if-lone-gt0.true lone.ensures.most (lone.ensures.first w.if-lone-gt0.true) lone.ensures.lone w.code_of_lone.ensures.bits in
           let spent : c.args.left - length (field part.len part.bits) ≡ w.write_part-left.result = omega (arith, length-field part.len part.bits, w.write_part-left.ensures.left) in
@@ -49,7 +49,7 @@ loop-planes-init c =
             above = omega arith;
             few = omega (arith, c.requires.planes);
           })
-    | else-lone-gt0 w ↦
+      | else-lone-gt0 w ↦
           rw (w.out-is, w.left-is, w.planes-is, w.words-is, w.above-is) (record {
             remains = Remains-start c.args.out.now c.args.left _ c.requires.fits;
             above = omega arith;
