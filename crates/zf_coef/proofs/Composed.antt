@@ -1,12 +1,10 @@
 -- What the calls of this crate make of a block together.
-use Rattle.std.proofs.Common.{◌≡◌, sym, ap, ◌∙◌, ℕ, ◌^◌, ℤ, List, map, reverse, length, take}
-use Rattle.std.proofs.lemmas.List.{take-map}
+use Rattle.std.proofs.Common.{◌≡◌, sym, ap, ◌∙◌, ℕ, ◌^◌, List, length}
 use Rattle.std.specs.Int.{Width}
 use mir.Val.{bits}
-use Rattle.zf_spec.specs.Planes.{planes_of}
 use Rattle.zf_spec.specs.Codes as Codes
-use Rattle.zf_spec.specs.HeldPlanes.{digits_held, planes_held}
-use Rattle.zf_coef.specs.HeldDigits.{digits_in, ranked_digits, unranked_values}
+use Rattle.zf_spec.specs.HeldPlanes.{planes_held}
+use Rattle.zf_coef.specs.HeldDigits.{digits_in, unranked_values}
 use Rattle.zf_spec.specs.Planes.{digits_in_planes}
 
 -- `from_planes` and then `unranked`: the block has the coefficients that the planes stand for

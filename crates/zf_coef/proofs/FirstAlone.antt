@@ -1,5 +1,5 @@
 -- Planes in which no coefficient but the first has a one: their bits as a number, and the coefficients that they stand for.
-use Rattle.std.proofs.Common.{◌≡◌, ◌≢◌, refl, sym, ap, subst, ◌∙◌, ℕ, zero, suc, ◌+◌, ◌-◌, ◌*◌, ◌/◌, ◌%◌, ◌^◌, ◌<◌, ◌≤◌, ⊎_elim, max, Bool, false, ℤ, pos, List, [], ◌∷◌, map, length, get_or, set, replicate, get_or-set_same, get_or-set_other, arith}
+use Rattle.std.proofs.Common.{◌≡◌, ◌≢◌, refl, sym, ap, subst, ◌∙◌, ℕ, zero, suc, ◌+◌, ◌-◌, ◌*◌, ◌/◌, ◌%◌, ◌^◌, ◌<◌, ◌≤◌, ⊎_elim, false, ℤ, pos, List, [], ◌∷◌, map, length, get_or, set, replicate, get_or-set_same, get_or-set_other, arith}
 use Rattle.std.specs.Int.{Width, bit_at}
 use Rattle.std.specs.Int.RustNames.{bit_or}
 use Rattle.std.proofs.lemmas.Bool.{cases_lt, cases_eq}
@@ -20,7 +20,7 @@ use Rattle.zf_coef.specs.Groups.{word_of}
 use Rattle.zf_coef.specs.HeldDigits.{digits_in, unranked_values}
 use Rattle.zf_coef.proofs.ByRank.{ranks_all}
 use Rattle.zf_coef.proofs.ShiftedBits.{bit_at-mod, bit_at-shl_low, bit_at-shl_high}
-use Rattle.zf_coef.proofs.Transposed.{IsOfGroups, HoldsGroups, digits_of_groups}
+use Rattle.zf_coef.proofs.Transposed.{HoldsGroups, digits_of_groups}
 
 -- ---- the bits of planes as a number
 

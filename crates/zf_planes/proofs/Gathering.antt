@@ -1,5 +1,5 @@
 -- Bits of several planes in one word.
-use Rattle.std.proofs.Common.{◌≡◌, ℕ, zero, suc, false, set, replicate, refl, get_or-set_same, ◌∷◌, ◌+◌, ◌-◌, ◌*◌, ◌/◌, ◌%◌, ◌^◌, ◌<◌, ◌≤◌, ⊎_elim, min, max, Bool, List, [], ◌++◌, append_assoc, length, take, drop, get_or, sym, ap, subst, ◌∙◌, arith, lit<}
+use Rattle.std.proofs.Common.{◌≡◌, ℕ, zero, suc, false, set, replicate, refl, ◌∷◌, ◌+◌, ◌-◌, ◌*◌, ◌/◌, ◌%◌, ◌^◌, ◌<◌, ◌≤◌, ⊎_elim, min, Bool, List, ◌++◌, length, take, drop, get_or, sym, ap, ◌∙◌, arith, lit<}
 use Rattle.std.specs.Int.Bits.{bit_or}
 use Rattle.std.proofs.Math.Nat.{pow-le-pow_right, mod-le, div-eq_of_lt}
 use Rattle.std.proofs.Math.Seq.{take-append-add}
@@ -7,11 +7,7 @@ use Rattle.std.proofs.lemmas.Bool.{cases_lt}
 use Rattle.std.proofs.lemmas.Nat.{or_lt, shl_below}
 use Rattle.std.proofs.lemmas.List.{take_all, drop_at, length-append, length-replicate, replicate-append-replicate}
 use Rattle.zf_spec.specs.Numbers.{field, word_bits}
-use Rattle.zf_spec.specs.Planes.{plane_code, code_from, reach}
-use Rattle.zf_spec.specs.HeldPlanes.{digits_held, planes_held, IsClearFrom}
-use Rattle.zf_planes.proofs.Unpacking.{code_held, top_more}
-use Rattle.zf_planes.proofs.Placing.{clear_zeros, word_filled}
-use Rattle.zf_planes.specs.Fours.{string_planes}
+use Rattle.zf_spec.specs.HeldPlanes.{digits_held, IsClearFrom}
 use Rattle.zf_spec.proofs.Fields.{length-field, field-add, field-zero, field-mod}
 use Rattle.zf_spec.proofs.HeldPlanes.{length-digits_held}
 use Rattle.zf_bits.proofs.Fields.{take-field}

@@ -6,7 +6,7 @@ use Rattle.std.proofs.lemmas.Bool.{cases_lt}
 use Rattle.std.proofs.lemmas.List.{append_assoc, append-nil, drop-drop, length-drop, length-take, take_at, take-take}
 use Rattle.std.proofs.lemmas.List.Elements.{All-head, All-tail}
 use Rattle.zf_spec.specs.Numbers.{field, number, is_odd}
-use Rattle.zf_spec.specs.Planes.{plane_code, code_from, reach, reach_of_all, AreOfSize}
+use Rattle.zf_spec.specs.Planes.{code_from, reach, reach_of_all, AreOfSize}
 use Rattle.zf_spec.specs.Kept.{kept_planes_from}
 use Rattle.zf_spec.specs.ReadPlanes.{planes_in_from}
 use Rattle.zf_spec.proofs.Fields.{length-field, number-field, number-lt, number-zeros, number-append, field-add, field-zero}

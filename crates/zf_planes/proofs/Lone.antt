@@ -1,5 +1,5 @@
 -- Planes of four digits in which the first rank alone has ones.
-use Rattle.std.proofs.Common.{◌≡◌, ℕ, zero, suc, ◌+◌, ◌-◌, ◌*◌, ◌/◌, ◌%◌, ◌^◌, ◌<◌, ◌≤◌, max, Bool, true, false, eqb, List, [], ◌∷◌, ◌++◌, length, map, get_or, refl, sym, ap, ◌∙◌, arith, pow-suc}
+use Rattle.std.proofs.Common.{◌≡◌, ℕ, zero, suc, ◌+◌, ◌-◌, ◌*◌, ◌/◌, ◌%◌, ◌^◌, ◌<◌, ◌≤◌, max, Bool, true, false, eqb, List, [], ◌∷◌, ◌++◌, map, get_or, refl, sym, ap, ◌∙◌, arith, pow-suc}
 use Rattle.std.proofs.lemmas.Bool.{eqb-true}
 use Rattle.std.proofs.lemmas.Nat.{shr-shr, le_or_l, le_or_r, leading_length}
 use Rattle.std.specs.Int.{w64, leading_zeros}
@@ -9,13 +9,13 @@ use Rattle.std.specs.Int.RustNames.{bit_or}
 use lib.Bits.{bit_and}
 use Rattle.zf_spec.specs.Numbers.{field, is_odd, digit_value}
 use Rattle.zf_spec.specs.Grid.{count_from, upto}
-use Rattle.zf_spec.specs.Planes.{plane_code, code_from, reach, reach_of_all}
+use Rattle.zf_spec.specs.Planes.{code_from, reach_of_all}
 use Rattle.zf_planes.specs.Spread.{top_digit, top_planes, pairs, lone_planes, lone_code}
 use Rattle.zf_planes.specs.declared.spread_table.TheConstants.{SPREAD}
 use Rattle.zf_spec.proofs.Fields.{field-add, is_odd-digit_value}
 use Rattle.zf_bits.proofs.Fields.{digit_value_le}
 use Rattle.zf_planes.proofs.Tables.{each_below, each_below-true}
-use Rattle.zf_planes.proofs.TopPlanes.{map-from, odd_low, top_planes-split, no_top_planes}
+use Rattle.zf_planes.proofs.TopPlanes.{map-from, odd_low, top_planes-split}
 use Rattle.zf_planes.proofs.Strings.{code_from-append}
 use Rattle.zf_planes.proofs.TopPlanes.{below}
 

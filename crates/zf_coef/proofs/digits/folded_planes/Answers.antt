@@ -1,4 +1,4 @@
-use Rattle.std.proofs.Common.{◌≡◌, ℕ, replicate, map, arith}
+use Rattle.std.proofs.Common.{replicate, map, arith}
 use Rattle.std.proofs.lemmas.List.{length-map}
 use Rattle.zf_coef.proofs.Halves.{no_word}
 use Rattle.zf_coef.proofs.Folded.{no_eights, more_eights, past_eights, all_eights}

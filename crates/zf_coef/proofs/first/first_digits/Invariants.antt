@@ -1,4 +1,4 @@
-use Rattle.std.proofs.Common.{◌≡◌, ℕ, ◌<◌, ◌≤◌, map}
+use Rattle.std.proofs.Common.{◌≡◌, ℕ, ◌<◌, map}
 use Rattle.zf_coef.specs.Groups.{word_of}
 use Rattle.zf_coef.proofs.first.first_digits.Given as goal
 

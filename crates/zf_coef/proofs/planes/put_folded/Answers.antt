@@ -1,6 +1,5 @@
-use Rattle.std.proofs.Common.{◌≡◌, refl, ℕ, ◌+◌, ◌*◌, ◌<◌, [], map, length, ap, subst, sym, ◌∙◌, arith}
+use Rattle.std.proofs.Common.{◌≡◌, refl, map, length, ◌∙◌, arith}
 use Rattle.std.proofs.lemmas.List.{length-map}
-use Rattle.zf_coef.specs.Groups.{word_of, KeepsOthers, HoldsFolded}
 use Rattle.zf_coef.proofs.Putting.{none_changed, both_kept}
 use Rattle.zf_coef.proofs.Folded.{none_folded, more_folded, no_more_folded, all_folded}
 use Rattle.zf_coef.proofs.planes.put_folded.Goals.{then-first-planes, else-first-planes}

@@ -2,8 +2,7 @@ use Rattle.std.proofs.Common.{◌≡◌, ℕ, ◌-◌, ◌*◌, ◌/◌, ◌%◌
 use Rattle.std.proofs.lemmas.Bool.{eq-eqb}
 use Rattle.std.proofs.lemmas.Bool.Decides.{nat_tests}
 use Rattle.std.proofs.lemmas.Nat.{one_shl}
-use Rattle.zf_spec.specs.Numbers.{field}
-use Rattle.zf_planes.proofs.Doubled.{IsRunCode, run_of_entry, run_len, run_bits, implied}
+use Rattle.zf_planes.proofs.Doubled.{run_of_entry, run_len, run_bits, implied}
 use Rattle.zf_planes.proofs.doubling.short_run.Goals as goal
 use Rattle.zf_planes.proofs.doubling.short_run.Goals.{then-digits-most-eq0, else-digits-most-eq0}
 

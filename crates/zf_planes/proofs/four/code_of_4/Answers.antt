@@ -1,4 +1,4 @@
-use Rattle.std.proofs.Common.{◌∙◌, arith}
+use Rattle.std.proofs.Common.{arith}
 use Rattle.zf_planes.proofs.Tables.{IsCode, code_of_entry}
 use Rattle.zf_planes.proofs.four.code_of_4.Goals as goal
 

@@ -1,7 +1,7 @@
-use Rattle.std.proofs.Common.{◌≡◌, ℕ, ◌+◌, ◌*◌, ◌/◌, ◌%◌, ◌^◌, ◌<◌, refl, ap, ◌∙◌, arith}
+use Rattle.std.proofs.Common.{◌≡◌, ℕ, ◌+◌, ◌*◌, ◌/◌, ◌%◌, ◌^◌, ◌<◌, refl, ◌∙◌, arith}
 use Rattle.zf_spec.proofs.Fields.{field-mod}
 use Rattle.zf_planes.specs.Fours.{string_planes}
-use Rattle.zf_planes.specs.Lanes.{low_planes, lanes_in, AreBelow}
+use Rattle.zf_planes.specs.Lanes.{lanes_in, AreBelow}
 use Rattle.zf_planes.proofs.Lanes.{IsLonger, one_behind}
 use Rattle.zf_planes.proofs.four_reading.lanes_of_16.Goals as goal
 

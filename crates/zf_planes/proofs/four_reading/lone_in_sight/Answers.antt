@@ -1,6 +1,6 @@
-use Rattle.std.proofs.Common.{◌≡◌, refl, ◌+◌, ◌*◌, ◌/◌, ◌%◌, ◌^◌, ap, sym, subst, ◌∙◌, ℕ, arith}
+use Rattle.std.proofs.Common.{◌≡◌, refl, ◌+◌, ◌*◌, ◌/◌, ◌%◌, ◌^◌, ap, ◌∙◌, arith}
 use Rattle.std.proofs.lemmas.Nat.{shr-shr}
-use Rattle.zf_planes.proofs.LanesAhead.{AreLone, first_lone, more_lone}
+use Rattle.zf_planes.proofs.LanesAhead.{first_lone, more_lone}
 use Rattle.zf_planes.proofs.four_reading.lone_in_sight.Goals as goal
 
 pub loop-planes-init : goal.loop-planes-init

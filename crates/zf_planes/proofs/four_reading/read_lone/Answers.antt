@@ -1,4 +1,3 @@
-use Rattle.std.proofs.Common.{arith}
 use Rattle.zf_planes.proofs.LanesAhead.{none_read, lone_read}
 use Rattle.zf_planes.proofs.four_reading.read_lone.Goals as goal
 

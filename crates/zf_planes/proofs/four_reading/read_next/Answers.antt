@@ -1,6 +1,6 @@
-use Rattle.std.proofs.Common.{◌≡◌, sym, subst, arith, ℕ}
+use Rattle.std.proofs.Common.{sym, subst}
 use Rattle.zf_bits.specs.Reader.{rest}
-use Rattle.zf_planes.specs.Decoding.{Lacks, planes_bits}
+use Rattle.zf_planes.specs.Decoding.{Lacks}
 use Rattle.std.proofs.lemmas.Option.{IfSome_then}
 use Rattle.zf_planes.proofs.Passing.{on_none}
 use Rattle.zf_planes.proofs.LastRank.{ahead_of_three, three_for_four}

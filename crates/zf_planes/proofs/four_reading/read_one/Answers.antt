@@ -1,8 +1,6 @@
-use Rattle.std.proofs.Common.{◌≡◌, ◌≤◌, ℕ, Bool, List, [], ◌∷◌, max, sym, ap, subst, ◌∙◌, arith}
-use Rattle.zf_spec.specs.Numbers.{field}
+use Rattle.std.proofs.Common.{ℕ, Bool, List, [], ◌∷◌, max, sym, ap, subst, ◌∙◌, arith}
 use Rattle.zf_spec.specs.Planes.{reach}
-use Rattle.zf_bits.specs.Reader.{rest}
-use Rattle.zf_planes.specs.Decoding.{Takes, plane_bits, plane_ahead}
+use Rattle.zf_planes.specs.Decoding.{Takes}
 use Rattle.zf_planes.proofs.PlanesRead.{known_plane}
 use Rattle.zf_planes.proofs.four_reading.read_one.Goals as goal
 

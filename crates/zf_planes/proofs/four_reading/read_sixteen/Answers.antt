@@ -1,5 +1,3 @@
-use Rattle.std.proofs.Common.{◌∙◌, sym, arith}
-use Rattle.zf_bits.specs.Reader.{rest}
 use Rattle.zf_planes.proofs.LanesAhead.{sixteen_read}
 use Rattle.zf_planes.proofs.four_reading.read_sixteen.Goals as goal
 

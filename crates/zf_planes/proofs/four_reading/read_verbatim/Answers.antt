@@ -1,4 +1,4 @@
-use Rattle.std.proofs.Common.{◌≡◌, ◌*◌, ◌%◌, ◌^◌, ◌≤◌, ◌<◌, min, ℕ, suc, sym, ap, ◌∙◌, arith}
+use Rattle.std.proofs.Common.{arith}
 use Rattle.zf_bits.specs.Reader.{rest}
 use Rattle.zf_planes.specs.Decoding.{planes_bits}
 use Rattle.zf_planes.specs.Fours.{string_planes}

@@ -1,4 +1,4 @@
-use Rattle.std.proofs.Common.{◌≡◌, ◌+◌, ◌*◌, ap, ◌∙◌, arith}
+use Rattle.std.proofs.Common.{◌+◌, ◌*◌, ap, ◌∙◌}
 use Rattle.zf_spec.specs.Numbers.{field}
 use Rattle.zf_planes.specs.Spread.{top_digit, pairs}
 use Rattle.zf_planes.proofs.Lone.{lone_bits}

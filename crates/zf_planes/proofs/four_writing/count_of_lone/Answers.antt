@@ -1,4 +1,4 @@
-use Rattle.std.proofs.Common.{◌≡◌, ◌≤◌, ℕ, List, [], ◌∷◌, map, get_or, subst, sym, arith}
+use Rattle.std.proofs.Common.{◌≡◌, ℕ, List, map, get_or, subst, arith}
 use Rattle.std.specs.Int.RustNames.{bit_or}
 use Rattle.std.proofs.lemmas.Nat.{or_lt}
 use Rattle.zf_spec.specs.Grid.{upto}

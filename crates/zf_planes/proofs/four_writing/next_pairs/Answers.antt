@@ -1,4 +1,4 @@
-use Rattle.std.proofs.Common.{◌∙◌, arith}
+use Rattle.std.proofs.Common.{arith}
 use Rattle.zf_spec.specs.Numbers.{field}
 use Rattle.zf_planes.specs.Fours.{string_planes}
 use Rattle.zf_planes.proofs.Strings.{GoesOn, GoesOn-more, pair_of_string}

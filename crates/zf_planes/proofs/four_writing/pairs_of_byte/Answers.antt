@@ -1,4 +1,4 @@
-use Rattle.std.proofs.Common.{◌≡◌, ◌/◌, ◌^◌, ◌-◌, ap, ◌∙◌, arith}
+use Rattle.std.proofs.Common.{◌/◌, ◌^◌, ◌-◌, ap, ◌∙◌, arith}
 use Rattle.zf_spec.specs.Numbers.{is_odd}
 use Rattle.zf_planes.proofs.Lone.{pushed, pushed_entry, pairs-lt}
 use Rattle.zf_planes.proofs.four_writing.pairs_of_byte.Goals as goal

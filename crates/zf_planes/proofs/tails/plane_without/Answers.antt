@@ -1,4 +1,3 @@
-use Rattle.std.proofs.Common.{arith}
 use Rattle.std.proofs.lemmas.Nat.{one_shl}
 use Rattle.zf_planes.proofs.WordPlanes.{read_without}
 use Rattle.zf_planes.proofs.tails.plane_without.Goals as goal

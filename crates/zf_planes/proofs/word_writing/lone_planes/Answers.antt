@@ -1,4 +1,4 @@
-use Rattle.std.proofs.Common.{◌≡◌, ℕ, ◌+◌, ◌-◌, max, Bool, List, ◌++◌, length, map, take, drop, sym, ap, ◌∙◌, arith, append_assoc}
+use Rattle.std.proofs.Common.{◌≡◌, ◌+◌, max, Bool, List, ◌++◌, map, take, drop, sym, ap, ◌∙◌, arith, append_assoc}
 use Rattle.zf_spec.specs.Numbers.{field}
 use Rattle.zf_spec.specs.Planes.{plane_code, code_from, reach}
 use Rattle.zf_spec.specs.HeldPlanes.{digits_held, planes_held}
