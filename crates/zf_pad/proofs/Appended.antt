@@ -2,7 +2,7 @@
 use Rattle.std.proofs.Common.{◌≡◌, refl, sym, ap, subst, ◌∙◌, ℕ, zero, suc, ◌+◌, ◌-◌, ◌*◌, ◌/◌, ◌%◌, ◌^◌, ◌<◌, ◌≤◌, true, ℤ, pos, List, [], ◌∷◌, ◌++◌, length, get_or, take, drop, replicate, ext_get_or, length-drop, pow-suc, arith}
 use Rattle.std.proofs.lemmas.List.{get_or-take, get_or-drop, length-take-le, take-append-drop}
 use Rattle.zf_spec.specs.Grid.{product, coordinates, raster, is_inside, fours, indices}
-use Rattle.zf_spec.proofs.Raster.{raster-coordinates, coordinates-raster, length-coordinates, product-fours, length-fours}
+use Rattle.zf_spec.proofs.Raster.{raster-coordinates, coordinates-raster, product-fours, length-fours}
 use Rattle.zf_base.specs.declared.position.Extent.{Extent}
 use Rattle.zf_base.specs.Positions.{axes, used_axes, with_unused, IsExtent}
 use Rattle.zf_base.proofs.Boxes.{raster-lt, product-append_ones}
@@ -31,11 +31,14 @@ whole_appended d es block old new whole long is =
 -- ---- the box of an extent
 
 -- the number of a place in it, by four axes and by the used ones
-raster_ones : (k p : ℕ) → p < 1 → raster (replicate k 1) (indices (length (replicate k 1)) p) ≡ 0
+abbrev ones : ℕ → List ℕ
+ones k = replicate k 1
+
+raster_ones : (k p : ℕ) → p < 1 → raster (ones k) (indices (length (ones k)) p) ≡ 0
 raster_ones zero p lt = refl
 raster_ones (suc k) p lt = omega (arith, raster_ones k (p / 4) (omega arith))
 
-raster-append_ones : (es : List ℕ) (k p : ℕ) → p < 4 ^ length es → raster (es ++ replicate k 1) (indices (length (es ++ replicate k 1)) p) ≡ raster es (indices (length es) p)
+raster-append_ones : (es : List ℕ) (k p : ℕ) → p < 4 ^ length es → raster (es ++ ones k) (indices (length (es ++ ones k)) p) ≡ raster es (indices (length es) p)
 raster-append_ones [] k p lt = raster_ones k p (omega arith)
 raster-append_ones (e ∷ es) k p lt =
     let power = pow-suc 4 (length es) in

@@ -1,5 +1,5 @@
 -- The values of an array in the order of blocks: where those of a block begin, and what they are in raster order.
-use Rattle.std.proofs.Common.{◌≡◌, refl, sym, ap, subst, ◌∙◌, ℕ, zero, suc, ◌+◌, ◌-◌, ◌*◌, ◌/◌, ◌%◌, ◌^◌, ◌<◌, ◌≤◌, ◌⊎◌, ⊎_elim, min, true, cond, ℤ, pos, List, [], ◌∷◌, ◌++◌, length, get_or, map, mod-lt, mod-eq_of_lt, mul-le-mul_left, arith, length-append}
+use Rattle.std.proofs.Common.{◌≡◌, refl, sym, ap, subst, ◌∙◌, ℕ, zero, suc, ◌+◌, ◌-◌, ◌*◌, ◌/◌, ◌%◌, ◌^◌, ◌<◌, ◌≤◌, ⊎_elim, min, true, cond, ℤ, pos, List, [], ◌∷◌, ◌++◌, length, get_or, map, mod-lt, mod-eq_of_lt, mul-le-mul_left, arith, length-append}
 use Rattle.std.proofs.Math.Nat.{add-mul-mod_self_left, add-mul-div_left, div-eq_of_lt, div-add-mod, mul-mod_right}
 use Rattle.std.proofs.Math.ListN.{get_or-append}
 use Rattle.std.proofs.lemmas.Bool.{cases_lt}
@@ -7,10 +7,10 @@ use Rattle.std.proofs.lemmas.Nat.{div_below}
 use Rattle.std.proofs.lemmas.List.{length-map, get_or-append_right}
 use Rattle.zf_spec.specs.Grid.{product, grid, blocks, coordinates, raster, is_inside, fours, indices, extents, extent_of, position_in, value_at, block_of, blocks_of}
 use Rattle.zf_spec.specs.Codes.{existing_values}
-use Rattle.zf_spec.proofs.Counting.{get_or-map-upto, map-upto_same, from_places}
+use Rattle.zf_spec.proofs.Counting.{length-map-upto, get_or-map-upto, map-upto_same, from_places}
 use Rattle.zf_spec.proofs.Padding.{get_or-existing_inside, existing_values-existing_values}
 use Rattle.zf_spec.proofs.Raster.{coordinates-raster, length-fours}
-use Rattle.zf_base.specs.Places.{IsAt, block_number, place_of}
+use Rattle.zf_base.specs.Places.{IsAt}
 use Rattle.zf_base.proofs.Boxes.{raster-lt}
 use Rattle.zf_base.proofs.Extents.{length-extent_of}
 use Rattle.zf_base.proofs.Places.{is_inside-grid, is_inside-fours, IsAt-inside, IsAt-length, IsAt-block, IsAt-place}
@@ -210,6 +210,7 @@ module _ (ns : List ℕ) (bs : List (List ℤ)) (b : ℕ) (block stored new : Li
 
   comes : (p : ℕ) → p < 4 ^ length ns → is_inside (extent_of ns b) (indices (length ns) p) ≡ true
       → get_or new (stored_before ns b + raster (extent_of ns b) (indices (length ns) p)) (pos 0) ≡ get_or (get_or (bs ++ added ∷ []) b []) p (pos 0)
+  unfolding added
   comes p small inside =
       let es = extent_of ns b in
       let d = length-extent_of ns b in
@@ -242,6 +243,9 @@ module _ (ns : List ℕ) (bs : List (List ℤ)) (b : ℕ) (block stored new : Li
   }
 
 -- ---- all blocks
+
+pub length-raster_of : (ns : List ℕ) (stored : List ℤ) → length (raster_of ns stored) ≡ product ns
+length-raster_of ns stored = length-map-upto (λ k. get_or stored (stored_index ns (coordinates ns k)) (pos 0)) (product ns)
 
 -- a value in raster order
 pub raster_value : (ns ps : List ℕ) (stored : List ℤ) → length ps ≡ length ns → is_inside ns ps ≡ true → get_or (raster_of ns stored) (raster ns ps) (pos 0) ≡ get_or stored (stored_index ns ps) (pos 0)

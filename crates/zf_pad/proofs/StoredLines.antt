@@ -1,16 +1,17 @@
 -- The lines of an array whose values are kept in the order of blocks.
-use Rattle.std.proofs.Common.{◌≡◌, refl, sym, ap, subst, ◌∙◌, ℕ, zero, suc, ◌+◌, ◌-◌, ◌*◌, ◌/◌, ◌%◌, ◌<◌, ◌≤◌, ◌⊎◌, ⊎_elim, min, ℤ, pos, List, [], ◌∷◌, ◌++◌, length, get_or, map, take, drop, replicate, mod-lt, mod-eq_of_lt, mul-le-mul_left, arith, ext_get_or, length-drop}
-use Rattle.std.proofs.Math.Nat.{add-mul-mod_self_left, add-mul-div_left, div-eq_of_lt, div-add-mod, mul-mod_right, mul-le-mul_right, mul-add, add-mul}
+use Rattle.std.proofs.Common.{◌≡◌, refl, sym, ap, subst, ◌∙◌, ℕ, zero, suc, ◌+◌, ◌-◌, ◌*◌, ◌/◌, ◌%◌, ◌<◌, ◌≤◌, ◌^◌, ◌⊎◌, ⊎_elim, min, ℤ, pos, List, [], ◌∷◌, ◌++◌, length, get_or, map, take, drop, replicate, mod-eq_of_lt, mul-le-mul_left, arith, ext_get_or, length-drop, lit≤}
+use Rattle.std.proofs.Math.Nat.{add-mul-mod_self_left, add-mul-div_left, div-eq_of_lt, div-add-mod, mul-mod_right, mul-le-mul_right, le-mul_of_pos_right}
 use Rattle.std.proofs.lemmas.Bool.{cases_lt}
 use Rattle.std.proofs.lemmas.Nat.{div_below}
-use Rattle.std.proofs.lemmas.List.{length-map, get_or-take, get_or-drop, length-take-le}
-use Rattle.zf_spec.specs.Grid.{IsShape, product, coordinates, raster, extents}
-use Rattle.zf_spec.proofs.Counting.{get_or-map-upto, length-map-upto}
+use Rattle.std.proofs.lemmas.List.{length-map, get_or-take, get_or-drop, get_or-append_right, length-take-le, take-append-le, take-map, drop-map, map-append}
+use Rattle.std.proofs.Math.ListN.{get_or-append}
+use Rattle.std.proofs.Math.Seq.{take-take}
+use Rattle.zf_spec.specs.Grid.{IsShape, product, coordinates, raster, extents, max_values}
+use Rattle.zf_spec.proofs.Counting.{get_or-map-upto}
 use Rattle.zf_spec.proofs.Raster.{length-coordinates, length-extents}
-use Rattle.zf_base.specs.Positions.{axes, with_unused}
 use Rattle.zf_base.proofs.Boxes.{product-append_ones, raster-append_zeros, coordinates-append_ones, extents-append_ones}
-use Rattle.zf_base.proofs.Sizes.{axes-with_unused, product-axes}
-use Rattle.zf_pad.specs.Stored.{start_at, stored_index, raster_of, line_len, other_sizes, IsLine}
+use Rattle.zf_base.proofs.Sizes.{axes-with_unused, all_axes, product-axes}
+use Rattle.zf_pad.specs.Stored.{start_at, stored_index, raster_of, line_len, other_sizes, IsFirst, IsLine}
 
 -- ---- along four axes
 
@@ -57,6 +58,17 @@ index_by_four ns k four =
     ∙ stored_index-append_ones ns (coordinates ns k) m (length-coordinates ns k))
 
 -- ---- a line
+
+-- the lines along x are no more than the values
+pub others_fit : (ns : List ℕ) → IsShape ns → product (other_sizes ns) ≤ max_values
+others_fit ns shape =
+    let some = all_axes (λ n. 1 ≤ n) ns shape.four_at_most (lit≤ tt) shape.not_zero in
+    omega (arith, le-mul_of_pos_right {m = line_len ns} (product (other_sizes ns)) some.0, all_sizes ns shape.four_at_most, shape.not_too_large)
+
+pub along_fits : (n p first lines : ℕ) → p < n → 4 * (p / 4) * lines + n * first + min 4 (n - 4 * (p / 4)) * lines ≤ n * (first + lines)
+along_fits n p first lines lt =
+    let within : 4 * (p / 4) + min 4 (n - 4 * (p / 4)) ≤ n = omega (arith, lt) in
+    omega (arith, mul-le-mul_right lines within)
 
 -- where a line has its value at x
 abbrev pub place_on : ℕ → ℕ → ℕ → ℕ → ℕ → ℕ
@@ -123,9 +135,10 @@ module _ (n first lines line x all : ℕ) (begins : x % 4 ≡ 0) (below : line <
   block_place b k small within =
       let q : 4 * ((x + (4 * b + k)) / 4) ≡ x + 4 * b = omega (arith, begins, small) in
       let r : (x + (4 * b + k)) % 4 ≡ k = omega (arith, begins, small) in
+      let e : min 4 (n - (x + 4 * b)) ≡ 4 = omega (arith, within) in
       ap (λ c. c * lines + n * first + ((x + (4 * b + k)) % 4 + min 4 (n - c) * line)) q
       ∙ ap (λ j. (x + 4 * b) * lines + n * first + (j + min 4 (n - (x + 4 * b)) * line)) r
-      ∙ ap (λ m. (x + 4 * b) * lines + n * first + (k + m * line)) (omega (arith, within))
+      ∙ ap (λ m. (x + 4 * b) * lines + n * first + (k + m * line)) e
       ∙ omega arith
 
   pub block_within : (b : ℕ) → x + (4 * b + 4) ≤ n → n * first + x * lines + 4 * line + b * (4 * lines) + 4 ≤ all
@@ -136,15 +149,122 @@ module _ (n first lines line x all : ℕ) (begins : x % 4 ≡ 0) (below : line <
   rest_place b rest k small few is =
       let q : 4 * ((x + (4 * b + k)) / 4) ≡ x + 4 * b = omega (arith, begins, small, few) in
       let r : (x + (4 * b + k)) % 4 ≡ k = omega (arith, begins, small, few) in
+      let e : min 4 (n - (x + 4 * b)) ≡ rest = omega (arith, is, few) in
       ap (λ c. c * lines + n * first + ((x + (4 * b + k)) % 4 + min 4 (n - c) * line)) q
       ∙ ap (λ j. (x + 4 * b) * lines + n * first + (j + min 4 (n - (x + 4 * b)) * line)) r
-      ∙ ap (λ m. (x + 4 * b) * lines + n * first + (k + m * line)) (omega (arith, is, few))
+      ∙ ap (λ m. (x + 4 * b) * lines + n * first + (k + m * line)) e
       ∙ omega arith
 
   pub rest_within : (b rest : ℕ) → x + (4 * b + rest) ≤ n → n * first + x * lines + 4 * b * lines + rest * line + rest ≤ all
   rest_within b rest within =
       let up : line + 1 ≤ lines = omega (arith, below) in
       omega (arith, mul-le-mul_right lines within, mul-le-mul_left rest up, fits)
+
+-- what is known of a line, of which values from one place on are wanted
+pub record LinePart (ns : List ℕ) (n from count first lines line : ℕ) : Type 0 where
+  pub shape : IsShape ns
+  pub n_is : n ≡ line_len ns
+  pub before : from < product ns
+  pub is : IsLine (other_sizes ns) (coordinates (other_sizes ns) (from / n)) first lines line
+  pub below : line < lines
+  pub fits : first + lines ≤ product (other_sizes ns)
+  pub within : from % line_len ns + count ≤ line_len ns
+  pub begins : IsFirst ns from
+  pub whole : (count % 4 ≡ 0) ⊎ (from % line_len ns + count ≡ line_len ns)
+
+-- the number of a line is below the number of lines
+pub line_below : (ns : List ℕ) (n from : ℕ) → IsShape ns → n ≡ line_len ns → from < product ns → from / n < product (other_sizes ns)
+line_below ns n from shape is lt =
+    let some = all_axes (λ m. 1 ≤ m) ns shape.four_at_most (lit≤ tt) shape.not_zero in
+    div_below from n (product (other_sizes ns)) (omega (arith, is, some.0)) (omega (arith, lt, all_sizes ns shape.four_at_most, ap (λ m. m * product (other_sizes ns)) is))
+
+-- a line ends within the values
+pub line_end : (ns : List ℕ) (from count : ℕ) → IsShape ns → from < product ns → from % line_len ns + count ≤ line_len ns → from + count ≤ product ns
+line_end ns from count shape lt within =
+    let n = line_len ns in
+    let q_below = line_below ns n from shape refl lt in
+    let up : from / n + 1 ≤ product (other_sizes ns) = omega (arith, q_below) in
+    omega (arith, div-add-mod from n, mul-le-mul_left n up, all_sizes ns shape.four_at_most, within)
+
+module _ (ns : List ℕ) (n from count first lines line : ℕ) (h : LinePart ns n from count first lines line) where
+  x_is : from % line_len ns ≡ from % n
+  x_is = ap (λ m. from % m) (sym h.n_is)
+
+  pub part_begins : from % n % 4 ≡ 0
+  part_begins = omega (arith, x_is, h.begins)
+
+  pub part_within : from % n + count ≤ n
+  part_within = omega (arith, x_is, h.within, h.n_is)
+
+  pub all_within : n * (first + lines) ≤ product ns
+  all_within = omega (arith, mul-le-mul_left n h.fits, all_sizes ns h.shape.four_at_most, ap (λ m. m * product (other_sizes ns)) h.n_is)
+
+  rest_ends : (k : ℕ) → k < count % 4 → from % n + (4 * (count / 4) + count % 4) ≡ n
+  rest_ends k lt = ⊎_elim (λ (fours : count % 4 ≡ 0). absurd (omega (arith, lt, fours))) (λ (all : from % line_len ns + count ≡ line_len ns). omega (arith, all, x_is, h.n_is)) h.whole
+
+  -- all of these numbers are small
+  pub numbers_small : n * first + from % n * lines + 4 * line < 2 ^ 40
+  numbers_small =
+      let x_below : from % n ≤ n = omega (arith, part_within) in
+      omega (arith, all_within, h.shape.not_too_large, mul-le-mul_right lines x_below, h.below, h.fits, others_fit ns h.shape)
+
+  pub blocks_there : (b : ℕ) → b < count / 4 → n * first + from % n * lines + 4 * line + b * (4 * lines) + 4 ≤ product ns
+  blocks_there b lt = block_within n first lines line (from % n) (product ns) part_begins h.below all_within b (omega (arith, lt, part_within))
+
+  pub rest_there : n * first + from % n * lines + 4 * (count / 4) * lines + count % 4 * line + count % 4 ≤ product ns
+  rest_there = rest_within n first lines line (from % n) (product ns) part_begins h.below all_within (count / 4) (count % 4) (omega (arith, part_within))
+
+  -- a value of the line
+  value_there : (stored : List ℤ) (i : ℕ) → i < count → get_or (raster_of ns stored) (from + i) (pos 0) ≡ get_or stored (place_on n first lines line (from % n + i)) (pos 0)
+  value_there stored i lt =
+      let same = same_line n from i (omega (arith, lt, part_within)) in
+      let small : from + i < product ns = omega (arith, line_end ns from count h.shape h.before h.within, lt) in
+      let Line : ℕ → Type 0 = λ k. IsLine (other_sizes ns) (coordinates (other_sizes ns) k) first lines line in
+      let here : IsLine (other_sizes ns) (coordinates (other_sizes ns) ((from + i) / line_len ns)) first lines line = subst Line (sym (ap (λ m. (from + i) / m) (sym h.n_is) ∙ same.line_is)) h.is in
+      value_on_line ns stored (from + i) first lines line h.shape.four_at_most small here
+      ∙ ap (λ m. get_or stored (place_on m first lines line ((from + i) % m)) (pos 0)) (sym h.n_is)
+      ∙ ap (λ x. get_or stored (place_on n first lines line x) (pos 0)) same.x_is
+
+  pub block_value : (stored : List ℤ) (b k : ℕ) → b < count / 4 → k < 4
+      → get_or (raster_of ns stored) (from + (4 * b + k)) (pos 0) ≡ get_or stored (n * first + from % n * lines + 4 * line + b * (4 * lines) + k) (pos 0)
+  block_value stored b k lt small =
+      value_there stored (4 * b + k) (omega (arith, lt, small))
+      ∙ ap (λ i. get_or stored i (pos 0)) (block_place n first lines line (from % n) (product ns) part_begins h.below all_within b k small (omega (arith, lt, part_within)))
+
+  pub rest_value : (stored : List ℤ) (k : ℕ) → k < count % 4
+      → get_or (raster_of ns stored) (from + (4 * (count / 4) + k)) (pos 0) ≡ get_or stored (n * first + from % n * lines + 4 * (count / 4) * lines + count % 4 * line + k) (pos 0)
+  rest_value stored k lt =
+      value_there stored (4 * (count / 4) + k) (omega (arith, lt))
+      ∙ ap (λ i. get_or stored i (pos 0))
+      (rest_place n first lines line (from % n) (product ns) part_begins h.below all_within (count / 4) (count % 4) k lt (omega arith) (rest_ends k lt))
+
+-- ---- what is copied
+
+-- some values were copied to places beside one another, and those before are as they were
+pub rest_copied : {X : Type 0} (f : X → ℤ) (from to count : ℕ) (source old new : List X) → from + count ≤ length source → to + count ≤ length old
+    → new ≡ take to old ++ (take count (drop from source) ++ drop (to + count) old)
+    → ((i : ℕ) → i < to → get_or (map f new) i (pos 0) ≡ get_or (map f old) i (pos 0)) × ((k : ℕ) → k < count → get_or (map f new) (to + k) (pos 0) ≡ get_or (map f source) (from + k) (pos 0))
+rest_copied {X} f from to count source old new there room is =
+    let vs = map f source in
+    let us = map f old in
+    let rest = take count (drop from vs) ++ drop (to + count) us in
+    let parts : map f new ≡ take to us ++ rest = ap (map f) is ∙ simp (map-append, take-map, drop-map) in
+    let prefix : length (take to us) ≡ to = length-take-le to us (omega (arith, length-map old f, room)) in
+    let some : length (take count (drop from vs)) ≡ count = length-take-le count (drop from vs) (omega (arith, length-drop from vs, length-map source f, there)) in (
+      λ i lt. ap (λ (l : List ℤ). get_or l i (pos 0)) parts ∙ get_or-append (take to us) rest (pos 0) i (omega (arith, prefix, lt)) ∙ get_or-take to us i (pos 0) lt,
+      λ k lt.
+          let back : to + k - to ≡ k = omega arith in
+          ap (λ (l : List ℤ). get_or l (to + k) (pos 0)) parts
+          ∙ get_or-append_right (take to us) rest to (to + k) (pos 0) prefix (omega arith)
+          ∙ ap (λ i. get_or rest i (pos 0)) back
+          ∙ get_or-append (take count (drop from vs)) (drop (to + count) us) (pos 0) k (omega (arith, some, lt))
+          ∙ get_or-take count (drop from vs) k (pos 0) lt ∙ get_or-drop from vs k (pos 0),
+    )
+
+-- what stands before a place stays where values are put behind it
+pub front_stays : {X : Type 0} (to at : ℕ) (old rest new : List X) → to ≤ at → at ≤ length old → new ≡ take at old ++ rest → take to new ≡ take to old
+front_stays {X} to at old rest new before within is =
+    ap (take to) is ∙ take-append-le to (take at old) rest (omega (arith, length-take-le at old within, before)) ∙ take-take to at old before
 
 -- ---- values so far
 

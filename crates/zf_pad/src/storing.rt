@@ -111,6 +111,8 @@ pub fn copy_lines<T: Lane>(shape: &Shape, stored: &[T], from: u64, part: &mut [T
     ensures values { map T.value (take result part.new)
         ≡ take result (drop from (raster_of shape.now (map T.value stored.now))) }
 {
+    // tells that the sizes are a shape's, so lines end within the values
+    let _dims = shape.dims();
     let n = shape.size(0);
     let left = (shape.values() - from) as usize;
     let mut held = 0;
@@ -159,13 +161,22 @@ fn copy_line<T: Lane>(
     ensures values { (i : ℕ) → i < count → slice_index_or (map T.value part.new) (to + i) (pos 0)
         ≡ slice_index_or (raster_of shape.now (map T.value stored.now)) (from + i) (pos 0) }
 {
+    // tells that the sizes are a shape's, so their products fit
+    let _dims = shape.dims();
     let n = shape.size(0);
     let x = from % n;
     let Line { first, lines, line } = line_of(shape, from / n);
     let start = n * first + x * lines;
     let blocks = count / 4;
     let rest = count % 4;
-    copy_blocks(stored, (start + 4 * line) as usize, 4 * lines as usize, to, blocks, part);
+    copy_blocks(
+        stored,
+        (start + 4 * line) as usize,
+        4 * lines as usize,
+        to,
+        blocks,
+        part,
+    );
     // What is left of the line's last block, in which lines are shorter.
     let last = start + (4 * blocks) as u64 * lines + rest as u64 * line;
     copy_rest(stored, last as usize, to + 4 * blocks, rest, part);

@@ -1,0 +1,190 @@
+use Rattle.std.proofs.Common.{◌≡◌, ◌+◌, ◌-◌, ◌*◌, ◌/◌, ◌%◌, ◌<◌, ◌≤◌, ⊎_elim, pos, map, length, get_or, ap, sym, ◌∙◌, arith}
+use Rattle.std.proofs.lemmas.Bool.{cases_lt}
+use Rattle.zf_pad.specs.Stored.{raster_of}
+use Rattle.zf_pad.proofs.StoredLines.{LinePart, line_below, numbers_small, blocks_there, rest_there, block_value, rest_value, rest_copied, front_stays}
+use Rattle.zf_pad.proofs.storing.copy_line.Goals as goal
+
+pub line_of-first-requires : goal.line_of-first-requires
+line_of-first-requires g c = line_below c.args.shape.now c.size-n.result c.args.from c.dims-dims.ensures.shape c.size-n.ensures c.requires.within
+
+pub overflow_mul-start : goal.overflow_mul-start
+overflow_mul-start g c =
+    let part : LinePart c.args.shape.now c.size-n.result c.args.from c.args.count c.line_of-first.result.first c.line_of-first.result.lines c.line_of-first.result.line = record {
+      shape = c.dims-dims.ensures.shape;
+      n_is = c.size-n.ensures;
+      before = c.requires.within;
+      is = c.line_of-first.ensures.line;
+      below = c.line_of-first.ensures.below;
+      fits = c.line_of-first.ensures.fits;
+      within = c.requires.line;
+      begins = c.requires.first;
+      whole = c.requires.whole;
+    } in
+    record { fits = omega (arith, numbers_small _ _ _ _ _ _ _ part) }
+
+pub overflow_mul-start-2 : goal.overflow_mul-start-2
+overflow_mul-start-2 g c =
+    let part : LinePart c.args.shape.now c.size-n.result c.args.from c.args.count c.line_of-first.result.first c.line_of-first.result.lines c.line_of-first.result.line = record {
+      shape = c.dims-dims.ensures.shape;
+      n_is = c.size-n.ensures;
+      before = c.requires.within;
+      is = c.line_of-first.ensures.line;
+      below = c.line_of-first.ensures.below;
+      fits = c.line_of-first.ensures.fits;
+      within = c.requires.line;
+      begins = c.requires.first;
+      whole = c.requires.whole;
+    } in
+    record { fits = omega (arith, numbers_small _ _ _ _ _ _ _ part) }
+
+pub overflow_add-start : goal.overflow_add-start
+overflow_add-start g c =
+    let part : LinePart c.args.shape.now c.size-n.result c.args.from c.args.count c.line_of-first.result.first c.line_of-first.result.lines c.line_of-first.result.line = record {
+      shape = c.dims-dims.ensures.shape;
+      n_is = c.size-n.ensures;
+      before = c.requires.within;
+      is = c.line_of-first.ensures.line;
+      below = c.line_of-first.ensures.below;
+      fits = c.line_of-first.ensures.fits;
+      within = c.requires.line;
+      begins = c.requires.first;
+      whole = c.requires.whole;
+    } in
+    record { fits = omega (arith, numbers_small _ _ _ _ _ _ _ part) }
+
+pub overflow_add-start-2 : goal.overflow_add-start-2
+overflow_add-start-2 g c =
+    let part : LinePart c.args.shape.now c.size-n.result c.args.from c.args.count c.line_of-first.result.first c.line_of-first.result.lines c.line_of-first.result.line = record {
+      shape = c.dims-dims.ensures.shape;
+      n_is = c.size-n.ensures;
+      before = c.requires.within;
+      is = c.line_of-first.ensures.line;
+      below = c.line_of-first.ensures.below;
+      fits = c.line_of-first.ensures.fits;
+      within = c.requires.line;
+      begins = c.requires.first;
+      whole = c.requires.whole;
+    } in
+    record { fits = omega (arith, numbers_small _ _ _ _ _ _ _ part) }
+
+pub overflow_mul-last-2 : goal.overflow_mul-last-2
+overflow_mul-last-2 g c =
+    let part : LinePart c.args.shape.now c.size-n.result c.args.from c.args.count c.line_of-first.result.first c.line_of-first.result.lines c.line_of-first.result.line = record {
+      shape = c.dims-dims.ensures.shape;
+      n_is = c.size-n.ensures;
+      before = c.requires.within;
+      is = c.line_of-first.ensures.line;
+      below = c.line_of-first.ensures.below;
+      fits = c.line_of-first.ensures.fits;
+      within = c.requires.line;
+      begins = c.requires.first;
+      whole = c.requires.whole;
+    } in
+    record { fits = omega (arith, rest_there _ _ _ _ _ _ _ part, c.dims-dims.ensures.shape.not_too_large) }
+
+pub overflow_add-last : goal.overflow_add-last
+overflow_add-last g c =
+    let part : LinePart c.args.shape.now c.size-n.result c.args.from c.args.count c.line_of-first.result.first c.line_of-first.result.lines c.line_of-first.result.line = record {
+      shape = c.dims-dims.ensures.shape;
+      n_is = c.size-n.ensures;
+      before = c.requires.within;
+      is = c.line_of-first.ensures.line;
+      below = c.line_of-first.ensures.below;
+      fits = c.line_of-first.ensures.fits;
+      within = c.requires.line;
+      begins = c.requires.first;
+      whole = c.requires.whole;
+    } in
+    record { fits = omega (arith, rest_there _ _ _ _ _ _ _ part, c.dims-dims.ensures.shape.not_too_large) }
+
+pub overflow_add-last-2 : goal.overflow_add-last-2
+overflow_add-last-2 g c =
+    let part : LinePart c.args.shape.now c.size-n.result c.args.from c.args.count c.line_of-first.result.first c.line_of-first.result.lines c.line_of-first.result.line = record {
+      shape = c.dims-dims.ensures.shape;
+      n_is = c.size-n.ensures;
+      before = c.requires.within;
+      is = c.line_of-first.ensures.line;
+      below = c.line_of-first.ensures.below;
+      fits = c.line_of-first.ensures.fits;
+      within = c.requires.line;
+      begins = c.requires.first;
+      whole = c.requires.whole;
+    } in
+    record { fits = omega (arith, rest_there _ _ _ _ _ _ _ part, c.dims-dims.ensures.shape.not_too_large) }
+
+pub copy_blocks-requires-clause-there : goal.copy_blocks-requires-clause-there
+copy_blocks-requires-clause-there g c =
+    let part : LinePart c.args.shape.now c.size-n.result c.args.from c.args.count c.line_of-first.result.first c.line_of-first.result.lines c.line_of-first.result.line = record {
+      shape = c.dims-dims.ensures.shape;
+      n_is = c.size-n.ensures;
+      before = c.requires.within;
+      is = c.line_of-first.ensures.line;
+      below = c.line_of-first.ensures.below;
+      fits = c.line_of-first.ensures.fits;
+      within = c.requires.line;
+      begins = c.requires.first;
+      whole = c.requires.whole;
+    } in
+    λ b lt. omega (arith, blocks_there _ _ _ _ _ _ _ part b lt, c.requires.all)
+
+pub copy_rest-requires-clause-there : goal.copy_rest-requires-clause-there
+copy_rest-requires-clause-there g c =
+    let part : LinePart c.args.shape.now c.size-n.result c.args.from c.args.count c.line_of-first.result.first c.line_of-first.result.lines c.line_of-first.result.line = record {
+      shape = c.dims-dims.ensures.shape;
+      n_is = c.size-n.ensures;
+      before = c.requires.within;
+      is = c.line_of-first.ensures.line;
+      below = c.line_of-first.ensures.below;
+      fits = c.line_of-first.ensures.fits;
+      within = c.requires.line;
+      begins = c.requires.first;
+      whole = c.requires.whole;
+    } in
+    omega (arith, rest_there _ _ _ _ _ _ _ part, c.requires.all)
+
+pub returns-clause-before : goal.returns-clause-before
+returns-clause-before g c =
+    let to = c.args.to + 4 * (c.args.count / 4) in
+    let within : to ≤ length c.copy_blocks.new.part = omega (arith, c.copy_blocks.auto.part, c.requires.room) in
+    front_stays c.args.to to c.copy_blocks.new.part _ c.copy_rest.new.part (omega arith) within c.copy_rest.ensures ∙ c.copy_blocks.ensures.before
+
+pub returns-clause-values : goal.returns-clause-values
+returns-clause-values g c =
+    let part : LinePart c.args.shape.now c.size-n.result c.args.from c.args.count c.line_of-first.result.first c.line_of-first.result.lines c.line_of-first.result.line = record {
+      shape = c.dims-dims.ensures.shape;
+      n_is = c.size-n.ensures;
+      before = c.requires.within;
+      is = c.line_of-first.ensures.line;
+      below = c.line_of-first.ensures.below;
+      fits = c.line_of-first.ensures.fits;
+      within = c.requires.line;
+      begins = c.requires.first;
+      whole = c.requires.whole;
+    } in
+    let value = g.T.Lane.value in
+    let stored = map value c.args.stored.now in
+    let count = c.args.count in
+    let to = c.args.to + 4 * (count / 4) in
+    let line = c.line_of-first.result in
+    let from = c.size-n.result * line.first + c.args.from % c.size-n.result * line.lines + 4 * (count / 4) * line.lines + count % 4 * line.line in
+    let rest = rest_copied value from to (count % 4) c.args.stored.now c.copy_blocks.new.part c.copy_rest.new.part
+    (omega (arith, rest_there _ _ _ _ _ _ _ part, c.requires.all)) (omega (arith, c.copy_blocks.auto.part, c.requires.room)) c.copy_rest.ensures in
+    λ i lt.
+    ⊎_elim
+    (λ (l : i < 4 * (count / 4)).
+    let place : 4 * (i / 4) + i % 4 ≡ i = omega arith in
+    rest.0 (c.args.to + i) (omega (arith, l))
+    ∙ ap (λ j. get_or (map value c.copy_blocks.new.part) (c.args.to + j) (pos 0)) (sym place)
+    ∙ c.copy_blocks.ensures.rows (i / 4) (i % 4) (omega (arith, l)) (omega arith)
+    ∙ sym (block_value _ _ _ _ _ _ _ part stored (i / 4) (i % 4) (omega (arith, l)) (omega arith))
+    ∙ ap (λ j. get_or (raster_of c.args.shape.now stored) (c.args.from + j) (pos 0)) place)
+    (λ (l : 4 * (count / 4) ≤ i).
+    let k = i - 4 * (count / 4) in
+    let place : 4 * (count / 4) + k ≡ i = omega (arith, l) in
+    let at : c.args.to + i ≡ to + k = omega (arith, place) in
+    let small : k < count % 4 = omega (arith, lt, l) in
+    ap (λ j. get_or (map value c.copy_rest.new.part) j (pos 0)) at
+    ∙ rest.1 k small
+    ∙ sym (rest_value _ _ _ _ _ _ _ part stored k small)
+    ∙ ap (λ j. get_or (raster_of c.args.shape.now stored) (c.args.from + j) (pos 0)) place)
+    (cases_lt i (4 * (count / 4)))
