@@ -1,13 +1,12 @@
-use Rattle.std.proofs.Common.{◌≡◌, ℕ, ◌+◌, ◌-◌, ◌≤◌, ℤ, List, ◌++◌, map, length, take, drop, refl, sym, ap, subst, ◌∙◌, take-append-drop, arith}
+use Rattle.std.proofs.Common.{◌≡◌, ℕ, ◌+◌, ◌≤◌, ℤ, List, ◌++◌, map, length, take, drop, sym, ap, subst, ◌∙◌, take-append-drop, arith}
 use Rattle.std.proofs.lemmas.List.{take_all}
 use Rattle.std.proofs.Math.Seq.{take-add}
 use Rattle.std.specs.Int.{Width}
-use Rattle.zf_spec.specs.Grid.{product}
 use Rattle.zf_spec.specs.Stream.{raw}
-use Rattle.zf_spec.proofs.Counting.{length-map-upto}
 use Rattle.zf_pad.specs.Stored.{raster_of}
+use Rattle.zf_pad.proofs.Stored.{length-raster_of}
 use Rattle.zf_dev.specs.Sink.{Appends, AppendsPrefix}
-use Rattle.zf_dev.proofs.Appending.{Appends-append, Appends-none, AppendsPrefix-append, AppendsPrefix-more}
+use Rattle.zf_dev.proofs.Appending.{Appends-append, AppendsPrefix-append, AppendsPrefix-more}
 use Rattle.zf_stream.proofs.OnErrors.{on_err}
 use Rattle.zf_stream.proofs.RawValues.{raw-append}
 use Rattle.zf_stream.proofs.writing.write_stored.Goals as goal
@@ -67,5 +66,5 @@ returns-clause-ok g c =
     let from = g.O.Sink.contents c.args.out.now in
     let to = g.O.Sink.contents c.loop-at.out in
     let P : List ℤ → Type 0 = λ vs. Appends from to (raw w vs) in
-    let long : length values ≤ c.loop-at.at = omega (arith, length-map-upto {X = ℤ} _ (product ns), c.loop-at-test.false, c.values-all.ensures.value) in
+    let long : length values ≤ c.loop-at.at = omega (arith, length-raster_of ns (map g.T.Lane.value c.args.stored.now), c.loop-at-test.false, c.values-all.ensures.value) in
     subst P (take_all c.loop-at.at values long) c.loop-at.invariant.written
