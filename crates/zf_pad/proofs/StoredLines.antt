@@ -214,6 +214,9 @@ module _ (ns : List ℕ) (n from count first lines line : ℕ) (h : LinePart ns 
   pub rest_there : n * first + from % n * lines + 4 * (count / 4) * lines + count % 4 * line + count % 4 ≤ product ns
   rest_there = rest_within n first lines line (from % n) (product ns) part_begins h.below all_within (count / 4) (count % 4) (omega (arith, part_within))
 
+  pub blocks_small : n * first + from % n * lines + 4 * line + count / 4 * (4 * lines) < 2 ^ 41
+  blocks_small = omega (arith, numbers_small, rest_there, h.shape.not_too_large)
+
   -- a value of the line
   value_there : (stored : List ℤ) (i : ℕ) → i < count → get_or (raster_of ns stored) (from + i) (pos 0) ≡ get_or stored (place_on n first lines line (from % n + i)) (pos 0)
   value_there stored i lt =

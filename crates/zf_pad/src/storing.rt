@@ -193,13 +193,16 @@ fn copy_blocks<T: Lane>(
     part: &mut [T],
 )
     requires there { (b : ℕ) → b < blocks → from + b * step + 4 ≤ length stored.now }
+    requires small { from + blocks * step < 2 ^ 64 }
     requires room { to + 4 * blocks ≤ length part.old }
     ensures before { take to part.new ≡ take to part.old }
     ensures rows { (b k : ℕ) → b < blocks → k < 4 → slice_index_or (map T.value part.new) (to + (4 * b + k)) (pos 0)
         ≡ slice_index_or (map T.value stored.now) (from + b * step + k) (pos 0) }
 {
+    let mut at = from;
     for b in 0..blocks {
-        copy_row(stored, from + b * step, part, to + 4 * b);
+        copy_row(stored, at, part, to + 4 * b);
+        at += step;
     }
 }
 

@@ -1,7 +1,7 @@
 use Rattle.std.proofs.Common.{◌≡◌, ◌+◌, ◌-◌, ◌*◌, ◌/◌, ◌%◌, ◌<◌, ◌≤◌, ⊎_elim, pos, map, length, get_or, ap, sym, ◌∙◌, arith}
 use Rattle.std.proofs.lemmas.Bool.{cases_lt}
 use Rattle.zf_pad.specs.Stored.{raster_of}
-use Rattle.zf_pad.proofs.StoredLines.{LinePart, line_below, numbers_small, blocks_there, rest_there, block_value, rest_value, rest_copied, front_stays}
+use Rattle.zf_pad.proofs.StoredLines.{LinePart, line_below, numbers_small, blocks_there, blocks_small, rest_there, block_value, rest_value, rest_copied, front_stays}
 use Rattle.zf_pad.proofs.storing.copy_line.Goals as goal
 
 pub line_of-first-requires : goal.line_of-first-requires
@@ -126,6 +126,21 @@ copy_blocks-requires-clause-there g c =
       whole = c.requires.whole;
     } in
     λ b lt. omega (arith, blocks_there _ _ _ _ _ _ _ part b lt, c.requires.all)
+
+pub copy_blocks-requires-clause-small : goal.copy_blocks-requires-clause-small
+copy_blocks-requires-clause-small g c =
+    let part : LinePart c.args.shape.now c.size-n.result c.args.from c.args.count c.line_of-first.result.first c.line_of-first.result.lines c.line_of-first.result.line = record {
+      shape = c.dims-dims.ensures.shape;
+      n_is = c.size-n.ensures;
+      before = c.requires.within;
+      is = c.line_of-first.ensures.line;
+      below = c.line_of-first.ensures.below;
+      fits = c.line_of-first.ensures.fits;
+      within = c.requires.line;
+      begins = c.requires.first;
+      whole = c.requires.whole;
+    } in
+    omega (arith, blocks_small _ _ _ _ _ _ _ part)
 
 pub copy_rest-requires-clause-there : goal.copy_rest-requires-clause-there
 copy_rest-requires-clause-there g c =
