@@ -1,15 +1,16 @@
 -- A block that is put behind others: of a whole one all values, else those in the box of its extent.
-use Rattle.std.proofs.Common.{◌≡◌, refl, sym, ap, subst, ◌∙◌, ℕ, zero, suc, ◌+◌, ◌-◌, ◌*◌, ◌/◌, ◌%◌, ◌^◌, ◌<◌, ◌≤◌, true, ℤ, pos, List, [], ◌∷◌, ◌++◌, length, get_or, take, drop, replicate, ext_get_or, length-drop, pow-suc, arith}
+use Rattle.std.proofs.Common.{◌≡◌, refl, sym, ap, subst, ◌∙◌, ℕ, zero, suc, ◌+◌, ◌-◌, ◌*◌, ◌/◌, ◌%◌, ◌^◌, ◌<◌, ◌≤◌, min, nat_lt, true, ℤ, pos, List, [], ◌∷◌, ◌++◌, length, get_or, take, drop, replicate, ext_get_or, length-drop, pow-suc, arith}
 use Rattle.std.proofs.lemmas.List.{get_or-take, get_or-drop, length-take-le, take-append-drop}
-use Rattle.zf_spec.specs.Grid.{product, coordinates, raster, is_inside, fours, indices}
+use Rattle.zf_spec.specs.Grid.{product, grid, blocks, coordinates, raster, is_inside, fours, indices, extents, extent_of}
 use Rattle.zf_spec.proofs.Raster.{raster-coordinates, coordinates-raster, product-fours, length-fours}
 use Rattle.zf_base.specs.declared.position.Extent.{Extent}
 use Rattle.zf_base.specs.Positions.{axes, used_axes, with_unused, IsExtent}
-use Rattle.zf_base.proofs.Boxes.{raster-lt, product-append_ones}
+use Rattle.zf_base.proofs.Boxes.{raster-lt, product-append_ones, is_inside-coordinates}
+use Rattle.std.proofs.lemmas.Bool.{and_parts, ltb-true, false≢true}
 use Rattle.zf_pad.specs.declared.layout.Layout.{Layout}
 use Rattle.zf_pad.specs.Layouts.{HasPlace, place_indices, moved, index_of, index_at, LiesWithin, IsOneToOne}
 use Rattle.zf_pad.specs.Copies.{IsScattered}
-use Rattle.zf_pad.specs.Stored.{AppendsBlock}
+use Rattle.zf_pad.specs.Stored.{HasWholeBlocks, AppendsBlock}
 use Rattle.zf_pad.proofs.Sizes.{used_length, size_axes}
 use Rattle.zf_pad.proofs.Existing.{has_place}
 
@@ -27,6 +28,28 @@ whole_appended d es block old new whole long is =
       long = long ∙ sym (product-fours d);
       values = λ p lt inside. ap (λ i. get_or block i (pos 0)) (place_of_fours d p (subst (λ k. p < 4 ^ k) (length-fours d) lt));
     })
+
+-- where no size cuts a block all are whole
+all_whole : (ns cs : List ℕ) → HasWholeBlocks ns → is_inside (grid ns) cs ≡ true → extents ns cs ≡ fours (length ns)
+all_whole [] cs whole inside = refl
+all_whole (n ∷ ns) [] whole inside = absurd (false≢true inside)
+all_whole (n ∷ ns) (c ∷ cs) whole inside =
+    let parts = and_parts (nat_lt c ((n + 3) / 4)) (is_inside (grid ns) cs) inside in
+    let below = ltb-true c ((n + 3) / 4) parts.0 in
+    let four : min 4 (n - 4 * c) ≡ 4 = omega (arith, below, whole.0) in
+    ap (λ e. e ∷ extents ns cs) four ∙ ap (λ es. 4 ∷ es) (all_whole ns cs whole.1 parts.1)
+
+pub whole_block : (ns : List ℕ) (b : ℕ) (block old new : List ℤ) → HasWholeBlocks ns → b < blocks ns → length block ≡ 4 ^ length ns → new ≡ old ++ block → AppendsBlock (extent_of ns b) block old new
+whole_block ns b block old new whole lt long is =
+    whole_appended (length ns) (extent_of ns b) block old new (all_whole ns (coordinates (grid ns) b) whole (is_inside-coordinates (grid ns) b lt)) long is
+
+pub whole_size : (ns : List ℕ) (b : ℕ) → HasWholeBlocks ns → b < blocks ns → product (extent_of ns b) ≡ 4 ^ length ns
+whole_size ns b whole lt = ap product (all_whole ns (coordinates (grid ns) b) whole (is_inside-coordinates (grid ns) b lt)) ∙ product-fours (length ns)
+
+-- and where each can be divided by four
+pub all_divide : (ns : List ℕ) → ((i : ℕ) → i < length ns → get_or ns i 1 % 4 ≡ 0) → HasWholeBlocks ns
+all_divide [] h = tt
+all_divide (n ∷ ns) h = (h 0 (omega arith), all_divide ns (λ i lt. h (suc i) (omega arith)))
 
 -- ---- the box of an extent
 

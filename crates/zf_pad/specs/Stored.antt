@@ -1,5 +1,6 @@
 -- Values in the order of blocks: of each block those that exist, x fastest, and the blocks in order. As many are there as the blocks so far have.
 use Rattle.std.specs.Prelude.{ℕ, zero, suc, ◌≡◌, ◌+◌, ◌*◌, ◌/◌, ◌%◌, ◌^◌, ◌<◌, true, ℤ, pos, List, [], ◌∷◌, ◌++◌, map, length, slice_index_or}
+use Rattle.std.specs.List.{AllByRecursion}
 use Rattle.zf_spec.specs.Grid.{product, coordinates, raster, is_inside, indices, extents, extent_of, upto}
 
 -- how many values the blocks before the one with these coordinates have
@@ -30,6 +31,10 @@ pub record AppendsBlock (es : List ℕ) (block old new : List ℤ) : Type 0 wher
   pub long : length more ≡ product es
   pub values : (p : ℕ) → p < 4 ^ length es → is_inside es (indices (length es) p) ≡ true
       → slice_index_or more (raster es (indices (length es) p)) (pos 0) ≡ slice_index_or block p (pos 0)
+
+-- no size cuts a block
+abbrev pub HasWholeBlocks : List ℕ → Type 0
+HasWholeBlocks ns = AllByRecursion (λ n. n % 4 ≡ 0) ns
 
 -- how many values a line has, those that differ in x alone
 abbrev pub line_len : List ℕ → ℕ

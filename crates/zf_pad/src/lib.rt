@@ -13,4 +13,4 @@ pub use array_block::{gather_block, scatter_block};
 pub use copies::{gather, scatter};
 pub use layout::Layout;
 pub use padding::pad;
-pub use storing::{append_block, copy_lines};
+pub use storing::{append_block, copy_lines, has_whole_blocks};

@@ -1,10 +1,10 @@
 //! The values of an array in the order of blocks: of each block those that exist, and the blocks in order.
 //! They grow block by block, so no room is written for blocks that are not there yet.
 
-ghost use Rattle.std.specs.Prelude.{◌≡◌, ◌⊎◌, ◌+◌, ◌-◌, ◌*◌, ◌/◌, ◌%◌, ◌^◌, ◌<◌, ◌≤◌, ◌++◌, min, ℕ, pos, length, map, take, drop, replicate, slice_index_or, vec_len, vec_capacity};
+ghost use Rattle.std.specs.Prelude.{◌≡◌, ◌⊎◌, ◌+◌, ◌-◌, ◌*◌, ◌/◌, ◌%◌, ◌^◌, ◌<◌, ◌≤◌, ◌++◌, min, ℕ, true, pos, length, map, take, drop, replicate, slice_index_or, vec_len, vec_capacity};
 ghost use Rattle.zf_spec.specs.Grid.{product, blocks, coordinates, extent_of, max_values};
 ghost use Rattle.zf_base.specs.Positions.{used_axes, IsExtent};
-ghost use Rattle.zf_pad.specs.Stored.{AppendsBlock, raster_of, line_len, other_sizes, IsFirst, IsLine};
+ghost use Rattle.zf_pad.specs.Stored.{HasWholeBlocks, AppendsBlock, raster_of, line_len, other_sizes, IsFirst, IsLine};
 
 use crate::array_block::part_of;
 use crate::copies::{copy_row, scatter};
@@ -12,12 +12,32 @@ use crate::layout::Layout;
 use crate::padding::is_whole;
 use zf_base::{Extent, Lane, Pos, Shape};
 
-/// Puts the values that exist of block `b` behind those of the blocks before it.
+/// Whether no size of an array cuts a block.
+pub fn has_whole_blocks(shape: &Shape) -> bool
+    ensures { result ≡ true → HasWholeBlocks shape.now }
+{
+    for axis in 0..shape.dims() {
+        if shape.size(axis) % 4 != 0 {
+            return false;
+        }
+    }
+    true
+}
+
+/// Puts the values that exist of block `b` behind those of the blocks before it. `whole` is what [`has_whole_blocks`]
+/// says of the array, so that it is asked once.
 ///
 /// `block` has `4^d` values, x fastest; those at places that do not exist are not looked at. The room was taken
 /// before, so there is no want of memory.
 #[inline]
-pub fn append_block<T: Lane>(shape: &Shape, b: u64, block: &[T], stored: &mut Vec<T>)
+pub fn append_block<T: Lane>(
+    shape: &Shape,
+    whole: bool,
+    b: u64,
+    block: &[T],
+    stored: &mut Vec<T>,
+)
+    requires known { whole ≡ true → HasWholeBlocks shape.now }
     requires in_array { b < blocks shape.now }
     requires whole { length block.now ≡ 4 ^ length shape.now }
     requires room { vec_len stored.old + product (extent_of shape.now b) ≤ vec_capacity stored.old }
@@ -25,6 +45,10 @@ pub fn append_block<T: Lane>(shape: &Shape, b: u64, block: &[T], stored: &mut Ve
         (map T.value block.now) (map T.value stored.old.items) (map T.value stored.new.items) }
     ensures capacity { vec_capacity stored.old ≤ vec_capacity stored.new }
 {
+    if whole {
+        append(block, stored);
+        return;
+    }
     let d = shape.dims();
     let e = part_of(shape, b);
     if is_whole(&e.size, d) {

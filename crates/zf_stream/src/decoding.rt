@@ -1,9 +1,9 @@
 //! The values of a slab.
 
-ghost use Rattle.std.specs.Prelude.{◌≡◌, ◌≢◌, ◌-◌, ◌+◌, ◌*◌, ◌<◌, ◌≤◌, ◌^◌, map, length, Err, IfErr, OnOk, OnErr, OnSome, IfNone, vec_len, vec_capacity};
+ghost use Rattle.std.specs.Prelude.{◌≡◌, ◌≢◌, ◌-◌, ◌+◌, ◌*◌, ◌<◌, ◌≤◌, ◌^◌, true, map, length, Err, IfErr, OnOk, OnErr, OnSome, IfNone, vec_len, vec_capacity};
 ghost use Rattle.zf_spec.specs.Grid.{product, blocks, extent_of};
 ghost use Rattle.zf_base.specs.Widths.{width_of};
-ghost use Rattle.zf_pad.specs.Stored.{raster_of};
+ghost use Rattle.zf_pad.specs.Stored.{HasWholeBlocks, raster_of};
 ghost use Rattle.zf_dev.specs.Faults.{HasCause};
 ghost use Rattle.zf_parse.specs.Parsing.{longest_code};
 ghost use Rattle.zf_parse.specs.ReadStreams.{ReadsCode, LacksCode};
@@ -16,7 +16,7 @@ use crate::window::Window;
 use zf_base::Lane;
 use zf_dev::Source;
 use zf_header::Header;
-use zf_pad::append_block;
+use zf_pad::{append_block, has_whole_blocks};
 use zf_parse::read_code;
 
 /// Reads the codes of a slab, an array of its own whose blocks are those of the array from block `first` on. No code has more than `longest` bits.
@@ -53,9 +53,10 @@ pub(crate) fn read_slab<T: Lane, S: Source>(
     ensures sure { S.never_fails src.old → (result ≢ Err Read) × S.never_fails src.new }
 {
     stored.clear();
+    let whole = has_whole_blocks(&part.shape);
     for b in 0..part.shape.blocks() {
         window.reach(longest, piece, src)?;
-        let Some(()) = read_block(part, b, window, stored, block) else {
+        let Some(()) = read_block(part, whole, b, window, stored, block) else {
             return Err(StreamFault::Truncated(first + b));
         };
     }
@@ -66,12 +67,14 @@ pub(crate) fn read_slab<T: Lane, S: Source>(
 #[inline(always)]
 fn read_block<T: Lane>(
     part: &Header,
+    whole: bool,
     b: u64,
     window: &mut Window,
     stored: &mut Vec<T>,
     block: &mut [T],
 ) -> Option<()>
     requires same_type { T.width ≡ width_of part.now.ty }
+    requires known { whole ≡ true → HasWholeBlocks part.now.shape }
     requires in_array { b < blocks part.now.shape }
     requires values { vec_len stored.old + product (extent_of part.now.shape b) ≤ vec_capacity stored.old }
     requires whole { length block.old ≡ 4 ^ length part.now.shape }
@@ -89,6 +92,6 @@ fn read_block<T: Lane>(
     let _left = reader.left();
     let at = reader.at();
     window.go_to(at);
-    append_block(&part.shape, b, block, stored);
+    append_block(&part.shape, whole, b, block, stored);
     Some(())
 }
