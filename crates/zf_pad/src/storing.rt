@@ -45,16 +45,32 @@ pub fn append_block<T: Lane>(
         (map T.value block.now) (map T.value stored.old.items) (map T.value stored.new.items) }
     ensures capacity { vec_capacity stored.old ≤ vec_capacity stored.new }
 {
+    let d = shape.dims();
     if whole {
-        append(block, stored);
+        append_whole(d, block, stored);
         return;
     }
-    let d = shape.dims();
     let e = part_of(shape, b);
     if is_whole(&e.size, d) {
-        append(block, stored);
+        append_whole(d, block, stored);
     } else {
         append_part(&e, d, block, stored);
+    }
+}
+
+// Appends all values of a block.
+#[inline]
+fn append_whole<T: Lane>(d: u8, block: &[T], stored: &mut Vec<T>)
+    requires whole { length block.now ≡ 4 ^ d }
+    requires room { vec_len stored.old + length block.now ≤ vec_capacity stored.old }
+    ensures items { stored.new.items ≡ stored.old.items ++ block.now }
+    ensures capacity { vec_capacity stored.old ≤ vec_capacity stored.new }
+{
+    if d == 1 {
+        // four, so that the copy needs no call
+        append(&block[..4], stored);
+    } else {
+        append(block, stored);
     }
 }
 
