@@ -30,13 +30,7 @@ pub fn has_whole_blocks(shape: &Shape) -> bool
 /// `block` has `4^d` values, x fastest; those at places that do not exist are not looked at. The room was taken
 /// before, so there is no want of memory.
 #[inline]
-pub fn append_block<T: Lane>(
-    shape: &Shape,
-    whole: bool,
-    b: u64,
-    block: &[T],
-    stored: &mut Vec<T>,
-)
+pub fn append_block<T: Lane>(shape: &Shape, whole: bool, b: u64, block: &[T], stored: &mut Vec<T>)
     requires known { whole ≡ true → HasWholeBlocks shape.now }
     requires in_array { b < blocks shape.now }
     requires whole { length block.now ≡ 4 ^ length shape.now }
@@ -207,6 +201,11 @@ fn copy_line<T: Lane>(
     let x = from % n;
     let Line { first, lines, line } = line_of(shape, from / n);
     let start = n * first + x * lines;
+    if lines == 1 {
+        // One line alone is in raster order.
+        copy_rest(stored, start as usize, to, count, part);
+        return;
+    }
     let blocks = count / 4;
     let rest = count % 4;
     copy_blocks(
@@ -246,7 +245,7 @@ fn copy_blocks<T: Lane>(
     }
 }
 
-// Copies so many values.
+// Copies so many values that stand beside one another.
 #[inline]
 fn copy_rest<T: Lane>(stored: &[T], from: usize, to: usize, count: usize, part: &mut [T])
     requires there { from + count ≤ length stored.now }
