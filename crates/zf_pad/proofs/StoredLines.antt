@@ -11,7 +11,7 @@ use Rattle.zf_spec.proofs.Counting.{get_or-map-upto}
 use Rattle.zf_spec.proofs.Raster.{length-coordinates, length-extents}
 use Rattle.zf_base.proofs.Boxes.{product-append_ones, raster-append_zeros, coordinates-append_ones, extents-append_ones}
 use Rattle.zf_base.proofs.Sizes.{axes-with_unused, all_axes, product-axes}
-use Rattle.zf_pad.specs.Stored.{start_at, stored_index, raster_of, line_len, other_sizes, IsFirst, IsLine}
+use Rattle.zf_pad.specs.Stored.{start_at, stored_index, raster_of, line_len, other_sizes, IsLine, LinePart}
 
 -- ---- along four axes
 
@@ -160,18 +160,6 @@ module _ (n first lines line x all : ℕ) (begins : x % 4 ≡ 0) (below : line <
       let up : line + 1 ≤ lines = omega (arith, below) in
       omega (arith, mul-le-mul_right lines within, mul-le-mul_left rest up, fits)
 
--- what is known of a line, of which values from one place on are wanted
-pub record LinePart (ns : List ℕ) (n from count first lines line : ℕ) : Type 0 where
-  pub shape : IsShape ns
-  pub n_is : n ≡ line_len ns
-  pub before : from < product ns
-  pub is : IsLine (other_sizes ns) (coordinates (other_sizes ns) (from / n)) first lines line
-  pub below : line < lines
-  pub fits : first + lines ≤ product (other_sizes ns)
-  pub within : from % line_len ns + count ≤ line_len ns
-  pub begins : IsFirst ns from
-  pub whole : (count % 4 ≡ 0) ⊎ (from % line_len ns + count ≡ line_len ns)
-
 -- the number of a line is below the number of lines
 pub line_below : (ns : List ℕ) (n from : ℕ) → IsShape ns → n ≡ line_len ns → from < product ns → from / n < product (other_sizes ns)
 line_below ns n from shape is lt =
@@ -186,7 +174,7 @@ line_end ns from count shape lt within =
     let up : from / n + 1 ≤ product (other_sizes ns) = omega (arith, q_below) in
     omega (arith, div-add-mod from n, mul-le-mul_left n up, all_sizes ns shape.four_at_most, within)
 
-module _ (ns : List ℕ) (n from count first lines line : ℕ) (h : LinePart ns n from count first lines line) where
+module _ (ns : List ℕ) (from count n first lines line : ℕ) (h : LinePart ns from count n first lines line) where
   x_is : from % line_len ns ≡ from % n
   x_is = ap (λ m. from % m) (sym h.n_is)
 

@@ -1,7 +1,7 @@
 -- Values in the order of blocks: of each block those that exist, x fastest, and the blocks in order. As many are there as the blocks so far have.
-use Rattle.std.specs.Prelude.{ℕ, zero, suc, ◌≡◌, ◌+◌, ◌*◌, ◌/◌, ◌%◌, ◌^◌, ◌<◌, true, ℤ, pos, List, [], ◌∷◌, ◌++◌, map, length, slice_index_or}
+use Rattle.std.specs.Prelude.{ℕ, zero, suc, ◌≡◌, ◌+◌, ◌*◌, ◌/◌, ◌%◌, ◌^◌, ◌<◌, ◌≤◌, ◌⊎◌, true, ℤ, pos, List, [], ◌∷◌, ◌++◌, map, length, slice_index_or}
 use Rattle.std.specs.List.{AllByRecursion}
-use Rattle.zf_spec.specs.Grid.{product, coordinates, raster, is_inside, indices, extents, extent_of, upto}
+use Rattle.zf_spec.specs.Grid.{IsShape, product, coordinates, raster, is_inside, indices, extents, extent_of, upto}
 
 -- how many values the blocks before the one with these coordinates have
 abbrev pub start_at : List ℕ → List ℕ → ℕ
@@ -53,3 +53,15 @@ pub record IsLine (ns ps : List ℕ) (first lines line : ℕ) : Type 0 where
   pub first_is : first ≡ start_at ns (map (λ p. p / 4) ps)
   pub lines_are : lines ≡ product (extents ns (map (λ p. p / 4) ps))
   pub line_is : line ≡ raster (extents ns (map (λ p. p / 4) ps)) (map (λ p. p % 4) ps)
+
+-- so many values of one line, of n values, from one place on: the first of a block, and whole blocks or all that are left
+pub record LinePart (ns : List ℕ) (from count n first lines line : ℕ) : Type 0 where
+  pub shape : IsShape ns
+  pub n_is : n ≡ line_len ns
+  pub before : from < product ns
+  pub is : IsLine (other_sizes ns) (coordinates (other_sizes ns) (from / n)) first lines line
+  pub below : line < lines
+  pub fits : first + lines ≤ product (other_sizes ns)
+  pub within : from % line_len ns + count ≤ line_len ns
+  pub begins : IsFirst ns from
+  pub whole : (count % 4 ≡ 0) ⊎ (from % line_len ns + count ≡ line_len ns)

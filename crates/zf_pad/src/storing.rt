@@ -4,7 +4,7 @@
 ghost use Rattle.std.specs.Prelude.{◌≡◌, ◌⊎◌, ◌+◌, ◌-◌, ◌*◌, ◌/◌, ◌%◌, ◌^◌, ◌<◌, ◌≤◌, ◌++◌, min, ℕ, true, pos, length, map, take, drop, replicate, slice_index_or, vec_len, vec_capacity};
 ghost use Rattle.zf_spec.specs.Grid.{product, blocks, coordinates, extent_of, max_values};
 ghost use Rattle.zf_base.specs.Positions.{used_axes, IsExtent};
-ghost use Rattle.zf_pad.specs.Stored.{HasWholeBlocks, AppendsBlock, raster_of, line_len, other_sizes, IsFirst, IsLine};
+ghost use Rattle.zf_pad.specs.Stored.{HasWholeBlocks, AppendsBlock, raster_of, line_len, other_sizes, IsFirst, IsLine, LinePart};
 
 use crate::array_block::part_of;
 use crate::copies::{copy_row, scatter};
@@ -195,11 +195,9 @@ fn copy_line<T: Lane>(
     ensures values { (i : ℕ) → i < count → slice_index_or (map T.value part.new) (to + i) (pos 0)
         ≡ slice_index_or (raster_of shape.now (map T.value stored.now)) (from + i) (pos 0) }
 {
-    // tells that the sizes are a shape's, so their products fit
-    let _dims = shape.dims();
-    let n = shape.size(0);
+    let (n, line) = line_at(shape, from, count);
     let x = from % n;
-    let Line { first, lines, line } = line_of(shape, from / n);
+    let Line { first, lines, line } = line;
     let start = n * first + x * lines;
     if lines == 1 {
         // One line alone is in raster order.
@@ -262,6 +260,22 @@ struct Line {
     first: u64,
     lines: u64,
     line: u64,
+}
+
+// How many values a line has, and the line of the value with raster number `from`, of which `count` are wanted.
+#[inline]
+fn line_at(shape: &Shape, from: u64, count: usize) -> (u64, Line)
+    requires within { from < product shape.now }
+    requires line { from % line_len shape.now + count ≤ line_len shape.now }
+    requires first { IsFirst shape.now from }
+    requires whole { (count % 4 ≡ 0) ⊎ (from % line_len shape.now + count ≡ line_len shape.now) }
+    ensures { LinePart shape.now from count result.0 result.1.first result.1.lines result.1.line }
+{
+    // tells that the sizes are a shape's, so their products fit
+    let _dims = shape.dims();
+    let n = shape.size(0);
+    let line = line_of(shape, from / n);
+    (n, line)
 }
 
 // The line with this number.

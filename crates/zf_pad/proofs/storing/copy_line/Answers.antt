@@ -1,161 +1,48 @@
 use Rattle.std.proofs.Common.{◌≡◌, ◌+◌, ◌-◌, ◌*◌, ◌/◌, ◌%◌, ◌<◌, ◌≤◌, ⊎_elim, pos, map, length, get_or, ap, sym, ◌∙◌, arith}
 use Rattle.std.proofs.lemmas.Bool.{cases_lt}
 use Rattle.zf_pad.specs.Stored.{raster_of}
-use Rattle.zf_pad.proofs.StoredLines.{LinePart, line_below, numbers_small, blocks_there, blocks_small, rest_there, block_value, rest_value, flat_there, flat_value, rest_copied, front_stays}
+use Rattle.zf_pad.proofs.StoredLines.{numbers_small, blocks_there, blocks_small, rest_there, block_value, rest_value, flat_there, flat_value, rest_copied, front_stays}
 use Rattle.zf_pad.proofs.storing.copy_line.Goals as goal
-
-pub line_of-first-requires : goal.line_of-first-requires
-line_of-first-requires g c = line_below c.args.shape.now c.size-n.result c.args.from c.dims-dims.ensures.shape c.size-n.ensures c.requires.within
 
 pub overflow_mul-start : goal.overflow_mul-start
 overflow_mul-start g c =
-    let part : LinePart c.args.shape.now c.size-n.result c.args.from c.args.count c.line_of-first.result.first c.line_of-first.result.lines c.line_of-first.result.line = record {
-      shape = c.dims-dims.ensures.shape;
-      n_is = c.size-n.ensures;
-      before = c.requires.within;
-      is = c.line_of-first.ensures.line;
-      below = c.line_of-first.ensures.below;
-      fits = c.line_of-first.ensures.fits;
-      within = c.requires.line;
-      begins = c.requires.first;
-      whole = c.requires.whole;
-    } in
-    record { fits = omega (arith, numbers_small _ _ _ _ _ _ _ part) }
+    record { fits = omega (arith, numbers_small _ _ _ _ _ _ _ c.line_at-n.ensures) }
 
 pub overflow_mul-start-2 : goal.overflow_mul-start-2
 overflow_mul-start-2 g c =
-    let part : LinePart c.args.shape.now c.size-n.result c.args.from c.args.count c.line_of-first.result.first c.line_of-first.result.lines c.line_of-first.result.line = record {
-      shape = c.dims-dims.ensures.shape;
-      n_is = c.size-n.ensures;
-      before = c.requires.within;
-      is = c.line_of-first.ensures.line;
-      below = c.line_of-first.ensures.below;
-      fits = c.line_of-first.ensures.fits;
-      within = c.requires.line;
-      begins = c.requires.first;
-      whole = c.requires.whole;
-    } in
-    record { fits = omega (arith, numbers_small _ _ _ _ _ _ _ part) }
+    record { fits = omega (arith, numbers_small _ _ _ _ _ _ _ c.line_at-n.ensures) }
 
 pub overflow_add-start : goal.overflow_add-start
 overflow_add-start g c =
-    let part : LinePart c.args.shape.now c.size-n.result c.args.from c.args.count c.line_of-first.result.first c.line_of-first.result.lines c.line_of-first.result.line = record {
-      shape = c.dims-dims.ensures.shape;
-      n_is = c.size-n.ensures;
-      before = c.requires.within;
-      is = c.line_of-first.ensures.line;
-      below = c.line_of-first.ensures.below;
-      fits = c.line_of-first.ensures.fits;
-      within = c.requires.line;
-      begins = c.requires.first;
-      whole = c.requires.whole;
-    } in
-    record { fits = omega (arith, numbers_small _ _ _ _ _ _ _ part) }
+    record { fits = omega (arith, numbers_small _ _ _ _ _ _ _ c.line_at-n.ensures) }
 
 pub overflow_add-start-2 : goal.overflow_add-start-2
 overflow_add-start-2 g c =
-    let part : LinePart c.args.shape.now c.size-n.result c.args.from c.args.count c.line_of-first.result.first c.line_of-first.result.lines c.line_of-first.result.line = record {
-      shape = c.dims-dims.ensures.shape;
-      n_is = c.size-n.ensures;
-      before = c.requires.within;
-      is = c.line_of-first.ensures.line;
-      below = c.line_of-first.ensures.below;
-      fits = c.line_of-first.ensures.fits;
-      within = c.requires.line;
-      begins = c.requires.first;
-      whole = c.requires.whole;
-    } in
-    record { fits = omega (arith, numbers_small _ _ _ _ _ _ _ part) }
+    record { fits = omega (arith, numbers_small _ _ _ _ _ _ _ c.line_at-n.ensures) }
 
 pub overflow_mul-last-2 : goal.overflow_mul-last-2
 overflow_mul-last-2 g c =
-    let part : LinePart c.args.shape.now c.size-n.result c.args.from c.args.count c.line_of-first.result.first c.line_of-first.result.lines c.line_of-first.result.line = record {
-      shape = c.dims-dims.ensures.shape;
-      n_is = c.size-n.ensures;
-      before = c.requires.within;
-      is = c.line_of-first.ensures.line;
-      below = c.line_of-first.ensures.below;
-      fits = c.line_of-first.ensures.fits;
-      within = c.requires.line;
-      begins = c.requires.first;
-      whole = c.requires.whole;
-    } in
-    record { fits = omega (arith, rest_there _ _ _ _ _ _ _ part, c.dims-dims.ensures.shape.not_too_large) }
+    record { fits = omega (arith, rest_there _ _ _ _ _ _ _ c.line_at-n.ensures, c.line_at-n.ensures.shape.not_too_large) }
 
 pub overflow_add-last : goal.overflow_add-last
 overflow_add-last g c =
-    let part : LinePart c.args.shape.now c.size-n.result c.args.from c.args.count c.line_of-first.result.first c.line_of-first.result.lines c.line_of-first.result.line = record {
-      shape = c.dims-dims.ensures.shape;
-      n_is = c.size-n.ensures;
-      before = c.requires.within;
-      is = c.line_of-first.ensures.line;
-      below = c.line_of-first.ensures.below;
-      fits = c.line_of-first.ensures.fits;
-      within = c.requires.line;
-      begins = c.requires.first;
-      whole = c.requires.whole;
-    } in
-    record { fits = omega (arith, rest_there _ _ _ _ _ _ _ part, c.dims-dims.ensures.shape.not_too_large) }
+    record { fits = omega (arith, rest_there _ _ _ _ _ _ _ c.line_at-n.ensures, c.line_at-n.ensures.shape.not_too_large) }
 
 pub overflow_add-last-2 : goal.overflow_add-last-2
 overflow_add-last-2 g c =
-    let part : LinePart c.args.shape.now c.size-n.result c.args.from c.args.count c.line_of-first.result.first c.line_of-first.result.lines c.line_of-first.result.line = record {
-      shape = c.dims-dims.ensures.shape;
-      n_is = c.size-n.ensures;
-      before = c.requires.within;
-      is = c.line_of-first.ensures.line;
-      below = c.line_of-first.ensures.below;
-      fits = c.line_of-first.ensures.fits;
-      within = c.requires.line;
-      begins = c.requires.first;
-      whole = c.requires.whole;
-    } in
-    record { fits = omega (arith, rest_there _ _ _ _ _ _ _ part, c.dims-dims.ensures.shape.not_too_large) }
+    record { fits = omega (arith, rest_there _ _ _ _ _ _ _ c.line_at-n.ensures, c.line_at-n.ensures.shape.not_too_large) }
 
 pub copy_blocks-requires-clause-there : goal.copy_blocks-requires-clause-there
 copy_blocks-requires-clause-there g c =
-    let part : LinePart c.args.shape.now c.size-n.result c.args.from c.args.count c.line_of-first.result.first c.line_of-first.result.lines c.line_of-first.result.line = record {
-      shape = c.dims-dims.ensures.shape;
-      n_is = c.size-n.ensures;
-      before = c.requires.within;
-      is = c.line_of-first.ensures.line;
-      below = c.line_of-first.ensures.below;
-      fits = c.line_of-first.ensures.fits;
-      within = c.requires.line;
-      begins = c.requires.first;
-      whole = c.requires.whole;
-    } in
-    λ b lt. omega (arith, blocks_there _ _ _ _ _ _ _ part b lt, c.requires.all)
+    λ b lt. omega (arith, blocks_there _ _ _ _ _ _ _ c.line_at-n.ensures b lt, c.requires.all)
 
 pub copy_blocks-requires-clause-small : goal.copy_blocks-requires-clause-small
 copy_blocks-requires-clause-small g c =
-    let part : LinePart c.args.shape.now c.size-n.result c.args.from c.args.count c.line_of-first.result.first c.line_of-first.result.lines c.line_of-first.result.line = record {
-      shape = c.dims-dims.ensures.shape;
-      n_is = c.size-n.ensures;
-      before = c.requires.within;
-      is = c.line_of-first.ensures.line;
-      below = c.line_of-first.ensures.below;
-      fits = c.line_of-first.ensures.fits;
-      within = c.requires.line;
-      begins = c.requires.first;
-      whole = c.requires.whole;
-    } in
-    omega (arith, blocks_small _ _ _ _ _ _ _ part)
+    omega (arith, blocks_small _ _ _ _ _ _ _ c.line_at-n.ensures)
 
 pub copy_rest-requires-2-clause-there : goal.copy_rest-requires-2-clause-there
 copy_rest-requires-2-clause-there g c =
-    let part : LinePart c.args.shape.now c.size-n.result c.args.from c.args.count c.line_of-first.result.first c.line_of-first.result.lines c.line_of-first.result.line = record {
-      shape = c.dims-dims.ensures.shape;
-      n_is = c.size-n.ensures;
-      before = c.requires.within;
-      is = c.line_of-first.ensures.line;
-      below = c.line_of-first.ensures.below;
-      fits = c.line_of-first.ensures.fits;
-      within = c.requires.line;
-      begins = c.requires.first;
-      whole = c.requires.whole;
-    } in
-    omega (arith, rest_there _ _ _ _ _ _ _ part, c.requires.all)
+    omega (arith, rest_there _ _ _ _ _ _ _ c.line_at-n.ensures, c.requires.all)
 
 pub returns-clause-before : goal.returns-clause-before
 returns-clause-before g c =
@@ -165,25 +52,14 @@ returns-clause-before g c =
 
 pub returns-clause-values : goal.returns-clause-values
 returns-clause-values g c =
-    let part : LinePart c.args.shape.now c.size-n.result c.args.from c.args.count c.line_of-first.result.first c.line_of-first.result.lines c.line_of-first.result.line = record {
-      shape = c.dims-dims.ensures.shape;
-      n_is = c.size-n.ensures;
-      before = c.requires.within;
-      is = c.line_of-first.ensures.line;
-      below = c.line_of-first.ensures.below;
-      fits = c.line_of-first.ensures.fits;
-      within = c.requires.line;
-      begins = c.requires.first;
-      whole = c.requires.whole;
-    } in
     let value = g.T.Lane.value in
     let stored = map value c.args.stored.now in
     let count = c.args.count in
     let to = c.args.to + 4 * (count / 4) in
-    let line = c.line_of-first.result in
-    let from = c.size-n.result * line.first + c.args.from % c.size-n.result * line.lines + 4 * (count / 4) * line.lines + count % 4 * line.line in
+    let line = c.line_at-n.result.1 in
+    let from = c.line_at-n.result.0 * line.first + c.args.from % c.line_at-n.result.0 * line.lines + 4 * (count / 4) * line.lines + count % 4 * line.line in
     let rest = rest_copied value from to (count % 4) c.args.stored.now c.copy_blocks.new.part c.copy_rest-2.new.part
-    (omega (arith, rest_there _ _ _ _ _ _ _ part, c.requires.all)) (omega (arith, c.copy_blocks.auto.part, c.requires.room)) c.copy_rest-2.ensures in
+    (omega (arith, rest_there _ _ _ _ _ _ _ c.line_at-n.ensures, c.requires.all)) (omega (arith, c.copy_blocks.auto.part, c.requires.room)) c.copy_rest-2.ensures in
     λ i lt.
     ⊎_elim
     (λ (l : i < 4 * (count / 4)).
@@ -191,7 +67,7 @@ returns-clause-values g c =
     rest.0 (c.args.to + i) (omega (arith, l))
     ∙ ap (λ j. get_or (map value c.copy_blocks.new.part) (c.args.to + j) (pos 0)) (sym place)
     ∙ c.copy_blocks.ensures.rows (i / 4) (i % 4) (omega (arith, l)) (omega arith)
-    ∙ sym (block_value _ _ _ _ _ _ _ part stored (i / 4) (i % 4) (omega (arith, l)) (omega arith))
+    ∙ sym (block_value _ _ _ _ _ _ _ c.line_at-n.ensures stored (i / 4) (i % 4) (omega (arith, l)) (omega arith))
     ∙ ap (λ j. get_or (raster_of c.args.shape.now stored) (c.args.from + j) (pos 0)) place)
     (λ (l : 4 * (count / 4) ≤ i).
     let k = i - 4 * (count / 4) in
@@ -200,24 +76,13 @@ returns-clause-values g c =
     let small : k < count % 4 = omega (arith, lt, l) in
     ap (λ j. get_or (map value c.copy_rest-2.new.part) j (pos 0)) at
     ∙ rest.1 k small
-    ∙ sym (rest_value _ _ _ _ _ _ _ part stored k small)
+    ∙ sym (rest_value _ _ _ _ _ _ _ c.line_at-n.ensures stored k small)
     ∙ ap (λ j. get_or (raster_of c.args.shape.now stored) (c.args.from + j) (pos 0)) place)
     (cases_lt i (4 * (count / 4)))
 
 pub copy_rest-requires-clause-there : goal.copy_rest-requires-clause-there
 copy_rest-requires-clause-there g c =
-    let part : LinePart c.args.shape.now c.size-n.result c.args.from c.args.count c.line_of-first.result.first c.line_of-first.result.lines c.line_of-first.result.line = record {
-      shape = c.dims-dims.ensures.shape;
-      n_is = c.size-n.ensures;
-      before = c.requires.within;
-      is = c.line_of-first.ensures.line;
-      below = c.line_of-first.ensures.below;
-      fits = c.line_of-first.ensures.fits;
-      within = c.requires.line;
-      begins = c.requires.first;
-      whole = c.requires.whole;
-    } in
-    omega (arith, flat_there _ _ _ _ _ _ _ part c.if-lines-eq1.true, c.requires.all)
+    omega (arith, flat_there _ _ _ _ _ _ _ c.line_at-n.ensures c.if-lines-eq1.true, c.requires.all)
 
 pub returns-then-lines-eq1-clause-before : goal.returns-then-lines-eq1-clause-before
 returns-then-lines-eq1-clause-before g c =
@@ -225,20 +90,9 @@ returns-then-lines-eq1-clause-before g c =
 
 pub returns-then-lines-eq1-clause-values : goal.returns-then-lines-eq1-clause-values
 returns-then-lines-eq1-clause-values g c =
-    let part : LinePart c.args.shape.now c.size-n.result c.args.from c.args.count c.line_of-first.result.first c.line_of-first.result.lines c.line_of-first.result.line = record {
-      shape = c.dims-dims.ensures.shape;
-      n_is = c.size-n.ensures;
-      before = c.requires.within;
-      is = c.line_of-first.ensures.line;
-      below = c.line_of-first.ensures.below;
-      fits = c.line_of-first.ensures.fits;
-      within = c.requires.line;
-      begins = c.requires.first;
-      whole = c.requires.whole;
-    } in
     let value = g.T.Lane.value in
-    let line = c.line_of-first.result in
-    let from = c.size-n.result * line.first + c.args.from % c.size-n.result * line.lines in
+    let line = c.line_at-n.result.1 in
+    let from = c.line_at-n.result.0 * line.first + c.args.from % c.line_at-n.result.0 * line.lines in
     let flat = rest_copied value from c.args.to c.args.count c.args.stored.now c.args.part.now c.copy_rest.new.part
-    (omega (arith, flat_there _ _ _ _ _ _ _ part c.if-lines-eq1.true, c.requires.all)) (omega (arith, c.requires.room)) c.copy_rest.ensures in
-    λ i lt. flat.1 i lt ∙ sym (flat_value _ _ _ _ _ _ _ part (map value c.args.stored.now) i c.if-lines-eq1.true lt)
+    (omega (arith, flat_there _ _ _ _ _ _ _ c.line_at-n.ensures c.if-lines-eq1.true, c.requires.all)) (omega (arith, c.requires.room)) c.copy_rest.ensures in
+    λ i lt. flat.1 i lt ∙ sym (flat_value _ _ _ _ _ _ _ c.line_at-n.ensures (map value c.args.stored.now) i c.if-lines-eq1.true lt)
