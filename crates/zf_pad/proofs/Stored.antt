@@ -1,10 +1,10 @@
 -- The values of an array in the order of blocks: where those of a block begin, and what they are in raster order.
-use Rattle.std.proofs.Common.{◌≡◌, refl, sym, ap, subst, ◌∙◌, ℕ, zero, suc, ◌+◌, ◌-◌, ◌*◌, ◌/◌, ◌%◌, ◌^◌, ◌<◌, ◌≤◌, ⊎_elim, min, true, cond, ℤ, pos, List, [], ◌∷◌, ◌++◌, length, get_or, map, mod-lt, mod-eq_of_lt, mul-le-mul_left, arith, length-append}
+use Rattle.std.proofs.Common.{◌≡◌, refl, sym, ap, subst, ◌∙◌, ℕ, zero, suc, ◌+◌, ◌-◌, ◌*◌, ◌/◌, ◌%◌, ◌^◌, ◌<◌, ◌≤◌, ⊎_elim, min, true, cond, ℤ, pos, List, [], ◌∷◌, ◌++◌, length, get_or, take, map, mod-lt, mod-eq_of_lt, mul-le-mul_left, arith, length-append}
 use Rattle.std.proofs.Math.Nat.{add-mul-mod_self_left, add-mul-div_left, div-eq_of_lt, div-add-mod, mul-mod_right}
 use Rattle.std.proofs.Math.ListN.{get_or-append}
 use Rattle.std.proofs.lemmas.Bool.{cases_lt}
 use Rattle.std.proofs.lemmas.Nat.{div_below}
-use Rattle.std.proofs.lemmas.List.{length-map, get_or-append_right}
+use Rattle.std.proofs.lemmas.List.{length-map, get_or-append_right, get_or-take, length-take-le}
 use Rattle.zf_spec.specs.Grid.{product, grid, blocks, coordinates, raster, is_inside, fours, indices, extents, extent_of, position_in, value_at, block_of, blocks_of}
 use Rattle.zf_spec.specs.Codes.{existing_values}
 use Rattle.zf_spec.proofs.Counting.{length-map-upto, get_or-map-upto, map-upto_same, from_places}
@@ -252,6 +252,19 @@ pub raster_value : (ns ps : List ℕ) (stored : List ℤ) → length ps ≡ leng
 raster_value ns ps stored long inside =
     get_or-map-upto (λ k. get_or stored (stored_index ns (coordinates ns k)) (pos 0)) (product ns) (raster ns ps) (pos 0) (raster-lt ns ps inside)
     ∙ ap (λ qs. get_or stored (stored_index ns qs) (pos 0)) (coordinates-raster ns ps long inside)
+
+-- in one dimension they stand in raster order
+pub raster_of_one : (ns : List ℕ) (stored : List ℤ) → length ns ≡ 1 → product ns ≤ length stored → raster_of ns stored ≡ take (product ns) stored
+raster_of_one [] stored one within = absurd (omega arith)
+raster_of_one (n ∷ []) stored one within =
+    let all = product (n ∷ []) in
+    from_places (λ k. get_or stored (stored_index (n ∷ []) (k % n ∷ [])) (pos 0)) all (pos 0) (take all stored) (length-take-le all stored within)
+    (λ k lt.
+    let small : k % n ≡ k = mod-eq_of_lt (omega (arith, lt)) in
+    let place : stored_index (n ∷ []) (k ∷ []) ≡ k = omega arith in
+    get_or-take all stored k (pos 0) lt
+    ∙ sym (ap (λ i. get_or stored (stored_index (n ∷ []) (i ∷ [])) (pos 0)) small ∙ ap (λ i. get_or stored i (pos 0)) place))
+raster_of_one (n ∷ m ∷ ns) stored one within = absurd (omega arith)
 
 -- they are the blocks of the values in raster order
 pub blocks_stored : (ns : List ℕ) (bs : List (List ℤ)) (stored : List ℤ) → length bs ≡ blocks ns → Stores ns bs stored → bs ≡ blocks_of ns (raster_of ns stored)

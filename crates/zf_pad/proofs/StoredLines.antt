@@ -229,19 +229,6 @@ module _ (ns : List ℕ) (from count n first lines line : ℕ) (h : LinePart ns 
       ∙ ap (λ i. get_or stored i (pos 0))
       (rest_place n first lines line (from % n) (product ns) part_begins h.below all_within (count / 4) (count % 4) k lt (omega arith) (rest_ends k lt))
 
-  -- where the layer has one line its values stand beside one another
-  pub flat_there : lines ≡ 1 → n * first + from % n * lines + count ≤ product ns
-  flat_there one = omega (arith, all_within, ap (λ m. n * (first + m)) one, ap (λ m. from % n * m) one, part_within)
-
-  pub flat_value : (stored : List ℤ) (i : ℕ) → lines ≡ 1 → i < count
-      → get_or (raster_of ns stored) (from + i) (pos 0) ≡ get_or stored (n * first + from % n * lines + i) (pos 0)
-  flat_value stored i one lt =
-      let x = from % n + i in
-      let none : line ≡ 0 = omega (arith, h.below, one) in
-      let place : place_on n first lines line x ≡ n * first + from % n * lines + i =
-      omega (arith, ap (λ m. 4 * (x / 4) * m) one, ap (λ m. from % n * m) one, ap (λ k. min 4 (n - 4 * (x / 4)) * k) none) in
-      value_there stored i lt ∙ ap (λ k. get_or stored k (pos 0)) place
-
 -- ---- what is copied
 
 -- some values were copied to places beside one another, and those before are as they were

@@ -199,11 +199,6 @@ fn copy_line<T: Lane>(
     let x = from % n;
     let Line { first, lines, line } = line;
     let start = n * first + x * lines;
-    if lines == 1 {
-        // One line alone is in raster order.
-        copy_rest(stored, start as usize, to, count, part);
-        return;
-    }
     let blocks = count / 4;
     let rest = count % 4;
     copy_blocks(

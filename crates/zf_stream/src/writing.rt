@@ -123,6 +123,10 @@ pub(crate) fn write_stored<T: Lane, O: Sink>(
     ensures cause { HasCause (result ≡ Err Write) (O.faults out.old) (O.faults out.new) }
 {
     let all = shape.values();
+    if shape.dims() == 1 {
+        // In one dimension the two orders are one.
+        return write_values(&stored[..all as usize], piece, out);
+    }
     let mut at = 0;
     while at < all {
         let count = copy_lines(shape, stored, at, lines);

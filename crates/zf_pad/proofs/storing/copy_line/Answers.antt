@@ -1,7 +1,7 @@
 use Rattle.std.proofs.Common.{◌≡◌, ◌+◌, ◌-◌, ◌*◌, ◌/◌, ◌%◌, ◌<◌, ◌≤◌, ⊎_elim, pos, map, length, get_or, ap, sym, ◌∙◌, arith}
 use Rattle.std.proofs.lemmas.Bool.{cases_lt}
 use Rattle.zf_pad.specs.Stored.{raster_of}
-use Rattle.zf_pad.proofs.StoredLines.{numbers_small, blocks_there, blocks_small, rest_there, block_value, rest_value, flat_there, flat_value, rest_copied, front_stays}
+use Rattle.zf_pad.proofs.StoredLines.{numbers_small, blocks_there, blocks_small, rest_there, block_value, rest_value, rest_copied, front_stays}
 use Rattle.zf_pad.proofs.storing.copy_line.Goals as goal
 
 pub overflow_mul-start : goal.overflow_mul-start
@@ -40,15 +40,15 @@ pub copy_blocks-requires-clause-small : goal.copy_blocks-requires-clause-small
 copy_blocks-requires-clause-small g c =
     omega (arith, blocks_small _ _ _ _ _ _ _ c.line_at-n.ensures)
 
-pub copy_rest-requires-2-clause-there : goal.copy_rest-requires-2-clause-there
-copy_rest-requires-2-clause-there g c =
+pub copy_rest-requires-clause-there : goal.copy_rest-requires-clause-there
+copy_rest-requires-clause-there g c =
     omega (arith, rest_there _ _ _ _ _ _ _ c.line_at-n.ensures, c.requires.all)
 
 pub returns-clause-before : goal.returns-clause-before
 returns-clause-before g c =
     let to = c.args.to + 4 * (c.args.count / 4) in
     let within : to ≤ length c.copy_blocks.new.part = omega (arith, c.copy_blocks.auto.part, c.requires.room) in
-    front_stays c.args.to to c.copy_blocks.new.part _ c.copy_rest-2.new.part (omega arith) within c.copy_rest-2.ensures ∙ c.copy_blocks.ensures.before
+    front_stays c.args.to to c.copy_blocks.new.part _ c.copy_rest.new.part (omega arith) within c.copy_rest.ensures ∙ c.copy_blocks.ensures.before
 
 pub returns-clause-values : goal.returns-clause-values
 returns-clause-values g c =
@@ -58,8 +58,8 @@ returns-clause-values g c =
     let to = c.args.to + 4 * (count / 4) in
     let line = c.line_at-n.result.1 in
     let from = c.line_at-n.result.0 * line.first + c.args.from % c.line_at-n.result.0 * line.lines + 4 * (count / 4) * line.lines + count % 4 * line.line in
-    let rest = rest_copied value from to (count % 4) c.args.stored.now c.copy_blocks.new.part c.copy_rest-2.new.part
-    (omega (arith, rest_there _ _ _ _ _ _ _ c.line_at-n.ensures, c.requires.all)) (omega (arith, c.copy_blocks.auto.part, c.requires.room)) c.copy_rest-2.ensures in
+    let rest = rest_copied value from to (count % 4) c.args.stored.now c.copy_blocks.new.part c.copy_rest.new.part
+    (omega (arith, rest_there _ _ _ _ _ _ _ c.line_at-n.ensures, c.requires.all)) (omega (arith, c.copy_blocks.auto.part, c.requires.room)) c.copy_rest.ensures in
     λ i lt.
     ⊎_elim
     (λ (l : i < 4 * (count / 4)).
@@ -74,25 +74,8 @@ returns-clause-values g c =
     let place : 4 * (count / 4) + k ≡ i = omega (arith, l) in
     let at : c.args.to + i ≡ to + k = omega (arith, place) in
     let small : k < count % 4 = omega (arith, lt, l) in
-    ap (λ j. get_or (map value c.copy_rest-2.new.part) j (pos 0)) at
+    ap (λ j. get_or (map value c.copy_rest.new.part) j (pos 0)) at
     ∙ rest.1 k small
     ∙ sym (rest_value _ _ _ _ _ _ _ c.line_at-n.ensures stored k small)
     ∙ ap (λ j. get_or (raster_of c.args.shape.now stored) (c.args.from + j) (pos 0)) place)
     (cases_lt i (4 * (count / 4)))
-
-pub copy_rest-requires-clause-there : goal.copy_rest-requires-clause-there
-copy_rest-requires-clause-there g c =
-    omega (arith, flat_there _ _ _ _ _ _ _ c.line_at-n.ensures c.if-lines-eq1.true, c.requires.all)
-
-pub returns-then-lines-eq1-clause-before : goal.returns-then-lines-eq1-clause-before
-returns-then-lines-eq1-clause-before g c =
-    front_stays c.args.to c.args.to c.args.part.now _ c.copy_rest.new.part (omega arith) (omega (arith, c.requires.room)) c.copy_rest.ensures
-
-pub returns-then-lines-eq1-clause-values : goal.returns-then-lines-eq1-clause-values
-returns-then-lines-eq1-clause-values g c =
-    let value = g.T.Lane.value in
-    let line = c.line_at-n.result.1 in
-    let from = c.line_at-n.result.0 * line.first + c.args.from % c.line_at-n.result.0 * line.lines in
-    let flat = rest_copied value from c.args.to c.args.count c.args.stored.now c.args.part.now c.copy_rest.new.part
-    (omega (arith, flat_there _ _ _ _ _ _ _ c.line_at-n.ensures c.if-lines-eq1.true, c.requires.all)) (omega (arith, c.requires.room)) c.copy_rest.ensures in
-    λ i lt. flat.1 i lt ∙ sym (flat_value _ _ _ _ _ _ _ c.line_at-n.ensures (map value c.args.stored.now) i c.if-lines-eq1.true lt)
