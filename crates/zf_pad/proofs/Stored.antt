@@ -15,7 +15,7 @@ use Rattle.zf_base.proofs.Boxes.{raster-lt}
 use Rattle.zf_base.proofs.Extents.{length-extent_of}
 use Rattle.zf_base.proofs.Places.{is_inside-grid, is_inside-fours, IsAt-inside, IsAt-length, IsAt-block, IsAt-place}
 use Rattle.zf_pad.proofs.Blocks.{existing_by, cond_same}
-use Rattle.zf_pad.specs.Stored.{start_at, stored_index, raster_of, stored_before, AppendsBlock}
+use Rattle.zf_pad.specs.Stored.{start_at, stored_index, raster_of, AppendsBlock}
 
 -- ---- where the values of a block begin
 
@@ -124,6 +124,11 @@ starts_at_zero (n ∷ ns) lt =
     ap (λ k. start_at (n ∷ ns) (k ∷ coordinates (grid ns) (0 / g))) (mod-eq_of_lt some)
     ∙ ap (λ k. start_at (n ∷ ns) (0 ∷ coordinates (grid ns) k)) (div-eq_of_lt some)
     ∙ omega (arith, ap (λ k. n * k) (starts_at_zero ns more))
+
+-- how many values the first blocks have
+abbrev pub stored_before : List ℕ → ℕ → ℕ
+stored_before ns zero = 0
+stored_before ns (suc b) = stored_before ns b + product (extent_of ns b)
 
 -- a block begins behind the values of those before it
 pub begins_at : (ns : List ℕ) (b : ℕ) → b < blocks ns → stored_before ns b ≡ start_at ns (coordinates (grid ns) b)

@@ -1,7 +1,8 @@
--- Values in the order of blocks: of each block those that exist, x fastest, and the blocks in order. As many are there as the blocks so far have.
-use Rattle.std.specs.Prelude.{ℕ, zero, suc, ◌≡◌, ◌+◌, ◌*◌, ◌/◌, ◌%◌, ◌^◌, ◌<◌, ◌≤◌, ◌⊎◌, true, ℤ, pos, List, [], ◌∷◌, ◌++◌, map, length, slice_index_or}
+-- Values in the order of blocks: of each block those that exist, x fastest, and the blocks in order. As many are there
+-- as the blocks so far have.
+use Rattle.std.specs.Prelude.{ℕ, ◌≡◌, ◌+◌, ◌*◌, ◌/◌, ◌%◌, ◌^◌, ◌<◌, ◌≤◌, ◌⊎◌, true, ℤ, pos, List, [], ◌∷◌, ◌++◌, map, length, slice_index_or}
 use Rattle.std.specs.List.{AllByRecursion}
-use Rattle.zf_spec.specs.Grid.{IsShape, product, coordinates, raster, is_inside, indices, extents, extent_of, upto}
+use Rattle.zf_spec.specs.Grid.{IsShape, product, coordinates, raster, is_inside, indices, extents, upto}
 
 -- how many values the blocks before the one with these coordinates have
 abbrev pub start_at : List ℕ → List ℕ → ℕ
@@ -18,11 +19,6 @@ stored_index ns ps =
 -- the values of an array in raster order
 abbrev pub raster_of : List ℕ → List ℤ → List ℤ
 raster_of ns stored = map (λ k. slice_index_or stored (stored_index ns (coordinates ns k)) (pos 0)) (upto (product ns))
-
--- how many values the first blocks have
-abbrev pub stored_before : List ℕ → ℕ → ℕ
-stored_before ns zero = 0
-stored_before ns (suc b) = stored_before ns b + product (extent_of ns b)
 
 -- the values of a block that exist were put behind those that were there
 pub record AppendsBlock (es : List ℕ) (block old new : List ℤ) : Type 0 where
@@ -48,13 +44,14 @@ other_sizes ns = slice_index_or ns 1 1 ∷ slice_index_or ns 2 1 ∷ slice_index
 abbrev pub IsFirst : List ℕ → ℕ → Type 0
 IsFirst ns k = k % line_len ns % 4 ≡ 0
 
--- of the line with these coordinates along the other axes: how many lines the layers of blocks before its own have, how many its own has, and which of them it is
+-- of the line with these coordinates along the other axes: how many lines the layers of blocks before its own have, how
+-- many its own has, and which of them it is
 pub record IsLine (ns ps : List ℕ) (first lines line : ℕ) : Type 0 where
   pub first_is : first ≡ start_at ns (map (λ p. p / 4) ps)
   pub lines_are : lines ≡ product (extents ns (map (λ p. p / 4) ps))
   pub line_is : line ≡ raster (extents ns (map (λ p. p / 4) ps)) (map (λ p. p % 4) ps)
 
--- so many values of one line, of n values, from one place on: the first of a block, and whole blocks or all that are left
+-- so many values of one line, of n values, from one place on: the first of a block, and whole blocks or all that is left
 pub record LinePart (ns : List ℕ) (from count n first lines line : ℕ) : Type 0 where
   pub shape : IsShape ns
   pub n_is : n ≡ line_len ns

@@ -3,8 +3,7 @@ use Rattle.std.proofs.lemmas.List.{append-nil, length-map}
 use Rattle.std.proofs.lemmas.Result.{err_from_is_err_and}
 use Rattle.zf_spec.specs.Grid.{blocks, extent_of}
 use Rattle.zf_spec.specs.Codes.{existing_values}
-use Rattle.zf_pad.specs.Stored.{stored_before}
-use Rattle.zf_pad.proofs.Stored.{Stores, stores_none, stores_more, blocks_stored, all_stored, stored_within}
+use Rattle.zf_pad.proofs.Stored.{stored_before, Stores, stores_none, stores_more, blocks_stored, all_stored, stored_within}
 use Rattle.zf_base.specs.Widths.{width_of}
 use Rattle.zf_base.proofs.Extents.{length-extent_of}
 use Rattle.zf_dev.specs.Source.{IsAtEnd}
