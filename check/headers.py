@@ -79,7 +79,8 @@ def longer_peaks(check):
         ended, held, seconds = measure.run(["restore"], data)
         # A value without loss has 31 bits or more, and is 4 or 8 bytes.
         most = ROOM + 3 * PIECE // 1024
-        check.expect(ended.code == 5 and held <= most, f"restore of {words} and {PIECE} bytes: {held} KB, {seconds:.2f} s", ended)
+        what = f"restore of {words} and {PIECE} bytes: {held} KB, {seconds:.2f} s"
+        check.expect(ended.code == 5 and held <= most, what, ended)
 
 
 def lines_beyond(check):
