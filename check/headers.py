@@ -1,6 +1,6 @@
 #!/usr/bin/env python3
-"""A header and little behind it take no memory for values that the stream cannot hold, and lines of a cache none
-beyond the number of blocks.
+"""A header and little behind it take no memory for values that the stream cannot hold, nor does a longer stream of a
+large shape, and lines of a cache none beyond the number of blocks.
 
     python3 check/headers.py [PROGRAM] [--seed N] [--quick]
 
@@ -36,6 +36,23 @@ WIDEST = (
 )
 
 
+# Large shapes in one to four dimensions, of which no value takes more bytes than its code: at a rate each has as many,
+# and without loss 31 planes or more stand in codes of ones.
+LONGER = (
+    "int32 134217728 rate 128",
+    "int64 134217728 reversible",
+    "int32 16777216x8 rate 512",
+    "int32 16777216x8 reversible",
+    "int64 33554430x4 rate 1024",
+    "int64 65536x2048x1 rate 4096",
+    "int32 8191x4095x4 reversible",
+    "int64 8192x4096x4 reversible",
+    "int64 4096x4096x4x2 rate 16384",
+    "int32 4095x4095x8x1 reversible",
+)
+PIECE = 300 * 1024
+
+
 def peaks(check):
     measure = Measure(check)
     if not measure.is_possible():
@@ -50,6 +67,20 @@ def peaks(check):
                 most = ROOM + len(behind) * 8 * 256 * 8 // 1024
                 what = f"{' '.join(command)} of {words} and {len(behind)} bytes: {held} KB, {seconds:.2f} s"
                 check.expect(ended.code == 5 and held <= most, what, ended)
+
+
+def longer_peaks(check):
+    """What a stream of 300 KiB holds, most of it codes, where its shape is large."""
+    measure = Measure(check)
+    if not measure.is_possible():
+        return
+    for words in LONGER:
+        data = header_of(words) + b"\xff" * PIECE
+        ended, held, seconds = measure.run(["restore"], data)
+        # A value without loss has 31 bits or more, and is 4 or 8 bytes.
+        most = ROOM + 3 * PIECE // 1024
+        what = f"restore of {words} and {PIECE} bytes: {held} KB, {seconds:.2f} s"
+        check.expect(ended.code == 5 and held <= most, what, ended)
 
 
 def lines_beyond(check):
@@ -73,6 +104,7 @@ def lines_beyond(check):
 def main():
     check = Check(__doc__)
     peaks(check)
+    longer_peaks(check)
     lines_beyond(check)
     check.end()
 

@@ -51,12 +51,12 @@ same_position ns ps qs a b p q at of same =
 -- ---- values by place
 
 -- a choice between a value and 0 needs the value only where it is taken
-cond_same : (t : Bool) (u v : ℤ) → (t ≡ true → u ≡ v) → cond t u (pos 0) ≡ cond t v (pos 0)
+pub cond_same : (t : Bool) (u v : ℤ) → (t ≡ true → u ≡ v) → cond t u (pos 0) ≡ cond t v (pos 0)
 cond_same true u v h = h refl
 cond_same false u v h = refl
 
 -- the values that exist, by the number of dimensions
-existing_by : (es : List ℕ) (d : ℕ) (block : List ℤ) → length es ≡ d → existing_values es block ≡ map (λ p. cond (is_inside es (indices d p)) (get_or block p (pos 0)) (pos 0)) (places d)
+pub existing_by : (es : List ℕ) (d : ℕ) (block : List ℤ) → length es ≡ d → existing_values es block ≡ map (λ p. cond (is_inside es (indices d p)) (get_or block p (pos 0)) (pos 0)) (places d)
 unfolding existing_values
 existing_by es d block e = subst (λ k. existing_values es block ≡ map (λ p. cond (is_inside es (indices k p)) (get_or block p (pos 0)) (pos 0)) (places k)) e refl
 

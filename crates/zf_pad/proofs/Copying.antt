@@ -133,6 +133,47 @@ copied_row from to source old there room =
           (cases_lt i to);
     }
 
+-- four values that are put one after another
+put_four : {X : Type 0} (old : List X) (to : ℕ) (a b c d : X) → to + 4 ≤ length old
+    → set (set (set (set old to a) (suc to) b) (suc (suc to)) c) (suc (suc (suc to))) d ≡ take to old ++ a ∷ b ∷ c ∷ d ∷ drop (suc (suc (suc (suc to)))) old
+put_four [] to a b c d room = absurd (omega arith)
+put_four (x ∷ []) zero a b c d room = absurd (omega arith)
+put_four (x ∷ y ∷ []) zero a b c d room = absurd (omega arith)
+put_four (x ∷ y ∷ z ∷ []) zero a b c d room = absurd (omega arith)
+put_four (x ∷ y ∷ z ∷ w ∷ old) zero a b c d room = refl
+put_four {X} (x ∷ old) (suc to) a b c d room = ap (λ (l : List X). x ∷ l) (put_four old to a b c d (omega arith))
+
+-- and that were taken beside one another
+take_four : {X : Type 0} (source : List X) (from : ℕ) (a b c d : X) → from + 4 ≤ length source
+    → a ≡ get_or source from a → b ≡ get_or source (from + 1) b → c ≡ get_or source (from + 2) c → d ≡ get_or source (from + 3) d
+    → take 4 (drop from source) ≡ a ∷ b ∷ c ∷ d ∷ []
+take_four [] from a b c d there e f g h = absurd (omega arith)
+take_four (x ∷ []) zero a b c d there e f g h = absurd (omega arith)
+take_four (x ∷ y ∷ []) zero a b c d there e f g h = absurd (omega arith)
+take_four (x ∷ y ∷ z ∷ []) zero a b c d there e f g h = absurd (omega arith)
+take_four (x ∷ y ∷ z ∷ w ∷ source) zero a b c d there e f g h = cc
+take_four (x ∷ source) (suc from) a b c d there e f g h =
+    let one : suc from + 1 ≡ suc (from + 1) = omega arith in
+    let two : suc from + 2 ≡ suc (from + 2) = omega arith in
+    let three : suc from + 3 ≡ suc (from + 3) = omega arith in
+    take_four source from a b c d (omega arith) e
+    (f ∙ ap (λ i. get_or (x ∷ source) i b) one) (g ∙ ap (λ i. get_or (x ∷ source) i c) two) (h ∙ ap (λ i. get_or (x ∷ source) i d) three)
+
+pub four_copied : {X : Type 0} (source old : List X) (from to : ℕ) (a b c d : X) → from + 4 ≤ length source → to + 4 ≤ length old
+    → a ≡ get_or source from a → b ≡ get_or source (from + 1) b → c ≡ get_or source (from + 2) c → d ≡ get_or source (from + 3) d
+    → set (set (set (set old to a) (to + 1) b) (to + 2) c) (to + 3) d ≡ take to old ++ (take 4 (drop from source) ++ drop (to + 4) old)
+four_copied {X} source old from to a b c d there room e f g h =
+    let one : to + 1 ≡ suc to = omega arith in
+    let two : to + 2 ≡ suc (suc to) = omega arith in
+    let three : to + 3 ≡ suc (suc (suc to)) = omega arith in
+    let four : suc (suc (suc (suc to))) ≡ to + 4 = omega arith in
+    ap (λ i. set (set (set (set old to a) i b) (to + 2) c) (to + 3) d) one
+    ∙ ap (λ i. set (set (set (set old to a) (suc to) b) i c) (to + 3) d) two
+    ∙ ap (λ i. set (set (set (set old to a) (suc to) b) (suc (suc to)) c) i d) three
+    ∙ put_four old to a b c d room
+    ∙ ap (λ i. take to old ++ a ∷ b ∷ c ∷ d ∷ drop i old) four
+    ∙ ap (λ (l : List X). take to old ++ (l ++ drop (to + 4) old)) (sym (take_four source from a b c d there e f g h))
+
 -- the same of the numbers of values
 pub row_copied : {X : Type 0} (f : X → ℤ) (from to : ℕ) (source old new : List X) → from + 4 ≤ length source → to + 4 ≤ length old
     → new ≡ take to old ++ (take 4 (drop from source) ++ drop (to + 4) old) → IsRowCopied from to (map f source) (map f old) (map f new)

@@ -7,3 +7,6 @@ pub mod Rasters
 pub mod Blocks
 pub mod Slabs
 pub mod Lines
+pub mod Stored
+pub mod Appended
+pub mod StoredLines

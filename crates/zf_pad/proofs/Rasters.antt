@@ -29,7 +29,7 @@ raster_axes ns p four h =
     ap (λ zs. raster zs (axes p)) (axes-with_unused 1 ns four) ∙ ap (raster (ns ++ replicate (4 - length ns) 1)) (position_axes ns p four h) ∙ raster-append_zeros ns (replicate (4 - length ns) 1) (used_axes (length ns) p) (4 - length ns) (length-used_axes (length ns) p four)
 
 -- a layout with the steps of four sizes
-by_steps : (layout : Layout) (s p : Pos) → layout.start ≡ 0 → layout.step.x ≡ 1 → layout.step.y ≡ s.x → layout.step.z ≡ s.x * s.y → layout.step.w ≡ s.x * s.y * s.z → index_of layout p ≡ raster (axes s) (axes p)
+pub by_steps : (layout : Layout) (s p : Pos) → layout.start ≡ 0 → layout.step.x ≡ 1 → layout.step.y ≡ s.x → layout.step.z ≡ s.x * s.y → layout.step.w ≡ s.x * s.y * s.z → index_of layout p ≡ raster (axes s) (axes p)
 unfolding index_of
 by_steps layout s p start x y z w = rw (start, x, y, z, w) (omega arith)
 

@@ -85,7 +85,7 @@ fn put_row<T: Lane>(block: &[T], values: &mut [T], first: usize)
 
 /// The part of block `b` that lies in the array. In one dimension, where blocks are small and many, no coordinates are divided out.
 #[inline]
-fn part_of(shape: &Shape, b: u64) -> Extent
+pub(crate) fn part_of(shape: &Shape, b: u64) -> Extent
     requires { b < blocks shape.now }
     ensures origin { result.origin ≡ with_unused 0 (map (λ c. 4 * c) (coordinates (grid shape.now) b)) }
     ensures size { result.size ≡ with_unused 1 (extent_of shape.now b) }

@@ -244,12 +244,19 @@ fn scatter_places<T: Lane>(layout: &Layout, e: &Extent, d: u8, block: &[T], valu
 
 // Copies the four values from `from` on to the places from `to` on, in one step, as none is written before all are read.
 #[inline(always)]
-fn copy_row<T: Lane>(source: &[T], from: usize, target: &mut [T], to: usize)
+pub(crate) fn copy_row<T: Lane>(source: &[T], from: usize, target: &mut [T], to: usize)
     requires there { from + 4 ≤ length source.now }
     requires room { to + 4 ≤ length target.old }
     ensures { target.new ≡ take to target.old ++ (take 4 (drop from source.now) ++ drop (to + 4) target.old) }
 {
-    target[to..to + 4].copy_from_slice(&source[from..from + 4]);
+    let a = source[from];
+    let b = source[from + 1];
+    let c = source[from + 2];
+    let d = source[from + 3];
+    target[to] = a;
+    target[to + 1] = b;
+    target[to + 2] = c;
+    target[to + 3] = d;
 }
 
 // The indices of a place along the axes.

@@ -7,8 +7,10 @@ pub mod laws;
 pub mod laws_of_slabs;
 mod layout;
 mod padding;
+mod storing;
 
 pub use array_block::{gather_block, scatter_block};
 pub use copies::{gather, scatter};
 pub use layout::Layout;
 pub use padding::pad;
+pub use storing::{append_block, copy_lines, has_whole_blocks};

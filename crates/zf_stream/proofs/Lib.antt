@@ -16,8 +16,6 @@
 --     SlabsBack      the blocks and the values of an array, slab by slab
 --     Restored       an array that is restored slab by slab
 --     RestoredAll    the end of an array that is restored
---     Shortest       how many bits codes have at the least
---     Ahead          a stream whose first piece was read before its first slab
 --     FromPrefix      what is restored of a window, said of the whole stream
 --     OwnFaults      which faults are a call's own
 --     Refusals       each refusal is that of some input, or comes from outside
@@ -39,8 +37,6 @@ pub mod Windows
 pub mod SlabsBack
 pub mod Restored
 pub mod RestoredAll
-pub mod Shortest
-pub mod Ahead
 pub mod FromPrefix
 pub mod OwnFaults
 pub mod Refusals

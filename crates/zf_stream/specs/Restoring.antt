@@ -1,23 +1,21 @@
 -- An array that is restored slab by slab: how far its codes were read, and its values written. The codes are those of the bits that were left in a window,
 -- and of the bytes that were taken of the source behind them.
-use Rattle.std.specs.Prelude.{ℕ, ◌≡◌, ◌+◌, ◌*◌, ◌/◌, min, ◌⊎◌, ℤ, Bool, List, [], ◌++◌, map, length, Option, Some, None, Result, Ok, Err}
+use Rattle.std.specs.Prelude.{ℕ, ◌≡◌, ◌+◌, ◌-◌, ◌*◌, ◌/◌, ◌⊎◌, ℤ, Bool, List, [], ◌++◌, map, length, drop, Option, Some, None, Result, Ok, Err}
 use Rattle.std.specs.Result.{result_map_both}
-use Rattle.std.specs.Int.{Width}
-use mir.Val.{bits}
-use Rattle.zf_spec.specs.Grid.{blocks, upto, block_of, blocks_of}
-use Rattle.zf_spec.specs.Codes.{count_bits}
+use Rattle.zf_spec.specs.Grid.{blocks, upto, extent_of, block_of, blocks_of}
+use Rattle.zf_spec.specs.Codes.{existing_values}
 use Rattle.zf_spec.specs.Stream.{to_bits}
 use Rattle.zf_pad.specs.Slabs.{row_len, IsSlab, first_block}
+use Rattle.zf_pad.specs.Stored.{AppendsBlock}
+use Rattle.zf_bits.specs.Reader.{Reader, rest}
 use Rattle.zf_base.specs.Widths.{width_of}
 use Rattle.zf_header.specs.declared.header.Header.{Header}
-use Rattle.zf_header.specs.declared.header.Mode.{Mode}
-use Rattle.zf_header.specs.declared.header.Mode.TheVariants.{Reversible, Rate, Precision}
 use Rattle.zf_dev.specs.Source.{Takes, TakesSome, IsAtEnd}
 use Rattle.zf_dev.specs.Sink.{Appends, AppendsPrefix}
 use Rattle.zf_parse.specs.declared.fault.StreamFault.{StreamFault}
 use Rattle.zf_parse.specs.declared.fault.StreamFault.TheVariants as faults
 use Rattle.zf_parse.specs.Raw.{raw_bytes}
-use Rattle.zf_parse.specs.Parsing.{read_codes, said_behind, text_behind, restore_answer, restored_text}
+use Rattle.zf_parse.specs.Parsing.{read_code, read_codes, said_behind, text_behind, restore_answer, restored_text}
 use Rattle.zf_stream.specs.Outcomes.{Finishes, IsFromOutside}
 use Rattle.zf_stream.specs.Windows.{Window, left_of, Goes}
 
@@ -47,18 +45,12 @@ stream_from window bytes = left_of window ++ to_bits bytes
 
 -- ---- a slab, which is an array of its own
 
--- how many bits a code of a block has at the least: a count of planes and one for a plane; the rate; one a plane
-abbrev pub shortest_of : Width → Mode → ℕ
-shortest_of w Reversible = count_bits w + 1
-shortest_of w (Rate b) = b
-shortest_of w (Precision p) = min p (bits w)
-
-abbrev pub shortest_code : Header → ℕ
-shortest_code h = shortest_of (width_of h.ty) h.mode
-
--- and the codes of all blocks together
-abbrev pub shortest_codes : Header → ℕ
-shortest_codes h = blocks h.shape * shortest_code h
+-- the code of block b was read, and its values were put behind those before
+pub record ReadsStored (h : Header) (b : ℕ) (old new : Reader) (before now : List ℤ) : Type 0 where
+  pub block : List ℤ
+  pub code : read_code (width_of h.ty) h.mode (extent_of h.shape b) (rest old) ≡ Some (existing_values (extent_of h.shape b) block, new.at - old.at)
+  pub passed : rest new ≡ drop (new.at - old.at) (rest old)
+  pub appended : AppendsBlock (extent_of h.shape b) block before now
 
 -- its codes were read, which are those of these values
 pub record ReadsSlab (part : Header) (src_before src_now : Option (List ℕ)) (old new : Window) (values : List ℤ) : Type 0 where

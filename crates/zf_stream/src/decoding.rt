@@ -1,14 +1,14 @@
 //! The values of a slab.
 
-ghost use Rattle.std.specs.Prelude.{◌≡◌, ◌≢◌, ◌-◌, ◌+◌, ◌*◌, ◌<◌, ◌≤◌, ◌^◌, map, length, Err, IfErr, OnOk, OnErr, OnSome, IfNone};
-ghost use Rattle.zf_spec.specs.Grid.{product, blocks};
+ghost use Rattle.std.specs.Prelude.{◌≡◌, ◌≢◌, ◌-◌, ◌+◌, ◌*◌, ◌<◌, ◌≤◌, ◌^◌, true, map, length, Err, IfErr, OnOk, OnErr, OnSome, IfNone, vec_len, vec_capacity};
+ghost use Rattle.zf_spec.specs.Grid.{product, blocks, extent_of};
 ghost use Rattle.zf_base.specs.Widths.{width_of};
-ghost use Rattle.zf_pad.specs.Rasters.{IsRaster};
+ghost use Rattle.zf_pad.specs.Stored.{HasWholeBlocks, raster_of};
 ghost use Rattle.zf_dev.specs.Faults.{HasCause};
 ghost use Rattle.zf_parse.specs.Parsing.{longest_code};
-ghost use Rattle.zf_parse.specs.ReadStreams.{ReadsCode, LacksCode, ReadsBlock};
+ghost use Rattle.zf_parse.specs.ReadStreams.{ReadsCode, LacksCode};
 ghost use Rattle.zf_stream.specs.Windows.{left_of, KnowsEnd};
-ghost use Rattle.zf_stream.specs.Restoring.{ReadsSlab, LacksSlab};
+ghost use Rattle.zf_stream.specs.Restoring.{ReadsStored, ReadsSlab, LacksSlab};
 ghost use Rattle.zf_parse.specs.declared.fault.StreamFault.TheVariants.{Read};
 
 use crate::StreamFault;
@@ -16,41 +16,47 @@ use crate::window::Window;
 use zf_base::Lane;
 use zf_dev::Source;
 use zf_header::Header;
-use zf_pad::Layout;
+use zf_pad::{append_block, has_whole_blocks};
 use zf_parse::read_code;
 
-/// Reads the codes of a slab, an array of its own whose blocks are those of the array from block `first` on, and which the array's layout serves. No code has more than `longest` bits.
+/// Reads the codes of a slab, an array of its own whose blocks are those of the array from block `first` on. No code has more than `longest` bits.
+///
+/// The values take the place of those in `stored`, in the order of blocks, where there is room for all of them. What is
+/// written of that room is what is needed for the codes that were read.
 pub(crate) fn read_slab<T: Lane, S: Source>(
-    layout: &Layout,
     part: &Header,
     first: u64,
     longest: u64,
     window: &mut Window,
-    values: &mut [T],
+    stored: &mut Vec<T>,
     block: &mut [T],
     piece: &mut [u8],
     src: &mut S,
 ) -> Result<(), StreamFault>
     requires same_type { T.width ≡ width_of part.now.ty }
-    requires raster { IsRaster part.now.shape layout.now }
-    requires all { length values.old ≡ product part.now.shape }
+    requires values { product part.now.shape ≤ vec_capacity stored.old }
     requires whole { length block.old ≡ 4 ^ length part.now.shape }
     requires longest { longest_code part.now ≤ longest }
     requires room { longest + 64 ≤ 64 * window.old.room }
     requires piece { 8 ≤ length piece.old }
     requires ended { KnowsEnd window.old (S.contents src.old) }
     requires numbers { first + blocks part.now.shape < 2 ^ 64 }
-    ensures ok { OnOk result (ReadsSlab part.now (S.contents src.old) (S.contents src.new) window.old window.new (map T.value values.new)) }
+    ensures ok { OnOk result (ReadsSlab part.now (S.contents src.old) (S.contents src.new) window.old window.new
+        (raster_of part.now.shape (map T.value stored.new.items))) }
     ensures err { IfErr result (LacksSlab part.now first (S.contents src.old) (S.contents src.new) window.old) }
+    ensures all { OnOk result (vec_len stored.new ≡ product part.now.shape) }
+    ensures values { vec_capacity stored.old ≤ vec_capacity stored.new }
     ensures room { OnOk result (window.new.room ≡ window.old.room) }
     ensures ended { OnOk result (KnowsEnd window.new (S.contents src.new)) }
     ensures same_source { S.kept src.new ≡ S.kept src.old }
     ensures cause { HasCause (result ≡ Err Read) (S.faults src.old) (S.faults src.new) }
     ensures sure { S.never_fails src.old → (result ≢ Err Read) × S.never_fails src.new }
 {
+    stored.clear();
+    let whole = has_whole_blocks(&part.shape);
     for b in 0..part.shape.blocks() {
         window.reach(longest, piece, src)?;
-        let Some(()) = read_block(layout, part, b, window, values, block) else {
+        let Some(()) = read_block(part, whole, b, window, stored, block) else {
             return Err(StreamFault::Truncated(first + b));
         };
     }
@@ -60,21 +66,23 @@ pub(crate) fn read_slab<T: Lane, S: Source>(
 /// Reads the code of block `b` by way of `block`, or answers `None` where the bits that are held end too early.
 #[inline(always)]
 fn read_block<T: Lane>(
-    layout: &Layout,
     part: &Header,
+    whole: bool,
     b: u64,
     window: &mut Window,
-    values: &mut [T],
+    stored: &mut Vec<T>,
     block: &mut [T],
 ) -> Option<()>
     requires same_type { T.width ≡ width_of part.now.ty }
+    requires known { whole ≡ true → HasWholeBlocks part.now.shape }
     requires in_array { b < blocks part.now.shape }
-    requires raster { IsRaster part.now.shape layout.now }
-    requires all { length values.old ≡ product part.now.shape }
+    requires values { vec_len stored.old + product (extent_of part.now.shape b) ≤ vec_capacity stored.old }
     requires whole { length block.old ≡ 4 ^ length part.now.shape }
-    ensures some { OnSome result (ReadsBlock part.now b window.old.reader window.new.reader (map T.value values.old) (map T.value values.new)) }
+    ensures some { OnSome result (ReadsStored part.now b window.old.reader window.new.reader
+        (map T.value stored.old.items) (map T.value stored.new.items)) }
     ensures place { OnSome result (window.new.reader.at + length (left_of window.new) ≡ window.old.reader.at + length (left_of window.old)) }
     ensures none { IfNone result (LacksCode T.width part.now.mode (length part.now.shape) window.old.reader) }
+    ensures values { vec_capacity stored.old ≤ vec_capacity stored.new }
     ensures room { window.new.room ≡ window.old.room }
     ensures ended { window.new.ended ≡ window.old.ended }
 {
@@ -84,6 +92,6 @@ fn read_block<T: Lane>(
     let _left = reader.left();
     let at = reader.at();
     window.go_to(at);
-    zf_pad::scatter_block(layout, &part.shape, b, block, values);
+    append_block(&part.shape, whole, b, block, stored);
     Some(())
 }

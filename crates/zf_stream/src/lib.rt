@@ -7,8 +7,6 @@ mod decoding;
 mod encoding;
 mod header;
 pub mod laws;
-mod least;
-mod looking;
 mod reading;
 mod restoring;
 mod slabs;

@@ -1,6 +1,6 @@
 //! From a stream to raw values.
 
-ghost use Rattle.std.specs.Prelude.{◌≡◌, ◌≢◌, ◌≤◌, ◌<◌, ◌*◌, ◌+◌, ◌^◌, length, IfOk, IfErr, OnOk, OnErr, Err};
+ghost use Rattle.std.specs.Prelude.{◌≡◌, ◌≢◌, ◌≤◌, ◌<◌, ◌*◌, ◌+◌, ◌^◌, length, IfOk, IfErr, OnOk, OnErr, Err, vec_capacity};
 ghost use Rattle.zf_pad.specs.Slabs.{row_len, rows_of};
 ghost use Rattle.zf_base.specs.Widths.{width_of};
 ghost use Rattle.zf_header.specs.declared.header.HeaderFault.{HeaderFault};
@@ -19,17 +19,18 @@ use crate::StreamFault;
 use crate::compressing::PIECE;
 use crate::decoding::read_slab;
 use crate::header::header_at_prefix;
-use crate::looking::look_ahead;
 use crate::reading::read_into;
 use crate::slabs::{most_rows, rows_of, with_rows};
 use crate::window::{PREFIX, Window};
-use crate::writing::write_values;
+use crate::writing::write_stored;
 use std::alloc::Global;
 use zf_base::{Lane, Ty, block_len};
 use zf_dev::{Sink, Source};
 use zf_header::Header;
-use zf_pad::Layout;
 use zf_parse::{check_fill, longest_code};
+
+// How many values are brought in raster order at once, and so written: 128 KiB or more, and no block has more.
+const LINES: usize = 1 << 15;
 
 /// Reads a stream to the end of the source, and writes its raw values, each little-endian in 4 or 8 bytes, x
 /// fastest.
@@ -186,28 +187,24 @@ fn restore_as<T: Lane, S: Source, O: Sink>(
     ensures write_cause { HasCause (result ≡ Err Write) (O.faults out.old) (O.faults out.new) }
     ensures sure { S.never_fails src.old → (result ≢ Err Read) × S.never_fails src.new }
 {
-    let dims = h.shape.dims();
+    // tells that there is an axis
+    let _dims = h.shape.dims();
     let rows = most_rows(&h.shape).min(rows_of(&h.shape));
-    let slab = Header {
-        ty: h.ty,
-        shape: with_rows(&h.shape, rows),
-        mode: h.mode,
-    };
+    let slab = with_rows(&h.shape, rows);
     let longest = longest_code::<T>(h);
-    let first = (8 * PIECE).min(slab.shape.blocks() * longest);
+    let first = (8 * PIECE).min(slab.blocks() * longest);
     let mut window = Window::new(alloc, longest + first, prefix, u64::from(header_len))?;
-    let mut block = vec![in alloc; T::zero(); block_len(dims)]?;
+    let mut lines = vec![in alloc; T::zero(); LINES]?;
     let mut piece = vec![in alloc; 0; PIECE as usize]?;
-    // Values are room that is written at once, so none are made for a slab that a short stream cannot have.
-    look_ahead(&slab, first, &mut window, &mut block, &mut piece, src)?;
-    let mut values = vec![in alloc; T::zero(); slab.shape.values() as usize]?;
+    // Room for a slab is taken here, and written block by block: a stream that ends early needs no more than its values.
+    let mut stored = Vec::with_capacity(alloc, slab.values() as usize)?;
     restore_rows(
         h,
         rows,
         longest,
         &mut window,
-        &mut values,
-        &mut block,
+        &mut stored,
+        &mut lines,
         &mut piece,
         src,
         out,
@@ -220,8 +217,8 @@ fn restore_rows<T: Lane, S: Source, O: Sink>(
     rows: u64,
     longest: u64,
     window: &mut Window,
-    values: &mut [T],
-    block: &mut [T],
+    stored: &mut Vec<T>,
+    lines: &mut [T],
     piece: &mut [u8],
     src: &mut S,
     out: &mut O,
@@ -232,8 +229,8 @@ fn restore_rows<T: Lane, S: Source, O: Sink>(
     requires room { longest + 64 ≤ 64 * window.old.room }
     requires fill { 128 ≤ 64 * window.old.room }
     requires ended { KnowsEnd window.old (S.contents src.old) }
-    requires values { length values.old ≡ row_len h.now.shape * rows }
-    requires whole { length block.old ≡ 4 ^ length h.now.shape }
+    requires values { row_len h.now.shape * rows ≤ vec_capacity stored.old }
+    requires lines { 256 ≤ length lines.old }
     requires piece { 8 ≤ length piece.old }
     ensures ok { OnOk result (RestoresAll h.now
         (S.contents src.old) (S.contents src.new) (O.contents out.old) (O.contents out.new) window.old) }
@@ -246,7 +243,7 @@ fn restore_rows<T: Lane, S: Source, O: Sink>(
     ensures write_cause { HasCause (result ≡ Err Write) (O.faults out.old) (O.faults out.new) }
     ensures sure { S.never_fails src.old → (result ≢ Err Read) × S.never_fails src.new }
 {
-    restore_slabs(h, rows, longest, window, values, block, piece, src, out)?;
+    restore_slabs(h, rows, longest, window, stored, lines, piece, src, out)?;
     // The fill has less than a word, so what is told of 64 bits is told of all that follow.
     window.reach(64, piece, src)?;
     check_fill(h, &mut window.reader())
@@ -258,8 +255,8 @@ fn restore_slabs<T: Lane, S: Source, O: Sink>(
     rows: u64,
     longest: u64,
     window: &mut Window,
-    values: &mut [T],
-    block: &mut [T],
+    stored: &mut Vec<T>,
+    lines: &mut [T],
     piece: &mut [u8],
     src: &mut S,
     out: &mut O,
@@ -269,8 +266,8 @@ fn restore_slabs<T: Lane, S: Source, O: Sink>(
     requires longest { longest_code h.now ≤ longest }
     requires room { longest + 64 ≤ 64 * window.old.room }
     requires ended { KnowsEnd window.old (S.contents src.old) }
-    requires values { length values.old ≡ row_len h.now.shape * rows }
-    requires whole { length block.old ≡ 4 ^ length h.now.shape }
+    requires values { row_len h.now.shape * rows ≤ vec_capacity stored.old }
+    requires lines { 256 ≤ length lines.old }
     requires piece { 8 ≤ length piece.old }
     ensures ok { OnOk result (Restores h.now (rows_of h.now.shape)
         (S.contents src.old) (S.contents src.new) (O.contents out.old) (O.contents out.new) window.old window.new) }
@@ -286,9 +283,8 @@ fn restore_slabs<T: Lane, S: Source, O: Sink>(
     ensures sure { S.never_fails src.old → (result ≢ Err Read) × S.never_fails src.new }
 {
     // Known by these calls: there is an axis, and blocks are counted in a word.
-    let _dims = h.shape.dims();
+    let size = block_len(h.shape.dims());
     let _blocks = h.shape.blocks();
-    let layout = Layout::raster(&h.shape);
     let all = rows_of(&h.shape);
     let mut row = 0;
     let mut first = 0;
@@ -299,11 +295,9 @@ fn restore_slabs<T: Lane, S: Source, O: Sink>(
             shape: with_rows(&h.shape, here),
             mode: h.mode,
         };
-        let slab = &mut values[..part.shape.values() as usize];
-        read_slab(
-            &layout, &part, first, longest, window, slab, block, piece, src,
-        )?;
-        write_values(slab, piece, out)?;
+        let block = &mut lines[..size];
+        read_slab(&part, first, longest, window, stored, block, piece, src)?;
+        write_stored(&part.shape, stored, lines, piece, out)?;
         first += part.shape.blocks();
         row += here;
     }

@@ -87,14 +87,6 @@ impl Window {
         self.at = at;
     }
 
-    /// Whether the source is known to give no more, and fewer than `need` bits are left.
-    pub(crate) fn is_short_of(&self, need: u64) -> bool
-        ensures short { IsTrue result → self.now.ended ≡ true }
-        ensures enough { ¬ IsTrue result → self.now.ended ≡ true → need ≤ length (left_of self.now) }
-    {
-        self.ended && self.left() < need
-    }
-
     /// Sees to it that `need` bits are held that are not read yet, or all that the source still gives.
     #[inline]
     pub(crate) fn reach<S: Source>(

@@ -1,7 +1,9 @@
 //! Words of a stream on their way to a sink.
 
 ghost use Rattle.std.specs.Prelude.{◌≡◌, ◌≤◌, ◌<◌, ◌*◌, ◌+◌, ◌≢◌, ◌^◌, All, map, length, Err, OnOk, OnErr, IfErr};
+ghost use Rattle.zf_spec.specs.Grid.{product};
 ghost use Rattle.zf_spec.specs.Stream.{raw};
+ghost use Rattle.zf_pad.specs.Stored.{raster_of};
 ghost use Rattle.zf_dev.specs.Faults.{HasCause};
 ghost use Rattle.zf_dev.specs.Sink.{Appends, AppendsPrefix};
 ghost use Rattle.zf_stream.specs.Flows.{bytes_in, Flows, Spills};
@@ -10,9 +12,10 @@ ghost use Rattle.zf_parse.specs.declared.fault.StreamFault.TheVariants.{Write};
 use crate::StreamFault;
 use crate::bytes::put_bytes;
 use crate::values::{put_raw, value_len};
-use zf_base::Lane;
+use zf_base::{Lane, Shape};
 use zf_bits::{BitWriter, get_bits};
 use zf_dev::{Sink, write_all};
+use zf_pad::copy_lines;
 
 /// Writes the whole words of a code, and keeps the bits behind them.
 pub(crate) fn write_whole_words<O: Sink>(
@@ -95,6 +98,40 @@ pub(crate) fn write_values<T: Lane, O: Sink>(
         put_raw(&values[at..at + n], &mut piece[..n * len]);
         write_bytes(&piece[..n * len], out)?;
         at += n;
+    }
+    Ok(())
+}
+
+/// Writes the values of an array that are kept in the order of blocks, in raster order as raw bytes, by way of `lines`
+/// and `piece`.
+pub(crate) fn write_stored<T: Lane, O: Sink>(
+    shape: &Shape,
+    stored: &[T],
+    lines: &mut [T],
+    piece: &mut [u8],
+    out: &mut O,
+) -> Result<(), StreamFault>
+    requires all { product shape.now ≤ length stored.now }
+    requires lines { 4 ≤ length lines.old }
+    requires piece { 8 ≤ length piece.old }
+    ensures ok { OnOk result (Appends (O.contents out.old) (O.contents out.new)
+        (raw T.width (raster_of shape.now (map T.value stored.now)))) }
+    ensures err { OnErr result (AppendsPrefix (O.contents out.old) (O.contents out.new)
+        (raw T.width (raster_of shape.now (map T.value stored.now)))) }
+    ensures fault { IfErr result (λ e. e ≡ Write) }
+    ensures same_sink { O.kept out.new ≡ O.kept out.old }
+    ensures cause { HasCause (result ≡ Err Write) (O.faults out.old) (O.faults out.new) }
+{
+    let all = shape.values();
+    if shape.dims() == 1 {
+        // In one dimension the two orders are one.
+        return write_values(&stored[..all as usize], piece, out);
+    }
+    let mut at = 0;
+    while at < all {
+        let count = copy_lines(shape, stored, at, lines);
+        write_values(&lines[..count], piece, out)?;
+        at += count as u64;
     }
     Ok(())
 }

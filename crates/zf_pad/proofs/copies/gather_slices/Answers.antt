@@ -1,4 +1,4 @@
-use Rattle.std.proofs.Common.{◌≡◌, ◌<◌, ◌+◌, ◌*◌, length, map, sym, ap, subst, ◌∙◌, arith}
+use Rattle.std.proofs.Common.{◌≡◌, ◌+◌, ◌*◌, length, map, sym, ap, subst, ◌∙◌, arith}
 use Rattle.zf_pad.specs.Layouts.{index_at}
 use Rattle.zf_pad.proofs.Copying.{IsGatheredTo, index_here, slice_index, row_within, gathered_none, gathered_row, row_copied, gathered_all}
 use Rattle.zf_pad.proofs.Existing.{first_place, first_index, place_of_whole}

@@ -1,4 +1,4 @@
-use Rattle.std.proofs.Common.{◌≡◌, ◌<◌, ◌+◌, ◌*◌, length, map, sym, ap, subst, ◌∙◌, arith}
+use Rattle.std.proofs.Common.{◌≡◌, ◌+◌, ◌*◌, length, map, sym, ap, subst, ◌∙◌, arith}
 use Rattle.zf_pad.specs.Layouts.{index_at}
 use Rattle.zf_pad.proofs.Copying.{IsScatteredTo, index_here, slice_index, row_within, scattered_none, scattered_row, row_copied, scattered_all}
 use Rattle.zf_pad.proofs.Existing.{first_place, first_index, place_of_whole}

@@ -1,10 +1,10 @@
-use Rattle.std.proofs.Common.{◌≡◌, ℕ, ◌+◌, ◌-◌, ℤ, Bool, List, Some, length, sym, ap, subst, ◌∙◌, length-append, arith}
+use Rattle.std.proofs.Common.{◌≡◌, ℕ, ◌+◌, ℤ, Bool, List, map, length, sym, ap, subst, ◌∙◌, length-append, arith}
 use Rattle.zf_spec.specs.Grid.{extent_of}
 use Rattle.zf_base.proofs.Extents.{length-extent_of}
 use Rattle.zf_bits.specs.Reader.{Reader, rest, Reads}
 use Rattle.zf_header.specs.declared.header.Header.{Header}
 use Rattle.zf_parse.specs.Parsing.{read_code}
-use Rattle.zf_parse.specs.ReadStreams.{ReadsBlock}
+use Rattle.zf_stream.specs.Restoring.{ReadsStored}
 use Rattle.zf_stream.specs.Windows.{Window}
 use Rattle.zf_parse.proofs.Joining.{rest_behind}
 use Rattle.zf_stream.proofs.decoding.read_block.Goals as goal
@@ -20,10 +20,10 @@ module _ (w v : Window) (mid new : Reader) (at : ℕ) (from : mid ≡ w.reader) 
       ap (λ (bits : List Bool). record { all = bits; at = new.at }) (all ∙ ap (λ r. r.all) from)
       ∙ ap (λ k. record { all = w.reader.all; at = k }) (sym is) ∙ ap (λ u. u.reader) (sym gone)
 
-  block_read : {h : Header} {b : ℕ} {before now : List ℤ} → ReadsBlock h b mid new before now → ReadsBlock h b w.reader v.reader before now
+  block_read : {h : Header} {b : ℕ} {before now : List ℤ} → ReadsStored h b mid new before now → ReadsStored h b w.reader v.reader before now
   block_read {h} {b} {before} {now} read =
-      let To : Reader → Type 0 = λ z. ReadsBlock h b mid z before now in
-      let From : Reader → Type 0 = λ a. ReadsBlock h b a v.reader before now in
+      let To : Reader → Type 0 = λ z. ReadsStored h b mid z before now in
+      let From : Reader → Type 0 = λ a. ReadsStored h b a v.reader before now in
       subst From from (subst To same read)
 
   place_read : new.at + length (rest new) ≡ mid.at + length (rest mid) → v.reader.at + length (rest v.reader) ≡ w.reader.at + length (rest w.reader)
@@ -37,11 +37,10 @@ returns-clause-some g c =
     let new = c.read_code.new.reader in
     let read = c.in_ok-read_code.ensures.some in
     block_read c.args.window.now c.go_to.new.self mid new c.at-at.result c.reader-reader.ensures read.passed.all c.at-at.ensures c.go_to.ensures (record {
-      code = ap (λ w. read_code w h.mode es (rest mid)) (sym c.requires.same_type) ∙ read.code es (length-extent_of h.shape c.args.b)
-          ∙ ap (λ (values : List ℤ). Some (values, new.at - mid.at)) (sym c.scatter_block.ensures.written);
+      block = map g.T.Lane.value c.read_code.new.block;
+      code = ap (λ w. read_code w h.mode es (rest mid)) (sym c.requires.same_type) ∙ read.code es (length-extent_of h.shape c.args.b);
       passed = rest_behind mid new _ read.passed;
-      all = read.passed.all;
-      others = c.scatter_block.ensures.others;
+      appended = c.append_block.ensures.block;
     })
 
 pub returns-clause-place : goal.returns-clause-place

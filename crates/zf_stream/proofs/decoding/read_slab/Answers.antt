@@ -1,33 +1,41 @@
-use Rattle.std.proofs.Common.{◌≡◌, ◌-◌, ◌<◌, ◌≤◌, Bool, true, false, ℤ, List, [], ◌++◌, map, length, None, Ok, refl, sym, ap, subst, ◌∙◌, arith}
-use Rattle.std.proofs.lemmas.List.{append-nil}
+use Rattle.std.proofs.Common.{◌≡◌, ◌-◌, ◌<◌, ◌≤◌, Bool, true, false, ℤ, List, [], ◌∷◌, ◌++◌, map, length, None, Ok, length-append, refl, sym, ap, subst, ◌∙◌, arith}
+use Rattle.std.proofs.lemmas.List.{append-nil, length-map}
 use Rattle.std.proofs.lemmas.Result.{err_from_is_err_and}
-use Rattle.zf_spec.specs.Grid.{blocks, block_of, extent_of, upto}
+use Rattle.zf_spec.specs.Grid.{blocks, extent_of}
+use Rattle.zf_spec.specs.Codes.{existing_values}
+use Rattle.zf_pad.proofs.Stored.{stored_before, Stores, stores_none, stores_more, blocks_stored, all_stored, stored_within}
 use Rattle.zf_base.specs.Widths.{width_of}
 use Rattle.zf_base.proofs.Extents.{length-extent_of}
 use Rattle.zf_dev.specs.Source.{IsAtEnd}
 use Rattle.zf_dev.proofs.Taking.{Takes-append}
 use Rattle.zf_parse.specs.declared.fault.StreamFault.{StreamFault}
-use Rattle.zf_parse.specs.Parsing.{read_code}
+use Rattle.zf_parse.specs.Parsing.{read_code, read_codes}
 use Rattle.zf_stream.specs.Windows.{left_of}
 use Rattle.zf_stream.specs.Restoring.{stream_from, LacksSlab}
 use Rattle.zf_parse.proofs.Enough.{enough_for_one}
-use Rattle.zf_parse.proofs.Joining.{read_codes-next, read_codes-cut, blocks-more}
+use Rattle.zf_parse.proofs.Joining.{read_codes-next, read_codes-cut}
 use Rattle.zf_stream.proofs.Windows.{Goes-none, Goes-next, Goes-read, codes_refilled}
 use Rattle.zf_stream.proofs.decoding.read_slab.Goals as goal
 
 pub loop-b-init : goal.loop-b-init
-loop-b-init g c = record {
-  bytes = [];
-  goes = Goes-none _ _;
-  codes = ap (λ (s : List Bool). Ok ([], s)) (append-nil (left_of c.args.window.now));
-  count = c.requires.all;
-  whole = c.requires.whole;
-  room = refl;
-  ended = c.requires.ended;
-  same_source = refl;
-  faults = omega arith;
-  sure = λ sure. sure;
-}
+loop-b-init g c =
+    let P : List ℤ → Type 0 = λ vs. Stores c.args.part.now.shape [] vs in
+    record {
+      bytes = [];
+      goes = Goes-none _ _;
+      found = [];
+      count = refl;
+      codes = ap (λ (s : List Bool). Ok ([], s)) (append-nil (left_of c.args.window.now));
+      stores = subst P (sym (ap (map g.T.Lane.value) c.clear.ensures.items)) (stores_none c.args.part.now.shape);
+      values = omega (arith, c.requires.values, c.clear.ensures.capacity);
+      capacity = omega (arith, c.clear.ensures.capacity);
+      whole = c.requires.whole;
+      room = refl;
+      ended = c.requires.ended;
+      same_source = refl;
+      faults = omega arith;
+      sure = λ sure. sure;
+    }
 
 pub returns-in_err-reach-clause-err : goal.returns-in_err-reach-clause-err
 returns-in_err-reach-clause-err g c =
@@ -52,7 +60,7 @@ returns-in_default-clause-err g c =
     let refill = c.in_ok-reach.ensures.ok in
     let so_far = c.loop-b.invariant in
     let bytes = so_far.bytes ++ refill.bytes in
-    let found = map (block_of h.shape (map g.T.Lane.value c.loop-b.values)) (upto b) in
+    let found = so_far.found in
     let none : read_code (width_of h.ty) h.mode es (left_of window) ≡ None =
     ap (λ w. read_code w h.mode es (left_of window)) (sym c.requires.same_type) ∙ c.in_default.ensures.none.code es (length-extent_of h.shape b) in
     record {
@@ -66,6 +74,22 @@ returns-in_default-clause-err g c =
           (omega (arith, c.loop-b-test.true, c.blocks-b-end.ensures.value)) (codes_refilled h b c.args.window.now so_far.bytes found so_far.codes refill) none;
     }
 
+pub read_block-requires-clause-values : goal.read_block-requires-clause-values
+read_block-requires-clause-values g c =
+    let ns = c.args.part.now.shape in
+    let so_far = c.loop-b.invariant in
+    let value = g.T.Lane.value in
+    let lt : c.loop-b.b < blocks ns = omega (arith, c.loop-b-test.true, c.blocks-b-end.ensures.value) in
+    omega (
+      arith,
+      so_far.stores.long,
+      ap (stored_before ns) so_far.count,
+      length-map c.loop-b.stored.items value,
+      stored_within ns c.loop-b.b (blocks ns) lt,
+      all_stored ns (omega (arith, lt)),
+      so_far.values,
+    )
+
 pub loop-b-preserved : goal.loop-b-preserved
 loop-b-preserved g c =
     let h = c.args.part.now in
@@ -75,17 +99,18 @@ loop-b-preserved g c =
     let bytes = so_far.bytes ++ refill.bytes in
     let window = c.read_block.new.window in
     let mid = c.reach.new.self in
-    let f = block_of h.shape (map g.T.Lane.value c.loop-b.values) in
-    let f' = block_of h.shape (map g.T.Lane.value c.read_block.new.values) in
     let read = c.in-Some.ensures.some in
-    let lt : b < blocks h.shape = omega (arith, c.loop-b-test.true, c.blocks-b-end.ensures.value) in
+    let block = existing_values (extent_of h.shape b) read.block in
     record {
       bytes = bytes;
       goes = Goes-read (Goes-next so_far.goes refill.goes) c.in-Some.ensures.place;
-      codes = read_codes-next h b (window.reader.at - mid.reader.at) (stream_from c.args.window.now bytes) (left_of mid) (map f (upto b)) (f' b) (left_of window)
-          (codes_refilled h b c.args.window.now so_far.bytes (map f (upto b)) so_far.codes refill) read.code read.passed
-          ∙ ap (λ (bs : List (List ℤ)). Ok (bs, left_of window)) (blocks-more f f' b (λ a below. sym (read.others a (omega (arith, below, lt)) (λ same. omega (arith, same, below)))));
-      count = c.read_block.auto.values ∙ so_far.count;
+      found = so_far.found ++ block ∷ [];
+      count = length-append so_far.found (block ∷ []) ∙ omega (arith, so_far.count);
+      codes = read_codes-next h b (window.reader.at - mid.reader.at) (stream_from c.args.window.now bytes) (left_of mid) so_far.found block (left_of window)
+          (codes_refilled h b c.args.window.now so_far.bytes so_far.found so_far.codes refill) read.code read.passed;
+      stores = stores_more h.shape so_far.found b read.block _ _ so_far.count so_far.stores read.appended;
+      values = omega (arith, so_far.values, c.read_block.ensures.values);
+      capacity = omega (arith, so_far.capacity, c.read_block.ensures.values);
       whole = c.read_block.auto.block ∙ so_far.whole;
       room = c.read_block.ensures.room ∙ refill.room ∙ so_far.room;
       ended = λ is. c.in_ok-reach.ensures.ended (sym c.read_block.ensures.ended ∙ is);
@@ -93,3 +118,29 @@ loop-b-preserved g c =
       faults = omega (arith, so_far.faults, c.reach.ensures.cause.0);
       sure = λ sure. (c.reach.ensures.sure (so_far.sure sure)).1;
     }
+
+pub returns-clause-ok : goal.returns-clause-ok
+returns-clause-ok g c =
+    let h = c.args.part.now in
+    let so_far = c.loop-b.invariant in
+    let all : c.loop-b.b ≡ blocks h.shape = omega (arith, c.loop-b-test.false, c.loop-b.auto.b-end, c.blocks-b-end.ensures.value) in
+    let stored = map g.T.Lane.value c.loop-b.stored.items in
+    record {
+      bytes = so_far.bytes;
+      goes = so_far.goes;
+      codes = ap (λ n. read_codes h 0 n (stream_from c.args.window.now so_far.bytes)) (sym all) ∙ so_far.codes
+          ∙ ap (λ (bs : List (List ℤ)). Ok (bs, left_of c.loop-b.window)) (blocks_stored h.shape so_far.found stored (so_far.count ∙ all) so_far.stores);
+    }
+
+pub returns-clause-all : goal.returns-clause-all
+returns-clause-all g c =
+    let ns = c.args.part.now.shape in
+    let so_far = c.loop-b.invariant in
+    let all : c.loop-b.b ≡ blocks ns = omega (arith, c.loop-b-test.false, c.loop-b.auto.b-end, c.blocks-b-end.ensures.value) in
+    omega (
+      arith,
+      so_far.stores.long,
+      ap (stored_before ns) (so_far.count ∙ all),
+      length-map c.loop-b.stored.items g.T.Lane.value,
+      all_stored ns (omega (arith, c.blocks-b-end.ensures.value, c.blocks-b-end.ensures.not_zero)),
+    )

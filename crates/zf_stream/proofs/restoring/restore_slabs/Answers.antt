@@ -1,13 +1,14 @@
 use Rattle.std.proofs.Common.{◌≡◌, ℕ, ◌+◌, ◌-◌, ◌*◌, ◌/◌, ◌<◌, ◌≤◌, ◌^◌, ◌⊎◌, inl, inr, ⊎_elim, List, map, length, min, mul_comm, refl, sym, ap, subst, ◌∙◌, arith}
-use Rattle.std.proofs.lemmas.List.{length-take-le, length-map}
+use Rattle.std.proofs.lemmas.List.{length-take-le}
 use Rattle.std.proofs.lemmas.Bool.{cases_lt}
 use Rattle.std.proofs.lemmas.Result.{err_from_is_err_and}
 use Rattle.std.proofs.Math.Nat.{mul-le-mul_left, mul-add}
 use Rattle.zf_spec.specs.Grid.{product, grid, blocks}
 use Rattle.zf_spec.specs.Stream.{raw}
 use Rattle.zf_pad.specs.Slabs.{rows_of, row_len, with_rows, IsSlab, first_block}
-use Rattle.zf_pad.specs.Rasters.{IsRaster}
-use Rattle.zf_pad.proofs.Slabs.{layout_of_slab, length-with_rows, product-with_rows, blocks-with_rows}
+use Rattle.zf_pad.specs.Stored.{raster_of}
+use Rattle.zf_pad.proofs.Stored.{length-raster_of}
+use Rattle.zf_pad.proofs.Slabs.{length-with_rows, product-with_rows, blocks-with_rows}
 use Rattle.zf_dev.specs.Sink.{Appends, AppendsPrefix}
 use Rattle.zf_header.specs.declared.header.Header.{Header}
 use Rattle.zf_parse.specs.Raw.{raw_bytes}
@@ -61,8 +62,9 @@ slab_next h rows row all here first shape pieces whole all_is more here_is shape
 
 pub loop-row-init : goal.loop-row-init
 loop-row-init g c = record {
-  done = Restores-none c.args.h.now _ _ c.args.window.now c.dims-dims.ensures.shape.some_dimension;
+  done = Restores-none c.args.h.now _ _ c.args.window.now c.dims.ensures.shape.some_dimension;
   first = omega (arith, mul_comm (row_len (grid c.args.h.now.shape)) 0);
+  capacity = omega arith;
   room = refl;
   ended = c.requires.ended;
   same_source = refl;
@@ -72,24 +74,16 @@ loop-row-init g c = record {
   sure = λ sure. sure;
 }
 
-pub slice_bounds-slab-end : goal.slice_bounds-slab-end
-slice_bounds-slab-end g c =
+pub read_slab-requires-clause-values : goal.read_slab-requires-clause-values
+read_slab-requires-clause-values g c =
     let slab = slab_next c.args.h.now c.args.rows c.loop-row.row c.rows_of-all.result c.min-here.result c.loop-row.first c.with_rows.result c.requires.rows c.loop-row.invariant.done.whole c.rows_of-all.ensures c.loop-row-test.true c.min-here.ensures c.with_rows.ensures c.loop-row.invariant.first in
-    omega (arith, c.values.ensures.value, slab.within, c.loop-row.auto.values, c.requires.values)
-
-pub slice_bounds-slab-end-in-loop-row : goal.slice_bounds-slab-end-in-loop-row
-slice_bounds-slab-end-in-loop-row g c =
-    let slab = slab_next c.args.h.now c.args.rows c.loop-row.row c.rows_of-all.result c.min-here.result c.loop-row.first c.with_rows.result c.requires.rows c.loop-row.invariant.done.whole c.rows_of-all.ensures c.loop-row-test.true c.min-here.ensures c.with_rows.ensures c.loop-row.invariant.first in
-    sym (length-take-le c.values.result c.loop-row.values (omega (arith, c.values.ensures.value, slab.within, c.loop-row.auto.values, c.requires.values)))
-
-pub read_slab-requires-clause-all : goal.read_slab-requires-clause-all
-read_slab-requires-clause-all g c =
-    let slab = slab_next c.args.h.now c.args.rows c.loop-row.row c.rows_of-all.result c.min-here.result c.loop-row.first c.with_rows.result c.requires.rows c.loop-row.invariant.done.whole c.rows_of-all.ensures c.loop-row-test.true c.min-here.ensures c.with_rows.ensures c.loop-row.invariant.first in
-    length-take-le c.values.result c.loop-row.values (omega (arith, c.values.ensures.value, slab.within, c.loop-row.auto.values, c.requires.values)) ∙ c.values.ensures.value
+    omega (arith, slab.within, c.loop-row.invariant.capacity, c.requires.values)
 
 pub read_slab-requires-clause-whole : goal.read_slab-requires-clause-whole
 read_slab-requires-clause-whole g c =
-    c.loop-row.auto.block ∙ c.requires.whole ∙ ap (λ d. 4 ^ d) (sym (ap length c.with_rows.ensures ∙ length-with_rows c.min-here.result c.args.h.now.shape))
+    let dims : c.dims.result ≡ length c.with_rows.result = c.dims.ensures.value ∙ sym (ap length c.with_rows.ensures ∙ length-with_rows c.min-here.result c.args.h.now.shape) in
+    length-take-le c.block_len-size.result c.loop-row.lines (omega (arith, c.block_len-size.ensures.bound, c.loop-row.auto.lines, c.requires.lines))
+    ∙ c.block_len-size.ensures.value ∙ ap (λ d. 4 ^ d) dims
 
 pub read_slab-requires-clause-longest : goal.read_slab-requires-clause-longest
 read_slab-requires-clause-longest g c =
@@ -115,23 +109,25 @@ returns-in_err-read_slab-clause-refused g c =
     let p = err_from_is_err_and c.from_residual.result c.from_residual.ensures.1 in
     rw (p.1, p.2) (slab_cut h c.loop-row.row c.min-here.result slab.next c.loop-row.invariant.done now c.loop-row.first e slab.number (subst P c.with_rows.ensures c.in_err-read_slab.ensures.err))
 
-pub returns-in_err-write_values-clause-err : goal.returns-in_err-write_values-clause-err
-returns-in_err-write_values-clause-err g c =
+pub returns-in_err-write_stored-clause-err : goal.returns-in_err-write_stored-clause-err
+returns-in_err-write_stored-clause-err g c =
     let h = c.args.h.now in
     let here = c.min-here.result in
+    let shape = c.with_rows.result in
     let mid = g.S.Source.contents c.loop-row.src in
     let now = g.S.Source.contents c.read_slab.new.src in
     let out1 = g.O.Sink.contents c.loop-row.out in
-    let out2 = g.O.Sink.contents c.write_values.new.out in
-    let values = map g.T.Lane.value c.read_slab.new.values in
+    let out2 = g.O.Sink.contents c.write_stored.new.out in
+    let stored = map g.T.Lane.value c.read_slab.new.stored.items in
+    let values = raster_of shape stored in
     let slab = slab_next c.args.h.now c.args.rows c.loop-row.row c.rows_of-all.result c.min-here.result c.loop-row.first c.with_rows.result c.requires.rows c.loop-row.invariant.done.whole c.rows_of-all.ensures c.loop-row-test.true c.min-here.ensures c.with_rows.ensures c.loop-row.invariant.first in
-    let long : length values ≡ row_len h.shape * here =
-    length-map c.read_slab.new.values g.T.Lane.value ∙ c.read_slab.auto.values ∙ length-take-le c.values.result c.loop-row.values (omega (arith, c.values.ensures.value, slab.within, c.loop-row.auto.values, c.requires.values)) ∙ c.values.ensures.value ∙ slab.count in
+    let long : length values ≡ row_len h.shape * here = length-raster_of shape stored ∙ slab.count in
     let P : List ℕ → Type 0 = λ s. ReadsSlab (with_shape h s) mid now c.loop-row.window c.read_slab.new.window values in
     let read : ReadsSlab (part_of h here) mid now c.loop-row.window c.read_slab.new.window values = subst P c.with_rows.ensures c.in_ok-read_slab.ensures.ok in
-    let text : raw g.T.Lane.width values ≡ raw_bytes h values = ap (λ w. raw w values) c.requires.same_type in
+    let text : raw g.T.Lane.width (raster_of shape (map g.T.Lane.value c.deref.result.now)) ≡ raw_bytes h values =
+    ap (λ xs. raw g.T.Lane.width (raster_of shape (map g.T.Lane.value xs))) c.deref.ensures.value ∙ ap (λ w. raw w values) c.requires.same_type in
     let Of : List ℕ → Type 0 = λ bs. AppendsPrefix out1 out2 bs in
-    on_err c.from_residual-in_err-write_values.result _ (slab_spilled h c.loop-row.row here slab.next c.loop-row.invariant.done values read long (subst Of text c.in_err-write_values.ensures.err))
+    on_err c.from_residual-in_err-write_stored.result _ (slab_spilled h c.loop-row.row here slab.next c.loop-row.invariant.done values read long (subst Of text c.in_err-write_stored.ensures.err))
 
 pub overflow_add-first : goal.overflow_add-first
 overflow_add-first g c =
@@ -143,33 +139,29 @@ pub loop-row-preserved : goal.loop-row-preserved
 loop-row-preserved g c =
     let h = c.args.h.now in
     let here = c.min-here.result in
+    let shape = c.with_rows.result in
     let mid = g.S.Source.contents c.loop-row.src in
     let now = g.S.Source.contents c.read_slab.new.src in
     let out1 = g.O.Sink.contents c.loop-row.out in
-    let out2 = g.O.Sink.contents c.write_values.new.out in
-    let values = map g.T.Lane.value c.read_slab.new.values in
+    let out2 = g.O.Sink.contents c.write_stored.new.out in
+    let stored = map g.T.Lane.value c.read_slab.new.stored.items in
+    let values = raster_of shape stored in
     let slab = slab_next c.args.h.now c.args.rows c.loop-row.row c.rows_of-all.result c.min-here.result c.loop-row.first c.with_rows.result c.requires.rows c.loop-row.invariant.done.whole c.rows_of-all.ensures c.loop-row-test.true c.min-here.ensures c.with_rows.ensures c.loop-row.invariant.first in
-    let long : length values ≡ row_len h.shape * here =
-    length-map c.read_slab.new.values g.T.Lane.value ∙ c.read_slab.auto.values ∙ length-take-le c.values.result c.loop-row.values (omega (arith, c.values.ensures.value, slab.within, c.loop-row.auto.values, c.requires.values)) ∙ c.values.ensures.value ∙ slab.count in
+    let long : length values ≡ row_len h.shape * here = length-raster_of shape stored ∙ slab.count in
     let P : List ℕ → Type 0 = λ s. ReadsSlab (with_shape h s) mid now c.loop-row.window c.read_slab.new.window values in
     let read : ReadsSlab (part_of h here) mid now c.loop-row.window c.read_slab.new.window values = subst P c.with_rows.ensures c.in_ok-read_slab.ensures.ok in
-    let text : raw g.T.Lane.width values ≡ raw_bytes h values = ap (λ w. raw w values) c.requires.same_type in
+    let text : raw g.T.Lane.width (raster_of shape (map g.T.Lane.value c.deref.result.now)) ≡ raw_bytes h values =
+    ap (λ xs. raw g.T.Lane.width (raster_of shape (map g.T.Lane.value xs))) c.deref.ensures.value ∙ ap (λ w. raw w values) c.requires.same_type in
     let Of : List ℕ → Type 0 = λ bs. Appends out1 out2 bs in
     record {
-      done = slab_restored h c.loop-row.row here slab.next c.loop-row.invariant.done values read long (subst Of text c.in_ok-write_values.ensures.ok);
+      done = slab_restored h c.loop-row.row here slab.next c.loop-row.invariant.done values read long (subst Of text c.in_ok-write_stored.ensures.ok);
       first = omega (arith, slab.behind, c.blocks-first.ensures.value);
+      capacity = omega (arith, c.loop-row.invariant.capacity, c.read_slab.ensures.values);
       room = c.in_ok-read_slab.ensures.room ∙ c.loop-row.invariant.room;
       ended = c.in_ok-read_slab.ensures.ended;
       same_source = c.read_slab.ensures.same_source ∙ c.loop-row.invariant.same_source;
-      same_sink = c.write_values.ensures.same_sink ∙ c.loop-row.invariant.same_sink;
+      same_sink = c.write_stored.ensures.same_sink ∙ c.loop-row.invariant.same_sink;
       reads = omega (arith, c.loop-row.invariant.reads, c.read_slab.ensures.cause.0);
-      writes = omega (arith, c.loop-row.invariant.writes, c.write_values.ensures.cause.0);
+      writes = omega (arith, c.loop-row.invariant.writes, c.write_stored.ensures.cause.0);
       sure = λ sure. (c.read_slab.ensures.sure (c.loop-row.invariant.sure sure)).1;
     }
-
-pub read_slab-requires-clause-raster : goal.read_slab-requires-clause-raster
-read_slab-requires-clause-raster g c =
-    let ns = c.args.h.now.shape in
-    let Serves : List ℕ → Type 0 = λ s. IsRaster s c.raster-layout.result in
-    subst Serves (sym c.with_rows.ensures)
-    (layout_of_slab ns c.min-here.result c.raster-layout.result c.dims-dims.ensures.shape.some_dimension c.dims-dims.ensures.shape.four_at_most (omega (arith, c.min-here.ensures, c.rows_of-all.ensures)) c.raster-layout.ensures)

@@ -1,0 +1,280 @@
+-- The lines of an array whose values are kept in the order of blocks.
+use Rattle.std.proofs.Common.{◌≡◌, refl, sym, ap, subst, ◌∙◌, ℕ, zero, suc, ◌+◌, ◌-◌, ◌*◌, ◌/◌, ◌%◌, ◌<◌, ◌≤◌, ◌^◌, ◌⊎◌, ⊎_elim, min, ℤ, pos, List, [], ◌∷◌, ◌++◌, length, get_or, map, take, drop, replicate, mod-eq_of_lt, mul-le-mul_left, arith, ext_get_or, length-drop, lit≤}
+use Rattle.std.proofs.Math.Nat.{add-mul-mod_self_left, add-mul-div_left, div-eq_of_lt, div-add-mod, mul-mod_right, mul-le-mul_right, le-mul_of_pos_right}
+use Rattle.std.proofs.lemmas.Bool.{cases_lt}
+use Rattle.std.proofs.lemmas.Nat.{div_below}
+use Rattle.std.proofs.lemmas.List.{length-map, get_or-take, get_or-drop, get_or-append_right, length-take-le, take-append-le, take-map, drop-map, map-append}
+use Rattle.std.proofs.Math.ListN.{get_or-append}
+use Rattle.std.proofs.Math.Seq.{take-take}
+use Rattle.zf_spec.specs.Grid.{IsShape, product, coordinates, raster, extents, max_values}
+use Rattle.zf_spec.proofs.Counting.{get_or-map-upto}
+use Rattle.zf_spec.proofs.Raster.{length-coordinates, length-extents}
+use Rattle.zf_base.proofs.Boxes.{product-append_ones, raster-append_zeros, coordinates-append_ones, extents-append_ones}
+use Rattle.zf_base.proofs.Sizes.{axes-with_unused, all_axes, product-axes}
+use Rattle.zf_pad.specs.Stored.{start_at, stored_index, raster_of, line_len, other_sizes, IsLine, LinePart}
+
+-- ---- along four axes
+
+map-zeros : (f : ℕ → ℕ) (ps : List ℕ) (k : ℕ) → f 0 ≡ 0 → map f (ps ++ replicate k 0) ≡ map f ps ++ replicate k 0
+map-zeros f [] zero e = refl
+map-zeros f [] (suc k) e = rw (e, map-zeros f [] k e)
+map-zeros f (p ∷ ps) k e = rw (map-zeros f ps k e)
+
+start_at-append_ones : (ns cs : List ℕ) (k : ℕ) → length cs ≡ length ns → start_at (ns ++ replicate k 1) (cs ++ replicate k 0) ≡ start_at ns cs
+start_at-append_ones [] [] zero e = refl
+start_at-append_ones [] [] (suc k) e = omega (arith, start_at-append_ones [] [] k refl)
+start_at-append_ones [] (c ∷ cs) k e = absurd (omega arith)
+start_at-append_ones (n ∷ ns) [] k e = absurd (omega arith)
+start_at-append_ones (n ∷ ns) (c ∷ cs) k e =
+    let long : length cs ≡ length ns = omega arith in
+    ap (λ v. 4 * c * v + n * start_at (ns ++ replicate k 1) (cs ++ replicate k 0)) (ap product (extents-append_ones ns cs k long) ∙ product-append_ones (extents ns cs) k)
+    ∙ ap (λ s. 4 * c * product (extents ns cs) + n * s) (start_at-append_ones ns cs k long)
+
+stored_index-append_ones : (ns ps : List ℕ) (k : ℕ) → length ps ≡ length ns → stored_index (ns ++ replicate k 1) (ps ++ replicate k 0) ≡ stored_index ns ps
+stored_index-append_ones ns ps k e =
+    let cs = map (λ p. p / 4) ps in
+    let is = map (λ p. p % 4) ps in
+    let long : length cs ≡ length ns = length-map ps (λ p. p / 4) ∙ e in
+    let count : length is ≡ length (extents ns cs) = length-map ps (λ p. p % 4) ∙ e ∙ sym (length-extents ns cs long) in
+    ap (λ ds. start_at (ns ++ replicate k 1) ds + raster (extents (ns ++ replicate k 1) ds) (map (λ p. p % 4) (ps ++ replicate k 0))) (map-zeros (λ p. p / 4) ps k refl)
+    ∙ ap (λ js. start_at (ns ++ replicate k 1) (cs ++ replicate k 0) + raster (extents (ns ++ replicate k 1) (cs ++ replicate k 0)) js) (map-zeros (λ p. p % 4) ps k refl)
+    ∙ ap (λ es. start_at (ns ++ replicate k 1) (cs ++ replicate k 0) + raster es (is ++ replicate k 0)) (extents-append_ones ns cs k long)
+    ∙ ap (λ s. s + raster (extents ns cs ++ replicate k 1) (is ++ replicate k 0)) (start_at-append_ones ns cs k long)
+    ∙ ap (λ r. start_at ns cs + r) (raster-append_zeros (extents ns cs) (replicate k 1) is k count)
+
+-- the sizes along four axes
+sizes_are : (ns : List ℕ) → length ns ≤ 4 → line_len ns ∷ other_sizes ns ≡ ns ++ replicate (4 - length ns) 1
+sizes_are ns four = axes-with_unused 1 ns four
+
+pub all_sizes : (ns : List ℕ) → length ns ≤ 4 → line_len ns * product (other_sizes ns) ≡ product ns
+all_sizes ns four = product-axes ns four
+
+index_by_four : (ns : List ℕ) (k : ℕ) → length ns ≤ 4
+    → stored_index ns (coordinates ns k) ≡ stored_index (line_len ns ∷ other_sizes ns) (coordinates (line_len ns ∷ other_sizes ns) k)
+index_by_four ns k four =
+    let m = 4 - length ns in
+    sym (ap (λ ms. stored_index ms (coordinates ms k)) (sizes_are ns four)
+    ∙ ap (stored_index (ns ++ replicate m 1)) (coordinates-append_ones ns m k)
+    ∙ stored_index-append_ones ns (coordinates ns k) m (length-coordinates ns k))
+
+-- ---- a line
+
+-- the lines along x are no more than the values
+pub others_fit : (ns : List ℕ) → IsShape ns → product (other_sizes ns) ≤ max_values
+others_fit ns shape =
+    let some = all_axes (λ n. 1 ≤ n) ns shape.four_at_most (lit≤ tt) shape.not_zero in
+    omega (arith, le-mul_of_pos_right {m = line_len ns} (product (other_sizes ns)) some.0, all_sizes ns shape.four_at_most, shape.not_too_large)
+
+pub along_fits : (n p first lines : ℕ) → p < n → 4 * (p / 4) * lines + n * first + min 4 (n - 4 * (p / 4)) * lines ≤ n * (first + lines)
+along_fits n p first lines lt =
+    let within : 4 * (p / 4) + min 4 (n - 4 * (p / 4)) ≤ n = omega (arith, lt) in
+    omega (arith, mul-le-mul_right lines within)
+
+-- where a line has its value at x
+abbrev pub place_on : ℕ → ℕ → ℕ → ℕ → ℕ → ℕ
+place_on n first lines line x = 4 * (x / 4) * lines + n * first + (x % 4 + min 4 (n - 4 * (x / 4)) * line)
+
+module _ (n : ℕ) (ns ps : List ℕ) (first lines line x : ℕ) (h : IsLine ns ps first lines line) where
+  line_place : stored_index (n ∷ ns) (x ∷ ps) ≡ place_on n first lines line x
+  line_place =
+      let cs = map (λ p. p / 4) ps in
+      let r = raster (extents ns cs) (map (λ p. p % 4) ps) in
+      sym (ap (λ s. place_on n s lines line x) h.first_is ∙ ap (λ v. place_on n (start_at ns cs) v line x) h.lines_are ∙ ap (λ i. place_on n (start_at ns cs) (product (extents ns cs)) i x) h.line_is)
+
+  -- with one axis more
+  pub line_along : (first' lines' line' : ℕ) → first' ≡ 4 * (x / 4) * lines + n * first → lines' ≡ min 4 (n - 4 * (x / 4)) * lines → line' ≡ x % 4 + min 4 (n - 4 * (x / 4)) * line
+      → IsLine (n ∷ ns) (x ∷ ps) first' lines' line'
+  line_along first' lines' line' first_is lines_are line_is = record {
+    first_is = first_is ∙ ap (λ v. 4 * (x / 4) * v + n * first) h.lines_are ∙ ap (λ s. 4 * (x / 4) * product (extents ns (map (λ p. p / 4) ps)) + n * s) h.first_is;
+    lines_are = lines_are ∙ ap (λ v. min 4 (n - 4 * (x / 4)) * v) h.lines_are;
+    line_is = line_is ∙ ap (λ i. x % 4 + min 4 (n - 4 * (x / 4)) * i) h.line_is;
+  }
+
+pub no_axes : IsLine [] [] 0 1 0
+no_axes = record { first_is = refl; lines_are = refl; line_is = refl }
+
+-- the value with a raster number
+pub value_on_line : (ns : List ℕ) (stored : List ℤ) (k first lines line : ℕ) → length ns ≤ 4 → k < product ns → IsLine (other_sizes ns) (coordinates (other_sizes ns) (k / line_len ns)) first lines line
+    → get_or (raster_of ns stored) k (pos 0) ≡ get_or stored (place_on (line_len ns) first lines line (k % line_len ns)) (pos 0)
+value_on_line ns stored k first lines line four lt h =
+    get_or-map-upto (λ i. get_or stored (stored_index ns (coordinates ns i)) (pos 0)) (product ns) k (pos 0) lt
+    ∙ ap (λ i. get_or stored i (pos 0))
+    (index_by_four ns k four ∙ line_place (line_len ns) (other_sizes ns) (coordinates (other_sizes ns) (k / line_len ns)) first lines line (k % line_len ns) h)
+
+-- ---- values beside one another on a line
+
+-- so many places on, where the line does not end before
+pub record SameLine (n k i : ℕ) : Type 0 where
+  pub x_is : (k + i) % n ≡ k % n + i
+  pub line_is : (k + i) / n ≡ k / n
+
+pub same_line : (n k i : ℕ) → k % n + i < n → SameLine n k i
+same_line n k i lt =
+    let some : 0 < n = omega arith in
+    let is : k + i ≡ (k % n + i) + n * (k / n) = omega (arith, div-add-mod k n) in
+    record {
+      x_is = ap (λ j. j % n) is ∙ add-mul-mod_self_left (k % n + i) n (k / n) ∙ mod-eq_of_lt lt;
+      line_is = ap (λ j. j / n) is ∙ add-mul-div_left (k % n + i) (k / n) some ∙ ap (λ q. q + k / n) (div-eq_of_lt lt) ∙ omega arith;
+    }
+
+-- what comes behind whole blocks of a line, or behind all of it, is the first of its block
+pub next_first : (n k count : ℕ) → k % n % 4 ≡ 0 → k % n + count ≤ n → (count % 4 ≡ 0) ⊎ (k % n + count ≡ n) → (k + count) % n % 4 ≡ 0
+next_first n k count first within whole =
+    ⊎_elim
+    (λ (lt : k % n + count < n).
+    let same = same_line n k count lt in
+    ⊎_elim (λ (fours : count % 4 ≡ 0). omega (arith, same.x_is, fours, first)) (λ (all : k % n + count ≡ n). absurd (omega (arith, lt, all))) whole)
+    (λ (ge : n ≤ k % n + count).
+    let is : k + count ≡ n * (k / n + 1) = omega (arith, div-add-mod k n, within, ge) in
+    ap (λ j. j % 4) (ap (λ j. j % n) is ∙ mul-mod_right n (k / n + 1)))
+    (cases_lt (k % n + count) n)
+
+module _ (n first lines line x all : ℕ) (begins : x % 4 ≡ 0) (below : line < lines) (fits : n * (first + lines) ≤ all) where
+  -- the values of a whole block
+  pub block_place : (b k : ℕ) → k < 4 → x + (4 * b + 4) ≤ n → place_on n first lines line (x + (4 * b + k)) ≡ n * first + x * lines + 4 * line + b * (4 * lines) + k
+  block_place b k small within =
+      let q : 4 * ((x + (4 * b + k)) / 4) ≡ x + 4 * b = omega (arith, begins, small) in
+      let r : (x + (4 * b + k)) % 4 ≡ k = omega (arith, begins, small) in
+      let e : min 4 (n - (x + 4 * b)) ≡ 4 = omega (arith, within) in
+      ap (λ c. c * lines + n * first + ((x + (4 * b + k)) % 4 + min 4 (n - c) * line)) q
+      ∙ ap (λ j. (x + 4 * b) * lines + n * first + (j + min 4 (n - (x + 4 * b)) * line)) r
+      ∙ ap (λ m. (x + 4 * b) * lines + n * first + (k + m * line)) e
+      ∙ omega arith
+
+  pub block_within : (b : ℕ) → x + (4 * b + 4) ≤ n → n * first + x * lines + 4 * line + b * (4 * lines) + 4 ≤ all
+  block_within b within = omega (arith, mul-le-mul_right lines within, below, fits)
+
+  -- and those of the last one, of which fewer exist
+  pub rest_place : (b rest k : ℕ) → k < rest → rest < 4 → x + (4 * b + rest) ≡ n → place_on n first lines line (x + (4 * b + k)) ≡ n * first + x * lines + 4 * b * lines + rest * line + k
+  rest_place b rest k small few is =
+      let q : 4 * ((x + (4 * b + k)) / 4) ≡ x + 4 * b = omega (arith, begins, small, few) in
+      let r : (x + (4 * b + k)) % 4 ≡ k = omega (arith, begins, small, few) in
+      let e : min 4 (n - (x + 4 * b)) ≡ rest = omega (arith, is, few) in
+      ap (λ c. c * lines + n * first + ((x + (4 * b + k)) % 4 + min 4 (n - c) * line)) q
+      ∙ ap (λ j. (x + 4 * b) * lines + n * first + (j + min 4 (n - (x + 4 * b)) * line)) r
+      ∙ ap (λ m. (x + 4 * b) * lines + n * first + (k + m * line)) e
+      ∙ omega arith
+
+  pub rest_within : (b rest : ℕ) → x + (4 * b + rest) ≤ n → n * first + x * lines + 4 * b * lines + rest * line + rest ≤ all
+  rest_within b rest within =
+      let up : line + 1 ≤ lines = omega (arith, below) in
+      omega (arith, mul-le-mul_right lines within, mul-le-mul_left rest up, fits)
+
+-- the number of a line is below the number of lines
+pub line_below : (ns : List ℕ) (n from : ℕ) → IsShape ns → n ≡ line_len ns → from < product ns → from / n < product (other_sizes ns)
+line_below ns n from shape is lt =
+    let some = all_axes (λ m. 1 ≤ m) ns shape.four_at_most (lit≤ tt) shape.not_zero in
+    div_below from n (product (other_sizes ns)) (omega (arith, is, some.0)) (omega (arith, lt, all_sizes ns shape.four_at_most, ap (λ m. m * product (other_sizes ns)) is))
+
+-- a line ends within the values
+pub line_end : (ns : List ℕ) (from count : ℕ) → IsShape ns → from < product ns → from % line_len ns + count ≤ line_len ns → from + count ≤ product ns
+line_end ns from count shape lt within =
+    let n = line_len ns in
+    let q_below = line_below ns n from shape refl lt in
+    let up : from / n + 1 ≤ product (other_sizes ns) = omega (arith, q_below) in
+    omega (arith, div-add-mod from n, mul-le-mul_left n up, all_sizes ns shape.four_at_most, within)
+
+module _ (ns : List ℕ) (from count n first lines line : ℕ) (h : LinePart ns from count n first lines line) where
+  x_is : from % line_len ns ≡ from % n
+  x_is = ap (λ m. from % m) (sym h.n_is)
+
+  pub part_begins : from % n % 4 ≡ 0
+  part_begins = omega (arith, x_is, h.begins)
+
+  pub part_within : from % n + count ≤ n
+  part_within = omega (arith, x_is, h.within, h.n_is)
+
+  pub all_within : n * (first + lines) ≤ product ns
+  all_within = omega (arith, mul-le-mul_left n h.fits, all_sizes ns h.shape.four_at_most, ap (λ m. m * product (other_sizes ns)) h.n_is)
+
+  rest_ends : (k : ℕ) → k < count % 4 → from % n + (4 * (count / 4) + count % 4) ≡ n
+  rest_ends k lt = ⊎_elim (λ (fours : count % 4 ≡ 0). absurd (omega (arith, lt, fours))) (λ (all : from % line_len ns + count ≡ line_len ns). omega (arith, all, x_is, h.n_is)) h.whole
+
+  -- all of these numbers are small
+  pub numbers_small : n * first + from % n * lines + 4 * line < 2 ^ 40
+  numbers_small =
+      let x_below : from % n ≤ n = omega (arith, part_within) in
+      omega (arith, all_within, h.shape.not_too_large, mul-le-mul_right lines x_below, h.below, h.fits, others_fit ns h.shape)
+
+  pub blocks_there : (b : ℕ) → b < count / 4 → n * first + from % n * lines + 4 * line + b * (4 * lines) + 4 ≤ product ns
+  blocks_there b lt = block_within n first lines line (from % n) (product ns) part_begins h.below all_within b (omega (arith, lt, part_within))
+
+  pub rest_there : n * first + from % n * lines + 4 * (count / 4) * lines + count % 4 * line + count % 4 ≤ product ns
+  rest_there = rest_within n first lines line (from % n) (product ns) part_begins h.below all_within (count / 4) (count % 4) (omega (arith, part_within))
+
+  pub blocks_small : n * first + from % n * lines + 4 * line + count / 4 * (4 * lines) < 2 ^ 41
+  blocks_small = omega (arith, numbers_small, rest_there, h.shape.not_too_large)
+
+  -- a value of the line
+  value_there : (stored : List ℤ) (i : ℕ) → i < count → get_or (raster_of ns stored) (from + i) (pos 0) ≡ get_or stored (place_on n first lines line (from % n + i)) (pos 0)
+  value_there stored i lt =
+      let same = same_line n from i (omega (arith, lt, part_within)) in
+      let small : from + i < product ns = omega (arith, line_end ns from count h.shape h.before h.within, lt) in
+      let Line : ℕ → Type 0 = λ k. IsLine (other_sizes ns) (coordinates (other_sizes ns) k) first lines line in
+      let here : IsLine (other_sizes ns) (coordinates (other_sizes ns) ((from + i) / line_len ns)) first lines line = subst Line (sym (ap (λ m. (from + i) / m) (sym h.n_is) ∙ same.line_is)) h.is in
+      value_on_line ns stored (from + i) first lines line h.shape.four_at_most small here
+      ∙ ap (λ m. get_or stored (place_on m first lines line ((from + i) % m)) (pos 0)) (sym h.n_is)
+      ∙ ap (λ x. get_or stored (place_on n first lines line x) (pos 0)) same.x_is
+
+  pub block_value : (stored : List ℤ) (b k : ℕ) → b < count / 4 → k < 4
+      → get_or (raster_of ns stored) (from + (4 * b + k)) (pos 0) ≡ get_or stored (n * first + from % n * lines + 4 * line + b * (4 * lines) + k) (pos 0)
+  block_value stored b k lt small =
+      value_there stored (4 * b + k) (omega (arith, lt, small))
+      ∙ ap (λ i. get_or stored i (pos 0)) (block_place n first lines line (from % n) (product ns) part_begins h.below all_within b k small (omega (arith, lt, part_within)))
+
+  pub rest_value : (stored : List ℤ) (k : ℕ) → k < count % 4
+      → get_or (raster_of ns stored) (from + (4 * (count / 4) + k)) (pos 0) ≡ get_or stored (n * first + from % n * lines + 4 * (count / 4) * lines + count % 4 * line + k) (pos 0)
+  rest_value stored k lt =
+      value_there stored (4 * (count / 4) + k) (omega (arith, lt))
+      ∙ ap (λ i. get_or stored i (pos 0))
+      (rest_place n first lines line (from % n) (product ns) part_begins h.below all_within (count / 4) (count % 4) k lt (omega arith) (rest_ends k lt))
+
+-- ---- what is copied
+
+-- some values were copied to places beside one another, and those before are as they were
+pub rest_copied : {X : Type 0} (f : X → ℤ) (from to count : ℕ) (source old new : List X) → from + count ≤ length source → to + count ≤ length old
+    → new ≡ take to old ++ (take count (drop from source) ++ drop (to + count) old)
+    → ((i : ℕ) → i < to → get_or (map f new) i (pos 0) ≡ get_or (map f old) i (pos 0)) × ((k : ℕ) → k < count → get_or (map f new) (to + k) (pos 0) ≡ get_or (map f source) (from + k) (pos 0))
+rest_copied {X} f from to count source old new there room is =
+    let vs = map f source in
+    let us = map f old in
+    let rest = take count (drop from vs) ++ drop (to + count) us in
+    let parts : map f new ≡ take to us ++ rest = ap (map f) is ∙ simp (map-append, take-map, drop-map) in
+    let prefix : length (take to us) ≡ to = length-take-le to us (omega (arith, length-map old f, room)) in
+    let some : length (take count (drop from vs)) ≡ count = length-take-le count (drop from vs) (omega (arith, length-drop from vs, length-map source f, there)) in (
+      λ i lt. ap (λ (l : List ℤ). get_or l i (pos 0)) parts ∙ get_or-append (take to us) rest (pos 0) i (omega (arith, prefix, lt)) ∙ get_or-take to us i (pos 0) lt,
+      λ k lt.
+          let back : to + k - to ≡ k = omega arith in
+          ap (λ (l : List ℤ). get_or l (to + k) (pos 0)) parts
+          ∙ get_or-append_right (take to us) rest to (to + k) (pos 0) prefix (omega arith)
+          ∙ ap (λ i. get_or rest i (pos 0)) back
+          ∙ get_or-append (take count (drop from vs)) (drop (to + count) us) (pos 0) k (omega (arith, some, lt))
+          ∙ get_or-take count (drop from vs) k (pos 0) lt ∙ get_or-drop from vs k (pos 0),
+    )
+
+-- what stands before a place stays where values are put behind it
+pub front_stays : {X : Type 0} (to at : ℕ) (old rest new : List X) → to ≤ at → at ≤ length old → new ≡ take at old ++ rest → take to new ≡ take to old
+front_stays {X} to at old rest new before within is =
+    ap (take to) is ∙ take-append-le to (take at old) rest (omega (arith, length-take-le at old within, before)) ∙ take-take to at old before
+
+-- ---- values so far
+
+-- the next values of a list
+pub taken_more : (xs values : List ℤ) (from held count : ℕ) → take held xs ≡ take held (drop from values) → ((i : ℕ) → i < count → get_or xs (held + i) (pos 0) ≡ get_or values (from + held + i) (pos 0))
+    → held + count ≤ length xs → from + held + count ≤ length values → take (held + count) xs ≡ take (held + count) (drop from values)
+taken_more xs values from held count before more room within =
+    let m = held + count in
+    let long : length (take m xs) ≡ m = length-take-le m xs room in
+    let as_long : length (take m (drop from values)) ≡ m = length-take-le m (drop from values) (omega (arith, length-drop from values, within)) in
+    ext_get_or (pos 0) (take m xs) (take m (drop from values)) (long ∙ sym as_long)
+    (λ i lt.
+    let small : i < m = omega (arith, lt, long) in
+    get_or-take m xs i (pos 0) small
+    ∙ ⊎_elim
+    (λ (l : i < held). sym (get_or-take held xs i (pos 0) l) ∙ ap (λ (zs : List ℤ). get_or zs i (pos 0)) before ∙ get_or-take held (drop from values) i (pos 0) l)
+    (λ (l : held ≤ i).
+    let place : held + (i - held) ≡ i = omega arith in
+    let there : from + held + (i - held) ≡ from + i = omega arith in
+    ap (λ j. get_or xs j (pos 0)) (sym place) ∙ more (i - held) (omega (arith, small, l)) ∙ ap (λ j. get_or values j (pos 0)) there ∙ sym (get_or-drop from values i (pos 0)))
+    (cases_lt i held)
+    ∙ sym (get_or-take m (drop from values) i (pos 0) small))

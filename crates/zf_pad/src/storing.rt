@@ -1,0 +1,316 @@
+//! The values of an array in the order of blocks: of each block those that exist, and the blocks in order.
+//! They grow block by block, so no room is written for blocks that are not there yet.
+
+ghost use Rattle.std.specs.Prelude.{◌≡◌, ◌⊎◌, ◌+◌, ◌-◌, ◌*◌, ◌/◌, ◌%◌, ◌^◌, ◌<◌, ◌≤◌, ◌++◌, min, ℕ, true, pos, length, map, take, drop, replicate, slice_index_or, vec_len, vec_capacity};
+ghost use Rattle.zf_spec.specs.Grid.{product, blocks, coordinates, extent_of, max_values};
+ghost use Rattle.zf_base.specs.Positions.{used_axes, IsExtent};
+ghost use Rattle.zf_pad.specs.Stored.{HasWholeBlocks, AppendsBlock, raster_of, line_len, other_sizes, IsFirst, IsLine, LinePart};
+
+use crate::array_block::part_of;
+use crate::copies::{copy_row, scatter};
+use crate::layout::Layout;
+use crate::padding::is_whole;
+use zf_base::{Extent, Lane, Pos, Shape};
+
+/// Whether no size of an array cuts a block.
+pub fn has_whole_blocks(shape: &Shape) -> bool
+    ensures { result ≡ true → HasWholeBlocks shape.now }
+{
+    for axis in 0..shape.dims() {
+        if shape.size(axis) % 4 != 0 {
+            return false;
+        }
+    }
+    true
+}
+
+/// Puts the values that exist of block `b` behind those of the blocks before it. `whole` is what [`has_whole_blocks`]
+/// says of the array, so that it is asked once.
+///
+/// `block` has `4^d` values, x fastest; those at places that do not exist are not looked at. The room was taken
+/// before, so there is no want of memory.
+#[inline]
+pub fn append_block<T: Lane>(shape: &Shape, whole: bool, b: u64, block: &[T], stored: &mut Vec<T>)
+    requires known { whole ≡ true → HasWholeBlocks shape.now }
+    requires in_array { b < blocks shape.now }
+    requires whole { length block.now ≡ 4 ^ length shape.now }
+    requires room { vec_len stored.old + product (extent_of shape.now b) ≤ vec_capacity stored.old }
+    ensures block { AppendsBlock (extent_of shape.now b)
+        (map T.value block.now) (map T.value stored.old.items) (map T.value stored.new.items) }
+    ensures capacity { vec_capacity stored.old ≤ vec_capacity stored.new }
+{
+    let d = shape.dims();
+    if whole {
+        append_whole(d, block, stored);
+        return;
+    }
+    let e = part_of(shape, b);
+    if is_whole(&e.size, d) {
+        append_whole(d, block, stored);
+    } else {
+        append_part(&e, d, block, stored);
+    }
+}
+
+// Appends all values of a block.
+#[inline]
+fn append_whole<T: Lane>(d: u8, block: &[T], stored: &mut Vec<T>)
+    requires whole { length block.now ≡ 4 ^ d }
+    requires room { vec_len stored.old + length block.now ≤ vec_capacity stored.old }
+    ensures items { stored.new.items ≡ stored.old.items ++ block.now }
+    ensures capacity { vec_capacity stored.old ≤ vec_capacity stored.new }
+{
+    if d == 1 {
+        // four, so that the copy needs no call
+        append(&block[..4], stored);
+    } else {
+        append(block, stored);
+    }
+}
+
+// Appends values to a list that has room for them.
+#[inline]
+fn append<T: Lane>(values: &[T], stored: &mut Vec<T>)
+    requires room { vec_len stored.old + length values.now ≤ vec_capacity stored.old }
+    ensures items { stored.new.items ≡ stored.old.items ++ values.now }
+    ensures capacity { vec_capacity stored.old ≤ vec_capacity stored.new }
+{
+    match stored.extend_from_slice(values) {
+        Ok(()) => {}
+        Err(_) => unreachable!(),
+    }
+}
+
+// Appends the values of a block that exist, x fastest.
+fn append_part<T: Lane>(e: &Extent, d: u8, block: &[T], stored: &mut Vec<T>)
+    requires four_at_most { d ≤ 4 }
+    requires extent { IsExtent d e.now }
+    requires whole { length block.now ≡ 4 ^ d }
+    requires room { vec_len stored.old + product (used_axes d e.now.size) ≤ vec_capacity stored.old }
+    ensures block { AppendsBlock (used_axes d e.now.size)
+        (map T.value block.now) (map T.value stored.old.items) (map T.value stored.new.items) }
+    ensures capacity { vec_capacity stored.old ≤ vec_capacity stored.new }
+{
+    let Pos { x, y, z, w } = e.size;
+    // The box of the values that exist, behind those that are there.
+    let layout = Layout {
+        start: stored.len() as u64,
+        step: Pos {
+            x: 1,
+            y: x,
+            z: x * y,
+            w: x * y * z,
+        },
+    };
+    let part = Extent {
+        origin: Pos {
+            x: 0,
+            y: 0,
+            z: 0,
+            w: 0,
+        },
+        size: e.size,
+    };
+    grow((x * y * z * w) as usize, stored);
+    scatter(&layout, &part, d, block, stored);
+}
+
+// Appends so many zeros to a list that has room for them.
+fn grow<T: Lane>(count: usize, stored: &mut Vec<T>)
+    requires room { vec_len stored.old + count ≤ vec_capacity stored.old }
+    ensures len { vec_len stored.new ≡ vec_len stored.old + count }
+    ensures prefix { take (vec_len stored.old) stored.new.items ≡ stored.old.items }
+    ensures capacity { vec_capacity stored.old ≤ vec_capacity stored.new }
+{
+    let all = stored.len() + count;
+    match stored.resize(all, T::zero()) {
+        Ok(()) => {}
+        Err(_) => unreachable!(),
+    }
+}
+
+/// Copies values of an array that are kept in the order of blocks to `part`, in raster order, from raster number
+/// `from` on, and answers how many. At least one is copied, and as many as fit, but for three at most.
+///
+/// `stored` are all of the array's. `from` is the first of its block along x, and so is what comes next.
+pub fn copy_lines<T: Lane>(shape: &Shape, stored: &[T], from: u64, part: &mut [T]) -> usize
+    requires all { product shape.now ≤ length stored.now }
+    requires within { from < product shape.now }
+    requires first { IsFirst shape.now from }
+    requires room { 4 ≤ length part.old }
+    ensures some { 1 ≤ result }
+    ensures room { result ≤ length part.new }
+    ensures within { from + result ≤ product shape.now }
+    ensures first { IsFirst shape.now (from + result) }
+    ensures values { map T.value (take result part.new)
+        ≡ take result (drop from (raster_of shape.now (map T.value stored.now))) }
+{
+    // tells that the sizes are a shape's, so lines end within the values
+    let _dims = shape.dims();
+    let n = shape.size(0);
+    let left = (shape.values() - from) as usize;
+    let mut held = 0;
+    while held < left && held + 4 <= part.len() {
+        let at = from + held as u64;
+        let count = next_count(n - at % n, part.len() - held);
+        copy_line(shape, stored, at, held, count, part);
+        held += count;
+    }
+    held
+}
+
+// How many values of a line are copied at once: all that are left of it, or as many whole blocks as there is room for.
+fn next_count(left: u64, room: usize) -> usize
+    requires some { 1 ≤ left }
+    requires room { 4 ≤ room }
+    ensures some { 1 ≤ result }
+    ensures left { result ≤ left }
+    ensures room { result ≤ room }
+    ensures whole { (result % 4 ≡ 0) ⊎ (result ≡ left) }
+{
+    let whole = room / 4 * 4;
+    if left <= whole as u64 {
+        left as usize
+    } else {
+        whole
+    }
+}
+
+// Copies values of one line to the places from `to` on: those from raster number `from` on.
+fn copy_line<T: Lane>(
+    shape: &Shape,
+    stored: &[T],
+    from: u64,
+    to: usize,
+    count: usize,
+    part: &mut [T],
+)
+    requires all { product shape.now ≤ length stored.now }
+    requires within { from < product shape.now }
+    requires line { from % line_len shape.now + count ≤ line_len shape.now }
+    requires first { IsFirst shape.now from }
+    requires whole { (count % 4 ≡ 0) ⊎ (from % line_len shape.now + count ≡ line_len shape.now) }
+    requires room { to + count ≤ length part.old }
+    ensures before { take to part.new ≡ take to part.old }
+    ensures values { (i : ℕ) → i < count → slice_index_or (map T.value part.new) (to + i) (pos 0)
+        ≡ slice_index_or (raster_of shape.now (map T.value stored.now)) (from + i) (pos 0) }
+{
+    let (n, line) = line_at(shape, from, count);
+    let x = from % n;
+    let Line { first, lines, line } = line;
+    let start = n * first + x * lines;
+    let blocks = count / 4;
+    let rest = count % 4;
+    copy_blocks(
+        stored,
+        (start + 4 * line) as usize,
+        4 * lines as usize,
+        to,
+        blocks,
+        part,
+    );
+    // What is left of the line's last block, in which lines are shorter.
+    let last = start + (4 * blocks) as u64 * lines + rest as u64 * line;
+    copy_rest(stored, last as usize, to + 4 * blocks, rest, part);
+}
+
+// Copies so many rows of four, each so far behind the one before, to places beside one another.
+#[inline]
+fn copy_blocks<T: Lane>(
+    stored: &[T],
+    from: usize,
+    step: usize,
+    to: usize,
+    blocks: usize,
+    part: &mut [T],
+)
+    requires there { (b : ℕ) → b < blocks → from + b * step + 4 ≤ length stored.now }
+    requires small { from + blocks * step < 2 ^ 64 }
+    requires room { to + 4 * blocks ≤ length part.old }
+    ensures before { take to part.new ≡ take to part.old }
+    ensures rows { (b k : ℕ) → b < blocks → k < 4 → slice_index_or (map T.value part.new) (to + (4 * b + k)) (pos 0)
+        ≡ slice_index_or (map T.value stored.now) (from + b * step + k) (pos 0) }
+{
+    let mut at = from;
+    for b in 0..blocks {
+        copy_row(stored, at, part, to + 4 * b);
+        at += step;
+    }
+}
+
+// Copies so many values that stand beside one another.
+#[inline]
+fn copy_rest<T: Lane>(stored: &[T], from: usize, to: usize, count: usize, part: &mut [T])
+    requires there { from + count ≤ length stored.now }
+    requires room { to + count ≤ length part.old }
+    ensures { part.new ≡ take to part.old ++ (take count (drop from stored.now) ++ drop (to + count) part.old) }
+{
+    part[to..to + count].copy_from_slice(&stored[from..from + count]);
+}
+
+// Of a line, the values that differ in x alone: how many lines the layers of blocks before its own have, how many its own
+// layer has, and which of them it is.
+#[derive(Clone, Copy)]
+struct Line {
+    first: u64,
+    lines: u64,
+    line: u64,
+}
+
+// How many values a line has, and the line of the value with raster number `from`, of which `count` are wanted.
+#[inline]
+fn line_at(shape: &Shape, from: u64, count: usize) -> (u64, Line)
+    requires within { from < product shape.now }
+    requires line { from % line_len shape.now + count ≤ line_len shape.now }
+    requires first { IsFirst shape.now from }
+    requires whole { (count % 4 ≡ 0) ⊎ (from % line_len shape.now + count ≡ line_len shape.now) }
+    ensures { LinePart shape.now from count result.0 result.1.first result.1.lines result.1.line }
+{
+    // tells that the sizes are a shape's, so their products fit
+    let _dims = shape.dims();
+    let n = shape.size(0);
+    let line = line_of(shape, from / n);
+    (n, line)
+}
+
+// The line with this number.
+fn line_of(shape: &Shape, number: u64) -> Line
+    requires { number < product (other_sizes shape.now) }
+    ensures line { IsLine (other_sizes shape.now) (coordinates (other_sizes shape.now) number)
+        result.first result.lines result.line }
+    ensures below { result.line < result.lines }
+    ensures fits { result.first + result.lines ≤ product (other_sizes shape.now) }
+{
+    // tells that the sizes are a shape's, so their products fit
+    let _dims = shape.dims();
+    let (ny, nz, nw) = (shape.size(1), shape.size(2), shape.size(3));
+    let all = Line {
+        first: 0,
+        lines: 1,
+        line: 0,
+    };
+    let y = number % ny;
+    let z = number / ny % nz;
+    let w = number / ny / nz % nw;
+    along(along(along(all, nw, w), nz, z), ny, y)
+}
+
+// The same of one axis more, of `n` positions, at `p`.
+fn along(inner: Line, n: u64, p: u64) -> Line
+    requires inside { p < n }
+    requires below { inner.line < inner.lines }
+    requires fits { n * (inner.first + inner.lines) ≤ max_values }
+    ensures first { result.first ≡ 4 * (p / 4) * inner.lines + n * inner.first }
+    ensures lines { result.lines ≡ min 4 (n - 4 * (p / 4)) * inner.lines }
+    ensures line { result.line ≡ p % 4 + min 4 (n - 4 * (p / 4)) * inner.line }
+    ensures below { result.line < result.lines }
+    ensures fits { result.first + result.lines ≤ n * (inner.first + inner.lines) }
+{
+    let start = 4 * (p / 4);
+    let here = (n - start).min(4);
+    Line {
+        first: start * inner.lines + n * inner.first,
+        lines: here * inner.lines,
+        line: p % 4 + here * inner.line,
+    }
+}

@@ -1,0 +1,92 @@
+use Rattle.std.proofs.Common.{◌≡◌, ℕ, ◌+◌, ◌≤◌, ℤ, List, ◌++◌, map, length, take, drop, sym, ap, subst, ◌∙◌, take-append-drop, arith}
+use Rattle.std.proofs.lemmas.List.{take_all, take-map, length-map}
+use Rattle.std.specs.Prelude.{OnOk, OnErr}
+use Rattle.std.proofs.Math.Seq.{take-add}
+use Rattle.std.specs.Int.{Width}
+use Rattle.zf_spec.specs.Grid.{product}
+use Rattle.zf_spec.specs.Stream.{raw}
+use Rattle.zf_pad.specs.Stored.{raster_of}
+use Rattle.zf_pad.proofs.Stored.{length-raster_of, raster_of_one}
+use Rattle.zf_dev.specs.Sink.{Appends, AppendsPrefix}
+use Rattle.zf_dev.proofs.Appending.{Appends-append, AppendsPrefix-append, AppendsPrefix-more}
+use Rattle.zf_stream.proofs.OnErrors.{on_err}
+use Rattle.zf_stream.proofs.RawValues.{raw-append}
+use Rattle.zf_stream.proofs.writing.write_stored.Goals as goal
+
+-- the bytes of some values more
+bytes_more : (w : Width) (values : List ℤ) (at n : ℕ) → raw w (take at values) ++ raw w (take n (drop at values)) ≡ raw w (take (at + n) values)
+bytes_more w values at n = sym (ap (raw w) (take-add at n values) ∙ raw-append w (take at values) (take n (drop at values)))
+
+-- and of all that are left
+bytes_all : (w : Width) (values : List ℤ) (at n : ℕ) → (raw w (take at values) ++ raw w (take n (drop at values))) ++ raw w (drop (at + n) values) ≡ raw w values
+bytes_all w values at n =
+    ap (λ (bs : List ℕ). bs ++ raw w (drop (at + n) values)) (bytes_more w values at n)
+    ∙ sym (ap (raw w) (sym (take-append-drop (at + n) values)) ∙ raw-append w (take (at + n) values) (drop (at + n) values))
+
+pub returns-in_err-write_values-clause-err : goal.returns-in_err-write_values-clause-err
+returns-in_err-write_values-clause-err g c = on_err c.from_residual.result _ (
+    let w = g.T.Lane.width in
+    let values = raster_of c.args.shape.now (map g.T.Lane.value c.args.stored.now) in
+    let at = c.loop-at.at in
+    let n = c.copy_lines-count.result in
+    let from = g.O.Sink.contents c.args.out.now in
+    let mid = g.O.Sink.contents c.loop-at.out in
+    let to = g.O.Sink.contents c.write_values-in-loop-at.new.out in
+    let Of : List ℤ → Type 0 = λ vs. AppendsPrefix mid to (raw w vs) in
+    let P : List ℕ → Type 0 = λ bs. AppendsPrefix from to bs in
+    let here = subst Of c.copy_lines-count.ensures.values c.in_err-write_values.ensures.err in
+    let prefix = raw w (take at values) in
+    let next = raw w (take n (drop at values)) in
+    subst P (bytes_all w values at n)
+    (AppendsPrefix-more from to (prefix ++ next) (raw w (drop (at + n) values)) (AppendsPrefix-append from mid to prefix next c.loop-at.invariant.written here)))
+
+pub loop-at-preserved : goal.loop-at-preserved
+loop-at-preserved g c =
+    let w = g.T.Lane.width in
+    let values = raster_of c.args.shape.now (map g.T.Lane.value c.args.stored.now) in
+    let at = c.loop-at.at in
+    let n = c.copy_lines-count.result in
+    let from = g.O.Sink.contents c.args.out.now in
+    let mid = g.O.Sink.contents c.loop-at.out in
+    let to = g.O.Sink.contents c.write_values-in-loop-at.new.out in
+    let Of : List ℤ → Type 0 = λ vs. Appends mid to (raw w vs) in
+    let P : List ℕ → Type 0 = λ bs. Appends from to bs in
+    let here = subst Of c.copy_lines-count.ensures.values c.in_ok-write_values.ensures.ok in
+    record {
+      within = c.copy_lines-count.ensures.within;
+      first = c.copy_lines-count.ensures.first;
+      written = subst P (bytes_more w values at n) (Appends-append from mid to (raw w (take at values)) (raw w (take n (drop at values))) c.loop-at.invariant.written here);
+      same_sink = c.write_values-in-loop-at.ensures.same_sink ∙ c.loop-at.invariant.same_sink;
+      faults = omega (arith, c.loop-at.invariant.faults, c.write_values-in-loop-at.ensures.cause.0);
+    }
+
+pub returns-clause-ok : goal.returns-clause-ok
+returns-clause-ok g c =
+    let w = g.T.Lane.width in
+    let ns = c.args.shape.now in
+    let values = raster_of ns (map g.T.Lane.value c.args.stored.now) in
+    let from = g.O.Sink.contents c.args.out.now in
+    let to = g.O.Sink.contents c.loop-at.out in
+    let P : List ℤ → Type 0 = λ vs. Appends from to (raw w vs) in
+    let long : length values ≤ c.loop-at.at = omega (arith, length-raster_of ns (map g.T.Lane.value c.args.stored.now), c.loop-at-test.false, c.values-all.ensures.value) in
+    subst P (take_all c.loop-at.at values long) c.loop-at.invariant.written
+
+-- in one dimension they stand in raster order
+in_order : {X : Type 0} (w : Width) (value : X → ℤ) (ns : List ℕ) (stored : List X) (dims all : ℕ) → dims ≡ length ns → dims ≡ 1 → all ≡ product ns → product ns ≤ length stored
+    → raw w (map value (take all stored)) ≡ raw w (raster_of ns (map value stored))
+in_order w value ns stored dims all is one all_is within =
+    let vs = map value stored in
+    ap (raw w)
+    (sym (take-map value all stored) ∙ ap (λ k. take k vs) all_is ∙ sym (raster_of_one ns vs (sym is ∙ one) (omega (arith, length-map stored value, within))))
+
+pub returns-then-dims-eq1-clause-ok : goal.returns-then-dims-eq1-clause-ok
+returns-then-dims-eq1-clause-ok g c =
+    let P : List ℕ → Type 0 = λ bs. OnOk c.write_values.result (Appends (g.O.Sink.contents c.args.out.now) (g.O.Sink.contents c.write_values.new.out) bs) in
+    subst P (in_order g.T.Lane.width g.T.Lane.value c.args.shape.now c.args.stored.now c.dims.result c.values-all.result c.dims.ensures.value c.if-dims-eq1.true c.values-all.ensures.value c.requires.all)
+    c.write_values.ensures.ok
+
+pub returns-then-dims-eq1-clause-err : goal.returns-then-dims-eq1-clause-err
+returns-then-dims-eq1-clause-err g c =
+    let P : List ℕ → Type 0 = λ bs. OnErr c.write_values.result (AppendsPrefix (g.O.Sink.contents c.args.out.now) (g.O.Sink.contents c.write_values.new.out) bs) in
+    subst P (in_order g.T.Lane.width g.T.Lane.value c.args.shape.now c.args.stored.now c.dims.result c.values-all.result c.dims.ensures.value c.if-dims-eq1.true c.values-all.ensures.value c.requires.all)
+    c.write_values.ensures.err
