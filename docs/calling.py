@@ -43,11 +43,11 @@ CALLS = [
     (
         "Arrays",
         "zf_array",
-        ["new", "from_file", "get", "set", "add", "flush", "discard", "set_lines", "resize", "save_bytes"],
+        ["new", "open", "from_file", "get", "set", "add", "flush", "discard", "set_lines", "resize", "save_bytes"],
     ),
-    ("Arrays that are only read", "zf_const", ["from_file", "get", "block", "set_lines"]),
+    ("Arrays that are only read", "zf_const", ["open", "from_file", "get", "block", "set_lines"]),
     ("Windows", "zf_window", ["whole", "new", "slice"]),
-    ("Views", "zf_view", ["new", "bind", "get", "set", "elem", "run_mut"]),
+    ("Views", "zf_view", ["new", "bind", "get", "set", "sum", "elem", "run", "run_mut"]),
 ]
 
 

@@ -88,6 +88,7 @@ def declared():
             re.findall(r"\b(?:struct|enum|trait|type|const|static|mod|ghost|macro_rules!) (\w+)", text)
         )
         names.update(re.findall(r"^\s+(?:pub )?(\w+):", text, re.M))
+        names.update(re.findall(r"^pub use [\w:]+ as (\w+);", text, re.M))
         names.update(re.findall(r"^\s+([A-Z]\w*)(?:\(|,| \{|$)", text, re.M))
         names.update(
             word for literal in re.findall(r'"([^"\n]*)"', text) for word in re.findall(r"\w+", literal)

@@ -17,7 +17,8 @@ ghost use Rattle.zf_cached.specs.Arrays.{open_array, new_array, saved_file};
 ghost use Rattle.zf_parse.specs.Parsing.{parse};
 ghost use Rattle.zf_parse.specs.ReadStreams.{IsFault};
 ghost use Rattle.zf_store.specs.Stored.{file_of, zeros};
-ghost use Rattle.zf_store.specs.Files.{HasHeader, IsOpened, stream_fault};
+ghost use Rattle.zf_index.specs.Files.{stream_fault};
+ghost use Rattle.zf_store.specs.Files.{HasHeader, IsOpened};
 ghost use Rattle.zf_array.specs.Standing.{stored, format, state, array_of, shape, block_at, place_at};
 ghost use Rattle.zf_array.specs.Coded.{HasEmptyLines, IsCoded, coded};
 
@@ -107,9 +108,7 @@ impl<T: Lane, const D: usize> Array<T, D> {
     {
         let store = Store::from_file(alloc, h, &file)?;
         let blocks = h.shape.blocks();
-        let Ok(cache) = Cache::for_blocks(alloc, raised(lines), blocks) else {
-            return Err(StoreFault::Memory);
-        };
+        let cache = Cache::for_blocks(alloc, raised(lines), blocks)?;
         Ok(Array {
             alloc,
             store,

@@ -3,8 +3,10 @@
 
 mod array;
 mod codes;
+mod opening;
 #[cfg(test)]
 mod tests;
 
 pub use array::Array;
 pub use codes::Codes;
+pub use zf_index::OpenFault;

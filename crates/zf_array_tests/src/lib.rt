@@ -9,6 +9,8 @@ mod const_array;
 #[cfg(test)]
 mod lines;
 #[cfg(test)]
+mod opening;
+#[cfg(test)]
 mod private;
 #[cfg(test)]
 mod store;

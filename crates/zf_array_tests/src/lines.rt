@@ -4,7 +4,9 @@ ghost use Rattle.std.specs.Prelude.{◌≡◌, ◌≤◌, ◌<◌, ◌^◌, leng
 ghost use Rattle.zf_lines.specs.Rows.{HasSize};
 
 use std::alloc::{AllocError, Global};
+use std::fs;
 use std::process::Abort;
+use std::rt::Files;
 use std::test::Fail;
 use zf_lines::Lines;
 
@@ -123,5 +125,29 @@ fn lines_of_every_size(rt: HostRuntime) -> Result<(), Fail> {
         let none = Lines::new(rt.alloc(), 0, len, -1i32)?;
         drop(none);
     }
+    Ok(())
+}
+
+// How many pages of memory the process has: the first number that the system says of it.
+fn pages(rt: &(impl Files + AllocGlobal)) -> Result<u64, Fail> {
+    let text = fs::read_to_string(rt, "/proc/self/statm")?;
+    let word = text.as_str().split(' ').next().ok_or("a word")?;
+    Ok(word.parse::<u64>().ok().ok_or("a number")?)
+}
+
+// 512 times lines of 2 MiB, one after the other. Where they leak, the process has 262144 pages more afterwards; what an allocator
+// keeps for a while of what it is given back is less than half of it.
+#[test]
+fn dropped_lines_give_their_memory_back(rt: HostRuntime) -> Result<(), Fail> {
+    let before = pages(&rt)?;
+    for round in 0..512i64 {
+        let lines = Lines::new(rt.alloc(), 4096, 64, round)?;
+        assert_eq!(rt; lines.line(4095).len(), 64);
+    }
+    let after = pages(&rt)?;
+    assert!(rt;
+        after < before.saturating_add(131072),
+        "{before} pages, then {after}"
+    );
     Ok(())
 }

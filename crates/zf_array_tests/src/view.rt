@@ -10,7 +10,7 @@ use std::process::Abort;
 use std::test::Fail;
 use zf_array::Array;
 use zf_base::{Extent, Pos, Shape};
-use zf_view::{BlockIter, View, ViewFault, Window};
+use zf_view::{BlockIter, ElemMut, View, ViewFault, Window};
 
 fn at(x: u64, y: u64) -> Pos {
     Pos { x, y, z: 0, w: 0 }
@@ -326,5 +326,41 @@ fn runs_and_values_are_lent(rt: HostRuntime) -> Result<(), Fail> {
     raise(&rt, &mut array, 3, 5);
     assert!(rt; value(&rt, &mut array, 4) == 14);
     assert!(rt; counts_are(&array, 14, 2));
+    Ok(())
+}
+
+// Whether the values from place `x` of the window on are these, as far as one block and the window go.
+fn shows(rt: &impl Abort, array: &mut Array<i32, 1>, x: u64, values: &[i32]) -> bool {
+    let part = six_places(rt, array);
+    let p = place(x);
+    assert!(rt; part.contains(p));
+    let mut view = View::bind(array, part);
+    view.run(p) == values
+}
+
+fn sum(rt: &impl Abort, array: &mut Array<i32, 1>) -> i128 {
+    let part = six_places(rt, array);
+    View::bind(array, part).sum()
+}
+
+fn add_at(rt: &impl Abort, array: &mut Array<i32, 1>, x: u64, v: i32) {
+    let p = place(x);
+    assert!(rt; array.shape().contains(p));
+    ElemMut::bind(array, p).add(v);
+}
+
+#[test]
+fn windows_are_summed_and_read(rt: HostRuntime) -> Result<(), Fail> {
+    let shape = Shape::new(1, 8, 1, 1, 1).ok().ok_or("a shape")?;
+    assert!(rt; shape.dims() == 1);
+    let mut array = Array::<i32, 1>::new(rt.alloc(), shape, 64, 2)?;
+    for (x, v) in [(0, 100), (1, 5), (3, -2), (4, 7), (6, 1), (7, 100)] {
+        add_at(&rt, &mut array, x, v);
+    }
+    assert!(rt; shows(&rt, &mut array, 0, &[5, 0, -2]));
+    assert!(rt; shows(&rt, &mut array, 3, &[7, 0, 1]));
+    assert!(rt; shows(&rt, &mut array, 4, &[0, 1]));
+    assert!(rt; sum(&rt, &mut array) == 11);
+    assert!(rt; counts_are(&array, 13, 2));
     Ok(())
 }

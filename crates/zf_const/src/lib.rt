@@ -5,5 +5,7 @@ mod array;
 mod codes;
 mod index;
 pub mod laws;
+mod opening;
 
 pub use array::ConstArray;
+pub use zf_index::OpenFault;

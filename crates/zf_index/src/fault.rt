@@ -2,8 +2,10 @@
 
 use std::alloc::AllocError;
 use thiserror::Error;
+use zf_base::Ty;
+use zf_header::{HeaderFault, Mode};
 
-/// Why a file with a good header has no index.
+/// Why the codes of a file with a good header are not all there, or are not taken.
 #[derive(Clone, Copy, Debug, PartialEq, Eq, Error)]
 pub enum IndexFault {
     /// The code of this block is the first that ends too early. It is the number of blocks where only fill bits are missing.
@@ -28,5 +30,47 @@ impl From<AllocError> for IndexFault {
 
     fn from(_e: AllocError) -> IndexFault {
         IndexFault::Memory
+    }
+}
+
+/// Why a file was not opened as an array of a type of values and a number of dimensions. The first that holds, in this order.
+#[derive(Clone, Copy, Debug, PartialEq, Eq, Error)]
+pub enum OpenFault {
+    /// It does not begin with a header that is read.
+    #[error("{0}")]
+    Header(HeaderFault),
+    /// Its values are of this type, which is another one.
+    #[error("the values are of the other type")]
+    Ty(Ty),
+    /// It has this number of dimensions, which is another one.
+    #[error("it has {0} dimensions")]
+    Dims(u8),
+    /// Its mode is this one, which has no fixed rate.
+    #[error("its codes have no fixed rate")]
+    Mode(Mode),
+    /// What follows the header is not its codes, or there was no memory.
+    #[error("{0}")]
+    Codes(IndexFault),
+}
+
+impl From<HeaderFault> for OpenFault {
+    ghost use Rattle.std.specs.Prelude.{◌≡◌};
+    ghost use Rattle.zf_index.specs.declared.fault.OpenFault.TheVariants.{Header};
+
+    ghost from_gives = { λ e fault. fault ≡ Header e };
+
+    fn from(e: HeaderFault) -> OpenFault {
+        OpenFault::Header(e)
+    }
+}
+
+impl From<IndexFault> for OpenFault {
+    ghost use Rattle.std.specs.Prelude.{◌≡◌};
+    ghost use Rattle.zf_index.specs.declared.fault.OpenFault.TheVariants.{Codes};
+
+    ghost from_gives = { λ e fault. fault ≡ Codes e };
+
+    fn from(e: IndexFault) -> OpenFault {
+        OpenFault::Codes(e)
     }
 }

@@ -3,9 +3,11 @@
 
 mod fault;
 mod index;
+mod opening;
 mod span;
 mod walk;
 
-pub use fault::IndexFault;
+pub use fault::{IndexFault, OpenFault};
 pub use index::{Chunked, Spans, Verbatim};
+pub use opening::{header_of_array, header_of_stream};
 pub use span::Span;

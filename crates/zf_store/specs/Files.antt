@@ -1,15 +1,11 @@
--- What a file says, and why it says nothing.
+-- What a file says.
 use Rattle.std.specs.Prelude.{ℕ, ◌≡◌, ℤ, List, map, length, None, Ok}
 use Rattle.zf_spec.specs.Grid.{blocks, upto}
 use Rattle.zf_base.specs.Formats.{meant}
 use Rattle.zf_header.specs.declared.header.Header.{Header}
 use Rattle.zf_header.specs.HeaderBits.{IsRate, rate_bytes_of}
 use Rattle.zf_header.specs.HeaderFaults.{header_fault}
-use Rattle.zf_parse.specs.declared.fault.StreamFault.{StreamFault}
-use Rattle.zf_parse.specs.declared.fault.StreamFault.TheVariants as stream
 use Rattle.zf_parse.specs.Parsing.{Said, header_of, values_of_blocks, parse}
-use Rattle.zf_store.specs.declared.fault.StoreFault.{StoreFault}
-use Rattle.zf_store.specs.declared.fault.StoreFault.TheVariants.{Truncated, Pad, Trailing, Memory}
 use Rattle.zf_store.specs.Stored.{Stored, code_at, format_of, file_of}
 
 -- the bytes begin with this header, which has a rate
@@ -33,10 +29,3 @@ pub record IsOpened (bytes : List ℕ) (h : Header) (s : Stored) : Type 0 where
   pub size : length bytes ≡ rate_bytes_of h
   pub said_is : parse bytes ≡ Ok (said s)
   pub file : file_of s ≡ bytes
-
--- a fault of a store as one of a stream
-abbrev pub stream_fault : StoreFault → StreamFault
-stream_fault (Truncated b) = stream.Truncated b
-stream_fault Pad = stream.Pad
-stream_fault Trailing = stream.Trailing
-stream_fault Memory = stream.Memory

@@ -9,7 +9,8 @@ ghost use Rattle.zf_header.specs.HeaderBits.{IsRate, block_bits, header_bits, ra
 ghost use Rattle.zf_header.specs.HeaderFaults.{header_fault};
 ghost use Rattle.zf_parse.specs.Parsing.{header_of, parse};
 ghost use Rattle.zf_parse.specs.declared.fault.StreamFault.TheVariants as stream;
-ghost use Rattle.zf_store.specs.Files.{HasHeader, stream_fault};
+ghost use Rattle.zf_index.specs.Files.{stream_fault};
+ghost use Rattle.zf_store.specs.Files.{HasHeader};
 ghost use Rattle.zf_store.specs.Words.{all_bits, IsWholeFile};
 
 use crate::StoreFault;

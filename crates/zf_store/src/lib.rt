@@ -3,10 +3,9 @@
 //! Each block has as many bits, 1 to 32768, so blocks may share words.
 #![tactic(auto)]
 
-mod fault;
 mod file;
 mod store;
 mod words;
 
-pub use fault::StoreFault;
 pub use store::Store;
+pub use zf_index::IndexFault as StoreFault;

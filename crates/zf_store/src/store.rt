@@ -10,7 +10,8 @@ ghost use Rattle.zf_header.specs.HeaderBits.{IsRate, rate_bytes_of};
 ghost use Rattle.zf_parse.specs.Parsing.{parse};
 ghost use Rattle.zf_parse.specs.ReadStreams.{IsFault};
 ghost use Rattle.zf_store.specs.Stored.{IsStore, file_of, zeros};
-ghost use Rattle.zf_store.specs.Files.{HasHeader, IsOpened, stream_fault};
+ghost use Rattle.zf_index.specs.Files.{stream_fault};
+ghost use Rattle.zf_store.specs.Files.{HasHeader, IsOpened};
 ghost use Rattle.zf_store.specs.Words.{IsWholeFile, all_bits, with_codes};
 
 use crate::StoreFault;
@@ -90,10 +91,8 @@ impl<T: Lane, const D: usize> Store<T, D> {
         ensures fault { IfErr result (λ e. IsFault (parse file.now) (stream_fault e)) }
     {
         check_file(h, file)?;
-        match Store::of_whole_file(alloc, h, file) {
-            Ok(store) => Ok(store),
-            Err(_) => Err(StoreFault::Memory),
-        }
+        let store = Store::of_whole_file(alloc, h, file)?;
+        Ok(store)
     }
 
     // The codes of a whole file.

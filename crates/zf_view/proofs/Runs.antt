@@ -1,21 +1,23 @@
 -- A run of positions of a window along x: its values stand side by side in one block of the array.
 use Rattle.std.proofs.Common.{◌≡◌, ℕ, ◌+◌, ◌-◌, ◌*◌, ◌/◌, ◌%◌, ◌^◌, ◌<◌, ◌≤◌, ℤ, Bool, true, ltb, ltb-true, lt-ltb, List, [], ◌∷◌, map, length, take, drop, get_or, refl, ap, sym, subst, ◌∙◌, arith}
 use Rattle.std.proofs.lemmas.Bool.{and_parts, and_from}
+use Rattle.std.proofs.lemmas.List.{length-map, length-take-le, length-drop}
 use Rattle.zf_spec.specs.Grid.{grid, raster, fours, is_inside}
 use Rattle.zf_base.specs.declared.position.Pos.{Pos}
 use Rattle.zf_base.specs.Positions.{used_axes, with_unused, IsPosition}
 use Rattle.zf_base.specs.Places.{block_number, place_of, IsAt}
 use Rattle.zf_base.specs.Formats.{existing_of}
+use Rattle.zf_base.proofs.Formats.{length-existing_of, existing_of-existing_of}
 use Rattle.zf_base.proofs.Extents.{length-used_axes, used_axes-with_unused}
 use Rattle.zf_base.proofs.Places.{IsAt-position}
 use Rattle.zf_cached.specs.State.{State}
-use Rattle.zf_cached.specs.Touch.{touch_for_writing, with_values}
+use Rattle.zf_cached.specs.Touch.{touch, touch_for_writing, soiled, with_values}
 use Rattle.zf_cached.specs.Windows.{Window, LiesIn, stepped, mapped}
 use Rattle.zf_cached.specs.Arrays.{array_format}
 use Rattle.zf_cached.proofs.Windows.{length-mapped}
 use Rattle.zf_array.specs.Standing.{Held, format, state, array_of, shape, block_at, place_at}
 use Rattle.zf_array.specs.Loans.{spliced, with_part}
-use Rattle.zf_array.proofs.Lent.{found_there, ends_there, state_there}
+use Rattle.zf_array.proofs.Lent.{found_there, ends_there, state_there, part_is, spliced_exists, part_spliced}
 use Rattle.zf_window.specs.Positions.{position_at, x_step, run_length}
 use Rattle.zf_view.specs.Runs.{along_x, AreBeside, run_found, run_changed, with_run}
 use Rattle.zf_window.proofs.Positions.{four_axes, position_at-inside}
@@ -157,6 +159,35 @@ module _ (a : Held) (w : Window) (p : Pos) (lies : LiesIn (shape a) w) (at : IsP
         → state (with_run a (position_at w p) vs) ≡ run_changed a (position_at w p) vs
     run_state vs size e =
         ap (λ s. state (array_of a.header s)) (sym (changed_is vs size)) ∙ state_there a t b k n ys head is long shows within exist_there vs size e ∙ changed_is vs size
+
+  -- ---- the run is the n values from place k of block b on, of which a touch shows this row
+  module _ {X : Type 0} (value : X → ℤ) (row : List X) (b k n : ℕ) (eb : b ≡ block_at a (position_at w p)) (ek : k ≡ place_at a (position_at w p)) (en : n ≡ run_length w p)
+      (whole : length row ≡ 4 ^ length (shape a)) (shows : existing_of (format a) b (map value row) ≡ (touch (format a) (state a) b).values b) where
+    row_whole : length row ≡ (format a).block_len
+    row_whole = whole ∙ sym len_is
+
+    row_within : k + n ≤ (format a).block_len
+    row_within = subst (λ m. k + n ≤ m) (sym len_is) (omega (arith, ek, en, run_within))
+
+    part_long : length (take n (drop k row)) ≡ n
+    part_long = length-take-le n (drop k row) (omega (arith, length-drop k row, row_whole, row_within))
+
+    pub run_long : length (take n (drop k row)) ≡ run_length w p
+    run_long = part_long ∙ en
+
+    pub run_seen : map value (take n (drop k row)) ≡ run_found a (position_at w p) (run_length w p)
+    unfolding touch_for_writing soiled
+    run_seen =
+        let f = format a in
+        let vs = existing_of f b (map value row) in
+        let ys = map value (take n (drop k row)) in
+        let long : length ys ≡ n = length-map (take n (drop k row)) value ∙ part_long in
+        let room : k + n ≤ length vs = omega (arith, length-existing_of f b (map value row), row_within) in
+        let same : spliced vs k n ys ≡ vs =
+        sym (spliced_exists f b vs k n ys (existing_of-existing_of f b (map value row)) long row_within (λ j lt. (λ i. f.exists (eb i) (ek i + j)) ∙ exist j (omega (arith, lt, en))))
+        ∙ part_is value f b row k n row_whole row_within in
+        sym (part_spliced vs k n ys long room) ∙ ap (λ (xs : List ℤ). take n (drop k xs)) (same ∙ shows)
+        ∙ (λ i. take (en i) (drop (ek i) ((touch (format a) (state a) (eb i)).values (eb i))))
 
 pub header_run : (a : Held) (q : Pos) (vs : List ℤ) → (with_run a q vs).header ≡ a.header
 unfolding array_of

@@ -3,9 +3,11 @@
 --     Touches       what a call on an array does at a position
 --     ViewLoans     what a view is once a loan of its array has ended
 --     Runs          a run of values along x that a view lends
+--     Sums          sums of the values of a window, by one touch a value
 --     Elems         what an iterator over the values of a view keeps, and what its steps do
 pub mod BlockItems
 pub mod Touches
 pub mod ViewLoans
 pub mod Runs
+pub mod Sums
 pub mod Elems

@@ -8,6 +8,7 @@ use Rattle.zf_cached.specs.Windows.{Window}
 use Rattle.zf_array.specs.Standing.{Held, format, state, array_of, block_at, place_at}
 use Rattle.zf_array.specs.Loans.{spliced}
 use Rattle.zf_window.specs.Positions.{position_at}
+use Rattle.zf_view.specs.Touches.{touched_at}
 
 -- the position k further along x
 abbrev pub along_x : Pos → ℕ → Pos
@@ -19,7 +20,7 @@ pub record AreBeside (a : Held) (w : Window) (p : Pos) (n : ℕ) : Type 0 where
   pub block : (k : ℕ) → k < n → block_at a (position_at w (along_x p k)) ≡ block_at a (position_at w p)
   pub place : (k : ℕ) → k < n → place_at a (position_at w (along_x p k)) ≡ place_at a (position_at w p) + k
 
--- the n values from position q of the array on that a touch for writing finds
+-- the n values from position q of the array on that a touch finds, for writing or not
 abbrev pub run_found : Held → Pos → ℕ → List ℤ
 run_found a q n = take n (drop (place_at a q) ((touch_for_writing (format a) (state a) (block_at a q)).values (block_at a q)))
 
@@ -28,6 +29,10 @@ abbrev pub run_changed : Held → Pos → List ℤ → State (List Bool)
 run_changed a q vs =
     let t = touch_for_writing (format a) (state a) (block_at a q) in
     with_values t (block_at a q) (spliced (t.values (block_at a q)) (place_at a q) (length vs) vs)
+
+-- the array after a touch at position q
+abbrev pub with_touch : Held → Pos → Held
+with_touch a q = array_of a.header (touched_at a q)
 
 -- the array of that state
 abbrev pub with_run : Held → Pos → List ℤ → Held

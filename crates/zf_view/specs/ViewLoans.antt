@@ -1,6 +1,7 @@
 -- What a view is once a loan of its array has ended.
-use Rattle.std.specs.Prelude.{ℕ, List, [], map}
-use Rattle.std.specs.Borrow.{Fml, RattleType, MutBor, Array, Lends, follows}
+use Rattle.std.specs.Prelude.{◌≡◌, ℕ, List, [], map, ⊤}
+use Rattle.std.specs.Borrow.{Fml, RattleType, MutBor, Array, Lends, follows, follows_so}
+use mathlib.Core.Option.{none}
 use mir.Syntax.{named, w64}
 use mir.Val.{number_of}
 use denote.Memory.{lone}
@@ -12,7 +13,7 @@ use Rattle.zf_array.specs.Standing.{Held}
 use Rattle.zf_array.specs.Loans.{with_value}
 use Rattle.zf_array.specs.contracts.array.Array as array
 use Rattle.zf_window.specs.Positions.{position_at}
-use Rattle.zf_view.specs.Runs.{with_run}
+use Rattle.zf_view.specs.Runs.{with_run, with_touch}
 use Rattle.zf_view.specs.declared.view.View.{View}
 use Rattle.zf_view.specs.declared.view.ElemMut.{ElemMut}
 use Rattle.zf_view.specs.contracts.view.View as view
@@ -31,6 +32,12 @@ module _ (R D : RattleType) (lane : Lane.Ghosts R.Denot) (eq : PartialEq.Ghosts 
   -- the array behind v is the last one behind r. Its lifetime is the second of the signature
   abbrev pub EndsWithArray : MutBor (View R.Denot (number_of w64 (lone D.mir))) → MutBor Held → Fml
   EndsWithArray v r = follows (view.the_row (record { mir = named 1; lft = [] }) R D lane eq) (array.the_row R D lane eq) v.ghost_name r.ghost_name (view_of v.now)
+
+  -- a loan for reading leaves the array touched at position p of the view
+  abbrev pub EndsTouched : MutBor (View R.Denot (number_of w64 (lone D.mir))) → Pos → Fml
+  EndsTouched v p =
+      follows_so (view.the_row (record { mir = named 1; lft = [] }) R D lane eq) (view.the_row (record { mir = named 1; lft = [] }) R D lane eq) v.ghost_name none (λ _ _. ⊤)
+      (λ e. e ≡ view_of v.now (with_touch v.now.array.now (position_at v.now.window p)))
 
   -- the values from position p of the view on are the last ones written through r
   abbrev pub EndsWithRun : MutBor (View R.Denot (number_of w64 (lone D.mir))) → Pos → MutBor (List R.Denot) → Fml

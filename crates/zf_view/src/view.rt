@@ -25,8 +25,8 @@ use zf_window::Window;
 /// ```
 #[derive(Drop)]
 pub struct View<'a, T: Lane, const D: usize> {
-    array: &'a mut Array<T, D>,
-    window: Window,
+    pub(crate) array: &'a mut Array<T, D>,
+    pub(crate) window: Window,
 }
 
 impl<'a, T: Lane, const D: usize> View<'a, T, D> {
@@ -151,6 +151,21 @@ pub struct ElemMut<'a, T: Lane, const D: usize> {
 impl<'a, T: Lane, const D: usize> ElemMut<'a, T, D> {
     ghost use Rattle.zf_array.specs.Loans.{with_value};
     ghost use Rattle.zf_view.specs.ViewLoans.{EndsWithValue};
+
+    /// The value of an array at position `p`, which lies in it, as `View::elem` gives it. No touch is made yet.
+    ///
+    /// ```text
+    /// ElemMut::bind(&mut array, p).add(7);
+    /// ElemMut::bind(&mut array, q).add(7);
+    /// ```
+    pub fn bind(array: &'a mut Array<T, D>, p: Pos) -> ElemMut<'a, T, D>
+        requires { IsPosition (shape array.old) p }
+        ensures same_array { result.array.ghost_name ≡ array.entry.ghost_name }
+        ensures array { result.array.now ≡ array.old }
+        ensures position { result.position ≡ p }
+    {
+        ElemMut { array, position: p }
+    }
 
     /// The value, by one touch.
     pub fn get(&mut self) -> T

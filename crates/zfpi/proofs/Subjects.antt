@@ -12,8 +12,6 @@ use Rattle.zf_cached.specs.Replies.{Reply}
 use Rattle.zf_cached.specs.Windows.{whole}
 use Rattle.zf_cached.specs.Steps.{Setting, Session}
 use Rattle.zf_cached.specs.Runs.{lines_of, run_lines, run_script, run, look, look_setting, ended}
-use Rattle.zf_store.specs.declared.fault.StoreFault.{StoreFault}
-use Rattle.zf_store.specs.declared.fault.StoreFault.TheVariants as stores
 use Rattle.zf_store.specs.Files as store
 use Rattle.zf_store.specs.Stored.{Stored}
 use Rattle.zf_index.specs.declared.fault.IndexFault.{IndexFault}
@@ -32,7 +30,7 @@ use Rattle.zf_run.specs.Pairs.{pair_state, two_setting_of}
 use Rattle.zf_run.specs.Ends.{Completes, Halts, IsEnd, Runs, Looks, RunsTwo}
 use Rattle.zfpi.specs.declared.command.Caching.{Caching}
 use Rattle.zfpi.specs.declared.command.Access.TheVariants.{Run, Look}
-use Rattle.zfpi.specs.Faults.{fault_status, store_status, index_status}
+use Rattle.zfpi.specs.Faults.{fault_status, index_status}
 use Rattle.zfpi.specs.Scripts.{lines_for, first_lines, setting_over, ran_over, starved_over, run_file, look_answers}
 use Rattle.zfpi.specs.Subjects.{Subject, Ran}
 use Rattle.zfpi.specs.Loaded.{StandsFor, RefusesFile, IsRefused}
@@ -174,12 +172,6 @@ module _ (lines : Option ℕ) (w : Width) (bytes : List ℕ) (h : Header) (a : s
 
 -- ---- a file that is not opened
 
-RefusesFile-store : (e : StoreFault) → RefusesFile (store_status e)
-RefusesFile-store (stores.Truncated b) = tt
-RefusesFile-store stores.Pad = tt
-RefusesFile-store stores.Trailing = tt
-RefusesFile-store stores.Memory = tt
-
 RefusesFile-index : (e : IndexFault) → RefusesFile (index_status e)
 RefusesFile-index (index.Truncated b) = tt
 RefusesFile-index index.Pad = tt
@@ -187,10 +179,10 @@ RefusesFile-index index.Trailing = tt
 RefusesFile-index index.Memory = tt
 
 -- it is no array's
-pub IsRefused-array : (caching : Caching) (bytes : List ℕ) (h : Header) (e : StoreFault) → store.HasHeader bytes h → IsFault (parse bytes) (store.stream_fault e) → IsRefused (Run caching) bytes (store_status e)
+pub IsRefused-array : (caching : Caching) (bytes : List ℕ) (h : Header) (e : IndexFault) → store.HasHeader bytes h → IsFault (parse bytes) (stream.stream_fault e) → IsRefused (Run caching) bytes (index_status e)
 IsRefused-array caching bytes h e has why = record {
-  refusal = RefusesFile-store e;
-  why = elim why [ inl is ↦ inl (array_in-rate bytes h (Err (store.stream_fault e)) has.good has.header has.rate is) | inr memory ↦ inr (ap fault_status memory) ];
+  refusal = RefusesFile-index e;
+  why = elim why [ inl is ↦ inl (array_in-rate bytes h (Err (stream.stream_fault e)) has.good has.header has.rate is) | inr memory ↦ inr (ap fault_status memory) ];
 }
 
 -- it is no stream

@@ -10,9 +10,7 @@ use Rattle.zf_parse.specs.declared.fault.StreamFault.TheVariants as faults
 use Rattle.zf_narrow.specs.declared.fault.NarrowFault.{NarrowFault}
 use Rattle.zf_narrow.specs.declared.fault.NarrowFault.TheVariants.{NotNarrow, Stream}
 use Rattle.zf_index.specs.declared.fault.IndexFault.{IndexFault}
-use Rattle.zf_index.specs.Files as index
-use Rattle.zf_store.specs.declared.fault.StoreFault.{StoreFault}
-use Rattle.zf_store.specs.Files.{stream_fault}
+use Rattle.zf_index.specs.Files.{stream_fault}
 use Rattle.zfpi.specs.declared.status.Status.{Status}
 use Rattle.zfpi.specs.declared.status.Status.TheVariants as statuses
 
@@ -55,13 +53,9 @@ load_status loading.Long = statuses.FileLong
 load_status loading.Failed = statuses.LoadFault
 load_status loading.Memory = statuses.Memory
 
--- the status of a file that is no array's
-abbrev pub store_status : StoreFault → Status
-store_status e = fault_status (stream_fault e)
-
--- the status of a file that is no stream
+-- the status of a file that is no stream, or no array's
 abbrev pub index_status : IndexFault → Status
-index_status e = fault_status (index.stream_fault e)
+index_status e = fault_status (stream_fault e)
 
 -- the status of a script that was not read to its end
 abbrev pub take_status : TakeError → Status

@@ -1,7 +1,7 @@
 //! How the program ends.
 
 ghost use Rattle.std.specs.Prelude.{◌≡◌, ◌↔◌, IsTrue};
-ghost use Rattle.zfpi.specs.Faults.{fault_status, narrow_status, load_status, store_status, index_status, take_status};
+ghost use Rattle.zfpi.specs.Faults.{fault_status, narrow_status, load_status, index_status, take_status};
 ghost use Rattle.zfpi.specs.Statuses.{code_of};
 ghost use Rattle.zfpi.specs.Sending.{IsDone};
 
@@ -9,7 +9,6 @@ use zf_dev::{LoadError, TakeError};
 use zf_header::HeaderFault;
 use zf_index::IndexFault;
 use zf_narrow::NarrowFault;
-use zf_store::StoreFault;
 use zf_stream::StreamFault;
 
 /// How the program ends. Each status but `Done` has a line for the error output.
@@ -129,19 +128,6 @@ impl From<LoadError> for Status {
             LoadError::Long => Status::FileLong,
             LoadError::Failed => Status::LoadFault,
             LoadError::Memory => Status::Memory,
-        }
-    }
-}
-
-impl From<StoreFault> for Status {
-    ghost from_gives = { λ fault status. status ≡ store_status fault };
-
-    fn from(fault: StoreFault) -> Status {
-        match fault {
-            StoreFault::Truncated(block) => Status::Truncated(block),
-            StoreFault::Pad => Status::Pad,
-            StoreFault::Trailing => Status::Trailing,
-            StoreFault::Memory => Status::Memory,
         }
     }
 }

@@ -2,10 +2,14 @@
 //! of it is summed, a run is written, and the file is saved.
 #![tactic(auto)]
 
+mod fault;
 mod streams;
 #[cfg(test)]
 mod tests;
+mod views;
 mod window;
 
+pub use fault::Fault;
 pub use streams::{packed, there_and_back, unpacked};
-pub use window::{Fault, sum_and_mark};
+pub use views::{set_both, set_in_windows, zeros_and_value};
+pub use window::sum_and_mark;

@@ -3,6 +3,7 @@
 use super::*;
 use std::alloc::{AllocError, Global};
 use std::test::Fail;
+use zf_array::OpenFault;
 use zf_base::{Shape, Ty};
 use zf_header::{Header, HeaderFault, Mode};
 use zf_store::StoreFault;
@@ -27,7 +28,13 @@ fn sums_and_marks(rt: HostRuntime) -> Result<(), Fail> {
     let alloc = rt.alloc();
     let cases = [
         // the run ends with its block
-        (2, 6, 77, 64, [166, 137, 0, 0, 0, 130, 133, 0, 0, 224, 42]),
+        (
+            2,
+            6,
+            77,
+            64i64,
+            [166, 137, 0, 0, 0, 130, 133, 0, 0, 224, 42],
+        ),
         (0, 10, -1, 1184, [192, 2, 0, 0, 0, 130, 133, 0, 0, 224, 42]),
         // or with the window
         (5, 1, 500, 8, [182, 55, 0, 0, 128, 19, 166, 0, 0, 224, 42]),
@@ -44,7 +51,7 @@ fn sums_and_marks(rt: HostRuntime) -> Result<(), Fail> {
         let file = FILE.to_vec(alloc)?;
         let done = sum_and_mark(alloc, file, first, count, v);
         let (found, saved) = done.ok().ok_or("a sum")?;
-        assert_eq!(rt; found, sum);
+        assert_eq!(rt; found, i128::from(sum));
         assert_eq!(rt; saved, with_codes(alloc, &codes)?);
     }
     Ok(())
@@ -64,18 +71,23 @@ fn has_its_faults(rt: HostRuntime) -> Result<(), Fail> {
             FILE[..11].to_vec(alloc)?,
             0,
             1,
-            Fault::Header(HeaderFault::Short),
+            Fault::Open(OpenFault::Header(HeaderFault::Short)),
         ),
-        (other, 0, 1, Fault::Other),
+        (other, 0, 1, Fault::Open(OpenFault::Mode(Mode::Reversible))),
         (FILE.to_vec(alloc)?, 0, 0, Fault::View(ViewFault::Zero)),
         (FILE.to_vec(alloc)?, 9, 2, Fault::View(ViewFault::Outside)),
         (
             FILE[..24].to_vec(alloc)?,
             0,
             1,
-            Fault::Store(StoreFault::Truncated(2)),
+            Fault::Open(OpenFault::Codes(StoreFault::Truncated(2))),
         ),
-        (longer, 0, 1, Fault::Store(StoreFault::Trailing)),
+        (
+            longer,
+            0,
+            1,
+            Fault::Open(OpenFault::Codes(StoreFault::Trailing)),
+        ),
     ];
     for (file, first, count, fault) in cases {
         assert_eq!(rt;

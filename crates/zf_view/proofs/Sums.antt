@@ -1,0 +1,104 @@
+-- Sums of the values of a window, touch by touch.
+use Rattle.std.proofs.Common.{◌≡◌, ◌⊎◌, inl, inr, ◌↔◌, refl, sym, ap, subst, ◌∙◌, ℕ, zero, suc, ◌+◌, ◌*◌, ◌^◌, ◌<◌, ◌≤◌, ℤ, pos, negsuc, neg_ℤ, ◌+ℤ◌, ◌≤ℤ◌, FitsSigned, to_z, of_z, false, List, arith}
+use Rattle.std.specs.Int.{Width, w32, w64, w128}
+use Rattle.std.proofs.lemmas.Int.{ints, to_z-of_z}
+use Rattle.zf_base.specs.declared.position.Pos.{Pos}
+use Rattle.zf_base.specs.Formats.{Format}
+use Rattle.zf_cached.specs.State.{State}
+use Rattle.zf_cached.specs.Touch.{touch}
+use Rattle.zf_cached.specs.Windows.{Window}
+use Rattle.zf_cached.specs.Unwritten.{IsUnwritten}
+use Rattle.zf_cached.proofs.Caching.{touch-left_clean}
+use Rattle.zf_window.specs.Positions.{raster_at}
+use Rattle.zf_view.specs.Sums.{block_of, value_in, sum_in, touched_to, sum_found}
+
+-- ---- where nothing is dirty
+
+module _ {Code : Type 0} (codes : ℕ → Code) (values : ℕ → List ℤ) where
+  -- a touch leaves it so
+  pub touch-unwritten : (format : Format Code) (s : State Code) (a : ℕ) → IsUnwritten codes values s → IsUnwritten codes values (touch format s a)
+  touch-unwritten format s a h = record {
+    codes = (λ i b. (touch-left_clean format s a b (h.clean b)).code i) ∙ h.codes;
+    values = (λ i b. (touch-left_clean format s a b (h.clean b)).values i) ∙ h.values;
+    clean = λ b. (touch-left_clean format s a b (h.clean b)).dirty ∙ h.clean b;
+  }
+
+  pub touched_to-unwritten : (format : Format Code) (ns : List ℕ) (s : State Code) (w : Window) (n : ℕ) → IsUnwritten codes values s → IsUnwritten codes values (touched_to format ns s w n)
+  unfolding touched_to
+  touched_to-unwritten format ns s w zero h = h
+  touched_to-unwritten format ns s w (suc n) h = touch-unwritten format (touched_to format ns s w n) (block_of ns (raster_at w n)) (touched_to-unwritten format ns s w n h)
+
+-- each touch finds the value that the array had
+pub sum_found-unwritten : {Code : Type 0} (format : Format Code) (ns : List ℕ) (s : State Code) (w : Window) (n : ℕ) → IsUnwritten s.codes s.values s → sum_found format ns s w n ≡ sum_in ns s w n
+unfolding sum_found sum_in
+sum_found-unwritten format ns s w zero h = refl
+sum_found-unwritten {Code} format ns s w (suc n) h =
+    let there = touched_to-unwritten s.codes s.values format ns s w (suc n) h in
+    let value_by : (ℕ → List ℤ) → ℤ = λ vs. value_in ns (record s { values = vs }) (raster_at w n) in
+    (λ i. sum_found-unwritten format ns s w n h i +ℤ value_by (there.values i))
+
+-- so does one
+pub value_unwritten : {Code : Type 0} (format : Format Code) (ns : List ℕ) (s : State Code) (b : ℕ) (p : Pos) → IsUnwritten s.codes s.values s → value_in ns (touch format s b) p ≡ value_in ns s p
+value_unwritten format ns s b p h =
+    let value_by : (ℕ → List ℤ) → ℤ = λ vs. value_in ns (record s { values = vs }) p in
+    ap value_by (touch-unwritten s.codes s.values format s b h).values
+
+pub clean_unwritten : {Code : Type 0} (s : State Code) → ((b : ℕ) → s.dirty b ≡ false) → IsUnwritten s.codes s.values s
+clean_unwritten s clean = record { codes = refl; values = refl; clean = clean }
+
+-- ---- one value more
+
+abbrev pub IsUpTo : ℕ → ℤ → Type 0
+IsUpTo n x = (neg_ℤ (pos n) ≤ℤ x) × (x ≤ℤ pos n)
+
+fits_long : (w : Width) → (w ≡ w32) ⊎ (w ≡ w64) → (z : ℤ) → FitsSigned w z → FitsSigned w64 z
+fits_long w (inl e) (pos n) h = let f : FitsSigned w32 (pos n) = subst (λ u. FitsSigned u (pos n)) e h in let k = f.sfits in record { sfits = omega (arith, ints) }
+fits_long w (inl e) (negsuc n) h = let f : FitsSigned w32 (negsuc n) = subst (λ u. FitsSigned u (negsuc n)) e h in let k = f.sfits in record { sfits = omega (arith, ints) }
+fits_long w (inr e) z h = subst (λ u. FitsSigned u z) e h
+
+up_to : (z : ℤ) → FitsSigned w64 z → IsUpTo (2 ^ 63) z
+up_to (pos n) h = let k = h.sfits in (omega (arith, ints), omega (arith, ints))
+up_to (negsuc n) h = let k = h.sfits in (omega (arith, ints), omega (arith, ints))
+
+-- a value is one of at most 64 bits
+pub value_up_to : (w : Width) → (w ≡ w32) ⊎ (w ≡ w64) → (z : ℤ) → {P : Type 0} → P ↔ FitsSigned w z → P → IsUpTo (2 ^ 63) z
+value_up_to w two z same there = up_to z (fits_long w two z (same.0 there))
+
+up_to_fits : (s : ℤ) → IsUpTo (2 ^ 100) s → FitsSigned w128 s
+up_to_fits (pos n) h = record { sfits = omega (arith, ints, h.0, h.1) }
+up_to_fits (negsuc n) h = record { sfits = omega (arith, ints, h.0, h.1) }
+
+-- the sum of as many, and one more
+module _ (bits : ℕ) (x : ℤ) (n : ℕ) (few : n < 2 ^ 27) (sum : IsUpTo (2 ^ 63 * n) (to_z w128 bits)) (one : IsUpTo (2 ^ 63) x) where
+  pub more : IsUpTo (2 ^ 63 * (n + 1)) (to_z w128 bits +ℤ x)
+  more =
+      let on : 2 ^ 63 * (n + 1) ≡ 2 ^ 63 * n + 2 ^ 63 = omega arith in
+      (omega (arith, ints, sum.0, one.0, on), omega (arith, ints, sum.1, one.1, on))
+
+  x_is : to_z w128 (of_z w128 x) ≡ x
+  x_is = to_z-of_z w128 x (up_to_fits x (omega (arith, ints, one.0), omega (arith, ints, one.1)))
+
+  sum_fits : FitsSigned w128 (to_z w128 bits +ℤ x)
+  sum_fits = up_to_fits (to_z w128 bits +ℤ x) (let room : 2 ^ 63 * (n + 1) ≤ 2 ^ 100 = omega (arith, few) in (omega (arith, ints, more.0, room), omega (arith, ints, more.1, room)))
+
+  pub more_fits : FitsSigned w128 (to_z w128 bits +ℤ to_z w128 (of_z w128 x))
+  more_fits = subst (λ y. FitsSigned w128 (to_z w128 bits +ℤ y)) (sym x_is) sum_fits
+
+  pub more_is : to_z w128 (of_z w128 (to_z w128 bits +ℤ to_z w128 (of_z w128 x))) ≡ to_z w128 bits +ℤ x
+  more_is = to_z-of_z w128 (to_z w128 bits +ℤ to_z w128 (of_z w128 x)) more_fits ∙ ap (λ y. to_z w128 bits +ℤ y) x_is
+
+-- in a state to which the touches of the first n positions of a window lead, the touch of the next one, which leads to t and finds v
+module _ {Code Kept : Type 0} (format : Kept → Format Code) (shape : Kept → List ℕ) (k l : Kept) (same : l ≡ k) (first s t : State Code) (w : Window) (n : ℕ) (p : Pos)
+    (at : p ≡ raster_at w n) (so_far : s ≡ touched_to (format k) (shape k) first w n) (touches : t ≡ touch (format l) s (block_of (shape l) p)) where
+  pub touched_more : t ≡ touched_to (format k) (shape k) first w (n + 1)
+  unfolding touched_to
+  touched_more =
+      let on : suc n ≡ n + 1 = omega arith in
+      touches ∙ (λ i. touch (format (same i)) (so_far i) (block_of (shape (same i)) (at i))) ∙ ap (touched_to (format k) (shape k) first w) on
+
+  pub found_more : (sum v : ℤ) → sum ≡ sum_found (format k) (shape k) first w n → v ≡ value_in (shape l) t p → sum +ℤ v ≡ sum_found (format k) (shape k) first w (n + 1)
+  unfolding sum_found
+  found_more sum v is found =
+      let on : n + 1 ≡ suc n = omega arith in
+      let value = found ∙ (λ i. value_in (shape (same i)) (touched_more i) (at i)) ∙ ap (λ m. value_in (shape k) (touched_to (format k) (shape k) first w m) (raster_at w n)) on in
+      (λ i. is i +ℤ value i) ∙ ap (sum_found (format k) (shape k) first w) (sym on)

@@ -1,3 +1,0 @@
--- Lemmas on sums of windows.
---     Sums   the values of a window summed so far
-pub mod Sums
