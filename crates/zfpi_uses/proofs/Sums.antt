@@ -13,7 +13,7 @@ use Rattle.zf_cached.specs.State.{State}
 use Rattle.zf_cached.specs.Windows.{Window, LiesIn}
 use Rattle.zf_cached.proofs.Caching.{touch-left_clean}
 use Rattle.zf_array.specs.Standing.{Held, format, state, shape, block_at, place_at}
-use Rattle.zf_window.specs.Positions.{raster_at}
+use Rattle.zf_window.specs.Positions.{numbered, raster_at}
 use Rattle.zf_view.specs.Elems.{IsAtElem, GivesElem}
 use Rattle.zf_view.specs.declared.elems.ElemIter.{ElemIter}
 use Rattle.zfpi_uses.specs.Marked.{value_at, sum_of, IsOnlyRead}
@@ -85,6 +85,7 @@ module _ {X : Type 0} {n : ℕ} where
             four_axes_at_most = subst (λ (x : Window). length x.size ≤ 4) (sym step.window) at.four_axes_at_most;
             next_at_most = omega (arith, step.next, step.some_left, step.end);
             end_is = step.end ∙ at.end_is ∙ ap (λ (x : Window). product x.size) (sym step.window);
+            here_is = step.here ∙ (λ i. numbered (sym step.window i) (sym step.next i));
           };
           window = step.window ∙ so_far.window;
           read = record {
