@@ -1,10 +1,10 @@
 #!/usr/bin/env python3
 """What a call on a cached array costs, beside zfp's own cached arrays.
 
-    python3 bench/arrays.py [--count] [--runs N] [--script ZFPI] [PROGRAM]
+    python3 bench/arrays.py [--count] [--runs N] [--only ROWS] [--script ZFPI] [PROGRAM] [OTHER]
 
 PROGRAM is the built crate zfpi_bench, by default crates/zfpi_bench/out/zfpi_bench (`rt run -- int32 get row 1` in its folder builds it). It is a proved program
-that calls the library. Beside it stands the same program over zfp's arrays in C++, built by g++ -O2; Debian's libzfp-dev is needed.
+that calls the library. OTHER is another, such as one before a change, whose cost stands beside. Beside both stands the same program over zfp's arrays in C++, built by g++ -O2; Debian's libzfp-dev is needed.
 
 Both have an array of 1024x1024 values at 16 bits a value, filled with the same numbers: int32 beside float, int64 beside double. zfp's arrays hold no whole
 numbers, so its blocks cost the steps to and from floating point that ours don't have. A row is a call and an order of positions:
@@ -178,6 +178,7 @@ def built(folder):
 def main():
     asked = argparse.ArgumentParser(description=__doc__.splitlines()[0])
     asked.add_argument("program", nargs="?", default=HERE.parent / "crates/zfpi_bench/out/zfpi_bench")
+    asked.add_argument("other", nargs="?")
     asked.add_argument("--count", action="store_true")
     asked.add_argument("--runs", type=int, default=5)
     asked.add_argument("--script")
@@ -187,15 +188,18 @@ def main():
     with tempfile.TemporaryDirectory() as name:
         folder = pathlib.Path(name)
         programs = [pathlib.Path(given.program).resolve(), built(folder)]
+        if given.other:
+            programs.append(pathlib.Path(given.other).resolve())
         iterators = {}
         for type_ in ("int32", "int64"):
             for call, order, rounds, calls in ROWS:
                 if not f"{call} {order}".startswith(given.only):
                     continue
-                ours, zfp = costs(programs, [type_, call, order], rounds, calls, given.runs, given.count)
+                ours, zfp, *other = costs(programs, [type_, call, order], rounds, calls, given.runs, given.count)
                 if call == "elems":
                     iterators[type_] = zfp
-                print(f"{type_} {call:5} {order:6} {ours:8.2f} {unit}, zfp {zfp:8.2f}, ratio {ours / zfp:5.2f}", flush=True)
+                beside = f", other {other[0]:8.2f}, ratio {other[0] / zfp:5.2f}" if other else ""
+                print(f"{type_} {call:5} {order:6} {ours:8.2f} {unit}, zfp {zfp:8.2f}, ratio {ours / zfp:5.2f}{beside}", flush=True)
         if given.script:
             ours = cost_of_vsum(pathlib.Path(given.script).resolve(), folder, given.runs, given.count)
             beside = f", zfp's iterator {iterators['int64']:8.2f}, ratio {ours / iterators['int64']:5.2f}" if "int64" in iterators else ""
