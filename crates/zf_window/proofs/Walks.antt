@@ -10,7 +10,7 @@ use Rattle.zf_base.proofs.Boxes.{is_inside-coordinates, coordinates-append_ones}
 use Rattle.zf_base.proofs.Sizes.{axes-with_unused}
 use Rattle.zf_base.proofs.Extents.{length-used_axes, same_from_axes, used_axes-with_unused, IsPosition-with_unused}
 use Rattle.zf_cached.specs.Windows.{Window, mapped}
-use Rattle.zf_window.specs.Positions.{position_at, numbered, raster_at, following}
+use Rattle.zf_window.specs.Positions.{position_at, numbered, raster_at, following, IsWalk}
 use Rattle.zf_window.proofs.Axes.{sizes_four, inside-IsPosition}
 
 -- ---- one more, along an axis of n places
@@ -85,3 +85,11 @@ module _ (w : Window) (k : ℕ) (four : length w.size ≤ 4) where
       let used : used_axes (length w.size) (numbered w k) ≡ coordinates w.size k =
       ap (λ d. used_axes d (numbered w k)) (sym long) ∙ used_axes-with_unused 0 (coordinates w.size k) (omega (arith, long, four)) in
       ap (λ ps. with_unused 0 (mapped w ps)) used
+
+-- so is the next position of a walk
+module _ (w : Window) (here : Pos) (next : ℕ) (is : IsWalk w here next) (below : next < product w.size) where
+  pub walk_inside : IsPosition w.size here
+  walk_inside = subst (IsPosition w.size) (sym is.here_is) (numbered-inside w next is.four_axes_at_most below)
+
+  pub walk_position : position_at w here ≡ raster_at w next
+  walk_position = ap (position_at w) is.here_is ∙ position_at-numbered w next is.four_axes_at_most

@@ -1,5 +1,5 @@
 -- The positions of an array that the positions of a window are.
-use Rattle.std.specs.Prelude.{ℕ, ◌+◌, ◌-◌, ◌%◌, min, nat_lt, List, [], ◌∷◌, length, slice_index_or, if◌then◌else◌}
+use Rattle.std.specs.Prelude.{ℕ, ◌≡◌, ◌≤◌, ◌+◌, ◌-◌, ◌%◌, min, nat_lt, List, [], ◌∷◌, length, slice_index_or, if◌then◌else◌}
 use Rattle.zf_spec.specs.Grid.{coordinates}
 use Rattle.zf_base.specs.declared.position.Pos.{Pos}
 use Rattle.zf_base.specs.Positions.{used_axes, with_unused}
@@ -30,3 +30,13 @@ x_step w = slice_index_or w.step 0 0
 -- how many positions there are from position p of a window on along x, up to the end of the block and of the window
 abbrev pub run_length : Window → Pos → ℕ
 run_length w p = min (4 - (position_at w p).x % 4) (slice_index_or w.size 0 0 - p.x)
+
+-- a walk over the positions of a window: the number of the next one
+pub record Walking : Type 0 where
+  pub window : Window
+  pub next : ℕ
+
+-- what a walk keeps: the next position has this number
+pub record IsWalk (w : Window) (here : Pos) (next : ℕ) : Type 0 where
+  pub four_axes_at_most : length w.size ≤ 4
+  pub here_is : here ≡ numbered w next

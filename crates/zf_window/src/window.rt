@@ -117,6 +117,14 @@ impl Window {
         })
     }
 
+    /// The number of axes.
+    pub fn dims(&self) -> u8
+        ensures value { result ≡ length self.now.size }
+        ensures bound { result ≤ 4 }
+    {
+        self.dims
+    }
+
     /// Whether a position is one of the window's: each coordinate is below its size.
     pub fn contains(&self, p: Pos) -> bool
         ensures { IsTrue result ↔ IsPosition self.now.size p }
