@@ -1,6 +1,5 @@
 use Rattle.std.proofs.Common.{◌≡◌, ◌<◌, pos, Bool, List, get_or, refl, ap, sym, subst, ◌∙◌, lit<, arith}
 use Rattle.zf_spec.specs.Grid.{product}
-use Rattle.zf_base.specs.declared.position.Pos.{Pos}
 use Rattle.zf_base.specs.Positions.{IsPosition}
 use Rattle.zf_cached.specs.State.{State}
 use Rattle.zf_array.specs.Standing.{shape, block_at, place_at}
