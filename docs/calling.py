@@ -19,7 +19,7 @@ CALLS = [
     (
         "Shapes and positions",
         "zf_base",
-        ["Shape::new", "dims", "size", "values", "blocks", "contains", "place", "extent"],
+        ["Shape::new", "dims", "size", "values", "blocks", "contains", "place", "place_in", "extent"],
     ),
     ("Headers", "zf_header", ["read", "write", "mode_number", "rate_bytes"]),
     (
@@ -46,7 +46,7 @@ CALLS = [
         ["new", "open", "from_file", "get", "set", "add", "flush", "discard", "set_lines", "resize", "save_bytes"],
     ),
     ("Arrays that are only read", "zf_const", ["open", "from_file", "get", "block", "set_lines"]),
-    ("Windows", "zf_window", ["whole", "new", "slice"]),
+    ("Windows", "zf_window", ["whole", "new", "slice", "step"]),
     ("Views", "zf_view", ["new", "bind", "get", "set", "sum", "elem", "run", "run_mut"]),
 ]
 

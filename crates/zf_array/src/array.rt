@@ -118,17 +118,19 @@ impl<T: Lane, const D: usize> Array<T, D> {
     }
 
     /// The value at position `p`, which lies in the array, by one touch.
+    #[inline]
     pub fn get(&mut self, p: Pos) -> T
         requires { IsPosition (shape self.old) p }
         ensures state { state self.new ≡ touch (format self.old) (state self.old) (block_at self.old p) }
         ensures value { T.value result ≡ slice_index_or ((state self.new).values (block_at self.old p)) (place_at self.old p) (pos 0) }
         ensures header { self.new.header ≡ self.old.header }
     {
-        let (b, place) = self.store.header().shape.place(p);
+        let (b, place) = self.store.header().shape.place_in::<D>(p);
         self.cache.get(&mut self.store, b, place)
     }
 
     /// Makes the value at position `p`, which lies in the array, be `v`, by one touch for writing.
+    #[inline]
     pub fn set(&mut self, p: Pos, v: T)
         requires { IsPosition (shape self.old) p }
         ensures state { state self.new ≡ (let t = touch_for_writing (format self.old) (state self.old) (block_at self.old p) in
@@ -140,6 +142,7 @@ impl<T: Lane, const D: usize> Array<T, D> {
 
     /// Adds `v` to the value at position `p`, which lies in the array, by one touch for writing. The sum
     /// wraps.
+    #[inline]
     pub fn add(&mut self, p: Pos, v: T)
         requires { IsPosition (shape self.old) p }
         ensures state { state self.new ≡ (let t = touch_for_writing (format self.old) (state self.old) (block_at self.old p) in
@@ -154,6 +157,7 @@ impl<T: Lane, const D: usize> Array<T, D> {
 
     /// Touches position `p`, which lies in the array, for writing; its value. What is written to it is the
     /// array's value there afterwards.
+    #[inline]
     pub fn value_mut(&mut self, p: Pos) -> &mut T
         requires { IsPosition (shape self.old) p }
         ensures* writes_back { sem 𝓛 (EndsWithValue T.row D.row
@@ -166,7 +170,7 @@ impl<T: Lane, const D: usize> Array<T, D> {
             with_values t (block_at self.old p) (slice_set (t.values (block_at self.old p)) (place_at self.old p) v)) }
         ensures header { (v : ℤ) → (with_value self.old p v).header ≡ self.old.header }
     {
-        let (b, place) = self.store.header().shape.place(p);
+        let (b, place) = self.store.header().shape.place_in::<D>(p);
         self.cache.touch_mut(&mut self.store, b);
         self.cache.value_mut(b, place)
     }
@@ -206,6 +210,7 @@ impl<T: Lane, const D: usize> Array<T, D> {
 
     /// Touches block `b`, which is below the number of blocks, for writing, so that `part_mut` can lend parts
     /// of it.
+    #[inline]
     pub fn touch_mut(&mut self, b: u64)
         requires { b < blocks (shape self.old) }
         ensures state { state self.new ≡ touch_for_writing (format self.old) (state self.old) b }
@@ -216,6 +221,7 @@ impl<T: Lane, const D: usize> Array<T, D> {
     }
 
     /// The `n` values of block `b` from its place `a` on, for writing. The block is in its line and dirty.
+    #[inline]
     pub fn part_mut(&mut self, b: u64, a: usize, n: usize) -> &mut [T]
         requires dirty { (state self.old).dirty b ≡ true }
         requires within { a + n ≤ 4 ^ D }
@@ -329,6 +335,7 @@ impl<T: Lane, const D: usize> Array<T, D> {
     }
 
     /// The sizes.
+    #[inline]
     pub fn shape(&self) -> Shape
         ensures value { result ≡ shape self.now }
         ensures dims { length result ≡ D }

@@ -24,21 +24,26 @@ pub struct Extent {
 }
 
 impl Pos {
-    /// These sizes along the first axes, and 1 along the others.
-    pub(crate) fn first_axes(self, dims: u8) -> Pos
+    /// These numbers along the first axes, and `others` along the rest.
+    #[inline(always)]
+    pub(crate) fn first_axes(self, dims: u8, others: u64) -> Pos
         requires one_at_least { 1 ≤ dims }
         requires four_at_most { dims ≤ 4 }
-        ensures { result ≡ with_unused 1 (used_axes dims self) }
+        ensures { result ≡ with_unused others (used_axes dims self) }
     {
         match dims {
             1 => Pos {
                 x: self.x,
-                y: 1,
-                z: 1,
-                w: 1,
+                y: others,
+                z: others,
+                w: others,
             },
-            2 => Pos { z: 1, w: 1, ..self },
-            3 => Pos { w: 1, ..self },
+            2 => Pos {
+                z: others,
+                w: others,
+                ..self
+            },
+            3 => Pos { w: others, ..self },
             _ => self,
         }
     }
@@ -58,6 +63,7 @@ impl Pos {
     }
 
     /// The block of this position, by its coordinates among the blocks.
+    #[inline(always)]
     pub(crate) fn block(self) -> Pos
         ensures { axes result ≡ map (λ p. p / 4) (axes self) }
     {
@@ -70,6 +76,7 @@ impl Pos {
     }
 
     /// The indices of this position in its block.
+    #[inline(always)]
     pub(crate) fn indices(self) -> Pos
         ensures { axes result ≡ map (λ p. p % 4) (axes self) }
     {
@@ -91,6 +98,7 @@ impl Pos {
     }
 
     /// The number of a position of a box of these sizes, x fastest.
+    #[inline(always)]
     pub(crate) fn raster(&self, at: &Pos) -> u64
         requires inside { is_inside (axes self.now) (axes at.now) ≡ true }
         requires fits { product (axes self.now) < 2 ^ 64 }

@@ -78,7 +78,7 @@ impl Shape {
             z: nz,
             w: nw,
         }
-        .first_axes(dims);
+        .first_axes(dims, 1);
         if sizes.any_zero() {
             return Err(ShapeFault::Zero);
         }
@@ -141,6 +141,7 @@ impl Shape {
     /// array's, as `contains` tells.
     ///
     /// Blocks are numbered x fastest, and so are the `4^d` places of a block (Lindstrom 2014).
+    #[inline(always)]
     pub fn place(&self, p: Pos) -> (u64, usize)
         requires { IsPosition self.now p }
         ensures block { result.0 ≡ block_number self.now (used_axes (length self.now) p) }
@@ -150,6 +151,24 @@ impl Shape {
         let block = self.grid().raster(&p.block());
         let place = BLOCK.raster(&p.indices());
         (block, place as usize)
+    }
+
+    /// As `place`, in an array of `D` dimensions: axes that it does not use cost nothing.
+    #[inline(always)]
+    pub fn place_in<const D: usize>(&self, p: Pos) -> (u64, usize)
+        requires dims { length self.now ≡ D }
+        requires position { IsPosition self.now p }
+        ensures block { result.0 ≡ block_number self.now (used_axes (length self.now) p) }
+        ensures place { result.1 ≡ place_of (used_axes (length self.now) p) }
+        ensures at { IsAt self.now (used_axes (length self.now) p) result.0 result.1 }
+    {
+        let sizes = self.sizes;
+        let dims = D as u8;
+        let shape = Shape {
+            dims,
+            sizes: sizes.first_axes(dims, 1),
+        };
+        shape.place(p.first_axes(dims, 0))
     }
 
     /// The part of block `b` that lies in the array; `b` is below `blocks`.

@@ -80,6 +80,7 @@ impl<T: Lane, const D: usize> ConstArray<T, D> {
     }
 
     /// The value at position `p`, by one touch.
+    #[inline]
     pub fn get(&mut self, p: Pos) -> T
         requires { IsPosition (shape self.old) p }
         ensures state { state self.new ≡ touch (format self.old) (state self.old) (block_at self.old p) }
@@ -87,7 +88,7 @@ impl<T: Lane, const D: usize> ConstArray<T, D> {
         ensures header { self.new.header ≡ self.old.header }
         ensures codes { self.new.codes ≡ self.old.codes }
     {
-        let (b, place) = self.codes.header().shape.place(p);
+        let (b, place) = self.codes.header().shape.place_in::<D>(p);
         self.cache.get_read(&mut self.codes, b, place)
     }
 

@@ -140,6 +140,7 @@ impl<T: Lane, const D: usize> Store<T, D> {
     }
 
     /// The header of the file.
+    #[inline]
     pub fn header(&self) -> Header
         ensures value { result ≡ self.now.header }
         ensures whole { IsStore T.width D self.now }

@@ -4,7 +4,7 @@ use Rattle.std.specs.Iterator.{Count, at_most}
 use Rattle.zf_spec.specs.Grid.{product}
 use Rattle.zf_cached.specs.Windows.{LiesIn}
 use Rattle.zf_array.specs.Standing.{state, shape}
-use Rattle.zf_window.specs.Positions.{raster_at}
+use Rattle.zf_window.specs.Positions.{numbered, raster_at}
 use Rattle.zf_view.specs.Touches.{touched_at, found_at}
 use Rattle.zf_view.specs.declared.elems.ElemIter.{ElemIter}
 
@@ -15,6 +15,7 @@ module _ {X : Type 0} {n : ℕ} where
     pub four_axes_at_most : length it.window.size ≤ 4
     pub next_at_most : it.next ≤ it.end
     pub end_is : it.end ≡ product it.window.size
+    pub here_is : it.here ≡ numbered it.window it.next
 
   -- at most as many values come as there are positions left
   abbrev pub elems_left : ElemIter X n → Count
@@ -24,6 +25,7 @@ module _ {X : Type 0} {n : ℕ} where
   pub record GivesElem (s t : ElemIter X n) (v : ℤ) : Type 0 where
     pub some_left : s.next < s.end
     pub next : t.next ≡ s.next + 1
+    pub here : t.here ≡ numbered s.window (s.next + 1)
     pub end : t.end ≡ s.end
     pub same_array : t.array.ghost_name ≡ s.array.ghost_name
     pub window : t.window ≡ s.window

@@ -8,7 +8,7 @@ ghost use Rattle.zf_array.specs.Standing.{shape};
 
 use std::iter::FusedIterator;
 use zf_array::Array;
-use zf_base::Lane;
+use zf_base::{Lane, Pos};
 use zf_window::Window;
 
 /// The values of a view in raster order, x fastest: each position of the window once, by one touch an item. Each value is the one that
@@ -17,7 +17,8 @@ use zf_window::Window;
 pub struct ElemIter<'a, T: Lane, const D: usize> {
     pub(crate) array: &'a mut Array<T, D>,
     pub(crate) window: Window,
-    // the number of the next position, and how many there are
+    // the next position of the window, its number, and how many there are
+    pub(crate) here: Pos,
     pub(crate) next: u64,
     pub(crate) end: u64,
 }
@@ -46,6 +47,7 @@ impl<'a, T: Lane, const D: usize> ElemIter<'a, T, D> {
         ElemIter {
             array,
             window,
+            here: window.first(),
             next: 0,
             end,
         }
@@ -63,11 +65,13 @@ impl<'a, T: Lane, const D: usize> Iterator for ElemIter<'a, T, D> {
 
     ghost remaining = { elems_left };
 
+    #[inline]
     fn next(&mut self) -> Option<T> {
         if self.next == self.end {
             return None;
         }
-        let position = self.window.raster_at(self.next);
+        let position = self.window.map(self.here);
+        self.here = self.window.after(self.here);
         self.next += 1;
         let array = &mut *self.array;
         Some(array.get(position))

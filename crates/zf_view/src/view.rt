@@ -97,7 +97,7 @@ impl<'a, T: Lane, const D: usize> View<'a, T, D> {
     {
         let (first, len) = (self.window.map(p), self.window.run_length(p));
         let array = &mut *self.array;
-        let (b, place) = array.shape().place(first);
+        let (b, place) = array.shape().place_in::<D>(first);
         array.touch_mut(b);
         array.part_mut(b, place, len)
     }
@@ -118,6 +118,7 @@ impl<'a, T: Lane, const D: usize> View<'a, T, D> {
         ElemIter {
             array: &mut *self.array,
             window,
+            here: window.first(),
             next: 0,
             end,
         }

@@ -4,8 +4,10 @@
 --     Places       the positions that a window maps to, and its slices
 --     Positions    the position of the array that a position of a window is
 --     Raster       the positions of a window in raster order
+--     Walks        the same by steps
 pub mod Axes
 pub mod Parts
 pub mod Places
 pub mod Positions
 pub mod Raster
+pub mod Walks

@@ -1,6 +1,7 @@
-use Rattle.std.proofs.Common.{refl, sym, ap, subst, ◌∙◌, ℕ, ◌+◌, ◌<◌, ◌≤◌, ◌^◌, ℤ, Bool, List, [], ◌∷◌, pos, get_or, set, lit<, arith}
+use Rattle.std.proofs.Common.{length, refl, sym, ap, subst, ◌∙◌, ℕ, ◌+◌, ◌<◌, ◌≤◌, ◌^◌, ℤ, Bool, List, [], ◌∷◌, pos, get_or, set, lit<, arith}
 use Rattle.std.specs.Vec.{vec_len}
 use Rattle.zf_base.specs.Formats.{Format}
+use Rattle.zf_header.specs.declared.header.Header.{Header}
 use Rattle.zf_cached.specs.State.{State}
 use Rattle.zf_cached.specs.Touch.{touch_for_writing, with_values}
 use Rattle.zf_cached.proofs.Caching.{touch_for_writing-dirty}
@@ -12,30 +13,33 @@ use Rattle.zf_array.proofs.Steps.{step, header_step, position_is, block_is, plac
 use Rattle.zf_array.proofs.Lent.{joined_lent, ends_as, shown, part_of_one, state_spliced, value_there, value_ends, value_state, header_value}
 use Rattle.zf_array.proofs.array.Array.value_mut.Goals as goal
 
-pub place-b-requires : goal.place-b-requires
-place-b-requires g c =
+pub place_in-b-requires-clause-dims : goal.place_in-b-requires-clause-dims
+place_in-b-requires-clause-dims g c = ap (λ (h : Header). length h.shape) c.header.ensures.value ∙ c.self.invariant.dims
+
+pub place_in-b-requires-clause-position : goal.place_in-b-requires-clause-position
+place_in-b-requires-clause-position g c =
     let s = c.self.inside in
     position_is g.T.Lane.value g.T.Lane.width g.row.D s.store s.cache (vec_len s.buffer) c.self.invariant c.args.self.now c.self.view_is c.args.p c.header.result c.header.ensures.value c.requires
 
 pub touch_mut-requires : goal.touch_mut-requires
 touch_mut-requires g c =
     let s = c.self.inside in
-    let below = subst (λ n. c.place-b.result.0 < n) (sym (blocks_is s.store)) (block_below g.T.Lane.value g.T.Lane.width g.row.D s.store s.cache (vec_len s.buffer) c.self.invariant c.args.self.now c.self.view_is c.args.p c.header.result c.header.ensures.value c.place-b.result.0 c.place-b.result.1 c.place-b.ensures.at) in
+    let below = subst (λ n. c.place_in-b.result.0 < n) (sym (blocks_is s.store)) (block_below g.T.Lane.value g.T.Lane.width g.row.D s.store s.cache (vec_len s.buffer) c.self.invariant c.args.self.now c.self.view_is c.args.p c.header.result c.header.ensures.value c.place_in-b.result.0 c.place_in-b.result.1 c.place_in-b.ensures.at) in
     (lit< tt, (c.self.invariant.fits, (has_blocks g.T.Lane.value g.T.Lane.width g.row.D s.store s.cache (vec_len s.buffer) c.self.invariant, below)))
 
 pub value_mut-requires : goal.value_mut-requires
 value_mut-requires g c =
     let s = c.self.inside in
-    (lit< tt, (c.touch_mut.ensures.dirty, place_below g.T.Lane.value g.T.Lane.width g.row.D s.store s.cache (vec_len s.buffer) c.self.invariant c.args.self.now c.self.view_is c.args.p c.header.result c.header.ensures.value c.place-b.result.0 c.place-b.result.1 c.place-b.ensures.at))
+    (lit< tt, (c.touch_mut.ensures.dirty, place_below g.T.Lane.value g.T.Lane.width g.row.D s.store s.cache (vec_len s.buffer) c.self.invariant c.args.self.now c.self.view_is c.args.p c.header.result c.header.ensures.value c.place_in-b.result.0 c.place_in-b.result.1 c.place_in-b.ensures.at))
 
 pub invariant_of-self-lent : goal.invariant_of-self-lent
 invariant_of-self-lent g c =
     let s = c.self.inside in
     let t = c.touch_mut.new.back in
     let e = c.touch_mut.new.self in
-    let b = c.place-b.result.0 in
-    let k = c.place-b.result.1 in
-    let place = place_below g.T.Lane.value g.T.Lane.width g.row.D s.store s.cache (vec_len s.buffer) c.self.invariant c.args.self.now c.self.view_is c.args.p c.header.result c.header.ensures.value c.place-b.result.0 c.place-b.result.1 c.place-b.ensures.at in
+    let b = c.place_in-b.result.0 in
+    let k = c.place_in-b.result.1 in
+    let place = place_below g.T.Lane.value g.T.Lane.width g.row.D s.store s.cache (vec_len s.buffer) c.self.invariant c.args.self.now c.self.view_is c.args.p c.header.result c.header.ensures.value c.place_in-b.result.0 c.place_in-b.result.1 c.place_in-b.ensures.at in
     let one : k + 1 ≤ 4 ^ g.row.D = omega (arith, place) in
     let joined = joined_after g.T.Lane.value g.T.Lane.width g.row.D s.store s.cache (vec_len s.buffer) c.self.invariant c.touch_mut.new.back c.touch_mut.new.self c.touch_mut.ensures.kept c.touch_mut.ensures.fits in
     let after = step g.T.Lane.value g.T.Lane.width g.row.D s.store s.cache (vec_len s.buffer) c.self.invariant c.args.self.now c.self.view_is c.touch_mut.new.back c.touch_mut.new.self c.touch_mut.ensures.kept c.touch_mut.ensures.fits (λ f u. touch_for_writing f u b) c.touch_mut.ensures.state in
@@ -47,9 +51,9 @@ returns g c =
     let s = c.self.inside in
     let t = c.touch_mut.new.back in
     let e = c.touch_mut.new.self in
-    let b = c.place-b.result.0 in
-    let k = c.place-b.result.1 in
-    let place = place_below g.T.Lane.value g.T.Lane.width g.row.D s.store s.cache (vec_len s.buffer) c.self.invariant c.args.self.now c.self.view_is c.args.p c.header.result c.header.ensures.value c.place-b.result.0 c.place-b.result.1 c.place-b.ensures.at in
+    let b = c.place_in-b.result.0 in
+    let k = c.place_in-b.result.1 in
+    let place = place_below g.T.Lane.value g.T.Lane.width g.row.D s.store s.cache (vec_len s.buffer) c.self.invariant c.args.self.now c.self.view_is c.args.p c.header.result c.header.ensures.value c.place_in-b.result.0 c.place_in-b.result.1 c.place_in-b.ensures.at in
     let one : k + 1 ≤ 4 ^ g.row.D = omega (arith, place) in
     let joined = joined_after g.T.Lane.value g.T.Lane.width g.row.D s.store s.cache (vec_len s.buffer) c.self.invariant c.touch_mut.new.back c.touch_mut.new.self c.touch_mut.ensures.kept c.touch_mut.ensures.fits in
     let after = step g.T.Lane.value g.T.Lane.width g.row.D s.store s.cache (vec_len s.buffer) c.self.invariant c.args.self.now c.self.view_is c.touch_mut.new.back c.touch_mut.new.self c.touch_mut.ensures.kept c.touch_mut.ensures.fits (λ f u. touch_for_writing f u b) c.touch_mut.ensures.state in
@@ -61,14 +65,14 @@ returns g c =
     let r = c.value_mut.result.now in
     let is_r = part_of_one g.T.Lane.value g.T.Lane.width g.row.D t e (vec_len s.buffer) joined (held_by g.T.Lane.value t e) refl b k 1 dirty one c.value_mut.ensures.size refl r c.value_mut.ensures.value in
     let f_is = format_now g.T.Lane.value g.T.Lane.width g.row.D s.store s.cache (vec_len s.buffer) c.self.invariant c.args.self.now c.self.view_is in
-    let exists = ap (λ (f : Format (List Bool)). f.exists b k) f_is ∙ place_exists g.T.Lane.value g.T.Lane.width g.row.D s.store s.cache (vec_len s.buffer) c.self.invariant c.args.self.now c.self.view_is c.args.p c.header.result c.header.ensures.value c.place-b.result.0 c.place-b.result.1 c.place-b.ensures.at in
+    let exists = ap (λ (f : Format (List Bool)). f.exists b k) f_is ∙ place_exists g.T.Lane.value g.T.Lane.width g.row.D s.store s.cache (vec_len s.buffer) c.self.invariant c.args.self.now c.self.view_is c.args.p c.header.result c.header.ensures.value c.place_in-b.result.0 c.place_in-b.result.1 c.place_in-b.ensures.at in
     let size = ap (λ (f : Format (List Bool)). f.block_len) f_is ∙ (has_blocks g.T.Lane.value g.T.Lane.width g.row.D s.store s.cache (vec_len s.buffer) c.self.invariant).0 in
     let lt : k < (format now).block_len = subst (λ n. k < n) (sym size) place in
     let head = header_step g.T.Lane.value g.T.Lane.width g.row.D s.store s.cache (vec_len s.buffer) c.self.invariant c.args.self.now c.self.view_is c.touch_mut.new.back c.touch_mut.new.self c.touch_mut.ensures.kept c.touch_mut.ensures.fits in
     let shows = shown g.T.Lane.value g.T.Lane.width g.row.D t e (vec_len s.buffer) joined (held_by g.T.Lane.value t e) refl b k 1 dirty one c.value_mut.ensures.size (r ∷ []) is_r in
     let There = λ (m j : ℕ) (v : ℤ). let u = touch_for_writing (format now) (state now) m in with_values u m (set (u.values m) j v) in
-    let at_block = block_is g.T.Lane.value g.T.Lane.width g.row.D s.store s.cache (vec_len s.buffer) c.self.invariant c.args.self.now c.self.view_is c.args.p c.header.result c.header.ensures.value b c.place-b.ensures.block in
-    let at_place = place_is g.T.Lane.value g.T.Lane.width g.row.D s.store s.cache (vec_len s.buffer) c.self.invariant c.args.self.now c.self.view_is c.args.p c.header.result c.header.ensures.value k c.place-b.ensures.place in
+    let at_block = block_is g.T.Lane.value g.T.Lane.width g.row.D s.store s.cache (vec_len s.buffer) c.self.invariant c.args.self.now c.self.view_is c.args.p c.header.result c.header.ensures.value b c.place_in-b.ensures.block in
+    let at_place = place_is g.T.Lane.value g.T.Lane.width g.row.D s.store s.cache (vec_len s.buffer) c.self.invariant c.args.self.now c.self.view_is c.args.p c.header.result c.header.ensures.value k c.place_in-b.ensures.place in
     let there = λ (v : ℤ). ap (λ m. There m k v) at_block ∙ ap (λ j. There (block_at now q) j v) at_place in (
       (refl, λ w. ends_as g.T.Lane.value g.T.Lane.width g.row.D t e (vec_len s.buffer) joined (held_by g.T.Lane.value t e) refl b k 1 dirty one c.value_mut.ensures.size (r ∷ []) is_r (w ∷ []) ∙ value_ends now a b k (value r) head after shows lt exists (value w) ∙ ap (array_of now.header) (there (value w))),
       record {

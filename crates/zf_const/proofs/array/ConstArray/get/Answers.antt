@@ -13,8 +13,11 @@ use Rattle.zf_const.specs.Parts.{Coded, format_of, held_by}
 use Rattle.zf_const.proofs.Standing.{state_held, has_blocks, header_now, joined_after, header_after, codes_after, step}
 use Rattle.zf_const.proofs.array.ConstArray.get.Goals as goal
 
-pub place-b-requires : goal.place-b-requires
-place-b-requires g c =
+pub place_in-b-requires-clause-dims : goal.place_in-b-requires-clause-dims
+place_in-b-requires-clause-dims g c = ap (λ (h : Header). length h.shape) c.header.ensures.value ∙ c.self.invariant.dims
+
+pub place_in-b-requires-clause-position : goal.place_in-b-requires-clause-position
+place_in-b-requires-clause-position g c =
     let s = c.self.inside in
     subst (λ (h : Header). IsPosition h.shape c.args.p) (header_now g.T.Lane.value g.T.Lane.width g.row.D s.codes s.cache c.self.invariant c.args.self.now c.self.view_is ∙ sym c.header.ensures.value) c.requires
 
@@ -34,9 +37,9 @@ module _ (s : Coded) (h : Header) (is : h ≡ s.header) (b k : ℕ) where
 pub get_read-requires : goal.get_read-requires
 get_read-requires g c =
     let s = c.self.inside in
-    let b = c.place-b.result.0 in
-    let k = c.place-b.result.1 in
-    let at = c.place-b.ensures.at in (
+    let b = c.place_in-b.result.0 in
+    let k = c.place_in-b.result.1 in
+    let at = c.place_in-b.ensures.at in (
       lit< tt,
       (
         c.self.invariant.fits,
@@ -58,8 +61,8 @@ returns-clause-state g c =
     let now = c.args.self.now in
     let header = c.header.ensures.value ∙ sym (header_now g.T.Lane.value g.T.Lane.width g.row.D s.codes s.cache c.self.invariant now c.self.view_is) in
     step g.T.Lane.value g.T.Lane.width g.row.D s.codes s.cache c.self.invariant now c.self.view_is c.get_read.new.back c.get_read.new.self c.get_read.ensures.kept c.get_read.ensures.fits c.get_read.ensures.clean
-    (λ f u. touch f u c.place-b.result.0) c.get_read.ensures.state
-    ∙ ap (touch (format now) (state now)) (c.place-b.ensures.block ∙ ap (λ (h : Header). block_number h.shape (used_axes (length h.shape) c.args.p)) header)
+    (λ f u. touch f u c.place_in-b.result.0) c.get_read.ensures.state
+    ∙ ap (touch (format now) (state now)) (c.place_in-b.ensures.block ∙ ap (λ (h : Header). block_number h.shape (used_axes (length h.shape) c.args.p)) header)
 
 pub returns-clause-value : goal.returns-clause-value
 unfolding state_of
@@ -68,14 +71,14 @@ returns-clause-value g c =
     let now = c.args.self.now in
     let t = c.get_read.new.back in
     let e = c.get_read.new.self in
-    let b = c.place-b.result.0 in
-    let k = c.place-b.result.1 in
+    let b = c.place_in-b.result.0 in
+    let k = c.place_in-b.result.1 in
     let a = held_by g.T.Lane.value t e in
     let header = c.header.ensures.value ∙ sym (header_now g.T.Lane.value g.T.Lane.width g.row.D s.codes s.cache c.self.invariant now c.self.view_is) in
-    OnTrue_at (place_exists s.codes c.header.result c.header.ensures.value b k _ c.place-b.ensures.at) c.get_read.ensures.value
+    OnTrue_at (place_exists s.codes c.header.result c.header.ensures.value b k _ c.place_in-b.ensures.at) c.get_read.ensures.value
     ∙ ap (λ (u : State (List Bool)). get_or (u.values b) k (pos 0)) (sym (state_held g.T.Lane.value t e c.get_read.ensures.fits c.get_read.ensures.clean))
-    ∙ ap (λ m. get_or ((state a).values m) k (pos 0)) (c.place-b.ensures.block ∙ ap (λ (h : Header). block_number h.shape (used_axes (length h.shape) c.args.p)) header)
-    ∙ ap (λ m. get_or ((state a).values (block_at now c.args.p)) m (pos 0)) (c.place-b.ensures.place ∙ ap (λ (h : Header). place_of (used_axes (length h.shape) c.args.p)) header)
+    ∙ ap (λ m. get_or ((state a).values m) k (pos 0)) (c.place_in-b.ensures.block ∙ ap (λ (h : Header). block_number h.shape (used_axes (length h.shape) c.args.p)) header)
+    ∙ ap (λ m. get_or ((state a).values (block_at now c.args.p)) m (pos 0)) (c.place_in-b.ensures.place ∙ ap (λ (h : Header). place_of (used_axes (length h.shape) c.args.p)) header)
 
 pub returns-clause-header : goal.returns-clause-header
 returns-clause-header g c =

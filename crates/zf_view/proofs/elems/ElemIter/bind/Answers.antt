@@ -15,4 +15,5 @@ returns-clause-can_next g c = record {
   four_axes_at_most = c.count-end.ensures.axes;
   next_at_most = omega arith;
   end_is = c.count-end.ensures.value;
+  here_is = c.first.ensures;
 }

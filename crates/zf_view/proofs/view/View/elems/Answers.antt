@@ -22,6 +22,7 @@ returns g c = (
       four_axes_at_most = c.count-end.ensures.axes;
       next_at_most = omega arith;
       end_is = c.count-end.ensures.value;
+      here_is = c.first.ensures;
     };
   },
 )

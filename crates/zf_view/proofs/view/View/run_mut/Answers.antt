@@ -11,8 +11,8 @@ use Rattle.zf_window.proofs.Positions.{position_at-inside}
 use Rattle.zf_view.proofs.Runs.{beside, run_within, run_is, run_ends, run_state, header_run}
 use Rattle.zf_view.proofs.view.View.run_mut.Goals as goal
 
-pub place-b-requires : goal.place-b-requires
-place-b-requires g c =
+pub place_in-b-requires-clause-position : goal.place_in-b-requires-clause-position
+place_in-b-requires-clause-position g c =
     let now = c.args.self.now in
     subst (λ ns. IsPosition ns c.map-first.result) (sym c.shape.ensures.value)
     (subst (IsPosition (shape now.array.now)) (sym c.map-first.ensures) (position_at-inside (shape now.array.now) now.window c.args.p c.requires.lies c.requires.position))
@@ -27,11 +27,11 @@ part_mut-requires g c =
     let at = c.requires.position in
     let shape_is = c.shape.ensures.value in
     let first = c.map-first.ensures in
-    let eb = c.place-b.ensures.block ∙ (λ i. block_number (shape_is i) (used_axes (length (shape_is i)) (first i))) in
-    let ek = c.place-b.ensures.place ∙ (λ i. place_of (used_axes (length (shape_is i)) (first i))) in
+    let eb = c.place_in-b.ensures.block ∙ (λ i. block_number (shape_is i) (used_axes (length (shape_is i)) (first i))) in
+    let ek = c.place_in-b.ensures.place ∙ (λ i. place_of (used_axes (length (shape_is i)) (first i))) in
     let en = c.run_length-len.ensures in
     let dims = ap length (sym shape_is) ∙ c.shape.ensures.dims in
-    (lit< tt, (c.touch_mut.ensures.dirty, subst (λ d. c.place-b.result.1 + c.run_length-len.result ≤ 4 ^ d) dims (omega (arith, ek, en, run_within a w p lies at c.requires.step))))
+    (lit< tt, (c.touch_mut.ensures.dirty, subst (λ d. c.place_in-b.result.1 + c.run_length-len.result ≤ 4 ^ d) dims (omega (arith, ek, en, run_within a w p lies at c.requires.step))))
 
 pub returns : goal.returns
 returns g c =
@@ -43,19 +43,19 @@ returns g c =
     let at = c.requires.position in
     let shape_is = c.shape.ensures.value in
     let first = c.map-first.ensures in
-    let eb = c.place-b.ensures.block ∙ (λ i. block_number (shape_is i) (used_axes (length (shape_is i)) (first i))) in
-    let ek = c.place-b.ensures.place ∙ (λ i. place_of (used_axes (length (shape_is i)) (first i))) in
+    let eb = c.place_in-b.ensures.block ∙ (λ i. block_number (shape_is i) (used_axes (length (shape_is i)) (first i))) in
+    let ek = c.place_in-b.ensures.place ∙ (λ i. place_of (used_axes (length (shape_is i)) (first i))) in
     let en = c.run_length-len.ensures in
     let value = g.T.Lane.value in
     let r = c.part_mut.result.now in
     let long = length-map r value ∙ c.part_mut.ensures.size in (
-      (refl, λ x. ap (view_of now) (run_ends a w p lies at c.requires.step c.touch_mut.new.self c.place-b.result.0 c.place-b.result.1 c.run_length-len.result eb ek en c.touch_mut.ensures.header c.touch_mut.ensures.state (map value r) long c.part_mut.ensures.value (map value (over r x)) (length-map (over r x) value ∙ length-over r x ∙ c.part_mut.ensures.size))),
+      (refl, λ x. ap (view_of now) (run_ends a w p lies at c.requires.step c.touch_mut.new.self c.place_in-b.result.0 c.place_in-b.result.1 c.run_length-len.result eb ek en c.touch_mut.ensures.header c.touch_mut.ensures.state (map value r) long c.part_mut.ensures.value (map value (over r x)) (length-map (over r x) value ∙ length-over r x ∙ c.part_mut.ensures.size))),
       record {
         writes_back = tt;
         size = c.part_mut.ensures.size ∙ en;
         beside = beside a w p lies at c.requires.step;
-        value = run_is a w p lies at c.requires.step c.touch_mut.new.self c.place-b.result.0 c.place-b.result.1 c.run_length-len.result eb ek en c.touch_mut.ensures.header c.touch_mut.ensures.state (map value r) long c.part_mut.ensures.value;
-        state = λ vs size. run_state a w p lies at c.requires.step c.touch_mut.new.self c.place-b.result.0 c.place-b.result.1 c.run_length-len.result eb ek en c.touch_mut.ensures.header c.touch_mut.ensures.state (map value r) long c.part_mut.ensures.value vs (size ∙ sym en) (c.part_mut.ensures.state vs);
+        value = run_is a w p lies at c.requires.step c.touch_mut.new.self c.place_in-b.result.0 c.place_in-b.result.1 c.run_length-len.result eb ek en c.touch_mut.ensures.header c.touch_mut.ensures.state (map value r) long c.part_mut.ensures.value;
+        state = λ vs size. run_state a w p lies at c.requires.step c.touch_mut.new.self c.place_in-b.result.0 c.place_in-b.result.1 c.run_length-len.result eb ek en c.touch_mut.ensures.header c.touch_mut.ensures.state (map value r) long c.part_mut.ensures.value vs (size ∙ sym en) (c.part_mut.ensures.state vs);
         header = header_run a (position_at w p);
       },
     )

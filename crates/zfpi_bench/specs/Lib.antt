@@ -1,0 +1,3 @@
+-- What the contracts of zfpi_bench cite.
+--     Square   the sizes of its array
+pub mod Square
