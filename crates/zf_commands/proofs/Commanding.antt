@@ -19,6 +19,8 @@ use Rattle.zf_cached.specs.Steps.{Setting, Session, touched, changed, changed_at
 use Rattle.zf_cached.proofs.Windows.{length-mapped, LiesIn-sliced}
 use Rattle.zf_window.specs.declared.window.ViewFault.{ViewFault}
 use Rattle.zf_window.specs.WindowFields.{view_fault}
+use Rattle.zf_script.specs.declared.command.Cmd.{Cmd}
+use Rattle.zf_script.specs.Seen.{command_of}
 use Rattle.zf_commands.specs.Steps.{Does, HasWindow, Takes, starves}
 use Rattle.zf_commands.proofs.Stepping.{no_split, accepted}
 
@@ -72,18 +74,19 @@ numbers_there ns v sizes lies p =
     let mapped_long = length-mapped ns v ps lies long in
     ap (λ k. used_axes k (with_unused 0 ms)) (sym mapped_long) ∙ used_axes-with_unused 0 ms (omega (arith, mapped_long, four)) ∙ ap (λ k. mapped v (used_axes k p)) lies.sizes
 
--- a command that is allowed is taken
-pub taken : {Code : Type 0} (setting : Setting Code) (c : Command) (s t : Session Code) (reply told : Option Reply) → setting.allows c ≡ true → Does setting c s t reply → told ≡ reply
-    → Takes setting s c t told
-unfolding read_step
-taken setting c s t reply told allowed does same =
-    subst (λ r. read_step setting s (Some c) (starves r) ≡ (t, r)) (sym same)
-    (ap (λ x. elim x [ true ↦ step setting s c (starves reply) | false ↦ (s, Some (Reply.refused Refusal.word)) ]) allowed ∙ does.step_is)
+-- a command that is allowed is taken, and one that is not is refused, where it is sorted as m
+module _ {Code : Type 0} (setting : Setting Code) (d : ℕ) (cmd m : Cmd) (is : cmd ≡ m) (s : Session Code) where
+  pub taken : (t : Session Code) (reply : Option Reply) → setting.allows (command_of d m) ≡ true → Does setting (command_of d m) s t reply → Takes setting s (command_of d cmd) t reply
+  unfolding read_step
+  taken t reply allowed does =
+      subst (λ x. Takes setting s (command_of d x) t reply) (sym is)
+      (ap (λ x. elim x [ true ↦ step setting s (command_of d m) (starves reply) | false ↦ (s, Some (Reply.refused Refusal.word)) ]) allowed ∙ does.step_is)
 
--- one that is not is refused
-pub not_taken : {Code : Type 0} (setting : Setting Code) (c : Command) (s : Session Code) → setting.allows c ≡ false → Takes setting s c s (Some (Reply.refused Refusal.word))
-unfolding read_step
-not_taken setting c s refused = ap (λ x. elim x [ true ↦ step setting s c false | false ↦ (s, Some (Reply.refused Refusal.word)) ]) refused
+  pub not_taken : setting.allows (command_of d m) ≡ false → Takes setting s (command_of d cmd) s (Some (Reply.refused Refusal.word))
+  unfolding read_step
+  not_taken refused =
+      subst (λ x. Takes setting s (command_of d x) s (Some (Reply.refused Refusal.word))) (sym is)
+      (ap (λ x. elim x [ true ↦ step setting s (command_of d m) false | false ↦ (s, Some (Reply.refused Refusal.word)) ]) refused)
 
 -- ---- commands that only read, in any setting
 

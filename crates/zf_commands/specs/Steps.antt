@@ -1,5 +1,5 @@
 -- What a line of a script leads to, and what it answers.
-use Rattle.std.specs.Prelude.{ℕ, ◌≡◌, ℤ, Bool, true, false, List, replicate, Option, Some, None, Result, Ok, Err}
+use Rattle.std.specs.Prelude.{ℕ, ◌≡◌, ℤ, Bool, true, false, List, replicate, Option, Some, None}
 use Rattle.std.specs.Option.{option_map}
 use Rattle.zf_base.specs.Formats.{existing_of}
 use Rattle.zf_cached.specs.Replies as script
@@ -7,9 +7,8 @@ use Rattle.zf_cached.specs.Windows.{Window, LiesIn}
 use Rattle.zf_cached.specs.Commands.{Command}
 use Rattle.zf_cached.specs.Steps.{Setting, Session, format_of, touched, changed, changed_at, step, done}
 use Rattle.zf_cached.specs.Runs.{read_step, line_step}
-use Rattle.zf_script.specs.declared.reply.Refusal.{Refusal}
 use Rattle.zf_script.specs.declared.reply.Reply.{Reply}
-use Rattle.zf_script.specs.Seen.{refusal_of, reply_of}
+use Rattle.zf_script.specs.Seen.{reply_of}
 
 -- the reply is a refusal
 abbrev pub is_refusal : script.Reply → Bool
@@ -29,11 +28,6 @@ starves (Some reply) = is_starved reply
 -- a reply, if any, as the language has it
 abbrev pub said : Option Reply → Option script.Reply
 said reply = option_map reply_of reply
-
--- the reply of a command, if any, or why it is refused
-abbrev pub answer : Result (Option Reply) Refusal → Option script.Reply
-answer (Ok reply) = said reply
-answer (Err why) = Some (script.Reply.refused (refusal_of why))
 
 -- the window lies in the array
 abbrev pub HasWindow : {Code : Type 0} → Session Code → Type 0

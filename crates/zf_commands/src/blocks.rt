@@ -8,37 +8,36 @@ ghost use Rattle.zf_cached.specs.Windows.{Window as Part};
 ghost use Rattle.zf_cached.specs.Steps.{filled_below, summed, total};
 ghost use Rattle.zf_commands.specs.Sittings.{session};
 ghost use Rattle.zf_commands.specs.Sums.{value_within, within, IsUpTo};
-ghost use Rattle.zf_commands.specs.Steps.{DoesAlone, answer};
+ghost use Rattle.zf_commands.specs.Steps.{DoesAlone, said};
 
-use crate::commands::Answer;
 use crate::target::{Changing, Target};
 use crate::values::of_type;
 use zf_base::{Lane, Pos};
 use zf_script::{Refusal, Reply};
 
 /// `fill v`: makes all values be `v`. The parts of the target fit.
-pub fn fill<T: Lane, A: Changing<T>>(a: &mut A, v: i128) -> Answer
+pub(crate) fn fill<T: Lane, A: Changing<T>>(a: &mut A, v: i128) -> Option<Reply>
     requires { A.sound a.old }
     ensures does { DoesAlone (A.setting (A.kept a.old)) (Command.fill v)
-        (session (A.shape a.old) (A.state a.old)) (session (A.shape a.new) (A.state a.new)) (answer result) }
+        (session (A.shape a.old) (A.state a.old)) (session (A.shape a.new) (A.state a.new)) (said result) }
     ensures sound { A.sound a.new }
     ensures kept { A.kept a.new ≡ A.kept a.old }
 {
     let Some(v) = of_type::<T>(v) else {
-        return Err(Refusal::Value);
+        return Some(Reply::Refused(Refusal::Value));
     };
     fill_blocks(a, v);
-    Ok(None)
+    None
 }
 
 /// `sum`: the sum of all values.
-pub(crate) fn sum<A: Target>(a: &mut A) -> Answer
+pub(crate) fn sum<A: Target>(a: &mut A) -> Option<Reply>
     requires sound { A.sound a.old }
-    ensures does { DoesAlone (A.setting (A.kept a.old)) Command.sum (session (A.shape a.old) (A.state a.old)) (session (A.shape a.new) (A.state a.new)) (answer result) }
+    ensures does { DoesAlone (A.setting (A.kept a.old)) Command.sum (session (A.shape a.old) (A.state a.old)) (session (A.shape a.new) (A.state a.new)) (said result) }
     ensures sound { A.sound a.new }
     ensures kept { A.kept a.new ≡ A.kept a.old }
 {
-    Ok(Some(Reply::Number(sum_blocks(a))))
+    Some(Reply::Number(sum_blocks(a)))
 }
 
 // Makes all values of each block be `v`, by one touch for writing.

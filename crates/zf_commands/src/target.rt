@@ -11,7 +11,8 @@ ghost use Rattle.zf_cached.specs.Commands.{Command};
 ghost use Rattle.zf_cached.specs.Windows.{Window as Part};
 ghost use Rattle.zf_cached.specs.Steps.{Setting, total, value_there, done};
 ghost use Rattle.zf_cached.specs.Views.{View};
-ghost use Rattle.zf_script.specs.Seen.{command_of, cmd_of};
+ghost use Rattle.zf_script.specs.Seen.{command_of};
+ghost use Rattle.zf_commands.specs.Kinds.{IsPlain};
 ghost use Rattle.zf_commands.specs.Sittings.{session, sitting};
 ghost use Rattle.zf_commands.specs.Sums.{IsUpTo};
 ghost use Rattle.zf_commands.specs.Steps.{HasWindow, said, Takes, Touches, Changes, Fills, Performs};
@@ -145,7 +146,7 @@ pub trait Scripted: Subject {
     fn obey(&mut self, window: &mut Window, cmd: Cmd) -> Option<Reply>
         requires sound { Self.sound self.old }
         requires window { HasWindow (sitting (Self.shape self.old) (Self.state self.old) (split self.old) window.old) }
-        requires numbers { cmd ≡ cmd_of (command_of (length (Self.shape self.old)) cmd) }
+        requires plain { IsPlain (length (Self.shape self.old)) cmd }
         ensures step { Takes (Self.setting (Self.kept self.old)) (sitting (Self.shape self.old) (Self.state self.old) (split self.old) window.old)
             (command_of (length (Self.shape self.old)) cmd) (sitting (Self.shape self.new) (Self.state self.new) (split self.new) window.new) (said result) }
         ensures window { HasWindow (sitting (Self.shape self.new) (Self.state self.new) (split self.new) window.new) }

@@ -10,9 +10,8 @@ ghost use Rattle.zf_base.specs.Places.{block_number};
 ghost use Rattle.zf_window.specs.WindowFields.{AreUnused};
 ghost use Rattle.zf_commands.specs.Sittings.{session};
 ghost use Rattle.zf_commands.specs.Sums.{IsUpTo};
-ghost use Rattle.zf_commands.specs.Steps.{Does, answer};
+ghost use Rattle.zf_commands.specs.Steps.{Does, said};
 
-use crate::commands::Answer;
 use crate::target::Target;
 use zf_base::Pos;
 use zf_script::{Refusal, Reply};
@@ -25,50 +24,50 @@ pub(crate) fn view<A: Target>(
     origin: Pos,
     size: Pos,
     step: Pos,
-) -> Answer
+) -> Option<Reply>
     requires sound { A.sound a.old }
     requires inside { LiesIn (A.shape a.old) window.old }
     requires unused { AreUnused (length (A.shape a.old)) origin size step }
     ensures does { Does (A.setting (A.kept a.old)) (Command.view (used_axes (length (A.shape a.old)) origin)
         (used_axes (length (A.shape a.old)) size) (used_axes (length (A.shape a.old)) step))
-        (session (A.shape a.old) (A.state a.old) window.old) (session (A.shape a.new) (A.state a.new) window.new) (answer result) }
+        (session (A.shape a.old) (A.state a.old) window.old) (session (A.shape a.new) (A.state a.new) window.new) (said result) }
     ensures sound { A.sound a.new }
     ensures kept { A.kept a.new ≡ A.kept a.old }
 {
     let Ok(part) = Window::new(&a.sizes(), origin, size, step) else {
-        return Err(Refusal::Size);
+        return Some(Reply::Refused(Refusal::Size));
     };
     *window = part;
-    Ok(None)
+    None
 }
 
 /// `slice A I`: the window with one place of an axis.
-pub(crate) fn slice<A: Target>(a: &mut A, window: &mut Window, axis: u64, at: u64) -> Answer
+pub(crate) fn slice<A: Target>(a: &mut A, window: &mut Window, axis: u64, at: u64) -> Option<Reply>
     requires sound { A.sound a.old }
     requires inside { LiesIn (A.shape a.old) window.old }
     ensures does { Does (A.setting (A.kept a.old)) (Command.slice axis at)
-        (session (A.shape a.old) (A.state a.old) window.old) (session (A.shape a.new) (A.state a.new) window.new) (answer result) }
+        (session (A.shape a.old) (A.state a.old) window.old) (session (A.shape a.new) (A.state a.new) window.new) (said result) }
     ensures sound { A.sound a.new }
     ensures kept { A.kept a.new ≡ A.kept a.old }
 {
     let Some(part) = window.slice(axis, at) else {
-        return Err(Refusal::Range);
+        return Some(Reply::Refused(Refusal::Range));
     };
     *window = part;
-    Ok(None)
+    None
 }
 
 /// `vsum`: the sum of the values of the window, by one touch each.
-pub(crate) fn vsum<A: Target>(a: &mut A, window: &Window) -> Answer
+pub(crate) fn vsum<A: Target>(a: &mut A, window: &Window) -> Option<Reply>
     requires sound { A.sound a.old }
     requires sizes { IsShape (A.shape a.old) }
     requires inside { LiesIn (A.shape a.old) window.now }
     ensures does { Does (A.setting (A.kept a.old)) Command.vsum
-        (session (A.shape a.old) (A.state a.old) window.now) (session (A.shape a.new) (A.state a.new) window.now) (answer result) }
+        (session (A.shape a.old) (A.state a.old) window.now) (session (A.shape a.new) (A.state a.new) window.now) (said result) }
     ensures sound { A.sound a.new }
     ensures kept { A.kept a.new ≡ A.kept a.old }
 {
-    Ok(Some(Reply::Number(sum_of_window(a, *window))))
+    Some(Reply::Number(sum_of_window(a, *window)))
 }
 
 // The sum of the values of a window as the touches find them. At most 2^27 values of 64 bits have a sum far below 2^127.

@@ -1,24 +1,24 @@
 //! Commands on an array that is read and written.
 
-ghost use Rattle.std.specs.Prelude.{◌≡◌, Bool, true, false, List, length};
+ghost use Rattle.std.specs.Prelude.{◌≡◌, Bool, List, length};
 ghost use Rattle.zf_base.specs.declared.lane.Ty.{Ty};
 ghost use Rattle.zf_header.specs.declared.header.Mode.{Mode};
 ghost use Rattle.zf_header.specs.HeaderBits.{block_bits};
-ghost use Rattle.zf_cached.specs.Windows.{LiesIn};
-ghost use Rattle.zf_cached.specs.Runs.{only_reads};
 ghost use Rattle.zf_cached.specs.Runs.{array_setting};
-ghost use Rattle.zf_script.specs.Seen.{command_of, cmd_of};
+ghost use Rattle.zf_script.specs.Seen.{command_of};
 ghost use Rattle.zf_array.specs.Standing as standing;
-ghost use Rattle.zf_commands.specs.Allowed.{array_width, is_on_whole};
-ghost use Rattle.zf_run.specs.Sessions.{setting_of, session_of, kind, IsArray};
-ghost use Rattle.zf_commands.specs.Steps.{Does, answer};
+ghost use Rattle.zf_commands.specs.Kinds.{read_cmd, window_cmd, write_cmd, IsPlain};
+ghost use Rattle.zf_commands.specs.Steps.{HasWindow, Does, DoesAlone, said};
+ghost use Rattle.zf_run.specs.Sessions.{setting_of, session_of, kind, array_width};
 
-use crate::changes::{fill_block, resize, sum_block, vset};
+use crate::changes::{fill_block, sum_block};
 use std::alloc::AllocError;
 use zf_array::Array;
 use zf_base::{Lane, Pos, Shape};
-use zf_commands::{Answer, Changing, Subject, Target, add, discard, fill, flush, read, set};
-use zf_script::{Cmd, Stats};
+use zf_commands::{
+    Changing, ReadCmd, Subject, Target, WindowCmd, WriteCmd, look_through, read, write,
+};
+use zf_script::{Reply, Stats};
 use zf_view::Window;
 
 /// An array that is read and written, as what the lines of a script work on.
@@ -116,47 +116,45 @@ impl<'a, T: Lane, const D: usize> Changing<T> for Whole<'a, T, D> {
     }
 }
 
-/// What a command does that is on the whole array.
-pub(crate) fn on_array<T: Lane, const D: usize>(
-    a: &mut Whole<'_, T, D>,
-    window: &mut Window,
-    cmd: Cmd,
-) -> Answer
-    requires array { IsArray T.width D a.old.array.now }
-    requires inside { LiesIn (standing.shape a.old.array.now) window.old }
-    requires numbers { cmd ≡ cmd_of (command_of (length (standing.shape a.old.array.now)) cmd) }
-    requires whole { is_on_whole (command_of (length (standing.shape a.old.array.now)) cmd) ≡ true }
-    ensures does { Does (setting_of T.width a.old.array.now) (command_of (length (standing.shape a.old.array.now)) cmd)
-        (session_of a.old.array.now window.old) (session_of a.new.array.now window.new) (answer result) }
-    ensures kept { kind a.new.array.now ≡ kind a.old.array.now }
-    ensures same_array { a.new.array.ghost_name ≡ a.old.array.ghost_name }
+/// What a command does that reads an array, or is about its cache.
+pub(crate) fn read_array<T: Lane, const D: usize>(
+    a: &mut Array<T, D>,
+    cmd: ReadCmd,
+) -> Option<Reply>
+    requires { IsPlain (length (standing.shape a.old)) (read_cmd cmd) }
+    ensures does { DoesAlone (setting_of T.width a.old) (command_of (length (standing.shape a.old)) (read_cmd cmd))
+        (session_of a.old) (session_of a.new) (said result) }
+    ensures kept { kind a.new ≡ kind a.old }
 {
-    match read(a, window, cmd) {
-        Some(done) => done,
-        None => write(a, window, cmd),
-    }
+    read(&mut Whole { array: a }, cmd)
 }
 
-// What a command that does not only read does. Each tests what it is refused for in the order of size, range, value and memory.
-fn write<T: Lane, const D: usize>(a: &mut Whole<'_, T, D>, window: &mut Window, cmd: Cmd) -> Answer
-    requires array { IsArray T.width D a.old.array.now }
-    requires inside { LiesIn (standing.shape a.old.array.now) window.old }
-    requires numbers { cmd ≡ cmd_of (command_of (length (standing.shape a.old.array.now)) cmd) }
-    requires writes { only_reads (command_of (length (standing.shape a.old.array.now)) cmd) ≡ false }
-    requires whole { is_on_whole (command_of (length (standing.shape a.old.array.now)) cmd) ≡ true }
-    ensures does { Does (setting_of T.width a.old.array.now) (command_of (length (standing.shape a.old.array.now)) cmd)
-        (session_of a.old.array.now window.old) (session_of a.new.array.now window.new) (answer result) }
-    ensures kept { kind a.new.array.now ≡ kind a.old.array.now }
-    ensures same_array { a.new.array.ghost_name ≡ a.old.array.ghost_name }
+/// What a command does that is about the window, or reads an array through it.
+pub(crate) fn look_through_array<T: Lane, const D: usize>(
+    a: &mut Array<T, D>,
+    window: &mut Window,
+    cmd: WindowCmd,
+) -> Option<Reply>
+    requires window { HasWindow (session_of a.old window.old) }
+    requires plain { IsPlain (length (standing.shape a.old)) (window_cmd cmd) }
+    ensures does { Does (setting_of T.width a.old) (command_of (length (standing.shape a.old)) (window_cmd cmd))
+        (session_of a.old window.old) (session_of a.new window.new) (said result) }
+    ensures kept { kind a.new ≡ kind a.old }
 {
-    match cmd {
-        Cmd::Set(p, v) => set::<T, _>(a, p, v),
-        Cmd::Add(p, v) => add::<T, _>(a, p, v),
-        Cmd::Fill(v) => fill::<T, _>(a, v),
-        Cmd::VSet(p, v) => vset(&mut *a.array, window, p, v),
-        Cmd::Flush => flush::<T, _>(a),
-        Cmd::Discard => discard::<T, _>(a),
-        Cmd::Resize(count, sizes) => resize(&mut *a.array, window, count, sizes),
-        _ => unreachable!(),
-    }
+    // Known by this call: the sizes are those of a shape.
+    let _dims = a.shape().dims();
+    look_through(&mut Whole { array: a }, window, cmd)
+}
+
+/// What a command does that changes the values of an array, or writes them back.
+pub(crate) fn write_array<T: Lane, const D: usize>(
+    a: &mut Array<T, D>,
+    cmd: WriteCmd,
+) -> Option<Reply>
+    requires { IsPlain (length (standing.shape a.old)) (write_cmd cmd) }
+    ensures does { DoesAlone (setting_of T.width a.old) (command_of (length (standing.shape a.old)) (write_cmd cmd))
+        (session_of a.old) (session_of a.new) (said result) }
+    ensures kept { kind a.new ≡ kind a.old }
+{
+    write::<T, _>(&mut Whole { array: a }, cmd)
 }

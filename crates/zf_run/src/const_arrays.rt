@@ -13,7 +13,7 @@ ghost use Rattle.zf_commands.specs.Steps.{Touches};
 
 use std::alloc::AllocError;
 use zf_base::{Lane, Pos, Shape};
-use zf_commands::{Scripted, Subject, Target, is_reading, read, spoken, sum_within};
+use zf_commands::{Kind, Scripted, Subject, Target, kind_of, look_through, read, sum_within};
 use zf_const::ConstArray;
 use zf_script::{Cmd, Refusal, Reply, Stats};
 use zf_view::Window;
@@ -76,14 +76,14 @@ impl<'a, T: Lane, const D: usize> Scripted for Looked<'a, T, D> {
     ghost split = { λ a. None };
 
     fn obey(&mut self, window: &mut Window, cmd: Cmd) -> Option<Reply> {
-        if !is_reading(cmd) {
-            return Some(Reply::Refused(Refusal::Word));
-        }
-        // Known by this call: the sizes are those of a shape.
-        let _dims = self.sizes().dims();
-        match read(self, window, cmd) {
-            Some(done) => spoken(done),
-            None => unreachable!(),
+        match kind_of(cmd) {
+            Kind::Read(asked) => read(self, asked),
+            Kind::Window(asked) => {
+                // Known by this call: the sizes are those of a shape.
+                let _dims = self.sizes().dims();
+                look_through(self, window, asked)
+            }
+            _ => Some(Reply::Refused(Refusal::Word)),
         }
     }
 }
