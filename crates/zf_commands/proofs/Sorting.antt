@@ -1,7 +1,8 @@
 -- Commands and their kinds.
-use Rattle.std.proofs.Common.{◌≡◌, refl, sym, ap, subst, ◌∙◌, ℕ, Bool, true, false}
+use Rattle.std.proofs.Common.{◌≡◌, refl, ap, subst, ◌∙◌, ℕ, Bool, true, false, length}
 use Rattle.zf_cached.specs.Kinds as sorts
 use Rattle.zf_cached.specs.Kinds.{is_reading, is_windowless, is_of_split}
+use Rattle.zf_cached.specs.Steps.{Session}
 use Rattle.zf_script.specs.declared.command.Cmd.{Cmd}
 use Rattle.zf_script.specs.Seen.{command_of, cmd_of}
 use Rattle.zf_commands.specs.declared.kinds.Kind.{Kind}
@@ -16,7 +17,7 @@ use Rattle.zf_commands.specs.declared.kinds.ArrayCmd.{ArrayCmd}
 use Rattle.zf_commands.specs.declared.kinds.ArrayCmd.TheVariants as arrays
 use Rattle.zf_commands.specs.declared.kinds.ViewCmd.{ViewCmd}
 use Rattle.zf_commands.specs.declared.kinds.ViewCmd.TheVariants as views
-use Rattle.zf_commands.specs.Kinds.{cmd_of_kind, IsPlain}
+use Rattle.zf_commands.specs.Kinds.{cmd_of_kind, asked, IsPlain}
 
 -- the kind, as the language has it
 abbrev pub sort_of : Kind → sorts.Kind
@@ -54,11 +55,11 @@ sorted d (kinds.View i views.Discard) = refl
 sorted d (kinds.View i views.Stats) = refl
 
 -- what holds of a command by its kind
-pub by_kind : (d : ℕ) (k : Kind) (test : sorts.Kind → Bool) (t : Bool) → test (sort_of k) ≡ t → test (sorts.kind_of (command_of d (cmd_of_kind k))) ≡ t
-by_kind d k test t is = ap test (sorted d k) ∙ is
+pub by_kind : {Code : Type 0} (s : Session Code) (k : Kind) (test : sorts.Kind → Bool) (t : Bool) → test (sort_of k) ≡ t → test (sorts.kind_of (asked s (cmd_of_kind k))) ≡ t
+by_kind s k test t is = ap test (sorted (length s.shape) k) ∙ is
 
-pub same_plain : (d : ℕ) (a b : Cmd) → a ≡ b → IsPlain d a → IsPlain d b
-same_plain d a b is plain = subst (IsPlain d) is plain
+pub same_plain : {Code : Type 0} (s : Session Code) (a b : Cmd) → a ≡ b → IsPlain s a → IsPlain s b
+same_plain s a b is plain = subst (IsPlain s) is plain
 
 -- those that an array which is only read refuses, and those that one with no window does, and one that is whole, and one that is split
 pub not_reading : (k : Kind) → ((c : ReadCmd) → k ≡ kinds.Read c → ⊥) → ((c : WindowCmd) → k ≡ kinds.Window c → ⊥) → is_reading (sort_of k) ≡ false

@@ -1,6 +1,7 @@
 -- Which command each is that is sorted by its kind.
-use Rattle.std.specs.Prelude.{ℕ, ◌≡◌}
+use Rattle.std.specs.Prelude.{ℕ, ◌≡◌, length}
 use Rattle.zf_cached.specs.Commands.{Command}
+use Rattle.zf_cached.specs.Steps.{Session}
 use Rattle.zf_script.specs.declared.command.Cmd.{Cmd}
 use Rattle.zf_script.specs.declared.command.Cmd.TheVariants as cmds
 use Rattle.zf_script.specs.Seen.{command_of, cmd_of}
@@ -57,6 +58,10 @@ cmd_of_kind (kinds.Split n l) = cmds.Split n l
 cmd_of_kind kinds.Join = cmds.Join
 cmd_of_kind (kinds.View i cmd) = view_cmd i cmd
 
--- coordinates along unused axes are 0, sizes and steps are 1, in d dimensions
-abbrev pub IsPlain : ℕ → Cmd → Type 0
-IsPlain d cmd = cmd ≡ cmd_of (command_of d cmd)
+-- the command that it is in a session
+abbrev pub asked : {Code : Type 0} → Session Code → Cmd → Command
+asked s cmd = command_of (length s.shape) cmd
+
+-- coordinates along unused axes are 0, sizes and steps are 1
+abbrev pub IsPlain : {Code : Type 0} → Session Code → Cmd → Type 0
+IsPlain s cmd = cmd ≡ cmd_of (asked s cmd)

@@ -3,7 +3,7 @@ use Rattle.std.specs.Prelude.{ℕ, ◌≡◌, ℤ, Bool, true, false, List, repl
 use Rattle.std.specs.Option.{option_map}
 use Rattle.zf_base.specs.Formats.{existing_of}
 use Rattle.zf_cached.specs.Replies as script
-use Rattle.zf_cached.specs.Windows.{Window, LiesIn}
+use Rattle.zf_cached.specs.Windows.{LiesIn}
 use Rattle.zf_cached.specs.Commands.{Command}
 use Rattle.zf_cached.specs.Steps.{Setting, Session, format_of, touched, changed, changed_at, step, done}
 use Rattle.zf_cached.specs.Runs.{read_step, line_step}
@@ -46,23 +46,18 @@ pub record Does {Code : Type 0} (setting : Setting Code) (c : Command) (s t : Se
   pub step_is : step setting s c (starves reply) ≡ (t, reply)
   pub inside : HasWindow t
 
--- a command that does not look at the window, and keeps it: an array through each window before, and the array after
-abbrev pub DoesAlone : {Code : Type 0} → Setting Code → Command → (Window → Session Code) → (Window → Session Code) → Option script.Reply → Type 0
-DoesAlone setting c before after reply = (v : Window) → HasWindow (before v) → Does setting c (before v) (after v) reply
+-- a touch of block b leads from one session to another
+abbrev pub Touches : {Code : Type 0} → Setting Code → ℕ → Session Code → Session Code → Type 0
+Touches setting b s t = touched setting s b ≡ t
 
--- a touch of block b leads from an array, through each window, to another
-abbrev pub Touches : {Code : Type 0} → Setting Code → ℕ → (Window → Session Code) → (Window → Session Code) → Type 0
-Touches setting b before after = (v : Window) → touched setting (before v) b ≡ after v
-
--- the value at a position is changed, by a touch for writing: an array before, through each window, and the array after
-abbrev pub Changes : {Code : Type 0} → Setting Code → List ℕ → (ℤ → ℤ) → (Window → Session Code) → (Window → Session Code) → Type 0
-Changes setting ps change before after = (v : Window) → changed_at setting (before v) ps change ≡ after v
+-- the value at a position is changed, by a touch for writing
+abbrev pub Changes : {Code : Type 0} → Setting Code → List ℕ → (ℤ → ℤ) → Session Code → Session Code → Type 0
+Changes setting ps change s t = changed_at setting s ps change ≡ t
 
 -- block b is touched for writing, and its values become x where a place exists
-abbrev pub Fills : {Code : Type 0} → Setting Code → ℕ → ℤ → (Window → Session Code) → (Window → Session Code) → Type 0
-Fills setting b x before after = (v : Window) →
-    changed setting (before v) b (λ values. existing_of (format_of setting (before v)) b (replicate (format_of setting (before v)).block_len x)) ≡ after v
+abbrev pub Fills : {Code : Type 0} → Setting Code → ℕ → ℤ → Session Code → Session Code → Type 0
+Fills setting b x s t = changed setting s b (λ values. existing_of (format_of setting s) b (replicate (format_of setting s).block_len x)) ≡ t
 
 -- a command that passes all tests, and has no reply
-abbrev pub Performs : {Code : Type 0} → Setting Code → Command → (Window → Session Code) → (Window → Session Code) → Type 0
-Performs setting c before after = (v : Window) → done setting (before v) c ≡ (after v, None)
+abbrev pub Performs : {Code : Type 0} → Setting Code → Command → Session Code → Session Code → Type 0
+Performs setting c s t = done setting s c ≡ (t, None)

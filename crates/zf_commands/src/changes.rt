@@ -1,9 +1,8 @@
-//! Commands on the cache and its counts.
+//! Commands on the cache and its counts. The parts of the target fit.
 
 ghost use Rattle.std.specs.Prelude.{◌≡◌};
 ghost use Rattle.zf_cached.specs.Commands.{Command};
-ghost use Rattle.zf_commands.specs.Sittings.{session};
-ghost use Rattle.zf_commands.specs.Steps.{DoesAlone, said};
+ghost use Rattle.zf_commands.specs.Steps.{HasWindow, Does, said};
 
 use crate::target::{Changing, Target};
 use zf_base::Lane;
@@ -12,11 +11,11 @@ use zf_script::{Refusal, Reply};
 // The most lines of a cache.
 const MAX_LINES: u64 = 65536;
 
-/// `flush`: writes back what is dirty, and empties the cache. The parts of the target fit.
+/// `flush`: writes back what is dirty, and empties the cache.
 pub(crate) fn flush<T: Lane, A: Changing<T>>(a: &mut A) -> Option<Reply>
-    requires { A.sound a.old }
-    ensures does { DoesAlone (A.setting (A.kept a.old)) Command.flush
-        (session (A.shape a.old) (A.state a.old)) (session (A.shape a.new) (A.state a.new)) (said result) }
+    requires sound { A.sound a.old }
+    requires window { HasWindow (A.session a.old) }
+    ensures does { Does (A.setting (A.kept a.old)) Command.flush (A.session a.old) (A.session a.new) (said result) }
     ensures sound { A.sound a.new }
     ensures kept { A.kept a.new ≡ A.kept a.old }
 {
@@ -24,11 +23,11 @@ pub(crate) fn flush<T: Lane, A: Changing<T>>(a: &mut A) -> Option<Reply>
     None
 }
 
-/// `discard`: empties the cache, and writes nothing back. The parts of the target fit.
+/// `discard`: empties the cache, and writes nothing back.
 pub(crate) fn discard<T: Lane, A: Changing<T>>(a: &mut A) -> Option<Reply>
-    requires { A.sound a.old }
-    ensures does { DoesAlone (A.setting (A.kept a.old)) Command.discard
-        (session (A.shape a.old) (A.state a.old)) (session (A.shape a.new) (A.state a.new)) (said result) }
+    requires sound { A.sound a.old }
+    requires window { HasWindow (A.session a.old) }
+    ensures does { Does (A.setting (A.kept a.old)) Command.discard (A.session a.old) (A.session a.new) (said result) }
     ensures sound { A.sound a.new }
     ensures kept { A.kept a.new ≡ A.kept a.old }
 {
@@ -39,7 +38,8 @@ pub(crate) fn discard<T: Lane, A: Changing<T>>(a: &mut A) -> Option<Reply>
 /// `lines L`: another number of lines of the cache.
 pub(crate) fn lines<A: Target>(a: &mut A, count: u64) -> Option<Reply>
     requires sound { A.sound a.old }
-    ensures does { DoesAlone (A.setting (A.kept a.old)) (Command.lines count) (session (A.shape a.old) (A.state a.old)) (session (A.shape a.new) (A.state a.new)) (said result) }
+    requires window { HasWindow (A.session a.old) }
+    ensures does { Does (A.setting (A.kept a.old)) (Command.lines count) (A.session a.old) (A.session a.new) (said result) }
     ensures sound { A.sound a.new }
     ensures kept { A.kept a.new ≡ A.kept a.old }
 {
@@ -55,7 +55,8 @@ pub(crate) fn lines<A: Target>(a: &mut A, count: u64) -> Option<Reply>
 /// `stats`: the counts of the cache.
 pub(crate) fn stats<A: Target>(a: &mut A) -> Option<Reply>
     requires sound { A.sound a.old }
-    ensures does { DoesAlone (A.setting (A.kept a.old)) Command.stats (session (A.shape a.old) (A.state a.old)) (session (A.shape a.new) (A.state a.new)) (said result) }
+    requires window { HasWindow (A.session a.old) }
+    ensures does { Does (A.setting (A.kept a.old)) Command.stats (A.session a.old) (A.session a.new) (said result) }
     ensures sound { A.sound a.new }
     ensures kept { A.kept a.new ≡ A.kept a.old }
 {

@@ -1,11 +1,8 @@
-//! What commands do, by their kind: on an array whether or not it can be changed.
+//! What commands do, by their kind: on an array whether or not it can be changed. The parts of the target fit.
 
-ghost use Rattle.std.specs.Prelude.{◌≡◌, length};
-ghost use Rattle.zf_spec.specs.Grid.{IsShape};
-ghost use Rattle.zf_script.specs.Seen.{command_of};
-ghost use Rattle.zf_commands.specs.Kinds.{read_cmd, window_cmd, write_cmd, IsPlain};
-ghost use Rattle.zf_commands.specs.Sittings.{session};
-ghost use Rattle.zf_commands.specs.Steps.{HasWindow, Does, DoesAlone, said};
+ghost use Rattle.std.specs.Prelude.{◌≡◌};
+ghost use Rattle.zf_commands.specs.Kinds.{read_cmd, window_cmd, write_cmd, asked, IsPlain};
+ghost use Rattle.zf_commands.specs.Steps.{HasWindow, Does, said};
 
 use crate::blocks::{fill, sum};
 use crate::changes::{discard, flush, lines, stats};
@@ -15,14 +12,13 @@ use crate::values::{add, get, set, vget};
 use crate::windows::{slice, view, vsum};
 use zf_base::Lane;
 use zf_script::Reply;
-use zf_window::Window;
 
-/// What a command does that reads the array, or is about the cache. The parts of the target fit.
+/// What a command does that reads the array, or is about the cache.
 pub fn read<A: Target>(a: &mut A, cmd: ReadCmd) -> Option<Reply>
     requires sound { A.sound a.old }
-    requires plain { IsPlain (length (A.shape a.old)) (read_cmd cmd) }
-    ensures does { DoesAlone (A.setting (A.kept a.old)) (command_of (length (A.shape a.old)) (read_cmd cmd))
-        (session (A.shape a.old) (A.state a.old)) (session (A.shape a.new) (A.state a.new)) (said result) }
+    requires window { HasWindow (A.session a.old) }
+    requires plain { IsPlain (A.session a.old) (read_cmd cmd) }
+    ensures does { Does (A.setting (A.kept a.old)) (asked (A.session a.old) (read_cmd cmd)) (A.session a.old) (A.session a.new) (said result) }
     ensures sound { A.sound a.new }
     ensures kept { A.kept a.new ≡ A.kept a.old }
 {
@@ -34,31 +30,29 @@ pub fn read<A: Target>(a: &mut A, cmd: ReadCmd) -> Option<Reply>
     }
 }
 
-/// What a command does that is about the window, or reads through it. The parts of the target fit.
-pub fn look_through<A: Target>(a: &mut A, window: &mut Window, cmd: WindowCmd) -> Option<Reply>
+/// What a command does that is about the window, or reads through it.
+pub fn look_through<A: Target>(a: &mut A, cmd: WindowCmd) -> Option<Reply>
     requires sound { A.sound a.old }
-    requires sizes { IsShape (A.shape a.old) }
-    requires window { HasWindow (session (A.shape a.old) (A.state a.old) window.old) }
-    requires plain { IsPlain (length (A.shape a.old)) (window_cmd cmd) }
-    ensures does { Does (A.setting (A.kept a.old)) (command_of (length (A.shape a.old)) (window_cmd cmd))
-        (session (A.shape a.old) (A.state a.old) window.old) (session (A.shape a.new) (A.state a.new) window.new) (said result) }
+    requires window { HasWindow (A.session a.old) }
+    requires plain { IsPlain (A.session a.old) (window_cmd cmd) }
+    ensures does { Does (A.setting (A.kept a.old)) (asked (A.session a.old) (window_cmd cmd)) (A.session a.old) (A.session a.new) (said result) }
     ensures sound { A.sound a.new }
     ensures kept { A.kept a.new ≡ A.kept a.old }
 {
     match cmd {
-        WindowCmd::View(origin, size, step) => view(a, window, origin, size, step),
-        WindowCmd::Slice(axis, at) => slice(a, window, axis, at),
-        WindowCmd::Get(p) => vget(a, window, p),
-        WindowCmd::Sum => vsum(a, window),
+        WindowCmd::View(origin, size, step) => view(a, origin, size, step),
+        WindowCmd::Slice(axis, at) => slice(a, axis, at),
+        WindowCmd::Get(p) => vget(a, p),
+        WindowCmd::Sum => vsum(a),
     }
 }
 
-/// What a command does that changes values, or writes them back. The parts of the target fit.
+/// What a command does that changes values, or writes them back.
 pub fn write<T: Lane, A: Changing<T>>(a: &mut A, cmd: WriteCmd) -> Option<Reply>
     requires sound { A.sound a.old }
-    requires plain { IsPlain (length (A.shape a.old)) (write_cmd cmd) }
-    ensures does { DoesAlone (A.setting (A.kept a.old)) (command_of (length (A.shape a.old)) (write_cmd cmd))
-        (session (A.shape a.old) (A.state a.old)) (session (A.shape a.new) (A.state a.new)) (said result) }
+    requires window { HasWindow (A.session a.old) }
+    requires plain { IsPlain (A.session a.old) (write_cmd cmd) }
+    ensures does { Does (A.setting (A.kept a.old)) (asked (A.session a.old) (write_cmd cmd)) (A.session a.old) (A.session a.new) (said result) }
     ensures sound { A.sound a.new }
     ensures kept { A.kept a.new ≡ A.kept a.old }
 {
