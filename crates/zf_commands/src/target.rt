@@ -8,8 +8,8 @@ ghost use Rattle.zf_base.specs.Positions.{IsPosition};
 ghost use Rattle.zf_cached.specs.Commands.{Command};
 ghost use Rattle.zf_cached.specs.Windows.{LiesIn};
 ghost use Rattle.zf_cached.specs.Steps.{Setting, Session, total, value_there};
-ghost use Rattle.zf_commands.specs.Kinds.{IsPlain};
-ghost use Rattle.zf_commands.specs.Sittings.{place_in, block_in, asked};
+ghost use Rattle.zf_commands.specs.Kinds.{asked, IsPlain};
+ghost use Rattle.zf_commands.specs.Sittings.{place_in, block_in};
 ghost use Rattle.zf_commands.specs.Sums.{IsUpTo};
 ghost use Rattle.zf_commands.specs.Steps.{HasWindow, said, Takes, Touches, Changes, Fills, Performs};
 

@@ -1,5 +1,5 @@
 -- The run of a script over a two-way cache.
-use Rattle.std.specs.Prelude.{ℕ, Bool, List, []}
+use Rattle.std.specs.Prelude.{ℕ, Bool, false, List, []}
 use Rattle.std.specs.Int.{Width}
 use Rattle.zf_cached.specs.Arrays.{rate_coding, zero_codes, open_array, saved_file}
 use Rattle.zf_cached.specs.Commands.{Command}
