@@ -55,9 +55,13 @@ pub record IsArray (w : Width) (d : ℕ) (a : Held) : Type 0 where
 abbrev pub look_setting_of : Width → Header → Setting (List Bool)
 look_setting_of w h = look_setting w (read.coding_of h)
 
+-- what it does change
+abbrev pub look_session_of : read.Held → Window → Session (List Bool)
+look_session_of a window = session (read.shape a) (read.state a) window
+
 -- what it begins with
 abbrev pub look_start_of : read.Held → Session (List Bool)
-look_start_of a = session (read.shape a) (read.state a) (whole (read.shape a))
+look_start_of a = look_session_of a (whole (read.shape a))
 
 -- the look of a script at it
 abbrev pub look_of : Width → read.Held → List ℕ → List ℕ → Session (List Bool) × List Reply

@@ -1,14 +1,12 @@
 //! Commands on an array that is read and written.
 
-ghost use Rattle.std.specs.Prelude.{◌≡◌, Bool, List, length};
+ghost use Rattle.std.specs.Prelude.{◌≡◌, Bool, List, refl};
 ghost use Rattle.zf_base.specs.declared.lane.Ty.{Ty};
 ghost use Rattle.zf_header.specs.declared.header.Mode.{Mode};
 ghost use Rattle.zf_header.specs.HeaderBits.{block_bits};
 ghost use Rattle.zf_cached.specs.Runs.{array_setting};
-ghost use Rattle.zf_script.specs.Seen.{command_of};
-ghost use Rattle.zf_array.specs.Standing as standing;
-ghost use Rattle.zf_commands.specs.Kinds.{read_cmd, window_cmd, write_cmd, IsPlain};
-ghost use Rattle.zf_commands.specs.Steps.{HasWindow, Does, DoesAlone, said};
+ghost use Rattle.zf_commands.specs.Kinds.{read_cmd, window_cmd, write_cmd, asked, IsPlain};
+ghost use Rattle.zf_commands.specs.Steps.{HasWindow, Does, said};
 ghost use Rattle.zf_run.specs.Sessions.{setting_of, session_of, kind, array_width};
 
 use crate::changes::{fill_block, sum_block};
@@ -25,6 +23,7 @@ use zf_view::Window;
 #[derive(Drop)]
 pub(crate) struct Whole<'a, T: Lane, const D: usize> {
     pub(crate) array: &'a mut Array<T, D>,
+    pub(crate) window: &'a mut Window,
 }
 
 impl<'a, T: Lane, const D: usize> Subject for Whole<'a, T, D> {
@@ -32,15 +31,13 @@ impl<'a, T: Lane, const D: usize> Subject for Whole<'a, T, D> {
 
     ghost Code = { List Bool };
 
-    ghost Kept = { (Ty × Mode) × GName };
+    ghost Kept = { (Ty × Mode) × GName × GName };
 
-    ghost kept = { λ a. (kind a.array.now, a.array.ghost_name) };
+    ghost kept = { λ a. (kind a.array.now, a.array.ghost_name, a.window.ghost_name) };
 
     ghost setting = { λ k. array_setting T.width (block_bits k.0.1) };
 
-    ghost shape = { λ a. standing.shape a.array.now };
-
-    ghost state = { λ a. standing.state a.array.now };
+    ghost session = { λ a. session_of a.array.now a.window.now };
 
     ghost sound = { λ a. Unit {0} };
 
@@ -50,6 +47,16 @@ impl<'a, T: Lane, const D: usize> Subject for Whole<'a, T, D> {
 }
 
 impl<'a, T: Lane, const D: usize> Target for Whole<'a, T, D> {
+    ghost whole = { λ a. refl };
+
+    fn window(&self) -> Window {
+        *self.window
+    }
+
+    fn use_window(&mut self, window: Window) {
+        *self.window = window;
+    }
+
     fn number(&mut self, p: Pos) -> i128 {
         let array = &mut *self.array;
         // Known by this call: the type is that of the header.
@@ -119,14 +126,16 @@ impl<'a, T: Lane, const D: usize> Changing<T> for Whole<'a, T, D> {
 /// What a command does that reads an array, or is about its cache.
 pub(crate) fn read_array<T: Lane, const D: usize>(
     a: &mut Array<T, D>,
+    window: &mut Window,
     cmd: ReadCmd,
 ) -> Option<Reply>
-    requires { IsPlain (length (standing.shape a.old)) (read_cmd cmd) }
-    ensures does { DoesAlone (setting_of T.width a.old) (command_of (length (standing.shape a.old)) (read_cmd cmd))
-        (session_of a.old) (session_of a.new) (said result) }
+    requires window { HasWindow (session_of a.old window.old) }
+    requires plain { IsPlain (session_of a.old window.old) (read_cmd cmd) }
+    ensures does { Does (setting_of T.width a.old) (asked (session_of a.old window.old) (read_cmd cmd))
+        (session_of a.old window.old) (session_of a.new window.new) (said result) }
     ensures kept { kind a.new ≡ kind a.old }
 {
-    read(&mut Whole { array: a }, cmd)
+    read(&mut Whole { array: a, window }, cmd)
 }
 
 /// What a command does that is about the window, or reads an array through it.
@@ -136,25 +145,25 @@ pub(crate) fn look_through_array<T: Lane, const D: usize>(
     cmd: WindowCmd,
 ) -> Option<Reply>
     requires window { HasWindow (session_of a.old window.old) }
-    requires plain { IsPlain (length (standing.shape a.old)) (window_cmd cmd) }
-    ensures does { Does (setting_of T.width a.old) (command_of (length (standing.shape a.old)) (window_cmd cmd))
+    requires plain { IsPlain (session_of a.old window.old) (window_cmd cmd) }
+    ensures does { Does (setting_of T.width a.old) (asked (session_of a.old window.old) (window_cmd cmd))
         (session_of a.old window.old) (session_of a.new window.new) (said result) }
     ensures kept { kind a.new ≡ kind a.old }
 {
-    // Known by this call: the sizes are those of a shape.
-    let _dims = a.shape().dims();
-    look_through(&mut Whole { array: a }, window, cmd)
+    look_through(&mut Whole { array: a, window }, cmd)
 }
 
 /// What a command does that changes the values of an array, or writes them back.
 pub(crate) fn write_array<T: Lane, const D: usize>(
     a: &mut Array<T, D>,
+    window: &mut Window,
     cmd: WriteCmd,
 ) -> Option<Reply>
-    requires { IsPlain (length (standing.shape a.old)) (write_cmd cmd) }
-    ensures does { DoesAlone (setting_of T.width a.old) (command_of (length (standing.shape a.old)) (write_cmd cmd))
-        (session_of a.old) (session_of a.new) (said result) }
+    requires window { HasWindow (session_of a.old window.old) }
+    requires plain { IsPlain (session_of a.old window.old) (write_cmd cmd) }
+    ensures does { Does (setting_of T.width a.old) (asked (session_of a.old window.old) (write_cmd cmd))
+        (session_of a.old window.old) (session_of a.new window.new) (said result) }
     ensures kept { kind a.new ≡ kind a.old }
 {
-    write::<T, _>(&mut Whole { array: a }, cmd)
+    write::<T, _>(&mut Whole { array: a, window }, cmd)
 }

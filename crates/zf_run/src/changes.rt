@@ -8,10 +8,9 @@ ghost use Rattle.zf_header.specs.HeaderBits.{block_bits};
 ghost use Rattle.zf_cached.specs.Commands.{Command};
 ghost use Rattle.zf_cached.specs.Windows.{LiesIn, Window as Part};
 ghost use Rattle.zf_cached.specs.Steps.{is_new_shape, touched, changed, total};
-ghost use Rattle.zf_script.specs.Seen.{command_of};
 ghost use Rattle.zf_array.specs.Standing.{shape, state, format};
 ghost use Rattle.zf_commands.specs.Sums.{IsUpTo};
-ghost use Rattle.zf_commands.specs.Kinds.{array_cmd, IsPlain};
+ghost use Rattle.zf_commands.specs.Kinds.{array_cmd, asked, IsPlain};
 ghost use Rattle.zf_commands.specs.Steps.{HasWindow, Does, said};
 ghost use Rattle.zf_run.specs.Sessions.{setting_of, session_of, start_of, kind, IsArray};
 
@@ -29,8 +28,8 @@ pub(crate) fn change_array<T: Lane, const D: usize>(
     cmd: ArrayCmd,
 ) -> Option<Reply>
     requires window { HasWindow (session_of a.old window.old) }
-    requires plain { IsPlain (length (shape a.old)) (array_cmd cmd) }
-    ensures does { Does (setting_of T.width a.old) (command_of (length (shape a.old)) (array_cmd cmd))
+    requires plain { IsPlain (session_of a.old window.old) (array_cmd cmd) }
+    ensures does { Does (setting_of T.width a.old) (asked (session_of a.old window.old) (array_cmd cmd))
         (session_of a.old window.old) (session_of a.new window.new) (said result) }
     ensures kept { kind a.new ≡ kind a.old }
 {

@@ -1,8 +1,8 @@
 //! Commands on a store and a two-way cache over it.
 
-ghost use Rattle.std.specs.Prelude.{Bool, List, None};
+ghost use Rattle.std.specs.Prelude.{Bool, List, refl};
 ghost use Rattle.zf_header.specs.declared.header.Header.{Header};
-ghost use Rattle.zf_run.specs.Pairs.{pair_state, PairFits, two_setting_of, two_width};
+ghost use Rattle.zf_run.specs.Pairs.{pair_session, PairFits, two_setting_of, two_width};
 
 use std::alloc::AllocError;
 use zf_base::{Lane, Pos, Shape};
@@ -20,6 +20,7 @@ use zf_view::Window;
 pub(crate) struct Pair<'a, T: Lane, const D: usize> {
     pub(crate) store: &'a mut Store<T, D>,
     pub(crate) cache: &'a mut TwoWay<T, D>,
+    pub(crate) window: Window,
 }
 
 impl<'a, T: Lane, const D: usize> Subject for Pair<'a, T, D> {
@@ -35,9 +36,7 @@ impl<'a, T: Lane, const D: usize> Subject for Pair<'a, T, D> {
 
     ghost sound = { λ p. PairFits T.value p.store.now p.cache.now };
 
-    ghost shape = { λ p. p.store.now.header.shape };
-
-    ghost state = { λ p. pair_state T.value p.store.now p.cache.now };
+    ghost session = { λ p. pair_session T.value p.store.now p.cache.now p.window };
 
     fn sizes(&self) -> Shape {
         self.store.header().shape
@@ -45,6 +44,16 @@ impl<'a, T: Lane, const D: usize> Subject for Pair<'a, T, D> {
 }
 
 impl<'a, T: Lane, const D: usize> Target for Pair<'a, T, D> {
+    ghost whole = { λ p. refl };
+
+    fn window(&self) -> Window {
+        self.window
+    }
+
+    fn use_window(&mut self, window: Window) {
+        self.window = window;
+    }
+
     fn number(&mut self, p: Pos) -> i128 {
         let store = &mut *self.store;
         let cache = &mut *self.cache;
@@ -116,9 +125,7 @@ impl<'a, T: Lane, const D: usize> Changing<T> for Pair<'a, T, D> {
 }
 
 impl<'a, T: Lane, const D: usize> Scripted for Pair<'a, T, D> {
-    ghost split = { λ p. None };
-
-    fn obey(&mut self, window: &mut Window, cmd: Cmd) -> Option<Reply> {
+    fn obey(&mut self, cmd: Cmd) -> Option<Reply> {
         match kind_of(cmd) {
             Kind::Read(asked) => read(self, asked),
             Kind::Write(asked) => write::<T, _>(self, asked),

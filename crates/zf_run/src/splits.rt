@@ -6,18 +6,15 @@ ghost use Rattle.zf_base.specs.declared.lane.Ty.{Ty};
 ghost use Rattle.zf_header.specs.declared.header.Mode.{Mode};
 ghost use Rattle.zf_header.specs.HeaderBits.{block_bits};
 ghost use Rattle.zf_cached.specs.Commands.{Command};
-ghost use Rattle.zf_cached.specs.Windows.{Window as Part};
 ghost use Rattle.zf_cached.specs.Splits.{is_view_count};
 ghost use Rattle.zf_cached.specs.Steps.{joined, is_line_count};
 ghost use Rattle.zf_cached.specs.Runs.{array_setting, ended};
 ghost use Rattle.zf_cache.specs.Kept.{IsLineCount};
-ghost use Rattle.zf_array.specs.Standing as standing;
 ghost use Rattle.zf_array.specs.Coded.{HasEmptyLines, IsCoded};
-ghost use Rattle.zf_script.specs.Seen.{command_of};
-ghost use Rattle.zf_commands.specs.Kinds.{cmd_of_kind, view_cmd, IsPlain};
+ghost use Rattle.zf_commands.specs.Kinds.{cmd_of_kind, view_cmd, asked, IsPlain};
 ghost use Rattle.zf_run.specs.Sessions.{session_of, setting_of, kind};
-ghost use Rattle.zf_commands.specs.Steps.{Does, DoesAlone, HasWindow, said};
-ghost use Rattle.zf_run.specs.Splits.{lists, split_of, parted_session, FitTogether, AreNewParts};
+ghost use Rattle.zf_commands.specs.Steps.{Does, HasWindow, said};
+ghost use Rattle.zf_run.specs.Splits.{lists, parted_session, FitTogether, AreNewParts};
 
 use crate::arrays::{look_through_array, read_array, write_array};
 use crate::changes::change_array;
@@ -42,15 +39,16 @@ pub(crate) struct Parted<'a, T: Lane, const D: usize> {
     pub(crate) alloc: Global,
     pub(crate) array: &'a mut Array<T, D>,
     pub(crate) views: &'a mut Option<Vec<Private<T, D>>>,
+    pub(crate) window: Window,
 }
 
 impl<'a, T: Lane, const D: usize> Parted<'a, T, D> {
     /// The end of a run: a split ends, and then the array is flushed.
     pub(crate) fn finish(&mut self)
         requires { FitTogether T.value D self.old.array.now (lists self.old.views.now) }
-        ensures ended { (v : Part) → ended (setting_of T.width self.old.array.now)
-            (parted_session T.value self.old.array.now (lists self.old.views.now) v)
-            ≡ session_of self.new.array.now v }
+        ensures ended { ended (setting_of T.width self.old.array.now)
+            (parted_session T.value self.old.array.now (lists self.old.views.now) self.old.window)
+            ≡ session_of self.new.array.now self.new.window }
         ensures kept { kind self.new.array.now ≡ kind self.old.array.now }
         ensures same_array { self.new.array.ghost_name ≡ self.old.array.ghost_name }
     {
@@ -64,9 +62,9 @@ impl<'a, T: Lane, const D: usize> Parted<'a, T, D> {
     // Flushes the views in order, and ends the split, if there is one.
     fn join(&mut self)
         requires { FitTogether T.value D self.old.array.now (lists self.old.views.now) }
-        ensures joined { (v : Part) → joined (setting_of T.width self.old.array.now)
-            (parted_session T.value self.old.array.now (lists self.old.views.now) v)
-            ≡ session_of self.new.array.now v }
+        ensures joined { joined (setting_of T.width self.old.array.now)
+            (parted_session T.value self.old.array.now (lists self.old.views.now) self.old.window)
+            ≡ session_of self.new.array.now self.new.window }
         ensures whole { self.new.views.now ≡ None }
         ensures kept { kind self.new.array.now ≡ kind self.old.array.now }
         ensures same_array { self.new.array.ghost_name ≡ self.old.array.ghost_name }
@@ -82,9 +80,9 @@ impl<'a, T: Lane, const D: usize> Parted<'a, T, D> {
     // `split N L`: that many views, each with so many lines. The memory is taken first; then the array is flushed.
     fn split(&mut self, count: u64, lines: u64) -> Option<Reply>
         requires whole { self.old.views.now ≡ None }
-        ensures does { (v : Part) → HasWindow (session_of self.old.array.now v)
-            → Does (setting_of T.width self.old.array.now) (Command.split count lines) (session_of self.old.array.now v)
-            (parted_session T.value self.new.array.now (lists self.new.views.now) v) (said result) }
+        requires window { HasWindow (session_of self.old.array.now self.old.window) }
+        ensures does { Does (setting_of T.width self.old.array.now) (Command.split count lines)
+            (session_of self.old.array.now self.old.window) (parted_session T.value self.new.array.now (lists self.new.views.now) self.new.window) (said result) }
         ensures sound { FitTogether T.value D self.new.array.now (lists self.new.views.now) }
         ensures kept { kind self.new.array.now ≡ kind self.old.array.now }
         ensures same_array { self.new.array.ghost_name ≡ self.old.array.ghost_name }
@@ -105,22 +103,21 @@ impl<'a, T: Lane, const D: usize> Parted<'a, T, D> {
     }
 
     // What a command does while the array is whole.
-    fn obey_whole(&mut self, window: &mut Window, cmd: Kind) -> Option<Reply>
+    fn obey_whole(&mut self, cmd: Kind) -> Option<Reply>
         requires whole { self.old.views.now ≡ None }
-        requires window { HasWindow (session_of self.old.array.now window.old) }
-        requires plain { IsPlain (length (standing.shape self.old.array.now)) (cmd_of_kind cmd) }
-        ensures does { Does (setting_of T.width self.old.array.now)
-            (command_of (length (standing.shape self.old.array.now)) (cmd_of_kind cmd)) (session_of self.old.array.now window.old)
-            (parted_session T.value self.new.array.now (lists self.new.views.now) window.new) (said result) }
+        requires window { HasWindow (session_of self.old.array.now self.old.window) }
+        requires plain { IsPlain (session_of self.old.array.now self.old.window) (cmd_of_kind cmd) }
+        ensures does { Does (setting_of T.width self.old.array.now) (asked (session_of self.old.array.now self.old.window) (cmd_of_kind cmd))
+            (session_of self.old.array.now self.old.window) (parted_session T.value self.new.array.now (lists self.new.views.now) self.new.window) (said result) }
         ensures sound { FitTogether T.value D self.new.array.now (lists self.new.views.now) }
         ensures kept { kind self.new.array.now ≡ kind self.old.array.now }
         ensures same_array { self.new.array.ghost_name ≡ self.old.array.ghost_name }
     {
         match cmd {
-            Kind::Read(asked) => read_array(&mut *self.array, asked),
-            Kind::Window(asked) => look_through_array(&mut *self.array, window, asked),
-            Kind::Write(asked) => write_array(&mut *self.array, asked),
-            Kind::Array(asked) => change_array(&mut *self.array, window, asked),
+            Kind::Read(asked) => read_array(&mut *self.array, &mut self.window, asked),
+            Kind::Window(asked) => look_through_array(&mut *self.array, &mut self.window, asked),
+            Kind::Write(asked) => write_array(&mut *self.array, &mut self.window, asked),
+            Kind::Array(asked) => change_array(&mut *self.array, &mut self.window, asked),
             Kind::Split(count, lines) => self.split(count, lines),
             Kind::Join => Some(Reply::Refused(Refusal::Split)),
             Kind::View(_, _) => Some(Reply::Refused(Refusal::Split)),
@@ -131,11 +128,10 @@ impl<'a, T: Lane, const D: usize> Parted<'a, T, D> {
     fn obey_parted(&mut self, cmd: Kind) -> Option<Reply>
         requires sound { FitTogether T.value D self.old.array.now (lists self.old.views.now) }
         requires parted { IsSome self.old.views.now }
-        requires plain { IsPlain (length (standing.shape self.old.array.now)) (cmd_of_kind cmd) }
-        ensures does { DoesAlone (setting_of T.width self.old.array.now)
-            (command_of (length (standing.shape self.old.array.now)) (cmd_of_kind cmd))
-            (parted_session T.value self.old.array.now (lists self.old.views.now))
-            (parted_session T.value self.new.array.now (lists self.new.views.now)) (said result) }
+        requires window { HasWindow (parted_session T.value self.old.array.now (lists self.old.views.now) self.old.window) }
+        requires plain { IsPlain (parted_session T.value self.old.array.now (lists self.old.views.now) self.old.window) (cmd_of_kind cmd) }
+        ensures does { Does (setting_of T.width self.old.array.now) (asked (parted_session T.value self.old.array.now (lists self.old.views.now) self.old.window) (cmd_of_kind cmd))
+            (parted_session T.value self.old.array.now (lists self.old.views.now) self.old.window) (parted_session T.value self.new.array.now (lists self.new.views.now) self.new.window) (said result) }
         ensures sound { FitTogether T.value D self.new.array.now (lists self.new.views.now) }
         ensures kept { kind self.new.array.now ≡ kind self.old.array.now }
         ensures same_array { self.new.array.ghost_name ≡ self.old.array.ghost_name }
@@ -153,11 +149,10 @@ impl<'a, T: Lane, const D: usize> Parted<'a, T, D> {
     // What a command on a view does. Where there is none it is refused.
     fn obey_view(&mut self, i: u64, cmd: ViewCmd) -> Option<Reply>
         requires sound { FitTogether T.value D self.old.array.now (lists self.old.views.now) }
-        requires plain { IsPlain (length (standing.shape self.old.array.now)) (view_cmd i cmd) }
-        ensures does { DoesAlone (setting_of T.width self.old.array.now)
-            (command_of (length (standing.shape self.old.array.now)) (view_cmd i cmd))
-            (parted_session T.value self.old.array.now (lists self.old.views.now))
-            (parted_session T.value self.new.array.now (lists self.new.views.now)) (said result) }
+        requires window { HasWindow (parted_session T.value self.old.array.now (lists self.old.views.now) self.old.window) }
+        requires plain { IsPlain (parted_session T.value self.old.array.now (lists self.old.views.now) self.old.window) (view_cmd i cmd) }
+        ensures does { Does (setting_of T.width self.old.array.now) (asked (parted_session T.value self.old.array.now (lists self.old.views.now) self.old.window) (view_cmd i cmd))
+            (parted_session T.value self.old.array.now (lists self.old.views.now) self.old.window) (parted_session T.value self.new.array.now (lists self.new.views.now) self.new.window) (said result) }
         ensures sound { FitTogether T.value D self.new.array.now (lists self.new.views.now) }
         ensures kept { kind self.new.array.now ≡ kind self.old.array.now }
         ensures same_array { self.new.array.ghost_name ≡ self.old.array.ghost_name }
@@ -183,9 +178,7 @@ impl<'a, T: Lane, const D: usize> Subject for Parted<'a, T, D> {
 
     ghost sound = { λ p. FitTogether T.value D p.array.now (lists p.views.now) };
 
-    ghost shape = { λ p. standing.shape p.array.now };
-
-    ghost state = { λ p. standing.state p.array.now };
+    ghost session = { λ p. parted_session T.value p.array.now (lists p.views.now) p.window };
 
     fn sizes(&self) -> Shape {
         self.array.shape()
@@ -193,14 +186,12 @@ impl<'a, T: Lane, const D: usize> Subject for Parted<'a, T, D> {
 }
 
 impl<'a, T: Lane, const D: usize> Scripted for Parted<'a, T, D> {
-    ghost split = { λ p. split_of T.value p.array.now (lists p.views.now) };
-
-    fn obey(&mut self, window: &mut Window, cmd: Cmd) -> Option<Reply> {
+    fn obey(&mut self, cmd: Cmd) -> Option<Reply> {
         let asked = kind_of(cmd);
         if self.views.is_some() {
             self.obey_parted(asked)
         } else {
-            self.obey_whole(window, asked)
+            self.obey_whole(asked)
         }
     }
 }

@@ -6,12 +6,11 @@ ghost use Rattle.zf_cached.specs.Commands.{Command};
 ghost use Rattle.zf_cached.specs.Acts.{Act};
 ghost use Rattle.zf_cached.specs.Windows.{Window as Part};
 ghost use Rattle.zf_cached.specs.Steps.{by_view, flushed_views, view_has};
-ghost use Rattle.zf_script.specs.Seen.{command_of};
 ghost use Rattle.zf_array.specs.Standing.{shape};
-ghost use Rattle.zf_commands.specs.Kinds.{view_cmd, IsPlain};
-ghost use Rattle.zf_run.specs.Sessions.{setting_of, kind};
-ghost use Rattle.zf_commands.specs.Steps.{DoesAlone, said};
-ghost use Rattle.zf_run.specs.Splits.{split_session, AreParts};
+ghost use Rattle.zf_commands.specs.Kinds.{view_cmd, asked, IsPlain};
+ghost use Rattle.zf_run.specs.Sessions.{setting_of, start_of, kind};
+ghost use Rattle.zf_commands.specs.Steps.{said};
+ghost use Rattle.zf_run.specs.Splits.{split_session, AreParts, DoesAlone};
 
 use zf_array::{Array, Codes};
 use zf_base::{Lane, Pos};
@@ -27,8 +26,8 @@ pub(crate) fn on_view<T: Lane, const D: usize>(
     cmd: ViewCmd,
 ) -> Option<Reply>
     requires parts { AreParts T.value D a.old views.old }
-    requires plain { IsPlain (length (shape a.old)) (view_cmd i cmd) }
-    ensures does { DoesAlone (setting_of T.width a.old) (command_of (length (shape a.old)) (view_cmd i cmd))
+    requires plain { IsPlain (start_of a.old) (view_cmd i cmd) }
+    ensures does { DoesAlone (setting_of T.width a.old) (asked (start_of a.old) (view_cmd i cmd))
         (split_session T.value a.old views.old) (split_session T.value a.new views.new) (said result) }
     ensures parts { AreParts T.value D a.new views.new }
     ensures kept { kind a.new ≡ kind a.old }

@@ -1,44 +1,39 @@
-use Rattle.std.proofs.Common.{refl, ap, true, false, length}
+use Rattle.std.proofs.Common.{refl, true, false}
 use Rattle.zf_cached.specs.Kinds.{is_reading}
 use Rattle.zf_cached.specs.Runs.{look_setting}
-use Rattle.zf_const.specs.Standing.{shape, state}
 use Rattle.zf_commands.specs.declared.kinds.Kind.TheVariants as kinds
 use Rattle.zf_commands.specs.Kinds.{read_cmd, window_cmd, cmd_of_kind}
-use Rattle.zf_commands.specs.Sittings.{session}
 use Rattle.zf_commands.proofs.Commanding.{taken, not_taken}
 use Rattle.zf_commands.proofs.Sorting.{by_kind, same_plain, not_reading}
-use Rattle.zf_run.specs.Sessions.{look_setting_of}
+use Rattle.zf_run.specs.Sessions.{look_setting_of, look_session_of}
 use Rattle.zf_run.proofs.const_arrays.LookedScripted.obey.Goals as goal
 
 pub read-requires-clause-plain : goal.read-requires-clause-plain
 read-requires-clause-plain g c =
-    same_plain (length (shape c.args.self.now.array.now)) c.args.cmd (read_cmd c.in-Read.asked) c.in-Read.ensures c.requires.plain
+    same_plain (look_session_of c.args.self.now.array.now c.args.self.now.window) c.args.cmd (read_cmd c.in-Read.asked) c.in-Read.ensures c.requires.plain
 
 pub look_through-requires-clause-plain : goal.look_through-requires-clause-plain
 look_through-requires-clause-plain g c =
-    same_plain (length (shape c.args.self.now.array.now)) c.args.cmd (window_cmd c.in-Window.asked) c.in-Window.ensures c.requires.plain
+    same_plain (look_session_of c.args.self.now.array.now c.args.self.now.window) c.args.cmd (window_cmd c.in-Window.asked) c.in-Window.ensures c.requires.plain
 
 pub returns-in-Read-clause-step : goal.returns-in-Read-clause-step
 unfolding look_setting
 returns-in-Read-clause-step g c =
     let a = c.args.self.now.array.now in
-    let d = length (shape a) in
-    taken (look_setting_of g.T.Lane.width a.header) d c.args.cmd (read_cmd c.in-Read.asked) c.in-Read.ensures (session (shape a) (state a) c.args.window.now) _ _
-    (by_kind d (kinds.Read c.in-Read.asked) is_reading true refl) (c.read.ensures.does c.args.window.now c.requires.window)
+    let s = look_session_of a c.args.self.now.window in
+    taken (look_setting_of g.T.Lane.width a.header) c.args.cmd (read_cmd c.in-Read.asked) c.in-Read.ensures s _ _ (by_kind s (kinds.Read c.in-Read.asked) is_reading true refl) c.read.ensures.does
 
 pub returns-in-Window-clause-step : goal.returns-in-Window-clause-step
 unfolding look_setting
 returns-in-Window-clause-step g c =
     let a = c.args.self.now.array.now in
-    let d = length (shape a) in
-    taken (look_setting_of g.T.Lane.width a.header) d c.args.cmd (window_cmd c.in-Window.asked) c.in-Window.ensures (session (shape a) (state a) c.args.window.now) _ _
-    (by_kind d (kinds.Window c.in-Window.asked) is_reading true refl) c.look_through.ensures.does
+    let s = look_session_of a c.args.self.now.window in
+    taken (look_setting_of g.T.Lane.width a.header) c.args.cmd (window_cmd c.in-Window.asked) c.in-Window.ensures s _ _ (by_kind s (kinds.Window c.in-Window.asked) is_reading true refl) c.look_through.ensures.does
 
 pub returns-in_default-clause-step : goal.returns-in_default-clause-step
 unfolding look_setting
 returns-in_default-clause-step g c =
     let a = c.args.self.now.array.now in
-    let d = length (shape a) in
+    let s = look_session_of a c.args.self.now.window in
     let k = c.kind_of.result in
-    not_taken (look_setting_of g.T.Lane.width a.header) d c.args.cmd (cmd_of_kind k) c.kind_of.ensures (session (shape a) (state a) c.args.window.now)
-    (by_kind d k is_reading false (not_reading k c.in_default.not-Read c.in_default.not-Window))
+    not_taken (look_setting_of g.T.Lane.width a.header) c.args.cmd (cmd_of_kind k) c.kind_of.ensures s (by_kind s k is_reading false (not_reading k c.in_default.not-Read c.in_default.not-Window))

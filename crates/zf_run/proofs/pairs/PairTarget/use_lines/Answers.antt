@@ -14,7 +14,7 @@ pub returns-clause-ok : goal.returns-clause-ok
 returns-clause-ok g c =
     let s = c.args.self.now.store.now in let k = c.args.self.now.cache.now in let value = g.T.Lane.value in let w = g.T.Lane.width in
     let t = c.relined.new.back in let e = c.relined.new.self in let head = ap (λ (q : Frame). q.header) c.relined.ensures.kept in
-    on_ok c.relined.result (λ is v. lined_two w s c.header-header.ensures.whole.same_type value k v t e head c.args.count
+    on_ok c.relined.result (λ is. lined_two w s c.header-header.ensures.whole.same_type value k c.args.self.now.window t e head c.args.count
     (is ∙ ap (relined (format_of s) (pair_state value s k)) c.raised.ensures.value)) c.relined.ensures.ok
 
 pub returns-clause-err : goal.returns-clause-err
