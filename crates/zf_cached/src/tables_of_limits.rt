@@ -38,6 +38,8 @@ pub fn numbers_of_views()
     ensures none { zeros_text w32 64 (8 ∷ []) 2
         (codes "split 2 1\n@2 flush\n@2 discard\n@2 stats\n@2 get 0\n@2 set 0 1\n@2 add 0 1\n@1 flush\n@1 discard\n@1 stats\n")
         ≡ codes "! range\n! range\n! range\n! range\n! range\n! range\nhits 0 misses 0 writes 0\n" }
+    ensures lines { zeros_text w32 64 (16 ∷ []) 2 (codes "split 1 3\n@0 get 0\n@0 get 12\n@0 get 0\n@0 stats\n")
+        ≡ codes "0\n0\n0\nhits 1 misses 2 writes 0\n" }
 {}
 
 /// A look has the lines `slice`, `vsum`, `lines` and `stats` too.

@@ -23,4 +23,4 @@ returns-clause-err g c =
     let t = c.relined.new.back in let e = c.relined.new.self in let head = ap (λ (q : Frame). q.header) c.relined.ensures.kept in
     on_err c.relined.result (λ same.
     let stores = same_store s t c.relined.ensures.kept (λ b. ap (λ (codes : ℕ → List Bool). codes b) same.1) in
-    λ i. record { store = record c.args.self.now.store { now = stores i }; cache = record c.args.self.now.cache { now = same.0 i } }) c.relined.ensures.err
+    λ i. record { store = record c.args.self.now.store { now = stores i }; cache = record c.args.self.now.cache { now = same.0 i }; window = c.args.self.now.window }) c.relined.ensures.err
