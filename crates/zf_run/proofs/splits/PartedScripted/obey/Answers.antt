@@ -1,4 +1,4 @@
-use Rattle.std.proofs.Common.{refl, sym, subst, ◌∙◌}
+use Rattle.std.proofs.Common.{refl, sym, subst, ◌∙◌, lit<}
 use Rattle.zf_cached.specs.Runs.{array_setting}
 use Rattle.zf_commands.specs.Kinds.{cmd_of_kind, asked}
 use Rattle.zf_commands.specs.Steps.{Takes, said}
@@ -9,15 +9,17 @@ use Rattle.zf_run.specs.Splits.{lists, parted_session}
 use Rattle.zf_run.proofs.Parting.{none_parted}
 use Rattle.zf_run.proofs.splits.PartedScripted.obey.Goals as goal
 
-pub obey_parted-requires-clause-plain : goal.obey_parted-requires-clause-plain
-obey_parted-requires-clause-plain g c =
+pub obey_parted-requires : goal.obey_parted-requires
+obey_parted-requires g c =
     let p = c.args.self.now in
-    same_plain (parted_session g.T.Lane.value p.array.now (lists p.views.now) p.window) c.args.cmd (cmd_of_kind c.kind_of-asked.result) c.kind_of-asked.ensures c.requires.plain
+    let plain = same_plain (parted_session g.T.Lane.value p.array.now (lists p.views.now) p.window) c.args.cmd (cmd_of_kind c.kind_of-asked.result) c.kind_of-asked.ensures c.requires.plain in
+    (lit< tt, (c.requires.sound, (sym c.is_some.ensures ∙ c.if-is_some.true, (c.requires.window, plain))))
 
-pub obey_whole-requires-clause-plain : goal.obey_whole-requires-clause-plain
-obey_whole-requires-clause-plain g c =
+pub obey_whole-requires : goal.obey_whole-requires
+obey_whole-requires g c =
     let p = c.args.self.now in
-    same_plain (session_of p.array.now p.window) c.args.cmd (cmd_of_kind c.kind_of-asked.result) c.kind_of-asked.ensures c.requires.plain
+    let plain = same_plain (session_of p.array.now p.window) c.args.cmd (cmd_of_kind c.kind_of-asked.result) c.kind_of-asked.ensures c.requires.plain in
+    (lit< tt, (none_parted p.views.now (sym c.is_some.ensures ∙ c.if-is_some.false), (c.requires.window, plain)))
 
 pub returns-then-is_some-clause-step : goal.returns-then-is_some-clause-step
 unfolding array_setting
