@@ -68,11 +68,7 @@ fn reply_to<A: Scripted>(a: &mut A, line: &[u8]) -> Option<Reply>
 }
 
 /// Runs all lines, each on what those before left, and counts those that are refused.
-pub fn run_lines<A: Scripted, O: Sink>(
-    a: &mut A,
-    script: &[u8],
-    out: &mut O,
-) -> Result<u64, Failed>
+pub fn run_lines<A: Scripted, O: Sink>(a: &mut A, script: &[u8], out: &mut O) -> Result<u64, Failed>
     requires sound { A.sound a.old }
     requires window { HasWindow (A.session a.old) }
     ensures ok { IfOk result (AllRun (A.setting (A.kept a.old)) script.now (A.session a.old)

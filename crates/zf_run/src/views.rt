@@ -187,7 +187,11 @@ fn view_discard<T: Lane, const D: usize>(
 }
 
 // `@V stats`: the counts of a view.
-fn view_stats<T: Lane, const D: usize>(a: &Array<T, D>, views: &[Private<T, D>], i: u64) -> Option<Reply>
+fn view_stats<T: Lane, const D: usize>(
+    a: &Array<T, D>,
+    views: &[Private<T, D>],
+    i: u64,
+) -> Option<Reply>
     ensures { DoesAlone (setting_of T.width a.now) (Command.pstats i)
         (split_session T.value a.now views.now) (split_session T.value a.now views.now) (said result) }
 {
