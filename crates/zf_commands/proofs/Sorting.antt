@@ -1,10 +1,10 @@
 -- Commands and their kinds.
-use Rattle.std.proofs.Common.{◌≡◌, refl, ap, subst, ◌∙◌, ℕ, Bool, true, false, length}
+use Rattle.std.proofs.Common.{◌≡◌, refl, ap, subst, ◌∙◌, ℕ, Bool, false, length}
 use Rattle.zf_cached.specs.Kinds as sorts
 use Rattle.zf_cached.specs.Kinds.{is_reading, is_windowless, is_of_split}
 use Rattle.zf_cached.specs.Steps.{Session}
 use Rattle.zf_script.specs.declared.command.Cmd.{Cmd}
-use Rattle.zf_script.specs.Seen.{command_of, cmd_of}
+use Rattle.zf_script.specs.Seen.{command_of}
 use Rattle.zf_commands.specs.declared.kinds.Kind.{Kind}
 use Rattle.zf_commands.specs.declared.kinds.Kind.TheVariants as kinds
 use Rattle.zf_commands.specs.declared.kinds.ReadCmd.{ReadCmd}
@@ -13,7 +13,6 @@ use Rattle.zf_commands.specs.declared.kinds.WindowCmd.{WindowCmd}
 use Rattle.zf_commands.specs.declared.kinds.WindowCmd.TheVariants as windows
 use Rattle.zf_commands.specs.declared.kinds.WriteCmd.{WriteCmd}
 use Rattle.zf_commands.specs.declared.kinds.WriteCmd.TheVariants as writes
-use Rattle.zf_commands.specs.declared.kinds.ArrayCmd.{ArrayCmd}
 use Rattle.zf_commands.specs.declared.kinds.ArrayCmd.TheVariants as arrays
 use Rattle.zf_commands.specs.declared.kinds.ViewCmd.{ViewCmd}
 use Rattle.zf_commands.specs.declared.kinds.ViewCmd.TheVariants as views

@@ -48,8 +48,8 @@ module _ {X : Type 0} (value : X → ℤ) where
   split_of a (Some views) = Some (views_seen a views)
 
   -- an array and its views, if there are some, as what a script works on
-  abbrev pub parted_session : Held → Option (List (private.Held X)) → Window → Session (List Bool)
-  parted_session a views window = sitting (shape a) (state a) (split_of a views) window
+  abbrev pub parted_session : {Z : Type 0} → Held → Option (Vec (private.Held X) Z) → Window → Session (List Bool)
+  parted_session a views window = sitting (shape a) (state a) (split_of a (lists views)) window
 
   -- an array that is split, and its views
   abbrev pub split_session : Held → List (private.Held X) → Window → Session (List Bool)
@@ -69,9 +69,9 @@ module _ {X : Type 0} (value : X → ℤ) where
     pub each : (i : ℕ) (v : private.Held X) → i < length views → v ≡ slice_index_or views i v → IsPart d a (length views) i v
 
   -- they are, where there are views
-  abbrev pub FitTogether : ℕ → Held → Option (List (private.Held X)) → Type 0
+  abbrev pub FitTogether : {Z : Type 0} → ℕ → Held → Option (Vec (private.Held X) Z) → Type 0
   FitTogether d a None = Unit {0}
-  FitTogether d a (Some views) = AreParts d a views
+  FitTogether d a (Some views) = AreParts d a (vec_items views)
 
 -- a view as it is made: nothing is in its lines, which have room for the blocks of the array, and nothing is counted
 pub record IsNewPart {X : Type 0} (d : ℕ) (ns : List ℕ) (n lines i : ℕ) (v : private.Held X) : Type 0 where

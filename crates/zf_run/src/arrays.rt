@@ -5,18 +5,14 @@ ghost use Rattle.zf_base.specs.declared.lane.Ty.{Ty};
 ghost use Rattle.zf_header.specs.declared.header.Mode.{Mode};
 ghost use Rattle.zf_header.specs.HeaderBits.{block_bits};
 ghost use Rattle.zf_cached.specs.Runs.{array_setting};
-ghost use Rattle.zf_commands.specs.Kinds.{read_cmd, window_cmd, write_cmd, asked, IsPlain};
-ghost use Rattle.zf_commands.specs.Steps.{HasWindow, Does, said};
-ghost use Rattle.zf_run.specs.Sessions.{setting_of, session_of, kind, array_width};
+ghost use Rattle.zf_run.specs.Sessions.{session_of, kind, array_width};
 
 use crate::changes::{fill_block, sum_block};
 use std::alloc::AllocError;
 use zf_array::Array;
 use zf_base::{Lane, Pos, Shape};
-use zf_commands::{
-    Changing, ReadCmd, Subject, Target, WindowCmd, WriteCmd, look_through, read, write,
-};
-use zf_script::{Reply, Stats};
+use zf_commands::{Changing, Subject, Target};
+use zf_script::Stats;
 use zf_view::Window;
 
 /// An array that is read and written, as what the lines of a script work on.
@@ -121,49 +117,4 @@ impl<'a, T: Lane, const D: usize> Changing<T> for Whole<'a, T, D> {
         let _shape = array.shape();
         array.discard();
     }
-}
-
-/// What a command does that reads an array, or is about its cache.
-pub(crate) fn read_array<T: Lane, const D: usize>(
-    a: &mut Array<T, D>,
-    window: &mut Window,
-    cmd: ReadCmd,
-) -> Option<Reply>
-    requires window { HasWindow (session_of a.old window.old) }
-    requires plain { IsPlain (session_of a.old window.old) (read_cmd cmd) }
-    ensures does { Does (setting_of T.width a.old) (asked (session_of a.old window.old) (read_cmd cmd))
-        (session_of a.old window.old) (session_of a.new window.new) (said result) }
-    ensures kept { kind a.new ≡ kind a.old }
-{
-    read(&mut Whole { array: a, window }, cmd)
-}
-
-/// What a command does that is about the window, or reads an array through it.
-pub(crate) fn look_through_array<T: Lane, const D: usize>(
-    a: &mut Array<T, D>,
-    window: &mut Window,
-    cmd: WindowCmd,
-) -> Option<Reply>
-    requires window { HasWindow (session_of a.old window.old) }
-    requires plain { IsPlain (session_of a.old window.old) (window_cmd cmd) }
-    ensures does { Does (setting_of T.width a.old) (asked (session_of a.old window.old) (window_cmd cmd))
-        (session_of a.old window.old) (session_of a.new window.new) (said result) }
-    ensures kept { kind a.new ≡ kind a.old }
-{
-    look_through(&mut Whole { array: a, window }, cmd)
-}
-
-/// What a command does that changes the values of an array, or writes them back.
-pub(crate) fn write_array<T: Lane, const D: usize>(
-    a: &mut Array<T, D>,
-    window: &mut Window,
-    cmd: WriteCmd,
-) -> Option<Reply>
-    requires window { HasWindow (session_of a.old window.old) }
-    requires plain { IsPlain (session_of a.old window.old) (write_cmd cmd) }
-    ensures does { Does (setting_of T.width a.old) (asked (session_of a.old window.old) (write_cmd cmd))
-        (session_of a.old window.old) (session_of a.new window.new) (said result) }
-    ensures kept { kind a.new ≡ kind a.old }
-{
-    write::<T, _>(&mut Whole { array: a, window }, cmd)
 }

@@ -16,14 +16,14 @@ ghost use Rattle.zf_run.specs.Sessions.{session_of, setting_of, kind};
 ghost use Rattle.zf_commands.specs.Steps.{Does, HasWindow, said};
 ghost use Rattle.zf_run.specs.Splits.{lists, parted_session, FitTogether, AreNewParts};
 
-use crate::arrays::{look_through_array, read_array, write_array};
+use crate::arrays::Whole;
 use crate::changes::change_array;
 use crate::views::{flush_views, on_view};
 use std::alloc::{AllocError, Global};
 use zf_array::{Array, Codes};
 use zf_base::{Lane, Shape};
 use zf_cache::raised;
-use zf_commands::{Kind, Scripted, Subject, ViewCmd, kind_of};
+use zf_commands::{Kind, Scripted, Subject, ViewCmd, kind_of, look_through, read, write};
 use zf_private::Private;
 use zf_script::{Cmd, Refusal, Reply};
 use zf_view::Window;
@@ -45,9 +45,9 @@ pub(crate) struct Parted<'a, T: Lane, const D: usize> {
 impl<'a, T: Lane, const D: usize> Parted<'a, T, D> {
     /// The end of a run: a split ends, and then the array is flushed.
     pub(crate) fn finish(&mut self)
-        requires { FitTogether T.value D self.old.array.now (lists self.old.views.now) }
+        requires { FitTogether T.value D self.old.array.now self.old.views.now }
         ensures ended { ended (setting_of T.width self.old.array.now)
-            (parted_session T.value self.old.array.now (lists self.old.views.now) self.old.window)
+            (parted_session T.value self.old.array.now self.old.views.now self.old.window)
             ≡ session_of self.new.array.now self.new.window }
         ensures kept { kind self.new.array.now ≡ kind self.old.array.now }
         ensures same_array { self.new.array.ghost_name ≡ self.old.array.ghost_name }
@@ -61,9 +61,9 @@ impl<'a, T: Lane, const D: usize> Parted<'a, T, D> {
 
     // Flushes the views in order, and ends the split, if there is one.
     fn join(&mut self)
-        requires { FitTogether T.value D self.old.array.now (lists self.old.views.now) }
+        requires { FitTogether T.value D self.old.array.now self.old.views.now }
         ensures joined { joined (setting_of T.width self.old.array.now)
-            (parted_session T.value self.old.array.now (lists self.old.views.now) self.old.window)
+            (parted_session T.value self.old.array.now self.old.views.now self.old.window)
             ≡ session_of self.new.array.now self.new.window }
         ensures whole { self.new.views.now ≡ None }
         ensures kept { kind self.new.array.now ≡ kind self.old.array.now }
@@ -82,8 +82,8 @@ impl<'a, T: Lane, const D: usize> Parted<'a, T, D> {
         requires whole { self.old.views.now ≡ None }
         requires window { HasWindow (session_of self.old.array.now self.old.window) }
         ensures does { Does (setting_of T.width self.old.array.now) (Command.split count lines)
-            (session_of self.old.array.now self.old.window) (parted_session T.value self.new.array.now (lists self.new.views.now) self.new.window) (said result) }
-        ensures sound { FitTogether T.value D self.new.array.now (lists self.new.views.now) }
+            (session_of self.old.array.now self.old.window) (parted_session T.value self.new.array.now self.new.views.now self.new.window) (said result) }
+        ensures sound { FitTogether T.value D self.new.array.now self.new.views.now }
         ensures kept { kind self.new.array.now ≡ kind self.old.array.now }
         ensures same_array { self.new.array.ghost_name ≡ self.old.array.ghost_name }
     {
@@ -108,15 +108,27 @@ impl<'a, T: Lane, const D: usize> Parted<'a, T, D> {
         requires window { HasWindow (session_of self.old.array.now self.old.window) }
         requires plain { IsPlain (session_of self.old.array.now self.old.window) (cmd_of_kind cmd) }
         ensures does { Does (setting_of T.width self.old.array.now) (asked (session_of self.old.array.now self.old.window) (cmd_of_kind cmd))
-            (session_of self.old.array.now self.old.window) (parted_session T.value self.new.array.now (lists self.new.views.now) self.new.window) (said result) }
-        ensures sound { FitTogether T.value D self.new.array.now (lists self.new.views.now) }
+            (session_of self.old.array.now self.old.window) (parted_session T.value self.new.array.now self.new.views.now self.new.window) (said result) }
+        ensures sound { FitTogether T.value D self.new.array.now self.new.views.now }
         ensures kept { kind self.new.array.now ≡ kind self.old.array.now }
         ensures same_array { self.new.array.ghost_name ≡ self.old.array.ghost_name }
     {
         match cmd {
-            Kind::Read(asked) => read_array(&mut *self.array, &mut self.window, asked),
-            Kind::Window(asked) => look_through_array(&mut *self.array, &mut self.window, asked),
-            Kind::Write(asked) => write_array(&mut *self.array, &mut self.window, asked),
+            Kind::Read(asked) => {
+                let array = &mut *self.array;
+                let window = &mut self.window;
+                read(&mut Whole { array, window }, asked)
+            }
+            Kind::Window(asked) => {
+                let array = &mut *self.array;
+                let window = &mut self.window;
+                look_through(&mut Whole { array, window }, asked)
+            }
+            Kind::Write(asked) => {
+                let array = &mut *self.array;
+                let window = &mut self.window;
+                write::<T, _>(&mut Whole { array, window }, asked)
+            }
             Kind::Array(asked) => change_array(&mut *self.array, &mut self.window, asked),
             Kind::Split(count, lines) => self.split(count, lines),
             Kind::Join => Some(Reply::Refused(Refusal::Split)),
@@ -126,13 +138,13 @@ impl<'a, T: Lane, const D: usize> Parted<'a, T, D> {
 
     // What a command does while the array is split: it ends the split, or is on a view.
     fn obey_parted(&mut self, cmd: Kind) -> Option<Reply>
-        requires sound { FitTogether T.value D self.old.array.now (lists self.old.views.now) }
+        requires sound { FitTogether T.value D self.old.array.now self.old.views.now }
         requires parted { IsSome self.old.views.now }
-        requires window { HasWindow (parted_session T.value self.old.array.now (lists self.old.views.now) self.old.window) }
-        requires plain { IsPlain (parted_session T.value self.old.array.now (lists self.old.views.now) self.old.window) (cmd_of_kind cmd) }
-        ensures does { Does (setting_of T.width self.old.array.now) (asked (parted_session T.value self.old.array.now (lists self.old.views.now) self.old.window) (cmd_of_kind cmd))
-            (parted_session T.value self.old.array.now (lists self.old.views.now) self.old.window) (parted_session T.value self.new.array.now (lists self.new.views.now) self.new.window) (said result) }
-        ensures sound { FitTogether T.value D self.new.array.now (lists self.new.views.now) }
+        requires window { HasWindow (parted_session T.value self.old.array.now self.old.views.now self.old.window) }
+        requires plain { IsPlain (parted_session T.value self.old.array.now self.old.views.now self.old.window) (cmd_of_kind cmd) }
+        ensures does { Does (setting_of T.width self.old.array.now) (asked (parted_session T.value self.old.array.now self.old.views.now self.old.window) (cmd_of_kind cmd))
+            (parted_session T.value self.old.array.now self.old.views.now self.old.window) (parted_session T.value self.new.array.now self.new.views.now self.new.window) (said result) }
+        ensures sound { FitTogether T.value D self.new.array.now self.new.views.now }
         ensures kept { kind self.new.array.now ≡ kind self.old.array.now }
         ensures same_array { self.new.array.ghost_name ≡ self.old.array.ghost_name }
     {
@@ -148,12 +160,12 @@ impl<'a, T: Lane, const D: usize> Parted<'a, T, D> {
 
     // What a command on a view does. Where there is none it is refused.
     fn obey_view(&mut self, i: u64, cmd: ViewCmd) -> Option<Reply>
-        requires sound { FitTogether T.value D self.old.array.now (lists self.old.views.now) }
-        requires window { HasWindow (parted_session T.value self.old.array.now (lists self.old.views.now) self.old.window) }
-        requires plain { IsPlain (parted_session T.value self.old.array.now (lists self.old.views.now) self.old.window) (view_cmd i cmd) }
-        ensures does { Does (setting_of T.width self.old.array.now) (asked (parted_session T.value self.old.array.now (lists self.old.views.now) self.old.window) (view_cmd i cmd))
-            (parted_session T.value self.old.array.now (lists self.old.views.now) self.old.window) (parted_session T.value self.new.array.now (lists self.new.views.now) self.new.window) (said result) }
-        ensures sound { FitTogether T.value D self.new.array.now (lists self.new.views.now) }
+        requires sound { FitTogether T.value D self.old.array.now self.old.views.now }
+        requires window { HasWindow (parted_session T.value self.old.array.now self.old.views.now self.old.window) }
+        requires plain { IsPlain (parted_session T.value self.old.array.now self.old.views.now self.old.window) (view_cmd i cmd) }
+        ensures does { Does (setting_of T.width self.old.array.now) (asked (parted_session T.value self.old.array.now self.old.views.now self.old.window) (view_cmd i cmd))
+            (parted_session T.value self.old.array.now self.old.views.now self.old.window) (parted_session T.value self.new.array.now self.new.views.now self.new.window) (said result) }
+        ensures sound { FitTogether T.value D self.new.array.now self.new.views.now }
         ensures kept { kind self.new.array.now ≡ kind self.old.array.now }
         ensures same_array { self.new.array.ghost_name ≡ self.old.array.ghost_name }
     {
@@ -176,9 +188,9 @@ impl<'a, T: Lane, const D: usize> Subject for Parted<'a, T, D> {
 
     ghost setting = { λ k. array_setting T.width (block_bits k.0.1) };
 
-    ghost sound = { λ p. FitTogether T.value D p.array.now (lists p.views.now) };
+    ghost sound = { λ p. FitTogether T.value D p.array.now p.views.now };
 
-    ghost session = { λ p. parted_session T.value p.array.now (lists p.views.now) p.window };
+    ghost session = { λ p. parted_session T.value p.array.now p.views.now p.window };
 
     fn sizes(&self) -> Shape {
         self.array.shape()

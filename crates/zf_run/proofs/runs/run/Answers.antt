@@ -18,7 +18,7 @@ returns-in-Ok-clause-runs g c =
     let new = g.O.Sink.contents c.run_lines.new.out in
     let is = c.a-1.given.1 (sym (c.finish.ensures.same_array ∙ ap (λ (q : _). q.1) c.run_lines.ensures.kept)) in
     subst (λ (m : Held). Runs w a m c.args.script.now old new c.end_of.result) (sym is)
-    (runs_all w a p.array.now (parted_session g.T.Lane.value p.array.now (lists p.views.now) u) c.whole-window.result c.args.script.now old new
+    (runs_all w a p.array.now (parted_session g.T.Lane.value p.array.now p.views.now u) c.whole-window.result c.args.script.now old new
     (c.whole-window.ensures.window ∙ ap whole c.shape.ensures.value) (ap (λ (q : _). q.0) c.run_lines.ensures.kept)
     b c.finish.new.self.window c.in-Ok.refused c.in-Ok.ensures.ok c.finish.ensures.ended c.finish.ensures.kept c.end_of.result c.end_of.ensures)
 
@@ -32,5 +32,5 @@ returns-clause-runs g c =
     let new = g.O.Sink.contents c.run_lines.new.out in
     let is = c.a-in-Err-1.given.1 (sym (ap (λ (q : _). q.1) c.run_lines.ensures.kept)) in
     subst (λ (m : Held). Runs w a m c.args.script.now old new Write) (sym is)
-    (runs_stopped w a p.array.now (parted_session g.T.Lane.value p.array.now (lists p.views.now) p.window) c.whole-window.result c.args.script.now old new
+    (runs_stopped w a p.array.now (parted_session g.T.Lane.value p.array.now p.views.now p.window) c.whole-window.result c.args.script.now old new
     (c.whole-window.ensures.window ∙ ap whole c.shape.ensures.value) (ap (λ (q : _). q.0) c.run_lines.ensures.kept) c.in-Err.ensures.err refl refl)

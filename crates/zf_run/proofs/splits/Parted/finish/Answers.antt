@@ -10,5 +10,5 @@ pub returns-clause-ended : goal.returns-clause-ended
 returns-clause-ended g c =
     let a = c.args.self.now.array.now in
     let same = c.shape-shape.ensures.same_type ∙ ap (λ (k : Ty × Mode). width_of k.0) c.join.ensures.kept in
-    ends g.T.Lane.width a c.join.new.self.array.now c.flush.new.self (parted_session g.T.Lane.value a (lists c.args.self.now.views.now) c.args.self.now.window) c.join.new.self.window same c.join.ensures.kept
+    ends g.T.Lane.width a c.join.new.self.array.now c.flush.new.self (parted_session g.T.Lane.value a c.args.self.now.views.now c.args.self.now.window) c.join.new.self.window same c.join.ensures.kept
     c.join.ensures.joined c.flush.ensures.state c.flush.ensures.header

@@ -15,16 +15,16 @@ returns-in-Join-clause-does g c =
     let q = c.join.new.self in
     let value = g.T.Lane.value in
     let S = setting_of g.T.Lane.width p.array.now in
-    let s = parted_session value p.array.now (lists p.views.now) p.window in
-    let t = parted_session value q.array.now (lists q.views.now) q.window in
+    let s = parted_session value p.array.now p.views.now p.window in
+    let t = parted_session value q.array.now q.views.now q.window in
     subst (λ k. Does S (asked s (cmd_of_kind k)) s t None) (sym c.in-Join.is)
     (has_joined S s t c.requires.window (some_parted value p.array.now p.views.now c.requires.parted)
-    (c.join.ensures.joined ∙ ap (λ o. parted_session value q.array.now (lists o) q.window) (sym c.join.ensures.whole)))
+    (c.join.ensures.joined ∙ ap (λ o. parted_session value q.array.now o q.window) (sym c.join.ensures.whole)))
 
 pub returns-in_default-clause-does : goal.returns-in_default-clause-does
 returns-in_default-clause-does g c =
     let p = c.args.self.now in
-    let s = parted_session g.T.Lane.value p.array.now (lists p.views.now) p.window in
+    let s = parted_session g.T.Lane.value p.array.now p.views.now p.window in
     let cmd = asked s (cmd_of_kind c.args.cmd) in
     refused_split (setting_of g.T.Lane.width p.array.now) cmd s c.requires.window
     (refuses_whole s cmd (some_parted g.T.Lane.value p.array.now p.views.now c.requires.parted) (by_kind s c.args.cmd is_of_split false (not_of_split c.args.cmd c.in_default.not-Join c.in_default.not-View)))

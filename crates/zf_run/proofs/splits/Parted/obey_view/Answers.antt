@@ -16,5 +16,5 @@ returns-in_default-clause-does g c =
     let S = setting_of g.T.Lane.width p.array.now in
     let s = session_of p.array.now p.window in
     let cmd = asked s (view_cmd c.args.i c.args.cmd) in
-    subst (λ o. let t = parted_session g.T.Lane.value p.array.now (lists o) p.window in Does S cmd t t (Some (Reply.refused Refusal.split))) (sym c.in_default.is)
+    subst (λ o. let t = parted_session g.T.Lane.value p.array.now o p.window in Does S cmd t t (Some (Reply.refused Refusal.split))) (sym c.in_default.is)
     (refused_split S cmd s c.requires.window (by_kind s (kinds.View c.args.i c.args.cmd) is_of_split true refl))

@@ -15,7 +15,7 @@ returns-in-Join-clause-does g c =
     let S = setting_of g.T.Lane.width p.array.now in
     let s = session_of p.array.now p.window in
     let cmd = asked s (cmd_of_kind c.args.cmd) in
-    subst (λ o. Does S cmd s (parted_session g.T.Lane.value p.array.now (lists o) p.window) (Some (Reply.refused Refusal.split))) (sym c.requires.whole)
+    subst (λ o. Does S cmd s (parted_session g.T.Lane.value p.array.now o p.window) (Some (Reply.refused Refusal.split))) (sym c.requires.whole)
     (refused_split S cmd s c.requires.window (by_kind s c.args.cmd is_of_split true (ap (λ k. is_of_split (sort_of k)) c.in-Join.is)))
 
 pub returns-in-View-clause-does : goal.returns-in-View-clause-does
@@ -24,5 +24,5 @@ returns-in-View-clause-does g c =
     let S = setting_of g.T.Lane.width p.array.now in
     let s = session_of p.array.now p.window in
     let cmd = asked s (cmd_of_kind c.args.cmd) in
-    subst (λ o. Does S cmd s (parted_session g.T.Lane.value p.array.now (lists o) p.window) (Some (Reply.refused Refusal.split))) (sym c.requires.whole)
+    subst (λ o. Does S cmd s (parted_session g.T.Lane.value p.array.now o p.window) (Some (Reply.refused Refusal.split))) (sym c.requires.whole)
     (refused_split S cmd s c.requires.window (by_kind s c.args.cmd is_of_split true (ap (λ k. is_of_split (sort_of k)) c.in-View.is)))

@@ -24,7 +24,7 @@ returns-then-not-may_split-clause-does g c =
     let many = c.blocks-2.ensures.value ∙ ap blocks c.shape-shape.ensures.value in
     let tests : (is_view_count (blocks (shape a)) n && is_line_count l) ≡ false =
     subst (λ m. (is_view_count m n && is_line_count l) ≡ false) many (sym c.may_split.ensures ∙ c.if-not-may_split.true) in
-    subst (λ o. Does S (Command.split n l) (session_of a c.args.self.now.window) (parted_session g.T.Lane.value a (lists o) c.args.self.now.window) (Some (Reply.refused Refusal.size))) (sym c.requires.whole)
+    subst (λ o. Does S (Command.split n l) (session_of a c.args.self.now.window) (parted_session g.T.Lane.value a o c.args.self.now.window) (Some (Reply.refused Refusal.size))) (sym c.requires.whole)
     (refused_size S (Command.split n l) (session_of a c.args.self.now.window) c.requires.window refl (ap not tests))
 
 pub returns-in_default-clause-does : goal.returns-in_default-clause-does
@@ -37,7 +37,7 @@ returns-in_default-clause-does g c =
     let many = c.blocks-2.ensures.value ∙ ap blocks c.shape-shape.ensures.value in
     let tests : (is_view_count (blocks (shape a)) n && is_line_count l) ≡ true =
     subst (λ m. (is_view_count m n && is_line_count l) ≡ true) many (sym c.may_split.ensures ∙ c.if-not-may_split.false) in
-    subst (λ o. Does S (Command.split n l) (session_of a c.args.self.now.window) (parted_session g.T.Lane.value a (lists o) c.args.self.now.window) (Some (Reply.refused Refusal.memory))) (sym c.requires.whole)
+    subst (λ o. Does S (Command.split n l) (session_of a c.args.self.now.window) (parted_session g.T.Lane.value a o c.args.self.now.window) (Some (Reply.refused Refusal.memory))) (sym c.requires.whole)
     (refused_memory S (Command.split n l) (session_of a c.args.self.now.window) c.requires.window refl (ap not tests) refl refl refl)
 
 pub returns-clause-does : goal.returns-clause-does

@@ -12,7 +12,7 @@ use Rattle.zf_run.proofs.splits.PartedScripted.obey.Goals as goal
 pub obey_parted-requires : goal.obey_parted-requires
 obey_parted-requires g c =
     let p = c.args.self.now in
-    let plain = same_plain (parted_session g.T.Lane.value p.array.now (lists p.views.now) p.window) c.args.cmd (cmd_of_kind c.kind_of-asked.result) c.kind_of-asked.ensures c.requires.plain in
+    let plain = same_plain (parted_session g.T.Lane.value p.array.now p.views.now p.window) c.args.cmd (cmd_of_kind c.kind_of-asked.result) c.kind_of-asked.ensures c.requires.plain in
     (lit< tt, (c.requires.sound, (sym c.is_some.ensures ∙ c.if-is_some.true, (c.requires.window, plain))))
 
 pub obey_whole-requires : goal.obey_whole-requires
@@ -26,7 +26,7 @@ unfolding array_setting
 returns-then-is_some-clause-step g c =
     let p = c.args.self.now in
     taken (setting_of g.T.Lane.width p.array.now) c.args.cmd (cmd_of_kind c.kind_of-asked.result) c.kind_of-asked.ensures
-    (parted_session g.T.Lane.value p.array.now (lists p.views.now) p.window) _ _ refl c.obey_parted.ensures.does
+    (parted_session g.T.Lane.value p.array.now p.views.now p.window) _ _ refl c.obey_parted.ensures.does
 
 pub returns-else-is_some-clause-step : goal.returns-else-is_some-clause-step
 unfolding array_setting
@@ -35,7 +35,7 @@ returns-else-is_some-clause-step g c =
     let q = c.obey_whole.new.self in
     let value = g.T.Lane.value in
     let S = setting_of g.T.Lane.width p.array.now in
-    let t = parted_session value q.array.now (lists q.views.now) q.window in
-    subst (λ o. let s = parted_session value p.array.now (lists o) p.window in Takes S s (asked s c.args.cmd) t (said c.obey_whole.result))
+    let t = parted_session value q.array.now q.views.now q.window in
+    subst (λ o. let s = parted_session value p.array.now o p.window in Takes S s (asked s c.args.cmd) t (said c.obey_whole.result))
     (sym (none_parted p.views.now (sym c.is_some.ensures ∙ c.if-is_some.false)))
     (taken S c.args.cmd (cmd_of_kind c.kind_of-asked.result) c.kind_of-asked.ensures (session_of p.array.now p.window) t _ refl c.obey_whole.ensures.does)
