@@ -1,5 +1,5 @@
 -- A read-only array after a call as a session.
-use Rattle.std.proofs.Common.{◌≡◌, refl, sym, ◌∙◌, ℕ, true, false, None}
+use Rattle.std.proofs.Common.{◌≡◌, refl, sym, ℕ, None}
 use Rattle.std.specs.Int.{Width}
 use Rattle.zf_cached.specs.Touch.{touch}
 use Rattle.zf_cached.specs.Changes.{raised, relined}

@@ -1,5 +1,5 @@
 -- An array that may be split, as what a script runs on.
-use Rattle.std.proofs.Common.{◌≡◌, refl, ap, subst, ◌∙◌, ℕ, zero, suc, ℤ, Bool, true, false, not, length, Option, Some, None, is_some}
+use Rattle.std.proofs.Common.{◌≡◌, refl, ap, subst, ℕ, zero, suc, ℤ, Bool, true, false, not, length, Option, Some, None, is_some}
 use Rattle.std.specs.Prelude.{Vec, IsSome}
 use Rattle.zf_cached.specs.Commands.{Command}
 use Rattle.zf_cached.specs.Steps.{Setting, Session, is_split, views_of, with_view, by_view, flushed_views, joined, needs_split, refuses_split, done}

@@ -3,7 +3,7 @@ use Rattle.zf_cached.specs.Windows.{whole}
 use Rattle.zf_array.specs.Standing.{Held}
 use Rattle.zf_run.specs.declared.end.RunEnd.TheVariants.{Write}
 use Rattle.zf_run.specs.Ends.{Runs}
-use Rattle.zf_run.specs.Splits.{lists, parted_session}
+use Rattle.zf_run.specs.Splits.{parted_session}
 use Rattle.zf_run.proofs.Ending.{runs_all, runs_stopped}
 use Rattle.zf_run.proofs.runs.run.Goals as goal
 

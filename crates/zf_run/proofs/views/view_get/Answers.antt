@@ -1,4 +1,4 @@
-use Rattle.std.proofs.Common.{◌≡◌, refl, sym, ap, ◌∙◌, not, true, length, get_or, Some, lit<, lit≤, rules}
+use Rattle.std.proofs.Common.{refl, sym, ap, ◌∙◌, not, length, get_or, Some, lit<, lit≤, rules}
 use Rattle.std.specs.Option.{option_map}
 use Rattle.zf_base.specs.Positions.{used_axes}
 use Rattle.zf_cached.specs.Commands.{Command}

@@ -1,7 +1,7 @@
 use Rattle.std.proofs.Common.{sym, ap, ◌∙◌}
 use Rattle.zf_cached.specs.Steps.{joined}
 use Rattle.zf_run.specs.Sessions.{setting_of}
-use Rattle.zf_run.specs.Splits.{lists, parted_session, split_session}
+use Rattle.zf_run.specs.Splits.{parted_session, split_session}
 use Rattle.zf_run.proofs.Splitting.{joins, whole_joins}
 use Rattle.zf_run.proofs.splits.Parted.join.Goals as goal
 

@@ -1,11 +1,11 @@
 use Rattle.std.proofs.Common.{sym, ap, subst, ◌∙◌, false, None}
 use Rattle.zf_cached.specs.Kinds.{is_of_split}
-use Rattle.zf_commands.specs.Kinds.{cmd_of_kind, asked, IsPlain}
+use Rattle.zf_commands.specs.Kinds.{cmd_of_kind, asked}
 use Rattle.zf_commands.specs.Steps.{Does}
 use Rattle.zf_commands.proofs.Sorting.{by_kind, not_of_split}
 use Rattle.zf_commands.proofs.Stepping.{refused_split}
 use Rattle.zf_run.specs.Sessions.{setting_of}
-use Rattle.zf_run.specs.Splits.{lists, parted_session}
+use Rattle.zf_run.specs.Splits.{parted_session}
 use Rattle.zf_run.proofs.Parting.{some_parted, has_joined, refuses_whole}
 use Rattle.zf_run.proofs.splits.Parted.obey_parted.Goals as goal
 

@@ -6,7 +6,7 @@ use Rattle.zf_commands.specs.Steps.{Does}
 use Rattle.zf_commands.proofs.Sorting.{sort_of, by_kind}
 use Rattle.zf_commands.proofs.Stepping.{refused_split}
 use Rattle.zf_run.specs.Sessions.{session_of, setting_of}
-use Rattle.zf_run.specs.Splits.{lists, parted_session}
+use Rattle.zf_run.specs.Splits.{parted_session}
 use Rattle.zf_run.proofs.splits.Parted.obey_whole.Goals as goal
 
 pub returns-in-Join-clause-does : goal.returns-in-Join-clause-does

@@ -8,7 +8,7 @@ use Rattle.zf_cached.specs.Splits.{is_view_count}
 use Rattle.zf_cached.specs.Steps.{is_line_count}
 use Rattle.zf_array.specs.Standing.{Held, shape, state}
 use Rattle.zf_run.specs.Sessions.{setting_of, session_of}
-use Rattle.zf_run.specs.Splits.{lists, parted_session, AreNewParts}
+use Rattle.zf_run.specs.Splits.{parted_session, AreNewParts}
 use Rattle.zf_commands.specs.Steps.{Does}
 use Rattle.zf_run.proofs.Splitting.{has_split, are_parts}
 use Rattle.zf_commands.proofs.Stepping.{refused_size, refused_memory}

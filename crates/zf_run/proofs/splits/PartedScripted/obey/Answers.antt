@@ -5,7 +5,7 @@ use Rattle.zf_commands.specs.Steps.{Takes, said}
 use Rattle.zf_commands.proofs.Commanding.{taken}
 use Rattle.zf_commands.proofs.Sorting.{same_plain}
 use Rattle.zf_run.specs.Sessions.{session_of, setting_of}
-use Rattle.zf_run.specs.Splits.{lists, parted_session}
+use Rattle.zf_run.specs.Splits.{parted_session}
 use Rattle.zf_run.proofs.Parting.{none_parted}
 use Rattle.zf_run.proofs.splits.PartedScripted.obey.Goals as goal
 
