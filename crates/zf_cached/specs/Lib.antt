@@ -10,6 +10,7 @@
 --     Ownership    which blocks a view owns
 --     Splits       an array that is split into private views
 --     Commands     what a line of a script asks for
+--     Kinds        the kinds of commands
 --     Grammar      which lines are which command
 --     Replies      what a line answers, and the text of it
 --     Steps        what a command does and answers, and when it is refused
@@ -29,6 +30,7 @@ pub mod Views
 pub mod Ownership
 pub mod Splits
 pub mod Commands
+pub mod Kinds
 pub mod Grammar
 pub mod Replies
 pub mod Steps

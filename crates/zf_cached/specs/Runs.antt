@@ -9,6 +9,7 @@ use Rattle.zf_cached.specs.Changes.{flush, opened, raised}
 use Rattle.zf_cached.specs.Arrays.{Coding, plain_coding, rate_coding, array_format, zero_codes, open_array, saved_file, max_file, file_bytes}
 use Rattle.zf_cached.specs.Windows.{whole}
 use Rattle.zf_cached.specs.Commands.{Command}
+use Rattle.zf_cached.specs.Kinds.{kind_of, is_reading}
 use Rattle.zf_cached.specs.Replies.{Refusal, Reply, reply_text}
 use Rattle.zf_cached.specs.Grammar.{read_line}
 use Rattle.zf_cached.specs.Steps.{Setting, Session, format_of, joined, step}
@@ -83,15 +84,7 @@ plain_setting w = record {
 
 -- the commands that only read
 abbrev pub only_reads : Command → Bool
-only_reads (Command.get ps) = true
-only_reads Command.sum = true
-only_reads (Command.view origin size step) = true
-only_reads (Command.slice axis at) = true
-only_reads (Command.vget ps) = true
-only_reads Command.vsum = true
-only_reads (Command.lines l) = true
-only_reads Command.stats = true
-only_reads _ = false
+only_reads c = is_reading (kind_of c)
 
 -- an array that is only read, in any coding
 unfoldable pub look_setting : {Code : Type 0} → Width → Coding Code → Setting Code

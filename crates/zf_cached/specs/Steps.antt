@@ -14,6 +14,7 @@ use Rattle.zf_cached.specs.Changes.{flush, discard, raised, relined, resized}
 use Rattle.zf_cached.specs.Arrays.{Coding, array_format}
 use Rattle.zf_cached.specs.Windows.{Window, mapped, whole, sliced, has_place, is_window, positions}
 use Rattle.zf_cached.specs.Commands.{Command}
+use Rattle.zf_cached.specs.Kinds.{kind_of, is_of_split}
 use Rattle.zf_cached.specs.Replies.{Refusal, Reply}
 use Rattle.zf_cached.specs.Acts.{Act}
 use Rattle.zf_cached.specs.Views.{View, with_codes, without_codes, acted, answered}
@@ -134,14 +135,7 @@ joined setting s = record (flushed_views setting s (length (views_of s))) { spli
 
 -- the commands that end a split, or are on a view: while there is a split they are the only ones, and else they are none
 abbrev pub needs_split : Command → Bool
-needs_split Command.join = true
-needs_split (Command.pget i ps) = true
-needs_split (Command.pset i ps v) = true
-needs_split (Command.padd i ps v) = true
-needs_split (Command.pflush i) = true
-needs_split (Command.pdiscard i) = true
-needs_split (Command.pstats i) = true
-needs_split _ = false
+needs_split c = is_of_split (kind_of c)
 
 abbrev pub refuses_split : {Code : Type 0} → Session Code → Command → Bool
 refuses_split s c = elim (is_split s) [ true ↦ not (needs_split c) | false ↦ needs_split c ]

@@ -5,6 +5,7 @@ ghost use Rattle.std.specs.Int.{w32};
 ghost use Rattle.zf_spec.specs.Codes.{rev};
 ghost use Rattle.zf_spec.specs.Stream.{reversible};
 ghost use Rattle.zf_cached.specs.Arrays.{mode_coding};
+ghost use Rattle.zf_cached.specs.State.{risen};
 ghost use Rattle.zf_cached.specs.Runs.{zeros_text, look_text};
 
 /// A sum wraps within the type, at a value and in a private view.
@@ -37,6 +38,8 @@ pub fn numbers_of_views()
     ensures none { zeros_text w32 64 (8 ∷ []) 2
         (codes "split 2 1\n@2 flush\n@2 discard\n@2 stats\n@2 get 0\n@2 set 0 1\n@2 add 0 1\n@1 flush\n@1 discard\n@1 stats\n")
         ≡ codes "! range\n! range\n! range\n! range\n! range\n! range\nhits 0 misses 0 writes 0\n" }
+    ensures lines { zeros_text w32 64 (16 ∷ []) 2 (codes "split 1 3\n@0 get 0\n@0 get 12\n@0 get 0\n@0 stats\n")
+        ≡ codes "0\n0\n0\nhits 1 misses 2 writes 0\n" }
 {}
 
 /// A look has the lines `slice`, `vsum`, `lines` and `stats` too.
@@ -51,4 +54,11 @@ pub fn lines_of_looks()
 pub fn longest_array()
     ensures fits { zeros_text w32 288 (8 ∷ []) 2 (codes "resize 133333332\nget 133333331\nget 133333332\n") ≡ codes "0\n! range\n" }
     ensures too_long { zeros_text w32 293 (8 ∷ []) 2 (codes "resize 131058017\nget 7\nget 8\n") ≡ codes "! size\n0\n! range\n" }
+{}
+
+/// A count rises up to the greatest number of 64 bits, and stays there.
+pub fn greatest_counts()
+    ensures half { risen 9223372036854775807 ≡ 9223372036854775808 }
+    ensures last { risen 18446744073709551614 ≡ 18446744073709551615 }
+    ensures stays { risen 18446744073709551615 ≡ 18446744073709551615 }
 {}

@@ -19,6 +19,8 @@ use Rattle.zf_cached.specs.Steps.{Setting, Session, touched, changed, changed_at
 use Rattle.zf_cached.proofs.Windows.{length-mapped, LiesIn-sliced}
 use Rattle.zf_window.specs.declared.window.ViewFault.{ViewFault}
 use Rattle.zf_window.specs.WindowFields.{view_fault}
+use Rattle.zf_script.specs.declared.command.Cmd.{Cmd}
+use Rattle.zf_commands.specs.Kinds.{asked}
 use Rattle.zf_commands.specs.Steps.{Does, HasWindow, Takes, starves}
 use Rattle.zf_commands.proofs.Stepping.{no_split, accepted}
 
@@ -72,18 +74,19 @@ numbers_there ns v sizes lies p =
     let mapped_long = length-mapped ns v ps lies long in
     ap (λ k. used_axes k (with_unused 0 ms)) (sym mapped_long) ∙ used_axes-with_unused 0 ms (omega (arith, mapped_long, four)) ∙ ap (λ k. mapped v (used_axes k p)) lies.sizes
 
--- a command that is allowed is taken
-pub taken : {Code : Type 0} (setting : Setting Code) (c : Command) (s t : Session Code) (reply told : Option Reply) → setting.allows c ≡ true → Does setting c s t reply → told ≡ reply
-    → Takes setting s c t told
-unfolding read_step
-taken setting c s t reply told allowed does same =
-    subst (λ r. read_step setting s (Some c) (starves r) ≡ (t, r)) (sym same)
-    (ap (λ x. elim x [ true ↦ step setting s c (starves reply) | false ↦ (s, Some (Reply.refused Refusal.word)) ]) allowed ∙ does.step_is)
+-- a command that is allowed is taken, and one that is not is refused, where it is sorted as m
+module _ {Code : Type 0} (setting : Setting Code) (cmd m : Cmd) (is : cmd ≡ m) (s : Session Code) where
+  pub taken : (t : Session Code) (reply : Option Reply) → setting.allows (asked s m) ≡ true → Does setting (asked s m) s t reply → Takes setting s (asked s cmd) t reply
+  unfolding read_step
+  taken t reply allowed does =
+      subst (λ x. Takes setting s (asked s x) t reply) (sym is)
+      (ap (λ x. elim x [ true ↦ step setting s (asked s m) (starves reply) | false ↦ (s, Some (Reply.refused Refusal.word)) ]) allowed ∙ does.step_is)
 
--- one that is not is refused
-pub not_taken : {Code : Type 0} (setting : Setting Code) (c : Command) (s : Session Code) → setting.allows c ≡ false → Takes setting s c s (Some (Reply.refused Refusal.word))
-unfolding read_step
-not_taken setting c s refused = ap (λ x. elim x [ true ↦ step setting s c false | false ↦ (s, Some (Reply.refused Refusal.word)) ]) refused
+  pub not_taken : setting.allows (asked s m) ≡ false → Takes setting s (asked s cmd) s (Some (Reply.refused Refusal.word))
+  unfolding read_step
+  not_taken refused =
+      subst (λ x. Takes setting s (asked s x) s (Some (Reply.refused Refusal.word))) (sym is)
+      (ap (λ x. elim x [ true ↦ step setting s (asked s m) false | false ↦ (s, Some (Reply.refused Refusal.word)) ]) refused)
 
 -- ---- commands that only read, in any setting
 
@@ -94,18 +97,19 @@ module _ {Code : Type 0} (setting : Setting Code) (s : Session Code) (lies : Has
       accepted setting Command.stats s lies (no_split s Command.stats whole refl) refl refl refl s (Some (Reply.counts h m n)) refl
       (ap (λ (k : Counts). (s, Some (Reply.counts k.hits k.misses k.writes))) (sym is)) lies
 
-  pub viewed : (origin size step : List ℕ) (u : Window) → u ≡ record { origin = origin; size = size; step = step } → LiesIn s.shape u
-      → Does setting (Command.view origin size step) s (record s { window = u }) None
+  pub viewed : (origin size step : List ℕ) (u : Window) → u ≡ record { origin = origin; size = size; step = step } → LiesIn s.shape u → (t : Session Code) → record s { window = u } ≡ t
+      → Does setting (Command.view origin size step) s t None
   unfolding done
-  viewed origin size step u is inside =
-      accepted setting (Command.view origin size step) s lies (no_split s (Command.view origin size step) whole refl) (ap not (subst (λ x. is_window s.shape x ≡ true) is inside.inside)) refl refl (record s { window = u }) None refl
-      (ap (λ x. (record s { window = x }, None)) (sym is)) inside
+  viewed origin size step u is inside t ends =
+      accepted setting (Command.view origin size step) s lies (no_split s (Command.view origin size step) whole refl) (ap not (subst (λ x. is_window s.shape x ≡ true) is inside.inside)) refl refl t None refl
+      (ap (λ x. (record s { window = x }, None)) (sym is) ∙ ap (λ (x : Session Code). (x, None)) ends) (subst HasWindow ends inside)
 
-  pub cut : (axis at : ℕ) (u : Window) → has_place s.window axis at ≡ true → u ≡ sliced s.window axis at → Does setting (Command.slice axis at) s (record s { window = u }) None
+  pub cut : (axis at : ℕ) (u : Window) → has_place s.window axis at ≡ true → u ≡ sliced s.window axis at → (t : Session Code) → record s { window = u } ≡ t → Does setting (Command.slice axis at) s t None
   unfolding done
-  cut axis at u there is =
-      accepted setting (Command.slice axis at) s lies (no_split s (Command.slice axis at) whole refl) refl (ap not there) refl (record s { window = u }) None refl
-      (ap (λ x. (record s { window = x }, None)) (sym is)) (subst (LiesIn s.shape) (sym is) (LiesIn-sliced s.shape s.window axis at lies there))
+  cut axis at u there is t ends =
+      accepted setting (Command.slice axis at) s lies (no_split s (Command.slice axis at) whole refl) refl (ap not there) refl t None refl
+      (ap (λ x. (record s { window = x }, None)) (sym is) ∙ ap (λ (x : Session Code). (x, None)) ends)
+      (subst HasWindow ends (subst (LiesIn s.shape) (sym is) (LiesIn-sliced s.shape s.window axis at lies there)))
 
   -- a touch keeps the window in the array
   stays : (k : ℕ) (t : Session Code) → touched setting s k ≡ t → HasWindow t

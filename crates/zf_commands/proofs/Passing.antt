@@ -10,10 +10,9 @@ use Rattle.zf_spec.proofs.Counting.{count_from-add, map-upto_same}
 use Rattle.zf_spec.proofs.Counting.{count_from-below}
 use Rattle.zf_base.specs.Formats.{existing_of}
 use Rattle.zf_cached.specs.State.{State}
-use Rattle.zf_cached.specs.Windows.{whole}
 use Rattle.zf_cached.specs.Arrays.{Coding, array_format}
 use Rattle.zf_cached.specs.Steps.{Setting, Session, touched, changed, filled_below, summed, total, format_of}
-use Rattle.zf_commands.specs.Sittings.{session}
+use Rattle.zf_commands.specs.Sittings.{OnState}
 use Rattle.zf_commands.specs.Steps.{Touches, Fills}
 use Rattle.zf_base.specs.declared.position.Extent.{Extent}
 use Rattle.zf_base.specs.Positions.{axes, used_axes, IsExtent}
@@ -86,6 +85,11 @@ module _ (bits : ℕ) (x : ℤ) where
 
 -- ---- passes
 
+-- the state alone is another, and then again
+on_state : {Code : Type 0} (r s t : Session Code) → OnState r s → (x : State Code) → t ≡ record s { state = x } → OnState r t
+on_state {Code} r s t stays x is =
+    is ∙ ap (λ (q : Session Code). record q { state = x }) stays ∙ ap (λ (q : Session Code). record r { state = q.state }) (sym is)
+
 -- one block more is filled
 pub fill_next : {Code : Type 0} (setting : Setting Code) (s t : Session Code) (k n : ℕ) (x : ℤ) → k < n
     → changed setting s k (λ values. existing_of (format_of setting s) k (replicate (format_of setting s).block_len x)) ≡ t
@@ -94,10 +98,10 @@ unfolding filled_below
 fill_next setting s t k n x below is =
     ap (filled_below setting s x) (count_from-below k n below) ∙ ap (λ u. filled_below setting u x (count_from (k + 1) (n - (k + 1)))) is
 
--- it changes no sizes
-pub shape_filled : {Code : Type 0} (setting : Setting Code) (k : ℕ) (x : ℤ) (ns ms : List ℕ) (s t : State Code) → Fills setting k x (session ns s) (session ms t) → ms ≡ ns
+-- it changes the state alone
+pub stays_filled : {Code : Type 0} (setting : Setting Code) (k : ℕ) (x : ℤ) (r s t : Session Code) → OnState r s → Fills setting k x s t → OnState r t
 unfolding changed touched
-shape_filled setting k x ns ms s t fills = ap (λ (u : Session _). u.shape) (sym (fills (whole ns)))
+stays_filled setting k x r s t stays fills = on_state r s t stays _ (sym fills)
 
 -- at last none is left
 pub filled_all : {Code : Type 0} (setting : Setting Code) (s : Session Code) (x : ℤ) (k n : ℕ) → n ≤ k → filled_below setting s x (count_from k (n - k)) ≡ s
@@ -106,10 +110,10 @@ filled_all setting s x k n past = let none : n - k ≡ 0 = omega arith in ap (λ
 
 -- ---- sums over touches, in any setting
 
--- a touch changes no sizes
-pub shape_kept : {Code : Type 0} (setting : Setting Code) (k : ℕ) (ns ms : List ℕ) (s t : State Code) → Touches setting k (session ns s) (session ms t) → ms ≡ ns
+-- a touch changes the state alone
+pub stays_touched : {Code : Type 0} (setting : Setting Code) (k : ℕ) (r s t : Session Code) → OnState r s → Touches setting k s t → OnState r t
 unfolding touched
-shape_kept setting k ns ms s t touches = ap (λ (x : Session _). x.shape) (sym (touches (whole ns)))
+stays_touched setting k r s t stays touches = on_state r s t stays _ (sym touches)
 
 -- what does not change says the setting
 pub touched_on : {Code Kept : Type 0} (setting : Kept → Setting Code) (now first : Kept) → now ≡ first → (k : ℕ) (s t : Session Code) → touched (setting now) s k ≡ t → touched (setting first) s k ≡ t

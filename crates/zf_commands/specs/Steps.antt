@@ -1,15 +1,14 @@
 -- What a line of a script leads to, and what it answers.
-use Rattle.std.specs.Prelude.{ℕ, ◌≡◌, ℤ, Bool, true, false, List, replicate, Option, Some, None, Result, Ok, Err}
+use Rattle.std.specs.Prelude.{ℕ, ◌≡◌, ℤ, Bool, true, false, List, replicate, Option, Some, None}
 use Rattle.std.specs.Option.{option_map}
 use Rattle.zf_base.specs.Formats.{existing_of}
 use Rattle.zf_cached.specs.Replies as script
-use Rattle.zf_cached.specs.Windows.{Window, LiesIn}
+use Rattle.zf_cached.specs.Windows.{LiesIn}
 use Rattle.zf_cached.specs.Commands.{Command}
 use Rattle.zf_cached.specs.Steps.{Setting, Session, format_of, touched, changed, changed_at, step, done}
 use Rattle.zf_cached.specs.Runs.{read_step, line_step}
-use Rattle.zf_script.specs.declared.reply.Refusal.{Refusal}
 use Rattle.zf_script.specs.declared.reply.Reply.{Reply}
-use Rattle.zf_script.specs.Seen.{refusal_of, reply_of}
+use Rattle.zf_script.specs.Seen.{reply_of}
 
 -- the reply is a refusal
 abbrev pub is_refusal : script.Reply → Bool
@@ -30,11 +29,6 @@ starves (Some reply) = is_starved reply
 abbrev pub said : Option Reply → Option script.Reply
 said reply = option_map reply_of reply
 
--- the reply of a command, if any, or why it is refused
-abbrev pub answer : Result (Option Reply) Refusal → Option script.Reply
-answer (Ok reply) = said reply
-answer (Err why) = Some (script.Reply.refused (refusal_of why))
-
 -- the window lies in the array
 abbrev pub HasWindow : {Code : Type 0} → Session Code → Type 0
 HasWindow s = LiesIn s.shape s.window
@@ -52,23 +46,18 @@ pub record Does {Code : Type 0} (setting : Setting Code) (c : Command) (s t : Se
   pub step_is : step setting s c (starves reply) ≡ (t, reply)
   pub inside : HasWindow t
 
--- a command that does not look at the window, and keeps it: an array through each window before, and the array after
-abbrev pub DoesAlone : {Code : Type 0} → Setting Code → Command → (Window → Session Code) → (Window → Session Code) → Option script.Reply → Type 0
-DoesAlone setting c before after reply = (v : Window) → HasWindow (before v) → Does setting c (before v) (after v) reply
+-- a touch of block b leads from one session to another
+abbrev pub Touches : {Code : Type 0} → Setting Code → ℕ → Session Code → Session Code → Type 0
+Touches setting b s t = touched setting s b ≡ t
 
--- a touch of block b leads from an array, through each window, to another
-abbrev pub Touches : {Code : Type 0} → Setting Code → ℕ → (Window → Session Code) → (Window → Session Code) → Type 0
-Touches setting b before after = (v : Window) → touched setting (before v) b ≡ after v
-
--- the value at a position is changed, by a touch for writing: an array before, through each window, and the array after
-abbrev pub Changes : {Code : Type 0} → Setting Code → List ℕ → (ℤ → ℤ) → (Window → Session Code) → (Window → Session Code) → Type 0
-Changes setting ps change before after = (v : Window) → changed_at setting (before v) ps change ≡ after v
+-- the value at a position is changed, by a touch for writing
+abbrev pub Changes : {Code : Type 0} → Setting Code → List ℕ → (ℤ → ℤ) → Session Code → Session Code → Type 0
+Changes setting ps change s t = changed_at setting s ps change ≡ t
 
 -- block b is touched for writing, and its values become x where a place exists
-abbrev pub Fills : {Code : Type 0} → Setting Code → ℕ → ℤ → (Window → Session Code) → (Window → Session Code) → Type 0
-Fills setting b x before after = (v : Window) →
-    changed setting (before v) b (λ values. existing_of (format_of setting (before v)) b (replicate (format_of setting (before v)).block_len x)) ≡ after v
+abbrev pub Fills : {Code : Type 0} → Setting Code → ℕ → ℤ → Session Code → Session Code → Type 0
+Fills setting b x s t = changed setting s b (λ values. existing_of (format_of setting s) b (replicate (format_of setting s).block_len x)) ≡ t
 
 -- a command that passes all tests, and has no reply
-abbrev pub Performs : {Code : Type 0} → Setting Code → Command → (Window → Session Code) → (Window → Session Code) → Type 0
-Performs setting c before after = (v : Window) → done setting (before v) c ≡ (after v, None)
+abbrev pub Performs : {Code : Type 0} → Setting Code → Command → Session Code → Session Code → Type 0
+Performs setting c s t = done setting s c ≡ (t, None)

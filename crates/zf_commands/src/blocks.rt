@@ -1,52 +1,50 @@
-//! Commands on all blocks.
+//! Commands on all blocks. The parts of the target fit.
 
 ghost use Rattle.std.specs.Prelude.{◌≡◌, ◌<◌, ◌≤◌, ◌^◌, map, replicate, length};
 ghost use Rattle.zf_spec.specs.Grid.{upto, blocks, is_inside, indices};
 ghost use Rattle.zf_base.specs.Positions.{axes};
 ghost use Rattle.zf_cached.specs.Commands.{Command};
-ghost use Rattle.zf_cached.specs.Windows.{Window as Part};
 ghost use Rattle.zf_cached.specs.Steps.{filled_below, summed, total};
-ghost use Rattle.zf_commands.specs.Sittings.{session};
+ghost use Rattle.zf_commands.specs.Sittings.{OnState};
 ghost use Rattle.zf_commands.specs.Sums.{value_within, within, IsUpTo};
-ghost use Rattle.zf_commands.specs.Steps.{DoesAlone, answer};
+ghost use Rattle.zf_commands.specs.Steps.{HasWindow, Does, said};
 
-use crate::commands::Answer;
 use crate::target::{Changing, Target};
 use crate::values::of_type;
 use zf_base::{Lane, Pos};
 use zf_script::{Refusal, Reply};
 
-/// `fill v`: makes all values be `v`. The parts of the target fit.
-pub fn fill<T: Lane, A: Changing<T>>(a: &mut A, v: i128) -> Answer
-    requires { A.sound a.old }
-    ensures does { DoesAlone (A.setting (A.kept a.old)) (Command.fill v)
-        (session (A.shape a.old) (A.state a.old)) (session (A.shape a.new) (A.state a.new)) (answer result) }
+/// `fill v`: makes all values be `v`.
+pub(crate) fn fill<T: Lane, A: Changing<T>>(a: &mut A, v: i128) -> Option<Reply>
+    requires sound { A.sound a.old }
+    requires window { HasWindow (A.session a.old) }
+    ensures does { Does (A.setting (A.kept a.old)) (Command.fill v) (A.session a.old) (A.session a.new) (said result) }
     ensures sound { A.sound a.new }
     ensures kept { A.kept a.new ≡ A.kept a.old }
 {
     let Some(v) = of_type::<T>(v) else {
-        return Err(Refusal::Value);
+        return Some(Reply::Refused(Refusal::Value));
     };
     fill_blocks(a, v);
-    Ok(None)
+    None
 }
 
 /// `sum`: the sum of all values.
-pub(crate) fn sum<A: Target>(a: &mut A) -> Answer
+pub(crate) fn sum<A: Target>(a: &mut A) -> Option<Reply>
     requires sound { A.sound a.old }
-    ensures does { DoesAlone (A.setting (A.kept a.old)) Command.sum (session (A.shape a.old) (A.state a.old)) (session (A.shape a.new) (A.state a.new)) (answer result) }
+    requires window { HasWindow (A.session a.old) }
+    ensures does { Does (A.setting (A.kept a.old)) Command.sum (A.session a.old) (A.session a.new) (said result) }
     ensures sound { A.sound a.new }
     ensures kept { A.kept a.new ≡ A.kept a.old }
 {
-    Ok(Some(Reply::Number(sum_blocks(a))))
+    Some(Reply::Number(sum_blocks(a)))
 }
 
 // Makes all values of each block be `v`, by one touch for writing.
 fn fill_blocks<T: Lane, A: Changing<T>>(a: &mut A, v: T)
     requires { A.sound a.old }
-    ensures filled { (u : Part) → filled_below (A.setting (A.kept a.old)) (session (A.shape a.old) (A.state a.old) u) (T.value v) (upto (blocks (A.shape a.old)))
-        ≡ session (A.shape a.new) (A.state a.new) u }
-    ensures shape { A.shape a.new ≡ A.shape a.old }
+    ensures filled { filled_below (A.setting (A.kept a.old)) (A.session a.old) (T.value v) (upto (blocks (A.session a.old).shape)) ≡ A.session a.new }
+    ensures stays { OnState (A.session a.old) (A.session a.new) }
     ensures sound { A.sound a.new }
     ensures kept { A.kept a.new ≡ A.kept a.old }
 {
@@ -66,11 +64,11 @@ pub fn fill_line<T: Lane>(line: &mut [T], v: T)
 
 // The sum of all values as the touches of their blocks find them. At most 2^27 blocks of 256 values of 64 bits have a sum far below 2^127.
 fn sum_blocks<A: Target>(a: &mut A) -> i128
-    requires sound { A.sound a.old }
-    ensures sum { (u : Part) → summed (A.setting (A.kept a.old)) (λ b. b) (λ b values. total values) (upto (blocks (A.shape a.old)))
-        (session (A.shape a.old) (A.state a.old) u) ≡ (session (A.shape a.new) (A.state a.new) u, result) }
+    requires { A.sound a.old }
+    ensures sum { summed (A.setting (A.kept a.old)) (λ b. b) (λ b values. total values) (upto (blocks (A.session a.old).shape))
+        (A.session a.old) ≡ (A.session a.new, result) }
     ensures bound { IsUpTo (2 ^ 100) result }
-    ensures shape { A.shape a.new ≡ A.shape a.old }
+    ensures stays { OnState (A.session a.old) (A.session a.new) }
     ensures sound { A.sound a.new }
     ensures kept { A.kept a.new ≡ A.kept a.old }
 {

@@ -1,11 +1,9 @@
-//! Commands on the cache and its counts.
+//! Commands on the cache and its counts. The parts of the target fit.
 
 ghost use Rattle.std.specs.Prelude.{◌≡◌};
 ghost use Rattle.zf_cached.specs.Commands.{Command};
-ghost use Rattle.zf_commands.specs.Sittings.{session};
-ghost use Rattle.zf_commands.specs.Steps.{DoesAlone, answer};
+ghost use Rattle.zf_commands.specs.Steps.{HasWindow, Does, said};
 
-use crate::commands::Answer;
 use crate::target::{Changing, Target};
 use zf_base::Lane;
 use zf_script::{Refusal, Reply};
@@ -13,52 +11,54 @@ use zf_script::{Refusal, Reply};
 // The most lines of a cache.
 const MAX_LINES: u64 = 65536;
 
-/// `flush`: writes back what is dirty, and empties the cache. The parts of the target fit.
-pub fn flush<T: Lane, A: Changing<T>>(a: &mut A) -> Answer
-    requires { A.sound a.old }
-    ensures does { DoesAlone (A.setting (A.kept a.old)) Command.flush
-        (session (A.shape a.old) (A.state a.old)) (session (A.shape a.new) (A.state a.new)) (answer result) }
+/// `flush`: writes back what is dirty, and empties the cache.
+pub(crate) fn flush<T: Lane, A: Changing<T>>(a: &mut A) -> Option<Reply>
+    requires sound { A.sound a.old }
+    requires window { HasWindow (A.session a.old) }
+    ensures does { Does (A.setting (A.kept a.old)) Command.flush (A.session a.old) (A.session a.new) (said result) }
     ensures sound { A.sound a.new }
     ensures kept { A.kept a.new ≡ A.kept a.old }
 {
     a.flush_all();
-    Ok(None)
+    None
 }
 
-/// `discard`: empties the cache, and writes nothing back. The parts of the target fit.
-pub fn discard<T: Lane, A: Changing<T>>(a: &mut A) -> Answer
-    requires { A.sound a.old }
-    ensures does { DoesAlone (A.setting (A.kept a.old)) Command.discard
-        (session (A.shape a.old) (A.state a.old)) (session (A.shape a.new) (A.state a.new)) (answer result) }
+/// `discard`: empties the cache, and writes nothing back.
+pub(crate) fn discard<T: Lane, A: Changing<T>>(a: &mut A) -> Option<Reply>
+    requires sound { A.sound a.old }
+    requires window { HasWindow (A.session a.old) }
+    ensures does { Does (A.setting (A.kept a.old)) Command.discard (A.session a.old) (A.session a.new) (said result) }
     ensures sound { A.sound a.new }
     ensures kept { A.kept a.new ≡ A.kept a.old }
 {
     a.discard_all();
-    Ok(None)
+    None
 }
 
 /// `lines L`: another number of lines of the cache.
-pub(crate) fn lines<A: Target>(a: &mut A, count: u64) -> Answer
+pub(crate) fn lines<A: Target>(a: &mut A, count: u64) -> Option<Reply>
     requires sound { A.sound a.old }
-    ensures does { DoesAlone (A.setting (A.kept a.old)) (Command.lines count) (session (A.shape a.old) (A.state a.old)) (session (A.shape a.new) (A.state a.new)) (answer result) }
+    requires window { HasWindow (A.session a.old) }
+    ensures does { Does (A.setting (A.kept a.old)) (Command.lines count) (A.session a.old) (A.session a.new) (said result) }
     ensures sound { A.sound a.new }
     ensures kept { A.kept a.new ≡ A.kept a.old }
 {
     if count == 0 || count > MAX_LINES {
-        return Err(Refusal::Size);
+        return Some(Reply::Refused(Refusal::Size));
     }
     match a.use_lines(count as u32) {
-        Ok(()) => Ok(None),
-        Err(_) => Err(Refusal::Memory),
+        Ok(()) => None,
+        Err(_) => Some(Reply::Refused(Refusal::Memory)),
     }
 }
 
 /// `stats`: the counts of the cache.
-pub(crate) fn stats<A: Target>(a: &mut A) -> Answer
+pub(crate) fn stats<A: Target>(a: &mut A) -> Option<Reply>
     requires sound { A.sound a.old }
-    ensures does { DoesAlone (A.setting (A.kept a.old)) Command.stats (session (A.shape a.old) (A.state a.old)) (session (A.shape a.new) (A.state a.new)) (answer result) }
+    requires window { HasWindow (A.session a.old) }
+    ensures does { Does (A.setting (A.kept a.old)) Command.stats (A.session a.old) (A.session a.new) (said result) }
     ensures sound { A.sound a.new }
     ensures kept { A.kept a.new ≡ A.kept a.old }
 {
-    Ok(Some(Reply::Counts(a.counts())))
+    Some(Reply::Counts(a.counts()))
 }

@@ -4,15 +4,16 @@
 mod blocks;
 mod changes;
 mod commands;
+mod kinds;
 pub mod laws;
 mod lines;
 mod target;
 mod values;
 mod windows;
 
-pub use blocks::{fill, fill_line, sum_within};
-pub use changes::{discard, flush};
-pub use commands::{Answer, is_reading, needs_split, read, spoken};
+pub use blocks::{fill_line, sum_within};
+pub use commands::{look_through, read, write};
+pub use kinds::{ArrayCmd, Kind, ReadCmd, ViewCmd, WindowCmd, WriteCmd, kind_of};
 pub use lines::run_lines;
 pub use target::{Changing, Scripted, Subject, Target};
-pub use values::{add, of_type, set};
+pub use values::of_type;

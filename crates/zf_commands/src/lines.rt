@@ -3,7 +3,6 @@
 ghost use Rattle.std.specs.Prelude.{◌≡◌, ◌<◌, [], ◌∷◌, length, IfSome, IfNone, IfOk, OnErr, OnOk, IsErr};
 ghost use Rattle.zf_dev.specs.Faults.{HasCause};
 ghost use Rattle.zf_cached.specs.Runs.{lines_of};
-ghost use Rattle.zf_commands.specs.Sittings.{sitting};
 ghost use Rattle.zf_commands.specs.Steps.{HasWindow, LeadsTo, said};
 ghost use Rattle.zf_commands.specs.Lines.{Replies, Breaks};
 ghost use Rattle.zf_commands.specs.Runs.{AllRun, HasStopped};
@@ -12,7 +11,6 @@ use crate::target::Scripted;
 use memchr::memchr;
 use zf_dev::{Failed, Sink, write_all};
 use zf_script::{Reply, parse_line, reply_text};
-use zf_window::Window;
 
 /// The first line of some and those behind its line feed; none where there is no line feed, and so one line.
 pub(crate) fn cut_line(lines: &[u8]) -> Option<(&[u8], &[u8])>
@@ -27,23 +25,22 @@ pub(crate) fn cut_line(lines: &[u8]) -> Option<(&[u8], &[u8])>
 /// Runs a line and writes its reply, if any; whether the line was refused.
 pub(crate) fn run_line<A: Scripted, O: Sink>(
     a: &mut A,
-    window: &mut Window,
     line: &[u8],
     out: &mut O,
 ) -> Result<bool, Failed>
     requires sound { A.sound a.old }
-    requires window { HasWindow (sitting (A.shape a.old) (A.state a.old) (A.split a.old) window.old) }
-    ensures ok { IfOk result (Replies (A.setting (A.kept a.old)) (sitting (A.shape a.old) (A.state a.old) (A.split a.old) window.old) line.now
-        (sitting (A.shape a.new) (A.state a.new) (A.split a.new) window.new) (O.contents out.old) (O.contents out.new)) }
-    ensures err { OnErr result (Breaks (A.setting (A.kept a.old)) (sitting (A.shape a.old) (A.state a.old) (A.split a.old) window.old) line.now
-        (sitting (A.shape a.new) (A.state a.new) (A.split a.new) window.new) (O.contents out.old) (O.contents out.new)) }
-    ensures window { HasWindow (sitting (A.shape a.new) (A.state a.new) (A.split a.new) window.new) }
+    requires window { HasWindow (A.session a.old) }
+    ensures ok { IfOk result (Replies (A.setting (A.kept a.old)) (A.session a.old) line.now
+        (A.session a.new) (O.contents out.old) (O.contents out.new)) }
+    ensures err { OnErr result (Breaks (A.setting (A.kept a.old)) (A.session a.old) line.now
+        (A.session a.new) (O.contents out.old) (O.contents out.new)) }
+    ensures window { HasWindow (A.session a.new) }
     ensures sound { A.sound a.new }
     ensures kept { A.kept a.new ≡ A.kept a.old }
     ensures unchanged { OnOk result (O.faults out.new ≡ O.faults out.old) }
     ensures cause { HasCause (IsErr result) (O.faults out.old) (O.faults out.new) }
 {
-    let Some(reply) = reply_to(a, window, line) else {
+    let Some(reply) = reply_to(a, line) else {
         return Ok(false);
     };
     let mut room = [0; 128];
@@ -52,12 +49,12 @@ pub(crate) fn run_line<A: Scripted, O: Sink>(
 }
 
 // What a line leads to, and its reply, if any. An empty line has none.
-fn reply_to<A: Scripted>(a: &mut A, window: &mut Window, line: &[u8]) -> Option<Reply>
+fn reply_to<A: Scripted>(a: &mut A, line: &[u8]) -> Option<Reply>
     requires sound { A.sound a.old }
-    requires window { HasWindow (sitting (A.shape a.old) (A.state a.old) (A.split a.old) window.old) }
-    ensures step { LeadsTo (A.setting (A.kept a.old)) (sitting (A.shape a.old) (A.state a.old) (A.split a.old) window.old) line.now
-        (sitting (A.shape a.new) (A.state a.new) (A.split a.new) window.new) (said result) }
-    ensures window { HasWindow (sitting (A.shape a.new) (A.state a.new) (A.split a.new) window.new) }
+    requires window { HasWindow (A.session a.old) }
+    ensures step { LeadsTo (A.setting (A.kept a.old)) (A.session a.old) line.now
+        (A.session a.new) (said result) }
+    ensures window { HasWindow (A.session a.new) }
     ensures sound { A.sound a.new }
     ensures kept { A.kept a.new ≡ A.kept a.old }
 {
@@ -65,25 +62,20 @@ fn reply_to<A: Scripted>(a: &mut A, window: &mut Window, line: &[u8]) -> Option<
         return None;
     }
     match parse_line(a.sizes().dims(), line) {
-        Ok(cmd) => a.obey(window, cmd),
+        Ok(cmd) => a.obey(cmd),
         Err(why) => Some(Reply::Refused(why)),
     }
 }
 
 /// Runs all lines, each on what those before left, and counts those that are refused.
-pub fn run_lines<A: Scripted, O: Sink>(
-    a: &mut A,
-    window: &mut Window,
-    script: &[u8],
-    out: &mut O,
-) -> Result<u64, Failed>
+pub fn run_lines<A: Scripted, O: Sink>(a: &mut A, script: &[u8], out: &mut O) -> Result<u64, Failed>
     requires sound { A.sound a.old }
-    requires window { HasWindow (sitting (A.shape a.old) (A.state a.old) (A.split a.old) window.old) }
-    ensures ok { IfOk result (AllRun (A.setting (A.kept a.old)) script.now (sitting (A.shape a.old) (A.state a.old) (A.split a.old) window.old)
-        (sitting (A.shape a.new) (A.state a.new) (A.split a.new) window.new) (O.contents out.old) (O.contents out.new)) }
-    ensures err { OnErr result (HasStopped (A.setting (A.kept a.old)) script.now (sitting (A.shape a.old) (A.state a.old) (A.split a.old) window.old)
-        (sitting (A.shape a.new) (A.state a.new) (A.split a.new) window.new) (O.contents out.old) (O.contents out.new)) }
-    ensures window { HasWindow (sitting (A.shape a.new) (A.state a.new) (A.split a.new) window.new) }
+    requires window { HasWindow (A.session a.old) }
+    ensures ok { IfOk result (AllRun (A.setting (A.kept a.old)) script.now (A.session a.old)
+        (A.session a.new) (O.contents out.old) (O.contents out.new)) }
+    ensures err { OnErr result (HasStopped (A.setting (A.kept a.old)) script.now (A.session a.old)
+        (A.session a.new) (O.contents out.old) (O.contents out.new)) }
+    ensures window { HasWindow (A.session a.new) }
     ensures sound { A.sound a.new }
     ensures kept { A.kept a.new ≡ A.kept a.old }
     ensures unchanged { OnOk result (O.faults out.new ≡ O.faults out.old) }
@@ -92,10 +84,10 @@ pub fn run_lines<A: Scripted, O: Sink>(
     let mut refused = 0;
     let mut lines = script;
     while let Some((line, rest)) = cut_line(lines) {
-        refused += u64::from(run_line(a, window, line, out)?);
+        refused += u64::from(run_line(a, line, out)?);
         lines = rest;
     }
     // the last line has no line feed
-    refused += u64::from(run_line(a, window, lines, out)?);
+    refused += u64::from(run_line(a, lines, out)?);
     Ok(refused)
 }

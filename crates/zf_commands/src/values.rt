@@ -1,88 +1,85 @@
-//! Commands on one value, at a position of the array or of the window.
+//! Commands on one value, at a position of the array or of the window. The parts of the target fit.
 
-ghost use Rattle.std.specs.Prelude.{◌≡◌, true, false, length, IfSome, IfNone};
-ghost use Rattle.zf_spec.specs.Grid.{IsShape};
-ghost use Rattle.zf_base.specs.Positions.{used_axes, with_unused};
+ghost use Rattle.std.specs.Prelude.{◌≡◌, true, false, IfSome, IfNone};
+ghost use Rattle.zf_base.specs.Positions.{with_unused};
 ghost use Rattle.zf_cached.specs.Commands.{Command};
-ghost use Rattle.zf_cached.specs.Windows.{LiesIn};
 ghost use Rattle.zf_cached.specs.Steps.{is_of_type};
-ghost use Rattle.zf_commands.specs.Sittings.{session};
-ghost use Rattle.zf_commands.specs.Steps.{Does, DoesAlone, answer};
+ghost use Rattle.zf_commands.specs.Sittings.{place_in};
+ghost use Rattle.zf_commands.specs.Steps.{HasWindow, Does, said};
 
-use crate::commands::Answer;
 use crate::target::{Changing, Target};
 use zf_base::{Lane, Pos};
 use zf_script::{Refusal, Reply};
-use zf_window::Window;
 
 /// `get P`: the value at a position.
-pub(crate) fn get<A: Target>(a: &mut A, p: Pos) -> Answer
+pub(crate) fn get<A: Target>(a: &mut A, p: Pos) -> Option<Reply>
     requires sound { A.sound a.old }
-    requires unused { p ≡ with_unused 0 (used_axes (length (A.shape a.old)) p) }
-    ensures does { DoesAlone (A.setting (A.kept a.old)) (Command.get (used_axes (length (A.shape a.old)) p))
-        (session (A.shape a.old) (A.state a.old)) (session (A.shape a.new) (A.state a.new)) (answer result) }
+    requires window { HasWindow (A.session a.old) }
+    requires unused { p ≡ with_unused 0 (place_in (A.session a.old) p) }
+    ensures does { Does (A.setting (A.kept a.old)) (Command.get (place_in (A.session a.old) p)) (A.session a.old) (A.session a.new) (said result) }
     ensures sound { A.sound a.new }
     ensures kept { A.kept a.new ≡ A.kept a.old }
 {
     if !a.sizes().contains(p) {
-        return Err(Refusal::Range);
+        return Some(Reply::Refused(Refusal::Range));
     }
-    Ok(Some(Reply::Number(a.number(p))))
+    Some(Reply::Number(a.number(p)))
 }
 
-/// `set P v`: makes the value at a position be `v`. The parts of the target fit.
-pub fn set<T: Lane, A: Changing<T>>(a: &mut A, p: Pos, v: i128) -> Answer
+/// `set P v`: makes the value at a position be `v`.
+pub(crate) fn set<T: Lane, A: Changing<T>>(a: &mut A, p: Pos, v: i128) -> Option<Reply>
     requires sound { A.sound a.old }
-    requires unused { p ≡ with_unused 0 (used_axes (length (A.shape a.old)) p) }
-    ensures does { DoesAlone (A.setting (A.kept a.old)) (Command.set (used_axes (length (A.shape a.old)) p) v)
-        (session (A.shape a.old) (A.state a.old)) (session (A.shape a.new) (A.state a.new)) (answer result) }
+    requires window { HasWindow (A.session a.old) }
+    requires unused { p ≡ with_unused 0 (place_in (A.session a.old) p) }
+    ensures does { Does (A.setting (A.kept a.old)) (Command.set (place_in (A.session a.old) p) v) (A.session a.old) (A.session a.new) (said result) }
     ensures sound { A.sound a.new }
     ensures kept { A.kept a.new ≡ A.kept a.old }
 {
     if !a.sizes().contains(p) {
-        return Err(Refusal::Range);
+        return Some(Reply::Refused(Refusal::Range));
     }
     let Some(v) = of_type::<T>(v) else {
-        return Err(Refusal::Value);
+        return Some(Reply::Refused(Refusal::Value));
     };
     a.put(p, v);
-    Ok(None)
+    None
 }
 
-/// `add P v`: adds `v` to the value at a position; the sum wraps. The parts of the target fit.
-pub fn add<T: Lane, A: Changing<T>>(a: &mut A, p: Pos, v: i128) -> Answer
+/// `add P v`: adds `v` to the value at a position; the sum wraps.
+pub(crate) fn add<T: Lane, A: Changing<T>>(a: &mut A, p: Pos, v: i128) -> Option<Reply>
     requires sound { A.sound a.old }
-    requires unused { p ≡ with_unused 0 (used_axes (length (A.shape a.old)) p) }
-    ensures does { DoesAlone (A.setting (A.kept a.old)) (Command.add (used_axes (length (A.shape a.old)) p) v)
-        (session (A.shape a.old) (A.state a.old)) (session (A.shape a.new) (A.state a.new)) (answer result) }
+    requires window { HasWindow (A.session a.old) }
+    requires unused { p ≡ with_unused 0 (place_in (A.session a.old) p) }
+    ensures does { Does (A.setting (A.kept a.old)) (Command.add (place_in (A.session a.old) p) v) (A.session a.old) (A.session a.new) (said result) }
     ensures sound { A.sound a.new }
     ensures kept { A.kept a.new ≡ A.kept a.old }
 {
     if !a.sizes().contains(p) {
-        return Err(Refusal::Range);
+        return Some(Reply::Refused(Refusal::Range));
     }
     let Some(v) = of_type::<T>(v) else {
-        return Err(Refusal::Value);
+        return Some(Reply::Refused(Refusal::Value));
     };
     a.increase(p, v);
-    Ok(None)
+    None
 }
 
 /// `vget P`: the value at a position of the window.
-pub(crate) fn vget<A: Target>(a: &mut A, window: &Window, p: Pos) -> Answer
+pub(crate) fn vget<A: Target>(a: &mut A, p: Pos) -> Option<Reply>
     requires sound { A.sound a.old }
-    requires sizes { IsShape (A.shape a.old) }
-    requires inside { LiesIn (A.shape a.old) window.now }
-    requires unused { p ≡ with_unused 0 (used_axes (length (A.shape a.old)) p) }
-    ensures does { Does (A.setting (A.kept a.old)) (Command.vget (used_axes (length (A.shape a.old)) p))
-        (session (A.shape a.old) (A.state a.old) window.now) (session (A.shape a.new) (A.state a.new) window.now) (answer result) }
+    requires window { HasWindow (A.session a.old) }
+    requires unused { p ≡ with_unused 0 (place_in (A.session a.old) p) }
+    ensures does { Does (A.setting (A.kept a.old)) (Command.vget (place_in (A.session a.old) p)) (A.session a.old) (A.session a.new) (said result) }
     ensures sound { A.sound a.new }
     ensures kept { A.kept a.new ≡ A.kept a.old }
 {
+    let window = a.window();
     if !window.contains(p) {
-        return Err(Refusal::Range);
+        return Some(Reply::Refused(Refusal::Range));
     }
-    Ok(Some(Reply::Number(a.number(window.map(p)))))
+    // Known by this call: the sizes are those of a shape.
+    let _dims = a.sizes().dims();
+    Some(Reply::Number(a.number(window.map(p))))
 }
 
 /// The value of the type that a number is.

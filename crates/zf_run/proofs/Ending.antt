@@ -116,7 +116,7 @@ module _ (w : Width) (a b : read.Held) (v u : Window) (script : List ℕ) (old n
 
 -- ---- a run over a store and a two-way cache
 
-module _ {X : Type 0} (value : X → ℤ) (w : Width) (s mid t : Stored) (c e d : Kept X) (v u : Window) (script : List ℕ) (old new : Option (List ℕ)) (from : v ≡ whole s.header.shape) (kept : mid.header ≡ s.header) where
+module _ {X : Type 0} (value : X → ℤ) (w : Width) (s mid t : Stored) (c e d : Kept X) (v u z : Window) (script : List ℕ) (old new : Option (List ℕ)) (from : v ≡ whole s.header.shape) (kept : mid.header ≡ s.header) where
   abbrev S : Setting (List Bool)
   S = two_setting_of w s.header
 
@@ -124,11 +124,11 @@ module _ {X : Type 0} (value : X → ℤ) (w : Width) (s mid t : Stored) (c e d 
   final = session mid.header.shape (pair_state value mid e) u
 
   module _ (n : ℕ) (all : AllRun S script (session s.header.shape (pair_state value s c) v) final old new n)
-      (flushes : done (two_setting_of w mid.header) final Command.flush ≡ (session t.header.shape (pair_state value t d) u, None)) (head : t.header ≡ mid.header) (fits : PairFits value t d) where
+      (flushes : done (two_setting_of w mid.header) final Command.flush ≡ (session t.header.shape (pair_state value t d) z, None)) (head : t.header ≡ mid.header) (fits : PairFits value t d) where
     ran_two : RunsAll S all.0 script (two_start_of value w s t c d script all.0 old new) final old new n
     ran_two = subst (λ x. RunsAll S all.0 script (session s.header.shape (pair_state value s c) x) final old new n) from all.1
 
-    at_two_end : (run S all.0 s.header.shape (pair_state value s c) script).0 ≡ session t.header.shape (pair_state value t d) u
+    at_two_end : (run S all.0 s.header.shape (pair_state value s c) script).0 ≡ session t.header.shape (pair_state value t d) z
     unfolding run run_script ended joined flushed_views done
     at_two_end =
         ap (ended S) (sym ran_two.session)

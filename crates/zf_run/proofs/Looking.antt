@@ -1,12 +1,12 @@
 -- A read-only array after a call as a session.
-use Rattle.std.proofs.Common.{◌≡◌, refl, sym, ◌∙◌, ℕ, true, false, None}
+use Rattle.std.proofs.Common.{◌≡◌, refl, sym, ℕ, None}
 use Rattle.std.specs.Int.{Width}
 use Rattle.zf_cached.specs.Touch.{touch}
 use Rattle.zf_cached.specs.Changes.{raised, relined}
 use Rattle.zf_cached.specs.Commands.{Command}
 use Rattle.zf_cached.specs.Windows.{Window}
 use Rattle.zf_cached.specs.Steps.{touched, done}
-use Rattle.zf_cached.specs.Runs.{look_setting, only_reads}
+use Rattle.zf_cached.specs.Runs.{look_setting}
 use Rattle.zf_const.specs.Standing as read
 use Rattle.zf_const.specs.Standing.{Held, shape, state, format}
 use Rattle.zf_commands.specs.Sittings.{session}
@@ -28,8 +28,3 @@ module _ (w : Width) (a : Held) (v : Window) where
       → done (look_setting_of w a.header) (session (shape a) (state a) v) (Command.lines n) ≡ (session (shape b) (state b) v, None)
   unfolding done look_setting
   look_lined_is b n is head = λ i. (record { shape = (sym head i).shape; state = sym is i; window = v; split = None }, None)
-
--- a command that does not only read is not allowed
-pub look_reads : (w : Width) (a : Held) (c : Command) → only_reads c ≡ false → (look_setting_of w a.header).allows c ≡ true → ⊥
-unfolding look_setting
-look_reads w a c writes allowed = let both : false ≡ true = sym writes ∙ allowed in cc

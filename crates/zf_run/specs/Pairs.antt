@@ -4,7 +4,9 @@ use Rattle.std.specs.Int.{Width}
 use Rattle.zf_header.specs.declared.header.Header.{Header}
 use Rattle.zf_header.specs.HeaderBits.{block_bits}
 use Rattle.zf_cached.specs.State.{State}
-use Rattle.zf_cached.specs.Steps.{Setting}
+use Rattle.zf_cached.specs.Windows.{Window}
+use Rattle.zf_cached.specs.Steps.{Setting, Session}
+use Rattle.zf_commands.specs.Sittings.{session}
 use Rattle.zf_cache.specs.Kept.{Kept}
 use Rattle.zf_store.specs.Stored.{Stored, format_of, code_at}
 use Rattle.zf_twoway.specs.Runs.{twoway_setting}
@@ -14,6 +16,10 @@ module _ {X : Type 0} (value : X → ℤ) where
   -- the state that the two stand for
   abbrev pub pair_state : Stored → Kept X → State (List Bool)
   pair_state s c = state_of value c (format_of s) (code_at s)
+
+  -- what a script changes about them, and the window
+  abbrev pub pair_session : Stored → Kept X → Window → Session (List Bool)
+  pair_session s c window = session s.header.shape (pair_state s c) window
 
   -- they fit
   abbrev pub PairFits : Stored → Kept X → Type 0

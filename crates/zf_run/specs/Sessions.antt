@@ -1,5 +1,5 @@
 -- An array and a window as what a script works on.
-use Rattle.std.specs.Prelude.{ℕ, ◌≡◌, Bool, List, length}
+use Rattle.std.specs.Prelude.{ℕ, ◌≡◌, Bool, List, length, refl}
 use Rattle.std.specs.Int.{Width}
 use Rattle.zf_spec.specs.Grid.{IsShape}
 use Rattle.zf_base.specs.Widths.{width_of}
@@ -21,6 +21,11 @@ use Rattle.zf_const.specs.Standing as read
 -- what a script doesn't change about an array: the type of its values and the bits of a block
 abbrev pub setting_of : Width → Held → Setting (List Bool)
 setting_of w a = array_setting w (block_bits a.header.mode)
+
+-- the values are those of the type
+pub array_width : (w : Width) (budget : ℕ) → (array_setting w budget).width ≡ w
+unfolding array_setting
+array_width w budget = refl
 
 -- what it does change
 abbrev pub session_of : Held → Window → Session (List Bool)
@@ -50,9 +55,13 @@ pub record IsArray (w : Width) (d : ℕ) (a : Held) : Type 0 where
 abbrev pub look_setting_of : Width → Header → Setting (List Bool)
 look_setting_of w h = look_setting w (read.coding_of h)
 
+-- what it does change
+abbrev pub look_session_of : read.Held → Window → Session (List Bool)
+look_session_of a window = session (read.shape a) (read.state a) window
+
 -- what it begins with
 abbrev pub look_start_of : read.Held → Session (List Bool)
-look_start_of a = session (read.shape a) (read.state a) (whole (read.shape a))
+look_start_of a = look_session_of a (whole (read.shape a))
 
 -- the look of a script at it
 abbrev pub look_of : Width → read.Held → List ℕ → List ℕ → Session (List Bool) × List Reply

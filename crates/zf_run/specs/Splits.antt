@@ -7,7 +7,9 @@ use Rattle.zf_cached.specs.Windows.{Window}
 use Rattle.zf_cached.specs.Views.{View}
 use Rattle.zf_cached.specs.Ownership.{first_of, count_of}
 use Rattle.zf_cached.specs.Splits.{is_view_count}
-use Rattle.zf_cached.specs.Steps.{Session}
+use Rattle.zf_cached.specs.Commands.{Command}
+use Rattle.zf_cached.specs.Replies.{Reply}
+use Rattle.zf_cached.specs.Steps.{Setting, Session}
 use Rattle.zf_cache.specs.Kept.{IsEmpty}
 use Rattle.zf_cache.specs.Standing.{HasRoom}
 use Rattle.zf_private.specs.Standing as private
@@ -15,6 +17,7 @@ use Rattle.zf_private.specs.Several.{IsReady}
 use Rattle.zf_array.specs.Standing.{Held, shape, state, format}
 use Rattle.zf_array.specs.Coded.{IsCoded}
 use Rattle.zf_commands.specs.Sittings.{sitting}
+use Rattle.zf_commands.specs.Steps.{HasWindow, Does}
 
 -- the lists that vectors are seen as
 abbrev pub lists : {X Z : Type 0} → Option (Vec X Z) → Option (List X)
@@ -45,8 +48,8 @@ module _ {X : Type 0} (value : X → ℤ) where
   split_of a (Some views) = Some (views_seen a views)
 
   -- an array and its views, if there are some, as what a script works on
-  abbrev pub parted_session : Held → Option (List (private.Held X)) → Window → Session (List Bool)
-  parted_session a views window = sitting (shape a) (state a) (split_of a views) window
+  abbrev pub parted_session : {Z : Type 0} → Held → Option (Vec (private.Held X) Z) → Window → Session (List Bool)
+  parted_session a views window = sitting (shape a) (state a) (split_of a (lists views)) window
 
   -- an array that is split, and its views
   abbrev pub split_session : Held → List (private.Held X) → Window → Session (List Bool)
@@ -66,9 +69,9 @@ module _ {X : Type 0} (value : X → ℤ) where
     pub each : (i : ℕ) (v : private.Held X) → i < length views → v ≡ slice_index_or views i v → IsPart d a (length views) i v
 
   -- they are, where there are views
-  abbrev pub FitTogether : ℕ → Held → Option (List (private.Held X)) → Type 0
+  abbrev pub FitTogether : {Z : Type 0} → ℕ → Held → Option (Vec (private.Held X) Z) → Type 0
   FitTogether d a None = Unit {0}
-  FitTogether d a (Some views) = AreParts d a views
+  FitTogether d a (Some views) = AreParts d a (vec_items views)
 
 -- a view as it is made: nothing is in its lines, which have room for the blocks of the array, and nothing is counted
 pub record IsNewPart {X : Type 0} (d : ℕ) (ns : List ℕ) (n lines i : ℕ) (v : private.Held X) : Type 0 where
@@ -84,3 +87,7 @@ pub record IsNewPart {X : Type 0} (d : ℕ) (ns : List ℕ) (n lines i : ℕ) (v
 pub record AreNewParts {X : Type 0} (d : ℕ) (ns : List ℕ) (n lines k : ℕ) (views : List (private.Held X)) : Type 0 where
   pub many : length views ≡ k
   pub each : (i : ℕ) (v : private.Held X) → i < length views → v ≡ slice_index_or views i v → IsNewPart d ns n lines i v
+
+-- a command that does not look at the window, and keeps it: an array through each window before, and the array after
+abbrev pub DoesAlone : {Code : Type 0} → Setting Code → Command → (Window → Session Code) → (Window → Session Code) → Option Reply → Type 0
+DoesAlone setting c before after reply = (v : Window) → HasWindow (before v) → Does setting c (before v) (after v) reply

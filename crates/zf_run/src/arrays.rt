@@ -1,30 +1,25 @@
 //! Commands on an array that is read and written.
 
-ghost use Rattle.std.specs.Prelude.{◌≡◌, Bool, true, false, List, length};
+ghost use Rattle.std.specs.Prelude.{◌≡◌, Bool, List, refl};
 ghost use Rattle.zf_base.specs.declared.lane.Ty.{Ty};
 ghost use Rattle.zf_header.specs.declared.header.Mode.{Mode};
 ghost use Rattle.zf_header.specs.HeaderBits.{block_bits};
-ghost use Rattle.zf_cached.specs.Windows.{LiesIn};
-ghost use Rattle.zf_cached.specs.Runs.{only_reads};
 ghost use Rattle.zf_cached.specs.Runs.{array_setting};
-ghost use Rattle.zf_script.specs.Seen.{command_of, cmd_of};
-ghost use Rattle.zf_array.specs.Standing as standing;
-ghost use Rattle.zf_commands.specs.Allowed.{array_width, is_on_whole};
-ghost use Rattle.zf_run.specs.Sessions.{setting_of, session_of, kind, IsArray};
-ghost use Rattle.zf_commands.specs.Steps.{Does, answer};
+ghost use Rattle.zf_run.specs.Sessions.{session_of, kind, array_width};
 
-use crate::changes::{fill_block, resize, sum_block, vset};
+use crate::changes::{fill_block, sum_block};
 use std::alloc::AllocError;
 use zf_array::Array;
 use zf_base::{Lane, Pos, Shape};
-use zf_commands::{Answer, Changing, Subject, Target, add, discard, fill, flush, read, set};
-use zf_script::{Cmd, Stats};
+use zf_commands::{Changing, Subject, Target};
+use zf_script::Stats;
 use zf_view::Window;
 
 /// An array that is read and written, as what the lines of a script work on.
 #[derive(Drop)]
 pub(crate) struct Whole<'a, T: Lane, const D: usize> {
     pub(crate) array: &'a mut Array<T, D>,
+    pub(crate) window: &'a mut Window,
 }
 
 impl<'a, T: Lane, const D: usize> Subject for Whole<'a, T, D> {
@@ -32,15 +27,13 @@ impl<'a, T: Lane, const D: usize> Subject for Whole<'a, T, D> {
 
     ghost Code = { List Bool };
 
-    ghost Kept = { (Ty × Mode) × GName };
+    ghost Kept = { (Ty × Mode) × GName × GName };
 
-    ghost kept = { λ a. (kind a.array.now, a.array.ghost_name) };
+    ghost kept = { λ a. (kind a.array.now, a.array.ghost_name, a.window.ghost_name) };
 
     ghost setting = { λ k. array_setting T.width (block_bits k.0.1) };
 
-    ghost shape = { λ a. standing.shape a.array.now };
-
-    ghost state = { λ a. standing.state a.array.now };
+    ghost session = { λ a. session_of a.array.now a.window.now };
 
     ghost sound = { λ a. Unit {0} };
 
@@ -50,6 +43,16 @@ impl<'a, T: Lane, const D: usize> Subject for Whole<'a, T, D> {
 }
 
 impl<'a, T: Lane, const D: usize> Target for Whole<'a, T, D> {
+    ghost whole = { λ a. refl };
+
+    fn window(&self) -> Window {
+        *self.window
+    }
+
+    fn use_window(&mut self, window: Window) {
+        *self.window = window;
+    }
+
     fn number(&mut self, p: Pos) -> i128 {
         let array = &mut *self.array;
         // Known by this call: the type is that of the header.
@@ -113,50 +116,5 @@ impl<'a, T: Lane, const D: usize> Changing<T> for Whole<'a, T, D> {
         // Known by this call: the type is that of the header.
         let _shape = array.shape();
         array.discard();
-    }
-}
-
-/// What a command does that is on the whole array.
-pub(crate) fn on_array<T: Lane, const D: usize>(
-    a: &mut Whole<'_, T, D>,
-    window: &mut Window,
-    cmd: Cmd,
-) -> Answer
-    requires array { IsArray T.width D a.old.array.now }
-    requires inside { LiesIn (standing.shape a.old.array.now) window.old }
-    requires numbers { cmd ≡ cmd_of (command_of (length (standing.shape a.old.array.now)) cmd) }
-    requires whole { is_on_whole (command_of (length (standing.shape a.old.array.now)) cmd) ≡ true }
-    ensures does { Does (setting_of T.width a.old.array.now) (command_of (length (standing.shape a.old.array.now)) cmd)
-        (session_of a.old.array.now window.old) (session_of a.new.array.now window.new) (answer result) }
-    ensures kept { kind a.new.array.now ≡ kind a.old.array.now }
-    ensures same_array { a.new.array.ghost_name ≡ a.old.array.ghost_name }
-{
-    match read(a, window, cmd) {
-        Some(done) => done,
-        None => write(a, window, cmd),
-    }
-}
-
-// What a command that does not only read does. Each tests what it is refused for in the order of size, range, value and memory.
-fn write<T: Lane, const D: usize>(a: &mut Whole<'_, T, D>, window: &mut Window, cmd: Cmd) -> Answer
-    requires array { IsArray T.width D a.old.array.now }
-    requires inside { LiesIn (standing.shape a.old.array.now) window.old }
-    requires numbers { cmd ≡ cmd_of (command_of (length (standing.shape a.old.array.now)) cmd) }
-    requires writes { only_reads (command_of (length (standing.shape a.old.array.now)) cmd) ≡ false }
-    requires whole { is_on_whole (command_of (length (standing.shape a.old.array.now)) cmd) ≡ true }
-    ensures does { Does (setting_of T.width a.old.array.now) (command_of (length (standing.shape a.old.array.now)) cmd)
-        (session_of a.old.array.now window.old) (session_of a.new.array.now window.new) (answer result) }
-    ensures kept { kind a.new.array.now ≡ kind a.old.array.now }
-    ensures same_array { a.new.array.ghost_name ≡ a.old.array.ghost_name }
-{
-    match cmd {
-        Cmd::Set(p, v) => set::<T, _>(a, p, v),
-        Cmd::Add(p, v) => add::<T, _>(a, p, v),
-        Cmd::Fill(v) => fill::<T, _>(a, v),
-        Cmd::VSet(p, v) => vset(&mut *a.array, window, p, v),
-        Cmd::Flush => flush::<T, _>(a),
-        Cmd::Discard => discard::<T, _>(a),
-        Cmd::Resize(count, sizes) => resize(&mut *a.array, window, count, sizes),
-        _ => unreachable!(),
     }
 }

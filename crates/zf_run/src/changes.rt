@@ -10,38 +10,59 @@ ghost use Rattle.zf_cached.specs.Windows.{LiesIn, Window as Part};
 ghost use Rattle.zf_cached.specs.Steps.{is_new_shape, touched, changed, total};
 ghost use Rattle.zf_array.specs.Standing.{shape, state, format};
 ghost use Rattle.zf_commands.specs.Sums.{IsUpTo};
-ghost use Rattle.zf_commands.specs.Steps.{Does, answer};
+ghost use Rattle.zf_commands.specs.Kinds.{array_cmd, asked, IsPlain};
+ghost use Rattle.zf_commands.specs.Steps.{HasWindow, Does, said};
 ghost use Rattle.zf_run.specs.Sessions.{setting_of, session_of, start_of, kind, IsArray};
 
 use zf_array::Array;
 use zf_base::{Lane, Pos, Shape};
-use zf_commands::{Answer, fill_line, of_type, sum_within};
+use zf_commands::{ArrayCmd, fill_line, of_type, sum_within};
 use zf_header::{Header, MAX_FILE, Mode, rate_bytes};
-use zf_script::Refusal;
+use zf_script::{Refusal, Reply};
 use zf_view::Window;
 
-/// `vset P v`: makes the value at a position of the window be `v`.
-pub(crate) fn vset<T: Lane, const D: usize>(
+/// What a command does that changes a value through the window, or the sizes.
+pub(crate) fn change_array<T: Lane, const D: usize>(
+    a: &mut Array<T, D>,
+    window: &mut Window,
+    cmd: ArrayCmd,
+) -> Option<Reply>
+    requires window { HasWindow (session_of a.old window.old) }
+    requires plain { IsPlain (session_of a.old window.old) (array_cmd cmd) }
+    ensures does { Does (setting_of T.width a.old) (asked (session_of a.old window.old) (array_cmd cmd))
+        (session_of a.old window.old) (session_of a.new window.new) (said result) }
+    ensures kept { kind a.new ≡ kind a.old }
+{
+    // Known by this call: the sizes are those of a shape.
+    let _dims = a.shape().dims();
+    match cmd {
+        ArrayCmd::Set(p, v) => vset(a, window, p, v),
+        ArrayCmd::Resize(count, sizes) => resize(a, window, count, sizes),
+    }
+}
+
+// `vset P v`: makes the value at a position of the window be `v`.
+fn vset<T: Lane, const D: usize>(
     a: &mut Array<T, D>,
     window: &Window,
     p: Pos,
     v: i128,
-) -> Answer
+) -> Option<Reply>
     requires array { IsArray T.width D a.old }
     requires inside { LiesIn (shape a.old) window.now }
     requires unused { p ≡ with_unused 0 (used_axes (length (shape a.old)) p) }
     ensures does { Does (setting_of T.width a.old) (Command.vset (used_axes (length (shape a.old)) p) v)
-        (session_of a.old window.now) (session_of a.new window.now) (answer result) }
+        (session_of a.old window.now) (session_of a.new window.now) (said result) }
     ensures kept { kind a.new ≡ kind a.old }
 {
     if !window.contains(p) {
-        return Err(Refusal::Range);
+        return Some(Reply::Refused(Refusal::Range));
     }
     let Some(v) = of_type(v) else {
-        return Err(Refusal::Value);
+        return Some(Reply::Refused(Refusal::Value));
     };
     a.set(window.map(p), v);
-    Ok(None)
+    None
 }
 
 /// Makes all values of block `b` be `v`, by one touch for writing.
@@ -68,29 +89,29 @@ pub(crate) fn sum_block<T: Lane, const D: usize>(a: &mut Array<T, D>, b: u64) ->
     sum_within(a.block(b), &size)
 }
 
-/// `resize S`: zeros of another shape; the window is the whole array.
-pub(crate) fn resize<T: Lane, const D: usize>(
+// `resize S`: zeros of another shape; the window is the whole array.
+fn resize<T: Lane, const D: usize>(
     a: &mut Array<T, D>,
     window: &mut Window,
     count: u8,
     sizes: Pos,
-) -> Answer
+) -> Option<Reply>
     requires array { IsArray T.width D a.old }
     requires inside { LiesIn (shape a.old) window.old }
     requires count { length (used_axes count sizes) ≡ count }
     ensures does { Does (setting_of T.width a.old) (Command.resize (used_axes count sizes))
-        (session_of a.old window.old) (session_of a.new window.new) (answer result) }
+        (session_of a.old window.old) (session_of a.new window.new) (said result) }
     ensures kept { kind a.new ≡ kind a.old }
 {
     let Some(shape) = new_shape(a, count, sizes) else {
-        return Err(Refusal::Size);
+        return Some(Reply::Refused(Refusal::Size));
     };
     match a.resize(shape) {
         Ok(()) => {
             *window = Window::whole(&shape);
-            Ok(None)
+            None
         }
-        Err(_) => Err(Refusal::Memory),
+        Err(_) => Some(Reply::Refused(Refusal::Memory)),
     }
 }
 

@@ -1,19 +1,12 @@
 //! Commands on an array that is only read.
 
-ghost use Rattle.std.specs.Prelude.{◌≡◌, ◌<◌, ◌^◌, Bool, List, None};
-ghost use Rattle.zf_spec.specs.Grid.{IsShape, blocks};
+ghost use Rattle.std.specs.Prelude.{Bool, List, refl};
 ghost use Rattle.zf_header.specs.declared.header.Header.{Header};
-ghost use Rattle.zf_cached.specs.Windows.{Window as Part};
-ghost use Rattle.zf_cached.specs.Steps.{total};
-ghost use Rattle.zf_const.specs.Standing as read;
-ghost use Rattle.zf_commands.specs.Sittings.{session};
-ghost use Rattle.zf_run.specs.Sessions.{look_setting_of, stream_of};
-ghost use Rattle.zf_commands.specs.Sums.{IsUpTo};
-ghost use Rattle.zf_commands.specs.Steps.{Touches};
+ghost use Rattle.zf_run.specs.Sessions.{look_setting_of, look_session_of, stream_of};
 
 use std::alloc::AllocError;
 use zf_base::{Lane, Pos, Shape};
-use zf_commands::{Scripted, Subject, Target, is_reading, read, spoken, sum_within};
+use zf_commands::{Kind, Scripted, Subject, Target, kind_of, look_through, read, sum_within};
 use zf_const::ConstArray;
 use zf_script::{Cmd, Refusal, Reply, Stats};
 use zf_view::Window;
@@ -22,6 +15,7 @@ use zf_view::Window;
 #[derive(Drop)]
 pub(crate) struct Looked<'a, T: Lane, const D: usize> {
     pub(crate) array: &'a mut ConstArray<T, D>,
+    pub(crate) window: Window,
 }
 
 impl<'a, T: Lane, const D: usize> Subject for Looked<'a, T, D> {
@@ -35,9 +29,7 @@ impl<'a, T: Lane, const D: usize> Subject for Looked<'a, T, D> {
 
     ghost setting = { λ k. look_setting_of T.width k.0.0 };
 
-    ghost shape = { λ a. read.shape a.array.now };
-
-    ghost state = { λ a. read.state a.array.now };
+    ghost session = { λ a. look_session_of a.array.now a.window };
 
     ghost sound = { λ a. Unit {0} };
 
@@ -47,6 +39,16 @@ impl<'a, T: Lane, const D: usize> Subject for Looked<'a, T, D> {
 }
 
 impl<'a, T: Lane, const D: usize> Target for Looked<'a, T, D> {
+    ghost whole = { λ a. refl };
+
+    fn window(&self) -> Window {
+        self.window
+    }
+
+    fn use_window(&mut self, window: Window) {
+        self.window = window;
+    }
+
     fn number(&mut self, p: Pos) -> i128 {
         let array = &mut *self.array;
         array.get(p).to_wide()
@@ -73,17 +75,11 @@ impl<'a, T: Lane, const D: usize> Target for Looked<'a, T, D> {
 }
 
 impl<'a, T: Lane, const D: usize> Scripted for Looked<'a, T, D> {
-    ghost split = { λ a. None };
-
-    fn obey(&mut self, window: &mut Window, cmd: Cmd) -> Option<Reply> {
-        if !is_reading(cmd) {
-            return Some(Reply::Refused(Refusal::Word));
-        }
-        // Known by this call: the sizes are those of a shape.
-        let _dims = self.sizes().dims();
-        match read(self, window, cmd) {
-            Some(done) => spoken(done),
-            None => unreachable!(),
+    fn obey(&mut self, cmd: Cmd) -> Option<Reply> {
+        match kind_of(cmd) {
+            Kind::Read(asked) => read(self, asked),
+            Kind::Window(asked) => look_through(self, asked),
+            _ => Some(Reply::Refused(Refusal::Word)),
         }
     }
 }

@@ -29,9 +29,9 @@ pub fn look<T: Lane, const D: usize, O: Sink>(
     ensures unchanged { result ≢ RunEnd.Write → O.faults out.new ≡ O.faults out.old }
     ensures cause { HasCause (result ≡ RunEnd.Write) (O.faults out.old) (O.faults out.new) }
 {
-    let mut window = Window::whole(&a.shape());
-    let mut looked = Looked { array: a };
-    match run_lines(&mut looked, &mut window, script, out) {
+    let window = Window::whole(&a.shape());
+    let mut looked = Looked { array: a, window };
+    match run_lines(&mut looked, script, out) {
         Ok(refused) => end_of(refused),
         Err(_) => RunEnd::Write,
     }

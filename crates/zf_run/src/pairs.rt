@@ -1,20 +1,14 @@
 //! Commands on a store and a two-way cache over it.
 
-ghost use Rattle.std.specs.Prelude.{◌≡◌, ℕ, Bool, true, false, List, None, length};
+ghost use Rattle.std.specs.Prelude.{Bool, List, refl};
 ghost use Rattle.zf_header.specs.declared.header.Header.{Header};
-ghost use Rattle.zf_cached.specs.Runs.{only_reads};
-ghost use Rattle.zf_twoway.specs.Runs.{needs_no_window};
-ghost use Rattle.zf_script.specs.Seen.{command_of, cmd_of};
-ghost use Rattle.zf_commands.specs.Sittings.{session};
-ghost use Rattle.zf_commands.specs.Steps.{DoesAlone, answer};
-ghost use Rattle.zf_run.specs.Pairs.{pair_state, PairFits, two_setting_of, two_width};
+ghost use Rattle.zf_run.specs.Pairs.{pair_session, PairFits, two_setting_of, two_width};
 
 use std::alloc::AllocError;
 use zf_base::{Lane, Pos, Shape};
 use zf_cache::raised;
 use zf_commands::{
-    Answer, Changing, Scripted, Subject, Target, add, discard, fill, fill_line, flush, read, set,
-    spoken, sum_within,
+    Changing, Kind, Scripted, Subject, Target, fill_line, kind_of, read, sum_within, write,
 };
 use zf_script::{Cmd, Refusal, Reply, Stats};
 use zf_store::Store;
@@ -26,6 +20,7 @@ use zf_view::Window;
 pub(crate) struct Pair<'a, T: Lane, const D: usize> {
     pub(crate) store: &'a mut Store<T, D>,
     pub(crate) cache: &'a mut TwoWay<T, D>,
+    pub(crate) window: Window,
 }
 
 impl<'a, T: Lane, const D: usize> Subject for Pair<'a, T, D> {
@@ -41,9 +36,7 @@ impl<'a, T: Lane, const D: usize> Subject for Pair<'a, T, D> {
 
     ghost sound = { λ p. PairFits T.value p.store.now p.cache.now };
 
-    ghost shape = { λ p. p.store.now.header.shape };
-
-    ghost state = { λ p. pair_state T.value p.store.now p.cache.now };
+    ghost session = { λ p. pair_session T.value p.store.now p.cache.now p.window };
 
     fn sizes(&self) -> Shape {
         self.store.header().shape
@@ -51,6 +44,16 @@ impl<'a, T: Lane, const D: usize> Subject for Pair<'a, T, D> {
 }
 
 impl<'a, T: Lane, const D: usize> Target for Pair<'a, T, D> {
+    ghost whole = { λ p. refl };
+
+    fn window(&self) -> Window {
+        self.window
+    }
+
+    fn use_window(&mut self, window: Window) {
+        self.window = window;
+    }
+
     fn number(&mut self, p: Pos) -> i128 {
         let store = &mut *self.store;
         let cache = &mut *self.cache;
@@ -122,56 +125,11 @@ impl<'a, T: Lane, const D: usize> Changing<T> for Pair<'a, T, D> {
 }
 
 impl<'a, T: Lane, const D: usize> Scripted for Pair<'a, T, D> {
-    ghost split = { λ p. None };
-
-    fn obey(&mut self, window: &mut Window, cmd: Cmd) -> Option<Reply> {
-        if !needs_no_window(cmd) {
-            return Some(Reply::Refused(Refusal::Word));
+    fn obey(&mut self, cmd: Cmd) -> Option<Reply> {
+        match kind_of(cmd) {
+            Kind::Read(asked) => read(self, asked),
+            Kind::Write(asked) => write::<T, _>(self, asked),
+            _ => Some(Reply::Refused(Refusal::Word)),
         }
-        // Known by this call: the sizes are those of a shape.
-        let _dims = self.sizes().dims();
-        match read(self, window, cmd) {
-            Some(done) => spoken(done),
-            None => spoken(plain::<T, _>(self, cmd)),
-        }
-    }
-}
-
-/// Whether a command needs no window, and no sizes.
-fn needs_no_window(cmd: Cmd) -> bool
-    ensures { (d : ℕ) → result ≡ needs_no_window (command_of d cmd) }
-{
-    match cmd {
-        Cmd::Get(_) => true,
-        Cmd::Set(_, _) => true,
-        Cmd::Add(_, _) => true,
-        Cmd::Fill(_) => true,
-        Cmd::Sum => true,
-        Cmd::Flush => true,
-        Cmd::Discard => true,
-        Cmd::Lines(_) => true,
-        Cmd::Stats => true,
-        _ => false,
-    }
-}
-
-/// What a command does that does not only read, and needs no window.
-fn plain<T: Lane, A: Changing<T>>(a: &mut A, cmd: Cmd) -> Answer
-    requires sound { A.sound a.old }
-    requires numbers { cmd ≡ cmd_of (command_of (length (A.shape a.old)) cmd) }
-    requires writes { only_reads (command_of (length (A.shape a.old)) cmd) ≡ false }
-    requires alone { needs_no_window (command_of (length (A.shape a.old)) cmd) ≡ true }
-    ensures does { DoesAlone (A.setting (A.kept a.old)) (command_of (length (A.shape a.old)) cmd)
-        (session (A.shape a.old) (A.state a.old)) (session (A.shape a.new) (A.state a.new)) (answer result) }
-    ensures sound { A.sound a.new }
-    ensures kept { A.kept a.new ≡ A.kept a.old }
-{
-    match cmd {
-        Cmd::Set(p, v) => set::<T, _>(a, p, v),
-        Cmd::Add(p, v) => add::<T, _>(a, p, v),
-        Cmd::Fill(v) => fill::<T, _>(a, v),
-        Cmd::Flush => flush::<T, _>(a),
-        Cmd::Discard => discard::<T, _>(a),
-        _ => unreachable!(),
     }
 }

@@ -32,14 +32,15 @@ pub fn run<T: Lane, const D: usize, O: Sink>(
     ensures unchanged { result ≢ RunEnd.Write → O.faults out.new ≡ O.faults out.old }
     ensures cause { HasCause (result ≡ RunEnd.Write) (O.faults out.old) (O.faults out.new) }
 {
-    let mut window = Window::whole(&a.shape());
+    let window = Window::whole(&a.shape());
     let mut views = None;
     let mut parted = Parted {
         alloc,
         array: a,
         views: &mut views,
+        window,
     };
-    match run_lines(&mut parted, &mut window, script, out) {
+    match run_lines(&mut parted, script, out) {
         Ok(refused) => {
             parted.finish();
             end_of(refused)

@@ -1,30 +1,29 @@
 //! An array that may be split into private views.
 
-ghost use Rattle.std.specs.Prelude.{◌≡◌, ◌<◌, ◌≤◌, ◌&&◌, true, false, None, length, IsSome, IfOk, Bool, List};
+ghost use Rattle.std.specs.Prelude.{◌≡◌, ◌<◌, ◌≤◌, ◌&&◌, None, length, IsSome, IfOk, Bool, List};
 ghost use Rattle.zf_spec.specs.Grid.{blocks};
 ghost use Rattle.zf_base.specs.declared.lane.Ty.{Ty};
 ghost use Rattle.zf_header.specs.declared.header.Mode.{Mode};
 ghost use Rattle.zf_header.specs.HeaderBits.{block_bits};
 ghost use Rattle.zf_cached.specs.Commands.{Command};
-ghost use Rattle.zf_cached.specs.Windows.{Window as Part};
 ghost use Rattle.zf_cached.specs.Splits.{is_view_count};
-ghost use Rattle.zf_cached.specs.Steps.{joined, is_line_count, needs_split};
+ghost use Rattle.zf_cached.specs.Steps.{joined, is_line_count};
 ghost use Rattle.zf_cached.specs.Runs.{array_setting, ended};
 ghost use Rattle.zf_cache.specs.Kept.{IsLineCount};
-ghost use Rattle.zf_array.specs.Standing as standing;
 ghost use Rattle.zf_array.specs.Coded.{HasEmptyLines, IsCoded};
-ghost use Rattle.zf_script.specs.Seen.{command_of, cmd_of};
+ghost use Rattle.zf_commands.specs.Kinds.{cmd_of_kind, view_cmd, asked, IsPlain};
 ghost use Rattle.zf_run.specs.Sessions.{session_of, setting_of, kind};
-ghost use Rattle.zf_commands.specs.Steps.{Does, DoesAlone, HasWindow, answer};
-ghost use Rattle.zf_run.specs.Splits.{lists, split_of, parted_session, FitTogether, AreNewParts};
+ghost use Rattle.zf_commands.specs.Steps.{Does, HasWindow, said};
+ghost use Rattle.zf_run.specs.Splits.{lists, parted_session, FitTogether, AreNewParts};
 
-use crate::arrays::{Whole, on_array};
+use crate::arrays::Whole;
+use crate::changes::change_array;
 use crate::views::{flush_views, on_view};
 use std::alloc::{AllocError, Global};
 use zf_array::{Array, Codes};
 use zf_base::{Lane, Shape};
 use zf_cache::raised;
-use zf_commands::{Answer, Scripted, Subject, needs_split, spoken};
+use zf_commands::{Kind, Scripted, Subject, ViewCmd, kind_of, look_through, read, write};
 use zf_private::Private;
 use zf_script::{Cmd, Refusal, Reply};
 use zf_view::Window;
@@ -40,15 +39,16 @@ pub(crate) struct Parted<'a, T: Lane, const D: usize> {
     pub(crate) alloc: Global,
     pub(crate) array: &'a mut Array<T, D>,
     pub(crate) views: &'a mut Option<Vec<Private<T, D>>>,
+    pub(crate) window: Window,
 }
 
 impl<'a, T: Lane, const D: usize> Parted<'a, T, D> {
     /// The end of a run: a split ends, and then the array is flushed.
     pub(crate) fn finish(&mut self)
-        requires { FitTogether T.value D self.old.array.now (lists self.old.views.now) }
-        ensures ended { (v : Part) → ended (setting_of T.width self.old.array.now)
-            (parted_session T.value self.old.array.now (lists self.old.views.now) v)
-            ≡ session_of self.new.array.now v }
+        requires { FitTogether T.value D self.old.array.now self.old.views.now }
+        ensures ended { ended (setting_of T.width self.old.array.now)
+            (parted_session T.value self.old.array.now self.old.views.now self.old.window)
+            ≡ session_of self.new.array.now self.new.window }
         ensures kept { kind self.new.array.now ≡ kind self.old.array.now }
         ensures same_array { self.new.array.ghost_name ≡ self.old.array.ghost_name }
     {
@@ -61,10 +61,10 @@ impl<'a, T: Lane, const D: usize> Parted<'a, T, D> {
 
     // Flushes the views in order, and ends the split, if there is one.
     fn join(&mut self)
-        requires { FitTogether T.value D self.old.array.now (lists self.old.views.now) }
-        ensures joined { (v : Part) → joined (setting_of T.width self.old.array.now)
-            (parted_session T.value self.old.array.now (lists self.old.views.now) v)
-            ≡ session_of self.new.array.now v }
+        requires { FitTogether T.value D self.old.array.now self.old.views.now }
+        ensures joined { joined (setting_of T.width self.old.array.now)
+            (parted_session T.value self.old.array.now self.old.views.now self.old.window)
+            ≡ session_of self.new.array.now self.new.window }
         ensures whole { self.new.views.now ≡ None }
         ensures kept { kind self.new.array.now ≡ kind self.old.array.now }
         ensures same_array { self.new.array.ghost_name ≡ self.old.array.ghost_name }
@@ -78,75 +78,102 @@ impl<'a, T: Lane, const D: usize> Parted<'a, T, D> {
     }
 
     // `split N L`: that many views, each with so many lines. The memory is taken first; then the array is flushed.
-    fn split(&mut self, count: u64, lines: u64) -> Answer
+    fn split(&mut self, count: u64, lines: u64) -> Option<Reply>
         requires whole { self.old.views.now ≡ None }
-        ensures does { (v : Part) → HasWindow (session_of self.old.array.now v)
-            → Does (setting_of T.width self.old.array.now) (Command.split count lines) (session_of self.old.array.now v)
-            (parted_session T.value self.new.array.now (lists self.new.views.now) v) (answer result) }
-        ensures sound { FitTogether T.value D self.new.array.now (lists self.new.views.now) }
+        requires window { HasWindow (session_of self.old.array.now self.old.window) }
+        ensures does { Does (setting_of T.width self.old.array.now) (Command.split count lines)
+            (session_of self.old.array.now self.old.window) (parted_session T.value self.new.array.now self.new.views.now self.new.window) (said result) }
+        ensures sound { FitTogether T.value D self.new.array.now self.new.views.now }
         ensures kept { kind self.new.array.now ≡ kind self.old.array.now }
         ensures same_array { self.new.array.ghost_name ≡ self.old.array.ghost_name }
     {
         let array = &mut *self.array;
         let shape = array.shape();
         if !may_split(shape.blocks(), count, lines) {
-            return Err(Refusal::Size);
+            return Some(Reply::Refused(Refusal::Size));
         }
         let Ok(views) = new_views(self.alloc, shape, count, raised(lines as u32)) else {
-            return Err(Refusal::Memory);
+            return Some(Reply::Refused(Refusal::Memory));
         };
         array.flush();
         see_coded(array);
         let parts = &mut *self.views;
         *parts = Some(views);
-        Ok(None)
+        None
     }
 
     // What a command does while the array is whole.
-    fn obey_whole(&mut self, window: &mut Window, cmd: Cmd) -> Answer
+    fn obey_whole(&mut self, cmd: Kind) -> Option<Reply>
         requires whole { self.old.views.now ≡ None }
-        requires window { HasWindow (session_of self.old.array.now window.old) }
-        requires numbers { cmd ≡ cmd_of (command_of (length (standing.shape self.old.array.now)) cmd) }
-        requires alone { needs_split (command_of (length (standing.shape self.old.array.now)) cmd) ≡ false }
-        ensures does { Does (setting_of T.width self.old.array.now)
-            (command_of (length (standing.shape self.old.array.now)) cmd) (session_of self.old.array.now window.old)
-            (parted_session T.value self.new.array.now (lists self.new.views.now) window.new) (answer result) }
-        ensures sound { FitTogether T.value D self.new.array.now (lists self.new.views.now) }
+        requires window { HasWindow (session_of self.old.array.now self.old.window) }
+        requires plain { IsPlain (session_of self.old.array.now self.old.window) (cmd_of_kind cmd) }
+        ensures does { Does (setting_of T.width self.old.array.now) (asked (session_of self.old.array.now self.old.window) (cmd_of_kind cmd))
+            (session_of self.old.array.now self.old.window) (parted_session T.value self.new.array.now self.new.views.now self.new.window) (said result) }
+        ensures sound { FitTogether T.value D self.new.array.now self.new.views.now }
         ensures kept { kind self.new.array.now ≡ kind self.old.array.now }
         ensures same_array { self.new.array.ghost_name ≡ self.old.array.ghost_name }
     {
-        if let Cmd::Split(count, lines) = cmd {
-            return self.split(count, lines);
+        match cmd {
+            Kind::Read(asked) => {
+                let array = &mut *self.array;
+                let window = &mut self.window;
+                read(&mut Whole { array, window }, asked)
+            }
+            Kind::Window(asked) => {
+                let array = &mut *self.array;
+                let window = &mut self.window;
+                look_through(&mut Whole { array, window }, asked)
+            }
+            Kind::Write(asked) => {
+                let array = &mut *self.array;
+                let window = &mut self.window;
+                write::<T, _>(&mut Whole { array, window }, asked)
+            }
+            Kind::Array(asked) => change_array(&mut *self.array, &mut self.window, asked),
+            Kind::Split(count, lines) => self.split(count, lines),
+            Kind::Join => Some(Reply::Refused(Refusal::Split)),
+            Kind::View(_, _) => Some(Reply::Refused(Refusal::Split)),
         }
-        let array = &mut *self.array;
-        // Known by this call: the sizes are those of a shape.
-        let _dims = array.shape().dims();
-        on_array(&mut Whole { array }, window, cmd)
     }
 
     // What a command does while the array is split: it ends the split, or is on a view.
-    fn obey_parted(&mut self, cmd: Cmd) -> Answer
-        requires sound { FitTogether T.value D self.old.array.now (lists self.old.views.now) }
+    fn obey_parted(&mut self, cmd: Kind) -> Option<Reply>
+        requires sound { FitTogether T.value D self.old.array.now self.old.views.now }
         requires parted { IsSome self.old.views.now }
-        requires numbers { cmd ≡ cmd_of (command_of (length (standing.shape self.old.array.now)) cmd) }
-        requires on_split { needs_split (command_of (length (standing.shape self.old.array.now)) cmd) ≡ true }
-        ensures does { DoesAlone (setting_of T.width self.old.array.now)
-            (command_of (length (standing.shape self.old.array.now)) cmd)
-            (parted_session T.value self.old.array.now (lists self.old.views.now))
-            (parted_session T.value self.new.array.now (lists self.new.views.now)) (answer result) }
-        ensures sound { FitTogether T.value D self.new.array.now (lists self.new.views.now) }
+        requires window { HasWindow (parted_session T.value self.old.array.now self.old.views.now self.old.window) }
+        requires plain { IsPlain (parted_session T.value self.old.array.now self.old.views.now self.old.window) (cmd_of_kind cmd) }
+        ensures does { Does (setting_of T.width self.old.array.now) (asked (parted_session T.value self.old.array.now self.old.views.now self.old.window) (cmd_of_kind cmd))
+            (parted_session T.value self.old.array.now self.old.views.now self.old.window) (parted_session T.value self.new.array.now self.new.views.now self.new.window) (said result) }
+        ensures sound { FitTogether T.value D self.new.array.now self.new.views.now }
         ensures kept { kind self.new.array.now ≡ kind self.old.array.now }
         ensures same_array { self.new.array.ghost_name ≡ self.old.array.ghost_name }
     {
-        if let Cmd::Join = cmd {
-            self.join();
-            return Ok(None);
+        match cmd {
+            Kind::Join => {
+                self.join();
+                None
+            }
+            Kind::View(i, asked) => self.obey_view(i, asked),
+            _ => Some(Reply::Refused(Refusal::Split)),
         }
+    }
+
+    // What a command on a view does. Where there is none it is refused.
+    fn obey_view(&mut self, i: u64, cmd: ViewCmd) -> Option<Reply>
+        requires sound { FitTogether T.value D self.old.array.now self.old.views.now }
+        requires window { HasWindow (parted_session T.value self.old.array.now self.old.views.now self.old.window) }
+        requires plain { IsPlain (parted_session T.value self.old.array.now self.old.views.now self.old.window) (view_cmd i cmd) }
+        ensures does { Does (setting_of T.width self.old.array.now) (asked (parted_session T.value self.old.array.now self.old.views.now self.old.window) (view_cmd i cmd))
+            (parted_session T.value self.old.array.now self.old.views.now self.old.window) (parted_session T.value self.new.array.now self.new.views.now self.new.window) (said result) }
+        ensures sound { FitTogether T.value D self.new.array.now self.new.views.now }
+        ensures kept { kind self.new.array.now ≡ kind self.old.array.now }
+        ensures same_array { self.new.array.ghost_name ≡ self.old.array.ghost_name }
+    {
         let array = &mut *self.array;
         let Some(views) = &mut *self.views else {
-            unreachable!()
+            return Some(Reply::Refused(Refusal::Split));
         };
-        on_view(array, views, cmd)
+        on_view(array, views, i, cmd)
     }
 }
 
@@ -161,11 +188,9 @@ impl<'a, T: Lane, const D: usize> Subject for Parted<'a, T, D> {
 
     ghost setting = { λ k. array_setting T.width (block_bits k.0.1) };
 
-    ghost sound = { λ p. FitTogether T.value D p.array.now (lists p.views.now) };
+    ghost sound = { λ p. FitTogether T.value D p.array.now p.views.now };
 
-    ghost shape = { λ p. standing.shape p.array.now };
-
-    ghost state = { λ p. standing.state p.array.now };
+    ghost session = { λ p. parted_session T.value p.array.now p.views.now p.window };
 
     fn sizes(&self) -> Shape {
         self.array.shape()
@@ -173,17 +198,12 @@ impl<'a, T: Lane, const D: usize> Subject for Parted<'a, T, D> {
 }
 
 impl<'a, T: Lane, const D: usize> Scripted for Parted<'a, T, D> {
-    ghost split = { λ p. split_of T.value p.array.now (lists p.views.now) };
-
-    fn obey(&mut self, window: &mut Window, cmd: Cmd) -> Option<Reply> {
-        let needs = needs_split(cmd);
-        if self.views.is_some() != needs {
-            return Some(Reply::Refused(Refusal::Split));
-        }
-        if needs {
-            spoken(self.obey_parted(cmd))
+    fn obey(&mut self, cmd: Cmd) -> Option<Reply> {
+        let asked = kind_of(cmd);
+        if self.views.is_some() {
+            self.obey_parted(asked)
         } else {
-            spoken(self.obey_whole(window, cmd))
+            self.obey_whole(asked)
         }
     }
 }

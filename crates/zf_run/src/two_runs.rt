@@ -37,9 +37,13 @@ pub fn run_two<T: Lane, const D: usize, O: Sink>(
     ensures unchanged { result ≢ RunEnd.Write → O.faults out.new ≡ O.faults out.old }
     ensures cause { HasCause (result ≡ RunEnd.Write) (O.faults out.old) (O.faults out.new) }
 {
-    let mut window = Window::whole(&store.header().shape);
-    let mut pair = Pair { store, cache };
-    match run_lines(&mut pair, &mut window, script, out) {
+    let window = Window::whole(&store.header().shape);
+    let mut pair = Pair {
+        store,
+        cache,
+        window,
+    };
+    match run_lines(&mut pair, script, out) {
         Ok(refused) => {
             Changing::<T>::flush_all(&mut pair);
             end_of(refused)

@@ -1,46 +1,44 @@
 //! Commands on the private views of an array that is split.
 
-ghost use Rattle.std.specs.Prelude.{◌≡◌, ◌<◌, true, length, IsTrue};
+ghost use Rattle.std.specs.Prelude.{◌≡◌, ◌<◌, length, IsTrue};
 ghost use Rattle.zf_base.specs.Positions.{used_axes, with_unused};
 ghost use Rattle.zf_cached.specs.Commands.{Command};
 ghost use Rattle.zf_cached.specs.Acts.{Act};
 ghost use Rattle.zf_cached.specs.Windows.{Window as Part};
 ghost use Rattle.zf_cached.specs.Steps.{by_view, flushed_views, view_has};
-ghost use Rattle.zf_script.specs.Seen.{command_of, cmd_of};
 ghost use Rattle.zf_array.specs.Standing.{shape};
-ghost use Rattle.zf_commands.specs.Allowed.{is_on_view};
-ghost use Rattle.zf_run.specs.Sessions.{setting_of, kind};
-ghost use Rattle.zf_commands.specs.Steps.{DoesAlone, answer};
-ghost use Rattle.zf_run.specs.Splits.{split_session, AreParts};
+ghost use Rattle.zf_commands.specs.Kinds.{view_cmd, asked, IsPlain};
+ghost use Rattle.zf_run.specs.Sessions.{setting_of, start_of, kind};
+ghost use Rattle.zf_commands.specs.Steps.{said};
+ghost use Rattle.zf_run.specs.Splits.{split_session, AreParts, DoesAlone};
 
 use zf_array::{Array, Codes};
 use zf_base::{Lane, Pos};
-use zf_commands::{Answer, of_type};
+use zf_commands::{ViewCmd, of_type};
 use zf_private::Private;
-use zf_script::{Cmd, Refusal, Reply};
+use zf_script::{Refusal, Reply};
 
 /// What a command on one view does. Each tests what it is refused for in the order of range and value.
 pub(crate) fn on_view<T: Lane, const D: usize>(
     a: &mut Array<T, D>,
     views: &mut [Private<T, D>],
-    cmd: Cmd,
-) -> Answer
+    i: u64,
+    cmd: ViewCmd,
+) -> Option<Reply>
     requires parts { AreParts T.value D a.old views.old }
-    requires numbers { cmd ≡ cmd_of (command_of (length (shape a.old)) cmd) }
-    requires view { is_on_view (command_of (length (shape a.old)) cmd) ≡ true }
-    ensures does { DoesAlone (setting_of T.width a.old) (command_of (length (shape a.old)) cmd)
-        (split_session T.value a.old views.old) (split_session T.value a.new views.new) (answer result) }
+    requires plain { IsPlain (start_of a.old) (view_cmd i cmd) }
+    ensures does { DoesAlone (setting_of T.width a.old) (asked (start_of a.old) (view_cmd i cmd))
+        (split_session T.value a.old views.old) (split_session T.value a.new views.new) (said result) }
     ensures parts { AreParts T.value D a.new views.new }
     ensures kept { kind a.new ≡ kind a.old }
 {
     match cmd {
-        Cmd::PGet(i, p) => view_get(a, views, i, p),
-        Cmd::PSet(i, p, v) => view_set(a, views, i, p, v),
-        Cmd::PAdd(i, p, v) => view_add(a, views, i, p, v),
-        Cmd::PFlush(i) => view_flush(a, views, i),
-        Cmd::PDiscard(i) => view_discard(a, views, i),
-        Cmd::PStats(i) => view_stats(a, views, i),
-        _ => unreachable!(),
+        ViewCmd::Get(p) => view_get(a, views, i, p),
+        ViewCmd::Set(p, v) => view_set(a, views, i, p, v),
+        ViewCmd::Add(p, v) => view_add(a, views, i, p, v),
+        ViewCmd::Flush => view_flush(a, views, i),
+        ViewCmd::Discard => view_discard(a, views, i),
+        ViewCmd::Stats => view_stats(a, views, i),
     }
 }
 
@@ -63,21 +61,21 @@ fn view_get<T: Lane, const D: usize>(
     views: &mut [Private<T, D>],
     i: u64,
     p: Pos,
-) -> Answer
+) -> Option<Reply>
     requires parts { AreParts T.value D a.old views.old }
     requires unused { p ≡ with_unused 0 (used_axes (length (shape a.old)) p) }
     ensures does { DoesAlone (setting_of T.width a.old) (Command.pget i (used_axes (length (shape a.old)) p))
-        (split_session T.value a.old views.old) (split_session T.value a.new views.new) (answer result) }
+        (split_session T.value a.old views.old) (split_session T.value a.new views.new) (said result) }
     ensures parts { AreParts T.value D a.new views.new }
     ensures kept { kind a.new ≡ kind a.old }
 {
     if !has_position(a, views, i, p) {
-        return Err(Refusal::Range);
+        return Some(Reply::Refused(Refusal::Range));
     }
     // Known by this call: the type is that of the header.
     let _shape = a.shape();
     let value = views[i as usize].get(&mut Codes::bind(a), p);
-    Ok(Some(Reply::Number(value.to_wide())))
+    Some(Reply::Number(value.to_wide()))
 }
 
 // `@V set P v`: makes the value at a position be `v`, by one touch for writing.
@@ -87,24 +85,24 @@ fn view_set<T: Lane, const D: usize>(
     i: u64,
     p: Pos,
     v: i128,
-) -> Answer
+) -> Option<Reply>
     requires parts { AreParts T.value D a.old views.old }
     requires unused { p ≡ with_unused 0 (used_axes (length (shape a.old)) p) }
     ensures does { DoesAlone (setting_of T.width a.old) (Command.pset i (used_axes (length (shape a.old)) p) v)
-        (split_session T.value a.old views.old) (split_session T.value a.new views.new) (answer result) }
+        (split_session T.value a.old views.old) (split_session T.value a.new views.new) (said result) }
     ensures parts { AreParts T.value D a.new views.new }
     ensures kept { kind a.new ≡ kind a.old }
 {
     if !has_position(a, views, i, p) {
-        return Err(Refusal::Range);
+        return Some(Reply::Refused(Refusal::Range));
     }
     let Some(v) = of_type(v) else {
-        return Err(Refusal::Value);
+        return Some(Reply::Refused(Refusal::Value));
     };
     // Known by this call: the type is that of the header.
     let _shape = a.shape();
     views[i as usize].set(&mut Codes::bind(a), p, v);
-    Ok(None)
+    None
 }
 
 // `@V add P v`: adds `v` to the value at a position, by one touch for writing; the sum wraps.
@@ -114,24 +112,24 @@ fn view_add<T: Lane, const D: usize>(
     i: u64,
     p: Pos,
     v: i128,
-) -> Answer
+) -> Option<Reply>
     requires parts { AreParts T.value D a.old views.old }
     requires unused { p ≡ with_unused 0 (used_axes (length (shape a.old)) p) }
     ensures does { DoesAlone (setting_of T.width a.old) (Command.padd i (used_axes (length (shape a.old)) p) v)
-        (split_session T.value a.old views.old) (split_session T.value a.new views.new) (answer result) }
+        (split_session T.value a.old views.old) (split_session T.value a.new views.new) (said result) }
     ensures parts { AreParts T.value D a.new views.new }
     ensures kept { kind a.new ≡ kind a.old }
 {
     if !has_position(a, views, i, p) {
-        return Err(Refusal::Range);
+        return Some(Reply::Refused(Refusal::Range));
     }
     let Some(v) = of_type(v) else {
-        return Err(Refusal::Value);
+        return Some(Reply::Refused(Refusal::Value));
     };
     // Known by this call: the type is that of the header.
     let _shape = a.shape();
     views[i as usize].add(&mut Codes::bind(a), p, v);
-    Ok(None)
+    None
 }
 
 // `@V flush`: writes back what is dirty in a view, and empties its cache.
@@ -139,18 +137,18 @@ fn view_flush<T: Lane, const D: usize>(
     a: &mut Array<T, D>,
     views: &mut [Private<T, D>],
     i: u64,
-) -> Answer
+) -> Option<Reply>
     requires parts { AreParts T.value D a.old views.old }
     ensures does { DoesAlone (setting_of T.width a.old) (Command.pflush i)
-        (split_session T.value a.old views.old) (split_session T.value a.new views.new) (answer result) }
+        (split_session T.value a.old views.old) (split_session T.value a.new views.new) (said result) }
     ensures parts { AreParts T.value D a.new views.new }
     ensures kept { kind a.new ≡ kind a.old }
 {
     if i >= views.len() as u64 {
-        return Err(Refusal::Range);
+        return Some(Reply::Refused(Refusal::Range));
     }
     flush_view(a, views, i as usize);
-    Ok(None)
+    None
 }
 
 // Writes back what is dirty in view `i`, and empties its cache.
@@ -173,30 +171,34 @@ fn view_discard<T: Lane, const D: usize>(
     a: &Array<T, D>,
     views: &mut [Private<T, D>],
     i: u64,
-) -> Answer
+) -> Option<Reply>
     requires parts { AreParts T.value D a.now views.old }
     ensures does { DoesAlone (setting_of T.width a.now) (Command.pdiscard i)
-        (split_session T.value a.now views.old) (split_session T.value a.now views.new) (answer result) }
+        (split_session T.value a.now views.old) (split_session T.value a.now views.new) (said result) }
     ensures parts { AreParts T.value D a.now views.new }
 {
     if i >= views.len() as u64 {
-        return Err(Refusal::Range);
+        return Some(Reply::Refused(Refusal::Range));
     }
     // Known by this call: the type is that of the header.
     let _shape = a.shape();
     views[i as usize].discard();
-    Ok(None)
+    None
 }
 
 // `@V stats`: the counts of a view.
-fn view_stats<T: Lane, const D: usize>(a: &Array<T, D>, views: &[Private<T, D>], i: u64) -> Answer
+fn view_stats<T: Lane, const D: usize>(
+    a: &Array<T, D>,
+    views: &[Private<T, D>],
+    i: u64,
+) -> Option<Reply>
     ensures { DoesAlone (setting_of T.width a.now) (Command.pstats i)
-        (split_session T.value a.now views.now) (split_session T.value a.now views.now) (answer result) }
+        (split_session T.value a.now views.now) (split_session T.value a.now views.now) (said result) }
 {
     if i >= views.len() as u64 {
-        return Err(Refusal::Range);
+        return Some(Reply::Refused(Refusal::Range));
     }
-    Ok(Some(Reply::Counts(views[i as usize].stats())))
+    Some(Reply::Counts(views[i as usize].stats()))
 }
 
 // Whether there is a view with this number and such a position, and the view owns its block.

@@ -6,10 +6,10 @@ ghost use Rattle.zf_spec.specs.Padding.{pad};
 ghost use Rattle.zf_spec.specs.Lift.{lift, unlift};
 ghost use Rattle.zf_spec.specs.Lorenzo.{lorenzo, unlorenzo};
 ghost use Rattle.zf_spec.specs.Ranks.{order};
-ghost use Rattle.zf_spec.specs.Numbers.{digits, number};
+ghost use Rattle.zf_spec.specs.Numbers.{digits, field, number};
 ghost use Rattle.zf_spec.specs.Planes.{plane_code, reach};
 ghost use Rattle.zf_spec.specs.Codes.{rev, round, read_rate, round_prec, read_prec};
-ghost use Rattle.zf_spec.specs.Stream.{stream_of_bytes, mode_number, reversible, fixed_rate, fixed_precision};
+ghost use Rattle.zf_spec.specs.Stream.{stream_of_bytes, mode_number, long_form, reversible, fixed_rate, fixed_precision};
 
 /// A line of one to four values is padded to four.
 #[tactic(auto, unfolding(crate::specs::Padding::pad))]
@@ -66,6 +66,7 @@ pub fn plane_codes()
 pub fn block_codes()
     ensures one { rev w32 (1 ∷ []) (pos 1 ∷ pos 0 ∷ pos 0 ∷ pos 0 ∷ []) ≡ replicate 5 true ++ replicate 31 false ++ (true ∷ true ∷ false ∷ []) }
     ensures least { rev w32 (1 ∷ []) (negsuc 2147483647 ∷ pos 0 ∷ pos 0 ∷ pos 0 ∷ []) ≡ replicate 5 false ++ (true ∷ true ∷ false ∷ []) }
+    ensures one_of_int64 { rev w64 (1 ∷ []) (pos 1 ∷ pos 0 ∷ pos 0 ∷ pos 0 ∷ []) ≡ replicate 6 true ++ replicate 63 false ++ (true ∷ true ∷ false ∷ []) }
 {}
 
 /// Whole streams of one to four values of int32, from their raw bytes.
@@ -114,6 +115,13 @@ pub fn mode_numbers()
     ensures rates { (mode_number (fixed_rate 1) ≡ 0) × (mode_number (fixed_rate 2048) ≡ 2047) × (mode_number (fixed_rate 2049) ≡ 4095) }
     ensures precisions { (mode_number (fixed_precision 1) ≡ 2048) × (mode_number (fixed_precision 128) ≡ 2175) }
     ensures reversible { mode_number reversible ≡ 2176 }
+{}
+
+/// The long form of a rate, which those above 2048 have: the rate less 1 twice, the most planes less 1, and the least exponent.
+pub fn long_forms()
+    ensures none { long_form (fixed_rate 2048) ≡ [] }
+    ensures least { long_form (fixed_rate 2049) ≡ field 15 2048 ++ field 15 2048 ++ field 7 63 ++ field 15 15421 }
+    ensures greatest { long_form (fixed_rate 32768) ≡ field 15 32767 ++ field 15 32767 ++ field 7 63 ++ field 15 15421 }
 {}
 
 /// Streams of a fixed precision: all planes of four values, and one plane alone.

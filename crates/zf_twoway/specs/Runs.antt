@@ -1,24 +1,16 @@
 -- The run of a script over a two-way cache.
-use Rattle.std.specs.Prelude.{ℕ, Bool, true, false, List, []}
+use Rattle.std.specs.Prelude.{ℕ, Bool, false, List, []}
 use Rattle.std.specs.Int.{Width}
 use Rattle.zf_cached.specs.Arrays.{rate_coding, zero_codes, open_array, saved_file}
 use Rattle.zf_cached.specs.Commands.{Command}
+use Rattle.zf_cached.specs.Kinds.{kind_of, is_windowless}
 use Rattle.zf_cached.specs.Steps.{Setting}
 use Rattle.zf_cached.specs.Runs.{run, replies_text}
 use Rattle.zf_twoway.specs.Touch.{touch}
 
 -- the commands on single values and on all, on the cache and the counts; none on windows and sizes
 abbrev pub needs_no_window : Command → Bool
-needs_no_window (Command.get ps) = true
-needs_no_window (Command.set ps v) = true
-needs_no_window (Command.add ps v) = true
-needs_no_window (Command.fill v) = true
-needs_no_window Command.sum = true
-needs_no_window Command.flush = true
-needs_no_window Command.discard = true
-needs_no_window (Command.lines l) = true
-needs_no_window Command.stats = true
-needs_no_window _ = false
+needs_no_window c = is_windowless (kind_of c)
 
 -- an array of so many bits a block, over a two-way cache
 unfoldable pub twoway_setting : Width → ℕ → Setting (List Bool)

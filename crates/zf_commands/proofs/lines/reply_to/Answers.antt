@@ -1,23 +1,22 @@
 use Rattle.std.proofs.Common.{◌≡◌, ◌<◌, sym, ap, ◌∙◌, Some, length}
 use Rattle.std.proofs.lemmas.Bool.{eqb-true}
 use Rattle.zf_script.specs.Seen.{command_of}
-use Rattle.zf_commands.specs.Sittings.{sitting}
 use Rattle.zf_commands.proofs.Lining.{line_empty, line_read, line_not_read, some_bytes}
 use Rattle.zf_commands.proofs.lines.reply_to.Goals as goal
 
 pub returns-then-is_empty-clause-step : goal.returns-then-is_empty-clause-step
 returns-then-is_empty-clause-step g c =
     let none : length c.args.line.now ≡ 0 = eqb-true _ _ (sym c.is_empty.ensures ∙ c.if-is_empty.true) in
-    line_empty (g.A.Subject.setting (g.A.Subject.kept c.args.a.now)) (sitting (g.A.Subject.shape c.args.a.now) (g.A.Subject.state c.args.a.now) (g.A.Scripted.split c.args.a.now) c.args.window.now) c.args.line.now none
+    line_empty (g.A.Subject.setting (g.A.Subject.kept c.args.a.now)) (g.A.Subject.session c.args.a.now) c.args.line.now none
 
 pub returns-in-Ok-clause-step : goal.returns-in-Ok-clause-step
 returns-in-Ok-clause-step g c =
     let some : 0 < length c.args.line.now = some_bytes (length c.args.line.now) (sym c.is_empty.ensures ∙ c.if-is_empty.false) in
-    line_read (g.A.Subject.setting (g.A.Subject.kept c.args.a.now)) (sitting (g.A.Subject.shape c.args.a.now) (g.A.Subject.state c.args.a.now) (g.A.Scripted.split c.args.a.now) c.args.window.now) c.args.line.now c.dims.result _ _ _ some (c.dims.ensures.value ∙ ap length c.sizes.ensures)
+    line_read (g.A.Subject.setting (g.A.Subject.kept c.args.a.now)) (g.A.Subject.session c.args.a.now) c.args.line.now c.dims.result _ _ _ some (c.dims.ensures.value ∙ ap length c.sizes.ensures)
     (c.in-Ok.ensures.ok ∙ ap (λ n. Some (command_of n c.in-Ok.cmd)) (c.dims.ensures.value ∙ ap length c.sizes.ensures)) c.obey.ensures.step
 
 pub returns-in-Err-clause-step : goal.returns-in-Err-clause-step
 returns-in-Err-clause-step g c =
     let some : 0 < length c.args.line.now = some_bytes (length c.args.line.now) (sym c.is_empty.ensures ∙ c.if-is_empty.false) in
-    line_not_read (g.A.Subject.setting (g.A.Subject.kept c.args.a.now)) (sitting (g.A.Subject.shape c.args.a.now) (g.A.Subject.state c.args.a.now) (g.A.Scripted.split c.args.a.now) c.args.window.now) c.args.line.now c.dims.result c.in-Err.why some (c.dims.ensures.value ∙ ap length c.sizes.ensures)
+    line_not_read (g.A.Subject.setting (g.A.Subject.kept c.args.a.now)) (g.A.Subject.session c.args.a.now) c.args.line.now c.dims.result c.in-Err.why some (c.dims.ensures.value ∙ ap length c.sizes.ensures)
     c.in-Err.ensures.err.1 c.in-Err.ensures.err.0

@@ -1,6 +1,5 @@
 use Rattle.std.proofs.Common.{refl, ap, subst, ◌∙◌, ◌+◌, [], arith}
 use Rattle.zf_cached.specs.Runs.{lines_of}
-use Rattle.zf_commands.specs.Sittings.{sitting}
 use Rattle.zf_commands.specs.Lines.{Replies, Breaks}
 use Rattle.zf_commands.proofs.Folding.{none_run, run_on, stop_here, all_run, one_or_none, at_most_one, of_error}
 use Rattle.zf_commands.proofs.lines.run_lines.Goals as goal
@@ -18,9 +17,9 @@ pub returns-in_err-run_line-clause-err : goal.returns-in_err-run_line-clause-err
 returns-in_err-run_line-clause-err g c =
     let inv = c.loop-line.invariant in
     let S = g.A.Subject.setting in
-    let start = sitting (g.A.Subject.shape c.args.a.now) (g.A.Subject.state c.args.a.now) (g.A.Scripted.split c.args.a.now) c.args.window.now in
-    let now = sitting (g.A.Subject.shape c.loop-line.a) (g.A.Subject.state c.loop-line.a) (g.A.Scripted.split c.loop-line.a) c.loop-line.window in
-    let next = sitting (g.A.Subject.shape c.run_line.new.a) (g.A.Subject.state c.run_line.new.a) (g.A.Scripted.split c.run_line.new.a) c.run_line.new.window in
+    let start = g.A.Subject.session c.args.a.now in
+    let now = g.A.Subject.session c.loop-line.a in
+    let next = g.A.Subject.session c.run_line.new.a in
     let old = g.O.Sink.contents c.args.out.now in
     let mid = g.O.Sink.contents c.loop-line.out in
     let new = g.O.Sink.contents c.run_line.new.out in
@@ -39,9 +38,9 @@ pub loop-line-preserved : goal.loop-line-preserved
 loop-line-preserved g c =
     let inv = c.loop-line.invariant in
     let S = g.A.Subject.setting in
-    let start = sitting (g.A.Subject.shape c.args.a.now) (g.A.Subject.state c.args.a.now) (g.A.Scripted.split c.args.a.now) c.args.window.now in
-    let now = sitting (g.A.Subject.shape c.loop-line.a) (g.A.Subject.state c.loop-line.a) (g.A.Scripted.split c.loop-line.a) c.loop-line.window in
-    let next = sitting (g.A.Subject.shape c.run_line.new.a) (g.A.Subject.state c.run_line.new.a) (g.A.Scripted.split c.run_line.new.a) c.run_line.new.window in
+    let start = g.A.Subject.session c.args.a.now in
+    let now = g.A.Subject.session c.loop-line.a in
+    let next = g.A.Subject.session c.run_line.new.a in
     let old = g.O.Sink.contents c.args.out.now in
     let mid = g.O.Sink.contents c.loop-line.out in
     let new = g.O.Sink.contents c.run_line.new.out in
@@ -67,9 +66,9 @@ pub returns-in_err-run_line-2-clause-err : goal.returns-in_err-run_line-2-clause
 returns-in_err-run_line-2-clause-err g c =
     let inv = c.loop-line.invariant in
     let S = g.A.Subject.setting in
-    let start = sitting (g.A.Subject.shape c.args.a.now) (g.A.Subject.state c.args.a.now) (g.A.Scripted.split c.args.a.now) c.args.window.now in
-    let now = sitting (g.A.Subject.shape c.loop-line.a) (g.A.Subject.state c.loop-line.a) (g.A.Scripted.split c.loop-line.a) c.loop-line.window in
-    let next = sitting (g.A.Subject.shape c.run_line-2.new.a) (g.A.Subject.state c.run_line-2.new.a) (g.A.Scripted.split c.run_line-2.new.a) c.run_line-2.new.window in
+    let start = g.A.Subject.session c.args.a.now in
+    let now = g.A.Subject.session c.loop-line.a in
+    let next = g.A.Subject.session c.run_line-2.new.a in
     let old = g.O.Sink.contents c.args.out.now in
     let mid = g.O.Sink.contents c.loop-line.out in
     let new = g.O.Sink.contents c.run_line-2.new.out in
@@ -85,9 +84,9 @@ pub returns-clause-ok : goal.returns-clause-ok
 returns-clause-ok g c =
     let inv = c.loop-line.invariant in
     let S = g.A.Subject.setting in
-    let start = sitting (g.A.Subject.shape c.args.a.now) (g.A.Subject.state c.args.a.now) (g.A.Scripted.split c.args.a.now) c.args.window.now in
-    let now = sitting (g.A.Subject.shape c.loop-line.a) (g.A.Subject.state c.loop-line.a) (g.A.Scripted.split c.loop-line.a) c.loop-line.window in
-    let next = sitting (g.A.Subject.shape c.run_line-2.new.a) (g.A.Subject.state c.run_line-2.new.a) (g.A.Scripted.split c.run_line-2.new.a) c.run_line-2.new.window in
+    let start = g.A.Subject.session c.args.a.now in
+    let now = g.A.Subject.session c.loop-line.a in
+    let next = g.A.Subject.session c.run_line-2.new.a in
     let old = g.O.Sink.contents c.args.out.now in
     let mid = g.O.Sink.contents c.loop-line.out in
     let new = g.O.Sink.contents c.run_line-2.new.out in

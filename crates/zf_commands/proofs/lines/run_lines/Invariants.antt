@@ -1,15 +1,14 @@
 use Rattle.std.proofs.Common.{◌≡◌, ◌+◌, ◌≤◌, length}
 use Rattle.zf_cached.specs.Runs.{lines_of}
-use Rattle.zf_commands.specs.Sittings.{sitting}
 use Rattle.zf_commands.specs.Steps.{HasWindow}
 use Rattle.zf_commands.proofs.Folding.{HasRun}
 use Rattle.zf_commands.proofs.lines.run_lines.Given as goal
 
 abbrev pub invariant-loop-line : goal.invariant-loop-line
 invariant-loop-line g l =
-    HasRun (g.A.Subject.setting (g.A.Subject.kept l.fn.a)) (lines_of l.fn.script) (lines_of l.lines) (sitting (g.A.Subject.shape l.fn.a) (g.A.Subject.state l.fn.a) (g.A.Scripted.split l.fn.a) l.fn.window) (sitting (g.A.Subject.shape l.a) (g.A.Subject.state l.a) (g.A.Scripted.split l.a) l.window)
+    HasRun (g.A.Subject.setting (g.A.Subject.kept l.fn.a)) (lines_of l.fn.script) (lines_of l.lines) (g.A.Subject.session l.fn.a) (g.A.Subject.session l.a)
     (g.O.Sink.contents l.fn.out) (g.O.Sink.contents l.out) l.refused
-    × HasWindow (sitting (g.A.Subject.shape l.a) (g.A.Subject.state l.a) (g.A.Scripted.split l.a) l.window)
+    × HasWindow (g.A.Subject.session l.a)
     × (g.A.Subject.kept l.a ≡ g.A.Subject.kept l.fn.a)
     × (l.refused + length l.lines ≤ length l.fn.script)
     × (g.O.Sink.faults l.out ≡ g.O.Sink.faults l.fn.out)

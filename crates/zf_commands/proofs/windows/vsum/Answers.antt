@@ -1,15 +1,17 @@
-use Rattle.std.proofs.Common.{refl, sym, subst}
-use Rattle.zf_cached.specs.Windows.{LiesIn}
-use Rattle.zf_commands.specs.Sittings.{session}
+use Rattle.std.proofs.Common.{sym, subst}
+use Rattle.zf_spec.specs.Grid.{IsShape}
+use Rattle.zf_commands.specs.Steps.{HasWindow}
 use Rattle.zf_commands.proofs.Commanding.{vsum_is}
 use Rattle.zf_commands.proofs.Passing.{small_is}
 use Rattle.zf_commands.proofs.windows.vsum.Goals as goal
 
+pub sum_of_window-requires-clause-sizes : goal.sum_of_window-requires-clause-sizes
+sum_of_window-requires-clause-sizes g c = subst IsShape c.sizes.ensures c.dims-dims.ensures.shape
+
 pub returns-clause-does : goal.returns-clause-does
 returns-clause-does g c =
     let a = c.args.a.now in
-    let b = c.sum_of_window.new.a in
-    let v = c.args.window.now in
-    vsum_is (g.A.Subject.setting (g.A.Subject.kept a)) (session (g.A.Subject.shape a) (g.A.Subject.state a) v) c.requires.inside refl (session (g.A.Subject.shape b) (g.A.Subject.state b) v)
-    (subst (λ ns. LiesIn ns v) (sym c.sum_of_window.ensures.shape) c.requires.inside) _ c.sum_of_window.result
-    (small_is c.sum_of_window.result c.sum_of_window.ensures.bound) (c.sum_of_window.ensures.sum v)
+    let t = g.A.Subject.session c.sum_of_window.new.a in
+    vsum_is (g.A.Subject.setting (g.A.Subject.kept a)) (g.A.Subject.session a) c.requires.window (g.met.A.Target.whole a) t
+    (subst HasWindow (sym c.sum_of_window.ensures.stays) c.requires.window) _ c.sum_of_window.result
+    (small_is c.sum_of_window.result c.sum_of_window.ensures.bound) c.sum_of_window.ensures.sum

@@ -12,7 +12,7 @@ returns-in-Ok-clause-looks g c =
     let old = g.O.Sink.contents c.args.out.now in let new = g.O.Sink.contents ran.out in
     let is = c.a-1.given.1 (sym (ap (λ (q : _). q.1) c.run_lines.ensures.kept)) in
     subst (λ (m : Held). Looks w a m c.args.script.now old new c.end_of.result) (sym is)
-    (looks_all w a ran.a.array.now c.whole-window.result ran.window c.args.script.now old new
+    (looks_all w a ran.a.array.now c.whole-window.result ran.a.window c.args.script.now old new
     (c.whole-window.ensures.window ∙ ap whole c.shape.ensures.value) (ap (λ (q : _). q.0) c.in-Ok.ensures.kept)
     c.in-Ok.refused c.in-Ok.ensures.ok c.end_of.result c.end_of.ensures)
 
@@ -22,5 +22,5 @@ returns-in-Err-clause-looks g c =
     let old = g.O.Sink.contents c.args.out.now in let new = g.O.Sink.contents ran.out in
     let is = c.a-1.given.1 (sym (ap (λ (q : _). q.1) c.run_lines.ensures.kept)) in
     subst (λ (m : Held). Looks w a m c.args.script.now old new Write) (sym is)
-    (looks_stopped w a ran.a.array.now c.whole-window.result ran.window c.args.script.now old new
+    (looks_stopped w a ran.a.array.now c.whole-window.result ran.a.window c.args.script.now old new
     (c.whole-window.ensures.window ∙ ap whole c.shape.ensures.value) (ap (λ (q : _). q.0) c.in-Err.ensures.kept) c.in-Err.ensures.err)

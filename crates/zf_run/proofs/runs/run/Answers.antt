@@ -3,7 +3,7 @@ use Rattle.zf_cached.specs.Windows.{whole}
 use Rattle.zf_array.specs.Standing.{Held}
 use Rattle.zf_run.specs.declared.end.RunEnd.TheVariants.{Write}
 use Rattle.zf_run.specs.Ends.{Runs}
-use Rattle.zf_run.specs.Splits.{lists, parted_session}
+use Rattle.zf_run.specs.Splits.{parted_session}
 use Rattle.zf_run.proofs.Ending.{runs_all, runs_stopped}
 use Rattle.zf_run.proofs.runs.run.Goals as goal
 
@@ -12,15 +12,15 @@ returns-in-Ok-clause-runs g c =
     let a = c.args.a.now in
     let w = g.T.Lane.width in
     let p = c.run_lines.new.a in
-    let u = c.run_lines.new.window in
+    let u = p.window in
     let b = c.finish.new.self.array.now in
     let old = g.O.Sink.contents c.args.out.now in
     let new = g.O.Sink.contents c.run_lines.new.out in
     let is = c.a-1.given.1 (sym (c.finish.ensures.same_array ∙ ap (λ (q : _). q.1) c.run_lines.ensures.kept)) in
     subst (λ (m : Held). Runs w a m c.args.script.now old new c.end_of.result) (sym is)
-    (runs_all w a p.array.now (parted_session g.T.Lane.value p.array.now (lists p.views.now) u) c.whole-window.result c.args.script.now old new
+    (runs_all w a p.array.now (parted_session g.T.Lane.value p.array.now p.views.now u) c.whole-window.result c.args.script.now old new
     (c.whole-window.ensures.window ∙ ap whole c.shape.ensures.value) (ap (λ (q : _). q.0) c.run_lines.ensures.kept)
-    b u c.in-Ok.refused c.in-Ok.ensures.ok (c.finish.ensures.ended u) c.finish.ensures.kept c.end_of.result c.end_of.ensures)
+    b c.finish.new.self.window c.in-Ok.refused c.in-Ok.ensures.ok c.finish.ensures.ended c.finish.ensures.kept c.end_of.result c.end_of.ensures)
 
 -- a line was the last one: its views are dropped
 pub returns-clause-runs : goal.returns-clause-runs
@@ -32,5 +32,5 @@ returns-clause-runs g c =
     let new = g.O.Sink.contents c.run_lines.new.out in
     let is = c.a-in-Err-1.given.1 (sym (ap (λ (q : _). q.1) c.run_lines.ensures.kept)) in
     subst (λ (m : Held). Runs w a m c.args.script.now old new Write) (sym is)
-    (runs_stopped w a p.array.now (parted_session g.T.Lane.value p.array.now (lists p.views.now) c.run_lines.new.window) c.whole-window.result c.args.script.now old new
+    (runs_stopped w a p.array.now (parted_session g.T.Lane.value p.array.now p.views.now p.window) c.whole-window.result c.args.script.now old new
     (c.whole-window.ensures.window ∙ ap whole c.shape.ensures.value) (ap (λ (q : _). q.0) c.run_lines.ensures.kept) c.in-Err.ensures.err refl refl)

@@ -28,9 +28,9 @@ returns-in-Ok-clause-runs g c =
     let old = g.O.Sink.contents c.args.out.now in let new = g.O.Sink.contents c.run_lines.new.out in
     subst (λ (d : Kept g.row.T.Denot). RunsTwo value g.T.Lane.width s c.store-1.given.0 k d c.args.script.now old new c.end_of.result) (sym cache)
     (subst (λ (t : Stored). RunsTwo value g.T.Lane.width s t k b.cache.now c.args.script.now old new c.end_of.result) (sym store)
-    (two_all value g.T.Lane.width s a.store.now b.store.now k a.cache.now b.cache.now c.whole-window.result c.run_lines.new.window c.args.script.now _ _
+    (two_all value g.T.Lane.width s a.store.now b.store.now k a.cache.now b.cache.now c.whole-window.result a.window b.window c.args.script.now _ _
     (c.whole-window.ensures.window ∙ ap (λ (h : Header). whole h.shape) c.header.ensures.value) (ap (λ (q : _). q.0) c.in-Ok.ensures.kept)
-    c.in-Ok.refused c.in-Ok.ensures.ok (c.flush_all.ensures.flushed c.run_lines.new.window) (ap (λ (q : _). q.0) c.flush_all.ensures.kept) c.flush_all.ensures.sound c.end_of.result c.end_of.ensures))
+    c.in-Ok.refused c.in-Ok.ensures.ok c.flush_all.ensures.flushed (ap (λ (q : _). q.0) c.flush_all.ensures.kept) c.flush_all.ensures.sound c.end_of.result c.end_of.ensures))
 
 pub returns-in-Err-clause-runs : goal.returns-in-Err-clause-runs
 returns-in-Err-clause-runs g c =
@@ -42,6 +42,6 @@ returns-in-Err-clause-runs g c =
     let old = g.O.Sink.contents c.args.out.now in let new = g.O.Sink.contents c.run_lines.new.out in
     subst (λ (d : Kept g.row.T.Denot). RunsTwo value g.T.Lane.width s c.store-in-Err-1.given.0 k d c.args.script.now old new Write) (sym cache)
     (subst (λ (t : Stored). RunsTwo value g.T.Lane.width s t k a.cache.now c.args.script.now old new Write) (sym store)
-    (two_stopped value g.T.Lane.width s a.store.now a.store.now k a.cache.now a.cache.now c.whole-window.result c.run_lines.new.window c.args.script.now _ _
+    (two_stopped value g.T.Lane.width s a.store.now a.store.now k a.cache.now a.cache.now c.whole-window.result a.window a.window c.args.script.now _ _
     (c.whole-window.ensures.window ∙ ap (λ (h : Header). whole h.shape) c.header.ensures.value) (ap (λ (q : _). q.0) c.in-Err.ensures.kept)
     c.in-Err.ensures.err c.in-Err.ensures.sound))

@@ -2,7 +2,7 @@ use Rattle.std.proofs.Common.{ap, ◌∙◌, get_or, lit<, lit≤, rules}
 use Rattle.zf_array.specs.Coded.{Frame}
 use Rattle.zf_array.proofs.Coded.{coded_empty}
 use Rattle.zf_cached.specs.Acts.{Act}
-use Rattle.zf_run.proofs.Lending.{lent_ready, lent_acts, lent_parts}
+use Rattle.zf_run.proofs.Lending.{lent_ready, lent}
 use Rattle.zf_run.proofs.views.flush_view.Goals as goal
 
 pub bind-requires : goal.bind-requires
@@ -15,14 +15,18 @@ flush-requires g c =
     let ready = lent_ready g.T.Lane.value g.row.D c.args.a.now views i (get_or views i c.index-views-i.result) c.requires.parts c.requires.view (ap (get_or views i) c.index-views-i.is) c.bind.result.array c.bind.ensures.array in
     (lit< tt, (ready.fits, ready.over))
 
-pub returns-clause-acts : goal.returns-clause-acts
-returns-clause-acts g c v =
+pub returns : goal.returns
+returns g c =
+    let a = c.args.a.now in
     let views = c.args.views.now in
-    let i = c.args.i in
+    let value = g.T.Lane.value in
+    let x = get_or views c.args.i c.index-views-i.result in
+    let at = ap (get_or views c.args.i) c.index-views-i.is in
+    let lt = c.requires.view in
     let back = c.flush.new.back in
     let name = ap (λ (f : Frame). f.name) c.flush.ensures.kept ∙ c.bind.ensures.same_array in
-    lent_acts g.T.Lane.value g.row.D c.args.a.now views i (get_or views i c.index-views-i.result) c.requires.parts c.requires.view (ap (get_or views i) c.index-views-i.is)
-    g.T.Lane.width c.a-1.given.0 c.flush.new.self Act.flush c.shape-shape.ensures.same_type c.bind.result.array back.array c.bind.ensures.array (search rules)
+    let taken = lent value g.row.D a views c.args.i x c.requires.parts lt at
+    g.T.Lane.width c.a-1.given.0 c.flush.new.self (Act.flush) c.shape-shape.ensures.same_type c.bind.result.array back.array c.bind.ensures.array (search rules)
     (record {
       is_coded = back.is_coded;
       frame = c.flush.ensures.kept;
@@ -31,22 +35,8 @@ returns-clause-acts g c v =
       kept = c.flush.ensures.same;
       whole = c.flush.ensures.whole;
       fits = c.flush.ensures.fits;
-    }) tt v
-
-pub returns-clause-parts : goal.returns-clause-parts
-returns-clause-parts g c =
-    let views = c.args.views.now in
-    let i = c.args.i in
-    let back = c.flush.new.back in
-    let name = ap (λ (f : Frame). f.name) c.flush.ensures.kept ∙ c.bind.ensures.same_array in
-    lent_parts g.T.Lane.value g.row.D c.args.a.now views i (get_or views i c.index-views-i.result) c.requires.parts c.requires.view (ap (get_or views i) c.index-views-i.is)
-    g.T.Lane.width c.a-1.given.0 c.flush.new.self Act.flush c.shape-shape.ensures.same_type c.bind.result.array back.array c.bind.ensures.array (search rules)
-    (record {
-      is_coded = back.is_coded;
-      frame = c.flush.ensures.kept;
-      step = c.flush.ensures.state;
-      others = c.flush.ensures.others;
-      kept = c.flush.ensures.same;
-      whole = c.flush.ensures.whole;
-      fits = c.flush.ensures.fits;
-    }) tt
+    }) tt in record {
+      acts = taken.acts;
+      parts = taken.parts;
+      kept = taken.kind_is;
+    }

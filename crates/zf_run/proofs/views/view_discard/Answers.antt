@@ -18,9 +18,9 @@ returns-then-i-views-clause-does g c v lies =
     refused_range (setting_of g.T.Lane.width a) (Command.pdiscard c.args.i) (split_session g.T.Lane.value a c.args.views.now v) lies refl refl
     (ap not (has_no_view g.T.Lane.value a c.args.views.now c.args.i v c.if-i-views.true))
 
-pub returns-clause-does : goal.returns-clause-does
+pub returns : goal.returns
 unfolding done answered
-returns-clause-does g c v lies =
+returns g c =
     let a = c.args.a.now in
     let views = c.args.views.now in
     let i = c.args.i in
@@ -30,21 +30,9 @@ returns-clause-does g c v lies =
     let lt = c.if-i-views.false in
     let ready = (c.requires.parts.each i x lt at).ready in
     let step = discarded value (format a) (state a).codes x.cache c.discard.new.self.cache ready.fits c.discard.ensures.empty c.discard.ensures.counts ∙ acted-discard g.T.Lane.width (format a) (view_state value a x) in
-    let fits = emptied_fits value (format a) (state a).codes x.cache c.discard.new.self.cache ready.fits c.discard.ensures.empty c.discard.ensures.rows in
-    takes value g.T.Lane.width g.row.D a a views i x c.discard.new.self Act.discard c.shape-shape.ensures.same_type c.requires.parts lt at refl refl refl c.requires.parts.is_coded step tt (λ k not. refl)
-    c.discard.ensures.same c.discard.ensures.whole fits v (Command.pdiscard i) None lies refl refl (ap not (has_view_is value a views i v lt)) refl refl refl refl
-
-pub returns-clause-parts : goal.returns-clause-parts
-returns-clause-parts g c =
-    let a = c.args.a.now in
-    let views = c.args.views.now in
-    let i = c.args.i in
-    let value = g.T.Lane.value in
-    let x = get_or views i c.index-views-i.result in
-    let at = ap (get_or views i) c.index-views-i.is in
-    let lt = c.if-i-views.false in
-    let ready = (c.requires.parts.each i x lt at).ready in
-    let step = discarded value (format a) (state a).codes x.cache c.discard.new.self.cache ready.fits c.discard.ensures.empty c.discard.ensures.counts ∙ acted-discard g.T.Lane.width (format a) (view_state value a x) in
-    let fits = emptied_fits value (format a) (state a).codes x.cache c.discard.new.self.cache ready.fits c.discard.ensures.empty c.discard.ensures.rows in
-    still_parts value g.T.Lane.width g.row.D a a views i x c.discard.new.self Act.discard c.shape-shape.ensures.same_type c.requires.parts lt at refl refl refl c.requires.parts.is_coded step tt (λ k not. refl)
-    c.discard.ensures.same c.discard.ensures.whole fits
+    let fits = emptied_fits value (format a) (state a).codes x.cache c.discard.new.self.cache ready.fits c.discard.ensures.empty c.discard.ensures.rows in record {
+      does = λ v lies. takes value g.T.Lane.width g.row.D a a views i x c.discard.new.self Act.discard c.shape-shape.ensures.same_type c.requires.parts lt at refl refl refl c.requires.parts.is_coded step tt (λ k not. refl)
+          c.discard.ensures.same c.discard.ensures.whole fits v (Command.pdiscard i) None lies refl refl (ap not (has_view_is value a views i v lt)) refl refl refl refl;
+      parts = still_parts value g.T.Lane.width g.row.D a a views i x c.discard.new.self Act.discard c.shape-shape.ensures.same_type c.requires.parts lt at refl refl refl c.requires.parts.is_coded step tt (λ k not. refl)
+          c.discard.ensures.same c.discard.ensures.whole fits;
+    }

@@ -1,12 +1,11 @@
-use Rattle.std.proofs.Common.{◌≡◌, refl, sym, ap, ◌∙◌, not, true, length, get_or, Some, lit<, lit≤, rules}
+use Rattle.std.proofs.Common.{refl, sym, ap, ◌∙◌, not, length, get_or, Some, lit<, lit≤, rules}
 use Rattle.std.specs.Option.{option_map}
 use Rattle.zf_base.specs.Positions.{used_axes}
-use Rattle.zf_cached.specs.Windows.{Window, whole}
 use Rattle.zf_cached.specs.Commands.{Command}
 use Rattle.zf_cached.specs.Replies.{Reply}
 use Rattle.zf_cached.specs.Acts.{Act}
 use Rattle.zf_cached.specs.Views.{answered}
-use Rattle.zf_cached.specs.Steps.{by_view, view_has, done}
+use Rattle.zf_cached.specs.Steps.{by_view, done}
 use Rattle.zf_cached.specs.Runs.{array_setting}
 use Rattle.zf_private.specs.Standing as private
 use Rattle.zf_array.specs.Standing.{shape}
@@ -15,9 +14,8 @@ use Rattle.zf_array.proofs.Coded.{coded_empty}
 use Rattle.zf_run.specs.Sessions.{setting_of}
 use Rattle.zf_run.specs.Splits.{split_session}
 use Rattle.zf_commands.proofs.Stepping.{refused_range}
-use Rattle.zf_run.proofs.Viewing.{owner_owns, has_inside}
-use Rattle.zf_run.proofs.Lending.{lent_ready, position_there, own_there, act_there, lent_takes, lent_parts}
 use Rattle.zf_commands.proofs.Wide.{wide}
+use Rattle.zf_run.proofs.Lending.{lent_ready, at_view, act_there, lent}
 use Rattle.zf_run.proofs.views.view_get.Goals as goal
 
 pub returns-then-not-has_position-clause-does : goal.returns-then-not-has_position-clause-does
@@ -33,38 +31,30 @@ pub get-value-requires : goal.get-value-requires
 get-value-requires g c =
     let a = c.args.a.now in
     let views = c.args.views.now in
-    let i = c.args.i in
-    let p = c.args.p in
-    let ps = used_axes (length (shape a)) p in
     let value = g.T.Lane.value in
-    let x = get_or views i c.index-views-i.result in
-    let at = ap (get_or views i) c.index-views-i.is in
+    let x = get_or views c.args.i c.index-views-i.result in
+    let at = ap (get_or views c.args.i) c.index-views-i.is in
     let lt = c.has_position.ensures.number c.if-not-has_position.false in
-    let has : (u : Window) → view_has (split_session value a views u) i ps ≡ true = λ u. sym (c.has_position.ensures.has u) ∙ c.if-not-has_position.false in
-    let own = own_there value g.row.D a views i x c.requires.parts lt at p (owner_owns value a views i ps g.row.D x c.requires.parts lt at (whole (shape a)) (has (whole (shape a)))) in
-    let ready = lent_ready value g.row.D a views i x c.requires.parts lt at c.bind.result.array c.bind.ensures.array in
-    let inside = has_inside value a views i ps (whole (shape a)) (has (whole (shape a))) in
-    (lit< tt, (ready.fits, (ready.over, (ready.places, (position_there value g.row.D a views i x c.requires.parts lt at p (record { inside = inside; unused = c.requires.unused }), own)))))
+    let there = at_view value g.row.D a views c.args.i x c.requires.parts lt at c.args.p c.requires.unused (λ u. sym (c.has_position.ensures.has u) ∙ c.if-not-has_position.false) in
+    let ready = lent_ready value g.row.D a views c.args.i x c.requires.parts lt at c.bind.result.array c.bind.ensures.array in
+    (lit< tt, (ready.fits, (ready.over, (ready.places, (there.position, there.own)))))
 
-pub returns-clause-does : goal.returns-clause-does
+pub returns : goal.returns
 unfolding done answered array_setting
-returns-clause-does g c v lies =
+returns g c =
     let a = c.args.a.now in
     let views = c.args.views.now in
-    let i = c.args.i in
-    let p = c.args.p in
-    let ps = used_axes (length (shape a)) p in
     let value = g.T.Lane.value in
-    let x = get_or views i c.index-views-i.result in
-    let at = ap (get_or views i) c.index-views-i.is in
+    let x = get_or views c.args.i c.index-views-i.result in
+    let at = ap (get_or views c.args.i) c.index-views-i.is in
     let lt = c.has_position.ensures.number c.if-not-has_position.false in
-    let has : (u : Window) → view_has (split_session value a views u) i ps ≡ true = λ u. sym (c.has_position.ensures.has u) ∙ c.if-not-has_position.false in
-    let own = own_there value g.row.D a views i x c.requires.parts lt at p (owner_owns value a views i ps g.row.D x c.requires.parts lt at (whole (shape a)) (has (whole (shape a)))) in
+    let there = at_view value g.row.D a views c.args.i x c.requires.parts lt at c.args.p c.requires.unused (λ u. sym (c.has_position.ensures.has u) ∙ c.if-not-has_position.false) in
+    let ps = used_axes (length (shape a)) c.args.p in
     let told = wide g.T.Lane.width g.met.T.Lane.two_widths c.to_wide.result (value c.get-value.result) c.to_wide.ensures.value (g.met.T.Lane.in_range_fits (value c.get-value.result)) c.to_wide.ensures.operand in
     let back = c.get-value.new.back in
     let name = ap (λ (f : Frame). f.name) c.get-value.ensures.kept ∙ c.bind.ensures.same_array in
-    lent_takes value g.row.D a views i x c.requires.parts lt at
-    g.T.Lane.width c.a-1.given.0 c.get-value.new.self (Act.get (private.block_at x p) (private.place_at x p)) c.shape-shape.ensures.same_type c.bind.result.array back.array c.bind.ensures.array (search rules)
+    let taken = lent value g.row.D a views c.args.i x c.requires.parts lt at
+    g.T.Lane.width c.a-1.given.0 c.get-value.new.self (Act.get (private.block_at x c.args.p) (private.place_at x c.args.p)) c.shape-shape.ensures.same_type c.bind.result.array back.array c.bind.ensures.array (search rules)
     (record {
       is_coded = back.is_coded;
       frame = c.get-value.ensures.kept;
@@ -73,33 +63,9 @@ returns-clause-does g c v lies =
       kept = c.get-value.ensures.same;
       whole = c.get-value.ensures.whole;
       fits = c.get-value.ensures.fits;
-    }) own
-    v (Command.pget i ps) (Some (Reply.number _)) lies refl refl (ap not (has v)) refl (ap (option_map Reply.number) (sym c.get-value.ensures.value) ∙ ap (λ z. Some (Reply.number z)) (sym told)) refl
-    (ap (by_view (setting_of g.T.Lane.width a) (split_session value a views v) i) (sym (act_there value g.row.D a views i x c.requires.parts lt at p (λ b q. Act.get b q))))
-
-pub returns-clause-parts : goal.returns-clause-parts
-returns-clause-parts g c =
-    let a = c.args.a.now in
-    let views = c.args.views.now in
-    let i = c.args.i in
-    let p = c.args.p in
-    let ps = used_axes (length (shape a)) p in
-    let value = g.T.Lane.value in
-    let x = get_or views i c.index-views-i.result in
-    let at = ap (get_or views i) c.index-views-i.is in
-    let lt = c.has_position.ensures.number c.if-not-has_position.false in
-    let has : (u : Window) → view_has (split_session value a views u) i ps ≡ true = λ u. sym (c.has_position.ensures.has u) ∙ c.if-not-has_position.false in
-    let own = own_there value g.row.D a views i x c.requires.parts lt at p (owner_owns value a views i ps g.row.D x c.requires.parts lt at (whole (shape a)) (has (whole (shape a)))) in
-    let back = c.get-value.new.back in
-    let name = ap (λ (f : Frame). f.name) c.get-value.ensures.kept ∙ c.bind.ensures.same_array in
-    lent_parts value g.row.D a views i x c.requires.parts lt at
-    g.T.Lane.width c.a-1.given.0 c.get-value.new.self (Act.get (private.block_at x p) (private.place_at x p)) c.shape-shape.ensures.same_type c.bind.result.array back.array c.bind.ensures.array (search rules)
-    (record {
-      is_coded = back.is_coded;
-      frame = c.get-value.ensures.kept;
-      step = c.get-value.ensures.state;
-      others = c.get-value.ensures.others;
-      kept = c.get-value.ensures.same;
-      whole = c.get-value.ensures.whole;
-      fits = c.get-value.ensures.fits;
-    }) own
+    }) there.own in record {
+      does = λ v lies. taken.takes v (Command.pget c.args.i ps) (Some (Reply.number _)) lies refl refl (ap not (there.has v)) refl (ap (option_map Reply.number) (sym c.get-value.ensures.value) ∙ ap (λ z. Some (Reply.number z)) (sym told)) refl
+          (ap (by_view (setting_of g.T.Lane.width a) (split_session value a views v) c.args.i) (sym (act_there value g.row.D a views c.args.i x c.requires.parts lt at c.args.p (λ b q. Act.get b q))));
+      parts = taken.parts;
+      kept = taken.kind_is;
+    }

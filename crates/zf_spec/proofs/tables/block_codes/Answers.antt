@@ -7,4 +7,4 @@ use Rattle.zf_spec.proofs.tables.block_codes.Goals as goal
 
 pub returns : goal.returns
 unfolding int_wrap pad lorenzo rev rev_of_planes
-returns c = record { one = refl; least = refl }
+returns c = record { one = refl; least = refl; one_of_int64 = refl }

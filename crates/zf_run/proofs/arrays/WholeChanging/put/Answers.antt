@@ -6,6 +6,6 @@ use Rattle.zf_run.proofs.arrays.WholeChanging.put.Goals as goal
 
 pub returns-clause-changed : goal.returns-clause-changed
 unfolding changed_at
-returns-clause-changed g c v =
+returns-clause-changed g c =
     let a = c.args.self.now.array.now in
-    changed_is g.T.Lane.width a c.shape-shape.ensures.same_type v c.set.new.self (block_at a c.args.p) (λ values. set values (place_at a c.args.p) (g.T.Lane.value c.args.v)) c.set.ensures.state c.set.ensures.header
+    changed_is g.T.Lane.width a c.shape-shape.ensures.same_type c.args.self.now.window.now c.set.new.self (block_at a c.args.p) (λ values. set values (place_at a c.args.p) (g.T.Lane.value c.args.v)) c.set.ensures.state c.set.ensures.header

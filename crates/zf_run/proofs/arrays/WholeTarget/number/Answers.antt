@@ -3,6 +3,6 @@ use Rattle.zf_run.proofs.Sessions.{touched_is}
 use Rattle.zf_run.proofs.arrays.WholeTarget.number.Goals as goal
 
 pub returns-clause-touched : goal.returns-clause-touched
-returns-clause-touched g c v =
+returns-clause-touched g c =
     let a = c.args.self.now.array.now in
-    touched_is g.T.Lane.width a c.shape-shape.ensures.same_type v c.get.new.self (block_at a c.args.p) c.get.ensures.state c.get.ensures.header
+    touched_is g.T.Lane.width a c.shape-shape.ensures.same_type c.args.self.now.window.now c.get.new.self (block_at a c.args.p) c.get.ensures.state c.get.ensures.header

@@ -1,31 +1,39 @@
-use Rattle.std.proofs.Common.{sym, ◌∙◌, length}
+use Rattle.std.proofs.Common.{refl, true, false}
+use Rattle.zf_cached.specs.Kinds.{is_reading}
 use Rattle.zf_cached.specs.Runs.{look_setting}
-use Rattle.zf_script.specs.Seen.{command_of}
-use Rattle.zf_const.specs.Standing.{shape, state, coding_of}
-use Rattle.zf_commands.specs.Allowed.{look_allows}
-use Rattle.zf_commands.specs.Sittings.{session}
-use Rattle.zf_run.specs.Sessions.{look_setting_of}
+use Rattle.zf_commands.specs.declared.kinds.Kind.TheVariants as kinds
+use Rattle.zf_commands.specs.Kinds.{read_cmd, window_cmd, cmd_of_kind}
 use Rattle.zf_commands.proofs.Commanding.{taken, not_taken}
-use Rattle.zf_run.proofs.Looking.{look_reads}
+use Rattle.zf_commands.proofs.Sorting.{by_kind, same_plain, not_reading}
+use Rattle.zf_run.specs.Sessions.{look_setting_of, look_session_of}
 use Rattle.zf_run.proofs.const_arrays.LookedScripted.obey.Goals as goal
 
-pub unreachable-requires : goal.unreachable-requires
-unreachable-requires g c =
-    let a = c.args.self.now.array.now in
-    let cmd = command_of (length (shape a)) c.args.cmd in
-    look_reads g.T.Lane.width a cmd c.in-None.ensures.writes
-    (look_allows g.T.Lane.width (coding_of a.header) cmd (sym (c.is_reading.ensures (length (shape a))) ∙ c.if-not-is_reading.false))
+pub read-requires-clause-plain : goal.read-requires-clause-plain
+read-requires-clause-plain g c =
+    same_plain (look_session_of c.args.self.now.array.now c.args.self.now.window) c.args.cmd (read_cmd c.in-Read.asked) c.in-Read.ensures c.requires.plain
 
-pub returns-then-not-is_reading-clause-step : goal.returns-then-not-is_reading-clause-step
-unfolding look_setting
-returns-then-not-is_reading-clause-step g c =
-    let a = c.args.self.now.array.now in
-    not_taken (look_setting_of g.T.Lane.width a.header) (command_of (length (shape a)) c.args.cmd) (session (shape a) (state a) c.args.window.now)
-    (sym (c.is_reading.ensures (length (shape a))) ∙ c.if-not-is_reading.true)
+pub look_through-requires-clause-plain : goal.look_through-requires-clause-plain
+look_through-requires-clause-plain g c =
+    same_plain (look_session_of c.args.self.now.array.now c.args.self.now.window) c.args.cmd (window_cmd c.in-Window.asked) c.in-Window.ensures c.requires.plain
 
-pub returns-clause-step : goal.returns-clause-step
+pub returns-in-Read-clause-step : goal.returns-in-Read-clause-step
 unfolding look_setting
-returns-clause-step g c =
+returns-in-Read-clause-step g c =
     let a = c.args.self.now.array.now in
-    taken (look_setting_of g.T.Lane.width a.header) (command_of (length (shape a)) c.args.cmd) (session (shape a) (state a) c.args.window.now) _ _ _
-    (sym (c.is_reading.ensures (length (shape a))) ∙ c.if-not-is_reading.false) c.in-Some.ensures.does c.spoken.ensures
+    let s = look_session_of a c.args.self.now.window in
+    taken (look_setting_of g.T.Lane.width a.header) c.args.cmd (read_cmd c.in-Read.asked) c.in-Read.ensures s _ _ (by_kind s (kinds.Read c.in-Read.asked) is_reading true refl) c.read.ensures.does
+
+pub returns-in-Window-clause-step : goal.returns-in-Window-clause-step
+unfolding look_setting
+returns-in-Window-clause-step g c =
+    let a = c.args.self.now.array.now in
+    let s = look_session_of a c.args.self.now.window in
+    taken (look_setting_of g.T.Lane.width a.header) c.args.cmd (window_cmd c.in-Window.asked) c.in-Window.ensures s _ _ (by_kind s (kinds.Window c.in-Window.asked) is_reading true refl) c.look_through.ensures.does
+
+pub returns-in_default-clause-step : goal.returns-in_default-clause-step
+unfolding look_setting
+returns-in_default-clause-step g c =
+    let a = c.args.self.now.array.now in
+    let s = look_session_of a c.args.self.now.window in
+    let k = c.kind_of.result in
+    not_taken (look_setting_of g.T.Lane.width a.header) c.args.cmd (cmd_of_kind k) c.kind_of.ensures s (by_kind s k is_reading false (not_reading k c.in_default.not-Read c.in_default.not-Window))

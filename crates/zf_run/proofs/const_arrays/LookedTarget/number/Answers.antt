@@ -3,6 +3,6 @@ use Rattle.zf_run.proofs.Looking.{look_touched_is}
 use Rattle.zf_run.proofs.const_arrays.LookedTarget.number.Goals as goal
 
 pub returns-clause-touched : goal.returns-clause-touched
-returns-clause-touched g c v =
+returns-clause-touched g c =
     let a = c.args.self.now.array.now in
-    look_touched_is g.T.Lane.width a v c.get.new.self (block_at a c.args.p) c.get.ensures.state c.get.ensures.header
+    look_touched_is g.T.Lane.width a c.args.self.now.window c.get.new.self (block_at a c.args.p) c.get.ensures.state c.get.ensures.header

@@ -17,11 +17,11 @@ pub sum_within-requires : goal.sum_within-requires
 sum_within-requires g c = block_room c.shape-shape.result g.row.D c.dims-dims.ensures.shape c.shape-shape.ensures.dims (length c.block.result.now) c.block.ensures.size
 
 pub returns-clause-touched : goal.returns-clause-touched
-returns-clause-touched g c v =
+returns-clause-touched g c =
     let now = c.args.self.now.array.now in
     let b = c.args.b in
-    look_touched_is g.T.Lane.width now v (touched now b) b c.block.ensures.state (ap (λ (k : Header × List _). k.0) (stream_after now b))
-    ∙ ap (λ a. session (shape a) (state a) v) (sym c.block.follows.holds-at-none)
+    look_touched_is g.T.Lane.width now c.args.self.now.window (touched now b) b c.block.ensures.state (ap (λ (k : Header × List _). k.0) (stream_after now b))
+    ∙ ap (λ a. session (shape a) (state a) c.args.self.now.window) (sym c.block.follows.holds-at-none)
 
 pub returns-clause-kept : goal.returns-clause-kept
 returns-clause-kept g c =

@@ -7,9 +7,9 @@ use Rattle.zf_run.proofs.Pairing.{discarded_two}
 use Rattle.zf_run.proofs.pairs.PairChanging.discard_all.Goals as goal
 
 pub returns-clause-discarded : goal.returns-clause-discarded
-returns-clause-discarded g c v =
+returns-clause-discarded g c =
     let s = c.args.self.now.store.now in let k = c.args.self.now.cache.now in let value = g.T.Lane.value in let w = g.T.Lane.width in
-    discarded_two w s c.header-header.ensures.whole.same_type value k v s c.discard.new.self refl
+    discarded_two w s c.header-header.ensures.whole.same_type value k c.args.self.now.window s c.discard.new.self refl
     (discarded_at skewed value (format_of s) (code_at s) k c.discard.new.self (fits_at value k (format_of s) (code_at s) c.requires.sound) c.discard.ensures.empty c.discard.ensures.counts)
 
 pub returns-clause-sound : goal.returns-clause-sound

@@ -26,7 +26,7 @@ returns-clause-sound g c =
 
 pub returns-clause-changed : goal.returns-clause-changed
 unfolding changed_at
-returns-clause-changed g c v =
+returns-clause-changed g c =
     let s = c.args.self.now.store.now in let k = c.args.self.now.cache.now in let value = g.T.Lane.value in let w = g.T.Lane.width in
     let st = c.header.ensures.whole in let at = c.place-b.ensures.at in let b = c.place-b.result.0 in let p = c.place-b.result.1 in
     let is = c.header.ensures.value in
@@ -36,9 +36,9 @@ returns-clause-changed g c v =
     let change = λ (n : _) (values : List ℤ). set values n (wrap w (get_or values n (pos 0) +ℤ value c.args.v)) in
     let blocks = (two_blocks w g.row.D s st).0 in
     let below = subst (λ n. p < n) (sym blocks) (place_below w g.row.D s st c.header.result is c.args.p b p at) in
-    (λ i. changed (two_setting_of w s.header) (session s.header.shape (pair_state value s k) v) (sym (block_there s c.header.result is c.args.p b c.place-b.ensures.block) i)
+    (λ i. changed (two_setting_of w s.header) (session s.header.shape (pair_state value s k) c.args.self.now.window) (sym (block_there s c.header.result is c.args.p b c.place-b.ensures.block) i)
     (change (sym (place_there s c.header.result is c.args.p p c.place-b.ensures.place) i)))
-    ∙ changed_two w s st.same_type value k v t e head b (change p)
+    ∙ changed_two w s st.same_type value k c.args.self.now.window t e head b (change p)
     (ap (λ (f : Format (List Bool)). state_of value e f (code_at t)) same ∙ (lent.written ws).state
     ∙ increase_two value (format_of s) k (code_at s) b row p c.index-line-place.result c.add.result c.args.v w (place_exists w g.row.D s st c.header.result is c.args.p b p at)
     (c.block_mut-line.ensures.size ∙ sym blocks) below lent.held c.index-line-place.is c.add.ensures.value)

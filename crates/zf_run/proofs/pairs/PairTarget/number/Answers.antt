@@ -17,13 +17,13 @@ get-requires g c =
     (lit< tt, (c.requires.sound, (two_blocks w g.row.D s st, (block_below w g.row.D s st c.header.result is c.args.p b p at, place_below w g.row.D s st c.header.result is c.args.p b p at))))
 
 pub returns-clause-touched : goal.returns-clause-touched
-returns-clause-touched g c v =
+returns-clause-touched g c =
     let s = c.args.self.now.store.now in let k = c.args.self.now.cache.now in let value = g.T.Lane.value in let w = g.T.Lane.width in
     let st = c.header.ensures.whole in let at = c.place-b.ensures.at in let b = c.place-b.result.0 in let p = c.place-b.result.1 in
     let is = c.header.ensures.value in
     let t = c.get.new.back in let e = c.get.new.self in let head = ap (λ (q : Frame). q.header) c.get.ensures.kept in
-    ap (touched (two_setting_of w s.header) (session s.header.shape (pair_state value s k) v)) (sym (block_there s c.header.result is c.args.p b c.place-b.ensures.block))
-    ∙ touched_two w s st.same_type value k v t e head b c.get.ensures.state
+    ap (touched (two_setting_of w s.header) (session s.header.shape (pair_state value s k) c.args.self.now.window)) (sym (block_there s c.header.result is c.args.p b c.place-b.ensures.block))
+    ∙ touched_two w s st.same_type value k c.args.self.now.window t e head b c.get.ensures.state
 
 pub returns-clause-value : goal.returns-clause-value
 returns-clause-value g c =

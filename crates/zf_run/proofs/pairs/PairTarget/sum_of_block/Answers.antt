@@ -29,10 +29,10 @@ returns-clause-sound g c =
     subst (λ (f : Format (List Bool)). Fits g.T.Lane.value c.block.follows.lender-at-none f (code_at t)) (sym c.block.ensures.format) c.block.follows.holds-at-none.fits
 
 pub returns-clause-touched : goal.returns-clause-touched
-returns-clause-touched g c v =
+returns-clause-touched g c =
     let s = c.args.self.now.store.now in let k = c.args.self.now.cache.now in let value = g.T.Lane.value in let w = g.T.Lane.width in
     let t = c.block.new.back in let e = c.block.follows.lender-at-none in let head = ap (λ (q : Frame). q.header) c.block.ensures.kept in
-    touched_two w s c.header.ensures.whole.same_type value k v t e head c.args.b
+    touched_two w s c.header.ensures.whole.same_type value k c.args.self.now.window t e head c.args.b
     (ap (λ (f : Format (List Bool)). state_of value e f (code_at t)) c.block.ensures.format ∙ c.block.follows.holds-at-none.state)
 
 pub returns-clause-sum : goal.returns-clause-sum

@@ -14,7 +14,7 @@ pub returns-clause-ok : goal.returns-clause-ok
 returns-clause-ok g c =
     let s = c.args.self.now.store.now in let k = c.args.self.now.cache.now in let value = g.T.Lane.value in let w = g.T.Lane.width in
     let t = c.relined.new.back in let e = c.relined.new.self in let head = ap (λ (q : Frame). q.header) c.relined.ensures.kept in
-    on_ok c.relined.result (λ is v. lined_two w s c.header-header.ensures.whole.same_type value k v t e head c.args.count
+    on_ok c.relined.result (λ is. lined_two w s c.header-header.ensures.whole.same_type value k c.args.self.now.window t e head c.args.count
     (is ∙ ap (relined (format_of s) (pair_state value s k)) c.raised.ensures.value)) c.relined.ensures.ok
 
 pub returns-clause-err : goal.returns-clause-err
@@ -23,4 +23,4 @@ returns-clause-err g c =
     let t = c.relined.new.back in let e = c.relined.new.self in let head = ap (λ (q : Frame). q.header) c.relined.ensures.kept in
     on_err c.relined.result (λ same.
     let stores = same_store s t c.relined.ensures.kept (λ b. ap (λ (codes : ℕ → List Bool). codes b) same.1) in
-    λ i. record { store = record c.args.self.now.store { now = stores i }; cache = record c.args.self.now.cache { now = same.0 i } }) c.relined.ensures.err
+    λ i. record { store = record c.args.self.now.store { now = stores i }; cache = record c.args.self.now.cache { now = same.0 i }; window = c.args.self.now.window }) c.relined.ensures.err

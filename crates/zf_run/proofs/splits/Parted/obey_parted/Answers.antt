@@ -1,20 +1,30 @@
-use Rattle.std.proofs.Common.{sym, ap, subst, ◌∙◌, length, None}
-use Rattle.zf_script.specs.Seen.{command_of}
-use Rattle.zf_array.specs.Standing.{shape}
-use Rattle.zf_run.specs.Sessions.{setting_of}
-use Rattle.zf_run.specs.Splits.{lists, parted_session}
+use Rattle.std.proofs.Common.{sym, ap, subst, ◌∙◌, false, None}
+use Rattle.zf_cached.specs.Kinds.{is_of_split}
+use Rattle.zf_commands.specs.Kinds.{cmd_of_kind, asked}
 use Rattle.zf_commands.specs.Steps.{Does}
-use Rattle.zf_run.proofs.Parting.{some_parted, has_joined}
+use Rattle.zf_commands.proofs.Sorting.{by_kind, not_of_split}
+use Rattle.zf_commands.proofs.Stepping.{refused_split}
+use Rattle.zf_run.specs.Sessions.{setting_of}
+use Rattle.zf_run.specs.Splits.{parted_session}
+use Rattle.zf_run.proofs.Parting.{some_parted, has_joined, refuses_whole}
 use Rattle.zf_run.proofs.splits.Parted.obey_parted.Goals as goal
 
 pub returns-in-Join-clause-does : goal.returns-in-Join-clause-does
-returns-in-Join-clause-does g c v lies =
-    let a = c.args.self.now.array.now in
-    let b = c.join.new.self.array.now in
+returns-in-Join-clause-does g c =
+    let p = c.args.self.now in
+    let q = c.join.new.self in
     let value = g.T.Lane.value in
-    let S = setting_of g.T.Lane.width a in
-    let s = parted_session value a (lists c.args.self.now.views.now) v in
-    let t = parted_session value b (lists c.join.new.self.views.now) v in
-    subst (λ m. Does S (command_of (length (shape a)) m) s t None) (sym c.in-Join.is)
-    (has_joined S s t lies (some_parted value a c.args.self.now.views.now c.requires.parted)
-    (c.join.ensures.joined v ∙ ap (λ o. parted_session value b (lists o) v) (sym c.join.ensures.whole)))
+    let S = setting_of g.T.Lane.width p.array.now in
+    let s = parted_session value p.array.now p.views.now p.window in
+    let t = parted_session value q.array.now q.views.now q.window in
+    subst (λ k. Does S (asked s (cmd_of_kind k)) s t None) (sym c.in-Join.is)
+    (has_joined S s t c.requires.window (some_parted value p.array.now p.views.now c.requires.parted)
+    (c.join.ensures.joined ∙ ap (λ o. parted_session value q.array.now o q.window) (sym c.join.ensures.whole)))
+
+pub returns-in_default-clause-does : goal.returns-in_default-clause-does
+returns-in_default-clause-does g c =
+    let p = c.args.self.now in
+    let s = parted_session g.T.Lane.value p.array.now p.views.now p.window in
+    let cmd = asked s (cmd_of_kind c.args.cmd) in
+    refused_split (setting_of g.T.Lane.width p.array.now) cmd s c.requires.window
+    (refuses_whole s cmd (some_parted g.T.Lane.value p.array.now p.views.now c.requires.parted) (by_kind s c.args.cmd is_of_split false (not_of_split c.args.cmd c.in_default.not-Join c.in_default.not-View)))

@@ -8,7 +8,7 @@ use Rattle.zf_cached.specs.Splits.{is_view_count}
 use Rattle.zf_cached.specs.Steps.{is_line_count}
 use Rattle.zf_array.specs.Standing.{Held, shape, state}
 use Rattle.zf_run.specs.Sessions.{setting_of, session_of}
-use Rattle.zf_run.specs.Splits.{lists, parted_session, AreNewParts}
+use Rattle.zf_run.specs.Splits.{parted_session, AreNewParts}
 use Rattle.zf_commands.specs.Steps.{Does}
 use Rattle.zf_run.proofs.Splitting.{has_split, are_parts}
 use Rattle.zf_commands.proofs.Stepping.{refused_size, refused_memory}
@@ -16,7 +16,7 @@ use Rattle.zf_run.proofs.splits.Parted.split.Goals as goal
 
 pub returns-then-not-may_split-clause-does : goal.returns-then-not-may_split-clause-does
 unfolding array_format
-returns-then-not-may_split-clause-does g c v lies =
+returns-then-not-may_split-clause-does g c =
     let a = c.args.self.now.array.now in
     let n = c.args.count in
     let l = c.args.lines in
@@ -24,12 +24,12 @@ returns-then-not-may_split-clause-does g c v lies =
     let many = c.blocks-2.ensures.value ∙ ap blocks c.shape-shape.ensures.value in
     let tests : (is_view_count (blocks (shape a)) n && is_line_count l) ≡ false =
     subst (λ m. (is_view_count m n && is_line_count l) ≡ false) many (sym c.may_split.ensures ∙ c.if-not-may_split.true) in
-    subst (λ o. Does S (Command.split n l) (session_of a v) (parted_session g.T.Lane.value a (lists o) v) (Some (Reply.refused Refusal.size))) (sym c.requires.whole)
-    (refused_size S (Command.split n l) (session_of a v) lies refl (ap not tests))
+    subst (λ o. Does S (Command.split n l) (session_of a c.args.self.now.window) (parted_session g.T.Lane.value a o c.args.self.now.window) (Some (Reply.refused Refusal.size))) (sym c.requires.whole)
+    (refused_size S (Command.split n l) (session_of a c.args.self.now.window) c.requires.window refl (ap not tests))
 
 pub returns-in_default-clause-does : goal.returns-in_default-clause-does
 unfolding array_format
-returns-in_default-clause-does g c v lies =
+returns-in_default-clause-does g c =
     let a = c.args.self.now.array.now in
     let n = c.args.count in
     let l = c.args.lines in
@@ -37,11 +37,11 @@ returns-in_default-clause-does g c v lies =
     let many = c.blocks-2.ensures.value ∙ ap blocks c.shape-shape.ensures.value in
     let tests : (is_view_count (blocks (shape a)) n && is_line_count l) ≡ true =
     subst (λ m. (is_view_count m n && is_line_count l) ≡ true) many (sym c.may_split.ensures ∙ c.if-not-may_split.false) in
-    subst (λ o. Does S (Command.split n l) (session_of a v) (parted_session g.T.Lane.value a (lists o) v) (Some (Reply.refused Refusal.memory))) (sym c.requires.whole)
-    (refused_memory S (Command.split n l) (session_of a v) lies refl (ap not tests) refl refl refl)
+    subst (λ o. Does S (Command.split n l) (session_of a c.args.self.now.window) (parted_session g.T.Lane.value a o c.args.self.now.window) (Some (Reply.refused Refusal.memory))) (sym c.requires.whole)
+    (refused_memory S (Command.split n l) (session_of a c.args.self.now.window) c.requires.window refl (ap not tests) refl refl refl)
 
 pub returns-clause-does : goal.returns-clause-does
-returns-clause-does g c v lies =
+returns-clause-does g c =
     let w = g.T.Lane.width in
     let value = g.T.Lane.value in
     let a = c.args.self.now.array.now in
@@ -56,7 +56,7 @@ returns-clause-does g c v lies =
     let new = subst (λ ns. AreNewParts g.row.D ns n c.raised.result n c.in-Ok.views.items) c.shape-shape.ensures.value c.in-Ok.ensures in
     let flushes = ap state c.see_coded.ensures.same ∙ c.flush.ensures.state in
     let head = ap (λ (h : Held). h.header) c.see_coded.ensures.same ∙ c.flush.ensures.header in
-    has_split value w g.row.D a b c.in-Ok.views.items n l c.raised.result c.shape-shape.ensures.same_type some both.0 both.1 c.raised.ensures.value new flushes head c.see_coded.ensures.coded v lies
+    has_split value w g.row.D a b c.in-Ok.views.items n l c.raised.result c.shape-shape.ensures.same_type some both.0 both.1 c.raised.ensures.value new flushes head c.see_coded.ensures.coded c.args.self.now.window c.requires.window
 
 pub returns-clause-sound : goal.returns-clause-sound
 returns-clause-sound g c =

@@ -1,46 +1,41 @@
-use Rattle.std.proofs.Common.{refl, sym, subst, ◌∙◌, length, Some}
-use Rattle.zf_cached.specs.Replies.{Refusal, Reply}
+use Rattle.std.proofs.Common.{refl, sym, subst, ◌∙◌, lit<}
 use Rattle.zf_cached.specs.Runs.{array_setting}
-use Rattle.zf_script.specs.Seen.{command_of}
-use Rattle.zf_array.specs.Standing.{shape}
-use Rattle.zf_run.specs.Sessions.{session_of, setting_of}
-use Rattle.zf_run.specs.Splits.{lists, parted_session}
+use Rattle.zf_commands.specs.Kinds.{cmd_of_kind, asked}
 use Rattle.zf_commands.specs.Steps.{Takes, said}
 use Rattle.zf_commands.proofs.Commanding.{taken}
-use Rattle.zf_run.proofs.Parting.{is_parted, none_parted, refuses_is, none_needed}
-use Rattle.zf_commands.proofs.Stepping.{refused_split}
+use Rattle.zf_commands.proofs.Sorting.{same_plain}
+use Rattle.zf_run.specs.Sessions.{session_of, setting_of}
+use Rattle.zf_run.specs.Splits.{parted_session}
+use Rattle.zf_run.proofs.Parting.{none_parted}
 use Rattle.zf_run.proofs.splits.PartedScripted.obey.Goals as goal
 
-pub returns-then-is_some-needs-clause-step : goal.returns-then-is_some-needs-clause-step
-unfolding array_setting
-returns-then-is_some-needs-clause-step g c =
-    let a = c.args.self.now.array.now in
-    let value = g.T.Lane.value in
-    let S = setting_of g.T.Lane.width a in
-    let cmd = command_of (length (shape a)) c.args.cmd in
-    let s = parted_session value a (lists c.args.self.now.views.now) c.args.window.now in
-    taken S cmd s s (Some (Reply.refused Refusal.split)) (Some (Reply.refused Refusal.split)) refl
-    (refused_split S cmd s c.requires.window
-    (refuses_is s cmd c.is_some.result c.needs_split-needs.result (is_parted value a c.args.self.now.views.now ∙ sym c.is_some.ensures) (sym (c.needs_split-needs.ensures (length (shape a)))) c.if-is_some-needs.true)) refl
+pub obey_parted-requires : goal.obey_parted-requires
+obey_parted-requires g c =
+    let p = c.args.self.now in
+    let plain = same_plain (parted_session g.T.Lane.value p.array.now p.views.now p.window) c.args.cmd (cmd_of_kind c.kind_of-asked.result) c.kind_of-asked.ensures c.requires.plain in
+    (lit< tt, (c.requires.sound, (sym c.is_some.ensures ∙ c.if-is_some.true, (c.requires.window, plain))))
 
-pub returns-then-needs-clause-step : goal.returns-then-needs-clause-step
-unfolding array_setting
-returns-then-needs-clause-step g c =
-    let a = c.args.self.now.array.now in
-    let b = c.obey_parted.new.self in
-    let value = g.T.Lane.value in
-    taken (setting_of g.T.Lane.width a) (command_of (length (shape a)) c.args.cmd) (parted_session value a (lists c.args.self.now.views.now) c.args.window.now)
-    (parted_session value b.array.now (lists b.views.now) c.args.window.now) _ _ refl (c.obey_parted.ensures.does c.args.window.now c.requires.window) c.spoken.ensures
+pub obey_whole-requires : goal.obey_whole-requires
+obey_whole-requires g c =
+    let p = c.args.self.now in
+    let plain = same_plain (session_of p.array.now p.window) c.args.cmd (cmd_of_kind c.kind_of-asked.result) c.kind_of-asked.ensures c.requires.plain in
+    (lit< tt, (none_parted p.views.now (sym c.is_some.ensures ∙ c.if-is_some.false), (c.requires.window, plain)))
 
-pub returns-else-needs-clause-step : goal.returns-else-needs-clause-step
+pub returns-then-is_some-clause-step : goal.returns-then-is_some-clause-step
 unfolding array_setting
-returns-else-needs-clause-step g c =
-    let a = c.args.self.now.array.now in
-    let b = c.obey_whole.new.self in
+returns-then-is_some-clause-step g c =
+    let p = c.args.self.now in
+    taken (setting_of g.T.Lane.width p.array.now) c.args.cmd (cmd_of_kind c.kind_of-asked.result) c.kind_of-asked.ensures
+    (parted_session g.T.Lane.value p.array.now p.views.now p.window) _ _ refl c.obey_parted.ensures.does
+
+pub returns-else-is_some-clause-step : goal.returns-else-is_some-clause-step
+unfolding array_setting
+returns-else-is_some-clause-step g c =
+    let p = c.args.self.now in
+    let q = c.obey_whole.new.self in
     let value = g.T.Lane.value in
-    let S = setting_of g.T.Lane.width a in
-    let cmd = command_of (length (shape a)) c.args.cmd in
-    let t = parted_session value b.array.now (lists b.views.now) c.obey_whole.new.window in
-    let none = none_parted c.args.self.now.views.now (sym c.is_some.ensures ∙ none_needed c.is_some.result c.needs_split-needs.result c.if-is_some-needs.false c.if-needs.false) in
-    subst (λ o. Takes S (parted_session value a (lists o) c.args.window.now) cmd t (said c.spoken-else-needs.result)) (sym none)
-    (taken S cmd (session_of a c.args.window.now) t _ _ refl c.obey_whole.ensures.does c.spoken-else-needs.ensures)
+    let S = setting_of g.T.Lane.width p.array.now in
+    let t = parted_session value q.array.now q.views.now q.window in
+    subst (λ o. let s = parted_session value p.array.now o p.window in Takes S s (asked s c.args.cmd) t (said c.obey_whole.result))
+    (sym (none_parted p.views.now (sym c.is_some.ensures ∙ c.if-is_some.false)))
+    (taken S c.args.cmd (cmd_of_kind c.kind_of-asked.result) c.kind_of-asked.ensures (session_of p.array.now p.window) t _ refl c.obey_whole.ensures.does)
