@@ -14,7 +14,7 @@ ghost use Rattle.zf_commands.specs.Steps.{HasWindow, Does, said};
 use crate::target::Target;
 use zf_base::Pos;
 use zf_script::{Refusal, Reply};
-use zf_window::Window;
+use zf_window::{Walk, Window};
 
 /// `view P S T`: another window, with these origins, sizes and steps.
 pub(crate) fn view<A: Target>(a: &mut A, origin: Pos, size: Pos, step: Pos) -> Option<Reply>
@@ -77,8 +77,9 @@ fn sum_of_window<A: Target>(a: &mut A) -> i128
     let mut sum = 0;
     // a window has no more positions than its array has values
     let _values = a.sizes().values();
+    let mut walk = Walk::new(&window);
     for number in 0..window.count() {
-        sum += a.number(window.raster_at(number));
+        sum += a.number(walk.step());
     }
     sum
 }

@@ -6,7 +6,7 @@ use Rattle.zf_base.specs.Positions.{IsPosition}
 use Rattle.zf_base.specs.Places.{block_number}
 use Rattle.zf_cached.specs.Windows.{Window as Part, mapped}
 use Rattle.zf_cached.specs.Steps.{Session, value_there}
-use Rattle.zf_window.specs.Positions.{raster_at}
+use Rattle.zf_window.specs.Positions.{Walking, raster_at}
 use Rattle.zf_window.proofs.Raster.{product_window, raster_at-inside}
 use Rattle.zf_commands.specs.Sums.{IsUpTo}
 use Rattle.zf_commands.specs.Sittings.{block_in}
@@ -34,6 +34,7 @@ loop-number-init g c =
       small = (omega (arith, ints), omega (arith, ints));
       sum = sum_starts S B value_there (ps (product w.size)) s ∙ ap (λ m. sum_from S B value_there (ps m) s (pos 0)) all;
       sound = c.requires.sound;
+      walk = c.new-walk.ensures ∙ ap (λ (u : Part). record { window = u; next = 0 }) c.window-window.ensures;
     }
 
 pub number-sum-requires-clause-position : goal.number-sum-requires-clause-position
@@ -43,8 +44,21 @@ number-sum-requires-clause-position g c =
     let below : c.loop-number.number < product s.window.size = omega (arith, c.count-number-end.ensures.value, c.loop-number-test.true, ap (λ (u : Part). product u.size) same) in
     let axes = subst (λ (u : Part). length u.size ≤ 4) same c.count-number-end.ensures.axes in
     let at = raster_at-inside s.shape s.window c.loop-number.number c.requires.window axes below in
-    subst (λ (t : Session _). IsPosition t.shape c.raster_at.result) (sym c.loop-number.invariant.stays)
-    (subst (IsPosition s.shape) (sym (c.raster_at.ensures ∙ ap (λ (u : Part). raster_at u c.loop-number.number) same)) at)
+    subst (λ (t : Session _). IsPosition t.shape c.step.result) (sym c.loop-number.invariant.stays)
+    (subst (IsPosition s.shape) (sym (c.step.ensures.position ∙ ap (λ (x : Walking). raster_at x.window x.next) c.loop-number.invariant.walk)) at)
+
+pub step-requires-clause-inside : goal.step-requires-clause-inside
+step-requires-clause-inside g c =
+    let s = g.A.Subject.session c.args.a.now in
+    let same = c.window-window.ensures in
+    let below : c.loop-number.number < product s.window.size = omega (arith, c.count-number-end.ensures.value, c.loop-number-test.true, ap (λ (u : Part). product u.size) same) in
+    subst (λ (x : Walking). x.next < product x.window.size) (sym c.loop-number.invariant.walk) below
+
+pub step-requires-clause-few : goal.step-requires-clause-few
+step-requires-clause-few g c =
+    let s = g.A.Subject.session c.args.a.now in
+    let less : product s.window.size < 2 ^ 64 = omega (arith, product_window s.shape s.window c.requires.window, ap product c.sizes.ensures, c.values-values.ensures.value, c.values-values.ensures.bound) in
+    subst (λ (x : Walking). product x.window.size < 2 ^ 64) (sym c.loop-number.invariant.walk) less
 
 pub overflow_add-sum : goal.overflow_add-sum
 overflow_add-sum g c =
@@ -68,7 +82,7 @@ loop-number-preserved g c =
     let told = c.number-sum.ensures in
     let sum = to_z w128 c.loop-number.sum-bits in
     let S = g.A.Subject.setting (g.A.Subject.kept a) in
-    let p = c.raster_at.result in
+    let p = c.step.result in
     let f = λ (k : ℕ). mapped w (coordinates w.size k) in
     let same = c.window-window.ensures in
     let many = ap (λ (u : Part). product u.size) same in
@@ -76,7 +90,7 @@ loop-number-preserved g c =
     let below : k < n = omega (arith, c.count-number-end.ensures.value, c.loop-number-test.true, many) in
     let room : 2 ^ 63 * (k + 1) ≤ 2 ^ 100 = omega (arith, less, below) in
     let is = summed_is c.loop-number.sum-bits x k (2 ^ 63) room (omega arith) inv.small told.bound in
-    let at = c.raster_at.ensures ∙ ap (λ (u : Part). raster_at u k) same in
+    let at = c.step.ensures.position ∙ ap (λ (x : Walking). raster_at x.window x.next) inv.walk in
     let shape = ap (λ (q : Session _). q.shape) inv.stays in
     let touches = touched_on g.A.Subject.setting (g.A.Subject.kept c.loop-number.a) (g.A.Subject.kept a) inv.kept (block_in s p) s t told.touched in record {
       kept = told.kept ∙ inv.kept;
@@ -87,6 +101,7 @@ loop-number-preserved g c =
           (touched_there ns s.shape c.requires.sizes shape w c.requires.window k p at S s t touches) sum x _
           (found_there ns s.shape c.requires.sizes shape w c.requires.window k p at t.state.values x told.value) is;
       sound = told.sound;
+      walk = c.step.ensures.next ∙ ap (λ (x : Walking). record { window = x.window; next = x.next + 1 }) inv.walk;
     }
 
 pub returns-clause-sum : goal.returns-clause-sum
