@@ -245,6 +245,10 @@ fn copy_rest<T: Lane>(stored: &[T], from: usize, to: usize, count: usize, part: 
     requires room { to + count ≤ length part.old }
     ensures { part.new ≡ take to part.old ++ (take count (drop from stored.now) ++ drop (to + count) part.old) }
 {
+    // mostly there are none, which needs no call
+    if count == 0 {
+        return;
+    }
     part[to..to + count].copy_from_slice(&stored[from..from + count]);
 }
 
