@@ -17,7 +17,7 @@ loop-eight-preserved g c =
     let before = c.loop-eight.invariant in
     let old = map words c.loop-eight.planes in
     elim c.if-first-planes.branch [
-      then-first-planes w ↦
+      | then-first-planes w ↦
           let new = map words w.put_from.new.planes in
           let long : length new ≡ length old = omega (arith, length-map w.put_from.new.planes words, length-map c.loop-eight.planes words) in
           rw w.planes-is (record {
@@ -25,7 +25,7 @@ loop-eight-preserved g c =
             below = λ k h. w.put_from.ensures.words.below k (omega arith) ∙ before.below k h;
             others = both_kept c.args.number (map words c.args.planes.now) old new before.others w.put_from.ensures.others;
           })
-    | else-first-planes w ↦
+      | else-first-planes w ↦
           rw w.planes-is (record {
             bits = no_more_folded eight c.args.number c.args.from c.args.words.now old (omega (arith, length-map c.loop-eight.planes words, w.if-first-planes.false)) before.bits;
             below = before.below;
