@@ -53,6 +53,7 @@ impl<'a, T: Lane, const D: usize> Target for Whole<'a, T, D> {
         *self.window = window;
     }
 
+    #[inline]
     fn number(&mut self, p: Pos) -> i128 {
         let array = &mut *self.array;
         // Known by this call: the type is that of the header.

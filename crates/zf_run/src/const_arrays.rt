@@ -49,6 +49,7 @@ impl<'a, T: Lane, const D: usize> Target for Looked<'a, T, D> {
         self.window = window;
     }
 
+    #[inline]
     fn number(&mut self, p: Pos) -> i128 {
         let array = &mut *self.array;
         array.get(p).to_wide()

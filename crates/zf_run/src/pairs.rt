@@ -54,6 +54,7 @@ impl<'a, T: Lane, const D: usize> Target for Pair<'a, T, D> {
         self.window = window;
     }
 
+    #[inline]
     fn number(&mut self, p: Pos) -> i128 {
         let store = &mut *self.store;
         let cache = &mut *self.cache;

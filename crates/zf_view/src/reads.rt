@@ -55,6 +55,7 @@ impl<T: Lane, const D: usize> Reads<T> for Array<T, D> {
         self.shape()
     }
 
+    #[inline]
     fn value(&mut self, p: Pos) -> T {
         self.get(p)
     }
@@ -79,6 +80,7 @@ impl<T: Lane, const D: usize> Reads<T> for ConstArray<T, D> {
         self.shape()
     }
 
+    #[inline]
     fn value(&mut self, p: Pos) -> T {
         self.get(p)
     }

@@ -10,7 +10,7 @@ ghost use Rattle.zf_view.specs.Sums.{touched_to, sum_found, sum_in};
 use crate::reads::Reads;
 use crate::view::View;
 use zf_base::Lane;
-use zf_window::Window;
+use zf_window::{Walk, Window};
 
 impl<'a, T: Lane, const D: usize> View<'a, T, D> {
     /// The sum of the values of the window, without wrap, by one touch of each position in raster order; each
@@ -47,8 +47,9 @@ pub(crate) fn sum_of<T: Lane, A: Reads<T>>(array: &mut A, window: Window) -> i12
     // a window has no more positions than its array has values, so that they can be counted
     let _values = array.sizes().values();
     let mut sum = 0;
+    let mut walk = Walk::new(&window);
     for number in 0..window.count() {
-        let found = array.value(window.raster_at(number));
+        let found = array.value(walk.step());
         sum += found.to_wide();
     }
     sum

@@ -12,7 +12,7 @@ use crate::words::{Kind, Order, Request};
 use std::alloc::{AllocError, Global};
 use zf_array::Array;
 use zf_base::{Lane, Pos, Shape};
-use zf_view::{ElemIter, Window};
+use zf_view::{ElemIter, View, Window};
 
 // Sixteen bits for each value of a block.
 const BITS: u32 = 256;
@@ -40,7 +40,7 @@ pub(crate) fn measured<T: Lane>(alloc: Global, asked: Request) -> Result<u64, Al
         Kind::Get => rounds::<T, Get>(&mut array, asked),
         Kind::Set => rounds::<T, Set>(&mut array, asked),
         Kind::Add => rounds::<T, Add>(&mut array, asked),
-        Kind::Elems => sums(&mut array, asked.rounds),
+        Kind::Elems | Kind::Sum => sums(&mut array, asked),
     };
     Ok(number.to_word())
 }
@@ -165,8 +165,8 @@ fn blocks<T: Lane, C: Call<T>>(array: &mut Array<T, 2>, mut number: T) -> T
     number
 }
 
-// So many sums of the window by an iterator.
-fn sums<T: Lane>(array: &mut Array<T, 2>, rounds: u32) -> T
+// So many sums of the window, by an iterator or by one call.
+fn sums<T: Lane>(array: &mut Array<T, 2>, asked: Request) -> T
     requires { shape array.old ≡ square }
     ensures { shape array.new ≡ square }
 {
@@ -185,8 +185,23 @@ fn sums<T: Lane>(array: &mut Array<T, 2>, rounds: u32) -> T
     let Ok(window) = Window::new(&array.shape(), position(FIRST, FIRST), size, ones) else {
         return number;
     };
-    for _ in 0..rounds {
-        number = sum_of(array, window, number);
+    for _ in 0..asked.rounds {
+        number = match asked.kind {
+            Kind::Sum => summed(array, window, number),
+            _ => sum_of(array, window, number),
+        };
+    }
+    number
+}
+
+#[inline(never)]
+fn summed<T: Lane>(array: &mut Array<T, 2>, window: Window, number: T) -> T
+    requires lies { LiesIn square window }
+    requires square { shape array.old ≡ square }
+    ensures { shape array.new ≡ square }
+{
+    if View::bind(array, window).sum() > 0 {
+        return number.add(T::from_word(1));
     }
     number
 }

@@ -8,6 +8,8 @@ pub(crate) enum Kind {
     Add,
     /// The values of the window that an iterator gives, in its own order.
     Elems,
+    /// Their sum.
+    Sum,
 }
 
 /// In which order positions come.
@@ -59,6 +61,7 @@ fn kind_in(word: &str) -> Option<Kind> {
         "set" => Some(Kind::Set),
         "add" => Some(Kind::Add),
         "elems" => Some(Kind::Elems),
+        "sum" => Some(Kind::Sum),
         _ => None,
     }
 }

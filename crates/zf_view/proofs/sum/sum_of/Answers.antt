@@ -3,6 +3,7 @@ use Rattle.std.specs.Int.{w128}
 use Rattle.std.proofs.lemmas.Int.{ints}
 use Rattle.zf_spec.specs.Grid.{product}
 use Rattle.zf_base.specs.Positions.{IsPosition}
+use Rattle.zf_window.specs.Positions.{Walking, raster_at}
 use Rattle.zf_window.proofs.Raster.{product_window, raster_at-inside}
 use Rattle.zf_view.specs.Sums.{touched_to, sum_found}
 use Rattle.zf_view.proofs.Sums.{IsUpTo, value_up_to, more, more_fits, more_is, touched_more, found_more}
@@ -14,7 +15,7 @@ count-number-end-requires g c =
 
 pub loop-number-init : goal.loop-number-init
 unfolding touched_to sum_found
-loop-number-init g c = record { kept = refl; touched = refl; found = refl; small = (omega (arith, ints), omega (arith, ints)) }
+loop-number-init g c = record { kept = refl; touched = refl; found = refl; small = (omega (arith, ints), omega (arith, ints)); walk = c.new-walk.ensures }
 
 pub value-found-requires : goal.value-found-requires
 value-found-requires g c =
@@ -23,7 +24,7 @@ value-found-requires g c =
     let n = c.loop-number.number in
     let below : n < product w.size = omega (arith, c.count-number-end.ensures.value, c.loop-number-test.true) in
     let inside = raster_at-inside (g.A.Reads.shape k) w n c.requires c.count-number-end.ensures.axes below in
-    subst (λ j. IsPosition (g.A.Reads.shape j) c.raster_at.result) (sym c.loop-number.invariant.kept) (subst (IsPosition (g.A.Reads.shape k)) (sym c.raster_at.ensures) inside)
+    subst (λ j. IsPosition (g.A.Reads.shape j) c.step.result) (sym c.loop-number.invariant.kept) (subst (IsPosition (g.A.Reads.shape k)) (sym (c.step.ensures.position ∙ ap (λ (x : Walking). raster_at x.window x.next) c.loop-number.invariant.walk)) inside)
 
 pub overflow_add-sum : goal.overflow_add-sum
 overflow_add-sum g c =
@@ -47,10 +48,11 @@ loop-number-preserved g c =
     omega (arith, product_window (g.A.Reads.shape k) w c.requires, ap product c.sizes.ensures, c.values-values.ensures.value, c.values-values.ensures.bound, c.count-number-end.ensures.value, c.loop-number-test.true) in
     let one = subst (IsUpTo (2 ^ 63)) (sym c.to_wide-sum.ensures.value) (value_up_to g.T.Lane.width g.met.T.Lane.two_widths v (g.met.T.Lane.in_range_fits v) c.to_wide-sum.ensures.operand) in
     let is = more_is c.loop-number.sum-bits x n few inv.small one in
-    let at = c.raster_at.ensures in
+    let at = c.step.ensures.position ∙ ap (λ (x : Walking). raster_at x.window x.next) inv.walk in
     record {
       kept = told.kept ∙ inv.kept;
-      touched = touched_more g.A.Reads.format g.A.Reads.shape k (g.A.Reads.kept c.loop-number.array) inv.kept (g.A.Reads.state a) (g.A.Reads.state c.loop-number.array) (g.A.Reads.state c.value-found.new.self) w n c.raster_at.result at inv.touched told.state;
-      found = is ∙ found_more g.A.Reads.format g.A.Reads.shape k (g.A.Reads.kept c.loop-number.array) inv.kept (g.A.Reads.state a) (g.A.Reads.state c.loop-number.array) (g.A.Reads.state c.value-found.new.self) w n c.raster_at.result at inv.touched told.state (to_z w128 c.loop-number.sum-bits) x inv.found (c.to_wide-sum.ensures.value ∙ told.value);
+      touched = touched_more g.A.Reads.format g.A.Reads.shape k (g.A.Reads.kept c.loop-number.array) inv.kept (g.A.Reads.state a) (g.A.Reads.state c.loop-number.array) (g.A.Reads.state c.value-found.new.self) w n c.step.result at inv.touched told.state;
+      found = is ∙ found_more g.A.Reads.format g.A.Reads.shape k (g.A.Reads.kept c.loop-number.array) inv.kept (g.A.Reads.state a) (g.A.Reads.state c.loop-number.array) (g.A.Reads.state c.value-found.new.self) w n c.step.result at inv.touched told.state (to_z w128 c.loop-number.sum-bits) x inv.found (c.to_wide-sum.ensures.value ∙ told.value);
       small = subst (IsUpTo (2 ^ 63 * (n + 1))) (sym is) (more c.loop-number.sum-bits x n few inv.small one);
+      walk = c.step.ensures.next ∙ ap (λ (x : Walking). record x { next = x.next + 1 }) inv.walk;
     }

@@ -9,7 +9,8 @@ invariant-loop-number g l =
     let first = g.A.Reads.state l.fn.array in
     record {
       kept : g.A.Reads.kept l.array ≡ k;
-      touched : g.A.Reads.state l.array ≡ touched_to (g.A.Reads.format k) (g.A.Reads.shape k) first l.window l.number;
-      found : l.sum ≡ sum_found (g.A.Reads.format k) (g.A.Reads.shape k) first l.window l.number;
+      touched : g.A.Reads.state l.array ≡ touched_to (g.A.Reads.format k) (g.A.Reads.shape k) first l.fn.window l.number;
+      found : l.sum ≡ sum_found (g.A.Reads.format k) (g.A.Reads.shape k) first l.fn.window l.number;
       small : IsUpTo (2 ^ 63 * l.number) l.sum;
+      walk : l.walk ≡ record { window = l.fn.window; next = l.number };
     }
