@@ -1,6 +1,7 @@
 //! A bit plane in words: a digit for each rank.
 
-ghost use Rattle.std.specs.Prelude.{◌≡◌, ℕ, ◌<◌, List, [], ◌∷◌, length, replicate, slice_index_or, slice_set, refl};
+ghost use Rattle.std.specs.Prelude.{◌≡◌, ℕ, ◌<◌, ◌≤◌, List, [], ◌∷◌, length, replicate, slice_index_or, slice_set, refl};
+ghost use Rattle.zf_bits.proofs.Counts.{one_word, four_words};
 
 /// A plane in words: rank r is bit `r % 64` of word `r / 64`.
 ///
@@ -31,6 +32,10 @@ pub trait Plane: Copy {
         ensures { words self.new ≡ slice_set (words self.old) number word };
 
     ghost long: { (plane : Self) → length (words plane) ≡ word_count };
+
+    ghost some: { 0 < word_count };
+
+    ghost few: { word_count ≤ 4 };
 }
 
 impl Plane for u64 {
@@ -39,6 +44,10 @@ impl Plane for u64 {
     ghost word_count = { 1 };
 
     ghost long = { λ plane. refl };
+
+    ghost some = { one_word.0 };
+
+    ghost few = { one_word.1 };
 
     #[inline]
     fn word_count() -> usize {
@@ -67,6 +76,10 @@ impl Plane for [u64; 4] {
     ghost word_count = { 4 };
 
     ghost long = { λ plane. refl };
+
+    ghost some = { four_words.0 };
+
+    ghost few = { four_words.1 };
 
     #[inline]
     fn word_count() -> usize {

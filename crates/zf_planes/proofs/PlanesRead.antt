@@ -10,7 +10,7 @@ use Rattle.zf_spec.proofs.Fields.{length-field}
 use Rattle.zf_spec.proofs.HeldPlanes.{length-digits_held}
 use Rattle.zf_spec.proofs.Reach.{reach-le}
 use Rattle.zf_bits.specs.Reader.{Reader, rest}
-use Rattle.zf_planes.specs.Decoding.{IsWindow, Takes, Lacks, plane_ahead, plane_bits, planes_ahead, planes_bits, ReadsTop}
+use Rattle.zf_planes.specs.Decoding.{IsWindow, Takes, Lacks, ReadsPlane, plane_ahead, plane_bits, planes_ahead, planes_bits, ReadsTop}
 use Rattle.zf_planes.specs.WordPlanes.{IsReadAs}
 use Rattle.zf_planes.proofs.Passing.{Passes, Passes-start, Passes-part, Passes-end, Passes-lacks, Takes-rest}
 use Rattle.zf_planes.proofs.Peeking.{window_prefix, window_long}
@@ -89,24 +89,23 @@ next_read {now} {new} {left} {after} prec i size above ds some within below long
 
 pub AreRead-more : {A : Type 0} (words : A → List ℕ) {start now new : Reader} {budget left prec size above i : ℕ} (after above' : ℕ) (planes : List A) (plane : A)
     → AreRead start now budget left prec size above i (map words planes) → 1 ≤ size → size ≤ 64 * length (words plane) → i < prec → prec ≤ length planes
-    → Takes now new left after (plane_bits left size above (rest now)) → digits_held size (words plane) ≡ plane_ahead left size above (rest now) → IsClearFrom size (words plane)
-    → above' ≡ max above (reach (digits_held size (words plane)))
+    → ReadsPlane size above now new left after (words plane) above'
     → AreRead start new budget after prec size above' (i + 1) (map words (set planes (length planes - 1 - i) plane))
-AreRead-more words {start} {now} {new} {budget} {left} {prec} {size} {above} {i} after above' planes plane before some enough below fits taken is clear reached =
+AreRead-more words {start} {now} {new} {budget} {left} {prec} {size} {above} {i} after above' planes plane before some enough below fits read =
     let all = map words planes in
     let ds = digits_held size (words plane) in
     let held = planes_held size all in
     let within : i < length all = omega (arith, length-map planes words) in
     let long : length ds ≡ size = length-digits_held size (words plane) enough in
-    let next = rw (← reached) at (next_read prec i size above ds some before.ranks below long is taken) in
+    let next = rw (← read.above) at (next_read prec i size above ds some before.ranks below long read.digits read.taken) in
     let rest_ahead = planes_ahead after (prec - (i + 1)) size above' (rest new) in
     let put = set_words words planes i plane in
     record {
-      passes = Passes-part (planes_bits after (prec - (i + 1)) size above' (rest new)) before.passes next.bits taken;
+      passes = Passes-part (planes_bits after (prec - (i + 1)) size above' (rest new)) before.passes next.bits read.taken;
       digits = before.digits ∙ ap (λ (ps : List (List Bool)). take i held ++ ps) next.digits ∙ one_more words size i planes plane rest_ahead within;
       back = rw put (top_behind size all i (words plane) within before.back);
-      clear = rw put (All-set (IsClearFrom size) all (length all - 1 - i) (words plane) clear before.clear);
-      ranks = omega (arith, reached, reach-le ds, before.ranks, long);
+      clear = rw put (All-set (IsClearFrom size) all (length all - 1 - i) (words plane) read.clear before.clear);
+      ranks = omega (arith, read.above, reach-le ds, before.ranks, long);
       within = omega arith;
     }
 

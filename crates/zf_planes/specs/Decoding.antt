@@ -1,9 +1,9 @@
 -- What the decoder makes of the bits that are left, of which only as many count as the budget has.
-use Rattle.std.specs.Prelude.{ℕ, ◌≡◌, ◌+◌, ◌<◌, ◌≤◌, ◌-◌, min, All, Bool, false, List, ◌++◌, length, take, replicate}
-use Rattle.zf_spec.specs.Planes.{tail, code_from_run, plane_code, code, code_from}
+use Rattle.std.specs.Prelude.{ℕ, ◌≡◌, ◌+◌, ◌<◌, ◌≤◌, ◌-◌, min, max, All, Bool, false, List, ◌++◌, length, take, replicate}
+use Rattle.zf_spec.specs.Planes.{tail, code_from_run, plane_code, code, code_from, reach}
 use Rattle.zf_spec.specs.Kept.{kept_tail, kept_run, kept_plane, kept_planes_from}
 use Rattle.zf_spec.specs.ReadPlanes.{tail_in, run_in, plane_in, planes_in_from, planes_in}
-use Rattle.zf_spec.specs.HeldPlanes.{planes_held, IsClearFrom}
+use Rattle.zf_spec.specs.HeldPlanes.{digits_held, planes_held, IsClearFrom}
 use Rattle.zf_spec.specs.Numbers.{field}
 use Rattle.zf_bits.specs.Reader.{Reader, rest}
 
@@ -58,6 +58,20 @@ pub record Takes (old new : Reader) (before after count : ℕ) : Type 0 where
 pub record Lacks (old new : Reader) (count : ℕ) : Type 0 where
   pub few : length (rest old) < count
   pub all : new.all ≡ old.all
+
+-- the tail of a plane was read behind the digits below rank n, which others have, and so far do the ones of both reach
+pub record ReadsTail (size n : ℕ) (old new : Reader) (left after : ℕ) (prefix words : List ℕ) (above : ℕ) : Type 0 where
+  pub taken : Takes old new left after (tail_bits left (size - n) (rest old))
+  pub digits : digits_held size words ≡ digits_held n prefix ++ tail_ahead left (size - n) (rest old)
+  pub clear : IsClearFrom size words
+  pub above : above ≡ max n (reach (digits_held size words))
+
+-- the code of one plane was read into words, where the ranks below n have had a one above, and so far do its ones and theirs reach
+pub record ReadsPlane (size n : ℕ) (old new : Reader) (left after : ℕ) (words : List ℕ) (above : ℕ) : Type 0 where
+  pub taken : Takes old new left after (plane_bits left size n (rest old))
+  pub digits : digits_held size words ≡ plane_ahead left size n (rest old)
+  pub clear : IsClearFrom size words
+  pub above : above ≡ max n (reach (digits_held size words))
 
 -- the code of the top p planes was read into words, the planes below are zero, and so much of the budget is left
 pub record ReadsTop (budget p size : ℕ) (old new : Reader) (planes : List (List ℕ)) (after : ℕ) : Type 0 where

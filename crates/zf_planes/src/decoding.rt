@@ -8,118 +8,41 @@ ghost use Rattle.zf_spec.specs.HeldPlanes.{digits_held, planes_held, IsClearFrom
 ghost use Rattle.zf_spec.specs.Numbers.{field, word_bits};
 ghost use Rattle.zf_spec.specs.Planes.{reach};
 ghost use Rattle.zf_bits.specs.Reader.{rest, Reads};
-ghost use Rattle.zf_planes.specs.Decoding.{IsWindow, coded, coded_bits, tail_ahead, tail_bits, run_ahead, run_bits, plane_ahead, plane_bits, planes_ahead, planes_bits, Takes, Lacks, ReadsTop};
+ghost use Rattle.zf_planes.specs.Moves.{Moves, LacksPlane, MovesOverPlane};
+ghost use Rattle.zf_planes.specs.Decoding.{coded, coded_bits, tail_ahead, tail_bits, run_ahead, run_bits, planes_bits, Takes, Lacks, ReadsTail, ReadsTop};
 
+use crate::cursor::Cursor;
 use crate::word_reading::{read_in_words, read_same};
 use crate::words::clear;
 use zf_bits::{BitReader, Plane};
 
-/// What is left of a budget, and the bits that come next, as far as they were looked at.
+/// A plane that was read.
 #[derive(Clone, Copy)]
-pub(crate) struct Ahead {
-    /// The bits that are left of the budget.
-    pub(crate) left: u64,
-    /// The next bits, the first one lowest.
-    pub(crate) bits: u64,
-    /// How many of them are in the budget and are there.
-    pub(crate) count: u64,
+pub(crate) struct PlaneRead<P: Plane> {
+    pub(crate) plane: P,
+    /// How far its ones reach, and those above them.
+    pub(crate) above: usize,
 }
 
-/// Looks at the bits that come next.
-#[inline]
-pub(crate) fn look(left: u64, reader: &BitReader<'_>) -> Ahead
-    ensures left { result.left ≡ left }
-    ensures window { IsWindow result.left result.bits result.count (rest reader.now) }
-    ensures most { result.count ≡ min 64 (min left (length (rest reader.now))) }
-{
-    let count = reader.left().min(left).min(64);
-    Ahead {
-        left,
-        bits: reader.peek(),
-        count,
-    }
-}
-
-/// Passes bits that were looked at.
-#[inline]
-pub(crate) fn pass(n: u64, ahead: &mut Ahead, reader: &mut BitReader<'_>)
-    requires some { 0 < n }
-    requires within { n ≤ ahead.old.count }
-    requires window { IsWindow ahead.old.left ahead.old.bits ahead.old.count (rest reader.old) }
-    ensures window { IsWindow ahead.new.left ahead.new.bits ahead.new.count (rest reader.new) }
-    ensures count { ahead.new.count + n ≡ ahead.old.count }
-    ensures taken { Takes reader.old reader.new ahead.old.left ahead.new.left n }
-{
-    reader.skip(n);
-    ahead.left -= n;
-    // In two steps, since all 64 may be passed.
-    ahead.bits = ahead.bits >> (n - 1) >> 1;
-    ahead.count -= n;
-}
-
-/// Sees that the next `n` bits are among those that were looked at. `None` where there are fewer.
-#[inline]
-fn see(n: u64, ahead: &mut Ahead, reader: &BitReader<'_>) -> Option<()>
-    requires in_word { n ≤ 64 }
-    requires in_budget { n ≤ ahead.old.left }
-    requires window { IsWindow ahead.old.left ahead.old.bits ahead.old.count (rest reader.now) }
-    ensures short { IfNone result (length (rest reader.now) < n) }
-    ensures window { IsWindow ahead.new.left ahead.new.bits ahead.new.count (rest reader.now) }
-    ensures left { ahead.new.left ≡ ahead.old.left }
-    ensures there { OnSome result (n ≤ ahead.new.count) }
-{
-    if n <= ahead.count {
-        return Some(());
-    }
-    *ahead = look(ahead.left, reader);
-    if n <= ahead.count { Some(()) } else { None }
-}
-
-/// Reads digits of one word as they are, the first one lowest.
-#[inline]
-pub(crate) fn read_word(n: u64, ahead: &mut Ahead, reader: &mut BitReader<'_>) -> Option<u64>
-    requires some { 0 < n }
-    requires in_word { n ≤ 64 }
-    requires in_budget { n ≤ ahead.old.left }
-    requires window { IsWindow ahead.old.left ahead.old.bits ahead.old.count (rest reader.old) }
-    ensures short { IfNone result (Lacks reader.old reader.new n) }
-    ensures window { OnSome result (IsWindow ahead.new.left ahead.new.bits ahead.new.count (rest reader.new)) }
-    ensures taken { OnSome result (Takes reader.old reader.new ahead.old.left ahead.new.left n) }
-    ensures digits { IfSome result (λ digits. field 64 digits ≡ take n (rest reader.old) ++ replicate (64 - n) false) }
-{
-    see(n, ahead, reader)?;
-    let digits = ahead.bits & u64::MAX >> (64 - n);
-    pass(n, ahead, reader);
-    Some(digits)
-}
-
-/// Reads the first `n` digits as they are, as far as the budget reaches; the others stay zero.
+/// Reads the first `n` digits as they are, as far as the budget reaches; the others are zero.
 #[inline(always)]
-fn read_prefix<P: Plane>(
-    n: usize,
-    plane: &mut P,
-    ahead: &mut Ahead,
-    reader: &mut BitReader<'_>,
-) -> Option<()>
-    requires size { n ≤ 256 }
+fn read_prefix<P: Plane>(n: usize, cursor: &mut Cursor<'_>) -> Option<P>
     requires words { n ≤ 64 * P.word_count }
-    requires blank { P.words plane.old ≡ replicate P.word_count 0 }
-    requires window { IsWindow ahead.old.left ahead.old.bits ahead.old.count (rest reader.old) }
-    ensures short { IfNone result (Lacks reader.old reader.new (min n ahead.old.left)) }
-    ensures window { OnSome result (IsWindow ahead.new.left ahead.new.bits ahead.new.count (rest reader.new)) }
-    ensures taken { OnSome result (Takes reader.old reader.new ahead.old.left ahead.new.left (min n ahead.old.left)) }
-    ensures digits { OnSome result (digits_held n (P.words plane.new) ≡ first_bits n (take ahead.old.left (rest reader.old))) }
-    ensures clear { OnSome result (IsClearFrom n (P.words plane.new)) }
+    ensures short { IfNone result (Lacks cursor.old.reader cursor.new.reader (min n cursor.old.left)) }
+    ensures taken { OnSome result (Moves cursor.old cursor.new (min n cursor.old.left)) }
+    ensures digits { IfSome result (λ plane. digits_held n (P.words plane) ≡ first_bits n (take cursor.old.left (rest cursor.old.reader))) }
+    ensures clear { IfSome result (λ plane. IsClearFrom n (P.words plane)) }
 {
-    let count = ahead.left.min(n as u64);
+    let count = cursor.left.min(n as u64);
+    let mut plane = P::zero();
     let mut at = 0;
     while at < count {
         let more = (count - at).min(64);
-        let digits = read_word(more, ahead, reader)?;
+        let digits = cursor.read_word(more)?;
         plane.set_word((at / 64) as usize, digits);
         at += more;
     }
-    Some(())
+    Some(plane)
 }
 
 /// A run that was read.
@@ -171,30 +94,30 @@ fn read_run(left: u64, most: usize, reader: &mut BitReader<'_>) -> Option<Run>
 
 /// Reads a group bit of one, which was looked at, and its run of at most `most` digits. The answer is how many zeros lead to its one.
 #[inline]
-fn read_group(most: usize, ahead: &mut Ahead, reader: &mut BitReader<'_>) -> Option<usize>
+fn read_group(most: usize, cursor: &mut Cursor<'_>) -> Option<usize>
     requires some { 0 < most }
-    requires there { 0 < ahead.old.count }
-    requires one { ahead.old.bits % 2 ≡ 1 }
-    requires window { IsWindow ahead.old.left ahead.old.bits ahead.old.count (rest reader.old) }
-    ensures short { IfNone result (Lacks reader.old reader.new (tail_bits ahead.old.left most (rest reader.old))) }
-    ensures window { OnSome result (IsWindow ahead.new.left ahead.new.bits ahead.new.count (rest reader.new)) }
+    requires there { 0 < cursor.old.count }
+    requires one { cursor.old.bits % 2 ≡ 1 }
+    ensures short { IfNone result (Lacks cursor.old.reader cursor.new.reader (tail_bits cursor.old.left most (rest cursor.old.reader))) }
     ensures within { IfSome result (λ zeros. zeros < most) }
-    ensures taken { OnSome result (Takes reader.old reader.new ahead.old.left ahead.new.left (ahead.old.left - ahead.new.left)) }
-    ensures bits { IfSome result (λ zeros. tail_bits ahead.old.left most (rest reader.old)
-        ≡ ahead.old.left - ahead.new.left + tail_bits ahead.new.left (most - zeros - 1) (rest reader.new)) }
-    ensures digits { IfSome result (λ zeros. tail_ahead ahead.old.left most (rest reader.old)
-        ≡ replicate zeros false ++ true ∷ tail_ahead ahead.new.left (most - zeros - 1) (rest reader.new)) }
+    ensures taken { OnSome result (Moves cursor.old cursor.new (cursor.old.left - cursor.new.left)) }
+    ensures bits { IfSome result (λ zeros. tail_bits cursor.old.left most (rest cursor.old.reader)
+        ≡ cursor.old.left - cursor.new.left + tail_bits cursor.new.left (most - zeros - 1) (rest cursor.new.reader)) }
+    ensures digits { IfSome result (λ zeros. tail_ahead cursor.old.left most (rest cursor.old.reader)
+        ≡ replicate zeros false ++ true ∷ tail_ahead cursor.new.left (most - zeros - 1) (rest cursor.new.reader)) }
 {
-    let zeros = ((ahead.bits >> 1).trailing_zeros() as usize).min(most - 1);
+    let zeros = ((cursor.bits >> 1).trailing_zeros() as usize).min(most - 1);
     // The one of the last digit has no bit.
     let bits = (zeros + 2).min(most) as u64;
-    if bits <= ahead.count {
-        pass(bits, ahead, reader);
+    if bits <= cursor.count {
+        cursor.pass(bits);
         return Some(zeros);
     }
-    pass(1, ahead, reader);
-    let run = read_run(ahead.left, most, reader)?;
-    *ahead = look(run.left, reader);
+    cursor.pass(1);
+    // By way of a copy, so that only that lies in memory.
+    let mut place = cursor.reader.another();
+    let run = read_run(cursor.left, most, &mut place)?;
+    *cursor = Cursor::new(run.left, place);
     Some(run.zeros)
 }
 
@@ -210,188 +133,117 @@ fn set_one<P: Plane>(rank: usize, plane: &mut P)
     plane.set_word(number, word | 1 << (rank % 64));
 }
 
-/// Reads the tail of a plane from rank `n` on: behind each group bit that is one a run, until a group bit is zero or no rank is left.
+/// Reads the tail of a plane from rank `n` on: behind each group bit that is one a run, until a group bit is zero or no rank is left. The digits below rank
+/// `n` are there.
 #[inline(always)]
 fn read_tail<P: Plane>(
     n: usize,
     size: usize,
-    plane: &mut P,
-    ahead: &mut Ahead,
-    reader: &mut BitReader<'_>,
-) -> Option<usize>
-    requires size { size ≤ 256 }
+    prefix: P,
+    cursor: &mut Cursor<'_>,
+) -> Option<PlaneRead<P>>
     requires words { size ≤ 64 * P.word_count }
     requires in_plane { n ≤ size }
-    requires clear { IsClearFrom n (P.words plane.old) }
-    requires window { IsWindow ahead.old.left ahead.old.bits ahead.old.count (rest reader.old) }
-    ensures short { IfNone result (Lacks reader.old reader.new (tail_bits ahead.old.left (size - n) (rest reader.old))) }
-    ensures window { OnSome result (IsWindow ahead.new.left ahead.new.bits ahead.new.count (rest reader.new)) }
-    ensures taken { OnSome result (Takes reader.old reader.new ahead.old.left ahead.new.left (tail_bits ahead.old.left (size - n) (rest reader.old))) }
-    ensures digits { OnSome result (digits_held size (P.words plane.new)
-        ≡ digits_held n (P.words plane.old) ++ tail_ahead ahead.old.left (size - n) (rest reader.old)) }
-    ensures clear { OnSome result (IsClearFrom size (P.words plane.new)) }
-    ensures above { IfSome result (λ above. above ≡ max n (reach (digits_held size (P.words plane.new)))) }
+    requires clear { IsClearFrom n (P.words prefix) }
+    ensures short { IfNone result (Lacks cursor.old.reader cursor.new.reader (tail_bits cursor.old.left (size - n) (rest cursor.old.reader))) }
+    ensures read { IfSome result (λ read. ReadsTail size n cursor.old.reader cursor.new.reader cursor.old.left cursor.new.left
+        (P.words prefix) (P.words read.plane) read.above) }
 {
     // Values of their own, which a loop holds in registers.
-    let mut digits = *plane;
-    let mut next = *ahead;
+    let mut digits = prefix;
+    let mut next = cursor.another();
     let mut n = n;
     while n < size && next.left > 0 {
-        see(1, &mut next, reader)?;
+        if !next.sees(1) {
+            return None;
+        }
         if next.bits % 2 == 0 {
-            pass(1, &mut next, reader);
+            next.pass(1);
             break;
         }
-        n += read_group(size - n, &mut next, reader)?;
+        n += read_group(size - n, &mut next)?;
         set_one(n, &mut digits);
         n += 1;
     }
-    *plane = digits;
-    *ahead = next;
-    Some(n)
+    *cursor = next;
+    Some(PlaneRead {
+        plane: digits,
+        above: n,
+    })
 }
 
-/// Reads the code of a plane in which the ranks below `n` have had a one above, run by run. The answer is how far the ones of both reach.
+/// Reads the code of a plane in which the ranks below `n` have had a one above, run by run.
 #[inline(always)]
 pub(crate) fn read_by_runs<P: Plane>(
     n: usize,
     size: usize,
-    plane: &mut P,
-    ahead: &mut Ahead,
-    reader: &mut BitReader<'_>,
-) -> Option<usize>
-    requires size { size ≤ 256 }
+    cursor: &mut Cursor<'_>,
+) -> Option<PlaneRead<P>>
     requires words { size ≤ 64 * P.word_count }
     requires in_plane { n ≤ size }
-    requires blank { P.words plane.old ≡ replicate P.word_count 0 }
-    requires window { IsWindow ahead.old.left ahead.old.bits ahead.old.count (rest reader.old) }
-    ensures short { IfNone result (Lacks reader.old reader.new (plane_bits ahead.old.left size n (rest reader.old))) }
-    ensures window { OnSome result (IsWindow ahead.new.left ahead.new.bits ahead.new.count (rest reader.new)) }
-    ensures taken { OnSome result (Takes reader.old reader.new ahead.old.left ahead.new.left (plane_bits ahead.old.left size n (rest reader.old))) }
-    ensures digits { OnSome result (digits_held size (P.words plane.new) ≡ plane_ahead ahead.old.left size n (rest reader.old)) }
-    ensures clear { OnSome result (IsClearFrom size (P.words plane.new)) }
-    ensures above { IfSome result (λ above. above ≡ max n (reach (digits_held size (P.words plane.new)))) }
+    ensures short { IfNone result (LacksPlane size n cursor.old cursor.new) }
+    ensures read { IfSome result (λ read. MovesOverPlane size n cursor.old cursor.new (P.words read.plane) read.above) }
 {
-    read_prefix(n, plane, ahead, reader)?;
+    let prefix = read_prefix::<P>(n, cursor)?;
     // A tail whose runs are all in sight is read with no further look.
-    *ahead = look(ahead.left, reader);
-    read_tail(n, size, plane, ahead, reader)
+    *cursor = Cursor::new(cursor.left, cursor.reader.another());
+    read_tail(n, size, prefix, cursor)
 }
 
-/// Looks again where fewer bits are in sight than are wanted, and there may be more.
-#[inline]
-pub(crate) fn look_on(wanted: u64, ahead: &mut Ahead, reader: &BitReader<'_>)
-    requires window { IsWindow ahead.old.left ahead.old.bits ahead.old.count (rest reader.now) }
-    ensures window { IsWindow ahead.new.left ahead.new.bits ahead.new.count (rest reader.now) }
-    ensures left { ahead.new.left ≡ ahead.old.left }
-{
-    // Where all that is left of the budget is in sight, there is no more to see.
-    if ahead.count < wanted && ahead.count < ahead.left {
-        *ahead = look(ahead.left, reader);
-    }
-}
-
-/// Passes planes of zeros at the top, of which each has one bit.
-#[inline]
-pub(crate) fn pass_zero_planes(prec: u32, ahead: &mut Ahead, reader: &mut BitReader<'_>) -> u64
-    requires window { IsWindow ahead.old.left ahead.old.bits ahead.old.count (rest reader.old) }
-    ensures window { IsWindow ahead.new.left ahead.new.bits ahead.new.count (rest reader.new) }
-    ensures within { result ≤ prec }
-    ensures taken { Takes reader.old reader.new ahead.old.left ahead.new.left result }
-    ensures zeros { rest reader.old ≡ replicate result false ++ rest reader.new }
-{
-    let count = u64::from(ahead.bits.trailing_zeros())
-        .min(ahead.count)
-        .min(u64::from(prec));
-    if count > 0 {
-        pass(count, ahead, reader);
-    }
-    count
-}
-
-/// Reads the code of the top `prec` planes. All are zero before, and the other planes stay so.
+/// Reads the code of the top `prec` planes. All are zero before, and the other planes stay so. The answer is the cursor behind them.
 #[inline(always)]
-fn read_by_planes<P: Plane>(
+fn read_by_planes<'a, P: Plane>(
     budget: u64,
     prec: u32,
     size: usize,
-    reader: &mut BitReader<'_>,
+    reader: &BitReader<'a>,
     planes: &mut [P],
-) -> Option<u64>
+) -> Option<Cursor<'a>>
     requires some { 0 < size }
-    requires size { size ≤ 256 }
     requires words { size ≤ 64 * P.word_count }
     requires planes { prec ≤ length planes.old }
     requires blank { map P.words planes.old ≡ replicate (length planes.old) (replicate P.word_count 0) }
-    ensures short { IfNone result (Lacks reader.old reader.new (planes_bits budget prec size 0 (rest reader.old))) }
-    ensures read { IfSome result (λ left. ReadsTop budget prec size reader.old reader.new (map P.words planes.new) left) }
+    ensures short { IfNone result (length (rest reader.now) < planes_bits budget prec size 0 (rest reader.now)) }
+    ensures read { IfSome result (λ next. ReadsTop budget prec size reader.now next.reader (map P.words planes.new) next.left) }
 {
-    let mut ahead = look(budget, reader);
-    let mut i = pass_zero_planes(prec, &mut ahead, reader) as usize;
+    let mut cursor = Cursor::new(budget, reader.another());
+    let mut i = cursor.pass_zero_planes(prec) as usize;
     let mut above = 0;
-    while i < prec as usize && ahead.left > 0 {
-        look_on(above as u64 + 1, &mut ahead, reader);
-        if above < size && (above as u64) < ahead.count && (ahead.bits >> above) % 2 == 0 {
-            i = read_same(above, size, i, prec as usize, planes, &mut ahead, reader);
+    while i < prec as usize && cursor.left > 0 {
+        cursor.look_on(above as u64 + 1);
+        if above < size && (above as u64) < cursor.count && (cursor.bits >> above) % 2 == 0 {
+            i = read_same(above, size, i, prec as usize, planes, &mut cursor);
         } else {
-            let mut plane = P::zero();
-            above = read_by_runs(above, size, &mut plane, &mut ahead, reader)?;
+            let read = read_by_runs::<P>(above, size, &mut cursor)?;
+            above = read.above;
             let k = planes.len() - 1 - i;
-            planes[k] = plane;
+            planes[k] = read.plane;
             i += 1;
         }
     }
-    Some(ahead.left)
+    Some(cursor)
 }
 
-/// The same by way of a reader of its own, whose place stays in a register.
-#[inline(always)]
-fn read_with_own_reader<P: Plane>(
+/// The same, by words where a plane lies in one: a program of its own for each such size.
+fn read_top<'a, P: Plane>(
     budget: u64,
     prec: u32,
     size: usize,
-    reader: &mut BitReader<'_>,
+    reader: &BitReader<'a>,
     planes: &mut [P],
-) -> Option<u64>
+) -> Option<Cursor<'a>>
     requires some { 0 < size }
-    requires size { size ≤ 256 }
     requires words { size ≤ 64 * P.word_count }
     requires planes { prec ≤ length planes.old }
     requires blank { map P.words planes.old ≡ replicate (length planes.old) (replicate P.word_count 0) }
-    ensures short { IfNone result (Lacks reader.old reader.new (planes_bits budget prec size 0 (rest reader.old))) }
-    ensures read { IfSome result (λ left. ReadsTop budget prec size reader.old reader.new (map P.words planes.new) left) }
-{
-    let mut place = reader.another();
-    let left = if size == 4 || size == 16 || size == 64 {
-        read_in_words(budget, prec, size, &mut place, planes)?
-    } else {
-        read_by_planes(budget, prec, size, &mut place, planes)?
-    };
-    *reader = place;
-    Some(left)
-}
-
-/// The same, of which planes of each size that a word holds have a program of their own.
-fn read_top<P: Plane>(
-    budget: u64,
-    prec: u32,
-    size: usize,
-    reader: &mut BitReader<'_>,
-    planes: &mut [P],
-) -> Option<u64>
-    requires some { 0 < size }
-    requires size { size ≤ 256 }
-    requires words { size ≤ 64 * P.word_count }
-    requires planes { prec ≤ length planes.old }
-    requires blank { map P.words planes.old ≡ replicate (length planes.old) (replicate P.word_count 0) }
-    ensures short { IfNone result (Lacks reader.old reader.new (planes_bits budget prec size 0 (rest reader.old))) }
-    ensures read { IfSome result (λ left. ReadsTop budget prec size reader.old reader.new (map P.words planes.new) left) }
+    ensures short { IfNone result (length (rest reader.now) < planes_bits budget prec size 0 (rest reader.now)) }
+    ensures read { IfSome result (λ next. ReadsTop budget prec size reader.now next.reader (map P.words planes.new) next.left) }
 {
     match size {
-        4 => read_with_own_reader(budget, prec, size, reader, planes),
-        16 => read_with_own_reader(budget, prec, size, reader, planes),
-        64 => read_with_own_reader(budget, prec, size, reader, planes),
-        _ => read_with_own_reader(budget, prec, size, reader, planes),
+        4 => read_in_words(budget, prec, 4, reader, planes),
+        16 => read_in_words(budget, prec, 16, reader, planes),
+        64 => read_in_words(budget, prec, 64, reader, planes),
+        _ => read_by_planes(budget, prec, size, reader, planes),
     }
 }
 
@@ -408,7 +260,6 @@ pub fn read_planes<P: Plane>(
     planes: &mut [P],
 ) -> Option<u64>
     requires some { 0 < size }
-    requires size { size ≤ 256 }
     requires words { size ≤ 64 * P.word_count }
     requires planes { prec ≤ length planes.old }
     requires blank { map P.words planes.old ≡ replicate (length planes.old) (replicate P.word_count 0) }
@@ -424,16 +275,9 @@ pub fn read_planes<P: Plane>(
         ≡ kept_planes budget (coded budget prec size (rest reader.old)) ++ replicate (length planes.new - prec) (replicate size false)) }
     ensures clear { OnSome result (All (IsClearFrom size) (map P.words planes.new)) }
 {
-    let start = reader.at();
-    // Known by this call: the start is within the bits, so that the reader can go back.
-    let _left = reader.left();
-    match read_top(budget, prec, size, reader, planes) {
-        Some(left) => Some(budget - left),
-        None => {
-            reader.seek(start);
-            None
-        }
-    }
+    let next = read_top(budget, prec, size, reader, planes)?;
+    *reader = next.reader;
+    Some(budget - next.left)
 }
 
 /// Reads the code of the top `prec` planes, of which `budget` bits were written, or all of it where it is

@@ -13,7 +13,6 @@ use zf_bits::{BitWriter, Plane};
 /// Appends the digits of the ranks from `from` on and below `to` as they are, as far as `left` bits reach. The answer is the bits that are left.
 fn write_digits<P: Plane>(left: u64, from: usize, to: usize, plane: &P, out: &mut BitWriter) -> u64
     requires order { from ≤ to }
-    requires size { to ≤ 256 }
     requires words { to ≤ 64 * P.word_count }
     requires fits { min left (to - from) ≤ out.old.room }
     ensures bits { Appends out.old out.new (take left (drop from (digits_held to (P.words plane.now)))) }
@@ -54,7 +53,6 @@ fn write_tail<P: Plane>(
     plane: &P,
     out: &mut BitWriter,
 ) -> u64
-    requires size { size ≤ 256 }
     requires words { size ≤ 64 * P.word_count }
     requires in_plane { from ≤ size }
     requires end { end ≡ reach (digits_held size (P.words plane.now)) }
@@ -94,7 +92,6 @@ fn write_plane<P: Plane>(
     plane: &P,
     out: &mut BitWriter,
 ) -> u64
-    requires size { size ≤ 256 }
     requires words { size ≤ 64 * P.word_count }
     requires in_plane { n ≤ size }
     requires end { end ≡ reach (digits_held size (P.words plane.now)) }
@@ -120,7 +117,6 @@ fn write_sized<P: Plane>(
     requires in_word { zeros ≤ 64 }
     requires some { (zeros ≡ 0) ⊎ (0 < size) }
     requires zeros { take zeros (planes_held size (map P.words planes.now)) ≡ replicate zeros (replicate size false) }
-    requires size { size ≤ 256 }
     requires words { size ≤ 64 * P.word_count }
     requires planes { prec ≤ length planes.now }
     requires fits { min budget (size * prec + size) ≤ out.old.room }
@@ -159,7 +155,6 @@ pub fn write_planes_below<P: Plane>(
     planes: &[P],
     out: &mut BitWriter,
 ) -> u64
-    requires size { size ≤ 256 }
     requires words { size ≤ 64 * P.word_count }
     requires planes { prec ≤ length planes.now }
     requires fits { min budget (size * prec + size) ≤ out.old.room }

@@ -14,6 +14,7 @@ pub(crate) struct PlanesCode {
     pub(crate) part: Part,
     /// How far the ones of the planes reach, and of those above them.
     pub(crate) above: usize,
+    ghost within: { above ≤ 4 },
 }
 
 /// The code of a plane of four digits in which the ranks below `n` have had a one above.
@@ -25,7 +26,6 @@ pub(crate) fn code_of_4(n: usize, digits: u64) -> PlanesCode
     ensures small { result.part.bits < 2 ^ result.part.len }
     ensures len { result.part.len ≤ 7 }
     ensures above { result.above ≡ max n (reach (field 4 digits)) }
-    ensures within { result.above ≤ 4 }
 {
     // Without the code of a plane of zeros behind it: a digit for each rank that has had a one, and a group bit where ranks are left.
     let entry = entry_of_pair(n, digits);

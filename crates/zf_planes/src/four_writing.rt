@@ -112,7 +112,6 @@ fn code_of_two(n: usize, string: u64) -> PlanesCode
     ensures small { result.part.bits < 2 ^ result.part.len }
     ensures len { result.part.len ≤ 14 }
     ensures above { result.above ≡ max (max n (reach (field 4 (string % 16)))) (reach (field 4 (string / 16 % 16))) }
-    ensures within { result.above ≤ 4 }
 {
     let entry = entry_of_pair(n, string % 256);
     PlanesCode {
@@ -131,7 +130,6 @@ fn next_pairs(left: u64, above: usize, planes: &mut u32, string: &mut u64) -> Pl
     requires above { above ≤ 4 }
     ensures no_more { planes.new ≤ planes.old }
     ensures len { result.part.len ≤ 64 }
-    ensures within { result.above ≤ 4 }
     ensures bits { code_from above (string_planes planes.old string.old) ≡ field result.part.len result.part.bits ++ code_from result.above (string_planes planes.new string.new) }
     ensures reached { max above (reach_of_all (string_planes planes.old string.old)) ≡ max result.above (reach_of_all (string_planes planes.new string.new)) }
 {

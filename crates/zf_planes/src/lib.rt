@@ -1,6 +1,7 @@
 //! The embedded code of bit planes.
 #![tactic(auto)]
 
+mod cursor;
 mod decoding;
 mod doubled_table;
 mod doubling;
@@ -9,6 +10,7 @@ mod ends_table;
 mod four;
 mod four_reading;
 mod four_writing;
+mod in_lanes;
 mod lanes_table;
 mod measuring;
 mod pairs_table;

@@ -10,7 +10,6 @@ use zf_bits::Plane;
 
 /// The length of the code of a plane in which the ranks below `n` have had a one above, and whose own ones end before rank `end`.
 fn plane_len<P: Plane>(n: usize, size: usize, end: usize, plane: &P) -> usize
-    requires size { size ≤ 256 }
     requires words { size ≤ 64 * P.word_count }
     requires in_plane { n ≤ size }
     requires end { end ≡ reach (digits_held size (P.words plane.now)) }
@@ -31,7 +30,6 @@ fn plane_len<P: Plane>(n: usize, size: usize, end: usize, plane: &P) -> usize
 ///
 /// `planes[k]` holds digit k of each coefficient by rank, and bits from rank `size` on are not looked at.
 pub fn planes_len<P: Plane>(prec: u32, size: usize, planes: &[P]) -> u64
-    requires size { size ≤ 256 }
     requires words { size ≤ 64 * P.word_count }
     requires planes { prec ≤ length planes.now }
     ensures count { result ≡ length (code (take prec (planes_held size (map P.words planes.now)))) }
@@ -66,7 +64,6 @@ pub fn code_len(prec: u32, size: usize, planes: &[[u64; 4]]) -> u64
 ///
 /// `planes[k]` holds digit k of each coefficient by rank, and bits from rank `size` on are not looked at.
 pub fn planes_within<P: Plane>(budget: u64, size: usize, planes: &[P]) -> u32
-    requires size { size ≤ 256 }
     requires words { size ≤ 64 * P.word_count }
     requires planes { length planes.now ≤ 64 }
     ensures most { result ≤ length planes.now }

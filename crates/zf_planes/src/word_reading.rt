@@ -8,40 +8,37 @@ ghost use Rattle.zf_spec.specs.HeldPlanes.{digits_held, planes_held, IsClearFrom
 ghost use Rattle.zf_spec.specs.Planes.{reach};
 ghost use Rattle.zf_planes.specs.WordPlanes.{IsReadAs};
 ghost use Rattle.zf_bits.specs.Reader.{rest};
-ghost use Rattle.zf_planes.specs.Decoding.{IsWindow, plane_ahead, plane_bits, planes_ahead, planes_bits, Takes, Lacks, ReadsTop};
+ghost use Rattle.zf_planes.specs.Moves.{Moves, LacksPlane, MovesOverPlane};
+ghost use Rattle.zf_planes.specs.Decoding.{plane_ahead, plane_bits, planes_ahead, planes_bits, Takes, Lacks, ReadsTop};
 
-use crate::decoding::{Ahead, look, look_on, pass, pass_zero_planes, read_by_runs};
+use crate::cursor::Cursor;
+use crate::decoding::{PlaneRead, read_by_runs};
 use crate::tails::{PlaneOfWord, plane_of_all, plane_with, plane_without};
 use zf_bits::{BitReader, Plane};
 
-/// Passes the code of a plane that is known, and puts its digits in. The answer is how far its ones and those above reach.
+/// Passes the code of a plane that is known.
 #[inline(always)]
-fn put_plane<P: Plane>(
+fn take_plane<P: Plane>(
     n: usize,
     size: usize,
     next: PlaneOfWord,
-    plane: &mut P,
-    ahead: &mut Ahead,
-    reader: &mut BitReader<'_>,
-) -> usize
+    cursor: &mut Cursor<'_>,
+) -> PlaneRead<P>
     requires ranks { 0 < size }
     requires size { size ≤ 64 }
-    requires words { size ≤ 64 * P.word_count }
     requires in_plane { n ≤ size }
-    requires blank { P.words plane.old ≡ replicate P.word_count 0 }
-    requires window { IsWindow ahead.old.left ahead.old.bits ahead.old.count (rest reader.old) }
-    requires read { IsReadAs n size ahead.old.bits next.digits next.len next.above }
+    requires read { IsReadAs n size cursor.old.bits next.digits next.len next.above }
     requires some { 0 < next.len }
-    requires there { next.len ≤ ahead.old.count }
-    ensures window { IsWindow ahead.new.left ahead.new.bits ahead.new.count (rest reader.new) }
-    ensures taken { Takes reader.old reader.new ahead.old.left ahead.new.left (plane_bits ahead.old.left size n (rest reader.old)) }
-    ensures digits { digits_held size (P.words plane.new) ≡ plane_ahead ahead.old.left size n (rest reader.old) }
-    ensures clear { IsClearFrom size (P.words plane.new) }
-    ensures above { result ≡ max n (reach (digits_held size (P.words plane.new))) }
+    requires there { next.len ≤ cursor.old.count }
+    ensures read { MovesOverPlane size n cursor.old cursor.new (P.words result.plane) result.above }
 {
+    let mut plane = P::zero();
     plane.set_word(0, next.digits);
-    pass(next.len, ahead, reader);
-    next.above
+    cursor.pass(next.len);
+    PlaneRead {
+        plane,
+        above: next.above,
+    }
 }
 
 /// Reads planes that have no one at ranks which have had none above, as many as are in sight, from the one of number `from` on and before that of number
@@ -53,33 +50,30 @@ pub(crate) fn read_same<P: Plane>(
     from: usize,
     to: usize,
     planes: &mut [P],
-    ahead: &mut Ahead,
-    reader: &mut BitReader<'_>,
+    cursor: &mut Cursor<'_>,
 ) -> usize
     requires in_plane { n < size }
     requires words { size ≤ 64 * P.word_count }
     requires some { from < to }
-    requires there { n < ahead.old.count }
-    requires none { ahead.old.bits / 2 ^ n % 2 ≡ 0 }
+    requires there { n < cursor.old.count }
+    requires none { cursor.old.bits / 2 ^ n % 2 ≡ 0 }
     requires planes { to ≤ length planes.old }
     requires behind { drop from (planes_held size (map P.words planes.old)) ≡ replicate (length (map P.words planes.old) - from) (replicate size false) }
     requires clear { All (IsClearFrom size) (map P.words planes.old) }
-    requires window { IsWindow ahead.old.left ahead.old.bits ahead.old.count (rest reader.old) }
     ensures some { from < result }
     ensures within { result ≤ to }
-    ensures window { IsWindow ahead.new.left ahead.new.bits ahead.new.count (rest reader.new) }
-    ensures taken { Takes reader.old reader.new ahead.old.left ahead.new.left (ahead.old.left - ahead.new.left) }
-    ensures bits { planes_bits ahead.old.left (to - from) size n (rest reader.old)
-        ≡ ahead.old.left - ahead.new.left + planes_bits ahead.new.left (to - result) size n (rest reader.new) }
-    ensures digits { take from (planes_held size (map P.words planes.old)) ++ planes_ahead ahead.old.left (to - from) size n (rest reader.old)
-        ≡ take result (planes_held size (map P.words planes.new)) ++ planes_ahead ahead.new.left (to - result) size n (rest reader.new) }
+    ensures taken { Moves cursor.old cursor.new (cursor.old.left - cursor.new.left) }
+    ensures bits { planes_bits cursor.old.left (to - from) size n (rest cursor.old.reader)
+        ≡ cursor.old.left - cursor.new.left + planes_bits cursor.new.left (to - result) size n (rest cursor.new.reader) }
+    ensures digits { take from (planes_held size (map P.words planes.old)) ++ planes_ahead cursor.old.left (to - from) size n (rest cursor.old.reader)
+        ≡ take result (planes_held size (map P.words planes.new)) ++ planes_ahead cursor.new.left (to - result) size n (rest cursor.new.reader) }
     ensures behind { drop result (planes_held size (map P.words planes.new)) ≡ replicate (length (map P.words planes.new) - result) (replicate size false) }
     ensures clear { All (IsClearFrom size) (map P.words planes.new) }
     ensures long { length planes.new ≡ length planes.old }
 {
     // Values of their own, which the loop holds in registers.
-    let mut bits = ahead.bits;
-    let mut count = ahead.count;
+    let mut bits = cursor.bits;
+    let mut count = cursor.count;
     let mut i = from;
     while i < to && (n as u64) < count && (bits >> n) % 2 == 0 {
         let same = plane_without(n, size, bits);
@@ -91,115 +85,85 @@ pub(crate) fn read_same<P: Plane>(
         count -= same.len;
         i += 1;
     }
-    let passed = ahead.count - count;
-    reader.skip(passed);
-    *ahead = Ahead {
-        left: ahead.left - passed,
-        bits,
-        count,
-    };
+    let passed = cursor.count - count;
+    cursor.reader.skip(passed);
+    cursor.left -= passed;
+    cursor.bits = bits;
+    cursor.count = count;
     i
 }
 
-/// Reads a plane that is not seen to be such. The answer is how far its ones and those above reach.
+/// Reads a plane that is not seen to be such.
 #[inline(always)]
-fn read_more<P: Plane>(
-    n: usize,
-    size: usize,
-    plane: &mut P,
-    ahead: &mut Ahead,
-    reader: &mut BitReader<'_>,
-) -> Option<usize>
+fn read_more<P: Plane>(n: usize, size: usize, cursor: &mut Cursor<'_>) -> Option<PlaneRead<P>>
     requires in_plane { n < size }
     requires size { size ≤ 64 }
-    requires words { size ≤ 64 * P.word_count }
-    requires more { n < ahead.old.count → ahead.old.bits / 2 ^ n % 2 ≡ 1 }
-    requires blank { P.words plane.old ≡ replicate P.word_count 0 }
-    requires window { IsWindow ahead.old.left ahead.old.bits ahead.old.count (rest reader.old) }
-    ensures short { IfNone result (Lacks reader.old reader.new (plane_bits ahead.old.left size n (rest reader.old))) }
-    ensures window { OnSome result (IsWindow ahead.new.left ahead.new.bits ahead.new.count (rest reader.new)) }
-    ensures taken { OnSome result (Takes reader.old reader.new ahead.old.left ahead.new.left (plane_bits ahead.old.left size n (rest reader.old))) }
-    ensures digits { OnSome result (digits_held size (P.words plane.new) ≡ plane_ahead ahead.old.left size n (rest reader.old)) }
-    ensures clear { OnSome result (IsClearFrom size (P.words plane.new)) }
-    ensures above { IfSome result (λ above. above ≡ max n (reach (digits_held size (P.words plane.new)))) }
+    requires more { n < cursor.old.count → cursor.old.bits / 2 ^ n % 2 ≡ 1 }
+    ensures short { IfNone result (LacksPlane size n cursor.old cursor.new) }
+    ensures read { IfSome result (λ read. MovesOverPlane size n cursor.old cursor.new (P.words read.plane) read.above) }
 {
-    let more = plane_with(n, size, ahead.bits);
-    if more.len <= ahead.count {
-        return Some(put_plane(n, size, more, plane, ahead, reader));
+    let more = plane_with(n, size, cursor.bits);
+    if more.len <= cursor.count {
+        return Some(take_plane(n, size, more, cursor));
     }
-    read_by_runs(n, size, plane, ahead, reader)
+    read_by_runs(n, size, cursor)
 }
 
 /// Reads a plane in which all ranks have had a one above.
 #[inline(always)]
-fn read_last<P: Plane>(
-    size: usize,
-    plane: &mut P,
-    ahead: &mut Ahead,
-    reader: &mut BitReader<'_>,
-) -> Option<()>
+fn read_last<P: Plane>(size: usize, cursor: &mut Cursor<'_>) -> Option<PlaneRead<P>>
     requires some { 0 < size }
     requires small { size ≤ 64 }
-    requires words { size ≤ 64 * P.word_count }
-    requires blank { P.words plane.old ≡ replicate P.word_count 0 }
-    requires window { IsWindow ahead.old.left ahead.old.bits ahead.old.count (rest reader.old) }
-    ensures short { IfNone result (Lacks reader.old reader.new (plane_bits ahead.old.left size size (rest reader.old))) }
-    ensures window { OnSome result (IsWindow ahead.new.left ahead.new.bits ahead.new.count (rest reader.new)) }
-    ensures taken { OnSome result (Takes reader.old reader.new ahead.old.left ahead.new.left (plane_bits ahead.old.left size size (rest reader.old))) }
-    ensures digits { OnSome result (digits_held size (P.words plane.new) ≡ plane_ahead ahead.old.left size size (rest reader.old)) }
-    ensures clear { OnSome result (IsClearFrom size (P.words plane.new)) }
+    ensures short { IfNone result (LacksPlane size size cursor.old cursor.new) }
+    ensures read { IfSome result (λ read. MovesOverPlane size size cursor.old cursor.new (P.words read.plane) read.above) }
 {
-    look_on(size as u64, ahead, reader);
-    let all = plane_of_all(size, ahead.bits);
-    if all.len <= ahead.count {
-        put_plane(size, size, all, plane, ahead, reader);
-        return Some(());
+    cursor.look_on(size as u64);
+    let all = plane_of_all(size, cursor.bits);
+    if all.len <= cursor.count {
+        return Some(take_plane(size, size, all, cursor));
     }
     // The last plane of a budget may have fewer bits.
-    read_by_runs(size, size, plane, ahead, reader)?;
-    Some(())
+    read_by_runs(size, size, cursor)
 }
 
-/// Reads the code of the top `prec` planes. All are zero before, and the other planes stay so.
+/// Reads the code of the top `prec` planes. All are zero before, and the other planes stay so. The answer is the cursor behind them.
 #[inline(always)]
-pub(crate) fn read_in_words<P: Plane>(
+pub(crate) fn read_in_words<'a, P: Plane>(
     budget: u64,
     prec: u32,
     size: usize,
-    reader: &mut BitReader<'_>,
+    reader: &BitReader<'a>,
     planes: &mut [P],
-) -> Option<u64>
+) -> Option<Cursor<'a>>
     requires some { 0 < size }
     requires small { size ≤ 64 }
-    requires words { size ≤ 64 * P.word_count }
     requires planes { prec ≤ length planes.old }
     requires blank { map P.words planes.old ≡ replicate (length planes.old) (replicate P.word_count 0) }
-    ensures short { IfNone result (Lacks reader.old reader.new (planes_bits budget prec size 0 (rest reader.old))) }
-    ensures read { IfSome result (λ left. ReadsTop budget prec size reader.old reader.new (map P.words planes.new) left) }
+    ensures short { IfNone result (length (rest reader.now) < planes_bits budget prec size 0 (rest reader.now)) }
+    ensures read { IfSome result (λ next. ReadsTop budget prec size reader.now next.reader (map P.words planes.new) next.left) }
 {
-    let mut ahead = look(budget, reader);
-    let mut i = pass_zero_planes(prec, &mut ahead, reader) as usize;
+    let mut cursor = Cursor::new(budget, reader.another());
+    let mut i = cursor.pass_zero_planes(prec) as usize;
     let mut above = 0;
-    while i < prec as usize && ahead.left > 0 && above < size {
+    while i < prec as usize && cursor.left > 0 && above < size {
         // The first digits of a plane, and as many bits behind them as most tails have.
-        look_on(above as u64 + 17, &mut ahead, reader);
-        if (above as u64) < ahead.count && (ahead.bits >> above) % 2 == 0 {
-            i = read_same(above, size, i, prec as usize, planes, &mut ahead, reader);
+        cursor.look_on(above as u64 + 17);
+        if (above as u64) < cursor.count && (cursor.bits >> above) % 2 == 0 {
+            i = read_same(above, size, i, prec as usize, planes, &mut cursor);
         } else {
-            let mut plane = P::zero();
-            above = read_more(above, size, &mut plane, &mut ahead, reader)?;
+            let read = read_more::<P>(above, size, &mut cursor)?;
+            above = read.above;
             let k = planes.len() - 1 - i;
-            planes[k] = plane;
+            planes[k] = read.plane;
             i += 1;
         }
     }
     // Where planes are left, all ranks have had a one.
-    while i < prec as usize && ahead.left > 0 {
-        let mut plane = P::zero();
-        read_last(size, &mut plane, &mut ahead, reader)?;
+    while i < prec as usize && cursor.left > 0 {
+        let read = read_last::<P>(size, &mut cursor)?;
         let k = planes.len() - 1 - i;
-        planes[k] = plane;
+        planes[k] = read.plane;
         i += 1;
     }
-    Some(ahead.left)
+    Some(cursor)
 }

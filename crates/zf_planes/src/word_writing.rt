@@ -59,7 +59,6 @@ struct Begun {
 fn lone_planes<P: Plane>(from: usize, prec: u32, size: usize, planes: &[P]) -> Begun
     requires some { 1 < size }
     requires size { size ≤ 64 }
-    requires words { size ≤ 64 * P.word_count }
     requires planes { prec ≤ length planes.now }
     requires from { from ≤ prec }
     ensures code { code_from 0 (drop from (take prec (planes_held size (map P.words planes.now))))
@@ -108,7 +107,6 @@ pub(crate) fn write_planes_of_word<P: Plane>(
 ) -> u64
     requires some { 1 < size }
     requires size { size ≤ 64 }
-    requires words { size ≤ 64 * P.word_count }
     requires planes { prec ≤ length planes.now }
     requires from { from ≤ prec }
     requires fits { min left (length (code_from 0 (drop from (take prec (planes_held size (map P.words planes.now)))))) ≤ out.old.room }

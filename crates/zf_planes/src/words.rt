@@ -12,7 +12,6 @@ use zf_bits::Plane;
 pub(crate) fn first_word<P: Plane>(plane: &P, size: usize) -> u64
     requires some { 0 < size }
     requires size { size ≤ 64 }
-    requires words { size ≤ 64 * P.word_count }
     ensures digits { field size result ≡ digits_held size (P.words plane.now) }
     ensures small { result < 2 ^ size }
 {
@@ -22,7 +21,6 @@ pub(crate) fn first_word<P: Plane>(plane: &P, size: usize) -> u64
 /// How many zeros follow from rank `n` on before the next one.
 #[inline]
 pub(crate) fn zeros_from<P: Plane>(plane: &P, n: usize, size: usize) -> usize
-    requires size { size ≤ 256 }
     requires words { size ≤ 64 * P.word_count }
     requires one { IsTrue (has_one (drop n (digits_held size (P.words plane.now)))) }
     ensures bound { n + result < size }
@@ -43,7 +41,6 @@ pub(crate) fn zeros_from<P: Plane>(plane: &P, n: usize, size: usize) -> usize
 /// One more than the greatest rank that has a one, or 0.
 #[inline]
 pub(crate) fn reach_in<P: Plane>(plane: &P, size: usize) -> usize
-    requires size { size ≤ 256 }
     requires words { size ≤ 64 * P.word_count }
     ensures value { result ≡ reach (digits_held size (P.words plane.now)) }
     ensures bound { result ≤ size }
@@ -64,7 +61,6 @@ pub(crate) fn reach_in<P: Plane>(plane: &P, size: usize) -> usize
 /// How many of the ranks from `n` on have a one.
 #[inline]
 pub(crate) fn ones_from<P: Plane>(plane: &P, n: usize, size: usize) -> usize
-    requires size { size ≤ 256 }
     requires words { size ≤ 64 * P.word_count }
     requires in_plane { n ≤ size }
     ensures { result ≡ count_by (λ digit. digit) (drop n (digits_held size (P.words plane.now))) }

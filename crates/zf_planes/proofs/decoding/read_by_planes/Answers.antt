@@ -7,39 +7,34 @@ use Rattle.zf_planes.proofs.decoding.read_by_planes.Goals as goal
 pub loop-i-init : goal.loop-i-init
 loop-i-init g c =
     let n = length c.args.planes.now in
-    let taken = rw c.look-ahead.ensures.left at c.pass_zero_planes-i.ensures.taken in
+    let zeros = c.pass_zero_planes-i.ensures in
+    let taken = rw (c.new-cursor.ensures.left, c.new-cursor.ensures.reader) at zeros.taken in
     record {
-      window = c.pass_zero_planes-i.ensures.window;
-      read = AreRead-start c.args.prec c.args.size n g.P.Plane.word_count _ c.requires.some c.requires.words c.requires.blank c.requires.planes c.pass_zero_planes-i.ensures.within taken c.pass_zero_planes-i.ensures.zeros;
+      read = AreRead-start c.args.prec c.args.size n g.P.Plane.word_count _ c.requires.some c.requires.words c.requires.blank c.requires.planes zeros.within taken (rw c.new-cursor.ensures.reader at zeros.zeros);
       long = omega arith;
     }
 
-pub read_by_runs-requires-clause-in_plane : goal.read_by_runs-requires-clause-in_plane
-read_by_runs-requires-clause-in_plane g c = c.loop-i.invariant.read.ranks
+pub read_by_runs-read-requires-clause-in_plane : goal.read_by_runs-read-requires-clause-in_plane
+read_by_runs-read-requires-clause-in_plane g c = c.loop-i.invariant.read.ranks
 
-pub read_by_runs-requires-clause-window : goal.read_by_runs-requires-clause-window
-read_by_runs-requires-clause-window g c = c.look_on.ensures.window
-
-pub returns-in_err-above-clause-short : goal.returns-in_err-above-clause-short
-returns-in_err-above-clause-short g c = if_none _ (AreRead-lacks c.loop-i.invariant.read c.loop-i-test.true (rw c.look_on.ensures.left at c.in_err-above.ensures.short))
+pub returns-in_err-read-clause-short : goal.returns-in_err-read-clause-short
+returns-in_err-read-clause-short g c =
+    if_none _ (AreRead-lacks c.loop-i.invariant.read c.loop-i-test.true (rw (c.look_on.ensures.left, c.look_on.ensures.reader) at c.in_err-read.ensures.short)).few
 
 pub loop-i-preserved : goal.loop-i-preserved
 loop-i-preserved g c =
     let before = c.loop-i.invariant in
-    let ok = c.in_ok-above.ensures in
-    let plane = c.read_by_runs.new.plane in
-    let taken = rw c.look_on.ensures.left at ok.taken in
-    let digits = rw c.look_on.ensures.left at ok.digits in
+    let plane = c.in_ok-read.read.plane in
+    let read = rw (c.look_on.ensures.left, c.look_on.ensures.reader) at c.in_ok-read.ensures.read in
     record {
-      window = ok.window;
-      read = AreRead-more g.P.Plane.words _ _ c.loop-i.planes plane before.read c.requires.some (omega (arith, c.requires.words, g.met.P.Plane.long plane)) c.loop-i-test.true (omega (arith, before.long, c.requires.planes)) taken digits ok.clear ok.above;
+      read = AreRead-more g.P.Plane.words _ _ c.loop-i.planes plane before.read c.requires.some (omega (arith, c.requires.words, g.met.P.Plane.long plane)) c.loop-i-test.true (omega (arith, before.long, c.requires.planes)) read;
       long = length-set c.loop-i.planes _ plane ∙ before.long;
     }
 
 -- ---- no bit or no plane is left
 
-pub returns-else-ahead-gt0-clause-read : goal.returns-else-ahead-gt0-clause-read
-returns-else-ahead-gt0-clause-read g c =
+pub returns-else-cursor-gt0-clause-read : goal.returns-else-cursor-gt0-clause-read
+returns-else-cursor-gt0-clause-read g c =
     let planes = map g.P.Plane.words c.loop-i.planes in
     let enough : c.args.prec ≤ length planes = omega (arith, length-map c.loop-i.planes g.P.Plane.words, c.loop-i.invariant.long, c.requires.planes) in
     AreRead-over planes c.loop-i.invariant.read c.requires.some enough (inl (omega arith))

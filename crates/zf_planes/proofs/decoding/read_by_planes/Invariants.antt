@@ -7,8 +7,7 @@ use Rattle.zf_planes.proofs.decoding.read_by_planes.Given as goal
 
 abbrev pub invariant-loop-i : goal.invariant-loop-i
 invariant-loop-i g l = record {
-  window : IsWindow l.ahead.left l.ahead.bits l.ahead.count (rest l.reader);
-  read : AreRead l.fn.reader l.reader l.fn.budget l.ahead.left l.prec l.size l.above l.i (map g.P.Plane.words l.planes);
+  read : AreRead l.fn.reader l.cursor.reader l.fn.budget l.cursor.left l.prec l.size l.above l.i (map g.P.Plane.words l.planes);
   long : length l.planes ≡ length l.fn.planes;
 }
 

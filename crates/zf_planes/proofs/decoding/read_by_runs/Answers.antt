@@ -2,7 +2,8 @@ use Rattle.std.proofs.Common.{◌≡◌, ℕ, ◌+◌, ◌-◌, ◌≤◌, min, 
 use Rattle.zf_spec.specs.ReadPlanes.{first_bits}
 use Rattle.zf_bits.specs.Reader.{Reader, rest}
 use Rattle.zf_planes.specs.Decoding.{Takes, tail_ahead, tail_bits, plane_ahead, plane_bits}
-use Rattle.zf_planes.proofs.Passing.{Passes-start, Passes-part, Passes-lacks, Takes-rest, Takes-sum, if_none, on_none, on_some}
+use Rattle.zf_planes.proofs.Passing.{Passes-start, Passes-part, Passes-lacks, Takes-rest, Takes-sum, if_none, on_none}
+use Rattle.std.proofs.lemmas.Option.{IfSome_then}
 use Rattle.zf_planes.proofs.PlaneAhead.{plane_ahead-is, plane_bits-is}
 use Rattle.zf_planes.proofs.decoding.read_by_runs.Given.{Over}
 use Rattle.zf_planes.proofs.decoding.read_by_runs.Goals as goal
@@ -20,31 +21,31 @@ first_read {old} {mid} {left} {after} size n within takes =
       digits = rw (Takes-rest takes, spent) (plane_ahead-is left size n (rest old) within);
     }
 
-pub returns-in_err-read_prefix-clause-short : goal.returns-in_err-read_prefix-clause-short
-returns-in_err-read_prefix-clause-short g c =
-    let left = c.args.ahead.now.left in
-    let whole = plane_bits-is left c.args.size c.args.n (rest c.args.reader.now) c.requires.in_plane in
-    if_none _ (Passes-lacks (Passes-start c.args.reader.now left (plane_bits left c.args.size c.args.n (rest c.args.reader.now))) c.in_err-read_prefix.ensures.short (omega (arith, whole)))
+pub returns-in_err-prefix-clause-short : goal.returns-in_err-prefix-clause-short
+returns-in_err-prefix-clause-short g c =
+    let left = c.args.cursor.now.left in
+    let whole = plane_bits-is left c.args.size c.args.n (rest c.args.cursor.now.reader) c.requires.in_plane in
+    if_none _ (Passes-lacks (Passes-start c.args.cursor.now.reader left (plane_bits left c.args.size c.args.n (rest c.args.cursor.now.reader))) c.in_err-prefix.ensures.short (omega (arith, whole)))
 
--- looking again leaves what is left of the budget
-looked : (g : Over) (c : goal.After-read_tail g) → Takes c.args.reader.now c.read_prefix.new.reader c.args.ahead.now.left c.look.result.left (min c.args.n c.args.ahead.now.left)
-looked g c = rw c.look.ensures.left c.in_ok-read_prefix.ensures.taken
+-- looking again leaves the reader and what is left of the budget
+looked : (g : Over) (c : goal.After-read_tail g) → Takes c.args.cursor.now.reader c.new.result.reader c.args.cursor.now.left c.new.result.left (min c.args.n c.args.cursor.now.left)
+looked g c = rw (c.new.ensures.left, c.new.ensures.reader) c.in_ok-prefix.ensures.taken
 
 pub returns-clause-short : goal.returns-clause-short
 returns-clause-short g c =
     let taken = looked g c in
     let read = first_read c.args.size c.args.n c.requires.in_plane taken in
-    let passes = Passes-part _ (Passes-start c.args.reader.now c.args.ahead.now.left _) read.bits taken in
+    let passes = Passes-part _ (Passes-start c.args.cursor.now.reader c.args.cursor.now.left _) read.bits taken in
     on_none c.read_tail.result c.read_tail.ensures.short (λ lacks. Passes-lacks passes lacks (omega arith))
 
-pub returns-clause-taken : goal.returns-clause-taken
-returns-clause-taken g c =
+pub returns-clause-read : goal.returns-clause-read
+returns-clause-read g c =
     let taken = looked g c in
     let read = first_read c.args.size c.args.n c.requires.in_plane taken in
-    on_some c.read_tail.result c.read_tail.ensures.taken (λ takes. Takes-sum _ _ taken read.bits takes)
-
-pub returns-clause-digits : goal.returns-clause-digits
-returns-clause-digits g c =
-    let read = first_read c.args.size c.args.n c.requires.in_plane (looked g c) in
-    on_some c.read_tail.result c.read_tail.ensures.digits
-    (λ same. same ∙ ap (λ (bs : List Bool). bs ++ tail_ahead c.look.result.left (c.args.size - c.args.n) (rest c.read_prefix.new.reader)) c.in_ok-read_prefix.ensures.digits ∙ sym read.digits)
+    let next = c.new.result in
+    IfSome_then c.read_tail.result c.read_tail.ensures.read (λ one tail. record {
+      taken = Takes-sum _ _ taken read.bits tail.taken;
+      digits = tail.digits ∙ ap (λ (bs : List Bool). bs ++ tail_ahead next.left (c.args.size - c.args.n) (rest next.reader)) c.in_ok-prefix.ensures.digits ∙ sym read.digits;
+      clear = tail.clear;
+      above = tail.above;
+    })

@@ -8,23 +8,23 @@ use Rattle.zf_planes.proofs.decoding.read_group.Goals as goal
 
 -- ---- the run lies among the bits that were looked at
 
-in_window : (c : goal.After-pass) → IsGroup c.args.ahead.now.left c.args.most c.min-zeros.result c.min-bits.result (rest c.args.reader.now)
+in_window : (c : goal.After-pass) → IsGroup c.args.cursor.now.left c.args.most c.min-zeros.result c.min-bits.result (rest c.args.cursor.now.reader)
 in_window c =
-    let ahead = c.args.ahead.now in
-    group_ahead (rest c.args.reader.now) ahead.left ahead.bits ahead.count c.args.most c.min-zeros.result c.min-bits.result c.requires.window (omega arith) c.requires.one c.requires.some c.requires.there
+    let ahead = c.args.cursor.now in
+    group_ahead (rest c.args.cursor.now.reader) ahead.left ahead.bits ahead.count c.args.most c.min-zeros.result c.min-bits.result c.args.cursor.now.window (omega arith) c.requires.one c.requires.some c.requires.there
     c.min-zeros.ensures c.min-bits.ensures c.if-bits-ahead.true
 
 pub returns-then-bits-ahead-clause-bits : goal.returns-then-bits-ahead-clause-bits
 returns-then-bits-ahead-clause-bits c =
     let passed = c.pass.ensures.taken in
     let n = c.min-bits.result in
-    let spent : c.pass.new.ahead.left ≡ c.args.ahead.now.left - n = omega (arith, passed.spent) in
+    let spent : c.pass.new.self.left ≡ c.args.cursor.now.left - n = omega (arith, passed.spent) in
     rw (spent, Takes-rest passed) (omega (arith, (in_window c).bits, passed.spent))
 
 pub returns-then-bits-ahead-clause-digits : goal.returns-then-bits-ahead-clause-digits
 returns-then-bits-ahead-clause-digits c =
     let passed = c.pass.ensures.taken in
-    let spent : c.pass.new.ahead.left ≡ c.args.ahead.now.left - c.min-bits.result = omega (arith, passed.spent) in
+    let spent : c.pass.new.self.left ≡ c.args.cursor.now.left - c.min-bits.result = omega (arith, passed.spent) in
     rw (spent, Takes-rest passed) (in_window c).digits
 
 -- ---- it goes on behind them
@@ -40,20 +40,20 @@ behind_group {now} {mid} {left} {after} bits count most window there odd some pa
 
 pub returns-in_err-run-clause-short : goal.returns-in_err-run-clause-short
 returns-in_err-run-clause-short c =
-    let ahead = c.args.ahead.now in
-    let group = behind_group ahead.bits ahead.count c.args.most c.requires.window c.requires.there c.requires.one c.requires.some c.pass-2.ensures.taken in
-    let passes = Passes-part _ (Passes-start c.args.reader.now ahead.left _) group.0 c.pass-2.ensures.taken in
+    let ahead = c.args.cursor.now in
+    let group = behind_group ahead.bits ahead.count c.args.most c.args.cursor.now.window c.requires.there c.requires.one c.requires.some c.pass-2.ensures.taken in
+    let passes = Passes-part _ (Passes-start c.args.cursor.now.reader ahead.left _) group.0 c.pass-2.ensures.taken in
     if_none _ (Passes-lacks passes c.in_err-run.ensures.short (omega arith))
 
 pub returns-clause-bits : goal.returns-clause-bits
 returns-clause-bits c =
-    let ahead = c.args.ahead.now in
-    let group = behind_group ahead.bits ahead.count c.args.most c.requires.window c.requires.there c.requires.one c.requires.some c.pass-2.ensures.taken in
+    let ahead = c.args.cursor.now in
+    let group = behind_group ahead.bits ahead.count c.args.most c.args.cursor.now.window c.requires.there c.requires.one c.requires.some c.pass-2.ensures.taken in
     let run = c.in_ok-run.ensures in
     rw c.look.ensures.left (omega (arith, group.0, run.bits, c.pass-2.ensures.taken.spent, run.taken.spent))
 
 pub returns-clause-digits : goal.returns-clause-digits
 returns-clause-digits c =
-    let ahead = c.args.ahead.now in
-    let group = behind_group ahead.bits ahead.count c.args.most c.requires.window c.requires.there c.requires.one c.requires.some c.pass-2.ensures.taken in
+    let ahead = c.args.cursor.now in
+    let group = behind_group ahead.bits ahead.count c.args.most c.args.cursor.now.window c.requires.there c.requires.one c.requires.some c.pass-2.ensures.taken in
     rw c.look.ensures.left (group.1 ∙ c.in_ok-run.ensures.digits)

@@ -17,35 +17,35 @@ planes_are budget prec size s = refl
 
 -- ---- the bits are there
 
-taken : (g : Over) (c : goal.In-Some g) → Takes c.args.reader.now c.read_top.new.reader c.args.budget c.in-Some.left (coded_bits c.args.budget c.args.prec c.args.size (rest c.args.reader.now))
+taken : (g : Over) (c : goal.In_ok-next g) → Takes c.args.reader.now c.in_ok-next.next.reader c.args.budget c.in_ok-next.next.left (coded_bits c.args.budget c.args.prec c.args.size (rest c.args.reader.now))
 taken g c =
-    let P : ℕ → Type 0 = λ n. Takes c.args.reader.now c.read_top.new.reader c.args.budget c.in-Some.left n in
-    subst P (bits_are c.args.budget c.args.prec c.args.size (rest c.args.reader.now)) c.in-Some.ensures.read.taken
+    let P : ℕ → Type 0 = λ n. Takes c.args.reader.now c.in_ok-next.next.reader c.args.budget c.in_ok-next.next.left n in
+    subst P (bits_are c.args.budget c.args.prec c.args.size (rest c.args.reader.now)) c.in_ok-next.ensures.read.taken
 
-pub returns-in-Some-clause-short : goal.returns-in-Some-clause-short
-returns-in-Some-clause-short g c =
+pub returns-clause-short : goal.returns-clause-short
+returns-clause-short g c =
     let enough = (taken g c).enough in
     (λ (no : true ≡ false). cc, λ few. absurd (omega arith))
 
-pub returns-in-Some-clause-count : goal.returns-in-Some-clause-count
-returns-in-Some-clause-count g c = omega (arith, (taken g c).spent)
+pub returns-clause-count : goal.returns-clause-count
+returns-clause-count g c = omega (arith, (taken g c).spent)
 
-pub returns-in-Some-clause-reads : goal.returns-in-Some-clause-reads
-returns-in-Some-clause-reads g c =
+pub returns-clause-reads : goal.returns-clause-reads
+returns-clause-reads g c =
     let s = rest c.args.reader.now in
-    let count : coded_bits c.args.budget c.args.prec c.args.size s ≡ c.args.budget - c.in-Some.left = omega (arith, (taken g c).spent) in
-    let P : ℕ → Type 0 = λ n. Reads c.args.reader.now c.read_top.new.reader (take n s) in
+    let count : coded_bits c.args.budget c.args.prec c.args.size s ≡ c.args.budget - c.in_ok-next.next.left = omega (arith, (taken g c).spent) in
+    let P : ℕ → Type 0 = λ n. Reads c.args.reader.now c.in_ok-next.next.reader (take n s) in
     subst P count (Takes-reads (taken g c))
 
-pub returns-in-Some-clause-digits : goal.returns-in-Some-clause-digits
-returns-in-Some-clause-digits g c =
+pub returns-clause-digits : goal.returns-clause-digits
+returns-clause-digits g c =
     let planes = c.read_top.new.planes in
     let zeros = replicate (length planes - c.args.prec) (replicate c.args.size false) in
-    (rw (length-map planes g.P.Plane.words) at c.in-Some.ensures.read.digits) ∙ ap (λ (ps : List (List Bool)). ps ++ zeros) (planes_are c.args.budget c.args.prec c.args.size (rest c.args.reader.now))
+    (rw (length-map planes g.P.Plane.words) at c.in_ok-next.ensures.read.digits) ∙ ap (λ (ps : List (List Bool)). ps ++ zeros) (planes_are c.args.budget c.args.prec c.args.size (rest c.args.reader.now))
 
 -- ---- the bits are not there
 
-pub returns-in-None-clause-short : goal.returns-in-None-clause-short
-returns-in-None-clause-short g c =
-    let few = c.in-None.ensures.short.few in
+pub returns-in_err-next-clause-short : goal.returns-in_err-next-clause-short
+returns-in_err-next-clause-short g c =
+    let few = c.in_err-next.ensures.short in
     (λ no. omega (arith, few, bits_are c.args.budget c.args.prec c.args.size (rest c.args.reader.now)), λ less. refl)

@@ -17,8 +17,7 @@ loop-at-init g c =
     let all : count - 0 ≡ count = omega arith in
     let ws = g.P.Plane.words c.args.plane.now in
     record {
-      window = c.requires.window;
-      passes = rw all (Passes-start c.args.reader.now c.args.ahead.now.left count);
+      passes = rw all (Passes-start c.args.cursor.now.reader c.args.cursor.now.left count);
       place = inl refl;
       within = omega arith;
       digits = digits_held-none ws;
@@ -35,8 +34,8 @@ read_word-requires-clause-window g c = c.loop-at.invariant.window
 
 pub returns-in_err-digits-clause-short : goal.returns-in_err-digits-clause-short
 returns-in_err-digits-clause-short g c =
-    let count : c.min-count.result ≡ min c.args.n c.args.ahead.now.left = omega (arith, c.min-count.ensures) in
-    let P : ℕ → Type 0 = λ n. Lacks c.args.reader.now c.read_word.new.reader n in
+    let count : c.min-count.result ≡ min c.args.n c.args.cursor.now.left = omega (arith, c.min-count.ensures) in
+    let P : ℕ → Type 0 = λ n. Lacks c.args.cursor.now.reader c.read_word.new.self.reader n in
     if_none _ (subst P count (Passes-lacks c.loop-at.invariant.passes c.in_err-digits.ensures.short (omega (arith, c.min-more.ensures))))
 
 -- the next place is the start of a word, or the end
@@ -55,10 +54,10 @@ loop-at-preserved g c =
     let before = c.loop-at.invariant in
     let old = g.P.Plane.words c.loop-at.plane in
     let new = g.P.Plane.words c.set_word.new.self in
-    let s = rest c.args.reader.now in
+    let s = rest c.args.cursor.now.reader in
     let ok = c.in_ok-digits.ensures in
-    let now = rest c.loop-at.reader in
-    let passed : c.args.ahead.now.left - c.loop-at.ahead.left ≡ at = omega (arith, before.passes.sum, before.within) in
+    let now = rest c.loop-at.cursor.reader in
+    let passed : c.args.cursor.now.left - c.loop-at.cursor.left ≡ at = omega (arith, before.passes.sum, before.within) in
     let here : now ≡ drop at s = Passes-rest before.passes ∙ ap (λ k. drop k s) passed in
     let more = take n now in
     let long : length more ≡ n = omega (arith, length-take n now, ok.taken.enough) in
@@ -68,7 +67,6 @@ loop-at-preserved g c =
     let P : ℕ → Type 0 = λ k. IsClearFrom k new in
     let less : count - at ≡ n + (count - (at + n)) = omega (arith, c.min-more.ensures) in
     record {
-      window = ok.window;
       passes = Passes-part (count - (at + n)) before.passes less ok.taken;
       place = next_place at count n c.loop-at-test.true before.place c.min-more.ensures;
       within = omega (arith, c.min-more.ensures, c.loop-at-test.true);
@@ -88,23 +86,23 @@ returns-clause-window g c = c.loop-at.invariant.window
 
 pub returns-clause-taken : goal.returns-clause-taken
 returns-clause-taken g c =
-    let count : c.min-count.result ≡ min c.args.n c.args.ahead.now.left = omega (arith, c.min-count.ensures) in
-    let P : ℕ → Type 0 = λ n. Takes c.args.reader.now c.loop-at.reader c.args.ahead.now.left c.loop-at.ahead.left n in
+    let count : c.min-count.result ≡ min c.args.n c.args.cursor.now.left = omega (arith, c.min-count.ensures) in
+    let P : ℕ → Type 0 = λ n. Takes c.args.cursor.now.reader c.loop-at.cursor.reader c.args.cursor.now.left c.loop-at.cursor.left n in
     subst P count (Passes-end c.loop-at.invariant.passes (omega (arith, c.loop-at-test.false)))
 
 pub returns-clause-digits : goal.returns-clause-digits
 returns-clause-digits g c =
     let n = c.args.n in
     let at = c.loop-at.at in
-    let s = rest c.args.reader.now in
+    let s = rest c.args.cursor.now.reader in
     let ws = g.P.Plane.words c.loop-at.plane in
     let before = c.loop-at.invariant in
-    let all : at ≡ min n c.args.ahead.now.left = omega (arith, c.min-count.ensures, c.loop-at-test.false, before.within) in
-    let there : min n c.args.ahead.now.left ≤ length s = omega (arith, before.passes.enough, before.passes.sum, before.within) in
+    let all : at ≡ min n c.args.cursor.now.left = omega (arith, c.min-count.ensures, c.loop-at-test.false, before.within) in
+    let there : min n c.args.cursor.now.left ≤ length s = omega (arith, before.passes.enough, before.passes.sum, before.within) in
     held_behind at n ws (omega arith) (omega (arith, c.requires.words, g.met.P.Plane.long c.loop-at.plane)) before.clear
     ∙ ap (λ (bs : List Bool). bs ++ replicate (n - at) false) before.digits
     ∙ ap (λ k. take k s ++ replicate (n - k) false) all
-    ∙ sym (prefix_read c.args.ahead.now.left n s there)
+    ∙ sym (prefix_read c.args.cursor.now.left n s there)
 
 pub returns-clause-clear : goal.returns-clause-clear
 returns-clause-clear g c = clear_later c.loop-at.at c.args.n (g.P.Plane.words c.loop-at.plane) (omega (arith, c.loop-at.invariant.within, c.min-count.ensures)) c.loop-at.invariant.clear

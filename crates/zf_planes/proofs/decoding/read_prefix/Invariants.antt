@@ -10,11 +10,10 @@ abbrev pub invariant-loop-at : goal.invariant-loop-at
 invariant-loop-at g l =
     let words = g.P.Plane.words l.plane in
     record {
-      window : IsWindow l.ahead.left l.ahead.bits l.ahead.count (rest l.reader);
-      passes : Passes l.fn.reader l.reader l.fn.ahead.left l.ahead.left (l.count - l.at) l.count;
+      passes : Passes l.fn.cursor.reader l.cursor.reader l.fn.cursor.left l.cursor.left (l.count - l.at) l.count;
       place : (l.at % 64 ≡ 0) ⊎ (l.at ≡ l.count);
       within : l.at ≤ l.count;
-      digits : digits_held l.at words ≡ take l.at (rest l.fn.reader);
+      digits : digits_held l.at words ≡ take l.at (rest l.fn.cursor.reader);
       clear : IsClearFrom l.at words;
     }
 

@@ -11,10 +11,9 @@ abbrev pub invariant-loop-n : goal.invariant-loop-n
 invariant-loop-n g l =
     let words = g.P.Plane.words l.digits in
     record {
-      window : IsWindow l.next.left l.next.bits l.next.count (rest l.reader);
-      passes : Passes l.fn.reader l.reader l.fn.ahead.left l.next.left (tail_bits l.next.left (l.size - l.n) (rest l.reader)) (tail_bits l.fn.ahead.left (l.size - l.fn.n) (rest l.fn.reader));
-      digits : digits_held l.fn.n (g.P.Plane.words l.fn.plane) ++ tail_ahead l.fn.ahead.left (l.size - l.fn.n) (rest l.fn.reader)
-          ≡ digits_held l.n words ++ tail_ahead l.next.left (l.size - l.n) (rest l.reader);
+      passes : Passes l.fn.cursor.reader l.next.reader l.fn.cursor.left l.next.left (tail_bits l.next.left (l.size - l.n) (rest l.next.reader)) (tail_bits l.fn.cursor.left (l.size - l.fn.n) (rest l.fn.cursor.reader));
+      digits : digits_held l.fn.n (g.P.Plane.words l.prefix) ++ tail_ahead l.fn.cursor.left (l.size - l.fn.n) (rest l.fn.cursor.reader)
+          ≡ digits_held l.n words ++ tail_ahead l.next.left (l.size - l.n) (rest l.next.reader);
       clear : IsClearFrom l.n words;
       within : l.n ≤ l.size;
       above : l.n ≡ max l.fn.n (reach (digits_held l.n words));

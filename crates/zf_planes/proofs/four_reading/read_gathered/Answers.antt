@@ -17,14 +17,14 @@ loop-digits-init c =
     let words : List ℕ = 0 ∷ 0 ∷ 0 ∷ 0 ∷ [] in
     let passed = c.pass_zero_planes-zeros in
     let k = passed.result in
-    let after = passed.new.ahead.left in
-    let behind = rest passed.new.reader in
-    let taken = rw c.look-ahead.ensures.left at passed.ensures.taken in
+    let after = passed.new.self.left in
+    let behind = rest passed.new.self.reader in
+    let taken = rw (c.new-cursor.ensures.left, c.new-cursor.ensures.reader) at passed.ensures.taken in
     let spent : after ≡ c.args.budget - k = omega (arith, taken.spent) in
-    let first = rw (← spent) at (zero_planes k c.args.budget c.args.prec 4 (rest c.args.reader.now) behind (omega arith) (omega (arith, taken.spent)) passed.ensures.within passed.ensures.zeros) in
+    let first = rw (← spent) at (zero_planes k c.args.budget c.args.prec 4 (rest c.args.reader.now) behind (omega arith) (omega (arith, taken.spent)) passed.ensures.within (rw c.new-cursor.ensures.reader at passed.ensures.zeros)) in
     let all : k + 0 ≡ k = omega arith in
     let held : gathered words k 0 0 ≡ replicate k zeros = gathered_words words k 0 0 refl ∙ low_planes-zeros k in
-    let before : FoursRead c.args.reader.now passed.new.reader c.args.budget after c.args.prec 0 words k 0 0 =
+    let before : FoursRead c.args.reader.now passed.new.self.reader c.args.budget after c.args.prec 0 words k 0 0 =
     record {
       passes = rw all (Passes-part _ (Passes-start c.args.reader.now c.args.budget _) first.0 taken);
       put = record { four = refl; prefix = four_below k; back = no_lanes_below 0 4 };
@@ -35,10 +35,9 @@ loop-digits-init c =
     } in
     let lone = c.read_lone-lone in
     let most : c.args.prec - k ≡ c.args.prec - (k + 0) = omega arith in
-    let Read : ℕ → Type 0 = λ m. ReadsPlanes m 0 passed.new.reader lone.new.reader after lone.new.ahead.left lone.result.count lone.result.lanes lone.result.len lone.result.above in
+    let Read : ℕ → Type 0 = λ m. ReadsPlanes m 0 passed.new.self.reader lone.new.cursor.reader after lone.new.cursor.left lone.result.count lone.result.lanes lone.result.len lone.result.above in
     let read = subst Read most lone.ensures.read in
     record {
-      window = lone.ensures.window;
       read = FoursRead-more lone.result.count lone.result.lanes lone.result.len lone.result.above words k lone.result.lanes lone.result.count before read
           (record { four = refl; prefix = four_below k; back = read.below }) (gathered-more words k lone.result.lanes lone.result.count) (omega arith) (omega (arith, read.fits, passed.ensures.within)) lone.ensures.few;
     }
@@ -51,62 +50,57 @@ overflow_add-digits c = omega (arith, c.loop-digits.invariant.read.within, c.req
 pub read_next-requires-clause-in_plane : goal.read_next-requires-clause-in_plane
 read_next-requires-clause-in_plane c = c.loop-digits.invariant.read.high
 
-pub read_next-requires-clause-window : goal.read_next-requires-clause-window
-read_next-requires-clause-window c = c.loop-digits.invariant.window
-
 pub returns-in_err-some-clause-short : goal.returns-in_err-some-clause-short
-returns-in_err-some-clause-short c = if_none _ (Passes-lacks c.loop-digits.invariant.read.passes c.in_err-some.ensures.short (omega arith))
+returns-in_err-some-clause-short c = if_none _ (Passes-lacks c.loop-digits.invariant.read.passes c.in_err-some.ensures.short (omega arith)).few
 
-pub loop-ahead-init : goal.loop-ahead-init
-loop-ahead-init c =
+pub loop-cursor-init : goal.loop-cursor-init
+loop-cursor-init c =
     let ok = c.in_ok-some.ensures in
     let some = c.in_ok-some.some in
     let added = c.add-digits.ensures in
     record {
-      window = ok.window;
       read = FoursRead-more some.count some.lanes some.len some.above _ _ _ _ c.loop-digits.invariant.read ok.read.read added.gathered added.planes added.sum (omega (arith, ok.read.read.fits, c.loop-digits-test.true)) added.held;
       more = omega arith;
     }
 
-pub loop-ahead-preserved : goal.loop-ahead-preserved
-loop-ahead-preserved c =
-    let before = c.loop-ahead.invariant in
+pub loop-cursor-preserved : goal.loop-cursor-preserved
+loop-cursor-preserved c =
+    let before = c.loop-cursor.invariant in
     let four = c.read_sixteen in
-    let added = c.add-digits-in-loop-ahead.ensures in
+    let added = c.add-digits-in-loop-cursor.ensures in
     let above = c.in_ok-some.some.above in
-    let done = c.loop-ahead.digits.done + c.loop-ahead.digits.held in
-    let read = rw c.sees.ensures.left at four.ensures.read in
+    let done = c.loop-cursor.digits.done + c.loop-cursor.digits.held in
+    let read = rw (c.sees.ensures.left, c.sees.ensures.reader) at four.ensures.read in
     record {
-      window = four.ensures.window;
-      read = FoursRead-more 4 four.result.lanes 16 above _ _ _ _ before.read (three_through (c.args.prec - done) above 4 four.result.lanes 16 (omega (arith, c.loop-ahead-test.true)) before.read.high read) added.gathered (rw four.ensures.count at added.planes) (omega (arith, added.sum, four.ensures.count))
+      read = FoursRead-more 4 four.result.lanes 16 above _ _ _ _ before.read (three_through (c.args.prec - done) above 4 four.result.lanes 16 (omega (arith, c.loop-cursor-test.true)) before.read.high read) added.gathered (rw four.ensures.count at added.planes) (omega (arith, added.sum, four.ensures.count))
           (omega (arith, c.if-digits-prec.true)) added.held;
       more = omega (arith, before.more, added.sum);
     }
 
 pub loop-digits-preserved : goal.loop-digits-preserved
-loop-digits-preserved c = record { window = c.loop-ahead.invariant.window; read = c.loop-ahead.invariant.read }
+loop-digits-preserved c = record { read = c.loop-cursor.invariant.read }
 
 -- ---- no bit or no plane is left
 
-no_bit_left : (c : goal.Else-ahead-gt0) → (planes_bits c.loop-digits.ahead.left (c.args.prec - (c.loop-digits.digits.done + c.loop-digits.digits.held)) 4 c.loop-digits.above (rest c.loop-digits.reader) ≡ 0)
-    × (planes_ahead c.loop-digits.ahead.left (c.args.prec - (c.loop-digits.digits.done + c.loop-digits.digits.held)) 4 c.loop-digits.above (rest c.loop-digits.reader)
+no_bit_left : (c : goal.Else-cursor-gt0) → (planes_bits c.loop-digits.cursor.left (c.args.prec - (c.loop-digits.digits.done + c.loop-digits.digits.held)) 4 c.loop-digits.above (rest c.loop-digits.cursor.reader) ≡ 0)
+    × (planes_ahead c.loop-digits.cursor.left (c.args.prec - (c.loop-digits.digits.done + c.loop-digits.digits.held)) 4 c.loop-digits.above (rest c.loop-digits.cursor.reader)
     ≡ replicate (c.args.prec - (c.loop-digits.digits.done + c.loop-digits.digits.held)) (replicate 4 false))
 no_bit_left c =
-    planes_over c.loop-digits.ahead.left (c.args.prec - (c.loop-digits.digits.done + c.loop-digits.digits.held)) 4 c.loop-digits.above (rest c.loop-digits.reader) (omega arith) c.loop-digits.invariant.read.high (inl (omega arith))
+    planes_over c.loop-digits.cursor.left (c.args.prec - (c.loop-digits.digits.done + c.loop-digits.digits.held)) 4 c.loop-digits.above (rest c.loop-digits.cursor.reader) (omega arith) c.loop-digits.invariant.read.high (inl (omega arith))
 
-pub returns-else-ahead-gt0-clause-bits : goal.returns-else-ahead-gt0-clause-bits
-returns-else-ahead-gt0-clause-bits c = Passes-end c.loop-digits.invariant.read.passes (no_bit_left c).0
+pub returns-else-cursor-gt0-clause-bits : goal.returns-else-cursor-gt0-clause-bits
+returns-else-cursor-gt0-clause-bits c = Passes-end c.loop-digits.invariant.read.passes (no_bit_left c).0
 
-pub returns-else-ahead-gt0-clause-digits : goal.returns-else-ahead-gt0-clause-digits
-returns-else-ahead-gt0-clause-digits c =
+pub returns-else-cursor-gt0-clause-digits : goal.returns-else-cursor-gt0-clause-digits
+returns-else-cursor-gt0-clause-digits c =
     let digits = c.loop-digits.digits in
     c.loop-digits.invariant.read.planes ∙ ap (λ (ps : List (List Bool)). gathered digits.words digits.done digits.lanes digits.held ++ ps) (no_bit_left c).1
 
-no_plane_left : (c : goal.After-loop-digits) → (planes_bits c.loop-digits.ahead.left (c.args.prec - (c.loop-digits.digits.done + c.loop-digits.digits.held)) 4 c.loop-digits.above (rest c.loop-digits.reader) ≡ 0)
-    × (planes_ahead c.loop-digits.ahead.left (c.args.prec - (c.loop-digits.digits.done + c.loop-digits.digits.held)) 4 c.loop-digits.above (rest c.loop-digits.reader)
+no_plane_left : (c : goal.After-loop-digits) → (planes_bits c.loop-digits.cursor.left (c.args.prec - (c.loop-digits.digits.done + c.loop-digits.digits.held)) 4 c.loop-digits.above (rest c.loop-digits.cursor.reader) ≡ 0)
+    × (planes_ahead c.loop-digits.cursor.left (c.args.prec - (c.loop-digits.digits.done + c.loop-digits.digits.held)) 4 c.loop-digits.above (rest c.loop-digits.cursor.reader)
     ≡ replicate (c.args.prec - (c.loop-digits.digits.done + c.loop-digits.digits.held)) (replicate 4 false))
 no_plane_left c =
-    planes_over c.loop-digits.ahead.left (c.args.prec - (c.loop-digits.digits.done + c.loop-digits.digits.held)) 4 c.loop-digits.above (rest c.loop-digits.reader) (omega arith) c.loop-digits.invariant.read.high (inr (omega arith))
+    planes_over c.loop-digits.cursor.left (c.args.prec - (c.loop-digits.digits.done + c.loop-digits.digits.held)) 4 c.loop-digits.above (rest c.loop-digits.cursor.reader) (omega arith) c.loop-digits.invariant.read.high (inr (omega arith))
 
 pub returns-after-loop-digits-clause-bits : goal.returns-after-loop-digits-clause-bits
 returns-after-loop-digits-clause-bits c = Passes-end c.loop-digits.invariant.read.passes (no_plane_left c).0

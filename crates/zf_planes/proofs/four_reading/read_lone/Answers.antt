@@ -7,4 +7,4 @@ returns-then-not-begins_lone-clause-read c = none_read c.args.most
 pub returns-clause-read : goal.returns-clause-read
 returns-clause-read c =
     let lone = c.lone_in_sight-lone in
-    rw lone.ensures.above (lone_read c.args.most lone.result.count lone.result.lanes lone.result.len c.args.ahead.now.bits c.args.ahead.now.count c.requires.window lone.ensures.code lone.ensures.reached lone.ensures.below lone.ensures.len lone.ensures.fits c.pass.ensures.taken)
+    rw lone.ensures.above (lone_read c.args.most lone.result.count lone.result.lanes lone.result.len c.args.cursor.now.bits c.args.cursor.now.count c.args.cursor.now.window lone.ensures.code lone.ensures.reached lone.ensures.below lone.ensures.len lone.ensures.fits c.pass.ensures.taken)

@@ -8,8 +8,8 @@ use Rattle.zf_planes.proofs.four_reading.read_next.Goals as goal
 
 pub returns-else-n-lt3-clause-short : goal.returns-else-n-lt3-clause-short
 returns-else-n-lt3-clause-short c =
-    let same = ahead_of_three c.args.ahead.now.left c.args.most c.args.n (rest c.args.reader.now) c.if-n-lt3.false c.requires.in_plane in
-    on_none c.read_verbatim.result c.read_verbatim.ensures.short (λ lacks. subst (Lacks c.args.reader.now c.read_verbatim.new.reader) (sym same.0) lacks)
+    let same = ahead_of_three c.args.cursor.now.left c.args.most c.args.n (rest c.args.cursor.now.reader) c.if-n-lt3.false c.requires.in_plane in
+    on_none c.read_verbatim.result c.read_verbatim.ensures.short (λ lacks. subst (Lacks c.args.cursor.now.reader c.read_verbatim.new.cursor.reader) (sym same.0) lacks)
 
 pub returns-else-n-lt3-clause-read : goal.returns-else-n-lt3-clause-read
 returns-else-n-lt3-clause-read c =

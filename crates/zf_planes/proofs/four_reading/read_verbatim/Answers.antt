@@ -9,9 +9,9 @@ use Rattle.zf_planes.proofs.four_reading.read_verbatim.Goals as goal
 
 pub returns-in_err-digits-clause-short : goal.returns-in_err-digits-clause-short
 returns-in_err-digits-clause-short c =
-    let left = c.args.ahead.now.left in
-    let s = rest c.args.reader.now in
-    if_none _ (Passes-lacks (Passes-start c.args.reader.now left (planes_bits left c.args.most 4 4 s)) c.in_err-digits.ensures.short (omega (arith, own_bits left c.args.most s, c.min-len.ensures, c.requires.some)))
+    let left = c.args.cursor.now.left in
+    let s = rest c.args.cursor.now.reader in
+    if_none _ (Passes-lacks (Passes-start c.args.cursor.now.reader left (planes_bits left c.args.most 4 4 s)) c.in_err-digits.ensures.short (omega (arith, own_bits left c.args.most s, c.min-len.ensures, c.requires.some)))
 
 pub returns-then-most-lt4-clause-read : goal.returns-then-most-lt4-clause-read
 unfolding string_planes
@@ -21,9 +21,9 @@ returns-then-most-lt4-clause-read c =
 
 pub returns-in_err-digits-2-clause-short : goal.returns-in_err-digits-2-clause-short
 returns-in_err-digits-2-clause-short c =
-    let left = c.args.ahead.now.left in
-    let s = rest c.args.reader.now in
-    if_none _ (Passes-lacks (Passes-start c.args.reader.now left (planes_bits left c.args.most 4 4 s)) c.in_err-digits-2.ensures.short (omega (arith, own_bits left c.args.most s, c.min-len-2.ensures, c.if-most-lt4.false)))
+    let left = c.args.cursor.now.left in
+    let s = rest c.args.cursor.now.reader in
+    if_none _ (Passes-lacks (Passes-start c.args.cursor.now.reader left (planes_bits left c.args.most 4 4 s)) c.in_err-digits-2.ensures.short (omega (arith, own_bits left c.args.most s, c.min-len-2.ensures, c.if-most-lt4.false)))
 
 pub returns-clause-read : goal.returns-clause-read
 returns-clause-read c =

@@ -13,29 +13,27 @@ use Rattle.zf_planes.proofs.word_reading.read_in_words.Goals as goal
 pub loop-i-init : goal.loop-i-init
 loop-i-init g c =
     let n = length c.args.planes.now in
-    let taken = rw c.look-ahead.ensures.left at c.pass_zero_planes-i.ensures.taken in
+    let zeros = c.pass_zero_planes-i.ensures in
+    let taken = rw (c.new-cursor.ensures.left, c.new-cursor.ensures.reader) at zeros.taken in
     record {
-      window = c.pass_zero_planes-i.ensures.window;
-      read = AreRead-start c.args.prec c.args.size n g.P.Plane.word_count _ c.requires.some c.requires.words c.requires.blank c.requires.planes c.pass_zero_planes-i.ensures.within taken c.pass_zero_planes-i.ensures.zeros;
+      read = AreRead-start c.args.prec c.args.size n g.P.Plane.word_count _ c.requires.some c.requires.words c.requires.blank c.requires.planes zeros.within taken (rw c.new-cursor.ensures.reader at zeros.zeros);
       long = omega arith;
     }
 
 -- ---- before all ranks have had a one
 
--- looking on leaves what is left of the budget
-pub returns-in_err-above-clause-short : goal.returns-in_err-above-clause-short
-returns-in_err-above-clause-short g c = if_none _ (AreRead-lacks c.loop-i.invariant.read c.loop-i-test.true (rw c.look_on.ensures.left at c.in_err-above.ensures.short))
+-- looking on leaves the reader and what is left of the budget
+pub returns-in_err-read-clause-short : goal.returns-in_err-read-clause-short
+returns-in_err-read-clause-short g c =
+    if_none _ (AreRead-lacks c.loop-i.invariant.read c.loop-i-test.true (rw (c.look_on.ensures.left, c.look_on.ensures.reader) at c.in_err-read.ensures.short)).few
 
 pub loop-i-preserved : goal.loop-i-preserved
 loop-i-preserved g c =
     let before = c.loop-i.invariant in
-    let ok = c.in_ok-above.ensures in
-    let plane = c.read_more.new.plane in
-    let taken = rw c.look_on.ensures.left at ok.taken in
-    let digits = rw c.look_on.ensures.left at ok.digits in
+    let plane = c.in_ok-read.read.plane in
+    let read = rw (c.look_on.ensures.left, c.look_on.ensures.reader) at c.in_ok-read.ensures.read in
     record {
-      window = ok.window;
-      read = AreRead-more g.P.Plane.words _ _ c.loop-i.planes plane before.read c.requires.some (omega (arith, c.requires.words, g.met.P.Plane.long plane)) c.loop-i-test.true (omega (arith, before.long, c.requires.planes)) taken digits ok.clear ok.above;
+      read = AreRead-more g.P.Plane.words _ _ c.loop-i.planes plane before.read c.requires.some (omega (arith, c.requires.words, g.met.P.Plane.long plane)) c.loop-i-test.true (omega (arith, before.long, c.requires.planes)) read;
       long = length-set c.loop-i.planes _ plane ∙ before.long;
     }
 
@@ -44,31 +42,29 @@ loop-i-preserved g c =
 all_ranks : (above size left prec i : ℕ) → (above ≡ size) ⊎ ((left ≡ 0) ⊎ (prec ≤ i)) → 0 < left → i < prec → above ≡ size
 all_ranks above size left prec i all some below = ⊎_elim (λ same. same) (⊎_elim (λ none. absurd (omega arith)) (λ end. absurd (omega arith))) all
 
-pub returns-in_err-read_last-clause-short : goal.returns-in_err-read_last-clause-short
-returns-in_err-read_last-clause-short g c =
-    let all = all_ranks _ _ _ _ _ c.loop-i-2.invariant.all c.if-ahead-gt0-2.true c.loop-i-2-test.true in
-    if_none _ (AreRead-lacks (AreRead-ranks c.args.size all c.loop-i-2.invariant.read) c.loop-i-2-test.true c.in_err-read_last.ensures.short)
+pub returns-in_err-read-2-clause-short : goal.returns-in_err-read-2-clause-short
+returns-in_err-read-2-clause-short g c =
+    let all = all_ranks _ _ _ _ _ c.loop-i-2.invariant.all c.if-cursor-gt0-2.true c.loop-i-2-test.true in
+    if_none _ (AreRead-lacks (AreRead-ranks c.args.size all c.loop-i-2.invariant.read) c.loop-i-2-test.true c.in_err-read-2.ensures.short).few
 
 pub loop-i-2-preserved : goal.loop-i-2-preserved
 loop-i-2-preserved g c =
     let size = c.args.size in
     let before = c.loop-i-2.invariant in
-    let ok = c.in_ok-read_last.ensures in
-    let plane = c.read_last.new.plane in
-    let words = g.P.Plane.words plane in
-    let all = all_ranks _ _ _ _ _ before.all c.if-ahead-gt0-2.true c.loop-i-2-test.true in
-    let enough : size ≤ 64 * length words = omega (arith, c.requires.words, g.met.P.Plane.long plane) in
-    let reached : size ≡ max size (reach (digits_held size words)) = omega (arith, reach-le (digits_held size words), length-digits_held size words enough) in
-    let read = AreRead-more g.P.Plane.words _ size c.loop-i-2.planes plane (AreRead-ranks size all before.read) c.requires.some enough c.loop-i-2-test.true (omega (arith, before.long, c.requires.planes)) ok.taken ok.digits ok.clear reached in
+    let one = c.in_ok-read-2.read in
+    let words = g.P.Plane.words one.plane in
+    let all = all_ranks _ _ _ _ _ before.all c.if-cursor-gt0-2.true c.loop-i-2-test.true in
+    let enough : size ≤ 64 * length words = omega (arith, c.requires.words, g.met.P.Plane.long one.plane) in
+    let reached : one.above ≡ c.loop-i.above = omega (arith, c.in_ok-read-2.ensures.read.above, all, reach-le (digits_held size words), length-digits_held size words enough) in
+    let read = AreRead-more g.P.Plane.words _ _ c.loop-i-2.planes one.plane (AreRead-ranks size all before.read) c.requires.some enough c.loop-i-2-test.true (omega (arith, before.long, c.requires.planes)) c.in_ok-read-2.ensures.read in
     record {
-      window = ok.window;
-      read = AreRead-ranks c.loop-i.above (sym all) read;
-      long = length-set c.loop-i-2.planes _ plane ∙ before.long;
+      read = AreRead-ranks c.loop-i.above reached read;
+      long = length-set c.loop-i-2.planes _ one.plane ∙ before.long;
       all = inl all;
     }
 
-pub returns-else-ahead-gt0-2-clause-read : goal.returns-else-ahead-gt0-2-clause-read
-returns-else-ahead-gt0-2-clause-read g c =
+pub returns-else-cursor-gt0-2-clause-read : goal.returns-else-cursor-gt0-2-clause-read
+returns-else-cursor-gt0-2-clause-read g c =
     let planes = map g.P.Plane.words c.loop-i-2.planes in
     let enough : c.args.prec ≤ length planes = omega (arith, length-map c.loop-i-2.planes g.P.Plane.words, c.loop-i-2.invariant.long, c.requires.planes) in
     AreRead-over planes c.loop-i-2.invariant.read c.requires.some enough (inl (omega arith))

@@ -7,8 +7,7 @@ use Rattle.zf_planes.proofs.word_reading.read_in_words.Given as goal
 
 abbrev pub invariant-loop-i : goal.invariant-loop-i
 invariant-loop-i g l = record {
-  window : IsWindow l.ahead.left l.ahead.bits l.ahead.count (rest l.reader);
-  read : AreRead l.fn.reader l.reader l.fn.budget l.ahead.left l.prec l.size l.above l.i (map g.P.Plane.words l.planes);
+  read : AreRead l.fn.reader l.cursor.reader l.fn.budget l.cursor.left l.prec l.size l.above l.i (map g.P.Plane.words l.planes);
   long : length l.planes ≡ length l.fn.planes;
 }
 
@@ -17,10 +16,9 @@ decreases-loop-i g l = l.prec - l.i
 
 abbrev pub invariant-loop-i-2 : goal.invariant-loop-i-2
 invariant-loop-i-2 g l = record {
-  window : IsWindow l.ahead.left l.ahead.bits l.ahead.count (rest l.reader);
-  read : AreRead l.fn.reader l.reader l.fn.budget l.ahead.left l.prec l.size l.above l.i (map g.P.Plane.words l.planes);
+  read : AreRead l.fn.reader l.cursor.reader l.fn.budget l.cursor.left l.prec l.size l.above l.i (map g.P.Plane.words l.planes);
   long : length l.planes ≡ length l.fn.planes;
-  all : (l.above ≡ l.size) ⊎ ((l.ahead.left ≡ 0) ⊎ (l.prec ≤ l.i));
+  all : (l.above ≡ l.size) ⊎ ((l.cursor.left ≡ 0) ⊎ (l.prec ≤ l.i));
 }
 
 abbrev pub decreases-loop-i-2 : goal.decreases-loop-i-2

@@ -17,8 +17,8 @@ loop-i-preserved g c =
     let i = c.loop-i.i in
     let bits = c.loop-i.bits in
     let count = c.loop-i.count in
-    let ahead = c.args.ahead.now in
-    let s = rest c.args.reader.now in
+    let ahead = c.args.cursor.now in
+    let s = rest c.args.cursor.now.reader in
     let before = c.loop-i.invariant in
     let same = c.plane_without-same in
     let digits = same.result.digits in
@@ -45,7 +45,6 @@ loop-i-preserved g c =
     let some : 0 < len = omega (arith, same.ensures.len) in
     let window = rw (last, left', place) at (window_passed (drop passed s) left bits count len before.window some small) in
     record {
-      window = window;
       fewer = omega (arith, before.fewer);
       bits = omega (arith, before.bits, (rw (← more) at next_bits), passed');
       digits =
@@ -61,14 +60,14 @@ loop-i-preserved g c =
     }
 
 pub skip-requires : goal.skip-requires
-skip-requires g c = omega (arith, window_long (rest c.args.reader.now) c.args.ahead.now.bits c.args.ahead.now.count c.requires.window.bits)
+skip-requires g c = omega (arith, window_long (rest c.args.cursor.now.reader) c.args.cursor.now.bits c.args.cursor.now.count c.args.cursor.now.window.bits)
 
 pub returns-clause-taken : goal.returns-clause-taken
 returns-clause-taken g c =
-    let ahead = c.args.ahead.now in
+    let ahead = c.args.cursor.now in
     let passed = ahead.count - c.loop-i.count in
-    let within : passed ≤ ahead.left = omega (arith, c.requires.window.within) in
-    let there : passed ≤ length (rest c.args.reader.now) = omega (arith, window_long (rest c.args.reader.now) ahead.bits ahead.count c.requires.window.bits) in
+    let within : passed ≤ ahead.left = omega (arith, c.args.cursor.now.window.within) in
+    let there : passed ≤ length (rest c.args.cursor.now.reader) = omega (arith, window_long (rest c.args.cursor.now.reader) ahead.bits ahead.count c.args.cursor.now.window.bits) in
     let count : passed ≡ ahead.left - (ahead.left - passed) = omega arith in
-    let Taken : ℕ → Type 0 = λ k. Takes c.args.reader.now c.skip.new.self ahead.left (ahead.left - passed) k in
+    let Taken : ℕ → Type 0 = λ k. Takes c.args.cursor.now.reader c.skip.new.self ahead.left (ahead.left - passed) k in
     subst Taken count (Takes-skip ahead.left passed within there c.skip.ensures)

@@ -1,7 +1,7 @@
 -- The planes so far have the first bits, and the others are the rest.
 use Rattle.std.proofs.Common.{◌≡◌, ◌+◌, ◌-◌, ◌*◌, ◌/◌, ◌^◌, ◌≤◌}
 use Rattle.zf_planes.proofs.LanesAhead.{AreLone}
-use Rattle.zf_planes.proofs.four_reading.lone_in_sight.Given as goal
+use Rattle.zf_planes.proofs.in_lanes.lone_in_sight.Given as goal
 
 abbrev pub invariant-loop-planes : goal.invariant-loop-planes
 invariant-loop-planes l = record {

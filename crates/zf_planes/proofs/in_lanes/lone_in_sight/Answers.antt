@@ -1,7 +1,7 @@
 use Rattle.std.proofs.Common.{◌≡◌, refl, ◌+◌, ◌*◌, ◌/◌, ◌%◌, ◌^◌, ap, ◌∙◌, arith}
 use Rattle.std.proofs.lemmas.Nat.{shr-shr}
 use Rattle.zf_planes.proofs.LanesAhead.{first_lone, more_lone}
-use Rattle.zf_planes.proofs.four_reading.lone_in_sight.Goals as goal
+use Rattle.zf_planes.proofs.in_lanes.lone_in_sight.Goals as goal
 
 pub loop-planes-init : goal.loop-planes-init
 loop-planes-init c = record { lone = first_lone c.args.bits c.requires.first; rest = refl; len = refl; few = omega arith; fits = c.requires.some; there = c.requires.there }

@@ -6,7 +6,7 @@ use Rattle.zf_planes.specs.Decoding.{coded, coded_bits, planes_ahead, planes_bit
 use Rattle.zf_planes.specs.Lanes.{gathered}
 use Rattle.zf_planes.proofs.Lanes.{planes_of-words, each_below}
 use Rattle.zf_planes.proofs.Passing.{Takes-reads}
-use Rattle.zf_planes.proofs.four_reading.read_digits.Goals as goal
+use Rattle.zf_planes.proofs.four_reading.read_four.Goals as goal
 
 bits_are : (budget prec : ℕ) (s : List Bool) → planes_bits budget prec 4 0 s ≡ coded_bits budget prec 4 s
 unfolding planes_bits
@@ -23,20 +23,20 @@ taken {old} {new} budget left prec takes =
     let P : ℕ → Type 0 = λ n. Takes old new budget left n in
     subst P (bits_are budget prec (rest old)) takes
 
-pub returns-in-Some-clause-short : goal.returns-in-Some-clause-short
-returns-in-Some-clause-short c =
-    let enough = (taken c.args.budget c.in-Some.read.left c.args.prec c.in-Some.ensures.bits).enough in
+pub returns-clause-short : goal.returns-clause-short
+returns-clause-short c =
+    let enough = (taken c.args.budget c.in_ok-read.read.next.left c.args.prec c.in_ok-read.ensures.bits).enough in
     (λ (no : true ≡ false). cc, λ few. absurd (omega arith))
 
-pub returns-in-Some-clause-count : goal.returns-in-Some-clause-count
-returns-in-Some-clause-count c = omega (arith, (taken c.args.budget c.in-Some.read.left c.args.prec c.in-Some.ensures.bits).spent)
+pub returns-clause-count : goal.returns-clause-count
+returns-clause-count c = omega (arith, (taken c.args.budget c.in_ok-read.read.next.left c.args.prec c.in_ok-read.ensures.bits).spent)
 
-pub returns-in-Some-clause-reads : goal.returns-in-Some-clause-reads
-returns-in-Some-clause-reads c =
+pub returns-clause-reads : goal.returns-clause-reads
+returns-clause-reads c =
     let s = rest c.args.reader.now in
-    let takes = taken c.args.budget c.in-Some.read.left c.args.prec c.in-Some.ensures.bits in
-    let count : coded_bits c.args.budget c.args.prec 4 s ≡ c.args.budget - c.in-Some.read.left = omega (arith, takes.spent) in
-    let P : ℕ → Type 0 = λ n. Reads c.args.reader.now c.read_gathered.new.reader (take n s) in
+    let takes = taken c.args.budget c.in_ok-read.read.next.left c.args.prec c.in_ok-read.ensures.bits in
+    let count : coded_bits c.args.budget c.args.prec 4 s ≡ c.args.budget - c.in_ok-read.read.next.left = omega (arith, takes.spent) in
+    let P : ℕ → Type 0 = λ n. Reads c.args.reader.now c.in_ok-read.read.next.reader (take n s) in
     subst P count (Takes-reads takes)
 
 -- the planes that were read, and zeros down to the last one
@@ -50,21 +50,21 @@ with_zeros prefix planes whole n prec width within room is same =
     ∙ sym (append_assoc prefix (replicate (prec - n) zeros) (replicate (width - prec) zeros))
     ∙ ap (λ (ps : List (List Bool)). ps ++ replicate (width - prec) zeros) (sym is ∙ same)
 
-pub returns-in-Some-clause-digits : goal.returns-in-Some-clause-digits
-returns-in-Some-clause-digits c =
-    let read = c.in-Some.read.digits in
+pub returns-clause-digits : goal.returns-clause-digits
+returns-clause-digits c =
+    let read = c.in_ok-read.read.digits in
     let s = rest c.args.reader.now in
     planes_of-words c.args.width c.digits_of.result
     ∙ c.digits_of.ensures.planes
     ∙ with_zeros (gathered read.words read.done read.lanes read.held) (planes_ahead c.args.budget c.args.prec 4 0 s) (kept_planes c.args.budget (coded c.args.budget c.args.prec 4 s)) (read.done + read.held) c.args.prec c.args.width
-    c.in-Some.ensures.within c.requires.planes c.in-Some.ensures.digits (planes_are c.args.budget c.args.prec s)
+    c.in_ok-read.ensures.within c.requires.planes c.in_ok-read.ensures.digits (planes_are c.args.budget c.args.prec s)
 
-pub returns-in-Some-clause-below : goal.returns-in-Some-clause-below
-returns-in-Some-clause-below c = each_below c.args.width c.digits_of.result c.digits_of.ensures.below
+pub returns-clause-below : goal.returns-clause-below
+returns-clause-below c = each_below c.args.width c.digits_of.result c.digits_of.ensures.below
 
 -- ---- the bits are not there
 
-pub returns-in-None-clause-short : goal.returns-in-None-clause-short
-returns-in-None-clause-short c =
-    let few = c.in-None.ensures.short.few in
+pub returns-in_err-read-clause-short : goal.returns-in_err-read-clause-short
+returns-in_err-read-clause-short c =
+    let few = c.in_err-read.ensures.short in
     (λ no. omega (arith, few, bits_are c.args.budget c.args.prec (rest c.args.reader.now)), λ less. refl)

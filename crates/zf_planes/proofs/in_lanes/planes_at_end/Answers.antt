@@ -8,7 +8,7 @@ use Rattle.zf_planes.specs.declared.ends_table.TheConstants.{ENDS}
 use Rattle.zf_planes.proofs.LanesAhead.{planes_bits-le}
 use Rattle.zf_planes.specs.Lanes.{lanes_apart}
 use Rattle.zf_planes.proofs.LaneTables.{AreLast, last_of_entry}
-use Rattle.zf_planes.proofs.four_reading.planes_at_end.Goals as goal
+use Rattle.zf_planes.proofs.in_lanes.planes_at_end.Goals as goal
 
 -- what the entry says
 entry : (c : goal.After-from-2) → AreLast c.args.n c.args.left (c.args.bits % 2 ^ c.args.left) (lanes_apart (c.entry_of_end-entry.result % 65536)) (c.entry_of_end-entry.result / 65536 % 16)

@@ -1,7 +1,7 @@
 use Rattle.std.proofs.Common.{◌/◌, ◌%◌, arith}
 use Rattle.zf_planes.specs.Lanes.{lanes_apart}
 use Rattle.zf_planes.proofs.LaneTables.{AreLanes, lanes_of_entry}
-use Rattle.zf_planes.proofs.four_reading.planes_in_sight.Goals as goal
+use Rattle.zf_planes.proofs.in_lanes.planes_in_sight.Goals as goal
 
 -- what the entry says
 entry : (c : goal.After-from-2) → AreLanes c.args.n c.args.bits (lanes_apart (c.entry_of_lanes-entry.result % 65536)) (c.entry_of_lanes-entry.result / 65536 % 16)

@@ -3,7 +3,7 @@ use Rattle.zf_spec.proofs.Fields.{field-mod}
 use Rattle.zf_planes.specs.Fours.{string_planes}
 use Rattle.zf_planes.specs.Lanes.{lanes_in, AreBelow}
 use Rattle.zf_planes.proofs.Lanes.{IsLonger, one_behind}
-use Rattle.zf_planes.proofs.four_reading.lanes_of_16.Goals as goal
+use Rattle.zf_planes.proofs.in_lanes.lanes_of_16.Goals as goal
 
 two : (a b : ℕ) → a < 2 ^ 64 → b < 2 ^ 64 → AreBelow 1 (lanes_in 4 a) → AreBelow 1 (lanes_in 4 b) → IsLonger 1 a b
 two a b fit_a fit_b one_a one_b = one_behind 1 a b fit_a fit_b one_a one_b (omega arith)

@@ -1,0 +1,39 @@
+use Rattle.std.proofs.Common.{◌≡◌, ℕ, ◌+◌, ◌-◌, ◌/◌, ◌%◌, ◌^◌, ◌≤◌, Bool, false, List, ◌++◌, take, replicate, refl, ap, ◌∙◌, arith}
+use Rattle.std.proofs.lemmas.Nat.{mod_below, pow_pos}
+use Rattle.std.proofs.Math.Nat.{div-eq_of_lt}
+use Rattle.zf_spec.specs.Numbers.{field}
+use Rattle.zf_spec.proofs.Fields.{field-add, field-mod, field-zero}
+use Rattle.zf_bits.specs.Reader.{rest}
+use Rattle.zf_planes.proofs.Digits.{masked}
+use Rattle.zf_planes.proofs.Peeking.{window_prefix}
+use Rattle.zf_planes.proofs.cursor.Cursor.read_word.Goals as goal
+
+-- the lowest bits as a word
+low_field : (v n : ℕ) → n ≤ 64 → field 64 (v % 2 ^ n) ≡ field n v ++ replicate (64 - n) false
+low_field v n small =
+    let parts : 64 ≡ n + (64 - n) = omega arith in
+    let low = v % 2 ^ n in
+    let none : low / 2 ^ n ≡ 0 = div-eq_of_lt (mod_below v (2 ^ n) (pow_pos n)) in
+    ap (λ k. field k low) parts
+    ∙ field-add n (64 - n) low
+    ∙ ap (λ (bs : List Bool). bs ++ field (64 - n) (low / 2 ^ n)) (field-mod n v)
+    ∙ ap (λ u. field n v ++ field (64 - n) u) none
+    ∙ ap (λ (bs : List Bool). field n v ++ bs) (field-zero (64 - n))
+
+-- ---- there are fewer
+
+pub returns-then-not-sees-clause-short : goal.returns-then-not-sees-clause-short
+returns-then-not-sees-clause-short c = record { few = c.sees.ensures.short refl c.requires.in_budget c.requires.in_word; all = ap (λ r. r.all) c.sees.ensures.reader }
+
+-- ---- they are read
+
+pub returns-clause-taken : goal.returns-clause-taken
+returns-clause-taken c = rw (c.sees.ensures.left, c.sees.ensures.reader) at c.pass.ensures.taken
+
+pub returns-clause-digits : goal.returns-clause-digits
+returns-clause-digits c =
+    let seen = c.sees.new.self in
+    ap (field 64) (masked seen.bits c.args.n c.requires.in_word)
+    ∙ low_field seen.bits c.args.n c.requires.in_word
+    ∙ ap (λ (bs : List Bool). bs ++ replicate (64 - c.args.n) false) (window_prefix (rest seen.reader) seen.bits seen.count c.args.n seen.window.bits (c.sees.ensures.there refl))
+    ∙ ap (λ r. take c.args.n (rest r) ++ replicate (64 - c.args.n) false) c.sees.ensures.reader

@@ -1,0 +1,41 @@
+-- What was read between two cursors.
+use Rattle.std.specs.Prelude.{ℕ, ◌≡◌, max, Bool, List, [], ◌∷◌}
+use Rattle.zf_spec.specs.Planes.{reach}
+use Rattle.zf_bits.specs.Reader.{rest}
+use Rattle.zf_planes.specs.declared.cursor.Cursor.{Cursor}
+use Rattle.zf_planes.specs.declared.in_lanes.PlanesInLanes.{PlanesInLanes}
+use Rattle.zf_planes.specs.Decoding.{plane_ahead, plane_bits, planes_bits, Takes, Lacks, ReadsPlane}
+use Rattle.zf_planes.specs.Lanes.{low_planes, lanes_in, AreBelow, ReadsPlanes, ReadsSome}
+
+-- so many bits were passed
+abbrev pub Moves : Cursor → Cursor → ℕ → Type 0
+Moves old new count = Takes old.reader new.reader old.left new.left count
+
+-- the bits of a plane are not there, where the ranks below n have had a one above
+abbrev pub LacksPlane : ℕ → ℕ → Cursor → Cursor → Type 0
+LacksPlane size n old new = Lacks old.reader new.reader (plane_bits old.left size n (rest old.reader))
+
+-- the bits of planes are not there
+abbrev pub LacksPlanes : ℕ → ℕ → ℕ → Cursor → Cursor → Type 0
+LacksPlanes count size n old new = Lacks old.reader new.reader (planes_bits old.left count size n (rest old.reader))
+
+-- the code of one plane was read into words, and so far do its ones and those above reach
+abbrev pub MovesOverPlane : ℕ → ℕ → Cursor → Cursor → List ℕ → ℕ → Type 0
+MovesOverPlane size n old new words above = ReadsPlane size n old.reader new.reader old.left new.left words above
+
+-- the code of one plane of four digits was read, where the ranks below n have had a one above
+pub record MovesOverOne (n : ℕ) (old new : Cursor) (one : PlanesInLanes) : Type 0 where
+  pub one : one.count ≡ 1
+  pub taken : Moves old new one.len
+  pub len : one.len ≡ plane_bits old.left 4 n (rest old.reader)
+  pub digits : low_planes 1 (lanes_in 4 one.lanes) ≡ plane_ahead old.left 4 n (rest old.reader) ∷ []
+  pub below : AreBelow 1 (lanes_in 4 one.lanes)
+  pub above : one.above ≡ max n (reach (plane_ahead old.left 4 n (rest old.reader)))
+
+-- planes were read, of at most so many
+abbrev pub MovesOverPlanes : ℕ → ℕ → Cursor → Cursor → PlanesInLanes → Type 0
+MovesOverPlanes most n old new some = ReadsPlanes most n old.reader new.reader old.left new.left some.count some.lanes some.len some.above
+
+-- one at least, and four at most
+abbrev pub MovesOverSome : ℕ → ℕ → Cursor → Cursor → PlanesInLanes → Type 0
+MovesOverSome most n old new some = ReadsSome most n old.reader new.reader old.left new.left some.count some.lanes some.len some.above
