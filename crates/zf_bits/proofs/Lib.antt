@@ -6,7 +6,6 @@
 --     Written      words that hold bits and then zeros
 --     Packed       the bits of bytes are the bits of their words
 --     Excerpts     a few of the bits of a file
---     Counts       how many words a plane has
 pub mod Fields
 pub mod Words
 pub mod Appending
@@ -14,4 +13,3 @@ pub mod Reading
 pub mod Packed
 pub mod Written
 pub mod Excerpts
-pub mod Counts

@@ -1,7 +1,7 @@
 //! A bit plane in words: a digit for each rank.
 
 ghost use Rattle.std.specs.Prelude.{◌≡◌, ℕ, ◌<◌, ◌≤◌, List, [], ◌∷◌, length, replicate, slice_index_or, slice_set, refl};
-ghost use Rattle.zf_bits.proofs.Counts.{one_word, four_words};
+ghost use Rattle.std.proofs.Common.{lit≤, lit<};
 
 /// A plane in words: rank r is bit `r % 64` of word `r / 64`.
 ///
@@ -45,9 +45,9 @@ impl Plane for u64 {
 
     ghost long = { λ plane. refl };
 
-    ghost some = { one_word.0 };
+    ghost some = { lit< tt };
 
-    ghost few = { one_word.1 };
+    ghost few = { lit≤ tt };
 
     #[inline]
     fn word_count() -> usize {
@@ -77,9 +77,9 @@ impl Plane for [u64; 4] {
 
     ghost long = { λ plane. refl };
 
-    ghost some = { four_words.0 };
+    ghost some = { lit< tt };
 
-    ghost few = { four_words.1 };
+    ghost few = { lit≤ tt };
 
     #[inline]
     fn word_count() -> usize {

@@ -97,7 +97,7 @@ AreRead-more words {start} {now} {new} {budget} {left} {prec} {size} {above} {i}
     let held = planes_held size all in
     let within : i < length all = omega (arith, length-map planes words) in
     let long : length ds ≡ size = length-digits_held size (words plane) enough in
-    let next = rw (← read.above) at (next_read prec i size above ds some before.ranks below long read.digits read.taken) in
+    let next = rw (← read.reached) at (next_read prec i size above ds some before.ranks below long read.digits read.taken) in
     let rest_ahead = planes_ahead after (prec - (i + 1)) size above' (rest new) in
     let put = set_words words planes i plane in
     record {
@@ -105,7 +105,7 @@ AreRead-more words {start} {now} {new} {budget} {left} {prec} {size} {above} {i}
       digits = before.digits ∙ ap (λ (ps : List (List Bool)). take i held ++ ps) next.digits ∙ one_more words size i planes plane rest_ahead within;
       back = rw put (top_behind size all i (words plane) within before.back);
       clear = rw put (All-set (IsClearFrom size) all (length all - 1 - i) (words plane) read.clear before.clear);
-      ranks = omega (arith, read.above, reach-le ds, before.ranks, long);
+      ranks = omega (arith, read.reached, reach-le ds, before.ranks, long);
       within = omega arith;
     }
 

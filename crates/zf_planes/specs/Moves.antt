@@ -1,5 +1,5 @@
 -- What was read between two cursors.
-use Rattle.std.specs.Prelude.{ℕ, ◌≡◌, max, Bool, List, [], ◌∷◌}
+use Rattle.std.specs.Prelude.{ℕ, ◌≡◌, max, List, [], ◌∷◌}
 use Rattle.zf_spec.specs.Planes.{reach}
 use Rattle.zf_bits.specs.Reader.{rest}
 use Rattle.zf_planes.specs.declared.cursor.Cursor.{Cursor}
@@ -25,12 +25,12 @@ MovesOverPlane size n old new words above = ReadsPlane size n old.reader new.rea
 
 -- the code of one plane of four digits was read, where the ranks below n have had a one above
 pub record MovesOverOne (n : ℕ) (old new : Cursor) (one : PlanesInLanes) : Type 0 where
-  pub one : one.count ≡ 1
+  pub count : one.count ≡ 1
   pub taken : Moves old new one.len
   pub len : one.len ≡ plane_bits old.left 4 n (rest old.reader)
   pub digits : low_planes 1 (lanes_in 4 one.lanes) ≡ plane_ahead old.left 4 n (rest old.reader) ∷ []
   pub below : AreBelow 1 (lanes_in 4 one.lanes)
-  pub above : one.above ≡ max n (reach (plane_ahead old.left 4 n (rest old.reader)))
+  pub reached : one.above ≡ max n (reach (plane_ahead old.left 4 n (rest old.reader)))
 
 -- planes were read, of at most so many
 abbrev pub MovesOverPlanes : ℕ → ℕ → Cursor → Cursor → PlanesInLanes → Type 0

@@ -23,31 +23,17 @@ pub(crate) struct Cursor<'a> {
 impl<'a> Cursor<'a> {
     /// A cursor where a reader stands, with so much of a budget.
     #[inline]
-    pub(crate) fn new(left: u64, reader: BitReader<'a>) -> Cursor<'a>
+    pub(crate) fn new(left: u64, reader: &BitReader<'a>) -> Cursor<'a>
         ensures left { result.left ≡ left }
-        ensures reader { result.reader ≡ reader }
-        ensures most { result.count ≡ min 64 (min left (length (rest reader))) }
+        ensures reader { result.reader ≡ reader.now }
+        ensures most { result.count ≡ min 64 (min left (length (rest reader.now))) }
     {
         let count = reader.left().min(left).min(64);
-        let bits = reader.peek();
         Cursor {
-            reader,
+            reader: reader.another(),
             left,
-            bits,
+            bits: reader.peek(),
             count,
-        }
-    }
-
-    /// Another cursor at the same place.
-    #[inline(always)]
-    pub(crate) fn another(&self) -> Cursor<'a>
-        ensures { result ≡ self.now }
-    {
-        Cursor {
-            reader: self.reader.another(),
-            left: self.left,
-            bits: self.bits,
-            count: self.count,
         }
     }
 
@@ -75,7 +61,7 @@ impl<'a> Cursor<'a> {
     {
         // Where all that is left of the budget is in sight, there is no more to see.
         if self.count < wanted && self.count < self.left {
-            *self = Cursor::new(self.left, self.reader.another());
+            *self = Cursor::new(self.left, &self.reader);
         }
     }
 

@@ -117,7 +117,7 @@ fn read_group(most: usize, cursor: &mut Cursor<'_>) -> Option<usize>
     // By way of a copy, so that only that lies in memory.
     let mut place = cursor.reader.another();
     let run = read_run(cursor.left, most, &mut place)?;
-    *cursor = Cursor::new(run.left, place);
+    *cursor = Cursor::new(run.left, &place);
     Some(run.zeros)
 }
 
@@ -149,27 +149,21 @@ fn read_tail<P: Plane>(
     ensures read { IfSome result (λ read. ReadsTail size n cursor.old.reader cursor.new.reader cursor.old.left cursor.new.left
         (P.words prefix) (P.words read.plane) read.above) }
 {
-    // Values of their own, which a loop holds in registers.
-    let mut digits = prefix;
-    let mut next = cursor.another();
+    let mut plane = prefix;
     let mut n = n;
-    while n < size && next.left > 0 {
-        if !next.sees(1) {
+    while n < size && cursor.left > 0 {
+        if !cursor.sees(1) {
             return None;
         }
-        if next.bits % 2 == 0 {
-            next.pass(1);
-            break;
+        if cursor.bits % 2 == 0 {
+            cursor.pass(1);
+            return Some(PlaneRead { plane, above: n });
         }
-        n += read_group(size - n, &mut next)?;
-        set_one(n, &mut digits);
+        n += read_group(size - n, cursor)?;
+        set_one(n, &mut plane);
         n += 1;
     }
-    *cursor = next;
-    Some(PlaneRead {
-        plane: digits,
-        above: n,
-    })
+    Some(PlaneRead { plane, above: n })
 }
 
 /// Reads the code of a plane in which the ranks below `n` have had a one above, run by run.
@@ -186,7 +180,7 @@ pub(crate) fn read_by_runs<P: Plane>(
 {
     let prefix = read_prefix::<P>(n, cursor)?;
     // A tail whose runs are all in sight is read with no further look.
-    *cursor = Cursor::new(cursor.left, cursor.reader.another());
+    *cursor = Cursor::new(cursor.left, &cursor.reader);
     read_tail(n, size, prefix, cursor)
 }
 
@@ -206,7 +200,7 @@ fn read_by_planes<'a, P: Plane>(
     ensures short { IfNone result (length (rest reader.now) < planes_bits budget prec size 0 (rest reader.now)) }
     ensures read { IfSome result (λ next. ReadsTop budget prec size reader.now next.reader (map P.words planes.new) next.left) }
 {
-    let mut cursor = Cursor::new(budget, reader.another());
+    let mut cursor = Cursor::new(budget, reader);
     let mut i = cursor.pass_zero_planes(prec) as usize;
     let mut above = 0;
     while i < prec as usize && cursor.left > 0 {

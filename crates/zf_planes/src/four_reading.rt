@@ -8,7 +8,7 @@ ghost use Rattle.zf_bits.specs.Reader.{rest, Reads};
 ghost use Rattle.zf_planes.specs.Moves.{LacksPlane, LacksPlanes, MovesOverOne, MovesOverPlanes, MovesOverSome};
 ghost use Rattle.zf_planes.specs.Decoding.{coded, coded_bits, plane_ahead, plane_bits, planes_ahead, planes_bits, Takes, Lacks};
 ghost use Rattle.zf_planes.specs.Fours.{string_planes};
-ghost use Rattle.zf_planes.specs.Lanes.{low_planes, lanes_in, AreBelow, IsGathered, gathered, ReadsPlanes, ReadsSome};
+ghost use Rattle.zf_planes.specs.Lanes.{low_planes, lanes_in, AreBelow, IsGathered, gathered, ReadsPlanes};
 
 use crate::cursor::Cursor;
 use crate::decoding::read_by_runs;
@@ -52,7 +52,8 @@ fn read_one(n: usize, cursor: &mut Cursor<'_>) -> Option<PlanesInLanes>
             above: next.above,
         });
     }
-    let mut next = cursor.another();
+    // By way of a copy, so that only that lies in memory.
+    let mut next = Cursor::new(cursor.left, &cursor.reader);
     let one = read_one_apart(n, &mut next)?;
     *cursor = next;
     Some(one)
@@ -119,7 +120,7 @@ fn read_sixteen(most: u32, cursor: &mut Cursor<'_>) -> PlanesInLanes
     requires four { 4 ≤ most }
     requires there { 16 ≤ cursor.old.count }
     ensures count { result.count ≡ 4 }
-    ensures read { MovesOverPlanes most 4 cursor.old cursor.new result }
+    ensures read { ReadsPlanes most 4 cursor.old.reader cursor.new.reader cursor.old.left cursor.new.left 4 result.lanes 16 4 }
 {
     let lanes = lanes_of_16(cursor.bits % 65536);
     cursor.pass(16);
@@ -265,6 +266,7 @@ fn read_lone(most: u32, cursor: &mut Cursor<'_>) -> PlanesInLanes
 }
 
 /// Digits that were read, and the cursor behind them.
+#[derive(Drop)]
 struct ReadDigits<'a> {
     digits: Gathered,
     next: Cursor<'a>,
@@ -283,7 +285,7 @@ fn read_gathered<'a>(budget: u64, prec: u32, reader: &BitReader<'a>) -> Option<R
         ≡ gathered read.digits.words read.digits.done read.digits.lanes read.digits.held
         ++ replicate (prec - (read.digits.done + read.digits.held)) (replicate 4 false)) }
 {
-    let mut cursor = Cursor::new(budget, reader.another());
+    let mut cursor = Cursor::new(budget, reader);
     let zeros = cursor.pass_zero_planes(prec);
     // Where values are smooth, the first coefficient is the only one of many planes.
     let lone = read_lone(prec - zeros as u32, &mut cursor);

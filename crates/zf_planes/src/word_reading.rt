@@ -142,7 +142,7 @@ pub(crate) fn read_in_words<'a, P: Plane>(
     ensures short { IfNone result (length (rest reader.now) < planes_bits budget prec size 0 (rest reader.now)) }
     ensures read { IfSome result (λ next. ReadsTop budget prec size reader.now next.reader (map P.words planes.new) next.left) }
 {
-    let mut cursor = Cursor::new(budget, reader.another());
+    let mut cursor = Cursor::new(budget, reader);
     let mut i = cursor.pass_zero_planes(prec) as usize;
     let mut above = 0;
     while i < prec as usize && cursor.left > 0 && above < size {

@@ -47,5 +47,5 @@ returns-clause-read g c =
       taken = Takes-sum _ _ taken read.bits tail.taken;
       digits = tail.digits ∙ ap (λ (bs : List Bool). bs ++ tail_ahead next.left (c.args.size - c.args.n) (rest next.reader)) c.in_ok-prefix.ensures.digits ∙ sym read.digits;
       clear = tail.clear;
-      above = tail.above;
+      reached = tail.reached;
     })

@@ -1,31 +1,30 @@
 use Rattle.std.proofs.Common.{◌≡◌, ℕ, ◌%◌, ◌<◌, ◌+◌, ◌-◌, drop, ◌∙◌, arith}
 use Rattle.zf_bits.specs.Reader.{Reader, rest}
-use Rattle.zf_planes.specs.Decoding.{IsWindow, Takes, tail_ahead, tail_bits, run_ahead, run_bits}
-use Rattle.zf_planes.proofs.Passing.{Passes-start, Passes-part, Passes-lacks, Takes-rest, if_none}
-use Rattle.zf_planes.proofs.Peeking.{IsGroup, group_ahead, one_first}
+use Rattle.zf_planes.specs.Decoding.{IsWindow, Takes, Lacks, tail_ahead, tail_bits, run_ahead, run_bits}
+use Rattle.zf_planes.proofs.Passing.{Passes-start, Passes-part, Passes-lacks, Takes-rest, Takes-sum, if_none}
+use Rattle.zf_planes.proofs.Peeking.{group_ahead, one_first}
 use Rattle.zf_planes.proofs.Steps.{tail_run}
 use Rattle.zf_planes.proofs.decoding.read_group.Goals as goal
 
 -- ---- the run lies among the bits that were looked at
 
-in_window : (c : goal.After-pass) → IsGroup c.args.cursor.now.left c.args.most c.min-zeros.result c.min-bits.result (rest c.args.cursor.now.reader)
-in_window c =
-    let ahead = c.args.cursor.now in
-    group_ahead (rest c.args.cursor.now.reader) ahead.left ahead.bits ahead.count c.args.most c.min-zeros.result c.min-bits.result c.args.cursor.now.window (omega arith) c.requires.one c.requires.some c.requires.there
-    c.min-zeros.ensures c.min-bits.ensures c.if-bits-ahead.true
-
-pub returns-then-bits-ahead-clause-bits : goal.returns-then-bits-ahead-clause-bits
-returns-then-bits-ahead-clause-bits c =
+pub returns-then-bits-cursor-clause-bits : goal.returns-then-bits-cursor-clause-bits
+returns-then-bits-cursor-clause-bits c =
+    let now = c.args.cursor.now in
+    let here = group_ahead (rest now.reader) now.left now.bits now.count c.args.most c.min-zeros.result c.min-bits.result now.window (omega arith) c.requires.one c.requires.some c.requires.there c.min-zeros.ensures c.min-bits.ensures
+    c.if-bits-cursor.true in
     let passed = c.pass.ensures.taken in
-    let n = c.min-bits.result in
-    let spent : c.pass.new.self.left ≡ c.args.cursor.now.left - n = omega (arith, passed.spent) in
-    rw (spent, Takes-rest passed) (omega (arith, (in_window c).bits, passed.spent))
+    let spent : c.pass.new.self.left ≡ now.left - c.min-bits.result = omega (arith, passed.spent) in
+    rw (spent, Takes-rest passed) (omega (arith, here.bits, passed.spent))
 
-pub returns-then-bits-ahead-clause-digits : goal.returns-then-bits-ahead-clause-digits
-returns-then-bits-ahead-clause-digits c =
+pub returns-then-bits-cursor-clause-digits : goal.returns-then-bits-cursor-clause-digits
+returns-then-bits-cursor-clause-digits c =
+    let now = c.args.cursor.now in
+    let here = group_ahead (rest now.reader) now.left now.bits now.count c.args.most c.min-zeros.result c.min-bits.result now.window (omega arith) c.requires.one c.requires.some c.requires.there c.min-zeros.ensures c.min-bits.ensures
+    c.if-bits-cursor.true in
     let passed = c.pass.ensures.taken in
-    let spent : c.pass.new.self.left ≡ c.args.cursor.now.left - c.min-bits.result = omega (arith, passed.spent) in
-    rw (spent, Takes-rest passed) (in_window c).digits
+    let spent : c.pass.new.self.left ≡ now.left - c.min-bits.result = omega (arith, passed.spent) in
+    rw (spent, Takes-rest passed) here.digits
 
 -- ---- it goes on behind them
 
@@ -38,22 +37,32 @@ behind_group {now} {mid} {left} {after} bits count most window there odd some pa
     let run = tail_run left most (rest now) (drop 1 (rest now)) (omega (arith, passed.spent)) some one in
     rw (spent, Takes-rest passed) (omega (arith, run.0), run.1)
 
+-- a reader of its own stands where the cursor's does
 pub returns-in_err-run-clause-short : goal.returns-in_err-run-clause-short
 returns-in_err-run-clause-short c =
-    let ahead = c.args.cursor.now in
-    let group = behind_group ahead.bits ahead.count c.args.most c.args.cursor.now.window c.requires.there c.requires.one c.requires.some c.pass-2.ensures.taken in
-    let passes = Passes-part _ (Passes-start c.args.cursor.now.reader ahead.left _) group.0 c.pass-2.ensures.taken in
-    if_none _ (Passes-lacks passes c.in_err-run.ensures.short (omega arith))
+    let now = c.args.cursor.now in
+    let group = behind_group now.bits now.count c.args.most now.window c.requires.there c.requires.one c.requires.some c.pass-2.ensures.taken in
+    let passes = Passes-part _ (Passes-start now.reader now.left _) group.0 c.pass-2.ensures.taken in
+    let lacks = rw c.another-place.ensures at c.in_err-run.ensures.short in
+    let short : Lacks now.reader c.pass-2.new.self.reader (tail_bits now.left c.args.most (rest now.reader)) = record { few = (Passes-lacks passes lacks (omega arith)).few; all = c.pass-2.ensures.taken.all } in
+    if_none _ short
+
+pub returns-clause-taken : goal.returns-clause-taken
+returns-clause-taken c =
+    let first = c.pass-2.ensures.taken in
+    let run = rw c.another-place.ensures at c.in_ok-run.ensures.taken in
+    rw (c.new.ensures.left, c.new.ensures.reader) (Takes-sum _ _ first (omega (arith, first.spent, run.spent)) run)
 
 pub returns-clause-bits : goal.returns-clause-bits
 returns-clause-bits c =
-    let ahead = c.args.cursor.now in
-    let group = behind_group ahead.bits ahead.count c.args.most c.args.cursor.now.window c.requires.there c.requires.one c.requires.some c.pass-2.ensures.taken in
-    let run = c.in_ok-run.ensures in
-    rw c.look.ensures.left (omega (arith, group.0, run.bits, c.pass-2.ensures.taken.spent, run.taken.spent))
+    let now = c.args.cursor.now in
+    let group = behind_group now.bits now.count c.args.most now.window c.requires.there c.requires.one c.requires.some c.pass-2.ensures.taken in
+    let bits = rw c.another-place.ensures at c.in_ok-run.ensures.bits in
+    rw (c.new.ensures.left, c.new.ensures.reader) (omega (arith, group.0, bits, c.pass-2.ensures.taken.spent, c.in_ok-run.ensures.taken.spent))
 
 pub returns-clause-digits : goal.returns-clause-digits
 returns-clause-digits c =
-    let ahead = c.args.cursor.now in
-    let group = behind_group ahead.bits ahead.count c.args.most c.args.cursor.now.window c.requires.there c.requires.one c.requires.some c.pass-2.ensures.taken in
-    rw c.look.ensures.left (group.1 ∙ c.in_ok-run.ensures.digits)
+    let now = c.args.cursor.now in
+    let group = behind_group now.bits now.count c.args.most now.window c.requires.there c.requires.one c.requires.some c.pass-2.ensures.taken in
+    let digits = rw c.another-place.ensures at c.in_ok-run.ensures.digits in
+    rw (c.new.ensures.left, c.new.ensures.reader) (group.1 ∙ digits)

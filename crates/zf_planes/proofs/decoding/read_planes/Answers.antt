@@ -48,4 +48,4 @@ returns-clause-digits g c =
 pub returns-in_err-next-clause-short : goal.returns-in_err-next-clause-short
 returns-in_err-next-clause-short g c =
     let few = c.in_err-next.ensures.short in
-    (λ no. omega (arith, few, bits_are c.args.budget c.args.prec c.args.size (rest c.args.reader.now)), λ less. refl)
+    (λ _. omega (arith, few, bits_are c.args.budget c.args.prec c.args.size (rest c.args.reader.now)), λ less. rw c.from_residual.ensures refl)

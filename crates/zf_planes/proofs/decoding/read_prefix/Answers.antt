@@ -15,22 +15,19 @@ pub loop-at-init : goal.loop-at-init
 loop-at-init g c =
     let count = c.min-count.result in
     let all : count - 0 ≡ count = omega arith in
-    let ws = g.P.Plane.words c.args.plane.now in
+    let ws = g.P.Plane.words c.zero-plane.result in
     record {
       passes = rw all (Passes-start c.args.cursor.now.reader c.args.cursor.now.left count);
       place = inl refl;
       within = omega arith;
       digits = digits_held-none ws;
-      clear = rw c.requires.blank (clear_zeros 0 g.P.Plane.word_count);
+      clear = rw c.zero-plane.ensures (clear_zeros 0 g.P.Plane.word_count);
     }
 
 pub read_word-requires-clause-in_budget : goal.read_word-requires-clause-in_budget
 read_word-requires-clause-in_budget g c =
     let passes = c.loop-at.invariant.passes in
     omega (arith, passes.sum, passes.within, c.min-more.ensures, c.min-count.ensures, c.loop-at-test.true)
-
-pub read_word-requires-clause-window : goal.read_word-requires-clause-window
-read_word-requires-clause-window g c = c.loop-at.invariant.window
 
 pub returns-in_err-digits-clause-short : goal.returns-in_err-digits-clause-short
 returns-in_err-digits-clause-short g c =
@@ -80,9 +77,6 @@ loop-at-preserved g c =
     }
 
 -- ---- all are read
-
-pub returns-clause-window : goal.returns-clause-window
-returns-clause-window g c = c.loop-at.invariant.window
 
 pub returns-clause-taken : goal.returns-clause-taken
 returns-clause-taken g c =

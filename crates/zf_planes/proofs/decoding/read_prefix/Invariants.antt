@@ -2,7 +2,6 @@
 use Rattle.std.proofs.Common.{◌≡◌, ◌-◌, ◌%◌, ◌≤◌, ◌⊎◌, take}
 use Rattle.zf_spec.specs.HeldPlanes.{digits_held, IsClearFrom}
 use Rattle.zf_bits.specs.Reader.{rest}
-use Rattle.zf_planes.specs.Decoding.{IsWindow}
 use Rattle.zf_planes.proofs.Passing.{Passes}
 use Rattle.zf_planes.proofs.decoding.read_prefix.Given as goal
 

@@ -1,4 +1,4 @@
-use Rattle.std.proofs.Common.{◌≡◌, ℕ, ◌+◌, ◌-◌, ◌*◌, ◌%◌, ◌<◌, ◌≤◌, inl, inr, max, Bool, true, false, List, [], ◌∷◌, ◌++◌, length, replicate, refl, sym, ap, ◌∙◌, arith, append_assoc}
+use Rattle.std.proofs.Common.{◌≡◌, ℕ, ◌+◌, ◌-◌, ◌*◌, ◌%◌, ◌<◌, ◌≤◌, ◌⊎◌, inl, inr, max, Bool, true, false, List, [], ◌∷◌, ◌++◌, length, replicate, refl, sym, ap, ◌∙◌, arith, append_assoc}
 use Rattle.zf_spec.specs.Planes.{reach}
 use Rattle.zf_spec.specs.HeldPlanes.{digits_held, IsClearFrom}
 use Rattle.zf_spec.proofs.Reach.{reach-le}
@@ -9,6 +9,7 @@ use Rattle.zf_planes.proofs.Passing.{Passes-start, Passes-part, Passes-end, Pass
 use Rattle.zf_planes.proofs.Peeking.{zero_first}
 use Rattle.zf_planes.proofs.Placing.{clear_later, held_behind, one_placed, reach_behind, reach_one}
 use Rattle.zf_planes.proofs.Steps.{tail_over, tail_end, tail_short}
+use Rattle.zf_planes.proofs.decoding.read_tail.Goals.{then-loop-n-test+else-cursor-gt0, else-loop-n-test}
 use Rattle.zf_planes.proofs.decoding.read_tail.Goals as goal
 
 pub loop-n-init : goal.loop-n-init
@@ -31,10 +32,10 @@ empty (b ∷ s) none = absurd (omega arith)
 
 pub returns-then-not-sees-clause-short : goal.returns-then-not-sees-clause-short
 returns-then-not-sees-clause-short g c =
-    let s = rest c.loop-n.next.reader in
-    let none = c.sees.ensures.short refl (omega (arith, c.if-next-gt0.true)) (omega arith) in
-    let needed = tail_short c.loop-n.next.left (c.args.size - c.loop-n.n) s c.if-next-gt0.true (omega (arith, c.loop-n-test.true)) (empty s none) in
-    if_none _ (Passes-lacks c.loop-n.invariant.passes (record { few = none; all = ap (λ r. r.all) c.sees.ensures.reader }) needed)
+    let s = rest c.loop-n.cursor.reader in
+    let none = c.sees.ensures.short c.if-not-sees.true (omega (arith, c.if-cursor-gt0.true)) (omega arith) in
+    let needed = tail_short c.loop-n.cursor.left (c.args.size - c.loop-n.n) s c.if-cursor-gt0.true (omega (arith, c.loop-n-test.true)) (empty s none) in
+    Passes-lacks c.loop-n.invariant.passes (record { few = none; all = ap (λ r. r.all) c.sees.ensures.reader }) needed
 
 pub returns-in_err-n-clause-short : goal.returns-in_err-n-clause-short
 returns-in_err-n-clause-short g c =
@@ -49,17 +50,17 @@ loop-n-preserved g c =
     let z = c.in_ok-n.field-0 in
     let before = c.loop-n.invariant in
     let ok = c.in_ok-n.ensures in
-    let left = c.loop-n.next.left in
+    let left = c.loop-n.cursor.left in
     let left' = c.read_group.new.cursor.left in
-    let old = g.P.Plane.words c.loop-n.digits in
+    let old = g.P.Plane.words c.loop-n.plane in
     let new = g.P.Plane.words c.set_one.new.plane in
-    let s = rest c.loop-n.next.reader in
+    let s = rest c.loop-n.cursor.reader in
     let s' = rest c.read_group.new.cursor.reader in
     let m = c.args.size - n in
     let taken = rw (c.sees.ensures.left, c.sees.ensures.reader) at ok.taken in
     let bits = rw (c.sees.ensures.left, c.sees.ensures.reader) at ok.bits in
     let digits = rw (c.sees.ensures.left, c.sees.ensures.reader) at ok.digits in
-    let enough : n + z < 64 * length old = omega (arith, ok.within, before.within, c.requires.words, g.met.P.Plane.long c.loop-n.digits) in
+    let enough : n + z < 64 * length old = omega (arith, ok.within, before.within, c.requires.words, g.met.P.Plane.long c.loop-n.plane) in
     let placed = one_placed old new n z enough before.clear c.set_one.ensures in
     let long = length-digits_held n old (omega arith) in
     let fewer : m - z - 1 ≡ c.args.size - (n + z + 1) = omega arith in
@@ -93,30 +94,28 @@ finished size n from prefix ws more within enough clear above is zeros taken =
       taken = taken;
       digits = held ∙ ap (λ (ds : List Bool). digits_held n ws ++ ds) (sym zeros) ∙ sym is;
       clear = clear_later n size ws within clear;
-      above = omega (arith, above, reached);
+      reached = omega (arith, above, reached);
     }
-
--- no bit or no rank is left
-pub returns-else-next-gt0-clause-read : goal.returns-else-next-gt0-clause-read
-returns-else-next-gt0-clause-read g c =
-    let now = c.loop-n.invariant in
-    let over = tail_over c.loop-n.next.left (c.args.size - c.loop-n.n) (rest c.loop-n.next.reader) (inl (omega arith)) in
-    finished c.args.size c.loop-n.n c.args.n _ _ _ now.within (omega (arith, c.requires.words, g.met.P.Plane.long c.loop-n.digits)) now.clear now.above now.digits over.1 (Passes-end now.passes over.0)
-
-pub returns-after-loop-n-clause-read : goal.returns-after-loop-n-clause-read
-returns-after-loop-n-clause-read g c =
-    let now = c.loop-n.invariant in
-    let over = tail_over c.loop-n.next.left (c.args.size - c.loop-n.n) (rest c.loop-n.next.reader) (inr (omega arith)) in
-    finished c.args.size c.loop-n.n c.args.n _ _ _ now.within (omega (arith, c.requires.words, g.met.P.Plane.long c.loop-n.digits)) now.clear now.above now.digits over.1 (Passes-end now.passes over.0)
 
 -- a group bit of zero
 at_end : (left m bits count : ℕ) (s : List Bool) → 0 < left → 0 < m → IsWindow left bits count s → 1 ≤ count → bits % 2 ≡ 0 → (tail_bits left m s ≡ 1) × (tail_ahead left m s ≡ replicate m false)
 at_end left m bits count s some digit window there even = tail_end left m s _ some digit (zero_first s bits count window.bits there even)
 
-pub returns-then-next-eq0-clause-read : goal.returns-then-next-eq0-clause-read
-returns-then-next-eq0-clause-read g c =
+pub returns-then-cursor-eq0-clause-read : goal.returns-then-cursor-eq0-clause-read
+returns-then-cursor-eq0-clause-read g c =
     let now = c.loop-n.invariant in
     let next = c.sees.new.self in
-    let over = rw (c.sees.ensures.left, c.sees.ensures.reader) at (at_end next.left (c.args.size - c.loop-n.n) next.bits next.count (rest next.reader) (omega (arith, c.sees.ensures.left, c.if-next-gt0.true)) (omega (arith, c.loop-n-test.true)) next.window (c.sees.ensures.there refl) c.if-next-eq0.true) in
+    let over = rw (c.sees.ensures.left, c.sees.ensures.reader) at (at_end next.left (c.args.size - c.loop-n.n) next.bits next.count (rest next.reader) (omega (arith, c.sees.ensures.left, c.if-cursor-gt0.true)) (omega (arith, c.loop-n-test.true)) next.window (c.sees.ensures.there c.if-not-sees.false) c.if-cursor-eq0.true) in
     let taken = rw (c.sees.ensures.left, c.sees.ensures.reader) at c.pass.ensures.taken in
-    finished c.args.size c.loop-n.n c.args.n _ _ _ now.within (omega (arith, c.requires.words, g.met.P.Plane.long c.loop-n.digits)) now.clear now.above now.digits over.1 (Passes-end (Passes-part 0 now.passes over.0 taken) refl)
+    finished c.args.size c.loop-n.n c.args.n _ _ _ now.within (omega (arith, c.requires.words, g.met.P.Plane.long c.loop-n.plane)) now.clear now.above now.digits over.1 (Passes-end (Passes-part 0 now.passes over.0 taken) refl)
+
+-- no bit or no rank is left
+pub returns-clause-read : goal.returns-clause-read
+returns-clause-read g c =
+    let now = c.loop-n.invariant in
+    let none : (c.loop-n.cursor.left ≡ 0) ⊎ (c.args.size - c.loop-n.n ≡ 0) = elim c.loop-n-test.branch [
+      | then-loop-n-test+else-cursor-gt0 w ↦ inl (omega (arith, w.if-cursor-gt0.false))
+      | else-loop-n-test w ↦ inr (omega (arith, w.loop-n-test.false))
+    ] in
+    let over = tail_over c.loop-n.cursor.left (c.args.size - c.loop-n.n) (rest c.loop-n.cursor.reader) none in
+    finished c.args.size c.loop-n.n c.args.n _ _ _ now.within (omega (arith, c.requires.words, g.met.P.Plane.long c.loop-n.plane)) now.clear now.above now.digits over.1 (Passes-end now.passes over.0)

@@ -1,9 +1,10 @@
 use Rattle.std.proofs.Common.{arith}
 use Rattle.zf_planes.proofs.Tables.{IsCode, code_of_entry}
+use Rattle.zf_planes.proofs.four.code_of_4.Goals.{After-from-2}
 use Rattle.zf_planes.proofs.four.code_of_4.Goals as goal
 
 -- what the entry says
-entry : (c : goal.After-from-2) → IsCode c.args.n c.args.digits c.entry_of_pair-entry.result
+entry : (c : After-from-2) → IsCode c.args.n c.args.digits c.entry_of_pair-entry.result
 entry c = code_of_entry c.args.n c.args.digits c.entry_of_pair-entry.result c.requires.in_plane c.requires.digits c.entry_of_pair-entry.ensures
 
 pub overflow_sub-entry : goal.overflow_sub-entry
@@ -12,16 +13,16 @@ overflow_sub-entry c =
     omega (arith, c.min-zeros.ensures, found.some)
 
 pub returns-clause-bits : goal.returns-clause-bits
-returns-clause-bits c = rw (c.from.ensures, c.from-2.ensures, c.min-zeros.ensures) (entry c).bits
+returns-clause-bits c = rw (c.from.ensures, c.from-2.ensures, c.min-zeros.ensures) (entry c.before).bits
 
 pub returns-clause-small : goal.returns-clause-small
-returns-clause-small c = rw (c.from.ensures, c.from-2.ensures, c.min-zeros.ensures) (entry c).small
+returns-clause-small c = rw (c.from.ensures, c.from-2.ensures, c.min-zeros.ensures) (entry c.before).small
 
 pub returns-clause-len : goal.returns-clause-len
-returns-clause-len c = omega (arith, c.from-2.ensures, c.min-zeros.ensures, (entry c).len)
+returns-clause-len c = omega (arith, c.from-2.ensures, c.min-zeros.ensures, (entry c.before).len)
 
 pub returns-clause-above : goal.returns-clause-above
-returns-clause-above c = (entry c).above
+returns-clause-above c = (entry c.before).above
 
-pub returns-clause-within : goal.returns-clause-within
-returns-clause-within c = omega (arith, (entry c).within)
+pub invariant_of-result : goal.invariant_of-result
+invariant_of-result c = record { within = omega (arith, (entry c).within) }

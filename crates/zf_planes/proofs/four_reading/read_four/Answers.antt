@@ -67,4 +67,4 @@ returns-clause-below c = each_below c.args.width c.digits_of.result c.digits_of.
 pub returns-in_err-read-clause-short : goal.returns-in_err-read-clause-short
 returns-in_err-read-clause-short c =
     let few = c.in_err-read.ensures.short in
-    (λ no. omega (arith, few, bits_are c.args.budget c.args.prec (rest c.args.reader.now)), λ less. refl)
+    (λ _. omega (arith, few, bits_are c.args.budget c.args.prec (rest c.args.reader.now)), λ less. rw c.from_residual.ensures refl)

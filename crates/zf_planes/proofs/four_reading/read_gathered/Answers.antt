@@ -1,4 +1,4 @@
-use Rattle.std.proofs.Common.{◌≡◌, ℕ, ◌+◌, ◌-◌, inl, inr, Bool, false, List, [], ◌∷◌, ◌++◌, replicate, refl, sym, ap, subst, ◌∙◌, arith}
+use Rattle.std.proofs.Common.{◌≡◌, ℕ, ◌+◌, ◌-◌, ◌⊎◌, inl, inr, Bool, false, List, [], ◌∷◌, ◌++◌, replicate, refl, sym, ap, subst, ◌∙◌, arith}
 use Rattle.zf_bits.specs.Reader.{rest}
 use Rattle.zf_planes.specs.Decoding.{planes_ahead, planes_bits}
 use Rattle.zf_planes.specs.Lanes.{gathered, ReadsPlanes}
@@ -7,6 +7,7 @@ use Rattle.zf_planes.proofs.LanesAhead.{FoursRead, FoursRead-more, gathered-more
 use Rattle.zf_planes.proofs.LastRank.{three_through}
 use Rattle.zf_planes.proofs.Passing.{Passes-start, Passes-part, Passes-end, Passes-lacks, if_none}
 use Rattle.zf_planes.proofs.PlanesAhead.{planes_over, zero_planes}
+use Rattle.zf_planes.proofs.four_reading.read_gathered.Goals.{then-loop-digits-test+else-cursor-gt0, else-loop-digits-test}
 use Rattle.zf_planes.proofs.four_reading.read_gathered.Goals as goal
 
 -- ---- the planes of zeros at the top
@@ -82,30 +83,21 @@ loop-digits-preserved c = record { read = c.loop-cursor.invariant.read }
 
 -- ---- no bit or no plane is left
 
-no_bit_left : (c : goal.Else-cursor-gt0) → (planes_bits c.loop-digits.cursor.left (c.args.prec - (c.loop-digits.digits.done + c.loop-digits.digits.held)) 4 c.loop-digits.above (rest c.loop-digits.cursor.reader) ≡ 0)
+over : (c : goal.Left-loop-digits) → (planes_bits c.loop-digits.cursor.left (c.args.prec - (c.loop-digits.digits.done + c.loop-digits.digits.held)) 4 c.loop-digits.above (rest c.loop-digits.cursor.reader) ≡ 0)
     × (planes_ahead c.loop-digits.cursor.left (c.args.prec - (c.loop-digits.digits.done + c.loop-digits.digits.held)) 4 c.loop-digits.above (rest c.loop-digits.cursor.reader)
     ≡ replicate (c.args.prec - (c.loop-digits.digits.done + c.loop-digits.digits.held)) (replicate 4 false))
-no_bit_left c =
-    planes_over c.loop-digits.cursor.left (c.args.prec - (c.loop-digits.digits.done + c.loop-digits.digits.held)) 4 c.loop-digits.above (rest c.loop-digits.cursor.reader) (omega arith) c.loop-digits.invariant.read.high (inl (omega arith))
+over c =
+    let planes = c.args.prec - (c.loop-digits.digits.done + c.loop-digits.digits.held) in
+    let none : (c.loop-digits.cursor.left ≡ 0) ⊎ (planes ≡ 0) = elim c.loop-digits-test.branch [
+      | then-loop-digits-test+else-cursor-gt0 w ↦ inl (omega (arith, w.if-cursor-gt0.false))
+      | else-loop-digits-test w ↦ inr (omega (arith, w.loop-digits-test.false))
+    ] in
+    planes_over c.loop-digits.cursor.left planes 4 c.loop-digits.above (rest c.loop-digits.cursor.reader) (omega arith) c.loop-digits.invariant.read.high none
 
-pub returns-else-cursor-gt0-clause-bits : goal.returns-else-cursor-gt0-clause-bits
-returns-else-cursor-gt0-clause-bits c = Passes-end c.loop-digits.invariant.read.passes (no_bit_left c).0
+pub returns-clause-bits : goal.returns-clause-bits
+returns-clause-bits c = Passes-end c.loop-digits.invariant.read.passes (over c).0
 
-pub returns-else-cursor-gt0-clause-digits : goal.returns-else-cursor-gt0-clause-digits
-returns-else-cursor-gt0-clause-digits c =
+pub returns-clause-digits : goal.returns-clause-digits
+returns-clause-digits c =
     let digits = c.loop-digits.digits in
-    c.loop-digits.invariant.read.planes ∙ ap (λ (ps : List (List Bool)). gathered digits.words digits.done digits.lanes digits.held ++ ps) (no_bit_left c).1
-
-no_plane_left : (c : goal.After-loop-digits) → (planes_bits c.loop-digits.cursor.left (c.args.prec - (c.loop-digits.digits.done + c.loop-digits.digits.held)) 4 c.loop-digits.above (rest c.loop-digits.cursor.reader) ≡ 0)
-    × (planes_ahead c.loop-digits.cursor.left (c.args.prec - (c.loop-digits.digits.done + c.loop-digits.digits.held)) 4 c.loop-digits.above (rest c.loop-digits.cursor.reader)
-    ≡ replicate (c.args.prec - (c.loop-digits.digits.done + c.loop-digits.digits.held)) (replicate 4 false))
-no_plane_left c =
-    planes_over c.loop-digits.cursor.left (c.args.prec - (c.loop-digits.digits.done + c.loop-digits.digits.held)) 4 c.loop-digits.above (rest c.loop-digits.cursor.reader) (omega arith) c.loop-digits.invariant.read.high (inr (omega arith))
-
-pub returns-after-loop-digits-clause-bits : goal.returns-after-loop-digits-clause-bits
-returns-after-loop-digits-clause-bits c = Passes-end c.loop-digits.invariant.read.passes (no_plane_left c).0
-
-pub returns-after-loop-digits-clause-digits : goal.returns-after-loop-digits-clause-digits
-returns-after-loop-digits-clause-digits c =
-    let digits = c.loop-digits.digits in
-    c.loop-digits.invariant.read.planes ∙ ap (λ (ps : List (List Bool)). gathered digits.words digits.done digits.lanes digits.held ++ ps) (no_plane_left c).1
+    c.loop-digits.invariant.read.planes ∙ ap (λ (ps : List (List Bool)). gathered digits.words digits.done digits.lanes digits.held ++ ps) (over c).1

@@ -1,7 +1,5 @@
 -- The planes so far are gathered, and what reading makes of the rest is what it makes of the planes below.
 use Rattle.std.proofs.Common.{◌≤◌, ◌+◌, ◌-◌}
-use Rattle.zf_bits.specs.Reader.{rest}
-use Rattle.zf_planes.specs.Decoding.{IsWindow}
 use Rattle.zf_planes.proofs.LanesAhead.{FoursRead}
 use Rattle.zf_planes.proofs.four_reading.read_gathered.Given as goal
 

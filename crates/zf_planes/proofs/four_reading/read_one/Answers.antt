@@ -1,6 +1,5 @@
-use Rattle.std.proofs.Common.{ℕ, Bool, List, [], ◌∷◌, max, refl, sym, ap, subst, ◌∙◌, arith}
+use Rattle.std.proofs.Common.{Bool, List, [], ◌∷◌, max, refl, sym, ap, ◌∙◌, arith}
 use Rattle.zf_spec.specs.Planes.{reach}
-use Rattle.zf_planes.specs.Decoding.{Takes}
 use Rattle.zf_planes.proofs.PlanesRead.{known_plane}
 use Rattle.zf_planes.proofs.four_reading.read_one.Goals as goal
 
@@ -15,10 +14,10 @@ returns-then-next-cursor-clause-read c =
     let is = c.plane_at-next.ensures.read (omega (arith, c.if-next-cursor.true, window.small)) in
     let known = known_plane _ _ _ _ _ _ _ _ _ c.requires.in_plane window is c.if-next-cursor.true in
     record {
-      one = refl;
+      count = refl;
       taken = c.pass.ensures.taken;
       len = sym known.0;
       digits = c.lanes_of_4.ensures.digits ∙ ap (λ (ds : List Bool). ds ∷ []) (sym known.1);
       below = c.lanes_of_4.ensures.below;
-      above = is.reached ∙ ap (λ (ds : List Bool). max c.args.n (reach ds)) (sym known.1);
+      reached = is.reached ∙ ap (λ (ds : List Bool). max c.args.n (reach ds)) (sym known.1);
     }

@@ -1,6 +1,6 @@
 use Rattle.std.proofs.Common.{◌≡◌, ℕ, suc, ◌-◌, ◌≤◌, sym, subst, arith}
 use Rattle.zf_bits.specs.Reader.{rest}
-use Rattle.zf_planes.specs.Decoding.{Takes, plane_bits, planes_bits}
+use Rattle.zf_planes.specs.Decoding.{plane_bits, planes_bits}
 use Rattle.zf_planes.specs.Lanes.{ReadsSome}
 use Rattle.zf_planes.proofs.Passing.{Passes-start, Passes-lacks, if_none}
 use Rattle.zf_planes.proofs.PlanesAhead.{plane_bits-le}
@@ -20,11 +20,12 @@ last c =
 
 pub returns-then-last-most-clause-read : goal.returns-then-last-most-clause-read
 returns-then-last-most-clause-read c =
-    let some = c.planes_at_end-last.ensures in
+    let last_planes = c.planes_at_end-last in
+    let some = last_planes.ensures in
     record {
       some = some.some;
       few = some.most;
-      read = record { fits = c.if-last-most.true; below = some.below; within = some.within; taken = rw (c.look_on.ensures.left, c.look_on.ensures.reader) at c.pass.ensures.taken; bits = rw (c.look_on.ensures.left, c.look_on.ensures.reader) at (last c).bits; digits = rw (c.look_on.ensures.left, c.look_on.ensures.reader) at (last c).digits };
+      read = record { fits = c.if-last-most.true; below = some.below; within = last_planes.result.within; taken = rw (c.look_on.ensures.left, c.look_on.ensures.reader) at c.pass.ensures.taken; bits = rw (c.look_on.ensures.left, c.look_on.ensures.reader) at (last c).bits; digits = rw (c.look_on.ensures.left, c.look_on.ensures.reader) at (last c).digits };
     }
 
 -- ---- planes in sight
@@ -44,7 +45,7 @@ returns-then-some-cursor-clause-read c =
     record {
       some = some.some;
       few = some.most;
-      read = record { fits = c.if-some-most.true; below = some.below; within = some.within; taken = rw (c.look_on.ensures.left, c.look_on.ensures.reader) at c.pass-then-some-cursor.ensures.taken; bits = rw (c.look_on.ensures.left, c.look_on.ensures.reader) at (sight c).bits; digits = rw (c.look_on.ensures.left, c.look_on.ensures.reader) at (sight c).digits };
+      read = record { fits = c.if-some-most.true; below = some.below; within = c.planes_in_sight-some.result.within; taken = rw (c.look_on.ensures.left, c.look_on.ensures.reader) at c.pass-then-some-cursor.ensures.taken; bits = rw (c.look_on.ensures.left, c.look_on.ensures.reader) at (sight c).bits; digits = rw (c.look_on.ensures.left, c.look_on.ensures.reader) at (sight c).digits };
     }
 
 -- ---- one plane
@@ -64,7 +65,7 @@ one-read : (c : goal.In_ok-one)
 one-read c =
     let read = c.in_ok-one.ensures.read in
     let one = c.in_ok-one.one in
-    one_read c.args.most c.args.n one.lanes one.len one.above c.requires.some (omega (arith, c.requires.in_plane)) read.digits read.len read.above read.taken
+    one_read c.args.most c.args.n one.lanes one.len one.above c.requires.some (omega (arith, c.requires.in_plane)) read.digits read.len read.reached read.taken
 
 pub returns-clause-read : goal.returns-clause-read
 returns-clause-read c =
@@ -73,13 +74,13 @@ returns-clause-read c =
     let old = c.args.cursor.now in
     let new = c.read_one.new.cursor in
     let Read : ℕ → Type 0 = λ k. ReadsSome c.args.most c.args.n old.reader new.reader old.left new.left k one.lanes one.len one.above in
-    subst Read (sym read.one) (record {
+    subst Read (sym read.count) (record {
       some = omega arith;
       few = omega arith;
       read = record {
         fits = c.requires.some;
         below = read.below;
-        within = omega (arith, read.above, reach_of_one c.args.n one.lanes _ (omega (arith, c.requires.in_plane)) read.digits);
+        within = omega (arith, read.reached, reach_of_one c.args.n one.lanes _ (omega (arith, c.requires.in_plane)) read.digits);
         taken = rw (c.look_on.ensures.left, c.look_on.ensures.reader) at read.taken;
         bits = rw (c.look_on.ensures.left, c.look_on.ensures.reader) at (one-read c).bits;
         digits = rw (c.look_on.ensures.left, c.look_on.ensures.reader) at (one-read c).digits;

@@ -1,25 +1,26 @@
 use Rattle.std.proofs.Common.{◌≡◌, ◌+◌, ◌*◌, ◌/◌, ◌%◌, get_or, ap, ◌∙◌, arith}
 use Rattle.zf_planes.specs.declared.pairs_table.TheConstants.{PAIRS}
 use Rattle.zf_planes.proofs.Tables.{IsPair, pair_of_entry}
+use Rattle.zf_planes.proofs.four_writing.code_of_two.Goals.{After-from-2}
 use Rattle.zf_planes.proofs.four_writing.code_of_two.Goals as goal
 
 -- what the entry says
-entry : (c : goal.After-from-2) → IsPair c.args.n (c.args.string % 16) (c.args.string / 16 % 16) c.entry_of_pair-entry.result
+entry : (c : After-from-2) → IsPair c.args.n (c.args.string % 16) (c.args.string / 16 % 16) c.entry_of_pair-entry.result
 entry c =
     let place : 256 * c.args.n + c.args.string % 256 ≡ 256 * c.args.n + (c.args.string % 16 + 16 * (c.args.string / 16 % 16)) = omega arith in
     pair_of_entry c.args.n (c.args.string % 16) (c.args.string / 16 % 16) c.entry_of_pair-entry.result c.requires.in_plane (omega arith) (omega arith) (c.entry_of_pair-entry.ensures ∙ ap (λ i. get_or PAIRS i 0) place)
 
 pub returns-clause-bits : goal.returns-clause-bits
-returns-clause-bits c = rw (c.from.ensures, c.from-2.ensures) (entry c).bits
+returns-clause-bits c = rw (c.from.ensures, c.from-2.ensures) (entry c.before).bits
 
 pub returns-clause-small : goal.returns-clause-small
-returns-clause-small c = rw (c.from.ensures, c.from-2.ensures) (entry c).small
+returns-clause-small c = rw (c.from.ensures, c.from-2.ensures) (entry c.before).small
 
 pub returns-clause-len : goal.returns-clause-len
-returns-clause-len c = omega (arith, c.from-2.ensures, (entry c).len)
+returns-clause-len c = omega (arith, c.from-2.ensures, (entry c.before).len)
 
 pub returns-clause-above : goal.returns-clause-above
-returns-clause-above c = (entry c).above
+returns-clause-above c = (entry c.before).above
 
-pub returns-clause-within : goal.returns-clause-within
-returns-clause-within c = omega (arith, (entry c).within)
+pub invariant_of-result : goal.invariant_of-result
+invariant_of-result c = record { within = omega (arith, (entry c).within) }

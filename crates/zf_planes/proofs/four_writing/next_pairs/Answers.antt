@@ -18,7 +18,7 @@ loop-above-preserved c =
       within = omega (arith, c.loop-above.invariant.within);
       len = omega (arith, pair.ensures.len, joined.ensures.len, c.if-part-le50.true);
       small = joined.ensures.small pair.ensures.small;
-      above = pair.ensures.within;
+      above = c.code_of_two-pair.result.within;
       bits = both.code;
       reached = both.reached;
     }

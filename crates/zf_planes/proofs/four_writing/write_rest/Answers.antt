@@ -36,7 +36,7 @@ loop-planes-preserved c =
     record {
       remains = rw spent at written;
       reached = c.loop-planes.invariant.reached ∙ on.reached;
-      above = c.code_of_4-code.ensures.within;
+      above = c.code_of_4-code.result.within;
       few = omega (arith, c.loop-planes.invariant.few);
     }
 

@@ -8,10 +8,11 @@ use Rattle.zf_planes.specs.declared.ends_table.TheConstants.{ENDS}
 use Rattle.zf_planes.proofs.LanesAhead.{planes_bits-le}
 use Rattle.zf_planes.specs.Lanes.{lanes_apart}
 use Rattle.zf_planes.proofs.LaneTables.{AreLast, last_of_entry}
+use Rattle.zf_planes.proofs.in_lanes.planes_at_end.Goals.{After-from-2}
 use Rattle.zf_planes.proofs.in_lanes.planes_at_end.Goals as goal
 
 -- what the entry says
-entry : (c : goal.After-from-2) → AreLast c.args.n c.args.left (c.args.bits % 2 ^ c.args.left) (lanes_apart (c.entry_of_end-entry.result % 65536)) (c.entry_of_end-entry.result / 65536 % 16)
+entry : (c : After-from-2) → AreLast c.args.n c.args.left (c.args.bits % 2 ^ c.args.left) (lanes_apart (c.entry_of_end-entry.result % 65536)) (c.entry_of_end-entry.result / 65536 % 16)
     (c.entry_of_end-entry.result / 1048576 % 8) (c.entry_of_end-entry.result / 8388608)
 entry c =
     let left = c.args.left in
@@ -20,30 +21,30 @@ entry c =
     (c.entry_of_end-entry.ensures ∙ ap (λ p. get_or ENDS (256 * c.args.n + (p + c.args.bits % p)) 0) power)
 
 pub returns-clause-digits : goal.returns-clause-digits
-returns-clause-digits c = rw (c.apart.ensures, c.from.ensures) (ap (λ (s : List Bool). planes_ahead c.args.left (c.entry_of_end-entry.result / 1048576 % 8) 4 c.args.n s) (sym (field-mod c.args.left c.args.bits)) ∙ (entry c).digits)
+returns-clause-digits c = rw (c.apart.ensures, c.from.ensures) (ap (λ (s : List Bool). planes_ahead c.args.left (c.entry_of_end-entry.result / 1048576 % 8) 4 c.args.n s) (sym (field-mod c.args.left c.args.bits)) ∙ (entry c.before).digits)
 
 pub returns-clause-bits : goal.returns-clause-bits
-returns-clause-bits c = rw c.from-2.ensures (ap (λ (s : List Bool). planes_bits c.args.left (c.entry_of_end-entry.result / 1048576 % 8) 4 c.args.n s) (sym (field-mod c.args.left c.args.bits)) ∙ (entry c).len)
+returns-clause-bits c = rw c.from-2.ensures (ap (λ (s : List Bool). planes_bits c.args.left (c.entry_of_end-entry.result / 1048576 % 8) 4 c.args.n s) (sym (field-mod c.args.left c.args.bits)) ∙ (entry c.before).len)
 
 pub returns-clause-below : goal.returns-clause-below
-returns-clause-below c = rw (c.apart.ensures, c.from.ensures) (entry c).small
+returns-clause-below c = rw (c.apart.ensures, c.from.ensures) (entry c.before).small
 
 pub returns-clause-some : goal.returns-clause-some
-returns-clause-some c = (entry c).some
+returns-clause-some c = (entry c.before).some
 
 pub returns-clause-most : goal.returns-clause-most
-returns-clause-most c = omega (arith, (entry c).most)
+returns-clause-most c = omega (arith, (entry c.before).most)
 
 pub returns-clause-bit : goal.returns-clause-bit
-returns-clause-bit c = rw c.from-2.ensures (entry c).bit
+returns-clause-bit c = rw c.from-2.ensures (entry c.before).bit
 
 pub returns-clause-len : goal.returns-clause-len
 returns-clause-len c =
     let most = planes_bits-le c.args.left (c.entry_of_end-entry.result / 1048576 % 8) 4 c.args.n (field c.args.left (c.args.bits % 2 ^ c.args.left)) in
-    omega (arith, c.from-2.ensures, (entry c).len, most)
+    omega (arith, c.from-2.ensures, (entry c.before).len, most)
 
 pub returns-clause-above : goal.returns-clause-above
-returns-clause-above c = rw (c.apart.ensures, c.from.ensures) (entry c).above
+returns-clause-above c = rw (c.apart.ensures, c.from.ensures) (entry c.before).above
 
-pub returns-clause-within : goal.returns-clause-within
-returns-clause-within c = omega (arith, (entry c).within)
+pub invariant_of-result : goal.invariant_of-result
+invariant_of-result c = record { within = omega (arith, (entry c).within) }

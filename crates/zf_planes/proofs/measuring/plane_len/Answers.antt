@@ -17,25 +17,25 @@ pub overflow_add-runs : goal.overflow_add-runs
 overflow_add-runs g c =
     let ds = digits_held c.args.size (g.P.Plane.words c.args.plane.now) in
     let long = length-digits_held c.args.size (g.P.Plane.words c.args.plane.now) (omega (arith, c.requires.words, g.met.P.Plane.long c.args.plane.now)) in
-    omega (arith, c.ones_from.ensures, count_by-le-length (λ d. d) (drop c.args.n ds), length-drop c.args.n ds, long, c.requires.end, reach-le ds, c.requires.size, c.saturating_sub.ensures)
+    omega (arith, c.ones_from.ensures, count_by-le-length (λ d. d) (drop c.args.n ds), length-drop c.args.n ds, long, c.requires.end, reach-le ds, c.requires.words, g.met.P.Plane.few, c.saturating_sub.ensures)
 
 pub overflow_add-result : goal.overflow_add-result
 overflow_add-result g c =
     let ds = digits_held c.args.size (g.P.Plane.words c.args.plane.now) in
     let long = length-digits_held c.args.size (g.P.Plane.words c.args.plane.now) (omega (arith, c.requires.words, g.met.P.Plane.long c.args.plane.now)) in
-    omega (arith, c.ones_from.ensures, count_by-le-length (λ d. d) (drop c.args.n ds), length-drop c.args.n ds, long, c.requires.end, reach-le ds, c.requires.size, c.saturating_sub.ensures, c.requires.in_plane)
+    omega (arith, c.ones_from.ensures, count_by-le-length (λ d. d) (drop c.args.n ds), length-drop c.args.n ds, long, c.requires.end, reach-le ds, c.requires.words, g.met.P.Plane.few, c.saturating_sub.ensures, c.requires.in_plane)
 
 pub overflow_add-result-then-max-size : goal.overflow_add-result-then-max-size
 overflow_add-result-then-max-size g c =
     let ds = digits_held c.args.size (g.P.Plane.words c.args.plane.now) in
     let long = length-digits_held c.args.size (g.P.Plane.words c.args.plane.now) (omega (arith, c.requires.words, g.met.P.Plane.long c.args.plane.now)) in
-    omega (arith, c.ones_from.ensures, count_by-le-length (λ d. d) (drop c.args.n ds), length-drop c.args.n ds, long, c.requires.end, reach-le ds, c.requires.size, c.saturating_sub.ensures, c.requires.in_plane)
+    omega (arith, c.ones_from.ensures, count_by-le-length (λ d. d) (drop c.args.n ds), length-drop c.args.n ds, long, c.requires.end, reach-le ds, c.requires.words, g.met.P.Plane.few, c.saturating_sub.ensures, c.requires.in_plane)
 
 pub overflow_add-result-else-max-size : goal.overflow_add-result-else-max-size
 overflow_add-result-else-max-size g c =
     let ds = digits_held c.args.size (g.P.Plane.words c.args.plane.now) in
     let long = length-digits_held c.args.size (g.P.Plane.words c.args.plane.now) (omega (arith, c.requires.words, g.met.P.Plane.long c.args.plane.now)) in
-    omega (arith, c.ones_from.ensures, count_by-le-length (λ d. d) (drop c.args.n ds), length-drop c.args.n ds, long, c.requires.end, reach-le ds, c.requires.size, c.saturating_sub.ensures, c.saturating_sub-else-max-size.ensures, c.requires.in_plane)
+    omega (arith, c.ones_from.ensures, count_by-le-length (λ d. d) (drop c.args.n ds), length-drop c.args.n ds, long, c.requires.end, reach-le ds, c.requires.words, g.met.P.Plane.few, c.saturating_sub.ensures, c.saturating_sub-else-max-size.ensures, c.requires.in_plane)
 
 pub returns-then-max-size : goal.returns-then-max-size
 returns-then-max-size g c =

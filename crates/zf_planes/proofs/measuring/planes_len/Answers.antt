@@ -32,7 +32,8 @@ pub overflow_add-len : goal.overflow_add-len
 overflow_add-len g c =
     let next = step g.P.Plane.words c.loop-i.above c.args.prec c.args.size c.loop-i.i c.args.planes.now c.index-planes-planes.result c.index-planes-planes.is c.loop-i-test.true c.requires.planes in
     let few = most g.P.Plane.words _ c.args.prec c.args.size c.args.planes.now g.met.P.Plane.long c.requires.words c.requires.planes in
-    let product = mul-le-mul_right c.args.prec c.requires.size in
+    let small : c.args.size ≤ 256 = omega (arith, c.requires.words, g.met.P.Plane.few) in
+    let product = mul-le-mul_right c.args.prec small in
     omega (arith, c.loop-i.invariant.sum, c.plane_len.ensures, next, few, product)
 
 pub loop-i-preserved : goal.loop-i-preserved

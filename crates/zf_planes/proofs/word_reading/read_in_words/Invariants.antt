@@ -1,7 +1,5 @@
 -- The top i planes are read, the others are zero, and what reading makes of the rest is what it makes of the planes below.
 use Rattle.std.proofs.Common.{◌≡◌, ◌⊎◌, ◌-◌, ◌≤◌, length, map}
-use Rattle.zf_bits.specs.Reader.{rest}
-use Rattle.zf_planes.specs.Decoding.{IsWindow}
 use Rattle.zf_planes.proofs.PlanesRead.{AreRead}
 use Rattle.zf_planes.proofs.word_reading.read_in_words.Given as goal
 

@@ -1,3 +1,4 @@
+use Rattle.zf_planes.proofs.Passing.{Takes-rest}
 use Rattle.std.proofs.Common.{◌≡◌, ℕ, suc, ◌+◌, ◌-◌, ◌<◌, ◌≤◌, Bool, List, ◌∷◌, ◌++◌, length, map, take, drop, sym, ap, subst, ◌∙◌, arith, length-set}
 use Rattle.std.proofs.lemmas.List.{length-map, drop-drop}
 use Rattle.std.proofs.lemmas.List.Elements.{All-set}
@@ -45,6 +46,7 @@ loop-i-preserved g c =
     let some : 0 < len = omega (arith, same.ensures.len) in
     let window = rw (last, left', place) at (window_passed (drop passed s) left bits count len before.window some small) in
     record {
+      window = window;
       fewer = omega (arith, before.fewer);
       bits = omega (arith, before.bits, (rw (← more) at next_bits), passed');
       digits =
@@ -62,12 +64,16 @@ loop-i-preserved g c =
 pub skip-requires : goal.skip-requires
 skip-requires g c = omega (arith, window_long (rest c.args.cursor.now.reader) c.args.cursor.now.bits c.args.cursor.now.count c.args.cursor.now.window.bits)
 
+pub invariant_of-cursor : goal.invariant_of-cursor
+invariant_of-cursor g c =
+    let now = c.args.cursor.now in
+    let taken = Takes-skip now.left (now.count - c.loop-i.count) (omega (arith, now.window.within)) (omega (arith, window_long (rest now.reader) now.bits now.count now.window.bits)) c.skip.ensures in
+    record { window = rw (Takes-rest taken) c.loop-i.invariant.window }
+
 pub returns-clause-taken : goal.returns-clause-taken
 returns-clause-taken g c =
-    let ahead = c.args.cursor.now in
-    let passed = ahead.count - c.loop-i.count in
-    let within : passed ≤ ahead.left = omega (arith, c.args.cursor.now.window.within) in
-    let there : passed ≤ length (rest c.args.cursor.now.reader) = omega (arith, window_long (rest c.args.cursor.now.reader) ahead.bits ahead.count c.args.cursor.now.window.bits) in
-    let count : passed ≡ ahead.left - (ahead.left - passed) = omega arith in
-    let Taken : ℕ → Type 0 = λ k. Takes c.args.cursor.now.reader c.skip.new.self ahead.left (ahead.left - passed) k in
-    subst Taken count (Takes-skip ahead.left passed within there c.skip.ensures)
+    let now = c.args.cursor.now in
+    let passed = now.count - c.loop-i.count in
+    let taken = Takes-skip now.left passed (omega (arith, now.window.within)) (omega (arith, window_long (rest now.reader) now.bits now.count now.window.bits)) c.skip.ensures in
+    let Taken : ℕ → Type 0 = λ k. Takes now.reader c.skip.new.self now.left (now.left - passed) k in
+    subst Taken (omega (arith, now.window.within)) taken

@@ -14,6 +14,7 @@ invariant-loop-i g l =
     let left = ahead.left - passed in
     let planes = map g.P.Plane.words l.planes in
     record {
+      window : IsWindow left l.bits l.count (drop passed s);
       fewer : l.count ≤ ahead.count;
       bits : planes_bits ahead.left (l.to - l.from) l.size l.n s ≡ passed + planes_bits left (l.to - l.i) l.size l.n (drop passed s);
       digits : take l.from (planes_held l.size (map g.P.Plane.words l.fn.planes)) ++ planes_ahead ahead.left (l.to - l.from) l.size l.n s

@@ -15,7 +15,7 @@ read : (g : Over) (c : goal.After-pass g)
 read g c = known_plane _ _ _ _ _ _ _ _ _ c.requires.in_plane c.args.cursor.now.window c.requires.read c.requires.there
 
 here : (g : Over) (c : goal.After-pass g) → Written c.args.size c.args.next.digits (g.P.Plane.words c.set_word.new.self)
-here g c = written _ _ _ _ _ (omega arith) c.requires.words (omega (arith, c.requires.words, c.requires.ranks)) c.zero-plane.ensures c.set_word.ensures c.requires.read.small
+here g c = written _ _ _ _ _ (omega arith) (omega (arith, c.requires.size, g.met.P.Plane.some)) g.met.P.Plane.some c.zero-plane.ensures c.set_word.ensures c.requires.read.small
 
 pub returns : goal.returns
 returns g c = record {
@@ -23,6 +23,6 @@ returns g c = record {
     taken = rw (read g c).0 c.pass.ensures.taken;
     digits = (here g c).digits ∙ sym (read g c).1;
     clear = (here g c).clear;
-    above = c.requires.read.reached ∙ ap (λ (ds : List Bool). max c.args.n (reach ds)) (sym (here g c).digits);
+    reached = c.requires.read.reached ∙ ap (λ (ds : List Bool). max c.args.n (reach ds)) (sym (here g c).digits);
   };
 }

@@ -10,7 +10,7 @@ pub returns-clause-digits : goal.returns-clause-digits
 returns-clause-digits g c =
     ap (field c.args.size) (masked c.word.result c.args.size c.requires.size)
     ∙ field-mod c.args.size c.word.result
-    ∙ sym (held_word c.args.size c.word.result (g.P.Plane.words c.args.plane.now) c.word.ensures c.requires.size (omega (arith, c.requires.words, g.met.P.Plane.long c.args.plane.now)))
+    ∙ sym (held_word c.args.size c.word.result (g.P.Plane.words c.args.plane.now) c.word.ensures c.requires.size (omega (arith, c.requires.size, g.met.P.Plane.some, g.met.P.Plane.long c.args.plane.now)))
 
 pub returns-clause-small : goal.returns-clause-small
 returns-clause-small g c =

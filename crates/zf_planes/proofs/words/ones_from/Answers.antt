@@ -28,7 +28,7 @@ overflow_add-ones g c =
     let ws = g.P.Plane.words c.args.plane.now in
     let ds = digits_held c.args.size ws in
     let long = length-digits_held c.args.size ws (omega (arith, c.requires.words, g.met.P.Plane.long c.args.plane.now)) in
-    omega (arith, more g c, count_by-le-length (λ d. d) (drop c.args.n ds), length-drop c.args.n ds, long, c.requires.size)
+    omega (arith, more g c, count_by-le-length (λ d. d) (drop c.args.n ds), length-drop c.args.n ds, long, c.requires.words, g.met.P.Plane.few)
 
 pub loop-at-preserved : goal.loop-at-preserved
 loop-at-preserved g c = record { sum = more g c; within = omega (arith, c.min-count.ensures, c.loop-at-test.true) }

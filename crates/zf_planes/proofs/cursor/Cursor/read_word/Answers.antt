@@ -1,4 +1,4 @@
-use Rattle.std.proofs.Common.{◌≡◌, ℕ, ◌+◌, ◌-◌, ◌/◌, ◌%◌, ◌^◌, ◌≤◌, Bool, false, List, ◌++◌, take, replicate, refl, ap, ◌∙◌, arith}
+use Rattle.std.proofs.Common.{◌≡◌, ℕ, ◌+◌, ◌-◌, ◌/◌, ◌%◌, ◌^◌, ◌≤◌, Bool, false, List, ◌++◌, take, replicate, ap, ◌∙◌, arith}
 use Rattle.std.proofs.lemmas.Nat.{mod_below, pow_pos}
 use Rattle.std.proofs.Math.Nat.{div-eq_of_lt}
 use Rattle.zf_spec.specs.Numbers.{field}
@@ -23,7 +23,7 @@ low_field v n small =
 -- ---- there are fewer
 
 pub returns-then-not-sees-clause-short : goal.returns-then-not-sees-clause-short
-returns-then-not-sees-clause-short c = record { few = c.sees.ensures.short refl c.requires.in_budget c.requires.in_word; all = ap (λ r. r.all) c.sees.ensures.reader }
+returns-then-not-sees-clause-short c = record { few = c.sees.ensures.short c.if-not-sees.true c.requires.in_budget c.requires.in_word; all = ap (λ r. r.all) c.sees.ensures.reader }
 
 -- ---- they are read
 
@@ -35,5 +35,5 @@ returns-clause-digits c =
     let seen = c.sees.new.self in
     ap (field 64) (masked seen.bits c.args.n c.requires.in_word)
     ∙ low_field seen.bits c.args.n c.requires.in_word
-    ∙ ap (λ (bs : List Bool). bs ++ replicate (64 - c.args.n) false) (window_prefix (rest seen.reader) seen.bits seen.count c.args.n seen.window.bits (c.sees.ensures.there refl))
+    ∙ ap (λ (bs : List Bool). bs ++ replicate (64 - c.args.n) false) (window_prefix (rest seen.reader) seen.bits seen.count c.args.n seen.window.bits (c.sees.ensures.there c.if-not-sees.false))
     ∙ ap (λ r. take c.args.n (rest r) ++ replicate (64 - c.args.n) false) c.sees.ensures.reader
