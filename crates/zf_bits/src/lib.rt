@@ -1,4 +1,5 @@
-//! Writing and reading lists of bits, as zfp's streams have them: fields least significant bit first, in words of 64.
+//! Writing and reading lists of bits, as zfp's streams have them: fields least significant bit first, in
+//! words of 64.
 #![tactic(auto)]
 
 mod excerpt;

@@ -71,7 +71,8 @@ impl Plane for u64 {
 }
 
 impl Plane for [u64; 4] {
-    ghost words = { λ plane. slice_index_or plane 0 0 ∷ slice_index_or plane 1 0 ∷ slice_index_or plane 2 0 ∷ slice_index_or plane 3 0 ∷ [] };
+    ghost words = { λ plane. slice_index_or plane 0 0 ∷ slice_index_or plane 1 0 ∷ slice_index_or plane 2 0
+        ∷ slice_index_or plane 3 0 ∷ [] };
 
     ghost word_count = { 4 };
 

@@ -20,7 +20,8 @@ pub fn get_bits(words: &[u64], at: u64, n: u32) -> u64
 pub fn put_bits(words: &mut [u64], at: u64, v: u64, n: u32)
     requires width { n ≤ 64 }
     requires within { at + n ≤ 64 * length words.old }
-    ensures bits { word_bits words.new ≡ take at (word_bits words.old) ++ field n v ++ drop (at + n) (word_bits words.old) }
+    ensures bits { word_bits words.new ≡ take at (word_bits words.old) ++ field n v
+        ++ drop (at + n) (word_bits words.old) }
     ensures len { length words.new ≡ length words.old }
 {
     let place = (at / 64) as usize;
@@ -39,7 +40,8 @@ fn put_in_word(words: &mut [u64], place: usize, shift: u32, v: u64, n: u32)
     requires in_word { shift + n ≤ 64 }
     requires within { 64 * place + shift + n ≤ 64 * length words.old }
     ensures bits { word_bits words.new
-        ≡ take (64 * place + shift) (word_bits words.old) ++ field n v ++ drop (64 * place + shift + n) (word_bits words.old) }
+        ≡ take (64 * place + shift) (word_bits words.old) ++ field n v
+        ++ drop (64 * place + shift + n) (word_bits words.old) }
     ensures len { length words.new ≡ length words.old }
 {
     if n > 0 {

@@ -28,7 +28,11 @@ impl Model for BitWriter {
 
     ghost Value = { Writer };
 
-    ghost view = { λ w. record { bits = take w.len (word_bits w.words.items); room = room w.words.items w.len } };
+    ghost view = { λ w. record {
+      bits = take w.len (word_bits w.words.items);
+      room =
+          room w.words.items w.len;
+    } };
 
     ghost invariant = { λ w. IsWritten w.words.items w.len };
 }

@@ -59,24 +59,30 @@ pub record Lacks (old new : Reader) (count : ℕ) : Type 0 where
   pub few : length (rest old) < count
   pub all : new.all ≡ old.all
 
--- the tail of a plane was read behind the digits below rank n, which others have, and so far do the ones of both reach
-pub record ReadsTail (size n : ℕ) (old new : Reader) (left after : ℕ) (prefix words : List ℕ) (above : ℕ) : Type 0 where
+-- the tail of a plane was read behind the digits below rank n, which others have, and so far do the ones of
+-- both reach
+pub record ReadsTail (size n : ℕ) (old new : Reader) (left after : ℕ) (prefix words : List ℕ) (above : ℕ)
+    : Type 0 where
   pub taken : Takes old new left after (tail_bits left (size - n) (rest old))
   pub digits : digits_held size words ≡ digits_held n prefix ++ tail_ahead left (size - n) (rest old)
   pub clear : IsClearFrom size words
   pub reached : above ≡ max n (reach (digits_held size words))
 
--- the code of one plane was read into words, where the ranks below n have had a one above, and so far do its ones and theirs reach
-pub record ReadsPlane (size n : ℕ) (old new : Reader) (left after : ℕ) (words : List ℕ) (above : ℕ) : Type 0 where
-  pub taken : Takes old new left after (plane_bits left size n (rest old))
-  pub digits : digits_held size words ≡ plane_ahead left size n (rest old)
-  pub clear : IsClearFrom size words
-  pub reached : above ≡ max n (reach (digits_held size words))
+-- the code of one plane was read into words, where the ranks below n have had a one above, and so far do its
+-- ones and theirs reach
+pub record ReadsPlane (size n : ℕ) (old new : Reader) (left after : ℕ) (words : List ℕ) (above : ℕ) : Type 0
+  where
+    pub taken : Takes old new left after (plane_bits left size n (rest old))
+    pub digits : digits_held size words ≡ plane_ahead left size n (rest old)
+    pub clear : IsClearFrom size words
+    pub reached : above ≡ max n (reach (digits_held size words))
 
--- the code of the top p planes was read into words, the planes below are zero, and so much of the budget is left
+-- the code of the top p planes was read into words, the planes below are zero, and so much of the budget is
+-- left
 pub record ReadsTop (budget p size : ℕ) (old new : Reader) (planes : List (List ℕ)) (after : ℕ) : Type 0 where
   pub taken : Takes old new budget after (planes_bits budget p size 0 (rest old))
-  pub digits : planes_held size planes ≡ planes_ahead budget p size 0 (rest old) ++ replicate (length planes - p) (replicate size false)
+  pub digits : planes_held size planes ≡ planes_ahead budget p size 0 (rest old)
+      ++ replicate (length planes - p) (replicate size false)
   pub clear : All (IsClearFrom size) planes
 
 -- ---- bits that were looked at

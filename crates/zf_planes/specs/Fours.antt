@@ -7,6 +7,7 @@ unfoldable pub string_planes : ℕ → ℕ → List (List Bool)
 string_planes zero digits = []
 string_planes (suc k) digits = field 4 digits ∷ string_planes k (digits / 16)
 
--- the ones of planes of four digits reach as far, as their codes see it: once three ranks have had a one, a plane is its own code
+-- the ones of planes of four digits reach as far, as their codes see it: once three ranks have had a one, a
+-- plane is its own code
 abbrev pub IsAsGood : ℕ → ℕ → Type 0
 IsAsGood m n = min 3 m ≡ min 3 n

@@ -29,7 +29,8 @@ joined c [] more = []
 joined c (u ∷ words) [] = []
 joined c (u ∷ words) (v ∷ more) = (u * 2 ^ c + v) ∷ joined c words more
 
--- the first planes have their digits in words, a word for each coefficient, and those behind them in the lanes of one
+-- the first planes have their digits in words, a word for each coefficient, and those behind them in the
+-- lanes of one
 pub record IsGathered (words : List ℕ) (done lanes held : ℕ) : Type 0 where
   pub four : length words ≡ 4
   pub prefix : AreBelow done words
@@ -40,14 +41,16 @@ gathered words done lanes held = low_planes done words ++ low_planes held (lanes
 
 -- ---- planes that were read
 
--- of at most so many planes, behind ranks below n that have had a one, c were read into the lanes v, by len bits; those behind them are to come
+-- of at most so many planes, behind ranks below n that have had a one, c were read into the lanes v, by len
+-- bits; those behind them are to come
 pub record ReadsPlanes (most n : ℕ) (old new : Reader) (left after c v len above : ℕ) : Type 0 where
   pub fits : c ≤ most
   pub below : AreBelow c (lanes_in 4 v)
   pub within : above ≤ 4
   pub taken : Takes old new left after len
   pub bits : planes_bits left most 4 n (rest old) ≡ len + planes_bits after (most - c) 4 above (rest new)
-  pub digits : planes_ahead left most 4 n (rest old) ≡ low_planes c (lanes_in 4 v) ++ planes_ahead after (most - c) 4 above (rest new)
+  pub digits : planes_ahead left most 4 n (rest old) ≡ low_planes c (lanes_in 4 v)
+      ++ planes_ahead after (most - c) 4 above (rest new)
 
 -- one plane at least, and four at most
 pub record ReadsSome (most n : ℕ) (old new : Reader) (left after c v len above : ℕ) : Type 0 where

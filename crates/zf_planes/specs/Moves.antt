@@ -17,11 +17,13 @@ LacksPlane size n old new = Lacks old.reader new.reader (plane_bits old.left siz
 
 -- the bits of planes are not there
 abbrev pub LacksPlanes : ℕ → ℕ → ℕ → Cursor → Cursor → Type 0
-LacksPlanes count size n old new = Lacks old.reader new.reader (planes_bits old.left count size n (rest old.reader))
+LacksPlanes count size n old new = Lacks old.reader new.reader
+    (planes_bits old.left count size n (rest old.reader))
 
 -- the code of one plane was read into words, and so far do its ones and those above reach
 abbrev pub MovesOverPlane : ℕ → ℕ → Cursor → Cursor → List ℕ → ℕ → Type 0
-MovesOverPlane size n old new words above = ReadsPlane size n old.reader new.reader old.left new.left words above
+MovesOverPlane size n old new words above = ReadsPlane size n old.reader new.reader old.left new.left words
+    above
 
 -- the code of one plane of four digits was read, where the ranks below n have had a one above
 pub record MovesOverOne (n : ℕ) (old new : Cursor) (one : PlanesInLanes) : Type 0 where
@@ -34,8 +36,10 @@ pub record MovesOverOne (n : ℕ) (old new : Cursor) (one : PlanesInLanes) : Typ
 
 -- planes were read, of at most so many
 abbrev pub MovesOverPlanes : ℕ → ℕ → Cursor → Cursor → PlanesInLanes → Type 0
-MovesOverPlanes most n old new some = ReadsPlanes most n old.reader new.reader old.left new.left some.count some.lanes some.len some.above
+MovesOverPlanes most n old new some = ReadsPlanes most n old.reader new.reader old.left new.left some.count
+    some.lanes some.len some.above
 
 -- one at least, and four at most
 abbrev pub MovesOverSome : ℕ → ℕ → Cursor → Cursor → PlanesInLanes → Type 0
-MovesOverSome most n old new some = ReadsSome most n old.reader new.reader old.left new.left some.count some.lanes some.len some.above
+MovesOverSome most n old new some = ReadsSome most n old.reader new.reader old.left new.left some.count
+    some.lanes some.len some.above

@@ -3,7 +3,8 @@ use Rattle.std.specs.Prelude.{ℕ, ◌≡◌, ◌^◌, ◌<◌, max}
 use Rattle.zf_spec.specs.Numbers.{field}
 use Rattle.zf_spec.specs.Planes.{plane_code, reach}
 
--- where the ranks below n have had a one above, the code of the plane of these digits has so many bits and begins these bits, and its ones and those above reach so far
+-- where the ranks below n have had a one above, the code of the plane of these digits has so many bits and
+-- begins these bits, and its ones and those above reach so far
 pub record IsReadAs (n size bits digits len above : ℕ) : Type 0 where
   pub code : plane_code n (field size digits) ≡ field len bits
   pub small : digits < 2 ^ size

@@ -57,7 +57,8 @@ impl<'a> Cursor<'a> {
     pub(crate) fn look_on(&mut self, wanted: u64)
         ensures reader { self.new.reader ≡ self.old.reader }
         ensures left { self.new.left ≡ self.old.left }
-        ensures all { self.new.count < wanted → self.new.count ≡ min 64 (min self.new.left (length (rest self.new.reader))) }
+        ensures all { self.new.count < wanted → self.new.count
+            ≡ min 64 (min self.new.left (length (rest self.new.reader))) }
     {
         // Where all that is left of the budget is in sight, there is no more to see.
         if self.count < wanted && self.count < self.left {
@@ -85,7 +86,8 @@ impl<'a> Cursor<'a> {
         requires in_budget { n ≤ self.old.left }
         ensures short { IfNone result (Lacks self.old.reader self.new.reader n) }
         ensures taken { OnSome result (Takes self.old.reader self.new.reader self.old.left self.new.left n) }
-        ensures digits { IfSome result (λ digits. field 64 digits ≡ take n (rest self.old.reader) ++ replicate (64 - n) false) }
+        ensures digits { IfSome result (λ digits. field 64 digits ≡ take n (rest self.old.reader)
+            ++ replicate (64 - n) false) }
     {
         if !self.sees(n) {
             return None;

@@ -30,7 +30,8 @@ fn read_prefix<P: Plane>(n: usize, cursor: &mut Cursor<'_>) -> Option<P>
     requires words { n ≤ 64 * P.word_count }
     ensures short { IfNone result (Lacks cursor.old.reader cursor.new.reader (min n cursor.old.left)) }
     ensures taken { OnSome result (Moves cursor.old cursor.new (min n cursor.old.left)) }
-    ensures digits { IfSome result (λ plane. digits_held n (P.words plane) ≡ first_bits n (take cursor.old.left (rest cursor.old.reader))) }
+    ensures digits { IfSome result (λ plane. digits_held n (P.words plane)
+        ≡ first_bits n (take cursor.old.left (rest cursor.old.reader))) }
     ensures clear { IfSome result (λ plane. IsClearFrom n (P.words plane)) }
 {
     let count = cursor.left.min(n as u64);
@@ -54,7 +55,8 @@ struct Run {
     left: u64,
 }
 
-/// Reads a run of at most `most` digits. The one of the last of them has no bit, and where the budget ends a one stands.
+/// Reads a run of at most `most` digits. The one of the last of them has no bit, and where the budget ends a
+/// one stands.
 #[cold]
 #[inline(never)]
 fn read_run(left: u64, most: usize, reader: &mut BitReader<'_>) -> Option<Run>
@@ -62,8 +64,10 @@ fn read_run(left: u64, most: usize, reader: &mut BitReader<'_>) -> Option<Run>
     ensures short { IfNone result (Lacks reader.old reader.new (run_bits left most (rest reader.old))) }
     ensures within { IfSome result (λ run. run.zeros < most) }
     ensures taken { IfSome result (λ run. Takes reader.old reader.new left run.left (left - run.left)) }
-    ensures bits { IfSome result (λ run. run_bits left most (rest reader.old) ≡ left - run.left + tail_bits run.left (most - run.zeros - 1) (rest reader.new)) }
-    ensures digits { IfSome result (λ run. run_ahead left most (rest reader.old) ≡ replicate run.zeros false ++ true ∷ tail_ahead run.left (most - run.zeros - 1) (rest reader.new)) }
+    ensures bits { IfSome result (λ run. run_bits left most (rest reader.old)
+        ≡ left - run.left + tail_bits run.left (most - run.zeros - 1) (rest reader.new)) }
+    ensures digits { IfSome result (λ run. run_ahead left most (rest reader.old) ≡ replicate run.zeros false
+        ++ true ∷ tail_ahead run.left (most - run.zeros - 1) (rest reader.new)) }
 {
     let mut left = left;
     let mut zeros = 0;
@@ -92,19 +96,23 @@ fn read_run(left: u64, most: usize, reader: &mut BitReader<'_>) -> Option<Run>
     Some(Run { zeros, left })
 }
 
-/// Reads a group bit of one, which was looked at, and its run of at most `most` digits. The answer is how many zeros lead to its one.
+/// Reads a group bit of one, which was looked at, and its run of at most `most` digits. The answer is how
+/// many zeros lead to its one.
 #[inline]
 fn read_group(most: usize, cursor: &mut Cursor<'_>) -> Option<usize>
     requires some { 0 < most }
     requires there { 0 < cursor.old.count }
     requires one { cursor.old.bits % 2 ≡ 1 }
-    ensures short { IfNone result (Lacks cursor.old.reader cursor.new.reader (tail_bits cursor.old.left most (rest cursor.old.reader))) }
+    ensures short { IfNone result (Lacks cursor.old.reader cursor.new.reader
+        (tail_bits cursor.old.left most (rest cursor.old.reader))) }
     ensures within { IfSome result (λ zeros. zeros < most) }
     ensures taken { OnSome result (Moves cursor.old cursor.new (cursor.old.left - cursor.new.left)) }
     ensures bits { IfSome result (λ zeros. tail_bits cursor.old.left most (rest cursor.old.reader)
-        ≡ cursor.old.left - cursor.new.left + tail_bits cursor.new.left (most - zeros - 1) (rest cursor.new.reader)) }
+        ≡ cursor.old.left - cursor.new.left + tail_bits cursor.new.left (most - zeros - 1)
+        (rest cursor.new.reader)) }
     ensures digits { IfSome result (λ zeros. tail_ahead cursor.old.left most (rest cursor.old.reader)
-        ≡ replicate zeros false ++ true ∷ tail_ahead cursor.new.left (most - zeros - 1) (rest cursor.new.reader)) }
+        ≡ replicate zeros false ++ true ∷ tail_ahead cursor.new.left (most - zeros - 1)
+        (rest cursor.new.reader)) }
 {
     let zeros = ((cursor.bits >> 1).trailing_zeros() as usize).min(most - 1);
     // The one of the last digit has no bit.
@@ -133,8 +141,8 @@ fn set_one<P: Plane>(rank: usize, plane: &mut P)
     plane.set_word(number, word | 1 << (rank % 64));
 }
 
-/// Reads the tail of a plane from rank `n` on: behind each group bit that is one a run, until a group bit is zero or no rank is left. The digits below rank
-/// `n` are there.
+/// Reads the tail of a plane from rank `n` on: behind each group bit that is one a run, until a group bit is
+/// zero or no rank is left. The digits below rank `n` are there.
 #[inline(always)]
 fn read_tail<P: Plane>(
     n: usize,
@@ -145,8 +153,10 @@ fn read_tail<P: Plane>(
     requires words { size ≤ 64 * P.word_count }
     requires in_plane { n ≤ size }
     requires clear { IsClearFrom n (P.words prefix) }
-    ensures short { IfNone result (Lacks cursor.old.reader cursor.new.reader (tail_bits cursor.old.left (size - n) (rest cursor.old.reader))) }
-    ensures read { IfSome result (λ read. ReadsTail size n cursor.old.reader cursor.new.reader cursor.old.left cursor.new.left
+    ensures short { IfNone result (Lacks cursor.old.reader cursor.new.reader
+        (tail_bits cursor.old.left (size - n) (rest cursor.old.reader))) }
+    ensures read { IfSome result (λ read. ReadsTail size n cursor.old.reader cursor.new.reader cursor.old.left
+        cursor.new.left
         (P.words prefix) (P.words read.plane) read.above) }
 {
     let mut plane = prefix;
@@ -176,7 +186,8 @@ pub(crate) fn read_by_runs<P: Plane>(
     requires words { size ≤ 64 * P.word_count }
     requires in_plane { n ≤ size }
     ensures short { IfNone result (LacksPlane size n cursor.old cursor.new) }
-    ensures read { IfSome result (λ read. MovesOverPlane size n cursor.old cursor.new (P.words read.plane) read.above) }
+    ensures read { IfSome result (λ read. MovesOverPlane size n cursor.old cursor.new (P.words read.plane)
+        read.above) }
 {
     let prefix = read_prefix::<P>(n, cursor)?;
     // A tail whose runs are all in sight is read with no further look.
@@ -184,7 +195,8 @@ pub(crate) fn read_by_runs<P: Plane>(
     read_tail(n, size, prefix, cursor)
 }
 
-/// Reads the code of the top `prec` planes. All are zero before, and the other planes stay so. The answer is the cursor behind them.
+/// Reads the code of the top `prec` planes. All are zero before, and the other planes stay so. The answer is
+/// the cursor behind them.
 #[inline(always)]
 fn read_by_planes<'a, P: Plane>(
     budget: u64,
@@ -197,8 +209,10 @@ fn read_by_planes<'a, P: Plane>(
     requires words { size ≤ 64 * P.word_count }
     requires planes { prec ≤ length planes.old }
     requires blank { map P.words planes.old ≡ replicate (length planes.old) (replicate P.word_count 0) }
-    ensures short { IfNone result (length (rest reader.now) < planes_bits budget prec size 0 (rest reader.now)) }
-    ensures read { IfSome result (λ next. ReadsTop budget prec size reader.now next.reader (map P.words planes.new) next.left) }
+    ensures short { IfNone result (length (rest reader.now)
+        < planes_bits budget prec size 0 (rest reader.now)) }
+    ensures read { IfSome result (λ next. ReadsTop budget prec size reader.now next.reader
+        (map P.words planes.new) next.left) }
 {
     let mut cursor = Cursor::new(budget, reader);
     let mut i = cursor.pass_zero_planes(prec) as usize;
@@ -230,8 +244,10 @@ fn read_top<'a, P: Plane>(
     requires words { size ≤ 64 * P.word_count }
     requires planes { prec ≤ length planes.old }
     requires blank { map P.words planes.old ≡ replicate (length planes.old) (replicate P.word_count 0) }
-    ensures short { IfNone result (length (rest reader.now) < planes_bits budget prec size 0 (rest reader.now)) }
-    ensures read { IfSome result (λ next. ReadsTop budget prec size reader.now next.reader (map P.words planes.new) next.left) }
+    ensures short { IfNone result (length (rest reader.now)
+        < planes_bits budget prec size 0 (rest reader.now)) }
+    ensures read { IfSome result (λ next. ReadsTop budget prec size reader.now next.reader
+        (map P.words planes.new) next.left) }
 {
     match size {
         4 => read_in_words(budget, prec, 4, reader, planes),
@@ -241,11 +257,12 @@ fn read_top<'a, P: Plane>(
     }
 }
 
-/// Reads the code of the top `prec` planes, of which `budget` bits were written, or all of it where it is shorter. The answer is the number of its bits.
-/// `None` means that the bits end before the budget and the code do; then the reader stands where it stood, and the planes hold anything.
+/// Reads the code of the top `prec` planes, of which `budget` bits were written, or all of it where it is
+/// shorter. The answer is the number of its bits. `None` means that the bits end before the budget and the
+/// code do; then the reader stands where it stood, and the planes hold anything.
 ///
-/// `planes[k]` holds digit k of each coefficient by rank. The planes are zero before, so that a caller that has just made them clears none twice.
-/// Embedded coding as in the zfp 1.0 documentation, chapter Algorithm.
+/// `planes[k]` holds digit k of each coefficient by rank. The planes are zero before, so that a caller that
+/// has just made them clears none twice. Embedded coding as in the zfp 1.0 documentation, chapter Algorithm.
 pub fn read_planes<P: Plane>(
     budget: u64,
     prec: u32,
@@ -266,7 +283,8 @@ pub fn read_planes<P: Plane>(
 
     // The top planes are what the budget keeps; the others, and all bits from rank `size` on, are zero.
     ensures digits { OnSome result (planes_held size (map P.words planes.new)
-        ≡ kept_planes budget (coded budget prec size (rest reader.old)) ++ replicate (length planes.new - prec) (replicate size false)) }
+        ≡ kept_planes budget (coded budget prec size (rest reader.old))
+        ++ replicate (length planes.new - prec) (replicate size false)) }
     ensures clear { OnSome result (All (IsClearFrom size) (map P.words planes.new)) }
 {
     let next = read_top(budget, prec, size, reader, planes)?;
@@ -300,7 +318,8 @@ pub fn decode(
 
     // The top planes are what the budget keeps; the others, and all bits from rank `size` on, are zero.
     ensures digits { OnSome result (planes_held size planes.new
-        ≡ kept_planes budget (coded budget prec size (rest reader.old)) ++ replicate (length planes.new - prec) (replicate size false)) }
+        ≡ kept_planes budget (coded budget prec size (rest reader.old))
+        ++ replicate (length planes.new - prec) (replicate size false)) }
     ensures clear { OnSome result (All (IsClearFrom size) planes.new) }
 {
     clear(planes);

@@ -84,7 +84,8 @@ pub(crate) fn write_part(left: u64, part: Part, out: &mut BitWriter) -> u64
     left - count
 }
 
-/// Appends bits and then the code of a run of so many digits, as far as `left` bits reach. The answer is the bits that are left.
+/// Appends bits and then the code of a run of so many digits, as far as `left` bits reach. The answer is the
+/// bits that are left.
 #[inline(always)]
 fn write_run(left: u64, prefix: Part, most: u64, digits: u64, out: &mut BitWriter) -> u64
     requires some { 0 < digits }
@@ -93,7 +94,8 @@ fn write_run(left: u64, prefix: Part, most: u64, digits: u64, out: &mut BitWrite
     requires few { prefix.len ≤ 40 }
     requires small { prefix.bits < 2 ^ prefix.len }
     requires fits { min left (prefix.len + length (code_from_run (field most digits))) ≤ out.old.room }
-    ensures bits { Appends out.old out.new (take left (field prefix.len prefix.bits ++ code_from_run (field most digits))) }
+    ensures bits { Appends out.old out.new (take left
+        (field prefix.len prefix.bits ++ code_from_run (field most digits))) }
     ensures left { result ≡ left - (prefix.len + length (code_from_run (field most digits))) }
 {
     let mut left = left;
@@ -113,8 +115,9 @@ fn write_run(left: u64, prefix: Part, most: u64, digits: u64, out: &mut BitWrite
     write_part(left, join(part, short_run(most, digits)), out)
 }
 
-/// Appends bits that were put together, and the code of a plane of up to 64 digits in which the ranks below `n` have had a one above and a later one has its
-/// first, as far as `left` bits reach. The answer is the bits that are left.
+/// Appends bits that were put together, and the code of a plane of up to 64 digits in which the ranks below
+/// `n` have had a one above and a later one has its first, as far as `left` bits reach. The answer is the
+/// bits that are left.
 #[inline(always)]
 pub(crate) fn write_with(
     left: u64,
@@ -131,7 +134,8 @@ pub(crate) fn write_with(
     requires in_word { part.len ≤ 64 }
     requires small { part.bits < 2 ^ part.len }
     requires fits { min left (part.len + length (plane_code n (field size digits))) ≤ out.old.room }
-    ensures bits { Appends out.old out.new (take left (field part.len part.bits ++ plane_code n (field size digits))) }
+    ensures bits { Appends out.old out.new (take left
+        (field part.len part.bits ++ plane_code n (field size digits))) }
     ensures left { result ≡ left - (part.len + length (plane_code n (field size digits))) }
 {
     let group = Part { bits: 1, len: 1 };

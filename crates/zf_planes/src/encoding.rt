@@ -10,7 +10,8 @@ use crate::word_writing::write_planes_of_word;
 use crate::words::{reach_in, zeros_from};
 use zf_bits::{BitWriter, Plane};
 
-/// Appends the digits of the ranks from `from` on and below `to` as they are, as far as `left` bits reach. The answer is the bits that are left.
+/// Appends the digits of the ranks from `from` on and below `to` as they are, as far as `left` bits reach.
+/// The answer is the bits that are left.
 fn write_digits<P: Plane>(left: u64, from: usize, to: usize, plane: &P, out: &mut BitWriter) -> u64
     requires order { from ≤ to }
     requires words { to ≤ 64 * P.word_count }
@@ -35,7 +36,8 @@ fn write_digits<P: Plane>(left: u64, from: usize, to: usize, plane: &P, out: &mu
 fn write_group(left: u64, zeros: u32, most: usize, out: &mut BitWriter) -> u64
     requires in_word { zeros < 63 }
     requires fits { min left (min (zeros + 2) most) ≤ out.old.room }
-    ensures bits { Appends out.old out.new (take left (take (min (zeros + 2) most) (true ∷ (replicate zeros false ++ true ∷ [])))) }
+    ensures bits { Appends out.old out.new (take left
+        (take (min (zeros + 2) most) (true ∷ (replicate zeros false ++ true ∷ [])))) }
     ensures left { result ≡ left - min (zeros + 2) most }
 {
     // The one of the last digit is implied.
@@ -44,7 +46,8 @@ fn write_group(left: u64, zeros: u32, most: usize, out: &mut BitWriter) -> u64
     left - count
 }
 
-/// Appends the tail of a plane from rank `from` on: for each one a group bit and the run that leads to it, and a group bit that says that no one follows.
+/// Appends the tail of a plane from rank `from` on: for each one a group bit and the run that leads to it,
+/// and a group bit that says that no one follows.
 fn write_tail<P: Plane>(
     left: u64,
     from: usize,
@@ -56,8 +59,10 @@ fn write_tail<P: Plane>(
     requires words { size ≤ 64 * P.word_count }
     requires in_plane { from ≤ size }
     requires end { end ≡ reach (digits_held size (P.words plane.now)) }
-    requires fits { min left (length (tail (drop from (digits_held size (P.words plane.now))))) ≤ out.old.room }
-    ensures bits { Appends out.old out.new (take left (tail (drop from (digits_held size (P.words plane.now))))) }
+    requires fits { min left (length (tail (drop from (digits_held size (P.words plane.now)))))
+        ≤ out.old.room }
+    ensures bits { Appends out.old out.new (take left
+        (tail (drop from (digits_held size (P.words plane.now))))) }
     ensures left { result ≡ left - length (tail (drop from (digits_held size (P.words plane.now)))) }
 {
     let mut left = left;
@@ -82,7 +87,8 @@ fn write_tail<P: Plane>(
     left
 }
 
-/// Appends the code of a plane in which the ranks below `n` have had a one above, and whose own ones end before rank `end`.
+/// Appends the code of a plane in which the ranks below `n` have had a one above, and whose own ones end
+/// before rank `end`.
 #[inline(always)]
 fn write_plane<P: Plane>(
     left: u64,
@@ -103,7 +109,8 @@ fn write_plane<P: Plane>(
     write_tail(left, n, size, end, plane, out)
 }
 
-/// Appends the code of the top `prec` planes, or its first `budget` bits where it is longer. The top `zeros` planes have no one.
+/// Appends the code of the top `prec` planes, or its first `budget` bits where it is longer. The top `zeros`
+/// planes have no one.
 #[inline(always)]
 fn write_sized<P: Plane>(
     zeros: u32,
@@ -116,12 +123,15 @@ fn write_sized<P: Plane>(
     requires within { zeros ≤ prec }
     requires in_word { zeros ≤ 64 }
     requires some { (zeros ≡ 0) ⊎ (0 < size) }
-    requires zeros { take zeros (planes_held size (map P.words planes.now)) ≡ replicate zeros (replicate size false) }
+    requires zeros { take zeros (planes_held size (map P.words planes.now))
+        ≡ replicate zeros (replicate size false) }
     requires words { size ≤ 64 * P.word_count }
     requires planes { prec ≤ length planes.now }
     requires fits { min budget (size * prec + size) ≤ out.old.room }
-    ensures bits { Appends out.old out.new (take budget (code (take prec (planes_held size (map P.words planes.now))))) }
-    ensures count { result ≡ min budget (length (code (take prec (planes_held size (map P.words planes.now))))) }
+    ensures bits { Appends out.old out.new (take budget
+        (code (take prec (planes_held size (map P.words planes.now))))) }
+    ensures count { result ≡ min budget (length (code
+        (take prec (planes_held size (map P.words planes.now))))) }
 {
     let count = budget.min(u64::from(zeros));
     out.write_reserved(0, count as u32);
@@ -142,8 +152,8 @@ fn write_sized<P: Plane>(
     budget - left
 }
 
-/// Appends the code of the top `prec` planes, or its first `budget` bits where it is longer. The answer is the number of bits appended. The top `zeros`
-/// planes, which may be 0, are known to have no one.
+/// Appends the code of the top `prec` planes, or its first `budget` bits where it is longer. The answer is
+/// the number of bits appended. The top `zeros` planes, which may be 0, are known to have no one.
 ///
 /// `planes[k]` holds digit k of each coefficient by rank, and bits from rank `size` on are not looked at.
 /// Embedded coding as in the zfp 1.0 documentation, chapter Algorithm.
@@ -161,9 +171,12 @@ pub fn write_planes_below<P: Plane>(
     requires within { zeros ≤ prec }
     requires in_word { zeros ≤ 64 }
     requires some { (zeros ≡ 0) ⊎ (0 < size) }
-    requires zeros { take zeros (planes_held size (map P.words planes.now)) ≡ replicate zeros (replicate size false) }
-    ensures bits { Appends out.old out.new (take budget (code (take prec (planes_held size (map P.words planes.now))))) }
-    ensures count { result ≡ min budget (length (code (take prec (planes_held size (map P.words planes.now))))) }
+    requires zeros { take zeros (planes_held size (map P.words planes.now))
+        ≡ replicate zeros (replicate size false) }
+    ensures bits { Appends out.old out.new (take budget
+        (code (take prec (planes_held size (map P.words planes.now))))) }
+    ensures count { result ≡ min budget (length (code
+        (take prec (planes_held size (map P.words planes.now))))) }
 {
     // A size that is known makes its own program, without the others' steps.
     match size {
@@ -174,8 +187,8 @@ pub fn write_planes_below<P: Plane>(
 }
 
 /// Appends the code of the top `prec` planes, or its first `budget` bits where it is longer. The answer is
-/// the number of bits appended. It is there for callers of the library: the program has planes in one word each,
-/// and knows which have no one.
+/// the number of bits appended. It is there for callers of the library: the program has planes in one word
+/// each, and knows which have no one.
 ///
 /// `size` is 4, 16, 64 or 256, and there are at least `prec` planes. There is room for the smaller of
 /// `budget` and `size * prec + size` bits.

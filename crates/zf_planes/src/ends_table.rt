@@ -2,8 +2,9 @@
 
 ghost use Rattle.std.specs.Prelude.{◌≡◌, ◌+◌, ◌*◌, ◌<◌, ◌≤◌, slice_index_or};
 
-/// The planes of four digits that the last bits of a budget stand for: entry `256 * n + 2^count + bits` is that of `count` bits, behind `n` ranks that have had a one
-/// above. A run that the budget cuts has a one where it is cut. The entry has the form of the other table's.
+/// The planes of four digits that the last bits of a budget stand for: entry `256 * n + 2^count + bits` is
+/// that of `count` bits, behind `n` ranks that have had a one above. A run that the budget cuts has a one
+/// where it is cut. The entry has the form of the other table's.
 static ENDS: [u32; 768] = [
     0, 0, 1114112, 9502721, 2228224, 17956880, 10616833, 9568257, 3342336, 26411264, 19070992,
     9633793, 11730945, 18022416, 10682369, 18022417, 4456448, 34869248, 27525376, 10747906,

@@ -27,7 +27,8 @@ pub(crate) fn code_of_4(n: usize, digits: u64) -> PlanesCode
     ensures len { result.part.len ≤ 7 }
     ensures above { result.above ≡ max n (reach (field 4 digits)) }
 {
-    // Without the code of a plane of zeros behind it: a digit for each rank that has had a one, and a group bit where ranks are left.
+    // Without the code of a plane of zeros behind it: a digit for each rank that has had a one, and a group
+    // bit where ranks are left.
     let entry = entry_of_pair(n, digits);
     let above = entry / 262144;
     let zeros = (above + 1).min(4);

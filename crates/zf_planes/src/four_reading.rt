@@ -18,7 +18,8 @@ use crate::in_lanes::{
 use crate::tails::plane_at;
 use zf_bits::BitReader;
 
-/// Reads the code of a plane in which the ranks below `n` have had a one above. It stands apart so that the values of a loop that calls it stay in registers.
+/// Reads the code of a plane in which the ranks below `n` have had a one above. It stands apart so that the
+/// values of a loop that calls it stay in registers.
 #[inline(never)]
 fn read_one_apart(n: usize, cursor: &mut Cursor<'_>) -> Option<PlanesInLanes>
     requires in_plane { n ≤ 4 }
@@ -59,7 +60,8 @@ fn read_one(n: usize, cursor: &mut Cursor<'_>) -> Option<PlanesInLanes>
     Some(one)
 }
 
-/// Reads the code of one plane or more, at most `most`, where the ranks below `n` have had a one above, and two ranks at least have had none.
+/// Reads the code of one plane or more, at most `most`, where the ranks below `n` have had a one above, and
+/// two ranks at least have had none.
 #[inline(always)]
 fn read_some(most: u32, n: usize, cursor: &mut Cursor<'_>) -> Option<PlanesInLanes>
     requires some { 0 < most }
@@ -86,7 +88,8 @@ fn read_some(most: u32, n: usize, cursor: &mut Cursor<'_>) -> Option<PlanesInLan
     Some(one)
 }
 
-/// Reads one plane or four of `most` planes, in which all ranks have had a one above, so that each is its own code. Where the budget ends, zeros follow.
+/// Reads one plane or four of `most` planes, in which all ranks have had a one above, so that each is its own
+/// code. Where the budget ends, zeros follow.
 #[inline(always)]
 fn read_verbatim(most: u32, cursor: &mut Cursor<'_>) -> Option<PlanesInLanes>
     requires some { 0 < most }
@@ -120,7 +123,8 @@ fn read_sixteen(most: u32, cursor: &mut Cursor<'_>) -> PlanesInLanes
     requires four { 4 ≤ most }
     requires there { 16 ≤ cursor.old.count }
     ensures count { result.count ≡ 4 }
-    ensures read { ReadsPlanes most 4 cursor.old.reader cursor.new.reader cursor.old.left cursor.new.left 4 result.lanes 16 4 }
+    ensures read { ReadsPlanes most 4 cursor.old.reader cursor.new.reader cursor.old.left cursor.new.left 4
+        result.lanes 16 4 }
 {
     let lanes = lanes_of_16(cursor.bits % 65536);
     cursor.pass(16);
@@ -132,7 +136,8 @@ fn read_sixteen(most: u32, cursor: &mut Cursor<'_>) -> PlanesInLanes
     }
 }
 
-/// Reads the code of one plane or more, at most `most`, where the ranks below `n` have had a one above. Three are as good as four.
+/// Reads the code of one plane or more, at most `most`, where the ranks below `n` have had a one above. Three
+/// are as good as four.
 #[inline(always)]
 fn read_next(most: u32, n: usize, cursor: &mut Cursor<'_>) -> Option<PlanesInLanes>
     requires some { 0 < most }
@@ -168,7 +173,8 @@ fn put_down(digits: Gathered) -> Gathered
     requires shift { digits.held < 64 }
     requires room { digits.done + digits.held ≤ 64 }
     ensures gathered { IsGathered result.words result.done result.lanes result.held }
-    ensures planes { gathered result.words result.done result.lanes result.held ≡ gathered digits.words digits.done digits.lanes digits.held }
+    ensures planes { gathered result.words result.done result.lanes result.held
+        ≡ gathered digits.words digits.done digits.lanes digits.held }
     ensures done { result.done ≡ digits.done + digits.held }
     ensures none { result.held ≡ 0 }
 {
@@ -198,7 +204,8 @@ fn add(digits: Gathered, some: PlanesInLanes) -> Gathered
     requires room { digits.done + digits.held + some.count ≤ 64 }
     ensures gathered { IsGathered result.words result.done result.lanes result.held }
     ensures planes { gathered result.words result.done result.lanes result.held
-        ≡ gathered digits.words digits.done digits.lanes digits.held ++ low_planes some.count (lanes_in 4 some.lanes) }
+        ≡ gathered digits.words digits.done digits.lanes digits.held
+        ++ low_planes some.count (lanes_in 4 some.lanes) }
     ensures sum { result.done + result.held ≡ digits.done + digits.held + some.count }
     ensures held { result.held ≤ 12 }
 {
@@ -221,7 +228,8 @@ fn digits_of(digits: Gathered, width: u32) -> [u64; 4]
     requires within { digits.done + digits.held ≤ width }
     requires width { width ≤ 64 }
     ensures planes { low_planes width result
-        ≡ gathered digits.words digits.done digits.lanes digits.held ++ replicate (width - (digits.done + digits.held)) (replicate 4 false) }
+        ≡ gathered digits.words digits.done digits.lanes digits.held
+        ++ replicate (width - (digits.done + digits.held)) (replicate 4 false) }
     ensures below { AreBelow width result }
 {
     let all = put_down(digits);
@@ -238,7 +246,8 @@ fn digits_of(digits: Gathered, width: u32) -> [u64; 4]
     shifted.words
 }
 
-/// Whether the next planes, of at most `most`, begin with one in which the first rank alone has a one: a group bit, that one, and a group bit of zero.
+/// Whether the next planes, of at most `most`, begin with one in which the first rank alone has a one: a
+/// group bit, that one, and a group bit of zero.
 #[inline(always)]
 fn begins_lone(most: u32, cursor: &Cursor<'_>) -> bool
     ensures { result ≡ true → (0 < most) × (3 ≤ cursor.now.count) × (cursor.now.bits % 8 ≡ 3) }
@@ -246,7 +255,8 @@ fn begins_lone(most: u32, cursor: &Cursor<'_>) -> bool
     most > 0 && cursor.count >= 3 && cursor.bits % 8 == 3
 }
 
-/// Reads the planes at the top in which the first rank alone has ones, of at most `most`, as many as are in sight; it may be none.
+/// Reads the planes at the top in which the first rank alone has ones, of at most `most`, as many as are in
+/// sight; it may be none.
 #[inline(always)]
 fn read_lone(most: u32, cursor: &mut Cursor<'_>) -> PlanesInLanes
     ensures few { result.count ≤ 12 }
@@ -272,13 +282,16 @@ struct ReadDigits<'a> {
     next: Cursor<'a>,
 }
 
-/// Reads the code of the top `prec` planes of four digits, or of the first of them where all that are left are zero.
+/// Reads the code of the top `prec` planes of four digits, or of the first of them where all that are left
+/// are zero.
 #[inline(always)]
 fn read_gathered<'a>(budget: u64, prec: u32, reader: &BitReader<'a>) -> Option<ReadDigits<'a>>
     requires planes { prec ≤ 64 }
     ensures short { IfNone result (length (rest reader.now) < planes_bits budget prec 4 0 (rest reader.now)) }
-    ensures bits { IfSome result (λ read. Takes reader.now read.next.reader budget read.next.left (planes_bits budget prec 4 0 (rest reader.now))) }
-    ensures gathered { IfSome result (λ read. IsGathered read.digits.words read.digits.done read.digits.lanes read.digits.held) }
+    ensures bits { IfSome result (λ read. Takes reader.now read.next.reader budget read.next.left
+        (planes_bits budget prec 4 0 (rest reader.now))) }
+    ensures gathered { IfSome result (λ read. IsGathered read.digits.words read.digits.done read.digits.lanes
+        read.digits.held) }
     ensures within { IfSome result (λ read. read.digits.done + read.digits.held ≤ prec) }
     ensures held { IfSome result (λ read. read.digits.held ≤ 12) }
     ensures digits { IfSome result (λ read. planes_ahead budget prec 4 0 (rest reader.now)
@@ -312,12 +325,13 @@ fn read_gathered<'a>(budget: u64, prec: u32, reader: &BitReader<'a>) -> Option<R
     })
 }
 
-/// Reads the code of the top `prec` planes of four coefficients, of which `budget` bits were written, or all of it where it is shorter, into their digits.
-/// The answer is the number of its bits. `None` means that the bits end before the budget and the code do; then the reader stands where it stood, and the
-/// digits are anything.
+/// Reads the code of the top `prec` planes of four coefficients, of which `budget` bits were written, or all
+/// of it where it is shorter, into their digits. The answer is the number of its bits. `None` means that the
+/// bits end before the budget and the code do; then the reader stands where it stood, and the digits are
+/// anything.
 ///
-/// Bit k of `digits[r]` is the digit of rank r in plane k, of `width` planes. Those below the ones read are zero.
-/// Embedded coding as in the zfp 1.0 documentation, chapter Algorithm.
+/// Bit k of `digits[r]` is the digit of rank r in plane k, of `width` planes. Those below the ones read are
+/// zero. Embedded coding as in the zfp 1.0 documentation, chapter Algorithm.
 pub fn read_four(
     budget: u64,
     prec: u32,
@@ -336,7 +350,8 @@ pub fn read_four(
 
     // The top planes are what the budget keeps; the others are zero.
     ensures digits { OnSome result (planes_of width (map (field width) digits.new)
-        ≡ kept_planes budget (coded budget prec 4 (rest reader.old)) ++ replicate (width - prec) (replicate 4 false)) }
+        ≡ kept_planes budget (coded budget prec 4 (rest reader.old))
+        ++ replicate (width - prec) (replicate 4 false)) }
     ensures below { OnSome result (All (λ u. u < 2 ^ width) digits.new) }
 {
     let read = read_gathered(budget, prec, reader)?;

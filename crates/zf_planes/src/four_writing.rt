@@ -58,13 +58,15 @@ fn pairs_of_top(word: u64) -> u64
     pairs_of_byte(word >> 56) + (pairs_of_byte((word >> 48) % 256) << 16)
 }
 
-/// In how many planes from the top on, at most sixteen, the first rank alone has ones, if it has one in the first of them.
+/// In how many planes from the top on, at most sixteen, the first rank alone has ones, if it has one in the
+/// first of them.
 #[inline(always)]
 fn count_of_lone(planes: u32, words: &[u64; 4]) -> u32
     ensures most { result ≤ planes }
     ensures few { result ≤ 16 }
     ensures first { 0 < result → top_digit (slice_index_or words.now 0 0) 0 ≡ true }
-    ensures lone { top_planes result words.now ≡ lone_planes (map (top_digit (slice_index_or words.now 0 0)) (upto result)) }
+    ensures lone { top_planes result words.now ≡ lone_planes
+        (map (top_digit (slice_index_or words.now 0 0)) (upto result)) }
 {
     let [first, second, third, fourth] = *words;
     if first >> 63 == 0 {
@@ -108,10 +110,12 @@ fn below_top(count: u32, words: &[u64; 4]) -> [u64; 4]
 fn code_of_two(n: usize, string: u64) -> PlanesCode
     requires in_plane { n < 3 }
     ensures bits { field result.part.len result.part.bits
-        ≡ plane_code n (field 4 (string % 16)) ++ plane_code (max n (reach (field 4 (string % 16)))) (field 4 (string / 16 % 16)) }
+        ≡ plane_code n (field 4 (string % 16)) ++ plane_code (max n (reach (field 4 (string % 16))))
+        (field 4 (string / 16 % 16)) }
     ensures small { result.part.bits < 2 ^ result.part.len }
     ensures len { result.part.len ≤ 14 }
-    ensures above { result.above ≡ max (max n (reach (field 4 (string % 16)))) (reach (field 4 (string / 16 % 16))) }
+    ensures above { result.above ≡ max (max n (reach (field 4 (string % 16))))
+        (reach (field 4 (string / 16 % 16))) }
 {
     let entry = entry_of_pair(n, string % 256);
     PlanesCode {
@@ -123,15 +127,19 @@ fn code_of_two(n: usize, string: u64) -> PlanesCode
     }
 }
 
-/// The code of the next pairs of planes of a string, as many as surely fit a word, and none that `left` bits don't reach. Once three ranks have had a one, it
-/// stops: the planes that are left are their own code, as the group bit behind the third digit is the fourth.
+/// The code of the next pairs of planes of a string, as many as surely fit a word, and none that `left` bits
+/// don't reach. Once three ranks have had a one, it stops: the planes that are left are their own code, as
+/// the group bit behind the third digit is the fourth.
 #[inline(always)]
 fn next_pairs(left: u64, above: usize, planes: &mut u32, string: &mut u64) -> PlanesCode
     requires above { above ≤ 4 }
     ensures no_more { planes.new ≤ planes.old }
     ensures len { result.part.len ≤ 64 }
-    ensures bits { code_from above (string_planes planes.old string.old) ≡ field result.part.len result.part.bits ++ code_from result.above (string_planes planes.new string.new) }
-    ensures reached { max above (reach_of_all (string_planes planes.old string.old)) ≡ max result.above (reach_of_all (string_planes planes.new string.new)) }
+    ensures bits { code_from above (string_planes planes.old string.old)
+        ≡ field result.part.len result.part.bits ++ code_from result.above
+        (string_planes planes.new string.new) }
+    ensures reached { max above (reach_of_all (string_planes planes.old string.old))
+        ≡ max result.above (reach_of_all (string_planes planes.new string.new)) }
 {
     let mut part = Part { bits: 0, len: 0 };
     let mut above = above;
@@ -149,8 +157,9 @@ fn next_pairs(left: u64, above: usize, planes: &mut u32, string: &mut u64) -> Pl
     PlanesCode { part, above }
 }
 
-/// Appends the code of the planes of a string, as far as `left` bits reach: plane by plane until three ranks have had a one, and then the digits. The answer
-/// is the bits that are left; if there are any, `above` becomes how far the ones reach, where three stands for four too.
+/// Appends the code of the planes of a string, as far as `left` bits reach: plane by plane until three ranks
+/// have had a one, and then the digits. The answer is the bits that are left; if there are any, `above`
+/// becomes how far the ones reach, where three stands for four too.
 #[inline(always)]
 fn write_rest(left: u64, above: &mut usize, planes: u32, string: u64, out: &mut BitWriter) -> u64
     requires above { above.old ≤ 4 }
@@ -159,7 +168,8 @@ fn write_rest(left: u64, above: &mut usize, planes: u32, string: u64, out: &mut 
     ensures bits { Appends out.old out.new (take left (code_from above.old (string_planes planes string))) }
     ensures left { result ≡ left - length (code_from above.old (string_planes planes string)) }
     ensures within { above.new ≤ 4 }
-    ensures reached { 0 < result → IsAsGood above.new (max above.old (reach_of_all (string_planes planes string))) }
+    ensures reached { 0 < result → IsAsGood above.new
+        (max above.old (reach_of_all (string_planes planes string))) }
 {
     let mut left = left;
     let mut planes = planes;
@@ -178,8 +188,9 @@ fn write_rest(left: u64, above: &mut usize, planes: u32, string: u64, out: &mut 
     write_part(left, digits, out)
 }
 
-/// Appends the code of the planes of a string, as far as `left` bits reach, where the ranks below `above` have had a one above. The answer is the bits that
-/// are left; if there are any, `above` becomes how far the ones reach, where three stands for four too.
+/// Appends the code of the planes of a string, as far as `left` bits reach, where the ranks below `above`
+/// have had a one above. The answer is the bits that are left; if there are any, `above` becomes how far the
+/// ones reach, where three stands for four too.
 #[inline(always)]
 fn write_string(left: u64, above: &mut usize, planes: u32, string: u64, out: &mut BitWriter) -> u64
     requires above { above.old ≤ 4 }
@@ -188,7 +199,8 @@ fn write_string(left: u64, above: &mut usize, planes: u32, string: u64, out: &mu
     ensures bits { Appends out.old out.new (take left (code_from above.old (string_planes planes string))) }
     ensures left { result ≡ left - length (code_from above.old (string_planes planes string)) }
     ensures within { above.new ≤ 4 }
-    ensures reached { 0 < result → IsAsGood above.new (max above.old (reach_of_all (string_planes planes string))) }
+    ensures reached { 0 < result → IsAsGood above.new
+        (max above.old (reach_of_all (string_planes planes string))) }
 {
     let mut planes = planes;
     let mut string = string;
@@ -201,7 +213,8 @@ fn write_string(left: u64, above: &mut usize, planes: u32, string: u64, out: &mu
     write_rest(left, above, planes, string, out)
 }
 
-/// Appends the code of the top planes of four words, above which no rank has had a one, as far as `left` bits reach. The answer is the bits that are left.
+/// Appends the code of the top planes of four words, above which no rank has had a one, as far as `left` bits
+/// reach. The answer is the bits that are left.
 #[inline(always)]
 fn write_top(left: u64, planes: u32, words: [u64; 4], out: &mut BitWriter) -> u64
     requires planes { planes ≤ 64 }
@@ -231,11 +244,12 @@ fn write_top(left: u64, planes: u32, words: [u64; 4], out: &mut BitWriter) -> u6
     left
 }
 
-/// Appends the code of the top `prec` planes of four coefficients, given by their digits, or its first `budget` bits where it is longer. The top `zeros`
-/// planes have no one. The answer is the number of bits appended.
+/// Appends the code of the top `prec` planes of four coefficients, given by their digits, or its first
+/// `budget` bits where it is longer. The top `zeros` planes have no one. The answer is the number of bits
+/// appended.
 ///
-/// Bit k of `digits[r]` is the digit of rank r in plane k, of `width` planes; bits from `width` on are not looked at.
-/// Embedded coding as in the zfp 1.0 documentation, chapter Algorithm.
+/// Bit k of `digits[r]` is the digit of rank r in plane k, of `width` planes; bits from `width` on are not
+/// looked at. Embedded coding as in the zfp 1.0 documentation, chapter Algorithm.
 #[inline(always)]
 pub fn write_four(
     zeros: u32,
@@ -248,10 +262,13 @@ pub fn write_four(
     requires width { width ≤ 64 }
     requires planes { prec ≤ width }
     requires within { zeros ≤ prec }
-    requires zeros { take zeros (planes_of width (map (field width) digits.now)) ≡ replicate zeros (replicate 4 false) }
+    requires zeros { take zeros (planes_of width (map (field width) digits.now))
+        ≡ replicate zeros (replicate 4 false) }
     requires fits { min budget (4 * prec + 4) ≤ out.old.room }
-    ensures bits { Appends out.old out.new (take budget (code (take prec (planes_of width (map (field width) digits.now))))) }
-    ensures count { result ≡ min budget (length (code (take prec (planes_of width (map (field width) digits.now))))) }
+    ensures bits { Appends out.old out.new (take budget
+        (code (take prec (planes_of width (map (field width) digits.now))))) }
+    ensures count { result ≡ min budget (length (code
+        (take prec (planes_of width (map (field width) digits.now))))) }
 {
     let count = budget.min(u64::from(zeros));
     out.write_reserved(0, count as u32);

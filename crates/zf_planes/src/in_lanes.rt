@@ -81,13 +81,15 @@ pub(crate) fn lanes_of_16(bits: u64) -> u64
     (three << 1) + lanes_of_4(bits / 4096)
 }
 
-/// The planes that the last bits of a budget stand for, or the first of them, where the ranks below `n` have had a one above.
+/// The planes that the last bits of a budget stand for, or the first of them, where the ranks below `n` have
+/// had a one above.
 #[inline(always)]
 pub(crate) fn planes_at_end(n: usize, left: u64, bits: u64) -> PlanesInLanes
     requires in_plane { n < 3 }
     requires some { 0 < left }
     requires few { left < 8 }
-    ensures digits { planes_ahead left result.count 4 n (field left bits) ≡ low_planes result.count (lanes_in 4 result.lanes) }
+    ensures digits { planes_ahead left result.count 4 n (field left bits)
+        ≡ low_planes result.count (lanes_in 4 result.lanes) }
     ensures bits { planes_bits left result.count 4 n (field left bits) ≡ result.len }
     ensures below { AreBelow result.count (lanes_in 4 result.lanes) }
     ensures some { 0 < result.count }
@@ -106,8 +108,8 @@ pub(crate) fn planes_at_end(n: usize, left: u64, bits: u64) -> PlanesInLanes
     }
 }
 
-/// The planes in which the first rank alone has ones, at most twelve, whose code these bits begin with, as far as `count` bits are in sight. Behind the first
-/// group bit each has its digit, and a group bit of zero.
+/// The planes in which the first rank alone has ones, at most twelve, whose code these bits begin with, as
+/// far as `count` bits are in sight. Behind the first group bit each has its digit, and a group bit of zero.
 #[inline(always)]
 pub(crate) fn lone_in_sight(most: u32, bits: u64, count: u64) -> PlanesInLanes
     requires some { 0 < most }

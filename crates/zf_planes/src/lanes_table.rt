@@ -2,9 +2,10 @@
 
 ghost use Rattle.std.specs.Prelude.{◌≡◌, ◌+◌, ◌*◌, ◌<◌, ◌≤◌, slice_index_or};
 
-/// The planes of four digits by their codes: entry `256 * n + bits` is that of planes whose code begins these bits, behind `n` ranks that have had a one above.
-/// Their digits stand in four lanes of four bits, a lane for each rank, those of the last plane lowest. Above them are the length of their code, in four bits,
-/// how many planes there are, in three, and how far the ones reach then.
+/// The planes of four digits by their codes: entry `256 * n + bits` is that of planes whose code begins these
+/// bits, behind `n` ranks that have had a one above. Their digits stand in four lanes of four bits, a lane
+/// for each rank, those of the last plane lowest. Above them are the length of their code, in four bits, how
+/// many planes there are, in three, and how far the ones reach then.
 static LANES: [u32; 768] = [
     4456448, 36184064, 35983360, 11993092, 37097472, 19333152, 13107204, 34934785, 38211584,
     26542336, 20447264, 11993094, 13041666, 34934800, 36048897, 19398690, 4456448, 36184065,

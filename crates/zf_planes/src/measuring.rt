@@ -8,7 +8,8 @@ ghost use Rattle.zf_spec.specs.HeldPlanes.{digits_held, planes_held};
 use crate::words::{ones_from, reach_in};
 use zf_bits::Plane;
 
-/// The length of the code of a plane in which the ranks below `n` have had a one above, and whose own ones end before rank `end`.
+/// The length of the code of a plane in which the ranks below `n` have had a one above, and whose own ones
+/// end before rank `end`.
 fn plane_len<P: Plane>(n: usize, size: usize, end: usize, plane: &P) -> usize
     requires words { size ≤ 64 * P.word_count }
     requires in_plane { n ≤ size }
@@ -46,7 +47,8 @@ pub fn planes_len<P: Plane>(prec: u32, size: usize, planes: &[P]) -> u64
     len
 }
 
-/// The number of bits of the code of the top `prec` planes without a budget. It is there for callers of the library: the program asks for no length.
+/// The number of bits of the code of the top `prec` planes without a budget. It is there for callers of the
+/// library: the program asks for no length.
 ///
 /// `size` is 4, 16, 64 or 256, and there are at least `prec` planes. `planes[k]` holds digit k of each
 /// coefficient by rank: rank r is bit `r % 64` of word `r / 64`, and bits from rank `size` on are not looked

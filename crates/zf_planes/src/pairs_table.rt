@@ -2,8 +2,9 @@
 
 ghost use Rattle.std.specs.Prelude.{◌≡◌, ◌+◌, ◌*◌, ◌<◌, ◌≤◌, slice_index_or};
 
-/// The codes of two planes of four digits, one below the other: entry `256 * n + 16 * second + first` is that of these digits behind `n` ranks that have had
-/// a one above. Its bits are the lowest fourteen, its length the next four, and how far the ones reach then is above them.
+/// The codes of two planes of four digits, one below the other: entry `256 * n + 16 * second + first` is that
+/// of these digits behind `n` ranks that have had a one above. Its bits are the lowest fourteen, its length
+/// the next four, and how far the ones reach then is above them.
 static PAIRS: [u32; 768] = [
     32768, 344067, 638981, 655375, 933897, 950295, 950301, 966719, 1179649, 1196039, 1196045,
     1212447, 1196057, 1212471, 1212477, 1228927, 327686, 344075, 638997, 655407, 933929, 950359,

@@ -1,4 +1,5 @@
-//! Planes in one word by the bits of their code: the digits behind those that have had a one above come from a table.
+//! Planes in one word by the bits of their code: the digits behind those that have had a one above come from
+//! a table.
 
 ghost use Rattle.std.specs.Prelude.{◌≡◌, ◌+◌, ◌-◌, ◌*◌, ◌/◌, ◌%◌, ◌^◌, ◌<◌, ◌≤◌};
 ghost use Rattle.zf_planes.specs.WordPlanes.{IsReadAs};
@@ -31,7 +32,8 @@ pub(crate) fn plane_of_all(size: usize, bits: u64) -> PlaneOfWord
     }
 }
 
-/// The plane whose code these bits begin with, where the ranks below `n` have had a one above and the group bit behind them is zero.
+/// The plane whose code these bits begin with, where the ranks below `n` have had a one above and the group
+/// bit behind them is zero.
 #[inline(always)]
 pub(crate) fn plane_without(n: usize, size: usize, bits: u64) -> PlaneOfWord
     requires in_plane { n < size }
@@ -48,13 +50,14 @@ pub(crate) fn plane_without(n: usize, size: usize, bits: u64) -> PlaneOfWord
     }
 }
 
-/// The plane whose code these bits begin with, where the ranks below `n` have had a one above, if the group bit behind them is one. The code has more than 64
-/// bits where the table doesn't know the plane.
+/// The plane whose code these bits begin with, where the ranks below `n` have had a one above, if the group
+/// bit behind them is one. The code has more than 64 bits where the table doesn't know the plane.
 #[inline(always)]
 pub(crate) fn plane_with(n: usize, size: usize, bits: u64) -> PlaneOfWord
     requires in_plane { n < size }
     requires size { size ≤ 64 }
-    ensures read { result.len ≤ 64 → bits / 2 ^ n % 2 ≡ 1 → IsReadAs n size bits result.digits result.len result.above }
+    ensures read { result.len ≤ 64 → bits / 2 ^ n % 2 ≡ 1
+        → IsReadAs n size bits result.digits result.len result.above }
     ensures group { n < result.len }
 {
     let entry = tail_entry((size - n).min(9), (bits >> n) / 2 % 256);
@@ -65,8 +68,8 @@ pub(crate) fn plane_with(n: usize, size: usize, bits: u64) -> PlaneOfWord
     }
 }
 
-/// The plane whose code these bits begin with, where the ranks below `n` have had a one above. The code has more than 64 bits where the table doesn't know
-/// the plane.
+/// The plane whose code these bits begin with, where the ranks below `n` have had a one above. The code has
+/// more than 64 bits where the table doesn't know the plane.
 #[inline(always)]
 pub(crate) fn plane_at(n: usize, size: usize, bits: u64) -> PlaneOfWord
     requires some { 0 < size }

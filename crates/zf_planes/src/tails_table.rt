@@ -2,9 +2,10 @@
 
 ghost use Rattle.std.specs.Prelude.{◌≡◌, ◌+◌, ◌-◌, ◌*◌, ◌<◌, ◌≤◌, slice_index_or};
 
-/// Tails whose group bit is one: entry `256 * (most - 1) + bits` is that of `most` digits which these eight bits follow, and the last `most`, nine, stands for
-/// more digits too. Its digits are the lowest eight bits, how far its ones reach the next four, and how many bits it has, with the group bit, is above
-/// them: 127 where the eight bits are not enough.
+/// Tails whose group bit is one: entry `256 * (most - 1) + bits` is that of `most` digits which these eight
+/// bits follow, and the last `most`, nine, stands for more digits too. Its digits are the lowest eight bits,
+/// how far its ones reach the next four, and how many bits it has, with the group bit, is above them: 127
+/// where the eight bits are not enough.
 static TAILS: [u32; 2304] = [
     4353, 4353, 4353, 4353, 4353, 4353, 4353, 4353, 4353, 4353, 4353, 4353, 4353, 4353, 4353, 4353,
     4353, 4353, 4353, 4353, 4353, 4353, 4353, 4353, 4353, 4353, 4353, 4353, 4353, 4353, 4353, 4353,

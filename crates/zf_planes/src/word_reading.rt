@@ -1,7 +1,8 @@
 //! Reading planes of up to 64 digits, each of which lies in one word.
 //!
-//! Planes come in three kinds, and each kind in a row: those in which no more ranks have a one, those in which some more have, and, once all
-//! ranks have had one, those whose code is their digits. Each kind has a loop or an arm of its own, so that most planes take few steps.
+//! Planes come in three kinds, and each kind in a row: those in which no more ranks have a one, those in
+//! which some more have, and, once all ranks have had one, those whose code is their digits. Each kind has a
+//! loop or an arm of its own, so that most planes take few steps.
 
 ghost use Rattle.std.specs.Prelude.{◌≡◌, ◌+◌, ◌-◌, ◌*◌, ◌/◌, ◌%◌, ◌^◌, ◌<◌, ◌≤◌, max, false, ◌++◌, length, map, take, drop, replicate, All, IfNone, IfSome, OnSome};
 ghost use Rattle.zf_spec.specs.HeldPlanes.{digits_held, planes_held, IsClearFrom};
@@ -41,8 +42,9 @@ fn take_plane<P: Plane>(
     }
 }
 
-/// Reads planes that have no one at ranks which have had none above, as many as are in sight, from the one of number `from` on and before that of number
-/// `to`: the first digits of each, and a group bit of zero. The answer is the number of the first plane that was not read.
+/// Reads planes that have no one at ranks which have had none above, as many as are in sight, from the one of
+/// number `from` on and before that of number `to`: the first digits of each, and a group bit of zero. The
+/// answer is the number of the first plane that was not read.
 #[inline(always)]
 pub(crate) fn read_same<P: Plane>(
     n: usize,
@@ -58,16 +60,21 @@ pub(crate) fn read_same<P: Plane>(
     requires there { n < cursor.old.count }
     requires none { cursor.old.bits / 2 ^ n % 2 ≡ 0 }
     requires planes { to ≤ length planes.old }
-    requires behind { drop from (planes_held size (map P.words planes.old)) ≡ replicate (length (map P.words planes.old) - from) (replicate size false) }
+    requires behind { drop from (planes_held size (map P.words planes.old))
+        ≡ replicate (length (map P.words planes.old) - from) (replicate size false) }
     requires clear { All (IsClearFrom size) (map P.words planes.old) }
     ensures some { from < result }
     ensures within { result ≤ to }
     ensures taken { Moves cursor.old cursor.new (cursor.old.left - cursor.new.left) }
     ensures bits { planes_bits cursor.old.left (to - from) size n (rest cursor.old.reader)
-        ≡ cursor.old.left - cursor.new.left + planes_bits cursor.new.left (to - result) size n (rest cursor.new.reader) }
-    ensures digits { take from (planes_held size (map P.words planes.old)) ++ planes_ahead cursor.old.left (to - from) size n (rest cursor.old.reader)
-        ≡ take result (planes_held size (map P.words planes.new)) ++ planes_ahead cursor.new.left (to - result) size n (rest cursor.new.reader) }
-    ensures behind { drop result (planes_held size (map P.words planes.new)) ≡ replicate (length (map P.words planes.new) - result) (replicate size false) }
+        ≡ cursor.old.left - cursor.new.left + planes_bits cursor.new.left (to - result) size n
+        (rest cursor.new.reader) }
+    ensures digits { take from (planes_held size (map P.words planes.old))
+        ++ planes_ahead cursor.old.left (to - from) size n (rest cursor.old.reader)
+        ≡ take result (planes_held size (map P.words planes.new))
+        ++ planes_ahead cursor.new.left (to - result) size n (rest cursor.new.reader) }
+    ensures behind { drop result (planes_held size (map P.words planes.new))
+        ≡ replicate (length (map P.words planes.new) - result) (replicate size false) }
     ensures clear { All (IsClearFrom size) (map P.words planes.new) }
     ensures long { length planes.new ≡ length planes.old }
 {
@@ -100,7 +107,8 @@ fn read_more<P: Plane>(n: usize, size: usize, cursor: &mut Cursor<'_>) -> Option
     requires size { size ≤ 64 }
     requires more { n < cursor.old.count → cursor.old.bits / 2 ^ n % 2 ≡ 1 }
     ensures short { IfNone result (LacksPlane size n cursor.old cursor.new) }
-    ensures read { IfSome result (λ read. MovesOverPlane size n cursor.old cursor.new (P.words read.plane) read.above) }
+    ensures read { IfSome result (λ read. MovesOverPlane size n cursor.old cursor.new (P.words read.plane)
+        read.above) }
 {
     let more = plane_with(n, size, cursor.bits);
     if more.len <= cursor.count {
@@ -115,7 +123,8 @@ fn read_last<P: Plane>(size: usize, cursor: &mut Cursor<'_>) -> Option<PlaneRead
     requires some { 0 < size }
     requires small { size ≤ 64 }
     ensures short { IfNone result (LacksPlane size size cursor.old cursor.new) }
-    ensures read { IfSome result (λ read. MovesOverPlane size size cursor.old cursor.new (P.words read.plane) read.above) }
+    ensures read { IfSome result (λ read. MovesOverPlane size size cursor.old cursor.new (P.words read.plane)
+        read.above) }
 {
     cursor.look_on(size as u64);
     let all = plane_of_all(size, cursor.bits);
@@ -126,7 +135,8 @@ fn read_last<P: Plane>(size: usize, cursor: &mut Cursor<'_>) -> Option<PlaneRead
     read_by_runs(size, size, cursor)
 }
 
-/// Reads the code of the top `prec` planes. All are zero before, and the other planes stay so. The answer is the cursor behind them.
+/// Reads the code of the top `prec` planes. All are zero before, and the other planes stay so. The answer is
+/// the cursor behind them.
 #[inline(always)]
 pub(crate) fn read_in_words<'a, P: Plane>(
     budget: u64,
@@ -139,8 +149,10 @@ pub(crate) fn read_in_words<'a, P: Plane>(
     requires small { size ≤ 64 }
     requires planes { prec ≤ length planes.old }
     requires blank { map P.words planes.old ≡ replicate (length planes.old) (replicate P.word_count 0) }
-    ensures short { IfNone result (length (rest reader.now) < planes_bits budget prec size 0 (rest reader.now)) }
-    ensures read { IfSome result (λ next. ReadsTop budget prec size reader.now next.reader (map P.words planes.new) next.left) }
+    ensures short { IfNone result (length (rest reader.now)
+        < planes_bits budget prec size 0 (rest reader.now)) }
+    ensures read { IfSome result (λ next. ReadsTop budget prec size reader.now next.reader
+        (map P.words planes.new) next.left) }
 {
     let mut cursor = Cursor::new(budget, reader);
     let mut i = cursor.pass_zero_planes(prec) as usize;

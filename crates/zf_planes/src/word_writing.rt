@@ -53,8 +53,8 @@ struct Begun {
     next: usize,
 }
 
-/// The code of the planes in which the first rank alone has ones, from the one of number `from` on, if that is one of them, as far as it fits a word. Where
-/// values are smooth, these are many.
+/// The code of the planes in which the first rank alone has ones, from the one of number `from` on, if that
+/// is one of them, as far as it fits a word. Where values are smooth, these are many.
 #[inline(always)]
 fn lone_planes<P: Plane>(from: usize, prec: u32, size: usize, planes: &[P]) -> Begun
     requires some { 1 < size }
@@ -62,7 +62,8 @@ fn lone_planes<P: Plane>(from: usize, prec: u32, size: usize, planes: &[P]) -> B
     requires planes { prec ≤ length planes.now }
     requires from { from ≤ prec }
     ensures code { code_from 0 (drop from (take prec (planes_held size (map P.words planes.now))))
-        ≡ field result.part.len result.part.bits ++ code_from result.above (drop result.next (take prec (planes_held size (map P.words planes.now)))) }
+        ≡ field result.part.len result.part.bits ++ code_from result.above
+        (drop result.next (take prec (planes_held size (map P.words planes.now)))) }
     ensures small { result.part.bits < 2 ^ result.part.len }
     ensures len { result.part.len ≤ 64 }
     ensures above { result.above ≤ 1 }
@@ -94,8 +95,8 @@ fn lone_planes<P: Plane>(from: usize, prec: u32, size: usize, planes: &[P]) -> B
     }
 }
 
-/// Appends the code of the top `prec` planes from the one of number `from` on, above which no rank has had a one, as far as `left` bits reach. The answer
-/// is the bits that are left.
+/// Appends the code of the top `prec` planes from the one of number `from` on, above which no rank has had a
+/// one, as far as `left` bits reach. The answer is the bits that are left.
 #[inline(always)]
 pub(crate) fn write_planes_of_word<P: Plane>(
     left: u64,
@@ -109,9 +110,12 @@ pub(crate) fn write_planes_of_word<P: Plane>(
     requires size { size ≤ 64 }
     requires planes { prec ≤ length planes.now }
     requires from { from ≤ prec }
-    requires fits { min left (length (code_from 0 (drop from (take prec (planes_held size (map P.words planes.now)))))) ≤ out.old.room }
-    ensures bits { Appends out.old out.new (take left (code_from 0 (drop from (take prec (planes_held size (map P.words planes.now)))))) }
-    ensures left { result ≡ left - length (code_from 0 (drop from (take prec (planes_held size (map P.words planes.now))))) }
+    requires fits { min left (length (code_from 0 (drop from
+        (take prec (planes_held size (map P.words planes.now)))))) ≤ out.old.room }
+    ensures bits { Appends out.old out.new (take left
+        (code_from 0 (drop from (take prec (planes_held size (map P.words planes.now)))))) }
+    ensures left { result ≡ left - length (code_from 0
+        (drop from (take prec (planes_held size (map P.words planes.now))))) }
 {
     let begun = lone_planes(from, prec, size, planes);
     let mut left = left;

@@ -29,8 +29,8 @@ IsBlockSize size = (size ≡ 4) ⊎ (size ≡ 16) ⊎ (size ≡ 64) ⊎ (size �
 abbrev pub max_values : ℕ
 max_values = 2 ^ 27
 
--- the sizes of an array: of one to four dimensions, each at least 1 and at most what its field of the header holds
--- (2^48, 2^24, 2^16 or 2^12), and not too many values in all
+-- the sizes of an array: of one to four dimensions, each at least 1 and at most what its field of the header
+-- holds (2^48, 2^24, 2^16 or 2^12), and not too many values in all
 pub record IsShape (ns : List ℕ) : Type 0 where
   pub some_dimension : 1 ≤ length ns
   pub four_at_most : length ns ≤ 4
@@ -91,11 +91,13 @@ position_in [] is = []
 position_in (c ∷ cs) [] = []
 position_in (c ∷ cs) (i ∷ is) = (4 * c + i) ∷ position_in cs is
 
--- the value at a place of the block with coordinates cs, of the array's values in raster order; 0 at a place that does not exist
+-- the value at a place of the block with coordinates cs, of the array's values in raster order; 0 at a place
+-- that does not exist
 abbrev pub value_at : List ℕ → List ℤ → List ℕ → ℕ → ℤ
 value_at ns values cs p =
     let at = indices (length ns) p in
-    if is_inside (extents ns cs) at then slice_index_or values (raster ns (position_in cs at)) (pos 0) else pos 0
+    if is_inside (extents ns cs) at then slice_index_or values (raster ns (position_in cs at)) (pos 0) else
+    pos 0
 
 -- block b of an array
 abbrev pub block_of : List ℕ → List ℤ → ℕ → List ℤ

@@ -35,7 +35,8 @@ unlift_line n x y z w =
     let x2 = wrap n (wrap n (pos 2 *ℤ x1) -ℤ w3) in
     x2 ∷ y3 ∷ z2 ∷ w3 ∷ []
 
--- the value at place p of what a map of lines makes of its line, along the axis whose neighbours are step places apart
+-- the value at place p of what a map of lines makes of its line, along the axis whose neighbours are step
+-- places apart
 abbrev pub line_value : (ℤ → ℤ → ℤ → ℤ → List ℤ) → ℕ → List ℤ → ℕ → ℤ
 line_value f step block p =
     let i = p / step % 4 in

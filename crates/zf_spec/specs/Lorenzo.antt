@@ -1,4 +1,5 @@
--- The reversible transform of a block, the high-order Lorenzo transform (zfp 1.0 documentation, chapter Algorithm).
+-- The reversible transform of a block, the high-order Lorenzo transform (zfp 1.0 documentation, chapter
+-- Algorithm).
 use Rattle.std.specs.Prelude.{ℕ, suc, zero, ◌+◌, ◌-◌, ◌/◌, ◌%◌, ℤ, pos, ◌+ℤ◌, ◌*ℤ◌, neg_ℤ, List, [], ◌∷◌, map, if◌then◌else◌}
 use Rattle.std.specs.Int.{Width}
 use Rattle.zf_spec.specs.Numbers.{wrap, is_odd}
@@ -10,7 +11,8 @@ choose n zero = 1
 choose zero (suc k) = 0
 choose (suc n) (suc k) = choose n k + choose n (suc k)
 
--- along one axis, what the value at index i weighs in the coefficient at index m: C(m, i), with the sign of (-1)^(m - i)
+-- along one axis, what the value at index i weighs in the coefficient at index m: C(m, i), with the sign of
+-- (-1)^(m - i)
 abbrev pub signed_choose : ℕ → ℕ → ℤ
 signed_choose m i = if is_odd (m - i) then neg_ℤ (pos (choose m i)) else pos (choose m i)
 

@@ -9,7 +9,8 @@ AreExtents es = All (λ e. (1 ≤ e) × (e ≤ 4)) es
 -- a line of one to four values a, b, c, d becomes a a a a, or a b b a, or a b c a, or a b c d:
 -- which of the n values each of the four is
 abbrev pub sources : ℕ → List ℕ
-sources n = slice_index_or ((0 ∷ 0 ∷ 0 ∷ 0 ∷ []) ∷ (0 ∷ 1 ∷ 1 ∷ 0 ∷ []) ∷ (0 ∷ 1 ∷ 2 ∷ 0 ∷ []) ∷ (0 ∷ 1 ∷ 2 ∷ 3 ∷ []) ∷ []) (n - 1) []
+sources n = slice_index_or ((0 ∷ 0 ∷ 0 ∷ 0 ∷ []) ∷ (0 ∷ 1 ∷ 1 ∷ 0 ∷ []) ∷ (0 ∷ 1 ∷ 2 ∷ 0 ∷ [])
+    ∷ (0 ∷ 1 ∷ 2 ∷ 3 ∷ []) ∷ []) (n - 1) []
 
 -- which place a padded place is taken from, with these extents: along each axis by the line's rule
 abbrev pub source_place : List ℕ → ℕ → ℕ

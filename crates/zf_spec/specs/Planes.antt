@@ -11,9 +11,11 @@ plane k coefficients = map (λ ds. slice_index_or ds k false) coefficients
 abbrev pub planes_of : ℕ → List (List Bool) → List (List Bool)
 planes_of w coefficients = map (λ k. plane k coefficients) (reverse (upto w))
 
--- back: the digits of the coefficients by rank, the lowest first, of which w planes hold one each; planes that are missing below are zero
+-- back: the digits of the coefficients by rank, the lowest first, of which w planes hold one each; planes
+-- that are missing below are zero
 unfoldable pub digits_in_planes : ℕ → ℕ → List (List Bool) → List (List Bool)
-digits_in_planes w size planes = map (λ r. map (λ i. slice_index_or (slice_index_or planes i []) r false) (reverse (upto w))) (upto size)
+digits_in_planes w size planes = map (λ r. map (λ i. slice_index_or (slice_index_or planes i []) r false)
+    (reverse (upto w))) (upto size)
 
 -- planes of this size
 abbrev pub AreOfSize : ℕ → List (List Bool) → Type 0
@@ -38,7 +40,8 @@ reach_of_all (ds ∷ planes) = max (reach ds) (reach_of_all planes)
 abbrev pub group : List Bool → List Bool → List Bool
 group ds run = if has_one ds then true ∷ run else false ∷ []
 
--- the code from a run on: the digits up to and with the first one, of which that of the last rank is implied, and all behind it
+-- the code from a run on: the digits up to and with the first one, of which that of the last rank is implied,
+-- and all behind it
 abbrev pub code_from_run : List Bool → List Bool
 code_from_run [] = []
 code_from_run (d ∷ []) = []
@@ -54,7 +57,8 @@ tail (d ∷ ds) = group (d ∷ ds) (code_from_run (d ∷ ds))
 abbrev pub plane_code : ℕ → List Bool → List Bool
 plane_code n ds = take n ds ++ tail (drop n ds)
 
--- the code of planes, the greatest first, where ranks below n have had a one above; that number goes from plane to plane
+-- the code of planes, the greatest first, where ranks below n have had a one above; that number goes from
+-- plane to plane
 abbrev pub code_from : ℕ → List (List Bool) → List Bool
 code_from n [] = []
 code_from n (ds ∷ planes) = plane_code n ds ++ code_from (max n (reach ds)) planes
@@ -63,7 +67,8 @@ code_from n (ds ∷ planes) = plane_code n ds ++ code_from (max n (reach ds)) pl
 abbrev pub code : List (List Bool) → List Bool
 code planes = code_from 0 planes
 
--- the code of plane k among planes, counted from the greatest: ranks below the reach of all planes above have had a one
+-- the code of plane k among planes, counted from the greatest: ranks below the reach of all planes above have
+-- had a one
 abbrev pub code_at : List (List Bool) → ℕ → List Bool
 code_at planes k = plane_code (reach_of_all (take k planes)) (slice_index_or planes k [])
 

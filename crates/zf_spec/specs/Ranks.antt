@@ -1,10 +1,11 @@
--- The order in which the coefficients of a block are coded (zfp 1.0 documentation, chapter Algorithm;
--- which of two coefficients with equal sums comes first in three and four dimensions is this project's own choice).
+-- The order in which the coefficients of a block are coded (zfp 1.0 documentation, chapter Algorithm; which
+-- of two coefficients with equal sums comes first in three and four dimensions is this project's own choice).
 use Rattle.std.specs.Prelude.{ℕ, ◌≡◌, ◌-◌, ◌*◌, Bool, true, false, ◌&&◌, ◌||◌, ◌==◌, nat_lt, ℤ, pos, List, [], ◌∷◌, map, slice_index_or, if◌then◌else◌}
 use Rattle.std.specs.List.{sum, sum_by, position_or_len}
 use Rattle.zf_spec.specs.Grid.{indices, places}
 
--- the key of a place: the sum of its indices, the sum of their squares, and then the indices, x first, the greater first
+-- the key of a place: the sum of its indices, the sum of their squares, and then the indices, x first, the
+-- greater first
 abbrev pub key : ℕ → ℕ → List ℕ
 key d p = let is = indices d p in sum is ∷ sum_by (λ i. i * i) is ∷ map (λ i. 3 - i) is
 
@@ -39,4 +40,5 @@ by_rank d block = map (λ p. slice_index_or block p (pos 0)) (order d)
 
 -- the way back: the value at each place is that of its rank
 abbrev pub by_place : ℕ → List ℤ → List ℤ
-by_place d values = map (λ p. slice_index_or values (position_or_len (λ q. q == p) (order d)) (pos 0)) (places d)
+by_place d values = map (λ p. slice_index_or values (position_or_len (λ q. q == p) (order d)) (pos 0))
+    (places d)

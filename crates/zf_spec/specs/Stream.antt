@@ -50,13 +50,15 @@ first_bytes (suc n) (b ∷ s) = b ∷ first_bytes n s
 -- the n values whose raw bytes are s, after s is continued with zero bytes or cut
 abbrev pub values_from : Width → ℕ → List ℕ → List ℤ
 values_from w zero s = []
-values_from w (suc n) s = cast_signed w (from_le_bytes w (first_bytes (byte_len w) s)) ∷ values_from w n (drop (byte_len w) s)
+values_from w (suc n) s = cast_signed w (from_le_bytes w (first_bytes (byte_len w) s))
+    ∷ values_from w n (drop (byte_len w) s)
 
 -- the letters "zfp" in front of a stream: the bytes 7a 66 70
 abbrev pub magic : ℕ
 magic = 0x70667a
 
--- the codec's number: 5 in one and two dimensions, as zfp 1.0 writes; 69 in three and four (this project's own)
+-- the codec's number: 5 in one and two dimensions, as zfp 1.0 writes; 69 in three and four (this project's
+-- own)
 abbrev pub codec : ℕ → ℕ
 codec d = if nat_le d 2 then 5 else 69
 
@@ -64,13 +66,15 @@ codec d = if nat_le d 2 then 5 else 69
 abbrev pub type_number : Width → ℕ
 type_number w = if nat_lt 32 (bits w) then 2 else 1
 
--- the mode's number: the rate less 1 up to 2048, the precision plus 2047, 2176 for reversible; and else 4095, which begins the long form
+-- the mode's number: the rate less 1 up to 2048, the precision plus 2047, 2176 for reversible; and else 4095,
+-- which begins the long form
 abbrev pub mode_number : Mode → ℕ
 mode_number reversible = 2176
 mode_number (fixed_rate b) = if nat_le b 2048 then b - 1 else 4095
 mode_number (fixed_precision p) = p + 2047
 
--- in the long form of a rate, the most planes (zfp's maxprec) of all 64, less 1, and the least exponent, which is no limit
+-- in the long form of a rate, the most planes (zfp's maxprec) of all 64, less 1, and the least exponent,
+-- which is no limit
 abbrev pub all_planes : ℕ
 all_planes = 63
 
@@ -80,7 +84,8 @@ no_exponent = 15421
 -- the long form of a rate above 2048: the least and the most bits, the most planes, the least exponent
 abbrev pub long_form : Mode → List Bool
 long_form reversible = []
-long_form (fixed_rate b) = if nat_le b 2048 then [] else field 15 (b - 1) ++ field 15 (b - 1) ++ field 7 all_planes ++ field 15 no_exponent
+long_form (fixed_rate b) = if nat_le b 2048 then [] else field 15 (b - 1) ++ field 15 (b - 1)
+    ++ field 7 all_planes ++ field 15 no_exponent
 long_form (fixed_precision p) = []
 
 -- the header bits of an array of these sizes
@@ -98,7 +103,8 @@ block_code w (fixed_precision p) es block = prec w p es block
 
 -- the codes of the blocks of an array, in order
 abbrev pub codes : Width → List ℕ → Mode → List ℤ → List (List Bool)
-codes w ns mode values = map (λ b. block_code w mode (extent_of ns b) (block_of ns values b)) (upto (blocks ns))
+codes w ns mode values = map (λ b. block_code w mode (extent_of ns b) (block_of ns values b))
+    (upto (blocks ns))
 
 -- the file with given codes of the blocks
 unfoldable pub file : Width → List ℕ → Mode → List (List Bool) → List ℕ

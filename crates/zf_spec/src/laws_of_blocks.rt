@@ -38,7 +38,8 @@ pub fn order_of_places()
     ensures only { (d : ℕ) (ps : List ℕ) → IsPermutation (places d) ps → Rises d ps → ps ≡ order d }
 {}
 
-/// Each rank has a place and each place has a rank, so that a block by rank and by place determine one another.
+/// Each rank has a place and each place has a rank, so that a block by rank and by place determine one
+/// another.
 pub fn ranks_and_places()
     ensures place { (d k : ℕ) → k < 4 ^ d → slice_index_or (order d) k 0 < 4 ^ d }
     ensures rank { (d p : ℕ) → p < 4 ^ d

@@ -12,7 +12,8 @@ pub fn bits_and_bytes()
     ensures bytes { (bytes : List ℕ) → All (λ b. b < 256) bytes → to_bytes (to_bits bytes) ≡ bytes }
 {}
 
-/// Bit i of a list of bits is bit i mod 64 of word i / 64, and bit i mod 8 of byte i / 8, the least significant bit of each first.
+/// Bit i of a list of bits is bit i mod 64 of word i / 64, and bit i mod 8 of byte i / 8, the least
+/// significant bit of each first.
 pub fn places_of_bits()
     ensures word { (words : List ℕ) (i : ℕ) → i < 64 * length words
         → slice_index_or (word_bits words) i false ≡ is_odd (slice_index_or words (i / 64) 0 / 2 ^ (i % 64)) }

@@ -36,7 +36,8 @@ pub fn values_and_digits()
     ensures fits { (w : Width) (ds : List Bool) → FitsSigned w (value_of w ds) }
 {}
 
-/// The n lowest bits of a number are its number modulo 2^n, the only n bits of that number, and a shorter field begins a longer one.
+/// The n lowest bits of a number are its number modulo 2^n, the only n bits of that number, and a shorter
+/// field begins a longer one.
 pub fn fields()
     ensures length { (n v : ℕ) → length (field n v) ≡ n }
     ensures number { (n v : ℕ) → number (field n v) ≡ v % 2 ^ n }

@@ -1,4 +1,5 @@
-//! Laws of planes, of their code and what a budget keeps of it, and of the coefficients that they are the digits of.
+//! Laws of planes, of their code and what a budget keeps of it, and of the coefficients that they are the
+//! digits of.
 
 ghost use Rattle.std.specs.Prelude.{◌≡◌, ℕ, suc, ◌+◌, ◌-◌, ◌*◌, ◌^◌, ◌<◌, ◌≤◌, max, ℤ, Bool, true, false, List, [], ◌∷◌, ◌++◌, map, length, take, replicate, slice_index_or};
 ghost use Rattle.std.specs.List.{flat_map};
@@ -10,7 +11,8 @@ ghost use Rattle.zf_spec.specs.Kept.{kept_tail, kept_planes, kept_at};
 ghost use Rattle.zf_spec.specs.Codes.{planes, coefficients_of};
 ghost use Rattle.zf_spec.specs.Numbers.{AreValues};
 
-/// The code of the digits from some rank on: of none, of zeros only, and where the first one stands after j zeros, whether something follows it or not.
+/// The code of the digits from some rank on: of none, of zeros only, and where the first one stands after j
+/// zeros, whether something follows it or not.
 pub fn cases_of_a_tail()
     ensures nothing { tail [] ≡ [] }
     ensures zeros { (n : ℕ) → tail (replicate (suc n) false) ≡ false ∷ [] }
@@ -19,8 +21,9 @@ pub fn cases_of_a_tail()
     ensures last { (j : ℕ) → tail (replicate j false ++ true ∷ []) ≡ true ∷ replicate j false }
 {}
 
-/// What r bits keep of the digits from some rank on: nothing where r is 0 or there is no one; else the run of the first one, after j zeros, and
-/// what the other bits keep of what follows, where its bits are left; and else a one in the place where the run is cut.
+/// What r bits keep of the digits from some rank on: nothing where r is 0 or there is no one; else the run of
+/// the first one, after j zeros, and what the other bits keep of what follows, where its bits are left; and
+/// else a one in the place where the run is cut.
 pub fn cases_of_a_kept_tail()
     ensures no_bit { (ds : List Bool) → kept_tail 0 ds ≡ replicate (length ds) false }
     ensures no_one { (r : ℕ) (ds : List Bool) → has_one ds ≡ false → kept_tail r ds
@@ -37,7 +40,8 @@ pub fn cases_of_a_kept_tail()
         ≡ replicate (r - 1) false ++ true ∷ replicate (j + 1 - r) false }
 {}
 
-/// The reach of a plane is the only number with a one just before it and no one from it on; it is 0 where there is no one.
+/// The reach of a plane is the only number with a one just before it and no one from it on; it is 0 where
+/// there is no one.
 pub fn reach_of_a_plane()
     ensures none { (ds : List Bool) (k : ℕ) → reach ds ≤ k → slice_index_or ds k false ≡ false }
     ensures one { (ds : List Bool) (k : ℕ) → reach ds ≡ suc k → slice_index_or ds k false ≡ true }
@@ -45,7 +49,8 @@ pub fn reach_of_a_plane()
         → ((k : ℕ) → n ≡ suc k → slice_index_or ds k false ≡ true) → n ≡ reach ds }
 {}
 
-/// The reach of several planes is the only number with a one just before it in some plane, and no one from it on in any; it is 0 where there is no one.
+/// The reach of several planes is the only number with a one just before it in some plane, and no one from it
+/// on in any; it is 0 where there is no one.
 pub fn reach_of_several_planes()
     ensures none { (ps : List (List Bool)) (j k : ℕ) → reach_of_all ps ≤ k
         → slice_index_or (slice_index_or ps j []) k false ≡ false }
@@ -62,13 +67,15 @@ pub fn code_plane_by_plane()
     ensures { (ps : List (List Bool)) → code ps ≡ flat_map (code_at ps) (upto (length ps)) }
 {}
 
-/// What a budget keeps of each plane is known from the bits that the codes of all planes above leave, and from their reach.
+/// What a budget keeps of each plane is known from the bits that the codes of all planes above leave, and
+/// from their reach.
 pub fn kept_plane_by_plane()
     ensures { (budget : ℕ) (ps : List (List Bool)) → kept_planes budget ps
         ≡ map (kept_at budget ps) (upto (length ps)) }
 {}
 
-/// The number of planes that are needed is the only one with a plane that has a one just before it and no such plane from it on.
+/// The number of planes that are needed is the only one with a plane that has a one just before it and no
+/// such plane from it on.
 pub fn needed_planes_of_a_block()
     ensures none { (ps : List (List Bool)) (k : ℕ) → needed_planes ps ≤ k → has_one (slice_index_or ps k [])
         ≡ false }

@@ -10,7 +10,8 @@ ghost use Rattle.zf_spec.specs.Codes.{count_bits, rev, rate, round, prec, round_
 ghost use Rattle.zf_spec.specs.Numbers.{AreValues};
 ghost use Rattle.zf_spec.specs.Padding.{AreExtents};
 
-/// The planes in a list of bits are the only planes of their size and number whose code begins that list continued with zeros.
+/// The planes in a list of bits are the only planes of their size and number whose code begins that list
+/// continued with zeros.
 pub fn planes_in_bits()
     ensures count { (p size : ℕ) (s : List Bool) → length (planes_in p size s) ≡ p }
     ensures size { (p size : ℕ) (s : List Bool) → AreOfSize size (planes_in p size s) }
@@ -26,7 +27,8 @@ pub fn kept_planes()
         ≡ kept_planes budget ps }
 {}
 
-/// The reversible code of a block of a type of at most 64 bits reads back as the values that exist, and takes its length, whatever bits come after.
+/// The reversible code of a block of a type of at most 64 bits reads back as the values that exist, and takes
+/// its length, whatever bits come after.
 pub fn reversible_code()
     ensures read { (w : Width) (es : List ℕ) (block : List ℤ) (more : List Bool) → bits w ≤ 64
         → AreExtents es → AreValues w block
@@ -35,7 +37,8 @@ pub fn reversible_code()
         → length (rev w es block) ≤ count_bits w + 4 ^ length es * (bits w + 1) }
 {}
 
-/// The code of a block at a fixed rate has as many bits as its budget, and reads back as what the rate makes of the block.
+/// The code of a block at a fixed rate has as many bits as its budget, and reads back as what the rate makes
+/// of the block.
 pub fn rate_code()
     ensures read { (w : Width) (budget : ℕ) (es : List ℕ) (block : List ℤ)
         → read_rate w es (rate w budget es block) ≡ round w budget es block }
@@ -43,7 +46,8 @@ pub fn rate_code()
         → length (rate w budget es block) ≡ budget }
 {}
 
-/// The code of a block at a fixed precision reads back as what the precision makes of the block, and takes its length, whatever bits come after.
+/// The code of a block at a fixed precision reads back as what the precision makes of the block, and takes
+/// its length, whatever bits come after.
 pub fn precision_code()
     ensures read { (w : Width) (p : ℕ) (es : List ℕ) (block : List ℤ) (more : List Bool)
         → read_prec w p es (prec w p es block ++ more)
