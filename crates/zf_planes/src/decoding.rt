@@ -9,6 +9,7 @@ ghost use Rattle.zf_spec.specs.Numbers.{field, word_bits};
 ghost use Rattle.zf_spec.specs.Planes.{reach};
 ghost use Rattle.zf_bits.specs.Reader.{rest, Reads};
 ghost use Rattle.zf_planes.specs.Moves.{Moves, LacksPlane, MovesOverPlane};
+ghost use Rattle.zf_planes.specs.Sizes.{HasBlanks};
 ghost use Rattle.zf_planes.specs.Decoding.{coded, coded_bits, tail_ahead, tail_bits, run_ahead, run_bits, planes_bits, Takes, Lacks, ReadsTail, ReadsTop};
 
 use crate::cursor::Cursor;
@@ -205,10 +206,7 @@ fn read_by_planes<'a, P: Plane>(
     reader: &BitReader<'a>,
     planes: &mut [P],
 ) -> Option<Cursor<'a>>
-    requires some { 0 < size }
-    requires words { size ≤ 64 * P.word_count }
-    requires planes { prec ≤ length planes.old }
-    requires blank { map P.words planes.old ≡ replicate (length planes.old) (replicate P.word_count 0) }
+    requires planes { HasBlanks size prec P.word_count (length planes.old) (map P.words planes.old) }
     ensures short { IfNone result (length (rest reader.now)
         < planes_bits budget prec size 0 (rest reader.now)) }
     ensures read { IfSome result (λ next. ReadsTop budget prec size reader.now next.reader
@@ -240,10 +238,7 @@ fn read_top<'a, P: Plane>(
     reader: &BitReader<'a>,
     planes: &mut [P],
 ) -> Option<Cursor<'a>>
-    requires some { 0 < size }
-    requires words { size ≤ 64 * P.word_count }
-    requires planes { prec ≤ length planes.old }
-    requires blank { map P.words planes.old ≡ replicate (length planes.old) (replicate P.word_count 0) }
+    requires planes { HasBlanks size prec P.word_count (length planes.old) (map P.words planes.old) }
     ensures short { IfNone result (length (rest reader.now)
         < planes_bits budget prec size 0 (rest reader.now)) }
     ensures read { IfSome result (λ next. ReadsTop budget prec size reader.now next.reader

@@ -3,6 +3,7 @@
 
 ghost use Rattle.std.specs.Prelude.{◌≡◌, ◌+◌, ◌-◌, ◌*◌, ◌/◌, ◌%◌, ◌^◌, ◌<◌, ◌≤◌};
 ghost use Rattle.zf_planes.specs.WordPlanes.{IsReadAs};
+ghost use Rattle.zf_planes.specs.Sizes.{IsWordSize};
 
 use crate::tails_table::tail_entry;
 
@@ -20,8 +21,7 @@ pub(crate) struct PlaneOfWord {
 /// The plane whose code these bits begin with, where all ranks have had a one above.
 #[inline(always)]
 pub(crate) fn plane_of_all(size: usize, bits: u64) -> PlaneOfWord
-    requires some { 0 < size }
-    requires size { size ≤ 64 }
+    requires size { IsWordSize size }
     ensures read { IsReadAs size size bits result.digits result.len result.above }
     ensures len { result.len ≡ size }
 {
@@ -72,9 +72,8 @@ pub(crate) fn plane_with(n: usize, size: usize, bits: u64) -> PlaneOfWord
 /// more than 64 bits where the table doesn't know the plane.
 #[inline(always)]
 pub(crate) fn plane_at(n: usize, size: usize, bits: u64) -> PlaneOfWord
-    requires some { 0 < size }
+    requires size { IsWordSize size }
     requires in_plane { n ≤ size }
-    requires size { size ≤ 64 }
     ensures read { result.len ≤ 64 → IsReadAs n size bits result.digits result.len result.above }
     ensures some { 0 < result.len }
 {

@@ -9,6 +9,7 @@ ghost use Rattle.zf_spec.specs.HeldPlanes.{digits_held, planes_held, IsClearFrom
 ghost use Rattle.zf_spec.specs.Planes.{reach};
 ghost use Rattle.zf_planes.specs.WordPlanes.{IsReadAs};
 ghost use Rattle.zf_bits.specs.Reader.{rest};
+ghost use Rattle.zf_planes.specs.Sizes.{IsWordSize, HasBlanks};
 ghost use Rattle.zf_planes.specs.Moves.{Moves, LacksPlane, MovesOverPlane};
 ghost use Rattle.zf_planes.specs.Decoding.{plane_ahead, plane_bits, planes_ahead, planes_bits, Takes, Lacks, ReadsTop};
 
@@ -25,8 +26,7 @@ fn take_plane<P: Plane>(
     next: PlaneOfWord,
     cursor: &mut Cursor<'_>,
 ) -> PlaneRead<P>
-    requires ranks { 0 < size }
-    requires size { size ≤ 64 }
+    requires size { IsWordSize size }
     requires in_plane { n ≤ size }
     requires read { IsReadAs n size cursor.old.bits next.digits next.len next.above }
     requires some { 0 < next.len }
@@ -120,8 +120,7 @@ fn read_more<P: Plane>(n: usize, size: usize, cursor: &mut Cursor<'_>) -> Option
 /// Reads a plane in which all ranks have had a one above.
 #[inline(always)]
 fn read_last<P: Plane>(size: usize, cursor: &mut Cursor<'_>) -> Option<PlaneRead<P>>
-    requires some { 0 < size }
-    requires small { size ≤ 64 }
+    requires size { IsWordSize size }
     ensures short { IfNone result (LacksPlane size size cursor.old cursor.new) }
     ensures read { IfSome result (λ read. MovesOverPlane size size cursor.old cursor.new (P.words read.plane)
         read.above) }
@@ -145,10 +144,8 @@ pub(crate) fn read_in_words<'a, P: Plane>(
     reader: &BitReader<'a>,
     planes: &mut [P],
 ) -> Option<Cursor<'a>>
-    requires some { 0 < size }
-    requires small { size ≤ 64 }
-    requires planes { prec ≤ length planes.old }
-    requires blank { map P.words planes.old ≡ replicate (length planes.old) (replicate P.word_count 0) }
+    requires size { size ≤ 64 }
+    requires planes { HasBlanks size prec P.word_count (length planes.old) (map P.words planes.old) }
     ensures short { IfNone result (length (rest reader.now)
         < planes_bits budget prec size 0 (rest reader.now)) }
     ensures read { IfSome result (λ next. ReadsTop budget prec size reader.now next.reader

@@ -5,6 +5,7 @@ ghost use Rattle.zf_spec.specs.Numbers.{field};
 ghost use Rattle.zf_spec.specs.Planes.{plane_code, code_from, reach};
 ghost use Rattle.zf_spec.specs.HeldPlanes.{planes_held};
 ghost use Rattle.zf_bits.specs.Writer.{Appends};
+ghost use Rattle.zf_planes.specs.Sizes.{IsWordSize};
 
 use crate::doubling::{Part, join, write_part, write_with};
 use crate::words::{first_word, reach_in};
@@ -24,9 +25,8 @@ fn is_plain(n: u64, size: u64, digits: u64) -> bool
 /// The code of such a plane: its digits, and where ranks are left a group bit of zero.
 #[inline(always)]
 fn plain_plane(n: u64, size: u64, digits: u64) -> Part
-    requires some { 0 < size }
+    requires size { IsWordSize size }
     requires in_plane { n ≤ size }
-    requires size { size ≤ 64 }
     requires digits { digits < 2 ^ size }
     requires plain { (n ≡ size) ⊎ (digits / 2 ^ n ≡ 0) }
     ensures code { plane_code n (field size digits) ≡ field result.len result.bits }

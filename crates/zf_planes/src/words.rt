@@ -4,14 +4,14 @@ ghost use Rattle.std.specs.Prelude.{◌≡◌, ◌+◌, ◌*◌, ◌^◌, ◌<�
 ghost use Rattle.zf_spec.specs.Numbers.{field};
 ghost use Rattle.zf_spec.specs.Planes.{reach, has_one};
 ghost use Rattle.zf_spec.specs.HeldPlanes.{digits_held};
+ghost use Rattle.zf_planes.specs.Sizes.{IsWordSize};
 
 use zf_bits::Plane;
 
 /// The digits of a plane that lies in one word, as a number.
 #[inline]
 pub(crate) fn first_word<P: Plane>(plane: &P, size: usize) -> u64
-    requires some { 0 < size }
-    requires size { size ≤ 64 }
+    requires size { IsWordSize size }
     ensures digits { field size result ≡ digits_held size (P.words plane.now) }
     ensures small { result < 2 ^ size }
 {

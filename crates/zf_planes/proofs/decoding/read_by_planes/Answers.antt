@@ -11,7 +11,7 @@ loop-i-init g c =
     let zeros = c.pass_zero_planes-i.ensures in
     let taken = rw (c.new-cursor.ensures.left, c.new-cursor.ensures.reader) at zeros.taken in
     record {
-      read = AreRead-start c.args.prec c.args.size n g.P.Plane.word_count _ c.requires.some c.requires.words c.requires.blank c.requires.planes zeros.within taken (rw c.new-cursor.ensures.reader at zeros.zeros);
+      read = AreRead-start c.args.prec c.args.size n g.P.Plane.word_count _ c.requires.planes.some c.requires.planes.words c.requires.planes.blank c.requires.planes.enough zeros.within taken (rw c.new-cursor.ensures.reader at zeros.zeros);
       long = omega arith;
     }
 
@@ -28,7 +28,7 @@ loop-i-preserved g c =
     let plane = c.in_ok-read.read.plane in
     let read = rw (c.look_on.ensures.left, c.look_on.ensures.reader) at c.in_ok-read.ensures.read in
     record {
-      read = AreRead-more g.P.Plane.words _ _ c.loop-i.planes plane before.read c.requires.some (omega (arith, c.requires.words, g.met.P.Plane.long plane)) c.loop-i-test.true (omega (arith, before.long, c.requires.planes)) read;
+      read = AreRead-more g.P.Plane.words _ _ c.loop-i.planes plane before.read c.requires.planes.some (omega (arith, c.requires.planes.words, g.met.P.Plane.long plane)) c.loop-i-test.true (omega (arith, before.long, c.requires.planes.enough)) read;
       long = length-set c.loop-i.planes _ plane ∙ before.long;
     }
 
@@ -37,9 +37,9 @@ loop-i-preserved g c =
 pub returns-clause-read : goal.returns-clause-read
 returns-clause-read g c =
     let planes = map g.P.Plane.words c.loop-i.planes in
-    let enough : c.args.prec ≤ length planes = omega (arith, length-map c.loop-i.planes g.P.Plane.words, c.loop-i.invariant.long, c.requires.planes) in
+    let enough : c.args.prec ≤ length planes = omega (arith, length-map c.loop-i.planes g.P.Plane.words, c.loop-i.invariant.long, c.requires.planes.enough) in
     let over : (c.loop-i.cursor.left ≡ 0) ⊎ (c.args.prec - c.loop-i.i ≡ 0) = elim c.loop-i-test.branch [
       | then-loop-i-test+else-cursor-gt0 w ↦ inl (omega (arith, w.if-cursor-gt0.false))
       | else-loop-i-test w ↦ inr (omega (arith, w.loop-i-test.false))
     ] in
-    AreRead-over planes c.loop-i.invariant.read c.requires.some enough over
+    AreRead-over planes c.loop-i.invariant.read c.requires.planes.some enough over

@@ -16,7 +16,7 @@ loop-i-init g c =
     let zeros = c.pass_zero_planes-i.ensures in
     let taken = rw (c.new-cursor.ensures.left, c.new-cursor.ensures.reader) at zeros.taken in
     record {
-      read = AreRead-start c.args.prec c.args.size n g.P.Plane.word_count _ c.requires.some (omega (arith, c.requires.small, g.met.P.Plane.some)) c.requires.blank c.requires.planes zeros.within taken (rw c.new-cursor.ensures.reader at zeros.zeros);
+      read = AreRead-start c.args.prec c.args.size n g.P.Plane.word_count _ c.requires.planes.some c.requires.planes.words c.requires.planes.blank c.requires.planes.enough zeros.within taken (rw c.new-cursor.ensures.reader at zeros.zeros);
       long = omega arith;
     }
 
@@ -33,7 +33,7 @@ loop-i-preserved g c =
     let plane = c.in_ok-read.read.plane in
     let read = rw (c.look_on.ensures.left, c.look_on.ensures.reader) at c.in_ok-read.ensures.read in
     record {
-      read = AreRead-more g.P.Plane.words _ _ c.loop-i.planes plane before.read c.requires.some (omega (arith, c.requires.small, g.met.P.Plane.some, g.met.P.Plane.long plane)) c.loop-i-test.true (omega (arith, before.long, c.requires.planes)) read;
+      read = AreRead-more g.P.Plane.words _ _ c.loop-i.planes plane before.read c.requires.planes.some (omega (arith, c.requires.size, g.met.P.Plane.some, g.met.P.Plane.long plane)) c.loop-i-test.true (omega (arith, before.long, c.requires.planes.enough)) read;
       long = length-set c.loop-i.planes _ plane ∙ before.long;
     }
 
@@ -54,9 +54,9 @@ loop-i-2-preserved g c =
     let one = c.in_ok-read-2.read in
     let words = g.P.Plane.words one.plane in
     let all = all_ranks _ _ _ _ _ before.all c.if-cursor-gt0-2.true c.loop-i-2-test.true in
-    let enough : size ≤ 64 * length words = omega (arith, c.requires.small, g.met.P.Plane.some, g.met.P.Plane.long one.plane) in
+    let enough : size ≤ 64 * length words = omega (arith, c.requires.size, g.met.P.Plane.some, g.met.P.Plane.long one.plane) in
     let reached : one.above ≡ c.loop-i.above = omega (arith, c.in_ok-read-2.ensures.read.reached, all, reach-le (digits_held size words), length-digits_held size words enough) in
-    let read = AreRead-more g.P.Plane.words _ _ c.loop-i-2.planes one.plane (AreRead-ranks size all before.read) c.requires.some enough c.loop-i-2-test.true (omega (arith, before.long, c.requires.planes)) c.in_ok-read-2.ensures.read in
+    let read = AreRead-more g.P.Plane.words _ _ c.loop-i-2.planes one.plane (AreRead-ranks size all before.read) c.requires.planes.some enough c.loop-i-2-test.true (omega (arith, before.long, c.requires.planes.enough)) c.in_ok-read-2.ensures.read in
     record {
       read = AreRead-ranks c.loop-i.above reached read;
       long = length-set c.loop-i-2.planes _ one.plane ∙ before.long;
@@ -66,9 +66,9 @@ loop-i-2-preserved g c =
 pub returns-clause-read : goal.returns-clause-read
 returns-clause-read g c =
     let planes = map g.P.Plane.words c.loop-i-2.planes in
-    let enough : c.args.prec ≤ length planes = omega (arith, length-map c.loop-i-2.planes g.P.Plane.words, c.loop-i-2.invariant.long, c.requires.planes) in
+    let enough : c.args.prec ≤ length planes = omega (arith, length-map c.loop-i-2.planes g.P.Plane.words, c.loop-i-2.invariant.long, c.requires.planes.enough) in
     let over : (c.loop-i-2.cursor.left ≡ 0) ⊎ (c.args.prec - c.loop-i-2.i ≡ 0) = elim c.loop-i-2-test.branch [
       | then-loop-i-2-test+else-cursor-gt0-2 w ↦ inl (omega (arith, w.if-cursor-gt0-2.false))
       | else-loop-i-2-test w ↦ inr (omega (arith, w.loop-i-2-test.false))
     ] in
-    AreRead-over planes c.loop-i-2.invariant.read c.requires.some enough over
+    AreRead-over planes c.loop-i-2.invariant.read c.requires.planes.some enough over

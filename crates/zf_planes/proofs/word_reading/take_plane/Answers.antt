@@ -15,7 +15,7 @@ read : (g : Over) (c : goal.After-pass g)
 read g c = known_plane _ _ _ _ _ _ _ _ _ c.requires.in_plane c.args.cursor.now.window c.requires.read c.requires.there
 
 here : (g : Over) (c : goal.After-pass g) → Written c.args.size c.args.next.digits (g.P.Plane.words c.set_word.new.self)
-here g c = written _ _ _ _ _ (omega arith) (omega (arith, c.requires.size, g.met.P.Plane.some)) g.met.P.Plane.some c.zero-plane.ensures c.set_word.ensures c.requires.read.small
+here g c = written _ _ _ _ _ (omega arith) (omega (arith, c.requires.size.most, g.met.P.Plane.some)) g.met.P.Plane.some c.zero-plane.ensures c.set_word.ensures c.requires.read.small
 
 pub returns : goal.returns
 returns g c = record {
