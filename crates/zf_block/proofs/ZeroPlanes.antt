@@ -1,11 +1,11 @@
 -- Planes of zeros: what begins with zeros is read as such, a budget keeps them as they are, and they stand for a block of zeros.
-use Rattle.std.proofs.Common.{◌≡◌, refl, sym, ap, subst, ◌∙◌, ℕ, zero, suc, ◌+◌, ◌-◌, ◌*◌, ◌^◌, ◌<◌, ◌≤◌, ◌⊎◌, inl, inr, min, max, nat_le, cond}
+use Rattle.std.proofs.Common.{◌≡◌, refl, sym, ap, ◌∙◌, ℕ, zero, suc, ◌+◌, ◌-◌, ◌^◌, ◌≤◌, inl, inr, min, max, nat_le, cond}
 use Rattle.std.proofs.Common.{Bool, true, false, ℤ, pos, List, [], ◌∷◌, ◌++◌, map, length, take, reverse, drop, get_or, ext_get_or, replicate, arith}
 use Rattle.std.proofs.lemmas.List.{append-nil, length-replicate, take-replicate, drop-replicate, drop-take, take_all}
 use Rattle.std.proofs.Math.Nat.{one-le-pow}
 use Rattle.std.specs.Int.{Width}
 use mir.Val.{bits}
-use Rattle.zf_spec.specs.Numbers.{field, number, value_of}
+use Rattle.zf_spec.specs.Numbers.{field, number}
 use Rattle.zf_spec.specs.Grid.{IsDimension, IsBlockSize, upto}
 use Rattle.zf_spec.specs.Planes.{plane, planes_of, reach, has_one, needed_planes, tail, plane_code, code}
 use Rattle.zf_spec.specs.Kept.{kept_plane, cut_plane, kept_planes_from, kept_planes}
