@@ -19,10 +19,6 @@ pub record IsBlock (w : Width) (es : List ℕ) (block : List ℤ) : Type 0 where
 abbrev pub AreAbove : ℕ → List (List Bool) → List (List Bool) → Type 0
 AreAbove size planes held = (n : ℕ) × (held ≡ planes ++ replicate n (replicate size false))
 
--- a list has a value for each place of a block of one to four dimensions
-abbrev pub IsBlockOf : {A : Type 0} → ℕ → List A → Type 0
-IsBlockOf d block = IsDimension d × (length block ≡ 4 ^ d)
-
 -- a block of d dimensions of which a part exists: how many values exist along each axis, and the values at
 -- all places
 pub record PartialBlock : Type 0 where

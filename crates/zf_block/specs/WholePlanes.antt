@@ -18,6 +18,6 @@ unfoldable pub whole_from : ℕ → List (List Bool) → ℕ
 whole_from budget planes =
     position_or_len (λ k. nat_le (length (code (planes_from k planes))) budget) (upto (length planes))
 
--- the same of the planes that a code at a fixed rate stands for, however it came to be
+-- the least k of the planes that a code at a fixed rate stands for, however it came to be
 unfoldable pub rate_whole_from : Width → ℕ → List Bool → ℕ
 rate_whole_from w d s = whole_from (length s) (planes_in (bits w) (4 ^ d) s)

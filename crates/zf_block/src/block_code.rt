@@ -9,7 +9,8 @@ ghost use Rattle.zf_spec.specs.Planes.{planes_of};
 ghost use Rattle.zf_coef.specs.HeldDigits.{digits_in};
 ghost use Rattle.zf_bits.specs.Writer.{Appends};
 ghost use Rattle.zf_bits.specs.Reader.{rest};
-ghost use Rattle.zf_block.specs.Block.{AreAbove, IsBlockOf};
+ghost use Rattle.zf_base.specs.WholeBlocks.{IsBlockOf};
+ghost use Rattle.zf_block.specs.Block.{AreAbove};
 ghost use Rattle.zf_block.specs.Held.{IsHeldSize, AreBlank};
 ghost use Rattle.zf_block.specs.Decoding.{PassesCode, Decodes, HoldsAbove};
 

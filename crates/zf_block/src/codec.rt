@@ -3,7 +3,8 @@
 ghost use Rattle.std.specs.Prelude.{◌≡◌, ◌≤◌, ◌^◌, IsTrue, false, map, length, replicate};
 ghost use Rattle.zf_spec.specs.Codes as codes;
 ghost use Rattle.zf_bits.specs.Writer.{Appends};
-ghost use Rattle.zf_block.specs.Block.{IsBlockOf, planes_by};
+ghost use Rattle.zf_base.specs.WholeBlocks.{IsBlockOf};
+ghost use Rattle.zf_block.specs.Block.{planes_by};
 ghost use Rattle.zf_block.specs.Held.{IsHeldSize, IsWorkRoom, AreBlank, HoldPlanes};
 ghost use Rattle.zf_block.specs.Decoding.{Decodes, StandsFor};
 

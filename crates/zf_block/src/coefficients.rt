@@ -8,7 +8,7 @@ ghost use Rattle.zf_spec.specs.Codes.{coefficients_of};
 ghost use Rattle.zf_spec.specs.HeldPlanes.{planes_held};
 ghost use Rattle.zf_spec.specs.Planes.{planes_of};
 ghost use Rattle.zf_coef.specs.HeldDigits.{digits_in};
-ghost use Rattle.zf_block.specs.Block.{IsBlockOf};
+ghost use Rattle.zf_base.specs.WholeBlocks.{IsBlockOf};
 ghost use Rattle.zf_block.specs.Held.{IsWorkRoom, HoldPlanes};
 
 use zf_base::{Lane, block_len};

@@ -306,7 +306,7 @@ fn line_of(shape: &Shape, number: u64) -> Line
     along(along(along(all, nw, w), nz, z), ny, y)
 }
 
-// The same of one axis more, of `n` positions, at `p`.
+// The line along one axis more, of `n` positions, at `p`.
 fn along(inner: Line, n: u64, p: u64) -> Line
     requires inside { p < n }
     requires below { inner.line < inner.lines }
