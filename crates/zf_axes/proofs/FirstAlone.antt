@@ -4,6 +4,7 @@ use Rattle.std.proofs.lemmas.Bool.{cases_lt, cases_eq}
 use Rattle.std.proofs.lemmas.List.{get_or_past, length-replicate, get_or-replicate}
 use Rattle.std.proofs.lemmas.Nat.{div-mul-add, div-add-mod'}
 use Rattle.std.proofs.Math.Nat.{pow-suc, mul-le-mul_left, mod-lt, mul-mod_left}
+use Rattle.zf_base.proofs.Values.{alike_at}
 use Rattle.zf_spec.specs.Lift.{line_value, along, along_axes, along_axes_back}
 use Rattle.zf_axes.proofs.Strides.{step_some}
 use Rattle.zf_axes.proofs.LineByLine.{length-along, get_or-along}
@@ -90,11 +91,6 @@ spread_all f v spreads zeros step (suc d) block some spread =
     spread_next f step v (along_axes_back f (4 * step) d block) some spreads zeros
     (spread_all f v spreads zeros (4 * step) d block (omega arith) (subst (λ s. IsSpread s v block) next spread))
 
-zero_at : (n k : ℕ) → get_or (replicate n (pos 0)) k (pos 0) ≡ pos 0
-zero_at zero k = refl
-zero_at (suc n) zero = refl
-zero_at (suc n) (suc k) = zero_at n k
-
 first_alone : (v : ℤ) (n : ℕ) → 0 < n → IsSpread n v (v ∷ replicate (n - 1) (pos 0))
 first_alone v n some = record { there = there; elsewhere = elsewhere }
   where
@@ -110,7 +106,7 @@ first_alone v n some = record { there = there; elsewhere = elsewhere }
     elsewhere : (m r : ℕ) → 0 < r → r < n → get_or block (n * m + r) (pos 0) ≡ pos 0
     elsewhere m r positive small =
         let behind : n * m + r ≡ suc (n * m + r - 1) = omega arith in
-        ap (λ q. get_or block q (pos 0)) behind ∙ zero_at (n - 1) (n * m + r - 1)
+        ap (λ q. get_or block q (pos 0)) behind ∙ alike_at (pos 0) (n - 1) (n * m + r - 1)
 
 -- each value becomes the first one
 pub passes_back-first : (f : ℤ → ℤ → ℤ → ℤ → List ℤ) (v : ℤ) (d : ℕ) → Spreads f v → Spreads f (pos 0)
@@ -262,4 +258,4 @@ passes-first f v d collects zeros =
         subst (λ q. get_or all q (pos 0) ≡ v) none (spread.there 0 (omega (arith, long)))
     by {all} {v} {n} (suc k) below some spread long =
         let behind : n * 0 + suc k ≡ suc k = omega arith in
-        subst (λ q. get_or all q (pos 0) ≡ pos 0) behind (spread.elsewhere 0 (suc k) (omega arith) below) ∙ sym (zero_at (n - 1) k)
+        subst (λ q. get_or all q (pos 0) ≡ pos 0) behind (spread.elsewhere 0 (suc k) (omega arith) below) ∙ sym (alike_at (pos 0) (n - 1) k)

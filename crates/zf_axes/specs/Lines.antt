@@ -7,10 +7,13 @@ member block start step k = slice_index_or block (start + step * k) (pos 0)
 
 -- what a map of lines makes of the line that begins at start
 abbrev pub mapped_line : (ℤ → ℤ → ℤ → ℤ → List ℤ) → ℕ → ℕ → List ℤ → List ℤ
-mapped_line f start step block = f (member block start step 0) (member block start step 1) (member block start step 2) (member block start step 3)
+mapped_line f start step block =
+    f (member block start step 0) (member block start step 1) (member block start step 2) (member block start step 3)
 
 -- the line that begins at start has been mapped, and all other values stay
 pub record MapsLine (f : ℤ → ℤ → ℤ → ℤ → List ℤ) (start step : ℕ) (old new : List ℤ) : Type 0 where
   pub size : length new ≡ length old
-  pub line : (k : ℕ) → k < 4 → member new start step k ≡ slice_index_or (mapped_line f start step old) k (pos 0)
-  pub others : (p : ℕ) → ((k : ℕ) → k < 4 → p ≢ start + step * k) → slice_index_or new p (pos 0) ≡ slice_index_or old p (pos 0)
+  pub line : (k : ℕ) → k < 4 → member new start step k
+      ≡ slice_index_or (mapped_line f start step old) k (pos 0)
+  pub others : (p : ℕ) → ((k : ℕ) → k < 4 → p ≢ start + step * k) → slice_index_or new p (pos 0)
+      ≡ slice_index_or old p (pos 0)

@@ -18,7 +18,7 @@ pub fn pass<T: Lane, M: LineMap<T>>(line_map: &M, step: usize, block: &mut [T])
     pass_by(line_map, step, block.len(), block);
 }
 
-// The same, compiled anew for each step and length that is a constant.
+// Passes over the lines, compiled anew for each step and length that is a constant.
 #[inline(always)]
 fn pass_by<T: Lane, M: LineMap<T>>(line_map: &M, step: usize, len: usize, block: &mut [T])
     requires step { 0 < step }
@@ -26,7 +26,8 @@ fn pass_by<T: Lane, M: LineMap<T>>(line_map: &M, step: usize, len: usize, block:
     requires whole { length block.old % (4 * step) ≡ 0 }
     ensures { map T.value block.new ≡ along (M.line line_map.now) step (map T.value block.old) }
 {
-    // The block is made of groups of `4 * step` values, and the lines of a group begin at its first `step` places.
+    // The block is made of groups of `4 * step` values, and the lines of a group begin at its first `step`
+    // places.
     for group in 0..len / step / 4 {
         let first = 4 * step * group;
         for start in first..first + step {
@@ -41,7 +42,8 @@ pub fn passes<T: Lane, M: LineMap<T>>(line_map: &M, d: u8, block: &mut [T])
     requires { length block.old ≡ 4 ^ d }
     ensures { map T.value block.new ≡ along_axes (M.line line_map.now) 1 d (map T.value block.old) }
 {
-    // Where the step and the length are constants, the compiler makes lanes of the lines beside one another, and needs no loop for few lines.
+    // Where the step and the length are constants, the compiler makes lanes of the lines beside one another,
+    // and needs no loop for few lines.
     match d {
         1 => pass_by(line_map, 1, 4, block),
         2 => {
@@ -63,7 +65,7 @@ pub fn passes<T: Lane, M: LineMap<T>>(line_map: &M, d: u8, block: &mut [T])
     }
 }
 
-// The same in any number of dimensions, which no block has but those of one to four.
+// Passes along the axes of any number of dimensions, which no block has but those of one to four.
 #[cold]
 #[inline(never)]
 fn passes_any<T: Lane, M: LineMap<T>>(line_map: &M, d: u8, block: &mut [T])
@@ -102,7 +104,7 @@ pub fn passes_back<T: Lane, M: LineMap<T>>(map_back: &M, d: u8, block: &mut [T])
     }
 }
 
-// The same in any number of dimensions, which no block has but those of one to four.
+// Passes back along the axes of any number of dimensions, which no block has but those of one to four.
 #[cold]
 #[inline(never)]
 fn passes_back_any<T: Lane, M: LineMap<T>>(line_map: &M, d: u8, block: &mut [T])

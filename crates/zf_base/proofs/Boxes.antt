@@ -9,7 +9,7 @@ use Rattle.zf_base.specs.declared.position.Pos.{Pos}
 use Rattle.zf_base.specs.Positions.{axes}
 
 -- a product that is more than some number has no factor zero
-factor_not_zero : (n m k : ℕ) → k < n * m → 0 < n
+pub factor_not_zero : (n m k : ℕ) → k < n * m → 0 < n
 factor_not_zero zero m k h = omega arith
 factor_not_zero (suc n) m k h = omega arith
 

@@ -17,7 +17,7 @@ use Rattle.zf_spec.proofs.Raster.{length-coordinates, length-fours, length-exten
 pub length-used_axes : (d : ℕ) (p : Pos) → d ≤ 4 → length (used_axes d p) ≡ d
 length-used_axes d p four = omega (arith, length-take d (axes p))
 
-map-zeros : (f : ℕ → ℕ) (ps : List ℕ) (k : ℕ) → f 0 ≡ 0 → map f (ps ++ replicate k 0) ≡ map f ps ++ replicate k 0
+pub map-zeros : (f : ℕ → ℕ) (ps : List ℕ) (k : ℕ) → f 0 ≡ 0 → map f (ps ++ replicate k 0) ≡ map f ps ++ replicate k 0
 map-zeros f [] zero e = refl
 map-zeros f [] (suc k) e = rw (e, map-zeros f [] k e)
 map-zeros f (p ∷ ps) k e = rw (map-zeros f ps k e)

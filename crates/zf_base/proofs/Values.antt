@@ -1,5 +1,5 @@
 -- The numbers of a list of values.
-use Rattle.std.proofs.Common.{◌≡◌, ℕ, ◌+◌, ◌<◌, List, ◌++◌, length, get_or, set, map, take, drop, ap, sym, ◌∙◌, arith}
+use Rattle.std.proofs.Common.{◌≡◌, ℕ, zero, suc, ◌+◌, ◌<◌, List, ◌++◌, length, get_or, set, map, take, drop, replicate, refl, ap, sym, ◌∙◌, arith}
 use Rattle.std.proofs.lemmas.List.{get_or-map, map-set}
 use Rattle.std.proofs.lemmas.List.Edits.{map_over_more}
 
@@ -12,3 +12,9 @@ pub numbers_more : {X Y : Type 0} (value : X → Y) (f : Y → Y) (numbers : Lis
 numbers_more value f numbers block i d y lt same so_far written =
     let old = value (get_or block i d) in
     map-set value block i y ∙ ap (set (map value block) i) written ∙ map_over_more f numbers (map value block) i old (omega arith) so_far (sym (get_or-map value block i d old lt))
+
+-- in a list of one value alone, and past its end, each is that value
+pub alike_at : {X : Type 0} (x : X) (n k : ℕ) → get_or (replicate n x) k x ≡ x
+alike_at x zero k = refl
+alike_at x (suc n) zero = refl
+alike_at x (suc n) (suc k) = alike_at x n k

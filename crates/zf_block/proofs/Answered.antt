@@ -7,9 +7,9 @@ pub answer_none : {T : Type 0} {P Q : Type 0} (r : Option T) → IfNone r P → 
 answer_none None h f = f h
 answer_none (Some x) h f = tt
 
-pub answer_some : {T : Type 0} {P Q R S : Type 0} (r : Option T) → OnSome r P → OnSome r Q → OnSome r R → (P → Q → R → S) → OnSome r S
-answer_some None p q s f = tt
-answer_some (Some x) p q s f = f p q s
+pub answer_some : {T : Type 0} {P Q : Type 0} (r : Option T) → OnSome r P → (P → Q) → OnSome r Q
+answer_some None h f = tt
+answer_some (Some x) h f = f h
 
 pub when_some : {T : Type 0} {P : Type 0} (r : Option T) (x : T) → r ≡ Some x → OnSome r P → P
 when_some None x e h = absurd (none-some x e)

@@ -7,6 +7,7 @@
 --     ZeroPlanes  planes of zeros: their code, what is read as such, and the block that they stand for
 --     AfterReserve   room that was asked for before
 --     Answered    what follows of an answer that may be nothing
+--     Decoded     what comes of reading a code
 --     ReadCodes   what reading a code is, from what was read of it
 --     WholePlanes  how far down a code at a fixed rate has its planes whole
 --     ReadBack    what is read back from the codes of a block
@@ -18,6 +19,7 @@ pub mod Zeros
 pub mod ZeroPlanes
 pub mod AfterReserve
 pub mod Answered
+pub mod Decoded
 pub mod ReadCodes
 pub mod WholePlanes
 pub mod ReadBack

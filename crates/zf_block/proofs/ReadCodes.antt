@@ -1,5 +1,5 @@
 -- What reading a code is, from what was read of it.
-use Rattle.std.proofs.Common.{◌≡◌, sym, ap, subst, ◌∙◌, ℕ, ◌+◌, ◌-◌, ◌^◌, ◌<◌, ◌≤◌, cond, le-ltb, lt-ltb, ℤ, Bool, Some, None, List, length, take, drop, drop_at, refl, arith}
+use Rattle.std.proofs.Common.{◌≡◌, sym, ap, subst, ◌∙◌, ℕ, ◌+◌, ◌-◌, ◌^◌, ◌<◌, ◌≤◌, cond, le-ltb, lt-ltb, ℤ, Bool, Some, None, List, ◌++◌, false, length, take, drop, drop_at, replicate, refl, arith}
 use Rattle.std.specs.Int.{Width}
 use Rattle.std.proofs.Math.Nat.{mul-le-mul_left, mul-le-mul_right}
 use Rattle.std.proofs.Math.Seq.{take-append-add}
@@ -18,7 +18,9 @@ use Rattle.zf_spec.proofs.PlaneCode.{length-code-le}
 use Rattle.zf_bits.specs.Reader.{Reader, rest, Reads}
 use Rattle.zf_bits.proofs.Reading.{Reads-append, Reads-same}
 use Rattle.zf_planes.specs.Decoding.{coded, coded_bits}
-use Rattle.zf_block.specs.ReadBlocks.{ReadsRev, LacksRev, ReadsRate, ReadsPrec, LacksPrec, rev_planes, rev_len, prec_planes, prec_len}
+use Rattle.zf_block.specs.Block.{AreAbove}
+use Rattle.zf_block.specs.Decoding.{PassesCode, LacksBits}
+use Rattle.zf_block.specs.ReadBlocks.{ReadsRev, LacksRev, ReadsRate, ReadsPrec, LacksPrec, uncut_len, rev_planes, rev_len, prec_planes, prec_len}
 use Rattle.zf_block.proofs.Kept.{kept_planes-whole}
 
 -- ---- a reader that moves
@@ -47,27 +49,27 @@ read_rev-short w es s short =
     ap (λ t. cond t None (Some (existing_values es (rev_block w (length es) s), n))) (lt-ltb (length s) n short)
 
 -- the code was read
-pub ReadsRev-planes : (w : Width) (d : ℕ) (old new : Reader) → rev_len w (4 ^ d) (rest old) ≤ length (rest old) → Reads old new (take (rev_len w (4 ^ d) (rest old)) (rest old))
-    → ReadsRev w d old new (rev_block w d (rest old))
-ReadsRev-planes w d old new enough reads =
+pub ReadsRev-planes : (w : Width) (d : ℕ) (old new : Reader) → PassesCode (rev_len w (4 ^ d) (rest old)) old new → ReadsRev w d old new (rev_block w d (rest old))
+ReadsRev-planes w d old new passes =
     let s = rest old in
+    let reads = passes.passed in
     let count : rev_len w (4 ^ d) s ≡ new.at - old.at = omega (arith, reads.place, length-take (rev_len w (4 ^ d) s) s) in
     let Passed : ℕ → Type 0 = λ k. Reads old new (take k s) in
     record {
       code = λ es same.
           let Read : ℕ → Type 0 = λ k. rev_len w (4 ^ k) s ≤ length s → read_rev w es s ≡ Some (existing_values es (rev_block w k s), rev_len w (4 ^ k) s) in
           let Answer : ℕ → Type 0 = λ n. read_rev w es s ≡ Some (existing_values es (rev_block w d s), n) in
-          subst Answer count (subst Read same (read_rev-enough w es s) enough);
+          subst Answer count (subst Read same (read_rev-enough w es s) passes.whole);
       passed = subst Passed count reads;
     }
 
 -- the bits ended before
-pub LacksRev-short : (w : Width) (d : ℕ) (old : Reader) → length (rest old) < rev_len w (4 ^ d) (rest old) → LacksRev w d old
-LacksRev-short w d old short = record {
+pub LacksRev-short : (w : Width) (d : ℕ) (old new : Reader) → LacksBits (rev_len w (4 ^ d) (rest old)) old new → LacksRev w d old
+LacksRev-short w d old new lacks = record {
   code = λ es same.
       let s = rest old in
       let Lacks : ℕ → Type 0 = λ k. length s < rev_len w (4 ^ k) s → read_rev w es s ≡ None in
-      subst Lacks same (read_rev-short w es s) short;
+      subst Lacks same (read_rev-short w es s) lacks.short;
 }
 
 -- ---- planes without a budget
@@ -76,6 +78,15 @@ LacksRev-short w d old short = record {
 pub Reads-part : {a b c : Reader} (prefix : List Bool) (k : ℕ) → Reads a b prefix → Reads b c (take k (rest b)) → Reads a c (take (length prefix + k) (rest a))
 Reads-part {a} {b} {c} prefix k first second =
     Reads-same (Reads-append first second) (sym (ap (take (length prefix + k)) first.next ∙ take-append-add prefix (rest b) k))
+
+-- a code of so many bits was read in part, and the rest of it was passed
+pub passes_rest : (bits used : ℕ) (old middle new : Reader) → bits ≤ length (rest old) → used ≤ bits → Reads old middle (take used (rest old)) → Reads middle new (take (bits - used) (rest middle))
+    → PassesCode bits old new
+passes_rest bits used old middle new enough less first second =
+    let s = rest old in
+    let all : length (take used s) + (bits - used) ≡ bits = omega (arith, length-take used s) in
+    let Passed : ℕ → Type 0 = λ n. Reads old new (take n s) in
+    record { whole = enough; passed = subst Passed all (Reads-part (take used s) (bits - used) first second) }
 
 -- the code of as many planes as there can be is short
 length-code-planes_in : (prec size : ℕ) (s : List Bool) → size ≤ 256 → prec ≤ 64 → length (code (planes_in prec size s)) ≤ 16640
@@ -87,20 +98,42 @@ length-code-planes_in prec size s small few =
     omega (arith, rw count at bound)
 
 -- with the greatest budget all bits that are left count
-module _ (prec size : ℕ) (s : List Bool) (small : size ≤ 256) (few : prec ≤ 64) (short : length s ≤ 18446744073709551615) where
+module _ (prec size : ℕ) (old : Reader) (small : size ≤ 256) (few : prec ≤ 64) (short : length (rest old) ≤ 18446744073709551615) where
+  abbrev s : List Bool
+  s = rest old
+
   coded-all : coded 18446744073709551615 prec size s ≡ planes_in prec size s
   coded-all = ap (planes_in prec size) (take_all 18446744073709551615 s short)
 
-  pub coded_bits-all : coded_bits 18446744073709551615 prec size s ≡ length (code (planes_in prec size s))
+  coded_bits-all : coded_bits 18446744073709551615 prec size s ≡ uncut_len prec size s
   coded_bits-all =
       let bound = length-code-planes_in prec size s small few in
       let same = ap (λ ps. length (code ps)) coded-all in
       omega arith
 
-  pub kept_planes-all : kept_planes 18446744073709551615 (coded 18446744073709551615 prec size s) ≡ planes_in prec size s
+  kept_planes-all : kept_planes 18446744073709551615 (coded 18446744073709551615 prec size s) ≡ planes_in prec size s
   kept_planes-all =
       let bound = length-code-planes_in prec size s small few in
       ap (kept_planes 18446744073709551615) coded-all ∙ kept_planes-whole 18446744073709551615 (planes_in prec size s) (omega arith)
+
+  -- what was read with the greatest budget is the whole code
+  module _ (new : Reader) where
+    pub uncut_lacks : length s < coded_bits 18446744073709551615 prec size s → new ≡ old → LacksBits (uncut_len prec size s) old new
+    uncut_lacks less unread = record { short = omega (arith, coded_bits-all, less); unread = unread }
+
+    pub uncut_passes : (count : ℕ) → ¬ (length s < coded_bits 18446744073709551615 prec size s) → count ≡ coded_bits 18446744073709551615 prec size s → Reads old new (take count s)
+        → PassesCode (uncut_len prec size s) old new
+    uncut_passes count enough is_all reads =
+        let Passed : ℕ → Type 0 = λ k. Reads old new (take k s) in
+        record { whole = omega (arith, coded_bits-all, enough); passed = subst Passed (is_all ∙ coded_bits-all) reads }
+
+  pub uncut_above : (held : List (List Bool)) (n : ℕ) → held ≡ kept_planes 18446744073709551615 (coded 18446744073709551615 prec size s) ++ replicate n (replicate size false)
+      → AreAbove size (planes_in prec size s) held
+  uncut_above held n is = (n, is ∙ ap (λ (ps : List (List Bool)). ps ++ replicate n (replicate size false)) kept_planes-all)
+
+-- a reader of these bits at this place
+abbrev pub reader_at : List Bool → ℕ → Reader
+reader_at bits at = record { all = bits; at = at }
 
 -- ---- a reversible code that is read in parts: the count of planes, and the code behind it
 
@@ -118,25 +151,35 @@ module _ (w : Width) (size p : ℕ) (old middle : Reader) (value : p ≡ number 
       ap (planes_in p size) (rest-Reads (count_bits w) count long reads)
       ∙ ap (λ k. planes_in k size (drop (count_bits w) (rest old))) value
 
-  pub len-behind_count : count_bits w + length (code (planes_in p size (rest middle))) ≡ rev_len w size (rest old)
+  len-behind_count : count_bits w + length (code (planes_in p size (rest middle))) ≡ rev_len w size (rest old)
   unfolding rev_len
   len-behind_count = omega (arith, ap (λ ps. length (code ps)) planes-behind_count)
 
-  pub length-behind_count : count_bits w + length (rest middle) ≡ length (rest old)
+  length-behind_count : count_bits w + length (rest middle) ≡ length (rest old)
   length-behind_count = omega (arith, ap length reads.next, length-append count (rest middle), long)
 
   -- the count and the code were passed
-  pub Reads-behind_count : (new : Reader) → Reads middle new (take (length (code (planes_in p size (rest middle)))) (rest middle)) → Reads old new (take (rev_len w size (rest old)) (rest old))
-  Reads-behind_count new passed =
-      let k = length (code (planes_in p size (rest middle))) in
+  pub passes-behind_count : (new : Reader) → PassesCode (uncut_len p size (rest middle)) middle new → PassesCode (rev_len w size (rest old)) old new
+  passes-behind_count new passes =
+      let k = uncut_len p size (rest middle) in
       let all : length count + k ≡ rev_len w size (rest old) = omega (arith, long, len-behind_count) in
       let Passed : ℕ → Type 0 = λ j. Reads old new (take j (rest old)) in
-      subst Passed all (Reads-part count k reads passed)
+      record {
+        whole = omega (arith, len-behind_count, length-behind_count, passes.whole);
+        passed = subst Passed all (Reads-part count k reads passes.passed);
+      }
 
--- the code is no shorter than its count of planes
-pub count_bits-le : (w : Width) (size : ℕ) (s : List Bool) → count_bits w ≤ rev_len w size s
+  -- the code is missing behind the count, and the reader went back to where it stood
+  pub lacks-behind_count : (a b : Reader) (start : ℕ) → LacksBits (uncut_len p size (rest middle)) middle a → b ≡ reader_at a.all start → start ≡ old.at → LacksBits (rev_len w size (rest old)) old b
+  lacks-behind_count a b start lacks back at = record {
+    short = omega (arith, len-behind_count, length-behind_count, lacks.short);
+    unread = back ∙ ap (λ bits. reader_at bits start) (ap (λ (r : Reader). r.all) lacks.unread ∙ reads.all) ∙ ap (reader_at old.all) at;
+  }
+
+-- where the bits of the count are missing, those of the code are
+pub lacks-count : (w : Width) (size : ℕ) (old new : Reader) → LacksBits (count_bits w) old new → LacksBits (rev_len w size (rest old)) old new
 unfolding rev_len
-count_bits-le w size s = omega arith
+lacks-count w size old new lacks = record { short = omega (arith, lacks.short); unread = lacks.unread }
 
 -- ---- a code of a fixed precision
 
@@ -158,27 +201,27 @@ read_prec-short w p es s short =
     ap (λ t. cond t None (Some (existing_values es (prec_block w p (length es) s), n))) (lt-ltb (length s) n short)
 
 -- the code was read
-pub ReadsPrec-planes : (w : Width) (d p : ℕ) (old new : Reader) → prec_len w p (4 ^ d) (rest old) ≤ length (rest old) → Reads old new (take (prec_len w p (4 ^ d) (rest old)) (rest old))
-    → ReadsPrec w d p old new (prec_block w p d (rest old))
-ReadsPrec-planes w d p old new enough reads =
+pub ReadsPrec-planes : (w : Width) (d p : ℕ) (old new : Reader) → PassesCode (prec_len w p (4 ^ d) (rest old)) old new → ReadsPrec w d p old new (prec_block w p d (rest old))
+ReadsPrec-planes w d p old new passes =
     let s = rest old in
+    let reads = passes.passed in
     let count : prec_len w p (4 ^ d) s ≡ new.at - old.at = omega (arith, reads.place, length-take (prec_len w p (4 ^ d) s) s) in
     let Passed : ℕ → Type 0 = λ k. Reads old new (take k s) in
     record {
       code = λ es same.
           let Read : ℕ → Type 0 = λ k. prec_len w p (4 ^ k) s ≤ length s → read_prec w p es s ≡ Some (existing_values es (prec_block w p k s), prec_len w p (4 ^ k) s) in
           let Answer : ℕ → Type 0 = λ n. read_prec w p es s ≡ Some (existing_values es (prec_block w p d s), n) in
-          subst Answer count (subst Read same (read_prec-enough w p es s) enough);
+          subst Answer count (subst Read same (read_prec-enough w p es s) passes.whole);
       passed = subst Passed count reads;
     }
 
 -- the bits ended before
-pub LacksPrec-short : (w : Width) (d p : ℕ) (old : Reader) → length (rest old) < prec_len w p (4 ^ d) (rest old) → LacksPrec w d p old
-LacksPrec-short w d p old short = record {
+pub LacksPrec-short : (w : Width) (d p : ℕ) (old new : Reader) → LacksBits (prec_len w p (4 ^ d) (rest old)) old new → LacksPrec w d p old
+LacksPrec-short w d p old new lacks = record {
   code = λ es same.
       let s = rest old in
       let Lacks : ℕ → Type 0 = λ k. length s < prec_len w p (4 ^ k) s → read_prec w p es s ≡ None in
-      subst Lacks same (read_prec-short w p es s) short;
+      subst Lacks same (read_prec-short w p es s) lacks.short;
 }
 
 -- ---- a code of a fixed rate

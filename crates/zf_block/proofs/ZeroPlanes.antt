@@ -1,11 +1,11 @@
 -- Planes of zeros: what begins with zeros is read as such, a budget keeps them as they are, and they stand for a block of zeros.
-use Rattle.std.proofs.Common.{◌≡◌, refl, sym, ap, subst, ◌∙◌, ℕ, zero, suc, ◌+◌, ◌-◌, ◌*◌, ◌^◌, ◌<◌, ◌≤◌, ◌⊎◌, inl, inr, min, max, nat_le, cond}
+use Rattle.std.proofs.Common.{◌≡◌, refl, sym, ap, ◌∙◌, ℕ, zero, suc, ◌+◌, ◌-◌, ◌^◌, ◌≤◌, inl, inr, min, max, nat_le, cond}
 use Rattle.std.proofs.Common.{Bool, true, false, ℤ, pos, List, [], ◌∷◌, ◌++◌, map, length, take, reverse, drop, get_or, ext_get_or, replicate, arith}
 use Rattle.std.proofs.lemmas.List.{append-nil, length-replicate, take-replicate, drop-replicate, drop-take, take_all}
 use Rattle.std.proofs.Math.Nat.{one-le-pow}
 use Rattle.std.specs.Int.{Width}
 use mir.Val.{bits}
-use Rattle.zf_spec.specs.Numbers.{field, number, value_of}
+use Rattle.zf_spec.specs.Numbers.{field, number}
 use Rattle.zf_spec.specs.Grid.{IsDimension, IsBlockSize, upto}
 use Rattle.zf_spec.specs.Planes.{plane, planes_of, reach, has_one, needed_planes, tail, plane_code, code}
 use Rattle.zf_spec.specs.Kept.{kept_plane, cut_plane, kept_planes_from, kept_planes}
@@ -18,7 +18,8 @@ use Rattle.zf_spec.proofs.KeptCases.{kept_tail-zeros}
 use Rattle.zf_spec.proofs.Padding.{length-pad, get_or-pad}
 use Rattle.zf_spec.proofs.PlaneDigits.{get_or-blank, length-planes_of}
 use Rattle.zf_coef.specs.HeldDigits.{digits_in, unranked_values, ranked_digits}
-use Rattle.zf_coef.proofs.FirstAlone.{zero_value_at, value_of_none, unranked_first}
+use Rattle.zf_base.proofs.Values.{alike_at}
+use Rattle.zf_coef.proofs.FirstAlone.{value_of_none, unranked_first}
 use Rattle.zf_planes.proofs.Runs.{tail_none}
 use Rattle.zf_planes.proofs.Zeros.{take_both, zero_code}
 use Rattle.zf_block.specs.ReadBlocks.{rev_planes, rev_len, prec_planes, prec_len}
@@ -129,7 +130,7 @@ pad-zeros es n =
     let block = replicate n (pos 0) in
     let long = length-pad es block in
     ext_get_or (pos 0) (pad es block) (replicate (4 ^ length es) (pos 0)) (omega (arith, long, length-replicate (4 ^ length es) (pos 0)))
-    (λ p below. get_or-pad es block p (omega (arith, long)) ∙ zero_value_at n (source_place es p) ∙ sym (zero_value_at (4 ^ length es) p))
+    (λ p below. get_or-pad es block p (omega (arith, long)) ∙ alike_at (pos 0) n (source_place es p) ∙ sym (alike_at (pos 0) (4 ^ length es) p))
 
 -- the planes of digits that are all zero
 planes_of-zeros : (n size : ℕ) → planes_of n (digits_in n (replicate size 0)) ≡ zero_planes n size

@@ -1,13 +1,18 @@
-//! What the codes of a block differ in: the transform of its values, and how the planes of the coefficients are written and read.
+//! What the codes of a block differ in: the transform of its values, and how the planes of the coefficients
+//! are written and read.
 
-ghost use Rattle.std.specs.Prelude.{◌≡◌, ◌≤◌, ◌<◌, ◌-◌, ◌*◌, ◌^◌, ℕ, ℤ, pos, [], ◌∷◌, Bool, IsTrue, false, List, map, length, take, replicate, OnSome, IfNone};
+ghost use Rattle.std.specs.Prelude.{◌≡◌, ◌≤◌, ◌-◌, ◌^◌, ℕ, ℤ, pos, [], ◌∷◌, Bool, IsTrue, false, List};
+ghost use Rattle.std.specs.Prelude.{map, length, replicate};
 ghost use Rattle.zf_spec.specs.Grid.{IsDimension, IsBlockSize};
 ghost use Rattle.zf_spec.specs.HeldPlanes.{planes_held};
 ghost use Rattle.zf_spec.specs.Planes.{planes_of};
 ghost use Rattle.zf_coef.specs.HeldDigits.{digits_in};
 ghost use Rattle.zf_bits.specs.Writer.{Appends};
-ghost use Rattle.zf_bits.specs.Reader.{rest, Reads};
+ghost use Rattle.zf_bits.specs.Reader.{rest};
+ghost use Rattle.zf_base.specs.WholeBlocks.{IsBlockOf};
 ghost use Rattle.zf_block.specs.Block.{AreAbove};
+ghost use Rattle.zf_block.specs.Held.{IsHeldSize, AreBlank};
+ghost use Rattle.zf_block.specs.Decoding.{PassesCode, Decodes, HoldsAbove};
 
 use zf_base::Lane;
 use zf_bits::{BitReader, BitWriter, Plane};
@@ -32,74 +37,67 @@ pub(crate) trait BlockCode<T: Lane> {
 
     /// Makes coefficients of the values of a block.
     fn forward(d: u8, block: &mut [T])
-        requires dimension { IsDimension d }
-        requires size { length block.old ≡ 4 ^ d }
+        requires block { IsBlockOf d block.old }
         ensures { map T.value block.new ≡ forth d (map T.value block.old) };
 
     /// Makes values of the coefficients of a block.
     fn inverse(d: u8, block: &mut [T])
-        requires dimension { IsDimension d }
-        requires size { length block.old ≡ 4 ^ d }
+        requires block { IsBlockOf d block.old }
         ensures { map T.value block.new ≡ back d (map T.value block.old) };
 
     /// Whether the coefficients of a block of this value everywhere are the value and then zeros.
     fn keeps_first(value: T) -> bool
-        ensures { IsTrue result → (d : ℕ) → IsDimension d → forth d (replicate (4 ^ d) (T.value value)) ≡ T.value value ∷ replicate (4 ^ d - 1) (pos 0) };
+        ensures { IsTrue result → (d : ℕ) → IsDimension d
+            → forth d (replicate (4 ^ d) (T.value value)) ≡ T.value value ∷ replicate (4 ^ d - 1) (pos 0) };
 
     /// The inverse of coefficients of which all but the first are zero.
     fn inverse_of_first(d: u8, first: T, block: &mut [T])
-        requires dimension { IsDimension d }
-        requires size { length block.old ≡ 4 ^ d }
+        requires block { IsBlockOf d block.old }
         ensures { map T.value block.new ≡ back d (T.value first ∷ replicate (4 ^ d - 1) (pos 0)) };
 
     /// Appends the code of planes, which have these digits, in room that is there already.
     fn write<P: Plane>(&self, size: usize, digits: &[u64], planes: &[P], out: &mut BitWriter)
-        requires size { IsBlockSize size }
-        requires words { size ≤ 64 * P.word_count }
+        requires size { IsHeldSize size P.word_count }
         requires planes { length planes.now ≡ T.WIDTH }
         requires coefficients { length digits.now ≡ size }
-        requires digits { planes_held size (map P.words planes.now) ≡ planes_of T.WIDTH (digits_in T.WIDTH digits.now) }
+        requires digits { planes_held size (map P.words planes.now)
+            ≡ planes_of T.WIDTH (digits_in T.WIDTH digits.now) }
         requires fits { longest self.now size ≤ out.old.room }
         ensures { Appends out.old out.new (code_of self.now (planes_held size (map P.words planes.now))) };
 
-    /// Reads the code of planes into planes of zeros, or answers `None` where the bits end before it does. The planes below those that it has stay zero.
-    /// The answer is how many bits the planes took.
+    /// Reads the code of planes into planes of zeros, or answers `None` where the bits end before it does.
+    /// The planes below those that it has stay zero. The answer is how many bits the planes took.
     fn read<P: Plane>(
         &self,
         size: usize,
         reader: &mut BitReader<'_>,
         planes: &mut [P],
     ) -> Option<u64>
-        requires size { IsBlockSize size }
-        requires words { size ≤ 64 * P.word_count }
-        requires planes { length planes.old ≡ T.WIDTH }
-        requires blank { map P.words planes.old ≡ replicate T.WIDTH (replicate P.word_count 0) }
-        ensures short { IfNone result (length (rest reader.old) < len_at self.now size (rest reader.old)) }
-        ensures unread { IfNone result (reader.new ≡ reader.old) }
-        ensures enough { OnSome result (len_at self.now size (rest reader.old) ≤ length (rest reader.old)) }
-        ensures reads { OnSome result (Reads reader.old reader.new (take (len_at self.now size (rest reader.old)) (rest reader.old))) }
-        ensures planes { OnSome result (AreAbove size (planes_at self.now size (rest reader.old)) (planes_held size (map P.words planes.new))) };
+        requires size { IsHeldSize size P.word_count }
+        requires blank { AreBlank T.WIDTH P.word_count P.words planes.old }
+        ensures { Decodes (len_at self.now size)
+            (HoldsAbove size (planes_at self.now size) (planes_held size (map P.words planes.new)))
+            result reader.old reader.new };
 
     /// Appends the code of the planes of four coefficients, straight from their digits.
     fn write_four(&self, digits: &[u64; 4], out: &mut BitWriter)
         requires fits { longest self.now 4 ≤ out.old.room }
-        ensures { Appends out.old out.new (code_of self.now (planes_of T.WIDTH (digits_in T.WIDTH digits.now))) };
+        ensures { Appends out.old out.new
+            (code_of self.now (planes_of T.WIDTH (digits_in T.WIDTH digits.now))) };
 
-    /// Reads the code of the planes of four coefficients straight into their digits, or answers `None` where the bits end before it does. The digits
-    /// below the planes that it has are zero.
+    /// Reads the code of the planes of four coefficients straight into their digits, or answers `None` where
+    /// the bits end before it does. The digits below the planes that it has are zero.
     fn read_four(&self, reader: &mut BitReader<'_>, digits: &mut [u64; 4]) -> Option<()>
-        ensures short { IfNone result (length (rest reader.old) < len_at self.now 4 (rest reader.old)) }
-        ensures unread { IfNone result (reader.new ≡ reader.old) }
-        ensures enough { OnSome result (len_at self.now 4 (rest reader.old) ≤ length (rest reader.old)) }
-        ensures reads { OnSome result (Reads reader.old reader.new (take (len_at self.now 4 (rest reader.old)) (rest reader.old))) }
-        ensures planes { OnSome result (AreAbove 4 (planes_at self.now 4 (rest reader.old)) (planes_of T.WIDTH (digits_in T.WIDTH digits.new))) };
+        ensures { Decodes (len_at self.now 4)
+            (HoldsAbove 4 (planes_at self.now 4) (planes_of T.WIDTH (digits_in T.WIDTH digits.new)))
+            result reader.old reader.new };
 
     /// Passes the code of a block of zeros, where it is seen that one is next.
     fn pass_zeros(&self, size: usize, reader: &mut BitReader<'_>) -> bool
         requires size { IsBlockSize size }
         ensures unread { ¬ IsTrue result → reader.new ≡ reader.old }
-        ensures enough { IsTrue result → len_at self.now size (rest reader.old) ≤ length (rest reader.old) }
-        ensures reads { IsTrue result → Reads reader.old reader.new (take (len_at self.now size (rest reader.old)) (rest reader.old)) }
+        ensures passes { IsTrue result
+            → PassesCode (len_at self.now size (rest reader.old)) reader.old reader.new }
         ensures zeros { IsTrue result → AreAbove size [] (planes_at self.now size (rest reader.old)) };
 
     /// Appends the code of a block of zeros in room that is there already.

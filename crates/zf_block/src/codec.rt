@@ -1,79 +1,69 @@
 //! The one way from a block to its code and back, whichever code it is.
 
-ghost use Rattle.std.specs.Prelude.{◌≡◌, ◌≤◌, ◌<◌, ◌*◌, ◌^◌, ℕ, List, IsTrue, false, map, length, take, replicate, OnSome, IfNone};
-ghost use Rattle.zf_spec.specs.Grid.{IsDimension};
+ghost use Rattle.std.specs.Prelude.{◌≡◌, ◌≤◌, ◌^◌, IsTrue, false, map, length, replicate};
 ghost use Rattle.zf_spec.specs.Codes as codes;
-ghost use Rattle.zf_spec.specs.Codes.{coefficients_of};
-ghost use Rattle.zf_spec.specs.Padding.{pad};
-ghost use Rattle.zf_spec.specs.HeldPlanes.{planes_held};
-ghost use Rattle.zf_spec.specs.Planes.{planes_of};
-ghost use Rattle.zf_coef.specs.HeldDigits.{digits_in};
-ghost use Rattle.zf_base.specs.Positions.{used_axes, IsExtent};
 ghost use Rattle.zf_bits.specs.Writer.{Appends};
-ghost use Rattle.zf_bits.specs.Reader.{rest, Reads};
+ghost use Rattle.zf_base.specs.WholeBlocks.{IsBlockOf};
+ghost use Rattle.zf_block.specs.Block.{planes_by};
+ghost use Rattle.zf_block.specs.Held.{IsHeldSize, IsWorkRoom, AreBlank, HoldPlanes};
+ghost use Rattle.zf_block.specs.Decoding.{Decodes, StandsFor};
 
 use crate::Scratch;
 use crate::block_code::BlockCode;
 use crate::coefficients::{
-    copy_padded, first_alone, from_digits, from_planes, is_all, to_digits, to_planes,
-    to_planes_of_first,
+    first_alone, from_digits, from_planes, is_all, to_digits, to_planes, to_planes_of_first,
 };
-use zf_base::{Extent, Lane};
+use crate::partial::Partial;
+use zf_base::Lane;
 use zf_bits::{BitReader, BitWriter, Plane};
 
 /// Appends the code of a block in room that is there already.
 #[inline(always)]
 pub(crate) fn encode<C: BlockCode<T>, T: Lane>(
     code: &C,
-    d: u8,
-    e: &Extent,
-    block: &[T],
+    block: &Partial<'_, T>,
     s: &mut Scratch<T>,
     out: &mut BitWriter,
 )
-    requires dimension { IsDimension d }
-    requires extent { IsExtent d e.now }
-    requires block { length block.now ≡ 4 ^ d }
-    requires scratch { s.old ≡ d }
-    requires fits { C.longest code.now (4 ^ d) ≤ out.old.room }
-    ensures code { Appends out.old out.new
-        (C.code_of code.now (codes.planes T.width d (C.forth d (pad (used_axes d e.now.size) (map T.value block.now))))) }
-    ensures scratch { s.new ≡ d }
+    requires scratch { s.old ≡ block.now.d }
+    requires fits { C.longest code.now (4 ^ block.now.d) ≤ out.old.room }
+    ensures code { Appends out.old out.new (C.code_of code.now (planes_by T.width C.forth block.now)) }
+    ensures scratch { s.new ≡ s.old }
 {
     if is_zero::<C, T>(block) {
         code.write_zero_block(block.len(), out);
         return;
     }
-    encode_any(code, d, e, block, s, out);
+    encode_any(code, block, s, out);
 }
 
-/// The same without a look for zeros. It stands apart, so that a block of zeros enters no large function.
+/// Appends it without a look for zeros. It stands apart, so that a block of zeros enters no large function.
 #[inline(never)]
 fn encode_any<C: BlockCode<T>, T: Lane>(
     code: &C,
-    d: u8,
-    e: &Extent,
-    block: &[T],
+    block: &Partial<'_, T>,
     s: &mut Scratch<T>,
     out: &mut BitWriter,
 )
-    requires dimension { IsDimension d }
-    requires extent { IsExtent d e.now }
-    requires block { length block.now ≡ 4 ^ d }
-    requires scratch { s.old ≡ d }
-    requires fits { C.longest code.now (4 ^ d) ≤ out.old.room }
-    ensures code { Appends out.old out.new
-        (C.code_of code.now (codes.planes T.width d (C.forth d (pad (used_axes d e.now.size) (map T.value block.now))))) }
-    ensures scratch { s.new ≡ d }
+    requires scratch { s.old ≡ block.now.d }
+    requires fits { C.longest code.now (4 ^ block.now.d) ≤ out.old.room }
+    ensures code { Appends out.old out.new (C.code_of code.now (planes_by T.width C.forth block.now)) }
+    ensures scratch { s.new ≡ s.old }
 {
-    // A row needs no planes. Planes of up to 64 coefficients lie in one word each. Work room of a known size is faster where it is small.
-    match d {
-        1 => write_row(code, d, e, block, out),
-        2 => write_square(code, d, e, block, s, out),
+    // A row needs no planes. Planes of up to 64 coefficients lie in one word each. Work room of a known size
+    // is faster where it is small; it stands here, so that no block clears that of another size.
+    match block.dims() {
+        1 => write_row(code, block, out),
+        2 => write_block(
+            code,
+            block,
+            &mut [T::zero(); 16],
+            &mut [0; 16],
+            &mut s.planes,
+            out,
+        ),
         3 => write_block(
             code,
-            d,
-            e,
             block,
             &mut s.values,
             &mut s.digits,
@@ -82,8 +72,6 @@ fn encode_any<C: BlockCode<T>, T: Lane>(
         ),
         _ => write_block(
             code,
-            d,
-            e,
             block,
             &mut s.values,
             &mut s.digits,
@@ -95,101 +83,55 @@ fn encode_any<C: BlockCode<T>, T: Lane>(
 
 /// Appends the code of a block of one dimension, straight from the digits of its coefficients.
 #[inline(always)]
-fn write_row<C: BlockCode<T>, T: Lane>(
-    code: &C,
-    d: u8,
-    e: &Extent,
-    block: &[T],
-    out: &mut BitWriter,
-)
-    requires dimension { IsDimension d }
-    requires size { 4 ≡ 4 ^ d }
-    requires extent { IsExtent d e.now }
-    requires block { length block.now ≡ 4 ^ d }
-    requires fits { C.longest code.now (4 ^ d) ≤ out.old.room }
-    ensures { Appends out.old out.new
-        (C.code_of code.now (codes.planes T.width d (C.forth d (pad (used_axes d e.now.size) (map T.value block.now))))) }
+fn write_row<C: BlockCode<T>, T: Lane>(code: &C, block: &Partial<'_, T>, out: &mut BitWriter)
+    requires size { 4 ≡ 4 ^ block.now.d }
+    requires fits { C.longest code.now (4 ^ block.now.d) ≤ out.old.room }
+    ensures { Appends out.old out.new (C.code_of code.now (planes_by T.width C.forth block.now)) }
 {
+    let d = block.dims();
+    // Known by this call: as many values fit into memory.
+    let _values = block.values();
     let mut values = [T::zero(); 4];
     let mut digits = [0; 4];
-    copy_padded(d, e, block, &mut values);
+    block.copy_padded(&mut values);
     C::forward(d, &mut values);
     to_digits(d, &values, &mut digits);
     code.write_four(&digits, out);
-}
-
-/// Appends the code of a block of two dimensions by way of values and digits of its own.
-///
-/// They stand here, so that no block clears those of another size.
-#[inline(always)]
-fn write_square<C: BlockCode<T>, T: Lane>(
-    code: &C,
-    d: u8,
-    e: &Extent,
-    block: &[T],
-    s: &mut Scratch<T>,
-    out: &mut BitWriter,
-)
-    requires dimension { IsDimension d }
-    requires size { 16 ≡ 4 ^ d }
-    requires extent { IsExtent d e.now }
-    requires block { length block.now ≡ 4 ^ d }
-    requires scratch { s.old ≡ d }
-    requires fits { C.longest code.now (4 ^ d) ≤ out.old.room }
-    ensures code { Appends out.old out.new
-        (C.code_of code.now (codes.planes T.width d (C.forth d (pad (used_axes d e.now.size) (map T.value block.now))))) }
-    ensures scratch { s.new ≡ d }
-{
-    write_block(
-        code,
-        d,
-        e,
-        block,
-        &mut [T::zero(); 16],
-        &mut [0; 16],
-        &mut s.planes,
-        out,
-    );
 }
 
 /// Appends the code of a block by way of these values, digits and planes.
 #[inline(always)]
 fn write_block<C: BlockCode<T>, T: Lane, P: Plane>(
     code: &C,
-    d: u8,
-    e: &Extent,
-    block: &[T],
+    block: &Partial<'_, T>,
     values: &mut [T],
     digits: &mut [u64],
     planes: &mut [P],
     out: &mut BitWriter,
 )
-    requires dimension { IsDimension d }
-    requires words { 4 ^ d ≤ 64 * P.word_count }
-    requires extent { IsExtent d e.now }
-    requires block { length block.now ≡ 4 ^ d }
-    requires values { length values.old ≡ 4 ^ d }
-    requires digits { length digits.old ≡ 4 ^ d }
-    requires planes { length planes.old ≡ T.WIDTH }
-    requires fits { C.longest code.now (4 ^ d) ≤ out.old.room }
-    ensures { Appends out.old out.new
-        (C.code_of code.now (codes.planes T.width d (C.forth d (pad (used_axes d e.now.size) (map T.value block.now))))) }
+    requires values { length values.old ≡ 4 ^ block.now.d }
+    requires room { IsWorkRoom block.now.d P.word_count T.WIDTH digits.old planes.old }
+    requires fits { C.longest code.now (4 ^ block.now.d) ≤ out.old.room }
+    ensures { Appends out.old out.new (C.code_of code.now (planes_by T.width C.forth block.now)) }
 {
-    copy_padded(d, e, block, values);
-    make_planes::<C, T, P>(d, values, digits, planes);
+    block.copy_padded(values);
+    make_planes::<C, T, P>(block.dims(), values, digits, planes);
     code.write(block.len(), digits, planes, out);
 }
 
 /// Whether a block is all zeros, as where a field is empty, and its coefficients are too.
 #[inline(always)]
-fn is_zero<C: BlockCode<T>, T: Lane>(block: &[T]) -> bool
-    ensures { IsTrue result → (d : ℕ) → (es : List ℕ) → IsDimension d → length es ≡ d → length block.now ≡ 4 ^ d
-        → codes.planes T.width d (C.forth d (pad es (map T.value block.now))) ≡ replicate T.WIDTH (replicate (4 ^ d) false) }
+fn is_zero<C: BlockCode<T>, T: Lane>(block: &Partial<'_, T>) -> bool
+    ensures { IsTrue result
+        → planes_by T.width C.forth block.now ≡ replicate T.WIDTH (replicate (4 ^ block.now.d) false) }
 {
-    is_all(T::zero(), block) && C::keeps_first(T::zero())
+    // Known by this call: there are one to four dimensions.
+    let _dims = block.dims();
+    block.is_zero() && C::keeps_first(T::zero())
 }
 
-/// Makes the planes of the coefficients of a block, which is padded, by way of their digits. The block becomes anything.
+/// Makes the planes of the coefficients of a block, which is padded, by way of their digits. The block
+/// becomes anything.
 #[inline(always)]
 fn make_planes<C: BlockCode<T>, T: Lane, P: Plane>(
     d: u8,
@@ -197,13 +139,10 @@ fn make_planes<C: BlockCode<T>, T: Lane, P: Plane>(
     digits: &mut [u64],
     planes: &mut [P],
 )
-    requires dimension { IsDimension d }
-    requires words { 4 ^ d ≤ 64 * P.word_count }
-    requires values { length values.old ≡ 4 ^ d }
-    requires digits { length digits.old ≡ 4 ^ d }
-    requires planes { length planes.old ≡ T.WIDTH }
-    ensures planes { planes_held (4 ^ d) (map P.words planes.new) ≡ codes.planes T.width d (C.forth d (map T.value values.old)) }
-    ensures digits { planes_held (4 ^ d) (map P.words planes.new) ≡ planes_of T.WIDTH (digits_in T.WIDTH digits.new) }
+    requires block { IsBlockOf d values.old }
+    requires room { IsWorkRoom d P.word_count T.WIDTH digits.old planes.old }
+    ensures { HoldPlanes (4 ^ d) T.WIDTH (map P.words planes.new) digits.new
+        (codes.planes T.width d (C.forth d (map T.value values.old))) }
 {
     let first = values[0];
     // A block of one value needs no transform.
@@ -223,14 +162,10 @@ pub(crate) fn decode<C: BlockCode<T>, T: Lane>(
     reader: &mut BitReader<'_>,
     block: &mut [T],
 ) -> Option<()>
-    requires dimension { IsDimension d }
-    requires block { length block.old ≡ 4 ^ d }
-    ensures short { IfNone result (length (rest reader.old) < C.len_at code.now (4 ^ d) (rest reader.old)) }
-    ensures unread { IfNone result (reader.new ≡ reader.old) }
-    ensures enough { OnSome result (C.len_at code.now (4 ^ d) (rest reader.old) ≤ length (rest reader.old)) }
-    ensures reads { OnSome result (Reads reader.old reader.new (take (C.len_at code.now (4 ^ d) (rest reader.old)) (rest reader.old))) }
-    ensures block { OnSome result (map T.value block.new
-        ≡ C.back d (coefficients_of T.width d (C.planes_at code.now (4 ^ d) (rest reader.old)))) }
+    requires block { IsBlockOf d block.old }
+    ensures { Decodes (C.len_at code.now (4 ^ d))
+        (StandsFor T.width d (C.back d) (C.planes_at code.now (4 ^ d)) (map T.value block.new))
+        result reader.old reader.new }
 {
     if d == 1 {
         return read_row(code, d, reader, block);
@@ -239,6 +174,7 @@ pub(crate) fn decode<C: BlockCode<T>, T: Lane>(
         C::inverse_of_first(d, T::zero(), block);
         return Some(());
     }
+    // Planes of up to 64 coefficients lie in one word each.
     match d {
         2 => read_narrow::<C, T, 16>(code, d, reader, block),
         3 => read_narrow::<C, T, 64>(code, d, reader, block),
@@ -246,7 +182,7 @@ pub(crate) fn decode<C: BlockCode<T>, T: Lane>(
     }
 }
 
-/// Reads the code of a block of one dimension.
+/// Reads the code of a block of one dimension, straight into the digits of its coefficients.
 #[inline(always)]
 fn read_row<C: BlockCode<T>, T: Lane>(
     code: &C,
@@ -254,15 +190,11 @@ fn read_row<C: BlockCode<T>, T: Lane>(
     reader: &mut BitReader<'_>,
     block: &mut [T],
 ) -> Option<()>
-    requires dimension { IsDimension d }
     requires size { 4 ≡ 4 ^ d }
-    requires block { length block.old ≡ 4 ^ d }
-    ensures short { IfNone result (length (rest reader.old) < C.len_at code.now (4 ^ d) (rest reader.old)) }
-    ensures unread { IfNone result (reader.new ≡ reader.old) }
-    ensures enough { OnSome result (C.len_at code.now (4 ^ d) (rest reader.old) ≤ length (rest reader.old)) }
-    ensures reads { OnSome result (Reads reader.old reader.new (take (C.len_at code.now (4 ^ d) (rest reader.old)) (rest reader.old))) }
-    ensures block { OnSome result (map T.value block.new
-        ≡ C.back d (coefficients_of T.width d (C.planes_at code.now (4 ^ d) (rest reader.old)))) }
+    requires block { IsBlockOf d block.old }
+    ensures { Decodes (C.len_at code.now (4 ^ d))
+        (StandsFor T.width d (C.back d) (C.planes_at code.now (4 ^ d)) (map T.value block.new))
+        result reader.old reader.new }
 {
     if code.pass_zeros(4, reader) {
         let mut zeros = [T::zero(); 4];
@@ -270,7 +202,11 @@ fn read_row<C: BlockCode<T>, T: Lane>(
         put_four(&zeros, block);
         return Some(());
     }
-    read_four(code, d, reader, block)
+    let mut digits = [0; 4];
+    code.read_four(reader, &mut digits)?;
+    from_digits(d, &digits, block);
+    C::inverse(d, block);
+    Some(())
 }
 
 /// Copies four values, which are a whole block. Their number is known, so it needs no call.
@@ -282,31 +218,6 @@ fn put_four<T: Lane>(four: &[T; 4], block: &mut [T])
     block[..4].copy_from_slice(four);
 }
 
-/// The same without a look for zeros, straight into the digits of its coefficients.
-#[inline(always)]
-fn read_four<C: BlockCode<T>, T: Lane>(
-    code: &C,
-    d: u8,
-    reader: &mut BitReader<'_>,
-    block: &mut [T],
-) -> Option<()>
-    requires dimension { IsDimension d }
-    requires size { 4 ≡ 4 ^ d }
-    requires block { length block.old ≡ 4 ^ d }
-    ensures short { IfNone result (length (rest reader.old) < C.len_at code.now (4 ^ d) (rest reader.old)) }
-    ensures unread { IfNone result (reader.new ≡ reader.old) }
-    ensures enough { OnSome result (C.len_at code.now (4 ^ d) (rest reader.old) ≤ length (rest reader.old)) }
-    ensures reads { OnSome result (Reads reader.old reader.new (take (C.len_at code.now (4 ^ d) (rest reader.old)) (rest reader.old))) }
-    ensures block { OnSome result (map T.value block.new
-        ≡ C.back d (coefficients_of T.width d (C.planes_at code.now (4 ^ d) (rest reader.old)))) }
-{
-    let mut digits = [0; 4];
-    code.read_four(reader, &mut digits)?;
-    from_digits(d, &digits, block);
-    C::inverse(d, block);
-    Some(())
-}
-
 /// Reads the code of a block of `N` coefficients, 64 at most.
 #[inline(always)]
 fn read_narrow<C: BlockCode<T>, T: Lane, const N: usize>(
@@ -315,16 +226,12 @@ fn read_narrow<C: BlockCode<T>, T: Lane, const N: usize>(
     reader: &mut BitReader<'_>,
     block: &mut [T],
 ) -> Option<()>
-    requires dimension { IsDimension d }
     requires size { N ≡ 4 ^ d }
-    requires words { N ≤ 64 }
-    requires block { length block.old ≡ 4 ^ d }
-    ensures short { IfNone result (length (rest reader.old) < C.len_at code.now (4 ^ d) (rest reader.old)) }
-    ensures unread { IfNone result (reader.new ≡ reader.old) }
-    ensures enough { OnSome result (C.len_at code.now (4 ^ d) (rest reader.old) ≤ length (rest reader.old)) }
-    ensures reads { OnSome result (Reads reader.old reader.new (take (C.len_at code.now (4 ^ d) (rest reader.old)) (rest reader.old))) }
-    ensures block { OnSome result (map T.value block.new
-        ≡ C.back d (coefficients_of T.width d (C.planes_at code.now (4 ^ d) (rest reader.old)))) }
+    requires held { IsHeldSize N 1 }
+    requires block { IsBlockOf d block.old }
+    ensures { Decodes (C.len_at code.now (4 ^ d))
+        (StandsFor T.width d (C.back d) (C.planes_at code.now (4 ^ d)) (map T.value block.new))
+        result reader.old reader.new }
 {
     // No more planes are cleared than the values have digits.
     let width = T::WIDTH;
@@ -335,7 +242,7 @@ fn read_narrow<C: BlockCode<T>, T: Lane, const N: usize>(
     }
 }
 
-/// The same of 256 coefficients.
+/// Reads the code of a block of 256 coefficients.
 #[inline(always)]
 fn read_wide<C: BlockCode<T>, T: Lane>(
     code: &C,
@@ -343,17 +250,12 @@ fn read_wide<C: BlockCode<T>, T: Lane>(
     reader: &mut BitReader<'_>,
     block: &mut [T],
 ) -> Option<()>
-    requires dimension { IsDimension d }
     requires size { 256 ≡ 4 ^ d }
-    requires block { length block.old ≡ 4 ^ d }
-    ensures short { IfNone result (length (rest reader.old) < C.len_at code.now (4 ^ d) (rest reader.old)) }
-    ensures unread { IfNone result (reader.new ≡ reader.old) }
-    ensures enough { OnSome result (C.len_at code.now (4 ^ d) (rest reader.old) ≤ length (rest reader.old)) }
-    ensures reads { OnSome result (Reads reader.old reader.new (take (C.len_at code.now (4 ^ d) (rest reader.old)) (rest reader.old))) }
-    ensures block { OnSome result (map T.value block.new
-        ≡ C.back d (coefficients_of T.width d (C.planes_at code.now (4 ^ d) (rest reader.old)))) }
+    requires block { IsBlockOf d block.old }
+    ensures { Decodes (C.len_at code.now (4 ^ d))
+        (StandsFor T.width d (C.back d) (C.planes_at code.now (4 ^ d)) (map T.value block.new))
+        result reader.old reader.new }
 {
-    // No more planes are cleared than the values have digits.
     let width = T::WIDTH;
     if width == 32 {
         read_block::<C, T, [u64; 4], 256>(code, d, reader, block, &mut [[0; 4]; 32])
@@ -371,19 +273,13 @@ fn read_block<C: BlockCode<T>, T: Lane, P: Plane, const N: usize>(
     block: &mut [T],
     planes: &mut [P],
 ) -> Option<()>
-    requires dimension { IsDimension d }
     requires size { N ≡ 4 ^ d }
-    requires small { N ≤ 256 }
-    requires words { N ≤ 64 * P.word_count }
-    requires block { length block.old ≡ 4 ^ d }
-    requires planes { length planes.old ≡ T.WIDTH }
-    requires blank { map P.words planes.old ≡ replicate T.WIDTH (replicate P.word_count 0) }
-    ensures short { IfNone result (length (rest reader.old) < C.len_at code.now (4 ^ d) (rest reader.old)) }
-    ensures unread { IfNone result (reader.new ≡ reader.old) }
-    ensures enough { OnSome result (C.len_at code.now (4 ^ d) (rest reader.old) ≤ length (rest reader.old)) }
-    ensures reads { OnSome result (Reads reader.old reader.new (take (C.len_at code.now (4 ^ d) (rest reader.old)) (rest reader.old))) }
-    ensures block { OnSome result (map T.value block.new
-        ≡ C.back d (coefficients_of T.width d (C.planes_at code.now (4 ^ d) (rest reader.old)))) }
+    requires held { IsHeldSize N P.word_count }
+    requires block { IsBlockOf d block.old }
+    requires blank { AreBlank T.WIDTH P.word_count P.words planes.old }
+    ensures { Decodes (C.len_at code.now (4 ^ d))
+        (StandsFor T.width d (C.back d) (C.planes_at code.now (4 ^ d)) (map T.value block.new))
+        result reader.old reader.new }
 {
     let count = code.read(N, reader, planes)?;
     // A block of one value needs no transform. It has at most two bits a plane, and one more.

@@ -1,11 +1,13 @@
-//! The codes of one block: the reversible code, from which its values come back exactly, and the codes at a fixed rate and at a fixed precision, from which
-//! they come back rounded; and how much of a block a code at a fixed rate has whole.
+//! The codes of one block: the reversible code, from which its values come back exactly, and the codes at a
+//! fixed rate and at a fixed precision, from which they come back rounded; and how much of a block a code at
+//! a fixed rate has whole.
 #![tactic(auto)]
 
 mod block_code;
 mod codec;
 mod coefficients;
 pub mod laws;
+mod partial;
 mod precision;
 mod rate;
 mod reversible;

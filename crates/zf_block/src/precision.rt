@@ -1,6 +1,7 @@
 //! The code of a block at a fixed precision: its top planes are kept whole, and its values come back rounded.
 
-ghost use Rattle.std.specs.Prelude.{◌≡◌, ◌≤◌, ◌<◌, ◌+◌, ◌*◌, ◌^◌, min, map, length, take, OnOk, OnErr, IfNone, OnSome};
+ghost use Rattle.std.specs.Prelude.{◌≡◌, ◌≤◌, ◌<◌, ◌+◌, ◌*◌, ◌^◌, min, map, length, take, OnOk, OnErr};
+ghost use Rattle.std.specs.Prelude.{IfNone, OnSome};
 ghost use Rattle.zf_spec.specs.Grid.{IsDimension};
 ghost use Rattle.zf_spec.specs.Codes as codes;
 ghost use Rattle.zf_spec.specs.Lift.{lift, unlift};
@@ -13,6 +14,7 @@ ghost use Rattle.zf_block.specs.ReadBlocks.{ReadsPrec, LacksPrec, prec_planes, p
 use crate::Scratch;
 use crate::block_code::BlockCode;
 use crate::codec::{decode, encode};
+use crate::partial::Partial;
 use crate::uncut::{read_uncut, read_uncut_four, write_uncut, write_uncut_four, zeros_above};
 use crate::zero_block::{are_zeros, write_zeros};
 use std::alloc::AllocError;
@@ -21,8 +23,9 @@ use zf_bits::{BitReader, BitWriter, Plane};
 
 /// Appends the code of the block's top `prec` planes, or of all where its type has fewer.
 ///
-/// `block` has `4^d` values, x fastest; those outside `e` are not looked at. `s` is work room for `d` dimensions. The precisions of the format are 1 to 128.
-/// `AllocError` means that there was no memory for the longest code; room for it can be reserved before. zfp's fixed precision (zfp 1.0 documentation).
+/// `block` has `4^d` values, x fastest; those outside `e` are not looked at. `s` is work room for `d`
+/// dimensions. The precisions of the format are 1 to 128. `AllocError` means that there was no memory for the
+/// longest code; room for it can be reserved before. zfp's fixed precision (zfp 1.0 documentation).
 #[inline(always)]
 pub fn encode_prec<T: Lane>(
     d: u8,
@@ -36,21 +39,23 @@ pub fn encode_prec<T: Lane>(
     requires extent { IsExtent d e.now }
     requires block { length block.now ≡ 4 ^ d }
     requires scratch { s.old ≡ d }
-    ensures ok { OnOk result (Appends out.old out.new (codes.prec T.width prec (used_axes d e.now.size) (map T.value block.now))) }
+    ensures ok { OnOk result (Appends out.old out.new
+        (codes.prec T.width prec (used_axes d e.now.size) (map T.value block.now))) }
     ensures err { OnErr result (out.new ≡ out.old) }
     ensures full { OnErr result (out.old.room < longest_prec T.WIDTH d) }
     ensures scratch { s.new ≡ d }
 {
     let size = block.len() as u64;
     out.reserve(size * u64::from(T::WIDTH + 1))?;
-    encode(&Precision { prec }, d, e, block, s, out);
+    encode(&Precision { prec }, &Partial::new(d, e, block), s, out);
     Ok(())
 }
 
-/// Reads the code of a block of `prec` planes, or of all where its type has fewer. `None` means that the bits end before the code does; then the reader
-/// stands where it stood, and the block holds anything.
+/// Reads the code of a block of `prec` planes, or of all where its type has fewer. `None` means that the bits
+/// end before the code does; then the reader stands where it stood, and the block holds anything.
 ///
-/// `block` gets `4^d` values, x fastest. A code does not tell which of them exist; at places that do not, the values mean nothing.
+/// `block` gets `4^d` values, x fastest. A code does not tell which of them exist; at places that do not, the
+/// values mean nothing.
 #[inline(always)]
 pub fn decode_prec<T: Lane>(
     d: u8,

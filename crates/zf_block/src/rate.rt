@@ -15,14 +15,16 @@ ghost use Rattle.zf_block.specs.ReadBlocks.{ReadsRate};
 use crate::Scratch;
 use crate::block_code::BlockCode;
 use crate::codec::{decode, encode};
+use crate::partial::Partial;
 use crate::zero_block::{are_zeros, write_zeros};
 use zf_base::{Extent, Lane};
 use zf_bits::{BitReader, BitWriter, Plane};
 
-/// Appends the first `bits` bits of the block's code, filled with zeros, so that each block takes the same room.
+/// Appends the first `bits` bits of the block's code, filled with zeros, so that each block takes the same
+/// room.
 ///
-/// `block` has `4^d` values, x fastest; those outside `e` are not looked at. `s` is work room for `d` dimensions. The rates of the format are 1 to 32768.
-/// Fixed rate as in Lindstrom 2014.
+/// `block` has `4^d` values, x fastest; those outside `e` are not looked at. `s` is work room for `d`
+/// dimensions. The rates of the format are 1 to 32768. Fixed rate as in Lindstrom 2014.
 #[inline(always)]
 pub fn encode_rate<T: Lane>(
     d: u8,
@@ -37,15 +39,17 @@ pub fn encode_rate<T: Lane>(
     requires block { length block.now ≡ 4 ^ d }
     requires scratch { s.old ≡ d }
     requires fits { bits ≤ out.old.room }
-    ensures code { Appends out.old out.new (rate T.width bits (used_axes d e.now.size) (map T.value block.now)) }
+    ensures code { Appends out.old out.new
+        (rate T.width bits (used_axes d e.now.size) (map T.value block.now)) }
     ensures scratch { s.new ≡ d }
 {
-    encode(&Rate { bits }, d, e, block, s, out);
+    encode(&Rate { bits }, &Partial::new(d, e, block), s, out);
 }
 
 /// Reads the code of a block of `bits` bits, whatever they are.
 ///
-/// `block` gets `4^d` values, x fastest. A code does not tell which of them exist; at places that do not, the values mean nothing.
+/// `block` gets `4^d` values, x fastest. A code does not tell which of them exist; at places that do not, the
+/// values mean nothing.
 #[inline(always)]
 pub fn decode_rate<T: Lane>(d: u8, bits: u32, reader: &mut BitReader<'_>, block: &mut [T])
     requires dimension { IsDimension d }

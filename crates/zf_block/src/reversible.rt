@@ -1,6 +1,7 @@
 //! The reversible code of a block: its values come back exactly.
 
-ghost use Rattle.std.specs.Prelude.{◌≡◌, ◌≤◌, ◌<◌, ◌+◌, ◌-◌, ◌*◌, ◌^◌, max, map, length, take, OnOk, OnErr, IfNone, IfSome, OnSome};
+ghost use Rattle.std.specs.Prelude.{◌≡◌, ◌≤◌, ◌<◌, ◌+◌, ◌-◌, ◌*◌, ◌^◌, max, map, length, take, OnOk, OnErr};
+ghost use Rattle.std.specs.Prelude.{IfNone, IfSome, OnSome};
 ghost use Rattle.zf_spec.specs.Grid.{IsDimension};
 ghost use Rattle.zf_spec.specs.Numbers.{field, number};
 ghost use Rattle.zf_spec.specs.Planes.{planes_of, needed_planes};
@@ -10,12 +11,14 @@ ghost use Rattle.zf_spec.specs.Lorenzo.{lorenzo, unlorenzo};
 ghost use Rattle.zf_base.specs.Positions.{used_axes, IsExtent};
 ghost use Rattle.zf_bits.specs.Writer.{Appends};
 ghost use Rattle.zf_bits.specs.Reader.{rest, Reads};
+ghost use Rattle.zf_block.specs.Decoding.{LacksBits};
 ghost use Rattle.zf_block.specs.Room.{longest_rev};
 ghost use Rattle.zf_block.specs.ReadBlocks.{ReadsRev, LacksRev, rev_planes, rev_len};
 
 use crate::Scratch;
 use crate::block_code::BlockCode;
 use crate::codec::{decode, encode};
+use crate::partial::Partial;
 use crate::uncut::{read_uncut, read_uncut_four, write_uncut, write_uncut_four, zeros_above};
 use crate::zero_block::are_zeros;
 use std::alloc::AllocError;
@@ -24,8 +27,9 @@ use zf_bits::{BitReader, BitWriter, Plane};
 
 /// Appends the reversible code of a block, from which exactly its values come back.
 ///
-/// `block` has `4^d` values, x fastest; those outside `e` are not looked at. `s` is work room for `d` dimensions. `AllocError` means that there was
-/// no memory for the longest code; room for it can be reserved before. The layout of the code, a count of planes and then the planes, is this project's own.
+/// `block` has `4^d` values, x fastest; those outside `e` are not looked at. `s` is work room for `d`
+/// dimensions. `AllocError` means that there was no memory for the longest code; room for it can be reserved
+/// before. The layout of the code, a count of planes and then the planes, is this project's own.
 #[inline(always)]
 pub fn encode_rev<T: Lane>(
     d: u8,
@@ -38,21 +42,23 @@ pub fn encode_rev<T: Lane>(
     requires extent { IsExtent d e.now }
     requires block { length block.now ≡ 4 ^ d }
     requires scratch { s.old ≡ d }
-    ensures ok { OnOk result (Appends out.old out.new (rev T.width (used_axes d e.now.size) (map T.value block.now))) }
+    ensures ok { OnOk result (Appends out.old out.new
+        (rev T.width (used_axes d e.now.size) (map T.value block.now))) }
     ensures err { OnErr result (out.new ≡ out.old) }
     ensures full { OnErr result (out.old.room < longest_rev T.WIDTH d) }
     ensures scratch { s.new ≡ d }
 {
     let size = block.len() as u64;
     out.reserve(6 + size * u64::from(T::WIDTH + 1))?;
-    encode(&Reversible, d, e, block, s, out);
+    encode(&Reversible, &Partial::new(d, e, block), s, out);
     Ok(())
 }
 
-/// Reads the reversible code of a block. `None` means that the bits end before the code does; then the reader stands where it stood, and the block holds
-/// anything.
+/// Reads the reversible code of a block. `None` means that the bits end before the code does; then the reader
+/// stands where it stood, and the block holds anything.
 ///
-/// `block` gets `4^d` values, x fastest. A code does not tell which of them exist; at places that do not, the values mean nothing.
+/// `block` gets `4^d` values, x fastest. A code does not tell which of them exist; at places that do not, the
+/// values mean nothing.
 #[inline(always)]
 pub fn decode_rev<T: Lane>(d: u8, reader: &mut BitReader<'_>, block: &mut [T]) -> Option<()>
     requires dimension { IsDimension d }
@@ -175,11 +181,11 @@ fn write_count<T: Lane>(digits: &[u64], out: &mut BitWriter) -> u32
 /// Reads the count of planes, or answers `None` where the bits end before it does.
 #[inline(always)]
 fn read_count<T: Lane>(reader: &mut BitReader<'_>) -> Option<u32>
-    ensures short { IfNone result (length (rest reader.old) < count_bits T.width) }
-    ensures unread { IfNone result (reader.new ≡ reader.old) }
+    ensures none { IfNone result (LacksBits (count_bits T.width) reader.old reader.new) }
     ensures value { IfSome result (λ prec. prec ≡ number (take (count_bits T.width) (rest reader.old)) + 1) }
     ensures within { IfSome result (λ prec. prec ≤ T.WIDTH) }
-    ensures reads { IfSome result (λ prec. Reads reader.old reader.new (field (count_bits T.width) (prec - 1))) }
+    ensures reads { IfSome result
+        (λ prec. Reads reader.old reader.new (field (count_bits T.width) (prec - 1))) }
 {
     let count = reader.read(count_bits::<T>())?;
     Some(count as u32 + 1)

@@ -26,7 +26,8 @@ impl<T: Lane> Model for Scratch<T> {
 
     ghost view = { λ s. s.d };
 
-    ghost invariant = { λ s. (vec_len s.values ≡ 4 ^ s.d) × (vec_len s.digits ≡ 4 ^ s.d) × (vec_len s.planes ≡ T.WIDTH) × (vec_len s.wide_planes ≡ T.WIDTH) };
+    ghost invariant = { λ s. (vec_len s.values ≡ 4 ^ s.d) × (vec_len s.digits ≡ 4 ^ s.d)
+        × (vec_len s.planes ≡ T.WIDTH) × (vec_len s.wide_planes ≡ T.WIDTH) };
 }
 
 impl<T: Lane> Scratch<T> {

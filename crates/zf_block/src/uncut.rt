@@ -1,14 +1,14 @@
 //! The code of planes without a budget.
 
-ghost use Rattle.std.specs.Prelude.{◌≡◌, ◌≤◌, ◌<◌, ◌+◌, ◌*◌, ◌-◌, ◌++◌, false, map, length, take, replicate, OnSome, IfNone};
-ghost use Rattle.zf_spec.specs.Grid.{IsBlockSize};
+ghost use Rattle.std.specs.Prelude.{◌≡◌, ◌≤◌, ◌<◌, ◌+◌, ◌*◌, false, map, length, take, replicate};
 ghost use Rattle.zf_spec.specs.Planes.{planes_of, code};
 ghost use Rattle.zf_spec.specs.ReadPlanes.{planes_in};
 ghost use Rattle.zf_spec.specs.HeldPlanes.{planes_held};
 ghost use Rattle.zf_coef.specs.HeldDigits.{digits_in};
 ghost use Rattle.zf_bits.specs.Writer.{Appends};
-ghost use Rattle.zf_bits.specs.Reader.{rest, Reads};
-ghost use Rattle.zf_block.specs.Block.{AreAbove};
+ghost use Rattle.zf_block.specs.Held.{IsHeldSize};
+ghost use Rattle.zf_block.specs.Decoding.{Decodes, HoldsAbove};
+ghost use Rattle.zf_block.specs.ReadBlocks.{uncut_len};
 
 use zf_bits::{BitReader, BitWriter, Plane};
 
@@ -18,7 +18,8 @@ pub(crate) fn zeros_above(prec: u32, width: u32, digits: &[u64]) -> u32
     requires some { 0 < width }
     requires in_word { width ≤ 64 }
     ensures within { result ≤ prec }
-    ensures zeros { take result (planes_of width (digits_in width digits.now)) ≡ replicate result (replicate (length digits.now) false) }
+    ensures zeros { take result (planes_of width (digits_in width digits.now))
+        ≡ replicate result (replicate (length digits.now) false) }
 {
     zf_coef::zero_planes(digits, width).min(prec)
 }
@@ -31,19 +32,20 @@ pub(crate) fn write_uncut<P: Plane>(
     planes: &[P],
     out: &mut BitWriter,
 )
-    requires size { IsBlockSize size }
-    requires words { size ≤ 64 * P.word_count }
+    requires size { IsHeldSize size P.word_count }
     requires planes { prec ≤ length planes.now }
     requires few { length planes.now ≤ 64 }
     requires fits { size * prec + size ≤ out.old.room }
     requires within { zeros ≤ prec }
-    requires zeros { take zeros (planes_held size (map P.words planes.now)) ≡ replicate zeros (replicate size false) }
+    requires zeros { take zeros (planes_held size (map P.words planes.now))
+        ≡ replicate zeros (replicate size false) }
     ensures { Appends out.old out.new (code (take prec (planes_held size (map P.words planes.now)))) }
 {
     zf_planes::write_planes_below(zeros, u64::MAX, prec, size, planes, out);
 }
 
-/// The same of the planes of four coefficients, from their digits.
+/// Appends the whole code of the top `prec` planes of four coefficients, from their digits. The top `zeros`
+/// planes have no one.
 #[inline(always)]
 pub(crate) fn write_uncut_four(
     zeros: u32,
@@ -56,31 +58,28 @@ pub(crate) fn write_uncut_four(
     requires planes { prec ≤ width }
     requires fits { 4 * prec + 4 ≤ out.old.room }
     requires within { zeros ≤ prec }
-    requires zeros { take zeros (planes_of width (digits_in width digits.now)) ≡ replicate zeros (replicate 4 false) }
+    requires zeros { take zeros (planes_of width (digits_in width digits.now))
+        ≡ replicate zeros (replicate 4 false) }
     ensures { Appends out.old out.new (code (take prec (planes_of width (digits_in width digits.now)))) }
 {
     zf_planes::write_four(zeros, u64::MAX, prec, width, digits, out);
 }
 
-/// Reads the whole code of the top `prec` planes, or answers `None` where the bits end before it does. The planes below are zero. The answer is how many
-/// bits it has.
+/// Reads the whole code of the top `prec` planes, or answers `None` where the bits end before it does. The
+/// planes below are zero. The answer is how many bits it has.
 pub(crate) fn read_uncut<P: Plane>(
     prec: u32,
     size: usize,
     reader: &mut BitReader<'_>,
     planes: &mut [P],
 ) -> Option<u64>
-    requires size { IsBlockSize size }
-    requires words { size ≤ 64 * P.word_count }
+    requires size { IsHeldSize size P.word_count }
     requires planes { prec ≤ length planes.old }
     requires few { length planes.old ≤ 64 }
     requires blank { map P.words planes.old ≡ replicate (length planes.old) (replicate P.word_count 0) }
-    ensures short { IfNone result (length (rest reader.old) < length (code (planes_in prec size (rest reader.old)))) }
-    ensures unread { IfNone result (reader.new ≡ reader.old) }
-    ensures enough { OnSome result (length (code (planes_in prec size (rest reader.old))) ≤ length (rest reader.old)) }
-    ensures reads { OnSome result (Reads reader.old reader.new
-        (take (length (code (planes_in prec size (rest reader.old)))) (rest reader.old))) }
-    ensures planes { OnSome result (AreAbove size (planes_in prec size (rest reader.old)) (planes_held size (map P.words planes.new))) }
+    ensures { Decodes (uncut_len prec size)
+        (HoldsAbove size (planes_in prec size) (planes_held size (map P.words planes.new)))
+        result reader.old reader.new }
 {
     // Known by this call: the greatest budget is more than what is left.
     let _left = reader.left();
@@ -88,7 +87,7 @@ pub(crate) fn read_uncut<P: Plane>(
     Some(count)
 }
 
-/// The same of the planes of four coefficients, into their digits.
+/// Reads the whole code of the top `prec` planes of four coefficients, into their digits.
 #[inline(always)]
 pub(crate) fn read_uncut_four(
     prec: u32,
@@ -98,12 +97,9 @@ pub(crate) fn read_uncut_four(
 ) -> Option<()>
     requires width { width ≤ 64 }
     requires planes { prec ≤ width }
-    ensures short { IfNone result (length (rest reader.old) < length (code (planes_in prec 4 (rest reader.old)))) }
-    ensures unread { IfNone result (reader.new ≡ reader.old) }
-    ensures enough { OnSome result (length (code (planes_in prec 4 (rest reader.old))) ≤ length (rest reader.old)) }
-    ensures reads { OnSome result (Reads reader.old reader.new
-        (take (length (code (planes_in prec 4 (rest reader.old)))) (rest reader.old))) }
-    ensures planes { OnSome result (AreAbove 4 (planes_in prec 4 (rest reader.old)) (planes_of width (digits_in width digits.new))) }
+    ensures { Decodes (uncut_len prec 4)
+        (HoldsAbove 4 (planes_in prec 4) (planes_of width (digits_in width digits.new)))
+        result reader.old reader.new }
 {
     // Known by this call: the greatest budget is more than what is left.
     let _left = reader.left();

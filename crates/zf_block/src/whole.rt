@@ -1,9 +1,10 @@
 //! How far down the code of a block at a fixed rate has its planes whole.
 
 ghost use Rattle.std.specs.Prelude.{◌≡◌, ◌≤◌, ◌*◌, ◌^◌, length, take};
-ghost use Rattle.zf_spec.specs.Grid.{IsDimension, IsBlockSize};
+ghost use Rattle.zf_spec.specs.Grid.{IsDimension};
 ghost use Rattle.zf_spec.specs.ReadPlanes.{planes_in};
 ghost use Rattle.zf_bits.specs.Reader.{rest, Reads};
+ghost use Rattle.zf_block.specs.Held.{IsHeldSize};
 ghost use Rattle.zf_block.specs.WholePlanes.{whole_from, rate_whole_from};
 
 use crate::Scratch;
@@ -12,8 +13,9 @@ use crate::rate::Rate;
 use zf_base::{Lane, block_len};
 use zf_bits::{BitReader, Plane};
 
-/// Reads the code of a block of `bits` bits, whatever they are, and finds the least plane k such that all planes from k up are in it whole: the codes of
-/// these planes have at most `bits` bits together. It is the width of the type where not even the top plane is.
+/// Reads the code of a block of `bits` bits, whatever they are, and finds the least plane k such that all
+/// planes from k up are in it whole: the codes of these planes have at most `bits` bits together. It is the
+/// width of the type where not even the top plane is.
 ///
 /// Planes are numbered by their digit, the lowest is plane 0. `s` is work room for `d` dimensions.
 pub fn whole_planes<T: Lane>(
@@ -38,15 +40,14 @@ pub fn whole_planes<T: Lane>(
     }
 }
 
-/// The same, by way of these planes.
+/// Finds it by way of these planes.
 fn whole_planes_in<T: Lane, P: Plane>(
     size: usize,
     bits: u32,
     reader: &mut BitReader<'_>,
     planes: &mut [P],
 ) -> u32
-    requires size { IsBlockSize size }
-    requires words { size ≤ 64 * P.word_count }
+    requires size { IsHeldSize size P.word_count }
     requires planes { length planes.old ≡ T.WIDTH }
     requires enough { bits ≤ length (rest reader.old) }
     ensures plane { result ≡ whole_from bits (planes_in T.WIDTH size (take bits (rest reader.old))) }

@@ -7,7 +7,7 @@ use std::alloc::Global;
 use std::process::Abort;
 use std::test::Fail;
 use zf_base::{Lane, Shape, block_len};
-use zf_pad::{Layout, gather_block, pad, scatter_block};
+use zf_pad::{Layout, gather_block, pad, scatter};
 
 // A number that tells lists of values apart.
 fn fingerprint<T: Lane>(values: &[T]) -> u64 {
@@ -45,7 +45,7 @@ fn read_and_write<T: Lane>(shape: &Shape, b: u64, values: &mut [T], block: &mut 
     let e = gather_block(&layout, shape, b, values, block);
     pad(&e, shape.dims(), block);
     clear(values);
-    scatter_block(&layout, shape, b, block, values);
+    scatter(&layout, &shape.extent(b), shape.dims(), block, values);
     (fingerprint(block), fingerprint(values))
 }
 

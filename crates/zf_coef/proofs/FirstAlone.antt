@@ -15,10 +15,12 @@ use Rattle.zf_spec.proofs.Fields.{field-zero}
 use Rattle.zf_spec.proofs.Ranking.{rank_of-order}
 use Rattle.zf_spec.proofs.Ranking.{rank_of}
 use Rattle.zf_spec.proofs.Wrapping.{wrap_value, zero_fits}
+use Rattle.zf_base.proofs.Values.{alike_at}
 use Rattle.zf_coef.specs.Turned.{bit_of}
 use Rattle.zf_coef.specs.Groups.{word_of}
 use Rattle.zf_coef.specs.HeldDigits.{digits_in, unranked_values}
 use Rattle.zf_coef.proofs.ByRank.{ranks_all}
+use Rattle.zf_coef.proofs.Halves.{no_word}
 use Rattle.zf_coef.proofs.ShiftedBits.{bit_at-mod, bit_at-shl_low, bit_at-shl_high}
 use Rattle.zf_coef.proofs.Transposed.{HoldsGroups, digits_of_groups}
 
@@ -67,11 +69,6 @@ bits_more planes digits k w small one is before =
 
 -- ---- the digits of all coefficients
 
-zero_at : (n r : ℕ) → let none : ℕ = 0 in get_or (replicate n none) r none ≡ none
-zero_at zero r = refl
-zero_at (suc n) zero = refl
-zero_at (suc n) (suc r) = zero_at n r
-
 pub digits_of_first : (number size u : ℕ) (planes : List (List ℕ)) → 0 < size → size ≤ 64 * number → length planes ≤ 64
     → ((k : ℕ) → k < length planes → length (get_or planes k []) ≡ number)
     → ((p k : ℕ) → 0 < p → p < number → word_of planes p k ≡ 0) → ((k : ℕ) → word_of planes 0 k < 2) → ((k : ℕ) → bit_at u k ≡ word_of planes 0 k)
@@ -89,7 +86,7 @@ digits_of_first number size u planes some room few each others one first =
     bit zero k inside below small =
         let whole : word_of planes 0 k ≡ word_of planes 0 k / 2 ^ 0 % 2 = let b = one k in omega arith in
         first k ∙ whole
-    bit (suc r) k inside below small = ap (λ v. bit_at v k) (zero_at (size - 1) r) ∙ bit_at-zero k ∙ sym (none (suc r / 64) (suc r % 64) (omega arith) (omega arith))
+    bit (suc r) k inside below small = ap (λ v. bit_at v k) (no_word (size - 1) r) ∙ bit_at-zero k ∙ sym (none (suc r / 64) (suc r % 64) (omega arith) (omega arith))
       where
         none : (p i : ℕ) → p < number → (0 < p + i) → bit_at (word_of planes p k) i ≡ 0
         none zero i inside' later = bit_at_above (word_of planes 0 k) 1 i (one k) (omega arith)
@@ -106,15 +103,10 @@ first_place (suc (suc (suc zero))) dims = refl
 first_place (suc (suc (suc (suc zero)))) dims = refl
 first_place (suc (suc (suc (suc (suc d))))) dims = absurd (omega (arith, dims.1))
 
-pub zero_value_at : (n k : ℕ) → get_or (replicate n (pos 0)) k (pos 0) ≡ pos 0
-zero_value_at zero k = refl
-zero_value_at (suc n) zero = refl
-zero_value_at (suc n) (suc k) = zero_value_at n k
-
 -- behind the first place of a block all values are zero
 behind_first : (v : ℤ) (n k : ℕ) → 0 < k → get_or (v ∷ replicate n (pos 0)) k (pos 0) ≡ pos 0
 behind_first v n zero later = absurd (omega arith)
-behind_first v n (suc k) later = zero_value_at n k
+behind_first v n (suc k) later = alike_at (pos 0) n k
 
 by_place_first : (d : ℕ) (v : ℤ) → IsDimension d → 0 < 4 ^ d → by_place d (v ∷ replicate (4 ^ d - 1) (pos 0)) ≡ v ∷ replicate (4 ^ d - 1) (pos 0)
 by_place_first d v dims some =
@@ -182,7 +174,7 @@ first_more number first k planes words within some is before =
           (λ (last : k ≤ j).
           let same : k ≡ j = omega arith in
           subst (λ i. word_of (set planes k words) p i ≡ 0) same
-          (ap (λ ws. get_or ws p 0) (get_or-set_same planes k words [] within ∙ is) ∙ get_or-set_other blank 0 p bit 0 (λ (e : p ≡ 0). absurd (omega arith)) ∙ zero_at number p))
+          (ap (λ ws. get_or ws p 0) (get_or-set_same planes k words [] within ∙ is) ∙ get_or-set_other blank 0 p bit 0 (λ (e : p ≡ 0). absurd (omega arith)) ∙ no_word number p))
           (cases_lt j k);
     }
 
@@ -198,8 +190,8 @@ groups_of_first number first size planes some few holds = record { each = bit }
     bit zero k (suc r) inside below small =
         let place : 64 * 0 + suc r ≡ suc r = omega arith in
         bit_at_above (word_of planes 0 k) 1 (suc r) (omega (arith, holds.word k below)) (omega arith)
-        ∙ sym (ap (λ i. bit_of (first ∷ replicate (size - 1) 0) i k) place ∙ ap (λ v. bit_at v k) (zero_at (size - 1) r) ∙ bit_at-zero k)
+        ∙ sym (ap (λ i. bit_of (first ∷ replicate (size - 1) 0) i k) place ∙ ap (λ v. bit_at v k) (no_word (size - 1) r) ∙ bit_at-zero k)
     bit (suc p) k r inside below small =
         let place : 64 * suc p + r ≡ suc (64 * suc p + r - 1) = omega arith in
         ap (λ v. bit_at v r) (holds.others (suc p) k (omega arith) below) ∙ bit_at-zero r
-        ∙ sym (ap (λ i. bit_of (first ∷ replicate (size - 1) 0) i k) place ∙ ap (λ v. bit_at v k) (zero_at (size - 1) (64 * suc p + r - 1)) ∙ bit_at-zero k)
+        ∙ sym (ap (λ i. bit_of (first ∷ replicate (size - 1) 0) i k) place ∙ ap (λ v. bit_at v k) (no_word (size - 1) (64 * suc p + r - 1)) ∙ bit_at-zero k)

@@ -5,7 +5,7 @@ use Rattle.std.proofs.lemmas.Bool.{cases_lt}
 use Rattle.std.proofs.lemmas.List.{get_or-replicate, get_or_past, length-replicate}
 use Rattle.std.proofs.lemmas.Nat.Bits.{bit_at-zero}
 use Rattle.zf_coef.specs.Turned.{bit_of, IsTurned}
-use Rattle.zf_coef.specs.Groups.{word_of, HoldsGroup, HoldsHalf, IsOfGroup, HoldsFrom, IsMoved}
+use Rattle.zf_coef.specs.Groups.{word_of, HoldsGroup, HoldsHalf, IsOfGroup, AreHalf, HoldsFrom, IsMoved}
 
 -- ---- planes of halves
 
@@ -53,10 +53,6 @@ pub word_of-past : (planes : List (List ℕ)) (number k : ℕ) → length planes
 word_of-past planes number k past = ap (λ ws. get_or ws number 0) (get_or_past planes k [] past)
 
 -- ---- halves of planes
-
--- turned words of 32 planes: digits of a rank below 32, and then those of the rank 32 above it
-abbrev pub AreHalf : ℕ → ℕ → List (List ℕ) → List ℕ → Type 0
-AreHalf number from planes words = (j r : ℕ) → j < 32 → r < 64 → bit_of words j r ≡ bit_at (word_of planes number (from + r % 32)) (r - r % 32 + j)
 
 pub half_of_planes : (number from : ℕ) (planes : List (List ℕ)) (words turned : List ℕ)
     → ((j : ℕ) → j < 32 → get_or words j 0 ≡ word_of planes number (from + j)) → IsTurned 32 words turned → AreHalf number from planes turned

@@ -9,38 +9,72 @@ word_of planes number k = slice_index_or (slice_index_or planes k []) number 0
 
 -- bit r of that word of plane k is digit k of coefficient r
 unfoldable pub HoldsGroup : ℕ → List ℕ → List (List ℕ) → Type 0
-HoldsGroup number digits planes = (k r : ℕ) → k < length planes → r < 64 → bit_at (word_of planes number k) r ≡ bit_of digits r k
+HoldsGroup number digits planes =
+    (k r : ℕ) → k < length planes → r < 64 → bit_at (word_of planes number k) r ≡ bit_of digits r k
 
--- the same of the 32 planes from `from` on
+-- that holds of the 32 planes from `from` on
 unfoldable pub HoldsHalf : ℕ → ℕ → List ℕ → List (List ℕ) → Type 0
-HoldsHalf number from digits planes = (k r : ℕ) → from ≤ k → k < from + 32 → k < length planes → r < 64 → bit_at (word_of planes number k) r ≡ bit_of digits r k
+HoldsHalf number from digits planes = (k r : ℕ) → from ≤ k → k < from + 32 → k < length planes → r < 64
+    → bit_at (word_of planes number k) r ≡ bit_of digits r k
 
 -- digit k of coefficient r is bit r of that word of plane k, or zero where there is no such plane
 unfoldable pub IsOfGroup : ℕ → List (List ℕ) → List ℕ → Type 0
-IsOfGroup number planes digits = (r k : ℕ) → r < length digits → k < 64 → bit_of digits r k ≡ bit_at (word_of planes number k) r
+IsOfGroup number planes digits =
+    (r k : ℕ) → r < length digits → k < 64 → bit_of digits r k ≡ bit_at (word_of planes number k) r
 
 -- planes have the same words but for those of this number
 unfoldable pub KeepsOthers : ℕ → List (List ℕ) → List (List ℕ) → Type 0
 KeepsOthers number old new = (k p : ℕ) → p ≢ number → word_of new p k ≡ word_of old p k
 
+-- at most 64 planes have a word of this number, where each has so many
+abbrev pub HasWord : {P : Type 0} → ℕ → ℕ → List P → Type 0
+HasWord number count planes = (number < count) × (length planes ≤ 64)
+
+-- the 32 planes from `from` on are a half of 64, and begin among the planes or at their end
+abbrev pub IsHalfAt : {P : Type 0} → ℕ → List P → Type 0
+IsHalfAt from planes = (from ≤ length planes) × (from ≤ 32)
+
 -- ---- the way there
 
--- so many planes from `from` on, as far as there are any, have words as those of this number; the planes before and behind them keep theirs
+-- the words of this number of all planes are those of the digits, and the others stay
+pub record PutsGroup (number : ℕ) (digits : List ℕ) (old new : List (List ℕ)) : Type 0 where
+  pub bits : HoldsGroup number digits new
+  pub others : KeepsOthers number old new
+
+-- those of the 32 planes from `from` on are; the planes below and the words of other numbers stay
+pub record PutsHalf (number from : ℕ) (digits : List ℕ) (old new : List (List ℕ)) : Type 0 where
+  pub bits : HoldsHalf number from digits new
+  pub below : (k : ℕ) → k < from → word_of new number k ≡ word_of old number k
+  pub others : KeepsOthers number old new
+
+-- so many planes from `from` on, as far as there are any, have words as those of this number; the planes
+-- before and behind them keep theirs
 pub record HoldsFrom (count number from : ℕ) (words : List ℕ) (old new : List (List ℕ)) : Type 0 where
-  pub inside : (j : ℕ) → j < count → from + j < length new → word_of new number (from + j) ≡ slice_index_or words j 0
+  pub inside : (j : ℕ) → j < count → from + j < length new → word_of new number (from + j)
+      ≡ slice_index_or words j 0
   pub below : (k : ℕ) → k < from → word_of new number k ≡ word_of old number k
   pub above : (k : ℕ) → from + count ≤ k → word_of new number k ≡ word_of old number k
 
--- bit r of plane `from + k`, for k below `to`, is place k - k mod 16 + r of the folded row k mod 16; there is no bit from 16 on
+-- bit r of plane `from + k`, for k below `to`, is place k - k mod 16 + r of the folded row k mod 16; there is
+-- no bit from 16 on
 pub record HoldsFolded (number from to : ℕ) (words : List ℕ) (planes : List (List ℕ)) : Type 0 where
-  pub inside : (k r : ℕ) → k < to → from + k < length planes → r < 16 → bit_at (word_of planes number (from + k)) r ≡ folded_bit words (k % 16) (k - k % 16 + r)
-  pub outside : (k r : ℕ) → k < to → from + k < length planes → 16 ≤ r → bit_at (word_of planes number (from + k)) r ≡ 0
+  pub inside : (k r : ℕ) → k < to → from + k < length planes → r < 16
+      → bit_at (word_of planes number (from + k)) r ≡ folded_bit words (k % 16) (k - k % 16 + r)
+  pub outside : (k r : ℕ) → k < to → from + k < length planes → 16 ≤ r
+      → bit_at (word_of planes number (from + k)) r ≡ 0
 
 -- ---- the way back
 
+-- turned words of the 32 planes from `from` on: digits of a rank below 32, and then those of the rank 32
+-- above it
+abbrev pub AreHalf : ℕ → ℕ → List (List ℕ) → List ℕ → Type 0
+AreHalf number from planes words = (j r : ℕ) → j < 32 → r < 64
+    → bit_of words j r ≡ bit_at (word_of planes number (from + r % 32)) (r - r % 32 + j)
+
 -- place k - k mod 16 + r of the folded row k mod 16 is bit r of plane `from + k`
 unfoldable pub IsFoldOf : ℕ → ℕ → List (List ℕ) → List ℕ → Type 0
-IsFoldOf number from planes words = (k r : ℕ) → k < 32 → r < 16 → folded_bit words (k % 16) (k - k % 16 + r) ≡ bit_at (word_of planes number (from + k)) r
+IsFoldOf number from planes words = (k r : ℕ) → k < 32 → r < 16 → folded_bit words (k % 16) (k - k % 16 + r)
+    ≡ bit_at (word_of planes number (from + k)) r
 
 -- a word with 32 bits of another, those from bit `start` on, behind `from` zeros
 pub record IsMoved (start from old new : ℕ) : Type 0 where

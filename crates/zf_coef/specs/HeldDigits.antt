@@ -1,6 +1,6 @@
 -- Coefficients and planes as they are held in words.
---     A coefficient is a word that has its digits as bits. A plane is four words of 64 bits, one for each rank; planes
---     are numbered by their digit, the lowest first.
+--     A coefficient is a word that has its digits as bits. A plane is four words of 64 bits, one for each rank;
+--     planes are numbered by their digit, the lowest first.
 use Rattle.std.specs.Prelude.{ℕ, ℤ, pos, ◌≡◌, ◌<◌, Bool, false, List, map, slice_index_or}
 use Rattle.std.specs.Int.{Width}
 use mir.Val.{bits}
@@ -21,7 +21,8 @@ unranked_values w d coefficients = by_place d (map (value_of w) coefficients)
 
 -- the places of the ranks below r have the values by rank
 abbrev pub HasRanks : ℕ → ℕ → List ℤ → List ℤ → Type 0
-HasRanks d r values block = (k : ℕ) → k < r → slice_index_or block (slice_index_or (order d) k 0) (pos 0) ≡ slice_index_or values k (pos 0)
+HasRanks d r values block = (k : ℕ) → k < r → slice_index_or block (slice_index_or (order d) k 0) (pos 0)
+    ≡ slice_index_or values k (pos 0)
 
 -- the digits that planes hold at this rank, the lowest first
 unfoldable pub column : ℕ → List (List ℕ) → List Bool

@@ -1,5 +1,6 @@
 -- Tiles of bits that are turned over their diagonal. A bit has the number of its word and its place in it.
-use Rattle.std.specs.Prelude.{ℕ, ◌+◌, ◌-◌, ◌*◌, ◌/◌, ◌%◌, ◌^◌, ◌≡◌, ◌≢◌, ◌<◌, ◌⊎◌, List, length, slice_index_or}
+use Rattle.std.specs.Prelude.{ℕ, ◌+◌, ◌-◌, ◌*◌, ◌/◌, ◌%◌, ◌^◌, ◌≡◌, ◌≢◌, ◌<◌, ◌⊎◌, List, length}
+use Rattle.std.specs.Prelude.{slice_index_or}
 use Rattle.std.specs.Int.{bit_at}
 use Rattle.std.specs.Int.RustNames.{bit_xor}
 use lib.Bits.{bit_and}
@@ -23,11 +24,15 @@ swapped_high s m a b = bit_xor b (moved s m a b)
 -- of so many words from low on and from high on, the bits are swapped; all other words stay
 pub record IsSwapped (lanes low high s m : ℕ) (old new : List ℕ) : Type 0 where
   pub long : length new ≡ length old
-  pub lower : (l : ℕ) → l < lanes → slice_index_or new (low + l) 0 ≡ swapped_low s m (slice_index_or old (low + l) 0) (slice_index_or old (high + l) 0)
-  pub upper : (l : ℕ) → l < lanes → slice_index_or new (high + l) 0 ≡ swapped_high s m (slice_index_or old (low + l) 0) (slice_index_or old (high + l) 0)
-  pub other : (j : ℕ) → ((l : ℕ) → l < lanes → j ≢ low + l) → ((l : ℕ) → l < lanes → j ≢ high + l) → slice_index_or new j 0 ≡ slice_index_or old j 0
+  pub lower : (l : ℕ) → l < lanes → slice_index_or new (low + l) 0
+      ≡ swapped_low s m (slice_index_or old (low + l) 0) (slice_index_or old (high + l) 0)
+  pub upper : (l : ℕ) → l < lanes → slice_index_or new (high + l) 0
+      ≡ swapped_high s m (slice_index_or old (low + l) 0) (slice_index_or old (high + l) 0)
+  pub other : (j : ℕ) → ((l : ℕ) → l < lanes → j ≢ low + l) → ((l : ℕ) → l < lanes → j ≢ high + l)
+      → slice_index_or new j 0 ≡ slice_index_or old j 0
 
--- word `at` is swapped so with the one behind it, by one place, and then the two words behind these with one another
+-- word `at` is swapped so with the one behind it, by one place, and then the two words behind these with one
+-- another
 pub record AreSwapped (at m : ℕ) (old new : List ℕ) : Type 0 where
   pub between : List ℕ
   pub first : IsSwapped 1 at (at + 1) 1 m old between
@@ -49,7 +54,8 @@ with_digit s a b = a - a / s % 2 * s + b / s % 2 * s
 
 -- each bit comes from where word and place have the other's digit at s
 unfoldable pub IsStepped : ℕ → List ℕ → List ℕ → Type 0
-IsStepped s old new = (j i : ℕ) → j < length old → i < 64 → bit_of new j i ≡ bit_of old (with_digit s j i) (with_digit s i j)
+IsStepped s old new =
+    (j i : ℕ) → j < length old → i < 64 → bit_of new j i ≡ bit_of old (with_digit s j i) (with_digit s i j)
 
 -- ---- all steps
 
@@ -69,4 +75,5 @@ crossed i = i - i / 8 % 2 * 8 - i / 32 % 2 * 32 + i / 32 % 2 * 8 + i / 8 % 2 * 3
 
 -- the rows have tiles of sixteen places side by side: place k of a tile's row r comes from its row k, place r
 unfoldable pub IsFoldedTurned : List ℕ → List ℕ → Type 0
-IsFoldedTurned old new = (r k : ℕ) → r < 16 → k < 32 → folded_bit new r k ≡ folded_bit old (k % 16) (k - k % 16 + r)
+IsFoldedTurned old new =
+    (r k : ℕ) → r < 16 → k < 32 → folded_bit new r k ≡ folded_bit old (k % 16) (k - k % 16 + r)

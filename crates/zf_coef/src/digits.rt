@@ -1,11 +1,12 @@
 //! Bit planes become the digits of coefficients.
 
-ghost use Rattle.std.specs.Prelude.{◌≡◌, ℕ, ◌+◌, ◌-◌, ◌*◌, ◌%◌, ◌^◌, ◌<◌, ◌≤◌, ◌⊎◌, All, IsTrue, length, map, slice_index_or};
+ghost use Rattle.std.specs.Prelude.{◌≡◌, ℕ, ◌+◌, ◌-◌, ◌*◌, ◌%◌, ◌^◌, ◌<◌, ◌≤◌, ◌⊎◌, All, IsTrue, length, map};
+ghost use Rattle.std.specs.Prelude.{slice_index_or};
 ghost use Rattle.std.specs.Int.RustNames.{bit_or};
 ghost use Rattle.zf_spec.specs.Planes.{digits_in_planes};
 ghost use Rattle.zf_spec.specs.HeldPlanes.{planes_held};
 ghost use Rattle.zf_coef.specs.HeldDigits.{digits_in};
-ghost use Rattle.zf_coef.specs.Groups.{word_of, IsOfGroup, IsFoldOf, IsMoved};
+ghost use Rattle.zf_coef.specs.Groups.{word_of, HasWord, IsHalfAt, IsOfGroup, AreHalf, IsFoldOf, IsMoved};
 ghost use Rattle.zf_coef.specs.Turned.{bit_of, folded_bit};
 ghost use Rattle.std.specs.Int.{bit_at};
 
@@ -27,7 +28,8 @@ pub fn from_planes(planes: &[[u64; 4]], digits: &mut [u64])
     digits_of_planes(planes, digits);
 }
 
-/// The same for planes of any number of words, so that blocks of up to 64 coefficients have one word a plane.
+/// Writes the digits of planes of any number of words, so that blocks of up to 64 coefficients have one word a
+/// plane.
 #[inline(always)]
 pub fn digits_of_planes<P: Plane>(planes: &[P], digits: &mut [u64])
     requires planes { length planes.now ≤ 64 }
@@ -57,8 +59,7 @@ fn are_words(words: &[u64])
 /// The digits of which planes have one each in their words of this number.
 #[inline(always)]
 fn take_group<P: Plane>(planes: &[P], number: usize, digits: &mut [u64])
-    requires number { number < P.word_count }
-    requires planes { length planes.now ≤ 64 }
+    requires word { HasWord number P.word_count planes.now }
     requires digits { length digits.old ≤ 64 }
     ensures { IsOfGroup number (map P.words planes.now) digits.new }
 {
@@ -83,11 +84,10 @@ fn copy_prefix(words: &[u64], digits: &mut [u64])
     }
 }
 
-/// The same of sixteen digits. Where this is compiled into its caller, their words stay in registers.
+/// Takes sixteen digits. Where this is compiled into its caller, their words stay in registers.
 #[inline(always)]
 fn take_16<P: Plane>(planes: &[P], number: usize, digits: &mut [u64])
-    requires number { number < P.word_count }
-    requires planes { length planes.now ≤ 64 }
+    requires word { HasWord number P.word_count planes.now }
     requires digits { length digits.old ≡ 16 }
     ensures { IsOfGroup number (map P.words planes.now) digits.new }
 {
@@ -103,12 +103,11 @@ fn take_16<P: Plane>(planes: &[P], number: usize, digits: &mut [u64])
     }
 }
 
-/// The same of planes of any number.
+/// Takes sixteen digits of planes of any number.
 #[cold]
 #[inline(never)]
 fn take_16_of<P: Plane>(planes: &[P], number: usize, digits: &mut [u64])
-    requires number { number < P.word_count }
-    requires planes { length planes.now ≤ 64 }
+    requires word { HasWord number P.word_count planes.now }
     requires digits { length digits.old ≡ 16 }
     ensures { IsOfGroup number (map P.words planes.now) digits.new }
 {
@@ -124,8 +123,9 @@ fn take_16_of<P: Plane>(planes: &[P], number: usize, digits: &mut [u64])
 #[inline(always)]
 fn half_of_16<P: Plane>(planes: &[P], from: usize, number: usize) -> [u64; 8]
     requires number { number < P.word_count }
-    requires from { (from ≤ length planes.now) × (from ≤ 32) }
-    ensures { (r k : ℕ) → r < 16 → k < 32 → folded_bit result r k ≡ bit_at (word_of (map P.words planes.now) number (from + k)) r }
+    requires from { IsHalfAt from planes.now }
+    ensures { (r k : ℕ) → r < 16 → k < 32 → folded_bit result r k
+        ≡ bit_at (word_of (map P.words planes.now) number (from + k)) r }
 {
     let mut words = folded_planes(planes, from, number);
     turn_folded(&mut words);
@@ -136,7 +136,7 @@ fn half_of_16<P: Plane>(planes: &[P], from: usize, number: usize) -> [u64; 8]
 #[inline(always)]
 fn folded_planes<P: Plane>(planes: &[P], from: usize, number: usize) -> [u64; 8]
     requires number { number < P.word_count }
-    requires from { (from ≤ length planes.now) × (from ≤ 32) }
+    requires from { IsHalfAt from planes.now }
     ensures { IsFoldOf number from (map P.words planes.now) result }
 {
     let mut words = [0; 8];
@@ -167,7 +167,8 @@ fn put_sixteen_bits(words: &mut [u64; 8], tile: &[u64; 8], place: usize)
 fn words_at<P: Plane, const N: usize>(planes: &[P], from: usize, number: usize) -> [u64; N]
     requires number { number < P.word_count }
     requires from { from + N ≤ length planes.now }
-    ensures { (j : ℕ) → j < N → slice_index_or result j 0 ≡ word_of (map P.words planes.now) number (from + j) }
+    ensures { (j : ℕ) → j < N → slice_index_or result j 0
+        ≡ word_of (map P.words planes.now) number (from + j) }
 {
     let mut words = [0; N];
     copy_words(planes, from, N, number, &mut words);
@@ -179,7 +180,8 @@ fn words_at<P: Plane, const N: usize>(planes: &[P], from: usize, number: usize) 
 fn words_from<P: Plane, const N: usize>(planes: &[P], from: usize, number: usize) -> [u64; N]
     requires number { number < P.word_count }
     requires from { from ≤ length planes.now }
-    ensures { (j : ℕ) → j < N → slice_index_or result j 0 ≡ word_of (map P.words planes.now) number (from + j) }
+    ensures { (j : ℕ) → j < N → slice_index_or result j 0
+        ≡ word_of (map P.words planes.now) number (from + j) }
 {
     let mut words = [0; N];
     let count = planes.len() - from;
@@ -197,7 +199,8 @@ fn copy_words<P: Plane>(planes: &[P], from: usize, count: usize, number: usize, 
     requires planes { from + count ≤ length planes.now }
     requires words { count ≤ length words.old }
     requires number { number < P.word_count }
-    ensures copied { (j : ℕ) → j < count → slice_index_or words.new j 0 ≡ word_of (map P.words planes.now) number (from + j) }
+    ensures copied { (j : ℕ) → j < count → slice_index_or words.new j 0
+        ≡ word_of (map P.words planes.now) number (from + j) }
     ensures others { (j : ℕ) → count ≤ j → slice_index_or words.new j 0 ≡ slice_index_or words.old j 0 }
 {
     for j in 0..count {
@@ -205,11 +208,10 @@ fn copy_words<P: Plane>(planes: &[P], from: usize, count: usize, number: usize, 
     }
 }
 
-/// The same of 64 digits, 32 planes at a time.
+/// Takes 64 digits, 32 planes at a time.
 #[inline(never)]
 fn take_64<P: Plane>(planes: &[P], number: usize, digits: &mut [u64])
-    requires number { number < P.word_count }
-    requires planes { length planes.now ≤ 64 }
+    requires word { HasWord number P.word_count planes.now }
     requires digits { length digits.old ≡ 64 }
     ensures { IsOfGroup number (map P.words planes.now) digits.new }
 {
@@ -221,7 +223,8 @@ fn take_64<P: Plane>(planes: &[P], number: usize, digits: &mut [u64])
     }
 }
 
-/// The same of 64 planes. Where 32 planes beside one another have all the ones, as a budget mostly leaves it, no others are turned.
+/// Takes 64 digits of 64 planes. Where 32 planes beside one another have all the ones, as a budget mostly leaves it,
+/// no others are turned.
 #[inline(always)]
 fn take_64_of_64<P: Plane>(planes: &[P], number: usize, digits: &mut [u64])
     requires number { number < P.word_count }
@@ -272,12 +275,11 @@ fn are_zeros<P: Plane>(planes: &[P], from: usize, number: usize) -> bool
     true
 }
 
-/// The same of planes of any number.
+/// Takes 64 digits of planes of any number.
 #[cold]
 #[inline(never)]
 fn take_64_of<P: Plane>(planes: &[P], number: usize, digits: &mut [u64])
-    requires number { number < P.word_count }
-    requires planes { length planes.now ≤ 64 }
+    requires word { HasWord number P.word_count planes.now }
     requires digits { length digits.old ≡ 64 }
     ensures { IsOfGroup number (map P.words planes.now) digits.new }
 {
@@ -295,7 +297,7 @@ fn whole_half<P: Plane>(planes: &[P], from: usize, number: usize) -> [u64; 32]
     requires number { number < P.word_count }
     requires from { from + 32 ≤ length planes.now }
     requires first { from ≤ 32 }
-    ensures { (j r : ℕ) → j < 32 → r < 64 → bit_of result j r ≡ bit_at (word_of (map P.words planes.now) number (from + r % 32)) (r - r % 32 + j) }
+    ensures { AreHalf number from (map P.words planes.now) result }
 {
     let mut words = words_at(planes, from, number);
     turn_32(&mut words);
@@ -306,8 +308,8 @@ fn whole_half<P: Plane>(planes: &[P], from: usize, number: usize) -> [u64; 32]
 #[inline(always)]
 fn half<P: Plane>(planes: &[P], from: usize, number: usize) -> [u64; 32]
     requires number { number < P.word_count }
-    requires from { (from ≤ length planes.now) × (from ≤ 32) }
-    ensures { (j r : ℕ) → j < 32 → r < 64 → bit_of result j r ≡ bit_at (word_of (map P.words planes.now) number (from + r % 32)) (r - r % 32 + j) }
+    requires from { IsHalfAt from planes.now }
+    ensures { AreHalf number from (map P.words planes.now) result }
 {
     let mut words = words_from(planes, from, number);
     turn_32(&mut words);
@@ -320,9 +322,11 @@ fn join<const N: usize>(low: &[u64], high: &[u64], digits: &mut [u64])
     requires halves { length low.now ≡ N }
     requires others { length high.now ≡ N }
     requires digits { length digits.old ≡ 2 * N }
-    ensures lower { (r k : ℕ) → r < N → k < 32 → (bit_of digits.new r k ≡ bit_of low.now r k) × (bit_of digits.new r (32 + k) ≡ bit_of high.now r k) }
+    ensures lower { (r k : ℕ) → r < N → k < 32 → (bit_of digits.new r k ≡ bit_of low.now r k)
+        × (bit_of digits.new r (32 + k) ≡ bit_of high.now r k) }
     ensures upper { (r k : ℕ) → r < N → k < 32
-        → (bit_of digits.new (N + r) k ≡ bit_of low.now r (32 + k)) × (bit_of digits.new (N + r) (32 + k) ≡ bit_of high.now r (32 + k)) }
+        → (bit_of digits.new (N + r) k ≡ bit_of low.now r (32 + k))
+        × (bit_of digits.new (N + r) (32 + k) ≡ bit_of high.now r (32 + k)) }
 {
     for r in 0..N {
         digits[r] = (low[r] & 0xffff_ffff) | high[r] << 32;
@@ -330,14 +334,17 @@ fn join<const N: usize>(low: &[u64], high: &[u64], digits: &mut [u64])
     }
 }
 
-/// The same of 32 digits alone, which stand behind `from` zeros.
+/// Each word has 32 digits of a rank below 32, and then those of the rank 32 above it; the digits stand behind `from`
+/// zeros.
 #[inline(always)]
 fn join_from(words: &[u64], from: usize, digits: &mut [u64])
     requires words { length words.now ≡ 32 }
     requires from { from ≤ 32 }
     requires digits { length digits.old ≡ 64 }
-    ensures lower { (r : ℕ) → r < 32 → IsMoved 0 from (slice_index_or words.now r 0) (slice_index_or digits.new r 0) }
-    ensures upper { (r : ℕ) → r < 32 → IsMoved 32 from (slice_index_or words.now r 0) (slice_index_or digits.new (32 + r) 0) }
+    ensures lower { (r : ℕ) → r < 32
+        → IsMoved 0 from (slice_index_or words.now r 0) (slice_index_or digits.new r 0) }
+    ensures upper { (r : ℕ) → r < 32
+        → IsMoved 32 from (slice_index_or words.now r 0) (slice_index_or digits.new (32 + r) 0) }
 {
     for r in 0..32 {
         digits[r] = (words[r] & 0xffff_ffff) << from;

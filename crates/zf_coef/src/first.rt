@@ -9,14 +9,16 @@ ghost use Rattle.zf_coef.specs.Groups.{word_of};
 
 use zf_bits::Plane;
 
-/// The digits of the first of `size` coefficients, where planes have a one of no other. `None` where some plane has one of another.
+/// The digits of the first of `size` coefficients, where planes have a one of no other. `None` where some
+/// plane has one of another.
 #[inline(always)]
 pub fn first_digits<P: Plane>(planes: &[P], size: usize) -> Option<u64>
     requires some { 0 < size }
     requires words { size ≤ 64 * P.word_count }
     requires planes { length planes.now ≤ 64 }
     ensures { IfSome result (λ u. let n = length planes.now in
-        digits_in n (u ∷ replicate (size - 1) 0) ≡ digits_in_planes n size (planes_held size (map P.words planes.now))) }
+        digits_in n (u ∷ replicate (size - 1) 0)
+        ≡ digits_in_planes n size (planes_held size (map P.words planes.now))) }
 {
     for number in 1..P::word_count() {
         if any_word(planes, number) > 0 {
@@ -29,7 +31,8 @@ pub fn first_digits<P: Plane>(planes: &[P], size: usize) -> Option<u64>
     Some(lowest_bits(planes))
 }
 
-/// The way there: writes these digits as those of the first coefficient and zeros as those of all others, and their planes. There are at most 64 planes.
+/// The way there: writes these digits as those of the first coefficient and zeros as those of all others, and
+/// their planes. There are at most 64 planes.
 #[inline(always)]
 pub fn planes_of_first<P: Plane>(first: u64, digits: &mut [u64], planes: &mut [P])
     requires some { 0 < length digits.old }

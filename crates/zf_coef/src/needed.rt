@@ -35,7 +35,8 @@ pub fn zero_planes(digits: &[u64], width: u32) -> u32
     requires some { 0 < width }
     requires in_word { width ≤ 64 }
     ensures within { result ≤ width }
-    ensures zeros { take result (planes_of width (digits_in width digits.now)) ≡ replicate result (replicate (length digits.now) false) }
+    ensures zeros { take result (planes_of width (digits_in width digits.now))
+        ≡ replicate result (replicate (length digits.now) false) }
 {
     (any_digits(digits) << (64 - width))
         .leading_zeros()

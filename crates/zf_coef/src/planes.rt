@@ -1,11 +1,13 @@
 //! The digits of coefficients become bit planes.
 
-ghost use Rattle.std.specs.Prelude.{◌≡◌, ℕ, ◌+◌, ◌-◌, ◌*◌, ◌/◌, ◌%◌, ◌^◌, ◌<◌, ◌≤◌, ◌⊎◌, All, length, map, slice_index_or, []};
+ghost use Rattle.std.specs.Prelude.{◌≡◌, ℕ, ◌+◌, ◌-◌, ◌*◌, ◌/◌, ◌%◌, ◌^◌, ◌<◌, ◌≤◌, ◌⊎◌, All, length, map};
+ghost use Rattle.std.specs.Prelude.{slice_index_or, []};
 ghost use Rattle.std.specs.Int.{bit_at};
 ghost use Rattle.zf_spec.specs.Planes.{planes_of};
 ghost use Rattle.zf_spec.specs.HeldPlanes.{planes_held, IsClearFrom};
 ghost use Rattle.zf_coef.specs.HeldDigits.{digits_in};
-ghost use Rattle.zf_coef.specs.Groups.{word_of, HoldsGroup, HoldsHalf, KeepsOthers, HoldsFrom, HoldsFolded};
+ghost use Rattle.zf_coef.specs.Groups.{word_of, HasWord, IsHalfAt, PutsGroup, PutsHalf, KeepsOthers};
+ghost use Rattle.zf_coef.specs.Groups.{HoldsFrom, HoldsFolded};
 ghost use Rattle.zf_coef.specs.Turned.{bit_of};
 
 use crate::turning::{turn_32, turn_folded};
@@ -37,7 +39,7 @@ pub(crate) fn have_four_words(planes: &[[u64; 4]])
     let _known = planes.len();
 }
 
-/// The same for planes of any number of words, so that blocks of up to 64 coefficients have one word a plane.
+/// Writes planes of any number of words, so that blocks of up to 64 coefficients have one word a plane.
 #[inline(always)]
 pub fn planes_of_digits<P: Plane>(digits: &[u64], planes: &mut [P])
     requires digits { length digits.now ≤ 64 * P.word_count }
@@ -57,11 +59,9 @@ pub fn planes_of_digits<P: Plane>(digits: &[u64], planes: &mut [P])
 /// The words of this number of all planes, from the digits of their ranks.
 #[inline(always)]
 fn put_group<P: Plane>(digits: &[u64], number: usize, planes: &mut [P])
-    requires number { number < P.word_count }
+    requires word { HasWord number P.word_count planes.old }
     requires digits { length digits.now ≤ 64 }
-    requires planes { length planes.old ≤ 64 }
-    ensures bits { HoldsGroup number digits.now (map P.words planes.new) }
-    ensures others { KeepsOthers number (map P.words planes.old) (map P.words planes.new) }
+    ensures { PutsGroup number digits.now (map P.words planes.old) (map P.words planes.new) }
 {
     match digits.len() {
         0 => put_none(number, planes),
@@ -73,8 +73,7 @@ fn put_group<P: Plane>(digits: &[u64], number: usize, planes: &mut [P])
 
 /// The words of no digits, which are zero.
 fn put_none<P: Plane>(number: usize, planes: &mut [P])
-    requires number { number < P.word_count }
-    requires planes { length planes.old ≤ 64 }
+    requires word { HasWord number P.word_count planes.old }
     ensures words { (k : ℕ) → k < length planes.new → word_of (map P.words planes.new) number k ≡ 0 }
     ensures others { KeepsOthers number (map P.words planes.old) (map P.words planes.new) }
 {
@@ -93,14 +92,12 @@ fn padded(digits: &[u64]) -> [u64; WORD_BITS]
     whole
 }
 
-/// The same of sixteen digits.
+/// Puts sixteen digits.
 #[inline(never)]
 fn put_16<P: Plane>(digits: &[u64], number: usize, planes: &mut [P])
-    requires number { number < P.word_count }
+    requires word { HasWord number P.word_count planes.old }
     requires digits { length digits.now ≡ 16 }
-    requires planes { length planes.old ≤ 64 }
-    ensures bits { HoldsGroup number digits.now (map P.words planes.new) }
-    ensures others { KeepsOthers number (map P.words planes.old) (map P.words planes.new) }
+    ensures { PutsGroup number digits.now (map P.words planes.old) (map P.words planes.new) }
 {
     // A number of planes that is known needs no loop.
     match planes.len() {
@@ -110,14 +107,12 @@ fn put_16<P: Plane>(digits: &[u64], number: usize, planes: &mut [P])
     }
 }
 
-/// The same, 32 planes at a time.
+/// Puts sixteen digits, 32 planes at a time.
 #[inline(always)]
 fn put_halves_of_16<P: Plane>(digits: &[u64], number: usize, planes: &mut [P])
-    requires number { number < P.word_count }
+    requires word { HasWord number P.word_count planes.old }
     requires digits { length digits.now ≡ 16 }
-    requires planes { length planes.old ≤ 64 }
-    ensures bits { HoldsGroup number digits.now (map P.words planes.new) }
-    ensures others { KeepsOthers number (map P.words planes.old) (map P.words planes.new) }
+    ensures { PutsGroup number digits.now (map P.words planes.old) (map P.words planes.new) }
 {
     put_half_of_16(digits, 0, number, planes);
     if planes.len() > 32 {
@@ -130,11 +125,8 @@ fn put_halves_of_16<P: Plane>(digits: &[u64], number: usize, planes: &mut [P])
 fn put_half_of_16<P: Plane>(digits: &[u64], from: usize, number: usize, planes: &mut [P])
     requires number { number < P.word_count }
     requires digits { length digits.now ≡ 16 }
-    requires from { from ≤ 32 }
-    requires planes { from ≤ length planes.old }
-    ensures bits { HoldsHalf number from digits.now (map P.words planes.new) }
-    ensures below { (k : ℕ) → k < from → word_of (map P.words planes.new) number k ≡ word_of (map P.words planes.old) number k }
-    ensures others { KeepsOthers number (map P.words planes.old) (map P.words planes.new) }
+    requires from { IsHalfAt from planes.old }
+    ensures { PutsHalf number from digits.now (map P.words planes.old) (map P.words planes.new) }
 {
     let mut words = fold(digits, from);
     turn_folded(&mut words);
@@ -145,10 +137,10 @@ fn put_half_of_16<P: Plane>(digits: &[u64], from: usize, number: usize, planes: 
 #[inline(always)]
 fn put_folded<P: Plane>(words: &[u64; 8], from: usize, number: usize, planes: &mut [P])
     requires number { number < P.word_count }
-    requires from { from ≤ 32 }
-    requires planes { from ≤ length planes.old }
+    requires from { IsHalfAt from planes.old }
     ensures bits { HoldsFolded number from 32 words.now (map P.words planes.new) }
-    ensures below { (k : ℕ) → k < from → word_of (map P.words planes.new) number k ≡ word_of (map P.words planes.old) number k }
+    ensures below { (k : ℕ) → k < from → word_of (map P.words planes.new) number k
+        ≡ word_of (map P.words planes.old) number k }
     ensures others { KeepsOthers number (map P.words planes.old) (map P.words planes.new) }
 {
     for eight in 0..4 {
@@ -164,7 +156,8 @@ fn put_folded<P: Plane>(words: &[u64; 8], from: usize, number: usize, planes: &m
     }
 }
 
-/// Where the rows of eight planes begin in folded words: planes 0 to 7 and 16 to 23 are in the lower halves, side by side, and the others above them.
+/// Where the rows of eight planes begin in folded words: planes 0 to 7 and 16 to 23 are in the lower halves,
+/// side by side, and the others above them.
 #[inline(always)]
 pub(crate) fn place_of_eight(eight: usize) -> usize
     requires { eight < 4 }
@@ -178,7 +171,8 @@ pub(crate) fn place_of_eight(eight: usize) -> usize
 #[inline(always)]
 fn sixteen_bits(words: &[u64; 8], place: usize) -> [u64; 8]
     requires place { place < 64 }
-    ensures cut { (j : ℕ) → j < 8 → slice_index_or result j 0 ≡ slice_index_or words.now j 0 / 2 ^ place % 2 ^ 16 }
+    ensures cut { (j : ℕ) → j < 8 → slice_index_or result j 0
+        ≡ slice_index_or words.now j 0 / 2 ^ place % 2 ^ 16 }
     ensures long { length result ≡ 8 }
 {
     let mut cut = [0; 8];
@@ -223,14 +217,12 @@ fn put_words<P: Plane>(words: &[u64], count: usize, from: usize, number: usize, 
     }
 }
 
-/// The same of 64 digits, 32 planes at a time.
+/// Puts 64 digits, 32 planes at a time.
 #[inline(never)]
 fn put_64<P: Plane>(digits: &[u64], number: usize, planes: &mut [P])
-    requires number { number < P.word_count }
+    requires word { HasWord number P.word_count planes.old }
     requires digits { length digits.now ≡ 64 }
-    requires planes { length planes.old ≤ 64 }
-    ensures bits { HoldsGroup number digits.now (map P.words planes.new) }
-    ensures others { KeepsOthers number (map P.words planes.old) (map P.words planes.new) }
+    ensures { PutsGroup number digits.now (map P.words planes.old) (map P.words planes.new) }
 {
     put_half(digits, 0, number, planes);
     if planes.len() > 32 {
@@ -243,24 +235,23 @@ fn put_64<P: Plane>(digits: &[u64], number: usize, planes: &mut [P])
 fn put_half<P: Plane>(digits: &[u64], from: usize, number: usize, planes: &mut [P])
     requires number { number < P.word_count }
     requires digits { length digits.now ≡ 64 }
-    requires from { from ≤ 32 }
-    requires planes { from ≤ length planes.old }
-    ensures bits { HoldsHalf number from digits.now (map P.words planes.new) }
-    ensures below { (k : ℕ) → k < from → word_of (map P.words planes.new) number k ≡ word_of (map P.words planes.old) number k }
-    ensures others { KeepsOthers number (map P.words planes.old) (map P.words planes.new) }
+    requires from { IsHalfAt from planes.old }
+    ensures { PutsHalf number from digits.now (map P.words planes.old) (map P.words planes.new) }
 {
     let mut words = fold(digits, from);
     turn_32(&mut words);
     put_from(&words, from, number, planes);
 }
 
-/// 32 digits of each of `2 N` coefficients, from this one on: word r has those of rank r, and then those of the rank `N` above it.
+/// 32 digits of each of `2 N` coefficients, from this one on: word r has those of rank r, and then those of
+/// the rank `N` above it.
 #[inline(always)]
 fn fold<const N: usize>(digits: &[u64], from: usize) -> [u64; N]
     requires few { N ≤ 32 }
     requires digits { length digits.now ≡ 2 * N }
     requires from { from ≤ 32 }
-    ensures { (r i : ℕ) → r < N → i < 64 → bit_of result r i ≡ bit_of digits.now (i / 32 * N + r) (from + i % 32) }
+    ensures { (r i : ℕ) → r < N → i < 64 → bit_of result r i
+        ≡ bit_of digits.now (i / 32 * N + r) (from + i % 32) }
 {
     let mut words = [0; N];
     for r in 0..N {

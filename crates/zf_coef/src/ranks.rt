@@ -3,8 +3,8 @@
 ghost use Rattle.std.specs.Prelude.{◌≡◌, ◌^◌, ◌<◌, ◌≤◌, All, length, map, take};
 ghost use Rattle.std.specs.List.{AllWithin};
 ghost use mir.Val.{bits};
-ghost use Rattle.zf_spec.specs.Grid.{IsDimension};
 ghost use Rattle.zf_spec.specs.Numbers.{value_of};
+ghost use Rattle.zf_base.specs.WholeBlocks.{IsBlockOf};
 ghost use Rattle.zf_coef.specs.HeldDigits.{digits_in, ranked_digits, unranked_values, HasRanks};
 
 use crate::coefficient_order::order;
@@ -16,8 +16,7 @@ use zf_base::Lane;
 /// `block` has `4^d` coefficients by place, x fastest.
 #[inline(always)]
 pub fn ranked<T: Lane>(d: u8, block: &[T], digits: &mut [u64])
-    requires dimension { IsDimension d }
-    requires block { length block.now ≡ 4 ^ d }
+    requires block { IsBlockOf d block.now }
     requires digits { length digits.old ≡ 4 ^ d }
     ensures digits { digits_in (bits T.width) digits.new ≡ ranked_digits T.width d (map T.value block.now) }
     ensures below { All (λ u. u < 2 ^ T.WIDTH) digits.new }
@@ -33,17 +32,18 @@ pub fn ranked<T: Lane>(d: u8, block: &[T], digits: &mut [u64])
     }
 }
 
-/// The same of the ranks from `from` on and before `to`, where those before them have their digits.
+/// Writes the digits of the ranks from `from` on and before `to`, where those before them have theirs.
 #[inline(always)]
 fn rank<T: Lane>(d: u8, from: usize, to: usize, block: &[T], digits: &mut [u64])
-    requires dimension { IsDimension d }
     requires order { from ≤ to }
     requires ranks { to ≤ 4 ^ d }
-    requires block { length block.now ≡ 4 ^ d }
+    requires block { IsBlockOf d block.now }
     requires digits { length digits.old ≡ 4 ^ d }
-    requires filled { take from (digits_in (bits T.width) digits.old) ≡ take from (ranked_digits T.width d (map T.value block.now)) }
+    requires filled { take from (digits_in (bits T.width) digits.old)
+        ≡ take from (ranked_digits T.width d (map T.value block.now)) }
     requires below { AllWithin (λ u. u < 2 ^ T.WIDTH) digits.old 0 from }
-    ensures filled { take to (digits_in (bits T.width) digits.new) ≡ take to (ranked_digits T.width d (map T.value block.now)) }
+    ensures filled { take to (digits_in (bits T.width) digits.new)
+        ≡ take to (ranked_digits T.width d (map T.value block.now)) }
     ensures below { AllWithin (λ u. u < 2 ^ T.WIDTH) digits.new 0 to }
 {
     let places = order(d);
@@ -56,9 +56,8 @@ fn rank<T: Lane>(d: u8, from: usize, to: usize, block: &[T], digits: &mut [u64])
 /// looked at. There are `4^d` digits and coefficients; d is 1 to 4.
 #[inline(always)]
 pub fn unranked<T: Lane>(d: u8, digits: &[u64], block: &mut [T])
-    requires dimension { IsDimension d }
     requires digits { length digits.now ≡ 4 ^ d }
-    requires block { length block.old ≡ 4 ^ d }
+    requires block { IsBlockOf d block.old }
     ensures { map T.value block.new ≡ unranked_values T.width d (digits_in (bits T.width) digits.now) }
 {
     if d == 3 {
@@ -71,16 +70,17 @@ pub fn unranked<T: Lane>(d: u8, digits: &[u64], block: &mut [T])
     }
 }
 
-/// The same of the ranks from `from` on and before `to`, where those before them have their coefficients.
+/// Writes the coefficients of the ranks from `from` on and before `to`, where those before them have theirs.
 #[inline(always)]
 fn unrank<T: Lane>(d: u8, from: usize, to: usize, digits: &[u64], block: &mut [T])
-    requires dimension { IsDimension d }
     requires order { from ≤ to }
     requires ranks { to ≤ 4 ^ d }
     requires digits { length digits.now ≡ 4 ^ d }
-    requires block { length block.old ≡ 4 ^ d }
-    requires before { HasRanks d from (map (value_of T.width) (digits_in (bits T.width) digits.now)) (map T.value block.old) }
-    ensures { HasRanks d to (map (value_of T.width) (digits_in (bits T.width) digits.now)) (map T.value block.new) }
+    requires block { IsBlockOf d block.old }
+    requires before { HasRanks d from
+        (map (value_of T.width) (digits_in (bits T.width) digits.now)) (map T.value block.old) }
+    ensures { HasRanks d to
+        (map (value_of T.width) (digits_in (bits T.width) digits.now)) (map T.value block.new) }
 {
     let places = order(d);
     for rank in from..to {

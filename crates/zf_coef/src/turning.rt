@@ -1,15 +1,17 @@
 //! Tiles of bits that are turned over their diagonal, in lanes of two words.
 //!
-//! Words are rows of bits. A tile is as many rows as it has columns. It is turned in steps: each swaps, at one digit of
-//! the numbers of rows and columns to the base 2, the bits whose row has a zero there and whose column has a one with
-//! those of which it is the other way round.
+//! Words are rows of bits. A tile is as many rows as it has columns. It is turned in steps: each swaps, at
+//! one digit of the numbers of rows and columns to the base 2, the bits whose row has a zero there and whose
+//! column has a one with those of which it is the other way round.
 
 ghost use Rattle.std.specs.Prelude.{◌≡◌, ℕ, ◌+◌, ◌*◌, ◌%◌, ◌<◌, ◌≤◌, length};
-ghost use Rattle.zf_coef.specs.Turned.{bit_of, IsSwapped, AreSwapped, IsStep, IsMask, IsStepped, IsTurned, crossed, IsFoldedTurned};
+ghost use Rattle.zf_coef.specs.Turned.{bit_of, IsSwapped, AreSwapped, IsStep, IsMask, IsStepped, IsTurned};
+ghost use Rattle.zf_coef.specs.Turned.{crossed, IsFoldedTurned};
 
 use std::simd::prelude::*;
 
-/// Swaps the bits of the two words from `low` on, each from its place `shift` on, with the bits of the two words from `high` on that the mask has.
+/// Swaps the bits of the two words from `low` on, each from its place `shift` on, with the bits of the two
+/// words from `high` on that the mask has.
 #[inline(always)]
 fn swap_lanes(words: &mut [u64], low: usize, high: usize, shift: usize, mask: u64)
     requires apart { low + 2 ≤ high }
@@ -25,7 +27,8 @@ fn swap_lanes(words: &mut [u64], low: usize, high: usize, shift: usize, mask: u6
     (a ^ (moved << by)).copy_to_slice(&mut words[low..]);
 }
 
-/// The same of the words `at` and `at + 1`, and of the two behind them, by one place: in each pair of words the first has the lower bits.
+/// Swaps the bits of the words `at` and `at + 1`, and of the two behind them, by one place: in each pair of
+/// words the first has the lower bits.
 #[inline(always)]
 fn swap_next(words: &mut [u64], at: usize, mask: u64)
     requires within { at + 4 ≤ length words.old }
@@ -90,7 +93,8 @@ fn cross(words: &mut [u64; 8])
     }
 }
 
-/// Turns the tiles of sixteen rows of 32 places that lie folded in eight words: word j has row j, and then row `j + 8`.
+/// Turns the tiles of sixteen rows of 32 places that lie folded in eight words: word j has row j, and then
+/// row `j + 8`.
 #[inline(always)]
 pub(crate) fn turn_folded(words: &mut [u64; 8])
     ensures { IsFoldedTurned words.old words.new }

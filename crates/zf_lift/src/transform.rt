@@ -1,8 +1,8 @@
 //! The transform of a block: a pass along each axis.
 
-ghost use Rattle.std.specs.Prelude.{◌≡◌, ℕ, ◌-◌, ◌≤◌, ◌^◌, IsTrue, pos, ◌∷◌, map, length, replicate};
-ghost use Rattle.zf_spec.specs.Grid.{IsDimension};
+ghost use Rattle.std.specs.Prelude.{◌≡◌, ℕ, ◌-◌, ◌^◌, IsTrue, pos, ◌∷◌, map, replicate};
 ghost use Rattle.zf_spec.specs.Lift.{lift, unlift};
+ghost use Rattle.zf_base.specs.WholeBlocks.{IsBlockOf};
 
 use crate::line::{Lift, Unlift};
 use zf_axes::{fill, passes, passes_back};
@@ -14,8 +14,7 @@ use zf_base::Lane;
 /// first); d is 1 to 4. Halves are rounded down and sums wrap, so [`inverse`] does not undo this. The
 /// decorrelating transform of the zfp 1.0 documentation, chapter Algorithm.
 pub fn forward<T: Lane>(d: u8, block: &mut [T])
-    requires dimension { IsDimension d }
-    requires size { length block.old ≡ 4 ^ d }
+    requires block { IsBlockOf d block.old }
     ensures { map T.value block.new ≡ lift T.width d (map T.value block.old) }
 {
     passes(&Lift, d, block);
@@ -25,17 +24,18 @@ pub fn forward<T: Lane>(d: u8, block: &mut [T])
 /// first. `block` has `4^d` values, x fastest; d is 1 to 4.
 #[inline(always)]
 pub fn inverse<T: Lane>(d: u8, block: &mut [T])
-    requires dimension { IsDimension d }
-    requires size { length block.old ≡ 4 ^ d }
+    requires block { IsBlockOf d block.old }
     ensures { map T.value block.new ≡ unlift T.width d (map T.value block.old) }
 {
     passes_back(&Unlift, d, block);
 }
 
-/// Whether the coefficients of a block of this value everywhere are the value and then zeros: where twice the value is no overflow.
+/// Whether the coefficients of a block of this value everywhere are the value and then zeros: where twice the
+/// value is no overflow.
 #[inline(always)]
 pub fn keeps_first<T: Lane>(value: T) -> bool
-    ensures { IsTrue result → (d : ℕ) → lift T.width d (replicate (4 ^ d) (T.value value)) ≡ T.value value ∷ replicate (4 ^ d - 1) (pos 0) }
+    ensures { IsTrue result → (d : ℕ) → lift T.width d (replicate (4 ^ d) (T.value value))
+        ≡ T.value value ∷ replicate (4 ^ d - 1) (pos 0) }
 {
     value.add(value).halve() == value
 }
@@ -43,8 +43,7 @@ pub fn keeps_first<T: Lane>(value: T) -> bool
 /// The inverse of coefficients of which all but the first are zero: each value is the first coefficient.
 #[inline(always)]
 pub fn inverse_of_first<T: Lane>(d: u8, first: T, block: &mut [T])
-    requires dimension { IsDimension d }
-    requires size { length block.old ≡ 4 ^ d }
+    requires block { IsBlockOf d block.old }
     ensures { map T.value block.new ≡ unlift T.width d (T.value first ∷ replicate (4 ^ d - 1) (pos 0)) }
 {
     fill(first, block);

@@ -11,18 +11,13 @@ use Rattle.zf_spec.proofs.Counting.{length-map-upto, get_or-map-upto, map-upto_s
 use Rattle.zf_spec.proofs.Padding.{get_or-existing_inside, existing_values-existing_values}
 use Rattle.zf_spec.proofs.Raster.{coordinates-raster, length-fours}
 use Rattle.zf_base.specs.Places.{IsAt}
-use Rattle.zf_base.proofs.Boxes.{raster-lt}
+use Rattle.zf_base.proofs.Boxes.{factor_not_zero, raster-lt}
 use Rattle.zf_base.proofs.Extents.{length-extent_of}
 use Rattle.zf_base.proofs.Places.{is_inside-grid, is_inside-fours, IsAt-inside, IsAt-length, IsAt-block, IsAt-place}
 use Rattle.zf_pad.proofs.Blocks.{existing_by, cond_same}
 use Rattle.zf_pad.specs.Stored.{start_at, stored_index, raster_of, AppendsBlock}
 
 -- ---- where the values of a block begin
-
--- factors of what is more than some number are not zero
-first_factor : (n m k : ℕ) → k < n * m → 0 < n
-first_factor zero m k h = omega arith
-first_factor (suc n) m k h = omega arith
 
 -- one position more in a box: along the first axis, or along the others
 module _ (g b : ℕ) (some : 0 < g) where
@@ -107,7 +102,7 @@ pub ends_at : (ns : List ℕ) (b : ℕ) → b < blocks ns → EndsAt ns b
 ends_at [] b lt = record { next = λ h. absurd (omega (arith, lt, h)); last = λ h. refl }
 ends_at (n ∷ ns) b lt =
     let g = (n + 3) / 4 in
-    let some : 0 < g = first_factor g (blocks ns) b lt in
+    let some : 0 < g = factor_not_zero g (blocks ns) b lt in
     let inside : b % g < g = mod-lt b some in
     ⊎_elim
     (λ (h : suc (b % g) < g). ends_within n ns b some h)
@@ -119,8 +114,8 @@ starts_at_zero : (ns : List ℕ) → 0 < blocks ns → start_at ns (coordinates 
 starts_at_zero [] lt = refl
 starts_at_zero (n ∷ ns) lt =
     let g = (n + 3) / 4 in
-    let some : 0 < g = first_factor g (blocks ns) 0 lt in
-    let more : 0 < blocks ns = first_factor (blocks ns) g 0 (omega (arith, lt)) in
+    let some : 0 < g = factor_not_zero g (blocks ns) 0 lt in
+    let more : 0 < blocks ns = factor_not_zero (blocks ns) g 0 (omega (arith, lt)) in
     ap (λ k. start_at (n ∷ ns) (k ∷ coordinates (grid ns) (0 / g))) (mod-eq_of_lt some)
     ∙ ap (λ k. start_at (n ∷ ns) (0 ∷ coordinates (grid ns) k)) (div-eq_of_lt some)
     ∙ omega (arith, ap (λ k. n * k) (starts_at_zero ns more))

@@ -10,15 +10,11 @@ use Rattle.zf_spec.specs.Grid.{IsShape, product, coordinates, raster, extents, m
 use Rattle.zf_spec.proofs.Counting.{get_or-map-upto}
 use Rattle.zf_spec.proofs.Raster.{length-coordinates, length-extents}
 use Rattle.zf_base.proofs.Boxes.{product-append_ones, raster-append_zeros, coordinates-append_ones, extents-append_ones}
+use Rattle.zf_base.proofs.Extents.{map-zeros}
 use Rattle.zf_base.proofs.Sizes.{axes-with_unused, all_axes, product-axes}
 use Rattle.zf_pad.specs.Stored.{start_at, stored_index, raster_of, line_len, other_sizes, IsLine, LinePart}
 
 -- ---- along four axes
-
-map-zeros : (f : ℕ → ℕ) (ps : List ℕ) (k : ℕ) → f 0 ≡ 0 → map f (ps ++ replicate k 0) ≡ map f ps ++ replicate k 0
-map-zeros f [] zero e = refl
-map-zeros f [] (suc k) e = rw (e, map-zeros f [] k e)
-map-zeros f (p ∷ ps) k e = rw (map-zeros f ps k e)
 
 start_at-append_ones : (ns cs : List ℕ) (k : ℕ) → length cs ≡ length ns → start_at (ns ++ replicate k 1) (cs ++ replicate k 0) ≡ start_at ns cs
 start_at-append_ones [] [] zero e = refl

@@ -6,10 +6,13 @@ use Rattle.zf_pad.specs.Layouts.{HasPlace, index_at}
 
 -- a gather: the places that exist have the values, the other places stay
 pub record IsGathered (layout : Layout) (e : Extent) (values old new : List ℤ) : Type 0 where
-  pub existing : (p : ℕ) → HasPlace e p → slice_index_or new p (pos 0) ≡ slice_index_or values (index_at layout e p) (pos 0)
+  pub existing : (p : ℕ) → HasPlace e p → slice_index_or new p (pos 0)
+      ≡ slice_index_or values (index_at layout e p) (pos 0)
   pub others : (p : ℕ) → ¬ HasPlace e p → slice_index_or new p (pos 0) ≡ slice_index_or old p (pos 0)
 
 -- a scatter: the values of the places that exist come from the block, all other values stay
 pub record IsScattered (layout : Layout) (e : Extent) (block old new : List ℤ) : Type 0 where
-  pub existing : (p : ℕ) → HasPlace e p → slice_index_or new (index_at layout e p) (pos 0) ≡ slice_index_or block p (pos 0)
-  pub others : (i : ℕ) → ((p : ℕ) → HasPlace e p → index_at layout e p ≢ i) → slice_index_or new i (pos 0) ≡ slice_index_or old i (pos 0)
+  pub existing : (p : ℕ) → HasPlace e p → slice_index_or new (index_at layout e p) (pos 0)
+      ≡ slice_index_or block p (pos 0)
+  pub others : (i : ℕ) → ((p : ℕ) → HasPlace e p → index_at layout e p ≢ i) → slice_index_or new i (pos 0)
+      ≡ slice_index_or old i (pos 0)

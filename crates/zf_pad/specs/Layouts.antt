@@ -1,14 +1,15 @@
 -- Where a layout puts the positions of an array, and the places of a block of which an extent exists.
-use Rattle.std.specs.Prelude.{ℕ, ◌≡◌, ◌+◌, ◌*◌, ◌^◌, ◌<◌, true}
-use Rattle.zf_spec.specs.Grid.{is_inside, indices}
+use Rattle.std.specs.Prelude.{ℕ, ◌≡◌, ◌+◌, ◌*◌, ◌^◌, ◌<◌, ◌≤◌, true}
+use Rattle.zf_spec.specs.Grid.{is_inside, fours, indices}
 use Rattle.zf_base.specs.declared.position.Pos.{Pos}
 use Rattle.zf_base.specs.declared.position.Extent.{Extent}
-use Rattle.zf_base.specs.Positions.{axes, with_unused}
+use Rattle.zf_base.specs.Positions.{axes, used_axes, with_unused, IsExtent}
 use Rattle.zf_pad.specs.declared.layout.Layout.{Layout}
 
 -- the index of a position
 unfoldable pub index_of : Layout → Pos → ℕ
-index_of layout p = layout.start + p.x * layout.step.x + p.y * layout.step.y + p.z * layout.step.z + p.w * layout.step.w
+index_of layout p =
+    layout.start + p.x * layout.step.x + p.y * layout.step.y + p.z * layout.step.z + p.w * layout.step.w
 
 -- a position moved by another
 unfoldable pub moved : Pos → Pos → Pos
@@ -33,8 +34,21 @@ LiesWithin layout e n = (p : ℕ) → HasPlace e p → index_at layout e p < n
 
 -- different places of the extent have different indices
 abbrev pub IsOneToOne : Layout → Extent → Type 0
-IsOneToOne layout e = (p q : ℕ) → HasPlace e p → HasPlace e q → index_at layout e p ≡ index_at layout e q → p ≡ q
+IsOneToOne layout e =
+    (p q : ℕ) → HasPlace e p → HasPlace e q → index_at layout e p ≡ index_at layout e q → p ≡ q
 
 -- all four values of a row of the extent stand beside one another
 abbrev pub HasWholeRows : Layout → Extent → Type 0
 HasWholeRows layout e = (layout.step.x ≡ 1) × (e.size.x ≡ 4)
+
+-- an extent can be copied between a list of n values and a block of so many, which has d dimensions
+pub record CanCopy (layout : Layout) (e : Extent) (d n size : ℕ) : Type 0 where
+  pub four_at_most : d ≤ 4
+  pub extent : IsExtent d e
+  pub whole : size ≡ 4 ^ d
+  pub within : LiesWithin layout e n
+
+-- the extent is a whole block, and its rows are whole
+pub record IsWholeBlock (layout : Layout) (e : Extent) (d : ℕ) : Type 0 where
+  pub rows : HasWholeRows layout e
+  pub all : used_axes d e.size ≡ fours d

@@ -1,5 +1,5 @@
--- A slab of an array: the values between two rows of its last axis. It is an array of its own: its values stand beside one another, and
--- its blocks have consecutive numbers.
+-- A slab of an array: the values between two rows of its last axis. It is an array of its own: its values
+-- stand beside one another, and its blocks have consecutive numbers.
 use Rattle.std.specs.Prelude.{ℕ, ◌≡◌, ◌+◌, ◌*◌, ◌%◌, ◌≤◌, ◌⊎◌, ℤ, List, [], ◌∷◌, length, take, drop}
 use Rattle.zf_spec.specs.Grid.{grid}
 

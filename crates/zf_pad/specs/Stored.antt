@@ -1,6 +1,7 @@
--- Values in the order of blocks: of each block those that exist, x fastest, and the blocks in order. As many are there
--- as the blocks so far have.
-use Rattle.std.specs.Prelude.{ℕ, ◌≡◌, ◌+◌, ◌*◌, ◌/◌, ◌%◌, ◌^◌, ◌<◌, ◌≤◌, ◌⊎◌, true, ℤ, pos, List, [], ◌∷◌, ◌++◌, map, length, slice_index_or}
+-- Values in the order of blocks: of each block those that exist, x fastest, and the blocks in order. As many
+-- are there as the blocks so far have.
+use Rattle.std.specs.Prelude.{ℕ, ◌≡◌, ◌+◌, ◌*◌, ◌/◌, ◌%◌, ◌^◌, ◌<◌, ◌≤◌, ◌⊎◌, true, ℤ, pos, List, [], ◌∷◌}
+use Rattle.std.specs.Prelude.{◌++◌, map, length, slice_index_or}
 use Rattle.std.specs.List.{AllByRecursion}
 use Rattle.zf_spec.specs.Grid.{IsShape, product, coordinates, raster, is_inside, indices, extents, upto}
 
@@ -10,7 +11,8 @@ start_at [] cs = 0
 start_at (n ∷ ns) [] = 0
 start_at (n ∷ ns) (c ∷ cs) = 4 * c * product (extents ns cs) + n * start_at ns cs
 
--- where the value at a position is: behind those of the blocks before, and at its place in what exists of its block
+-- where the value at a position is: behind those of the blocks before, and at its place in what exists of its
+-- block
 abbrev pub stored_index : List ℕ → List ℕ → ℕ
 stored_index ns ps =
     let cs = map (λ p. p / 4) ps in
@@ -18,7 +20,8 @@ stored_index ns ps =
 
 -- the values of an array in raster order
 abbrev pub raster_of : List ℕ → List ℤ → List ℤ
-raster_of ns stored = map (λ k. slice_index_or stored (stored_index ns (coordinates ns k)) (pos 0)) (upto (product ns))
+raster_of ns stored =
+    map (λ k. slice_index_or stored (stored_index ns (coordinates ns k)) (pos 0)) (upto (product ns))
 
 -- the values of a block that exist were put behind those that were there
 pub record AppendsBlock (es : List ℕ) (block old new : List ℤ) : Type 0 where
@@ -44,14 +47,15 @@ other_sizes ns = slice_index_or ns 1 1 ∷ slice_index_or ns 2 1 ∷ slice_index
 abbrev pub IsFirst : List ℕ → ℕ → Type 0
 IsFirst ns k = k % line_len ns % 4 ≡ 0
 
--- of the line with these coordinates along the other axes: how many lines the layers of blocks before its own have, how
--- many its own has, and which of them it is
+-- of the line with these coordinates along the other axes: how many lines the layers of blocks before its own
+-- have, how many its own has, and which of them it is
 pub record IsLine (ns ps : List ℕ) (first lines line : ℕ) : Type 0 where
   pub first_is : first ≡ start_at ns (map (λ p. p / 4) ps)
   pub lines_are : lines ≡ product (extents ns (map (λ p. p / 4) ps))
   pub line_is : line ≡ raster (extents ns (map (λ p. p / 4) ps)) (map (λ p. p % 4) ps)
 
--- so many values of one line, of n values, from one place on: the first of a block, and whole blocks or all that is left
+-- so many values of one line, of n values, from one place on: the first of a block, and whole blocks or all
+-- that is left
 pub record LinePart (ns : List ℕ) (from count n first lines line : ℕ) : Type 0 where
   pub shape : IsShape ns
   pub n_is : n ≡ line_len ns

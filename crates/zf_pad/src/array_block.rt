@@ -1,13 +1,12 @@
-//! Block b of an array, between its raw values and a block.
+//! Block b of an array, out of its raw values.
 
 ghost use Rattle.std.specs.Prelude.{◌≡◌, ◌<◌, ◌≤◌, ◌+◌, ◌-◌, ◌*◌, ◌^◌, ◌++◌, min, length, map, take, drop};
 ghost use Rattle.zf_spec.specs.Grid.{product, grid, blocks, coordinates, extent_of, block_of};
 ghost use Rattle.zf_spec.specs.Codes.{existing_values};
 ghost use Rattle.zf_base.specs.Positions.{used_axes, with_unused, IsExtent};
-ghost use Rattle.zf_pad.specs.Blocks.{WritesBlock};
 ghost use Rattle.zf_pad.specs.Rasters.{IsRaster};
 
-use crate::copies::{gather, scatter};
+use crate::copies::gather;
 use crate::layout::Layout;
 use zf_base::{Extent, Lane, Pos, Shape};
 
@@ -42,26 +41,6 @@ pub fn gather_block<T: Lane>(
     e
 }
 
-/// Copies a block to the place of block `b` among the values of an array, whose layout is at hand.
-///
-/// `layout` is the raw layout of the shape, `values` are all of the array's, and `b` is below the number of
-/// blocks. `block` has `4^d` values, x fastest; those at places that do not exist are not looked at.
-#[inline]
-pub fn scatter_block<T: Lane>(layout: &Layout, shape: &Shape, b: u64, block: &[T], values: &mut [T])
-    requires raster { IsRaster shape.now layout.now }
-    requires in_array { b < blocks shape.now }
-    requires all { length values.old ≡ product shape.now }
-    requires whole { length block.now ≡ 4 ^ length shape.now }
-    ensures { WritesBlock shape.now b (map T.value block.now) (map T.value values.old) (map T.value values.new) }
-{
-    let e = part_of(shape, b);
-    if shape.dims() == 1 && e.size.x == 4 {
-        put_row(block, values, e.origin.x as usize);
-        return;
-    }
-    scatter(layout, &e, shape.dims(), block, values);
-}
-
 /// Copies the four values from `first` on, which are a whole block of one dimension.
 #[inline]
 fn take_row<T: Lane>(values: &[T], first: usize, block: &mut [T])
@@ -73,17 +52,8 @@ fn take_row<T: Lane>(values: &[T], first: usize, block: &mut [T])
     block[..4].copy_from_slice(&values[first..first + 4]);
 }
 
-/// The same the other way.
-#[inline]
-fn put_row<T: Lane>(block: &[T], values: &mut [T], first: usize)
-    requires within { first + 4 ≤ length values.old }
-    requires whole { length block.now ≡ 4 }
-    ensures { values.new ≡ take first values.old ++ (block.now ++ drop (first + 4) values.old) }
-{
-    values[first..first + 4].copy_from_slice(&block[..4]);
-}
-
-/// The part of block `b` that lies in the array. In one dimension, where blocks are small and many, no coordinates are divided out.
+/// The part of block `b` that lies in the array. In one dimension, where blocks are small and many, no
+/// coordinates are divided out.
 #[inline]
 pub(crate) fn part_of(shape: &Shape, b: u64) -> Extent
     requires { b < blocks shape.now }
@@ -99,7 +69,7 @@ pub(crate) fn part_of(shape: &Shape, b: u64) -> Extent
     }
 }
 
-/// The same of a line of `n` values.
+/// The part of block `b` that lies in a line of `n` values.
 #[inline]
 fn part_of_line(n: u64, b: u64) -> Extent
     requires { 4 * b < n }

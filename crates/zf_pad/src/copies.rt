@@ -1,9 +1,9 @@
 //! Copies between a list of values and a block.
 
 ghost use Rattle.std.specs.Prelude.{◌≡◌, ◌+◌, ◌<◌, ◌≤◌, ◌*◌, ◌^◌, ◌++◌, ◌↔◌, IsTrue, length, map, take, drop};
-ghost use Rattle.zf_spec.specs.Grid.{is_inside, fours};
-ghost use Rattle.zf_base.specs.Positions.{axes, used_axes, IsExtent};
-ghost use Rattle.zf_pad.specs.Layouts.{place_indices, HasWholeRows, LiesWithin, IsOneToOne};
+ghost use Rattle.zf_spec.specs.Grid.{is_inside};
+ghost use Rattle.zf_base.specs.Positions.{axes};
+ghost use Rattle.zf_pad.specs.Layouts.{place_indices, HasWholeRows, IsOneToOne, CanCopy, IsWholeBlock};
 ghost use Rattle.zf_pad.specs.Copies.{IsGathered, IsScattered};
 
 use crate::layout::Layout;
@@ -16,10 +16,7 @@ use zf_base::{Extent, Lane, Pos, block_len};
 /// Each position of `e` has its place in `values`. `block` has `4^d` values, x fastest; those at places that
 /// do not exist stay.
 pub fn gather<T: Lane>(layout: &Layout, e: &Extent, d: u8, values: &[T], block: &mut [T])
-    requires four_at_most { d ≤ 4 }
-    requires extent { IsExtent d e.now }
-    requires whole { length block.old ≡ 4 ^ d }
-    requires within { LiesWithin layout.now e.now (length values.now) }
+    requires fits { CanCopy layout.now e.now d (length values.now) (length block.old) }
     ensures { IsGathered layout.now e.now
         (map T.value values.now) (map T.value block.old) (map T.value block.new) }
 {
@@ -39,15 +36,11 @@ fn has_whole_rows(layout: &Layout, e: &Extent) -> bool
     layout.step.x == 1 && e.size.x == 4
 }
 
-// The same of a whole block of more than one dimension.
+// Gathers a whole block of more than one dimension.
 fn gather_whole<T: Lane>(layout: &Layout, e: &Extent, d: u8, values: &[T], block: &mut [T])
     requires more { 1 < d }
-    requires four_at_most { d ≤ 4 }
-    requires extent { IsExtent d e.now }
-    requires rows { HasWholeRows layout.now e.now }
-    requires whole { length block.old ≡ 4 ^ d }
-    requires all { used_axes d e.now.size ≡ fours d }
-    requires within { LiesWithin layout.now e.now (length values.now) }
+    requires whole { IsWholeBlock layout.now e.now d }
+    requires fits { CanCopy layout.now e.now d (length values.now) (length block.old) }
     ensures { IsGathered layout.now e.now
         (map T.value values.now) (map T.value block.old) (map T.value block.new) }
 {
@@ -59,7 +52,7 @@ fn gather_whole<T: Lane>(layout: &Layout, e: &Extent, d: u8, values: &[T], block
     }
 }
 
-// The same by so many slices of four rows, in which each row begins as far behind the one before.
+// Gathers so many slices of four rows, in which each row begins as far behind the one before.
 #[inline(always)]
 fn gather_slices<T: Lane>(
     layout: &Layout,
@@ -69,14 +62,10 @@ fn gather_slices<T: Lane>(
     values: &[T],
     block: &mut [T],
 )
-    requires four_at_most { d ≤ 4 }
-    requires extent { IsExtent d e.now }
-    requires beside { HasWholeRows layout.now e.now }
     requires slices { 16 * slices ≡ 4 ^ d }
     requires few { slices ≤ 16 }
-    requires whole { length block.old ≡ 4 ^ d }
-    requires all { used_axes d e.now.size ≡ fours d }
-    requires within { LiesWithin layout.now e.now (length values.now) }
+    requires whole { IsWholeBlock layout.now e.now d }
+    requires fits { CanCopy layout.now e.now d (length values.now) (length block.old) }
     ensures { IsGathered layout.now e.now
         (map T.value values.now) (map T.value block.old) (map T.value block.new) }
 {
@@ -90,13 +79,10 @@ fn gather_slices<T: Lane>(
     }
 }
 
-// The same for whole rows, a row of four values at a time.
+// Gathers whole rows, a row of four values at a time.
 fn gather_rows<T: Lane>(layout: &Layout, e: &Extent, d: u8, values: &[T], block: &mut [T])
-    requires four_at_most { d ≤ 4 }
-    requires extent { IsExtent d e.now }
     requires rows { HasWholeRows layout.now e.now }
-    requires whole { length block.old ≡ 4 ^ d }
-    requires within { LiesWithin layout.now e.now (length values.now) }
+    requires fits { CanCopy layout.now e.now d (length values.now) (length block.old) }
     ensures { IsGathered layout.now e.now
         (map T.value values.now) (map T.value block.old) (map T.value block.new) }
 {
@@ -110,12 +96,9 @@ fn gather_rows<T: Lane>(layout: &Layout, e: &Extent, d: u8, values: &[T], block:
     }
 }
 
-// The same place by place.
+// Gathers place by place.
 fn gather_places<T: Lane>(layout: &Layout, e: &Extent, d: u8, values: &[T], block: &mut [T])
-    requires four_at_most { d ≤ 4 }
-    requires extent { IsExtent d e.now }
-    requires whole { length block.old ≡ 4 ^ d }
-    requires within { LiesWithin layout.now e.now (length values.now) }
+    requires fits { CanCopy layout.now e.now d (length values.now) (length block.old) }
     ensures { IsGathered layout.now e.now
         (map T.value values.now) (map T.value block.old) (map T.value block.new) }
 {
@@ -133,10 +116,7 @@ fn gather_places<T: Lane>(layout: &Layout, e: &Extent, d: u8, values: &[T], bloc
 /// Each position of `e` has its place in `values`, and no two have the same. `block` has `4^d` values, x
 /// fastest; those at places that do not exist are not looked at.
 pub fn scatter<T: Lane>(layout: &Layout, e: &Extent, d: u8, block: &[T], values: &mut [T])
-    requires four_at_most { d ≤ 4 }
-    requires extent { IsExtent d e.now }
-    requires whole { length block.now ≡ 4 ^ d }
-    requires within { LiesWithin layout.now e.now (length values.old) }
+    requires fits { CanCopy layout.now e.now d (length values.old) (length block.now) }
     requires one_to_one { IsOneToOne layout.now e.now }
     ensures { IsScattered layout.now e.now
         (map T.value block.now) (map T.value values.old) (map T.value values.new) }
@@ -150,15 +130,11 @@ pub fn scatter<T: Lane>(layout: &Layout, e: &Extent, d: u8, block: &[T], values:
     }
 }
 
-// The same of a whole block of more than one dimension.
+// Scatters a whole block of more than one dimension.
 fn scatter_whole<T: Lane>(layout: &Layout, e: &Extent, d: u8, block: &[T], values: &mut [T])
     requires more { 1 < d }
-    requires four_at_most { d ≤ 4 }
-    requires extent { IsExtent d e.now }
-    requires rows { HasWholeRows layout.now e.now }
-    requires whole { length block.now ≡ 4 ^ d }
-    requires all { used_axes d e.now.size ≡ fours d }
-    requires within { LiesWithin layout.now e.now (length values.old) }
+    requires whole { IsWholeBlock layout.now e.now d }
+    requires fits { CanCopy layout.now e.now d (length values.old) (length block.now) }
     requires one_to_one { IsOneToOne layout.now e.now }
     ensures { IsScattered layout.now e.now
         (map T.value block.now) (map T.value values.old) (map T.value values.new) }
@@ -170,7 +146,7 @@ fn scatter_whole<T: Lane>(layout: &Layout, e: &Extent, d: u8, block: &[T], value
     }
 }
 
-// The same by so many slices of four rows.
+// Scatters so many slices of four rows.
 #[inline(always)]
 fn scatter_slices<T: Lane>(
     layout: &Layout,
@@ -180,14 +156,10 @@ fn scatter_slices<T: Lane>(
     block: &[T],
     values: &mut [T],
 )
-    requires four_at_most { d ≤ 4 }
-    requires extent { IsExtent d e.now }
-    requires beside { HasWholeRows layout.now e.now }
     requires slices { 16 * slices ≡ 4 ^ d }
     requires few { slices ≤ 16 }
-    requires whole { length block.now ≡ 4 ^ d }
-    requires all { used_axes d e.now.size ≡ fours d }
-    requires within { LiesWithin layout.now e.now (length values.old) }
+    requires whole { IsWholeBlock layout.now e.now d }
+    requires fits { CanCopy layout.now e.now d (length values.old) (length block.now) }
     requires one_to_one { IsOneToOne layout.now e.now }
     ensures { IsScattered layout.now e.now
         (map T.value block.now) (map T.value values.old) (map T.value values.new) }
@@ -202,13 +174,10 @@ fn scatter_slices<T: Lane>(
     }
 }
 
-// The same for whole rows, a row of four values at a time.
+// Scatters whole rows, a row of four values at a time.
 fn scatter_rows<T: Lane>(layout: &Layout, e: &Extent, d: u8, block: &[T], values: &mut [T])
-    requires four_at_most { d ≤ 4 }
-    requires extent { IsExtent d e.now }
     requires rows { HasWholeRows layout.now e.now }
-    requires whole { length block.now ≡ 4 ^ d }
-    requires within { LiesWithin layout.now e.now (length values.old) }
+    requires fits { CanCopy layout.now e.now d (length values.old) (length block.now) }
     requires one_to_one { IsOneToOne layout.now e.now }
     ensures { IsScattered layout.now e.now
         (map T.value block.now) (map T.value values.old) (map T.value values.new) }
@@ -223,12 +192,9 @@ fn scatter_rows<T: Lane>(layout: &Layout, e: &Extent, d: u8, block: &[T], values
     }
 }
 
-// The same place by place.
+// Scatters place by place.
 fn scatter_places<T: Lane>(layout: &Layout, e: &Extent, d: u8, block: &[T], values: &mut [T])
-    requires four_at_most { d ≤ 4 }
-    requires extent { IsExtent d e.now }
-    requires whole { length block.now ≡ 4 ^ d }
-    requires within { LiesWithin layout.now e.now (length values.old) }
+    requires fits { CanCopy layout.now e.now d (length values.old) (length block.now) }
     requires one_to_one { IsOneToOne layout.now e.now }
     ensures { IsScattered layout.now e.now
         (map T.value block.now) (map T.value values.old) (map T.value values.new) }
@@ -242,7 +208,8 @@ fn scatter_places<T: Lane>(layout: &Layout, e: &Extent, d: u8, block: &[T], valu
     }
 }
 
-// Copies the four values from `from` on to the places from `to` on, in one step, as none is written before all are read.
+// Copies the four values from `from` on to the places from `to` on, in one step, as none is written before
+// all are read.
 #[inline(always)]
 pub(crate) fn copy_row<T: Lane>(source: &[T], from: usize, target: &mut [T], to: usize)
     requires there { from + 4 ≤ length source.now }

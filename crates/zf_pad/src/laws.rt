@@ -1,4 +1,5 @@
-//! Laws of the blocks of raw values. Each is a function with no parameters and an empty body, whose contract is the theorem.
+//! Laws of the blocks of raw values. Each is a function with no parameters and an empty body, whose contract
+//! is the theorem.
 
 ghost use Rattle.std.specs.Prelude.{◌≡◌, ◌≢◌, ◌<◌, ◌≤◌, ℕ, ℤ, List, length};
 ghost use Rattle.zf_spec.specs.Grid.{product, blocks, extent_of, block_of};
@@ -28,7 +29,8 @@ pub fn gathered_blocks()
         → pad (extent_of ns b) new ≡ pad (extent_of ns b) (block_of ns values b) }
 {}
 
-/// A scatter into raw values writes the block of the array and leaves all other blocks; an array is what its blocks are.
+/// A scatter into raw values writes the block of the array and leaves all other blocks; an array is what its
+/// blocks are.
 pub fn scattered_blocks()
     ensures block { (ns : List ℕ) (b : ℕ) (layout : Layout) (e : Extent) (block old new : List ℤ)
         → IsRasterBlock ns b layout e → IsScattered layout e block old new

@@ -8,11 +8,12 @@ ghost use Rattle.zf_base.specs.Positions.{axes, used_axes, IsExtent};
 
 use zf_base::{Extent, Lane, Pos, block_len};
 
-// Which of its n values each of the four values of a line is, for n from 1 to 4: a a a a, a b b a, a b c a, a b c d.
+// Which of its n values each of the four values of a line is, for n from 1 to 4: a a a a, a b b a, a b c a, a
+// b c d.
 const SOURCES: [[usize; 4]; 4] = [[0, 0, 0, 0], [0, 1, 1, 0], [0, 1, 2, 0], [0, 1, 2, 3]];
 
-/// Pads a block of `d` dimensions, of which the extent `e` exists: along each axis `a` becomes `a a a a`, `a b` becomes
-/// `a b b a`, and `a b c` becomes `a b c a`.
+/// Pads a block of `d` dimensions, of which the extent `e` exists: along each axis `a` becomes `a a a a`, `a
+/// b` becomes `a b b a`, and `a b c` becomes `a b c a`.
 ///
 /// `block` has `4^d` values, x fastest. Those that exist stay; those outside of `e` are not looked at.
 pub fn pad<T: Lane>(e: &Extent, d: u8, block: &mut [T])

@@ -1,10 +1,13 @@
 //! The values of an array in the order of blocks: of each block those that exist, and the blocks in order.
 //! They grow block by block, so no room is written for blocks that are not there yet.
 
-ghost use Rattle.std.specs.Prelude.{◌≡◌, ◌⊎◌, ◌+◌, ◌-◌, ◌*◌, ◌/◌, ◌%◌, ◌^◌, ◌<◌, ◌≤◌, ◌++◌, min, ℕ, true, pos, length, map, take, drop, replicate, slice_index_or, vec_len, vec_capacity};
+ghost use Rattle.std.specs.Prelude.{◌≡◌, ◌⊎◌, ◌+◌, ◌-◌, ◌*◌, ◌/◌, ◌%◌, ◌^◌, ◌<◌, ◌≤◌, ◌++◌, min, ℕ, true};
+ghost use Rattle.std.specs.Prelude.{pos, length, map, take, drop, replicate, slice_index_or, vec_len};
+ghost use Rattle.std.specs.Prelude.{vec_capacity};
 ghost use Rattle.zf_spec.specs.Grid.{product, blocks, coordinates, extent_of, max_values};
 ghost use Rattle.zf_base.specs.Positions.{used_axes, IsExtent};
-ghost use Rattle.zf_pad.specs.Stored.{HasWholeBlocks, AppendsBlock, raster_of, line_len, other_sizes, IsFirst, IsLine, LinePart};
+ghost use Rattle.zf_pad.specs.Stored.{HasWholeBlocks, AppendsBlock, raster_of, line_len, other_sizes};
+ghost use Rattle.zf_pad.specs.Stored.{IsFirst, IsLine, LinePart};
 
 use crate::array_block::part_of;
 use crate::copies::{copy_row, scatter};
@@ -24,11 +27,11 @@ pub fn has_whole_blocks(shape: &Shape) -> bool
     true
 }
 
-/// Puts the values that exist of block `b` behind those of the blocks before it. `whole` is what [`has_whole_blocks`]
-/// says of the array, so that it is asked once.
+/// Puts the values that exist of block `b` behind those of the blocks before it. `whole` is what
+/// [`has_whole_blocks`] says of the array, so that it is asked once.
 ///
-/// `block` has `4^d` values, x fastest; those at places that do not exist are not looked at. The room was taken
-/// before, so there is no want of memory.
+/// `block` has `4^d` values, x fastest; those at places that do not exist are not looked at. The room was
+/// taken before, so there is no want of memory.
 #[inline]
 pub fn append_block<T: Lane>(shape: &Shape, whole: bool, b: u64, block: &[T], stored: &mut Vec<T>)
     requires known { whole ≡ true → HasWholeBlocks shape.now }
@@ -129,8 +132,8 @@ fn grow<T: Lane>(count: usize, stored: &mut Vec<T>)
     }
 }
 
-/// Copies values of an array that are kept in the order of blocks to `part`, in raster order, from raster number
-/// `from` on, and answers how many. At least one is copied, and as many as fit, but for three at most.
+/// Copies values of an array that are kept in the order of blocks to `part`, in raster order, from raster
+/// number `from` on, and answers how many. At least one is copied, and as many as fit, but for three at most.
 ///
 /// `stored` are all of the array's. `from` is the first of its block along x, and so is what comes next.
 pub fn copy_lines<T: Lane>(shape: &Shape, stored: &[T], from: u64, part: &mut [T]) -> usize
@@ -159,7 +162,8 @@ pub fn copy_lines<T: Lane>(shape: &Shape, stored: &[T], from: u64, part: &mut [T
     held
 }
 
-// How many values of a line are copied at once: all that are left of it, or as many whole blocks as there is room for.
+// How many values of a line are copied at once: all that are left of it, or as many whole blocks as there is
+// room for.
 fn next_count(left: u64, room: usize) -> usize
     requires some { 1 ≤ left }
     requires room { 4 ≤ room }
@@ -228,7 +232,8 @@ fn copy_blocks<T: Lane>(
     requires small { from + blocks * step < 2 ^ 64 }
     requires room { to + 4 * blocks ≤ length part.old }
     ensures before { take to part.new ≡ take to part.old }
-    ensures rows { (b k : ℕ) → b < blocks → k < 4 → slice_index_or (map T.value part.new) (to + (4 * b + k)) (pos 0)
+    ensures rows { (b k : ℕ) → b < blocks → k < 4
+        → slice_index_or (map T.value part.new) (to + (4 * b + k)) (pos 0)
         ≡ slice_index_or (map T.value stored.now) (from + b * step + k) (pos 0) }
 {
     let mut at = from;
@@ -243,7 +248,8 @@ fn copy_blocks<T: Lane>(
 fn copy_rest<T: Lane>(stored: &[T], from: usize, to: usize, count: usize, part: &mut [T])
     requires there { from + count ≤ length stored.now }
     requires room { to + count ≤ length part.old }
-    ensures { part.new ≡ take to part.old ++ (take count (drop from stored.now) ++ drop (to + count) part.old) }
+    ensures { part.new
+        ≡ take to part.old ++ (take count (drop from stored.now) ++ drop (to + count) part.old) }
 {
     // mostly there are none, which needs no call
     if count == 0 {
@@ -252,8 +258,8 @@ fn copy_rest<T: Lane>(stored: &[T], from: usize, to: usize, count: usize, part: 
     part[to..to + count].copy_from_slice(&stored[from..from + count]);
 }
 
-// Of a line, the values that differ in x alone: how many lines the layers of blocks before its own have, how many its own
-// layer has, and which of them it is.
+// Of a line, the values that differ in x alone: how many lines the layers of blocks before its own have, how
+// many its own layer has, and which of them it is.
 #[derive(Clone, Copy)]
 struct Line {
     first: u64,
@@ -261,7 +267,8 @@ struct Line {
     line: u64,
 }
 
-// How many values a line has, and the line of the value with raster number `from`, of which `count` are wanted.
+// How many values a line has, and the line of the value with raster number `from`, of which `count` are
+// wanted.
 #[inline]
 fn line_at(shape: &Shape, from: u64, count: usize) -> (u64, Line)
     requires within { from < product shape.now }
@@ -299,7 +306,7 @@ fn line_of(shape: &Shape, number: u64) -> Line
     along(along(along(all, nw, w), nz, z), ny, y)
 }
 
-// The same of one axis more, of `n` positions, at `p`.
+// The line along one axis more, of `n` positions, at `p`.
 fn along(inner: Line, n: u64, p: u64) -> Line
     requires inside { p < n }
     requires below { inner.line < inner.lines }

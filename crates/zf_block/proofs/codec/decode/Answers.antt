@@ -1,23 +1,16 @@
-use Rattle.std.proofs.Common.{ℕ, ℤ, ◌-◌, ◌^◌, pos, [], ◌∷◌, replicate, sym, ap, subst, ◌∙◌}
-use Rattle.zf_spec.specs.Codes.{coefficients_of}
-use Rattle.zf_bits.specs.Reader.{rest}
-use Rattle.zf_block.specs.Block.{AreAbove}
 use Rattle.zf_block.proofs.Sizes.{block_sizes}
-use Rattle.zf_block.proofs.ZeroPlanes.{zero_coefficients}
+use Rattle.zf_block.proofs.Decoded.{passes_zeros}
 use Rattle.zf_block.proofs.codec.decode.Goals as goal
 
 pub pass_zeros-requires : goal.pass_zeros-requires
-pass_zeros-requires g c = record {
-  size = block_sizes c.args.d _ c.requires.dimension.0 c.requires.dimension.1 c.requires.block;
-}
+pass_zeros-requires g c = record { size = block_sizes c.args.d _ c.requires.block.0.0 c.requires.block.0.1 c.requires.block.1 }
 
-pub returns-then-pass_zeros-clause-block : goal.returns-then-pass_zeros-clause-block
-returns-then-pass_zeros-clause-block g c =
-    let w = g.T.Lane.width in
+pub returns-then-pass_zeros : goal.returns-then-pass_zeros
+returns-then-pass_zeros g c =
     let d = c.args.d in
-    let s = rest c.args.reader.now in
-    let Zeros : ℕ → Type 0 = λ n. AreAbove n [] (g.C.BlockCode.planes_at c.args.code.now n s) in
-    let planes = subst Zeros c.requires.block (c.pass_zeros.ensures.zeros c.if-pass_zeros.true) in
-    c.inverse_of_first.ensures
-    ∙ ap (λ (v : ℤ). g.C.BlockCode.back d (v ∷ replicate (4 ^ d - 1) (pos 0))) c.zero.ensures.value
-    ∙ ap (g.C.BlockCode.back d) (sym (zero_coefficients w d c.requires.dimension planes.0) ∙ ap (coefficients_of w d) (sym planes.1))
+    let code = c.args.code.now in
+    let zeros = c.if-pass_zeros.true in (
+      tt,
+      passes_zeros (g.C.BlockCode.len_at code) (g.C.BlockCode.planes_at code) c.args.reader.now c.pass_zeros.new.reader d _ c.requires.block.1
+          g.T.Lane.width (g.C.BlockCode.back d) _ (c.pass_zeros.ensures.passes zeros) _ c.requires.block.0 (c.pass_zeros.ensures.zeros zeros) c.zero.ensures.value c.inverse_of_first.ensures,
+    )

@@ -1,33 +1,34 @@
-use Rattle.std.proofs.Common.{ℕ, ◌^◌, map, sym, ap, subst, ◌∙◌}
-use Rattle.zf_spec.specs.Codes.{coefficients_of}
+use Rattle.std.proofs.Common.{map, refl, sym, ap, ◌∙◌}
 use Rattle.zf_spec.specs.HeldPlanes.{planes_held}
-use Rattle.zf_bits.specs.Reader.{rest}
-use Rattle.zf_block.specs.Block.{AreAbove}
-use Rattle.zf_block.proofs.Sizes.{block_sizes}
-use Rattle.zf_block.proofs.Kept.{coefficients_of-zeros}
+use Rattle.zf_block.proofs.Decoded.{passes_block, lacks_block}
 use Rattle.zf_block.proofs.codec.read_block.Goals as goal
 
-pub read-requires-clause-size : goal.read-requires-clause-size
-read-requires-clause-size g c = block_sizes c.args.d g.row.N c.requires.dimension.0 c.requires.dimension.1 c.requires.size
+pub returns-in_err-count : goal.returns-in_err-count
+returns-in_err-count g c =
+    let code = c.args.code.now in
+    rw c.from_residual.ensures
+    (lacks_block (g.C.BlockCode.len_at code) (g.C.BlockCode.planes_at code) c.args.reader.now c.read.new.reader c.args.d g.row.N c.requires.size c.in_err-count.ensures.0, tt)
 
-pub returns-clause-block : goal.returns-clause-block
-returns-clause-block g c =
-    let w = g.T.Lane.width in
+pub returns : goal.returns
+returns g c =
     let d = c.args.d in
-    let s = rest c.args.reader.now in
-    let planes_at = λ (n : ℕ). g.C.BlockCode.planes_at c.args.code.now n s in
-    let Held : ℕ → Type 0 = λ n. AreAbove n (planes_at n) (planes_held n (map g.P.Plane.words c.read.new.planes)) in
-    let held = subst Held c.requires.size c.in_ok-count.ensures.planes in
-    c.inverse.ensures
-    ∙ ap (g.C.BlockCode.back d) (c.from_planes.ensures ∙ ap (coefficients_of w d) held.1 ∙ coefficients_of-zeros w d (planes_at (4 ^ d)) held.0 (4 ^ d))
+    let code = c.args.code.now in
+    let back = g.C.BlockCode.back d in
+    let words = map g.P.Plane.words c.read.new.planes in
+    let read = c.in_ok-count.ensures.1 in (
+      tt,
+      passes_block (g.C.BlockCode.len_at code) (g.C.BlockCode.planes_at code) c.args.reader.now c.read.new.reader d g.row.N c.requires.size
+          g.T.Lane.width back _ read.0 (planes_held g.row.N words) read.1 (c.inverse.ensures ∙ ap back (c.from_planes.ensures ∙ rw c.requires.size refl)),
+    )
 
-pub returns-in-Some-clause-block : goal.returns-in-Some-clause-block
-returns-in-Some-clause-block g c =
-    let w = g.T.Lane.width in
+pub returns-in-Some : goal.returns-in-Some
+returns-in-Some g c =
     let d = c.args.d in
-    let s = rest c.args.reader.now in
-    let planes_at = λ (n : ℕ). g.C.BlockCode.planes_at c.args.code.now n s in
-    let Held : ℕ → Type 0 = λ n. AreAbove n (planes_at n) (planes_held n (map g.P.Plane.words c.read.new.planes)) in
-    let held = subst Held c.requires.size c.in_ok-count.ensures.planes in
-    c.inverse_of_first.ensures
-    ∙ ap (g.C.BlockCode.back d) (sym c.in-Some.ensures ∙ ap (coefficients_of w d) held.1 ∙ coefficients_of-zeros w d (planes_at (4 ^ d)) held.0 (4 ^ d))
+    let code = c.args.code.now in
+    let back = g.C.BlockCode.back d in
+    let words = map g.P.Plane.words c.read.new.planes in
+    let read = c.in_ok-count.ensures.1 in (
+      tt,
+      passes_block (g.C.BlockCode.len_at code) (g.C.BlockCode.planes_at code) c.args.reader.now c.read.new.reader d g.row.N c.requires.size
+          g.T.Lane.width back _ read.0 (planes_held g.row.N words) read.1 (c.inverse_of_first.ensures ∙ ap back (sym c.in-Some.ensures ∙ rw c.requires.size refl)),
+    )

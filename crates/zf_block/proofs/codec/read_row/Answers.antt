@@ -1,18 +1,34 @@
-use Rattle.std.proofs.Common.{ℕ, ℤ, ◌-◌, ◌^◌, pos, [], ◌∷◌, map, replicate, sym, ap, subst, ◌∙◌}
-use Rattle.zf_spec.specs.Codes.{coefficients_of}
-use Rattle.zf_bits.specs.Reader.{rest}
-use Rattle.zf_block.specs.Block.{AreAbove}
-use Rattle.zf_block.proofs.ZeroPlanes.{zero_coefficients}
+use Rattle.std.proofs.Common.{map, sym, ap, ◌∙◌}
+use Rattle.std.proofs.lemmas.Bool.{false≢true}
+use Rattle.zf_spec.specs.Planes.{planes_of}
+use Rattle.zf_coef.specs.HeldDigits.{digits_in}
+use Rattle.zf_block.proofs.Decoded.{passes_zeros, passes_block, lacks_block}
 use Rattle.zf_block.proofs.codec.read_row.Goals as goal
 
-pub returns-then-pass_zeros-clause-block : goal.returns-then-pass_zeros-clause-block
-returns-then-pass_zeros-clause-block g c =
-    let w = g.T.Lane.width in
+pub returns-then-pass_zeros : goal.returns-then-pass_zeros
+returns-then-pass_zeros g c =
     let d = c.args.d in
-    let s = rest c.args.reader.now in
-    let Zeros : ℕ → Type 0 = λ n. AreAbove n [] (g.C.BlockCode.planes_at c.args.code.now n s) in
-    let planes = subst Zeros c.requires.size (c.pass_zeros.ensures.zeros c.if-pass_zeros.true) in
-    ap (map g.T.Lane.value) c.put_four.ensures
-    ∙ c.inverse_of_first.ensures
-    ∙ ap (λ (v : ℤ). g.C.BlockCode.back d (v ∷ replicate (4 ^ d - 1) (pos 0))) c.zero.ensures.value
-    ∙ ap (g.C.BlockCode.back d) (sym (zero_coefficients w d c.requires.dimension planes.0) ∙ ap (coefficients_of w d) (sym planes.1))
+    let code = c.args.code.now in
+    let zeros = c.if-pass_zeros.true in (
+      tt,
+      passes_zeros (g.C.BlockCode.len_at code) (g.C.BlockCode.planes_at code) c.args.reader.now c.pass_zeros.new.reader d 4 c.requires.size
+          g.T.Lane.width (g.C.BlockCode.back d) _ (c.pass_zeros.ensures.passes zeros) _ c.requires.block.0 (c.pass_zeros.ensures.zeros zeros) c.zero.ensures.value (ap (map g.T.Lane.value) c.put_four.ensures ∙ c.inverse_of_first.ensures),
+    )
+
+pub returns-in_err-read_four : goal.returns-in_err-read_four
+returns-in_err-read_four g c =
+    let code = c.args.code.now in
+    rw (c.from_residual.ensures, ← c.pass_zeros.ensures.unread (λ t. false≢true (sym c.if-pass_zeros.false ∙ t)))
+    (lacks_block (g.C.BlockCode.len_at code) (g.C.BlockCode.planes_at code) c.pass_zeros.new.reader c.read_four.new.reader c.args.d 4 c.requires.size c.in_err-read_four.ensures.0, tt)
+
+pub returns : goal.returns
+returns g c =
+    let n = g.T.Lane.WIDTH in
+    let d = c.args.d in
+    let code = c.args.code.now in
+    let back = g.C.BlockCode.back d in
+    rw (← c.pass_zeros.ensures.unread (λ t. false≢true (sym c.if-pass_zeros.false ∙ t))) (
+      tt,
+      passes_block (g.C.BlockCode.len_at code) (g.C.BlockCode.planes_at code) c.pass_zeros.new.reader c.read_four.new.reader d 4 c.requires.size
+          g.T.Lane.width back _ c.in_ok-read_four.ensures.1.0 (planes_of n (digits_in n c.read_four.new.digits)) c.in_ok-read_four.ensures.1.1 (c.inverse.ensures ∙ ap back c.from_digits.ensures),
+    )

@@ -9,5 +9,5 @@ returns g c =
     let held = map g.P.Plane.words c.args.planes.now in
     let many = length-map c.args.planes.now g.P.Plane.words in
     let digits : length c.digits_of_planes.new.digits ≡ 4 ^ c.args.d = omega arith in
-    let planes : length held ≡ bits g.T.Lane.width = many ∙ (c.requires.planes ∙ g.met.T.Lane.bits_of_width) in
+    let planes : length held ≡ bits g.T.Lane.width = many ∙ (c.requires.room.2 ∙ g.met.T.Lane.bits_of_width) in
     c.unranked.ensures ∙ by_place-planes g.T.Lane.width c.args.d c.digits_of_planes.new.digits held digits planes (rw many c.digits_of_planes.ensures.digits)

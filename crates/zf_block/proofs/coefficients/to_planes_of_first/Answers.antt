@@ -10,10 +10,10 @@ use Rattle.zf_block.proofs.Digits.{planes_of-ranked, ranked-unranked}
 use Rattle.zf_block.proofs.coefficients.to_planes_of_first.Goals as goal
 
 pub planes_of_first-requires-clause-some : goal.planes_of_first-requires-clause-some
-planes_of_first-requires-clause-some g c = omega (arith, c.requires.digits, one-le-pow c.args.d 4 (omega arith))
+planes_of_first-requires-clause-some g c = omega (arith, c.requires.room.1, one-le-pow c.args.d 4 (omega arith))
 
-pub returns-clause-planes : goal.returns-clause-planes
-returns-clause-planes g c =
+pub returns : goal.returns
+returns g c =
     let w = g.T.Lane.width in
     let d = c.args.d in
     let u = c.to_digits.result in
@@ -25,10 +25,13 @@ returns-clause-planes g c =
     let block = v ∷ replicate (size - 1) (pos 0) in
     let some : 0 < size = one-le-pow d 4 (omega arith) in
     let long : length digits ≡ size = omega (arith, length-replicate {A = ℕ} (size - 1) 0) in
-    let written : c.planes_of_first.new.digits ≡ digits = c.planes_of_first.ensures.digits ∙ ap (λ k. u ∷ replicate (k - 1) 0) c.requires.digits in
+    let written : c.planes_of_first.new.digits ≡ digits = c.planes_of_first.ensures.digits ∙ ap (λ k. u ∷ replicate (k - 1) 0) c.requires.room.1 in
     let unranked : unranked_values w d (digits_in (bits w) digits) ≡ block = unranked_first w d u c.requires.dimension some ∙ ap (λ x. x ∷ replicate (size - 1) (pos 0)) c.to_digits.ensures.undone in
     let ranked : digits_in (bits w) digits ≡ ranked_digits w d block = sym (ranked-unranked w d digits long) ∙ ap (ranked_digits w d) unranked in
-    let width : n ≡ bits w = c.planes_of_first.auto.planes ∙ (c.requires.planes ∙ g.met.T.Lane.bits_of_width) in
-    let Held : List ℕ → Type 0 = λ ds. planes_held (length ds) planes ≡ planes_of n (digits_in n ds) in
-    let held = subst Held written c.planes_of_first.ensures.planes in
-    ap (λ s. planes_held s planes) (sym long) ∙ held ∙ planes_of-ranked w d n block digits width ranked
+    let width : n ≡ g.T.Lane.WIDTH = c.planes_of_first.auto.planes ∙ c.requires.room.2 in
+    let Held : List ℕ → ℕ → Type 0 = λ ds k. planes_held k planes ≡ planes_of n (digits_in n ds) in
+    let held : planes_held size planes ≡ planes_of n (digits_in n digits) =
+    subst (Held digits) long (subst (λ ds. Held ds (length ds)) written c.planes_of_first.ensures.planes) in (
+      held ∙ planes_of-ranked w d n block digits (width ∙ g.met.T.Lane.bits_of_width) ranked,
+      held ∙ ap (λ ds. planes_of n (digits_in n ds)) (sym written) ∙ ap (λ k. planes_of k (digits_in k c.planes_of_first.new.digits)) width,
+    )

@@ -17,8 +17,8 @@ returns g c =
     let old = c.args.reader.now in
     let new = c.decode.new.reader in
     let Read : List ℤ → Type 0 = λ block. ReadsRate w d budget old new block in
-    let some = c.unwrap.ensures in
+    let read = when_some c.decode.result c.unwrap.result c.unwrap.ensures c.decode.ensures.1 in
     let block =
-    when_some c.decode.result c.unwrap.result some c.decode.ensures.block
+    read.1
     ∙ ap (λ n. unlift w d (coefficients_of w d (kept_planes budget (planes_in n (4 ^ d) (take budget (rest old)))))) g.met.T.Lane.bits_of_width in
-    subst Read (sym block) (ReadsRate-planes w d budget old new c.requires.enough (when_some c.decode.result c.unwrap.result some c.decode.ensures.reads))
+    subst Read (sym block) (ReadsRate-planes w d budget old new c.requires.enough read.0.passed)

@@ -15,8 +15,8 @@ returns g c =
     let words = g.P.Plane.words in
     let all = map words c.args.planes.now in
     let many = length-map c.args.planes.now words in
-    let small : size ≤ 256 = omega (arith, c.requires.size) in
-    let most = length-code_words-le prec size all (omega (arith, many, c.requires.planes)) (λ i below. let long = each_long words _ g.met.P.Plane.long c.args.planes.now i (omega (arith, many)) in omega (arith, long, c.requires.words)) in
+    let small : size ≤ 256 = omega (arith, c.requires.size.0) in
+    let most = length-code_words-le prec size all (omega (arith, many, c.requires.planes)) (λ i below. let long = each_long words _ g.met.P.Plane.long c.args.planes.now i (omega (arith, many)) in omega (arith, long, c.requires.size.1)) in
     let digits = mul-le-mul_right prec small in
     -- a code is far shorter than the greatest budget
     let short : length (code (take prec (planes_held size all))) ≤ 18446744073709551615 = omega (arith, most, digits, c.requires.planes, c.requires.few) in

@@ -1,4 +1,4 @@
-use Rattle.std.proofs.Common.{◌≡◌, ℕ, ◌^◌, ◌≤◌, Bool, List, sym, ap, ◌∙◌, length, take}
+use Rattle.std.proofs.Common.{◌≡◌, ℕ, ◌^◌, ◌≤◌, Bool, List, sym, ap, ◌∙◌, length, take, arith}
 use Rattle.std.proofs.lemmas.List.{length-take-le}
 use Rattle.std.specs.Int.{Width}
 use mir.Val.{bits}
@@ -9,7 +9,7 @@ use Rattle.zf_block.proofs.Sizes.{block_sizes}
 use Rattle.zf_block.proofs.whole.whole_planes.Goals as goal
 
 pub whole_planes_in-requires-clause-size : goal.whole_planes_in-requires-clause-size
-whole_planes_in-requires-clause-size g c = block_sizes c.args.d c.block_len-size.result c.requires.dimension.0 c.requires.dimension.1 c.block_len-size.ensures.value
+whole_planes_in-requires-clause-size g c = (block_sizes c.args.d c.block_len-size.result c.requires.dimension.0 c.requires.dimension.1 c.block_len-size.ensures.value, omega arith)
 
 -- a code is as long as the budget says
 of_code : (w : Width) (n d size budget : ℕ) (s : List Bool) → n ≡ bits w → size ≡ 4 ^ d → budget ≤ length s
@@ -32,4 +32,4 @@ returns-else-size-le64-clause-plane g c =
     ∙ of_code g.T.Lane.width g.T.Lane.WIDTH c.args.d c.block_len-size.result c.args.bits (rest c.args.reader.now) g.met.T.Lane.bits_of_width c.block_len-size.ensures.value c.requires.enough
 
 pub whole_planes_in-requires-else-size-le64-clause-size : goal.whole_planes_in-requires-else-size-le64-clause-size
-whole_planes_in-requires-else-size-le64-clause-size g c = block_sizes c.args.d c.block_len-size.result c.requires.dimension.0 c.requires.dimension.1 c.block_len-size.ensures.value
+whole_planes_in-requires-else-size-le64-clause-size g c = (block_sizes c.args.d c.block_len-size.result c.requires.dimension.0 c.requires.dimension.1 c.block_len-size.ensures.value, omega arith)

@@ -1,4 +1,4 @@
-use Rattle.std.proofs.Common.{◌++◌, false, take, drop, replicate, leb-true, ap, ◌∙◌, arith}
+use Rattle.std.proofs.Common.{false, take, drop, replicate, leb-true, ap, ◌∙◌, arith}
 use Rattle.std.proofs.lemmas.List.{length-replicate, take-append-le, take_all}
 use Rattle.zf_bits.specs.Reader.{rest}
 use Rattle.zf_planes.proofs.Peeking.{peeked, zeros_ahead}

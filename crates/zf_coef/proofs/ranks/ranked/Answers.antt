@@ -21,4 +21,4 @@ returns-else-d-eq3-clause-digits g c =
     let values = map g.T.Lane.value c.args.block.now in
     let new = c.rank-else-d-eq3.new.digits in
     fill_all (field (bits w)) new (ranked_digits w c.args.d values) (length c.args.block.now) (omega arith)
-    (length-ranked_digits w c.args.d values ∙ sym c.requires.block) c.rank-else-d-eq3.ensures.filled
+    (length-ranked_digits w c.args.d values ∙ sym c.requires.block.1) c.rank-else-d-eq3.ensures.filled

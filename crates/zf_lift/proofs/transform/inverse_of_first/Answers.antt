@@ -12,5 +12,5 @@ returns g c =
     let v = g.T.Lane.value c.args.first in
     let fits = (g.met.T.Lane.in_range_fits v).0 c.fill.ensures.in_type in
     c.fill.ensures.values
-    ∙ ap (λ n. replicate n v) c.requires.size
+    ∙ ap (λ n. replicate n v) c.requires.block.1
     ∙ sym (passes_back-first (unlift_line w) v c.args.d (unlift_line-first w v fits) (unlift_line-first w _ (zero_fits w)))

@@ -7,9 +7,9 @@ use Rattle.zf_lorenzo.proofs.transform.forward.Goals as goal
 
 pub returns-clause-sums : goal.returns-clause-sums
 unfolding lorenzo
-returns-clause-sums g c = c.passes.ensures ∙ along_axes-sums g.T.Lane.width signed_choose c.args.d _ c.requires.dimension.0 (length-map c.args.block.now g.T.Lane.value ∙ c.requires.size)
+returns-clause-sums g c = c.passes.ensures ∙ along_axes-sums g.T.Lane.width signed_choose c.args.d _ c.requires.block.0.0 (length-map c.args.block.now g.T.Lane.value ∙ c.requires.block.1)
 
 pub returns-clause-undone : goal.returns-clause-undone
 returns-clause-undone g c fits =
     let w = g.T.Lane.width in
-    ap (unlorenzo w c.args.d) (returns-clause-sums g c) ∙ unlorenzo-lorenzo w c.args.d _ (length-map c.args.block.now g.T.Lane.value ∙ c.requires.size) fits
+    ap (unlorenzo w c.args.d) (returns-clause-sums g c) ∙ unlorenzo-lorenzo w c.args.d _ (length-map c.args.block.now g.T.Lane.value ∙ c.requires.block.1) fits

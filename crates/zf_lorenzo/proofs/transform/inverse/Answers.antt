@@ -6,4 +6,4 @@ use Rattle.zf_lorenzo.proofs.transform.inverse.Goals as goal
 
 pub returns : goal.returns
 unfolding unlorenzo
-returns g c = c.passes.ensures ∙ along_axes-sums g.T.Lane.width plain_choose c.args.d _ c.requires.dimension.0 (length-map c.args.block.now g.T.Lane.value ∙ c.requires.size)
+returns g c = c.passes.ensures ∙ along_axes-sums g.T.Lane.width plain_choose c.args.d _ c.requires.block.0.0 (length-map c.args.block.now g.T.Lane.value ∙ c.requires.block.1)

@@ -6,4 +6,4 @@ pub returns : goal.returns
 returns g c =
     let v = g.T.Lane.value c.args.first in
     let fits = (g.met.T.Lane.in_range_fits v).0 c.fill.ensures.in_type in
-    c.fill.ensures.values ∙ ap (λ n. replicate n v) c.requires.size ∙ sym (unlorenzo-first g.T.Lane.width c.args.d v fits)
+    c.fill.ensures.values ∙ ap (λ n. replicate n v) c.requires.block.1 ∙ sym (unlorenzo-first g.T.Lane.width c.args.d v fits)

@@ -1,4 +1,4 @@
-use Rattle.std.proofs.Common.{◌≡◌, take, drop, map, length, ap, sym, subst, ◌∙◌, arith}
+use Rattle.std.proofs.Common.{◌≡◌, ℕ, ◌≤◌, ◌^◌, take, drop, map, length, ap, sym, subst, ◌∙◌, arith}
 use Rattle.std.proofs.lemmas.List.{take-map, drop-map}
 use Rattle.zf_base.specs.Positions.{IsExtent}
 use Rattle.zf_pad.specs.Rasters.{IsRasterBlock}
@@ -6,8 +6,8 @@ use Rattle.zf_pad.proofs.Blocks.{lies_within, gathered_block}
 use Rattle.zf_pad.proofs.Lines.{whole_within, line_taken}
 use Rattle.zf_pad.proofs.array_block.gather_block.Goals as goal
 
-pub gather-requires-clause-within : goal.gather-requires-clause-within
-gather-requires-clause-within g c =
+pub gather-requires : goal.gather-requires
+gather-requires g c =
     let here : IsRasterBlock c.args.shape.now c.args.b c.args.layout.now c.part_of-e.result = record {
       shape = c.dims.ensures.shape;
       in_array = c.requires.in_array;
@@ -15,7 +15,17 @@ gather-requires-clause-within g c =
       origin = c.part_of-e.ensures.origin;
       size = c.part_of-e.ensures.size;
     } in
-    lies_within _ _ _ _ here _ (omega arith)
+    let e = c.part_of-e.result in
+    let Whole : ℕ → Type 0 = λ d. (d ≤ 4) × IsExtent d e × (length c.args.block.now ≡ 4 ^ d) in
+    let whole = subst Whole (sym c.dims-2.ensures.value) (c.dims.ensures.shape.four_at_most, c.part_of-e.ensures.extent, c.requires.whole) in
+    record {
+      fits = record {
+        four_at_most = whole.0;
+        extent = whole.1;
+        whole = whole.2;
+        within = lies_within _ _ _ _ here _ (omega arith);
+      };
+    }
 
 pub returns-clause-block : goal.returns-clause-block
 returns-clause-block g c =

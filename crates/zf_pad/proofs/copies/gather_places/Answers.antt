@@ -8,7 +8,7 @@ use Rattle.zf_pad.proofs.copies.gather_places.Goals.{then-is_inside, else-is_ins
 
 pub counted_from-from_origin-requires : goal.counted_from-from_origin-requires
 counted_from-from_origin-requires g c =
-    let first = c.requires.within 0 (first_place c.args.d c.args.e.now c.requires.four_at_most c.requires.extent) in
+    let first = c.requires.fits.within 0 (first_place c.args.d c.args.e.now c.requires.fits.four_at_most c.requires.fits.extent) in
     omega (arith, first, first_index c.args.layout.now c.args.e.now)
 
 pub loop-place-init : goal.loop-place-init
@@ -28,7 +28,7 @@ loop-place-preserved g c =
           let x = w.index-values-index.result in
           let here = exists_here e n c.indices-at.result _ true c.indices-at.ensures c.is_inside.ensures w.if-is_inside.true in
           let index = w.index.ensures ∙ index_here layout c.counted_from-from_origin.result e n c.indices-at.result c.counted_from-from_origin.ensures c.indices-at.ensures in
-          let within : w.index.result < length c.args.values.now = omega (arith, index, c.requires.within n (record { in_block = omega arith; inside = here })) in
+          let within : w.index.result < length c.args.values.now = omega (arith, index, c.requires.fits.within n (record { in_block = omega arith; inside = here })) in
           let read = number_at value c.args.values.now w.index.result x (pos 0) within w.index-values-index.is ∙ ap (λ i. get_or values i (pos 0)) index in
           subst
           (λ b. IsGatheredTo layout e values old b (n + 1))
@@ -44,4 +44,4 @@ loop-place-preserved g c =
 
 pub returns : goal.returns
 returns g c =
-    gathered_all c.args.layout.now c.args.e.now (map g.T.Lane.value c.args.values.now) (map g.T.Lane.value c.args.block.now) c.args.d c.loop-place.place (map g.T.Lane.value c.loop-place.block) c.requires.four_at_most c.requires.extent (omega arith) (omega arith) c.loop-place.invariant
+    gathered_all c.args.layout.now c.args.e.now (map g.T.Lane.value c.args.values.now) (map g.T.Lane.value c.args.block.now) c.args.d c.loop-place.place (map g.T.Lane.value c.loop-place.block) c.requires.fits.four_at_most c.requires.fits.extent (omega arith) (omega arith) c.loop-place.invariant

@@ -6,14 +6,14 @@ use Rattle.zf_pad.proofs.copies.gather_slices.Goals as goal
 
 pub counted_from-from_origin-requires : goal.counted_from-from_origin-requires
 counted_from-from_origin-requires g c =
-    let first = c.requires.within 0 (first_place c.args.d c.args.e.now c.requires.four_at_most c.requires.extent) in
+    let first = c.requires.fits.within 0 (first_place c.args.d c.args.e.now c.requires.fits.four_at_most c.requires.fits.extent) in
     omega (arith, first, first_index c.args.layout.now c.args.e.now)
 
 pub index-first-requires : goal.index-first-requires
 index-first-requires g c =
     let place = 4 * (4 * c.loop-slice.slice) in
-    let here = place_of_whole c.args.d c.args.e.now c.requires.four_at_most c.requires.extent place c.requires.all (omega arith) in
-    let inside = c.requires.within place (record { in_block = omega arith; inside = here }) in
+    let here = place_of_whole c.args.d c.args.e.now c.requires.fits.four_at_most c.requires.fits.extent place c.requires.whole.all (omega arith) in
+    let inside = c.requires.fits.within place (record { in_block = omega arith; inside = here }) in
     omega (arith, inside, index_here c.args.layout.now c.counted_from-from_origin.result c.args.e.now place c.indices.result c.counted_from-from_origin.ensures c.indices.ensures)
 
 pub loop-slice-init : goal.loop-slice-init
@@ -27,8 +27,8 @@ overflow_mul-y g c =
     let row = 4 * slice + c.loop-y.y in
     let start = c.index-first.ensures ∙ index_here layout c.counted_from-from_origin.result e (4 * (4 * slice)) c.indices.result c.counted_from-from_origin.ensures c.indices.ensures in
     let first : c.index-first.result + c.loop-y.y * layout.step.y ≡ index_at layout e (4 * row) = ap (λ i. i + c.loop-y.y * layout.step.y) start ∙ sym (slice_index layout e slice c.loop-y.y c.loop-y-test.true) in
-    let here = place_of_whole c.args.d e c.requires.four_at_most c.requires.extent (4 * row) c.requires.all (omega arith) in
-    let last = row_within layout e row 3 (length c.args.values.now) (c.index-first.result + c.loop-y.y * layout.step.y) (omega arith) (omega arith) c.requires.beside c.requires.within here first in
+    let here = place_of_whole c.args.d e c.requires.fits.four_at_most c.requires.fits.extent (4 * row) c.requires.whole.all (omega arith) in
+    let last = row_within layout e row 3 (length c.args.values.now) (c.index-first.result + c.loop-y.y * layout.step.y) (omega arith) (omega arith) c.requires.whole.rows c.requires.fits.within here first in
     omega (arith, last)
 
 pub overflow_add-first : goal.overflow_add-first
@@ -39,8 +39,8 @@ overflow_add-first g c =
     let row = 4 * slice + c.loop-y.y in
     let start = c.index-first.ensures ∙ index_here layout c.counted_from-from_origin.result e (4 * (4 * slice)) c.indices.result c.counted_from-from_origin.ensures c.indices.ensures in
     let first : c.index-first.result + c.loop-y.y * layout.step.y ≡ index_at layout e (4 * row) = ap (λ i. i + c.loop-y.y * layout.step.y) start ∙ sym (slice_index layout e slice c.loop-y.y c.loop-y-test.true) in
-    let here = place_of_whole c.args.d e c.requires.four_at_most c.requires.extent (4 * row) c.requires.all (omega arith) in
-    let last = row_within layout e row 3 (length c.args.values.now) (c.index-first.result + c.loop-y.y * layout.step.y) (omega arith) (omega arith) c.requires.beside c.requires.within here first in
+    let here = place_of_whole c.args.d e c.requires.fits.four_at_most c.requires.fits.extent (4 * row) c.requires.whole.all (omega arith) in
+    let last = row_within layout e row 3 (length c.args.values.now) (c.index-first.result + c.loop-y.y * layout.step.y) (omega arith) (omega arith) c.requires.whole.rows c.requires.fits.within here first in
     omega (arith, last)
 
 pub copy_row-requires-clause-there : goal.copy_row-requires-clause-there
@@ -51,8 +51,8 @@ copy_row-requires-clause-there g c =
     let row = 4 * slice + c.loop-y.y in
     let start = c.index-first.ensures ∙ index_here layout c.counted_from-from_origin.result e (4 * (4 * slice)) c.indices.result c.counted_from-from_origin.ensures c.indices.ensures in
     let first : c.index-first.result + c.loop-y.y * layout.step.y ≡ index_at layout e (4 * row) = ap (λ i. i + c.loop-y.y * layout.step.y) start ∙ sym (slice_index layout e slice c.loop-y.y c.loop-y-test.true) in
-    let here = place_of_whole c.args.d e c.requires.four_at_most c.requires.extent (4 * row) c.requires.all (omega arith) in
-    let last = row_within layout e row 3 (length c.args.values.now) (c.index-first.result + c.loop-y.y * layout.step.y) (omega arith) (omega arith) c.requires.beside c.requires.within here first in
+    let here = place_of_whole c.args.d e c.requires.fits.four_at_most c.requires.fits.extent (4 * row) c.requires.whole.all (omega arith) in
+    let last = row_within layout e row 3 (length c.args.values.now) (c.index-first.result + c.loop-y.y * layout.step.y) (omega arith) (omega arith) c.requires.whole.rows c.requires.fits.within here first in
     omega (arith, last)
 
 pub loop-y-preserved : goal.loop-y-preserved
@@ -64,11 +64,11 @@ loop-y-preserved g c =
     let row = 4 * slice + c.loop-y.y in
     let start = c.index-first.ensures ∙ index_here layout c.counted_from-from_origin.result e (4 * (4 * slice)) c.indices.result c.counted_from-from_origin.ensures c.indices.ensures in
     let first : c.index-first.result + c.loop-y.y * layout.step.y ≡ index_at layout e (4 * row) = ap (λ i. i + c.loop-y.y * layout.step.y) start ∙ sym (slice_index layout e slice c.loop-y.y c.loop-y-test.true) in
-    let here = place_of_whole c.args.d e c.requires.four_at_most c.requires.extent (4 * row) c.requires.all (omega arith) in
-    let last = row_within layout e row 3 (length c.args.values.now) (c.index-first.result + c.loop-y.y * layout.step.y) (omega arith) (omega arith) c.requires.beside c.requires.within here first in
+    let here = place_of_whole c.args.d e c.requires.fits.four_at_most c.requires.fits.extent (4 * row) c.requires.whole.all (omega arith) in
+    let last = row_within layout e row 3 (length c.args.values.now) (c.index-first.result + c.loop-y.y * layout.step.y) (omega arith) (omega arith) c.requires.whole.rows c.requires.fits.within here first in
     subst (IsGatheredTo layout e (map value c.args.values.now) (map value c.args.block.now) (map value c.copy_row.new.target)) (omega arith)
     (gathered_row layout e (map value c.args.values.now) (map value c.args.block.now) (map value c.loop-y.block) (map value c.copy_row.new.target) row (c.index-first.result + c.loop-y.y * layout.step.y)
-    c.requires.beside here first
+    c.requires.whole.rows here first
     (row_copied value (c.index-first.result + c.loop-y.y * layout.step.y) (4 * row) c.args.values.now c.loop-y.block c.copy_row.new.target (omega (arith, last)) (omega arith) c.copy_row.ensures)
     c.loop-y.invariant)
 
@@ -80,4 +80,4 @@ loop-slice-preserved g c =
 pub returns : goal.returns
 returns g c =
     let value = g.T.Lane.value in
-    gathered_all c.args.layout.now c.args.e.now (map value c.args.values.now) (map value c.args.block.now) c.args.d (4 * (4 * c.loop-slice.slice)) (map value c.loop-slice.block) c.requires.four_at_most c.requires.extent (omega arith) (omega arith) c.loop-slice.invariant
+    gathered_all c.args.layout.now c.args.e.now (map value c.args.values.now) (map value c.args.block.now) c.args.d (4 * (4 * c.loop-slice.slice)) (map value c.loop-slice.block) c.requires.fits.four_at_most c.requires.fits.extent (omega arith) (omega arith) c.loop-slice.invariant

@@ -6,7 +6,7 @@ use Rattle.zf_pad.proofs.copies.scatter_rows.Goals.{then-is_inside, else-is_insi
 
 pub counted_from-from_origin-requires : goal.counted_from-from_origin-requires
 counted_from-from_origin-requires g c =
-    let first = c.requires.within 0 (first_place c.args.d c.args.e.now c.requires.four_at_most c.requires.extent) in
+    let first = c.requires.fits.within 0 (first_place c.args.d c.args.e.now c.requires.fits.four_at_most c.requires.fits.extent) in
     omega (arith, first, first_index c.args.layout.now c.args.e.now)
 
 pub loop-row-init : goal.loop-row-init
@@ -14,7 +14,7 @@ loop-row-init g c = scattered_none c.args.layout.now c.args.e.now (map g.T.Lane.
 
 pub copy_row-requires-clause-room : goal.copy_row-requires-clause-room
 copy_row-requires-clause-room g c =
-    let last = row_within c.args.layout.now c.args.e.now c.loop-row.row 3 (length c.args.values.now) c.index-first.result (omega arith) (omega arith) c.requires.rows c.requires.within
+    let last = row_within c.args.layout.now c.args.e.now c.loop-row.row 3 (length c.args.values.now) c.index-first.result (omega arith) (omega arith) c.requires.rows c.requires.fits.within
     (exists_here c.args.e.now (4 * c.loop-row.row) c.indices-at.result _ true c.indices-at.ensures c.is_inside.ensures c.if-is_inside.true)
     (c.index-first.ensures ∙ index_here c.args.layout.now c.counted_from-from_origin.result c.args.e.now (4 * c.loop-row.row) c.indices-at.result c.counted_from-from_origin.ensures c.indices-at.ensures) in
     omega arith
@@ -31,7 +31,7 @@ loop-row-preserved g c =
       | then-is_inside w ↦
           let here = exists_here e (4 * row) c.indices-at.result _ true c.indices-at.ensures c.is_inside.ensures w.if-is_inside.true in
           let first = w.index-first.ensures ∙ index_here layout c.counted_from-from_origin.result e (4 * row) c.indices-at.result c.counted_from-from_origin.ensures c.indices-at.ensures in
-          let last = row_within layout e row 3 (length c.args.values.now) w.index-first.result (omega arith) (omega arith) c.requires.rows c.requires.within here first in
+          let last = row_within layout e row 3 (length c.args.values.now) w.index-first.result (omega arith) (omega arith) c.requires.rows c.requires.fits.within here first in
           subst
           (λ b. IsScatteredTo layout e block old b (4 * (row + 1)))
           (sym (ap (map value) w.values-is))
@@ -51,5 +51,5 @@ loop-row-preserved g c =
 
 pub returns : goal.returns
 returns g c =
-    let rows = whole_rows c.args.d c.args.e.now c.requires.extent c.requires.rows.1 in
-    scattered_all c.args.layout.now c.args.e.now (map g.T.Lane.value c.args.block.now) (map g.T.Lane.value c.args.values.now) c.args.d (4 * c.loop-row.row) (map g.T.Lane.value c.loop-row.values) c.requires.four_at_most c.requires.extent (omega arith) (omega arith) c.loop-row.invariant
+    let rows = whole_rows c.args.d c.args.e.now c.requires.fits.extent c.requires.rows.1 in
+    scattered_all c.args.layout.now c.args.e.now (map g.T.Lane.value c.args.block.now) (map g.T.Lane.value c.args.values.now) c.args.d (4 * c.loop-row.row) (map g.T.Lane.value c.loop-row.values) c.requires.fits.four_at_most c.requires.fits.extent (omega arith) (omega arith) c.loop-row.invariant

@@ -35,10 +35,15 @@ overflow_mul-layout-3 g c = record { fits = omega (arith, few c.args.d c.args.e.
 pub overflow_mul-x-2 : goal.overflow_mul-x-2
 overflow_mul-x-2 g c = record { fits = omega (arith, few c.args.d c.args.e.now c.requires.four_at_most c.requires.extent) }
 
-pub scatter-requires-clause-within : goal.scatter-requires-clause-within
-scatter-requires-clause-within g c =
+pub scatter-requires-clause-fits : goal.scatter-requires-clause-fits
+scatter-requires-clause-fits g c =
     let s = c.args.e.now.size in
-    box_within c.len.result (layout_of c.len.result s) (box_of s) (is_box c.len.result s) _ (omega (arith, c.deref_mut.ensures.len, c.grow.ensures.len, c.len.ensures))
+    record {
+      four_at_most = c.requires.four_at_most;
+      extent = is_extent c.args.d c.args.e.now c.requires.extent;
+      whole = c.requires.whole;
+      within = box_within c.len.result (layout_of c.len.result s) (box_of s) (is_box c.len.result s) _ (omega (arith, c.deref_mut.ensures.len, c.grow.ensures.len, c.len.ensures));
+    }
 
 pub scatter-requires-clause-one_to_one : goal.scatter-requires-clause-one_to_one
 scatter-requires-clause-one_to_one g c =

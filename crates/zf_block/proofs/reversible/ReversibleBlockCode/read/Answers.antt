@@ -1,32 +1,25 @@
-use Rattle.std.proofs.Common.{List, Bool, map, subst, arith}
+use Rattle.std.proofs.Common.{List, Bool, map, subst}
 use Rattle.zf_spec.specs.HeldPlanes.{planes_held}
-use Rattle.zf_bits.specs.Reader.{rest}
 use Rattle.zf_block.specs.Block.{AreAbove}
-use Rattle.zf_block.proofs.ReadCodes.{planes-behind_count, len-behind_count, length-behind_count, Reads-behind_count, count_bits-le}
+use Rattle.zf_block.proofs.ReadCodes.{planes-behind_count, passes-behind_count, lacks-behind_count, lacks-count}
 use Rattle.zf_block.proofs.reversible.ReversibleBlockCode.read.Goals as goal
 
-pub returns-in_err-prec-clause-short : goal.returns-in_err-prec-clause-short
-returns-in_err-prec-clause-short g c =
-    rw c.from_residual.ensures (omega (arith, c.in_err-prec.ensures.short, count_bits-le g.T.Lane.width c.args.size (rest c.args.reader.now)))
+pub returns-in_err-prec : goal.returns-in_err-prec
+returns-in_err-prec g c = rw c.from_residual.ensures (lacks-count g.T.Lane.width c.args.size c.args.reader.now c.read_count.new.reader c.in_err-prec.ensures.none, tt)
 
-pub returns-in-Some-clause-enough : goal.returns-in-Some-clause-enough
-returns-in-Some-clause-enough g c =
-    let len = len-behind_count g.T.Lane.width c.args.size c.in_ok-prec.prec c.args.reader.now c.read_count.new.reader c.in_ok-prec.ensures.value c.in_ok-prec.ensures.reads in
-    let all = length-behind_count g.T.Lane.width c.args.size c.in_ok-prec.prec c.args.reader.now c.read_count.new.reader c.in_ok-prec.ensures.value c.in_ok-prec.ensures.reads in
-    omega (arith, len, all, c.in-Some.ensures.enough)
+pub returns-in-Some : goal.returns-in-Some
+returns-in-Some g c =
+    let w = g.T.Lane.width in
+    let size = c.args.size in
+    let prec = c.in_ok-prec.prec in
+    let middle = c.read_count.new.reader in
+    let count = c.in_ok-prec.ensures in
+    let behind = c.in-Some.ensures.1 in
+    let Above : List (List Bool) → Type 0 = λ ps. AreAbove size ps (planes_held size (map g.P.Plane.words c.read_uncut.new.planes)) in
+    (tt, (passes-behind_count w size prec c.args.reader.now middle count.value count.reads c.read_uncut.new.reader behind.0, subst Above (planes-behind_count w size prec c.args.reader.now middle count.value count.reads) behind.1))
 
-pub returns-in-Some-clause-reads : goal.returns-in-Some-clause-reads
-returns-in-Some-clause-reads g c =
-    Reads-behind_count g.T.Lane.width c.args.size c.in_ok-prec.prec c.args.reader.now c.read_count.new.reader c.in_ok-prec.ensures.value c.in_ok-prec.ensures.reads c.read_uncut.new.reader c.in-Some.ensures.reads
-
-pub returns-in-Some-clause-planes : goal.returns-in-Some-clause-planes
-returns-in-Some-clause-planes g c =
-    let same = planes-behind_count g.T.Lane.width c.args.size c.in_ok-prec.prec c.args.reader.now c.read_count.new.reader c.in_ok-prec.ensures.value c.in_ok-prec.ensures.reads in
-    let P : List (List Bool) → Type 0 = λ ps. AreAbove c.args.size ps (planes_held c.args.size (map g.P.Plane.words c.read_uncut.new.planes)) in
-    subst P same c.in-Some.ensures.planes
-
-pub returns-in-None-clause-short : goal.returns-in-None-clause-short
-returns-in-None-clause-short g c =
-    let len = len-behind_count g.T.Lane.width c.args.size c.in_ok-prec.prec c.args.reader.now c.read_count.new.reader c.in_ok-prec.ensures.value c.in_ok-prec.ensures.reads in
-    let all = length-behind_count g.T.Lane.width c.args.size c.in_ok-prec.prec c.args.reader.now c.read_count.new.reader c.in_ok-prec.ensures.value c.in_ok-prec.ensures.reads in
-    omega (arith, len, all, c.in-None.ensures.short)
+pub returns-in-None : goal.returns-in-None
+returns-in-None g c =
+    let count = c.in_ok-prec.ensures in
+    let behind = c.in-None.ensures.0 in
+    (lacks-behind_count g.T.Lane.width c.args.size c.in_ok-prec.prec c.args.reader.now c.read_count.new.reader count.value count.reads c.read_uncut.new.reader c.seek.new.self c.at-start.result behind c.seek.ensures c.at-start.ensures, tt)

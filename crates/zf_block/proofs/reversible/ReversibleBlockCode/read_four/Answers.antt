@@ -1,36 +1,26 @@
-use Rattle.std.proofs.Common.{ℕ, List, Bool, subst, arith}
+use Rattle.std.proofs.Common.{ℕ, List, Bool}
 use Rattle.zf_spec.specs.Planes.{planes_of}
 use Rattle.zf_coef.specs.HeldDigits.{digits_in}
-use Rattle.zf_bits.specs.Reader.{rest}
 use Rattle.zf_block.specs.Block.{AreAbove}
-use Rattle.zf_block.specs.ReadBlocks.{rev_planes}
-use Rattle.zf_block.proofs.ReadCodes.{planes-behind_count, len-behind_count, length-behind_count, Reads-behind_count, count_bits-le}
+use Rattle.zf_block.proofs.ReadCodes.{planes-behind_count, passes-behind_count, lacks-behind_count, lacks-count}
 use Rattle.zf_block.proofs.reversible.ReversibleBlockCode.read_four.Goals as goal
 
-pub returns-in_err-prec-clause-short : goal.returns-in_err-prec-clause-short
-returns-in_err-prec-clause-short g c =
-    rw c.from_residual.ensures (omega (arith, c.in_err-prec.ensures.short, count_bits-le g.T.Lane.width 4 (rest c.args.reader.now)))
+pub returns-in_err-prec : goal.returns-in_err-prec
+returns-in_err-prec g c = rw c.from_residual.ensures (lacks-count g.T.Lane.width 4 c.args.reader.now c.read_count.new.reader c.in_err-prec.ensures.none, tt)
 
-pub returns-in-Some-clause-enough : goal.returns-in-Some-clause-enough
-returns-in-Some-clause-enough g c =
-    let len = len-behind_count g.T.Lane.width 4 c.in_ok-prec.prec c.args.reader.now c.read_count.new.reader c.in_ok-prec.ensures.value c.in_ok-prec.ensures.reads in
-    let all = length-behind_count g.T.Lane.width 4 c.in_ok-prec.prec c.args.reader.now c.read_count.new.reader c.in_ok-prec.ensures.value c.in_ok-prec.ensures.reads in
-    omega (arith, len, all, c.in-Some.ensures.enough)
+pub returns-in-Some : goal.returns-in-Some
+returns-in-Some g c =
+    let w = g.T.Lane.width in
+    let prec = c.in_ok-prec.prec in
+    let middle = c.read_count.new.reader in
+    let count = c.in_ok-prec.ensures in
+    let behind = c.in-Some.ensures.1 in
+    let Above : ℕ → List (List Bool) → Type 0 = λ n ps. AreAbove 4 ps (planes_of n (digits_in n c.read_uncut_four.new.digits)) in
+    let planes = planes-behind_count w 4 prec c.args.reader.now middle count.value count.reads in
+    (tt, (passes-behind_count w 4 prec c.args.reader.now middle count.value count.reads c.read_uncut_four.new.reader behind.0, rw (← planes, ← c.WIDTH.ensures) behind.1))
 
-pub returns-in-Some-clause-reads : goal.returns-in-Some-clause-reads
-returns-in-Some-clause-reads g c =
-    Reads-behind_count g.T.Lane.width 4 c.in_ok-prec.prec c.args.reader.now c.read_count.new.reader c.in_ok-prec.ensures.value c.in_ok-prec.ensures.reads c.read_uncut_four.new.reader c.in-Some.ensures.reads
-
-pub returns-in-Some-clause-planes : goal.returns-in-Some-clause-planes
-returns-in-Some-clause-planes g c =
-    let same = planes-behind_count g.T.Lane.width 4 c.in_ok-prec.prec c.args.reader.now c.read_count.new.reader c.in_ok-prec.ensures.value c.in_ok-prec.ensures.reads in
-    let held = λ (n : ℕ). planes_of n (digits_in n c.read_uncut_four.new.digits) in
-    let P : List (List Bool) → Type 0 = λ ps. AreAbove 4 ps (held c.WIDTH.result) in
-    let Above : ℕ → Type 0 = λ n. AreAbove 4 (rev_planes g.T.Lane.width 4 (rest c.args.reader.now)) (held n) in
-    subst Above c.WIDTH.ensures (subst P same c.in-Some.ensures.planes)
-
-pub returns-in-None-clause-short : goal.returns-in-None-clause-short
-returns-in-None-clause-short g c =
-    let len = len-behind_count g.T.Lane.width 4 c.in_ok-prec.prec c.args.reader.now c.read_count.new.reader c.in_ok-prec.ensures.value c.in_ok-prec.ensures.reads in
-    let all = length-behind_count g.T.Lane.width 4 c.in_ok-prec.prec c.args.reader.now c.read_count.new.reader c.in_ok-prec.ensures.value c.in_ok-prec.ensures.reads in
-    omega (arith, len, all, c.in-None.ensures.short)
+pub returns-in-None : goal.returns-in-None
+returns-in-None g c =
+    let count = c.in_ok-prec.ensures in
+    let behind = c.in-None.ensures.0 in
+    (lacks-behind_count g.T.Lane.width 4 c.in_ok-prec.prec c.args.reader.now c.read_count.new.reader count.value count.reads c.read_uncut_four.new.reader c.seek.new.self c.at-start.result behind c.seek.ensures c.at-start.ensures, tt)

@@ -1,0 +1,41 @@
+-- What comes of reading a code, put together from the planes that it has.
+use Rattle.std.proofs.Common.{◌≡◌, sym, ap, subst, ◌∙◌, ℕ, ◌-◌, ◌^◌, ℤ, pos, Bool, List, [], ◌∷◌, replicate}
+use Rattle.std.specs.Int.{Width}
+use Rattle.zf_spec.specs.Grid.{IsDimension}
+use Rattle.zf_spec.specs.Codes.{coefficients_of}
+use Rattle.zf_bits.specs.Reader.{Reader, rest}
+use Rattle.zf_block.specs.Block.{AreAbove}
+use Rattle.zf_block.specs.Decoding.{PassesCode, LacksBits, StandsFor}
+use Rattle.zf_block.proofs.Kept.{coefficients_of-zeros}
+use Rattle.zf_block.proofs.ZeroPlanes.{zero_coefficients}
+
+-- planes that are missing below make no difference to the coefficients
+pub coefficients_above : (w : Width) (d size : ℕ) (planes held : List (List Bool)) → AreAbove size planes held → coefficients_of w d held ≡ coefficients_of w d planes
+coefficients_above w d size planes held above = ap (coefficients_of w d) above.1 ∙ coefficients_of-zeros w d planes above.0 size
+
+-- a code of planes of this size
+module _ (len_at : ℕ → List Bool → ℕ) (planes_at : ℕ → List Bool → List (List Bool)) (old new : Reader) (d size : ℕ) (is : size ≡ 4 ^ d) where
+  -- its bits are missing
+  pub lacks_block : LacksBits (len_at size (rest old)) old new → LacksBits (len_at (4 ^ d) (rest old)) old new
+  lacks_block lacks = let Lacks : ℕ → Type 0 = λ n. LacksBits (len_at n (rest old)) old new in subst Lacks is lacks
+
+  module _ (w : Width) (back : List ℤ → List ℤ) (block : List ℤ) (passes : PassesCode (len_at size (rest old)) old new) where
+    -- the block was made of the planes that were read
+    pub passes_block : (held : List (List Bool)) → AreAbove size (planes_at size (rest old)) held → block ≡ back (coefficients_of w d held)
+        → PassesCode (len_at (4 ^ d) (rest old)) old new × StandsFor w d back (planes_at (4 ^ d)) block (rest old)
+    passes_block held above made =
+        let Passes : ℕ → Type 0 = λ n. PassesCode (len_at n (rest old)) old new × AreAbove n (planes_at n (rest old)) held in
+        let sized = subst Passes is (passes, above) in
+        (sized.0, made ∙ ap back (coefficients_above w d (4 ^ d) (planes_at (4 ^ d) (rest old)) held sized.1))
+
+    -- the planes are zero, and the block was made of zeros
+    pub passes_zeros : (zero : ℤ) → IsDimension d → AreAbove size [] (planes_at size (rest old)) → zero ≡ pos 0 → block ≡ back (zero ∷ replicate (4 ^ d - 1) (pos 0))
+        → PassesCode (len_at (4 ^ d) (rest old)) old new × StandsFor w d back (planes_at (4 ^ d)) block (rest old)
+    passes_zeros zero dims above is_zero made =
+        let Passes : ℕ → Type 0 = λ n. PassesCode (len_at n (rest old)) old new × AreAbove n [] (planes_at n (rest old)) in
+        let sized = subst Passes is (passes, above) in (
+          sized.0,
+          made
+              ∙ ap (λ (v : ℤ). back (v ∷ replicate (4 ^ d - 1) (pos 0))) is_zero
+              ∙ ap back (sym (zero_coefficients w d dims sized.1.0) ∙ ap (coefficients_of w d) (sym sized.1.1)),
+        )

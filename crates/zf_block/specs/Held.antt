@@ -1,0 +1,26 @@
+-- Planes of a block as they are held in words, beside the digits that they are made of.
+use Rattle.std.specs.Prelude.{ℕ, ◌≡◌, ◌≤◌, ◌*◌, ◌^◌, Bool, List, length, map, replicate}
+use Rattle.zf_spec.specs.Grid.{IsBlockSize}
+use Rattle.zf_spec.specs.Planes.{planes_of}
+use Rattle.zf_spec.specs.HeldPlanes.{planes_held}
+use Rattle.zf_coef.specs.HeldDigits.{digits_in}
+
+-- a size of blocks whose planes fit into so many words
+abbrev pub IsHeldSize : ℕ → ℕ → Type 0
+IsHeldSize size words = IsBlockSize size × (size ≤ 64 * words)
+
+-- room for the digits of a block of d dimensions and for its planes, each of so many words: one plane for
+-- each digit
+abbrev pub IsWorkRoom : {P : Type 0} → ℕ → ℕ → ℕ → List ℕ → List P → Type 0
+IsWorkRoom d words width digits planes =
+    (4 ^ d ≤ 64 * words) × (length digits ≡ 4 ^ d) × (length planes ≡ width)
+
+-- so many planes, each of so many words that are all zero
+abbrev pub AreBlank : {P : Type 0} → ℕ → ℕ → (P → List ℕ) → List P → Type 0
+AreBlank width count words planes =
+    (length planes ≡ width) × (map words planes ≡ replicate width (replicate count 0))
+
+-- what is held are these planes, and they are the planes of so many digits of the coefficients that are held
+abbrev pub HoldPlanes : ℕ → ℕ → List (List ℕ) → List ℕ → List (List Bool) → Type 0
+HoldPlanes size width held digits planes =
+    (planes_held size held ≡ planes) × (planes_held size held ≡ planes_of width (digits_in width digits))
