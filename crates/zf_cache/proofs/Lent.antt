@@ -1,5 +1,5 @@
 -- What a touched cache gives to read, and what it ends as once a loan of a block has ended.
-use Rattle.std.proofs.Common.{◌≡◌, refl, sym, ap, subst, ◌∙◌, ℕ, ◌/◌, ◌+◌, ◌<◌, ℤ, pos, Bool, true, false, List, map, length, get_or, set, replicate}
+use Rattle.std.proofs.Common.{◌≡◌, refl, sym, ap, subst, ◌∙◌, ℕ, ◌<◌, ℤ, pos, Bool, true, false, List, map, length, get_or, set, replicate}
 use Rattle.std.specs.Bool.{OnTrue}
 use Rattle.std.proofs.lemmas.List.{get_or-map, set-set, length-replicate}
 use Rattle.zf_base.specs.Formats.{Format, existing_of}
@@ -10,12 +10,12 @@ use Rattle.zf_cached.specs.Changes.{flush, relined}
 use Rattle.zf_lines.specs.Rows.{line_at, over, with_line}
 use Rattle.zf_lines.proofs.Sizes.{length-over}
 use Rattle.zf_cache.specs.declared.body.Body.{Body}
-use Rattle.zf_cache.specs.Kept.{line_by, Kept, IsIn, OnlyLine, tag_at, block_in, dirty_tag, written_in}
+use Rattle.zf_cache.specs.Kept.{Kept, tag_at, dirty_tag, written_in}
 use Rattle.zf_cache.specs.Rules.{IsRule}
-use Rattle.zf_cache.specs.Bodies.{IsSound, kept_of, counts_of}
+use Rattle.zf_cache.specs.Bodies.{IsSound, ComesTo, kept_of, counts_of}
 use Rattle.zf_cache.specs.Standing.{state_at, FitsAt}
 use Rattle.zf_cache.specs.Steps.{touch_in}
-use Rattle.zf_cache.proofs.Tags.{names, names-dirty, named}
+use Rattle.zf_cache.proofs.Tags.{names}
 use Rattle.zf_cache.proofs.Stands.{standing_at}
 use Rattle.zf_cache.proofs.Touches.{state_stands, relines}
 use Rattle.zf_cache.proofs.Sound.{line_below, writes_row, values_there}
@@ -25,34 +25,32 @@ on_true true f = f refl
 on_true false f = tt
 
 module _ (place : ℕ → List ℕ → ℕ → ℕ) (may_hold : ℕ → ℕ → ℕ → Type 0) (rule : IsRule place may_hold) {X Code : Type 0} (value : X → ℤ)
-    (f h : Format Code) (j : ℕ → Code) (c : Kept X) (t : Body X) (b l : ℕ)
-    (same : h ≡ f) (sound : IsSound place value t h j) (at : l ≡ line_by place c b) (others : OnlyLine c (kept_of t) l) (has_row : l < length t.lines) where
+    (f h : Format Code) (j : ℕ → Code) (c : Kept X) (t : Body X) (b l : ℕ) (same : h ≡ f) (sound : IsSound place value t h j) (to : ComesTo place c (kept_of t) b l) where
   lt : l < length t.tags.items
-  lt = (line_below place may_hold rule value t h j sound c b l at others).0
+  lt = (line_below place may_hold rule value t h j sound c b l to).0
 
   pub whole : length (line_at t.lines l) ≡ h.block_len
-  whole = sound.whole.size.1 l has_row
+  whole = sound.whole.size.1 l to.row
 
-  module _ (half : tag_at t.tags.items l / 2 ≡ b + 1) where
-    here : (state_at place value (kept_of t) h j).values b ≡ existing_of h b (map value (line_at t.lines l))
-    here = values_there place value h (kept_of t) j b l (sound.fits.own l b (names (tag_at t.tags.items l) b half)).0 half
+  here : (state_at place value (kept_of t) h j).values b ≡ existing_of h b (map value (line_at t.lines l))
+  here = values_there place value h (kept_of t) j b l (sound.fits.own l b (names (tag_at t.tags.items l) b to.here)).0 to.here
 
-    -- the value at a place that exists
-    pub gets : (values : List ℤ) → (state_at place value (kept_of t) h j).values b ≡ values → (p : ℕ) (line : List X) (r : X) → p < h.block_len → line ≡ line_at t.lines l → r ≡ get_or line p r
-        → OnTrue (f.exists b p) (value r ≡ get_or values p (pos 0))
-    gets values held p line r within is read = on_true (f.exists b p) (λ e.
-        let row = line_at t.lines l in
-        let inside : p < length row = subst (λ n. p < n) (sym whole) within in
-        let exists : h.exists b p ≡ true = ap (λ q. q.exists b p) same ∙ e in
-        ap value (read ∙ ap (λ ls. get_or ls p r) is)
-        ∙ sym (get_or-map value row p r (pos 0) inside)
-        ∙ sym (get_or-existing_of_exists h b (map value row) p within exists)
-        ∙ ap (λ xs. get_or xs p (pos 0)) (sym here ∙ held))
+  -- the value at a place that exists
+  pub gets : (values : List ℤ) → (state_at place value (kept_of t) h j).values b ≡ values → (p : ℕ) (line : List X) (r : X) → p < h.block_len → line ≡ line_at t.lines l → r ≡ get_or line p r
+      → OnTrue (f.exists b p) (value r ≡ get_or values p (pos 0))
+  gets values held p line r within is read = on_true (f.exists b p) (λ e.
+      let row = line_at t.lines l in
+      let inside : p < length row = subst (λ n. p < n) (sym whole) within in
+      let exists : h.exists b p ≡ true = ap (λ q. q.exists b p) same ∙ e in
+      ap value (read ∙ ap (λ ls. get_or ls p r) is)
+      ∙ sym (get_or-map value row p r (pos 0) inside)
+      ∙ sym (get_or-existing_of_exists h b (map value row) p within exists)
+      ∙ ap (λ xs. get_or xs p (pos 0)) (sym here ∙ held))
 
-    -- the whole block, for the state that the touch has made
-    pub shows : (s : State Code) (line : List X) → state_at place value (kept_of t) h j ≡ s → line ≡ line_at t.lines l → existing_of f b (map value line) ≡ s.values b
-    shows s line state is =
-        (λ i. existing_of (sym same i) b (map value (is i))) ∙ sym here ∙ ap (λ (u : State Code). u.values b) state
+  -- the whole block, for the state that the touch has made
+  pub shows : (s : State Code) (line : List X) → state_at place value (kept_of t) h j ≡ s → line ≡ line_at t.lines l → existing_of f b (map value line) ≡ s.values b
+  shows s line state is =
+      (λ i. existing_of (sym same i) b (map value (is i))) ∙ sym here ∙ ap (λ (u : State Code). u.values b) state
 
   pub state_now : (s : State Code) → state_at place value (kept_of t) h j ≡ s → state_at place value (kept_of t) f j ≡ s
   state_now s state = ap (λ q. state_at place value (kept_of t) q j) (sym same) ∙ state
@@ -80,18 +78,15 @@ module _ (place : ℕ → List ℕ → ℕ → ℕ) (may_hold : ℕ → ℕ → 
 
     pub lends : (w : List X) → kept_of (ended w) ≡ lent w
     lends w = λ i. record {
-      lines = (ap (λ ls. set ls l (over (line_at t.lines l) w)) others.lines ∙ set-set c.lines l (line_at t.lines l) (over (line_at t.lines l) w)
+      lines = (ap (λ ls. set ls l (over (line_at t.lines l) w)) to.others.lines ∙ set-set c.lines l (line_at t.lines l) (over (line_at t.lines l) w)
           ∙ (λ m. set c.lines l (over (sym is m) w))) i;
-      tags = (others.tags ∙ (λ m. set c.tags l (dirty m))) i;
+      tags = (to.others.tags ∙ (λ m. set c.tags l (dirty m))) i;
       counts = counted i;
     }
 
-    there : IsIn t.tags.items l b
-    there = ap block_in dirty ∙ names-dirty b
-
     pub row_held : existing_of f b (map value row) ≡ touched.values b
     unfolding soiled
-    row_held = shows (named (tag_at t.tags.items l) b there) (soiled touched b) row state is
+    row_held = shows (soiled touched b) row state is
 
     wrote : (w : List X) → IsSound place value (ended w) h j × (state_at place value (kept_of (ended w)) h j ≡ with_values (state_at place value (kept_of t) h j) b (existing_of h b (map value (over (line_at t.lines l) w))))
     wrote w =

@@ -1,7 +1,7 @@
 -- The fields of a cache are whole, and fit the backing.
-use Rattle.std.proofs.Common.{◌≡◌, ◌≢◌, ◌⊎◌, refl, sym, ap, subst, ◌∙◌, ℕ, ◌+◌, ◌*◌, ◌/◌, ◌%◌, ◌<◌, ◌≤◌, ℤ, pos, inl, inr, Option, Some, List, map, length, get_or, set, replicate, arith}
+use Rattle.std.proofs.Common.{◌≡◌, ◌≢◌, ◌⊎◌, refl, sym, ap, subst, ◌∙◌, ℕ, ◌+◌, ◌*◌, ◌/◌, ◌%◌, ◌<◌, ◌≤◌, ℤ, pos, inl, inr, Option, Some, List, [], map, length, get_or, set, replicate, arith}
 use Rattle.std.proofs.lemmas.Bool.{cases_lt}
-use Rattle.std.proofs.lemmas.List.{length-set, length-replicate, set-set, get_or-set_same, get_or-set_other}
+use Rattle.std.proofs.lemmas.List.{length-set, length-replicate, set-set, set-get_or, get_or-set_same, get_or-set_other}
 use Rattle.zf_base.specs.Formats.{Format, existing_of, meant}
 use Rattle.zf_base.proofs.Formats.{length-existing_of, existing_of_same, get_or-existing_of_exists}
 use Rattle.zf_cached.specs.State.{Counts, State, risen}
@@ -10,7 +10,7 @@ use Rattle.zf_lines.specs.Rows.{line_at, HasSize}
 use Rattle.zf_lines.proofs.Sizes.{HasSize-set}
 use Rattle.zf_cache.specs.declared.body.Body.{Body}
 use Rattle.zf_cache.specs.Kept.{line_by, Kept, IsIn, IsAway, IsClean, OnlyLine, tag_at, block_in, clean_tag, dirty_tag, dirty_of}
-use Rattle.zf_cache.specs.Bodies.{IsMask, IsWhole, IsSound, kept_of, counts_of}
+use Rattle.zf_cache.specs.Bodies.{AreLines, IsWhole, IsSound, ComesTo, kept_of, counts_of}
 use Rattle.zf_cache.specs.Rules.{IsRule, one_line}
 use Rattle.zf_cache.specs.Standing.{state_at, state_of, evicted}
 use Rattle.zf_cache.specs.Steps.{taken_in, touch_in}
@@ -35,8 +35,7 @@ module _ {X : Type 0} where
       → IsBlank (length c.lines) d.tags.items → IsWhole d len
   whole_as c d len w e size blank = record {
     size = subst (λ n. HasSize d.lines n len) (sym size.0) size;
-    count = (omega (arith, w.count, e), omega (arith, w.count, e));
-    mask = subst IsMask (sym e) w.mask;
+    lines = subst AreLines (sym e) w.lines;
     blank = λ l past. blank l (subst (λ n. n ≤ l) size.0 past);
   }
 
@@ -202,11 +201,49 @@ same_length c d l h = ap length h.tags ∙ length-set c.tags l (tag_at d.tags l)
 
 -- the line of a block that was touched is one, before and after
 pub line_below : (place : ℕ → List ℕ → ℕ → ℕ) (may_hold : ℕ → ℕ → ℕ → Type 0) → IsRule place may_hold → {X Code : Type 0} (value : X → ℤ) (t : Body X) (h : Format Code) (j : ℕ → Code) → IsSound place value t h j
-    → (c : Kept X) (b l : ℕ) → l ≡ line_by place c b → OnlyLine c (kept_of t) l → (l < length t.tags.items) × (l < length c.tags)
-line_below place may_hold rule value t h j sound c b l at others =
-    let size = same_length c (kept_of t) l others in let some = sound.whole.count.0 in
+    → (c : Kept X) (b l : ℕ) → ComesTo place c (kept_of t) b l → (l < length t.tags.items) × (l < length c.tags)
+line_below place may_hold rule value t h j sound c b l to =
+    let at = to.at in let size = same_length c (kept_of t) l to.others in let some = sound.whole.lines.some in
     let lt = rule.inside (length c.tags) c.tags b (omega (arith, size, some)) in
     (omega (arith, at, lt, size), omega (arith, at, lt))
+
+-- ---- what a touch comes to
+
+module _ {X : Type 0} (place : ℕ → List ℕ → ℕ → ℕ) (c d : Kept X) (b l : ℕ) where
+  -- the line that holds the block
+  pub comes_hitting : l ≡ line_by place c b → l < length c.lines → tag_at c.tags l / 2 ≡ b + 1 → d.lines ≡ c.lines → d.tags ≡ c.tags → ComesTo place c d b l
+  comes_hitting at row here lines tags = record {
+    at = at;
+    row = subst (λ ls. l < length ls) (sym lines) row;
+    here = ap (λ ts. tag_at ts l / 2) tags ∙ here;
+    others = record {
+      lines = lines ∙ sym (ap (λ ls. set c.lines l (line_at ls l)) lines ∙ set-get_or c.lines l []);
+      tags = tags ∙ sym (ap (λ ts. set c.tags l (tag_at ts l)) tags ∙ set-get_or c.tags l 0);
+    };
+  }
+
+  -- the line that has taken it in
+  pub comes_missing : l ≡ line_by place c b → l < length c.lines → l < length c.tags → d.lines ≡ set c.lines l (line_at d.lines l) → d.tags ≡ set c.tags l (clean_tag b) → ComesTo place c d b l
+  comes_missing at row lt lines tags =
+      let half : clean_tag b / 2 ≡ b + 1 = omega arith in
+      let size = ap length lines ∙ length-set c.lines l (line_at d.lines l) in
+      record {
+        at = at;
+        row = subst (λ n. l < n) (sym size) row;
+        here = ap (λ ts. tag_at ts l / 2) tags ∙ ap (λ t. t / 2) (tag-set_same c.tags l (clean_tag b) lt) ∙ half;
+        others = only_line c d l (clean_tag b) lt lines tags;
+      }
+
+  -- the line whose block is dirty now
+  pub comes_soiling : (e : Kept X) → ComesTo place c d b l → (l < length d.tags) × (l < length c.tags) → e.lines ≡ d.lines → e.tags ≡ set d.tags l (dirty_tag b) → ComesTo place c e b l
+  comes_soiling e to lt lines tags =
+      let half : dirty_tag b / 2 ≡ b + 1 = omega arith in
+      record {
+        at = to.at;
+        row = subst (λ ls. l < length ls) (sym lines) to.row;
+        here = ap (λ ts. tag_at ts l / 2) tags ∙ ap (λ t. t / 2) (tag-set_same d.tags l (dirty_tag b) lt.0) ∙ half;
+        others = only_line_again c d e l (dirty_tag b) lt.1 to.others lines tags;
+      }
 
 -- ---- the values of a block that is in its line
 

@@ -1,16 +1,22 @@
 -- What holds of the fields of a cache.
-use Rattle.std.specs.Prelude.{◌≡◌, ℕ, ◌-◌, ◌%◌, ◌^◌, ◌<◌, ◌≤◌, ℤ, List, length, bit_and}
+use Rattle.std.specs.Prelude.{◌≡◌, ℕ, ◌+◌, ◌-◌, ◌/◌, ◌%◌, ◌^◌, ◌<◌, ◌≤◌, ℤ, List, length, replicate, bit_and}
 use Rattle.zf_base.specs.Formats.{Format}
-use Rattle.zf_cached.specs.State.{Counts}
+use Rattle.zf_cached.specs.State.{Counts, State, no_counts}
 use Rattle.zf_base.specs.declared.stats.Stats.{Stats}
 use Rattle.zf_lines.specs.Rows.{HasSize}
 use Rattle.zf_cache.specs.declared.body.Body.{Body}
-use Rattle.zf_cache.specs.Kept.{Kept, tag_at}
-use Rattle.zf_cache.specs.Standing.{FitsAt}
+use Rattle.zf_cache.specs.Kept.{Kept, OnlyLine, tag_at, line_by}
+use Rattle.zf_cache.specs.Standing.{FitsAt, state_at}
 
 -- to cut a number by n - 1 is to take it modulo n
 abbrev pub IsMask : ℕ → Type 0
 IsMask n = (b : ℕ) → b < 2 ^ 64 → bit_and b (n - 1) ≡ b % n
+
+-- a number of lines: one or more, as many at most as can be asked for, and a mask cuts to them
+pub record AreLines (n : ℕ) : Type 0 where
+  pub some : 0 < n
+  pub most : n ≤ 2 ^ 16
+  pub mask : IsMask n
 
 abbrev pub counts_of : Stats → Counts
 counts_of s = record { hits = s.hits; misses = s.misses; writes = s.writes }
@@ -22,11 +28,36 @@ module _ {X : Type 0} where
   -- a tag for each line, and rows of so many values for the first lines; a line without a row is empty
   pub record IsWhole (c : Body X) (len : ℕ) : Type 0 where
     pub size : HasSize c.lines (length c.lines) len
-    pub count : (0 < length c.tags.items) × (length c.tags.items ≤ 2 ^ 16)
-    pub mask : IsMask (length c.tags.items)
+    pub lines : AreLines (length c.tags.items)
     pub blank : (l : ℕ) → length c.lines ≤ l → tag_at c.tags.items l ≡ 0
 
-  -- the fields are whole, and fit the backing
-  pub record IsSound (place : ℕ → List ℕ → ℕ → ℕ) {Code : Type 0} (value : X → ℤ) (c : Body X) (format : Format Code) (codes : ℕ → Code) : Type 0 where
-    pub whole : IsWhole c format.block_len
-    pub fits : FitsAt place value (kept_of c) format codes
+  -- empty lines, the first of them with room for so many values each, and counts of 0
+  pub record IsNewBody (c : Body X) (lines rows len : ℕ) : Type 0 where
+    pub whole : IsWhole c len
+    pub empty : c.tags.items ≡ replicate lines 0
+    pub rows_are : length c.lines ≡ rows
+    pub counts : counts_of c.counts ≡ no_counts
+
+  module _ (place : ℕ → List ℕ → ℕ → ℕ) where
+    -- a touch comes to line l: it is that of block b, it has a row and then holds the block, and no other
+    -- line changes
+    pub record ComesTo (c d : Kept X) (b l : ℕ) : Type 0 where
+      pub at : l ≡ line_by place c b
+      pub row : l < length d.lines
+      pub here : tag_at d.tags l / 2 ≡ b + 1
+      pub others : OnlyLine c d l
+
+    module _ {Code : Type 0} (value : X → ℤ) where
+      -- the state that the fields and the backing stand for
+      abbrev pub state_in : Body X → Format Code → (ℕ → Code) → State Code
+      state_in c format codes = state_at place value (kept_of c) format codes
+
+      -- the fields are whole, and fit the backing
+      pub record IsSound (c : Body X) (format : Format Code) (codes : ℕ → Code) : Type 0 where
+        pub whole : IsWhole c format.block_len
+        pub fits : FitsAt place value (kept_of c) format codes
+
+      -- so they are, and block b is one of the backing's, which are not more than a tag has room for
+      pub record IsSoundAt (c : Body X) (format : Format Code) (codes : ℕ → Code) (b : ℕ) : Type 0 where
+        pub sound : IsSound c format codes
+        pub block : (b < format.blocks) × (format.blocks ≤ 2 ^ 32)

@@ -1,5 +1,6 @@
 -- What a cache is seen as: the values in its lines, a tag for each line, and the counts.
-use Rattle.std.specs.Prelude.{◌≡◌, ℕ, zero, suc, ◌+◌, ◌*◌, ◌/◌, ◌%◌, ◌^◌, ◌<◌, ◌≤◌, ◌==◌, Bool, true, false, List, length, replicate, slice_index_or, slice_set, Option, Some, None, refl}
+use Rattle.std.specs.Prelude.{◌≡◌, ℕ, zero, suc, ◌+◌, ◌*◌, ◌/◌, ◌%◌, ◌^◌, ◌<◌, ◌≤◌, ◌==◌, Bool, true, false}
+use Rattle.std.specs.Prelude.{List, length, replicate, slice_index_or, slice_set, Option, Some, None, refl}
 use Rattle.std.specs.Coded.{Coded, code_by, coded×, coded_list, coded_ℕ}
 use Rattle.zf_base.specs.Formats.{Format}
 use Rattle.zf_cached.specs.State.{Counts}
@@ -102,9 +103,13 @@ module _ {X : Type 0} where
   written c b row counts = written_in c (line_of c b) b row counts
 
 abbrev pub counts_code : Coded Counts
-counts_code = code_by (ℕ × (ℕ × ℕ)) (coded× coded_ℕ (coded× coded_ℕ coded_ℕ)) (λ c. (c.hits, (c.misses, c.writes))) (λ p. record { hits = p.0; misses = p.1.0; writes = p.1.1 }) (λ _. refl)
+counts_code = code_by (ℕ × (ℕ × ℕ)) (coded× coded_ℕ (coded× coded_ℕ coded_ℕ))
+    (λ c. (c.hits, (c.misses, c.writes))) (λ p. record { hits = p.0; misses = p.1.0; writes = p.1.1 })
+    (λ _. refl)
 
 abbrev pub kept_code : {X : Type 0} → Coded X → Coded (Kept X)
 kept_code {X} c =
-    code_by (List (List X) × (List ℕ × Counts)) (coded× (coded_list (coded_list c)) (coded× (coded_list coded_ℕ) counts_code))
-    (λ k. (k.lines, (k.tags, k.counts))) (λ p. record { lines = p.0; tags = p.1.0; counts = p.1.1 }) (λ _. refl)
+    code_by (List (List X) × (List ℕ × Counts))
+    (coded× (coded_list (coded_list c)) (coded× (coded_list coded_ℕ) counts_code))
+    (λ k. (k.lines, (k.tags, k.counts))) (λ p. record { lines = p.0; tags = p.1.0; counts = p.1.1 })
+    (λ _. refl)

@@ -4,10 +4,12 @@
 --     Standing     the state that cache and backing stand for, and when they fit
 --     Bodies       what holds of the fields of a cache
 --     Steps        the parts of a touch
+--     Backed       a cache and the backing under it, seen as one
 --     Loans        what a cache ends as, once a loan of a block has ended
 pub mod Kept
 pub mod Rules
 pub mod Standing
 pub mod Bodies
+pub mod Backed
 pub mod Loans
 pub mod Steps

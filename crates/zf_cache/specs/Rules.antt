@@ -5,12 +5,14 @@ use Rattle.std.proofs.Math.Nat.{mod-eq_of_lt}
 use Rattle.std.proofs.lemmas.Nat.{mod_below}
 use Rattle.zf_cache.specs.Kept.{IsIn}
 
--- the line of a block is one that may hold it; where one that may does, and no other line does, it is that line; and a block whose number is
--- below the number of lines has the line of its number, so that n blocks need no line beyond the n first ones
+-- the line of a block is one that may hold it; where one that may does, and no other line does, it is that
+-- line; and a block whose number is below the number of lines has the line of its number, so that n blocks
+-- need no line beyond the n first ones
 pub record IsRule (place : ℕ → List ℕ → ℕ → ℕ) (may_hold : ℕ → ℕ → ℕ → Type 0) : Type 0 where
   pub inside : (n : ℕ) (tags : List ℕ) (b : ℕ) → 0 < n → place n tags b < n
   pub allowed : (n : ℕ) (tags : List ℕ) (b : ℕ) → may_hold n b (place n tags b)
-  pub found : (n : ℕ) (tags : List ℕ) (b l : ℕ) → may_hold n b l → IsIn tags l b → ((m : ℕ) → IsIn tags m b → m ≡ l) → place n tags b ≡ l
+  pub found : (n : ℕ) (tags : List ℕ) (b l : ℕ) → may_hold n b l → IsIn tags l b
+      → ((m : ℕ) → IsIn tags m b → m ≡ l) → place n tags b ≡ l
   pub low : (n : ℕ) (tags : List ℕ) (b : ℕ) → b < n → place n tags b ≡ b
 
 -- each block has one line: its number modulo the number of lines

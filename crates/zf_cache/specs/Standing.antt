@@ -1,5 +1,6 @@
 -- The state that a cache and the backing under it stand for, and when the two fit.
---     `place n tags b` is the line of block b in a cache of n lines with these tags. A value of the program is seen as a whole number.
+--     `place n tags b` is the line of block b in a cache of n lines with these tags. A value of the program is seen as
+--     a whole number.
 use Rattle.std.specs.Prelude.{◌≡◌, ℕ, ◌<◌, ◌==◌, ℤ, true, false, List, length, map, Some, None}
 use Rattle.zf_base.specs.Formats.{Format, existing_of, meant, with_at}
 use Rattle.zf_cached.specs.State.{State, is_block}
@@ -15,13 +16,17 @@ module _ {X Code : Type 0} (value : X → ℤ) where
 
 -- whatever the lines hold, the line of each of so many blocks has a row of values
 abbrev pub HasRoomAt : (ℕ → List ℕ → ℕ → ℕ) → {X : Type 0} → Kept X → ℕ → Type 0
-HasRoomAt place c blocks = (tags : List ℕ) (b : ℕ) → b < blocks → place (length c.tags) tags b < length c.lines
+HasRoomAt place c blocks = (tags : List ℕ) (b : ℕ) → b < blocks
+    → place (length c.tags) tags b < length c.lines
 
 module _ (place : ℕ → List ℕ → ℕ → ℕ) {X Code : Type 0} where
   -- the values of block b: those in its line where it is there, else those that its code means
   abbrev pub values_by : (X → ℤ) → Kept X → Format Code → (ℕ → Code) → ℕ → List ℤ
   values_by value c format codes b =
-      elim (is_block (block_in (tag_at c.tags (line_by place c b))) b) [ true ↦ line_values value c format (line_by place c b) b | false ↦ meant format b (codes b) ]
+      elim (is_block (block_in (tag_at c.tags (line_by place c b))) b) [
+        | true ↦ line_values value c format (line_by place c b) b
+        | false ↦ meant format b (codes b)
+      ]
 
   -- lines, dirty blocks and counts are the cache's, codes the backing's
   abbrev pub state_by : (ℕ → List ℤ) → Kept X → (ℕ → Code) → State Code
@@ -38,11 +43,12 @@ module _ (place : ℕ → List ℕ → ℕ → ℕ) {X Code : Type 0} where
   unfoldable pub state_at : (X → ℤ) → Kept X → Format Code → (ℕ → Code) → State Code
   state_at value c format codes = state_by (values_by value c format codes) c codes
 
-  -- a line holds a block whose line it is and that the backing has, and a clean line has the values that the block's code means; and each
-  -- block of the backing has a row of values to come to
+  -- a line holds a block whose line it is and that the backing has, and a clean line has the values that the
+  -- block's code means; and each block of the backing has a row of values to come to
   pub record FitsAt (value : X → ℤ) (c : Kept X) (format : Format Code) (codes : ℕ → Code) : Type 0 where
     pub own : (l b : ℕ) → block_in (tag_at c.tags l) ≡ Some b → (line_by place c b ≡ l) × (b < format.blocks)
-    pub clean : (l b : ℕ) → tag_at c.tags l ≡ clean_tag b → line_values value c format l b ≡ meant format b (codes b)
+    pub clean : (l b : ℕ) → tag_at c.tags l ≡ clean_tag b
+        → line_values value c format l b ≡ meant format b (codes b)
     pub room : HasRoomAt place c format.blocks
 
 -- ---- where each block has one line

@@ -6,7 +6,8 @@ use Rattle.zf_cached.specs.Touch.{hit, miss, touch_for_writing, with_values}
 
 -- block b is put into line l
 unfoldable pub taken_in : {Code : Type 0} → State Code → ℕ → ℕ → State Code
-taken_in s l b = record s { held = with_at s.held l (Some b); counts = record s.counts { misses = risen s.counts.misses } }
+taken_in s l b = record s
+    { held = with_at s.held l (Some b); counts = record s.counts { misses = risen s.counts.misses } }
 
 -- block b, which is in line l or goes there, is touched
 unfoldable pub touch_in : {Code : Type 0} → Format Code → State Code → ℕ → ℕ → State Code
@@ -16,6 +17,7 @@ touch_in format s l b = elim (is_block (s.held l) b) [ true ↦ hit s | false �
 unfoldable pub with_value : {Code : Type 0} → Format Code → State Code → ℕ → ℕ → ℤ → State Code
 with_value format t b p v = with_values t b (existing_of format b (slice_set (t.values b) p v))
 
--- block b is touched for writing, and the value at its place p becomes v, where that place exists; the others stay
+-- block b is touched for writing, and the value at its place p becomes v, where that place exists; the others
+-- stay
 unfoldable pub put : {Code : Type 0} → Format Code → State Code → ℕ → ℕ → ℤ → State Code
 put format s b p v = with_value format (touch_for_writing format s b) b p v

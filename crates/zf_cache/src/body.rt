@@ -1,12 +1,14 @@
 //! The fields of a cache, and what a touch does to them.
-ghost use Rattle.std.specs.Prelude.{◌≡◌, ◌+◌, ◌*◌, ◌-◌, ◌/◌, ◌%◌, ◌^◌, ◌<◌, ◌≤◌, ◌==◌, ℕ, Some, None, length, slice_set, slice_index_or, replicate, IfOk};
+ghost use Rattle.std.specs.Prelude.{◌≡◌, ◌+◌, ◌*◌, ◌-◌, ◌/◌, ◌%◌, ◌^◌, ◌<◌, ◌≤◌, ◌==◌, ℕ, Some, None, length};
+ghost use Rattle.std.specs.Prelude.{slice_set, slice_index_or, replicate, IfOk};
 ghost use Rattle.zf_base.specs.Formats.{with_at};
-ghost use Rattle.zf_cached.specs.State.{no_counts};
 ghost use Rattle.zf_cached.specs.Touch.{soiled};
 ghost use Rattle.zf_cached.specs.Changes.{flush};
-ghost use Rattle.zf_cache.specs.Kept.{line_by, tag_at, clean_tag, dirty_tag, dirty_of, IsClean, OnlyLine, IsLineCount, IsAway};
+ghost use Rattle.zf_cache.specs.Kept.{line_by, tag_at, clean_tag, dirty_tag, dirty_of, IsClean, IsLineCount};
+ghost use Rattle.zf_cache.specs.Kept.{IsAway};
 ghost use Rattle.zf_lines.specs.Rows.{line_at};
-ghost use Rattle.zf_cache.specs.Standing.{state_at, evicted};
+ghost use Rattle.zf_cache.specs.Standing.{evicted};
+ghost use Rattle.zf_cache.specs.Backed.{StepsTo};
 
 use crate::rule::Rule;
 use std::alloc::{AllocError, Global};
@@ -15,9 +17,9 @@ use zf_lines::Lines;
 
 /// A tag for each line, a row of values for each of the first lines, and the counts.
 ///
-/// A tag is 0 for an empty line, `2 * b + 2` for the clean block `b`, and `2 * b + 3` for the dirty block `b`. In which line a block is,
-/// or goes, is told by a `Rule`. A line without a row is empty: where there are
-/// fewer blocks than lines, no rule puts one into the lines beyond.
+/// A tag is 0 for an empty line, `2 * b + 2` for the clean block `b`, and `2 * b + 3` for the dirty block
+/// `b`. In which line a block is, or goes, is told by a `Rule`. A line without a row is empty: where there
+/// are fewer blocks than lines, no rule puts one into the lines beyond.
 #[derive(Drop)]
 pub struct Body<T> {
     pub lines: Lines<T>,
@@ -37,7 +39,8 @@ fn dirty_block(tag: u64) -> Option<u64>
 }
 
 impl<T: Lane> Body<T> {
-    ghost use Rattle.zf_cache.specs.Bodies.{IsMask, IsWhole, IsSound, kept_of, counts_of};
+    ghost use Rattle.zf_cache.specs.Bodies.{AreLines, IsWhole, IsNewBody, IsSound, IsSoundAt, ComesTo};
+    ghost use Rattle.zf_cache.specs.Bodies.{kept_of, state_in};
     ghost use Rattle.zf_cache.specs.Steps.{taken_in, touch_in, with_value};
 
     /// Empty lines, of which the first `rows` have room for `len` values each, and counts of 0.
@@ -45,24 +48,17 @@ impl<T: Lane> Body<T> {
         requires count { IsLineCount lines }
         requires few { rows ≤ lines }
         requires size { len ≤ 2 ^ 8 }
-        ensures whole { IfOk result (λ c. IsWhole c len) }
-        ensures empty { IfOk result (λ c. c.tags.items ≡ replicate lines 0) }
-        ensures rows { IfOk result (λ c. length c.lines ≡ rows) }
-        ensures counts { IfOk result (λ c. counts_of c.counts ≡ no_counts) }
+        ensures { IfOk result (λ c. IsNewBody c lines rows len) }
     {
         Body::empty(alloc, lines, rows, len)
     }
 
     /// The same, of a number of lines to which masks cut.
     pub fn empty(alloc: Global, lines: u32, rows: u32, len: usize) -> Result<Body<T>, AllocError>
-        requires count { (0 < lines) × (lines ≤ 2 ^ 16) }
-        requires mask { IsMask lines }
+        requires lines { AreLines lines }
         requires few { rows ≤ lines }
         requires size { len ≤ 2 ^ 8 }
-        ensures whole { IfOk result (λ c. IsWhole c len) }
-        ensures empty { IfOk result (λ c. c.tags.items ≡ replicate lines 0) }
-        ensures rows { IfOk result (λ c. length c.lines ≡ rows) }
-        ensures counts { IfOk result (λ c. counts_of c.counts ≡ no_counts) }
+        ensures { IfOk result (λ c. IsNewBody c lines rows len) }
     {
         let tags = Vec::from_elem(alloc, 0u64, lines as usize)?;
         let lines = Lines::new(alloc, rows, len, T::zero())?;
@@ -106,9 +102,9 @@ impl<T: Lane> Body<T> {
 
     /// Whether block `b` is in its line and dirty.
     pub fn is_dirty<R: Rule>(&self, b: u64) -> bool
-        requires count { (0 < length self.now.tags.items) × (length self.now.tags.items ≤ 2 ^ 16) }
-        requires mask { IsMask (length self.now.tags.items) }
-        ensures { result ≡ (tag_at self.now.tags.items (line_by R.place (kept_of self.now) b) == dirty_tag b) }
+        requires { AreLines (length self.now.tags.items) }
+        ensures { result
+            ≡ (tag_at self.now.tags.items (line_by R.place (kept_of self.now) b) == dirty_tag b) }
     {
         dirty_block(self.tags[self.line_of::<R>(b) as usize]) == Some(b)
     }
@@ -116,8 +112,7 @@ impl<T: Lane> Body<T> {
     /// The line of block `b`.
     #[inline]
     pub fn line_of<R: Rule>(&self, b: u64) -> u32
-        requires count { (0 < length self.now.tags.items) × (length self.now.tags.items ≤ 2 ^ 16) }
-        requires mask { IsMask (length self.now.tags.items) }
+        requires { AreLines (length self.now.tags.items) }
         ensures place { result ≡ line_by R.place (kept_of self.now) b }
         ensures inside { result < length self.now.tags.items }
     {
@@ -127,8 +122,7 @@ impl<T: Lane> Body<T> {
     /// The line of block `b`, which is there: so the line has a row.
     #[inline]
     pub fn line_holding<R: Rule>(&self, b: u64) -> u32
-        requires count { (0 < length self.now.tags.items) × (length self.now.tags.items ≤ 2 ^ 16) }
-        requires mask { IsMask (length self.now.tags.items) }
+        requires lines { AreLines (length self.now.tags.items) }
         requires blank { (l : ℕ) → length self.now.lines ≤ l → tag_at self.now.tags.items l ≡ 0 }
         requires here { tag_at self.now.tags.items (line_by R.place (kept_of self.now) b) / 2 ≡ b + 1 }
         ensures place { result ≡ line_by R.place (kept_of self.now) b }
@@ -143,13 +137,10 @@ impl<T: Lane> Body<T> {
     pub fn evict<R: Rule, B: Backing<T>>(&mut self, back: &mut B, l: u32)
         requires sound { IsSound R.place T.value self.old (B.format back.old) (B.codes back.old) }
         requires line { l < length self.old.tags.items }
-        ensures sound { IsSound R.place T.value self.new (B.format back.new) (B.codes back.new) }
-        ensures state { state_at R.place T.value (kept_of self.new) (B.format back.new) (B.codes back.new)
-            ≡ evicted (B.format back.old) (state_at R.place T.value (kept_of self.old) (B.format back.old) (B.codes back.old)) l }
+        ensures step { StepsTo B.Reading (state_in R.place T.value) (IsSound R.place T.value)
+            (λ f s. evicted f s l) self.old back.old self.new back.new }
         ensures tags { self.new.tags.items ≡ slice_set self.old.tags.items l 0 }
         ensures lines { self.new.lines ≡ self.old.lines }
-        ensures format { B.format back.new ≡ B.format back.old }
-        ensures kept { B.kept back.new ≡ B.kept back.old }
     {
         if let Some(b) = dirty_block(self.tags[l as usize]) {
             back.store(b, self.lines.line(l));
@@ -168,13 +159,10 @@ impl<T: Lane> Body<T> {
         requires empty { tag_at self.old.tags.items l ≡ 0 }
         requires away { IsAway self.old.tags.items b }
         requires block { (b < (B.format back.old).blocks) × ((B.format back.old).blocks ≤ 2 ^ 32) }
-        ensures sound { IsSound R.place T.value self.new (B.format back.new) (B.codes back.new) }
-        ensures state { state_at R.place T.value (kept_of self.new) (B.format back.new) (B.codes back.new)
-            ≡ taken_in (state_at R.place T.value (kept_of self.old) (B.format back.old) (B.codes back.old)) l b }
+        ensures step { StepsTo B.Reading (state_in R.place T.value) (IsSound R.place T.value)
+            (λ f s. taken_in s l b) self.old back.old self.new back.new }
         ensures tags { self.new.tags.items ≡ slice_set self.old.tags.items l (clean_tag b) }
         ensures lines { self.new.lines ≡ slice_set self.old.lines l (line_at self.new.lines l) }
-        ensures format { B.format back.new ≡ B.format back.old }
-        ensures kept { B.kept back.new ≡ B.kept back.old }
     {
         back.load(b, self.lines.line_mut(l));
         self.tags[l as usize] = 2 * b + 2;
@@ -184,18 +172,10 @@ impl<T: Lane> Body<T> {
     /// Touches block `b`, and gives its line.
     #[inline]
     pub fn touch<R: Rule, B: Backing<T>>(&mut self, back: &mut B, b: u64) -> u32
-        requires sound { IsSound R.place T.value self.old (B.format back.old) (B.codes back.old) }
-        requires block { (b < (B.format back.old).blocks) × ((B.format back.old).blocks ≤ 2 ^ 32) }
-        ensures sound { IsSound R.place T.value self.new (B.format back.new) (B.codes back.new) }
-        ensures state { state_at R.place T.value (kept_of self.new) (B.format back.new) (B.codes back.new)
-            ≡ touch_in (B.format back.old)
-            (state_at R.place T.value (kept_of self.old) (B.format back.old) (B.codes back.old)) result b }
-        ensures line { result ≡ line_by R.place (kept_of self.old) b }
-        ensures row { result < length self.new.lines }
-        ensures here { tag_at self.new.tags.items result / 2 ≡ b + 1 }
-        ensures others { OnlyLine (kept_of self.old) (kept_of self.new) result }
-        ensures format { B.format back.new ≡ B.format back.old }
-        ensures kept { B.kept back.new ≡ B.kept back.old }
+        requires ready { IsSoundAt R.place T.value self.old (B.format back.old) (B.codes back.old) b }
+        ensures step { StepsTo B.Reading (state_in R.place T.value) (IsSound R.place T.value)
+            (λ f s. touch_in f s result b) self.old back.old self.new back.new }
+        ensures line { ComesTo R.place (kept_of self.old) (kept_of self.new) b result }
     {
         let l = self.line_of::<R>(b);
         if self.tags[l as usize] / 2 == b + 1 {
@@ -210,18 +190,11 @@ impl<T: Lane> Body<T> {
     /// Touches block `b` for writing, and gives its line.
     #[inline]
     pub fn touch_for_writing<R: Rule, B: Backing<T>>(&mut self, back: &mut B, b: u64) -> u32
-        requires sound { IsSound R.place T.value self.old (B.format back.old) (B.codes back.old) }
-        requires block { (b < (B.format back.old).blocks) × ((B.format back.old).blocks ≤ 2 ^ 32) }
-        ensures sound { IsSound R.place T.value self.new (B.format back.new) (B.codes back.new) }
-        ensures state { state_at R.place T.value (kept_of self.new) (B.format back.new) (B.codes back.new)
-            ≡ soiled (touch_in (B.format back.old)
-            (state_at R.place T.value (kept_of self.old) (B.format back.old) (B.codes back.old)) result b) b }
-        ensures line { result ≡ line_by R.place (kept_of self.old) b }
-        ensures row { result < length self.new.lines }
+        requires ready { IsSoundAt R.place T.value self.old (B.format back.old) (B.codes back.old) b }
+        ensures step { StepsTo B.Reading (state_in R.place T.value) (IsSound R.place T.value)
+            (λ f s. soiled (touch_in f s result b) b) self.old back.old self.new back.new }
+        ensures line { ComesTo R.place (kept_of self.old) (kept_of self.new) b result }
         ensures dirty { tag_at self.new.tags.items result ≡ dirty_tag b }
-        ensures others { OnlyLine (kept_of self.old) (kept_of self.new) result }
-        ensures format { B.format back.new ≡ B.format back.old }
-        ensures kept { B.kept back.new ≡ B.kept back.old }
     {
         let l = self.touch::<R, B>(back, b);
         self.tags[l as usize] = 2 * b + 3;
@@ -231,20 +204,12 @@ impl<T: Lane> Body<T> {
     /// Touches block `b` where nothing is dirty, so that the backing is only read, and gives its line.
     #[inline]
     pub fn touch_read<R: Rule, B: Reading<T>>(&mut self, back: &mut B, b: u64) -> u32
-        requires sound { IsSound R.place T.value self.old (B.format back.old) (B.codes back.old) }
-        requires block { (b < (B.format back.old).blocks) × ((B.format back.old).blocks ≤ 2 ^ 32) }
+        requires ready { IsSoundAt R.place T.value self.old (B.format back.old) (B.codes back.old) b }
         requires clean { IsClean (kept_of self.old) }
-        ensures sound { IsSound R.place T.value self.new (B.format back.new) (B.codes back.new) }
-        ensures state { state_at R.place T.value (kept_of self.new) (B.format back.new) (B.codes back.new)
-            ≡ touch_in (B.format back.old)
-            (state_at R.place T.value (kept_of self.old) (B.format back.old) (B.codes back.old)) result b }
+        ensures step { StepsTo B.Reading (state_in R.place T.value) (IsSound R.place T.value)
+            (λ f s. touch_in f s result b) self.old back.old self.new back.new }
         ensures clean { IsClean (kept_of self.new) }
-        ensures line { result ≡ line_by R.place (kept_of self.old) b }
-        ensures row { result < length self.new.lines }
-        ensures here { tag_at self.new.tags.items result / 2 ≡ b + 1 }
-        ensures others { OnlyLine (kept_of self.old) (kept_of self.new) result }
-        ensures format { B.format back.new ≡ B.format back.old }
-        ensures kept { B.kept back.new ≡ B.kept back.old }
+        ensures line { ComesTo R.place (kept_of self.old) (kept_of self.new) b result }
     {
         let l = self.line_of::<R>(b);
         if self.tags[l as usize] / 2 == b + 1 {
@@ -258,16 +223,12 @@ impl<T: Lane> Body<T> {
 
     /// Touches block `b` for writing, and puts `v` at its place `p`.
     pub fn set<R: Rule, B: Backing<T>>(&mut self, back: &mut B, b: u64, p: usize, v: T)
-        requires sound { IsSound R.place T.value self.old (B.format back.old) (B.codes back.old) }
-        requires block { (b < (B.format back.old).blocks) × ((B.format back.old).blocks ≤ 2 ^ 32) }
+        requires ready { IsSoundAt R.place T.value self.old (B.format back.old) (B.codes back.old) b }
         requires place { p < (B.format back.old).block_len }
-        ensures sound { IsSound R.place T.value self.new (B.format back.new) (B.codes back.new) }
-        ensures state { state_at R.place T.value (kept_of self.new) (B.format back.new) (B.codes back.new)
-            ≡ with_value (B.format back.old) (soiled (touch_in (B.format back.old)
-            (state_at R.place T.value (kept_of self.old) (B.format back.old) (B.codes back.old))
-            (line_by R.place (kept_of self.old) b) b) b) b p (T.value v) }
-        ensures format { B.format back.new ≡ B.format back.old }
-        ensures kept { B.kept back.new ≡ B.kept back.old }
+        ensures step { StepsTo B.Reading (state_in R.place T.value) (IsSound R.place T.value)
+            (λ f s. with_value f (soiled (touch_in f s (line_by R.place (kept_of self.old) b) b) b) b p
+            (T.value v))
+            self.old back.old self.new back.new }
     {
         let l = self.touch_for_writing::<R, B>(back, b);
         self.lines.line_mut(l)[p] = v;
@@ -276,12 +237,9 @@ impl<T: Lane> Body<T> {
     /// Writes every dirty block back, in the order of lines, and empties all lines.
     pub fn flush<R: Rule, B: Backing<T>>(&mut self, back: &mut B)
         requires sound { IsSound R.place T.value self.old (B.format back.old) (B.codes back.old) }
-        ensures sound { IsSound R.place T.value self.new (B.format back.new) (B.codes back.new) }
-        ensures state { state_at R.place T.value (kept_of self.new) (B.format back.new) (B.codes back.new)
-            ≡ flush (B.format back.old) (state_at R.place T.value (kept_of self.old) (B.format back.old) (B.codes back.old)) }
+        ensures step { StepsTo B.Reading (state_in R.place T.value) (IsSound R.place T.value)
+            (λ f s. flush f s) self.old back.old self.new back.new }
         ensures empty { self.new.tags.items ≡ replicate (length self.old.tags.items) 0 }
-        ensures format { B.format back.new ≡ B.format back.old }
-        ensures kept { B.kept back.new ≡ B.kept back.old }
     {
         for l in 0..self.tags.len() as u32 {
             self.evict::<R, B>(back, l);

@@ -1,15 +1,18 @@
 //! The cache.
-ghost use Rattle.std.specs.Prelude.{◌≡◌, ℕ, ◌+◌, ◌*◌, ◌^◌, ◌<◌, ◌≤◌, ◌↔◌, min, pos, length, map, true, slice_index_or, IsTrue, IfOk, OnOk, OnErr};
+ghost use Rattle.std.specs.Prelude.{◌≡◌, ℕ, ◌+◌, ◌*◌, ◌^◌, ◌<◌, ◌≤◌, ◌↔◌, min, pos, length, true};
+ghost use Rattle.std.specs.Prelude.{slice_index_or};
+ghost use Rattle.std.specs.Prelude.{IsTrue, IfOk, OnOk, OnErr};
 ghost use Rattle.std.specs.Bool.{OnTrue};
 ghost use Rattle.std.specs.Borrow.{sem};
-ghost use Rattle.zf_base.specs.Formats.{existing_of};
 ghost use Rattle.zf_cached.specs.State.{no_counts};
 ghost use Rattle.zf_cached.specs.Touch.{touch, touch_for_writing};
 ghost use Rattle.zf_cached.specs.Changes.{flush, relined};
 ghost use Rattle.zf_lines.specs.Rows.{line_at, part};
-ghost use Rattle.zf_cache.specs.Kept.{IsLineCount, IsClean, IsDirty, IsEmpty, HasBlocks, HasRow, Holds, line_of, is_dirty};
+ghost use Rattle.zf_cache.specs.Kept.{IsLineCount, IsClean, IsDirty, IsEmpty, HasRow, Holds, line_of};
+ghost use Rattle.zf_cache.specs.Kept.{is_dirty};
 ghost use Rattle.zf_cache.specs.Standing.{state_of, values_of, Fits, HasRoom};
 ghost use Rattle.zf_cache.specs.Steps.{put};
+ghost use Rattle.zf_cache.specs.Backed.{Backed, BackedAt, StepsTo, Shows, KeepsFormat};
 
 use crate::body::Body;
 use crate::counts::rows_for;
@@ -21,12 +24,14 @@ use zf_lines::Lines;
 
 /// A cache of blocks of `4^D` values, which stands on a backing that is passed to each call.
 ///
-/// Block `b` has one line, `b` modulo the number of lines. It is seen as the values in its lines, a tag for each of them and
-/// three counts. A cache and the backing that it is used with fit: each line that is not empty holds a block of its own,
-/// a clean one has the values that the block's code means, and the line of each block has room for values. An empty cache fits
-/// every backing that it has room for, and each call leaves the two fitting. Values are stated at the places that exist.
+/// Block `b` has one line, `b` modulo the number of lines. It is seen as the values in its lines, a tag for
+/// each of them and three counts. A cache and the backing that it is used with fit: each line that is not
+/// empty holds a block of its own, a clean one has the values that the block's code means, and the line of
+/// each block has room for values. An empty cache fits every backing that it has room for, and each call
+/// leaves the two fitting. Values are stated at the places that exist.
 ///
-/// Over fewer blocks than lines no block comes into the lines beyond, so `for_blocks` takes no memory for their values.
+/// Over fewer blocks than lines no block comes into the lines beyond, so `for_blocks` takes no memory for
+/// their values.
 #[derive(Drop)]
 pub struct Cache<T, const D: usize> {
     alloc: Global,
@@ -49,7 +54,8 @@ impl<T, const D: usize> Model for Cache<T, D> {
 }
 
 impl<T: Lane, const D: usize> Cache<T, D> {
-    ghost use Rattle.zf_cache.specs.Loans.{EndsWithBlock, EndsWithPart, EndsWithValue, EndsTouched, EndsRead, LendsBlock};
+    ghost use Rattle.zf_cache.specs.Loans.{EndsWithBlock, EndsWithPart, EndsWithValue, EndsTouched, EndsRead};
+    ghost use Rattle.zf_cache.specs.Loans.{LendsBlock};
     ghost use Rattle.zf_cache.specs.Bodies.{counts_of};
 
     /// An empty cache of so many lines, all with room for values. `AllocError`: there was no memory for them.
@@ -82,17 +88,14 @@ impl<T: Lane, const D: usize> Cache<T, D> {
     /// Touches block `b`; the value at its place `p`.
     #[inline]
     pub fn get<B: Backing<T>>(&mut self, back: &mut B, b: u64, p: usize) -> T
-        requires fits { Fits T.value self.old (B.format back.old) (B.codes back.old) }
-        requires blocks { HasBlocks (B.format back.old) D }
-        requires block { b < (B.format back.old).blocks }
+        requires backed { BackedAt B.Reading (Fits T.value) D self.old back.old b }
         requires place { p < 4 ^ D }
-        ensures fits { Fits T.value self.new (B.format back.new) (B.codes back.new) }
-        ensures state { state_of T.value self.new (B.format back.new) (B.codes back.new)
-            ≡ touch (B.format back.old) (state_of T.value self.old (B.format back.old) (B.codes back.old)) b }
+        ensures step { StepsTo B.Reading (state_of T.value) (Fits T.value) (λ f s. touch f s b)
+            self.old back.old self.new back.new }
         ensures value { OnTrue ((B.format back.old).exists b p)
-            (T.value result ≡ slice_index_or (values_of T.value self.new (B.format back.new) (B.codes back.new) b) p (pos 0)) }
-        ensures format { B.format back.new ≡ B.format back.old }
-        ensures kept { B.kept back.new ≡ B.kept back.old }
+            (T.value result ≡ slice_index_or
+            (values_of T.value self.new (B.format back.new) (B.codes back.new) b) p
+            (pos 0)) }
     {
         let l = self.body.touch::<OneLine, B>(back, b);
         self.body.lines.line(l)[p]
@@ -101,15 +104,10 @@ impl<T: Lane, const D: usize> Cache<T, D> {
     /// Touches block `b` for writing, and makes the value at its place `p` be `v`; the others stay.
     #[inline]
     pub fn set<B: Backing<T>>(&mut self, back: &mut B, b: u64, p: usize, v: T)
-        requires fits { Fits T.value self.old (B.format back.old) (B.codes back.old) }
-        requires blocks { HasBlocks (B.format back.old) D }
-        requires block { b < (B.format back.old).blocks }
+        requires backed { BackedAt B.Reading (Fits T.value) D self.old back.old b }
         requires place { p < 4 ^ D }
-        ensures fits { Fits T.value self.new (B.format back.new) (B.codes back.new) }
-        ensures state { state_of T.value self.new (B.format back.new) (B.codes back.new)
-            ≡ put (B.format back.old) (state_of T.value self.old (B.format back.old) (B.codes back.old)) b p (T.value v) }
-        ensures format { B.format back.new ≡ B.format back.old }
-        ensures kept { B.kept back.new ≡ B.kept back.old }
+        ensures step { StepsTo B.Reading (state_of T.value) (Fits T.value) (λ f s. put f s b p (T.value v))
+            self.old back.old self.new back.new }
     {
         self.body.set::<OneLine, B>(back, b, p, v);
     }
@@ -117,15 +115,10 @@ impl<T: Lane, const D: usize> Cache<T, D> {
     /// Touches block `b` for writing, so that `part_mut` can lend parts of it.
     #[inline]
     pub fn touch_mut<B: Backing<T>>(&mut self, back: &mut B, b: u64)
-        requires fits { Fits T.value self.old (B.format back.old) (B.codes back.old) }
-        requires blocks { HasBlocks (B.format back.old) D }
-        requires block { b < (B.format back.old).blocks }
-        ensures fits { Fits T.value self.new (B.format back.new) (B.codes back.new) }
-        ensures state { state_of T.value self.new (B.format back.new) (B.codes back.new)
-            ≡ touch_for_writing (B.format back.old) (state_of T.value self.old (B.format back.old) (B.codes back.old)) b }
+        requires backed { BackedAt B.Reading (Fits T.value) D self.old back.old b }
+        ensures step { StepsTo B.Reading (state_of T.value) (Fits T.value) (λ f s. touch_for_writing f s b)
+            self.old back.old self.new back.new }
         ensures dirty { IsDirty self.new b }
-        ensures format { B.format back.new ≡ B.format back.old }
-        ensures kept { B.kept back.new ≡ B.kept back.old }
     {
         self.body.touch_for_writing::<OneLine, B>(back, b);
     }
@@ -149,7 +142,8 @@ impl<T: Lane, const D: usize> Cache<T, D> {
         requires dirty { IsDirty self.old b }
         requires place { p < 4 ^ D }
         ensures* writes_back { sem 𝓛 (EndsWithValue T.row D.row self.entry b p result) }
-        ensures value { slice_index_or (line_at self.old.lines (line_of self.old b)) p result.now ≡ result.now }
+        ensures value { slice_index_or (line_at self.old.lines (line_of self.old b)) p result.now
+            ≡ result.now }
         ensures size { HasRow self.old b (4 ^ D) }
     {
         let l = self.body.line_holding::<OneLine>(b);
@@ -159,15 +153,10 @@ impl<T: Lane, const D: usize> Cache<T, D> {
     /// Touches block `b`, so that `line` can show it.
     #[inline]
     pub fn touch<B: Backing<T>>(&mut self, back: &mut B, b: u64)
-        requires fits { Fits T.value self.old (B.format back.old) (B.codes back.old) }
-        requires blocks { HasBlocks (B.format back.old) D }
-        requires block { b < (B.format back.old).blocks }
-        ensures fits { Fits T.value self.new (B.format back.new) (B.codes back.new) }
-        ensures state { state_of T.value self.new (B.format back.new) (B.codes back.new)
-            ≡ touch (B.format back.old) (state_of T.value self.old (B.format back.old) (B.codes back.old)) b }
+        requires backed { BackedAt B.Reading (Fits T.value) D self.old back.old b }
+        ensures step { StepsTo B.Reading (state_of T.value) (Fits T.value) (λ f s. touch f s b)
+            self.old back.old self.new back.new }
         ensures here { Holds self.new b }
-        ensures format { B.format back.new ≡ B.format back.old }
-        ensures kept { B.kept back.new ≡ B.kept back.old }
     {
         self.body.touch::<OneLine, B>(back, b);
     }
@@ -186,33 +175,28 @@ impl<T: Lane, const D: usize> Cache<T, D> {
     /// Touches block `b`; its `4^D` values.
     #[inline]
     pub fn block<B: Backing<T>>(&mut self, back: &mut B, b: u64) -> &[T]
-        requires fits { Fits T.value self.old (B.format back.old) (B.codes back.old) }
-        requires blocks { HasBlocks (B.format back.old) D }
-        requires block { b < (B.format back.old).blocks }
+        requires backed { BackedAt B.Reading (Fits T.value) D self.old back.old b }
         ensures* touched { sem 𝓛 (EndsTouched T.row D.row self.entry T.value (B.format back.old)
             (B.codes back.old) (B.codes back.new) b) }
-        ensures value { existing_of (B.format back.old) b (map T.value result.now) ≡ (touch (B.format back.old)
-            (state_of T.value self.old (B.format back.old) (B.codes back.old)) b).values b }
-        ensures size { length result.now ≡ 4 ^ D }
-        ensures format { B.format back.new ≡ B.format back.old }
-        ensures kept { B.kept back.new ≡ B.kept back.old }
+        ensures shows { Shows B.Reading T.value
+            (touch (B.format back.old) (state_of T.value self.old (B.format back.old) (B.codes back.old)) b)
+            D b result.now back.old back.new }
     {
         let l = self.body.touch::<OneLine, B>(back, b);
         self.body.lines.line(l)
     }
 
-    /// Touches block `b` for writing; its `4^D` values. What is written to them is the block's value afterwards.
+    /// Touches block `b` for writing; its `4^D` values. What is written to them is the block's value
+    /// afterwards.
     #[inline]
     pub fn block_mut<B: Backing<T>>(&mut self, back: &mut B, b: u64) -> &mut [T]
-        requires fits { Fits T.value self.old (B.format back.old) (B.codes back.old) }
-        requires blocks { HasBlocks (B.format back.old) D }
-        requires block { b < (B.format back.old).blocks }
+        requires backed { BackedAt B.Reading (Fits T.value) D self.old back.old b }
         ensures* writes_back { sem 𝓛 (EndsWithBlock T.row D.row self.entry T.value (B.format back.old)
             (B.codes back.old) b result) }
-        ensures loan { LendsBlock T.value (B.format back.old) (B.codes back.old) (B.codes back.new) self.old b result.now }
+        ensures loan { LendsBlock T.value (B.format back.old) (B.codes back.old) (B.codes back.new) self.old b
+            result.now }
         ensures size { length result.now ≡ 4 ^ D }
-        ensures format { B.format back.new ≡ B.format back.old }
-        ensures kept { B.kept back.new ≡ B.kept back.old }
+        ensures keeps { KeepsFormat B.Reading back.old back.new }
     {
         let l = self.body.touch_for_writing::<OneLine, B>(back, b);
         self.body.lines.line_mut(l)
@@ -220,14 +204,10 @@ impl<T: Lane, const D: usize> Cache<T, D> {
 
     /// Writes every dirty block back, in the order of lines; then the cache is empty.
     pub fn flush<B: Backing<T>>(&mut self, back: &mut B)
-        requires fits { Fits T.value self.old (B.format back.old) (B.codes back.old) }
-        requires blocks { HasBlocks (B.format back.old) D }
-        ensures fits { Fits T.value self.new (B.format back.new) (B.codes back.new) }
-        ensures state { state_of T.value self.new (B.format back.new) (B.codes back.new)
-            ≡ flush (B.format back.old) (state_of T.value self.old (B.format back.old) (B.codes back.old)) }
+        requires backed { Backed B.Reading (Fits T.value) D self.old back.old }
+        ensures step { StepsTo B.Reading (state_of T.value) (Fits T.value) (λ f s. flush f s)
+            self.old back.old self.new back.new }
         ensures empty { IsEmpty self.new (length self.old.tags) }
-        ensures format { B.format back.new ≡ B.format back.old }
-        ensures kept { B.kept back.new ≡ B.kept back.old }
     {
         self.body.flush::<OneLine, B>(back)
     }
@@ -244,17 +224,16 @@ impl<T: Lane, const D: usize> Cache<T, D> {
     /// A flush, and then this number of lines, those beyond the number of blocks with no room for values. The
     /// memory is taken first: after `AllocError` nothing has changed.
     pub fn relined<B: Backing<T>>(&mut self, back: &mut B, lines: u32) -> Result<(), AllocError>
-        requires fits { Fits T.value self.old (B.format back.old) (B.codes back.old) }
-        requires blocks { HasBlocks (B.format back.old) D }
+        requires backed { Backed B.Reading (Fits T.value) D self.old back.old }
         requires count { IsLineCount lines }
         ensures fits { Fits T.value self.new (B.format back.new) (B.codes back.new) }
         ensures ok { OnOk result (state_of T.value self.new (B.format back.new) (B.codes back.new)
-            ≡ relined (B.format back.old) (state_of T.value self.old (B.format back.old) (B.codes back.old)) lines) }
+            ≡ relined (B.format back.old)
+            (state_of T.value self.old (B.format back.old) (B.codes back.old)) lines) }
         ensures empty { OnOk result (IsEmpty self.new lines) }
         ensures rows { OnOk result (length self.new.lines ≡ min lines (B.format back.old).blocks) }
         ensures err { OnErr result ((self.new ≡ self.old) × (B.codes back.new ≡ B.codes back.old)) }
-        ensures format { B.format back.new ≡ B.format back.old }
-        ensures kept { B.kept back.new ≡ B.kept back.old }
+        ensures keeps { KeepsFormat B.Reading back.old back.new }
     {
         let blocks = back.blocks();
         let rows = rows_for(lines, blocks);
@@ -267,19 +246,16 @@ impl<T: Lane, const D: usize> Cache<T, D> {
     /// As `get`, over a backing that is only read. Nothing is dirty.
     #[inline]
     pub fn get_read<B: Reading<T>>(&mut self, back: &mut B, b: u64, p: usize) -> T
-        requires fits { Fits T.value self.old (B.format back.old) (B.codes back.old) }
-        requires blocks { HasBlocks (B.format back.old) D }
-        requires block { b < (B.format back.old).blocks }
+        requires backed { BackedAt B.Reading (Fits T.value) D self.old back.old b }
         requires clean { IsClean self.old }
         requires place { p < 4 ^ D }
-        ensures fits { Fits T.value self.new (B.format back.new) (B.codes back.new) }
-        ensures state { state_of T.value self.new (B.format back.new) (B.codes back.new)
-            ≡ touch (B.format back.old) (state_of T.value self.old (B.format back.old) (B.codes back.old)) b }
+        ensures step { StepsTo B.Reading (state_of T.value) (Fits T.value) (λ f s. touch f s b)
+            self.old back.old self.new back.new }
         ensures clean { IsClean self.new }
         ensures value { OnTrue ((B.format back.old).exists b p)
-            (T.value result ≡ slice_index_or (values_of T.value self.new (B.format back.new) (B.codes back.new) b) p (pos 0)) }
-        ensures format { B.format back.new ≡ B.format back.old }
-        ensures kept { B.kept back.new ≡ B.kept back.old }
+            (T.value result ≡ slice_index_or
+            (values_of T.value self.new (B.format back.new) (B.codes back.new) b) p
+            (pos 0)) }
     {
         let l = self.body.touch_read::<OneLine, B>(back, b);
         self.body.lines.line(l)[p]
@@ -288,17 +264,12 @@ impl<T: Lane, const D: usize> Cache<T, D> {
     /// As `touch`, over a backing that is only read. Nothing is dirty.
     #[inline]
     pub fn touch_read<B: Reading<T>>(&mut self, back: &mut B, b: u64)
-        requires fits { Fits T.value self.old (B.format back.old) (B.codes back.old) }
-        requires blocks { HasBlocks (B.format back.old) D }
-        requires block { b < (B.format back.old).blocks }
+        requires backed { BackedAt B.Reading (Fits T.value) D self.old back.old b }
         requires clean { IsClean self.old }
-        ensures fits { Fits T.value self.new (B.format back.new) (B.codes back.new) }
-        ensures state { state_of T.value self.new (B.format back.new) (B.codes back.new)
-            ≡ touch (B.format back.old) (state_of T.value self.old (B.format back.old) (B.codes back.old)) b }
+        ensures step { StepsTo B.Reading (state_of T.value) (Fits T.value) (λ f s. touch f s b)
+            self.old back.old self.new back.new }
         ensures clean { IsClean self.new }
         ensures here { Holds self.new b }
-        ensures format { B.format back.new ≡ B.format back.old }
-        ensures kept { B.kept back.new ≡ B.kept back.old }
     {
         self.body.touch_read::<OneLine, B>(back, b);
     }
@@ -306,23 +277,20 @@ impl<T: Lane, const D: usize> Cache<T, D> {
     /// As `block`, over a backing that is only read. Nothing is dirty.
     #[inline]
     pub fn block_read<B: Reading<T>>(&mut self, back: &mut B, b: u64) -> &[T]
-        requires fits { Fits T.value self.old (B.format back.old) (B.codes back.old) }
-        requires blocks { HasBlocks (B.format back.old) D }
-        requires block { b < (B.format back.old).blocks }
+        requires backed { BackedAt B.Reading (Fits T.value) D self.old back.old b }
         requires clean { IsClean self.old }
         ensures* touched { sem 𝓛 (EndsRead T.row D.row self.entry T.value (B.format back.old)
             (B.codes back.old) (B.codes back.new) b) }
-        ensures value { existing_of (B.format back.old) b (map T.value result.now) ≡ (touch (B.format back.old)
-            (state_of T.value self.old (B.format back.old) (B.codes back.old)) b).values b }
-        ensures size { length result.now ≡ 4 ^ D }
-        ensures format { B.format back.new ≡ B.format back.old }
-        ensures kept { B.kept back.new ≡ B.kept back.old }
+        ensures shows { Shows B.Reading T.value
+            (touch (B.format back.old) (state_of T.value self.old (B.format back.old) (B.codes back.old)) b)
+            D b result.now back.old back.new }
     {
         let l = self.body.touch_read::<OneLine, B>(back, b);
         self.body.lines.line(l)
     }
 
-    /// As `relined`, where nothing is dirty: the cache is empty, and its counts go on. All lines have room for values.
+    /// As `relined`, where nothing is dirty: the cache is empty, and its counts go on. All lines have room
+    /// for values.
     pub fn relined_read(&mut self, lines: u32) -> Result<(), AllocError>
         requires clean { IsClean self.old }
         requires count { IsLineCount lines }
@@ -335,7 +303,8 @@ impl<T: Lane, const D: usize> Cache<T, D> {
         Ok(())
     }
 
-    /// As `relined_read`, over a backing of so many blocks: the lines beyond that number have no room for values.
+    /// As `relined_read`, over a backing of so many blocks: the lines beyond that number have no room for
+    /// values.
     pub fn relined_read_for(&mut self, lines: u32, blocks: u64) -> Result<(), AllocError>
         requires clean { IsClean self.old }
         requires count { IsLineCount lines }
@@ -350,8 +319,8 @@ impl<T: Lane, const D: usize> Cache<T, D> {
         Ok(())
     }
 
-    /// An empty cache of as many lines and with the same counts, over a backing of so many blocks. `AllocError`: there
-    /// was no memory for it.
+    /// An empty cache of as many lines and with the same counts, over a backing of so many blocks.
+    /// `AllocError`: there was no memory for it.
     pub fn emptied_for(&self, blocks: u64) -> Result<Cache<T, D>, AllocError>
         ensures empty { IfOk result (λ c. IsEmpty c (length self.now.tags)) }
         ensures counts { IfOk result (λ c. c.counts ≡ self.now.counts) }

@@ -22,7 +22,8 @@ pub fn raised(lines: u32) -> u32
     count
 }
 
-/// The number of lines that an array of this shape has by itself: the least power of two whose square is at least its number of blocks.
+/// The number of lines that an array of this shape has by itself: the least power of two whose square is at
+/// least its number of blocks.
 pub fn default_lines(shape: &Shape) -> u32
     ensures value { result ≡ default_count (blocks shape.now) }
     ensures count { IsLineCount result }
@@ -38,8 +39,8 @@ pub fn default_lines(shape: &Shape) -> u32
     count
 }
 
-/// How many of so many lines have room for values over so many blocks. No rule puts one of these blocks into a line beyond: so a line
-/// beyond takes no memory for values.
+/// How many of so many lines have room for values over so many blocks. No rule puts one of these blocks into
+/// a line beyond: so a line beyond takes no memory for values.
 pub fn rows_for(lines: u32, blocks: u64) -> u32
     ensures { result ≡ min lines blocks }
 {

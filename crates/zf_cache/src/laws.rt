@@ -1,4 +1,5 @@
-//! Laws of caches over any backing. Each is a function with no parameters and an empty body, whose contract is the theorem.
+//! Laws of caches over any backing. Each is a function with no parameters and an empty body, whose contract
+//! is the theorem.
 
 ghost use Rattle.std.specs.Prelude.{◌≡◌, ◌<◌, ℕ, List, length, map};
 ghost use Rattle.zf_base.specs.Formats.{existing_of};
@@ -17,14 +18,16 @@ pub fn empty_caches_fit<T: Lane, B: Reading<T>>()
         → Fits T.value c (B.format back) (B.codes back) }
 {}
 
-/// What `discard` does is the discard of the state that cache and backing stand for, and the two fit afterwards.
+/// What `discard` does is the discard of the state that cache and backing stand for, and the two fit
+/// afterwards.
 pub fn discards<T: Lane, B: Reading<T>>()
     ensures state { (c d : Kept T) (back : B) → Fits T.value c (B.format back) (B.codes back)
         → IsEmpty d (length c.tags) → d.counts ≡ c.counts
         → state_of T.value d (B.format back) (B.codes back)
         ≡ discard (B.format back) (state_of T.value c (B.format back) (B.codes back)) }
     ensures fits { (c d : Kept T) (back : B) → Fits T.value c (B.format back) (B.codes back)
-        → IsEmpty d (length c.tags) → length d.lines ≡ length c.lines → Fits T.value d (B.format back) (B.codes back) }
+        → IsEmpty d (length c.tags) → length d.lines ≡ length c.lines
+        → Fits T.value d (B.format back) (B.codes back) }
 {}
 
 /// What `relined_read` does is a new number of lines, where nothing is dirty.
@@ -37,9 +40,11 @@ pub fn relines_what_is_clean<T: Lane, B: Reading<T>>()
 
 /// What is written through `part_mut` is the block's value there afterwards; all others stay.
 pub fn writes_parts<T: Lane, B: Reading<T>>()
-    ensures { (c : Kept T) (b a n : ℕ) (ws : List T) (back : B) → Fits T.value c (B.format back) (B.codes back)
+    ensures { (c : Kept T) (b a n : ℕ) (ws : List T) (back : B)
+        → Fits T.value c (B.format back) (B.codes back)
         → IsDirty c b → line_of c b < length c.lines
-        → StandsFor T.value (record c { lines = with_part c.lines (line_of c b) a n ws }) (B.format back) (B.codes back)
+        → StandsFor T.value (record c { lines = with_part c.lines (line_of c b) a n ws }) (B.format back)
+        (B.codes back)
         (with_values (state_of T.value c (B.format back) (B.codes back)) b
         (existing_of (B.format back) b (map T.value (over_part (line_at c.lines (line_of c b)) a n ws)))) }
 {}

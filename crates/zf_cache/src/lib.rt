@@ -1,4 +1,5 @@
-//! A write-back cache of blocks over any backing: direct-mapped, a block a line, with the number of lines a power of two.
+//! A write-back cache of blocks over any backing: direct-mapped, a block a line, with the number of lines a
+//! power of two.
 #![tactic(auto)]
 
 mod body;

@@ -1,5 +1,5 @@
 -- Codes that are read where they begin, and what a stream of them says.
-use Rattle.std.proofs.Common.{◌≡◌, refl, sym, ap, subst, ◌∙◌, inl, inr, ⊎_elim, ℕ, zero, suc, ◌+◌, ◌-◌, ◌*◌, ◌%◌, ◌^◌, ◌<◌, ◌≤◌, Bool, ℤ, Option, Some, None, Result, Ok, Err, List, [], ◌∷◌, ◌++◌, map, length, get_or, take, drop, length-append, length-drop, arith}
+use Rattle.std.proofs.Common.{◌≡◌, refl, sym, ap, subst, ◌∙◌, inl, inr, ⊎_elim, ℕ, zero, suc, ◌+◌, ◌-◌, ◌%◌, ◌^◌, ◌<◌, ◌≤◌, Bool, ℤ, Option, Some, None, Result, Ok, Err, List, [], ◌∷◌, ◌++◌, map, length, get_or, take, drop, length-append, length-drop, arith}
 use Rattle.std.proofs.lemmas.Bool.{cases_lt}
 use Rattle.std.specs.Result.{result_map_both}
 use Rattle.std.proofs.lemmas.Simd.{map-map}
@@ -12,7 +12,7 @@ use Rattle.zf_base.specs.Positions.{with_unused}
 use Rattle.zf_base.proofs.Sizes.{grid_of_shape}
 use Rattle.zf_bits.specs.Reader.{Reader, rest}
 use Rattle.zf_header.specs.declared.header.Header.{Header}
-use Rattle.zf_header.specs.HeaderBits.{header_bits, IsHeader}
+use Rattle.zf_header.specs.HeaderBits.{IsHeader}
 use Rattle.zf_header.proofs.Good.{good}
 use Rattle.zf_header.proofs.Found.{read_is_header}
 use Rattle.zf_parse.specs.declared.fault.StreamFault.{StreamFault}
@@ -143,45 +143,45 @@ module _ (bytes : List ℕ) (h : Header) (has : HasHeader bytes h) where
   pub is_header : IsHeader h
   is_header = subst IsHeader (sym has.header) (read_is_header bytes (good bytes (sym has.good)))
 
-  module _ (start : ℕ) (is : start ≡ length (header_bits h)) (inside : start ≤ 8 * length bytes) where
-    begun : BeginsWithHeader bytes h start
-    begun = record { good = has.good; header = has.header; bits_is = is; within = inside }
+module _ (bytes : List ℕ) (h : Header) (start : ℕ) (begun : BeginsWithHeader bytes h start) where
+  pub has_header : HasHeader bytes h
+  has_header = record { good = begun.good; header = begun.header }
 
-    pub fault_is : (r : Reader) (e : IndexFault) → r.all ≡ to_bits bytes → r.at ≡ start → HasFault h r e → IsFault (parse bytes) (stream_fault e)
-    fault_is r e all at fault =
-        let bits = to_bits bytes in
-        let left : rest r ≡ drop start bits = ap (λ (s : List Bool). drop r.at s) all ∙ ap (λ k. drop k bits) at in
-        ⊎_elim
-        (λ said. inl
-        (parse_behind bytes h start begun
-        ∙ ap (λ (s : List Bool). said_behind h (length bits) s) (sym left)
-        ∙ ap (λ (s : List Bool). said_behind h (length s) (rest r)) (sym all) ∙ said))
-        (λ starved. inr (ap stream_fault starved)) fault
+  pub fault_is : (r : Reader) (e : IndexFault) → r.all ≡ to_bits bytes → r.at ≡ start → HasFault h r e → IsFault (parse bytes) (stream_fault e)
+  fault_is r e all at fault =
+      let bits = to_bits bytes in
+      let left : rest r ≡ drop start bits = ap (λ (s : List Bool). drop r.at s) all ∙ ap (λ k. drop k bits) at in
+      ⊎_elim
+      (λ said. inl
+      (parse_behind bytes h start begun
+      ∙ ap (λ (s : List Bool). said_behind h (length bits) s) (sym left)
+      ∙ ap (λ (s : List Bool). said_behind h (length s) (rest r)) (sym all) ∙ said))
+      (λ starved. inr (ap stream_fault starved)) fault
 
-    pub index_is : (lens : List ℕ) → length (to_bits bytes) < 2 ^ 64 → IsWalked h (to_bits bytes) (record { start = start; lens = lens }) → IsIndexOf bytes h (record { start = start; lens = lens })
-    index_is lens small walked =
-        let bits = to_bits bytes in
-        let i : Index = record { start = start; lens = lens } in
-        let cs = codes_in i bits in
-        let said : Said = record { header = h; codes = cs; values = values_of_blocks h.shape (blocks_found h i bits) } in
-        let long : (b : ℕ) → b < length lens → length (code_in i bits b) ≡ len_at i b =
-        λ b lt. length-take-le (len_at i b) (drop (place i b) bits) (omega (arith, length-drop (place i b) bits, ends_within i b (length lens) lt, walked.within)) in
-        record {
-          start = is;
-          count = walked.count;
-          said = parse_behind bytes h start begun ∙ answer_behind h i bits walked.read walked.count walked.within
-              ∙ ap (λ (r : Result (Unit {0}) StreamFault). result_map_both (λ good. said) (λ e. e) r) walked.fill;
-          lens = lens_are i bits long;
-          read = walked.read;
-          within = walked.within;
-          small = small;
-        }
-      where
-        lens_are : (i : Index) (bits : List Bool) → ((b : ℕ) → b < length i.lens → length (code_in i bits b) ≡ len_at i b) → map length (codes_in i bits) ≡ i.lens
-        lens_are i bits long = lengths (code_in i bits) i.lens (length i.lens) refl long
-          where
-            lengths : (f : ℕ → List Bool) (xs : List ℕ) (n : ℕ) → length xs ≡ n → ((b : ℕ) → b < n → length (f b) ≡ get_or xs b 0) → map length (map f (upto n)) ≡ xs
-            lengths f xs n long each = map-map length f (upto n) ∙ from_places (λ b. length (f b)) n 0 xs long (λ b lt. sym (each b lt))
+  pub index_is : (lens : List ℕ) → length (to_bits bytes) < 2 ^ 64 → IsWalked h (to_bits bytes) (record { start = start; lens = lens }) → IsIndexOf bytes h (record { start = start; lens = lens })
+  index_is lens small walked =
+      let bits = to_bits bytes in
+      let i : Index = record { start = start; lens = lens } in
+      let cs = codes_in i bits in
+      let said : Said = record { header = h; codes = cs; values = values_of_blocks h.shape (blocks_found h i bits) } in
+      let long : (b : ℕ) → b < length lens → length (code_in i bits b) ≡ len_at i b =
+      λ b lt. length-take-le (len_at i b) (drop (place i b) bits) (omega (arith, length-drop (place i b) bits, ends_within i b (length lens) lt, walked.within)) in
+      record {
+        start = begun.bits_is;
+        count = walked.count;
+        said = parse_behind bytes h start begun ∙ answer_behind h i bits walked.read walked.count walked.within
+            ∙ ap (λ (r : Result (Unit {0}) StreamFault). result_map_both (λ good. said) (λ e. e) r) walked.fill;
+        lens = lens_are i bits long;
+        read = walked.read;
+        within = walked.within;
+        small = small;
+      }
+    where
+      lens_are : (i : Index) (bits : List Bool) → ((b : ℕ) → b < length i.lens → length (code_in i bits b) ≡ len_at i b) → map length (codes_in i bits) ≡ i.lens
+      lens_are i bits long = lengths (code_in i bits) i.lens (length i.lens) refl long
+        where
+          lengths : (f : ℕ → List Bool) (xs : List ℕ) (n : ℕ) → length xs ≡ n → ((b : ℕ) → b < n → length (f b) ≡ get_or xs b 0) → map length (map f (upto n)) ≡ xs
+          lengths f xs n long each = map-map length f (upto n) ∙ from_places (λ b. length (f b)) n 0 xs long (λ b lt. sym (each b lt))
 
 -- an array has a block
 pub blocks_some : (bytes : List ℕ) (h : Header) → HasHeader bytes h → 0 < blocks h.shape

@@ -1,5 +1,6 @@
 -- The index of a stream, and why there is none.
-use Rattle.std.specs.Prelude.{ℕ, ◌≡◌, ◌<◌, ◌≤◌, ◌^◌, ℤ, Bool, List, [], map, length, drop, Option, Some, None, Ok}
+use Rattle.std.specs.Prelude.{ℕ, ◌≡◌, ◌<◌, ◌≤◌, ◌^◌, ℤ, Bool, List, [], map, length, drop, Option, Some, None}
+use Rattle.std.specs.Prelude.{Ok}
 use Rattle.zf_spec.specs.Grid.{upto, blocks, extent_of}
 use Rattle.zf_spec.specs.Stream.{to_bits}
 use Rattle.zf_base.specs.Widths.{width_of}
@@ -38,12 +39,18 @@ AreRead h i s = (b : ℕ) → b < length i.lens → len_read (found h i s b) ≡
 abbrev pub blocks_found : Header → Index → List Bool → List (List ℤ)
 blocks_found h i s = map (λ b. block_read (found h i s b)) (upto (length i.lens))
 
--- an index of the codes of these bytes: the first code begins behind the header, and there is one for each block; what the bytes say are
--- the bits of the spans, as codes, and the blocks that are read there. A word counts their bits
+-- an index of the codes of these bytes: the first code begins behind the header, and there is one for each
+-- block; what the bytes say are the bits of the spans, as codes, and the blocks that are read there. A word
+-- counts their bits
 pub record IsIndexOf (bytes : List ℕ) (h : Header) (i : Index) : Type 0 where
   pub start : i.start ≡ length (header_bits h)
   pub count : length i.lens ≡ blocks h.shape
-  pub said : parse bytes ≡ Ok (record { header = h; codes = codes_in i (to_bits bytes); values = values_of_blocks h.shape (blocks_found h i (to_bits bytes)) })
+  pub said : parse bytes ≡ Ok
+      (record {
+        header = h;
+        codes = codes_in i (to_bits bytes);
+        values = values_of_blocks h.shape (blocks_found h i (to_bits bytes));
+      })
   pub lens : map length (codes_in i (to_bits bytes)) ≡ i.lens
   pub read : AreRead h i (to_bits bytes)
   pub within : place i (length i.lens) ≤ length (to_bits bytes)

@@ -27,13 +27,18 @@ pub record IsOpenable (Does : Mode → Type 0) (ty : Ty) (d : ℕ) (bytes : List
 -- why bytes have no such header: the first fault of their header, their type, their dimensions and their mode
 abbrev pub LacksHeader : (Mode → Type 0) → Ty → ℕ → List ℕ → OpenFault → Type 0
 LacksHeader Does ty d bytes (open_fault.Header f) = header_fault bytes ≡ Some f
-LacksHeader Does ty d bytes (open_fault.Ty found) = (header_fault bytes ≡ None) × (found ≡ (header_of bytes).ty) × (found ≢ ty)
-LacksHeader Does ty d bytes (open_fault.Dims found) = (header_fault bytes ≡ None) × ((header_of bytes).ty ≡ ty) × (found ≡ length (header_of bytes).shape) × (found ≢ d)
-LacksHeader Does ty d bytes (open_fault.Mode found) = IsOpenable AnyMode ty d bytes (header_of bytes) × (found ≡ (header_of bytes).mode) × (Does found → ⊥)
+LacksHeader Does ty d bytes (open_fault.Ty found) =
+    (header_fault bytes ≡ None) × (found ≡ (header_of bytes).ty) × (found ≢ ty)
+LacksHeader Does ty d bytes (open_fault.Dims found) =
+    (header_fault bytes ≡ None) × ((header_of bytes).ty ≡ ty) × (found ≡ length (header_of bytes).shape)
+    × (found ≢ d)
+LacksHeader Does ty d bytes (open_fault.Mode found) =
+    IsOpenable AnyMode ty d bytes (header_of bytes) × (found ≡ (header_of bytes).mode) × (Does found → ⊥)
 LacksHeader Does ty d bytes (open_fault.Codes f) = ⊥
 
--- why bytes are not opened as an array of this type in d dimensions, in a mode that will do: they have no such header, or there is a fault
--- behind it
+-- why bytes are not opened as an array of this type in d dimensions, in a mode that will do: they have no
+-- such header, or there is a fault behind it
 abbrev pub IsUnopened : (Mode → Type 0) → Ty → ℕ → List ℕ → OpenFault → Type 0
-IsUnopened Does ty d bytes (open_fault.Codes f) = IsOpenable Does ty d bytes (header_of bytes) × IsFault (parse bytes) (stream_fault f)
+IsUnopened Does ty d bytes (open_fault.Codes f) = IsOpenable Does ty d bytes (header_of bytes)
+    × IsFault (parse bytes) (stream_fault f)
 IsUnopened Does ty d bytes e = LacksHeader Does ty d bytes e

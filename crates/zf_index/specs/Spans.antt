@@ -1,5 +1,7 @@
--- Codes that stand one after another: where each begins, and how long it is. Places and lengths are counted in bits.
-use Rattle.std.specs.Prelude.{ℕ, zero, suc, ◌≡◌, ◌+◌, ◌*◌, ◌<◌, ◌≤◌, ◌^◌, Bool, List, map, length, take, drop, replicate, slice_index_or}
+-- Codes that stand one after another: where each begins, and how long it is. Places and lengths are counted
+-- in bits.
+use Rattle.std.specs.Prelude.{ℕ, zero, suc, ◌≡◌, ◌+◌, ◌*◌, ◌<◌, ◌≤◌, ◌^◌, Bool, List, map, length, take, drop}
+use Rattle.std.specs.Prelude.{replicate, slice_index_or}
 use Rattle.zf_spec.specs.Grid.{upto}
 use Rattle.zf_index.specs.declared.span.Span.{Span}
 use Rattle.zf_index.specs.declared.index.Kept.{Kept}
@@ -40,7 +42,8 @@ even_index start len count = record { start = start; lens = replicate count len 
 abbrev pub index_of : List ℕ → List ℕ → Index
 index_of places lens = record { start = slice_index_or places 0 0; lens = lens }
 
--- these are the places of the first code of each so many; they reach to the last code, and all codes end within a word's numbers
+-- these are the places of the first code of each so many; they reach to the last code, and all codes end
+-- within a word's numbers
 pub record ArePlaces (step : ℕ) (i : Index) (places : List ℕ) : Type 0 where
   pub each : (c : ℕ) → c < length places → slice_index_or places c 0 ≡ place i (step * c)
   pub enough : length i.lens ≤ step * length places

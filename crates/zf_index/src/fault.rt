@@ -8,7 +8,8 @@ use zf_header::{HeaderFault, Mode};
 /// Why the codes of a file with a good header are not all there, or are not taken.
 #[derive(Clone, Copy, Debug, PartialEq, Eq, Error)]
 pub enum IndexFault {
-    /// The code of this block is the first that ends too early. It is the number of blocks where only fill bits are missing.
+    /// The code of this block is the first that ends too early. It is the number of blocks where only fill
+    /// bits are missing.
     #[error("the file ends within block {0}")]
     Truncated(u64),
     /// A bit of the fill is one.
@@ -33,7 +34,8 @@ impl From<AllocError> for IndexFault {
     }
 }
 
-/// Why a file was not opened as an array of a type of values and a number of dimensions. The first that holds, in this order.
+/// Why a file was not opened as an array of a type of values and a number of dimensions. The first that
+/// holds, in this order.
 #[derive(Clone, Copy, Debug, PartialEq, Eq, Error)]
 pub enum OpenFault {
     /// It does not begin with a header that is read.

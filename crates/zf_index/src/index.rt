@@ -1,10 +1,9 @@
 //! Indexes of codes.
 
 ghost use Rattle.std.specs.Prelude.{◌≡◌, ◌+◌, ◌*◌, ◌<◌, ◌≤◌, ◌^◌, length, IfOk, IfErr};
-ghost use Rattle.zf_header.specs.HeaderBits.{header_bits};
 ghost use Rattle.zf_header.specs.declared.header.Mode.TheVariants as Mode;
 ghost use Rattle.zf_parse.specs.Parsing.{parse};
-ghost use Rattle.zf_parse.specs.ReadStreams.{IsFault};
+ghost use Rattle.zf_parse.specs.ReadStreams.{BeginsWithHeader, IsFault};
 ghost use Rattle.zf_index.specs.Spans.{Index, index_of, place, span_at, ArePlaces, IsKept};
 ghost use Rattle.zf_index.specs.Files.{HasHeader, IsIndexOf, stream_fault};
 
@@ -14,8 +13,8 @@ use std::alloc::{AllocError, Global};
 use std::marker::Model;
 use zf_header::{Header, Mode};
 
-/// The spans of the codes of a stream. At a fixed rate each code has as many bits, and its place is computed; else there are a
-/// place for each `STEP` blocks and a length of 16 bits for each block.
+/// The spans of the codes of a stream. At a fixed rate each code has as many bits, and its place is computed;
+/// else there are a place for each `STEP` blocks and a length of 16 bits for each block.
 ///
 /// It is seen as where the first code begins, and how long each is.
 #[derive(Drop)]
@@ -68,7 +67,7 @@ impl<const STEP: usize> Spans<STEP> {
         }
     }
 
-    // The same at a fixed rate, where the header has `start` bits. No code is looked at.
+    // The index at a fixed rate, where the header has `start` bits. No code is looked at.
     fn even(
         alloc: Global,
         h: &Header,
@@ -76,10 +75,8 @@ impl<const STEP: usize> Spans<STEP> {
         file: &[u8],
         start: u64,
     ) -> Result<Self, IndexFault>
-        requires header { HasHeader file.now h.now }
+        requires begun { BeginsWithHeader file.now h.now start }
         requires rate { h.now.mode ≡ Mode.Rate rate }
-        requires start { start ≡ length (header_bits h.now) }
-        requires within { start ≤ 8 * length file.now }
         ensures ok { IfOk result (IsIndexOf file.now h.now) }
         ensures fault { IfErr result (λ e. IsFault (parse file.now) (stream_fault e)) }
     {
@@ -93,12 +90,10 @@ impl<const STEP: usize> Spans<STEP> {
         })
     }
 
-    // The same in any mode, by a walk over the codes.
+    // The index in any mode, by a walk over the codes, where the header has `start` bits.
     fn listed(alloc: Global, h: &Header, file: &[u8], start: u64) -> Result<Self, IndexFault>
-        requires header { HasHeader file.now h.now }
+        requires begun { BeginsWithHeader file.now h.now start }
         requires step { 0 < STEP }
-        requires start { start ≡ length (header_bits h.now) }
-        requires within { start ≤ 8 * length file.now }
         ensures ok { IfOk result (IsIndexOf file.now h.now) }
         ensures fault { IfErr result (λ e. IsFault (parse file.now) (stream_fault e)) }
     {
@@ -109,7 +104,8 @@ impl<const STEP: usize> Spans<STEP> {
         })
     }
 
-    /// The place and the length of the code of block `b`, in bits. The header's bits stand in front of the first.
+    /// The place and the length of the code of block `b`, in bits. The header's bits stand in front of the
+    /// first.
     pub fn span(&self, b: u64) -> Span
         requires { b < length self.now.lens }
         ensures { result ≡ span_at self.now b }
@@ -143,8 +139,7 @@ fn listed_span(places: &[u64], lens: &[u16], step: usize, b: usize) -> Span
 // The length of the header that a file begins with, in bits.
 fn header_len(h: &Header, file: &[u8]) -> u64
     requires { HasHeader file.now h.now }
-    ensures value { result ≡ length (header_bits h.now) }
-    ensures within { result ≤ 8 * length file.now }
+    ensures { BeginsWithHeader file.now h.now result }
 {
     let Ok((_, bits)) = zf_header::read(file) else {
         unreachable!()
@@ -156,7 +151,8 @@ fn header_len(h: &Header, file: &[u8]) -> u64
 fn places_of(alloc: Global, start: u64, lens: &[u16], step: usize) -> Result<Vec<u64>, AllocError>
     requires step { 0 < step }
     requires within { place (record { start = start; lens = lens.now }) (length lens.now) < 2 ^ 64 }
-    ensures { IfOk result (λ places. ArePlaces step (record { start = start; lens = lens.now }) places.items) }
+    ensures { IfOk result
+        (λ places. ArePlaces step (record { start = start; lens = lens.now }) places.items) }
 {
     let mut places = Vec::with_capacity(alloc, lens.len().div_ceil(step))?;
     let mut at = start;

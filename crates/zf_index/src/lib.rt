@@ -1,4 +1,5 @@
-//! Where the code of each block stands in a stream: indexes with a place for each block, and with one for each 16 blocks.
+//! Where the code of each block stands in a stream: indexes with a place for each block, and with one for
+//! each 16 blocks.
 #![tactic(auto)]
 
 mod fault;

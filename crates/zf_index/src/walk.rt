@@ -5,11 +5,11 @@ ghost use Rattle.zf_spec.specs.Grid.{blocks};
 ghost use Rattle.zf_spec.specs.Stream.{to_bits};
 ghost use Rattle.zf_base.specs.Widths.{width_of};
 ghost use Rattle.zf_bits.specs.Reader.{rest};
-ghost use Rattle.zf_header.specs.HeaderBits.{IsHeader, header_bits};
+ghost use Rattle.zf_header.specs.HeaderBits.{IsHeader};
 ghost use Rattle.zf_header.specs.declared.header.Mode.TheVariants as Mode;
 ghost use Rattle.zf_parse.specs.Parsing.{parse, fill_answer};
-ghost use Rattle.zf_parse.specs.ReadStreams.{IsFault, LacksCode};
-ghost use Rattle.zf_index.specs.Files.{HasHeader, IsIndexOf, stream_fault};
+ghost use Rattle.zf_parse.specs.ReadStreams.{BeginsWithHeader, IsFault, LacksCode};
+ghost use Rattle.zf_index.specs.Files.{IsIndexOf, stream_fault};
 ghost use Rattle.zf_index.specs.Spans.{even_index};
 ghost use Rattle.zf_index.specs.Walks.{IsWalked, HasFault, HasCode};
 
@@ -20,17 +20,17 @@ use zf_bits::{BitReader, Excerpt};
 use zf_header::Header;
 use zf_parse::{StreamFault, longest_code};
 
-/// How many bits the code of each block of a file has that begins with the header `h`, of `start` bits; or what is wrong with the file.
+/// How many bits the code of each block of a file has that begins with the header `h`, of `start` bits; or
+/// what is wrong with the file.
 pub(crate) fn code_lengths(
     alloc: Global,
     h: &Header,
     file: &[u8],
     start: u64,
 ) -> Result<Vec<u16>, IndexFault>
-    requires header { HasHeader file.now h.now }
-    requires start { start ≡ length (header_bits h.now) }
-    requires within { start ≤ 8 * length file.now }
-    ensures ok { IfOk result (λ lens. IsIndexOf file.now h.now (record { start = start; lens = lens.items })) }
+    requires begun { BeginsWithHeader file.now h.now start }
+    ensures ok { IfOk result
+        (λ lens. IsIndexOf file.now h.now (record { start = start; lens = lens.items })) }
     ensures fault { IfErr result (λ e. IsFault (parse file.now) (stream_fault e)) }
 {
     // No memory has a file with more bits than a word counts.
@@ -43,8 +43,8 @@ pub(crate) fn code_lengths(
     }
 }
 
-/// Whether all codes of `rate` bits and the fill are there and nothing more, in a file that begins with the header `h`, of `start`
-/// bits; or the first that is wrong.
+/// Whether all codes of `rate` bits and the fill are there and nothing more, in a file that begins with the
+/// header `h`, of `start` bits; or the first that is wrong.
 pub(crate) fn check_rate(
     alloc: Global,
     h: &Header,
@@ -52,10 +52,8 @@ pub(crate) fn check_rate(
     file: &[u8],
     start: u64,
 ) -> Result<(), IndexFault>
-    requires header { HasHeader file.now h.now }
+    requires begun { BeginsWithHeader file.now h.now start }
     requires rate { h.now.mode ≡ Mode.Rate rate }
-    requires start { start ≡ length (header_bits h.now) }
-    requires within { start ≤ 8 * length file.now }
     ensures ok { OnOk result (IsIndexOf file.now h.now (even_index start rate (blocks h.now.shape))) }
     ensures fault { IfErr result (λ e. IsFault (parse file.now) (stream_fault e)) }
 {
@@ -72,13 +70,14 @@ pub(crate) fn check_rate(
     check_fill(h, &mut excerpt.reader())
 }
 
-/// The same of values of this type, behind the header.
+/// How many bits the code of each block has, of values of this type, from bit `start` of the file on.
 fn walk<T: Lane>(alloc: Global, h: &Header, file: &[u8], start: u64) -> Result<Vec<u16>, IndexFault>
     requires header { IsHeader h.now }
     requires same_type { T.width ≡ width_of h.now.ty }
     requires within { start ≤ 8 * length file.now }
     requires small { 8 * length file.now < 2 ^ 64 }
-    ensures ok { IfOk result (λ lens. IsWalked h.now (to_bits file.now) (record { start = start; lens = lens.items })) }
+    ensures ok { IfOk result
+        (λ lens. IsWalked h.now (to_bits file.now) (record { start = start; lens = lens.items })) }
     ensures fault { IfErr result (HasFault h.now (record { all = to_bits file.now; at = start })) }
 {
     let mut block = vec![in alloc; T::zero(); block_len(h.shape.dims())]?;
@@ -119,7 +118,8 @@ fn pass_code<T: Lane>(h: &Header, reader: &mut BitReader<'_>, block: &mut [T]) -
 /// Judges what stands behind the codes.
 fn check_fill(h: &Header, reader: &mut BitReader<'_>) -> Result<(), IndexFault>
     ensures ok { IfOk result (λ u. fill_answer h.now reader.old.at (rest reader.old) ≡ Ok u) }
-    ensures err { IfErr result (λ e. fill_answer h.now reader.old.at (rest reader.old) ≡ Err (stream_fault e)) }
+    ensures err { IfErr result (λ e. fill_answer h.now reader.old.at (rest reader.old)
+        ≡ Err (stream_fault e)) }
 {
     match zf_parse::check_fill(h, reader) {
         Ok(()) => Ok(()),

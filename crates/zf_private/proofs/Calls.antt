@@ -3,6 +3,7 @@ use Rattle.std.proofs.Common.{◌≡◌, refl, sym, ap, subst, ◌∙◌, ℕ, s
 use Rattle.std.specs.Int.{Width}
 use Rattle.std.proofs.lemmas.List.{length-take-le, set_split, map-set, length-map, length-drop, drop-drop, get_or-map}
 use Rattle.zf_spec.specs.Numbers.{wrap}
+use Rattle.zf_base.specs.declared.backing.Reading.{Ghosts as Reading}
 use Rattle.zf_base.specs.declared.position.Pos.{Pos}
 use Rattle.zf_base.specs.Positions.{used_axes}
 use Rattle.zf_base.specs.Places.{IsAt}
@@ -25,6 +26,7 @@ use Rattle.zf_cache.proofs.Sound as sound
 use Rattle.zf_cached.specs.Acts.{Act}
 use Rattle.zf_cached.specs.Views.{changed, acted, answered, IsWithin, HasOwn}
 use Rattle.zf_private.specs.Standing.{Held, Own, block_at, place_at, state, IsOver, HasPlaces, IsWhole}
+use Rattle.zf_private.specs.Doing.{DoesAct}
 use Rattle.zf_private.proofs.Alike.{own-acted, stay-acted}
 
 module _ {X Code : Type 0} (value : X → ℤ) where
@@ -102,16 +104,29 @@ module _ {X Code : Type 0} (value : X → ℤ) (w : Width) (d : ℕ) (v now : He
     unfolding state_of
     others_stay b not = ap (λ (t : State Code). t.codes b) step ∙ stay-acted f (Own now) w (state value now f k) a b own_now not
 
-    pub still_whole : (shape : List ℕ) (first count : ℕ) → v.shape ≡ shape → v.first ≡ first → v.count ≡ count → IsWithin (Own now) a
-        → IsWhole d (record { cache = new; shape = shape; first = first; count = count })
+    abbrev pub after : Held X
+    after = record { cache = new; shape = v.shape; first = v.first; count = v.count }
+
+    pub still_whole : IsWithin (Own now) a → IsWhole d after
     unfolding state_of
-    still_whole shape first count es ef ec within =
+    still_whole within =
         let own : HasOwn (Own now) (state_of value new h j) = subst (HasOwn (Own now)) (sym step) (own-acted f (Own now) w (state value now f k) a within own_now) in
         let back : HasOwn (Own v) (state_of value new h j) = subst (λ u. HasOwn (Own u) (state_of value new h j)) (sym is) own in
-        subst (λ n. IsWhole d (record { cache = new; shape = n; first = first; count = count })) es
-        (subst (λ n. IsWhole d (record { cache = new; shape = v.shape; first = n; count = count })) ef
-        (subst (λ n. IsWhole d (record { cache = new; shape = v.shape; first = v.first; count = n })) ec
-        (record { dims = whole.dims; shape = whole.shape; some = whole.some; inside = whole.inside; own = back.held })))
+        record { dims = whole.dims; shape = whole.shape; some = whole.some; inside = whole.inside; own = back.held }
+
+-- a call of the cache that leaves it fitting has done an act of the view
+pub does : {B X : Type 0} (R : Reading B X) (value : X → ℤ) (w : Width) (d : ℕ) (v now : Held X) (is : v ≡ now) → IsWhole d v → (back : B) (new : Kept X) (past : B) (a : Act)
+    → state_of value new (R.format past) (R.codes past) ≡ acted w (R.format back) (state value now (R.format back) (R.codes back)) a → Fits value new (R.format past) (R.codes past)
+    → R.format past ≡ R.format back → R.kept past ≡ R.kept back → IsWithin (Own now) a
+    → DoesAct R value w d a now back (record { cache = new; shape = v.shape; first = v.first; count = v.count }) past
+does R value w d v now is whole back new past a step fits format kept within =
+    let f = R.format back in let k = R.codes back in let h = R.format past in let j = R.codes past in
+    record {
+      step = record { state = step; fits = fits; format = format; kept = kept };
+      others = others_stay value w d v now is whole f k new h j a step;
+      same = record { shape = ap (λ (u : Held _). u.shape) is; first = ap (λ (u : Held _). u.first) is; count = ap (λ (u : Held _). u.count) is };
+      whole = still_whole value w d v now is whole f k new h j a step within;
+    }
 
 -- a value of a dirty block is added to, through a loan
 module _ {X Code : Type 0} (value : X → ℤ) (w : Width) (f h : Format Code) (k j : ℕ → Code) (s : State Code) (c : Kept X) (b p : ℕ) (r sum v : X)

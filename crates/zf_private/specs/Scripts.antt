@@ -1,5 +1,6 @@
 -- What the lines of a script answer, line by line, and which of them are on which view.
-use Rattle.std.specs.Prelude.{ℕ, suc, ◌==◌, Bool, true, false, not, ◌&&◌, List, [], ◌∷◌, map, filter, Option, Some, None, is_some}
+use Rattle.std.specs.Prelude.{ℕ, suc, ◌==◌, Bool, true, false, not, ◌&&◌, List, [], ◌∷◌, map, filter, Option}
+use Rattle.std.specs.Prelude.{Some, None, is_some}
 use Rattle.std.specs.List.{list_any}
 use Rattle.zf_cached.specs.State.{is_block}
 use Rattle.zf_cached.specs.Commands.{Command}
@@ -12,8 +13,10 @@ use Rattle.zf_cached.specs.Runs.{line_step}
 abbrev pub Answered : Type 0
 Answered = List ℕ × Option Reply
 
--- each line with what it answers, where they run one after the other. The first is number k of the script; the lines with these numbers are out of memory
-unfoldable pub answered_lines : {Code : Type 0} → Setting Code → List ℕ → ℕ → List (List ℕ) → Session Code → List Answered
+-- each line with what it answers, where they run one after the other. The first is number k of the script;
+-- the lines with these numbers are out of memory
+unfoldable pub answered_lines : {Code : Type 0} → Setting Code → List ℕ → ℕ → List (List ℕ) → Session Code
+    → List Answered
 answered_lines setting starved k [] s = []
 answered_lines setting starved k (line ∷ lines) s =
     let one = line_step setting s line (list_any (λ n. n == k) starved) in
@@ -44,7 +47,8 @@ abbrev pub is_on : ℕ → ℕ → Answered → Bool
 is_on d i x = is_accepted x.1 && is_block (named (read_line d x.0)) i
 
 abbrev pub is_elsewhere : ℕ → ℕ → Answered → Bool
-is_elsewhere d i x = is_accepted x.1 && (is_some (named (read_line d x.0)) && not (is_block (named (read_line d x.0)) i))
+is_elsewhere d i x = is_accepted x.1 &&
+    (is_some (named (read_line d x.0)) && not (is_block (named (read_line d x.0)) i))
 
 -- the lines that are left where the accepted ones on other views are taken out
 abbrev pub without_others : ℕ → ℕ → List Answered → List (List ℕ)

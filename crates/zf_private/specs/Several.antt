@@ -13,7 +13,8 @@ module _ {X Code : Type 0} (value : X → ℤ) where
     pub apart : (i j b : ℕ) → Own (views i) b → Own (views j) b → i ≡ j
 
   -- they and the codes stand for these
-  pub record StandFor (views : ℕ → Held X) (format : Format Code) (codes : ℕ → Code) (s : Views Code) : Type 0 where
+  pub record StandFor (views : ℕ → Held X) (format : Format Code)
+      (codes : ℕ → Code) (s : Views Code) : Type 0 where
     pub same_codes : (b : ℕ) → codes b ≡ s.codes b
     pub alike : (i : ℕ) → AreAlike (Own (views i)) (state value (views i) format codes) (state_of_view s i)
 

@@ -20,8 +20,10 @@ pub record Held (X : Type 0) : Type 0 where
 
 abbrev pub held_code : {X : Type 0} → Coded X → Coded (Held X)
 held_code {X} c =
-    code_by (Kept X × (List ℕ × (ℕ × ℕ))) (coded× (kept_code c) (coded× (coded_list coded_ℕ) (coded× coded_ℕ coded_ℕ)))
-    (λ h. (h.cache, (h.shape, (h.first, h.count)))) (λ p. record { cache = p.0; shape = p.1.0; first = p.1.1.0; count = p.1.1.1 }) (λ _. refl)
+    code_by (Kept X × (List ℕ × (ℕ × ℕ)))
+    (coded× (kept_code c) (coded× (coded_list coded_ℕ) (coded× coded_ℕ coded_ℕ)))
+    (λ h. (h.cache, (h.shape, (h.first, h.count))))
+    (λ p. record { cache = p.0; shape = p.1.0; first = p.1.1.0; count = p.1.1.1 }) (λ _. refl)
 
 module _ {X : Type 0} where
   -- block b is one of the view's
@@ -45,7 +47,8 @@ module _ {X : Type 0} where
 
   -- the places that exist in the owned blocks are those of the array
   abbrev pub HasPlaces : Held X → {Code : Type 0} → Format Code → Type 0
-  HasPlaces v format = (b p : ℕ) → Own v b → p < 4 ^ length v.shape → format.exists b p ≡ is_inside (extent_of v.shape b) (indices (length v.shape) p)
+  HasPlaces v format = (b p : ℕ) → Own v b → p < 4 ^ length v.shape → format.exists b p
+      ≡ is_inside (extent_of v.shape b) (indices (length v.shape) p)
 
   -- the same view of the same blocks, whatever is in its lines
   pub record IsSameView (v w : Held X) : Type 0 where

@@ -1,13 +1,13 @@
 //! A private view.
 ghost use Rattle.std.specs.Prelude.{◌≡◌, ℕ, ◌+◌, ◌^◌, ◌<◌, ◌≤◌, ◌↔◌, min, length, Some, IsTrue, IfOk};
 ghost use Rattle.zf_spec.specs.Grid.{IsShape, blocks};
-ghost use Rattle.zf_base.specs.Positions.{IsPosition};
 ghost use Rattle.zf_cached.specs.State.{no_counts};
 ghost use Rattle.zf_cache.specs.Kept.{IsLineCount, IsEmpty};
-ghost use Rattle.zf_cache.specs.Standing.{Fits, HasRoom};
+ghost use Rattle.zf_cache.specs.Standing.{HasRoom};
 ghost use Rattle.zf_cached.specs.Acts.{Act};
-ghost use Rattle.zf_cached.specs.Views.{acted, answered};
-ghost use Rattle.zf_private.specs.Standing.{Own, block_at, place_at, state, IsOver, HasPlaces, IsSameView, IsWhole};
+ghost use Rattle.zf_cached.specs.Views.{answered};
+ghost use Rattle.zf_private.specs.Standing.{Own, block_at, place_at, state, IsSameView, IsWhole};
+ghost use Rattle.zf_private.specs.Doing.{SitsOn, SitsOnAt, DoesAct};
 
 use std::alloc::{AllocError, Global};
 use std::marker::Model;
@@ -16,8 +16,9 @@ use zf_cache::Cache;
 
 /// A view of an array: a cache of its own over some of the array's blocks, those that it owns.
 ///
-/// The backing is passed to each call, and may stand under other views too. A view reads and writes the codes of its own blocks alone,
-/// so what another view does to its blocks changes nothing here, and what is not yet written back here is seen by no other view.
+/// The backing is passed to each call, and may stand under other views too. A view reads and writes the codes
+/// of its own blocks alone, so what another view does to its blocks changes nothing here, and what is not yet
+/// written back here is seen by no other view.
 #[derive(Drop)]
 pub struct Private<T, const D: usize> {
     cache: Cache<T, D>,
@@ -36,14 +37,16 @@ impl<T, const D: usize> Model for Private<T, D> {
 
     ghost view = { λ v. record { cache = v.cache; shape = v.shape; first = v.first; count = v.count } };
 
-    ghost invariant = { λ v. IsWhole D (record { cache = v.cache; shape = v.shape; first = v.first; count = v.count }) };
+    ghost invariant = { λ v. IsWhole D
+        (record { cache = v.cache; shape = v.shape; first = v.first; count = v.count }) };
 }
 
 impl<T: Lane, const D: usize> Private<T, D> {
     ghost use Rattle.zf_cache.specs.Bodies.{counts_of};
 
-    /// An empty view of so many lines, of the `count` blocks from `first` on. It takes no memory for the values of
-    /// lines beyond the number of the array's blocks. `AllocError`: there was no memory for the lines.
+    /// An empty view of so many lines, of the `count` blocks from `first` on. It takes no memory for the
+    /// values of lines beyond the number of the array's blocks. `AllocError`: there was no memory for the
+    /// lines.
     pub fn new(
         alloc: Global,
         shape: Shape,
@@ -88,22 +91,12 @@ impl<T: Lane, const D: usize> Private<T, D> {
 
     /// The value at position `p`, by one touch.
     pub fn get<B: Backing<T>>(&mut self, back: &mut B, p: Pos) -> T
-        requires fits { Fits T.value self.old.cache (B.format back.old) (B.codes back.old) }
-        requires blocks { IsOver self.old (B.format back.old) }
-        requires places { HasPlaces self.old (B.format back.old) }
-        requires position { IsPosition self.old.shape p }
-        requires owned { Own self.old (block_at self.old p) }
-        ensures fits { Fits T.value self.new.cache (B.format back.new) (B.codes back.new) }
-        ensures state { state T.value self.new (B.format back.new) (B.codes back.new)
-            ≡ acted T.width (B.format back.old) (state T.value self.old (B.format back.old) (B.codes back.old))
+        requires sits { SitsOnAt B.Reading T.value self.old back.old p }
+        ensures does { DoesAct B.Reading T.value T.width D
+            (Act.get (block_at self.old p) (place_at self.old p)) self.old back.old self.new back.new }
+        ensures value { Some (T.value result)
+            ≡ answered (state T.value self.new (B.format back.new) (B.codes back.new))
             (Act.get (block_at self.old p) (place_at self.old p)) }
-        ensures value { Some (T.value result) ≡ answered (state T.value self.new (B.format back.new) (B.codes back.new))
-            (Act.get (block_at self.old p) (place_at self.old p)) }
-        ensures others { (b : ℕ) → (Own self.old b → ⊥) → B.codes back.new b ≡ B.codes back.old b }
-        ensures same { IsSameView self.old self.new }
-        ensures whole { IsWhole D self.new }
-        ensures format { B.format back.new ≡ B.format back.old }
-        ensures kept { B.kept back.new ≡ B.kept back.old }
     {
         let (b, place) = self.shape.place(p);
         self.cache.get(back, b, place)
@@ -111,20 +104,10 @@ impl<T: Lane, const D: usize> Private<T, D> {
 
     /// Makes the value at position `p` be `v`, by one touch for writing.
     pub fn set<B: Backing<T>>(&mut self, back: &mut B, p: Pos, v: T)
-        requires fits { Fits T.value self.old.cache (B.format back.old) (B.codes back.old) }
-        requires blocks { IsOver self.old (B.format back.old) }
-        requires places { HasPlaces self.old (B.format back.old) }
-        requires position { IsPosition self.old.shape p }
-        requires owned { Own self.old (block_at self.old p) }
-        ensures fits { Fits T.value self.new.cache (B.format back.new) (B.codes back.new) }
-        ensures state { state T.value self.new (B.format back.new) (B.codes back.new)
-            ≡ acted T.width (B.format back.old) (state T.value self.old (B.format back.old) (B.codes back.old))
-            (Act.set (block_at self.old p) (place_at self.old p) (T.value v)) }
-        ensures others { (b : ℕ) → (Own self.old b → ⊥) → B.codes back.new b ≡ B.codes back.old b }
-        ensures same { IsSameView self.old self.new }
-        ensures whole { IsWhole D self.new }
-        ensures format { B.format back.new ≡ B.format back.old }
-        ensures kept { B.kept back.new ≡ B.kept back.old }
+        requires sits { SitsOnAt B.Reading T.value self.old back.old p }
+        ensures does { DoesAct B.Reading T.value T.width D
+            (Act.set (block_at self.old p) (place_at self.old p) (T.value v))
+            self.old back.old self.new back.new }
     {
         let (b, place) = self.shape.place(p);
         self.cache.set(back, b, place, v);
@@ -132,20 +115,10 @@ impl<T: Lane, const D: usize> Private<T, D> {
 
     /// Adds `v` to the value at position `p`, by one touch for writing. The sum wraps.
     pub fn add<B: Backing<T>>(&mut self, back: &mut B, p: Pos, v: T)
-        requires fits { Fits T.value self.old.cache (B.format back.old) (B.codes back.old) }
-        requires blocks { IsOver self.old (B.format back.old) }
-        requires places { HasPlaces self.old (B.format back.old) }
-        requires position { IsPosition self.old.shape p }
-        requires owned { Own self.old (block_at self.old p) }
-        ensures fits { Fits T.value self.new.cache (B.format back.new) (B.codes back.new) }
-        ensures state { state T.value self.new (B.format back.new) (B.codes back.new)
-            ≡ acted T.width (B.format back.old) (state T.value self.old (B.format back.old) (B.codes back.old))
-            (Act.add (block_at self.old p) (place_at self.old p) (T.value v)) }
-        ensures others { (b : ℕ) → (Own self.old b → ⊥) → B.codes back.new b ≡ B.codes back.old b }
-        ensures same { IsSameView self.old self.new }
-        ensures whole { IsWhole D self.new }
-        ensures format { B.format back.new ≡ B.format back.old }
-        ensures kept { B.kept back.new ≡ B.kept back.old }
+        requires sits { SitsOnAt B.Reading T.value self.old back.old p }
+        ensures does { DoesAct B.Reading T.value T.width D
+            (Act.add (block_at self.old p) (place_at self.old p) (T.value v))
+            self.old back.old self.new back.new }
     {
         let (b, place) = self.shape.place(p);
         self.cache.touch_mut(back, b);
@@ -155,17 +128,9 @@ impl<T: Lane, const D: usize> Private<T, D> {
 
     /// Writes the dirty blocks back, in the order of lines; then the lines are empty.
     pub fn flush<B: Backing<T>>(&mut self, back: &mut B)
-        requires fits { Fits T.value self.old.cache (B.format back.old) (B.codes back.old) }
-        requires blocks { IsOver self.old (B.format back.old) }
-        ensures fits { Fits T.value self.new.cache (B.format back.new) (B.codes back.new) }
-        ensures state { state T.value self.new (B.format back.new) (B.codes back.new)
-            ≡ acted T.width (B.format back.old) (state T.value self.old (B.format back.old) (B.codes back.old)) Act.flush }
-        ensures others { (b : ℕ) → (Own self.old b → ⊥) → B.codes back.new b ≡ B.codes back.old b }
+        requires sits { SitsOn B.Reading T.value self.old back.old }
+        ensures does { DoesAct B.Reading T.value T.width D Act.flush self.old back.old self.new back.new }
         ensures empty { IsEmpty self.new.cache (length self.old.cache.tags) }
-        ensures same { IsSameView self.old self.new }
-        ensures whole { IsWhole D self.new }
-        ensures format { B.format back.new ≡ B.format back.old }
-        ensures kept { B.kept back.new ≡ B.kept back.old }
     {
         self.cache.flush(back);
     }

@@ -1,16 +1,18 @@
 -- Two-way caches that fit, and a touch of them, in the words of their contracts.
-use Rattle.std.proofs.Common.{◌≡◌, inl, inr, refl, sym, ap, subst, ◌∙◌, ℕ, zero, suc, ◌+◌, ◌/◌, ◌%◌, ◌<◌, ◌==◌, Bool, true, false, not, ◌||◌, ℤ, Option, Some, None, List, map, length, replicate, is_none, eq-eqb, arith}
+use Rattle.std.proofs.Common.{◌≡◌, inl, inr, refl, sym, ap, subst, ◌∙◌, ℕ, zero, suc, ◌+◌, ◌/◌, ◌%◌, ◌^◌, ◌<◌, ◌==◌, Bool, true, false, not, ◌||◌, ℤ, Option, Some, None, List, map, length, replicate, is_none, eq-eqb, arith}
 use Rattle.std.proofs.lemmas.Bool.{ne_eqb}
 use Rattle.zf_base.specs.Formats.{Format, existing_of, meant}
+use Rattle.zf_base.specs.declared.backing.Reading.{Ghosts as Reading}
 use Rattle.std.proofs.lemmas.List.{length-replicate}
 use Rattle.zf_cached.specs.State.{State, no_counts, is_block}
 use Rattle.zf_cached.specs.Touch.{hit, miss, soiled, with_values}
-use Rattle.zf_cached.specs.Changes.{opened}
+use Rattle.zf_cached.specs.Changes.{flush, opened}
 use Rattle.zf_cached.proofs.States.{same_state}
 use Rattle.zf_lines.specs.Rows.{line_at, over}
 use Rattle.zf_cache.specs.declared.body.Body.{Body}
-use Rattle.zf_cache.specs.Kept.{Kept, OnlyLine, IsEmpty, IsIn, IsAway, tag_at, block_in, dirty_of, dirty_tag, line_by, written_in}
-use Rattle.zf_cache.specs.Bodies.{IsWhole, IsSound, kept_of}
+use Rattle.zf_cache.specs.Kept.{Kept, HasBlocks, IsEmpty, IsIn, IsAway, tag_at, block_in, dirty_of, dirty_tag, line_by, written_in}
+use Rattle.zf_cache.specs.Bodies.{IsWhole, IsSound, IsSoundAt, ComesTo, kept_of, state_in}
+use Rattle.zf_cache.specs.Backed.{StepsTo}
 use Rattle.zf_cache.specs.Standing.{line_values, state_at, FitsAt}
 use Rattle.zf_cache.specs.Steps.{touch_in, with_value}
 use Rattle.zf_cache.proofs.Tags.{names-dirty, is_or_not, is_block-same, is_block-other, named}
@@ -49,12 +51,16 @@ module _ {X Code : Type 0} (value : X → ℤ) (c : Kept X) (f : Format Code) (k
   values_stand b = refl
 
 -- the fields of a cache that fits
-pub sound_of : {X Code : Type 0} (value : X → ℤ) (body : Body X) (view : Kept X) (f : Format Code) (k : ℕ → Code) (len : ℕ)
-    → kept_of body ≡ view → IsWhole body len → f.block_len ≡ len → Fits value view f k → IsSound skewed value body f k
-sound_of value body view f k len is whole size fits = record {
-  whole = subst (IsWhole body) (sym size) whole;
-  fits = subst (λ c. FitsAt skewed value c f k) (sym is) (fits_at value view f k fits);
-}
+module _ {B X : Type 0} (R : Reading B X) (value : X → ℤ) (body : Body X) (view : Kept X) (back : B) (d : ℕ) (is : kept_of body ≡ view) (whole : IsWhole body (4 ^ d))
+    (blocks : HasBlocks (R.format back) d) (fits : Fits value view (R.format back) (R.codes back)) where
+  pub sound_of : IsSound skewed value body (R.format back) (R.codes back)
+  sound_of = record {
+    whole = subst (IsWhole body) (sym blocks.0) whole;
+    fits = subst (λ c. FitsAt skewed value c (R.format back) (R.codes back)) (sym is) (fits_at value view (R.format back) (R.codes back) fits);
+  }
+
+  pub ready_of : (b : ℕ) → b < (R.format back).blocks → IsSoundAt skewed value body (R.format back) (R.codes back) b
+  ready_of b below = record { sound = sound_of; block = (below, blocks.1) }
 
 -- ---- a touch of a block in the line where it is looked for is a touch by the rule
 
@@ -195,49 +201,74 @@ opens {X} {Code} value c f k n empty counts =
 
 -- ---- steps
 
-module _ {X Code : Type 0} (value : X → ℤ) (f h : Format Code) (k j : ℕ → Code) (c d : Kept X) (fits : Fits value c f k) where
-  abbrev old : State Code
-  old = state_of value c f k
+module _ {B X : Type 0} (R : Reading B X) (value : X → ℤ) (body : Body X) (view : Kept X) (is : kept_of body ≡ view) (back : B) (fits : Fits value view (R.format back) (R.codes back)) (t : Body X) (now : B) where
+  abbrev f : Format R.Code
+  f = R.format back
 
-  at_rule : (l b : ℕ) → l ≡ line_of c b → touch_in f old l b ≡ touch f old b
-  at_rule l b at = ap (λ m. touch_in f old m b) at ∙ touches_by_rule value c f k (fits_at value c f k fits) b
+  abbrev k : ℕ → R.Code
+  k = R.codes back
 
-  -- the new state is a step of the old one
-  pub touches : (l b : ℕ) → l ≡ line_of c b → state_of value d h j ≡ touch_in f old l b → state_of value d h j ≡ touch f old b
-  touches l b at state = state ∙ at_rule l b at
+  -- a step of the fields
+  abbrev pub FieldsStep : (Format R.Code → State R.Code → State R.Code) → Type 0
+  FieldsStep step = StepsTo R (state_in skewed value) (IsSound skewed value) step body back t now
 
-  pub puts_in : (b p : ℕ) (v : ℤ) → state_of value d h j ≡ with_value f (soiled (touch_in f old (line_of c b) b) b) b p v → state_of value d h j ≡ put f old b p v
+  -- a step of the cache
+  abbrev pub TwoStep : (Format R.Code → State R.Code → State R.Code) → Type 0
+  TwoStep step = StepsTo R (state_of value) (Fits value) step view back (kept_of t) now
+
+  at_rule : (l b : ℕ) → l ≡ line_of (kept_of body) b → touch_in f (state_of value (kept_of body) f k) l b ≡ touch f (state_of value (kept_of body) f k) b
+  at_rule l b at =
+      ap (λ m. touch_in f (state_of value (kept_of body) f k) m b) at
+      ∙ touches_by_rule value (kept_of body) f k (fits_at value (kept_of body) f k (subst (λ (q : Kept X). Fits value q f k) (sym is) fits)) b
+
+  own : (inner outer : Format R.Code → State R.Code → State R.Code) → inner f (state_of value (kept_of body) f k) ≡ outer f (state_of value (kept_of body) f k) → FieldsStep inner → TwoStep outer
+  own inner outer same e = record {
+    state = e.state ∙ same ∙ ap (λ (q : Kept X). outer f (state_of value q f k)) is;
+    fits = fits_of value (kept_of t) (R.format now) (R.codes now) e.fits.fits;
+    format = e.format;
+    kept = e.kept;
+  }
+
+  pub touches : (b l : ℕ) → ComesTo skewed (kept_of body) (kept_of t) b l → FieldsStep (λ g s. touch_in g s l b) → TwoStep (λ g s. touch g s b)
+  touches b l to = own (λ g s. touch_in g s l b) (λ g s. touch g s b) (at_rule l b to.at)
+
+  pub puts_in : (b p : ℕ) (v : ℤ) → FieldsStep (λ g s. with_value g (soiled (touch_in g s (line_of (kept_of body) b) b) b) b p v) → TwoStep (λ g s. put g s b p v)
   unfolding put touch_for_writing
-  puts_in b p v state = state ∙ ap (λ t. with_value f (soiled t b) b p v) (at_rule (line_of c b) b refl)
+  puts_in b p v =
+      let l = line_of (kept_of body) b in
+      own (λ g s. with_value g (soiled (touch_in g s l b) b) b p v) (λ g s. put g s b p v) (ap (λ s. with_value f (soiled s b) b p v) (at_rule l b refl))
+
+  pub flushes : FieldsStep (λ g s. flush g s) → TwoStep (λ g s. flush g s)
+  flushes = own (λ g s. flush g s) (λ g s. flush g s) refl
 
 -- ---- loans
 
 module _ {X Code : Type 0} (value : X → ℤ) (f h : Format Code) (j : ℕ → Code) (c : Kept X) (t : Body X) (b l : ℕ)
-    (same : h ≡ f) (sound : IsSound skewed value t h j) (at : l ≡ line_by skewed c b) (others : OnlyLine c (kept_of t) l) (has_row : l < length t.lines) where
+    (same : h ≡ f) (sound : IsSound skewed value t h j) (to : ComesTo skewed c (kept_of t) b l) where
   pub stands : (s : State Code) → state_of value (kept_of t) h j ≡ s → StandsFor value (kept_of t) f j s
   stands s state = record {
-    state = state_now skewed IsOneOfTwo skewed_rule value f h j c t b l same sound at others has_row s state;
-    fits = fits_of value (kept_of t) f j (fits_now skewed IsOneOfTwo skewed_rule value f h j c t b l same sound at others has_row);
+    state = state_now skewed IsOneOfTwo skewed_rule value f h j c t b l same sound to s state;
+    fits = fits_of value (kept_of t) f j (fits_now skewed IsOneOfTwo skewed_rule value f h j c t b l same sound to);
   }
 
   module _ (k : ℕ → Code) (fits : Fits value c f k) (dirty : tag_at t.tags.items l ≡ dirty_tag b)
       (state : state_at skewed value (kept_of t) h j ≡ soiled (touch_in f (state_at skewed value c f k) l b) b)
       (row : List X) (is : row ≡ line_at t.lines l) where
     touched : touch_in f (state_of value c f k) l b ≡ touch f (state_of value c f k) b
-    touched = ap (λ m. touch_in f (state_of value c f k) m b) at ∙ touches_by_rule value c f k (fits_at value c f k fits) b
+    touched = ap (λ m. touch_in f (state_of value c f k) m b) to.at ∙ touches_by_rule value c f k (fits_at value c f k fits) b
 
     pub lent_is : (w : List X) → written_in c l b (over row w) (touch_in f (state_of value c f k) l b).counts ≡ lent_block value f k c b row w
-    lent_is w = λ i. written_in c (at i) b (over row w) (touched i).counts
+    lent_is w = λ i. written_in c (to.at i) b (over row w) (touched i).counts
 
     pub loans : LendsBlock value f k j c b row
     unfolding touch_for_writing
     loans = record {
-      held = row_held skewed IsOneOfTwo skewed_rule value f h j c t b l same sound at others has_row k dirty state row is ∙ ap (λ (u : State Code). u.values b) touched;
+      held = row_held skewed IsOneOfTwo skewed_rule value f h j c t b l same sound to k dirty state row is ∙ ap (λ (u : State Code). u.values b) touched;
       written = λ w. record {
         state = ap (λ d. state_of value d f j) (sym (lent_is w))
-            ∙ lent_state skewed IsOneOfTwo skewed_rule value f h j c t b l same sound at others has_row k dirty state row is w
+            ∙ lent_state skewed IsOneOfTwo skewed_rule value f h j c t b l same sound to k dirty state row is w
             ∙ ap (λ u. with_values (soiled u b) b (existing_of f b (map value (over row w)))) touched;
         fits = fits_of value (lent_block value f k c b row w) f j
-            (subst (λ d. FitsAt skewed value d f j) (lent_is w) (lent_fits skewed IsOneOfTwo skewed_rule value f h j c t b l same sound at others has_row k dirty state row is w));
+            (subst (λ d. FitsAt skewed value d f j) (lent_is w) (lent_fits skewed IsOneOfTwo skewed_rule value f h j c t b l same sound to k dirty state row is w));
       };
     }

@@ -1,5 +1,6 @@
 -- In which line a block is, or goes, as a state tells, and as the tags of the lines tell.
-use Rattle.std.specs.Prelude.{◌≡◌, ℕ, ◌%◌, Bool, true, false, List, Option, Some, is_none, if◌then◌else◌, bit_xor, refl}
+use Rattle.std.specs.Prelude.{◌≡◌, ℕ, ◌%◌, Bool, true, false, List, Option, Some, is_none, if◌then◌else◌}
+use Rattle.std.specs.Prelude.{bit_xor, refl}
 use Rattle.std.specs.Int.Bits.{xor_zero_r}
 use Rattle.std.proofs.Common.{◌⊎◌, inl, inr, ap, ◌∙◌, ◌<◌}
 use Rattle.std.proofs.Math.Nat.{mod-eq_of_lt, div-eq_of_lt}
@@ -11,21 +12,25 @@ use Rattle.zf_cache.proofs.Tags.{is_or_not, is_block-same, is_block-other}
 use Rattle.zf_cached.specs.Placing.{Line, IsPlacing}
 use Rattle.zf_twoway.specs.Touch.{first_line, second_line, choice, is_clean_in}
 
--- the line that holds the block, or else the line that takes it in: whether the first holds it, whether the second does, and which takes it in
+-- the line that holds the block, or else the line that takes it in: whether the first holds it, whether the
+-- second does, and which takes it in
 abbrev pub place_by : Bool → Bool → ℕ → ℕ → ℕ → ℕ
-place_by in_first in_second taking first second = if in_first then first else (if in_second then second else taking)
+place_by in_first in_second taking first second = if in_first then first else
+    (if in_second then second else taking)
 
 -- the line of block b among n lines that hold these blocks, where these are dirty
 abbrev pub two_lines : Line
 two_lines n held dirty b =
     let first = first_line n b in let second = second_line n b in
     place_by (is_block (held first) b) (is_block (held second) b)
-    (choice (is_none (held first)) (is_none (held second)) (is_clean_in held dirty first) (is_clean_in held dirty second) first second) first second
+    (choice (is_none (held first)) (is_none (held second)) (is_clean_in held dirty first)
+    (is_clean_in held dirty second) first second) first second
 
 -- which of two lines with these tags takes a block in
 abbrev pub taking_line : ℕ → ℕ → ℕ → ℕ → ℕ
 taking_line t u first second =
-    choice (is_none (block_in t)) (is_none (block_in u)) (is_none (dirty_of t)) (is_none (dirty_of u)) first second
+    choice (is_none (block_in t)) (is_none (block_in u)) (is_none (dirty_of t))
+    (is_none (dirty_of u)) first second
 
 -- the line of block b in a cache of n lines with these tags
 abbrev pub skewed : ℕ → List ℕ → ℕ → ℕ
@@ -40,38 +45,51 @@ IsOneOfTwo n b l = (first_line n b ≡ l) ⊎ (second_line n b ≡ l)
 
 -- ---- so a block is found where it is
 
-pub chosen : (P : ℕ → Type 0) (a b c d : Bool) (first second : ℕ) → P first → P second → P (choice a b c d first second)
+pub chosen : (P : ℕ → Type 0) (a b c d : Bool) (first second : ℕ) → P first → P second
+    → P (choice a b c d first second)
 chosen P true b c d first second p q = p
 chosen P false true c d first second p q = q
 chosen P false false true d first second p q = p
 chosen P false false false true first second p q = q
 chosen P false false false false first second p q = p
 
-pub placed : (P : ℕ → Type 0) (a b : Bool) (taking first second : ℕ) → P first → P second → P taking → P (place_by a b taking first second)
+pub placed : (P : ℕ → Type 0) (a b : Bool) (taking first second : ℕ) → P first → P second → P taking
+    → P (place_by a b taking first second)
 placed P true b taking first second p q r = p
 placed P false true taking first second p q r = q
 placed P false false taking first second p q r = r
 
 -- what holds of both lines of a block holds of its line
-pub either : (P : ℕ → Type 0) (n : ℕ) (tags : List ℕ) (b : ℕ) → P (first_line n b) → P (second_line n b) → P (skewed n tags b)
+pub either : (P : ℕ → Type 0) (n : ℕ) (tags : List ℕ) (b : ℕ) → P (first_line n b) → P (second_line n b)
+    → P (skewed n tags b)
 either P n tags b p q =
-    let first = first_line n b in let second = second_line n b in let t = tag_at tags first in let u = tag_at tags second in
-    placed P (is_block (block_in t) b) (is_block (block_in u) b) (taking_line t u first second) first second p q
-    (chosen P (is_none (block_in t)) (is_none (block_in u)) (is_none (dirty_of t)) (is_none (dirty_of u)) first second p q)
+    let first = first_line n b in let second = second_line n b in let t = tag_at tags first in
+    let u = tag_at tags second in
+    placed P (is_block (block_in t) b) (is_block (block_in u) b)
+    (taking_line t u first second) first second p q
+    (chosen P (is_none (block_in t)) (is_none (block_in u)) (is_none (dirty_of t))
+    (is_none (dirty_of u)) first second p q)
 
-pub skewed-first : (n : ℕ) (tags : List ℕ) (b : ℕ) → IsIn tags (first_line n b) b → skewed n tags b ≡ first_line n b
+pub skewed-first : (n : ℕ) (tags : List ℕ) (b : ℕ) → IsIn tags (first_line n b) b → skewed n tags b
+    ≡ first_line n b
 skewed-first n tags b is =
-    let first = first_line n b in let second = second_line n b in let t = tag_at tags first in let u = tag_at tags second in
-    ap (λ x. place_by x (is_block (block_in u) b) (taking_line t u first second) first second) (is_block-same (block_in t) b is)
+    let first = first_line n b in let second = second_line n b in let t = tag_at tags first in
+    let u = tag_at tags second in
+    ap (λ x. place_by x (is_block (block_in u) b) (taking_line t u first second) first second)
+    (is_block-same (block_in t) b is)
 
-pub skewed-second : (n : ℕ) (tags : List ℕ) (b : ℕ) → (IsIn tags (first_line n b) b → ⊥) → IsIn tags (second_line n b) b → skewed n tags b ≡ second_line n b
+pub skewed-second : (n : ℕ) (tags : List ℕ) (b : ℕ) → (IsIn tags (first_line n b) b → ⊥)
+    → IsIn tags (second_line n b) b → skewed n tags b ≡ second_line n b
 skewed-second n tags b out is =
-    let first = first_line n b in let second = second_line n b in let t = tag_at tags first in let u = tag_at tags second in
-    (λ i. place_by (is_block-other (block_in t) b out i) (is_block-same (block_in u) b is i) (taking_line t u first second) first second)
+    let first = first_line n b in let second = second_line n b in let t = tag_at tags first in
+    let u = tag_at tags second in
+    (λ i. place_by (is_block-other (block_in t) b out i) (is_block-same (block_in u) b is i)
+    (taking_line t u first second) first second)
 
 -- a block whose number is below the number of lines has the line of its number as its second line, too
 pub second-low : (n b : ℕ) → b < n → second_line n b ≡ b
-second-low n b lt = ap (λ q. bit_xor b q % n) (div-eq_of_lt lt) ∙ ap (λ m. m % n) (xor_zero_r b) ∙ mod-eq_of_lt lt
+second-low n b lt = ap (λ q. bit_xor b q % n) (div-eq_of_lt lt) ∙ ap (λ m. m % n) (xor_zero_r b)
+    ∙ mod-eq_of_lt lt
 
 pub skewed_rule : IsRule skewed IsOneOfTwo
 skewed_rule = record {
@@ -93,32 +111,39 @@ module _ (n : ℕ) (held : ℕ → Option ℕ) (dirty : ℕ → Bool) (b : ℕ) 
   abbrev goes : ℕ
   goes =
       let first = first_line n b in let second = second_line n b in
-      choice (is_none (held first)) (is_none (held second)) (is_clean_in held dirty first) (is_clean_in held dirty second) first second
+      choice (is_none (held first)) (is_none (held second)) (is_clean_in held dirty first)
+      (is_clean_in held dirty second) first second
 
   pub either_line : (P : ℕ → Type 0) → P (first_line n b) → P (second_line n b) → P (two_lines n held dirty b)
   either_line P p q =
       let first = first_line n b in let second = second_line n b in
       placed P (is_block (held first) b) (is_block (held second) b) goes first second p q
-      (chosen P (is_none (held first)) (is_none (held second)) (is_clean_in held dirty first) (is_clean_in held dirty second) first second p q)
+      (chosen P (is_none (held first)) (is_none (held second)) (is_clean_in held dirty first)
+      (is_clean_in held dirty second) first second p q)
 
   pub in_first : held (first_line n b) ≡ Some b → two_lines n held dirty b ≡ first_line n b
   in_first is =
       let first = first_line n b in let second = second_line n b in
       ap (λ x. place_by x (is_block (held second) b) goes first second) (is_block-same (held first) b is)
 
-  pub in_second : (held (first_line n b) ≡ Some b → ⊥) → held (second_line n b) ≡ Some b → two_lines n held dirty b ≡ second_line n b
+  pub in_second : (held (first_line n b) ≡ Some b → ⊥) → held (second_line n b) ≡ Some b
+      → two_lines n held dirty b ≡ second_line n b
   in_second out is =
       let first = first_line n b in let second = second_line n b in
-      (λ i. place_by (is_block-other (held first) b out i) (is_block-same (held second) b is i) goes first second)
+      (λ i. place_by (is_block-other (held first) b out i)
+      (is_block-same (held second) b is i) goes first second)
 
-  pub in_neither : (held (first_line n b) ≡ Some b → ⊥) → (held (second_line n b) ≡ Some b → ⊥) → two_lines n held dirty b ≡ goes
+  pub in_neither : (held (first_line n b) ≡ Some b → ⊥) → (held (second_line n b) ≡ Some b → ⊥)
+      → two_lines n held dirty b ≡ goes
   in_neither out none =
       let first = first_line n b in let second = second_line n b in
-      (λ i. place_by (is_block-other (held first) b out i) (is_block-other (held second) b none i) goes first second)
+      (λ i. place_by (is_block-other (held first) b out i)
+      (is_block-other (held second) b none i) goes first second)
 
 pub two_placing : IsPlacing two_lines IsOneOfTwo
 two_placing = record {
-  inside = λ n held dirty b some. either_line n held dirty b (λ l. l < n) (mod_below b n some) (mod_below _ n some);
+  inside = λ n held dirty b some. either_line n held dirty b (λ l. l < n) (mod_below b n some)
+      (mod_below _ n some);
   allowed = λ n held dirty b. either_line n held dirty b (IsOneOfTwo n b) (inl refl) (inr refl);
   found = λ n held dirty b l may is only. elim may [
     | inl at ↦ in_first n held dirty b (ap held at ∙ is) ∙ at

@@ -22,11 +22,14 @@ twoway_setting w budget = record {
   allows = needs_no_window;
 }
 
--- the text of the run of a script over an array of zeros that is never out of memory, and the file that is saved
+-- the text of the run of a script over an array of zeros that is never out of memory, and the file that is
+-- saved
 unfoldable pub twoway_text : Width → ℕ → List ℕ → ℕ → List ℕ → List ℕ
-twoway_text w budget ns lines script = replies_text (run (twoway_setting w budget) [] ns (open_array w budget ns (zero_codes budget ns) lines) script).1
+twoway_text w budget ns lines script = replies_text
+    (run (twoway_setting w budget) [] ns (open_array w budget ns (zero_codes budget ns) lines) script).1
 
 unfoldable pub twoway_saved : Width → ℕ → List ℕ → ℕ → List ℕ → List ℕ
 twoway_saved w budget ns lines script =
-    let after = (run (twoway_setting w budget) [] ns (open_array w budget ns (zero_codes budget ns) lines) script).0 in
+    let start = open_array w budget ns (zero_codes budget ns) lines in
+    let after = (run (twoway_setting w budget) [] ns start script).0 in
     saved_file w budget after.shape after.state

@@ -1,4 +1,5 @@
--- The state that a two-way cache and the backing under it stand for, and when the two fit. A value of the program is seen as a whole number.
+-- The state that a two-way cache and the backing under it stand for, and when the two fit. A value of the
+-- program is seen as a whole number.
 use Rattle.std.specs.Prelude.{◌≡◌, ℕ, ◌<◌, ◌==◌, ℤ, Bool, List, length}
 use Rattle.zf_base.specs.Formats.{Format, meant}
 use Rattle.zf_cached.specs.State.{State}
@@ -28,10 +29,12 @@ module _ {X Code : Type 0} (value : X → ℤ) where
   abbrev pub state_of : Kept X → Format Code → (ℕ → Code) → State Code
   state_of c format codes = state_at skewed value c format codes
 
-  -- a line holds a block that has it as its first or its second line, and that the backing has; no block is in two lines;
-  -- a clean line has the values that the block's code means; and each block of the backing has a row of values to come to
+  -- a line holds a block that has it as its first or its second line, and that the backing has; no block is
+  -- in two lines; a clean line has the values that the block's code means; and each block of the backing has
+  -- a row of values to come to
   pub record Fits (c : Kept X) (format : Format Code) (codes : ℕ → Code) : Type 0 where
     pub own : (l b : ℕ) → IsIn c.tags l b → IsOneOfTwo (length c.tags) b l × (b < format.blocks)
     pub once : (l m b : ℕ) → IsIn c.tags l b → IsIn c.tags m b → l ≡ m
-    pub clean : (l b : ℕ) → tag_at c.tags l ≡ clean_tag b → line_values value c format l b ≡ meant format b (codes b)
+    pub clean : (l b : ℕ) → tag_at c.tags l ≡ clean_tag b
+        → line_values value c format l b ≡ meant format b (codes b)
     pub room : HasRoom c format.blocks

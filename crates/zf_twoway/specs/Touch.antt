@@ -1,5 +1,6 @@
 -- What a touch of a block does where each block may be in one of two lines (this project's own).
-use Rattle.std.specs.Prelude.{ℕ, ◌/◌, ◌%◌, ℤ, Bool, true, false, not, ◌||◌, Option, Some, None, is_none, if◌then◌else◌, bit_xor}
+use Rattle.std.specs.Prelude.{ℕ, ◌/◌, ◌%◌, ℤ, Bool, true, false, not, ◌||◌, Option, Some, None, is_none}
+use Rattle.std.specs.Prelude.{if◌then◌else◌, bit_xor}
 use Rattle.zf_base.specs.Formats.{Format}
 use Rattle.zf_cached.specs.State.{State, is_block}
 use Rattle.zf_cached.specs.Touch.{hit, miss, soiled}
@@ -9,7 +10,8 @@ use Rattle.zf_cache.specs.Steps.{with_value}
 abbrev pub first_line : ℕ → ℕ → ℕ
 first_line n b = b % n
 
--- its second line: where its number and the n-th part of it differ, bit by bit, modulo n. So blocks with one first line have several second ones
+-- its second line: where its number and the n-th part of it differ, bit by bit, modulo n. So blocks with one
+-- first line have several second ones
 abbrev pub second_line : ℕ → ℕ → ℕ
 second_line n b = bit_xor b (b / n) % n
 
@@ -39,7 +41,8 @@ module _ {Code : Type 0} where
   abbrev pub goes_to : State Code → ℕ → ℕ
   goes_to s b =
       let first = first_line s.lines b in let second = second_line s.lines b in
-      choice (is_none (s.held first)) (is_none (s.held second)) (is_clean_line s first) (is_clean_line s second) first second
+      choice (is_none (s.held first)) (is_none (s.held second)) (is_clean_line s first)
+      (is_clean_line s second) first second
 
   -- a touch of block b: where it is not here, it is put into one of its two lines
   unfoldable pub touch : Format Code → State Code → ℕ → State Code
@@ -49,6 +52,7 @@ module _ {Code : Type 0} where
   unfoldable pub touch_for_writing : Format Code → State Code → ℕ → State Code
   touch_for_writing format s b = soiled (touch format s b) b
 
-  -- block b is touched for writing, and the value at its place p becomes v, where that place exists; the others stay
+  -- block b is touched for writing, and the value at its place p becomes v, where that place exists; the
+  -- others stay
   unfoldable pub put : Format Code → State Code → ℕ → ℕ → ℤ → State Code
   put format s b p v = with_value format (touch_for_writing format s b) b p v

@@ -1,4 +1,5 @@
-//! Laws of two-way caches over any backing. Each is a function with no parameters and an empty body, whose contract is the theorem.
+//! Laws of two-way caches over any backing. Each is a function with no parameters and an empty body, whose
+//! contract is the theorem.
 
 ghost use Rattle.std.specs.Prelude.{◌≡◌, ℕ, ◌==◌, ◌||◌, false, length};
 ghost use Rattle.zf_base.specs.Formats.{meant};
@@ -23,24 +24,30 @@ pub fn empty_caches_open<T: Lane, B: Reading<T>>()
         → state_of T.value c (B.format back) (B.codes back) ≡ opened (B.format back) (B.codes back) n }
 {}
 
-/// What `discard` does is the discard of the state that cache and backing stand for, and the two fit afterwards.
+/// What `discard` does is the discard of the state that cache and backing stand for, and the two fit
+/// afterwards.
 pub fn discards<T: Lane, B: Reading<T>>()
     ensures state { (c d : Kept T) (back : B) → Fits T.value c (B.format back) (B.codes back)
         → IsEmpty d (length c.tags) → d.counts ≡ c.counts
         → state_of T.value d (B.format back) (B.codes back)
         ≡ discard (B.format back) (state_of T.value c (B.format back) (B.codes back)) }
     ensures fits { (c d : Kept T) (back : B) → Fits T.value c (B.format back) (B.codes back)
-        → IsEmpty d (length c.tags) → length d.lines ≡ length c.lines → Fits T.value d (B.format back) (B.codes back) }
+        → IsEmpty d (length c.tags) → length d.lines ≡ length c.lines
+        → Fits T.value d (B.format back) (B.codes back) }
 {}
 
-/// In the state of a cache that fits, a block that is in a line has the values there, and is dirty where the tag says so; one that is in no
-/// line has the values that its code means, and is clean. A block is dirty where it is so in one of its two lines.
+/// In the state of a cache that fits, a block that is in a line has the values there, and is dirty where the
+/// tag says so; one that is in no line has the values that its code means, and is clean. A block is dirty
+/// where it is so in one of its two lines.
 pub fn lines_tell_of_blocks<T: Lane, B: Reading<T>>()
-    ensures in_line { (c : Kept T) (back : B) (l b : ℕ) → Fits T.value c (B.format back) (B.codes back) → IsIn c.tags l b
-        → ((state_of T.value c (B.format back) (B.codes back)).values b ≡ line_values T.value c (B.format back) l b)
+    ensures in_line { (c : Kept T) (back : B) (l b : ℕ) → Fits T.value c (B.format back) (B.codes back)
+        → IsIn c.tags l b
+        → ((state_of T.value c (B.format back) (B.codes back)).values b
+        ≡ line_values T.value c (B.format back) l b)
         × ((state_of T.value c (B.format back) (B.codes back)).dirty b ≡ (tag_at c.tags l == dirty_tag b)) }
     ensures away { (c : Kept T) (back : B) (b : ℕ) → IsAway c.tags b
-        → ((state_of T.value c (B.format back) (B.codes back)).values b ≡ meant (B.format back) b (B.codes back b))
+        → ((state_of T.value c (B.format back) (B.codes back)).values b
+        ≡ meant (B.format back) b (B.codes back b))
         × ((state_of T.value c (B.format back) (B.codes back)).dirty b ≡ false) }
     ensures dirty { (c : Kept T) (back : B) (b : ℕ) → Fits T.value c (B.format back) (B.codes back)
         → is_dirty c b ≡ ((tag_at c.tags (first_line (length c.tags) b) == dirty_tag b)

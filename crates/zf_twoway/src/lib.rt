@@ -1,4 +1,5 @@
-//! A write-back cache of blocks over any backing, in which each block has two lines: its number modulo the number of lines, and a skewed one.
+//! A write-back cache of blocks over any backing, in which each block has two lines: its number modulo the
+//! number of lines, and a skewed one.
 #![tactic(auto)]
 
 pub mod laws;

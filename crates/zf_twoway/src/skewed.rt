@@ -4,7 +4,8 @@ ghost use Rattle.zf_cached.specs.State.{is_block};
 ghost use Rattle.zf_cache.specs.Bodies.{IsMask};
 ghost use Rattle.zf_cache.specs.Kept.{block_in, dirty_of};
 ghost use Rattle.zf_twoway.specs.Touch.{second_line};
-ghost use Rattle.zf_twoway.specs.Placing.{skewed, taking_line, IsOneOfTwo, skewed_rule, two_lines, two_placing};
+ghost use Rattle.zf_twoway.specs.Placing.{skewed, taking_line, IsOneOfTwo, skewed_rule, two_lines};
+ghost use Rattle.zf_twoway.specs.Placing.{two_placing};
 
 use zf_cache::Rule;
 use zf_cached::placing::Placing;
@@ -36,8 +37,8 @@ fn is_clean(tag: u64) -> bool
     tag < 2 || tag % 2 == 0
 }
 
-/// Which of two lines takes in a block that neither holds, by their tags `one` and `two`: an empty one, or else a clean one, or else the
-/// first. Of two alike it is the first.
+/// Which of two lines takes in a block that neither holds, by their tags `one` and `two`: an empty one, or
+/// else a clean one, or else the first. Of two alike it is the first.
 fn taking(one: u64, two: u64, first: u32, second: u32) -> u32
     ensures { result ≡ taking_line one two first second }
 {

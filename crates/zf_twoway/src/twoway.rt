@@ -1,11 +1,12 @@
 //! The two-way cache.
-ghost use Rattle.std.specs.Prelude.{◌≡◌, ℕ, ◌*◌, ◌^◌, ◌<◌, ◌≤◌, min, pos, length, map, true, slice_index_or, IfOk, OnOk, OnErr};
+ghost use Rattle.std.specs.Prelude.{◌≡◌, ℕ, ◌*◌, ◌^◌, ◌<◌, ◌≤◌, min, pos, length, true, slice_index_or, IfOk};
+ghost use Rattle.std.specs.Prelude.{OnOk, OnErr};
 ghost use Rattle.std.specs.Bool.{OnTrue};
 ghost use Rattle.std.specs.Borrow.{sem};
-ghost use Rattle.zf_base.specs.Formats.{existing_of};
 ghost use Rattle.zf_cached.specs.State.{no_counts};
 ghost use Rattle.zf_cached.specs.Changes.{flush, relined};
-ghost use Rattle.zf_cache.specs.Kept.{IsLineCount, IsEmpty, HasBlocks};
+ghost use Rattle.zf_cache.specs.Kept.{IsLineCount, IsEmpty};
+ghost use Rattle.zf_cache.specs.Backed.{Backed, BackedAt, StepsTo, Shows, KeepsFormat};
 ghost use Rattle.zf_twoway.specs.Touch.{touch, put};
 ghost use Rattle.zf_twoway.specs.Standing.{is_dirty, state_of, values_of, Fits, HasRoom};
 
@@ -17,14 +18,17 @@ use zf_cache::{Body, rows_for};
 
 /// A cache of blocks of `4^D` values, which stands on a backing that is passed to each call.
 ///
-/// Block `b` has two lines: `b` modulo the number `L` of lines, and `b ^ (b / L)` modulo it. It is in one of them at most. Blocks that
-/// share their first line mostly have other second ones, so they can be in the cache together, and a dirty block makes room only where both
-/// lines hold one. The cache is seen as the values in its lines, a tag for each of them and three counts. A cache and the backing that
-/// it is used with fit: each line that is not empty holds a block that has it as its first or its second line, no block is in two lines,
-/// a clean line has the values that the block's code means, and the lines of each block have room for values. An empty cache fits every
-/// backing that it has room for, and each call leaves the two fitting. Values are stated at the places that exist.
+/// Block `b` has two lines: `b` modulo the number `L` of lines, and `b ^ (b / L)` modulo it. It is in one of
+/// them at most. Blocks that share their first line mostly have other second ones, so they can be in the
+/// cache together, and a dirty block makes room only where both lines hold one. The cache is seen as the
+/// values in its lines, a tag for each of them and three counts. A cache and the backing that it is used with
+/// fit: each line that is not empty holds a block that has it as its first or its second line, no block is in
+/// two lines, a clean line has the values that the block's code means, and the lines of each block have room
+/// for values. An empty cache fits every backing that it has room for, and each call leaves the two fitting.
+/// Values are stated at the places that exist.
 ///
-/// Over fewer blocks than lines both lines of block `b` are line `b`, so `for_blocks` takes no memory for the values of those beyond.
+/// Over fewer blocks than lines both lines of block `b` are line `b`, so `for_blocks` takes no memory for the
+/// values of those beyond.
 #[derive(Drop)]
 pub struct TwoWay<T, const D: usize> {
     alloc: Global,
@@ -80,17 +84,14 @@ impl<T: Lane, const D: usize> TwoWay<T, D> {
     /// Touches block `b`; the value at its place `p`.
     #[inline]
     pub fn get<B: Backing<T>>(&mut self, back: &mut B, b: u64, p: usize) -> T
-        requires fits { Fits T.value self.old (B.format back.old) (B.codes back.old) }
-        requires blocks { HasBlocks (B.format back.old) D }
-        requires block { b < (B.format back.old).blocks }
+        requires backed { BackedAt B.Reading (Fits T.value) D self.old back.old b }
         requires place { p < 4 ^ D }
-        ensures fits { Fits T.value self.new (B.format back.new) (B.codes back.new) }
-        ensures state { state_of T.value self.new (B.format back.new) (B.codes back.new)
-            ≡ touch (B.format back.old) (state_of T.value self.old (B.format back.old) (B.codes back.old)) b }
+        ensures step { StepsTo B.Reading (state_of T.value) (Fits T.value) (λ f s. touch f s b)
+            self.old back.old self.new back.new }
         ensures value { OnTrue ((B.format back.old).exists b p)
-            (T.value result ≡ slice_index_or (values_of T.value self.new (B.format back.new) (B.codes back.new) b) p (pos 0)) }
-        ensures format { B.format back.new ≡ B.format back.old }
-        ensures kept { B.kept back.new ≡ B.kept back.old }
+            (T.value result ≡ slice_index_or
+            (values_of T.value self.new (B.format back.new) (B.codes back.new) b) p
+            (pos 0)) }
     {
         let l = self.body.touch::<Skewed, B>(back, b);
         self.body.lines.line(l)[p]
@@ -99,15 +100,10 @@ impl<T: Lane, const D: usize> TwoWay<T, D> {
     /// Touches block `b` for writing, and makes the value at its place `p` be `v`; the others stay.
     #[inline]
     pub fn set<B: Backing<T>>(&mut self, back: &mut B, b: u64, p: usize, v: T)
-        requires fits { Fits T.value self.old (B.format back.old) (B.codes back.old) }
-        requires blocks { HasBlocks (B.format back.old) D }
-        requires block { b < (B.format back.old).blocks }
+        requires backed { BackedAt B.Reading (Fits T.value) D self.old back.old b }
         requires place { p < 4 ^ D }
-        ensures fits { Fits T.value self.new (B.format back.new) (B.codes back.new) }
-        ensures state { state_of T.value self.new (B.format back.new) (B.codes back.new)
-            ≡ put (B.format back.old) (state_of T.value self.old (B.format back.old) (B.codes back.old)) b p (T.value v) }
-        ensures format { B.format back.new ≡ B.format back.old }
-        ensures kept { B.kept back.new ≡ B.kept back.old }
+        ensures step { StepsTo B.Reading (state_of T.value) (Fits T.value) (λ f s. put f s b p (T.value v))
+            self.old back.old self.new back.new }
     {
         self.body.set::<Skewed, B>(back, b, p, v);
     }
@@ -115,33 +111,28 @@ impl<T: Lane, const D: usize> TwoWay<T, D> {
     /// Touches block `b`; its `4^D` values.
     #[inline]
     pub fn block<B: Backing<T>>(&mut self, back: &mut B, b: u64) -> &[T]
-        requires fits { Fits T.value self.old (B.format back.old) (B.codes back.old) }
-        requires blocks { HasBlocks (B.format back.old) D }
-        requires block { b < (B.format back.old).blocks }
+        requires backed { BackedAt B.Reading (Fits T.value) D self.old back.old b }
         ensures* touched { sem 𝓛 (EndsTouched T.row D.row self.entry T.value (B.format back.old)
             (B.codes back.old) (B.codes back.new) b) }
-        ensures value { existing_of (B.format back.old) b (map T.value result.now) ≡ (touch (B.format back.old)
-            (state_of T.value self.old (B.format back.old) (B.codes back.old)) b).values b }
-        ensures size { length result.now ≡ 4 ^ D }
-        ensures format { B.format back.new ≡ B.format back.old }
-        ensures kept { B.kept back.new ≡ B.kept back.old }
+        ensures shows { Shows B.Reading T.value
+            (touch (B.format back.old) (state_of T.value self.old (B.format back.old) (B.codes back.old)) b)
+            D b result.now back.old back.new }
     {
         let l = self.body.touch::<Skewed, B>(back, b);
         self.body.lines.line(l)
     }
 
-    /// Touches block `b` for writing; its `4^D` values. What is written to them is the block's value afterwards.
+    /// Touches block `b` for writing; its `4^D` values. What is written to them is the block's value
+    /// afterwards.
     #[inline]
     pub fn block_mut<B: Backing<T>>(&mut self, back: &mut B, b: u64) -> &mut [T]
-        requires fits { Fits T.value self.old (B.format back.old) (B.codes back.old) }
-        requires blocks { HasBlocks (B.format back.old) D }
-        requires block { b < (B.format back.old).blocks }
+        requires backed { BackedAt B.Reading (Fits T.value) D self.old back.old b }
         ensures* writes_back { sem 𝓛 (EndsWithBlock T.row D.row self.entry T.value (B.format back.old)
             (B.codes back.old) b result) }
-        ensures loan { LendsBlock T.value (B.format back.old) (B.codes back.old) (B.codes back.new) self.old b result.now }
+        ensures loan { LendsBlock T.value (B.format back.old) (B.codes back.old) (B.codes back.new) self.old b
+            result.now }
         ensures size { length result.now ≡ 4 ^ D }
-        ensures format { B.format back.new ≡ B.format back.old }
-        ensures kept { B.kept back.new ≡ B.kept back.old }
+        ensures keeps { KeepsFormat B.Reading back.old back.new }
     {
         let l = self.body.touch_for_writing::<Skewed, B>(back, b);
         self.body.lines.line_mut(l)
@@ -149,14 +140,10 @@ impl<T: Lane, const D: usize> TwoWay<T, D> {
 
     /// Writes every dirty block back, in the order of lines; then the cache is empty.
     pub fn flush<B: Backing<T>>(&mut self, back: &mut B)
-        requires fits { Fits T.value self.old (B.format back.old) (B.codes back.old) }
-        requires blocks { HasBlocks (B.format back.old) D }
-        ensures fits { Fits T.value self.new (B.format back.new) (B.codes back.new) }
-        ensures state { state_of T.value self.new (B.format back.new) (B.codes back.new)
-            ≡ flush (B.format back.old) (state_of T.value self.old (B.format back.old) (B.codes back.old)) }
+        requires backed { Backed B.Reading (Fits T.value) D self.old back.old }
+        ensures step { StepsTo B.Reading (state_of T.value) (Fits T.value) (λ f s. flush f s)
+            self.old back.old self.new back.new }
         ensures empty { IsEmpty self.new (length self.old.tags) }
-        ensures format { B.format back.new ≡ B.format back.old }
-        ensures kept { B.kept back.new ≡ B.kept back.old }
     {
         self.body.flush::<Skewed, B>(back)
     }
@@ -173,17 +160,16 @@ impl<T: Lane, const D: usize> TwoWay<T, D> {
     /// A flush, and then this number of lines, those beyond the number of blocks with no room for values. The
     /// memory is taken first: after `AllocError` nothing has changed.
     pub fn relined<B: Backing<T>>(&mut self, back: &mut B, lines: u32) -> Result<(), AllocError>
-        requires fits { Fits T.value self.old (B.format back.old) (B.codes back.old) }
-        requires blocks { HasBlocks (B.format back.old) D }
+        requires backed { Backed B.Reading (Fits T.value) D self.old back.old }
         requires count { IsLineCount lines }
         ensures fits { Fits T.value self.new (B.format back.new) (B.codes back.new) }
         ensures ok { OnOk result (state_of T.value self.new (B.format back.new) (B.codes back.new)
-            ≡ relined (B.format back.old) (state_of T.value self.old (B.format back.old) (B.codes back.old)) lines) }
+            ≡ relined (B.format back.old)
+            (state_of T.value self.old (B.format back.old) (B.codes back.old)) lines) }
         ensures empty { OnOk result (IsEmpty self.new lines) }
         ensures rows { OnOk result (length self.new.lines ≡ min lines (B.format back.old).blocks) }
         ensures err { OnErr result ((self.new ≡ self.old) × (B.codes back.new ≡ B.codes back.old)) }
-        ensures format { B.format back.new ≡ B.format back.old }
-        ensures kept { B.kept back.new ≡ B.kept back.old }
+        ensures keeps { KeepsFormat B.Reading back.old back.new }
     {
         let blocks = back.blocks();
         let rows = rows_for(lines, blocks);

@@ -6,7 +6,10 @@ use Rattle.zf_base.specs.declared.position.Extent.{Extent}
 
 -- the part of block b that lies in an array of these sizes: its first position, and its sizes
 abbrev pub part_of : List ℕ → ℕ → Extent
-part_of ns b = record { origin = with_unused 0 (map (λ c. 4 * c) (coordinates (grid ns) b)); size = with_unused 1 (extent_of ns b) }
+part_of ns b = record {
+  origin = with_unused 0 (map (λ c. 4 * c) (coordinates (grid ns) b));
+  size = with_unused 1 (extent_of ns b);
+}
 
 -- a block's number, and the part of it that exists
 abbrev pub block_item : List ℕ → ℕ → ℕ × Extent
@@ -20,7 +23,8 @@ block_items ns = map (block_item ns) (upto (blocks ns))
 abbrev pub items_from : List ℕ → ℕ → List (ℕ × Extent)
 items_from ns b = map (block_item ns) (count_from b (blocks ns - b))
 
--- what an iterator over the blocks keeps: its next block is one of the array's or the one behind the last, and it knows how many there are
+-- what an iterator over the blocks keeps: its next block is one of the array's or the one behind the last,
+-- and it knows how many there are
 pub record IsAtBlock (ns : List ℕ) (next end : ℕ) : Type 0 where
   pub next_at_most : next ≤ end
   pub end_is : end ≡ blocks ns

@@ -21,7 +21,8 @@ module _ {X : Type 0} {n : ℕ} where
   abbrev pub elems_left : ElemIter X n → Count
   elems_left it = at_most (it.end - it.next)
 
-  -- a step from s to t gave the value v: the one that a touch at the next position finds; nothing else is touched
+  -- a step from s to t gave the value v: the one that a touch at the next position finds; nothing else is
+  -- touched
   pub record GivesElem (s t : ElemIter X n) (v : ℤ) : Type 0 where
     pub some_left : s.next < s.end
     pub next : t.next ≡ s.next + 1

@@ -1,5 +1,5 @@
 -- A run of values along x, as a view lends it.
-use Rattle.std.specs.Prelude.{ℕ, ◌≡◌, ◌+◌, ◌<◌, ℤ, Bool, List, length, take, drop}
+use Rattle.std.specs.Prelude.{ℕ, ◌≡◌, ◌+◌, ◌<◌, ℤ, Bool, List, length, map, take, drop}
 use Rattle.zf_base.specs.declared.position.Pos.{Pos}
 use Rattle.zf_base.specs.Positions.{IsPosition}
 use Rattle.zf_cached.specs.State.{State}
@@ -7,7 +7,7 @@ use Rattle.zf_cached.specs.Touch.{touch_for_writing, with_values}
 use Rattle.zf_cached.specs.Windows.{Window}
 use Rattle.zf_array.specs.Standing.{Held, format, state, array_of, block_at, place_at}
 use Rattle.zf_array.specs.Loans.{spliced}
-use Rattle.zf_window.specs.Positions.{position_at}
+use Rattle.zf_window.specs.Positions.{position_at, run_length}
 use Rattle.zf_view.specs.Touches.{touched_at}
 
 -- the position k further along x
@@ -22,7 +22,16 @@ pub record AreBeside (a : Held) (w : Window) (p : Pos) (n : ℕ) : Type 0 where
 
 -- the n values from position q of the array on that a touch finds, for writing or not
 abbrev pub run_found : Held → Pos → ℕ → List ℤ
-run_found a q n = take n (drop (place_at a q) ((touch_for_writing (format a) (state a) (block_at a q)).values (block_at a q)))
+run_found a q n = take n
+    (drop (place_at a q) ((touch_for_writing (format a) (state a) (block_at a q)).values (block_at a q)))
+
+-- a row has the values of the array at position p of the window and at those that follow along x, which are
+-- side by side
+pub record ShowsRun {X : Type 0}
+    (value : X → ℤ) (a : Held) (w : Window) (p : Pos) (row : List X) : Type 0 where
+  pub size : length row ≡ run_length w p
+  pub beside : AreBeside a w p (run_length w p)
+  pub value_is : map value row ≡ run_found a (position_at w p) (run_length w p)
 
 -- the state after a touch for writing, with these values from position q on
 abbrev pub run_changed : Held → Pos → List ℤ → State (List Bool)

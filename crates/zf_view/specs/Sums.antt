@@ -30,4 +30,5 @@ touched_to format ns s w (suc n) = touch format (touched_to format ns s w n) (bl
 -- the sum, without wrap, of the values that these touches find
 unfoldable pub sum_found : {Code : Type 0} → Format Code → List ℕ → State Code → Window → ℕ → ℤ
 sum_found format ns s w zero = pos 0
-sum_found format ns s w (suc n) = sum_found format ns s w n +ℤ value_in ns (touched_to format ns s w (suc n)) (raster_at w n)
+sum_found format ns s w (suc n) = sum_found format ns s w n +ℤ value_in ns (touched_to format ns s w (suc n))
+    (raster_at w n)

@@ -18,4 +18,5 @@ abbrev pub changed_at : Held → Pos → (ℤ → ℤ) → State (List Bool)
 changed_at a p change =
     let t = touch_for_writing (format a) (state a) (block_at a p) in
     let old = t.values (block_at a p) in
-    with_values t (block_at a p) (slice_set old (place_at a p) (change (slice_index_or old (place_at a p) (pos 0))))
+    with_values t (block_at a p)
+    (slice_set old (place_at a p) (change (slice_index_or old (place_at a p) (pos 0))))

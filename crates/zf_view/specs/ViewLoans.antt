@@ -31,19 +31,23 @@ module _ {X : Type 0} {n : ℕ} where
 module _ (R D : RattleType) (lane : Lane.Ghosts R.Denot) (eq : PartialEq.Ghosts R.Denot) where
   -- the array behind v is the last one behind r. Its lifetime is the second of the signature
   abbrev pub EndsWithArray : MutBor (View R.Denot (number_of w64 (lone D.mir))) → MutBor Held → Fml
-  EndsWithArray v r = follows (view.the_row (record { mir = named 1; lft = [] }) R D lane eq) (array.the_row R D lane eq) v.ghost_name r.ghost_name (view_of v.now)
+  EndsWithArray v r = follows (view.the_row (record { mir = named 1; lft = [] }) R D lane eq)
+      (array.the_row R D lane eq) v.ghost_name r.ghost_name (view_of v.now)
 
   -- a loan for reading leaves the array touched at position p of the view
   abbrev pub EndsTouched : MutBor (View R.Denot (number_of w64 (lone D.mir))) → Pos → Fml
   EndsTouched v p =
-      follows_so (view.the_row (record { mir = named 1; lft = [] }) R D lane eq) (view.the_row (record { mir = named 1; lft = [] }) R D lane eq) v.ghost_name none (λ _ _. ⊤)
+      follows_so (view.the_row (record { mir = named 1; lft = [] }) R D lane eq)
+      (view.the_row (record { mir = named 1; lft = [] }) R D lane eq) v.ghost_name none (λ _ _. ⊤)
       (λ e. e ≡ view_of v.now (with_touch v.now.array.now (position_at v.now.window p)))
 
   -- the values from position p of the view on are the last ones written through r
-  abbrev pub EndsWithRun : MutBor (View R.Denot (number_of w64 (lone D.mir))) → Pos → MutBor (List R.Denot) → Fml
+  abbrev pub EndsWithRun : MutBor (View R.Denot (number_of w64 (lone D.mir))) → Pos → MutBor (List R.Denot)
+      → Fml
   EndsWithRun v p r =
       Lends (view.the_row (record { mir = named 1; lft = [] }) R D lane eq) (Array R 0) v r
-      (λ ws. view_of v.now (with_run v.now.array.now (position_at v.now.window p) (map lane.value (over r.now ws))))
+      (λ ws. view_of v.now
+      (with_run v.now.array.now (position_at v.now.window p) (map lane.value (over r.now ws))))
 
   -- the value of the element e is the last one written through r
   abbrev pub EndsWithValue : MutBor (ElemMut R.Denot (number_of w64 (lone D.mir))) → MutBor R.Denot → Fml

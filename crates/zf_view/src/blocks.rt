@@ -9,8 +9,8 @@ use std::iter::FusedIterator;
 use std::marker::Model;
 use zf_base::{Extent, Shape};
 
-/// The blocks of an array in the order of their numbers: the number of each, and the part of it that lies in the array, that is
-/// its first position and its sizes, 1 to 4 along each axis that is used.
+/// The blocks of an array in the order of their numbers: the number of each, and the part of it that lies in
+/// the array, that is its first position and its sizes, 1 to 4 along each axis that is used.
 ///
 /// It is seen as the list of what is left.
 ///

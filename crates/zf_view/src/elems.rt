@@ -5,14 +5,15 @@ ghost use Rattle.std.specs.Iterator.{UpTo};
 ghost use Rattle.std.specs.Iterator.SizeHint.{IsWithinCount};
 ghost use Rattle.zf_cached.specs.Windows.{LiesIn};
 ghost use Rattle.zf_array.specs.Standing.{shape};
+ghost use Rattle.zf_view.specs.Keeps.{SameArray};
 
 use std::iter::FusedIterator;
 use zf_array::Array;
 use zf_base::{Lane, Pos};
 use zf_window::Window;
 
-/// The values of a view in raster order, x fastest: each position of the window once, by one touch an item. Each value is the one that
-/// its own touch finds.
+/// The values of a view in raster order, x fastest: each position of the window once, by one touch an item.
+/// Each value is the one that its own touch finds.
 #[derive(Drop)]
 pub struct ElemIter<'a, T: Lane, const D: usize> {
     pub(crate) array: &'a mut Array<T, D>,
@@ -35,8 +36,7 @@ impl<'a, T: Lane, const D: usize> ElemIter<'a, T, D> {
     /// ```
     pub fn bind(array: &'a mut Array<T, D>, window: Window) -> ElemIter<'a, T, D>
         requires { LiesIn (shape array.old) window }
-        ensures same_array { result.array.ghost_name ≡ array.entry.ghost_name }
-        ensures array { result.array.now ≡ array.old }
+        ensures array { SameArray array.entry result.array }
         ensures window { result.window ≡ window }
         ensures first { result.next ≡ 0 }
         ensures can_next { IsAtElem result }

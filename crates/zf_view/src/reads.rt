@@ -32,7 +32,8 @@ pub(crate) trait Reads<T: Lane> {
     fn value(&mut self, p: Pos) -> T
         requires { IsPosition (shape (kept self.old)) p }
         ensures kept { kept self.new ≡ kept self.old }
-        ensures state { state self.new ≡ touch (format (kept self.old)) (state self.old) (block_of (shape (kept self.old)) p) }
+        ensures state { state self.new ≡ touch (format (kept self.old)) (state self.old)
+            (block_of (shape (kept self.old)) p) }
         ensures value { T.value result ≡ value_in (shape (kept self.old)) (state self.new) p };
 }
 

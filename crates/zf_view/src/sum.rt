@@ -5,6 +5,7 @@ ghost use Rattle.zf_spec.specs.Grid.{product};
 ghost use Rattle.zf_cached.specs.Windows.{LiesIn};
 ghost use Rattle.zf_cached.specs.Unwritten.{IsUnwritten};
 ghost use Rattle.zf_array.specs.Standing.{state, format, shape};
+ghost use Rattle.zf_view.specs.Keeps.{KeepsView};
 ghost use Rattle.zf_view.specs.Sums.{touched_to, sum_found, sum_in};
 
 use crate::reads::Reads;
@@ -18,11 +19,10 @@ impl<'a, T: Lane, const D: usize> View<'a, T, D> {
     /// has, and none of them changes.
     pub fn sum(&mut self) -> i128
         requires { LiesIn (shape self.old.array.now) self.old.window }
-        ensures same_array { self.new.array.ghost_name ≡ self.old.array.ghost_name }
-        ensures window { self.new.window ≡ self.old.window }
-        ensures header { self.new.array.now.header ≡ self.old.array.now.header }
+        ensures keeps { KeepsView self.old self.new }
         ensures state { let a = self.old.array.now in
-            state self.new.array.now ≡ touched_to (format a) (shape a) (state a) self.old.window (product self.old.window.size) }
+            state self.new.array.now
+            ≡ touched_to (format a) (shape a) (state a) self.old.window (product self.old.window.size) }
         ensures value { let a = self.old.array.now in
             result ≡ sum_found (format a) (shape a) (state a) self.old.window (product self.old.window.size) }
         ensures sum { let a = self.old.array.now in ((b : ℕ) → (state a).dirty b ≡ false)
@@ -35,12 +35,14 @@ impl<'a, T: Lane, const D: usize> View<'a, T, D> {
     }
 }
 
-/// The same of an array that is read, and of a window that lies in it. At most 2^27 values of 64 bits have a sum far below 2^127.
+/// The sum of the values of a window that lies in an array, by one touch of each position in raster order. At
+/// most 2^27 values of 64 bits have a sum far below 2^127.
 pub(crate) fn sum_of<T: Lane, A: Reads<T>>(array: &mut A, window: Window) -> i128
     requires { LiesIn (A.shape (A.kept array.old)) window }
     ensures kept { A.kept array.new ≡ A.kept array.old }
     ensures state { let k = A.kept array.old in
-        A.state array.new ≡ touched_to (A.format k) (A.shape k) (A.state array.old) window (product window.size) }
+        A.state array.new ≡ touched_to (A.format k) (A.shape k) (A.state array.old) window
+        (product window.size) }
     ensures value { let k = A.kept array.old in
         result ≡ sum_found (A.format k) (A.shape k) (A.state array.old) window (product window.size) }
 {

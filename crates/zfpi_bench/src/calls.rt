@@ -1,20 +1,16 @@
 //! What is done at a position.
 
-ghost use Rattle.std.specs.Prelude.{◌≡◌};
 ghost use Rattle.zf_base.specs.Positions.{IsPosition};
-ghost use Rattle.zf_array.specs.Standing.{shape};
 ghost use Rattle.zfpi_bench.specs.Square.{square};
 
-use zf_array::Array;
+use crate::bench::Bench;
 use zf_base::{Lane, Pos};
 
 /// One call on the array.
 pub(crate) trait Call<T: Lane> {
     /// The call at position `p`, and what becomes of the number that all calls give.
-    fn call(array: &mut Array<T, 2>, p: Pos, number: T) -> T
-        requires square { shape array.old ≡ square }
-        requires position { IsPosition square p }
-        ensures { shape array.new ≡ square };
+    fn call(bench: &mut Bench<T>, p: Pos, number: T) -> T
+        requires { IsPosition square p };
 }
 
 /// The value is added to the number.
@@ -22,8 +18,8 @@ pub(crate) struct Get;
 
 impl<T: Lane> Call<T> for Get {
     #[inline]
-    fn call(array: &mut Array<T, 2>, p: Pos, number: T) -> T {
-        number.add(array.get(p))
+    fn call(bench: &mut Bench<T>, p: Pos, number: T) -> T {
+        number.add(bench.values.get(p))
     }
 }
 
@@ -32,8 +28,8 @@ pub(crate) struct Set;
 
 impl<T: Lane> Call<T> for Set {
     #[inline]
-    fn call(array: &mut Array<T, 2>, p: Pos, number: T) -> T {
-        array.set(p, number);
+    fn call(bench: &mut Bench<T>, p: Pos, number: T) -> T {
+        bench.values.set(p, number);
         number
     }
 }
@@ -43,8 +39,8 @@ pub(crate) struct Add;
 
 impl<T: Lane> Call<T> for Add {
     #[inline]
-    fn call(array: &mut Array<T, 2>, p: Pos, number: T) -> T {
-        array.add(p, number);
+    fn call(bench: &mut Bench<T>, p: Pos, number: T) -> T {
+        bench.values.add(p, number);
         number
     }
 }

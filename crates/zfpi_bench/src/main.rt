@@ -7,6 +7,7 @@
 //! The array has 1024 x 1024 values of int32 or int64, at 16 bits a value. A number is printed that comes of all that the calls gave.
 #![tactic(auto)]
 
+mod bench;
 mod calls;
 mod orders;
 mod words;

@@ -1,12 +1,12 @@
 //! An array, and calls at many positions of it.
 
-ghost use Rattle.std.specs.Prelude.{◌≡◌, ◌+◌, ◌<◌, ◌≤◌, IfOk};
+ghost use Rattle.std.specs.Prelude.{◌≡◌, ◌+◌, ◌<◌, ◌≤◌};
 ghost use Rattle.zf_base.specs.Positions.{IsPosition};
 ghost use Rattle.zf_cached.specs.Windows.{LiesIn};
-ghost use Rattle.zf_array.specs.Standing.{shape};
 ghost use Rattle.zf_view.specs.Elems.{IsAtElem};
 ghost use Rattle.zfpi_bench.specs.Square.{square};
 
+use crate::bench::Bench;
 use crate::calls::{Add, Call, Get, Set};
 use crate::words::{Kind, Order, Request};
 use std::alloc::{AllocError, Global};
@@ -34,25 +34,24 @@ pub(crate) fn measured<T: Lane>(alloc: Global, asked: Request) -> Result<u64, Al
         Order::Blocks => FEW,
         Order::Row | Order::Raster | Order::Random => ALL,
     };
-    let mut array = made::<T>(alloc, sizes, lines)?;
-    fill(&mut array);
+    let mut bench = made::<T>(alloc, sizes, lines)?;
+    fill(&mut bench);
     let number = match asked.kind {
-        Kind::Get => rounds::<T, Get>(&mut array, asked),
-        Kind::Set => rounds::<T, Set>(&mut array, asked),
-        Kind::Add => rounds::<T, Add>(&mut array, asked),
-        Kind::Elems | Kind::Sum => sums(&mut array, asked),
+        Kind::Get => rounds::<T, Get>(&mut bench, asked),
+        Kind::Set => rounds::<T, Set>(&mut bench, asked),
+        Kind::Add => rounds::<T, Add>(&mut bench, asked),
+        Kind::Elems | Kind::Sum => sums(&mut bench, asked),
     };
     Ok(number.to_word())
 }
 
 // The array.
-fn made<T: Lane>(alloc: Global, sizes: Shape, lines: u32) -> Result<Array<T, 2>, AllocError>
+fn made<T: Lane>(alloc: Global, sizes: Shape, lines: u32) -> Result<Bench<T>, AllocError>
     requires sizes { sizes ≡ square }
     requires lines { (0 < lines) × (lines ≤ 65536) }
-    ensures { IfOk result (λ a. shape a ≡ square) }
 {
-    let array = Array::<T, 2>::new(alloc, sizes, BITS, lines)?;
-    Ok(array)
+    let values = Array::<T, 2>::new(alloc, sizes, BITS, lines)?;
+    Ok(Bench { values })
 }
 
 // A position of the array.
@@ -65,78 +64,61 @@ fn position(x: u64, y: u64) -> Pos
 }
 
 // Writes values, each block once.
-fn fill<T: Lane>(array: &mut Array<T, 2>)
-    requires { shape array.old ≡ square }
-    ensures { shape array.new ≡ square }
-{
+fn fill<T: Lane>(bench: &mut Bench<T>) {
     for row in 0..256u64 {
         for column in 0..256u64 {
-            fill_block(array, 4 * column, 4 * row);
+            fill_block(bench, 4 * column, 4 * row);
         }
     }
-    array.flush();
+    bench.values.flush();
 }
 
 // Writes the values of one block: a slope in both directions, and a little of what looks like noise.
-fn fill_block<T: Lane>(array: &mut Array<T, 2>, left: u64, top: u64)
-    requires square { shape array.old ≡ square }
-    requires inside { (left + 4 ≤ 1024) × (top + 4 ≤ 1024) }
-    ensures { shape array.new ≡ square }
+fn fill_block<T: Lane>(bench: &mut Bench<T>, left: u64, top: u64)
+    requires { (left + 4 ≤ 1024) × (top + 4 ≤ 1024) }
 {
     for y in top..top + 4 {
         for x in left..left + 4 {
             let value = 40 * x + 30 * y + (x * 7919 + y * 104729) % 251;
-            array.set(position(x, y), T::from_word(value));
+            Set::call(bench, position(x, y), T::from_word(value));
         }
     }
 }
 
 // So many rounds of calls.
-fn rounds<T: Lane, C: Call<T>>(array: &mut Array<T, 2>, asked: Request) -> T
-    requires { shape array.old ≡ square }
-    ensures { shape array.new ≡ square }
-{
+fn rounds<T: Lane, C: Call<T>>(bench: &mut Bench<T>, asked: Request) -> T {
     let mut number = T::zero();
     for _ in 0..asked.rounds {
         number = match asked.order {
-            Order::Row => row::<T, C>(array, number),
-            Order::Raster => raster::<T, C>(array, number),
-            Order::Random => random::<T, C>(array, number),
-            Order::Blocks => blocks::<T, C>(array, number),
+            Order::Row => row::<T, C>(bench, number),
+            Order::Raster => raster::<T, C>(bench, number),
+            Order::Random => random::<T, C>(bench, number),
+            Order::Blocks => blocks::<T, C>(bench, number),
         };
     }
     number
 }
 
 #[inline(never)]
-fn row<T: Lane, C: Call<T>>(array: &mut Array<T, 2>, mut number: T) -> T
-    requires { shape array.old ≡ square }
-    ensures { shape array.new ≡ square }
-{
+fn row<T: Lane, C: Call<T>>(bench: &mut Bench<T>, mut number: T) -> T {
     for i in 0..4096u64 {
-        number = C::call(array, position(FIRST + i % 64, FIRST), number);
+        number = C::call(bench, position(FIRST + i % 64, FIRST), number);
     }
     number
 }
 
 #[inline(never)]
-fn raster<T: Lane, C: Call<T>>(array: &mut Array<T, 2>, mut number: T) -> T
-    requires { shape array.old ≡ square }
-    ensures { shape array.new ≡ square }
-{
+fn raster<T: Lane, C: Call<T>>(bench: &mut Bench<T>, mut number: T) -> T {
     for y in 0..64u64 {
         for x in 0..64u64 {
-            number = C::call(array, position(FIRST + x, FIRST + y), number);
+            number = C::call(bench, position(FIRST + x, FIRST + y), number);
         }
     }
     number
 }
 
 #[inline(never)]
-fn random<T: Lane, C: Call<T>>(array: &mut Array<T, 2>, mut number: T) -> T
-    requires { shape array.old ≡ square }
-    ensures { shape array.new ≡ square }
-{
+fn random<T: Lane, C: Call<T>>(bench: &mut Bench<T>, mut number: T) -> T {
     let mut state = 1u64;
     for _ in 0..4096u64 {
         state = state
@@ -144,7 +126,7 @@ fn random<T: Lane, C: Call<T>>(array: &mut Array<T, 2>, mut number: T) -> T
             .wrapping_add(1442695040888963407);
         let at = state >> 33;
         number = C::call(
-            array,
+            bench,
             position(FIRST + at % 64, FIRST + at / 64 % 64),
             number,
         );
@@ -153,23 +135,17 @@ fn random<T: Lane, C: Call<T>>(array: &mut Array<T, 2>, mut number: T) -> T
 }
 
 #[inline(never)]
-fn blocks<T: Lane, C: Call<T>>(array: &mut Array<T, 2>, mut number: T) -> T
-    requires { shape array.old ≡ square }
-    ensures { shape array.new ≡ square }
-{
+fn blocks<T: Lane, C: Call<T>>(bench: &mut Bench<T>, mut number: T) -> T {
     for row in 0..256u64 {
         for column in 0..256u64 {
-            number = C::call(array, position(4 * column, 4 * row), number);
+            number = C::call(bench, position(4 * column, 4 * row), number);
         }
     }
     number
 }
 
 // So many sums of the window, by an iterator or by one call.
-fn sums<T: Lane>(array: &mut Array<T, 2>, asked: Request) -> T
-    requires { shape array.old ≡ square }
-    ensures { shape array.new ≡ square }
-{
+fn sums<T: Lane>(bench: &mut Bench<T>, asked: Request) -> T {
     let mut number = T::zero();
     let ones = Pos {
         x: 1,
@@ -182,37 +158,33 @@ fn sums<T: Lane>(array: &mut Array<T, 2>, asked: Request) -> T
         y: 64,
         ..ones
     };
-    let Ok(window) = Window::new(&array.shape(), position(FIRST, FIRST), size, ones) else {
+    let Ok(window) = Window::new(&bench.values.shape(), position(FIRST, FIRST), size, ones) else {
         return number;
     };
     for _ in 0..asked.rounds {
         number = match asked.kind {
-            Kind::Sum => summed(array, window, number),
-            _ => sum_of(array, window, number),
+            Kind::Sum => summed(bench, window, number),
+            _ => sum_of(bench, window, number),
         };
     }
     number
 }
 
 #[inline(never)]
-fn summed<T: Lane>(array: &mut Array<T, 2>, window: Window, number: T) -> T
-    requires lies { LiesIn square window }
-    requires square { shape array.old ≡ square }
-    ensures { shape array.new ≡ square }
+fn summed<T: Lane>(bench: &mut Bench<T>, window: Window, number: T) -> T
+    requires { LiesIn square window }
 {
-    if View::bind(array, window).sum() > 0 {
+    if View::bind(&mut bench.values, window).sum() > 0 {
         return number.add(T::from_word(1));
     }
     number
 }
 
 #[inline(never)]
-fn sum_of<T: Lane>(array: &mut Array<T, 2>, window: Window, number: T) -> T
-    requires lies { LiesIn square window }
-    requires square { shape array.old ≡ square }
-    ensures { shape array.new ≡ square }
+fn sum_of<T: Lane>(bench: &mut Bench<T>, window: Window, number: T) -> T
+    requires { LiesIn square window }
 {
-    added(&mut ElemIter::bind(array, window), number)
+    added(&mut ElemIter::bind(&mut bench.values, window), number)
 }
 
 #[inline]

@@ -6,7 +6,7 @@ use Rattle.zf_array_tests.proofs.cache.goes.Goals as goal
 pub returns-after-b-lt8-3-clause-fits : goal.returns-after-b-lt8-3-clause-fits
 returns-after-b-lt8-3-clause-fits g c =
     let t = c.touch_mut.new.self in let back = c.touch_mut.new.back in
-    (part_written lane.value (counted.format back) (counted.codes back) t c.in-Part.b c.in-Part.from 2 c.loop-value.value-items c.touch_mut.ensures.fits c.touch_mut.ensures.dirty
+    (part_written lane.value (counted.format back) (counted.codes back) t c.in-Part.b c.in-Part.from 2 c.loop-value.value-items c.touch_mut.ensures.step.fits c.touch_mut.ensures.dirty
     c.part_mut-value-items.ensures.size.there).fits
 
 pub returns-in-Discard-clause-fits : goal.returns-in-Discard-clause-fits

@@ -14,7 +14,7 @@ use Rattle.zf_index.specs.declared.fault.IndexFault.TheVariants.{Truncated}
 use Rattle.zf_index.specs.Files.{IsIndexOf, stream_fault}
 use Rattle.zf_index.specs.Spans.{even_index}
 use Rattle.zf_index.proofs.Even.{even_walked, even_fault}
-use Rattle.zf_index.proofs.Read.{is_header, fault_is, index_is}
+use Rattle.zf_index.proofs.Read.{has_header, is_header, fault_is, index_is}
 use Rattle.zf_index.proofs.walk.check_rate.Goals as goal
 
 pub returns-then-whole-blocks-clause-fault : goal.returns-then-whole-blocks-clause-fault
@@ -25,14 +25,14 @@ returns-then-whole-blocks-clause-fault c =
     let start = c.args.start in
     let rate = c.args.rate in
     let left = drop start s in
-    let some : 1 ≤ rate = (subst IsMode c.requires.rate (is_header file h c.requires.header).mode).0 in
+    let some : 1 ≤ rate = (subst IsMode c.requires.rate (is_header file h (has_header file h start c.requires.begun)).mode).0 in
     let whole = (c.in-Some.bits - start) / c.from-rate.result in
     let long : length left ≡ c.in-Some.bits - start = omega (arith, length-drop start s, length-to_bits file, c.in-Some.ensures) in
     let same : length left / rate ≡ whole = ap (λ n. n / rate) long ∙ ap (λ n. (c.in-Some.bits - start) / n) (sym c.from-rate.ensures) in
     let cut : length left < blocks h.shape * rate = (div-lt_iff_lt-mul some).0 (omega (arith, same, c.if-whole-blocks.true, c.blocks-2.ensures.value)) in
     let first : 0 + length left / rate ≡ whole = omega (arith, same) in
     let all : Reader = record { all = s; at = start } in
-    fault_is file h c.requires.header start c.requires.start c.requires.within all (Truncated whole) refl refl
+    fault_is file h start c.requires.begun all (Truncated whole) refl refl
     (inl (behind_err h (length s) left (faults.Truncated whole) (ap (codes_answer h (length s)) (read_codes-cut h rate 0 (blocks h.shape) left c.requires.rate some cut ∙ ap (λ (k : ℕ). Err k) first))))
 
 -- what stands behind the codes, which are all there
@@ -52,7 +52,7 @@ behind c =
     let s = to_bits file in
     let start = c.args.start in
     let rate = c.args.rate in
-    let some : 1 ≤ rate = (subst IsMode c.requires.rate (is_header file h c.requires.header).mode).0 in
+    let some : 1 ≤ rate = (subst IsMode c.requires.rate (is_header file h (has_header file h start c.requires.begun)).mode).0 in
     let n = blocks h.shape in
     let left : length (drop start s) ≡ c.in-Some.bits - start = omega (arith, length-drop start s, length-to_bits file, c.in-Some.ensures) in
     let whole : n ≤ length (drop start s) / rate =
@@ -60,7 +60,7 @@ behind c =
     let codes : n * rate ≤ length (drop start s) = (le-div_iff_mul-le some).0 whole in
     let last = start + c.blocks-3.result * c.from-rate.result in
     record {
-      enough = omega (arith, codes, length-drop start s, length-to_bits file, c.requires.within);
+      enough = omega (arith, codes, length-drop start s, length-to_bits file, c.requires.begun.within);
       end = last;
       most = 64 * c.in_ok-excerpt.excerpt.room - last % 64;
       end_is = ap (λ k. start + k * c.from-rate.result) c.blocks-3.ensures.value ∙ ap (λ k. start + n * k) c.from-rate.ensures;
@@ -79,7 +79,7 @@ returns-clause-ok c =
     let few : length (to_bits file) < 2 ^ 64 = omega (arith, length-to_bits file, c.in-Some.ensures) in
     let b = behind c in
     IfOk-weaker c.check_fill.result _ (λ _. IsIndexOf file h i)
-    (λ u good. index_is file h c.requires.header start c.requires.start c.requires.within i.lens few
+    (λ u good. index_is file h start c.requires.begun i.lens few
     (even_walked h rate start (to_bits file) c.requires.rate b.enough c.reader.result b.end b.most b.end_is b.at b.seen b.many good))
     c.check_fill.ensures.ok
 
@@ -90,6 +90,6 @@ returns-clause-fault c =
     let start = c.args.start in
     let b = behind c in
     IfErr-weaker c.check_fill.result _ _
-    (λ e bad. fault_is file h c.requires.header start c.requires.start c.requires.within (record { all = to_bits file; at = start }) e refl refl
+    (λ e bad. fault_is file h start c.requires.begun (record { all = to_bits file; at = start }) e refl refl
     (inl (even_fault h c.args.rate start (to_bits file) c.requires.rate b.enough c.reader.result b.end b.most b.end_is b.at b.seen b.many (stream_fault e) bad)))
     c.check_fill.ensures.err

@@ -13,7 +13,7 @@ flush-requires g c =
     let views = c.args.views.now in
     let i = c.args.i in
     let ready = lent_ready g.T.Lane.value g.row.D c.args.a.now views i (get_or views i c.index-views-i.result) c.requires.parts c.requires.view (ap (get_or views i) c.index-views-i.is) c.bind.result.array c.bind.ensures.array in
-    (lit< tt, (ready.fits, ready.over))
+    (lit< tt, record { fits = ready.fits; blocks = ready.over })
 
 pub returns : goal.returns
 returns g c =
@@ -24,17 +24,17 @@ returns g c =
     let at = ap (get_or views c.args.i) c.index-views-i.is in
     let lt = c.requires.view in
     let back = c.flush.new.back in
-    let name = ap (λ (f : Frame). f.name) c.flush.ensures.kept ∙ c.bind.ensures.same_array in
+    let name = ap (λ (f : Frame). f.name) c.flush.ensures.does.step.kept ∙ c.bind.ensures.same_array in
     let taken = lent value g.row.D a views c.args.i x c.requires.parts lt at
     g.T.Lane.width c.a-1.given.0 c.flush.new.self (Act.flush) c.shape-shape.ensures.same_type c.bind.result.array back.array c.bind.ensures.array (search rules)
     (record {
       is_coded = back.is_coded;
-      frame = c.flush.ensures.kept;
-      step = c.flush.ensures.state;
-      others = c.flush.ensures.others;
-      kept = c.flush.ensures.same;
-      whole = c.flush.ensures.whole;
-      fits = c.flush.ensures.fits;
+      frame = c.flush.ensures.does.step.kept;
+      step = c.flush.ensures.does.step.state;
+      others = c.flush.ensures.does.others;
+      kept = c.flush.ensures.does.same;
+      whole = c.flush.ensures.does.whole;
+      fits = c.flush.ensures.does.step.fits;
     }) tt in record {
       acts = taken.acts;
       parts = taken.parts;

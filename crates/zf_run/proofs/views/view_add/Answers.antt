@@ -45,7 +45,7 @@ add-requires g c =
     let lt = c.has_position.ensures.number c.if-not-has_position.false in
     let there = at_view value g.row.D a views c.args.i x c.requires.parts lt at c.args.p c.requires.unused (λ u. sym (c.has_position.ensures.has u) ∙ c.if-not-has_position.false) in
     let ready = lent_ready value g.row.D a views c.args.i x c.requires.parts lt at c.bind.result.array c.bind.ensures.array in
-    (lit< tt, (ready.fits, (ready.over, (ready.places, (there.position, there.own)))))
+    (lit< tt, record { fits = ready.fits; blocks = ready.over; places = ready.places; position = there.position; owned = there.own })
 
 pub returns : goal.returns
 unfolding done answered array_setting
@@ -60,17 +60,17 @@ returns g c =
     let ps = used_axes (length (shape a)) c.args.p in
     let is = c.in-Some.ensures.value ∙ to_z-of_z w128 c.args.v c.ranges.v in
     let back = c.add.new.back in
-    let name = ap (λ (f : Frame). f.name) c.add.ensures.kept ∙ c.bind.ensures.same_array in
+    let name = ap (λ (f : Frame). f.name) c.add.ensures.does.step.kept ∙ c.bind.ensures.same_array in
     let taken = lent value g.row.D a views c.args.i x c.requires.parts lt at
     g.T.Lane.width c.a-1.given.0 c.add.new.self (Act.add (private.block_at x c.args.p) (private.place_at x c.args.p) (value c.in-Some.v)) c.shape-shape.ensures.same_type c.bind.result.array back.array c.bind.ensures.array (search rules)
     (record {
       is_coded = back.is_coded;
-      frame = c.add.ensures.kept;
-      step = c.add.ensures.state;
-      others = c.add.ensures.others;
-      kept = c.add.ensures.same;
-      whole = c.add.ensures.whole;
-      fits = c.add.ensures.fits;
+      frame = c.add.ensures.does.step.kept;
+      step = c.add.ensures.does.step.state;
+      others = c.add.ensures.does.others;
+      kept = c.add.ensures.does.same;
+      whole = c.add.ensures.does.whole;
+      fits = c.add.ensures.does.step.fits;
     }) there.own in record {
       does = λ v lies. taken.takes v (Command.padd c.args.i ps c.args.v) None lies refl refl (ap not (there.has v)) (ap not (subst (λ z. is_of_type g.T.Lane.width z ≡ true) (to_z-of_z w128 c.args.v c.ranges.v) c.in-Some.ensures.some)) refl refl
           (ap (by_view (setting_of g.T.Lane.width a) (split_session value a views v) c.args.i)

@@ -37,7 +37,7 @@ get-value-requires g c =
     let lt = c.has_position.ensures.number c.if-not-has_position.false in
     let there = at_view value g.row.D a views c.args.i x c.requires.parts lt at c.args.p c.requires.unused (λ u. sym (c.has_position.ensures.has u) ∙ c.if-not-has_position.false) in
     let ready = lent_ready value g.row.D a views c.args.i x c.requires.parts lt at c.bind.result.array c.bind.ensures.array in
-    (lit< tt, (ready.fits, (ready.over, (ready.places, (there.position, there.own)))))
+    (lit< tt, record { fits = ready.fits; blocks = ready.over; places = ready.places; position = there.position; owned = there.own })
 
 pub returns : goal.returns
 unfolding done answered array_setting
@@ -52,17 +52,17 @@ returns g c =
     let ps = used_axes (length (shape a)) c.args.p in
     let told = wide g.T.Lane.width g.met.T.Lane.two_widths c.to_wide.result (value c.get-value.result) c.to_wide.ensures.value (g.met.T.Lane.in_range_fits (value c.get-value.result)) c.to_wide.ensures.operand in
     let back = c.get-value.new.back in
-    let name = ap (λ (f : Frame). f.name) c.get-value.ensures.kept ∙ c.bind.ensures.same_array in
+    let name = ap (λ (f : Frame). f.name) c.get-value.ensures.does.step.kept ∙ c.bind.ensures.same_array in
     let taken = lent value g.row.D a views c.args.i x c.requires.parts lt at
     g.T.Lane.width c.a-1.given.0 c.get-value.new.self (Act.get (private.block_at x c.args.p) (private.place_at x c.args.p)) c.shape-shape.ensures.same_type c.bind.result.array back.array c.bind.ensures.array (search rules)
     (record {
       is_coded = back.is_coded;
-      frame = c.get-value.ensures.kept;
-      step = c.get-value.ensures.state;
-      others = c.get-value.ensures.others;
-      kept = c.get-value.ensures.same;
-      whole = c.get-value.ensures.whole;
-      fits = c.get-value.ensures.fits;
+      frame = c.get-value.ensures.does.step.kept;
+      step = c.get-value.ensures.does.step.state;
+      others = c.get-value.ensures.does.others;
+      kept = c.get-value.ensures.does.same;
+      whole = c.get-value.ensures.does.whole;
+      fits = c.get-value.ensures.does.step.fits;
     }) there.own in record {
       does = λ v lies. taken.takes v (Command.pget c.args.i ps) (Some (Reply.number _)) lies refl refl (ap not (there.has v)) refl (ap (option_map Reply.number) (sym c.get-value.ensures.value) ∙ ap (λ z. Some (Reply.number z)) (sym told)) refl
           (ap (by_view (setting_of g.T.Lane.width a) (split_session value a views v) c.args.i) (sym (act_there value g.row.D a views c.args.i x c.requires.parts lt at c.args.p (λ b q. Act.get b q))));

@@ -22,7 +22,7 @@ pub touch-requires : goal.touch-requires
 touch-requires g c =
     let s = c.self.inside in
     let below = subst (λ n. c.args.b < n) (sym (blocks_is s.store)) (subst (λ (h : Header). c.args.b < blocks h.shape) (header_now g.T.Lane.value g.T.Lane.width g.row.D s.store s.cache (vec_len s.buffer) c.self.invariant c.args.self.now c.self.view_is) c.requires) in
-    (lit< tt, (c.self.invariant.fits, (has_blocks g.T.Lane.value g.T.Lane.width g.row.D s.store s.cache (vec_len s.buffer) c.self.invariant, below)))
+    (lit< tt, record { fits = c.self.invariant.fits; blocks = has_blocks g.T.Lane.value g.T.Lane.width g.row.D s.store s.cache (vec_len s.buffer) c.self.invariant; below = below })
 
 pub returns : goal.returns
 returns g c =
@@ -33,11 +33,11 @@ returns g c =
     let t = c.touch.new.back in
     let e = c.touch.new.self in
     let F = λ (f : Format (List Bool)) (u : State (List Bool)). touch f u b in
-    let is = held_step g.T.Lane.value g.T.Lane.width g.row.D s.store s.cache (vec_len s.buffer) c.self.invariant c.args.self.now c.self.view_is t e c.touch.ensures.kept c.touch.ensures.fits F c.touch.ensures.state in
-    let after = step g.T.Lane.value g.T.Lane.width g.row.D s.store s.cache (vec_len s.buffer) c.self.invariant c.args.self.now c.self.view_is t e c.touch.ensures.kept c.touch.ensures.fits F c.touch.ensures.state in
-    let same = format_now g.T.Lane.value g.T.Lane.width g.row.D s.store s.cache (vec_len s.buffer) c.self.invariant c.args.self.now c.self.view_is ∙ sym c.touch.ensures.format in
+    let is = held_step g.T.Lane.value g.T.Lane.width g.row.D s.store s.cache (vec_len s.buffer) c.self.invariant c.args.self.now c.self.view_is t e c.touch.ensures.step.kept c.touch.ensures.step.fits F c.touch.ensures.step.state in
+    let after = step g.T.Lane.value g.T.Lane.width g.row.D s.store s.cache (vec_len s.buffer) c.self.invariant c.args.self.now c.self.view_is t e c.touch.ensures.step.kept c.touch.ensures.step.fits F c.touch.ensures.step.state in
+    let same = format_now g.T.Lane.value g.T.Lane.width g.row.D s.store s.cache (vec_len s.buffer) c.self.invariant c.args.self.now c.self.view_is ∙ sym c.touch.ensures.step.format in
     let shown = values_here value (format_of t) e (code_at t) b (line_of e b) refl c.touch.ensures.here in
-    let there = state_after g.T.Lane.value g.T.Lane.width g.row.D s.store s.cache (vec_len s.buffer) c.self.invariant c.touch.new.back c.touch.new.self c.touch.ensures.kept c.touch.ensures.fits in (
+    let there = state_after g.T.Lane.value g.T.Lane.width g.row.D s.store s.cache (vec_len s.buffer) c.self.invariant c.touch.new.back c.touch.new.self c.touch.ensures.step.kept c.touch.ensures.step.fits in (
       (refl, λ _. tt, is),
       record {
         touched = tt;

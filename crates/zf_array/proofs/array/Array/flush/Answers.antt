@@ -9,17 +9,17 @@ use Rattle.zf_array.proofs.array.Array.flush.Goals as goal
 pub flush-requires : goal.flush-requires
 flush-requires g c =
     let s = c.self.inside in
-    (lit< tt, (c.self.invariant.fits, has_blocks g.T.Lane.value g.T.Lane.width g.row.D s.store s.cache (vec_len s.buffer) c.self.invariant))
+    (lit< tt, record { fits = c.self.invariant.fits; blocks = has_blocks g.T.Lane.value g.T.Lane.width g.row.D s.store s.cache (vec_len s.buffer) c.self.invariant })
 
 pub invariant_of-self : goal.invariant_of-self
 invariant_of-self g c =
     let s = c.self.inside in
-    joined_after g.T.Lane.value g.T.Lane.width g.row.D s.store s.cache (vec_len s.buffer) c.self.invariant c.flush.new.back c.flush.new.self c.flush.ensures.kept c.flush.ensures.fits
+    joined_after g.T.Lane.value g.T.Lane.width g.row.D s.store s.cache (vec_len s.buffer) c.self.invariant c.flush.new.back c.flush.new.self c.flush.ensures.step.kept c.flush.ensures.step.fits
 
 pub returns-clause-state : goal.returns-clause-state
 returns-clause-state g c =
     let s = c.self.inside in
-    step g.T.Lane.value g.T.Lane.width g.row.D s.store s.cache (vec_len s.buffer) c.self.invariant c.args.self.now c.self.view_is c.flush.new.back c.flush.new.self c.flush.ensures.kept c.flush.ensures.fits (λ f u. flush f u) c.flush.ensures.state
+    step g.T.Lane.value g.T.Lane.width g.row.D s.store s.cache (vec_len s.buffer) c.self.invariant c.args.self.now c.self.view_is c.flush.new.back c.flush.new.self c.flush.ensures.step.kept c.flush.ensures.step.fits (λ f u. flush f u) c.flush.ensures.step.state
 
 pub returns-clause-empty : goal.returns-clause-empty
 unfolding flush emptied
@@ -28,4 +28,4 @@ returns-clause-empty g c = λ l. ap (λ (s : State (List Bool)). s.held l) (retu
 pub returns-clause-header : goal.returns-clause-header
 returns-clause-header g c =
     let s = c.self.inside in
-    header_step g.T.Lane.value g.T.Lane.width g.row.D s.store s.cache (vec_len s.buffer) c.self.invariant c.args.self.now c.self.view_is c.flush.new.back c.flush.new.self c.flush.ensures.kept c.flush.ensures.fits
+    header_step g.T.Lane.value g.T.Lane.width g.row.D s.store s.cache (vec_len s.buffer) c.self.invariant c.args.self.now c.self.view_is c.flush.new.back c.flush.new.self c.flush.ensures.step.kept c.flush.ensures.step.fits

@@ -25,17 +25,17 @@ get-requires g c =
     let s = c.self.inside in
     let below = subst (λ n. c.place_in-b.result.0 < n) (sym (blocks_is s.store)) (block_below g.T.Lane.value g.T.Lane.width g.row.D s.store s.cache (vec_len s.buffer) c.self.invariant c.args.self.now c.self.view_is c.args.p c.header.result c.header.ensures.value c.place_in-b.result.0 c.place_in-b.result.1 c.place_in-b.ensures.at) in
     let place = place_below g.T.Lane.value g.T.Lane.width g.row.D s.store s.cache (vec_len s.buffer) c.self.invariant c.args.self.now c.self.view_is c.args.p c.header.result c.header.ensures.value c.place_in-b.result.0 c.place_in-b.result.1 c.place_in-b.ensures.at in
-    (lit< tt, (c.self.invariant.fits, (has_blocks g.T.Lane.value g.T.Lane.width g.row.D s.store s.cache (vec_len s.buffer) c.self.invariant, (below, place))))
+    (lit< tt, (record { fits = c.self.invariant.fits; blocks = has_blocks g.T.Lane.value g.T.Lane.width g.row.D s.store s.cache (vec_len s.buffer) c.self.invariant; below = below }, place))
 
 pub invariant_of-self : goal.invariant_of-self
 invariant_of-self g c =
     let s = c.self.inside in
-    joined_after g.T.Lane.value g.T.Lane.width g.row.D s.store s.cache (vec_len s.buffer) c.self.invariant c.get.new.back c.get.new.self c.get.ensures.kept c.get.ensures.fits
+    joined_after g.T.Lane.value g.T.Lane.width g.row.D s.store s.cache (vec_len s.buffer) c.self.invariant c.get.new.back c.get.new.self c.get.ensures.step.kept c.get.ensures.step.fits
 
 pub returns-clause-state : goal.returns-clause-state
 returns-clause-state g c =
     let s = c.self.inside in
-    step g.T.Lane.value g.T.Lane.width g.row.D s.store s.cache (vec_len s.buffer) c.self.invariant c.args.self.now c.self.view_is c.get.new.back c.get.new.self c.get.ensures.kept c.get.ensures.fits (λ f u. touch f u c.place_in-b.result.0) c.get.ensures.state
+    step g.T.Lane.value g.T.Lane.width g.row.D s.store s.cache (vec_len s.buffer) c.self.invariant c.args.self.now c.self.view_is c.get.new.back c.get.new.self c.get.ensures.step.kept c.get.ensures.step.fits (λ f u. touch f u c.place_in-b.result.0) c.get.ensures.step.state
     ∙ ap (touch (format c.args.self.now) (state c.args.self.now)) (block_is g.T.Lane.value g.T.Lane.width g.row.D s.store s.cache (vec_len s.buffer) c.self.invariant c.args.self.now c.self.view_is c.args.p c.header.result c.header.ensures.value c.place_in-b.result.0 c.place_in-b.ensures.block)
 
 pub returns-clause-value : goal.returns-clause-value
@@ -47,7 +47,7 @@ returns-clause-value g c =
     let b = c.place_in-b.result.0 in
     let k = c.place_in-b.result.1 in
     let a = held_by g.T.Lane.value t e in
-    let after = state_after g.T.Lane.value g.T.Lane.width g.row.D s.store s.cache (vec_len s.buffer) c.self.invariant c.get.new.back c.get.new.self c.get.ensures.kept c.get.ensures.fits in
+    let after = state_after g.T.Lane.value g.T.Lane.width g.row.D s.store s.cache (vec_len s.buffer) c.self.invariant c.get.new.back c.get.new.self c.get.ensures.step.kept c.get.ensures.step.fits in
     OnTrue_at (place_exists g.T.Lane.value g.T.Lane.width g.row.D s.store s.cache (vec_len s.buffer) c.self.invariant c.args.self.now c.self.view_is c.args.p c.header.result c.header.ensures.value c.place_in-b.result.0 c.place_in-b.result.1 c.place_in-b.ensures.at) c.get.ensures.value
     ∙ ap (λ (u : State (List Bool)). get_or (u.values b) k (pos 0)) (sym after)
     ∙ ap (λ m. get_or ((state a).values m) k (pos 0)) (block_is g.T.Lane.value g.T.Lane.width g.row.D s.store s.cache (vec_len s.buffer) c.self.invariant c.args.self.now c.self.view_is c.args.p c.header.result c.header.ensures.value c.place_in-b.result.0 c.place_in-b.ensures.block)
@@ -56,4 +56,4 @@ returns-clause-value g c =
 pub returns-clause-header : goal.returns-clause-header
 returns-clause-header g c =
     let s = c.self.inside in
-    header_step g.T.Lane.value g.T.Lane.width g.row.D s.store s.cache (vec_len s.buffer) c.self.invariant c.args.self.now c.self.view_is c.get.new.back c.get.new.self c.get.ensures.kept c.get.ensures.fits
+    header_step g.T.Lane.value g.T.Lane.width g.row.D s.store s.cache (vec_len s.buffer) c.self.invariant c.args.self.now c.self.view_is c.get.new.back c.get.new.self c.get.ensures.step.kept c.get.ensures.step.fits

@@ -15,25 +15,25 @@ pub touch_mut-requires : goal.touch_mut-requires
 touch_mut-requires g c =
     let s = c.self.inside in
     let below = subst (λ n. c.args.b < n) (sym (blocks_is s.store)) (subst (λ (h : Header). c.args.b < blocks h.shape) (header_now g.T.Lane.value g.T.Lane.width g.row.D s.store s.cache (vec_len s.buffer) c.self.invariant c.args.self.now c.self.view_is) c.requires) in
-    (lit< tt, (c.self.invariant.fits, (has_blocks g.T.Lane.value g.T.Lane.width g.row.D s.store s.cache (vec_len s.buffer) c.self.invariant, below)))
+    (lit< tt, record { fits = c.self.invariant.fits; blocks = has_blocks g.T.Lane.value g.T.Lane.width g.row.D s.store s.cache (vec_len s.buffer) c.self.invariant; below = below })
 
 pub invariant_of-self : goal.invariant_of-self
 invariant_of-self g c =
     let s = c.self.inside in
-    joined_after g.T.Lane.value g.T.Lane.width g.row.D s.store s.cache (vec_len s.buffer) c.self.invariant c.touch_mut.new.back c.touch_mut.new.self c.touch_mut.ensures.kept c.touch_mut.ensures.fits
+    joined_after g.T.Lane.value g.T.Lane.width g.row.D s.store s.cache (vec_len s.buffer) c.self.invariant c.touch_mut.new.back c.touch_mut.new.self c.touch_mut.ensures.step.kept c.touch_mut.ensures.step.fits
 
 pub returns-clause-state : goal.returns-clause-state
 returns-clause-state g c =
     let s = c.self.inside in
-    step g.T.Lane.value g.T.Lane.width g.row.D s.store s.cache (vec_len s.buffer) c.self.invariant c.args.self.now c.self.view_is c.touch_mut.new.back c.touch_mut.new.self c.touch_mut.ensures.kept c.touch_mut.ensures.fits (λ f u. touch_for_writing f u c.args.b) c.touch_mut.ensures.state
+    step g.T.Lane.value g.T.Lane.width g.row.D s.store s.cache (vec_len s.buffer) c.self.invariant c.args.self.now c.self.view_is c.touch_mut.new.back c.touch_mut.new.self c.touch_mut.ensures.step.kept c.touch_mut.ensures.step.fits (λ f u. touch_for_writing f u c.args.b) c.touch_mut.ensures.step.state
 
 pub returns-clause-header : goal.returns-clause-header
 returns-clause-header g c =
     let s = c.self.inside in
-    header_step g.T.Lane.value g.T.Lane.width g.row.D s.store s.cache (vec_len s.buffer) c.self.invariant c.args.self.now c.self.view_is c.touch_mut.new.back c.touch_mut.new.self c.touch_mut.ensures.kept c.touch_mut.ensures.fits
+    header_step g.T.Lane.value g.T.Lane.width g.row.D s.store s.cache (vec_len s.buffer) c.self.invariant c.args.self.now c.self.view_is c.touch_mut.new.back c.touch_mut.new.self c.touch_mut.ensures.step.kept c.touch_mut.ensures.step.fits
 
 pub returns-clause-dirty : goal.returns-clause-dirty
 returns-clause-dirty g c =
     let s = c.self.inside in
-    ap (λ (u : State (List Bool)). u.dirty c.args.b) (step g.T.Lane.value g.T.Lane.width g.row.D s.store s.cache (vec_len s.buffer) c.self.invariant c.args.self.now c.self.view_is c.touch_mut.new.back c.touch_mut.new.self c.touch_mut.ensures.kept c.touch_mut.ensures.fits (λ f u. touch_for_writing f u c.args.b) c.touch_mut.ensures.state)
+    ap (λ (u : State (List Bool)). u.dirty c.args.b) (step g.T.Lane.value g.T.Lane.width g.row.D s.store s.cache (vec_len s.buffer) c.self.invariant c.args.self.now c.self.view_is c.touch_mut.new.back c.touch_mut.new.self c.touch_mut.ensures.step.kept c.touch_mut.ensures.step.fits (λ f u. touch_for_writing f u c.args.b) c.touch_mut.ensures.step.state)
     ∙ touch_for_writing-dirty (format c.args.self.now) (state c.args.self.now) c.args.b

@@ -25,7 +25,7 @@ pub touch_mut-requires : goal.touch_mut-requires
 touch_mut-requires g c =
     let s = c.self.inside in
     let below = subst (λ n. c.place_in-b.result.0 < n) (sym (blocks_is s.store)) (block_below g.T.Lane.value g.T.Lane.width g.row.D s.store s.cache (vec_len s.buffer) c.self.invariant c.args.self.now c.self.view_is c.args.p c.header.result c.header.ensures.value c.place_in-b.result.0 c.place_in-b.result.1 c.place_in-b.ensures.at) in
-    (lit< tt, (c.self.invariant.fits, (has_blocks g.T.Lane.value g.T.Lane.width g.row.D s.store s.cache (vec_len s.buffer) c.self.invariant, below)))
+    (lit< tt, record { fits = c.self.invariant.fits; blocks = has_blocks g.T.Lane.value g.T.Lane.width g.row.D s.store s.cache (vec_len s.buffer) c.self.invariant; below = below })
 
 pub value_mut-requires : goal.value_mut-requires
 value_mut-requires g c =
@@ -41,8 +41,8 @@ invariant_of-self-lent g c =
     let k = c.place_in-b.result.1 in
     let place = place_below g.T.Lane.value g.T.Lane.width g.row.D s.store s.cache (vec_len s.buffer) c.self.invariant c.args.self.now c.self.view_is c.args.p c.header.result c.header.ensures.value c.place_in-b.result.0 c.place_in-b.result.1 c.place_in-b.ensures.at in
     let one : k + 1 ≤ 4 ^ g.row.D = omega (arith, place) in
-    let joined = joined_after g.T.Lane.value g.T.Lane.width g.row.D s.store s.cache (vec_len s.buffer) c.self.invariant c.touch_mut.new.back c.touch_mut.new.self c.touch_mut.ensures.kept c.touch_mut.ensures.fits in
-    let after = step g.T.Lane.value g.T.Lane.width g.row.D s.store s.cache (vec_len s.buffer) c.self.invariant c.args.self.now c.self.view_is c.touch_mut.new.back c.touch_mut.new.self c.touch_mut.ensures.kept c.touch_mut.ensures.fits (λ f u. touch_for_writing f u b) c.touch_mut.ensures.state in
+    let joined = joined_after g.T.Lane.value g.T.Lane.width g.row.D s.store s.cache (vec_len s.buffer) c.self.invariant c.touch_mut.new.back c.touch_mut.new.self c.touch_mut.ensures.step.kept c.touch_mut.ensures.step.fits in
+    let after = step g.T.Lane.value g.T.Lane.width g.row.D s.store s.cache (vec_len s.buffer) c.self.invariant c.args.self.now c.self.view_is c.touch_mut.new.back c.touch_mut.new.self c.touch_mut.ensures.step.kept c.touch_mut.ensures.step.fits (λ f u. touch_for_writing f u b) c.touch_mut.ensures.step.state in
     let dirty = ap (λ (u : State (List Bool)). u.dirty b) after ∙ touch_for_writing-dirty (format c.args.self.now) (state c.args.self.now) b in
     λ w. joined_lent g.T.Lane.value g.T.Lane.width g.row.D t e (vec_len s.buffer) joined (held_by g.T.Lane.value t e) refl b k 1 dirty one c.value_mut.ensures.size (w ∷ [])
 
@@ -55,8 +55,8 @@ returns g c =
     let k = c.place_in-b.result.1 in
     let place = place_below g.T.Lane.value g.T.Lane.width g.row.D s.store s.cache (vec_len s.buffer) c.self.invariant c.args.self.now c.self.view_is c.args.p c.header.result c.header.ensures.value c.place_in-b.result.0 c.place_in-b.result.1 c.place_in-b.ensures.at in
     let one : k + 1 ≤ 4 ^ g.row.D = omega (arith, place) in
-    let joined = joined_after g.T.Lane.value g.T.Lane.width g.row.D s.store s.cache (vec_len s.buffer) c.self.invariant c.touch_mut.new.back c.touch_mut.new.self c.touch_mut.ensures.kept c.touch_mut.ensures.fits in
-    let after = step g.T.Lane.value g.T.Lane.width g.row.D s.store s.cache (vec_len s.buffer) c.self.invariant c.args.self.now c.self.view_is c.touch_mut.new.back c.touch_mut.new.self c.touch_mut.ensures.kept c.touch_mut.ensures.fits (λ f u. touch_for_writing f u b) c.touch_mut.ensures.state in
+    let joined = joined_after g.T.Lane.value g.T.Lane.width g.row.D s.store s.cache (vec_len s.buffer) c.self.invariant c.touch_mut.new.back c.touch_mut.new.self c.touch_mut.ensures.step.kept c.touch_mut.ensures.step.fits in
+    let after = step g.T.Lane.value g.T.Lane.width g.row.D s.store s.cache (vec_len s.buffer) c.self.invariant c.args.self.now c.self.view_is c.touch_mut.new.back c.touch_mut.new.self c.touch_mut.ensures.step.kept c.touch_mut.ensures.step.fits (λ f u. touch_for_writing f u b) c.touch_mut.ensures.step.state in
     let dirty = ap (λ (u : State (List Bool)). u.dirty b) after ∙ touch_for_writing-dirty (format c.args.self.now) (state c.args.self.now) b in
     let now = c.args.self.now in
     let q = c.args.p in
@@ -68,7 +68,7 @@ returns g c =
     let exists = ap (λ (f : Format (List Bool)). f.exists b k) f_is ∙ place_exists g.T.Lane.value g.T.Lane.width g.row.D s.store s.cache (vec_len s.buffer) c.self.invariant c.args.self.now c.self.view_is c.args.p c.header.result c.header.ensures.value c.place_in-b.result.0 c.place_in-b.result.1 c.place_in-b.ensures.at in
     let size = ap (λ (f : Format (List Bool)). f.block_len) f_is ∙ (has_blocks g.T.Lane.value g.T.Lane.width g.row.D s.store s.cache (vec_len s.buffer) c.self.invariant).0 in
     let lt : k < (format now).block_len = subst (λ n. k < n) (sym size) place in
-    let head = header_step g.T.Lane.value g.T.Lane.width g.row.D s.store s.cache (vec_len s.buffer) c.self.invariant c.args.self.now c.self.view_is c.touch_mut.new.back c.touch_mut.new.self c.touch_mut.ensures.kept c.touch_mut.ensures.fits in
+    let head = header_step g.T.Lane.value g.T.Lane.width g.row.D s.store s.cache (vec_len s.buffer) c.self.invariant c.args.self.now c.self.view_is c.touch_mut.new.back c.touch_mut.new.self c.touch_mut.ensures.step.kept c.touch_mut.ensures.step.fits in
     let shows = shown g.T.Lane.value g.T.Lane.width g.row.D t e (vec_len s.buffer) joined (held_by g.T.Lane.value t e) refl b k 1 dirty one c.value_mut.ensures.size (r ∷ []) is_r in
     let There = λ (m j : ℕ) (v : ℤ). let u = touch_for_writing (format now) (state now) m in with_values u m (set (u.values m) j v) in
     let at_block = block_is g.T.Lane.value g.T.Lane.width g.row.D s.store s.cache (vec_len s.buffer) c.self.invariant c.args.self.now c.self.view_is c.args.p c.header.result c.header.ensures.value b c.place_in-b.ensures.block in

@@ -10,8 +10,8 @@ use Rattle.zf_cache.proofs.body.Body.flush.Goals as goal
 
 pub loop-l-init : goal.loop-l-init
 loop-l-init g c =
-    let a = c.args.self.now in let f = g.B.Reading.format c.args.back.now in let k = g.B.Reading.codes c.args.back.now in
-    (refl, refl, c.requires.sound, sym (flush_begins f (state_at g.R.Rule.place g.T.Lane.value (kept_of a) f k)), refl, λ m lt. absurd (omega arith))
+    let s = state_at g.R.Rule.place g.T.Lane.value (kept_of c.args.self.now) (g.B.Reading.format c.args.back.now) (g.B.Reading.codes c.args.back.now) in
+    (record { state = sym (flush_begins (g.B.Reading.format c.args.back.now) s); fits = c.requires.sound; format = refl; kept = refl }, refl, λ m lt. absurd (omega arith))
 
 pub loop-l-preserved : goal.loop-l-preserved
 loop-l-preserved g c =
@@ -20,31 +20,38 @@ loop-l-preserved g c =
     let on : suc l ≡ l + 1 = omega arith in
     let was = c.loop-l.self.tags.items in
     let count : c.len-l-end.result ≡ length a.tags.items = search (c.len-l-end.ensures, rules) in (
-      e.format ∙ inv.0,
-      e.kept ∙ inv.1,
-      e.sound,
-      e.state ∙ (λ i. evicted (inv.0 i) (inv.3 i) l) ∙ flush_goes_on f s l ∙ ap (flushing f s) on,
-      ap length e.tags ∙ length-set was l 0 ∙ inv.4,
+      record {
+        state = e.step.state ∙ (λ i. evicted (inv.0.format i) (inv.0.state i) l) ∙ flush_goes_on f s l ∙ ap (flushing f s) on;
+        fits = e.step.fits;
+        format = e.step.format ∙ inv.0.format;
+        kept = e.step.kept ∙ inv.0.kept;
+      },
+      ap length e.tags ∙ length-set was l 0 ∙ inv.1,
       λ m lt. ap (λ ts. tag_at ts m) e.tags ∙ elim (same_or_not m l) [
-        | inl same ↦ ap (tag_at (set was l 0)) same ∙ tag-set_same was l 0 (omega (arith, c.loop-l-test.true, count, inv.4))
-        | inr ne ↦ tag-set_other was l 0 m ne ∙ inv.5 m (below m l lt ne)
+        | inl same ↦ ap (tag_at (set was l 0)) same ∙ tag-set_same was l 0 (omega (arith, c.loop-l-test.true, count, inv.1))
+        | inr ne ↦ tag-set_other was l 0 m ne ∙ inv.2 m (below m l lt ne)
       ],
     )
   where
     below : (m l : ℕ) → m < l + 1 → m ≢ l → m < l
     below m l lt ne = elim (cases_lt m l) [ inl less ↦ less | inr more ↦ let same : m ≡ l = omega (arith, lt, more) in absurd (ne same) ]
 
-pub returns-clause-state : goal.returns-clause-state
+pub returns-clause-step : goal.returns-clause-step
 unfolding state_at
-returns-clause-state g c =
+returns-clause-step g c =
     let a = c.args.self.now in let f = g.B.Reading.format c.args.back.now in let k = g.B.Reading.codes c.args.back.now in
     let inv = c.loop-l.invariant in let s = state_at g.R.Rule.place g.T.Lane.value (kept_of a) f k in
     let count : c.len-l-end.result ≡ length a.tags.items = search (c.len-l-end.ensures, rules) in
     let at_end : c.loop-l.l ≡ length a.tags.items = omega (arith, c.loop-l-test.false, c.loop-l.auto.l-end, count) in
-    inv.3 ∙ ap (flushing f s) at_end ∙ flush_ends f s (past_lines g.R.Rule.place g.T.Lane.value f (kept_of a) k)
+    record {
+      state = inv.0.state ∙ ap (flushing f s) at_end ∙ flush_ends f s (past_lines g.R.Rule.place g.T.Lane.value f (kept_of a) k);
+      fits = inv.0.fits;
+      format = inv.0.format;
+      kept = inv.0.kept;
+    }
 
 pub returns-clause-empty : goal.returns-clause-empty
 returns-clause-empty g c =
     let inv = c.loop-l.invariant in let n = length c.args.self.now.tags.items in
     let count : c.len-l-end.result ≡ n = search (c.len-l-end.ensures, rules) in
-    zeros_of c.loop-l.self.tags.items n inv.4 (λ m lt. inv.5 m (omega (arith, lt, c.loop-l-test.false, count)))
+    zeros_of c.loop-l.self.tags.items n inv.1 (λ m lt. inv.2 m (omega (arith, lt, c.loop-l-test.false, count)))

@@ -7,8 +7,8 @@ use Rattle.zf_cache.specs.declared.body.Body.{Body}
 use Rattle.zf_cache.proofs.Sound.{takes}
 use Rattle.zf_cache.proofs.body.Body.take_in.Goals as goal
 
-pub returns-clause-sound : goal.returns-clause-sound
-returns-clause-sound g c =
+pub returns-clause-step : goal.returns-clause-step
+returns-clause-step g c =
     let a = c.args.self.now in let f = g.B.Reading.format c.args.back.now in let k = g.B.Reading.codes c.args.back.now in let l = c.args.l in let b = c.args.b in
     let d : Body g.row.T.Denot = record {
       lines = with_line a.lines l c.load.new.line;
@@ -21,22 +21,6 @@ returns-clause-sound g c =
     let long = length-over (line_at a.lines l) c.load.new.line ∙ sound.whole.size.1 l c.requires.row in
     let same = over_same (line_at a.lines l) c.load.new.line (c.load.auto.line ∙ ap length c.line_mut.ensures.value) in
     let loaded = ap (λ r. existing_of f b (map g.T.Lane.value r)) same ∙ c.load.ensures.value in
-    (takes g.R.Rule.place g.R.Rule.may_hold g.met.R.Rule.rule g.T.Lane.value a d f (g.B.Reading.format c.load.new.self) k (g.B.Reading.codes c.load.new.self) c.load.ensures.format sound l lt b row long
-    c.requires.row c.requires.line.1 c.requires.empty c.requires.away loaded c.requires.block.0 refl refl (ap (λ n. record { hits = a.counts.hits; misses = n; writes = a.counts.writes }) c.saturating_add-self.ensures) c.load.ensures.codes).0
-
-pub returns-clause-state : goal.returns-clause-state
-returns-clause-state g c =
-    let a = c.args.self.now in let f = g.B.Reading.format c.args.back.now in let k = g.B.Reading.codes c.args.back.now in let l = c.args.l in let b = c.args.b in
-    let d : Body g.row.T.Denot = record {
-      lines = with_line a.lines l c.load.new.line;
-      tags = with_item a.tags l (2 * b + 2);
-      counts = record { hits = a.counts.hits; misses = c.saturating_add-self.result; writes = a.counts.writes };
-    } in
-    let sound = c.requires.sound in
-    let row = over (line_at a.lines l) c.load.new.line in
-    let lt = c.requires.line.0 in
-    let long = length-over (line_at a.lines l) c.load.new.line ∙ sound.whole.size.1 l c.requires.row in
-    let same = over_same (line_at a.lines l) c.load.new.line (c.load.auto.line ∙ ap length c.line_mut.ensures.value) in
-    let loaded = ap (λ r. existing_of f b (map g.T.Lane.value r)) same ∙ c.load.ensures.value in
-    (takes g.R.Rule.place g.R.Rule.may_hold g.met.R.Rule.rule g.T.Lane.value a d f (g.B.Reading.format c.load.new.self) k (g.B.Reading.codes c.load.new.self) c.load.ensures.format sound l lt b row long
-    c.requires.row c.requires.line.1 c.requires.empty c.requires.away loaded c.requires.block.0 refl refl (ap (λ n. record { hits = a.counts.hits; misses = n; writes = a.counts.writes }) c.saturating_add-self.ensures) c.load.ensures.codes).1
+    let both = takes g.R.Rule.place g.R.Rule.may_hold g.met.R.Rule.rule g.T.Lane.value a d f (g.B.Reading.format c.load.new.self) k (g.B.Reading.codes c.load.new.self) c.load.ensures.format sound l lt b row long
+    c.requires.row c.requires.line.1 c.requires.empty c.requires.away loaded c.requires.block.0 refl refl (ap (λ n. record { hits = a.counts.hits; misses = n; writes = a.counts.writes }) c.saturating_add-self.ensures) c.load.ensures.codes in
+    record { state = both.1; fits = both.0; format = c.load.ensures.format; kept = c.load.ensures.kept }

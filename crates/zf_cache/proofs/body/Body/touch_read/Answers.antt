@@ -1,44 +1,38 @@
 use Rattle.std.proofs.Common.{◌≡◌, ◌<◌, refl, sym, ap, subst, ◌∙◌, ◌/◌, length, set, None, arith}
 use Rattle.std.proofs.lemmas.List.{get_or_default, set-set, length-set}
 use Rattle.std.specs.Vec.{with_item}
-use Rattle.zf_lines.specs.Rows.{line_at}
 use Rattle.zf_cache.specs.declared.body.Body.{Body}
 use Rattle.zf_cache.specs.Kept.{tag_at, clean_tag}
 use Rattle.zf_cache.specs.Bodies.{kept_of}
 use Rattle.zf_cache.specs.Standing.{state_at}
 use Rattle.zf_cache.proofs.Tags.{undirty}
-use Rattle.zf_cache.proofs.Sound.{none_in, only_line, stays_clean, evicts, hits_block, misses_block}
+use Rattle.zf_cache.proofs.Sound.{none_in, stays_clean, evicts, hits_block, misses_block, comes_hitting, comes_missing}
 use Rattle.zf_cache.proofs.body.Body.touch_read.Goals as goal
 
-pub returns-then-index-b-clause-state : goal.returns-then-index-b-clause-state
-returns-then-index-b-clause-state g c =
-    let a = c.args.self.now in let f = g.B.Reading.format c.args.back.now in let k = g.B.Reading.codes c.args.back.now in let b = c.args.b in let value = g.T.Lane.value in
-    let l = c.line_of-l.result in
+pub returns-then-index-b-clause-step : goal.returns-then-index-b-clause-step
+returns-then-index-b-clause-step g c =
+    let a = c.args.self.now in let f = g.B.Reading.format c.args.back.now in let k = g.B.Reading.codes c.args.back.now in let b = c.args.b in let l = c.line_of-l.result in
     let tag = get_or_default a.tags.items l 0 c.index.result.now c.line_of-l.ensures.inside ∙ sym c.index.ensures in
     let d : Body g.row.T.Denot = record {
       lines = a.lines;
       tags = a.tags;
       counts = record { hits = c.saturating_add-self.result; misses = a.counts.misses; writes = a.counts.writes };
     } in
-    (hits_block g.R.Rule.place g.R.Rule.may_hold g.met.R.Rule.rule value a d f f k k refl c.requires.sound b l (ap (λ t. t / 2) tag ∙ c.if-index-b.true) refl refl
-    (ap (λ n. record { hits = n; misses = a.counts.misses; writes = a.counts.writes }) c.saturating_add-self.ensures) refl).1
+    let both = hits_block g.R.Rule.place g.R.Rule.may_hold g.met.R.Rule.rule g.T.Lane.value a d f f k k refl c.requires.ready.sound b l (ap (λ t. t / 2) tag ∙ c.if-index-b.true) refl refl
+    (ap (λ n. record { hits = n; misses = a.counts.misses; writes = a.counts.writes }) c.saturating_add-self.ensures) refl in
+    record { state = both.1; fits = both.0; format = refl; kept = refl }
 
-pub returns-then-index-b-clause-row : goal.returns-then-index-b-clause-row
-returns-then-index-b-clause-row g c =
-    let a = c.args.self.now in
-    subst (λ m. m < length a.lines) (sym c.line_of-l.ensures.place) (c.requires.sound.fits.room a.tags.items c.args.b c.requires.block.0)
+pub returns-then-index-b-clause-line : goal.returns-then-index-b-clause-line
+returns-then-index-b-clause-line g c =
+    let a = c.args.self.now in let b = c.args.b in let l = c.line_of-l.result in
+    let tag = get_or_default a.tags.items l 0 c.index.result.now c.line_of-l.ensures.inside ∙ sym c.index.ensures in
+    let row = subst (λ m. m < length a.lines) (sym c.line_of-l.ensures.place) (c.requires.ready.sound.fits.room a.tags.items b c.requires.ready.block.0) in
+    comes_hitting g.R.Rule.place (kept_of a) _ b l c.line_of-l.ensures.place row (ap (λ t. t / 2) tag ∙ c.if-index-b.true) refl refl
 
 pub take_in-requires-clause-row : goal.take_in-requires-clause-row
 take_in-requires-clause-row g c =
     let a = c.args.self.now in
-    subst (λ m. m < length a.lines) (sym c.line_of-l.ensures.place) (c.requires.sound.fits.room a.tags.items c.args.b c.requires.block.0)
-
-pub returns-clause-row : goal.returns-clause-row
-returns-clause-row g c =
-    let a = c.args.self.now in let l = c.line_of-l.result in
-    let row = subst (λ m. m < length a.lines) (sym c.line_of-l.ensures.place) (c.requires.sound.fits.room a.tags.items c.args.b c.requires.block.0) in
-    let size = ap length c.take_in.ensures.lines ∙ length-set a.lines l (line_at c.take_in.new.self.lines l) in
-    subst (λ m. l < m) (sym size) row
+    subst (λ m. m < length a.lines) (sym c.line_of-l.ensures.place) (c.requires.ready.sound.fits.room a.tags.items c.args.b c.requires.ready.block.0)
 
 pub take_in-requires-clause-line : goal.take_in-requires-clause-line
 take_in-requires-clause-line g c =
@@ -54,7 +48,7 @@ take_in-requires-clause-away g c =
     let a = c.args.self.now in let f = g.B.Reading.format c.args.back.now in let k = g.B.Reading.codes c.args.back.now in let b = c.args.b in let value = g.T.Lane.value in
     let l = c.line_of-l.result in
     let tag = get_or_default a.tags.items l 0 c.index.result.now c.line_of-l.ensures.inside ∙ sym c.index.ensures in
-    let out = none_in g.R.Rule.place g.R.Rule.may_hold g.met.R.Rule.rule value a a f f k k refl c.requires.sound b l (sym c.line_of-l.ensures.place) c.line_of-l.ensures.inside (λ e. c.if-index-b.false (ap (λ t. t / 2) (sym tag) ∙ e)) in
+    let out = none_in g.R.Rule.place g.R.Rule.may_hold g.met.R.Rule.rule value a a f f k k refl c.requires.ready.sound b l (sym c.line_of-l.ensures.place) c.line_of-l.ensures.inside (λ e. c.if-index-b.false (ap (λ t. t / 2) (sym tag) ∙ e)) in
     out
 
 pub take_in-requires-clause-sound : goal.take_in-requires-clause-sound
@@ -64,29 +58,31 @@ take_in-requires-clause-sound g c =
     let lt = c.line_of-l.ensures.inside in
     let tag = get_or_default a.tags.items l 0 c.index.result.now lt ∙ sym c.index.ensures in
     let d : Body g.row.T.Denot = record { lines = a.lines; tags = with_item a.tags l 0; counts = a.counts } in
-    let emptied = evicts g.R.Rule.place g.R.Rule.may_hold g.met.R.Rule.rule value a d f f k k refl c.requires.sound l lt None (undirty (tag_at a.tags.items l) (c.requires.clean l)) refl refl refl refl in
+    let emptied = evicts g.R.Rule.place g.R.Rule.may_hold g.met.R.Rule.rule value a d f f k k refl c.requires.ready.sound l lt None (undirty (tag_at a.tags.items l) (c.requires.clean l)) refl refl refl refl in
     emptied.0
 
-pub returns-clause-state : goal.returns-clause-state
-returns-clause-state g c =
+pub returns-clause-step : goal.returns-clause-step
+returns-clause-step g c =
     let a = c.args.self.now in let f = g.B.Reading.format c.args.back.now in let k = g.B.Reading.codes c.args.back.now in let b = c.args.b in let value = g.T.Lane.value in
-    let l = c.line_of-l.result in
-    let lt = c.line_of-l.ensures.inside in
+    let l = c.line_of-l.result in let lt = c.line_of-l.ensures.inside in let second = c.take_in.ensures.step in
     let tag = get_or_default a.tags.items l 0 c.index.result.now lt ∙ sym c.index.ensures in
     let d : Body g.row.T.Denot = record { lines = a.lines; tags = with_item a.tags l 0; counts = a.counts } in
-    let emptied = evicts g.R.Rule.place g.R.Rule.may_hold g.met.R.Rule.rule value a d f f k k refl c.requires.sound l lt None (undirty (tag_at a.tags.items l) (c.requires.clean l)) refl refl refl refl in
-    misses_block g.R.Rule.place value a f k b l (state_at g.R.Rule.place value (kept_of d) f k)
-    (state_at g.R.Rule.place value (kept_of c.take_in.new.self) (g.B.Reading.format c.take_in.new.back) (g.B.Reading.codes c.take_in.new.back))
-    (λ e. c.if-index-b.false (ap (λ t. t / 2) (sym tag) ∙ e)) emptied.1 c.take_in.ensures.state
+    let emptied = evicts g.R.Rule.place g.R.Rule.may_hold g.met.R.Rule.rule value a d f f k k refl c.requires.ready.sound l lt None (undirty (tag_at a.tags.items l) (c.requires.clean l)) refl refl refl refl in
+    record {
+      state = misses_block g.R.Rule.place value a f k b l (state_at g.R.Rule.place value (kept_of d) f k)
+          (state_at g.R.Rule.place value (kept_of c.take_in.new.self) (g.B.Reading.format c.take_in.new.back) (g.B.Reading.codes c.take_in.new.back))
+          (λ e. c.if-index-b.false (ap (λ t. t / 2) (sym tag) ∙ e)) emptied.1 second.state;
+      fits = second.fits;
+      format = second.format;
+      kept = second.kept;
+    }
 
-pub returns-clause-others : goal.returns-clause-others
-returns-clause-others g c =
-    let a = c.args.self.now in let f = g.B.Reading.format c.args.back.now in let k = g.B.Reading.codes c.args.back.now in let b = c.args.b in let value = g.T.Lane.value in
-    let l = c.line_of-l.result in
-    let lt = c.line_of-l.ensures.inside in
-    let tag = get_or_default a.tags.items l 0 c.index.result.now lt ∙ sym c.index.ensures in
-    let e = c.take_in.ensures in
-    only_line (kept_of a) (kept_of c.take_in.new.self) l (clean_tag b) lt e.lines (e.tags ∙ set-set a.tags.items l 0 (clean_tag b))
+pub returns-clause-line : goal.returns-clause-line
+returns-clause-line g c =
+    let a = c.args.self.now in let l = c.line_of-l.result in let b = c.args.b in let e = c.take_in.ensures in
+    let row = subst (λ m. m < length a.lines) (sym c.line_of-l.ensures.place) (c.requires.ready.sound.fits.room a.tags.items b c.requires.ready.block.0) in
+    comes_missing g.R.Rule.place (kept_of a) (kept_of c.take_in.new.self) b l c.line_of-l.ensures.place row c.line_of-l.ensures.inside
+    e.lines (e.tags ∙ set-set a.tags.items l 0 (clean_tag b))
 
 pub returns-clause-clean : goal.returns-clause-clean
 returns-clause-clean g c =

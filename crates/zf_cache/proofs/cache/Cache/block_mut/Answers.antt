@@ -10,20 +10,19 @@ use Rattle.zf_cache.proofs.cache.Cache.block_mut.Goals as goal
 pub returns : goal.returns
 returns g c =
     let f = g.B.Reading.format c.args.back.now in let k = g.B.Reading.codes c.args.back.now in let b = c.args.b in let value = g.T.Lane.value in
-    let o = c.self.inside.body in let is = c.self.view_is in
+    let o = kept_of c.self.inside.body in let is = c.self.view_is in
     let t = c.touch_for_writing-l.new.self in let l = c.touch_for_writing-l.result in let e = c.touch_for_writing-l.ensures in
     let h = g.B.Reading.format c.touch_for_writing-l.new.back in let j = g.B.Reading.codes c.touch_for_writing-l.new.back in
     let row = c.line_mut.result.now in let row_is = c.line_mut.ensures.value in (
       (
         refl,
-        λ w. lends one_line IsOneLine one_line_rule value f h j (kept_of o) t b l e.format e.sound e.line e.others e.row k e.dirty e.state row row_is w
-            ∙ lent_is value f h j (kept_of o) t b l e.format e.sound e.line e.others e.row k e.dirty e.state row row_is w ∙ ap (λ (q : Kept g.row.T.Denot). lent_block value f k q b row w) is,
+        λ w. lends one_line IsOneLine one_line_rule value f h j o t b l e.step.format e.step.fits e.line k e.dirty e.step.state row row_is w
+            ∙ lent_is value f h j o t b l e.step.format e.step.fits e.line k e.dirty e.step.state row row_is w ∙ ap (λ (q : Kept g.row.T.Denot). lent_block value f k q b row w) is,
       ),
       record {
         writes_back = tt;
-        loan = subst (λ (q : Kept g.row.T.Denot). LendsBlock value f k j q b row) is (loans value f h j (kept_of o) t b l e.format e.sound e.line e.others e.row k e.dirty e.state row row_is);
-        size = ap length row_is ∙ whole one_line IsOneLine one_line_rule value f h j (kept_of o) t b l e.format e.sound e.line e.others e.row ∙ ap (λ q. q.block_len) e.format ∙ c.requires.blocks.0;
-        format = e.format;
-        kept = e.kept;
+        loan = subst (λ (q : Kept g.row.T.Denot). LendsBlock value f k j q b row) is (loans value f h j o t b l e.step.format e.step.fits e.line k e.dirty e.step.state row row_is);
+        size = ap length row_is ∙ whole one_line IsOneLine one_line_rule value f h j o t b l e.step.format e.step.fits e.line ∙ ap (λ q. q.block_len) e.step.format ∙ c.requires.backed.blocks.0;
+        keeps = record { format = e.step.format; kept = e.step.kept };
       },
     )

@@ -1,19 +1,19 @@
 use Rattle.std.proofs.Common.{◌≡◌, sym, ap, subst, ◌∙◌, ℕ, ◌<◌, length, rules, arith}
 use Rattle.std.proofs.lemmas.List.{length-replicate}
-use Rattle.zf_cache.specs.Bodies.{IsMask, kept_of}
+use Rattle.zf_cache.specs.Bodies.{AreLines, kept_of}
 use Rattle.zf_cache.specs.Rules.{one_line, IsOneLine, one_line_rule}
 use Rattle.zf_cache.proofs.Rooms.{room_for_blocks}
 use Rattle.zf_cache.proofs.cache.Cache.emptied_for.Goals as goal
 
-pub empty-requires-clause-mask : goal.empty-requires-clause-mask
-empty-requires-clause-mask g c =
+pub empty-requires-clause-lines : goal.empty-requires-clause-lines
+empty-requires-clause-lines g c =
     let is : c.len-lines.result ≡ length c.self.inside.body.tags.items = search (c.len-lines.ensures, rules) in
-    subst IsMask (sym is) c.self.invariant.0.mask
+    subst AreLines (sym is) c.self.invariant.0.lines
 
 pub returns-clause-room : goal.returns-clause-room
 returns-clause-room g c =
     let n = c.len-lines.result in let made = c.in_ok-body.ensures in let none : ℕ = 0 in
     let is : n ≡ length c.self.inside.body.tags.items = search (c.len-lines.ensures, rules) in
-    let some : 0 < n = omega (arith, is, c.self.invariant.0.count) in
+    let some : 0 < n = omega (arith, is, c.self.invariant.0.lines.some) in
     room_for_blocks one_line IsOneLine one_line_rule (kept_of c.in_ok-body.body) n some (ap length made.empty ∙ length-replicate n none) c.args.blocks
-    (made.rows ∙ c.rows_for-rows.ensures)
+    (made.rows_are ∙ c.rows_for-rows.ensures)

@@ -10,4 +10,4 @@ pub returns-clause-room : goal.returns-clause-room
 returns-clause-room g c =
     let n = c.args.lines in let made = c.in_ok-body.ensures in let none : ℕ = 0 in
     room_for_blocks one_line IsOneLine one_line_rule (kept_of c.in_ok-body.body) n (counts_lines n c.requires.count).0 (ap length made.empty ∙ length-replicate n none) c.args.blocks
-    (made.rows ∙ c.rows_for.ensures)
+    (made.rows_are ∙ c.rows_for.ensures)

@@ -13,6 +13,9 @@ use Rattle.zf_cache.proofs.Steps.{empty_fits}
 use Rattle.zf_cache.proofs.Tags.{counts_lines}
 use Rattle.zf_cache.proofs.cache.Cache.relined.Goals as goal
 
+pub returns-clause-keeps : goal.returns-clause-keeps
+returns-clause-keeps g c = record { format = c.flush.ensures.step.format; kept = c.flush.ensures.step.kept }
+
 pub returns-clause-fits : goal.returns-clause-fits
 returns-clause-fits g c =
     let h = g.B.Reading.format c.flush.new.back in let j = g.B.Reading.codes c.flush.new.back in
@@ -20,7 +23,7 @@ returns-clause-fits g c =
     let new = kept_of c.replace.new.self in
     empty_fits g.T.Lane.value h j new n (put.tags ∙ made.empty)
     (room_for_blocks one_line IsOneLine one_line_rule new n (counts_lines n c.requires.count).0 (ap length (put.tags ∙ made.empty) ∙ length-replicate n none) h.blocks
-    (ap length put.lines ∙ made.rows ∙ c.rows_for-rows.ensures ∙ ap (min n) (c.blocks-blocks.ensures ∙ ap (λ (q : Format g.B.Reading.Code). q.blocks) (sym c.flush.ensures.format))))
+    (ap length put.lines ∙ made.rows_are ∙ c.rows_for-rows.ensures ∙ ap (min n) (c.blocks-blocks.ensures ∙ ap (λ (q : Format g.B.Reading.Code). q.blocks) (sym c.flush.ensures.step.format))))
 
 pub returns-clause-ok : goal.returns-clause-ok
 returns-clause-ok g c =
@@ -29,5 +32,5 @@ returns-clause-ok g c =
     let h = g.B.Reading.format c.flush.new.back in let j = g.B.Reading.codes c.flush.new.back in
     relined_own value f h k j (kept_of o) (kept_of c.replace.new.self) c.args.lines
     (reline one_line value f h j (kept_of c.flush.new.self) (kept_of c.replace.new.self)
-    (length o.tags.items) c.args.lines (state_at one_line value (kept_of o) f k) e.empty (c.replace.ensures.tags ∙ c.in_ok-taken.ensures.empty) (ap counts_of c.replace.ensures.counts) e.state)
+    (length o.tags.items) c.args.lines (state_at one_line value (kept_of o) f k) e.empty (c.replace.ensures.tags ∙ c.in_ok-taken.ensures.empty) (ap counts_of c.replace.ensures.counts) e.step.state)
     ∙ ap (λ (q : Kept g.row.T.Denot). relined f (state_of value q f k) c.args.lines) c.self.view_is

@@ -10,4 +10,4 @@ pub returns-clause-room : goal.returns-clause-room
 returns-clause-room g c =
     let n = c.args.lines in let made = c.in_ok-body.ensures in let put = c.replace.ensures in let none : ℕ = 0 in
     room_for_blocks one_line IsOneLine one_line_rule (kept_of c.replace.new.self) n (counts_lines n c.requires.count).0 (ap length (put.tags ∙ made.empty) ∙ length-replicate n none) c.args.blocks
-    (ap length put.lines ∙ made.rows ∙ c.rows_for-rows.ensures)
+    (ap length put.lines ∙ made.rows_are ∙ c.rows_for-rows.ensures)

@@ -20,7 +20,7 @@ pub touch_read-requires : goal.touch_read-requires
 touch_read-requires g c =
     let s = c.self.inside in
     let is = header_now g.T.Lane.value g.T.Lane.width g.row.D s.codes s.cache c.self.invariant c.args.self.now c.self.view_is in
-    (lit< tt, (c.self.invariant.fits, (has_blocks g.T.Lane.value g.T.Lane.width g.row.D s.codes s.cache c.self.invariant, (below s.codes c.args.self.now.header c.args.b is c.requires, c.self.invariant.clean))))
+    (lit< tt, (record { fits = c.self.invariant.fits; blocks = has_blocks g.T.Lane.value g.T.Lane.width g.row.D s.codes s.cache c.self.invariant; below = below s.codes c.args.self.now.header c.args.b is c.requires }, c.self.invariant.clean))
 
 pub returns : goal.returns
 returns g c =
@@ -31,11 +31,11 @@ returns g c =
     let t = c.touch_read.new.back in
     let e = c.touch_read.new.self in
     let F = λ (f : Format (List Bool)) (u : State (List Bool)). touch f u b in
-    let is = touched_is value g.T.Lane.width g.row.D s.codes s.cache c.self.invariant now c.self.view_is t e c.touch_read.ensures.kept c.touch_read.ensures.fits c.touch_read.ensures.clean b c.touch_read.ensures.state in
-    let after = step value g.T.Lane.width g.row.D s.codes s.cache c.self.invariant now c.self.view_is t e c.touch_read.ensures.kept c.touch_read.ensures.fits c.touch_read.ensures.clean F c.touch_read.ensures.state in
-    let same = format_now value g.T.Lane.width g.row.D s.codes s.cache c.self.invariant now c.self.view_is ∙ sym c.touch_read.ensures.format in
+    let is = touched_is value g.T.Lane.width g.row.D s.codes s.cache c.self.invariant now c.self.view_is t e c.touch_read.ensures.step.kept c.touch_read.ensures.step.fits c.touch_read.ensures.clean b c.touch_read.ensures.step.state in
+    let after = step value g.T.Lane.width g.row.D s.codes s.cache c.self.invariant now c.self.view_is t e c.touch_read.ensures.step.kept c.touch_read.ensures.step.fits c.touch_read.ensures.clean F c.touch_read.ensures.step.state in
+    let same = format_now value g.T.Lane.width g.row.D s.codes s.cache c.self.invariant now c.self.view_is ∙ sym c.touch_read.ensures.step.format in
     let shown = values_here value (format_of t) e (code_at t) b (line_of e b) refl c.touch_read.ensures.here in
-    let there = state_held value t e c.touch_read.ensures.fits c.touch_read.ensures.clean in (
+    let there = state_held value t e c.touch_read.ensures.step.fits c.touch_read.ensures.clean in (
       (refl, λ _. tt, is),
       record {
         touched = tt;

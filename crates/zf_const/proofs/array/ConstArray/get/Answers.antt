@@ -42,26 +42,27 @@ get_read-requires g c =
     let at = c.place_in-b.ensures.at in (
       lit< tt,
       (
-        c.self.invariant.fits,
-        (
-          has_blocks g.T.Lane.value g.T.Lane.width g.row.D s.codes s.cache c.self.invariant,
-          (inside s.codes c.header.result c.header.ensures.value b k _ at, (c.self.invariant.clean, place_inside s.codes c.header.result c.header.ensures.value b k _ g.row.D c.self.invariant.dims at)),
-        ),
+        record {
+          fits = c.self.invariant.fits;
+          blocks = has_blocks g.T.Lane.value g.T.Lane.width g.row.D s.codes s.cache c.self.invariant;
+          below = inside s.codes c.header.result c.header.ensures.value b k _ at;
+        },
+        (c.self.invariant.clean, place_inside s.codes c.header.result c.header.ensures.value b k _ g.row.D c.self.invariant.dims at),
       ),
     )
 
 pub invariant_of-self : goal.invariant_of-self
 invariant_of-self g c =
     let s = c.self.inside in
-    joined_after g.T.Lane.value g.T.Lane.width g.row.D s.codes s.cache c.self.invariant c.args.self.now c.self.view_is c.get_read.new.back c.get_read.new.self c.get_read.ensures.kept c.get_read.ensures.fits c.get_read.ensures.clean
+    joined_after g.T.Lane.value g.T.Lane.width g.row.D s.codes s.cache c.self.invariant c.args.self.now c.self.view_is c.get_read.new.back c.get_read.new.self c.get_read.ensures.step.kept c.get_read.ensures.step.fits c.get_read.ensures.clean
 
 pub returns-clause-state : goal.returns-clause-state
 returns-clause-state g c =
     let s = c.self.inside in
     let now = c.args.self.now in
     let header = c.header.ensures.value ∙ sym (header_now g.T.Lane.value g.T.Lane.width g.row.D s.codes s.cache c.self.invariant now c.self.view_is) in
-    step g.T.Lane.value g.T.Lane.width g.row.D s.codes s.cache c.self.invariant now c.self.view_is c.get_read.new.back c.get_read.new.self c.get_read.ensures.kept c.get_read.ensures.fits c.get_read.ensures.clean
-    (λ f u. touch f u c.place_in-b.result.0) c.get_read.ensures.state
+    step g.T.Lane.value g.T.Lane.width g.row.D s.codes s.cache c.self.invariant now c.self.view_is c.get_read.new.back c.get_read.new.self c.get_read.ensures.step.kept c.get_read.ensures.step.fits c.get_read.ensures.clean
+    (λ f u. touch f u c.place_in-b.result.0) c.get_read.ensures.step.state
     ∙ ap (touch (format now) (state now)) (c.place_in-b.ensures.block ∙ ap (λ (h : Header). block_number h.shape (used_axes (length h.shape) c.args.p)) header)
 
 pub returns-clause-value : goal.returns-clause-value
@@ -76,16 +77,16 @@ returns-clause-value g c =
     let a = held_by g.T.Lane.value t e in
     let header = c.header.ensures.value ∙ sym (header_now g.T.Lane.value g.T.Lane.width g.row.D s.codes s.cache c.self.invariant now c.self.view_is) in
     OnTrue_at (place_exists s.codes c.header.result c.header.ensures.value b k _ c.place_in-b.ensures.at) c.get_read.ensures.value
-    ∙ ap (λ (u : State (List Bool)). get_or (u.values b) k (pos 0)) (sym (state_held g.T.Lane.value t e c.get_read.ensures.fits c.get_read.ensures.clean))
+    ∙ ap (λ (u : State (List Bool)). get_or (u.values b) k (pos 0)) (sym (state_held g.T.Lane.value t e c.get_read.ensures.step.fits c.get_read.ensures.clean))
     ∙ ap (λ m. get_or ((state a).values m) k (pos 0)) (c.place_in-b.ensures.block ∙ ap (λ (h : Header). block_number h.shape (used_axes (length h.shape) c.args.p)) header)
     ∙ ap (λ m. get_or ((state a).values (block_at now c.args.p)) m (pos 0)) (c.place_in-b.ensures.place ∙ ap (λ (h : Header). place_of (used_axes (length h.shape) c.args.p)) header)
 
 pub returns-clause-header : goal.returns-clause-header
 returns-clause-header g c =
     let s = c.self.inside in
-    header_after g.T.Lane.value g.T.Lane.width g.row.D s.codes s.cache c.self.invariant c.args.self.now c.self.view_is c.get_read.new.back c.get_read.new.self c.get_read.ensures.kept c.get_read.ensures.fits c.get_read.ensures.clean
+    header_after g.T.Lane.value g.T.Lane.width g.row.D s.codes s.cache c.self.invariant c.args.self.now c.self.view_is c.get_read.new.back c.get_read.new.self c.get_read.ensures.step.kept c.get_read.ensures.step.fits c.get_read.ensures.clean
 
 pub returns-clause-codes : goal.returns-clause-codes
 returns-clause-codes g c =
     let s = c.self.inside in
-    codes_after g.T.Lane.value g.T.Lane.width g.row.D s.codes s.cache c.self.invariant c.args.self.now c.self.view_is c.get_read.new.back c.get_read.new.self c.get_read.ensures.kept c.get_read.ensures.fits c.get_read.ensures.clean
+    codes_after g.T.Lane.value g.T.Lane.width g.row.D s.codes s.cache c.self.invariant c.args.self.now c.self.view_is c.get_read.new.back c.get_read.new.self c.get_read.ensures.step.kept c.get_read.ensures.step.fits c.get_read.ensures.clean

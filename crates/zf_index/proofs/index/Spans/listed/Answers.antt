@@ -1,7 +1,7 @@
 use Rattle.std.proofs.Common.{◌≡◌, sym, ap, subst, ◌∙◌, ℕ, ◌*◌, ◌<◌, ◌^◌, List, [], ◌∷◌, ◌≤◌, length, get_or, arith}
 use Rattle.zf_index.specs.Spans.{Index, index_of, place, ArePlaces}
 use Rattle.zf_index.specs.Files.{IsIndexOf}
-use Rattle.zf_index.proofs.Read.{blocks_some}
+use Rattle.zf_index.proofs.Read.{has_header, blocks_some}
 use Rattle.zf_index.proofs.index.Spans.listed.Goals as goal
 
 pub places_of-requires-clause-within : goal.places_of-requires-clause-within
@@ -33,7 +33,7 @@ invariant_of-result g c =
     let xs = c.deref.result.now in
     let places = c.in_ok-places.places.items in
     let is = c.in_ok-lens.ensures.ok in
-    let codes : 0 < length lens = omega (arith, is.count, blocks_some c.args.file.now c.args.h.now c.requires.header) in
+    let codes : 0 < length lens = omega (arith, is.count, blocks_some c.args.file.now c.args.h.now (has_header c.args.file.now c.args.h.now c.args.start c.requires.begun)) in
     let known = same step start lens xs places c.requires.step c.deref.ensures.value codes c.in_ok-places.ensures in
     let Are : Index → Type 0 = λ i. ArePlaces step i places in
     let at : place (index_of places lens) (length lens) ≡ place (record { start = start; lens = lens }) (length lens) =
@@ -51,7 +51,7 @@ returns-clause-ok g c =
     let xs = c.deref.result.now in
     let places = c.in_ok-places.places.items in
     let is = c.in_ok-lens.ensures.ok in
-    let codes : 0 < length lens = omega (arith, is.count, blocks_some c.args.file.now c.args.h.now c.requires.header) in
+    let codes : 0 < length lens = omega (arith, is.count, blocks_some c.args.file.now c.args.h.now (has_header c.args.file.now c.args.h.now c.args.start c.requires.begun)) in
     let known = same g.row.STEP start lens xs places c.requires.step c.deref.ensures.value codes c.in_ok-places.ensures in
     let Is : Index → Type 0 = IsIndexOf c.args.file.now c.args.h.now in
     subst Is (ap (λ (ys : List ℕ). record { start = start; lens = ys }) (sym c.deref.ensures.value) ∙ known) is

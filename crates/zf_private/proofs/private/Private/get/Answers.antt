@@ -1,9 +1,9 @@
-use Rattle.std.proofs.Common.{◌≡◌, refl, subst, ◌∙◌, pos, get_or, lit<}
+use Rattle.std.proofs.Common.{◌≡◌, subst, ◌∙◌, pos, get_or, lit<}
 use Rattle.std.specs.Bool.{OnTrue}
 use Rattle.zf_cached.specs.Acts.{Act}
 use Rattle.zf_private.specs.Standing.{Held, block_at, place_at, state}
 use Rattle.zf_cache.specs.Standing.{state_of, values_of}
-use Rattle.zf_private.proofs.Calls.{has_blocks, fits_mine, block_below, place_below, exists_there, answer_is, acts_at, others_stay, still_whole}
+use Rattle.zf_private.proofs.Calls.{has_blocks, fits_mine, block_below, place_below, exists_there, answer_is, acts_at, does}
 use Rattle.zf_private.proofs.Others.{acted-get}
 use Rattle.zf_private.proofs.private.Private.get.Goals as goal
 
@@ -13,41 +13,32 @@ get-requires g c =
     let v : Held g.row.T.Denot = record { cache = o.cache; shape = o.shape; first = o.first; count = o.count } in
     let f = g.B.Reading.format c.args.back.now in let k = g.B.Reading.codes c.args.back.now in let value = g.T.Lane.value in let w = g.T.Lane.width in let d = g.row.D in
     let now = c.args.self.now in let is = c.self.view_is in let whole = c.self.invariant in
-    let p = c.args.p in let b = c.place-b.result.0 in let place = c.place-b.result.1 in let e = c.place-b.ensures in
-    (lit< tt, (fits_mine value w d v now is whole f k c.requires.fits, (has_blocks value w d v now is whole f k c.requires.blocks, (block_below value w d v now is whole f k p b place e.block e.place e.at c.requires.blocks, place_below value w d v now is whole f k p b place e.block e.place e.at))))
+    let p = c.args.p in let b = c.place-b.result.0 in let place = c.place-b.result.1 in let e = c.place-b.ensures in let sits = c.requires.sits in (
+      lit< tt,
+      (
+        record {
+          fits = fits_mine value w d v now is whole f k sits.fits;
+          blocks = has_blocks value w d v now is whole f k sits.blocks;
+          below = block_below value w d v now is whole f k p b place e.block e.place e.at sits.blocks;
+        },
+        place_below value w d v now is whole f k p b place e.block e.place e.at,
+      ),
+    )
 
-pub returns-clause-state : goal.returns-clause-state
-returns-clause-state g c =
+pub returns-clause-does : goal.returns-clause-does
+returns-clause-does g c =
     let o = c.self.inside in
     let v : Held g.row.T.Denot = record { cache = o.cache; shape = o.shape; first = o.first; count = o.count } in
     let f = g.B.Reading.format c.args.back.now in let k = g.B.Reading.codes c.args.back.now in let value = g.T.Lane.value in let w = g.T.Lane.width in let d = g.row.D in
     let now = c.args.self.now in let is = c.self.view_is in let whole = c.self.invariant in
-    let p = c.args.p in let b = c.place-b.result.0 in let place = c.place-b.result.1 in let e = c.place-b.ensures in
-    let h = g.B.Reading.format c.get.new.back in let j = g.B.Reading.codes c.get.new.back in let new = c.get.new.self in
-    let step = acts_at value w d v now is whole f k p b place e.block e.place e.at (λ m n. Act.get m n) (state_of value new h j) (c.get.ensures.state ∙ acted-get w f (state value v f k) b place) in
-    step
-
-pub returns-clause-others : goal.returns-clause-others
-returns-clause-others g c =
-    let o = c.self.inside in
-    let v : Held g.row.T.Denot = record { cache = o.cache; shape = o.shape; first = o.first; count = o.count } in
-    let f = g.B.Reading.format c.args.back.now in let k = g.B.Reading.codes c.args.back.now in let value = g.T.Lane.value in let w = g.T.Lane.width in let d = g.row.D in
-    let now = c.args.self.now in let is = c.self.view_is in let whole = c.self.invariant in
-    let p = c.args.p in let b = c.place-b.result.0 in let place = c.place-b.result.1 in let e = c.place-b.ensures in
-    let h = g.B.Reading.format c.get.new.back in let j = g.B.Reading.codes c.get.new.back in let new = c.get.new.self in
-    let step = acts_at value w d v now is whole f k p b place e.block e.place e.at (λ m n. Act.get m n) (state_of value new h j) (c.get.ensures.state ∙ acted-get w f (state value v f k) b place) in
-    others_stay value w d v now is whole f k new h j (Act.get (block_at now p) (place_at now p)) step
+    let p = c.args.p in let b = c.place-b.result.0 in let place = c.place-b.result.1 in let e = c.place-b.ensures in let sits = c.requires.sits in
+    let new = c.get.new.self in let t = c.get.ensures.step in
+    let h = g.B.Reading.format c.get.new.back in let j = g.B.Reading.codes c.get.new.back in
+    let step = acts_at value w d v now is whole f k p b place e.block e.place e.at (λ m n. Act.get m n) (state_of value new h j) (t.state ∙ acted-get w f (state value v f k) b place) in
+    does g.B.Reading value w d v now is whole c.args.back.now new c.get.new.back (Act.get (block_at now p) (place_at now p)) step t.fits t.format t.kept sits.owned
 
 pub invariant_of-self : goal.invariant_of-self
-invariant_of-self g c =
-    let o = c.self.inside in
-    let v : Held g.row.T.Denot = record { cache = o.cache; shape = o.shape; first = o.first; count = o.count } in
-    let f = g.B.Reading.format c.args.back.now in let k = g.B.Reading.codes c.args.back.now in let value = g.T.Lane.value in let w = g.T.Lane.width in let d = g.row.D in
-    let now = c.args.self.now in let is = c.self.view_is in let whole = c.self.invariant in
-    let p = c.args.p in let b = c.place-b.result.0 in let place = c.place-b.result.1 in let e = c.place-b.ensures in
-    let h = g.B.Reading.format c.get.new.back in let j = g.B.Reading.codes c.get.new.back in let new = c.get.new.self in
-    let step = acts_at value w d v now is whole f k p b place e.block e.place e.at (λ m n. Act.get m n) (state_of value new h j) (c.get.ensures.state ∙ acted-get w f (state value v f k) b place) in
-    still_whole value w d v now is whole f k new h j (Act.get (block_at now p) (place_at now p)) step o.shape o.first o.count refl refl refl c.requires.owned
+invariant_of-self g c = (returns-clause-does g c).whole
 
 pub returns-clause-value : goal.returns-clause-value
 returns-clause-value g c =
@@ -55,12 +46,9 @@ returns-clause-value g c =
     let v : Held g.row.T.Denot = record { cache = o.cache; shape = o.shape; first = o.first; count = o.count } in
     let f = g.B.Reading.format c.args.back.now in let k = g.B.Reading.codes c.args.back.now in let value = g.T.Lane.value in let w = g.T.Lane.width in let d = g.row.D in
     let now = c.args.self.now in let is = c.self.view_is in let whole = c.self.invariant in
-    let p = c.args.p in let b = c.place-b.result.0 in let place = c.place-b.result.1 in let e = c.place-b.ensures in
+    let p = c.args.p in let b = c.place-b.result.0 in let place = c.place-b.result.1 in let e = c.place-b.ensures in let sits = c.requires.sits in
     let h = g.B.Reading.format c.get.new.back in let j = g.B.Reading.codes c.get.new.back in let new = c.get.new.self in
-    let exists = exists_there value w d v now is whole f k p b place e.block e.place e.at c.requires.places c.requires.owned in
+    let exists = exists_there value w d v now is whole f k p b place e.block e.place e.at sits.places sits.owned in
     let read : value c.get.result ≡ get_or (values_of value new h j b) place (pos 0) =
     subst (λ t. OnTrue t (value c.get.result ≡ get_or (values_of value new h j b) place (pos 0))) exists c.get.ensures.value in
     answer_is value w d v now is whole f k p b place e.block e.place e.at new h j (value c.get.result) read
-
-pub returns-clause-whole : goal.returns-clause-whole
-returns-clause-whole g c = invariant_of-self g c

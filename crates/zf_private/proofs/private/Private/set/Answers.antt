@@ -1,8 +1,8 @@
-use Rattle.std.proofs.Common.{refl, ◌∙◌, lit<}
+use Rattle.std.proofs.Common.{◌∙◌, lit<}
 use Rattle.zf_cached.specs.Acts.{Act}
 use Rattle.zf_private.specs.Standing.{Held, block_at, place_at, state}
 use Rattle.zf_cache.specs.Standing.{state_of}
-use Rattle.zf_private.proofs.Calls.{values_whole, put-changed, has_blocks, fits_mine, block_below, place_below, exists_there, acts_at, others_stay, still_whole}
+use Rattle.zf_private.proofs.Calls.{values_whole, put-changed, has_blocks, fits_mine, block_below, place_below, exists_there, acts_at, does}
 use Rattle.zf_private.proofs.Others.{acted-set}
 use Rattle.zf_private.proofs.private.Private.set.Goals as goal
 
@@ -12,41 +12,30 @@ set-requires g c =
     let v : Held g.row.T.Denot = record { cache = o.cache; shape = o.shape; first = o.first; count = o.count } in
     let f = g.B.Reading.format c.args.back.now in let k = g.B.Reading.codes c.args.back.now in let value = g.T.Lane.value in let w = g.T.Lane.width in let d = g.row.D in
     let now = c.args.self.now in let is = c.self.view_is in let whole = c.self.invariant in
-    let p = c.args.p in let b = c.place-b.result.0 in let place = c.place-b.result.1 in let e = c.place-b.ensures in
-    (lit< tt, (fits_mine value w d v now is whole f k c.requires.fits, (has_blocks value w d v now is whole f k c.requires.blocks, (block_below value w d v now is whole f k p b place e.block e.place e.at c.requires.blocks, place_below value w d v now is whole f k p b place e.block e.place e.at))))
+    let p = c.args.p in let b = c.place-b.result.0 in let place = c.place-b.result.1 in let e = c.place-b.ensures in let sits = c.requires.sits in (
+      lit< tt,
+      (
+        record {
+          fits = fits_mine value w d v now is whole f k sits.fits;
+          blocks = has_blocks value w d v now is whole f k sits.blocks;
+          below = block_below value w d v now is whole f k p b place e.block e.place e.at sits.blocks;
+        },
+        place_below value w d v now is whole f k p b place e.block e.place e.at,
+      ),
+    )
 
-pub returns-clause-state : goal.returns-clause-state
-returns-clause-state g c =
+pub returns : goal.returns
+returns g c =
     let o = c.self.inside in
     let v : Held g.row.T.Denot = record { cache = o.cache; shape = o.shape; first = o.first; count = o.count } in
     let f = g.B.Reading.format c.args.back.now in let k = g.B.Reading.codes c.args.back.now in let value = g.T.Lane.value in let w = g.T.Lane.width in let d = g.row.D in
     let now = c.args.self.now in let is = c.self.view_is in let whole = c.self.invariant in
-    let p = c.args.p in let b = c.place-b.result.0 in let place = c.place-b.result.1 in let e = c.place-b.ensures in
-    let h = g.B.Reading.format c.set.new.back in let j = g.B.Reading.codes c.set.new.back in let new = c.set.new.self in
-    let step = acts_at value w d v now is whole f k p b place e.block e.place e.at (λ m n. Act.set m n (value c.args.v)) (state_of value new h j) (c.set.ensures.state ∙ put-changed value f (state value v f k) b place (value c.args.v) (exists_there value w d v now is whole f k p b place e.block e.place e.at c.requires.places c.requires.owned) (values_whole value v.cache f k b) ∙ acted-set w f (state value v f k) b place (value c.args.v)) in
-    step
-
-pub returns-clause-others : goal.returns-clause-others
-returns-clause-others g c =
-    let o = c.self.inside in
-    let v : Held g.row.T.Denot = record { cache = o.cache; shape = o.shape; first = o.first; count = o.count } in
-    let f = g.B.Reading.format c.args.back.now in let k = g.B.Reading.codes c.args.back.now in let value = g.T.Lane.value in let w = g.T.Lane.width in let d = g.row.D in
-    let now = c.args.self.now in let is = c.self.view_is in let whole = c.self.invariant in
-    let p = c.args.p in let b = c.place-b.result.0 in let place = c.place-b.result.1 in let e = c.place-b.ensures in
-    let h = g.B.Reading.format c.set.new.back in let j = g.B.Reading.codes c.set.new.back in let new = c.set.new.self in
-    let step = acts_at value w d v now is whole f k p b place e.block e.place e.at (λ m n. Act.set m n (value c.args.v)) (state_of value new h j) (c.set.ensures.state ∙ put-changed value f (state value v f k) b place (value c.args.v) (exists_there value w d v now is whole f k p b place e.block e.place e.at c.requires.places c.requires.owned) (values_whole value v.cache f k b) ∙ acted-set w f (state value v f k) b place (value c.args.v)) in
-    others_stay value w d v now is whole f k new h j (Act.set (block_at now p) (place_at now p) (value c.args.v)) step
+    let p = c.args.p in let b = c.place-b.result.0 in let place = c.place-b.result.1 in let e = c.place-b.ensures in let sits = c.requires.sits in
+    let new = c.set.new.self in let t = c.set.ensures.step in let x = value c.args.v in let s = state value v f k in
+    let h = g.B.Reading.format c.set.new.back in let j = g.B.Reading.codes c.set.new.back in
+    let step = acts_at value w d v now is whole f k p b place e.block e.place e.at (λ m n. Act.set m n x) (state_of value new h j)
+    (t.state ∙ put-changed value f s b place x (exists_there value w d v now is whole f k p b place e.block e.place e.at sits.places sits.owned) (values_whole value v.cache f k b) ∙ acted-set w f s b place x) in
+    record { does = does g.B.Reading value w d v now is whole c.args.back.now new c.set.new.back (Act.set (block_at now p) (place_at now p) x) step t.fits t.format t.kept sits.owned }
 
 pub invariant_of-self : goal.invariant_of-self
-invariant_of-self g c =
-    let o = c.self.inside in
-    let v : Held g.row.T.Denot = record { cache = o.cache; shape = o.shape; first = o.first; count = o.count } in
-    let f = g.B.Reading.format c.args.back.now in let k = g.B.Reading.codes c.args.back.now in let value = g.T.Lane.value in let w = g.T.Lane.width in let d = g.row.D in
-    let now = c.args.self.now in let is = c.self.view_is in let whole = c.self.invariant in
-    let p = c.args.p in let b = c.place-b.result.0 in let place = c.place-b.result.1 in let e = c.place-b.ensures in
-    let h = g.B.Reading.format c.set.new.back in let j = g.B.Reading.codes c.set.new.back in let new = c.set.new.self in
-    let step = acts_at value w d v now is whole f k p b place e.block e.place e.at (λ m n. Act.set m n (value c.args.v)) (state_of value new h j) (c.set.ensures.state ∙ put-changed value f (state value v f k) b place (value c.args.v) (exists_there value w d v now is whole f k p b place e.block e.place e.at c.requires.places c.requires.owned) (values_whole value v.cache f k b) ∙ acted-set w f (state value v f k) b place (value c.args.v)) in
-    still_whole value w d v now is whole f k new h j (Act.set (block_at now p) (place_at now p) (value c.args.v)) step o.shape o.first o.count refl refl refl c.requires.owned
-
-pub returns-clause-whole : goal.returns-clause-whole
-returns-clause-whole g c = invariant_of-self g c
+invariant_of-self g c = (returns g c).does.whole

@@ -14,20 +14,20 @@ use Rattle.zf_run.proofs.pairs.PairChanging.fill_block.Goals as goal
 pub block_mut-requires : goal.block_mut-requires
 block_mut-requires g c =
     let s = c.args.self.now.store.now in let k = c.args.self.now.cache.now in let value = g.T.Lane.value in let w = g.T.Lane.width in
-    (lit< tt, (c.requires.sound, (two_blocks w g.row.D s c.header-header.ensures.whole, two_below w g.row.D s c.header-header.ensures.whole c.args.b c.requires.block)))
+    (lit< tt, record { fits = c.requires.sound; blocks = two_blocks w g.row.D s c.header-header.ensures.whole; below = two_below w g.row.D s c.header-header.ensures.whole c.args.b c.requires.block })
 
 pub returns-clause-sound : goal.returns-clause-sound
 returns-clause-sound g c =
     let s = c.args.self.now.store.now in let k = c.args.self.now.cache.now in let value = g.T.Lane.value in let w = g.T.Lane.width in
-    let same = c.block_mut.ensures.format in let lent = c.block_mut.ensures.loan in let row = c.block_mut.result.now in let ws = c.fill_line.new.line in
+    let same = c.block_mut.ensures.keeps.format in let lent = c.block_mut.ensures.loan in let row = c.block_mut.result.now in let ws = c.fill_line.new.line in
     let t = c.block_mut.new.back in let b = c.args.b in
     subst (λ (f : Format (List Bool)). Fits value (lent_block value (format_of s) (code_at s) k b row ws) f (code_at t)) (sym same) (lent.written ws).fits
 
 pub returns-clause-filled : goal.returns-clause-filled
 returns-clause-filled g c =
     let s = c.args.self.now.store.now in let k = c.args.self.now.cache.now in let value = g.T.Lane.value in let w = g.T.Lane.width in
-    let same = c.block_mut.ensures.format in let lent = c.block_mut.ensures.loan in let row = c.block_mut.result.now in let ws = c.fill_line.new.line in
-    let t = c.block_mut.new.back in let b = c.args.b in let head = ap (λ (q : Frame). q.header) c.block_mut.ensures.kept in
+    let same = c.block_mut.ensures.keeps.format in let lent = c.block_mut.ensures.loan in let row = c.block_mut.result.now in let ws = c.fill_line.new.line in
+    let t = c.block_mut.new.back in let b = c.args.b in let head = ap (λ (q : Frame). q.header) c.block_mut.ensures.keeps.kept in
     let st = c.header-header.ensures.whole in let x = value c.args.v in
     let e = lent_block value (format_of s) (code_at s) k b row ws in
     let u = touch_for_writing (format_of s) (pair_state value s k) b in

@@ -6,10 +6,10 @@ use Rattle.zf_run.proofs.pairs.PairChanging.flush_all.Goals as goal
 pub flush-requires : goal.flush-requires
 flush-requires g c =
     let s = c.args.self.now.store.now in let k = c.args.self.now.cache.now in let value = g.T.Lane.value in let w = g.T.Lane.width in
-    (lit< tt, (c.requires.sound, two_blocks w g.row.D s c.header-header.ensures.whole))
+    (lit< tt, record { fits = c.requires.sound; blocks = two_blocks w g.row.D s c.header-header.ensures.whole })
 
 pub returns-clause-flushed : goal.returns-clause-flushed
 returns-clause-flushed g c =
     let s = c.args.self.now.store.now in let k = c.args.self.now.cache.now in let value = g.T.Lane.value in let w = g.T.Lane.width in
-    let t = c.flush.new.back in let e = c.flush.new.self in let head = ap (λ (q : Frame). q.header) c.flush.ensures.kept in
-    flushed_two w s c.header-header.ensures.whole.same_type value k c.args.self.now.window t e head c.flush.ensures.state
+    let t = c.flush.new.back in let e = c.flush.new.self in let head = ap (λ (q : Frame). q.header) c.flush.ensures.step.kept in
+    flushed_two w s c.header-header.ensures.whole.same_type value k c.args.self.now.window t e head c.flush.ensures.step.state

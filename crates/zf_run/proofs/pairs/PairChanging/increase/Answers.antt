@@ -15,12 +15,12 @@ block_mut-line-requires g c =
     let s = c.args.self.now.store.now in let k = c.args.self.now.cache.now in let value = g.T.Lane.value in let w = g.T.Lane.width in
     let st = c.header.ensures.whole in let at = c.place-b.ensures.at in let b = c.place-b.result.0 in let p = c.place-b.result.1 in
     let is = c.header.ensures.value in
-    (lit< tt, (c.requires.sound, (two_blocks w g.row.D s st, block_below w g.row.D s st c.header.result is c.args.p b p at)))
+    (lit< tt, record { fits = c.requires.sound; blocks = two_blocks w g.row.D s st; below = block_below w g.row.D s st c.header.result is c.args.p b p at })
 
 pub returns-clause-sound : goal.returns-clause-sound
 returns-clause-sound g c =
     let s = c.args.self.now.store.now in let k = c.args.self.now.cache.now in let value = g.T.Lane.value in let w = g.T.Lane.width in
-    let same = c.block_mut-line.ensures.format in let lent = c.block_mut-line.ensures.loan in let row = c.block_mut-line.result.now in let ws = set c.block_mut-line.result.now c.place-b.result.1 c.add.result in
+    let same = c.block_mut-line.ensures.keeps.format in let lent = c.block_mut-line.ensures.loan in let row = c.block_mut-line.result.now in let ws = set c.block_mut-line.result.now c.place-b.result.1 c.add.result in
     let t = c.block_mut-line.new.back in let b = c.place-b.result.0 in
     subst (λ (f : Format (List Bool)). Fits value (lent_block value (format_of s) (code_at s) k b row ws) f (code_at t)) (sym same) (lent.written ws).fits
 
@@ -30,8 +30,8 @@ returns-clause-changed g c =
     let s = c.args.self.now.store.now in let k = c.args.self.now.cache.now in let value = g.T.Lane.value in let w = g.T.Lane.width in
     let st = c.header.ensures.whole in let at = c.place-b.ensures.at in let b = c.place-b.result.0 in let p = c.place-b.result.1 in
     let is = c.header.ensures.value in
-    let same = c.block_mut-line.ensures.format in let lent = c.block_mut-line.ensures.loan in let row = c.block_mut-line.result.now in let ws = set c.block_mut-line.result.now c.place-b.result.1 c.add.result in
-    let t = c.block_mut-line.new.back in let head = ap (λ (q : Frame). q.header) c.block_mut-line.ensures.kept in
+    let same = c.block_mut-line.ensures.keeps.format in let lent = c.block_mut-line.ensures.loan in let row = c.block_mut-line.result.now in let ws = set c.block_mut-line.result.now c.place-b.result.1 c.add.result in
+    let t = c.block_mut-line.new.back in let head = ap (λ (q : Frame). q.header) c.block_mut-line.ensures.keeps.kept in
     let e = lent_block value (format_of s) (code_at s) k b row ws in
     let change = λ (n : _) (values : List ℤ). set values n (wrap w (get_or values n (pos 0) +ℤ value c.args.v)) in
     let blocks = (two_blocks w g.row.D s st).0 in

@@ -8,39 +8,40 @@ use Rattle.zf_cache.proofs.Sound.{whole_written}
 use Rattle.zf_twoway.specs.Placing.{skewed, IsOneOfTwo, skewed_rule}
 use Rattle.zf_twoway.specs.Standing.{Fits}
 use Rattle.zf_twoway.specs.Loans.{LendsBlock, lent_block}
-use Rattle.zf_twoway.proofs.Standing.{sound_of, lent_is, loans}
+use Rattle.zf_twoway.proofs.Standing.{ready_of, lent_is, loans}
 use Rattle.zf_twoway.proofs.twoway.TwoWay.block_mut.Goals as goal
 
-pub touch_for_writing-l-requires-clause-sound : goal.touch_for_writing-l-requires-clause-sound
-touch_for_writing-l-requires-clause-sound g c =
-    sound_of g.T.Lane.value c.self.inside.body c.args.self.now (g.B.Reading.format c.args.back.now) (g.B.Reading.codes c.args.back.now) _
-    c.self.view_is c.self.invariant.0 c.requires.blocks.0 c.requires.fits
+pub touch_for_writing-l-requires : goal.touch_for_writing-l-requires
+touch_for_writing-l-requires g c = record {
+  ready =
+      let e = c.requires.backed in
+      ready_of g.B.Reading g.T.Lane.value c.self.inside.body c.args.self.now c.args.back.now g.row.D c.self.view_is c.self.invariant.0 e.blocks e.fits c.args.b e.below;
+}
 
 pub invariant_of-self-lent : goal.invariant_of-self-lent
 invariant_of-self-lent g c = λ w.
     let t = c.touch_for_writing-l.new.self in let e = c.touch_for_writing-l.ensures in let l = c.touch_for_writing-l.result in
-    let is : IsWhole t (4 ^ g.row.D) = subst (IsWhole t) (ap (λ q. q.block_len) e.format ∙ c.requires.blocks.0) e.sound.whole in
-    (whole_written t _ (4 ^ g.row.D) l (over (line_at t.lines l) w) is e.row (length-over (line_at t.lines l) w ∙ is.size.1 l e.row) refl refl, c.self.invariant.1)
+    let is : IsWhole t (4 ^ g.row.D) = subst (IsWhole t) (ap (λ q. q.block_len) e.step.format ∙ c.requires.backed.blocks.0) e.step.fits.whole in
+    (whole_written t _ (4 ^ g.row.D) l (over (line_at t.lines l) w) is e.line.row (length-over (line_at t.lines l) w ∙ is.size.1 l e.line.row) refl refl, c.self.invariant.1)
 
 pub returns : goal.returns
 returns g c =
     let f = g.B.Reading.format c.args.back.now in let k = g.B.Reading.codes c.args.back.now in let value = g.T.Lane.value in
     let o = kept_of c.self.inside.body in let is = c.self.view_is in
-    let fits = subst (λ (q : Kept g.row.T.Denot). Fits value q f k) (sym is) c.requires.fits in
+    let fits = subst (λ (q : Kept g.row.T.Denot). Fits value q f k) (sym is) c.requires.backed.fits in
     let t = c.touch_for_writing-l.new.self in let e = c.touch_for_writing-l.ensures in
     let h = g.B.Reading.format c.touch_for_writing-l.new.back in let j = g.B.Reading.codes c.touch_for_writing-l.new.back in
     let b = c.args.b in let l = c.touch_for_writing-l.result in
     let row = c.line_mut.result.now in let row_is = c.line_mut.ensures.value in (
       (
         refl,
-        λ w. lends skewed IsOneOfTwo skewed_rule value f h j o t b l e.format e.sound e.line e.others e.row k e.dirty e.state row row_is w
-            ∙ lent_is value f h j o t b l e.format e.sound e.line e.others e.row k fits e.dirty e.state row row_is w ∙ ap (λ (q : Kept g.row.T.Denot). lent_block value f k q b row w) is,
+        λ w. lends skewed IsOneOfTwo skewed_rule value f h j o t b l e.step.format e.step.fits e.line k e.dirty e.step.state row row_is w
+            ∙ lent_is value f h j o t b l e.step.format e.step.fits e.line k fits e.dirty e.step.state row row_is w ∙ ap (λ (q : Kept g.row.T.Denot). lent_block value f k q b row w) is,
       ),
       record {
         writes_back = tt;
-        loan = subst (λ (q : Kept g.row.T.Denot). LendsBlock value f k j q b row) is (loans value f h j o t b l e.format e.sound e.line e.others e.row k fits e.dirty e.state row row_is);
-        size = ap length row_is ∙ whole skewed IsOneOfTwo skewed_rule value f h j o t b l e.format e.sound e.line e.others e.row ∙ ap (λ q. q.block_len) e.format ∙ c.requires.blocks.0;
-        format = e.format;
-        kept = e.kept;
+        loan = subst (λ (q : Kept g.row.T.Denot). LendsBlock value f k j q b row) is (loans value f h j o t b l e.step.format e.step.fits e.line k fits e.dirty e.step.state row row_is);
+        size = ap length row_is ∙ whole skewed IsOneOfTwo skewed_rule value f h j o t b l e.step.format e.step.fits e.line ∙ ap (λ q. q.block_len) e.step.format ∙ c.requires.backed.blocks.0;
+        keeps = record { format = e.step.format; kept = e.step.kept };
       },
     )

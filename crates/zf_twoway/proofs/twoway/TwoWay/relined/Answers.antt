@@ -14,11 +14,14 @@ use Rattle.zf_twoway.proofs.Standing.{sound_of, fits_of}
 use Rattle.zf_twoway.proofs.twoway.TwoWay.relined.Goals as goal
 
 pub flush-requires : goal.flush-requires
-flush-requires g c =
-    record {
-      sound = sound_of g.T.Lane.value c.self.inside.body c.args.self.now (g.B.Reading.format c.args.back.now) (g.B.Reading.codes c.args.back.now) _
-          c.self.view_is c.self.invariant.0 c.requires.blocks.0 c.requires.fits;
-    }
+flush-requires g c = record {
+  sound =
+      let e = c.requires.backed in
+      sound_of g.B.Reading g.T.Lane.value c.self.inside.body c.args.self.now c.args.back.now g.row.D c.self.view_is c.self.invariant.0 e.blocks e.fits;
+}
+
+pub returns-clause-keeps : goal.returns-clause-keeps
+returns-clause-keeps g c = record { format = c.flush.ensures.step.format; kept = c.flush.ensures.step.kept }
 
 pub returns-clause-fits : goal.returns-clause-fits
 returns-clause-fits g c =
@@ -27,7 +30,7 @@ returns-clause-fits g c =
     let n = c.args.lines in let made = c.in_ok-taken.ensures in let put = c.replace.ensures in let none : ℕ = 0 in
     fits_of g.T.Lane.value new h j (empty_fits_at skewed g.T.Lane.value h j new n (put.tags ∙ made.empty)
     (room_for_blocks skewed IsOneOfTwo skewed_rule new n (counts_lines n c.requires.count).0 (ap length (put.tags ∙ made.empty) ∙ length-replicate n none) h.blocks
-    (ap length put.lines ∙ made.rows ∙ c.rows_for-rows.ensures ∙ ap (min n) (c.blocks-blocks.ensures ∙ ap (λ (q : Format g.B.Reading.Code). q.blocks) (sym c.flush.ensures.format)))))
+    (ap length put.lines ∙ made.rows_are ∙ c.rows_for-rows.ensures ∙ ap (min n) (c.blocks-blocks.ensures ∙ ap (λ (q : Format g.B.Reading.Code). q.blocks) (sym c.flush.ensures.step.format)))))
 
 pub returns-clause-ok : goal.returns-clause-ok
 returns-clause-ok g c =
@@ -35,5 +38,5 @@ returns-clause-ok g c =
     let o = kept_of c.self.inside.body in let is = c.self.view_is in
     let e = c.flush.ensures in
     reline skewed value f (g.B.Reading.format c.flush.new.back) (g.B.Reading.codes c.flush.new.back) (kept_of c.flush.new.self) (kept_of c.replace.new.self)
-    (length o.tags) c.args.lines (state_of value o f k) e.empty (c.replace.ensures.tags ∙ c.in_ok-taken.ensures.empty) (ap counts_of c.replace.ensures.counts) e.state
+    (length o.tags) c.args.lines (state_of value o f k) e.empty (c.replace.ensures.tags ∙ c.in_ok-taken.ensures.empty) (ap counts_of c.replace.ensures.counts) e.step.state
     ∙ ap (λ (q : Kept g.row.T.Denot). relined f (state_of value q f k) c.args.lines) is

@@ -10,7 +10,7 @@ use Rattle.zf_view.proofs.const_view.ConstView.get.Goals as goal
 pub get-requires : goal.get-requires
 get-requires g c =
     let now = c.args.self.now in
-    (lit< tt, subst (IsPosition (shape now.array.now)) (sym c.map.ensures) (position_at-inside (shape now.array.now) now.window c.args.p c.requires.lies c.requires.position))
+    (lit< tt, subst (IsPosition (shape now.array.now)) (sym c.map.ensures) (position_at-inside (shape now.array.now) now.window c.args.p c.requires.at.lies c.requires.at.position))
 
 pub returns-clause-value : goal.returns-clause-value
 unfolding state

@@ -12,6 +12,6 @@ returns g c =
         writes_back = tt;
         array = refl;
         position = c.map-position.ensures;
-        inside = subst (IsPosition (shape now.array.now)) (sym c.map-position.ensures) (position_at-inside (shape now.array.now) now.window c.args.p c.requires.lies c.requires.position);
+        inside = subst (IsPosition (shape now.array.now)) (sym c.map-position.ensures) (position_at-inside (shape now.array.now) now.window c.args.p c.requires.at.lies c.requires.at.position);
       },
     )

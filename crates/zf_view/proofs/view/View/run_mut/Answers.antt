@@ -15,7 +15,7 @@ pub place_in-b-requires-clause-position : goal.place_in-b-requires-clause-positi
 place_in-b-requires-clause-position g c =
     let now = c.args.self.now in
     subst (λ ns. IsPosition ns c.map-first.result) (sym c.shape.ensures.value)
-    (subst (IsPosition (shape now.array.now)) (sym c.map-first.ensures) (position_at-inside (shape now.array.now) now.window c.args.p c.requires.lies c.requires.position))
+    (subst (IsPosition (shape now.array.now)) (sym c.map-first.ensures) (position_at-inside (shape now.array.now) now.window c.args.p c.requires.at.lies c.requires.at.position))
 
 pub part_mut-requires : goal.part_mut-requires
 part_mut-requires g c =
@@ -23,8 +23,8 @@ part_mut-requires g c =
     let a = now.array.now in
     let w = now.window in
     let p = c.args.p in
-    let lies = c.requires.lies in
-    let at = c.requires.position in
+    let lies = c.requires.at.lies in
+    let at = c.requires.at.position in
     let shape_is = c.shape.ensures.value in
     let first = c.map-first.ensures in
     let eb = c.place_in-b.ensures.block ∙ (λ i. block_number (shape_is i) (used_axes (length (shape_is i)) (first i))) in
@@ -39,8 +39,8 @@ returns g c =
     let a = now.array.now in
     let w = now.window in
     let p = c.args.p in
-    let lies = c.requires.lies in
-    let at = c.requires.position in
+    let lies = c.requires.at.lies in
+    let at = c.requires.at.position in
     let shape_is = c.shape.ensures.value in
     let first = c.map-first.ensures in
     let eb = c.place_in-b.ensures.block ∙ (λ i. block_number (shape_is i) (used_axes (length (shape_is i)) (first i))) in
@@ -52,9 +52,11 @@ returns g c =
       (refl, λ x. ap (view_of now) (run_ends a w p lies at c.requires.step c.touch_mut.new.self c.place_in-b.result.0 c.place_in-b.result.1 c.run_length-len.result eb ek en c.touch_mut.ensures.header c.touch_mut.ensures.state (map value r) long c.part_mut.ensures.value (map value (over r x)) (length-map (over r x) value ∙ length-over r x ∙ c.part_mut.ensures.size))),
       record {
         writes_back = tt;
-        size = c.part_mut.ensures.size ∙ en;
-        beside = beside a w p lies at c.requires.step;
-        value = run_is a w p lies at c.requires.step c.touch_mut.new.self c.place_in-b.result.0 c.place_in-b.result.1 c.run_length-len.result eb ek en c.touch_mut.ensures.header c.touch_mut.ensures.state (map value r) long c.part_mut.ensures.value;
+        shows = record {
+          size = c.part_mut.ensures.size ∙ en;
+          beside = beside a w p lies at c.requires.step;
+          value_is = run_is a w p lies at c.requires.step c.touch_mut.new.self c.place_in-b.result.0 c.place_in-b.result.1 c.run_length-len.result eb ek en c.touch_mut.ensures.header c.touch_mut.ensures.state (map value r) long c.part_mut.ensures.value;
+        };
         state = λ vs size. run_state a w p lies at c.requires.step c.touch_mut.new.self c.place_in-b.result.0 c.place_in-b.result.1 c.run_length-len.result eb ek en c.touch_mut.ensures.header c.touch_mut.ensures.state (map value r) long c.part_mut.ensures.value vs (size ∙ sym en) (c.part_mut.ensures.state vs);
         header = header_run a (position_at w p);
       },

@@ -7,4 +7,4 @@ use Rattle.zf_view.proofs.view.View.set.Goals as goal
 pub set-requires : goal.set-requires
 set-requires g c =
     let now = c.args.self.now in
-    (lit< tt, subst (IsPosition (shape now.array.now)) (sym c.map.ensures) (position_at-inside (shape now.array.now) now.window c.args.p c.requires.lies c.requires.position))
+    (lit< tt, subst (IsPosition (shape now.array.now)) (sym c.map.ensures) (position_at-inside (shape now.array.now) now.window c.args.p c.requires.at.lies c.requires.at.position))
