@@ -15,14 +15,17 @@ use Rattle.zf_cached.specs.Arrays.{array_format}
 use Rattle.zf_cached.specs.Runs.{read_step}
 use Rattle.zf_cached.specs.State.{Counts}
 use Rattle.zf_cached.specs.Windows.{Window, LiesIn, mapped, sliced, has_place, positions, is_window, none_zero, lies_in}
-use Rattle.zf_cached.specs.Steps.{Setting, Session, touched, changed, changed_at, filled_below, summed, total, value_there, is_of_type, is_line_count, step, done}
+use Rattle.zf_cached.specs.Steps.{Setting, Session, touched, changed, changed_at, filled_below, summed, total, value_there, is_of_type, is_line_count, needs_split, refuses_size, refuses_range, refuses_value, takes_memory, step, done}
 use Rattle.zf_cached.proofs.Windows.{length-mapped, LiesIn-sliced}
 use Rattle.zf_window.specs.declared.window.ViewFault.{ViewFault}
 use Rattle.zf_window.specs.WindowFields.{view_fault}
 use Rattle.zf_script.specs.declared.command.Cmd.{Cmd}
+use Rattle.zf_commands.specs.declared.subject.Subject.{Ghosts as Subject}
+use Rattle.zf_commands.specs.Calls.{IsReady, Leads, Obeys}
 use Rattle.zf_commands.specs.Kinds.{asked}
-use Rattle.zf_commands.specs.Steps.{Does, HasWindow, Takes, starves}
-use Rattle.zf_commands.proofs.Stepping.{no_split, accepted}
+use Rattle.zf_commands.specs.Sittings.{place_in, block_in}
+use Rattle.zf_commands.specs.Steps.{Does, HasWindow, Takes, Touches, Changes, FillsAll, Sums, Performs, starves}
+use Rattle.zf_commands.proofs.Stepping.{no_split, refused_size, refused_range, refused_value, refused_memory, accepted}
 
 -- ---- tests
 
@@ -88,113 +91,152 @@ module _ {Code : Type 0} (setting : Setting Code) (cmd m : Cmd) (is : cmd ≡ m)
       subst (λ x. Takes setting s (asked s x) s (Some (Reply.refused Refusal.word))) (sym is)
       (ap (λ x. elim x [ true ↦ step setting s (asked s m) false | false ↦ (s, Some (Reply.refused Refusal.word)) ]) refused)
 
--- ---- commands that only read, in any setting
+-- ---- what commands do, whatever a script works on
 
-module _ {Code : Type 0} (setting : Setting Code) (s : Session Code) (lies : HasWindow s) (whole : s.split ≡ None) where
-  pub counted : (h m n : ℕ) → record { hits = h; misses = m; writes = n } ≡ s.state.counts → Does setting Command.stats s s (Some (Reply.counts h m n))
+module _ {A : Type 0} (S : Subject A) (a : A) (ready : IsReady S a) (whole : (S.session a).split ≡ None) where
+  abbrev setting : Setting S.Code
+  setting = S.setting (S.kept a)
+
+  abbrev s : Session S.Code
+  s = S.session a
+
+  -- a command that is refused changes nothing
+  refused : (c : Command) (reply : Option Reply) → Does setting c s s reply → Obeys S c reply a a
+  refused c reply does = record { does = does; sound = ready.sound; kept = refl }
+
+  module _ (c : Command) (none : needs_split c ≡ false) where
+    pub no_size : refuses_size setting s c ≡ true → Obeys S c (Some (Reply.refused Refusal.size)) a a
+    no_size size = refused c _ (refused_size setting c s ready.window (no_split s c whole none) size)
+
+    module _ (size : refuses_size setting s c ≡ false) where
+      pub no_range : refuses_range s c ≡ true → Obeys S c (Some (Reply.refused Refusal.range)) a a
+      no_range range = refused c _ (refused_range setting c s ready.window (no_split s c whole none) size range)
+
+      module _ (range : refuses_range s c ≡ false) where
+        pub no_value : refuses_value setting.width c ≡ true → Obeys S c (Some (Reply.refused Refusal.value)) a a
+        no_value value = refused c _ (refused_value setting c s ready.window (no_split s c whole none) size range value)
+
+        pub no_memory : refuses_value setting.width c ≡ false → takes_memory c ≡ true → Obeys S c (Some (Reply.refused Refusal.memory)) a a
+        no_memory value takes = refused c _ (refused_memory setting c s ready.window (no_split s c whole none) size range value takes)
+
+  pub counted : (h m n : ℕ) → record { hits = h; misses = m; writes = n } ≡ s.state.counts → Obeys S Command.stats (Some (Reply.counts h m n)) a a
   unfolding done
   counted h m n is =
-      accepted setting Command.stats s lies (no_split s Command.stats whole refl) refl refl refl s (Some (Reply.counts h m n)) refl
-      (ap (λ (k : Counts). (s, Some (Reply.counts k.hits k.misses k.writes))) (sym is)) lies
+      refused Command.stats _ (accepted setting Command.stats s ready.window (no_split s Command.stats whole refl) refl refl refl s (Some (Reply.counts h m n)) refl
+      (ap (λ (k : Counts). (s, Some (Reply.counts k.hits k.misses k.writes))) (sym is)) ready.window)
 
-  pub viewed : (origin size step : List ℕ) (u : Window) → u ≡ record { origin = origin; size = size; step = step } → LiesIn s.shape u → (t : Session Code) → record s { window = u } ≡ t
-      → Does setting (Command.view origin size step) s t None
-  unfolding done
-  viewed origin size step u is inside t ends =
-      accepted setting (Command.view origin size step) s lies (no_split s (Command.view origin size step) whole refl) (ap not (subst (λ x. is_window s.shape x ≡ true) is inside.inside)) refl refl t None refl
-      (ap (λ x. (record s { window = x }, None)) (sym is) ∙ ap (λ (x : Session Code). (x, None)) ends) (subst HasWindow ends inside)
+  module _ (b : A) where
+    abbrev t : Session S.Code
+    t = S.session b
 
-  pub cut : (axis at : ℕ) (u : Window) → has_place s.window axis at ≡ true → u ≡ sliced s.window axis at → (t : Session Code) → record s { window = u } ≡ t → Does setting (Command.slice axis at) s t None
-  unfolding done
-  cut axis at u there is t ends =
-      accepted setting (Command.slice axis at) s lies (no_split s (Command.slice axis at) whole refl) refl (ap not there) refl t None refl
-      (ap (λ x. (record s { window = x }, None)) (sym is) ∙ ap (λ (x : Session Code). (x, None)) ends)
-      (subst HasWindow ends (subst (LiesIn s.shape) (sym is) (LiesIn-sliced s.shape s.window axis at lies there)))
+    -- a command that passes all tests, and leads to this session
+    done_with : {P : Setting S.Code → Session S.Code → Session S.Code → Type 0} (c : Command) (reply : Option Reply) → needs_split c ≡ false → refuses_size setting s c ≡ false → refuses_range s c ≡ false
+        → refuses_value setting.width c ≡ false → starves reply ≡ false → Leads S P a b → done setting s c ≡ (t, reply) → HasWindow t → Obeys S c reply a b
+    done_with c reply none size range value fed told is inside =
+        record { does = accepted setting c s ready.window (no_split s c whole none) size range value t reply fed is inside; sound = told.sound; kept = told.kept }
 
-  -- a touch keeps the window in the array
-  stays : (k : ℕ) (t : Session Code) → touched setting s k ≡ t → HasWindow t
-  unfolding touched
-  stays k t is = subst HasWindow is lies
+    module _ (u : Window) (told : Leads S (λ k x y. record x { window = u } ≡ y) a b) where
+      -- another window
+      windowed : (c : Command) → needs_split c ≡ false → refuses_size setting s c ≡ false → refuses_range s c ≡ false → refuses_value setting.width c ≡ false
+          → done setting s c ≡ (record s { window = u }, None) → LiesIn s.shape u → Obeys S c None a b
+      windowed c none size range value is inside = done_with c None none size range value refl told (is ∙ ap (λ (x : Session S.Code). (x, None)) told.does) (subst HasWindow told.does inside)
 
-  module _ (t : Session Code) where
-    pub got : (p : Pos) → IsPosition s.shape p → (n : ℤ) → touched setting s (block_number s.shape (used_axes (length s.shape) p)) ≡ t
-        → n ≡ value_there (used_axes (length s.shape) p) (t.state.values (block_number s.shape (used_axes (length s.shape) p)))
-        → Does setting (Command.get (used_axes (length s.shape) p)) s t (Some (Reply.number n))
-    unfolding done
-    got p at n touches value =
-        let ps = used_axes (length s.shape) p in
-        let k = block_number s.shape ps in
-        accepted setting (Command.get ps) s lies (no_split s (Command.get ps) whole refl) refl (ap not at.inside) refl t (Some (Reply.number n)) refl
-        (ap (λ (x : Session Code). (x, Some (Reply.number (value_there ps (x.state.values k))))) touches ∙ ap (λ m. (t, Some (Reply.number m))) (sym value))
-        (stays k t touches)
-
-    -- position r of the array is position p of the window
-    pub got_there : IsShape s.shape → (p : Pos) → IsPosition s.window.size p → (r : Pos) (n : ℤ) → r ≡ with_unused 0 (mapped s.window (used_axes (length s.window.size) p))
-        → touched setting s (block_number s.shape (used_axes (length s.shape) r)) ≡ t
-        → n ≡ value_there (used_axes (length s.shape) r) (t.state.values (block_number s.shape (used_axes (length s.shape) r)))
-        → Does setting (Command.vget (used_axes (length s.shape) p)) s t (Some (Reply.number n))
-    unfolding done
-    got_there sizes p at r n same touches value =
-        let ps = used_axes (length s.shape) p in
-        let Get : List ℕ → Session Code × Option Reply = λ ms. let k = block_number s.shape ms in let x = touched setting s k in (x, Some (Reply.number (value_there ms (x.state.values k)))) in
-        let rs = used_axes (length s.shape) r in
-        let k = block_number s.shape rs in
-        let is_r : rs ≡ mapped s.window ps = ap (used_axes (length s.shape)) same ∙ numbers_there s.shape s.window sizes lies p in
-        accepted setting (Command.vget ps) s lies (no_split s (Command.vget ps) whole refl) refl (ap not (within s.shape s.window lies p at)) refl t (Some (Reply.number n)) refl
-        (ap Get (sym is_r) ∙ ap (λ (x : Session Code). (x, Some (Reply.number (value_there rs (x.state.values k))))) touches ∙ ap (λ m. (t, Some (Reply.number m))) (sym value))
-        (stays k t touches)
-
-    module _ (inside : HasWindow t) (n m : ℤ) (same : n ≡ m) where
-      pub sum_is : summed setting (λ b. b) (λ b values. total values) (upto (blocks s.shape)) s ≡ (t, m) → Does setting Command.sum s t (Some (Reply.number n))
-      unfolding done array_format
-      sum_is sums =
-          accepted setting Command.sum s lies (no_split s Command.sum whole refl) refl refl refl t (Some (Reply.number n)) refl
-          (ap (λ (r : Session Code × ℤ). (r.0, Some (Reply.number r.1))) sums ∙ ap (λ x. (t, Some (Reply.number x))) (sym same)) inside
-
-      pub vsum_is : summed setting (block_number s.shape) value_there (positions s.window) s ≡ (t, m) → Does setting Command.vsum s t (Some (Reply.number n))
+      pub viewed : (origin size step : List ℕ) → u ≡ record { origin = origin; size = size; step = step } → LiesIn s.shape u → Obeys S (Command.view origin size step) None a b
       unfolding done
-      vsum_is sums =
-          accepted setting Command.vsum s lies (no_split s Command.vsum whole refl) refl refl refl t (Some (Reply.number n)) refl
-          (ap (λ (r : Session Code × ℤ). (r.0, Some (Reply.number r.1))) sums ∙ ap (λ x. (t, Some (Reply.number x))) (sym same)) inside
+      viewed origin size step is inside =
+          windowed (Command.view origin size step) refl (ap not (subst (λ x. is_window s.shape x ≡ true) is inside.inside)) refl refl (ap (λ x. (record s { window = x }, None)) (sym is)) inside
 
-    pub lined : (n : ℕ) → is_line_count n ≡ true → done setting s (Command.lines n) ≡ (t, None) → Does setting (Command.lines n) s t None
-    unfolding done
-    lined n counts is =
-        accepted setting (Command.lines n) s lies (no_split s (Command.lines n) whole refl) (ap not counts) refl refl t None refl is (subst HasWindow (ap (λ (r : Session Code × Option Reply). r.0) is) lies)
+      pub cut : (axis at : ℕ) → has_place s.window axis at ≡ true → u ≡ sliced s.window axis at → Obeys S (Command.slice axis at) None a b
+      unfolding done
+      cut axis at there is =
+          windowed (Command.slice axis at) refl refl (ap not there) refl (ap (λ x. (record s { window = x }, None)) (sym is)) (subst (LiesIn s.shape) (sym is) (LiesIn-sliced s.shape s.window axis at ready.window there))
+
+    -- a touch keeps the window in the array
+    touch_stays : (k : ℕ) → touched setting s k ≡ t → HasWindow t
+    unfolding touched
+    touch_stays k is = subst HasWindow is ready.window
+
+    -- position r of the array, by one touch
+    module _ (r : Pos) (n : ℤ) (told : Leads S (λ k x y. Touches k (block_in x r) x y) a b) (value : n ≡ value_there (place_in s r) (t.state.values (block_in s r))) where
+      pub got : IsPosition s.shape r → Obeys S (Command.get (place_in s r)) (Some (Reply.number n)) a b
+      unfolding done
+      got at =
+          let ps = place_in s r in
+          let k = block_in s r in
+          done_with (Command.get ps) (Some (Reply.number n)) refl refl (ap not at.inside) refl refl told
+          (ap (λ (x : Session S.Code). (x, Some (Reply.number (value_there ps (x.state.values k))))) told.does ∙ ap (λ m. (t, Some (Reply.number m))) (sym value)) (touch_stays k told.does)
+
+      -- it is position p of the window
+      pub got_there : IsShape s.shape → (p : Pos) → IsPosition s.window.size p → r ≡ with_unused 0 (mapped s.window (used_axes (length s.window.size) p)) → Obeys S (Command.vget (place_in s p)) (Some (Reply.number n)) a b
+      unfolding done
+      got_there sizes p at same =
+          let ps = place_in s p in
+          let Get : List ℕ → Session S.Code × Option Reply = λ ms. let k = block_number s.shape ms in let x = touched setting s k in (x, Some (Reply.number (value_there ms (x.state.values k)))) in
+          let rs = place_in s r in
+          let k = block_in s r in
+          let is_r : rs ≡ mapped s.window ps = ap (used_axes (length s.shape)) same ∙ numbers_there s.shape s.window sizes ready.window p in
+          done_with (Command.vget ps) (Some (Reply.number n)) refl refl (ap not (within s.shape s.window ready.window p at)) refl refl told
+          (ap Get (sym is_r) ∙ ap (λ (x : Session S.Code). (x, Some (Reply.number (value_there rs (x.state.values k))))) told.does ∙ ap (λ m. (t, Some (Reply.number m))) (sym value))
+          (touch_stays k told.does)
+
+    module _ (n m : ℤ) (same : n ≡ m) where
+      pub sum_is : Leads S (λ k x y. Sums k (λ b. b) (λ b values. total values) (upto (blocks x.shape)) x y m) a b → Obeys S Command.sum (Some (Reply.number n)) a b
+      unfolding done array_format
+      sum_is told =
+          done_with Command.sum (Some (Reply.number n)) refl refl refl refl refl told
+          (ap (λ (r : Session S.Code × ℤ). (r.0, Some (Reply.number r.1))) told.does.sum_is ∙ ap (λ x. (t, Some (Reply.number x))) (sym same)) (subst HasWindow (sym told.does.stays) ready.window)
+
+      pub vsum_is : Leads S (λ k x y. Sums k (block_number x.shape) value_there (positions x.window) x y m) a b → Obeys S Command.vsum (Some (Reply.number n)) a b
+      unfolding done
+      vsum_is told =
+          done_with Command.vsum (Some (Reply.number n)) refl refl refl refl refl told
+          (ap (λ (r : Session S.Code × ℤ). (r.0, Some (Reply.number r.1))) told.does.sum_is ∙ ap (λ x. (t, Some (Reply.number x))) (sym same)) (subst HasWindow (sym told.does.stays) ready.window)
 
     -- ---- commands that change it
 
     -- a change keeps the window in the array
-    changed_stays : (ps : List ℕ) (change : ℤ → ℤ) → changed_at setting s ps change ≡ t → HasWindow t
+    change_stays : (ps : List ℕ) (change : ℤ → ℤ) → changed_at setting s ps change ≡ t → HasWindow t
     unfolding changed_at changed touched
-    changed_stays ps change is = subst HasWindow is lies
+    change_stays ps change is = subst HasWindow is ready.window
 
-    module _ (p : Pos) (at : IsPosition s.shape p) (n m : ℤ) (same : m ≡ n) (of_type : is_of_type setting.width n ≡ true) where
-      abbrev ps : List ℕ
-      ps = used_axes (length s.shape) p
+    module _ (n m : ℤ) (same : m ≡ n) (of_type : is_of_type setting.width n ≡ true) where
+      module _ (p : Pos) (at : IsPosition s.shape p) where
+        pub put : Leads S (λ k x y. Changes k (place_in x p) (λ old. m) x y) a b → Obeys S (Command.set (place_in s p) n) None a b
+        unfolding done
+        put told =
+            let ps = place_in s p in
+            done_with (Command.set ps n) None refl refl (ap not at.inside) (ap not of_type) refl told
+            (ap (λ (x : Session S.Code). (x, None)) (ap (λ x. changed_at setting s ps (λ old. x)) (sym same) ∙ told.does)) (change_stays ps (λ old. m) told.does)
 
-      pub put : changed_at setting s ps (λ old. m) ≡ t → Does setting (Command.set ps n) s t None
-      unfolding done
-      put changes =
-          accepted setting (Command.set ps n) s lies (no_split s (Command.set ps n) whole refl) refl (ap not at.inside) (ap not of_type) t None refl
-          (ap (λ (x : Session Code). (x, None)) (ap (λ x. changed_at setting s ps (λ old. x)) (sym same) ∙ changes)) (changed_stays ps (λ old. m) changes)
+        pub added : (w : Width) → setting.width ≡ w → Leads S (λ k x y. Changes k (place_in x p) (λ old. wrap w (old +ℤ m)) x y) a b → Obeys S (Command.add (place_in s p) n) None a b
+        unfolding done
+        added w width told =
+            let ps = place_in s p in
+            done_with (Command.add ps n) None refl refl (ap not at.inside) (ap not of_type) refl told
+            (ap (λ (x : Session S.Code). (x, None)) ((λ i. changed_at setting s ps (λ old. wrap (width i) (old +ℤ sym same i))) ∙ told.does)) (change_stays ps (λ old. wrap w (old +ℤ m)) told.does)
 
-      pub added : (w : Width) → setting.width ≡ w → changed_at setting s ps (λ old. wrap w (old +ℤ m)) ≡ t → Does setting (Command.add ps n) s t None
-      unfolding done
-      added w width changes =
-          accepted setting (Command.add ps n) s lies (no_split s (Command.add ps n) whole refl) refl (ap not at.inside) (ap not of_type) t None refl
-          (ap (λ (x : Session Code). (x, None)) ((λ i. changed_at setting s ps (λ old. wrap (width i) (old +ℤ sym same i))) ∙ changes)) (changed_stays ps (λ old. wrap w (old +ℤ m)) changes)
+      pub filled : Leads S (λ k x y. FillsAll k m x y) a b → Obeys S (Command.fill n) None a b
+      unfolding done array_format
+      filled told =
+          done_with (Command.fill n) None refl refl refl (ap not of_type) refl told
+          (ap (λ (x : Session S.Code). (x, None)) (ap (λ x. filled_below setting s x (upto (blocks s.shape))) (sym same) ∙ told.does.filled)) (subst HasWindow (sym told.does.stays) ready.window)
 
-    pub filled : HasWindow t → (n m : ℤ) → m ≡ n → is_of_type setting.width n ≡ true → filled_below setting s m (upto (blocks s.shape)) ≡ t → Does setting (Command.fill n) s t None
-    unfolding done array_format
-    filled inside n m same of_type fills =
-        accepted setting (Command.fill n) s lies (no_split s (Command.fill n) whole refl) refl refl (ap not of_type) t None refl
-        (ap (λ (x : Session Code). (x, None)) (ap (λ x. filled_below setting s x (upto (blocks s.shape))) (sym same) ∙ fills)) inside
+    -- ---- commands on the cache
 
-    pub flushed : done setting s Command.flush ≡ (t, None) → Does setting Command.flush s t None
+    -- a command that passes all tests, and keeps the window
+    module _ (c : Command) (none : needs_split c ≡ false) (size : refuses_size setting s c ≡ false) (range : refuses_range s c ≡ false) (value : refuses_value setting.width c ≡ false)
+        (keeps : HasWindow (done setting s c).0) (told : Leads S (λ k x y. Performs k c x y) a b) where
+      pub performed : Obeys S c None a b
+      performed = done_with c None none size range value refl told told.does (subst HasWindow (ap (λ (r : Session S.Code × Option Reply). r.0) told.does) keeps)
+
+    pub lined : (n : ℕ) → is_line_count n ≡ true → Leads S (λ k x y. Performs k (Command.lines n) x y) a b → Obeys S (Command.lines n) None a b
     unfolding done
-    flushed is = accepted setting Command.flush s lies (no_split s Command.flush whole refl) refl refl refl t None refl is (subst HasWindow (ap (λ (r : Session Code × Option Reply). r.0) is) lies)
+    lined n counts told = performed (Command.lines n) refl (ap not counts) refl refl ready.window told
 
-    pub discarded : done setting s Command.discard ≡ (t, None) → Does setting Command.discard s t None
+    pub flushed : Leads S (λ k x y. Performs k Command.flush x y) a b → Obeys S Command.flush None a b
     unfolding done
-    discarded is = accepted setting Command.discard s lies (no_split s Command.discard whole refl) refl refl refl t None refl is (subst HasWindow (ap (λ (r : Session Code × Option Reply). r.0) is) lies)
+    flushed told = performed Command.flush refl refl refl refl ready.window told
+
+    pub discarded : Leads S (λ k x y. Performs k Command.discard x y) a b → Obeys S Command.discard None a b
+    unfolding done
+    discarded told = performed Command.discard refl refl refl refl ready.window told

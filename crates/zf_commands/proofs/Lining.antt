@@ -8,6 +8,8 @@ use Rattle.zf_cached.specs.Runs.{line_step, read_step}
 use Rattle.zf_script.specs.declared.reply.Refusal.{Refusal}
 use Rattle.zf_script.specs.declared.reply.Refusal.TheVariants.{Word}
 use Rattle.zf_script.specs.Seen.{refusal_of}
+use Rattle.zf_commands.specs.declared.subject.Subject.{Ghosts as Subject}
+use Rattle.zf_commands.specs.Calls.{IsReady, StaysReady, Obeys}
 use Rattle.zf_commands.specs.Steps.{Takes, LeadsTo, starves}
 
 module _ {Code : Type 0} (setting : Setting Code) (s : Session Code) where
@@ -36,3 +38,14 @@ module _ {Code : Type 0} (setting : Setting Code) (s : Session Code) where
 pub some_bytes : (n : ℕ) → (n == 0) ≡ false → 0 < n
 some_bytes zero e = absurd (cc)
 some_bytes (suc n) e = omega arith
+
+-- what is ready stays so where nothing was done, behind a command, and behind one call and another
+module _ {A : Type 0} {S : Subject A} {a : A} where
+  pub unmoved : IsReady S a → StaysReady S a a
+  unmoved ready = record { ready = ready; kept = refl }
+
+  pub obeyed : {b : A} {c : Command} {reply : Option script.Reply} → Obeys S c reply a b → StaysReady S a b
+  obeyed told = record { ready = record { sound = told.sound; window = told.does.inside }; kept = told.kept }
+
+  pub ready_then : {b c : A} → StaysReady S a b → StaysReady S b c → StaysReady S a c
+  ready_then first next = record { ready = next.ready; kept = next.kept ∙ first.kept }

@@ -1,5 +1,5 @@
 -- Passes over all blocks, and sums of the values of one.
-use Rattle.std.proofs.Common.{◌≡◌, refl, sym, ap, subst, ◌∙◌, ℕ, zero, suc, ◌+◌, ◌-◌, ◌*◌, ◌<◌, ◌≤◌, ◌^◌, ℤ, pos, negsuc, ◌+ℤ◌, List, [], ◌∷◌, ◌++◌, map, length, take, drop, replicate, get_or, FitsSigned, to_z, of_z, if◌then◌else◌, arith}
+use Rattle.std.proofs.Common.{◌≡◌, refl, sym, ap, subst, ◌∙◌, ℕ, zero, suc, ◌+◌, ◌-◌, ◌*◌, ◌<◌, ◌≤◌, ◌^◌, ℤ, pos, ◌+ℤ◌, List, [], ◌∷◌, ◌++◌, map, length, take, drop, replicate, get_or, FitsSigned, to_z, of_z, if◌then◌else◌, arith}
 use Rattle.std.specs.Int.{w128}
 use Rattle.std.specs.List.{refill}
 use Rattle.std.proofs.lemmas.Int.{ints, to_z-of_z}
@@ -18,7 +18,9 @@ use Rattle.zf_base.specs.declared.position.Extent.{Extent}
 use Rattle.zf_base.specs.Positions.{axes, used_axes, IsExtent}
 use Rattle.zf_pad.specs.Layouts.{place_indices}
 use Rattle.zf_pad.proofs.Existing.{has_place}
-use Rattle.zf_commands.specs.Sums.{IsUpTo, value_within, within}
+use Rattle.zf_window.specs.Bounds.{IsUpTo}
+use Rattle.zf_window.proofs.Bounds.{up_to_fits}
+use Rattle.zf_commands.specs.Sums.{value_within, within}
 
 -- a list of one value alone
 pub all_alike : {X : Type 0} (xs : List X) (v : X) → ((k : ℕ) → k < length xs → get_or xs k v ≡ v) → xs ≡ replicate (length xs) v
@@ -64,11 +66,6 @@ up_to_more step n s x sum one =
 
 pub up_to_less : (m n : ℕ) (s : ℤ) → m ≤ n → IsUpTo m s → IsUpTo n s
 up_to_less m n s le h = (omega (arith, ints, h.0, le), omega (arith, ints, h.1, le))
-
--- and fit
-pub up_to_fits : (s : ℤ) → IsUpTo (2 ^ 100) s → FitsSigned w128 s
-up_to_fits (pos n) h = record { sfits = omega (arith, ints, h.0, h.1) }
-up_to_fits (negsuc n) h = record { sfits = omega (arith, ints, h.0, h.1) }
 
 -- the sum of two numbers of 128 bits
 module _ (bits : ℕ) (x : ℤ) where

@@ -1,13 +1,8 @@
 -- Values as numbers of 128 bits.
-use Rattle.std.proofs.Common.{◌≡◌, ◌⊎◌, inl, inr, ◌↔◌, ap, subst, ◌∙◌, ◌^◌, ℤ, pos, negsuc, FitsSigned, to_z, of_z, arith}
+use Rattle.std.proofs.Common.{◌≡◌, ◌⊎◌, ◌↔◌, ap, ◌∙◌, ℤ, pos, negsuc, FitsSigned, to_z, of_z, arith}
 use Rattle.std.specs.Int.{Width, w32, w64, w128}
 use Rattle.std.proofs.lemmas.Int.{ints, to_z-of_z}
-use Rattle.zf_commands.specs.Sums.{IsUpTo}
-
-fits : (w : Width) → (w ≡ w32) ⊎ (w ≡ w64) → (z : ℤ) → FitsSigned w z → FitsSigned w64 z
-fits w (inl e) (pos n) h = let f : FitsSigned w32 (pos n) = subst (λ u. FitsSigned u (pos n)) e h in let k = f.sfits in record { sfits = omega (arith, ints) }
-fits w (inl e) (negsuc n) h = let f : FitsSigned w32 (negsuc n) = subst (λ u. FitsSigned u (negsuc n)) e h in let k = f.sfits in record { sfits = omega (arith, ints) }
-fits w (inr e) z h = subst (λ u. FitsSigned u z) e h
+use Rattle.zf_window.proofs.Bounds.{fits_long}
 
 fits_wide : (z : ℤ) → FitsSigned w64 z → FitsSigned w128 z
 fits_wide (pos n) h = let k = h.sfits in record { sfits = omega (arith, ints) }
@@ -15,8 +10,4 @@ fits_wide (negsuc n) h = let k = h.sfits in record { sfits = omega (arith, ints)
 
 -- a value is the number of 128 bits that is made of it
 pub wide : (w : Width) → (w ≡ w32) ⊎ (w ≡ w64) → (n z : ℤ) → n ≡ z → {P : Type 0} → P ↔ FitsSigned w z → P → to_z w128 (of_z w128 n) ≡ z
-wide w two n z is same there = ap (λ m. to_z w128 (of_z w128 m)) is ∙ to_z-of_z w128 z (fits_wide z (fits w two z (same.0 there)))
-
-up_to : (z : ℤ) → FitsSigned w64 z → IsUpTo (2 ^ 63) z
-up_to (pos n) h = let k = h.sfits in (omega (arith, ints), omega (arith, ints))
-up_to (negsuc n) h = let k = h.sfits in (omega (arith, ints), omega (arith, ints))
+wide w two n z is same there = ap (λ m. to_z w128 (of_z w128 m)) is ∙ to_z-of_z w128 z (fits_wide z (fits_long w two z (same.0 there)))

@@ -12,7 +12,8 @@ abbrev pub refuses : Option Reply → Bool
 refuses None = false
 refuses (Some reply) = is_refusal reply
 
-module _ {Code : Type 0} (setting : Setting Code) (before : Session Code) (line : List ℕ) (now : Session Code) (old new : Option (List ℕ)) where
+module _ {Code : Type 0} (setting : Setting Code) (before : Session Code) (line : List ℕ) (now : Session Code)
+    (old new : Option (List ℕ)) where
   -- the line was run and its reply, if any, was written; this tells whether it was refused
   pub record Replies (refused : Bool) : Type 0 where
     pub reply : Option Reply

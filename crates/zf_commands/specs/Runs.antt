@@ -1,5 +1,6 @@
 -- Lines one after the other. What a sink exposes of its bytes is `Some`, else `None`.
-use Rattle.std.specs.Prelude.{ℕ, suc, ◌≡◌, ◌+◌, ◌<◌, ◌==◌, Bool, true, false, List, [], ◌∷◌, ◌++◌, length, take, count_by, Option}
+use Rattle.std.specs.Prelude.{ℕ, suc, ◌≡◌, ◌+◌, ◌<◌, ◌==◌, Bool, true, false, List, [], ◌∷◌, ◌++◌}
+use Rattle.std.specs.Prelude.{length, take, count_by, Option}
 use Rattle.std.specs.List.{list_any}
 use Rattle.zf_dev.specs.Sink.{Appends}
 use Rattle.zf_cached.specs.Replies.{Reply, reply_text}
@@ -12,9 +13,10 @@ abbrev pub number_if : Bool → ℕ → List ℕ
 number_if true k = k ∷ []
 number_if false k = []
 
--- the numbers of the lines that answer `! memory`, of lines that are run one after the other, the first of them number k of the script,
--- where the lines with these numbers are out of memory
-unfoldable pub starved_lines : {Code : Type 0} → Setting Code → List ℕ → ℕ → List (List ℕ) → Session Code → List ℕ
+-- the numbers of the lines that answer `! memory`, of lines that are run one after the other, the first of
+-- them number k of the script, where the lines with these numbers are out of memory
+unfoldable pub starved_lines : {Code : Type 0} → Setting Code → List ℕ → ℕ → List (List ℕ) → Session Code
+    → List ℕ
 starved_lines setting starved k [] s = []
 starved_lines setting starved k (line ∷ lines) s =
     let one = line_step setting s line (list_any (λ n. n == k) starved) in
@@ -36,7 +38,8 @@ module _ {Code : Type 0} (setting : Setting Code) (starved script : List ℕ) (s
     pub refused_is : refused ≡ count_by is_refusal (run_lines setting starved 0 (lines_of script) start).1
     pub written : Appends old new (replies_text (run_lines setting starved 0 (lines_of script) start).1)
 
-  -- the line with this number was run, and its reply was not written whole: what was written are the replies before it, and a part of it
+  -- the line with this number was run, and its reply was not written whole: what was written are the replies
+  -- before it, and a part of it
   pub record StopsAt (now : Session Code) (old new : Option (List ℕ)) : Type 0 where
     pub at : ℕ
     pub below : at < length (lines_of script)
@@ -49,9 +52,13 @@ module _ {Code : Type 0} (setting : Setting Code) (starved script : List ℕ) (s
     pub written : Appends old new (replies_text (run_prefix at).1 ++ take count (reply_text reply))
 
 -- all lines were run, of which some were out of memory
-abbrev pub AllRun : {Code : Type 0} → Setting Code → List ℕ → Session Code → Session Code → Option (List ℕ) → Option (List ℕ) → ℕ → Type 0
-AllRun setting script start now old new refused = (starved : List ℕ) × RunsAll setting starved script start now old new refused
+abbrev pub AllRun : {Code : Type 0} → Setting Code → List ℕ → Session Code → Session Code → Option (List ℕ)
+    → Option (List ℕ) → ℕ → Type 0
+AllRun setting script start now old new refused =
+    (starved : List ℕ) × RunsAll setting starved script start now old new refused
 
 -- a line was the last one, of which some were out of memory
-abbrev pub HasStopped : {Code : Type 0} → Setting Code → List ℕ → Session Code → Session Code → Option (List ℕ) → Option (List ℕ) → Type 0
-HasStopped setting script start now old new = (starved : List ℕ) × StopsAt setting starved script start now old new
+abbrev pub HasStopped : {Code : Type 0} → Setting Code → List ℕ → Session Code → Session Code
+    → Option (List ℕ) → Option (List ℕ) → Type 0
+HasStopped setting script start now old new =
+    (starved : List ℕ) × StopsAt setting starved script start now old new

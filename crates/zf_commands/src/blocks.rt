@@ -4,10 +4,11 @@ ghost use Rattle.std.specs.Prelude.{◌≡◌, ◌<◌, ◌≤◌, ◌^◌, map,
 ghost use Rattle.zf_spec.specs.Grid.{upto, blocks, is_inside, indices};
 ghost use Rattle.zf_base.specs.Positions.{axes};
 ghost use Rattle.zf_cached.specs.Commands.{Command};
-ghost use Rattle.zf_cached.specs.Steps.{filled_below, summed, total};
-ghost use Rattle.zf_commands.specs.Sittings.{OnState};
-ghost use Rattle.zf_commands.specs.Sums.{value_within, within, IsUpTo};
-ghost use Rattle.zf_commands.specs.Steps.{HasWindow, Does, said};
+ghost use Rattle.zf_cached.specs.Steps.{total};
+ghost use Rattle.zf_window.specs.Bounds.{IsUpTo};
+ghost use Rattle.zf_commands.specs.Sums.{value_within, within};
+ghost use Rattle.zf_commands.specs.Calls.{IsReady, Leads, Obeys};
+ghost use Rattle.zf_commands.specs.Steps.{FillsAll, Sums, said};
 
 use crate::target::{Changing, Target};
 use crate::values::of_type;
@@ -16,11 +17,8 @@ use zf_script::{Refusal, Reply};
 
 /// `fill v`: makes all values be `v`.
 pub(crate) fn fill<T: Lane, A: Changing<T>>(a: &mut A, v: i128) -> Option<Reply>
-    requires sound { A.sound a.old }
-    requires window { HasWindow (A.session a.old) }
-    ensures does { Does (A.setting (A.kept a.old)) (Command.fill v) (A.session a.old) (A.session a.new) (said result) }
-    ensures sound { A.sound a.new }
-    ensures kept { A.kept a.new ≡ A.kept a.old }
+    requires { IsReady A.Subject a.old }
+    ensures { Obeys A.Subject (Command.fill v) (said result) a.old a.new }
 {
     let Some(v) = of_type::<T>(v) else {
         return Some(Reply::Refused(Refusal::Value));
@@ -29,24 +27,10 @@ pub(crate) fn fill<T: Lane, A: Changing<T>>(a: &mut A, v: i128) -> Option<Reply>
     None
 }
 
-/// `sum`: the sum of all values.
-pub(crate) fn sum<A: Target>(a: &mut A) -> Option<Reply>
-    requires sound { A.sound a.old }
-    requires window { HasWindow (A.session a.old) }
-    ensures does { Does (A.setting (A.kept a.old)) Command.sum (A.session a.old) (A.session a.new) (said result) }
-    ensures sound { A.sound a.new }
-    ensures kept { A.kept a.new ≡ A.kept a.old }
-{
-    Some(Reply::Number(sum_blocks(a)))
-}
-
 // Makes all values of each block be `v`, by one touch for writing.
 fn fill_blocks<T: Lane, A: Changing<T>>(a: &mut A, v: T)
     requires { A.sound a.old }
-    ensures filled { filled_below (A.setting (A.kept a.old)) (A.session a.old) (T.value v) (upto (blocks (A.session a.old).shape)) ≡ A.session a.new }
-    ensures stays { OnState (A.session a.old) (A.session a.new) }
-    ensures sound { A.sound a.new }
-    ensures kept { A.kept a.new ≡ A.kept a.old }
+    ensures { Leads A.Subject (λ k s t. FillsAll k (T.value v) s t) a.old a.new }
 {
     for b in 0..a.sizes().blocks() {
         a.fill_block(b, v);
@@ -62,15 +46,12 @@ pub fn fill_line<T: Lane>(line: &mut [T], v: T)
     }
 }
 
-// The sum of all values as the touches of their blocks find them. At most 2^27 blocks of 256 values of 64 bits have a sum far below 2^127.
-fn sum_blocks<A: Target>(a: &mut A) -> i128
+/// The sum of all values as the touches of their blocks find them. At most 2^27 blocks of 256 values of 64
+/// bits have a sum far below 2^127.
+pub(crate) fn sum_blocks<A: Target>(a: &mut A) -> i128
     requires { A.sound a.old }
-    ensures sum { summed (A.setting (A.kept a.old)) (λ b. b) (λ b values. total values) (upto (blocks (A.session a.old).shape))
-        (A.session a.old) ≡ (A.session a.new, result) }
-    ensures bound { IsUpTo (2 ^ 100) result }
-    ensures stays { OnState (A.session a.old) (A.session a.new) }
-    ensures sound { A.sound a.new }
-    ensures kept { A.kept a.new ≡ A.kept a.old }
+    ensures { Leads A.Subject
+        (λ k s t. Sums k (λ b. b) (λ b values. total values) (upto (blocks s.shape)) s t result) a.old a.new }
 {
     let mut sum = 0;
     for b in 0..a.sizes().blocks() {
@@ -104,7 +85,8 @@ fn value_within<T: Lane>(block: &[T], size: &Pos, place: usize) -> i128
     block[place].to_wide()
 }
 
-// Whether a place lies within these sizes. A place has the digits of its number in base 4 as indices, x lowest.
+// Whether a place lies within these sizes. A place has the digits of its number in base 4 as indices, x
+// lowest.
 fn is_within(size: &Pos, place: u64) -> bool
     ensures { result ≡ is_inside (axes size.now) (indices 4 place) }
 {

@@ -1,4 +1,5 @@
-//! The commands of scripts, on any array that can do what they ask for: each line is a step of an array and a window, and its reply is written as it comes.
+//! The commands of scripts, on any array that can do what they ask for: each line is a step of an array and a
+//! window, and its reply is written as it comes.
 #![tactic(auto)]
 
 mod blocks;
@@ -7,6 +8,7 @@ mod commands;
 mod kinds;
 pub mod laws;
 mod lines;
+mod subject;
 mod target;
 mod values;
 mod windows;
@@ -15,5 +17,6 @@ pub use blocks::{fill_line, sum_within};
 pub use commands::{look_through, read, write};
 pub use kinds::{ArrayCmd, Kind, ReadCmd, ViewCmd, WindowCmd, WriteCmd, kind_of};
 pub use lines::run_lines;
-pub use target::{Changing, Scripted, Subject, Target};
+pub use subject::Subject;
+pub use target::{Changing, Scripted, Target};
 pub use values::of_type;

@@ -3,7 +3,8 @@
 ghost use Rattle.std.specs.Prelude.{◌≡◌, ◌<◌, [], ◌∷◌, length, IfSome, IfNone, IfOk, OnErr, OnOk, IsErr};
 ghost use Rattle.zf_dev.specs.Faults.{HasCause};
 ghost use Rattle.zf_cached.specs.Runs.{lines_of};
-ghost use Rattle.zf_commands.specs.Steps.{HasWindow, LeadsTo, said};
+ghost use Rattle.zf_commands.specs.Calls.{IsReady, StaysReady};
+ghost use Rattle.zf_commands.specs.Steps.{LeadsTo, said};
 ghost use Rattle.zf_commands.specs.Lines.{Replies, Breaks};
 ghost use Rattle.zf_commands.specs.Runs.{AllRun, HasStopped};
 
@@ -28,15 +29,12 @@ pub(crate) fn run_line<A: Scripted, O: Sink>(
     line: &[u8],
     out: &mut O,
 ) -> Result<bool, Failed>
-    requires sound { A.sound a.old }
-    requires window { HasWindow (A.session a.old) }
+    requires { IsReady A.Subject a.old }
     ensures ok { IfOk result (Replies (A.setting (A.kept a.old)) (A.session a.old) line.now
         (A.session a.new) (O.contents out.old) (O.contents out.new)) }
     ensures err { OnErr result (Breaks (A.setting (A.kept a.old)) (A.session a.old) line.now
         (A.session a.new) (O.contents out.old) (O.contents out.new)) }
-    ensures window { HasWindow (A.session a.new) }
-    ensures sound { A.sound a.new }
-    ensures kept { A.kept a.new ≡ A.kept a.old }
+    ensures stays { StaysReady A.Subject a.old a.new }
     ensures unchanged { OnOk result (O.faults out.new ≡ O.faults out.old) }
     ensures cause { HasCause (IsErr result) (O.faults out.old) (O.faults out.new) }
 {
@@ -50,13 +48,10 @@ pub(crate) fn run_line<A: Scripted, O: Sink>(
 
 // What a line leads to, and its reply, if any. An empty line has none.
 fn reply_to<A: Scripted>(a: &mut A, line: &[u8]) -> Option<Reply>
-    requires sound { A.sound a.old }
-    requires window { HasWindow (A.session a.old) }
+    requires { IsReady A.Subject a.old }
     ensures step { LeadsTo (A.setting (A.kept a.old)) (A.session a.old) line.now
         (A.session a.new) (said result) }
-    ensures window { HasWindow (A.session a.new) }
-    ensures sound { A.sound a.new }
-    ensures kept { A.kept a.new ≡ A.kept a.old }
+    ensures stays { StaysReady A.Subject a.old a.new }
 {
     if line.is_empty() {
         return None;
@@ -69,15 +64,12 @@ fn reply_to<A: Scripted>(a: &mut A, line: &[u8]) -> Option<Reply>
 
 /// Runs all lines, each on what those before left, and counts those that are refused.
 pub fn run_lines<A: Scripted, O: Sink>(a: &mut A, script: &[u8], out: &mut O) -> Result<u64, Failed>
-    requires sound { A.sound a.old }
-    requires window { HasWindow (A.session a.old) }
+    requires { IsReady A.Subject a.old }
     ensures ok { IfOk result (AllRun (A.setting (A.kept a.old)) script.now (A.session a.old)
         (A.session a.new) (O.contents out.old) (O.contents out.new)) }
     ensures err { OnErr result (HasStopped (A.setting (A.kept a.old)) script.now (A.session a.old)
         (A.session a.new) (O.contents out.old) (O.contents out.new)) }
-    ensures window { HasWindow (A.session a.new) }
-    ensures sound { A.sound a.new }
-    ensures kept { A.kept a.new ≡ A.kept a.old }
+    ensures stays { StaysReady A.Subject a.old a.new }
     ensures unchanged { OnOk result (O.faults out.new ≡ O.faults out.old) }
     ensures cause { HasCause (IsErr result) (O.faults out.old) (O.faults out.new) }
 {

@@ -5,7 +5,8 @@ ghost use Rattle.zf_base.specs.Positions.{with_unused};
 ghost use Rattle.zf_cached.specs.Commands.{Command};
 ghost use Rattle.zf_cached.specs.Steps.{is_of_type};
 ghost use Rattle.zf_commands.specs.Sittings.{place_in};
-ghost use Rattle.zf_commands.specs.Steps.{HasWindow, Does, said};
+ghost use Rattle.zf_commands.specs.Calls.{IsReady, Obeys};
+ghost use Rattle.zf_commands.specs.Steps.{said};
 
 use crate::target::{Changing, Target};
 use zf_base::{Lane, Pos};
@@ -13,12 +14,9 @@ use zf_script::{Refusal, Reply};
 
 /// `get P`: the value at a position.
 pub(crate) fn get<A: Target>(a: &mut A, p: Pos) -> Option<Reply>
-    requires sound { A.sound a.old }
-    requires window { HasWindow (A.session a.old) }
+    requires ready { IsReady A.Subject a.old }
     requires unused { p ≡ with_unused 0 (place_in (A.session a.old) p) }
-    ensures does { Does (A.setting (A.kept a.old)) (Command.get (place_in (A.session a.old) p)) (A.session a.old) (A.session a.new) (said result) }
-    ensures sound { A.sound a.new }
-    ensures kept { A.kept a.new ≡ A.kept a.old }
+    ensures { Obeys A.Subject (Command.get (place_in (A.session a.old) p)) (said result) a.old a.new }
 {
     if !a.sizes().contains(p) {
         return Some(Reply::Refused(Refusal::Range));
@@ -28,12 +26,9 @@ pub(crate) fn get<A: Target>(a: &mut A, p: Pos) -> Option<Reply>
 
 /// `set P v`: makes the value at a position be `v`.
 pub(crate) fn set<T: Lane, A: Changing<T>>(a: &mut A, p: Pos, v: i128) -> Option<Reply>
-    requires sound { A.sound a.old }
-    requires window { HasWindow (A.session a.old) }
+    requires ready { IsReady A.Subject a.old }
     requires unused { p ≡ with_unused 0 (place_in (A.session a.old) p) }
-    ensures does { Does (A.setting (A.kept a.old)) (Command.set (place_in (A.session a.old) p) v) (A.session a.old) (A.session a.new) (said result) }
-    ensures sound { A.sound a.new }
-    ensures kept { A.kept a.new ≡ A.kept a.old }
+    ensures { Obeys A.Subject (Command.set (place_in (A.session a.old) p) v) (said result) a.old a.new }
 {
     if !a.sizes().contains(p) {
         return Some(Reply::Refused(Refusal::Range));
@@ -47,12 +42,9 @@ pub(crate) fn set<T: Lane, A: Changing<T>>(a: &mut A, p: Pos, v: i128) -> Option
 
 /// `add P v`: adds `v` to the value at a position; the sum wraps.
 pub(crate) fn add<T: Lane, A: Changing<T>>(a: &mut A, p: Pos, v: i128) -> Option<Reply>
-    requires sound { A.sound a.old }
-    requires window { HasWindow (A.session a.old) }
+    requires ready { IsReady A.Subject a.old }
     requires unused { p ≡ with_unused 0 (place_in (A.session a.old) p) }
-    ensures does { Does (A.setting (A.kept a.old)) (Command.add (place_in (A.session a.old) p) v) (A.session a.old) (A.session a.new) (said result) }
-    ensures sound { A.sound a.new }
-    ensures kept { A.kept a.new ≡ A.kept a.old }
+    ensures { Obeys A.Subject (Command.add (place_in (A.session a.old) p) v) (said result) a.old a.new }
 {
     if !a.sizes().contains(p) {
         return Some(Reply::Refused(Refusal::Range));
@@ -66,12 +58,9 @@ pub(crate) fn add<T: Lane, A: Changing<T>>(a: &mut A, p: Pos, v: i128) -> Option
 
 /// `vget P`: the value at a position of the window.
 pub(crate) fn vget<A: Target>(a: &mut A, p: Pos) -> Option<Reply>
-    requires sound { A.sound a.old }
-    requires window { HasWindow (A.session a.old) }
+    requires ready { IsReady A.Subject a.old }
     requires unused { p ≡ with_unused 0 (place_in (A.session a.old) p) }
-    ensures does { Does (A.setting (A.kept a.old)) (Command.vget (place_in (A.session a.old) p)) (A.session a.old) (A.session a.new) (said result) }
-    ensures sound { A.sound a.new }
-    ensures kept { A.kept a.new ≡ A.kept a.old }
+    ensures { Obeys A.Subject (Command.vget (place_in (A.session a.old) p)) (said result) a.old a.new }
 {
     let window = a.window();
     if !window.contains(p) {

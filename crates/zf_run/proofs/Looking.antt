@@ -17,6 +17,13 @@ pub stream_after : (a : Held) (b : ℕ) → stream_of (read.touched a b) ≡ str
 unfolding read.touched
 stream_after a b = refl
 
+-- the same header and the same codes, and a reference that is the same
+abbrev pub with_name : {K N : Type 0} → N → K → K × N
+with_name n k = (k, n)
+
+pub same_look : {N : Type 0} (n : N) (a b : Held) → b.header ≡ a.header → b.codes ≡ a.codes → with_name n (stream_of b) ≡ with_name n (stream_of a)
+same_look n a b head codes = λ i. ((head i, codes i), n)
+
 module _ (w : Width) (a : Held) (v : Window) where
   -- a touch of block k
   pub look_touched_is : (b : Held) (k : ℕ) → state b ≡ touch (format a) (state a) k → b.header ≡ a.header → touched (look_setting_of w a.header) (session (shape a) (state a) v) k ≡ session (shape b) (state b) v

@@ -38,6 +38,7 @@ use Rattle.zf_twoway.proofs.Touches.{touch-left}
 use Rattle.zf_commands.specs.Sittings.{session}
 use Rattle.zf_commands.proofs.Passing.{map-replicate}
 use Rattle.zf_run.specs.Pairs.{pair_state, two_setting_of}
+use Rattle.zf_run.proofs.Sessions.{with_names}
 
 module _ (w : Width) (d : ℕ) (s : Stored) (st : IsStore w d s) where
   -- its blocks are such as a cache takes
@@ -168,6 +169,10 @@ filled_two value row ws v n is long =
     ap (map value) (over_same row ws (ap length is ∙ length-replicate (length row) v) ∙ is) ∙ map-replicate value (length row) v ∙ ap (λ m. replicate m (value v)) long
 
 -- ---- answers
+
+-- a store with the same header, and two references that are the same
+pub same_pair : {N : Type 0} (m n : N) (s t : Stored) → t.header ≡ s.header → with_names m n t.header ≡ with_names m n s.header
+same_pair m n s t head = ap (with_names m n) head
 
 pub on_ok : {A B : Type 0} (r : Result A B) {P Q : Type 0} → (P → Q) → OnOk r P → OnOk r Q
 on_ok (Ok a) f h = f h

@@ -3,6 +3,7 @@ use Rattle.std.proofs.Common.{◌≡◌, sym, ap, ◌∙◌, ℕ, ℤ, Bool, Lis
 use Rattle.std.specs.Int.{Width}
 use Rattle.zf_base.specs.Widths.{width_of}
 use Rattle.zf_base.specs.Formats.{Format}
+use Rattle.zf_header.specs.declared.header.Header.{Header}
 use Rattle.zf_header.specs.HeaderBits.{block_bits}
 use Rattle.zf_cached.specs.State.{State}
 use Rattle.zf_cached.specs.Touch.{touch, touch_for_writing, with_values}
@@ -13,7 +14,14 @@ use Rattle.zf_cached.specs.Commands.{Command}
 use Rattle.zf_cached.specs.Steps.{Session, format_of, touched, changed, done}
 use Rattle.zf_cached.specs.Runs.{array_setting}
 use Rattle.zf_array.specs.Standing.{Held, shape, state, format}
-use Rattle.zf_run.specs.Sessions.{setting_of, session_of}
+use Rattle.zf_run.specs.Sessions.{setting_of, session_of, kind}
+
+-- an array with the same header, and two references that are the same
+abbrev pub with_names : {K N : Type 0} → N → N → K → K × N × N
+with_names m n k = (k, m, n)
+
+pub same_whole : {N : Type 0} (m n : N) (a b : Held) → b.header ≡ a.header → with_names m n (kind b) ≡ with_names m n (kind a)
+same_whole m n a b head = λ i. (((head i).ty, (head i).mode), m, n)
 
 module _ (w : Width) (a : Held) (same : w ≡ width_of a.header.ty) (v : Window) where
   -- the codes of the session are those of the array

@@ -1,5 +1,6 @@
 -- An array that is split into private views.
 use Rattle.std.specs.Prelude.{ℕ, ◌≡◌, ◌+◌, ◌<◌, nat_lt, nat_le, ℤ, Bool, true, ◌&&◌, List, [], map, length, slice_index_or, Option, None, Some, Vec, if◌then◌else◌}
+use Rattle.std.specs.Int.{Width}
 use Rattle.std.specs.Vec.{vec_items}
 use Rattle.zf_spec.specs.Grid.{blocks}
 use Rattle.zf_cached.specs.State.{State, no_counts}
@@ -18,6 +19,7 @@ use Rattle.zf_array.specs.Standing.{Held, shape, state, format}
 use Rattle.zf_array.specs.Coded.{IsCoded}
 use Rattle.zf_commands.specs.Sittings.{sitting}
 use Rattle.zf_commands.specs.Steps.{HasWindow, Does}
+use Rattle.zf_run.specs.Sessions.{setting_of, kind}
 
 -- the lists that vectors are seen as
 abbrev pub lists : {X Z : Type 0} → Option (Vec X Z) → Option (List X)
@@ -27,6 +29,12 @@ lists (Some views) = Some (vec_items views)
 -- block b is one of the view's
 abbrev pub owns_block : {X : Type 0} → private.Held X → ℕ → Bool
 owns_block v b = nat_le v.first b && nat_lt b (v.first + v.count)
+
+-- a command that does not look at the window, and keeps it: an array through each window before, and the array after
+abbrev pub DoesAlone : {Code : Type 0} → Setting Code → Command → (Window → Session Code) → (Window → Session Code)
+    → Option Reply → Type 0
+DoesAlone setting c before after reply =
+    (v : Window) → HasWindow (before v) → Does setting c (before v) (after v) reply
 
 module _ {X : Type 0} (value : X → ℤ) where
   -- the state of a view over the codes of an array
@@ -73,6 +81,13 @@ module _ {X : Type 0} (value : X → ℤ) where
   FitTogether d a None = Unit {0}
   FitTogether d a (Some views) = AreParts d a (vec_items views)
 
+  -- a command on a view was done, whatever the window; the blocks are parted as before, in an array of the same kind
+  pub record ViewsObey (w : Width) (d : ℕ) (c : Command) (reply : Option Reply) (a b : Held)
+      (views now : List (private.Held X)) : Type 0 where
+    pub does : DoesAlone (setting_of w a) c (split_session a views) (split_session b now) reply
+    pub parts : AreParts d b now
+    pub kept : kind b ≡ kind a
+
 -- a view as it is made: nothing is in its lines, which have room for the blocks of the array, and nothing is counted
 pub record IsNewPart {X : Type 0} (d : ℕ) (ns : List ℕ) (n lines i : ℕ) (v : private.Held X) : Type 0 where
   pub empty : IsEmpty v.cache lines
@@ -87,7 +102,3 @@ pub record IsNewPart {X : Type 0} (d : ℕ) (ns : List ℕ) (n lines i : ℕ) (v
 pub record AreNewParts {X : Type 0} (d : ℕ) (ns : List ℕ) (n lines k : ℕ) (views : List (private.Held X)) : Type 0 where
   pub many : length views ≡ k
   pub each : (i : ℕ) (v : private.Held X) → i < length views → v ≡ slice_index_or views i v → IsNewPart d ns n lines i v
-
--- a command that does not look at the window, and keeps it: an array through each window before, and the array after
-abbrev pub DoesAlone : {Code : Type 0} → Setting Code → Command → (Window → Session Code) → (Window → Session Code) → Option Reply → Type 0
-DoesAlone setting c before after reply = (v : Window) → HasWindow (before v) → Does setting c (before v) (after v) reply

@@ -9,7 +9,7 @@ ghost use Rattle.zf_cached.specs.Commands.{Command};
 ghost use Rattle.zf_cached.specs.Windows.{LiesIn, Window as Part};
 ghost use Rattle.zf_cached.specs.Steps.{is_new_shape, touched, changed, total};
 ghost use Rattle.zf_array.specs.Standing.{shape, state, format};
-ghost use Rattle.zf_commands.specs.Sums.{IsUpTo};
+ghost use Rattle.zf_window.specs.Bounds.{IsUpTo};
 ghost use Rattle.zf_commands.specs.Kinds.{array_cmd, asked, IsPlain};
 ghost use Rattle.zf_commands.specs.Steps.{HasWindow, Does, said};
 ghost use Rattle.zf_run.specs.Sessions.{setting_of, session_of, start_of, kind, IsArray};

@@ -10,7 +10,7 @@ ghost use Rattle.zf_array.specs.Standing.{shape};
 ghost use Rattle.zf_commands.specs.Kinds.{view_cmd, asked, IsPlain};
 ghost use Rattle.zf_run.specs.Sessions.{setting_of, start_of, kind};
 ghost use Rattle.zf_commands.specs.Steps.{said};
-ghost use Rattle.zf_run.specs.Splits.{split_session, AreParts, DoesAlone};
+ghost use Rattle.zf_run.specs.Splits.{split_session, AreParts, DoesAlone, ViewsObey};
 
 use zf_array::{Array, Codes};
 use zf_base::{Lane, Pos};
@@ -27,10 +27,8 @@ pub(crate) fn on_view<T: Lane, const D: usize>(
 ) -> Option<Reply>
     requires parts { AreParts T.value D a.old views.old }
     requires plain { IsPlain (start_of a.old) (view_cmd i cmd) }
-    ensures does { DoesAlone (setting_of T.width a.old) (asked (start_of a.old) (view_cmd i cmd))
-        (split_session T.value a.old views.old) (split_session T.value a.new views.new) (said result) }
-    ensures parts { AreParts T.value D a.new views.new }
-    ensures kept { kind a.new ≡ kind a.old }
+    ensures { ViewsObey T.value T.width D (asked (start_of a.old) (view_cmd i cmd)) (said result)
+        a.old a.new views.old views.new }
 {
     match cmd {
         ViewCmd::Get(p) => view_get(a, views, i, p),
@@ -64,10 +62,8 @@ fn view_get<T: Lane, const D: usize>(
 ) -> Option<Reply>
     requires parts { AreParts T.value D a.old views.old }
     requires unused { p ≡ with_unused 0 (used_axes (length (shape a.old)) p) }
-    ensures does { DoesAlone (setting_of T.width a.old) (Command.pget i (used_axes (length (shape a.old)) p))
-        (split_session T.value a.old views.old) (split_session T.value a.new views.new) (said result) }
-    ensures parts { AreParts T.value D a.new views.new }
-    ensures kept { kind a.new ≡ kind a.old }
+    ensures { ViewsObey T.value T.width D (Command.pget i (used_axes (length (shape a.old)) p)) (said result)
+        a.old a.new views.old views.new }
 {
     if !has_position(a, views, i, p) {
         return Some(Reply::Refused(Refusal::Range));
@@ -88,10 +84,8 @@ fn view_set<T: Lane, const D: usize>(
 ) -> Option<Reply>
     requires parts { AreParts T.value D a.old views.old }
     requires unused { p ≡ with_unused 0 (used_axes (length (shape a.old)) p) }
-    ensures does { DoesAlone (setting_of T.width a.old) (Command.pset i (used_axes (length (shape a.old)) p) v)
-        (split_session T.value a.old views.old) (split_session T.value a.new views.new) (said result) }
-    ensures parts { AreParts T.value D a.new views.new }
-    ensures kept { kind a.new ≡ kind a.old }
+    ensures { ViewsObey T.value T.width D (Command.pset i (used_axes (length (shape a.old)) p) v) (said result)
+        a.old a.new views.old views.new }
 {
     if !has_position(a, views, i, p) {
         return Some(Reply::Refused(Refusal::Range));
@@ -115,10 +109,8 @@ fn view_add<T: Lane, const D: usize>(
 ) -> Option<Reply>
     requires parts { AreParts T.value D a.old views.old }
     requires unused { p ≡ with_unused 0 (used_axes (length (shape a.old)) p) }
-    ensures does { DoesAlone (setting_of T.width a.old) (Command.padd i (used_axes (length (shape a.old)) p) v)
-        (split_session T.value a.old views.old) (split_session T.value a.new views.new) (said result) }
-    ensures parts { AreParts T.value D a.new views.new }
-    ensures kept { kind a.new ≡ kind a.old }
+    ensures { ViewsObey T.value T.width D (Command.padd i (used_axes (length (shape a.old)) p) v) (said result)
+        a.old a.new views.old views.new }
 {
     if !has_position(a, views, i, p) {
         return Some(Reply::Refused(Refusal::Range));
@@ -139,10 +131,8 @@ fn view_flush<T: Lane, const D: usize>(
     i: u64,
 ) -> Option<Reply>
     requires parts { AreParts T.value D a.old views.old }
-    ensures does { DoesAlone (setting_of T.width a.old) (Command.pflush i)
-        (split_session T.value a.old views.old) (split_session T.value a.new views.new) (said result) }
-    ensures parts { AreParts T.value D a.new views.new }
-    ensures kept { kind a.new ≡ kind a.old }
+    ensures { ViewsObey T.value T.width D (Command.pflush i) (said result)
+        a.old a.new views.old views.new }
 {
     if i >= views.len() as u64 {
         return Some(Reply::Refused(Refusal::Range));
@@ -173,9 +163,8 @@ fn view_discard<T: Lane, const D: usize>(
     i: u64,
 ) -> Option<Reply>
     requires parts { AreParts T.value D a.now views.old }
-    ensures does { DoesAlone (setting_of T.width a.now) (Command.pdiscard i)
-        (split_session T.value a.now views.old) (split_session T.value a.now views.new) (said result) }
-    ensures parts { AreParts T.value D a.now views.new }
+    ensures { ViewsObey T.value T.width D (Command.pdiscard i) (said result)
+        a.now a.now views.old views.new }
 {
     if i >= views.len() as u64 {
         return Some(Reply::Refused(Refusal::Range));

@@ -1,6 +1,6 @@
 -- Sums of the values of a window, touch by touch.
-use Rattle.std.proofs.Common.{◌≡◌, ◌⊎◌, inl, inr, ◌↔◌, refl, sym, ap, subst, ◌∙◌, ℕ, zero, suc, ◌+◌, ◌*◌, ◌^◌, ◌<◌, ◌≤◌, ℤ, pos, negsuc, neg_ℤ, ◌+ℤ◌, ◌≤ℤ◌, FitsSigned, to_z, of_z, false, List, arith}
-use Rattle.std.specs.Int.{Width, w32, w64, w128}
+use Rattle.std.proofs.Common.{◌≡◌, refl, sym, ap, subst, ◌∙◌, ℕ, zero, suc, ◌+◌, ◌*◌, ◌^◌, ◌<◌, ◌≤◌, ℤ, pos, ◌+ℤ◌, FitsSigned, to_z, of_z, false, List, arith}
+use Rattle.std.specs.Int.{w128}
 use Rattle.std.proofs.lemmas.Int.{ints, to_z-of_z}
 use Rattle.zf_base.specs.declared.position.Pos.{Pos}
 use Rattle.zf_base.specs.Formats.{Format}
@@ -10,6 +10,8 @@ use Rattle.zf_cached.specs.Windows.{Window}
 use Rattle.zf_cached.specs.Unwritten.{IsUnwritten}
 use Rattle.zf_cached.proofs.Caching.{touch-left_clean}
 use Rattle.zf_window.specs.Positions.{raster_at}
+use Rattle.zf_window.specs.Bounds.{IsUpTo}
+use Rattle.zf_window.proofs.Bounds.{up_to_fits}
 use Rattle.zf_view.specs.Sums.{block_of, value_in, sum_in, touched_to, sum_found}
 
 -- ---- where nothing is dirty
@@ -47,26 +49,6 @@ pub clean_unwritten : {Code : Type 0} (s : State Code) → ((b : ℕ) → s.dirt
 clean_unwritten s clean = record { codes = refl; values = refl; clean = clean }
 
 -- ---- one value more
-
-abbrev pub IsUpTo : ℕ → ℤ → Type 0
-IsUpTo n x = (neg_ℤ (pos n) ≤ℤ x) × (x ≤ℤ pos n)
-
-fits_long : (w : Width) → (w ≡ w32) ⊎ (w ≡ w64) → (z : ℤ) → FitsSigned w z → FitsSigned w64 z
-fits_long w (inl e) (pos n) h = let f : FitsSigned w32 (pos n) = subst (λ u. FitsSigned u (pos n)) e h in let k = f.sfits in record { sfits = omega (arith, ints) }
-fits_long w (inl e) (negsuc n) h = let f : FitsSigned w32 (negsuc n) = subst (λ u. FitsSigned u (negsuc n)) e h in let k = f.sfits in record { sfits = omega (arith, ints) }
-fits_long w (inr e) z h = subst (λ u. FitsSigned u z) e h
-
-up_to : (z : ℤ) → FitsSigned w64 z → IsUpTo (2 ^ 63) z
-up_to (pos n) h = let k = h.sfits in (omega (arith, ints), omega (arith, ints))
-up_to (negsuc n) h = let k = h.sfits in (omega (arith, ints), omega (arith, ints))
-
--- a value is one of at most 64 bits
-pub value_up_to : (w : Width) → (w ≡ w32) ⊎ (w ≡ w64) → (z : ℤ) → {P : Type 0} → P ↔ FitsSigned w z → P → IsUpTo (2 ^ 63) z
-value_up_to w two z same there = up_to z (fits_long w two z (same.0 there))
-
-up_to_fits : (s : ℤ) → IsUpTo (2 ^ 100) s → FitsSigned w128 s
-up_to_fits (pos n) h = record { sfits = omega (arith, ints, h.0, h.1) }
-up_to_fits (negsuc n) h = record { sfits = omega (arith, ints, h.0, h.1) }
 
 -- the sum of as many, and one more
 module _ (bits : ℕ) (x : ℤ) (n : ℕ) (few : n < 2 ^ 27) (sum : IsUpTo (2 ^ 63 * n) (to_z w128 bits)) (one : IsUpTo (2 ^ 63) x) where

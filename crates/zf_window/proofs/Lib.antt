@@ -5,9 +5,11 @@
 --     Positions    the position of the array that a position of a window is
 --     Raster       the positions of a window in raster order
 --     Walks        the same by steps
+--     Bounds       numbers between two bounds, and the widths that they fit
 pub mod Axes
 pub mod Parts
 pub mod Places
 pub mod Positions
 pub mod Raster
 pub mod Walks
+pub mod Bounds

@@ -1,7 +1,9 @@
 -- What the contracts of zf_window cite.
 --     WindowFields  what holds of the fields of a window, and why numbers are no window
 --     Positions     the positions of an array that the positions of a window are
+--     Bounds        numbers between two bounds
 --     Lemmas        what the laws of impls cite
 pub mod WindowFields
 pub mod Positions
+pub mod Bounds
 pub mod Lemmas

@@ -34,16 +34,18 @@ loop-b-preserved g c =
     let told = c.fill_block.ensures in
     let S = g.A.Subject.setting (g.A.Subject.kept a) in
     let below : k < blocks r.shape = omega (arith, c.blocks-b-end.ensures.value, ap blocks c.sizes.ensures, c.loop-b-test.true) in
-    let fills = subst (λ h. Fills (g.A.Subject.setting h) k x s t) inv.kept told.filled in record {
+    let fills = subst (λ h. Fills (g.A.Subject.setting h) k x s t) inv.kept told.does in record {
       kept = told.kept ∙ inv.kept;
       stays = stays_filled S k x r s t inv.stays fills;
       filled = inv.filled ∙ fill_next S s t k (blocks r.shape) x below fills;
       sound = told.sound;
     }
 
-pub returns-clause-filled : goal.returns-clause-filled
-returns-clause-filled g c =
+pub returns : goal.returns
+returns g c =
+    let inv = c.loop-b.invariant in
     let a = c.args.a.now in
-    c.loop-b.invariant.filled
+    let filled = inv.filled
     ∙ filled_all (g.A.Subject.setting (g.A.Subject.kept a)) (g.A.Subject.session c.loop-b.a) (g.T.Lane.value c.args.v) c.loop-b.b (blocks (g.A.Subject.session a).shape)
-    (omega (arith, c.blocks-b-end.ensures.value, ap blocks c.sizes.ensures, c.loop-b-test.false))
+    (omega (arith, c.blocks-b-end.ensures.value, ap blocks c.sizes.ensures, c.loop-b-test.false)) in
+    record { does = record { filled = filled; stays = inv.stays }; sound = inv.sound; kept = inv.kept }

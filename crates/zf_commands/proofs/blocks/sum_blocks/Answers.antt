@@ -3,7 +3,7 @@ use Rattle.std.specs.Int.{w128}
 use Rattle.std.proofs.lemmas.Int.{ints}
 use Rattle.zf_spec.specs.Grid.{blocks, count_from}
 use Rattle.zf_cached.specs.Steps.{Session, total}
-use Rattle.zf_commands.specs.Sums.{IsUpTo}
+use Rattle.zf_window.specs.Bounds.{IsUpTo}
 use Rattle.zf_spec.proofs.Counting.{count_from-below}
 use Rattle.zf_commands.proofs.Passing.{stays_touched, touched_on, sum_from, sum_on, sum_starts, sum_ends, summed_fits, summed_is, up_to_more, up_to_less}
 use Rattle.zf_commands.proofs.blocks.sum_blocks.Goals as goal
@@ -48,25 +48,30 @@ loop-b-preserved g c =
     let room : 2 ^ 71 * (k + 1) ≤ 2 ^ 100 = omega (arith, c.blocks-b-end.ensures.bound, c.loop-b-test.true) in
     let is = summed_is c.loop-b.sum-bits x k (2 ^ 71) room (omega arith) inv.small told.bound in
     let below : k < n = omega (arith, c.blocks-b-end.ensures.value, ap blocks c.sizes.ensures, c.loop-b-test.true) in
-    let touches = touched_on g.A.Subject.setting (g.A.Subject.kept c.loop-b.a) (g.A.Subject.kept a) inv.kept k s t told.touched in record {
-      kept = told.kept ∙ inv.kept;
+    let touches = touched_on g.A.Subject.setting (g.A.Subject.kept c.loop-b.a) (g.A.Subject.kept a) inv.kept k s t told.touched.does in record {
+      kept = told.touched.kept ∙ inv.kept;
       stays = stays_touched S k r s t inv.stays touches;
       small = subst (IsUpTo (2 ^ 71 * (k + 1))) (sym is) (up_to_more (2 ^ 71) k sum x inv.small told.bound);
       sum = inv.sum ∙ ap (λ bs. sum_from S (λ b. b) (λ b values. total values) bs s sum) (count_from-below k n below)
           ∙ sum_on S (λ b. b) (λ b values. total values) k (count_from (k + 1) (n - (k + 1))) s t touches sum x _ told.sum is;
-      sound = told.sound;
+      sound = told.touched.sound;
     }
 
-pub returns-clause-sum : goal.returns-clause-sum
-returns-clause-sum g c =
+pub returns : goal.returns
+returns g c =
+    let inv = c.loop-b.invariant in
     let a = c.args.a.now in
     let S = g.A.Subject.setting (g.A.Subject.kept a) in
     let n = blocks (g.A.Subject.session a).shape in
     let none : n - c.loop-b.b ≡ 0 = omega (arith, c.blocks-b-end.ensures.value, ap blocks c.sizes.ensures, c.loop-b-test.false) in
     let sum = to_z w128 c.loop-b.sum-bits in
     let t = g.A.Subject.session c.loop-b.a in
-    c.loop-b.invariant.sum ∙ ap (λ m. sum_from S (λ b. b) (λ b values. total values) (count_from c.loop-b.b m) t sum) none ∙ sum_ends S (λ b. b) (λ b values. total values) t sum
-
-pub returns-clause-bound : goal.returns-clause-bound
-returns-clause-bound g c =
-    up_to_less (2 ^ 71 * c.loop-b.b) (2 ^ 100) (to_z w128 c.loop-b.sum-bits) (omega (arith, c.blocks-b-end.ensures.bound, c.loop-b.auto.b-end)) c.loop-b.invariant.small
+    record {
+      does = record {
+        sum_is = inv.sum ∙ ap (λ m. sum_from S (λ b. b) (λ b values. total values) (count_from c.loop-b.b m) t sum) none ∙ sum_ends S (λ b. b) (λ b values. total values) t sum;
+        bound = up_to_less (2 ^ 71 * c.loop-b.b) (2 ^ 100) sum (omega (arith, c.blocks-b-end.ensures.bound, c.loop-b.auto.b-end)) inv.small;
+        stays = inv.stays;
+      };
+      sound = inv.sound;
+      kept = inv.kept;
+    }

@@ -3,7 +3,8 @@ use Rattle.std.specs.Int.{w128}
 use Rattle.std.proofs.lemmas.List.{length-map}
 use Rattle.zf_spec.specs.Grid.{upto}
 use Rattle.zf_cached.specs.Steps.{total}
-use Rattle.zf_commands.specs.Sums.{value_within, IsUpTo}
+use Rattle.zf_window.specs.Bounds.{IsUpTo}
+use Rattle.zf_commands.specs.Sums.{value_within}
 use Rattle.zf_commands.proofs.Passing.{total_more, up_to_more, up_to_less, summed_fits, summed_is}
 use Rattle.zf_commands.proofs.blocks.sum_within.Goals as goal
 

@@ -1,7 +1,8 @@
 use Rattle.std.proofs.Common.{◌≡◌, ◌*◌, ◌^◌, map}
 use Rattle.zf_spec.specs.Grid.{upto}
 use Rattle.zf_cached.specs.Steps.{total}
-use Rattle.zf_commands.specs.Sums.{value_within, IsUpTo}
+use Rattle.zf_window.specs.Bounds.{IsUpTo}
+use Rattle.zf_commands.specs.Sums.{value_within}
 use Rattle.zf_commands.proofs.blocks.sum_within.Given as goal
 
 abbrev pub invariant-loop-place : goal.invariant-loop-place

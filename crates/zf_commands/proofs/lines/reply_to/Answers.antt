@@ -1,7 +1,7 @@
 use Rattle.std.proofs.Common.{◌≡◌, ◌<◌, sym, ap, ◌∙◌, Some, length}
 use Rattle.std.proofs.lemmas.Bool.{eqb-true}
 use Rattle.zf_script.specs.Seen.{command_of}
-use Rattle.zf_commands.proofs.Lining.{line_empty, line_read, line_not_read, some_bytes}
+use Rattle.zf_commands.proofs.Lining.{line_empty, line_read, line_not_read, some_bytes, unmoved}
 use Rattle.zf_commands.proofs.lines.reply_to.Goals as goal
 
 pub returns-then-is_empty-clause-step : goal.returns-then-is_empty-clause-step
@@ -20,3 +20,9 @@ returns-in-Err-clause-step g c =
     let some : 0 < length c.args.line.now = some_bytes (length c.args.line.now) (sym c.is_empty.ensures ∙ c.if-is_empty.false) in
     line_not_read (g.A.Subject.setting (g.A.Subject.kept c.args.a.now)) (g.A.Subject.session c.args.a.now) c.args.line.now c.dims.result c.in-Err.why some (c.dims.ensures.value ∙ ap length c.sizes.ensures)
     c.in-Err.ensures.err.1 c.in-Err.ensures.err.0
+
+pub returns-then-is_empty-clause-stays : goal.returns-then-is_empty-clause-stays
+returns-then-is_empty-clause-stays g c = unmoved c.requires
+
+pub returns-in-Err-clause-stays : goal.returns-in-Err-clause-stays
+returns-in-Err-clause-stays g c = unmoved c.requires

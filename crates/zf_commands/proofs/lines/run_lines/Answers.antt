@@ -1,17 +1,18 @@
 use Rattle.std.proofs.Common.{refl, ap, subst, ◌∙◌, ◌+◌, [], arith}
 use Rattle.zf_cached.specs.Runs.{lines_of}
 use Rattle.zf_commands.specs.Lines.{Replies, Breaks}
+use Rattle.zf_commands.proofs.Lining.{unmoved, ready_then}
 use Rattle.zf_commands.proofs.Folding.{none_run, run_on, stop_here, all_run, one_or_none, at_most_one, of_error}
 use Rattle.zf_commands.proofs.lines.run_lines.Goals as goal
 
 pub loop-line-init : goal.loop-line-init
-loop-line-init g c = (none_run _ _ _ _, c.requires.window, refl, omega arith, refl, c.requires.sound)
+loop-line-init g c = (none_run _ _ _ _, unmoved c.requires, omega arith, refl)
 
-pub run_line-requires-clause-window : goal.run_line-requires-clause-window
-run_line-requires-clause-window g c = c.loop-line.invariant.1
+pub run_line-requires : goal.run_line-requires
+run_line-requires g c = c.loop-line.invariant.1.ready
 
-pub run_line-requires-clause-sound : goal.run_line-requires-clause-sound
-run_line-requires-clause-sound g c = c.loop-line.invariant.5
+pub returns-in_err-run_line-clause-stays : goal.returns-in_err-run_line-clause-stays
+returns-in_err-run_line-clause-stays g c = ready_then c.loop-line.invariant.1 c.in_err-run_line.ensures.stays
 
 pub returns-in_err-run_line-clause-err : goal.returns-in_err-run_line-clause-err
 returns-in_err-run_line-clause-err g c =
@@ -23,13 +24,13 @@ returns-in_err-run_line-clause-err g c =
     let old = g.O.Sink.contents c.args.out.now in
     let mid = g.O.Sink.contents c.loop-line.out in
     let new = g.O.Sink.contents c.run_line.new.out in
-    let breaks = subst (λ k. Breaks (S k) now c.in-Some.line.now next mid new) inv.2 c.in_err-run_line.ensures.err in
+    let breaks = subst (λ k. Breaks (S k) now c.in-Some.line.now next mid new) inv.1.kept c.in_err-run_line.ensures.err in
     of_error c.from_residual.result
     (stop_here (S (g.A.Subject.kept c.args.a.now)) (lines_of c.args.script.now) (lines_of c.loop-line.lines.now) c.in-Some.line.now (lines_of c.in-Some.rest.now) start now old mid new c.loop-line.refused inv.0
     c.in-Some.ensures.parts next breaks c.args.script.now refl)
 
 pub overflow_add-refused : goal.overflow_add-refused
-overflow_add-refused g c = record { fits = omega (arith, c.from.ensures, at_most_one c.in_ok-run_line.field-0, c.in-Some.ensures.shorter, c.loop-line.invariant.3) }
+overflow_add-refused g c = record { fits = omega (arith, c.from.ensures, at_most_one c.in_ok-run_line.field-0, c.in-Some.ensures.shorter, c.loop-line.invariant.2) }
 
 pub loop-line-smaller : goal.loop-line-smaller
 loop-line-smaller g c = c.in-Some.ensures.shorter
@@ -46,21 +47,19 @@ loop-line-preserved g c =
     let new = g.O.Sink.contents c.run_line.new.out in
     let told = c.in_ok-run_line.ensures in
     let t = c.in_ok-run_line.field-0 in
-    let replies = subst (λ k. Replies (S k) now c.in-Some.line.now next mid new t) inv.2 told.ok in (
+    let replies = subst (λ k. Replies (S k) now c.in-Some.line.now next mid new t) inv.1.kept told.ok in (
       run_on (S (g.A.Subject.kept c.args.a.now)) (lines_of c.args.script.now) (lines_of c.loop-line.lines.now) c.in-Some.line.now (lines_of c.in-Some.rest.now) start now old mid new c.loop-line.refused inv.0
           c.in-Some.ensures.parts next t replies (c.loop-line.refused + c.from.result) (ap (λ n. c.loop-line.refused + n) (c.from.ensures ∙ one_or_none t)),
-      told.window,
-      told.kept ∙ inv.2,
-      omega (arith, c.from.ensures, at_most_one t, c.in-Some.ensures.shorter, inv.3),
-      told.unchanged ∙ inv.4,
-      told.sound,
+      ready_then inv.1 told.stays,
+      omega (arith, c.from.ensures, at_most_one t, c.in-Some.ensures.shorter, inv.2),
+      told.unchanged ∙ inv.3,
     )
 
-pub run_line-requires-2-clause-window : goal.run_line-requires-2-clause-window
-run_line-requires-2-clause-window g c = c.loop-line.invariant.1
+pub run_line-requires-2 : goal.run_line-requires-2
+run_line-requires-2 g c = c.loop-line.invariant.1.ready
 
-pub run_line-requires-2-clause-sound : goal.run_line-requires-2-clause-sound
-run_line-requires-2-clause-sound g c = c.loop-line.invariant.5
+pub returns-in_err-run_line-2-clause-stays : goal.returns-in_err-run_line-2-clause-stays
+returns-in_err-run_line-2-clause-stays g c = ready_then c.loop-line.invariant.1 c.in_err-run_line-2.ensures.stays
 
 pub returns-in_err-run_line-2-clause-err : goal.returns-in_err-run_line-2-clause-err
 returns-in_err-run_line-2-clause-err g c =
@@ -72,13 +71,13 @@ returns-in_err-run_line-2-clause-err g c =
     let old = g.O.Sink.contents c.args.out.now in
     let mid = g.O.Sink.contents c.loop-line.out in
     let new = g.O.Sink.contents c.run_line-2.new.out in
-    let breaks = subst (λ k. Breaks (S k) now c.loop-line.lines.now next mid new) inv.2 c.in_err-run_line-2.ensures.err in
+    let breaks = subst (λ k. Breaks (S k) now c.loop-line.lines.now next mid new) inv.1.kept c.in_err-run_line-2.ensures.err in
     of_error c.from_residual-in_err-run_line-2.result
     (stop_here (S (g.A.Subject.kept c.args.a.now)) (lines_of c.args.script.now) (lines_of c.loop-line.lines.now) c.loop-line.lines.now [] start now old mid new c.loop-line.refused inv.0
     c.in_default.ensures.none next breaks c.args.script.now refl)
 
 pub overflow_add-refused-2 : goal.overflow_add-refused-2
-overflow_add-refused-2 g c = record { fits = omega (arith, c.from-2.ensures, at_most_one c.in_ok-run_line-2.field-0, c.loop-line.invariant.3) }
+overflow_add-refused-2 g c = record { fits = omega (arith, c.from-2.ensures, at_most_one c.in_ok-run_line-2.field-0, c.loop-line.invariant.2) }
 
 pub returns-clause-ok : goal.returns-clause-ok
 returns-clause-ok g c =
@@ -92,8 +91,11 @@ returns-clause-ok g c =
     let new = g.O.Sink.contents c.run_line-2.new.out in
     let told = c.in_ok-run_line-2.ensures in
     let t = c.in_ok-run_line-2.field-0 in
-    let replies = subst (λ k. Replies (S k) now c.loop-line.lines.now next mid new t) inv.2 told.ok in
+    let replies = subst (λ k. Replies (S k) now c.loop-line.lines.now next mid new t) inv.1.kept told.ok in
     let more = c.loop-line.refused + c.from-2.result in
     all_run (S (g.A.Subject.kept c.args.a.now)) c.args.script.now (lines_of c.args.script.now) start next old new more refl
     (run_on (S (g.A.Subject.kept c.args.a.now)) (lines_of c.args.script.now) (lines_of c.loop-line.lines.now) c.loop-line.lines.now [] start now old mid new c.loop-line.refused inv.0
     c.in_default.ensures.none next t replies more (ap (λ n. c.loop-line.refused + n) (c.from-2.ensures ∙ one_or_none t)))
+
+pub returns-clause-stays : goal.returns-clause-stays
+returns-clause-stays g c = ready_then c.loop-line.invariant.1 c.in_ok-run_line-2.ensures.stays

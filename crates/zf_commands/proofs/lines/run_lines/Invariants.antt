@@ -1,6 +1,6 @@
 use Rattle.std.proofs.Common.{◌≡◌, ◌+◌, ◌≤◌, length}
 use Rattle.zf_cached.specs.Runs.{lines_of}
-use Rattle.zf_commands.specs.Steps.{HasWindow}
+use Rattle.zf_commands.specs.Calls.{StaysReady}
 use Rattle.zf_commands.proofs.Folding.{HasRun}
 use Rattle.zf_commands.proofs.lines.run_lines.Given as goal
 
@@ -8,11 +8,9 @@ abbrev pub invariant-loop-line : goal.invariant-loop-line
 invariant-loop-line g l =
     HasRun (g.A.Subject.setting (g.A.Subject.kept l.fn.a)) (lines_of l.fn.script) (lines_of l.lines) (g.A.Subject.session l.fn.a) (g.A.Subject.session l.a)
     (g.O.Sink.contents l.fn.out) (g.O.Sink.contents l.out) l.refused
-    × HasWindow (g.A.Subject.session l.a)
-    × (g.A.Subject.kept l.a ≡ g.A.Subject.kept l.fn.a)
+    × StaysReady g.A.Subject l.fn.a l.a
     × (l.refused + length l.lines ≤ length l.fn.script)
     × (g.O.Sink.faults l.out ≡ g.O.Sink.faults l.fn.out)
-    × g.A.Subject.sound l.a
 
 abbrev pub decreases-loop-line : goal.decreases-loop-line
 decreases-loop-line g l = length l.lines

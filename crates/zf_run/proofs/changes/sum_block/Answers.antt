@@ -10,7 +10,8 @@ use Rattle.zf_array.specs.Standing.{shape, state, format, array_of}
 use Rattle.zf_run.specs.Sessions.{session_of}
 use Rattle.zf_run.proofs.Sessions.{touched_is}
 use Rattle.zf_run.proofs.Changing.{header_after}
-use Rattle.zf_commands.proofs.Passing.{within_is, block_room, up_to_fits, up_to_less}
+use Rattle.zf_window.proofs.Bounds.{up_to_fits}
+use Rattle.zf_commands.proofs.Passing.{within_is, block_room, up_to_less}
 use Rattle.zf_run.proofs.changes.sum_block.Goals as goal
 
 pub sum_within-requires : goal.sum_within-requires

@@ -1,11 +1,14 @@
 use Rattle.std.proofs.Common.{refl, sym, ap, subst, ◌∙◌}
-use Rattle.zf_cached.specs.Windows.{whole}
+use Rattle.zf_cached.specs.Windows.{whole, LiesIn}
 use Rattle.zf_array.specs.Standing.{Held}
 use Rattle.zf_run.specs.declared.end.RunEnd.TheVariants.{Write}
 use Rattle.zf_run.specs.Ends.{Runs}
 use Rattle.zf_run.specs.Splits.{parted_session}
 use Rattle.zf_run.proofs.Ending.{runs_all, runs_stopped}
 use Rattle.zf_run.proofs.runs.run.Goals as goal
+
+pub run_lines-requires : goal.run_lines-requires
+run_lines-requires g c = record { sound = tt; window = subst (λ ns. LiesIn ns c.whole-window.result) c.shape.ensures.value c.whole-window.ensures.inside }
 
 pub returns-in-Ok-clause-runs : goal.returns-in-Ok-clause-runs
 returns-in-Ok-clause-runs g c =
@@ -16,10 +19,10 @@ returns-in-Ok-clause-runs g c =
     let b = c.finish.new.self.array.now in
     let old = g.O.Sink.contents c.args.out.now in
     let new = g.O.Sink.contents c.run_lines.new.out in
-    let is = c.a-1.given.1 (sym (c.finish.ensures.same_array ∙ ap (λ (q : _). q.1) c.run_lines.ensures.kept)) in
+    let is = c.a-1.given.1 (sym (c.finish.ensures.same_array ∙ ap (λ (q : _). q.1) c.run_lines.ensures.stays.kept)) in
     subst (λ (m : Held). Runs w a m c.args.script.now old new c.end_of.result) (sym is)
     (runs_all w a p.array.now (parted_session g.T.Lane.value p.array.now p.views.now u) c.whole-window.result c.args.script.now old new
-    (c.whole-window.ensures.window ∙ ap whole c.shape.ensures.value) (ap (λ (q : _). q.0) c.run_lines.ensures.kept)
+    (c.whole-window.ensures.window ∙ ap whole c.shape.ensures.value) (ap (λ (q : _). q.0) c.run_lines.ensures.stays.kept)
     b c.finish.new.self.window c.in-Ok.refused c.in-Ok.ensures.ok c.finish.ensures.ended c.finish.ensures.kept c.end_of.result c.end_of.ensures)
 
 -- a line was the last one: its views are dropped
@@ -30,7 +33,7 @@ returns-clause-runs g c =
     let p = c.run_lines.new.a in
     let old = g.O.Sink.contents c.args.out.now in
     let new = g.O.Sink.contents c.run_lines.new.out in
-    let is = c.a-in-Err-1.given.1 (sym (ap (λ (q : _). q.1) c.run_lines.ensures.kept)) in
+    let is = c.a-in-Err-1.given.1 (sym (ap (λ (q : _). q.1) c.run_lines.ensures.stays.kept)) in
     subst (λ (m : Held). Runs w a m c.args.script.now old new Write) (sym is)
     (runs_stopped w a p.array.now (parted_session g.T.Lane.value p.array.now p.views.now p.window) c.whole-window.result c.args.script.now old new
-    (c.whole-window.ensures.window ∙ ap whole c.shape.ensures.value) (ap (λ (q : _). q.0) c.run_lines.ensures.kept) c.in-Err.ensures.err refl refl)
+    (c.whole-window.ensures.window ∙ ap whole c.shape.ensures.value) (ap (λ (q : _). q.0) c.run_lines.ensures.stays.kept) c.in-Err.ensures.err refl refl)

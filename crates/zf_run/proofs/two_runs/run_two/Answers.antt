@@ -1,6 +1,6 @@
 use Rattle.std.proofs.Common.{sym, ap, subst, ◌∙◌, length}
 use Rattle.zf_header.specs.declared.header.Header.{Header}
-use Rattle.zf_cached.specs.Windows.{whole}
+use Rattle.zf_cached.specs.Windows.{whole, LiesIn}
 use Rattle.zf_cache.proofs.Steps.{empty_fits_at}
 use Rattle.zf_cache.specs.Kept.{Kept}
 use Rattle.zf_store.specs.Stored.{Stored, format_of, code_at}
@@ -13,35 +13,37 @@ use Rattle.zf_run.specs.Ends.{RunsTwo}
 use Rattle.zf_run.proofs.Ending.{two_all, two_stopped}
 use Rattle.zf_run.proofs.two_runs.run_two.Goals as goal
 
-pub run_lines-requires-clause-sound : goal.run_lines-requires-clause-sound
-run_lines-requires-clause-sound g c =
-    let s = c.args.store.now in let k = c.args.cache.now in let value = g.T.Lane.value in
-    fits_of value k (format_of s) (code_at s) (empty_fits_at skewed value (format_of s) (code_at s) k (length k.tags) c.requires.empty (subst (λ n. HasRoom k n) (sym (blocks_is s)) c.requires.room))
+pub run_lines-requires : goal.run_lines-requires
+run_lines-requires g c =
+    let s = c.args.store.now in let k = c.args.cache.now in let value = g.T.Lane.value in record {
+      sound = fits_of value k (format_of s) (code_at s) (empty_fits_at skewed value (format_of s) (code_at s) k (length k.tags) c.requires.empty (subst (λ n. HasRoom k n) (sym (blocks_is s)) c.requires.room));
+      window = subst (λ (h : Header). LiesIn h.shape c.whole-window.result) c.header.ensures.value c.whole-window.ensures.inside;
+    }
 
 pub returns-in-Ok-clause-runs : goal.returns-in-Ok-clause-runs
 returns-in-Ok-clause-runs g c =
     let s = c.args.store.now in let k = c.args.cache.now in let value = g.T.Lane.value in
     let a = c.run_lines.new.a in let b = c.flush_all.new.self in
-    let kept = c.flush_all.ensures.kept ∙ c.run_lines.ensures.kept in
+    let kept = c.flush_all.ensures.kept ∙ c.run_lines.ensures.stays.kept in
     let store = c.store-1.given.1 (sym (ap (λ (q : _). q.1) kept)) in
     let cache = c.cache-1.given.1 (sym (ap (λ (q : _). q.2) kept)) in
     let old = g.O.Sink.contents c.args.out.now in let new = g.O.Sink.contents c.run_lines.new.out in
     subst (λ (d : Kept g.row.T.Denot). RunsTwo value g.T.Lane.width s c.store-1.given.0 k d c.args.script.now old new c.end_of.result) (sym cache)
     (subst (λ (t : Stored). RunsTwo value g.T.Lane.width s t k b.cache.now c.args.script.now old new c.end_of.result) (sym store)
     (two_all value g.T.Lane.width s a.store.now b.store.now k a.cache.now b.cache.now c.whole-window.result a.window b.window c.args.script.now _ _
-    (c.whole-window.ensures.window ∙ ap (λ (h : Header). whole h.shape) c.header.ensures.value) (ap (λ (q : _). q.0) c.in-Ok.ensures.kept)
-    c.in-Ok.refused c.in-Ok.ensures.ok c.flush_all.ensures.flushed (ap (λ (q : _). q.0) c.flush_all.ensures.kept) c.flush_all.ensures.sound c.end_of.result c.end_of.ensures))
+    (c.whole-window.ensures.window ∙ ap (λ (h : Header). whole h.shape) c.header.ensures.value) (ap (λ (q : _). q.0) c.in-Ok.ensures.stays.kept)
+    c.in-Ok.refused c.in-Ok.ensures.ok c.flush_all.ensures.does (ap (λ (q : _). q.0) c.flush_all.ensures.kept) c.flush_all.ensures.sound c.end_of.result c.end_of.ensures))
 
 pub returns-in-Err-clause-runs : goal.returns-in-Err-clause-runs
 returns-in-Err-clause-runs g c =
     let s = c.args.store.now in let k = c.args.cache.now in let value = g.T.Lane.value in
     let a = c.run_lines.new.a in
-    let kept = c.run_lines.ensures.kept in
+    let kept = c.run_lines.ensures.stays.kept in
     let store = c.store-in-Err-1.given.1 (sym (ap (λ (q : _). q.1) kept)) in
     let cache = c.cache-in-Err-1.given.1 (sym (ap (λ (q : _). q.2) kept)) in
     let old = g.O.Sink.contents c.args.out.now in let new = g.O.Sink.contents c.run_lines.new.out in
     subst (λ (d : Kept g.row.T.Denot). RunsTwo value g.T.Lane.width s c.store-in-Err-1.given.0 k d c.args.script.now old new Write) (sym cache)
     (subst (λ (t : Stored). RunsTwo value g.T.Lane.width s t k a.cache.now c.args.script.now old new Write) (sym store)
     (two_stopped value g.T.Lane.width s a.store.now a.store.now k a.cache.now a.cache.now c.whole-window.result a.window a.window c.args.script.now _ _
-    (c.whole-window.ensures.window ∙ ap (λ (h : Header). whole h.shape) c.header.ensures.value) (ap (λ (q : _). q.0) c.in-Err.ensures.kept)
-    c.in-Err.ensures.err c.in-Err.ensures.sound))
+    (c.whole-window.ensures.window ∙ ap (λ (h : Header). whole h.shape) c.header.ensures.value) (ap (λ (q : _). q.0) c.in-Err.ensures.stays.kept)
+    c.in-Err.ensures.err c.in-Err.ensures.stays.ready.sound))

@@ -12,11 +12,14 @@ use Rattle.zf_commands.proofs.Stepping.{refused_range}
 use Rattle.zf_run.proofs.Viewing.{has_view_is, has_no_view, takes, still_parts}
 use Rattle.zf_run.proofs.views.view_discard.Goals as goal
 
-pub returns-then-i-views-clause-does : goal.returns-then-i-views-clause-does
-returns-then-i-views-clause-does g c v lies =
-    let a = c.args.a.now in
-    refused_range (setting_of g.T.Lane.width a) (Command.pdiscard c.args.i) (split_session g.T.Lane.value a c.args.views.now v) lies refl refl
-    (ap not (has_no_view g.T.Lane.value a c.args.views.now c.args.i v c.if-i-views.true))
+pub returns-then-i-views : goal.returns-then-i-views
+returns-then-i-views g c =
+    let a = c.args.a.now in record {
+      does = λ v lies. refused_range (setting_of g.T.Lane.width a) (Command.pdiscard c.args.i) (split_session g.T.Lane.value a c.args.views.now v) lies refl refl
+          (ap not (has_no_view g.T.Lane.value a c.args.views.now c.args.i v c.if-i-views.true));
+      parts = c.requires.parts;
+      kept = refl;
+    }
 
 pub returns : goal.returns
 unfolding done answered
@@ -35,4 +38,5 @@ returns g c =
           c.discard.ensures.same c.discard.ensures.whole fits v (Command.pdiscard i) None lies refl refl (ap not (has_view_is value a views i v lt)) refl refl refl refl;
       parts = still_parts value g.T.Lane.width g.row.D a a views i x c.discard.new.self Act.discard c.shape-shape.ensures.same_type c.requires.parts lt at refl refl refl c.requires.parts.is_coded step tt (λ k not. refl)
           c.discard.ensures.same c.discard.ensures.whole fits;
+      kept = refl;
     }

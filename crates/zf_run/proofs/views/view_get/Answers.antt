@@ -18,11 +18,14 @@ use Rattle.zf_commands.proofs.Wide.{wide}
 use Rattle.zf_run.proofs.Lending.{lent_ready, at_view, act_there, lent}
 use Rattle.zf_run.proofs.views.view_get.Goals as goal
 
-pub returns-then-not-has_position-clause-does : goal.returns-then-not-has_position-clause-does
-returns-then-not-has_position-clause-does g c v lies =
-    let a = c.args.a.now in
-    refused_range (setting_of g.T.Lane.width a) (Command.pget c.args.i (used_axes (length (shape a)) c.args.p)) (split_session g.T.Lane.value a c.args.views.now v) lies refl refl
-    (ap not (sym (c.has_position.ensures.has v) ∙ c.if-not-has_position.true))
+pub returns-then-not-has_position : goal.returns-then-not-has_position
+returns-then-not-has_position g c =
+    let a = c.args.a.now in record {
+      does = λ v lies. refused_range (setting_of g.T.Lane.width a) (Command.pget c.args.i (used_axes (length (shape a)) c.args.p)) (split_session g.T.Lane.value a c.args.views.now v) lies refl refl
+          (ap not (sym (c.has_position.ensures.has v) ∙ c.if-not-has_position.true));
+      parts = c.requires.parts;
+      kept = refl;
+    }
 
 pub bind-requires : goal.bind-requires
 bind-requires g c = (lit≤ tt, (lit≤ tt, coded_empty c.args.a.now c.requires.parts.is_coded))

@@ -18,19 +18,25 @@ use Rattle.zf_commands.proofs.Stepping.{refused_range, refused_value}
 use Rattle.zf_run.proofs.Lending.{lent_ready, at_view, act_there, lent}
 use Rattle.zf_run.proofs.views.view_set.Goals as goal
 
-pub returns-then-not-has_position-clause-does : goal.returns-then-not-has_position-clause-does
-returns-then-not-has_position-clause-does g c v lies =
-    let a = c.args.a.now in
-    refused_range (setting_of g.T.Lane.width a) (Command.pset c.args.i (used_axes (length (shape a)) c.args.p) c.args.v) (split_session g.T.Lane.value a c.args.views.now v) lies refl refl
-    (ap not (sym (c.has_position.ensures.has v) ∙ c.if-not-has_position.true))
+pub returns-then-not-has_position : goal.returns-then-not-has_position
+returns-then-not-has_position g c =
+    let a = c.args.a.now in record {
+      does = λ v lies. refused_range (setting_of g.T.Lane.width a) (Command.pset c.args.i (used_axes (length (shape a)) c.args.p) c.args.v) (split_session g.T.Lane.value a c.args.views.now v) lies refl refl
+          (ap not (sym (c.has_position.ensures.has v) ∙ c.if-not-has_position.true));
+      parts = c.requires.parts;
+      kept = refl;
+    }
 
-pub returns-in_default-clause-does : goal.returns-in_default-clause-does
+pub returns-in_default : goal.returns-in_default
 unfolding array_setting
-returns-in_default-clause-does g c v lies =
-    let a = c.args.a.now in
-    refused_value (setting_of g.T.Lane.width a) (Command.pset c.args.i (used_axes (length (shape a)) c.args.p) c.args.v) (split_session g.T.Lane.value a c.args.views.now v) lies refl refl
-    (ap not (sym (c.has_position.ensures.has v) ∙ c.if-not-has_position.false))
-    (ap not (subst (λ x. is_of_type g.T.Lane.width x ≡ false) (to_z-of_z w128 c.args.v c.ranges.v) c.in_default.ensures.none))
+returns-in_default g c =
+    let a = c.args.a.now in record {
+      does = λ v lies. refused_value (setting_of g.T.Lane.width a) (Command.pset c.args.i (used_axes (length (shape a)) c.args.p) c.args.v) (split_session g.T.Lane.value a c.args.views.now v) lies refl refl
+          (ap not (sym (c.has_position.ensures.has v) ∙ c.if-not-has_position.false))
+          (ap not (subst (λ x. is_of_type g.T.Lane.width x ≡ false) (to_z-of_z w128 c.args.v c.ranges.v) c.in_default.ensures.none));
+      parts = c.requires.parts;
+      kept = refl;
+    }
 
 pub bind-requires : goal.bind-requires
 bind-requires g c = (lit≤ tt, (lit≤ tt, coded_empty c.args.a.now c.requires.parts.is_coded))

@@ -1,6 +1,6 @@
 use Rattle.std.proofs.Common.{◌≡◌, ◌*◌, ◌^◌}
 use Rattle.zf_view.specs.Sums.{touched_to, sum_found}
-use Rattle.zf_view.proofs.Sums.{IsUpTo}
+use Rattle.zf_window.specs.Bounds.{IsUpTo}
 use Rattle.zf_view.proofs.sum.sum_of.Given as goal
 
 abbrev pub invariant-loop-number : goal.invariant-loop-number

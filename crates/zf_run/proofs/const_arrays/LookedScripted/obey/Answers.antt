@@ -4,6 +4,7 @@ use Rattle.zf_cached.specs.Runs.{look_setting}
 use Rattle.zf_commands.specs.declared.kinds.Kind.TheVariants as kinds
 use Rattle.zf_commands.specs.Kinds.{read_cmd, window_cmd, cmd_of_kind}
 use Rattle.zf_commands.proofs.Commanding.{taken, not_taken}
+use Rattle.zf_commands.proofs.Lining.{unmoved, obeyed}
 use Rattle.zf_commands.proofs.Sorting.{by_kind, same_plain, not_reading}
 use Rattle.zf_run.specs.Sessions.{look_setting_of, look_session_of}
 use Rattle.zf_run.proofs.const_arrays.LookedScripted.obey.Goals as goal
@@ -37,3 +38,12 @@ returns-in_default-clause-step g c =
     let s = look_session_of a c.args.self.now.window in
     let k = c.kind_of.result in
     not_taken (look_setting_of g.T.Lane.width a.header) c.args.cmd (cmd_of_kind k) c.kind_of.ensures s (by_kind s k is_reading false (not_reading k c.in_default.not-Read c.in_default.not-Window))
+
+pub returns-in-Read-clause-stays : goal.returns-in-Read-clause-stays
+returns-in-Read-clause-stays g c = obeyed c.read.ensures
+
+pub returns-in-Window-clause-stays : goal.returns-in-Window-clause-stays
+returns-in-Window-clause-stays g c = obeyed c.look_through.ensures
+
+pub returns-in_default-clause-stays : goal.returns-in_default-clause-stays
+returns-in_default-clause-stays g c = unmoved c.requires.ready

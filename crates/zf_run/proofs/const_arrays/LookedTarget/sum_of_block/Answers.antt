@@ -10,7 +10,8 @@ use Rattle.zf_const.specs.Standing.{shape, state, touched}
 use Rattle.zf_commands.specs.Sittings.{session}
 use Rattle.zf_run.specs.Sessions.{stream_of}
 use Rattle.zf_run.proofs.Looking.{stream_after, look_touched_is}
-use Rattle.zf_commands.proofs.Passing.{within_is, block_room, up_to_fits, up_to_less}
+use Rattle.zf_window.proofs.Bounds.{up_to_fits}
+use Rattle.zf_commands.proofs.Passing.{within_is, block_room, up_to_less}
 use Rattle.zf_run.proofs.const_arrays.LookedTarget.sum_of_block.Goals as goal
 
 pub sum_within-requires : goal.sum_within-requires
@@ -18,15 +19,13 @@ sum_within-requires g c = block_room c.shape-shape.result g.row.D c.dims-dims.en
 
 pub returns-clause-touched : goal.returns-clause-touched
 returns-clause-touched g c =
-    let now = c.args.self.now.array.now in
-    let b = c.args.b in
-    look_touched_is g.T.Lane.width now c.args.self.now.window (touched now b) b c.block.ensures.state (ap (λ (k : Header × List _). k.0) (stream_after now b))
-    ∙ ap (λ a. session (shape a) (state a) c.args.self.now.window) (sym c.block.follows.holds-at-none)
-
-pub returns-clause-kept : goal.returns-clause-kept
-returns-clause-kept g c =
     let a = c.args.self.now.array in
-    ap (λ (s : Header × List (List Bool)). (s, a.ghost_name)) (ap stream_of c.block.follows.holds-at-none ∙ stream_after a.now c.args.b)
+    let b = c.args.b in record {
+      does = look_touched_is g.T.Lane.width a.now c.args.self.now.window (touched a.now b) b c.block.ensures.state (ap (λ (k : Header × List _). k.0) (stream_after a.now b))
+          ∙ ap (λ a. session (shape a) (state a) c.args.self.now.window) (sym c.block.follows.holds-at-none);
+      sound = tt;
+      kept = ap (λ (s : Header × List (List Bool)). (s, a.ghost_name)) (ap stream_of c.block.follows.holds-at-none ∙ stream_after a.now b);
+    }
 
 pub returns-clause-sum : goal.returns-clause-sum
 returns-clause-sum g c =

@@ -4,6 +4,7 @@ use Rattle.zf_twoway.specs.Runs.{twoway_setting}
 use Rattle.zf_commands.specs.declared.kinds.Kind.TheVariants as kinds
 use Rattle.zf_commands.specs.Kinds.{read_cmd, write_cmd, cmd_of_kind}
 use Rattle.zf_commands.proofs.Commanding.{taken, not_taken}
+use Rattle.zf_commands.proofs.Lining.{unmoved, obeyed}
 use Rattle.zf_commands.proofs.Sorting.{by_kind, same_plain, not_windowless}
 use Rattle.zf_run.specs.Pairs.{pair_session, two_setting_of}
 use Rattle.zf_run.proofs.pairs.PairScripted.obey.Goals as goal
@@ -39,3 +40,12 @@ returns-in_default-clause-step g c =
     let s = pair_session g.T.Lane.value p.store.now p.cache.now p.window in
     let k = c.kind_of.result in
     not_taken (two_setting_of g.T.Lane.width p.store.now.header) c.args.cmd (cmd_of_kind k) c.kind_of.ensures s (by_kind s k is_windowless false (not_windowless k c.in_default.not-Read c.in_default.not-Write))
+
+pub returns-in-Read-clause-stays : goal.returns-in-Read-clause-stays
+returns-in-Read-clause-stays g c = obeyed c.read.ensures
+
+pub returns-in-Write-clause-stays : goal.returns-in-Write-clause-stays
+returns-in-Write-clause-stays g c = obeyed c.write.ensures
+
+pub returns-in_default-clause-stays : goal.returns-in_default-clause-stays
+returns-in_default-clause-stays g c = unmoved c.requires.ready

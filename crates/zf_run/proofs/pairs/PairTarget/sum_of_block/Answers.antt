@@ -9,8 +9,9 @@ use Rattle.zf_header.specs.declared.header.Header.{Header}
 use Rattle.zf_cached.specs.Steps.{total}
 use Rattle.zf_store.specs.Stored.{Frame, code_at}
 use Rattle.zf_twoway.specs.Standing.{state_of, Fits}
-use Rattle.zf_commands.proofs.Passing.{within_is, block_room, up_to_fits, up_to_less}
-use Rattle.zf_run.proofs.Pairing.{two_blocks, two_below, touched_two}
+use Rattle.zf_window.proofs.Bounds.{up_to_fits}
+use Rattle.zf_commands.proofs.Passing.{within_is, block_room, up_to_less}
+use Rattle.zf_run.proofs.Pairing.{two_blocks, two_below, touched_two, same_pair}
 use Rattle.zf_run.proofs.pairs.PairTarget.sum_of_block.Goals as goal
 
 pub block-requires : goal.block-requires
@@ -23,17 +24,15 @@ sum_within-requires g c =
     let s = c.args.self.now.store.now in let st = c.header.ensures.whole in
     block_room s.header.shape g.row.D st.shape st.dims (length c.block.result.now) c.block.ensures.shows.size
 
-pub returns-clause-sound : goal.returns-clause-sound
-returns-clause-sound g c =
-    let t = c.block.new.back in
-    subst (λ (f : Format (List Bool)). Fits g.T.Lane.value c.block.follows.lender-at-none f (code_at t)) (sym c.block.ensures.shows.format) c.block.follows.holds-at-none.fits
-
 pub returns-clause-touched : goal.returns-clause-touched
 returns-clause-touched g c =
     let s = c.args.self.now.store.now in let k = c.args.self.now.cache.now in let value = g.T.Lane.value in let w = g.T.Lane.width in
-    let t = c.block.new.back in let e = c.block.follows.lender-at-none in let head = ap (λ (q : Frame). q.header) c.block.ensures.shows.kept in
-    touched_two w s c.header.ensures.whole.same_type value k c.args.self.now.window t e head c.args.b
-    (ap (λ (f : Format (List Bool)). state_of value e f (code_at t)) c.block.ensures.shows.format ∙ c.block.follows.holds-at-none.state)
+    let t = c.block.new.back in let e = c.block.follows.lender-at-none in let head = ap (λ (q : Frame). q.header) c.block.ensures.shows.kept in record {
+      does = touched_two w s c.header.ensures.whole.same_type value k c.args.self.now.window t e head c.args.b
+          (ap (λ (f : Format (List Bool)). state_of value e f (code_at t)) c.block.ensures.shows.format ∙ c.block.follows.holds-at-none.state);
+      sound = subst (λ (f : Format (List Bool)). Fits value e f (code_at t)) (sym c.block.ensures.shows.format) c.block.follows.holds-at-none.fits;
+      kept = same_pair _ _ s t head;
+    }
 
 pub returns-clause-sum : goal.returns-clause-sum
 returns-clause-sum g c =

@@ -13,13 +13,13 @@ pub obey_parted-requires : goal.obey_parted-requires
 obey_parted-requires g c =
     let p = c.args.self.now in
     let plain = same_plain (parted_session g.T.Lane.value p.array.now p.views.now p.window) c.args.cmd (cmd_of_kind c.kind_of-asked.result) c.kind_of-asked.ensures c.requires.plain in
-    (lit< tt, (c.requires.sound, (sym c.is_some.ensures ∙ c.if-is_some.true, (c.requires.window, plain))))
+    (lit< tt, (c.requires.ready.sound, (sym c.is_some.ensures ∙ c.if-is_some.true, (c.requires.ready.window, plain))))
 
 pub obey_whole-requires : goal.obey_whole-requires
 obey_whole-requires g c =
     let p = c.args.self.now in
     let plain = same_plain (session_of p.array.now p.window) c.args.cmd (cmd_of_kind c.kind_of-asked.result) c.kind_of-asked.ensures c.requires.plain in
-    (lit< tt, (none_parted p.views.now (sym c.is_some.ensures ∙ c.if-is_some.false), (c.requires.window, plain)))
+    (lit< tt, (none_parted p.views.now (sym c.is_some.ensures ∙ c.if-is_some.false), (c.requires.ready.window, plain)))
 
 pub returns-then-is_some-clause-step : goal.returns-then-is_some-clause-step
 unfolding array_setting
@@ -39,3 +39,17 @@ returns-else-is_some-clause-step g c =
     subst (λ o. let s = parted_session value p.array.now o p.window in Takes S s (asked s c.args.cmd) t (said c.obey_whole.result))
     (sym (none_parted p.views.now (sym c.is_some.ensures ∙ c.if-is_some.false)))
     (taken S c.args.cmd (cmd_of_kind c.kind_of-asked.result) c.kind_of-asked.ensures (session_of p.array.now p.window) t _ refl c.obey_whole.ensures.does)
+
+pub returns-then-is_some-clause-stays : goal.returns-then-is_some-clause-stays
+returns-then-is_some-clause-stays g c =
+    let told = c.obey_parted.ensures in record {
+      ready = record { sound = told.sound; window = told.does.inside };
+      kept = λ i. (told.kept i, told.same_array i);
+    }
+
+pub returns-else-is_some-clause-stays : goal.returns-else-is_some-clause-stays
+returns-else-is_some-clause-stays g c =
+    let told = c.obey_whole.ensures in record {
+      ready = record { sound = told.sound; window = told.does.inside };
+      kept = λ i. (told.kept i, told.same_array i);
+    }

@@ -1,0 +1,5 @@
+use Rattle.std.proofs.Common.{refl}
+use Rattle.zf_run.proofs.const_arrays.LookedTarget.use_window.Goals as goal
+
+pub returns : goal.returns
+returns g c = record { does = refl; sound = tt; kept = refl }

@@ -1,0 +1,5 @@
+use Rattle.std.proofs.Common.{refl}
+use Rattle.zf_run.proofs.pairs.PairTarget.use_window.Goals as goal
+
+pub returns : goal.returns
+returns g c = record { does = refl; sound = c.requires.sound; kept = refl }
