@@ -49,8 +49,8 @@ impl<'a, T: Lane, const D: usize> Parted<'a, T, D> {
         ensures ended { ended (setting_of T.width self.old.array.now)
             (parted_session T.value self.old.array.now self.old.views.now self.old.window)
             ≡ session_of self.new.array.now self.new.window }
-        ensures kept { kind self.new.array.now ≡ kind self.old.array.now }
-        ensures same_array { self.new.array.ghost_name ≡ self.old.array.ghost_name }
+        ensures kept { (kind self.new.array.now ≡ kind self.old.array.now)
+            × (self.new.array.ghost_name ≡ self.old.array.ghost_name) }
     {
         self.join();
         let array = &mut *self.array;
@@ -66,8 +66,8 @@ impl<'a, T: Lane, const D: usize> Parted<'a, T, D> {
             (parted_session T.value self.old.array.now self.old.views.now self.old.window)
             ≡ session_of self.new.array.now self.new.window }
         ensures whole { self.new.views.now ≡ None }
-        ensures kept { kind self.new.array.now ≡ kind self.old.array.now }
-        ensures same_array { self.new.array.ghost_name ≡ self.old.array.ghost_name }
+        ensures kept { (kind self.new.array.now ≡ kind self.old.array.now)
+            × (self.new.array.ghost_name ≡ self.old.array.ghost_name) }
     {
         let array = &mut *self.array;
         let parts = &mut *self.views;
@@ -84,8 +84,8 @@ impl<'a, T: Lane, const D: usize> Parted<'a, T, D> {
         ensures does { Does (setting_of T.width self.old.array.now) (Command.split count lines)
             (session_of self.old.array.now self.old.window) (parted_session T.value self.new.array.now self.new.views.now self.new.window) (said result) }
         ensures sound { FitTogether T.value D self.new.array.now self.new.views.now }
-        ensures kept { kind self.new.array.now ≡ kind self.old.array.now }
-        ensures same_array { self.new.array.ghost_name ≡ self.old.array.ghost_name }
+        ensures kept { (kind self.new.array.now ≡ kind self.old.array.now)
+            × (self.new.array.ghost_name ≡ self.old.array.ghost_name) }
     {
         let array = &mut *self.array;
         let shape = array.shape();
@@ -110,8 +110,8 @@ impl<'a, T: Lane, const D: usize> Parted<'a, T, D> {
         ensures does { Does (setting_of T.width self.old.array.now) (asked (session_of self.old.array.now self.old.window) (cmd_of_kind cmd))
             (session_of self.old.array.now self.old.window) (parted_session T.value self.new.array.now self.new.views.now self.new.window) (said result) }
         ensures sound { FitTogether T.value D self.new.array.now self.new.views.now }
-        ensures kept { kind self.new.array.now ≡ kind self.old.array.now }
-        ensures same_array { self.new.array.ghost_name ≡ self.old.array.ghost_name }
+        ensures kept { (kind self.new.array.now ≡ kind self.old.array.now)
+            × (self.new.array.ghost_name ≡ self.old.array.ghost_name) }
     {
         match cmd {
             Kind::Read(asked) => {
@@ -145,8 +145,8 @@ impl<'a, T: Lane, const D: usize> Parted<'a, T, D> {
         ensures does { Does (setting_of T.width self.old.array.now) (asked (parted_session T.value self.old.array.now self.old.views.now self.old.window) (cmd_of_kind cmd))
             (parted_session T.value self.old.array.now self.old.views.now self.old.window) (parted_session T.value self.new.array.now self.new.views.now self.new.window) (said result) }
         ensures sound { FitTogether T.value D self.new.array.now self.new.views.now }
-        ensures kept { kind self.new.array.now ≡ kind self.old.array.now }
-        ensures same_array { self.new.array.ghost_name ≡ self.old.array.ghost_name }
+        ensures kept { (kind self.new.array.now ≡ kind self.old.array.now)
+            × (self.new.array.ghost_name ≡ self.old.array.ghost_name) }
     {
         match cmd {
             Kind::Join => {
@@ -166,8 +166,8 @@ impl<'a, T: Lane, const D: usize> Parted<'a, T, D> {
         ensures does { Does (setting_of T.width self.old.array.now) (asked (parted_session T.value self.old.array.now self.old.views.now self.old.window) (view_cmd i cmd))
             (parted_session T.value self.old.array.now self.old.views.now self.old.window) (parted_session T.value self.new.array.now self.new.views.now self.new.window) (said result) }
         ensures sound { FitTogether T.value D self.new.array.now self.new.views.now }
-        ensures kept { kind self.new.array.now ≡ kind self.old.array.now }
-        ensures same_array { self.new.array.ghost_name ≡ self.old.array.ghost_name }
+        ensures kept { (kind self.new.array.now ≡ kind self.old.array.now)
+            × (self.new.array.ghost_name ≡ self.old.array.ghost_name) }
     {
         let array = &mut *self.array;
         let Some(views) = &mut *self.views else {

@@ -44,12 +44,12 @@ pub returns-then-is_some-clause-stays : goal.returns-then-is_some-clause-stays
 returns-then-is_some-clause-stays g c =
     let told = c.obey_parted.ensures in record {
       ready = record { sound = told.sound; window = told.does.inside };
-      kept = λ i. (told.kept i, told.same_array i);
+      kept = λ i. (told.kept.0 i, told.kept.1 i);
     }
 
 pub returns-else-is_some-clause-stays : goal.returns-else-is_some-clause-stays
 returns-else-is_some-clause-stays g c =
     let told = c.obey_whole.ensures in record {
       ready = record { sound = told.sound; window = told.does.inside };
-      kept = λ i. (told.kept i, told.same_array i);
+      kept = λ i. (told.kept.0 i, told.kept.1 i);
     }
