@@ -8,7 +8,7 @@ ghost use Rattle.zf_pad.specs.Slabs.{row_len, rows_of};
 ghost use Rattle.zf_base.specs.Widths.{width_of};
 ghost use Rattle.zf_header.specs.HeaderBits.{IsMode, header_bits};
 ghost use Rattle.zf_parse.specs.Raw.{raw_len, compress_answer, stream_text};
-ghost use Rattle.zf_dev.specs.Faults.{HasCause};
+ghost use Rattle.zf_dev.specs.Devices.{Reads, Writes};
 ghost use Rattle.zf_dev.specs.Source.{Gives, GivesSome};
 ghost use Rattle.zf_stream.specs.Outcomes.{CanRefuse, ShowsLength, Answers, Finishes, LeavesPrefix, WritesText, WritesPrefix, IsRefusal};
 ghost use Rattle.zf_parse.specs.Parsing.{longest_code};
@@ -62,11 +62,8 @@ pub fn compress<S: Source, O: Sink>(
     ensures gave_prefix { OnErr result (WritesPrefix (stream_text h.now)
         (Gives (S.gave src.old) (S.gave src.new)) (O.contents out.old) (O.contents out.new)) }
     ensures unwritten { result ≡ Err Memory → O.contents out.new ≡ O.contents out.old }
-    ensures same_source { S.kept src.new ≡ S.kept src.old }
-    ensures read_cause { HasCause (result ≡ Err Read) (S.faults src.old) (S.faults src.new) }
-    ensures same_sink { O.kept out.new ≡ O.kept out.old }
-    ensures write_cause { HasCause (result ≡ Err Write) (O.faults out.old) (O.faults out.new) }
-    ensures sure { S.never_fails src.old → (result ≢ Err Read) × S.never_fails src.new }
+    ensures source { Reads S.Source (result ≡ Err Read) src.old src.new }
+    ensures sink { Writes O.Sink (result ≡ Err Write) out.old out.new }
 {
     src.read_ahead();
     compress_ahead(alloc, h, src, out)
@@ -92,11 +89,8 @@ fn compress_ahead<S: Source, O: Sink>(
     ensures gave_prefix { OnErr result (WritesPrefix (stream_text h.now)
         (Gives (S.gave src.old) (S.gave src.new)) (O.contents out.old) (O.contents out.new)) }
     ensures unwritten { result ≡ Err Memory → O.contents out.new ≡ O.contents out.old }
-    ensures same_source { S.kept src.new ≡ S.kept src.old }
-    ensures read_cause { HasCause (result ≡ Err Read) (S.faults src.old) (S.faults src.new) }
-    ensures same_sink { O.kept out.new ≡ O.kept out.old }
-    ensures write_cause { HasCause (result ≡ Err Write) (O.faults out.old) (O.faults out.new) }
-    ensures sure { S.never_fails src.old → (result ≢ Err Read) × S.never_fails src.new }
+    ensures source { Reads S.Source (result ≡ Err Read) src.old src.new }
+    ensures sink { Writes O.Sink (result ≡ Err Write) out.old out.new }
 {
     match h.ty {
         Ty::I32 => compress_as::<i32, S, O>(alloc, h, src, out),
@@ -125,11 +119,8 @@ fn compress_as<T: Lane, S: Source, O: Sink>(
     ensures gave_prefix { OnErr result (WritesPrefix (stream_text h.now)
         (Gives (S.gave src.old) (S.gave src.new)) (O.contents out.old) (O.contents out.new)) }
     ensures unwritten { result ≡ Err Memory → O.contents out.new ≡ O.contents out.old }
-    ensures same_source { S.kept src.new ≡ S.kept src.old }
-    ensures read_cause { HasCause (result ≡ Err Read) (S.faults src.old) (S.faults src.new) }
-    ensures same_sink { O.kept out.new ≡ O.kept out.old }
-    ensures write_cause { HasCause (result ≡ Err Write) (O.faults out.old) (O.faults out.new) }
-    ensures sure { S.never_fails src.old → (result ≢ Err Read) × S.never_fails src.new }
+    ensures source { Reads S.Source (result ≡ Err Read) src.old src.new }
+    ensures sink { Writes O.Sink (result ≡ Err Write) out.old out.new }
 {
     let dims = h.shape.dims();
     let rows = most_rows(&h.shape).min(rows_of(&h.shape));
@@ -192,11 +183,8 @@ fn write_stream<T: Lane, S: Source, O: Sink>(
     ensures gave_prefix { OnErr result (WritesPrefix (stream_text h.now)
         (Gives (S.gave src.old) (S.gave src.new)) (O.contents out.old) (O.contents out.new)) }
     ensures unwritten { result ≢ Err Memory }
-    ensures same_source { S.kept src.new ≡ S.kept src.old }
-    ensures read_cause { HasCause (result ≡ Err Read) (S.faults src.old) (S.faults src.new) }
-    ensures same_sink { O.kept out.new ≡ O.kept out.old }
-    ensures write_cause { HasCause (result ≡ Err Write) (O.faults out.old) (O.faults out.new) }
-    ensures sure { S.never_fails src.old → (result ≢ Err Read) × S.never_fails src.new }
+    ensures source { Reads S.Source (result ≡ Err Read) src.old src.new }
+    ensures sink { Writes O.Sink (result ≡ Err Write) out.old out.new }
 {
     // Known by this call: there is an axis.
     let _dims = h.shape.dims();
@@ -239,11 +227,8 @@ fn write_slabs<T: Lane, S: Source, O: Sink>(
     ensures unwanted { IfErr result (λ e. e ≢ Memory) }
     ensures few { OnOk result (length codes.new.bits < most) }
     ensures room { OnOk result (length codes.old.bits + codes.old.room ≤ length codes.new.bits + codes.new.room) }
-    ensures same_source { S.kept src.new ≡ S.kept src.old }
-    ensures read_cause { HasCause (result ≡ Err Read) (S.faults src.old) (S.faults src.new) }
-    ensures same_sink { O.kept out.new ≡ O.kept out.old }
-    ensures write_cause { HasCause (result ≡ Err Write) (O.faults out.old) (O.faults out.new) }
-    ensures sure { S.never_fails src.old → (result ≢ Err Read) × S.never_fails src.new }
+    ensures source { Reads S.Source (result ≡ Err Read) src.old src.new }
+    ensures sink { Writes O.Sink (result ≡ Err Write) out.old out.new }
 {
     // Known by this call: the array has no more values than there may be.
     let _dims = h.shape.dims();
@@ -311,11 +296,8 @@ fn write_slab<T: Lane, S: Source, O: Sink>(
     ensures few { OnOk result (length codes.new.bits < most) }
     ensures room { OnOk result (length codes.old.bits + codes.old.room ≤ length codes.new.bits + codes.new.room) }
     ensures scratch { s.new ≡ s.old }
-    ensures same_source { S.kept src.new ≡ S.kept src.old }
-    ensures read_cause { HasCause (result ≡ Err Read) (S.faults src.old) (S.faults src.new) }
-    ensures same_sink { O.kept out.new ≡ O.kept out.old }
-    ensures write_cause { HasCause (result ≡ Err Write) (O.faults out.old) (O.faults out.new) }
-    ensures sure { S.never_fails src.old → (result ≢ Err Read) × S.never_fails src.new }
+    ensures source { Reads S.Source (result ≡ Err Read) src.old src.new }
+    ensures sink { Writes O.Sink (result ≡ Err Write) out.old out.new }
 {
     read_values(taken, values, piece, src)?;
     write_codes(layout, part, values, block, s, codes, most, piece, out)

@@ -4,7 +4,7 @@ ghost use Rattle.std.specs.Prelude.{◌≡◌, ◌≢◌, ◌-◌, ◌+◌, ◌*
 ghost use Rattle.zf_spec.specs.Grid.{product, blocks, extent_of};
 ghost use Rattle.zf_base.specs.Widths.{width_of};
 ghost use Rattle.zf_pad.specs.Stored.{HasWholeBlocks, raster_of};
-ghost use Rattle.zf_dev.specs.Faults.{HasCause};
+ghost use Rattle.zf_dev.specs.Devices.{Reads};
 ghost use Rattle.zf_parse.specs.Parsing.{longest_code};
 ghost use Rattle.zf_parse.specs.ReadStreams.{ReadsCode, LacksCode};
 ghost use Rattle.zf_stream.specs.Windows.{left_of, KnowsEnd};
@@ -48,9 +48,7 @@ pub(crate) fn read_slab<T: Lane, S: Source>(
     ensures values { vec_capacity stored.old ≤ vec_capacity stored.new }
     ensures room { OnOk result (window.new.room ≡ window.old.room) }
     ensures ended { OnOk result (KnowsEnd window.new (S.contents src.new)) }
-    ensures same_source { S.kept src.new ≡ S.kept src.old }
-    ensures cause { HasCause (result ≡ Err Read) (S.faults src.old) (S.faults src.new) }
-    ensures sure { S.never_fails src.old → (result ≢ Err Read) × S.never_fails src.new }
+    ensures source { Reads S.Source (result ≡ Err Read) src.old src.new }
 {
     stored.clear();
     let whole = has_whole_blocks(&part.shape);

@@ -10,7 +10,7 @@ ghost use Rattle.zf_base.specs.Positions.{used_axes, IsExtent};
 ghost use Rattle.zf_bits.specs.Writer.{Appends};
 ghost use Rattle.zf_header.specs.HeaderBits.{coding};
 ghost use Rattle.zf_pad.specs.Rasters.{IsRaster};
-ghost use Rattle.zf_dev.specs.Faults.{HasCause};
+ghost use Rattle.zf_dev.specs.Devices.{Writes};
 ghost use Rattle.zf_stream.specs.Flows.{Flows, Spills};
 ghost use Rattle.zf_parse.specs.Parsing.{longest_code};
 ghost use Rattle.zf_parse.specs.declared.fault.StreamFault.TheVariants.{Write};
@@ -54,8 +54,7 @@ pub(crate) fn write_codes<T: Lane, O: Sink>(
     ensures few { OnOk result (length codes.new.bits < most) }
     ensures room { OnOk result (length codes.old.bits + codes.old.room ≤ length codes.new.bits + codes.new.room) }
     ensures scratch { s.new ≡ s.old }
-    ensures same_sink { O.kept out.new ≡ O.kept out.old }
-    ensures cause { HasCause (result ≡ Err Write) (O.faults out.old) (O.faults out.new) }
+    ensures sink { Writes O.Sink (result ≡ Err Write) out.old out.new }
 {
     for b in 0..h.shape.blocks() {
         write_code(layout, h, values, b, block, s, codes);
@@ -78,8 +77,7 @@ fn write_where_many<O: Sink>(
     ensures fault { IfErr result (λ e. e ≡ Write) }
     ensures few { OnOk result (length codes.new.bits < most) }
     ensures room { OnOk result (length codes.old.bits + codes.old.room ≤ length codes.new.bits + codes.new.room) }
-    ensures same_sink { O.kept out.new ≡ O.kept out.old }
-    ensures cause { HasCause (result ≡ Err Write) (O.faults out.old) (O.faults out.new) }
+    ensures sink { Writes O.Sink (result ≡ Err Write) out.old out.new }
 {
     if codes.len() < most {
         return Ok(());

@@ -4,7 +4,7 @@ ghost use Rattle.std.specs.Prelude.{◌≡◌, ◌≢◌, ◌≤◌, ◌<◌, �
 ghost use Rattle.zf_pad.specs.Slabs.{row_len, rows_of};
 ghost use Rattle.zf_base.specs.Widths.{width_of};
 ghost use Rattle.zf_header.specs.declared.header.HeaderFault.{HeaderFault};
-ghost use Rattle.zf_dev.specs.Faults.{HasCause};
+ghost use Rattle.zf_dev.specs.Devices.{Reads, Writes};
 ghost use Rattle.zf_dev.specs.Source.{IsAtEnd};
 ghost use Rattle.zf_parse.specs.Parsing.{restore_answer, restored_text, longest_code};
 ghost use Rattle.zf_stream.specs.Outcomes.{CanRefuse, Answers, Finishes, LeavesPrefix, IsBeforeWriting};
@@ -57,11 +57,8 @@ pub fn restore<S: Source, O: Sink>(
         (S.contents src.old) (S.contents src.new) (O.contents out.old) (O.contents out.new)) }
     ensures unwritten { IfErr result (λ e. IsBeforeWriting e → O.contents out.new ≡ O.contents out.old) }
     ensures memory { result ≡ Err Memory → HasGoodHeader (S.contents src.old) }
-    ensures same_source { S.kept src.new ≡ S.kept src.old }
-    ensures read_cause { HasCause (result ≡ Err Read) (S.faults src.old) (S.faults src.new) }
-    ensures same_sink { O.kept out.new ≡ O.kept out.old }
-    ensures write_cause { HasCause (result ≡ Err Write) (O.faults out.old) (O.faults out.new) }
-    ensures sure { S.never_fails src.old → (result ≢ Err Read) × S.never_fails src.new }
+    ensures source { Reads S.Source (result ≡ Err Read) src.old src.new }
+    ensures sink { Writes O.Sink (result ≡ Err Write) out.old out.new }
 {
     let mut prefix = [0; PREFIX];
     let count = read_into(src, &mut prefix)?;
@@ -85,11 +82,8 @@ pub fn restore_where<S: Source, O: Sink>(
         (S.contents src.old) (S.contents src.new) (O.contents out.old) (O.contents out.new)) }
     ensures unwritten { IfErr result (λ e. IsBeforeWriting e → O.contents out.new ≡ O.contents out.old) }
     ensures memory { result ≡ Err Memory → HasGoodHeader (S.contents src.old) }
-    ensures same_source { S.kept src.new ≡ S.kept src.old }
-    ensures read_cause { HasCause (result ≡ Err Read) (S.faults src.old) (S.faults src.new) }
-    ensures same_sink { O.kept out.new ≡ O.kept out.old }
-    ensures write_cause { HasCause (result ≡ Err Write) (O.faults out.old) (O.faults out.new) }
-    ensures sure { S.never_fails src.old → (result ≢ Err Read) × S.never_fails src.new }
+    ensures source { Reads S.Source (result ≡ Err Read) src.old src.new }
+    ensures sink { Writes O.Sink (result ≡ Err Write) out.old out.new }
 {
     let mut prefix = [0; PREFIX];
     let read = read_into(src, &mut prefix)?;
@@ -120,11 +114,8 @@ fn restore_behind<S: Source, O: Sink>(
     ensures err { OnErr result (LeavesPrefix restored_text
         (behind prefix.now (S.contents src.old)) (S.contents src.new) (O.contents out.old) (O.contents out.new)) }
     ensures unwritten { IfErr result (λ e. IsBeforeWriting e → O.contents out.new ≡ O.contents out.old) }
-    ensures same_source { S.kept src.new ≡ S.kept src.old }
-    ensures read_cause { HasCause (result ≡ Err Read) (S.faults src.old) (S.faults src.new) }
-    ensures same_sink { O.kept out.new ≡ O.kept out.old }
-    ensures write_cause { HasCause (result ≡ Err Write) (O.faults out.old) (O.faults out.new) }
-    ensures sure { S.never_fails src.old → (result ≢ Err Read) × S.never_fails src.new }
+    ensures source { Reads S.Source (result ≡ Err Read) src.old src.new }
+    ensures sink { Writes O.Sink (result ≡ Err Write) out.old out.new }
 {
     src.read_ahead();
     restore_ahead(alloc, h, header_len, prefix, src, out)
@@ -149,11 +140,8 @@ fn restore_ahead<S: Source, O: Sink>(
     ensures err { OnErr result (LeavesPrefix restored_text
         (behind prefix.now (S.contents src.old)) (S.contents src.new) (O.contents out.old) (O.contents out.new)) }
     ensures unwritten { IfErr result (λ e. IsBeforeWriting e → O.contents out.new ≡ O.contents out.old) }
-    ensures same_source { S.kept src.new ≡ S.kept src.old }
-    ensures read_cause { HasCause (result ≡ Err Read) (S.faults src.old) (S.faults src.new) }
-    ensures same_sink { O.kept out.new ≡ O.kept out.old }
-    ensures write_cause { HasCause (result ≡ Err Write) (O.faults out.old) (O.faults out.new) }
-    ensures sure { S.never_fails src.old → (result ≢ Err Read) × S.never_fails src.new }
+    ensures source { Reads S.Source (result ≡ Err Read) src.old src.new }
+    ensures sink { Writes O.Sink (result ≡ Err Write) out.old out.new }
 {
     match h.ty {
         Ty::I32 => restore_as::<i32, S, O>(alloc, h, header_len, prefix, src, out),
@@ -181,11 +169,8 @@ fn restore_as<T: Lane, S: Source, O: Sink>(
     ensures err { OnErr result (LeavesPrefix restored_text
         (behind prefix.now (S.contents src.old)) (S.contents src.new) (O.contents out.old) (O.contents out.new)) }
     ensures unwritten { IfErr result (λ e. IsBeforeWriting e → O.contents out.new ≡ O.contents out.old) }
-    ensures same_source { S.kept src.new ≡ S.kept src.old }
-    ensures read_cause { HasCause (result ≡ Err Read) (S.faults src.old) (S.faults src.new) }
-    ensures same_sink { O.kept out.new ≡ O.kept out.old }
-    ensures write_cause { HasCause (result ≡ Err Write) (O.faults out.old) (O.faults out.new) }
-    ensures sure { S.never_fails src.old → (result ≢ Err Read) × S.never_fails src.new }
+    ensures source { Reads S.Source (result ≡ Err Read) src.old src.new }
+    ensures sink { Writes O.Sink (result ≡ Err Write) out.old out.new }
 {
     // tells that there is an axis
     let _dims = h.shape.dims();
@@ -237,11 +222,8 @@ fn restore_rows<T: Lane, S: Source, O: Sink>(
     ensures err { OnErr result (LeavesRows h.now
         (S.contents src.old) (S.contents src.new) (O.contents out.old) (O.contents out.new) window.old) }
     ensures refused { IfErr result (Refuses h.now (S.contents src.old) (S.contents src.new) window.old) }
-    ensures same_source { S.kept src.new ≡ S.kept src.old }
-    ensures read_cause { HasCause (result ≡ Err Read) (S.faults src.old) (S.faults src.new) }
-    ensures same_sink { O.kept out.new ≡ O.kept out.old }
-    ensures write_cause { HasCause (result ≡ Err Write) (O.faults out.old) (O.faults out.new) }
-    ensures sure { S.never_fails src.old → (result ≢ Err Read) × S.never_fails src.new }
+    ensures source { Reads S.Source (result ≡ Err Read) src.old src.new }
+    ensures sink { Writes O.Sink (result ≡ Err Write) out.old out.new }
 {
     restore_slabs(h, rows, longest, window, stored, lines, piece, src, out)?;
     // The fill has less than a word, so what is told of 64 bits is told of all that follow.
@@ -276,11 +258,8 @@ fn restore_slabs<T: Lane, S: Source, O: Sink>(
     ensures refused { IfErr result (Refuses h.now (S.contents src.old) (S.contents src.new) window.old) }
     ensures room { OnOk result (window.new.room ≡ window.old.room) }
     ensures ended { OnOk result (KnowsEnd window.new (S.contents src.new)) }
-    ensures same_source { S.kept src.new ≡ S.kept src.old }
-    ensures read_cause { HasCause (result ≡ Err Read) (S.faults src.old) (S.faults src.new) }
-    ensures same_sink { O.kept out.new ≡ O.kept out.old }
-    ensures write_cause { HasCause (result ≡ Err Write) (O.faults out.old) (O.faults out.new) }
-    ensures sure { S.never_fails src.old → (result ≢ Err Read) × S.never_fails src.new }
+    ensures source { Reads S.Source (result ≡ Err Read) src.old src.new }
+    ensures sink { Writes O.Sink (result ≡ Err Write) out.old out.new }
 {
     // Known by these calls: there is an axis, and blocks are counted in a word.
     let size = block_len(h.shape.dims());

@@ -13,6 +13,7 @@ use Rattle.zf_stream.proofs.OnErrors.{on_err}
 use Rattle.zf_stream.proofs.Slabwise.{part_of, with_shape, next_slab, slab_written, slab_broken, slab_refused, slab_possible, slab_wanted, slab_sizes, longest_part, raw_small, rows_len-add, no_rows, zero_rows}
 use Rattle.std.proofs.lemmas.Bool.{cases_lt}
 use Rattle.std.proofs.lemmas.Result.{err_from_is_err_and}
+use Rattle.zf_dev.proofs.Devices.{Reads-none, Reads-more, Writes-none, Writes-more}
 use Rattle.zf_stream.proofs.compressing.write_slabs.Goals as goal
 
 -- the smaller of two numbers is one of them
@@ -26,11 +27,8 @@ loop-row-init g c = record {
   few = c.requires.few;
   room = omega arith;
   scratch = refl;
-  same_source = refl;
-  same_sink = refl;
-  reads = omega arith;
-  writes = omega arith;
-  sure = λ sure. sure;
+  source = Reads-none _;
+  sink = Writes-none _;
 }
 
 pub slice_bounds-write_slab-end : goal.slice_bounds-write_slab-end
@@ -178,11 +176,8 @@ loop-row-preserved g c =
       few = c.in_ok-write_slab.ensures.few;
       room = omega (arith, c.loop-row.invariant.room, c.in_ok-write_slab.ensures.room);
       scratch = c.write_slab.ensures.scratch ∙ c.loop-row.invariant.scratch;
-      same_source = c.write_slab.ensures.same_source ∙ c.loop-row.invariant.same_source;
-      same_sink = c.write_slab.ensures.same_sink ∙ c.loop-row.invariant.same_sink;
-      reads = omega (arith, c.loop-row.invariant.reads, c.write_slab.ensures.read_cause.0);
-      writes = omega (arith, c.loop-row.invariant.writes, c.write_slab.ensures.write_cause.0);
-      sure = λ sure. (c.write_slab.ensures.sure (c.loop-row.invariant.sure sure)).1;
+      source = Reads-more c.loop-row.invariant.source c.write_slab.ensures.source;
+      sink = Writes-more c.loop-row.invariant.sink c.write_slab.ensures.sink;
     }
 
 pub write_slab-requires-clause-raster : goal.write_slab-requires-clause-raster

@@ -15,6 +15,7 @@ use Rattle.zf_stream.specs.Restoring.{stream_from, LacksSlab}
 use Rattle.zf_parse.proofs.Enough.{enough_for_one}
 use Rattle.zf_parse.proofs.Joining.{read_codes-next, read_codes-cut}
 use Rattle.zf_stream.proofs.Windows.{Goes-none, Goes-next, Goes-read, codes_refilled}
+use Rattle.zf_dev.proofs.Devices.{Reads-none, Reads-more}
 use Rattle.zf_stream.proofs.decoding.read_slab.Goals as goal
 
 pub loop-b-init : goal.loop-b-init
@@ -32,9 +33,7 @@ loop-b-init g c =
       whole = c.requires.whole;
       room = refl;
       ended = c.requires.ended;
-      same_source = refl;
-      faults = omega arith;
-      sure = λ sure. sure;
+      source = Reads-none _;
     }
 
 pub returns-in_err-reach-clause-err : goal.returns-in_err-reach-clause-err
@@ -114,9 +113,7 @@ loop-b-preserved g c =
       whole = c.read_block.auto.block ∙ so_far.whole;
       room = c.read_block.ensures.room ∙ refill.room ∙ so_far.room;
       ended = λ is. c.in_ok-reach.ensures.ended (sym c.read_block.ensures.ended ∙ is);
-      same_source = c.reach.ensures.same_source ∙ so_far.same_source;
-      faults = omega (arith, so_far.faults, c.reach.ensures.cause.0);
-      sure = λ sure. (c.reach.ensures.sure (so_far.sure sure)).1;
+      source = Reads-more so_far.source c.reach.ensures.source;
     }
 
 pub returns-clause-ok : goal.returns-clause-ok

@@ -5,6 +5,7 @@ use Rattle.zf_pad.proofs.Stored.{Stores}
 use Rattle.zf_parse.specs.Parsing.{read_codes}
 use Rattle.zf_stream.specs.Windows.{left_of, KnowsEnd, Goes}
 use Rattle.zf_stream.specs.Restoring.{stream_from}
+use Rattle.zf_dev.specs.Devices.{Reads}
 use Rattle.zf_stream.proofs.decoding.read_slab.Given as goal
 
 pub record Decoded (g : goal.Over) (l : goal.Live-loop-b g) : Type 0 where
@@ -19,9 +20,7 @@ pub record Decoded (g : goal.Over) (l : goal.Live-loop-b g) : Type 0 where
   pub whole : length l.block ≡ 4 ^ length l.part.shape
   pub room : l.window.room ≡ l.fn.window.room
   pub ended : KnowsEnd l.window (g.S.Source.contents l.src)
-  pub same_source : g.S.Source.kept l.src ≡ g.S.Source.kept l.fn.src
-  pub faults : g.S.Source.faults l.fn.src ≤ g.S.Source.faults l.src
-  pub sure : g.S.Source.never_fails l.fn.src → g.S.Source.never_fails l.src
+  pub source : Reads g.S.Source ⊥ l.fn.src l.src
 
 abbrev pub invariant-loop-b : goal.invariant-loop-b
 invariant-loop-b g l = Decoded g l

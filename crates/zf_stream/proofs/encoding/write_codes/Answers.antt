@@ -8,6 +8,7 @@ use Rattle.zf_stream.specs.Flows.{Flows, Spills}
 use Rattle.zf_parse.proofs.Codes.{joined-more, joined-prefix}
 use Rattle.zf_stream.proofs.Flowing.{Flows-more, Flows-next, Flows-spill, Spills-more}
 use Rattle.zf_stream.proofs.OnErrors.{on_err}
+use Rattle.zf_dev.proofs.Devices.{Writes-more}
 use Rattle.zf_stream.proofs.encoding.write_codes.Goals as goal
 
 module _ (f : ℕ → List Bool) (start : List Bool) where
@@ -52,6 +53,5 @@ loop-b-preserved g c =
       room = omega (arith, c.loop-b.invariant.room, c.in_ok-write_where_many.ensures.room, c.write_code.ensures.code.room, length-Appends c.write_code.ensures.code);
       scratch = c.write_code.ensures.scratch ∙ c.loop-b.invariant.scratch;
       whole = c.write_code.auto.block ∙ c.loop-b.invariant.whole;
-      same_sink = c.write_where_many.ensures.same_sink ∙ c.loop-b.invariant.same_sink;
-      faults = omega (arith, c.loop-b.invariant.faults, c.write_where_many.ensures.cause.0);
+      sink = Writes-more c.loop-b.invariant.sink c.write_where_many.ensures.sink;
     }

@@ -5,6 +5,7 @@ use Rattle.zf_spec.specs.Grid.{upto, extent_of, block_of}
 use Rattle.zf_spec.specs.Stream.{block_code}
 use Rattle.zf_header.specs.HeaderBits.{coding}
 use Rattle.zf_stream.specs.Flows.{Flows}
+use Rattle.zf_dev.specs.Devices.{Writes}
 use Rattle.zf_stream.proofs.encoding.write_codes.Given as goal
 
 pub record Coded (g : goal.Over) (l : goal.Live-loop-b g) : Type 0 where
@@ -13,8 +14,7 @@ pub record Coded (g : goal.Over) (l : goal.Live-loop-b g) : Type 0 where
   pub room : length l.fn.codes.bits + l.fn.codes.room ≤ length l.codes.bits + l.codes.room
   pub scratch : l.s ≡ l.fn.s
   pub whole : length l.block ≡ 4 ^ length l.h.shape
-  pub same_sink : g.O.Sink.kept l.out ≡ g.O.Sink.kept l.fn.out
-  pub faults : g.O.Sink.faults l.fn.out ≤ g.O.Sink.faults l.out
+  pub sink : Writes g.O.Sink ⊥ l.fn.out l.out
 
 abbrev pub invariant-loop-b : goal.invariant-loop-b
 invariant-loop-b g l = Coded g l

@@ -17,6 +17,7 @@ use Rattle.zf_stream.specs.Restoring.{ReadsSlab, LacksSlab}
 use Rattle.zf_stream.proofs.OnErrors.{on_err}
 use Rattle.zf_stream.proofs.Restored.{blocks_behind, slab_restored, slab_spilled, slab_cut, slab_lacked, Restores-none}
 use Rattle.zf_stream.proofs.Slabwise.{with_shape, part_of, IsNext, next_slab, longest_part}
+use Rattle.zf_dev.proofs.Devices.{Reads-none, Reads-more, Writes-none, Writes-more}
 use Rattle.zf_stream.proofs.restoring.restore_slabs.Goals as goal
 
 -- the smaller of two numbers is one of them
@@ -67,11 +68,8 @@ loop-row-init g c = record {
   capacity = omega arith;
   room = refl;
   ended = c.requires.ended;
-  same_source = refl;
-  same_sink = refl;
-  reads = omega arith;
-  writes = omega arith;
-  sure = λ sure. sure;
+  source = Reads-none _;
+  sink = Writes-none _;
 }
 
 pub read_slab-requires-clause-values : goal.read_slab-requires-clause-values
@@ -159,9 +157,6 @@ loop-row-preserved g c =
       capacity = omega (arith, c.loop-row.invariant.capacity, c.read_slab.ensures.values);
       room = c.in_ok-read_slab.ensures.room ∙ c.loop-row.invariant.room;
       ended = c.in_ok-read_slab.ensures.ended;
-      same_source = c.read_slab.ensures.same_source ∙ c.loop-row.invariant.same_source;
-      same_sink = c.write_stored.ensures.same_sink ∙ c.loop-row.invariant.same_sink;
-      reads = omega (arith, c.loop-row.invariant.reads, c.read_slab.ensures.cause.0);
-      writes = omega (arith, c.loop-row.invariant.writes, c.write_stored.ensures.cause.0);
-      sure = λ sure. (c.read_slab.ensures.sure (c.loop-row.invariant.sure sure)).1;
+      source = Reads-more c.loop-row.invariant.source c.read_slab.ensures.source;
+      sink = Writes-more c.loop-row.invariant.sink c.write_stored.ensures.sink;
     }

@@ -11,6 +11,7 @@ use Rattle.zf_dev.specs.Sink.{Appends, AppendsPrefix}
 use Rattle.zf_dev.proofs.Appending.{Appends-append, AppendsPrefix-append, AppendsPrefix-more}
 use Rattle.zf_stream.proofs.OnErrors.{on_err}
 use Rattle.zf_stream.proofs.RawValues.{raw-append}
+use Rattle.zf_dev.proofs.Devices.{Writes-more}
 use Rattle.zf_stream.proofs.writing.write_stored.Goals as goal
 
 -- the bytes of some values more
@@ -56,8 +57,7 @@ loop-at-preserved g c =
       within = c.copy_lines-count.ensures.within;
       first = c.copy_lines-count.ensures.first;
       written = subst P (bytes_more w values at n) (Appends-append from mid to (raw w (take at values)) (raw w (take n (drop at values))) c.loop-at.invariant.written here);
-      same_sink = c.write_values-in-loop-at.ensures.same_sink ∙ c.loop-at.invariant.same_sink;
-      faults = omega (arith, c.loop-at.invariant.faults, c.write_values-in-loop-at.ensures.cause.0);
+      sink = Writes-more c.loop-at.invariant.sink c.write_values-in-loop-at.ensures.sink;
     }
 
 pub returns-clause-ok : goal.returns-clause-ok

@@ -7,6 +7,7 @@ use Rattle.zf_dev.specs.Sink.{Appends, AppendsPrefix}
 use Rattle.zf_dev.proofs.Appending.{Appends-append, AppendsPrefix-append, AppendsPrefix-more}
 use Rattle.zf_stream.specs.Flows.{bytes_in}
 use Rattle.zf_stream.proofs.OnErrors.{on_err}
+use Rattle.zf_dev.proofs.Devices.{Writes-more}
 use Rattle.zf_stream.proofs.writing.write_words.Goals as goal
 use Rattle.std.proofs.Math.Seq.{take-add}
 
@@ -58,8 +59,7 @@ loop-at-preserved g c =
     record {
       within = omega (arith, c.loop-at-test.true, c.min-n.ensures);
       written = subst P (sym (bytes_more words at n)) (Appends-append from mid to (bytes_in (take at words)) (bytes_in (take n (drop at words))) c.loop-at.invariant.written piece);
-      same_sink = c.write_bytes.ensures.same_sink ∙ c.loop-at.invariant.same_sink;
-      faults = omega (arith, c.loop-at.invariant.faults, c.write_bytes.ensures.cause.0);
+      sink = Writes-more c.loop-at.invariant.sink c.write_bytes.ensures.sink;
     }
 
 pub returns-in_err-write_bytes-clause-words : goal.returns-in_err-write_bytes-clause-words

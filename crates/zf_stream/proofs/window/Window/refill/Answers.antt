@@ -2,6 +2,7 @@ use Rattle.std.proofs.Common.{refl, sym, ◌∙◌, arith}
 use Rattle.zf_dev.proofs.Taking.{Takes-append}
 use Rattle.zf_stream.proofs.OnErrors.{on_err}
 use Rattle.zf_stream.proofs.Windows.{Refills-next, Refills-moved}
+use Rattle.zf_dev.proofs.Devices.{Reads-none, Reads-more}
 use Rattle.zf_stream.proofs.window.Window.refill.Goals as goal
 
 pub loop-self-init : goal.loop-self-init
@@ -9,9 +10,7 @@ loop-self-init g c = record {
   refills = Refills-moved (g.S.Source.contents c.args.src.now) c.args.self.now c.move_down.new.self c.move_down.ensures.bits c.move_down.ensures.room c.move_down.ensures.place;
   place = omega (arith, c.move_down.ensures.place);
   ended = λ is. c.requires.ended (sym c.move_down.ensures.ended ∙ is);
-  same_source = refl;
-  faults = omega arith;
-  sure = λ sure. sure;
+  source = Reads-none _;
 }
 
 pub loop-self-preserved : goal.loop-self-preserved
@@ -19,9 +18,7 @@ loop-self-preserved g c = record {
   refills = Refills-next c.loop-self.invariant.refills c.in_ok-append.ensures.ok;
   place = omega (arith, c.in_ok-append.ensures.place, c.loop-self.invariant.place);
   ended = c.in_ok-append.ensures.ended;
-  same_source = c.append.ensures.same_source ∙ c.loop-self.invariant.same_source;
-  faults = omega (arith, c.loop-self.invariant.faults, c.append.ensures.cause.0);
-  sure = λ sure. (c.append.ensures.sure (c.loop-self.invariant.sure sure)).1;
+  source = Reads-more c.loop-self.invariant.source c.append.ensures.source;
 }
 
 pub returns-in_err-append-clause-taken : goal.returns-in_err-append-clause-taken
