@@ -29,6 +29,11 @@ module _ {A : Type 0} {S : Source A} where
   pub Reads-more : {fault : Type 0} {a b c : A} → Reads S ⊥ a b → Reads S fault b c → Reads S ⊥ a c
   Reads-more {fault} {a} {b} {c} before reads = Reads-then before (Reads-by reads (λ none. absurd none))
 
+  -- and behind a call that only said something
+  pub Reads-told : {fault : Type 0} {a b c : A} → S.kept b ≡ S.kept a → S.faults b ≡ S.faults a → (S.never_fails a → S.never_fails b) → Reads S fault b c → Reads S fault a c
+  Reads-told {fault} {a} {b} {c} same faults still reads =
+      Reads-then (record { same = same; cause = (omega (arith, faults), λ none. absurd none); sure = λ sure. (λ none. none, still sure) }) reads
+
 module _ {A : Type 0} {O : Sink A} where
   -- nothing was asked of the sink
   pub Writes-none : (a : A) → Writes O ⊥ a a

@@ -4,7 +4,7 @@ ghost use Rattle.std.specs.Prelude.{◌≡◌, ◌≢◌, ◌≤◌, ◌<◌, �
 ghost use Rattle.std.specs.Int.{byte_len};
 ghost use Rattle.zf_dev.specs.Source.{TakesSome, TakesAtMost, Takes, Gives, GivesSome, IsAtEnd, SeesEnd};
 ghost use Rattle.zf_dev.specs.Devices.{Reads};
-ghost use Rattle.zf_stream.specs.Outcomes.{TakesFirst};
+ghost use Rattle.zf_stream.specs.Outcomes.{TakesFirst, ReadsOnly};
 ghost use Rattle.zf_stream.specs.ReadRaw.{ReadsValues, LacksRaw, GoesOn};
 ghost use Rattle.zf_parse.specs.declared.fault.StreamFault.TheVariants.{Read};
 
@@ -87,8 +87,7 @@ pub(crate) fn read_into<S: Source>(src: &mut S, buf: &mut [u8]) -> Result<usize,
     ensures gave_some { GivesSome (S.gave src.old) (S.gave src.new) }
     ensures seen { IfOk result (λ n. SeesEnd (n < length buf.old) (S.ends_seen src.old) (S.ends_seen src.new)) }
     ensures unseen { OnErr result (S.ends_seen src.new ≤ S.ends_seen src.old) }
-    ensures fault { IfErr result (λ e. e ≡ Read) }
-    ensures source { Reads S.Source (result ≡ Err Read) src.old src.new }
+    ensures source { ReadsOnly S.Source result src.old src.new }
 {
     match fill(src, buf) {
         Ok(count) => Ok(count),

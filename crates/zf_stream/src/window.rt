@@ -3,7 +3,7 @@
 ghost use Rattle.std.specs.Prelude.{◌≡◌, ◌≢◌, ◌≤◌, ◌<◌, ◌+◌, ◌*◌, ◌^◌, ◌%◌, true, false, [], length, IsTrue, Err, IfOk, IfErr, OnOk, OnErr};
 ghost use Rattle.std.specs.Int.{div_ceil};
 ghost use Rattle.zf_spec.specs.Stream.{to_bits};
-ghost use Rattle.zf_dev.specs.Devices.{Reads};
+ghost use Rattle.zf_stream.specs.Outcomes.{ReadsOnly};
 ghost use Rattle.zf_dev.specs.Source.{TakesSome};
 ghost use Rattle.zf_stream.specs.Windows.{left_of, KnowsEnd, Refills};
 ghost use Rattle.zf_parse.specs.declared.fault.StreamFault.TheVariants.{Read};
@@ -101,9 +101,8 @@ impl Window {
         ensures ok { OnOk result (Refills (S.contents src.old) (S.contents src.new) self.old self.new) }
         ensures ended { OnOk result (KnowsEnd self.new (S.contents src.new)) }
         ensures enough { OnOk result (self.new.ended ≡ false → need ≤ length (left_of self.new)) }
-        ensures fault { IfErr result (λ e. e ≡ Read) }
         ensures taken { OnErr result (TakesSome (S.contents src.old) (S.contents src.new)) }
-        ensures source { Reads S.Source (result ≡ Err Read) src.old src.new }
+        ensures source { ReadsOnly S.Source result src.old src.new }
     {
         if self.left() < need && !self.ended {
             self.refill(need, piece, src)?;
@@ -127,9 +126,8 @@ impl Window {
         ensures ok { OnOk result (Refills (S.contents src.old) (S.contents src.new) self.old self.new) }
         ensures ended { OnOk result (KnowsEnd self.new (S.contents src.new)) }
         ensures enough { OnOk result (self.new.ended ≡ false → need ≤ length (left_of self.new)) }
-        ensures fault { IfErr result (λ e. e ≡ Read) }
         ensures taken { OnErr result (TakesSome (S.contents src.old) (S.contents src.new)) }
-        ensures source { Reads S.Source (result ≡ Err Read) src.old src.new }
+        ensures source { ReadsOnly S.Source result src.old src.new }
     {
         self.move_down();
         while self.left() < need && !self.ended {
@@ -170,9 +168,8 @@ impl Window {
         ensures place { OnOk result (self.new.reader.at ≡ self.old.reader.at) }
         ensures ended { OnOk result (KnowsEnd self.new (S.contents src.new)) }
         ensures more { OnOk result (self.new.ended ≡ false → length (left_of self.old) < length (left_of self.new)) }
-        ensures fault { IfErr result (λ e. e ≡ Read) }
         ensures taken { OnErr result (TakesSome (S.contents src.old) (S.contents src.new)) }
-        ensures source { Reads S.Source (result ≡ Err Read) src.old src.new }
+        ensures source { ReadsOnly S.Source result src.old src.new }
     {
         let held = (self.bits / 64) as usize;
         let most = 8 * (self.words.len() - held).min(piece.len() / 8);

@@ -1,5 +1,5 @@
 -- The values so far were read.
-use Rattle.std.proofs.Common.{◌≡◌, ◌≤◌, ◌-◌, map, length, take}
+use Rattle.std.proofs.Common.{◌≤◌, ◌-◌, map, length, take}
 use Rattle.zf_dev.specs.Source.{Gives}
 use Rattle.zf_stream.specs.ReadRaw.{ReadsValues}
 use Rattle.zf_dev.specs.Devices.{Reads}

@@ -1,5 +1,5 @@
 -- The bytes of the values so far were written.
-use Rattle.std.proofs.Common.{◌≡◌, ◌≤◌, ◌-◌, map, take}
+use Rattle.std.proofs.Common.{◌≤◌, ◌-◌, map, take}
 use Rattle.zf_spec.specs.Grid.{product}
 use Rattle.zf_spec.specs.Stream.{raw}
 use Rattle.zf_pad.specs.Stored.{raster_of, IsFirst}

@@ -1,5 +1,5 @@
 -- The bytes of the values so far were written.
-use Rattle.std.proofs.Common.{◌≡◌, ◌≤◌, ◌-◌, map, length, take}
+use Rattle.std.proofs.Common.{◌≤◌, ◌-◌, map, length, take}
 use Rattle.zf_spec.specs.Stream.{raw}
 use Rattle.zf_dev.specs.Sink.{Appends}
 use Rattle.zf_dev.specs.Devices.{Writes}

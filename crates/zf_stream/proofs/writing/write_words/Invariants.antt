@@ -1,5 +1,5 @@
 -- The bytes of the words so far were written.
-use Rattle.std.proofs.Common.{◌≡◌, ◌≤◌, ◌-◌, length, take}
+use Rattle.std.proofs.Common.{◌≤◌, ◌-◌, length, take}
 use Rattle.zf_dev.specs.Sink.{Appends}
 use Rattle.zf_stream.specs.Flows.{bytes_in}
 use Rattle.zf_dev.specs.Devices.{Writes}

@@ -1,5 +1,5 @@
 -- What was read so far was put behind what was left.
-use Rattle.std.proofs.Common.{◌≡◌, ℕ, suc, ◌-◌, ◌*◌, ◌<◌, ◌≤◌, Bool, cond, length}
+use Rattle.std.proofs.Common.{ℕ, suc, ◌-◌, ◌*◌, ◌<◌, Bool, cond, length}
 use Rattle.zf_stream.specs.Windows.{left_of, KnowsEnd, Refills}
 use Rattle.zf_dev.specs.Devices.{Reads}
 use Rattle.zf_stream.proofs.window.Window.refill.Given as goal
