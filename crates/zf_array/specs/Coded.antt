@@ -14,7 +14,8 @@ HasEmptyLines a = (l : ℕ) → (state a).held l ≡ None
 abbrev pub IsCoded : Held → Type 0
 IsCoded a = state a ≡ coded (format a) (state a) (state a).codes
 
--- what no load and no store of codes changes: which array it is, its header, the number of its lines and its counts
+-- what no load and no store of codes changes: which array it is, its header, the number of its lines and its
+-- counts
 pub record Frame : Type 0 where
   pub name : GName
   pub header : Header
@@ -22,4 +23,10 @@ pub record Frame : Type 0 where
   pub counts : Counts
 
 abbrev pub frame_of : MutBor Held → Frame
-frame_of a = record { name = a.ghost_name; header = a.now.header; lines = (state a.now).lines; counts = (state a.now).counts }
+frame_of a = record {
+  name = a.ghost_name;
+  header = a.now.header;
+  lines = (state a.now).lines;
+  counts =
+      (state a.now).counts;
+}

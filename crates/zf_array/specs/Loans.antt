@@ -23,7 +23,8 @@ with_part a b k n others =
 
 -- the array a with these values of block b, after a touch for writing
 abbrev pub with_block : Held → ℕ → List ℤ → Held
-with_block a b values = array_of a.header (with_values (touch_for_writing (format a) (state a) b) b (existing_of (format a) b values))
+with_block a b values = array_of a.header (with_values (touch_for_writing (format a) (state a) b) b
+    (existing_of (format a) b values))
 
 -- the array a with this value at position p, after a touch for writing
 abbrev pub with_value : Held → Pos → ℤ → Held
@@ -32,19 +33,23 @@ with_value a p v =
     let t = touch_for_writing (format a) (state a) b in
     array_of a.header (with_values t b (slice_set (t.values b) (place_at a p) v))
 
-module _ (R D : RattleType) (lane : Lane.Ghosts R.Denot) (eq : PartialEq.Ghosts R.Denot) (a : MutBor Held) where
-  -- n values of block b from its place k on are the last ones written through r
-  abbrev pub EndsWithPart : ℕ → ℕ → ℕ → MutBor (List R.Denot) → Fml
-  EndsWithPart b k n r = Lends (the_row R D lane eq) (Array R 0) a r (λ ws. with_part a.now b k n (map lane.value (over r.now ws)))
+module _ (R D : RattleType) (lane : Lane.Ghosts R.Denot) (eq : PartialEq.Ghosts R.Denot) (a : MutBor Held)
+  where
+    -- n values of block b from its place k on are the last ones written through r
+    abbrev pub EndsWithPart : ℕ → ℕ → ℕ → MutBor (List R.Denot) → Fml
+    EndsWithPart b k n r = Lends (the_row R D lane eq) (Array R 0) a r
+        (λ ws. with_part a.now b k n (map lane.value (over r.now ws)))
 
-  -- block b is touched for writing, and its values are the last ones written through r
-  abbrev pub EndsWithBlock : ℕ → MutBor (List R.Denot) → Fml
-  EndsWithBlock b r = Lends (the_row R D lane eq) (Array R 0) a r (λ ws. with_block a.now b (map lane.value (over r.now ws)))
+    -- block b is touched for writing, and its values are the last ones written through r
+    abbrev pub EndsWithBlock : ℕ → MutBor (List R.Denot) → Fml
+    EndsWithBlock b r = Lends (the_row R D lane eq) (Array R 0) a r
+        (λ ws. with_block a.now b (map lane.value (over r.now ws)))
 
-  -- position p is touched for writing, and its value is the last one written through r
-  abbrev pub EndsWithValue : Pos → MutBor R.Denot → Fml
-  EndsWithValue p r = Lends (the_row R D lane eq) R a r (λ v. with_value a.now p (lane.value v))
+    -- position p is touched for writing, and its value is the last one written through r
+    abbrev pub EndsWithValue : Pos → MutBor R.Denot → Fml
+    EndsWithValue p r = Lends (the_row R D lane eq) R a r (λ v. with_value a.now p (lane.value v))
 
-  -- a loan for reading leaves this array
-  abbrev pub EndsAs : Held → Fml
-  EndsAs after = follows_so (the_row R D lane eq) (the_row R D lane eq) a.ghost_name none (λ _ _. ⊤) (λ e. e ≡ after)
+    -- a loan for reading leaves this array
+    abbrev pub EndsAs : Held → Fml
+    EndsAs after = follows_so (the_row R D lane eq) (the_row R D lane eq) a.ghost_name none (λ _ _. ⊤)
+        (λ e. e ≡ after)

@@ -14,7 +14,8 @@ module _ {X : Type 0} (value : X → ℤ) where
   abbrev pub held_by : Stored → Kept X → Held
   held_by s c = array_of s.header (state_of value c (format_of s) (code_at s))
 
-  -- values of this width in d dimensions, at a rate; a code for each block; the cache fits the store, and the buffer has room for the file
+  -- values of this width in d dimensions, at a rate; a code for each block; the cache fits the store, and the
+  -- buffer has room for the file
   pub record IsJoined (w : Width) (d : ℕ) (s : Stored) (c : Kept X) (room : ℕ) : Type 0 where
     pub same_type : w ≡ width_of s.header.ty
     pub dims : length s.header.shape ≡ d

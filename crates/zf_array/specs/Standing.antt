@@ -11,7 +11,8 @@ use Rattle.zf_cached.specs.Changes.{zeros}
 use Rattle.zf_store.specs.Stored as store
 use Rattle.zf_store.specs.Stored.{Stored, code_at}
 
--- the header of its file; the block in each line, or none; which blocks are dirty; the values and the code of each block; the counts
+-- the header of its file; the block in each line, or none; which blocks are dirty; the values and the code of
+-- each block; the counts
 pub record Held : Type 0 where
   pub header : Header
   pub lines : List (Option ℕ)

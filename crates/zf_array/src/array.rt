@@ -29,10 +29,12 @@ use zf_cache::{Cache, raised};
 use zf_header::{Header, Mode, rate_bytes};
 use zf_store::{Store, StoreFault};
 
-/// An array of `D` dimensions whose blocks are kept as codes of a fixed rate, and are read and written through a write-back cache.
+/// An array of `D` dimensions whose blocks are kept as codes of a fixed rate, and are read and written
+/// through a write-back cache.
 ///
-/// It is seen as one state of a cached array: the block in each line, which blocks are dirty, the values and the code of each
-/// block, and three counts; and as the header of its file. All memory is taken when it is made: no call but `set_lines` and `resize` asks for more.
+/// It is seen as one state of a cached array: the block in each line, which blocks are dirty, the values and
+/// the code of each block, and three counts; and as the header of its file. All memory is taken when it is
+/// made: no call but `set_lines` and `resize` asks for more.
 #[derive(Drop)]
 pub struct Array<T: Lane, const D: usize> {
     alloc: Global,
@@ -58,8 +60,8 @@ impl<T: Lane, const D: usize> Model for Array<T, D> {
 impl<T: Lane, const D: usize> Array<T, D> {
     ghost use Rattle.zf_array.specs.Loans.{EndsAs, EndsWithPart, EndsWithBlock, EndsWithValue, spliced, with_part, with_block, with_value};
 
-    /// An array of zeros. A block has `bits` bits, 1 to 32768; the number of lines is raised to a power of two.
-    /// `AllocError`: there was no memory.
+    /// An array of zeros. A block has `bits` bits, 1 to 32768; the number of lines is raised to a power of
+    /// two. `AllocError`: there was no memory.
     pub fn new(
         alloc: Global,
         shape: Shape,
@@ -103,7 +105,8 @@ impl<T: Lane, const D: usize> Array<T, D> {
         requires dims { length h.now.shape ≡ D }
         requires lines { (0 < lines) × (lines ≤ 2 ^ 16) }
         ensures stored { IfOk result (λ a. IsOpened file.items h.now (stored a)) }
-        ensures state { IfOk result (λ a. state a ≡ open_array T.width (block_bits h.now.mode) h.now.shape a.codes lines) }
+        ensures state { IfOk result (λ a. state a ≡ open_array T.width (block_bits h.now.mode) h.now.shape
+            a.codes lines) }
         ensures fault { IfErr result (λ e. IsFault (parse file.items) (stream_fault e)) }
     {
         let store = Store::from_file(alloc, h, &file)?;
@@ -122,7 +125,8 @@ impl<T: Lane, const D: usize> Array<T, D> {
     pub fn get(&mut self, p: Pos) -> T
         requires { IsPosition (shape self.old) p }
         ensures state { state self.new ≡ touch (format self.old) (state self.old) (block_at self.old p) }
-        ensures value { T.value result ≡ slice_index_or ((state self.new).values (block_at self.old p)) (place_at self.old p) (pos 0) }
+        ensures value { T.value result ≡ slice_index_or ((state self.new).values (block_at self.old p))
+            (place_at self.old p) (pos 0) }
         ensures header { self.new.header ≡ self.old.header }
     {
         let (b, place) = self.store.header().shape.place_in::<D>(p);
@@ -133,7 +137,8 @@ impl<T: Lane, const D: usize> Array<T, D> {
     #[inline]
     pub fn set(&mut self, p: Pos, v: T)
         requires { IsPosition (shape self.old) p }
-        ensures state { state self.new ≡ (let t = touch_for_writing (format self.old) (state self.old) (block_at self.old p) in
+        ensures state { state self.new ≡ (let t = touch_for_writing (format self.old) (state self.old)
+            (block_at self.old p) in
             with_values t (block_at self.old p) (slice_set (t.values (block_at self.old p)) (place_at self.old p) (T.value v))) }
         ensures header { self.new.header ≡ self.old.header }
     {
@@ -145,7 +150,8 @@ impl<T: Lane, const D: usize> Array<T, D> {
     #[inline]
     pub fn add(&mut self, p: Pos, v: T)
         requires { IsPosition (shape self.old) p }
-        ensures state { state self.new ≡ (let t = touch_for_writing (format self.old) (state self.old) (block_at self.old p) in
+        ensures state { state self.new ≡ (let t = touch_for_writing (format self.old) (state self.old)
+            (block_at self.old p) in
             let old = t.values (block_at self.old p) in
             with_values t (block_at self.old p) (slice_set old (place_at self.old p)
             (wrap T.width (slice_index_or old (place_at self.old p) (pos 0) +ℤ T.value v)))) }
@@ -163,7 +169,8 @@ impl<T: Lane, const D: usize> Array<T, D> {
         ensures* writes_back { sem 𝓛 (EndsWithValue T.row D.row
             (record { width = T.width; WIDTH = T.WIDTH; TY = T.TY; value = T.value; in_range = T.in_range })
             (record { eq = T.eq }) self.entry p result) }
-        ensures value { T.value result.now ≡ (let t = touch_for_writing (format self.old) (state self.old) (block_at self.old p) in
+        ensures value { T.value result.now ≡ (let t =
+            touch_for_writing (format self.old) (state self.old) (block_at self.old p) in
             slice_index_or (t.values (block_at self.old p)) (place_at self.old p) (pos 0)) }
         ensures state { (v : ℤ) → state (with_value self.old p v)
             ≡ (let t = touch_for_writing (format self.old) (state self.old) (block_at self.old p) in
@@ -182,9 +189,11 @@ impl<T: Lane, const D: usize> Array<T, D> {
             (record { width = T.width; WIDTH = T.WIDTH; TY = T.TY; value = T.value; in_range = T.in_range })
             (record { eq = T.eq }) self.entry
             (array_of self.entry.now.header (touch (format self.entry.now) (state self.entry.now) b))) }
-        ensures value { existing_of (format self.old) b (map T.value result.now) ≡ (touch (format self.old) (state self.old) b).values b }
+        ensures value { existing_of (format self.old) b (map T.value result.now)
+            ≡ (touch (format self.old) (state self.old) b).values b }
         ensures size { length result.now ≡ 4 ^ D }
-        ensures state { state (array_of self.old.header (touch (format self.old) (state self.old) b)) ≡ touch (format self.old) (state self.old) b }
+        ensures state { state (array_of self.old.header (touch (format self.old) (state self.old) b))
+            ≡ touch (format self.old) (state self.old) b }
     {
         self.cache.touch(&mut self.store, b);
         self.cache.line(b)
@@ -197,10 +206,12 @@ impl<T: Lane, const D: usize> Array<T, D> {
         ensures* writes_back { sem 𝓛 (EndsWithBlock T.row D.row
             (record { width = T.width; WIDTH = T.WIDTH; TY = T.TY; value = T.value; in_range = T.in_range })
             (record { eq = T.eq }) self.entry b result) }
-        ensures value { existing_of (format self.old) b (map T.value result.now) ≡ (touch_for_writing (format self.old) (state self.old) b).values b }
+        ensures value { existing_of (format self.old) b (map T.value result.now)
+            ≡ (touch_for_writing (format self.old) (state self.old) b).values b }
         ensures size { length result.now ≡ 4 ^ D }
         ensures state { (vs : List ℤ) → state (with_block self.old b vs)
-            ≡ with_values (touch_for_writing (format self.old) (state self.old) b) b (existing_of (format self.old) b vs) }
+            ≡ with_values (touch_for_writing (format self.old) (state self.old) b) b
+            (existing_of (format self.old) b vs) }
         ensures header { (vs : List ℤ) → (with_block self.old b vs).header ≡ self.old.header }
     {
         let len = block_len(self.store.header().shape.dims());
@@ -228,10 +239,12 @@ impl<T: Lane, const D: usize> Array<T, D> {
         ensures* writes_back { sem 𝓛 (EndsWithPart T.row D.row
             (record { width = T.width; WIDTH = T.WIDTH; TY = T.TY; value = T.value; in_range = T.in_range })
             (record { eq = T.eq }) self.entry b a n result) }
-        ensures value { existing_of (format self.old) b (spliced ((state self.old).values b) a n (map T.value result.now)) ≡ (state self.old).values b }
+        ensures value { existing_of (format self.old) b
+            (spliced ((state self.old).values b) a n (map T.value result.now)) ≡ (state self.old).values b }
         ensures size { length result.now ≡ n }
         ensures state { (vs : List ℤ) → state (with_part self.old b a n vs)
-            ≡ with_values (state self.old) b (existing_of (format self.old) b (spliced ((state self.old).values b) a n vs)) }
+            ≡ with_values (state self.old) b (existing_of (format self.old) b
+            (spliced ((state self.old).values b) a n vs)) }
         ensures header { (vs : List ℤ) → (with_part self.old b a n vs).header ≡ self.old.header }
     {
         self.cache.part_mut(b, a, n)
@@ -246,7 +259,8 @@ impl<T: Lane, const D: usize> Array<T, D> {
         self.cache.flush(&mut self.store);
     }
 
-    /// Forgets what was not written back: no block is in any line, and each has the values that its code means.
+    /// Forgets what was not written back: no block is in any line, and each has the values that its code
+    /// means.
     pub fn discard(&mut self)
         ensures state { state self.new ≡ discard (format self.old) (state self.old) }
         ensures empty { HasEmptyLines self.new }
@@ -271,8 +285,10 @@ impl<T: Lane, const D: usize> Array<T, D> {
     /// `AllocError` nothing has changed.
     pub fn resize(&mut self, shape: Shape) -> Result<(), AllocError>
         requires { length shape ≡ D }
-        ensures stored { OnOk result (stored self.new ≡ zeros self.old.header.ty shape (block_bits self.old.header.mode)) }
-        ensures ok { OnOk result (state self.new ≡ resized (format self.new) (replicate (block_bits self.old.header.mode) false) (state self.old)) }
+        ensures stored { OnOk result (stored self.new
+            ≡ zeros self.old.header.ty shape (block_bits self.old.header.mode)) }
+        ensures ok { OnOk result (state self.new ≡ resized (format self.new)
+            (replicate (block_bits self.old.header.mode) false) (state self.old)) }
         ensures err { OnErr result (self.new ≡ self.old) }
     {
         let store = Store::zeros(self.alloc, shape, self.bits())?;
@@ -289,13 +305,15 @@ impl<T: Lane, const D: usize> Array<T, D> {
     pub(crate) fn load_code(&mut self, b: u64, line: &mut [T])
         requires block { b < (format self.old).blocks }
         requires whole { length line.old ≡ (format self.old).block_len }
-        ensures value { existing_of (format self.old) b (map T.value line.new) ≡ meant (format self.old) b ((state self.old).codes b) }
+        ensures value { existing_of (format self.old) b (map T.value line.new)
+            ≡ meant (format self.old) b ((state self.old).codes b) }
         ensures same { self.new ≡ self.old }
     {
         self.store.load(b, line);
     }
 
-    /// Makes the code of block `b` that of the values in `line`. The array stands for its codes alone, before and after.
+    /// Makes the code of block `b` that of the values in `line`. The array stands for its codes alone, before
+    /// and after.
     pub(crate) fn store_code(&mut self, b: u64, line: &[T])
         requires is_coded { IsCoded self.old }
         requires block { b < (format self.old).blocks }
@@ -315,7 +333,8 @@ impl<T: Lane, const D: usize> Array<T, D> {
         let _ = &self.store;
     }
 
-    /// The words of the codes, as last written back: code `b` from bit `b * B` on, `B` being the bits of a block, and zeros to the whole word.
+    /// The words of the codes, as last written back: code `b` from bit `b * B` on, `B` being the bits of a
+    /// block, and zeros to the whole word.
     pub fn words(&self) -> &[u64]
         ensures { word_bits result.now ≡ with_fill (flat_map (λ c. c) self.now.codes) }
     {
@@ -328,7 +347,8 @@ impl<T: Lane, const D: usize> Array<T, D> {
             (record { width = T.width; WIDTH = T.WIDTH; TY = T.TY; value = T.value; in_range = T.in_range })
             (record { eq = T.eq }) self.entry self.entry.now) }
         ensures value { result.now ≡ file_of (stored self.old) }
-        ensures saved { result.now ≡ saved_file T.width (block_bits self.old.header.mode) (shape self.old) (state self.old) }
+        ensures saved { result.now ≡ saved_file T.width (block_bits self.old.header.mode) (shape self.old)
+            (state self.old) }
     {
         self.store.write_file(&mut self.buffer);
         &self.buffer
@@ -376,8 +396,8 @@ mod tests {
     use super::*;
     use std::test::Fail;
 
-    // No copy of the values stands beside words and lines: after each block was written back once, the buffer is as long as the file.
-    // The cache has one line, and the store has a test of its own.
+    // No copy of the values stands beside words and lines: after each block was written back once, the buffer
+    // is as long as the file. The cache has one line, and the store has a test of its own.
     #[test]
     fn array_fields(rt: HostRuntime) -> Result<(), Fail> {
         let shape = Shape::new(1, 64, 1, 1, 1).ok().ok_or("a shape")?;

@@ -6,10 +6,11 @@ ghost use Rattle.zf_array.specs.Coded.{HasEmptyLines, IsCoded};
 use crate::array::Array;
 use zf_base::{Backing, Lane, Reading, block_len};
 
-/// The codes of an array that has no block in any line, as a [`Backing`] of other caches: private views of the array. It borrows the array.
+/// The codes of an array that has no block in any line, as a [`Backing`] of other caches: private views of
+/// the array. It borrows the array.
 ///
-/// What is stored becomes the array's code of that block, and the array's values are those that its codes mean. All else stays: sizes,
-/// bits of a block, number of lines, counts, and that no block is in any line.
+/// What is stored becomes the array's code of that block, and the array's values are those that its codes
+/// mean. All else stays: sizes, bits of a block, number of lines, counts, and that no block is in any line.
 ///
 /// ```text
 /// array.flush();

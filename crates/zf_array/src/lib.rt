@@ -1,4 +1,5 @@
-//! Cached arrays: a store of fixed-rate codes, a write-back cache over it, and the buffer in which the file is saved.
+//! Cached arrays: a store of fixed-rate codes, a write-back cache over it, and the buffer in which the file
+//! is saved.
 #![tactic(auto)]
 
 mod array;

@@ -23,7 +23,8 @@ impl<T: Lane, const D: usize> Array<T, D> {
     pub fn open(alloc: Global, file: Vec<u8>, lines: u32) -> Result<Array<T, D>, OpenFault>
         requires { (0 < lines) × (lines ≤ 2 ^ 16) }
         ensures stored { IfOk result (λ a. IsOpened file.items (header_of file.items) (stored a)) }
-        ensures state { IfOk result (λ a. state a ≡ open_array T.width (block_bits a.header.mode) (shape a) a.codes lines) }
+        ensures state { IfOk result (λ a. state a ≡ open_array T.width (block_bits a.header.mode) (shape a)
+            a.codes lines) }
         ensures clean { IfOk result (λ a. (b : ℕ) → (state a).dirty b ≡ false) }
         ensures fault { IfErr result (IsUnopened IsRate T.TY D file.items) }
     {

@@ -350,7 +350,8 @@ const AFTERWARDS: [Step; 5] = [
     Step::Counts(1, 2, 1),
 ];
 
-// What another cache writes through the codes is the array's, in code and in value; the array counts its own touches alone.
+// What another cache writes through the codes is the array's, in code and in value; the array counts its own
+// touches alone.
 #[test]
 fn another_cache_stands_on_the_codes(rt: HostRuntime) -> Result<(), Fail> {
     let mut a = zeros(&rt, rt.alloc(), 2)?;

@@ -135,8 +135,8 @@ fn pages(rt: &(impl Files + AllocGlobal)) -> Result<u64, Fail> {
     Ok(word.parse::<u64>().ok().ok_or("a number")?)
 }
 
-// 512 times lines of 2 MiB, one after the other. Where they leak, the process has 262144 pages more afterwards; what an allocator
-// keeps for a while of what it is given back is less than half of it.
+// 512 times lines of 2 MiB, one after the other. Where they leak, the process has 262144 pages more
+// afterwards; what an allocator keeps for a while of what it is given back is less than half of it.
 #[test]
 fn dropped_lines_give_their_memory_back(rt: HostRuntime) -> Result<(), Fail> {
     let before = pages(&rt)?;

@@ -8,7 +8,8 @@ member block start step k = slice_index_or block (start + step * k) (pos 0)
 -- what a map of lines makes of the line that begins at start
 abbrev pub mapped_line : (ℤ → ℤ → ℤ → ℤ → List ℤ) → ℕ → ℕ → List ℤ → List ℤ
 mapped_line f start step block =
-    f (member block start step 0) (member block start step 1) (member block start step 2) (member block start step 3)
+    f (member block start step 0) (member block start step 1) (member block start step 2)
+    (member block start step 3)
 
 -- the line that begins at start has been mapped, and all other values stay
 pub record MapsLine (f : ℤ → ℤ → ℤ → ℤ → List ℤ) (start step : ℕ) (old new : List ℤ) : Type 0 where

@@ -4,8 +4,8 @@
 use Rattle.std.specs.Prelude.{ℕ, ◌==◌, ℤ, pos, Bool, true, false, List, map, slice_index_or, if◌then◌else◌}
 use Rattle.zf_spec.specs.Grid.{upto}
 
--- how many blocks there are, and how many places each has; which places of a block exist; the values that a code means in a
--- block; the code that is made of a block's values
+-- how many blocks there are, and how many places each has; which places of a block exist; the values that a
+-- code means in a block; the code that is made of a block's values
 pub record Format (Code : Type 0) : Type 0 where
   pub blocks : ℕ
   pub block_len : ℕ
@@ -15,7 +15,8 @@ pub record Format (Code : Type 0) : Type 0 where
 
 -- the values of a block at the places that exist, 0 at the others
 unfoldable pub existing_of : {Code : Type 0} → Format Code → ℕ → List ℤ → List ℤ
-existing_of format b values = map (λ p. if format.exists b p then slice_index_or values p (pos 0) else pos 0) (upto format.block_len)
+existing_of format b values = map (λ p. if format.exists b p then slice_index_or values p (pos 0) else pos 0)
+    (upto format.block_len)
 
 -- the values that block b has where this is its code
 unfoldable pub meant : {Code : Type 0} → Format Code → ℕ → Code → List ℤ

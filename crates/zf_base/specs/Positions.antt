@@ -1,4 +1,5 @@
--- Positions, sizes and extents as lists, x first. Along the axes that an array does not use, a coordinate is 0 and a size is 1.
+-- Positions, sizes and extents as lists, x first. Along the axes that an array does not use, a coordinate is
+-- 0 and a size is 1.
 use Rattle.std.specs.Prelude.{ℕ, ◌≡◌, ◌≤◌, true, List, [], ◌∷◌, length, take, slice_index_or}
 use Rattle.std.specs.List.{AllByRecursion}
 use Rattle.zf_spec.specs.Grid.{IsShape, is_inside}

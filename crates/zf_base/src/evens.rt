@@ -17,7 +17,8 @@ impl Evens {
     /// So many blocks of zeros. `AllocError`: there was no memory.
     pub fn new(alloc: Global, blocks: u32) -> Result<Evens, AllocError>
         ensures format { IfOk result (λ e. ⟦<Evens as Reading<i32>>⟧.format e ≡ evens_format blocks) }
-        ensures zeros { IfOk result (λ e. (b : ℕ) → b < blocks → ⟦<Evens as Reading<i32>>⟧.codes e b ≡ replicate 4 (pos 0)) }
+        ensures zeros { IfOk result (λ e. (b : ℕ) → b < blocks → ⟦<Evens as Reading<i32>>⟧.codes e b
+            ≡ replicate 4 (pos 0)) }
     {
         let mut zeros = Vec::new(alloc);
         for _ in 0..blocks {

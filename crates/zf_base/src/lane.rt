@@ -19,8 +19,8 @@ pub enum Ty {
 
 /// A type of values: `i32` or `i64`, seen as the whole number that it holds.
 ///
-/// Sums, differences and doublings wrap, which is this project's own choice: zfp leaves them to C, where an overflow is
-/// undefined. Each call that takes a value tells that its number is one of the type's.
+/// Sums, differences and doublings wrap, which is this project's own choice: zfp leaves them to C, where an
+/// overflow is undefined. Each call that takes a value tells that its number is one of the type's.
 pub trait Lane: Copy + Eq {
     /// How many bits the type has: 32 or 64.
     const WIDTH: u32;

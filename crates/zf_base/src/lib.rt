@@ -1,4 +1,5 @@
-//! The types of values, positions, the shape of an array with its blocks, and what a cache of blocks stands on.
+//! The types of values, positions, the shape of an array with its blocks, and what a cache of blocks stands
+//! on.
 #![tactic(auto)]
 
 mod backing;

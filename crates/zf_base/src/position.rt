@@ -16,7 +16,8 @@ pub struct Pos {
     pub w: u64,
 }
 
-/// The part of a block that lies in the array: its first position, and how many values it has along each axis.
+/// The part of a block that lies in the array: its first position, and how many values it has along each
+/// axis.
 #[derive(Clone, Copy, Debug, PartialEq, Eq)]
 pub struct Extent {
     pub origin: Pos,
@@ -122,7 +123,8 @@ impl Pos {
     }
 }
 
-// How often `len` is in a number, and what is left. Most numbers of blocks are below the first lengths, and then nothing is divided.
+// How often `len` is in a number, and what is left. Most numbers of blocks are below the first lengths, and
+// then nothing is divided.
 #[inline(always)]
 fn split(number: u64, len: u64) -> (u64, u64)
     requires { 1 ≤ len }

@@ -57,7 +57,8 @@ impl Model for Shape {
 
     ghost inverse = { λ ns. record { dims = length ns; sizes = with_unused 1 ns } };
 
-    ghost inverse_ok = { λ a h. same_from_parts (λ d sizes. record { dims = d; sizes = sizes }) _ _ _ _ h.dimension h.unused };
+    ghost inverse_ok = { λ a h. same_from_parts (λ d sizes. record { dims = d; sizes = sizes }) _ _ _ _
+        h.dimension h.unused };
 }
 
 impl Shape {

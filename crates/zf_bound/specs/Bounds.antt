@@ -32,7 +32,12 @@ certified_of h cs m =
     let w = width_of h.ty in
     let d = length h.shape in
     let k = plane_of w d cs in
-    record { plane = k; error = error_of d k; holds = nat_lt (8 * (m + error_of d k + 17)) (2 ^ (bits w - 1)) }
+    record {
+      plane = k;
+      error = error_of d k;
+      holds =
+          nat_lt (8 * (m + error_of d k + 17)) (2 ^ (bits w - 1));
+    }
 
 -- contents of an array that have these codes, and magnitudes up to m
 pub record AreContents (h : Header) (cs : List (List Bool)) (m : ℕ) (contents : List ℤ) : Type 0 where
@@ -42,7 +47,8 @@ pub record AreContents (h : Header) (cs : List (List Bool)) (m : ℕ) (contents 
 
 -- each value is within the error of the contents, whichever have these codes and magnitudes up to m
 abbrev pub IsBound : Header → List (List Bool) → ℕ → ℕ → List ℤ → Type 0
-IsBound h cs m error values = (contents : List ℤ) → AreContents h cs m contents → AreClose error contents values
+IsBound h cs m error values = (contents : List ℤ) → AreContents h cs m contents
+    → AreClose error contents values
 
 -- what is certified, in a line: the plane, and the bound where it holds
 abbrev pub bound_text : Certified → List ℕ

@@ -40,10 +40,12 @@ pub fn bound<T: Lane>(
     requires same_type { T.width ≡ width_of h.now.ty }
     requires rate { IsRate h.now.mode }
     ensures good { OnOk result (IsGood file.now) }
-    ensures plane { IfOk result (λ c. IfOk (parse file.now) (λ said. c.plane ≡ plane_of T.width (length h.now.shape) said.codes)) }
+    ensures plane { IfOk result (λ c. IfOk (parse file.now)
+        (λ said. c.plane ≡ plane_of T.width (length h.now.shape) said.codes)) }
     ensures error { IfOk result (λ c. c.error ≡ error_of (length h.now.shape) c.plane) }
     ensures holds { IfOk result (λ c. IsTrue c.holds ↔ IsSmallEnough T.WIDTH m c.error) }
-    ensures bound { IfOk result (λ c. IsTrue c.holds → IfOk (parse file.now) (λ said. IsBound h.now said.codes m c.error said.values)) }
+    ensures bound { IfOk result (λ c. IsTrue c.holds
+        → IfOk (parse file.now) (λ said. IsBound h.now said.codes m c.error said.values)) }
     ensures fault { IfErr result (λ e. IsFault (parse file.now) (stream_fault e)) }
 {
     let index = Verbatim::build(alloc, h, file)?;
@@ -58,7 +60,8 @@ pub fn bound<T: Lane>(
     })
 }
 
-// What comes back of a block in `d` dimensions is no further than this from it, where its planes are whole from plane `k` on.
+// What comes back of a block in `d` dimensions is no further than this from it, where its planes are whole
+// from plane `k` on.
 //
 // The digits below the plane come to less than 2^k, and each axis makes of an error e at most 4e + 4.
 fn error_from(d: u8, k: u32) -> u128

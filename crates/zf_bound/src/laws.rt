@@ -18,7 +18,8 @@ ghost use Rattle.zf_bound.specs.declared.certified.Certified.{Certified};
 ghost use Rattle.zf_bound.specs.Errors.{AreWithin, AreClose, IsSmallEnough};
 ghost use Rattle.zf_bound.specs.Bounds.{plane_of, error_of, certified_of};
 
-/// Of a line within `m` the coefficients are within `m + 4`. Numbers within an error `e` of them come back within `4e + 4` of the line.
+/// Of a line within `m` the coefficients are within `m + 4`. Numbers within an error `e` of them come back
+/// within `4e + 4` of the line.
 pub fn a_line_comes_back_close()
     ensures coefficients { (w : Width) (x y z v : ℤ) (m : ℕ) → 8 * (m + 4) < 2 ^ (bits w - 1)
         → AreWithin m (x ∷ y ∷ z ∷ v ∷ []) → AreWithin (m + 4) (lift_line w x y z v) }
@@ -27,9 +28,11 @@ pub fn a_line_comes_back_close()
         → AreClose (4 * e + 4) (x ∷ y ∷ z ∷ v ∷ []) (unlift_line w a b c d) }
 {}
 
-/// What a fixed rate makes of a block is no further from it than the error of the plane from which on its code has the planes whole.
+/// What a fixed rate makes of a block is no further from it than the error of the plane from which on its
+/// code has the planes whole.
 pub fn a_block_comes_back_close()
-    ensures { (w : Width) (budget : ℕ) (es : List ℕ) (block : List ℤ) (m : ℕ) → length es ≤ 4 → All (λ e. (1 ≤ e) × (e ≤ 4)) es
+    ensures { (w : Width) (budget : ℕ) (es : List ℕ) (block : List ℤ) (m : ℕ) → length es ≤ 4
+        → All (λ e. (1 ≤ e) × (e ≤ 4)) es
         → AreWithin m block
         → let k = rate_whole_from w (length es) (rate w budget es block) in
         IsSmallEnough (bits w) m (error_of (length es) k)
@@ -38,7 +41,8 @@ pub fn a_block_comes_back_close()
 
 /// What is restored of the stream of an array's values is within the bound of that stream.
 pub fn what_was_stored_comes_back_close()
-    ensures { (h : Header) (values : List ℤ) (budget m : ℕ) → IsHeader h → h.mode ≡ Rate budget → length values ≡ product h.shape
+    ensures { (h : Header) (values : List ℤ) (budget m : ℕ) → IsHeader h → h.mode ≡ Rate budget
+        → length values ≡ product h.shape
         → AreWithin m values
         → let cs = stream.codes (width_of h.ty) h.shape (coding h.mode) values in
         let error = error_of (length h.shape) (plane_of (width_of h.ty) (length h.shape) cs) in

@@ -1,4 +1,5 @@
-//! A certified error bound: how far the values of a stream of a fixed rate are, at most, from whatever was stored in it.
+//! A certified error bound: how far the values of a stream of a fixed rate are, at most, from whatever was
+//! stored in it.
 #![tactic(auto)]
 
 mod bounding;

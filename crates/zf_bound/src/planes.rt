@@ -14,7 +14,8 @@ use zf_block::{Scratch, whole_planes};
 use zf_header::Header;
 use zf_index::{Span, Verbatim};
 
-/// The greatest over the codes of the blocks, which stand at the spans of the index in this file, by way of `excerpt`.
+/// The greatest over the codes of the blocks, which stand at the spans of the index in this file, by way of
+/// `excerpt`.
 pub(crate) fn stream_plane<T: Lane>(
     h: &Header,
     index: &Verbatim,

@@ -60,9 +60,11 @@ array_format coding ns = record {
   encoding = λ b values. coding.encoding (extent_of ns b) values;
 }
 
--- the codes of a file, in the order of blocks, are those of the array that is opened (the code of a number that is no block's is that of zeros); the number of lines is raised
+-- the codes of a file, in the order of blocks, are those of the array that is opened (the code of a number
+-- that is no block's is that of zeros); the number of lines is raised
 unfoldable pub open_array : Width → ℕ → List ℕ → List (List Bool) → ℕ → State (List Bool)
-open_array w budget ns codes lines = opened (array_format (rate_coding w budget) ns) (λ b. slice_index_or codes b (replicate budget false)) (raised lines)
+open_array w budget ns codes lines = opened (array_format (rate_coding w budget) ns)
+    (λ b. slice_index_or codes b (replicate budget false)) (raised lines)
 
 -- the codes of an array of zeros
 abbrev pub zero_codes : ℕ → List ℕ → List (List Bool)
@@ -76,7 +78,8 @@ new_array w budget ns lines = open_array w budget ns (zero_codes budget ns) line
 unfoldable pub codes_of : {Code : Type 0} → List ℕ → State Code → List Code
 codes_of ns s = map s.codes (upto (blocks ns))
 
--- what is saved: the stream of these codes, those of the last write-backs and, where a block never was written back, the file's own
+-- what is saved: the stream of these codes, those of the last write-backs and, where a block never was
+-- written back, the file's own
 unfoldable pub saved_file : Width → ℕ → List ℕ → State (List Bool) → List ℕ
 saved_file w budget ns s = file w ns (Mode.fixed_rate budget) (codes_of ns s)
 

@@ -35,7 +35,8 @@ first_doubled test (suc n) p = elim (test p) [ true ↦ p | false ↦ first_doub
 unfoldable pub raised : ℕ → ℕ
 raised lines = first_doubled (λ p. nat_le lines p) 16 1
 
--- the number of lines that an array has by itself: the least power of two whose square is at least the number of blocks
+-- the number of lines that an array has by itself: the least power of two whose square is at least the number
+-- of blocks
 unfoldable pub default_lines : ℕ → ℕ
 default_lines blocks = first_doubled (λ p. nat_le blocks (p * p)) 16 1
 
@@ -43,7 +44,8 @@ default_lines blocks = first_doubled (λ p. nat_le blocks (p * p)) 16 1
 unfoldable pub relined : {Code : Type 0} → Format Code → State Code → ℕ → State Code
 relined format s lines = record (flush format s) { lines = lines }
 
--- an array with these codes as it is opened: each block has the values that its code means, and nothing is in any line
+-- an array with these codes as it is opened: each block has the values that its code means, and nothing is in
+-- any line
 unfoldable pub opened : {Code : Type 0} → Format Code → (ℕ → Code) → ℕ → State Code
 opened format codes lines =
     record {
@@ -59,7 +61,8 @@ opened format codes lines =
 unfoldable pub zeros : {Code : Type 0} → Format Code → List ℤ
 zeros format = replicate format.block_len (pos 0)
 
--- resize: values of zero, and the code of zeros for each block of the new format; the number of lines and the counts stay
+-- resize: values of zero, and the code of zeros for each block of the new format; the number of lines and the
+-- counts stay
 unfoldable pub resized : {Code : Type 0} → Format Code → Code → State Code → State Code
 resized format code s =
     record s {

@@ -8,7 +8,8 @@ use Rattle.std.specs.List.{join_with_byte, slice_split, list_all}
 use Rattle.std.specs.Str.Parse.{digits_value, signed_digits_value}
 use Rattle.zf_cached.specs.Commands.{Command}
 
--- what stands between words, between the numbers of a position or of steps, and between sizes: ` `, `,` and `x`
+-- what stands between words, between the numbers of a position or of steps, and between sizes: ` `, `,` and
+-- `x`
 abbrev pub space : ℕ
 space = 32
 
@@ -109,7 +110,8 @@ cut_at byte bs = slice_split (λ b. b == byte) bs
 abbrev pub numbers_in : ℕ → List ℕ → List ℕ
 numbers_in byte word = map (digits_value 10) (cut_at byte word)
 
--- the commands that words could be: one of each kind, with what its words could say. Whether they do is not asked here
+-- the commands that words could be: one of each kind, with what its words could say. Whether they do is not
+-- asked here
 unfoldable pub candidates : List (List ℕ) → List Command
 candidates words =
     let first = slice_index_or words 1 [] in

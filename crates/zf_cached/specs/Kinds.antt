@@ -1,4 +1,5 @@
--- The kinds of commands. Each command is sorted once, here; what a setting allows, and what needs a split, goes by the kind.
+-- The kinds of commands. Each command is sorted once, here; what a setting allows, and what needs a split,
+-- goes by the kind.
 use Rattle.std.specs.Prelude.{Bool, true, false}
 use Rattle.zf_cached.specs.Commands.{Command}
 

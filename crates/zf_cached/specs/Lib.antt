@@ -1,4 +1,5 @@
--- The definitions of cached arrays and scripts, that every crate above the codec cites. One file for each subject:
+-- The definitions of cached arrays and scripts, that every crate above the codec cites. One file for each
+-- subject:
 --     State        the state of a cached array, and the line of a block
 --     Touch        a touch of a block, a touch for writing, and write-back
 --     Placing      in which line a block is, or goes: all in which caches differ

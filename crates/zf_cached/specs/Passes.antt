@@ -9,7 +9,8 @@ unfoldable pub touched_below : {Code : Type 0} → Format Code → State Code �
 touched_below format s zero = s
 touched_below format s (suc n) = touch format (touched_below format s n) n
 
--- each line has at least two of the n blocks, and none but the last ones are in the lines: as many as there are lines
+-- each line has at least two of the n blocks, and none but the last ones are in the lines: as many as there
+-- are lines
 pub record HasLastBlocks {Code : Type 0} (n : ℕ) (s : State Code) : Type 0 where
   pub two_for_a_line : 2 * s.lines ≤ n
   pub last : (l b : ℕ) → s.held l ≡ Some b → n ≤ b + s.lines

@@ -10,11 +10,13 @@ use Rattle.zf_cached.specs.Touch.{hit, miss}
 abbrev pub Line : Type 0
 Line = ℕ → (ℕ → Option ℕ) → (ℕ → Bool) → ℕ → ℕ
 
--- the line of a block is one that may hold it, `may_hold n b l`; and where one that may does, and no other line does, it is that line
+-- the line of a block is one that may hold it, `may_hold n b l`; and where one that may does, and no other
+-- line does, it is that line
 pub record IsPlacing (line : Line) (may_hold : ℕ → ℕ → ℕ → Type 0) : Type 0 where
   pub inside : (n : ℕ) (held : ℕ → Option ℕ) (dirty : ℕ → Bool) (b : ℕ) → 0 < n → line n held dirty b < n
   pub allowed : (n : ℕ) (held : ℕ → Option ℕ) (dirty : ℕ → Bool) (b : ℕ) → may_hold n b (line n held dirty b)
-  pub found : (n : ℕ) (held : ℕ → Option ℕ) (dirty : ℕ → Bool) (b l : ℕ) → may_hold n b l → held l ≡ Some b → ((m : ℕ) → held m ≡ Some b → m ≡ l) → line n held dirty b ≡ l
+  pub found : (n : ℕ) (held : ℕ → Option ℕ) (dirty : ℕ → Bool) (b l : ℕ) → may_hold n b l → held l ≡ Some b
+      → ((m : ℕ) → held m ≡ Some b → m ≡ l) → line n held dirty b ≡ l
 
 -- the line of block b in a state
 abbrev pub line_in : {Code : Type 0} → Line → State Code → ℕ → ℕ
@@ -22,7 +24,8 @@ line_in line s b = line s.lines s.held s.dirty b
 
 -- a touch of block b: where its line does not hold it, it is put there
 unfoldable pub touch_at : {Code : Type 0} → Line → Format Code → State Code → ℕ → State Code
-touch_at line format s b = elim (is_block (s.held (line_in line s b)) b) [ true ↦ hit s | false ↦ miss format s (line_in line s b) b ]
+touch_at line format s b = elim (is_block (s.held (line_in line s b)) b)
+    [ true ↦ hit s | false ↦ miss format s (line_in line s b) b ]
 
 -- ---- each block has one line: its number modulo the number of lines
 

@@ -19,18 +19,22 @@ abbrev pub lines_of : List ℕ → List (List ℕ)
 lines_of script = slice_split (λ b. b == 10) script
 
 -- the step of a line as it is read: one that is no command, or none of these commands, is refused
-unfoldable pub read_step : {Code : Type 0} → Setting Code → Session Code → Option Command → Bool → Session Code × Option Reply
+unfoldable pub read_step : {Code : Type 0} → Setting Code → Session Code → Option Command → Bool
+    → Session Code × Option Reply
 read_step setting s None starving = (s, Some (Reply.refused Refusal.word))
-read_step setting s (Some c) starving = elim (setting.allows c) [ true ↦ step setting s c starving | false ↦ (s, Some (Reply.refused Refusal.word)) ]
+read_step setting s (Some c) starving = elim (setting.allows c)
+    [ true ↦ step setting s c starving | false ↦ (s, Some (Reply.refused Refusal.word)) ]
 
 -- the step of a line; an empty one is skipped
-unfoldable pub line_step : {Code : Type 0} → Setting Code → Session Code → List ℕ → Bool → Session Code × Option Reply
+unfoldable pub line_step : {Code : Type 0} → Setting Code → Session Code → List ℕ → Bool → Session Code
+    × Option Reply
 line_step setting s [] starving = (s, None)
 line_step setting s (c ∷ cs) starving = read_step setting s (read_line (length s.shape) (c ∷ cs)) starving
 
--- the steps of lines one after the other, the first of them number k of the script, counted from 0, and their replies;
--- the lines with these numbers are out of memory
-unfoldable pub run_lines : {Code : Type 0} → Setting Code → List ℕ → ℕ → List (List ℕ) → Session Code → Session Code × List Reply
+-- the steps of lines one after the other, the first of them number k of the script, counted from 0, and their
+-- replies; the lines with these numbers are out of memory
+unfoldable pub run_lines : {Code : Type 0} → Setting Code → List ℕ → ℕ → List (List ℕ) → Session Code
+    → Session Code × List Reply
 run_lines setting starved k [] s = (s, [])
 run_lines setting starved k (line ∷ lines) s =
     let one = line_step setting s line (list_any (λ n. n == k) starved) in
@@ -38,8 +42,10 @@ run_lines setting starved k (line ∷ lines) s =
     (rest.0, option_to_list one.1 ++ rest.1)
 
 -- a script from the whole window on
-unfoldable pub run_script : {Code : Type 0} → Setting Code → List ℕ → List ℕ → State Code → List ℕ → Session Code × List Reply
-run_script setting starved shape s script = run_lines setting starved 0 (lines_of script) (record { shape = shape; state = s; window = whole shape; split = None })
+unfoldable pub run_script : {Code : Type 0} → Setting Code → List ℕ → List ℕ → State Code → List ℕ
+    → Session Code × List Reply
+run_script setting starved shape s script = run_lines setting starved 0 (lines_of script)
+    (record { shape = shape; state = s; window = whole shape; split = None })
 
 -- the end of a run: a split ends, and then there is a flush
 unfoldable pub ended : {Code : Type 0} → Setting Code → Session Code → Session Code
@@ -47,13 +53,15 @@ ended setting s =
     let t = joined setting s in
     record t { state = flush (format_of setting t) t.state }
 
-unfoldable pub run : {Code : Type 0} → Setting Code → List ℕ → List ℕ → State Code → List ℕ → Session Code × List Reply
+unfoldable pub run : {Code : Type 0} → Setting Code → List ℕ → List ℕ → State Code → List ℕ → Session Code
+    × List Reply
 run setting starved shape s script =
     let r = run_script setting starved shape s script in
     (ended setting r.0, r.1)
 
 -- a look has no such end
-unfoldable pub look : {Code : Type 0} → Setting Code → List ℕ → List ℕ → State Code → List ℕ → Session Code × List Reply
+unfoldable pub look : {Code : Type 0} → Setting Code → List ℕ → List ℕ → State Code → List ℕ → Session Code
+    × List Reply
 look setting starved shape s script = run_script setting starved shape s script
 
 -- the text of replies
@@ -100,7 +108,8 @@ look_setting w coding = record {
 
 -- the text of the run of a script over an array with these codes, and the file that is saved
 unfoldable pub run_text : Width → ℕ → List ℕ → List (List Bool) → ℕ → List ℕ → List ℕ → List ℕ
-run_text w budget ns cs lines starved script = replies_text (run (array_setting w budget) starved ns (open_array w budget ns cs lines) script).1
+run_text w budget ns cs lines starved script = replies_text
+    (run (array_setting w budget) starved ns (open_array w budget ns cs lines) script).1
 
 unfoldable pub run_saved : Width → ℕ → List ℕ → List (List Bool) → ℕ → List ℕ → List ℕ → List ℕ
 run_saved w budget ns cs lines starved script =
@@ -108,9 +117,11 @@ run_saved w budget ns cs lines starved script =
     saved_file w budget after.shape after.state
 
 -- the text of the look of a script at an array with these codes
-unfoldable pub look_text : {Code : Type 0} → Width → Coding Code → List ℕ → List Code → ℕ → List ℕ → List ℕ → List ℕ
+unfoldable pub look_text : {Code : Type 0} → Width → Coding Code → List ℕ → List Code → ℕ → List ℕ → List ℕ
+    → List ℕ
 look_text w coding ns cs lines starved script =
-    replies_text (look (look_setting w coding) starved ns (opened (array_format coding ns) (λ b. slice_index_or cs b coding.zero) (raised lines)) script).1
+    replies_text (look (look_setting w coding) starved ns
+    (opened (array_format coding ns) (λ b. slice_index_or cs b coding.zero) (raised lines)) script).1
 
 -- over an array of zeros, never out of memory
 abbrev pub zeros_text : Width → ℕ → List ℕ → ℕ → List ℕ → List ℕ
@@ -121,4 +132,5 @@ zeros_saved w budget ns lines script = run_saved w budget ns (zero_codes budget 
 
 -- over a plain array of zeros
 abbrev pub plain_text : Width → List ℕ → ℕ → List ℕ → List ℕ
-plain_text w ns lines script = replies_text (run (plain_setting w) [] ns (opened (array_format plain_coding ns) (λ b. []) (raised lines)) script).1
+plain_text w ns lines script = replies_text (run (plain_setting w) [] ns
+    (opened (array_format plain_coding ns) (λ b. []) (raised lines)) script).1

@@ -1,4 +1,5 @@
--- An array that is split into private views. Each has a cache of its own over blocks of its own; the codes are one list.
+-- An array that is split into private views. Each has a cache of its own over blocks of its own; the codes
+-- are one list.
 --     While there is a split, no block is in a line of the array itself, and the array's values are those that the codes mean.
 use Rattle.std.specs.Prelude.{ℕ, ◌+◌, nat_lt, nat_le, Bool, ◌&&◌, List, [], map, slice_index_or, if◌then◌else◌}
 use Rattle.zf_spec.specs.Grid.{upto}
@@ -15,7 +16,8 @@ is_view_count blocks n = nat_lt 0 n && (nat_lt n 17 && nat_le n blocks)
 abbrev pub is_owner : ℕ → ℕ → ℕ → ℕ → Bool
 is_owner blocks n i b = nat_le (first_of blocks n i) b && nat_lt b (first_of blocks n (i + 1))
 
--- a view with so many lines as it is opened: its blocks have the values that these codes mean. Of other blocks it says nothing
+-- a view with so many lines as it is opened: its blocks have the values that these codes mean. Of other
+-- blocks it says nothing
 unfoldable pub opened_view : {Code : Type 0} → Format Code → (ℕ → Code) → ℕ → (ℕ → Bool) → View
 opened_view format codes lines owns =
     record {
@@ -28,7 +30,8 @@ opened_view format codes lines owns =
 
 -- the n views of an array with these codes, in order
 unfoldable pub opened_views : {Code : Type 0} → Format Code → (ℕ → Code) → ℕ → ℕ → List View
-opened_views format codes lines n = map (λ i. opened_view format codes lines (is_owner format.blocks n i)) (upto n)
+opened_views format codes lines n = map (λ i. opened_view format codes lines (is_owner format.blocks n i))
+    (upto n)
 
 abbrev pub no_view : View
 no_view = record { lines = 0; held = empty_line; dirty = none_dirty; values = λ b. []; counts = no_counts }
@@ -37,7 +40,8 @@ no_view = record { lines = 0; held = empty_line; dirty = none_dirty; values = λ
 abbrev pub view_at : List View → ℕ → View
 view_at views i = slice_index_or views i no_view
 
--- an array that stands for these codes alone: no block is in a line, and each has the values that its code means. The number of lines and the counts stay
+-- an array that stands for these codes alone: no block is in a line, and each has the values that its code
+-- means. The number of lines and the counts stay
 unfoldable pub coded : {Code : Type 0} → Format Code → State Code → (ℕ → Code) → State Code
 coded format s codes =
     record s {

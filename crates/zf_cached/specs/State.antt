@@ -8,7 +8,8 @@ pub record Counts : Type 0 where
   pub misses : ℕ
   pub writes : ℕ
 
--- the number of lines; the block in each line, or none; which blocks are dirty; the values and the code of each block; the counts
+-- the number of lines; the block in each line, or none; which blocks are dirty; the values and the code of
+-- each block; the counts
 pub record State (Code : Type 0) : Type 0 where
   pub lines : ℕ
   pub held : ℕ → Option ℕ
@@ -36,7 +37,8 @@ most_counted = 2 ^ 64 - 1
 abbrev pub risen : ℕ → ℕ
 risen n = min (n + 1) most_counted
 
--- the line of a block: blocks share a line exactly where their numbers agree modulo the number of lines (this project's own)
+-- the line of a block: blocks share a line exactly where their numbers agree modulo the number of lines (this
+-- project's own)
 abbrev pub own_line : {Code : Type 0} → State Code → ℕ → ℕ
 own_line s b = b % s.lines
 

@@ -20,8 +20,8 @@ use Rattle.zf_cached.specs.Acts.{Act}
 use Rattle.zf_cached.specs.Views.{View, with_codes, without_codes, acted, answered}
 use Rattle.zf_cached.specs.Splits.{is_view_count, is_owner, opened_views, view_at, coded}
 
--- what a script doesn't change: the type of the values, how blocks are coded, whether an array of these sizes has room in a file,
--- what a touch does, and which commands there are
+-- what a script doesn't change: the type of the values, how blocks are coded, whether an array of these sizes
+-- has room in a file, what a touch does, and which commands there are
 pub record Setting (Code : Type 0) : Type 0 where
   pub width : Width
   pub coding : Coding Code
@@ -29,7 +29,8 @@ pub record Setting (Code : Type 0) : Type 0 where
   pub touch : Format Code → State Code → ℕ → State Code
   pub allows : Command → Bool
 
--- what it does change: the sizes of the array, its state, the current window, and the private views while the array is split
+-- what it does change: the sizes of the array, its state, the current window, and the private views while the
+-- array is split
 pub record Session (Code : Type 0) : Type 0 where
   pub shape : List ℕ
   pub state : State Code
@@ -56,17 +57,21 @@ changed setting s b change =
 unfoldable pub changed_at : {Code : Type 0} → Setting Code → Session Code → List ℕ → (ℤ → ℤ) → Session Code
 changed_at setting s ps change =
     let p = place_of ps in
-    changed setting s (block_number s.shape ps) (λ values. slice_set values p (change (slice_index_or values p (pos 0))))
+    changed setting s (block_number s.shape ps) (λ values. slice_set values p
+    (change (slice_index_or values p (pos 0))))
 
 -- each block in order is touched for writing, and its values become v where a place exists
 unfoldable pub filled_below : {Code : Type 0} → Setting Code → Session Code → ℤ → List ℕ → Session Code
 filled_below setting s v [] = s
 filled_below setting s v (b ∷ bs) =
     let format = format_of setting s in
-    filled_below setting (changed setting s b (λ values. existing_of format b (replicate format.block_len v))) v bs
+    filled_below setting (changed setting s b (λ values. existing_of format b (replicate format.block_len v)))
+    v bs
 
--- touches one after the other, and the sum, without wrap, of what each of them finds: it finds this in the values of this block
-unfoldable pub summed : {Code X : Type 0} → Setting Code → (X → ℕ) → (X → List ℤ → ℤ) → List X → Session Code → Session Code × ℤ
+-- touches one after the other, and the sum, without wrap, of what each of them finds: it finds this in the
+-- values of this block
+unfoldable pub summed : {Code X : Type 0} → Setting Code → (X → ℕ) → (X → List ℤ → ℤ) → List X → Session Code
+    → Session Code × ℤ
 summed setting block found [] s = (s, pos 0)
 summed setting block found (x ∷ xs) s =
     let t = touched setting s (block x) in
@@ -133,7 +138,8 @@ joined setting s = record (flushed_views setting s (length (views_of s))) { spli
 
 -- ---- refusals
 
--- the commands that end a split, or are on a view: while there is a split they are the only ones, and else they are none
+-- the commands that end a split, or are on a view: while there is a split they are the only ones, and else
+-- they are none
 abbrev pub needs_split : Command → Bool
 needs_split c = is_of_split (kind_of c)
 
@@ -152,10 +158,12 @@ abbrev pub is_line_count : ℕ → Bool
 is_line_count l = nat_lt 0 l && nat_lt l 65537
 
 abbrev pub refuses_size : {Code : Type 0} → Setting Code → Session Code → Command → Bool
-refuses_size setting s (Command.view origin size step) = not (is_window s.shape (record { origin = origin; size = size; step = step }))
+refuses_size setting s (Command.view origin size step) =
+    not (is_window s.shape (record { origin = origin; size = size; step = step }))
 refuses_size setting s (Command.lines l) = not (is_line_count l)
 refuses_size setting s (Command.resize ns) = not (is_new_shape setting s ns)
-refuses_size setting s (Command.split n l) = not (is_view_count (format_of setting s).blocks n && is_line_count l)
+refuses_size setting s (Command.split n l) = not (is_view_count (format_of setting s).blocks n &&
+    is_line_count l)
 refuses_size setting s _ = false
 
 -- there is such a view
@@ -164,7 +172,8 @@ has_view s i = nat_lt i (length (views_of s))
 
 -- there is such a view and such a position, and the view owns its block
 abbrev pub view_has : {Code : Type 0} → Session Code → ℕ → List ℕ → Bool
-view_has s i ps = has_view s i && (is_inside s.shape ps && is_owner (blocks s.shape) (length (views_of s)) i (block_number s.shape ps))
+view_has s i ps = has_view s i && (is_inside s.shape ps && is_owner (blocks s.shape) (length (views_of s)) i
+    (block_number s.shape ps))
 
 abbrev pub refuses_range : {Code : Type 0} → Session Code → Command → Bool
 refuses_range s (Command.get ps) = not (is_inside s.shape ps)
@@ -234,7 +243,11 @@ done setting s (Command.fill v) = (filled_below setting s v (upto (format_of set
 done setting s Command.sum =
     let r = summed setting (λ b. b) (λ b values. total values) (upto (format_of setting s).blocks) s in
     (r.0, Some (Reply.number r.1))
-done setting s (Command.view origin size step) = (record s { window = record { origin = origin; size = size; step = step } }, None)
+done setting s (Command.view origin size step) = (
+  record s
+      { window = record { origin = origin; size = size; step = step } },
+  None,
+)
 done setting s (Command.slice axis at) = (record s { window = sliced s.window axis at }, None)
 done setting s (Command.vget ps) =
     let at = mapped s.window ps in
@@ -246,9 +259,18 @@ done setting s Command.vsum =
     (r.0, Some (Reply.number r.1))
 done setting s Command.flush = (record s { state = flush (format_of setting s) s.state }, None)
 done setting s Command.discard = (record s { state = discard (format_of setting s) s.state }, None)
-done setting s (Command.lines l) = (record s { state = relined (format_of setting s) s.state (raised l) }, None)
-done setting s (Command.resize ns) =
-    (record s { shape = ns; state = resized (array_format setting.coding ns) setting.coding.zero s.state; window = whole ns }, None)
+done setting s (Command.lines l) = (
+  record s { state = relined (format_of setting s) s.state (raised l) },
+  None,
+)
+done setting s (Command.resize ns) = (
+  record s {
+    shape = ns;
+    state = resized (array_format setting.coding ns) setting.coding.zero s.state;
+    window = whole ns;
+  },
+  None,
+)
 done setting s Command.stats = (s, Some (counts_reply s.state.counts))
 done setting s (Command.split n l) = (split_into setting s n (raised l), None)
 done setting s Command.join = (joined setting s, None)
@@ -260,5 +282,7 @@ done setting s (Command.pdiscard i) = by_view setting s i Act.discard
 done setting s (Command.pstats i) = (s, Some (counts_reply (view_at (views_of s) i).counts))
 
 -- the step of a command: a refusal changes nothing
-unfoldable pub step : {Code : Type 0} → Setting Code → Session Code → Command → Bool → Session Code × Option Reply
-step setting s c starving = elim (refusal setting s c starving) [ Some why ↦ (s, Some (Reply.refused why)) | None ↦ done setting s c ]
+unfoldable pub step : {Code : Type 0} → Setting Code → Session Code → Command → Bool → Session Code
+    × Option Reply
+step setting s c starving = elim (refusal setting s c starving)
+    [ Some why ↦ (s, Some (Reply.refused why)) | None ↦ done setting s c ]

@@ -3,7 +3,8 @@ use Rattle.std.specs.Prelude.{ℕ, ℤ, true, false, List, Some, None}
 use Rattle.zf_base.specs.Formats.{Format, meant, encoded, with_at}
 use Rattle.zf_cached.specs.State.{State, risen, own_line, is_here}
 
--- write-back: the code of block b is made of its values, its values become what this code means, and it is not dirty any more
+-- write-back: the code of block b is made of its values, its values become what this code means, and it is
+-- not dirty any more
 unfoldable pub write_back : {Code : Type 0} → Format Code → State Code → ℕ → State Code
 write_back format s b =
     let code = encoded format b (s.values b) in

@@ -24,4 +24,5 @@ pub record IsUnwritten {Code : Type 0} (k : ℕ → Code) (vs : ℕ → List ℤ
 -- among these lines, read in d dimensions, each command that there is only reads
 abbrev pub ReadAlone : {Code : Type 0} → Setting Code → ℕ → List (List ℕ) → Type 0
 ReadAlone setting d [] = ⊤
-ReadAlone setting d (line ∷ lines) = ((c : Command) → read_line d line ≡ Some c → setting.allows c ≡ true → only_reads c ≡ true) × ReadAlone setting d lines
+ReadAlone setting d (line ∷ lines) = ((c : Command) → read_line d line ≡ Some c → setting.allows c ≡ true
+    → only_reads c ≡ true) × ReadAlone setting d lines

@@ -50,10 +50,25 @@ pub record Step : Type 0 where
   pub act : Act
 
 abbrev pub with_codes : {Code : Type 0} → View → (ℕ → Code) → State Code
-with_codes v codes = record { lines = v.lines; held = v.held; dirty = v.dirty; values = v.values; codes = codes; counts = v.counts }
+with_codes v codes = record {
+  lines = v.lines;
+  held = v.held;
+  dirty = v.dirty;
+  values = v.values;
+  codes =
+      codes;
+  counts = v.counts;
+}
 
 abbrev pub without_codes : {Code : Type 0} → State Code → View
-without_codes s = record { lines = s.lines; held = s.held; dirty = s.dirty; values = s.values; counts = s.counts }
+without_codes s = record {
+  lines = s.lines;
+  held = s.held;
+  dirty = s.dirty;
+  values = s.values;
+  counts =
+      s.counts;
+}
 
 -- the state of view i, over the codes as they are
 abbrev pub state_of_view : {Code : Type 0} → Views Code → ℕ → State Code
@@ -82,7 +97,11 @@ module _ {Code : Type 0} (w : Width) (format : Format Code) where
 -- the steps of view i and no others
 unfoldable pub steps_of : ℕ → List Step → List Step
 steps_of i [] = []
-steps_of i (step ∷ steps) = elim (step.view == i) [ true ↦ step ∷ steps_of i steps | false ↦ steps_of i steps ]
+steps_of i (step ∷ steps) = elim (step.view == i) [
+  | true ↦ step
+      ∷ steps_of i steps
+  | false ↦ steps_of i steps
+]
 
 -- ---- blocks of one's own: view i owns the blocks b with `owns i b`
 

@@ -10,7 +10,8 @@ ghost use Rattle.zf_cached.specs.State.{State};
 ghost use Rattle.zf_cached.specs.Changes.{zeros};
 ghost use Rattle.zf_cached.specs.Arrays.{Coding, plain_coding, rate_coding, array_format, open_array, codes_of, saved_file, file_bytes};
 
-/// In an array of a fixed rate a block's code means what reading it gives, a write-back rounds as the rate does, and the code of zeros means zeros.
+/// In an array of a fixed rate a block's code means what reading it gives, a write-back rounds as the rate
+/// does, and the code of zeros means zeros.
 pub fn rate_codes()
     ensures meaning { (w : Width) (budget : ℕ) (ns : List ℕ) (b : ℕ) (code : List Bool)
         → meant (array_format (rate_coding w budget) ns) b code ≡ read_rate w (extent_of ns b) code }
@@ -26,10 +27,12 @@ pub fn rate_codes()
 /// Blocks that are their own codes lose nothing in a write-back.
 pub fn plain_codes()
     ensures { (ns : List ℕ) (b : ℕ) (values : List ℤ)
-        → rounded (array_format plain_coding ns) b values ≡ existing_of (array_format plain_coding ns) b values }
+        → rounded (array_format plain_coding ns) b values
+        ≡ existing_of (array_format plain_coding ns) b values }
 {}
 
-/// An array that is opened and saved again gives the same file; a file's length is known from its shape and its rate.
+/// An array that is opened and saved again gives the same file; a file's length is known from its shape and
+/// its rate.
 pub fn opened_and_saved()
     ensures codes { (w : Width) (budget : ℕ) (ns : List ℕ) (codes : List (List Bool)) (lines : ℕ)
         → length codes ≡ blocks ns → codes_of ns (open_array w budget ns codes lines) ≡ codes }
@@ -37,5 +40,6 @@ pub fn opened_and_saved()
         → length codes ≡ blocks ns
         → saved_file w budget ns (open_array w budget ns codes lines) ≡ file w ns (fixed_rate budget) codes }
     ensures length { (w : Width) (budget : ℕ) (ns : List ℕ) (s : State (List Bool))
-        → ((b : ℕ) → length (s.codes b) ≡ budget) → length (saved_file w budget ns s) ≡ file_bytes w budget ns }
+        → ((b : ℕ) → length (s.codes b) ≡ budget) → length (saved_file w budget ns s)
+        ≡ file_bytes w budget ns }
 {}

@@ -4,8 +4,8 @@ ghost use Rattle.std.specs.Prelude.{◌≡◌, ℕ, ◌≤◌, ◌↔◌, List, 
 ghost use Rattle.zf_cached.specs.Commands.{Command};
 ghost use Rattle.zf_cached.specs.Grammar.{space, cut_at, words_of, line_of, is_writable, read_line};
 
-/// A line is read as a command exactly where the command is writable in that many dimensions and the line is its text; and two
-/// commands that are writable there have different texts.
+/// A line is read as a command exactly where the command is writable in that many dimensions and the line is
+/// its text; and two commands that are writable there have different texts.
 pub fn one_text_for_a_command()
     ensures read { (d : ℕ) (line : List ℕ) (c : Command) → 1 ≤ d
         → (read_line d line ≡ Some c) ↔ (IsTrue (is_writable d c) × (line ≡ line_of c)) }

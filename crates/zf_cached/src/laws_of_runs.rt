@@ -17,10 +17,13 @@ ghost use Rattle.zf_cached.specs.Unwritten.{IsUnwritten, ReadAlone};
 use crate::coded::Coded;
 use crate::placing::Placing;
 
-/// A refused command changes nothing; out of memory is only a command that takes some, and only after all other tests.
+/// A refused command changes nothing; out of memory is only a command that takes some, and only after all
+/// other tests.
 pub fn refused_commands<C: Coded>()
-    ensures unchanged { (setting : Setting C.Code) (s : Session C.Code) (c : Command) (starving : Bool) (why : Refusal)
-        → refusal setting s c starving ≡ Some why → step setting s c starving ≡ (s, Some (Reply.refused why)) }
+    ensures unchanged { (setting : Setting C.Code) (s : Session C.Code) (c : Command) (starving : Bool)
+        (why : Refusal)
+        → refusal setting s c starving ≡ Some why → step setting s c starving
+        ≡ (s, Some (Reply.refused why)) }
     ensures memory { (setting : Setting C.Code) (s : Session C.Code) (c : Command) (starving : Bool)
         → refusal setting s c starving ≡ Some Refusal.memory
         → (takes_memory c ≡ true) × (starving ≡ true) × (refusal setting s c false ≡ None) }
@@ -28,31 +31,39 @@ pub fn refused_commands<C: Coded>()
         → refusal setting s c starving ≡ Some Refusal.word → ⊥ }
 {}
 
-/// Whatever the placing, each step of a script, and its whole run, keeps the array in a state that is reached and the window in the array; nothing
-/// is dirty after a run.
+/// Whatever the placing, each step of a script, and its whole run, keeps the array in a state that is reached
+/// and the window in the array; nothing is dirty after a run.
 pub fn scripts_keep_states_consistent<C: Coded, P: Placing>()
     ensures step { (setting : Setting C.Code) (s : Session C.Code) (c : Command) (starving : Bool)
         → is_writable (length s.shape) c ≡ true → IsCached P.line setting
         → IsSound P.line setting s → IsSound P.line setting (step setting s c starving).0 }
-    ensures lines { (setting : Setting C.Code) (starved : List ℕ) (k : ℕ) (lines : List (List ℕ)) (s : Session C.Code)
-        → IsCached P.line setting → IsSound P.line setting s → IsSound P.line setting (run_lines setting starved k lines s).0 }
+    ensures lines { (setting : Setting C.Code) (starved : List ℕ) (k : ℕ) (lines : List (List ℕ))
+        (s : Session C.Code)
+        → IsCached P.line setting → IsSound P.line setting s
+        → IsSound P.line setting (run_lines setting starved k lines s).0 }
     ensures run { (setting : Setting C.Code) (starved shape : List ℕ) (s : State C.Code) (script : List ℕ)
-        → IsCached P.line setting → IsShape shape → IsConsistent P.line every (array_format setting.coding shape) s
+        → IsCached P.line setting → IsShape shape →
+        IsConsistent P.line every (array_format setting.coding shape) s
         → IsSound P.line setting (run setting starved shape s script).0 }
     ensures flushed { (setting : Setting C.Code) (starved shape : List ℕ) (s : State C.Code) (script : List ℕ)
-        → IsCached P.line setting → IsShape shape → IsConsistent P.line every (array_format setting.coding shape) s
+        → IsCached P.line setting → IsShape shape →
+        IsConsistent P.line every (array_format setting.coding shape) s
         → IsEmpty (run setting starved shape s script).0.state }
 {}
 
-/// Lines that only read, and a look of any lines, leave the sizes, the codes and the values as they are, and nothing dirty, where nothing was.
+/// Lines that only read, and a look of any lines, leave the sizes, the codes and the values as they are, and
+/// nothing dirty, where nothing was.
 pub fn reading_changes_nothing<C: Coded, P: Placing>()
     ensures run { (setting : Setting C.Code) (starved shape : List ℕ) (s : State C.Code) (script : List ℕ)
-        → IsCached P.line setting → ((b : ℕ) → s.dirty b ≡ false) → ReadAlone setting (length shape) (lines_of script)
-        → let t = (run setting starved shape s script).0 in (t.shape ≡ shape) × IsUnwritten s.codes s.values t.state }
+        → IsCached P.line setting → ((b : ℕ) → s.dirty b ≡ false)
+        → ReadAlone setting (length shape) (lines_of script)
+        → let t = (run setting starved shape s script).0 in (t.shape ≡ shape)
+        × IsUnwritten s.codes s.values t.state }
     ensures look { (setting : Setting C.Code) (starved shape : List ℕ) (s : State C.Code) (script : List ℕ)
         → IsCached P.line setting → ((b : ℕ) → s.dirty b ≡ false)
         → ((c : Command) → setting.allows c ≡ true → only_reads c ≡ true)
-        → let t = (look setting starved shape s script).0 in (t.shape ≡ shape) × IsUnwritten s.codes s.values t.state }
+        → let t = (look setting starved shape s script).0 in (t.shape ≡ shape)
+        × IsUnwritten s.codes s.values t.state }
 {}
 
 /// A script of lines that only read saves the file of an array bit for bit.
@@ -65,7 +76,8 @@ pub fn reading_saves_the_file()
 
 /// Lines run one after the other: more lines run from where the first ones end, and their replies follow.
 pub fn lines_in_order<C: Coded>()
-    ensures { (setting : Setting C.Code) (starved : List ℕ) (k : ℕ) (lines more : List (List ℕ)) (s : Session C.Code)
+    ensures { (setting : Setting C.Code) (starved : List ℕ) (k : ℕ) (lines more : List (List ℕ))
+        (s : Session C.Code)
         → let first = run_lines setting starved k lines s in
         let rest = run_lines setting starved (k + length lines) more first.0 in
         run_lines setting starved k (lines ++ more) s ≡ (rest.0, first.1 ++ rest.1) }

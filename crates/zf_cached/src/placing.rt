@@ -10,7 +10,8 @@ pub trait Placing {
     // Among so many lines, this block may be in this line.
     ghost may_hold: { ℕ → ℕ → ℕ → Type 0 };
 
-    // Laws. The line is one that may hold the block, and a block that is in such a line, and in no other, is found there.
+    // Laws. The line is one that may hold the block, and a block that is in such a line, and in no other, is
+    // found there.
     ghost placing: { IsPlacing line may_hold };
 }
 

@@ -7,7 +7,8 @@ ghost use Rattle.zf_spec.specs.Codes.{rev};
 ghost use Rattle.zf_cached.specs.Arrays.{mode_coding};
 ghost use Rattle.zf_cached.specs.Runs.{zeros_text, zeros_saved, run_text, run_saved, look_text, plain_text};
 
-/// A value stays as it was set until its block is written back: by a flush, or by a block that takes its line.
+/// A value stays as it was set until its block is written back: by a flush, or by a block that takes its
+/// line.
 pub fn write_back()
     ensures flushed { zeros_text w32 64 (8 ∷ []) 1 (codes "set 0 1\nget 0\nflush\nget 0\nstats\n")
         ≡ codes "1\n0\nhits 1 misses 2 writes 1\n" }
@@ -21,15 +22,18 @@ pub fn write_back()
         ≡ codes "4\nhits 3 misses 2 writes 1\n" }
 {}
 
-/// What is saved: the codes as last written back; those of blocks that were never written back are the file's, bit for bit.
+/// What is saved: the codes as last written back; those of blocks that were never written back are the
+/// file's, bit for bit.
 pub fn saved_files()
     ensures written { zeros_saved w32 64 (8 ∷ []) 2 (codes "set 0 1\nset 1 2\nset 2 3\nset 3 4\n")
-        ≡ 0x7a ∷ 0x66 ∷ 0x70 ∷ 0x05 ∷ 0x70 ∷ 0 ∷ 0 ∷ 0 ∷ 0 ∷ 0 ∷ 0xf0 ∷ 3 ∷ 0 ∷ 0 ∷ 0 ∷ 0x60 ∷ 0x27 ∷ replicate 15 0 }
+        ≡ 0x7a ∷ 0x66 ∷ 0x70 ∷ 0x05 ∷ 0x70 ∷ 0 ∷ 0 ∷ 0 ∷ 0 ∷ 0 ∷ 0xf0 ∷ 3 ∷ 0 ∷ 0 ∷ 0 ∷ 0x60 ∷ 0x27
+        ∷ replicate 15 0 }
     ensures discarded { zeros_saved w32 64 (8 ∷ []) 2 (codes "set 0 7\ndiscard\nget 0\n")
         ≡ 0x7a ∷ 0x66 ∷ 0x70 ∷ 0x05 ∷ 0x70 ∷ 0 ∷ 0 ∷ 0 ∷ 0 ∷ 0 ∷ 0xf0 ∷ 3 ∷ replicate 20 0 }
     ensures unused_bits { run_saved w32 64 (8 ∷ [])
         ((replicate 32 false ++ replicate 32 true) ∷ replicate 64 false ∷ []) 1 [] (codes "get 0\nget 4\n")
-        ≡ 0x7a ∷ 0x66 ∷ 0x70 ∷ 0x05 ∷ 0x70 ∷ 0 ∷ 0 ∷ 0 ∷ 0 ∷ 0 ∷ 0xf0 ∷ 3 ∷ 0 ∷ 0 ∷ 0 ∷ 0 ∷ 0xff ∷ 0xff ∷ 0xff ∷ 0xff
+        ≡ 0x7a ∷ 0x66 ∷ 0x70 ∷ 0x05 ∷ 0x70 ∷ 0 ∷ 0 ∷ 0 ∷ 0 ∷ 0 ∷ 0xf0 ∷ 3 ∷ 0 ∷ 0 ∷ 0 ∷ 0 ∷ 0xff ∷ 0xff ∷ 0xff
+        ∷ 0xff
         ∷ replicate 12 0 }
     ensures resized { zeros_saved w32 64 (8 ∷ []) 2 (codes "set 0 100\nresize 4\nget 0\nget 4\nlines 3\n")
         ≡ 0x7a ∷ 0x66 ∷ 0x70 ∷ 0x05 ∷ 0x30 ∷ 0 ∷ 0 ∷ 0 ∷ 0 ∷ 0 ∷ 0xf0 ∷ 3 ∷ replicate 12 0 }
@@ -75,12 +79,14 @@ pub fn refusals()
     ensures sizes { zeros_text w32 64 (8 ∷ []) 2
         (codes "view 0 0 1\nview 0 1 0\nview 0 8 1\nview 0 9 1\nview 1 4 2\nview 7 1 9\nlines 65536\nlines 65537\nslice 1 0\n")
         ≡ codes "! size\n! size\n! size\n! size\n! range\n" }
-    ensures memory { run_text w32 64 (8 ∷ []) (replicate 64 false ∷ replicate 64 false ∷ []) 2 (0 ∷ 1 ∷ 2 ∷ 3 ∷ [])
+    ensures memory { run_text w32 64 (8 ∷ []) (replicate 64 false ∷ replicate 64 false ∷ []) 2
+        (0 ∷ 1 ∷ 2 ∷ 3 ∷ [])
         (codes "get 0\n\nlines 0\nresize 4\nget 4\n")
         ≡ codes "0\n! size\n! memory\n0\n" }
 {}
 
-/// Private views: each has a cache and counts of its own over its own blocks, and while there is a split there are no other lines.
+/// Private views: each has a cache and counts of its own over its own blocks, and while there is a split
+/// there are no other lines.
 pub fn private_views()
     ensures each { zeros_text w32 64 (8 ∷ []) 2
         (codes "split 2 1\n@0 set 0 1\n@1 get 4\n@0 get 4\nget 0\n@1 set 4 7\n@0 flush\n@0 get 0\n@1 get 4\n@0 stats\njoin\nget 4\n")
@@ -96,7 +102,8 @@ pub fn private_views()
         (codes "join\n@0 flush\nsplit 2 0\nsplit 2 65537\nsplit 0 1\nsplit 17 1\nsplit 1 1\n@0 set 4 7\n@0 discard\n@0 get 4\n@0 set 4 7\nflush\nlines 0\nstats\n@0 stats\n")
         ≡ codes "! split\n! split\n! size\n! size\n! size\n! size\n0\n! split\n! split\n! split\nhits 1 misses 2 writes 0\n" }
     ensures joined_at_the_end { zeros_saved w32 64 (8 ∷ []) 1 (codes "split 1 1\n@0 set 4 7\n")
-        ≡ 0x7a ∷ 0x66 ∷ 0x70 ∷ 0x05 ∷ 0x70 ∷ 0 ∷ 0 ∷ 0 ∷ 0 ∷ 0 ∷ 0xf0 ∷ 3 ∷ replicate 11 0 ++ 0xa0 ∷ 0xfc ∷ 3 ∷ replicate 6 0 }
+        ≡ 0x7a ∷ 0x66 ∷ 0x70 ∷ 0x05 ∷ 0x70 ∷ 0 ∷ 0 ∷ 0 ∷ 0 ∷ 0 ∷ 0xf0 ∷ 3 ∷ replicate 11 0 ++ 0xa0 ∷ 0xfc ∷ 3
+        ∷ replicate 6 0 }
     ensures memory { run_text w32 64 (8 ∷ []) (replicate 64 false ∷ replicate 64 false ∷ []) 1 (1 ∷ 3 ∷ [])
         (codes "set 0 1\nsplit 2 1\nget 0\nsplit 0 1\nstats\n")
         ≡ codes "! memory\n1\n! size\nhits 1 misses 1 writes 0\n" }
@@ -104,12 +111,14 @@ pub fn private_views()
 
 /// A look at a reversible stream of the values 1 and 2: only the lines that read are commands.
 pub fn looks()
-    ensures { look_text w32 (mode_coding w32 reversible) (2 ∷ []) (rev w32 (2 ∷ []) (pos 1 ∷ pos 2 ∷ pos 0 ∷ pos 0 ∷ []) ∷ []) 1 []
+    ensures { look_text w32 (mode_coding w32 reversible) (2 ∷ [])
+        (rev w32 (2 ∷ []) (pos 1 ∷ pos 2 ∷ pos 0 ∷ pos 0 ∷ []) ∷ []) 1 []
         (codes "get 1\nsum\nset 0 1\nlines 2\nview 1 1 1\nvget 0\n")
         ≡ codes "2\n3\n! word\n2\n" }
 {}
 
-/// An array of more blocks than lines, filled and summed: each block is missed twice, and each is written back once. Blocks are kept as they are.
+/// An array of more blocks than lines, filled and summed: each block is missed twice, and each is written
+/// back once. Blocks are kept as they are.
 pub fn more_blocks_than_lines()
     ensures { plain_text w32 (64 ∷ 64 ∷ []) 16 (codes "fill 3\nsum\nstats\nset 63,63 -5\nget 63,63\nstats\n")
         ≡ codes "12288\nhits 0 misses 512 writes 256\n-5\nhits 2 misses 512 writes 256\n" }

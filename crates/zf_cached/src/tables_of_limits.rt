@@ -1,4 +1,5 @@
-//! More runs of scripts, computed by the definitions, where a rule has its limit: each row turns if its rule is another by a word.
+//! More runs of scripts, computed by the definitions, where a rule has its limit: each row turns if its rule
+//! is another by a word.
 
 ghost use Rattle.std.specs.Prelude.{◌≡◌, [], ◌∷◌, pos, codes};
 ghost use Rattle.std.specs.Int.{w32};
@@ -18,7 +19,8 @@ pub fn sums_that_wrap()
         ≡ codes "-2147483648\n" }
 {}
 
-/// Each line with a value refuses one that is none of the type, and takes the least and the greatest that are.
+/// Each line with a value refuses one that is none of the type, and takes the least and the greatest that
+/// are.
 pub fn values_of_the_type()
     ensures windows { zeros_text w32 64 (8 ∷ []) 2
         (codes "vset 0 2147483648\nvset 8 2147483648\nvset 0 -2147483649\nview 2 3 1\nvset 3 0\nvset 2 -2147483648\nget 4\nstats\n")
@@ -44,13 +46,14 @@ pub fn numbers_of_views()
 
 /// A look has the lines `slice`, `vsum`, `lines` and `stats` too.
 pub fn lines_of_looks()
-    ensures { look_text w32 (mode_coding w32 reversible) (2 ∷ []) (rev w32 (2 ∷ []) (pos 1 ∷ pos 2 ∷ pos 0 ∷ pos 0 ∷ []) ∷ []) 1 []
+    ensures { look_text w32 (mode_coding w32 reversible) (2 ∷ [])
+        (rev w32 (2 ∷ []) (pos 1 ∷ pos 2 ∷ pos 0 ∷ pos 0 ∷ []) ∷ []) 1 []
         (codes "slice 0 1\nvsum\nvget 1\nslice 0 2\nlines 2\nget 0\nstats\nadd 0 1\nvset 0 1\nfill 1\nflush\ndiscard\nresize 2\nsplit 1 1\njoin\n@0 get 0\n")
         ≡ codes "2\n! range\n! range\n1\nhits 0 misses 2 writes 0\n! word\n! word\n! word\n! word\n! word\n! word\n! word\n! word\n! word\n" }
 {}
 
-/// An array is resized to what a file has room for: 33,333,333 blocks of 288 bits fill one to its last word, and 32,764,505
-/// blocks of 293 bits have a word too many.
+/// An array is resized to what a file has room for: 33,333,333 blocks of 288 bits fill one to its last word,
+/// and 32,764,505 blocks of 293 bits have a word too many.
 pub fn longest_array()
     ensures fits { zeros_text w32 288 (8 ∷ []) 2 (codes "resize 133333332\nget 133333331\nget 133333332\n") ≡ codes "0\n! range\n" }
     ensures too_long { zeros_text w32 293 (8 ∷ []) 2 (codes "resize 131058017\nget 7\nget 8\n") ≡ codes "! size\n0\n! range\n" }

@@ -40,23 +40,25 @@ format_of s = array_format (coding_of s.header) s.header.shape
 abbrev pub coded_by : Header → List ℕ → Index → Coded
 coded_by h file i = record { header = h; codes = codes_in (seen i) (to_bits file) }
 
--- values of this width in d dimensions; each block has a code in the file, which is read where the index says, and there is room for
--- the longest in so many words
-pub record IsCoded (w : Width) (d : ℕ) (h : Header) (file : List ℕ) (i : spans.Index) (room : ℕ) : Type 0 where
-  pub same_type : w ≡ width_of h.ty
-  pub dims : length h.shape ≡ d
-  pub header : IsHeader h
-  pub count : length i.lens ≡ blocks h.shape
-  pub read : AreRead h i (to_bits file)
-  pub within : place i (length i.lens) ≤ 8 * length file
-  pub room_is : longest_code h + 128 ≤ 64 * room
+-- values of this width in d dimensions; each block has a code in the file, which is read where the index
+-- says, and there is room for the longest in so many words
+pub record IsCoded (w : Width) (d : ℕ) (h : Header) (file : List ℕ) (i : spans.Index) (room : ℕ) : Type 0
+  where
+    pub same_type : w ≡ width_of h.ty
+    pub dims : length h.shape ≡ d
+    pub header : IsHeader h
+    pub count : length i.lens ≡ blocks h.shape
+    pub read : AreRead h i (to_bits file)
+    pub within : place i (length i.lens) ≤ 8 * length file
+    pub room_is : longest_code h + 128 ≤ 64 * room
 
 module _ {X : Type 0} (value : X → ℤ) where
   -- what codes and a cache over them are seen as
   abbrev pub held_by : Coded → Kept X → Held
   held_by s c = record { header = s.header; codes = s.codes; lines = map block_in c.tags; counts = c.counts }
 
-  -- values of this width in d dimensions, and a code for each block; the cache fits them, and nothing is dirty
+  -- values of this width in d dimensions, and a code for each block; the cache fits them, and nothing is
+  -- dirty
   pub record IsJoined (w : Width) (d : ℕ) (s : Coded) (c : Kept X) : Type 0 where
     pub same_type : w ≡ width_of s.header.ty
     pub dims : length s.header.shape ≡ d

@@ -25,11 +25,13 @@ use zf_cache::{Cache, raised};
 use zf_header::Header;
 use zf_index::IndexFault;
 
-/// An array of `D` dimensions whose blocks are the codes of a stream in any mode, and are only read, through a cache.
+/// An array of `D` dimensions whose blocks are the codes of a stream in any mode, and are only read, through
+/// a cache.
 ///
-/// It is seen as the header of its file and the code of each block, which no call changes; the block in each line, and three counts. The
-/// values are those that the codes mean, so they are the same for every number of lines and every order of reads. A block is decoded
-/// when it is asked for. All memory is taken when the array is made: no call but `set_lines` asks for more.
+/// It is seen as the header of its file and the code of each block, which no call changes; the block in each
+/// line, and three counts. The values are those that the codes mean, so they are the same for every number of
+/// lines and every order of reads. A block is decoded when it is asked for. All memory is taken when the
+/// array is made: no call but `set_lines` asks for more.
 #[derive(Drop)]
 pub struct ConstArray<T: Lane, const D: usize> {
     codes: Codes<T, D>,
@@ -84,7 +86,8 @@ impl<T: Lane, const D: usize> ConstArray<T, D> {
     pub fn get(&mut self, p: Pos) -> T
         requires { IsPosition (shape self.old) p }
         ensures state { state self.new ≡ touch (format self.old) (state self.old) (block_at self.old p) }
-        ensures value { T.value result ≡ slice_index_or ((state self.new).values (block_at self.old p)) (place_at self.old p) (pos 0) }
+        ensures value { T.value result ≡ slice_index_or ((state self.new).values (block_at self.old p))
+            (place_at self.old p) (pos 0) }
         ensures header { self.new.header ≡ self.old.header }
         ensures codes { self.new.codes ≡ self.old.codes }
     {
@@ -98,7 +101,8 @@ impl<T: Lane, const D: usize> ConstArray<T, D> {
         ensures* touched { sem 𝓛 (EndsAs T.row D.row
             (record { width = T.width; WIDTH = T.WIDTH; TY = T.TY; value = T.value; in_range = T.in_range })
             (record { eq = T.eq }) self.entry (touched self.entry.now b)) }
-        ensures value { existing_of (format self.old) b (map T.value result.now) ≡ (touch (format self.old) (state self.old) b).values b }
+        ensures value { existing_of (format self.old) b (map T.value result.now)
+            ≡ (touch (format self.old) (state self.old) b).values b }
         ensures size { length result.now ≡ 4 ^ D }
         ensures state { state (touched self.old b) ≡ touch (format self.old) (state self.old) b }
     {
@@ -106,8 +110,8 @@ impl<T: Lane, const D: usize> ConstArray<T, D> {
         self.cache.line(b)
     }
 
-    /// This number of lines, raised to a power of two; none holds a block, and the counts go on. The memory is taken first: after
-    /// `AllocError` nothing has changed.
+    /// This number of lines, raised to a power of two; none holds a block, and the counts go on. The memory
+    /// is taken first: after `AllocError` nothing has changed.
     pub fn set_lines(&mut self, lines: u32) -> Result<(), AllocError>
         requires { (0 < lines) × (lines ≤ 2 ^ 16) }
         ensures ok { OnOk result (state self.new ≡ relined (format self.old) (state self.old) (raised lines)) }

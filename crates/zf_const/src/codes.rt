@@ -50,7 +50,11 @@ impl<T: Lane, const D: usize> Codes<T, D> {
         requires index { IsIndexOf file.items h.now (seen index) }
         requires same_type { T.width ≡ width_of h.now.ty }
         requires dims { length h.now.shape ≡ D }
-        ensures { IfOk result (λ s. s ≡ record { header = h.now; codes = codes_in (seen index) (to_bits file.items) }) }
+        ensures { IfOk result (λ s. s ≡ record {
+          header = h.now;
+          codes =
+              codes_in (seen index) (to_bits file.items);
+        }) }
     {
         let excerpt = Excerpt::new(alloc, longest_code::<T>(h))?;
         Ok(Codes {

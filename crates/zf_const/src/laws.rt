@@ -1,4 +1,5 @@
-//! Laws of read-only arrays. Each is a function with no parameters and an empty body, whose contract is the theorem.
+//! Laws of read-only arrays. Each is a function with no parameters and an empty body, whose contract is the
+//! theorem.
 
 ghost use Rattle.std.specs.Prelude.{◌≡◌, List, ℕ, Ok, length, map, pos, slice_index_or};
 ghost use Rattle.zf_spec.specs.Grid.{IsShape, blocks, raster, upto};
@@ -26,8 +27,8 @@ pub fn values_stay()
     ensures lines { (a : Held) (lines : ℕ) → (relined (format a) (state a) lines).values ≡ (state a).values }
 {}
 
-/// The values that a stream says are those that its codes mean, in each mode: the state from which a look begins has them, block by block and
-/// at each position, for any number of lines.
+/// The values that a stream says are those that its codes mean, in each mode: the state from which a look
+/// begins has them, block by block and at each position, for any number of lines.
 pub fn values_are_what_codes_mean()
     ensures count { (bytes : List ℕ) (said : Said) → parse bytes ≡ Ok said
         → length said.codes ≡ blocks said.header.shape }

@@ -12,12 +12,12 @@ use zf_base::Lane;
 use zf_index::{OpenFault, header_of_stream};
 
 impl<T: Lane, const D: usize> ConstArray<T, D> {
-    /// The array of a file of values of `T` in `D` dimensions, in any mode. `lines` is 1 to 65536, raised to a
-    /// power of two. On a fault the file is dropped.
+    /// The array of a file of values of `T` in `D` dimensions, in any mode. `lines` is 1 to 65536, raised to
+    /// a power of two. On a fault the file is dropped.
     ///
     /// `Header`: it has no header that is read. `Ty`, `Dims`: it has another type, or another number of
-    /// dimensions. `Codes`: its codes or its fill are not those of a stream, or there was no memory. The first
-    /// that holds, in this order; `Mode` never comes.
+    /// dimensions. `Codes`: its codes or its fill are not those of a stream, or there was no memory. The
+    /// first that holds, in this order; `Mode` never comes.
     pub fn open(alloc: Global, file: Vec<u8>, lines: u32) -> Result<ConstArray<T, D>, OpenFault>
         requires { (0 < lines) × (lines ≤ 2 ^ 16) }
         ensures opened { IfOk result (IsOpened file.items (header_of file.items)) }

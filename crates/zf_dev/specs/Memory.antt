@@ -1,4 +1,5 @@
--- Devices in memory. Their calls are numbered from 0; the number stands still at the last value of a `u64`, as counts do.
+-- Devices in memory. Their calls are numbered from 0; the number stands still at the last value of a `u64`,
+-- as counts do.
 use Rattle.std.specs.Prelude.{◌≡◌, ℕ, zero, suc, min, List, ◌++◌, length, drop}
 use Rattle.std.specs.Option.{option_map}
 use Rattle.std.specs.BTreeMap.{get_by_text}
@@ -32,7 +33,12 @@ ends_after (suc given) ends = ends
 
 -- the source after a call that gave so many bytes
 abbrev pub source_after_read : SourceState → ℕ → SourceState
-source_after_read source count = record source { left = drop count source.left; call = next_count source.call; ends = ends_after count source.ends }
+source_after_read source count = record source {
+  left = drop count source.left;
+  call =
+      next_count source.call;
+  ends = ends_after count source.ends;
+}
 
 -- the source after a call that failed
 abbrev pub source_after_fault : SourceState → SourceState
@@ -67,7 +73,12 @@ sink_after_fault sink = record sink { call = next_count sink.call; faults = next
 
 -- the sink after a call that failed, out of memory
 abbrev pub sink_after_starving : SinkState → SinkState
-sink_after_starving sink = record sink { call = next_count sink.call; faults = next_count sink.faults; starved = next_count sink.starved }
+sink_after_starving sink = record sink {
+  call = next_count sink.call;
+  faults =
+      next_count sink.faults;
+  starved = next_count sink.starved;
+}
 
 -- what a shelf in memory holds: its files by name
 abbrev pub shelf_files : MemShelf → Files
@@ -106,4 +117,5 @@ CountsFault before now = Counts before now (next_count (shelf_faults before)) (s
 
 -- one that failed, out of memory
 abbrev pub CountsStarved : MemShelf → MemShelf → Type 0
-CountsStarved before now = Counts before now (next_count (shelf_faults before)) (next_count (shelf_starved before))
+CountsStarved before now = Counts before now (next_count (shelf_faults before))
+    (next_count (shelf_starved before))

@@ -5,8 +5,8 @@ use Rattle.zf_dev.specs.declared.real.RealSource.{RealSource}
 use Rattle.zf_dev.specs.declared.real.RealSink.{RealSink}
 use Rattle.zf_dev.specs.declared.real_shelf.RealShelf.{RealShelf}
 
--- the stream that a source reads, what it has read and not given, whether it reads ahead, and how many of its reads failed,
--- and how many saw the end
+-- the stream that a source reads, what it has read and not given, whether it reads ahead, and how many of its
+-- reads failed, and how many saw the end
 abbrev pub source_stream : {R : Type 0} → RealSource R → R
 source_stream source = source.stream
 
@@ -26,7 +26,8 @@ source_ends source = source.ends
 abbrev pub source_contents : {R : Type 0} → (R → Option (List ℕ)) → RealSource R → Option (List ℕ)
 source_contents remaining source = prepend_known (source_held source) (remaining (source_stream source))
 
--- the stream that a sink writes, what it has taken and not handed on, and how many of its writes and flushes failed
+-- the stream that a sink writes, what it has taken and not handed on, and how many of its writes and flushes
+-- failed
 abbrev pub sink_stream : {W : Type 0} → RealSink W → W
 sink_stream sink = sink.stream
 

@@ -1,4 +1,5 @@
--- What is appended to a sink. The bytes written are `Some` where the sink exposes them, and it then goes on exposing them.
+-- What is appended to a sink. The bytes written are `Some` where the sink exposes them, and it then goes on
+-- exposing them.
 use Rattle.std.specs.Prelude.{◌≡◌, ℕ, ◌<◌, ◌≤◌, List, ◌++◌, length, take, Option, Some, None}
 
 -- these bytes were written after those from before

@@ -1,4 +1,5 @@
--- What is taken from a source. The bytes still to come are `Some` where the source exposes them, and it then goes on exposing them.
+-- What is taken from a source. The bytes still to come are `Some` where the source exposes them, and it then
+-- goes on exposing them.
 use Rattle.std.specs.Prelude.{◌≡◌, ℕ, ◌+◌, ◌<◌, ◌≤◌, ◌↔◌, min, List, [], ◌++◌, length, Option, Some, None}
 
 -- the bytes to come began with these, which are gone
@@ -19,7 +20,8 @@ TakesMoreThan old new most = (bytes : List ℕ) × (most < length bytes) × Take
 abbrev pub TakesSome : Option (List ℕ) → Option (List ℕ) → Type 0
 TakesSome old new = (bytes : List ℕ) × Takes old new bytes
 
--- what a source may have given so far is handed on: these bytes more were given. It is said of every source, also of one that exposes nothing
+-- what a source may have given so far is handed on: these bytes more were given. It is said of every source,
+-- also of one that exposes nothing
 pub record Gives (before now : List ℕ → Type 0) (bytes : List ℕ) : Type 0 where
   pub goes_on : (so_far : List ℕ) → before so_far → now (so_far ++ bytes)
 

@@ -11,8 +11,8 @@ use std::marker::Model;
 /// How many bytes a buffer has room for.
 pub(crate) const ROOM: usize = 65536;
 
-/// Bytes in the order in which they came: those that a source has read and not given, or that a sink has taken and not
-/// handed on.
+/// Bytes in the order in which they came: those that a source has read and not given, or that a sink has
+/// taken and not handed on.
 #[derive(Debug, Drop)]
 pub(crate) struct Buffer {
     bytes: [u8; ROOM],
@@ -63,7 +63,8 @@ impl Buffer {
         self.start += count;
     }
 
-    /// Takes the first of these bytes behind those that are held, as many as there is room for, and says how many.
+    /// Takes the first of these bytes behind those that are held, as many as there is room for, and says how
+    /// many.
     pub(crate) fn push(&mut self, bytes: &[u8]) -> usize
         ensures bound { result ≤ length bytes.now }
         ensures held { self.new ≡ self.old ++ take result bytes.now }
@@ -101,7 +102,8 @@ impl Buffer {
         count
     }
 
-    /// Reads from a stream at most so many bytes, where none are held, and says how many came: none at its end.
+    /// Reads from a stream at most so many bytes, where none are held, and says how many came: none at its
+    /// end.
     pub(crate) fn fill<R: Read>(&mut self, stream: &mut R, most: usize) -> io::Result<usize>
         requires empty { self.old ≡ [] }
         requires some { 0 < most }
@@ -109,7 +111,8 @@ impl Buffer {
         ensures held { IfOk result (λ n. (length self.new ≡ n) × (n ≤ most)) }
         ensures taken { IfOk result (λ n. Takes (R.remaining stream.old) (R.remaining stream.new) self.new) }
         ensures end { IfOk result (λ n. EndsAt (R.remaining stream.old) (R.remaining stream.new) n) }
-        ensures err { OnErr result ((self.new ≡ []) × Takes (R.remaining stream.old) (R.remaining stream.new) []) }
+        ensures err { OnErr result ((self.new ≡ [])
+            × Takes (R.remaining stream.old) (R.remaining stream.new) []) }
     {
         self.start = 0;
         self.end = 0;
@@ -118,7 +121,8 @@ impl Buffer {
         Ok(count)
     }
 
-    /// Gives the first bytes that are held, as many as there is room for, into the start of `buf`, and says how many.
+    /// Gives the first bytes that are held, as many as there is room for, into the start of `buf`, and says
+    /// how many.
     pub(crate) fn give(&mut self, buf: &mut [u8]) -> usize
         ensures count { result ≡ min (length self.old) (length buf.old) }
         ensures given { self.old ≡ take result buf.new ++ self.new }

@@ -1,5 +1,5 @@
-//! Devices, which are the outside of the program: sources and sinks of bytes, shelves of files, what they do and how they
-//! fail; those in memory, and those over the real things.
+//! Devices, which are the outside of the program: sources and sinks of bytes, shelves of files, what they do
+//! and how they fail; those in memory, and those over the real things.
 #![tactic(auto)]
 
 mod access;

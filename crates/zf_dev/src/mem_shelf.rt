@@ -12,7 +12,8 @@ use crate::{Failed, LoadError, Shelf};
 use std::alloc::{AllocError, Global};
 use std::collections::BTreeMap;
 
-/// A shelf that keeps files in memory, and fails at the loads and saves that it was told to and where a save runs out of memory.
+/// A shelf that keeps files in memory, and fails at the loads and saves that it was told to and where a save
+/// runs out of memory.
 #[derive(Drop)]
 pub struct MemShelf {
     alloc: Global,
@@ -69,7 +70,8 @@ impl MemShelf {
 
     // Puts the bytes under this name.
     fn put(&mut self, name: &str, bytes: &[u8]) -> Result<(), AllocError>
-        ensures ok { OnOk result (SavesFile (Some (shelf_files self.old)) (Some (shelf_files self.new)) name.now bytes.now) }
+        ensures ok { OnOk result (SavesFile (Some (shelf_files self.old)) (Some (shelf_files self.new))
+            name.now bytes.now) }
         ensures err { OnErr result (KeepsFiles (Some (shelf_files self.old)) (Some (shelf_files self.new))) }
         ensures fail { shelf_fail self.new ≡ shelf_fail self.old }
         ensures call { shelf_call self.new ≡ shelf_call self.old }
@@ -91,7 +93,8 @@ impl Shelf for MemShelf {
     ghost faults = { λ s. shelf_faults s };
 
     // One more call is counted, and no file changes.
-    ghost loads = { λ old new. KeepsFiles (Some (shelf_files old)) (Some (shelf_files new)) × (shelf_call new ≡ next_count (shelf_call old)) };
+    ghost loads = { λ old new. KeepsFiles (Some (shelf_files old)) (Some (shelf_files new))
+        × (shelf_call new ≡ next_count (shelf_call old)) };
 
     // One more call is counted.
     ghost saves = { λ old new. shelf_call new ≡ next_count (shelf_call old) };
@@ -110,7 +113,8 @@ impl Shelf for MemShelf {
         ensures files_stay { KeepsFiles (Some (shelf_files self.old)) (Some (shelf_files self.new)) }
         ensures unchanged { result ≢ Err loading.Failed → shelf_faults self.new ≡ shelf_faults self.old }
         ensures cause { HasCause (result ≡ Err loading.Failed) (shelf_faults self.old) (shelf_faults self.new) }
-        ensures step { KeepsFiles (Some (shelf_files self.old)) (Some (shelf_files self.new)) × (shelf_call self.new ≡ next_count (shelf_call self.old)) }
+        ensures step { KeepsFiles (Some (shelf_files self.old)) (Some (shelf_files self.new))
+            × (shelf_call self.new ≡ next_count (shelf_call self.old)) }
         ensures sure { shelf_fail self.old ≡ [] → (result ≢ Err loading.Failed) × (shelf_fail self.new ≡ []) }
     {
         let call = self.call;
@@ -127,14 +131,17 @@ impl Shelf for MemShelf {
 
     fn save(&mut self, name: &str, bytes: &[u8]) -> Result<(), Failed>
         ensures counts { OnOk result (CountsCall self.old self.new) }
-        ensures listed { Contains (shelf_fail self.old) (shelf_call self.old) → IsErr result × CountsFault self.old self.new }
+        ensures listed { Contains (shelf_fail self.old) (shelf_call self.old) → IsErr result
+            × CountsFault self.old self.new }
         // Any other save fails only as memory ran out, and counts that.
-        ensures starved { OnErr result (¬ Contains (shelf_fail self.old) (shelf_call self.old) → CountsStarved self.old self.new) }
+        ensures starved { OnErr result (¬ Contains (shelf_fail self.old) (shelf_call self.old)
+            → CountsStarved self.old self.new) }
         // A file in memory is never half saved.
         ensures err { OnErr result (KeepsFiles (Some (shelf_files self.old)) (Some (shelf_files self.new))) }
 
         // Those of the trait.
-        ensures ok { OnOk result (SavesFile (Some (shelf_files self.old)) (Some (shelf_files self.new)) name.now bytes.now) }
+        ensures ok { OnOk result (SavesFile (Some (shelf_files self.old)) (Some (shelf_files self.new))
+            name.now bytes.now) }
         ensures others { KeepsOthers (Some (shelf_files self.old)) (Some (shelf_files self.new)) name.now }
         ensures unchanged { OnOk result (shelf_faults self.new ≡ shelf_faults self.old) }
         ensures cause { HasCause (IsErr result) (shelf_faults self.old) (shelf_faults self.new) }

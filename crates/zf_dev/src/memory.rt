@@ -138,7 +138,8 @@ impl Source for MemSource {
     }
 }
 
-/// A sink that keeps the bytes in memory, and fails at the calls that it was told to and where memory runs out.
+/// A sink that keeps the bytes in memory, and fails at the calls that it was told to and where memory runs
+/// out.
 #[derive(Debug, Drop)]
 pub struct MemSink {
     bytes: Vec<u8>,
@@ -227,14 +228,17 @@ impl Sink for MemSink {
 
         ensures taken { IfOk result (λ n. n ≡ min self.old.piece (length bytes.now)) }
         ensures ok { IfOk result (λ n. self.new ≡ sink_after_write self.old (take n bytes.now)) }
-        ensures listed { Contains self.old.fail self.old.call → IsErr result × (self.new ≡ sink_after_fault self.old) }
+        ensures listed { Contains self.old.fail self.old.call → IsErr result
+            × (self.new ≡ sink_after_fault self.old) }
         // Any other call fails only as memory ran out, and counts that.
-        ensures starved { OnErr result (¬ Contains self.old.fail self.old.call → self.new ≡ sink_after_starving self.old) }
+        ensures starved { OnErr result (¬ Contains self.old.fail self.old.call → self.new
+            ≡ sink_after_starving self.old) }
 
         // Those of the trait.
         ensures some { IfOk result (λ n. 0 < n) }
         ensures bound { IfOk result (λ n. n ≤ length bytes.now) }
-        ensures appended { IfOk result (λ n. Appends (Some self.old.written) (Some self.new.written) (take n bytes.now)) }
+        ensures appended { IfOk result (λ n. Appends (Some self.old.written) (Some self.new.written)
+            (take n bytes.now)) }
         ensures unwritten { OnErr result (Appends (Some self.old.written) (Some self.new.written) []) }
         ensures unchanged { OnOk result (self.new.faults ≡ self.old.faults) }
         ensures cause { HasCause (IsErr result) self.old.faults self.new.faults }

@@ -1,5 +1,6 @@
-//! Devices over the streams of the system. Their bytes are those of the stream, where it exposes them, as one in memory
-//! does, and those that the device holds: before what is still to come from a source, and behind what went to a sink.
+//! Devices over the streams of the system. Their bytes are those of the stream, where it exposes them, as one
+//! in memory does, and those that the device holds: before what is still to come from a source, and behind
+//! what went to a sink.
 
 ghost use Rattle.std.specs.Prelude.{◌≡◌, ◌<◌, ◌≤◌, ◌↔◌, List, [], length, take, drop, Ok, IsTrue, IsErr, IfOk, OnOk, OnErr};
 ghost use Rattle.zf_dev.specs.Faults.{HasCause, next_count};
@@ -14,8 +15,8 @@ use std::io;
 use std::io::{Read, Write};
 use std::rt::{Stdin, Stdout};
 
-/// Standard input as a source. It takes no more than it is asked for, so what is left is for the next program; where it
-/// is told that it will be read to its end, it takes up to 64 KiB at a time.
+/// Standard input as a source. It takes no more than it is asked for, so what is left is for the next
+/// program; where it is told that it will be read to its end, it takes up to 64 KiB at a time.
 ///
 /// A read that a signal interrupts is begun again. Each other error is a fault.
 #[derive(Debug, Drop)]
@@ -86,7 +87,8 @@ impl<R: Read> Source for RealSource<R> {
         ensures rest { IfOk result (λ n. drop n buf.new ≡ drop n buf.old) }
         ensures end { IfOk result (λ n.
             EndsAt (source_contents R.remaining self.old) (source_contents R.remaining self.new) n) }
-        ensures untaken { OnErr result (Takes (source_contents R.remaining self.old) (source_contents R.remaining self.new) []) }
+        ensures untaken { OnErr result (Takes (source_contents R.remaining self.old)
+            (source_contents R.remaining self.new) []) }
         ensures seen { IfOk result (λ n. SeesEnd (n ≡ 0) (source_ends self.old) (source_ends self.new)) }
         ensures unseen { OnErr result (source_ends self.new ≤ source_ends self.old) }
         ensures unchanged { OnOk result (source_faults self.new ≡ source_faults self.old) }
@@ -119,10 +121,11 @@ impl<R: Read> Source for RealSource<R> {
     }
 }
 
-/// Standard output or standard error as a sink. It holds up to 64 KiB back until it is flushed; a piece of that length
-/// or more is handed on as it is. What it holds when it is dropped is lost.
+/// Standard output or standard error as a sink. It holds up to 64 KiB back until it is flushed; a piece of
+/// that length or more is handed on as it is. What it holds when it is dropped is lost.
 ///
-/// A write that a signal interrupts is begun again. Each other error is a fault, and so is a write that takes no byte.
+/// A write that a signal interrupts is begun again. Each other error is a fault, and so is a write that takes
+/// no byte.
 #[derive(Debug, Drop)]
 pub struct RealSink<W = Stdout> {
     stream: W,
@@ -172,8 +175,8 @@ impl<W: Write> RealSink<W> {
         Ok(())
     }
 
-    // Writes the first of these bytes behind those that are held: into the buffer, unless they are as many as it has
-    // room for.
+    // Writes the first of these bytes behind those that are held: into the buffer, unless they are as many as
+    // it has room for.
     fn put(&mut self, bytes: &[u8]) -> Result<usize, Failed>
         requires some { 0 < length bytes.now }
         requires flushed { sink_held self.old ≡ [] }
@@ -181,7 +184,8 @@ impl<W: Write> RealSink<W> {
         ensures bound { IfOk result (λ n. n ≤ length bytes.now) }
         ensures appended { IfOk result (λ n.
             Appends (sink_contents W.contents self.old) (sink_contents W.contents self.new) (take n bytes.now)) }
-        ensures unwritten { OnErr result (Appends (sink_contents W.contents self.old) (sink_contents W.contents self.new) []) }
+        ensures unwritten { OnErr result (Appends (sink_contents W.contents self.old)
+            (sink_contents W.contents self.new) []) }
         ensures unchanged { OnOk result (sink_faults self.new ≡ sink_faults self.old) }
         ensures err { OnErr result (sink_faults self.new ≡ next_count (sink_faults self.old)) }
         ensures cause { HasCause (IsErr result) (sink_faults self.old) (sink_faults self.new) }
@@ -214,7 +218,8 @@ impl<W: Write> Sink for RealSink<W> {
         ensures bound { IfOk result (λ n. n ≤ length bytes.now) }
         ensures appended { IfOk result (λ n.
             Appends (sink_contents W.contents self.old) (sink_contents W.contents self.new) (take n bytes.now)) }
-        ensures unwritten { OnErr result (Appends (sink_contents W.contents self.old) (sink_contents W.contents self.new) []) }
+        ensures unwritten { OnErr result (Appends (sink_contents W.contents self.old)
+            (sink_contents W.contents self.new) []) }
         ensures unchanged { OnOk result (sink_faults self.new ≡ sink_faults self.old) }
         ensures err { OnErr result (sink_faults self.new ≡ next_count (sink_faults self.old)) }
         ensures cause { HasCause (IsErr result) (sink_faults self.old) (sink_faults self.new) }

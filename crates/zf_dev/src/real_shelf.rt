@@ -57,9 +57,11 @@ impl<R: Files<File = File> + Clock> Shelf for RealShelf<R> {
     ghost faults = { λ s. shelf_faults s };
 
     // A load or a save raises the count once at most.
-    ghost loads = { λ old new. (shelf_faults new ≡ shelf_faults old) ⊎ (shelf_faults new ≡ next_count (shelf_faults old)) };
+    ghost loads = { λ old new. (shelf_faults new ≡ shelf_faults old)
+        ⊎ (shelf_faults new ≡ next_count (shelf_faults old)) };
 
-    ghost saves = { λ old new. (shelf_faults new ≡ shelf_faults old) ⊎ (shelf_faults new ≡ next_count (shelf_faults old)) };
+    ghost saves = { λ old new. (shelf_faults new ≡ shelf_faults old)
+        ⊎ (shelf_faults new ≡ next_count (shelf_faults old)) };
 
     ghost never_fails = { λ _. ⊥ };
 

@@ -12,7 +12,8 @@ use std::io::{ErrorKind, Read, Write};
 pub(crate) fn read_retrying<R: Read>(stream: &mut R, buf: &mut [u8]) -> io::Result<usize>
     ensures bound { IfOk result (λ n. n ≤ length buf.old) }
     ensures ok { IfOk result (λ n. Takes (R.remaining stream.old) (R.remaining stream.new) (take n buf.new)) }
-    ensures end { 0 < length buf.old → IfOk result (λ n. EndsAt (R.remaining stream.old) (R.remaining stream.new) n) }
+    ensures end { 0 < length buf.old → IfOk result
+        (λ n. EndsAt (R.remaining stream.old) (R.remaining stream.new) n) }
     ensures err { OnErr result (Takes (R.remaining stream.old) (R.remaining stream.new) []) }
     ensures retried { IfErr result (λ e. error_kind e ≢ ErrorKind.Interrupted) }
 {

@@ -28,7 +28,8 @@ pub trait Sink {
         requires { 0 < length bytes.now }
         ensures some { IfOk result (λ n. 0 < n) }
         ensures bound { IfOk result (λ n. n ≤ length bytes.now) }
-        ensures appended { IfOk result (λ n. Appends (contents self.old) (contents self.new) (take n bytes.now)) }
+        ensures appended { IfOk result (λ n. Appends (contents self.old) (contents self.new)
+            (take n bytes.now)) }
         ensures unwritten { OnErr result (Appends (contents self.old) (contents self.new) []) }
         ensures unchanged { OnOk result (faults self.new ≡ faults self.old) }
         ensures kept { kept self.new ≡ kept self.old }

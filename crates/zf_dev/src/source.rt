@@ -14,7 +14,8 @@ pub trait Source {
     /// The bytes still to come, where the source exposes them.
     ghost contents: { Self → Option (List ℕ) };
 
-    /// These may be all the bytes that it gave so far. By default it says nothing: then `contents` alone tells.
+    /// These may be all the bytes that it gave so far. By default it says nothing: then `contents` alone
+    /// tells.
     ghost gave: { Self → List ℕ → Type 0 } = { λ _ _. Unit {0} };
 
     /// How many faults there were. It stands still at the last value of a `u64`.
@@ -47,7 +48,8 @@ pub trait Source {
         ensures cause { HasCause (IsErr result) (faults self.old) (faults self.new) }
         ensures sure { never_fails self.old → IsOk result × never_fails self.new };
 
-    /// Says that this source will be read to its end, so it may take more of what it reads from than it is asked for.
+    /// Says that this source will be read to its end, so it may take more of what it reads from than it is
+    /// asked for.
     fn read_ahead(&mut self)
         ensures contents_stay { contents self.new ≡ contents self.old }
         ensures ungiven { Gives (gave self.old) (gave self.new) [] }

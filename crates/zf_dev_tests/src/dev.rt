@@ -139,7 +139,8 @@ fn first_bytes(text: &[u8], buf: &mut [u8]) -> Result<usize, Failed>
 }
 
 fn send(text: &[u8], out: &mut RealSink<Vec<u8>>) -> Result<(), Failed>
-    ensures { OnOk result ((sink_stream out.new).items ≡ (sink_stream out.old).items ++ sink_held out.old ++ text.now) }
+    ensures { OnOk result ((sink_stream out.new).items ≡ (sink_stream out.old).items ++ sink_held out.old
+        ++ text.now) }
 {
     write_all(out, text)?;
     out.flush()

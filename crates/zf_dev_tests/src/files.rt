@@ -92,7 +92,8 @@ fn out_of_memory_is_told_apart(rt: HostRuntime) -> Result<(), Fail> {
     Ok(())
 }
 
-// In a folder of its own, since a save waits for the lock of the folder, and who runs the test may have that of this one.
+// In a folder of its own, since a save waits for the lock of the folder, and who runs the test may have that
+// of this one.
 const SAVED: [Step; 7] = [
     Step::Load("shelf-a/a", 9, Err(LoadError::Missing)),
     Step::Save("shelf-a/a", b"first", Ok(())),

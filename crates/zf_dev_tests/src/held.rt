@@ -86,7 +86,8 @@ impl Read for Giving<'_> {
 const NEVER: usize = usize::MAX;
 
 // The most bytes that the stream takes a call, and which call of it fails; pieces of so many bytes that are
-// written, and a flush at each 0; how many of these steps fail, and how many bytes each call of the stream moves.
+// written, and a flush at each 0; how many of these steps fail, and how many bytes each call of the stream
+// moves.
 const WRITES: [(usize, usize, [usize; 4], u64, [usize; 4]); 7] = [
     // Small pieces are held, up to 65,536 bytes.
     (
@@ -151,8 +152,8 @@ fn a_sink_hands_on_large_pieces(rt: HostRuntime) -> Result<(), Fail> {
     Ok(())
 }
 
-// Whether the source is told that it will be read to its end; for how many bytes it is asked, how many it gives,
-// and how many each call of the stream moves.
+// Whether the source is told that it will be read to its end; for how many bytes it is asked, how many it
+// gives, and how many each call of the stream moves.
 const READS: [(bool, [usize; 4], [usize; 4], [usize; 4]); 2] = [
     (
         false,

@@ -11,7 +11,8 @@ abbrev pub first_fault : List (Bool × HeaderFault) → Option HeaderFault
 first_fault [] = None
 first_fault (line ∷ lines) = if line.0 then Some line.1 else first_fault lines
 
--- the lines of the prefix: fewer than 12 bytes; other letters than "zfp"; no codec's number; floating-point numbers;
+-- the lines of the prefix: fewer than 12 bytes; other letters than "zfp"; no codec's number; floating-point
+-- numbers;
 --     the codec of other dimensions
 abbrev pub prefix_faults : List ℕ → List (Bool × HeaderFault)
 prefix_faults bytes =
@@ -27,7 +28,8 @@ prefix_faults bytes =
 abbrev pub size_faults : List ℕ → List (Bool × HeaderFault)
 size_faults bytes = (nat_lt max_values (product (sizes_in (to_bits bytes))), TooLarge) ∷ []
 
--- the lines of the mode: fixed accuracy (2177 to 4094); the long form (4095) in fewer than 19 bytes; a long form that is not
+-- the lines of the mode: fixed accuracy (2177 to 4094); the long form (4095) in fewer than 19 bytes; a long
+-- form that is not
 --     that of a rate
 abbrev pub mode_faults : List ℕ → List (Bool × HeaderFault)
 mode_faults bytes =

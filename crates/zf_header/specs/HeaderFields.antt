@@ -26,7 +26,8 @@ type_in s = number_at 32 2 s
 abbrev pub dims_in : List Bool → ℕ
 dims_in s = number_at 34 2 s + 1
 
--- the size along an axis: its field is one of d that share 48 bits, and holds it less 1. Along an unused axis it is 1
+-- the size along an axis: its field is one of d that share 48 bits, and holds it less 1. Along an unused axis
+-- it is 1
 abbrev pub size_in : ℕ → ℕ → List Bool → ℕ
 size_in d axis s = if nat_lt axis d then number_at (36 + axis * (48 / d)) (48 / d) s + 1 else 1
 
@@ -42,16 +43,19 @@ mode_in s = number_at 84 12 s
 abbrev pub long_rate_in : List Bool → ℕ
 long_rate_in s = number_at 96 15 s + 1
 
--- the long form is that of a fixed rate above 2048: as many bits at least as at most, all planes, the least exponent
+-- the long form is that of a fixed rate above 2048: as many bits at least as at most, all planes, the least
+-- exponent
 abbrev pub is_long_rate : List Bool → Bool
 is_long_rate s =
-    nat_lt 2048 (long_rate_in s) && number_at 111 15 s + 1 == long_rate_in s && number_at 126 7 s == all_planes && number_at 133 15 s == no_exponent
+    nat_lt 2048 (long_rate_in s) && number_at 111 15 s + 1 == long_rate_in s && number_at 126 7 s ==
+    all_planes && number_at 133 15 s == no_exponent
 
 -- the mode that a number says, and the rate of the long form
 abbrev pub mode_said : ℕ → ℕ → Mode
 mode_said m rate =
     if m == 2176 then Reversible
-    else (if nat_le 2048 m && nat_le m 2175 then Precision (m - 2047) else Rate (if m == 4095 then rate else m + 1))
+    else (if nat_le 2048 m && nat_le m 2175 then Precision (m - 2047) else Rate
+    (if m == 4095 then rate else m + 1))
 
 -- the header that the fields say
 abbrev pub header_in : List Bool → Header

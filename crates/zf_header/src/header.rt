@@ -114,7 +114,8 @@ pub enum HeaderFault {
     /// The array has more than 2^27 values.
     #[error("header: too large")]
     TooLarge,
-    /// The mode with this number is not read: fixed accuracy, or a long form (4095) other than that of a fixed rate above 2048.
+    /// The mode with this number is not read: fixed accuracy, or a long form (4095) other than that of a
+    /// fixed rate above 2048.
     #[error("header: mode {0}")]
     Mode(u16),
 }

@@ -8,7 +8,8 @@ ghost use Rattle.zf_header.specs.HeaderBits.{coding, IsRate, IsHeader, BeginsWit
 ghost use Rattle.zf_header.specs.HeaderFields.{header_in};
 ghost use Rattle.zf_header.specs.HeaderFaults.{header_fault};
 
-/// A header has one spelling: two headers do not have the same bits, and the bits of none begin those of another.
+/// A header has one spelling: two headers do not have the same bits, and the bits of none begin those of
+/// another.
 pub fn one_spelling()
     ensures same { (g h : Header) → IsHeader g → IsHeader h → header_bits g ≡ header_bits h → g ≡ h }
     ensures none_begins_another { (g h : Header) (x y : List Bool) → IsHeader g → IsHeader h

@@ -7,7 +7,8 @@ use Rattle.zf_lines.specs.declared.cells.Cells.{Cells}
 use Rattle.zf_lines.specs.declared.cells.Deed.{Deed}
 
 -- each of the places holds a value, and the allocation is the lines' own
-pub record IsFilled {X : Type 0} (base : Base X) (lines len : ℕ) (cells : Cells X) (deed : Deed X Global) (alloc : Global) : Type 0 where
+pub record IsFilled {X : Type 0} (base : Base X) (lines len : ℕ) (cells : Cells X) (deed : Deed X Global)
+    (alloc : Global) : Type 0 where
   pub own : (cells.at ≡ base.ptr) × (deed.at ≡ base.ptr) × (deed.len ≡ lines * len) × (deed.alloc ≡ alloc)
   pub full : cells.slots ≡ map Some (somes cells.slots)
   pub size : length cells.slots ≡ lines * len

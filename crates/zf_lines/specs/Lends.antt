@@ -18,4 +18,6 @@ abbrev pub lends_slot : (R : RattleType) → MutBor (Cells R.Denot) → ℕ → 
 lends_slot R c i r = Lends (the_row R) R c r (λ v. with_slots c.now (slice_set c.now.slots i (Some v)))
 
 abbrev pub lends_run : (R : RattleType) → MutBor (Cells R.Denot) → ℕ → ℕ → MutBor (List R.Denot) → Fml
-lends_run R c from len r = Lends (the_row R) (Array R 0) c r (λ ws. with_slots c.now (spliced c.now.slots from len (refill len (somes (take len (drop from c.now.slots))) ws)))
+lends_run R c from len r = Lends (the_row R) (Array R 0) c r
+    (λ ws. with_slots c.now (spliced c.now.slots from len
+    (refill len (somes (take len (drop from c.now.slots))) ws)))

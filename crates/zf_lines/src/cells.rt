@@ -80,7 +80,8 @@ pub(crate) fn allocate<T, A: Allocator>(
     }
 }
 
-/// Gives the allocation back, with whatever stands in it: the values are forgotten, so they need no drop of their own.
+/// Gives the allocation back, with whatever stands in it: the values are forgotten, so they need no drop of
+/// their own.
 pub(crate) fn deallocate<T, A: Allocator>(
     alloc: &A,
     base: Base<T>,
@@ -103,7 +104,8 @@ impl<T> Cells<T> {
 
     /// Fills an empty place.
     pub(crate) fn write(&mut self, base: Base<T>, index: usize, item: T)
-        requires { (base.ptr ≡ self.old.at) × (index < length self.old.slots) × (get_or self.old.slots index None ≡ None) }
+        requires { (base.ptr ≡ self.old.at) × (index < length self.old.slots)
+            × (get_or self.old.slots index None ≡ None) }
         ensures { (self.new.at ≡ self.old.at) × (self.new.slots ≡ slice_set self.old.slots index (Some item)) }
     {
         unsafe { base.ptr.add(index).write(item) }

@@ -10,7 +10,8 @@ use std_alloc::room::may_hold;
 
 /// `lines` blocks of `len` values each, seen as the list of the blocks.
 ///
-/// Block `i` lies from the value `i * len` of the allocation on. The allocation is given back when the lines are dropped.
+/// Block `i` lies from the value `i * len` of the allocation on. The allocation is given back when the lines
+/// are dropped.
 pub struct Lines<T> {
     base: Base<T>,
     lines: u32,

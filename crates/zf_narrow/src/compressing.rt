@@ -37,7 +37,8 @@ pub fn compress_narrow<S: Source, O: Sink>(
 ) -> Result<(), StreamFault>
     requires mode { IsMode h.now.mode }
     requires int32 { h.now.ty ≡ types.I32 }
-    ensures outcome { Compressed (compress_narrow_answer n h.now) (narrow_text n h.now) (narrow_len n h.now) result
+    ensures outcome { Compressed (compress_narrow_answer n h.now) (narrow_text n h.now) (narrow_len n h.now)
+        result
         (S.contents src.old) (S.contents src.new) (O.contents out.old) (O.contents out.new) }
     ensures source { Reads S.Source (result ≡ Err Read) src.old src.new }
     ensures sink { Writes O.Sink (result ≡ Err Write) out.old out.new }
@@ -57,7 +58,8 @@ fn compress_begun<S: Source, O: Sink, K: Begun>(
     requires start { K.start ≡ S.contents src.old }
     requires mode { IsMode h.now.mode }
     requires int32 { h.now.ty ≡ types.I32 }
-    ensures outcome { Compressed (compress_narrow_answer n h.now) (narrow_text n h.now) (narrow_len n h.now) result
+    ensures outcome { Compressed (compress_narrow_answer n h.now) (narrow_text n h.now) (narrow_len n h.now)
+        result
         (S.contents src.old) (S.contents src.new) (O.contents out.old) (O.contents out.new) }
     ensures source { Reads S.Source (result ≡ Err Read) src.old src.new }
     ensures sink { Writes O.Sink (result ≡ Err Write) out.old out.new }

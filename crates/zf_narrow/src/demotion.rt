@@ -13,7 +13,8 @@ use zf_dev::{Failed, Sink};
 // The most narrow bytes that are written at a time.
 const PIECE: usize = 4096;
 
-/// What is kept of the int32 bytes that were taken: less than a value of them, and of the narrow bytes the second of a value whose first was written.
+/// What is kept of the int32 bytes that were taken: less than a value of them, and of the narrow bytes the
+/// second of a value whose first was written.
 #[derive(Drop)]
 pub(crate) struct Demotion {
     narrow: Narrow,

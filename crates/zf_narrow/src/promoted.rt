@@ -13,7 +13,8 @@ use crate::promotion::Promotion;
 use std::marker::PhantomData;
 use zf_dev::{Failed, Source};
 
-/// Gives the int32 bytes of the values that stand for the whole narrow values of `src`, and a zero byte where half a value is left over at its end.
+/// Gives the int32 bytes of the values that stand for the whole narrow values of `src`, and a zero byte where
+/// half a value is left over at its end.
 ///
 /// It reads no value before it gives the first byte of it.
 #[derive(Drop)]

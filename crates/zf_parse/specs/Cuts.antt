@@ -10,7 +10,8 @@ use Rattle.zf_parse.specs.Parsing.{read_code}
 
 -- a whole code of block b: whatever follows these bits, they are read, and no bit more
 abbrev pub IsCode : Header → ℕ → List Bool → Type 0
-IsCode h b code = (block : List ℤ) × ((more : List Bool) → read_code (width_of h.ty) h.mode (extent_of h.shape b) (code ++ more) ≡ Some (block, length code))
+IsCode h b code = (block : List ℤ) × ((more : List Bool)
+    → read_code (width_of h.ty) h.mode (extent_of h.shape b) (code ++ more) ≡ Some (block, length code))
 
 -- whole codes of the blocks from block b on
 abbrev pub AreCodes : Header → ℕ → List (List Bool) → Type 0
@@ -25,12 +26,13 @@ pub record BeginsWithCodes (h : Header) (n : ℕ) (s : List Bool) : Type 0 where
   pub left : List Bool
   pub bits : s ≡ flat_map (λ c. c) codes ++ left
 
--- block b is the first whose code is short: all blocks before it have whole codes in these bits; what is left begins a code of block b,
--- and however it goes on, that code has a bit past its end
+-- block b is the first whose code is short: all blocks before it have whole codes in these bits; what is left
+-- begins a code of block b, and however it goes on, that code has a bit past its end
 pub record IsFirstShort (h : Header) (b : ℕ) (s : List Bool) : Type 0 where
   pub before : BeginsWithCodes h b s
   pub begun : (more : List Bool) × IsCode h b (before.left ++ more)
-  pub short : (code more rest : List Bool) → IsCode h b code → before.left ++ more ≡ code ++ rest → length before.left < length code
+  pub short : (code more rest : List Bool) → IsCode h b code → before.left ++ more ≡ code ++ rest
+      → length before.left < length code
 
 -- all blocks have whole codes in these bits, and behind them the fill is short
 pub record IsFillShort (h : Header) (s : List Bool) : Type 0 where

@@ -1,4 +1,5 @@
--- What a stream says: its header, the codes of its blocks and its values, or why it says nothing. No decoder is in these definitions but the reading of one code.
+-- What a stream says: its header, the codes of its blocks and its values, or why it says nothing. No decoder
+-- is in these definitions but the reading of one code.
 use Rattle.std.specs.Prelude.{ℕ, zero, suc, ◌-◌, ◌*◌, nat_lt, ℤ, pos, Bool, false, List, [], ◌∷◌, ◌++◌, map, length, take, drop, replicate, slice_index_or, Option, Some, None, is_none, Result, Ok, Err, if◌then◌else◌}
 use Rattle.std.specs.Result.{result_map_both}
 use Rattle.std.specs.Int.{Width}
@@ -21,27 +22,32 @@ use Rattle.zf_parse.specs.declared.fault.StreamFault.{StreamFault}
 use Rattle.zf_parse.specs.declared.fault.StreamFault.TheVariants as faults
 use Rattle.zf_parse.specs.Raw.{raw_bytes}
 
--- the block that a code at the front of these bits stands for and how many bits the code has, or nothing where a bit past the end is needed
+-- the block that a code at the front of these bits stands for and how many bits the code has, or nothing
+-- where a bit past the end is needed
 abbrev pub read_code : Width → Mode → List ℕ → List Bool → Option (List ℤ × ℕ)
 read_code w Reversible es s = read_rev w es s
 read_code w (Rate b) es s = if nat_lt (length s) b then None else Some (read_rate w es (take b s), b)
 read_code w (Precision p) es s = read_prec w p es s
 
--- the codes of n blocks from block b on, each with the block that it stands for, and the bits behind them; or the number of the first block whose code ends too early
+-- the codes of n blocks from block b on, each with the block that it stands for, and the bits behind them; or
+-- the number of the first block whose code ends too early
 abbrev pub coded_blocks : Header → ℕ → ℕ → List Bool → Result (List (List Bool × List ℤ) × List Bool) ℕ
 coded_blocks h b zero s = Ok ([], s)
 coded_blocks h b (suc n) s = elim (read_code (width_of h.ty) h.mode (extent_of h.shape b) s) [
   | None ↦ Err b
-  | Some code ↦ result_map_both (λ rest. ((take code.1 s, code.0) ∷ rest.0, rest.1)) (λ k. k) (coded_blocks h (suc b) n (drop code.1 s))
+  | Some code ↦ result_map_both (λ rest. ((take code.1 s, code.0) ∷ rest.0, rest.1)) (λ k. k)
+      (coded_blocks h (suc b) n (drop code.1 s))
 ]
 
 -- the blocks alone
 abbrev pub read_codes : Header → ℕ → ℕ → List Bool → Result (List (List ℤ) × List Bool) ℕ
-read_codes h b n s = result_map_both (λ found. (map (λ c. c.1) found.0, found.1)) (λ k. k) (coded_blocks h b n s)
+read_codes h b n s = result_map_both (λ found. (map (λ c. c.1) found.0, found.1)) (λ k. k)
+    (coded_blocks h b n s)
 
 -- the values of an array, of its blocks: each position has the value at its place in its block
 abbrev pub values_of_blocks : List ℕ → List (List ℤ) → List ℤ
-values_of_blocks ns bs = map (λ k. slice_index_or (slice_index_or bs (block_number ns (coordinates ns k)) []) (place_of (coordinates ns k)) (pos 0)) (upto (product ns))
+values_of_blocks ns bs = map (λ k. slice_index_or (slice_index_or bs (block_number ns (coordinates ns k)) [])
+    (place_of (coordinates ns k)) (pos 0)) (upto (product ns))
 
 -- what stands behind the codes: the fill to a whole word of 64, all zero, and nothing more
 abbrev pub fill_answer : Header → ℕ → List Bool → Result (Unit {0}) StreamFault
@@ -66,12 +72,23 @@ pub record Said : Type 0 where
 
 -- what the stream of values says, where these values come back
 abbrev pub said_of : Header → List ℤ → List ℤ → Said
-said_of h values back = record { header = h; codes = stream.codes (width_of h.ty) h.shape (coding h.mode) values; values = back }
+said_of h values back = record {
+  header = h;
+  codes =
+      stream.codes (width_of h.ty) h.shape (coding h.mode) values;
+  values = back;
+}
 
--- what codes with their blocks say, and the bits behind them, of a stream of so many bits that has this header
+-- what codes with their blocks say, and the bits behind them, of a stream of so many bits that has this
+-- header
 abbrev pub said_with : Header → ℕ → List (List Bool × List ℤ) × List Bool → Result Said StreamFault
 said_with h all found =
-    let said : Said = record { header = h; codes = map (λ c. c.0) found.0; values = values_of_blocks h.shape (map (λ c. c.1) found.0) } in
+    let said : Said = record {
+      header = h;
+      codes = map (λ c. c.0) found.0;
+      values =
+          values_of_blocks h.shape (map (λ c. c.1) found.0);
+    } in
     result_map_both (λ good. said) (λ e. e) (fill_answer h (all - length found.1) found.1)
 
 -- what the bits behind the header say
@@ -113,4 +130,5 @@ text_behind h s = elim (read_codes h 0 (blocks h.shape) (s ++ replicate (longest
 
 -- and those of bytes; nothing where they have no good header
 unfoldable pub restored_text : List ℕ → List ℕ
-restored_text bytes = if is_none (header_fault bytes) then text_behind (header_of bytes) (code_bits bytes) else []
+restored_text bytes = if is_none (header_fault bytes) then text_behind (header_of bytes) (code_bits bytes)
+    else []

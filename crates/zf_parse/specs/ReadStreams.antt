@@ -32,7 +32,8 @@ HasGoodHeader (Some bytes) = header_fault bytes ≡ None
 
 -- a code of d dimensions was read, which stands for this block, and just its bits were passed
 pub record ReadsCode (w : Width) (mode : Mode) (d : ℕ) (old new : Reader) (block : List ℤ) : Type 0 where
-  pub code : (es : List ℕ) → length es ≡ d → read_code w mode es (rest old) ≡ Some (existing_values es block, new.at - old.at)
+  pub code : (es : List ℕ) → length es ≡ d → read_code w mode es (rest old)
+      ≡ Some (existing_values es block, new.at - old.at)
   pub passed : Reads old new (take (new.at - old.at) (rest old))
 
 -- the bits end before the code does
@@ -41,7 +42,8 @@ pub record LacksCode (w : Width) (mode : Mode) (d : ℕ) (old : Reader) : Type 0
 
 -- the code of block b was read, and the values are those from before but for its block
 pub record ReadsBlock (h : Header) (b : ℕ) (old new : Reader) (before now : List ℤ) : Type 0 where
-  pub code : read_code (width_of h.ty) h.mode (extent_of h.shape b) (rest old) ≡ Some (block_of h.shape now b, new.at - old.at)
+  pub code : read_code (width_of h.ty) h.mode (extent_of h.shape b) (rest old)
+      ≡ Some (block_of h.shape now b, new.at - old.at)
   pub passed : rest new ≡ drop (new.at - old.at) (rest old)
   pub all : new.all ≡ old.all
   pub others : (a : ℕ) → a < blocks h.shape → a ≢ b → block_of h.shape now a ≡ block_of h.shape before a

@@ -16,7 +16,8 @@ pub enum StreamFault {
     /// The bytes do not begin with a header that is read.
     #[error("{0}")]
     Header(HeaderFault),
-    /// The code of this block is the first that ends too early. It is the number of blocks where only fill bits are missing.
+    /// The code of this block is the first that ends too early. It is the number of blocks where only fill
+    /// bits are missing.
     #[error("stream ends in block {0}")]
     Truncated(u64),
     /// A bit of the fill is one.

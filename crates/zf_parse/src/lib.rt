@@ -1,4 +1,5 @@
-//! What a stream says: its header and its values, or why it says nothing. The definitions, their lemmas, and how one code is read.
+//! What a stream says: its header and its values, or why it says nothing. The definitions, their lemmas, and
+//! how one code is read.
 #![tactic(auto)]
 
 mod fault;

@@ -12,11 +12,13 @@ use zf_header::{Header, Mode};
 
 /// Reads the code of a block of an array with this header, or answers `None` where the bits end too early.
 ///
-/// `block` gets `4^d` values, x fastest. A code does not tell which of them exist; at places that do not, the values mean nothing.
+/// `block` gets `4^d` values, x fastest. A code does not tell which of them exist; at places that do not, the
+/// values mean nothing.
 #[inline(always)]
 pub fn read_code<T: Lane>(h: &Header, reader: &mut BitReader<'_>, block: &mut [T]) -> Option<()>
     requires whole { length block.old ≡ 4 ^ length h.now.shape }
-    ensures some { OnSome result (ReadsCode T.width h.now.mode (length h.now.shape) reader.old reader.new (map T.value block.new)) }
+    ensures some { OnSome result (ReadsCode T.width h.now.mode (length h.now.shape) reader.old reader.new
+        (map T.value block.new)) }
     ensures none { IfNone result (LacksCode T.width h.now.mode (length h.now.shape) reader.old) }
 {
     let d = h.shape.dims();
@@ -33,7 +35,8 @@ fn read_rate<T: Lane>(d: u8, bits: u32, reader: &mut BitReader<'_>, block: &mut 
     requires some { 1 ≤ d }
     requires four_at_most { d ≤ 4 }
     requires whole { length block.old ≡ 4 ^ d }
-    ensures some { OnSome result (ReadsCode T.width (Mode.Rate bits) d reader.old reader.new (map T.value block.new)) }
+    ensures some { OnSome result (ReadsCode T.width (Mode.Rate bits) d reader.old reader.new
+        (map T.value block.new)) }
     ensures none { IfNone result (LacksCode T.width (Mode.Rate bits) d reader.old) }
 {
     if reader.left() < u64::from(bits) {
@@ -43,7 +46,8 @@ fn read_rate<T: Lane>(d: u8, bits: u32, reader: &mut BitReader<'_>, block: &mut 
     Some(())
 }
 
-/// Reads the fill behind the codes of an array with this header: it is to be zero, and nothing is to be behind it.
+/// Reads the fill behind the codes of an array with this header: it is to be zero, and nothing is to be
+/// behind it.
 pub fn check_fill(h: &Header, reader: &mut BitReader<'_>) -> Result<(), StreamFault>
     ensures { result ≡ fill_answer h.now reader.old.at (rest reader.old) }
 {

@@ -22,9 +22,11 @@ use Rattle.zf_commands.specs.Steps.{is_refusal}
 -- ---- what is left: an array of these sizes, in this state
 
 module _ {Code : Type 0} (ns : List ℕ) (s : State Code) (starved : List ℕ) (old new : Option (List ℕ)) where
-  -- all lines were run and each reply was written, where the lines of a script lead from a start to a session and replies; so many replies are
-  -- refusals, and the lines that were out of memory are just those that say so
-  pub record Completes (setting : Setting Code) (start : Session Code) (script : List ℕ) (ran : Session Code × List Reply) (refused : ℕ) : Type 0 where
+  -- all lines were run and each reply was written, where the lines of a script lead from a start to a session
+  -- and replies; so many replies are refusals, and the lines that were out of memory are just those that say
+  -- so
+  pub record Completes (setting : Setting Code) (start : Session Code) (script : List ℕ)
+      (ran : Session Code × List Reply) (refused : ℕ) : Type 0 where
     pub shape_is : ns ≡ ran.0.shape
     pub state_is : s ≡ ran.0.state
     pub starved_are : AreStarved setting starved (lines_of script) start
@@ -54,16 +56,19 @@ end_of (suc n) = Lines (suc n)
 module _ (w : Width) (before now : Held) (script starved : List ℕ) (old new : Option (List ℕ)) where
   -- all lines were run, each reply was written, and then the array was flushed
   abbrev pub Finishes : ℕ → Type 0
-  Finishes refused = Completes (shape now) (state now) starved old new (setting_of w before) (start_of before) script (run_of w before starved script) refused
+  Finishes refused = Completes (shape now) (state now) starved old new (setting_of w before) (start_of before)
+      script (run_of w before starved script) refused
 
   -- a line's reply was not written whole, and the array was not flushed
   abbrev pub Stops : Type 0
   Stops = Halts (shape now) (state now) starved old new (setting_of w before) (start_of before) script
 
 -- a script was run over an array; the lines with these numbers were out of memory
-pub record Runs (w : Width) (before now : Held) (script : List ℕ) (old new : Option (List ℕ)) (end : RunEnd) : Type 0 where
+pub record Runs (w : Width) (before now : Held) (script : List ℕ) (old new : Option (List ℕ)) (end : RunEnd)
+    : Type 0 where
   pub starved : List ℕ
-  pub ended : IsEnd (Finishes w before now script starved old new) (Stops w before now script starved old new) end
+  pub ended : IsEnd (Finishes w before now script starved old new) (Stops w before now script starved old new)
+      end
   pub same_type : now.header.ty ≡ before.header.ty
   pub same_mode : now.header.mode ≡ before.header.mode
 
@@ -71,36 +76,47 @@ pub record Runs (w : Width) (before now : Held) (script : List ℕ) (old new : O
 
 module _ (w : Width) (before now : read.Held) (script starved : List ℕ) (old new : Option (List ℕ)) where
   abbrev pub FinishesLook : ℕ → Type 0
-  FinishesLook refused = Completes (read.shape now) (read.state now) starved old new (look_setting_of w before.header) (look_start_of before) script (look_of w before starved script) refused
+  FinishesLook refused = Completes (read.shape now) (read.state now) starved old new
+      (look_setting_of w before.header) (look_start_of before) script (look_of w before starved script)
+      refused
 
   abbrev pub StopsLook : Type 0
-  StopsLook = Halts (read.shape now) (read.state now) starved old new (look_setting_of w before.header) (look_start_of before) script
+  StopsLook = Halts (read.shape now) (read.state now) starved old new (look_setting_of w before.header)
+      (look_start_of before) script
 
 -- a script was run over an array that is only read; the lines with these numbers were out of memory
-pub record Looks (w : Width) (before now : read.Held) (script : List ℕ) (old new : Option (List ℕ)) (end : RunEnd) : Type 0 where
+pub record Looks (w : Width) (before now : read.Held) (script : List ℕ) (old new : Option (List ℕ))
+    (end : RunEnd) : Type 0 where
   pub starved : List ℕ
-  pub ended : IsEnd (FinishesLook w before now script starved old new) (StopsLook w before now script starved old new) end
+  pub ended : IsEnd (FinishesLook w before now script starved old new)
+      (StopsLook w before now script starved old new) end
   pub same_header : now.header ≡ before.header
   pub same_codes : now.codes ≡ before.codes
 
 -- ---- a run over a store and a two-way cache
 
-module _ {X : Type 0} (value : X → ℤ) (w : Width) (s t : Stored) (c d : Kept X) (script starved : List ℕ) (old new : Option (List ℕ)) where
+module _ {X : Type 0} (value : X → ℤ) (w : Width) (s t : Stored) (c d : Kept X) (script starved : List ℕ)
+    (old new : Option (List ℕ)) where
   -- what it begins with
   abbrev pub two_start_of : Session (List Bool)
   two_start_of = session s.header.shape (pair_state value s c) (whole s.header.shape)
 
   -- all lines were run, each reply was written, and then the cache was flushed
   abbrev pub FinishesTwo : ℕ → Type 0
-  FinishesTwo refused = Completes t.header.shape (pair_state value t d) starved old new (two_setting_of w s.header) two_start_of script (run (two_setting_of w s.header) starved s.header.shape (pair_state value s c) script) refused
+  FinishesTwo refused = Completes t.header.shape (pair_state value t d) starved old new
+      (two_setting_of w s.header) two_start_of script
+      (run (two_setting_of w s.header) starved s.header.shape (pair_state value s c) script) refused
 
   -- a line's reply was not written whole, and the cache was not flushed
   abbrev pub StopsTwo : Type 0
-  StopsTwo = Halts t.header.shape (pair_state value t d) starved old new (two_setting_of w s.header) two_start_of script
+  StopsTwo = Halts t.header.shape (pair_state value t d) starved old new (two_setting_of w s.header)
+      two_start_of script
 
 -- a script was run over a store and a two-way cache; the lines with these numbers were out of memory
-pub record RunsTwo {X : Type 0} (value : X → ℤ) (w : Width) (s t : Stored) (c d : Kept X) (script : List ℕ) (old new : Option (List ℕ)) (end : RunEnd) : Type 0 where
+pub record RunsTwo {X : Type 0} (value : X → ℤ) (w : Width) (s t : Stored) (c d : Kept X) (script : List ℕ)
+    (old new : Option (List ℕ)) (end : RunEnd) : Type 0 where
   pub starved : List ℕ
-  pub ended : IsEnd (FinishesTwo value w s t c d script starved old new) (StopsTwo value w s t c d script starved old new) end
+  pub ended : IsEnd (FinishesTwo value w s t c d script starved old new)
+      (StopsTwo value w s t c d script starved old new) end
   pub same_header : t.header ≡ s.header
   pub fits : PairFits value t d

@@ -39,7 +39,8 @@ kind a = (a.header.ty, a.header.mode)
 abbrev pub start_of : Held → Session (List Bool)
 start_of a = session_of a (whole (shape a))
 
--- the run of a script over an array, where the lines with these numbers are out of memory: the session at its end, and the replies
+-- the run of a script over an array, where the lines with these numbers are out of memory: the session at its
+-- end, and the replies
 abbrev pub run_of : Width → Held → List ℕ → List ℕ → Session (List Bool) × List Reply
 run_of w a starved script = run (setting_of w a) starved (shape a) (state a) script
 

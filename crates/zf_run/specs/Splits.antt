@@ -30,8 +30,10 @@ lists (Some views) = Some (vec_items views)
 abbrev pub owns_block : {X : Type 0} → private.Held X → ℕ → Bool
 owns_block v b = nat_le v.first b && nat_lt b (v.first + v.count)
 
--- a command that does not look at the window, and keeps it: an array through each window before, and the array after
-abbrev pub DoesAlone : {Code : Type 0} → Setting Code → Command → (Window → Session Code) → (Window → Session Code)
+-- a command that does not look at the window, and keeps it: an array through each window before, and the
+-- array after
+abbrev pub DoesAlone : {Code : Type 0} → Setting Code → Command → (Window → Session Code)
+    → (Window → Session Code)
     → Option Reply → Type 0
 DoesAlone setting c before after reply =
     (v : Window) → HasWindow (before v) → Does setting c (before v) (after v) reply
@@ -45,7 +47,14 @@ module _ {X : Type 0} (value : X → ℤ) where
   abbrev pub view_of : Held → private.Held X → View
   view_of a v =
       let s = view_state a v in
-      record { lines = s.lines; held = s.held; dirty = s.dirty; values = λ b. if owns_block v b then s.values b else []; counts = s.counts }
+      record {
+        lines = s.lines;
+        held = s.held;
+        dirty = s.dirty;
+        values =
+            λ b. if owns_block v b then s.values b else [];
+        counts = s.counts;
+      }
 
   abbrev pub views_seen : Held → List (private.Held X) → List View
   views_seen a views = map (view_of a) views
@@ -56,7 +65,8 @@ module _ {X : Type 0} (value : X → ℤ) where
   split_of a (Some views) = Some (views_seen a views)
 
   -- an array and its views, if there are some, as what a script works on
-  abbrev pub parted_session : {Z : Type 0} → Held → Option (Vec (private.Held X) Z) → Window → Session (List Bool)
+  abbrev pub parted_session : {Z : Type 0} → Held → Option (Vec (private.Held X) Z) → Window
+      → Session (List Bool)
   parted_session a views window = sitting (shape a) (state a) (split_of a (lists views)) window
 
   -- an array that is split, and its views
@@ -74,21 +84,24 @@ module _ {X : Type 0} (value : X → ℤ) where
   pub record AreParts (d : ℕ) (a : Held) (views : List (private.Held X)) : Type 0 where
     pub is_coded : IsCoded a
     pub number : is_view_count (blocks (shape a)) (length views) ≡ true
-    pub each : (i : ℕ) (v : private.Held X) → i < length views → v ≡ slice_index_or views i v → IsPart d a (length views) i v
+    pub each : (i : ℕ) (v : private.Held X) → i < length views → v ≡ slice_index_or views i v
+        → IsPart d a (length views) i v
 
   -- they are, where there are views
   abbrev pub FitTogether : {Z : Type 0} → ℕ → Held → Option (Vec (private.Held X) Z) → Type 0
   FitTogether d a None = Unit {0}
   FitTogether d a (Some views) = AreParts d a (vec_items views)
 
-  -- a command on a view was done, whatever the window; the blocks are parted as before, in an array of the same kind
+  -- a command on a view was done, whatever the window; the blocks are parted as before, in an array of the
+  -- same kind
   pub record ViewsObey (w : Width) (d : ℕ) (c : Command) (reply : Option Reply) (a b : Held)
       (views now : List (private.Held X)) : Type 0 where
     pub does : DoesAlone (setting_of w a) c (split_session a views) (split_session b now) reply
     pub parts : AreParts d b now
     pub kept : kind b ≡ kind a
 
--- a view as it is made: nothing is in its lines, which have room for the blocks of the array, and nothing is counted
+-- a view as it is made: nothing is in its lines, which have room for the blocks of the array, and nothing is
+-- counted
 pub record IsNewPart {X : Type 0} (d : ℕ) (ns : List ℕ) (n lines i : ℕ) (v : private.Held X) : Type 0 where
   pub empty : IsEmpty v.cache lines
   pub room : HasRoom v.cache (blocks ns)
@@ -99,6 +112,8 @@ pub record IsNewPart {X : Type 0} (d : ℕ) (ns : List ℕ) (n lines i : ℕ) (v
   pub whole : private.IsWhole d v
 
 -- the first k of n such views
-pub record AreNewParts {X : Type 0} (d : ℕ) (ns : List ℕ) (n lines k : ℕ) (views : List (private.Held X)) : Type 0 where
+pub record AreNewParts {X : Type 0} (d : ℕ) (ns : List ℕ) (n lines k : ℕ) (views : List (private.Held X))
+    : Type 0 where
   pub many : length views ≡ k
-  pub each : (i : ℕ) (v : private.Held X) → i < length views → v ≡ slice_index_or views i v → IsNewPart d ns n lines i v
+  pub each : (i : ℕ) (v : private.Held X) → i < length views → v ≡ slice_index_or views i v
+      → IsNewPart d ns n lines i v

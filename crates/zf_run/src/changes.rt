@@ -69,7 +69,8 @@ fn vset<T: Lane, const D: usize>(
 pub(crate) fn fill_block<T: Lane, const D: usize>(a: &mut Array<T, D>, b: u64, v: T)
     requires array { IsArray T.width D a.old }
     requires block { b < blocks (shape a.old) }
-    ensures filled { (u : Part) → session_of a.new u ≡ changed (setting_of T.width a.old) (session_of a.old u) b
+    ensures filled { (u : Part) → session_of a.new u
+        ≡ changed (setting_of T.width a.old) (session_of a.old u) b
         (λ values. existing_of (format a.old) b (replicate (format a.old).block_len (T.value v))) }
     ensures header { a.new.header ≡ a.old.header }
 {
@@ -80,7 +81,8 @@ pub(crate) fn fill_block<T: Lane, const D: usize>(a: &mut Array<T, D>, b: u64, v
 pub(crate) fn sum_block<T: Lane, const D: usize>(a: &mut Array<T, D>, b: u64) -> i128
     requires array { IsArray T.width D a.old }
     requires block { b < blocks (shape a.old) }
-    ensures touched { (u : Part) → session_of a.new u ≡ touched (setting_of T.width a.old) (session_of a.old u) b }
+    ensures touched { (u : Part) → session_of a.new u
+        ≡ touched (setting_of T.width a.old) (session_of a.old u) b }
     ensures sum { result ≡ total ((state a.new).values b) }
     ensures bound { IsUpTo (2 ^ 71) result }
     ensures header { a.new.header ≡ a.old.header }
@@ -115,13 +117,16 @@ fn resize<T: Lane, const D: usize>(
     }
 }
 
-// The shape of these sizes, where an array may be resized to it: it has as many dimensions, and there is room for it in a file.
+// The shape of these sizes, where an array may be resized to it: it has as many dimensions, and there is room
+// for it in a file.
 fn new_shape<T: Lane, const D: usize>(a: &Array<T, D>, count: u8, sizes: Pos) -> Option<Shape>
     requires { length (used_axes count sizes) ≡ count }
     ensures shape { IfSome result (λ ns. (ns ≡ used_axes count sizes) × (length ns ≡ D)) }
     ensures rate { IfSome result (λ ns. a.now.header.mode ≡ Mode.Rate (block_bits a.now.header.mode)) }
-    ensures some { IfSome result (λ ns. is_new_shape (setting_of T.width a.now) (start_of a.now) (used_axes count sizes) ≡ true) }
-    ensures none { IfNone result (is_new_shape (setting_of T.width a.now) (start_of a.now) (used_axes count sizes) ≡ false) }
+    ensures some { IfSome result (λ ns. is_new_shape (setting_of T.width a.now) (start_of a.now)
+        (used_axes count sizes) ≡ true) }
+    ensures none { IfNone result (is_new_shape (setting_of T.width a.now) (start_of a.now)
+        (used_axes count sizes) ≡ false) }
 {
     if count != a.shape().dims() {
         return None;

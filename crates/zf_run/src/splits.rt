@@ -77,12 +77,14 @@ impl<'a, T: Lane, const D: usize> Parted<'a, T, D> {
         flush_views(array, &mut views);
     }
 
-    // `split N L`: that many views, each with so many lines. The memory is taken first; then the array is flushed.
+    // `split N L`: that many views, each with so many lines. The memory is taken first; then the array is
+    // flushed.
     fn split(&mut self, count: u64, lines: u64) -> Option<Reply>
         requires whole { self.old.views.now ≡ None }
         requires window { HasWindow (session_of self.old.array.now self.old.window) }
         ensures does { Does (setting_of T.width self.old.array.now) (Command.split count lines)
-            (session_of self.old.array.now self.old.window) (parted_session T.value self.new.array.now self.new.views.now self.new.window) (said result) }
+            (session_of self.old.array.now self.old.window)
+            (parted_session T.value self.new.array.now self.new.views.now self.new.window) (said result) }
         ensures sound { FitTogether T.value D self.new.array.now self.new.views.now }
         ensures kept { (kind self.new.array.now ≡ kind self.old.array.now)
             × (self.new.array.ghost_name ≡ self.old.array.ghost_name) }
@@ -107,8 +109,10 @@ impl<'a, T: Lane, const D: usize> Parted<'a, T, D> {
         requires whole { self.old.views.now ≡ None }
         requires window { HasWindow (session_of self.old.array.now self.old.window) }
         requires plain { IsPlain (session_of self.old.array.now self.old.window) (cmd_of_kind cmd) }
-        ensures does { Does (setting_of T.width self.old.array.now) (asked (session_of self.old.array.now self.old.window) (cmd_of_kind cmd))
-            (session_of self.old.array.now self.old.window) (parted_session T.value self.new.array.now self.new.views.now self.new.window) (said result) }
+        ensures does { Does (setting_of T.width self.old.array.now)
+            (asked (session_of self.old.array.now self.old.window) (cmd_of_kind cmd))
+            (session_of self.old.array.now self.old.window)
+            (parted_session T.value self.new.array.now self.new.views.now self.new.window) (said result) }
         ensures sound { FitTogether T.value D self.new.array.now self.new.views.now }
         ensures kept { (kind self.new.array.now ≡ kind self.old.array.now)
             × (self.new.array.ghost_name ≡ self.old.array.ghost_name) }
@@ -140,10 +144,15 @@ impl<'a, T: Lane, const D: usize> Parted<'a, T, D> {
     fn obey_parted(&mut self, cmd: Kind) -> Option<Reply>
         requires sound { FitTogether T.value D self.old.array.now self.old.views.now }
         requires parted { IsSome self.old.views.now }
-        requires window { HasWindow (parted_session T.value self.old.array.now self.old.views.now self.old.window) }
-        requires plain { IsPlain (parted_session T.value self.old.array.now self.old.views.now self.old.window) (cmd_of_kind cmd) }
-        ensures does { Does (setting_of T.width self.old.array.now) (asked (parted_session T.value self.old.array.now self.old.views.now self.old.window) (cmd_of_kind cmd))
-            (parted_session T.value self.old.array.now self.old.views.now self.old.window) (parted_session T.value self.new.array.now self.new.views.now self.new.window) (said result) }
+        requires window { HasWindow (parted_session T.value self.old.array.now self.old.views.now
+            self.old.window) }
+        requires plain { IsPlain (parted_session T.value self.old.array.now self.old.views.now
+            self.old.window) (cmd_of_kind cmd) }
+        ensures does { Does (setting_of T.width self.old.array.now)
+            (asked (parted_session T.value self.old.array.now self.old.views.now self.old.window)
+            (cmd_of_kind cmd))
+            (parted_session T.value self.old.array.now self.old.views.now self.old.window)
+            (parted_session T.value self.new.array.now self.new.views.now self.new.window) (said result) }
         ensures sound { FitTogether T.value D self.new.array.now self.new.views.now }
         ensures kept { (kind self.new.array.now ≡ kind self.old.array.now)
             × (self.new.array.ghost_name ≡ self.old.array.ghost_name) }
@@ -161,10 +170,15 @@ impl<'a, T: Lane, const D: usize> Parted<'a, T, D> {
     // What a command on a view does. Where there is none it is refused.
     fn obey_view(&mut self, i: u64, cmd: ViewCmd) -> Option<Reply>
         requires sound { FitTogether T.value D self.old.array.now self.old.views.now }
-        requires window { HasWindow (parted_session T.value self.old.array.now self.old.views.now self.old.window) }
-        requires plain { IsPlain (parted_session T.value self.old.array.now self.old.views.now self.old.window) (view_cmd i cmd) }
-        ensures does { Does (setting_of T.width self.old.array.now) (asked (parted_session T.value self.old.array.now self.old.views.now self.old.window) (view_cmd i cmd))
-            (parted_session T.value self.old.array.now self.old.views.now self.old.window) (parted_session T.value self.new.array.now self.new.views.now self.new.window) (said result) }
+        requires window { HasWindow (parted_session T.value self.old.array.now self.old.views.now
+            self.old.window) }
+        requires plain { IsPlain (parted_session T.value self.old.array.now self.old.views.now
+            self.old.window) (view_cmd i cmd) }
+        ensures does { Does (setting_of T.width self.old.array.now)
+            (asked (parted_session T.value self.old.array.now self.old.views.now self.old.window)
+            (view_cmd i cmd))
+            (parted_session T.value self.old.array.now self.old.views.now self.old.window)
+            (parted_session T.value self.new.array.now self.new.views.now self.new.window) (said result) }
         ensures sound { FitTogether T.value D self.new.array.now self.new.views.now }
         ensures kept { (kind self.new.array.now ≡ kind self.old.array.now)
             × (self.new.array.ghost_name ≡ self.old.array.ghost_name) }

@@ -16,8 +16,8 @@ use zf_store::Store;
 use zf_twoway::TwoWay;
 use zf_view::Window;
 
-/// Runs the lines of a script over a store and a two-way cache, which is empty and has room for its blocks, and
-/// writes the reply of each as it comes; at the end it flushes the cache.
+/// Runs the lines of a script over a store and a two-way cache, which is empty and has room for its blocks,
+/// and writes the reply of each as it comes; at the end it flushes the cache.
 ///
 /// Lines on windows and sizes are refused as no lines of the language. A line that is refused changes
 /// nothing, and the script goes on.
@@ -33,7 +33,8 @@ pub fn run_two<T: Lane, const D: usize, O: Sink>(
 ) -> RunEnd
     requires empty { IsEmpty cache.old (length cache.old.tags) }
     requires room { HasRoom cache.old (blocks store.old.header.shape) }
-    ensures runs { RunsTwo T.value T.width store.old store.new cache.old cache.new script.now (O.contents out.old) (O.contents out.new) result }
+    ensures runs { RunsTwo T.value T.width store.old store.new cache.old cache.new script.now
+        (O.contents out.old) (O.contents out.new) result }
     ensures unchanged { result ≢ RunEnd.Write → O.faults out.new ≡ O.faults out.old }
     ensures cause { HasCause (result ≡ RunEnd.Write) (O.faults out.old) (O.faults out.new) }
 {

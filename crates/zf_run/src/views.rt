@@ -44,7 +44,8 @@ pub(crate) fn on_view<T: Lane, const D: usize>(
 pub(crate) fn flush_views<T: Lane, const D: usize>(a: &mut Array<T, D>, views: &mut [Private<T, D>])
     requires { AreParts T.value D a.old views.old }
     ensures flushed { (v : Part)
-        → flushed_views (setting_of T.width a.old) (split_session T.value a.old views.old v) (length views.old)
+        → flushed_views (setting_of T.width a.old) (split_session T.value a.old views.old v)
+        (length views.old)
         ≡ split_session T.value a.new views.new v }
     ensures kept { kind a.new ≡ kind a.old }
 {
@@ -84,7 +85,8 @@ fn view_set<T: Lane, const D: usize>(
 ) -> Option<Reply>
     requires parts { AreParts T.value D a.old views.old }
     requires unused { p ≡ with_unused 0 (used_axes (length (shape a.old)) p) }
-    ensures { ViewsObey T.value T.width D (Command.pset i (used_axes (length (shape a.old)) p) v) (said result)
+    ensures { ViewsObey T.value T.width D (Command.pset i (used_axes (length (shape a.old)) p) v)
+        (said result)
         a.old a.new views.old views.new }
 {
     if !has_position(a, views, i, p) {
@@ -109,7 +111,8 @@ fn view_add<T: Lane, const D: usize>(
 ) -> Option<Reply>
     requires parts { AreParts T.value D a.old views.old }
     requires unused { p ≡ with_unused 0 (used_axes (length (shape a.old)) p) }
-    ensures { ViewsObey T.value T.width D (Command.padd i (used_axes (length (shape a.old)) p) v) (said result)
+    ensures { ViewsObey T.value T.width D (Command.padd i (used_axes (length (shape a.old)) p) v)
+        (said result)
         a.old a.new views.old views.new }
 {
     if !has_position(a, views, i, p) {

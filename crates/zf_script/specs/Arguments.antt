@@ -23,7 +23,8 @@ pub record IsWindow (d : ℕ) (words : List (List ℕ)) (p s t : Pos) : Type 0 w
   pub sizes : IsTrue (has_axes d (used_axes d s))
   pub steps : IsTrue (has_axes d (used_axes d t))
   pub text : words
-      ≡ numbers_text comma (used_axes d p) ∷ numbers_text letter_x (used_axes d s) ∷ numbers_text comma (used_axes d t) ∷ []
+      ≡ numbers_text comma (used_axes d p) ∷ numbers_text letter_x (used_axes d s)
+      ∷ numbers_text comma (used_axes d t) ∷ []
   pub other_origins : p ≡ with_unused 0 (used_axes d p)
   pub other_sizes : s ≡ with_unused 1 (used_axes d s)
   pub other_steps : t ≡ with_unused 1 (used_axes d t)

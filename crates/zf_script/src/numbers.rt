@@ -68,8 +68,8 @@ fn negative_in(digits: &[u8]) -> Option<i128>
     }
 }
 
-/// One to four numbers with this byte between two of them: how many they are, and the numbers, with `unused` along the
-/// other axes.
+/// One to four numbers with this byte between two of them: how many they are, and the numbers, with `unused`
+/// along the other axes.
 pub(crate) fn sizes_in(byte: u8, unused: u64, word: &[u8]) -> Option<(u8, Pos)>
     requires { IsNoDigit byte }
     ensures sizes { IfSome result (λ r. IsSizesWord byte unused word.now r.0 r.1) }

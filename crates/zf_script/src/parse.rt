@@ -38,7 +38,8 @@ fn command_in(dims: u8, line: &[u8]) -> Option<Cmd>
     }
 }
 
-// The command that begins with a word and has the words behind its space. The word of a view is its number directly behind `@`.
+// The command that begins with a word and has the words behind its space. The word of a view is its number
+// directly behind `@`.
 fn begun(dims: u8, first: &[u8], rest: &[u8]) -> Option<Cmd>
     requires dimension { IsDimension dims }
     ensures command { IfSome result (λ cmd. IsCommand dims (first.now ∷ cut_at space rest.now) cmd) }

@@ -11,7 +11,8 @@ pub enum Refusal {
     Split,
     /// A size, a step, a number of lines or of views that cannot be.
     Size,
-    /// A position, an axis or a place outside; a view that there is not, or a position that is not the view's.
+    /// A position, an axis or a place outside; a view that there is not, or a position that is not the
+    /// view's.
     Range,
     /// A value that the type does not have.
     Value,

@@ -40,7 +40,8 @@ fn alone(view: u64, verb: Verb) -> Option<Cmd>
 // The command on a view that a verb is with the words behind its space.
 fn with_words(dims: u8, view: u64, verb: Verb, rest: &[u8]) -> Option<Cmd>
     requires dimension { IsDimension dims }
-    ensures command { IfSome result (λ cmd. IsCommand dims (view_word view ∷ verb_word verb ∷ cut_at space rest.now) cmd) }
+    ensures command { IfSome result (λ cmd. IsCommand dims
+        (view_word view ∷ verb_word verb ∷ cut_at space rest.now) cmd) }
     ensures none { IfNone result (IsNoCommand dims (view_word view ∷ verb_word verb ∷ cut_at space rest.now)) }
 {
     match verb {

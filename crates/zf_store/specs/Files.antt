@@ -16,13 +16,15 @@ pub record HasHeader (bytes : List ℕ) (h : Header) : Type 0 where
 
 -- the values of the array, as its codes mean them
 abbrev pub values_of : Stored → List ℤ
-values_of s = values_of_blocks s.header.shape (map (λ b. meant (format_of s) b (code_at s b)) (upto (blocks s.header.shape)))
+values_of s = values_of_blocks s.header.shape (map (λ b. meant (format_of s) b (code_at s b))
+    (upto (blocks s.header.shape)))
 
 -- what the stream of a store says
 abbrev pub said : Stored → Said
 said s = record { header = s.header; codes = s.codes; values = values_of s }
 
--- a store was read from these bytes: they have this header, they say the store's codes, and they are the store's file, bit for bit
+-- a store was read from these bytes: they have this header, they say the store's codes, and they are the
+-- store's file, bit for bit
 pub record IsOpened (bytes : List ℕ) (h : Header) (s : Stored) : Type 0 where
   pub header : s.header ≡ h
   pub count : length s.codes ≡ blocks h.shape

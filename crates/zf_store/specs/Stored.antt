@@ -50,4 +50,8 @@ pub record IsStore (w : Width) (d : ℕ) (s : Stored) : Type 0 where
 
 -- zeros of this type and shape, at this rate
 abbrev pub zeros : Ty → List ℕ → ℕ → Stored
-zeros ty ns budget = record { header = record { ty = ty; shape = ns; mode = Rate budget }; codes = zero_codes budget ns }
+zeros ty ns budget = record {
+  header = record { ty = ty; shape = ns; mode = Rate budget };
+  codes =
+      zero_codes budget ns;
+}

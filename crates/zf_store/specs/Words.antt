@@ -1,4 +1,5 @@
--- What holds of the fields of a store, and of the bits of a file: the words are as long as the codes, with zeros behind.
+-- What holds of the fields of a store, and of the bits of a file: the words are as long as the codes, with
+-- zeros behind.
 use Rattle.std.specs.Prelude.{ℕ, ◌≡◌, ◌+◌, ◌-◌, ◌*◌, ◌≤◌, Bool, false, List, ◌++◌, map, length, take, drop, replicate}
 use Rattle.std.specs.Int.{Width, div_ceil}
 use Rattle.zf_spec.specs.Grid.{IsShape, blocks, upto}
@@ -22,18 +23,20 @@ with_codes h s = record { header = h; codes = codes_in (block_bits h.mode) (bloc
 abbrev pub all_bits : Header → ℕ
 all_bits h = blocks h.shape * block_bits h.mode
 
-pub record IsKept (w : Width) (d : ℕ) (h : Header) (words : List ℕ) (room : ℕ) (code head : Writer) : Type 0 where
-  pub same_type : w ≡ width_of h.ty
-  pub dims : length h.shape ≡ d
-  pub shape : IsShape h.shape
-  pub rate : IsRate h.mode
-  pub size : length words ≡ div_ceil (all_bits h) 64
-  pub blank : drop (all_bits h) (word_bits words) ≡ replicate (64 * length words - all_bits h) false
-  pub room_is : room ≡ d
-  pub code_fits : block_bits h.mode ≤ length code.bits + code.room
-  pub head_is : head.bits ≡ header_bits h
+pub record IsKept (w : Width) (d : ℕ) (h : Header) (words : List ℕ) (room : ℕ) (code head : Writer) : Type 0
+  where
+    pub same_type : w ≡ width_of h.ty
+    pub dims : length h.shape ≡ d
+    pub shape : IsShape h.shape
+    pub rate : IsRate h.mode
+    pub size : length words ≡ div_ceil (all_bits h) 64
+    pub blank : drop (all_bits h) (word_bits words) ≡ replicate (64 * length words - all_bits h) false
+    pub room_is : room ≡ d
+    pub code_fits : block_bits h.mode ≤ length code.bits + code.room
+    pub head_is : head.bits ≡ header_bits h
 
 -- a whole file of a rate: its header, as many bits as all codes have, and the fill
 pub record IsWholeFile (bytes : List ℕ) (h : Header) : Type 0 where
   pub size : length bytes ≡ rate_bytes_of h
-  pub bits : to_bits bytes ≡ with_fill (header_bits h ++ take (all_bits h) (drop (length (header_bits h)) (to_bits bytes)))
+  pub bits : to_bits bytes ≡ with_fill (header_bits h
+      ++ take (all_bits h) (drop (length (header_bits h)) (to_bits bytes)))

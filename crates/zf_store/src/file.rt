@@ -53,7 +53,8 @@ pub(crate) fn code_place(h: &Header, b: u64) -> u64
     b * u64::from(rate(h))
 }
 
-/// Whether the codes and the fill of a file are there, the fill is zero, and nothing follows; or the first that is wrong.
+/// Whether the codes and the fill of a file are there, the fill is zero, and nothing follows; or the first
+/// that is wrong.
 pub(crate) fn check_file(h: &Header, file: &[u8]) -> Result<(), StoreFault>
     requires { HasHeader file.now h.now }
     ensures ok { OnOk result (IsWholeFile file.now h.now) }
@@ -73,7 +74,8 @@ pub(crate) fn check_file(h: &Header, file: &[u8]) -> Result<(), StoreFault>
     Ok(())
 }
 
-// The first block of a file that is too short whose code ends too early, or the number of blocks where only fill bits are missing.
+// The first block of a file that is too short whose code ends too early, or the number of blocks where only
+// fill bits are missing.
 fn cut_block(h: &Header, file: &[u8]) -> u64
     requires header { HasHeader file.now h.now }
     requires short { length file.now < rate_bytes_of h.now }
@@ -126,7 +128,8 @@ pub(crate) fn words_of_file(alloc: Global, h: &Header, file: &[u8]) -> Result<Ve
     requires whole { IsWholeFile file.now h.now }
     ensures count { IfOk result (λ words. vec_len words ≡ div_ceil (all_bits h.now) 64) }
     ensures bits { IfOk result (λ words. word_bits words.items
-        ≡ take (all_bits h.now) (drop (length (header_bits h.now)) (to_bits file.now)) ++ replicate (64 * vec_len words - all_bits h.now) false) }
+        ≡ take (all_bits h.now) (drop (length (header_bits h.now)) (to_bits file.now))
+        ++ replicate (64 * vec_len words - all_bits h.now) false) }
 {
     let mut words = words_of_bytes(alloc, file)?;
     let len = code_bits(h);
@@ -135,13 +138,15 @@ pub(crate) fn words_of_file(alloc: Global, h: &Header, file: &[u8]) -> Result<Ve
     Ok(words)
 }
 
-/// Writes the bytes of the first `prefix_len` bits of `prefix`, then the first `len` bits of `words`, and the fill.
+/// Writes the bytes of the first `prefix_len` bits of `prefix`, then the first `len` bits of `words`, and the
+/// fill.
 pub(crate) fn write_bytes(prefix: &[u64], prefix_len: u64, words: &[u64], len: u64, out: &mut [u8])
     requires prefix { prefix_len ≤ 64 * length prefix.now }
     requires words { len ≤ 64 * length words.now }
     requires size { length out.old ≡ 8 * div_ceil (prefix_len + len) 64 }
     requires small { prefix_len + len < 2 ^ 63 }
-    ensures { out.new ≡ to_bytes (with_fill (take prefix_len (word_bits prefix.now) ++ take len (word_bits words.now))) }
+    ensures { out.new ≡ to_bytes (with_fill (take prefix_len (word_bits prefix.now)
+        ++ take len (word_bits words.now))) }
 {
     for i in 0..out.len() / 8 {
         let word = joined_word(prefix, prefix_len, words, len, i as u64);

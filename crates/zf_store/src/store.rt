@@ -24,11 +24,12 @@ use zf_bits::{BitReader, BitWriter};
 use zf_block::Scratch;
 use zf_header::{Header, LONG_HEADER_BITS, Mode};
 
-/// The codes of the blocks of an array of `D` dimensions, each of as many bits, seen as the header of their file and the list of
-/// the codes.
+/// The codes of the blocks of an array of `D` dimensions, each of as many bits, seen as the header of their
+/// file and the list of the codes.
 ///
-/// It is a [`Backing`] of blocks of `4^D` values: a load gives what a code means, and a store makes one code anew and leaves every
-/// other bit. Work room and the header's bits are taken when a store is made, so loads, stores and the file take no memory.
+/// It is a [`Backing`] of blocks of `4^D` values: a load gives what a code means, and a store makes one code
+/// anew and leaves every other bit. Work room and the header's bits are taken when a store is made, so loads,
+/// stores and the file take no memory.
 #[derive(Drop)]
 pub struct Store<T: Lane, const D: usize> {
     header: Header,
@@ -60,7 +61,8 @@ impl<T: Lane, const D: usize> Model for Store<T, D> {
 }
 
 impl<T: Lane, const D: usize> Store<T, D> {
-    /// The codes of zeros: all bits are 0. A block has `bits` bits, 1 to 32768. `AllocError`: there was no memory.
+    /// The codes of zeros: all bits are 0. A block has `bits` bits, 1 to 32768. `AllocError`: there was no
+    /// memory.
     pub fn zeros(alloc: Global, shape: Shape, bits: u32) -> Result<Store<T, D>, AllocError>
         requires dims { length shape ≡ D }
         requires rate { IsRate (Mode.Rate bits) }
@@ -113,7 +115,8 @@ impl<T: Lane, const D: usize> Store<T, D> {
         requires dims { length header.shape ≡ D }
         requires rate { IsRate header.mode }
         requires count { vec_len words ≡ div_ceil (all_bits header) 64 }
-        requires blank { drop (all_bits header) (word_bits words.items) ≡ replicate (64 * vec_len words - all_bits header) false }
+        requires blank { drop (all_bits header) (word_bits words.items)
+            ≡ replicate (64 * vec_len words - all_bits header) false }
         ensures { IfOk result (λ s. s ≡ with_codes header (word_bits words.items)) }
     {
         let room = Scratch::new(alloc, header.shape.dims())?;
@@ -131,7 +134,8 @@ impl<T: Lane, const D: usize> Store<T, D> {
         })
     }
 
-    /// The words of the codes: code `b` from bit `b * B` on, `B` being the bits of a block, and zeros to the whole word.
+    /// The words of the codes: code `b` from bit `b * B` on, `B` being the bits of a block, and zeros to the
+    /// whole word.
     pub fn words(&self) -> &[u64]
         ensures bits { word_bits result.now ≡ with_fill (flat_map (λ c. c) self.now.codes) }
         ensures whole { IsStore T.width D self.now }
@@ -148,7 +152,8 @@ impl<T: Lane, const D: usize> Store<T, D> {
         self.header
     }
 
-    /// Writes the file: the header, the codes and the fill. `out` has as many bytes as `rate_bytes` of the header says.
+    /// Writes the file: the header, the codes and the fill. `out` has as many bytes as `rate_bytes` of the
+    /// header says.
     pub fn write_file(&self, out: &mut [u8])
         requires { length out.old ≡ rate_bytes_of self.now.header }
         ensures { out.new ≡ file_of self.now }
@@ -213,8 +218,8 @@ mod tests {
     use super::*;
     use std::test::Fail;
 
-    // No copy of the values stands beside the codes: after each block was stored, the words are as long as the codes, and what else a store
-    // holds is as long as a header, a code and one block.
+    // No copy of the values stands beside the codes: after each block was stored, the words are as long as
+    // the codes, and what else a store holds is as long as a header, a code and one block.
     #[test]
     fn store_fields(rt: HostRuntime) -> Result<(), Fail> {
         let shape = Shape::new(1, 64, 1, 1, 1).ok().ok_or("a shape")?;

@@ -11,7 +11,8 @@ pub(crate) fn put_run(words: &mut [u64], at: u64, code: &[u64], len: u64)
     requires within { at + len ≤ 64 * length words.old }
     requires code { len ≤ 64 * length code.now }
     requires small { at + len < 2 ^ 63 }
-    ensures bits { word_bits words.new ≡ take at (word_bits words.old) ++ take len (word_bits code.now) ++ drop (at + len) (word_bits words.old) }
+    ensures bits { word_bits words.new ≡ take at (word_bits words.old) ++ take len (word_bits code.now)
+        ++ drop (at + len) (word_bits words.old) }
     ensures count { length words.new ≡ length words.old }
 {
     for i in 0..len.div_ceil(64) {
@@ -21,7 +22,8 @@ pub(crate) fn put_run(words: &mut [u64], at: u64, code: &[u64], len: u64)
     }
 }
 
-/// Moves the `len` bits from bit `at` on to the front, and fills their last word with zeros. What the words behind it hold is not said.
+/// Moves the `len` bits from bit `at` on to the front, and fills their last word with zeros. What the words
+/// behind it hold is not said.
 pub(crate) fn move_to_front(words: &mut [u64], at: u64, len: u64)
     requires behind { 64 ≤ at }
     requires within { at + len ≤ 64 * length words.old }
@@ -44,7 +46,8 @@ pub(crate) fn joined_word(prefix: &[u64], prefix_len: u64, words: &[u64], len: u
     requires within { 64 * i ≤ prefix_len + len }
     requires small { prefix_len + len < 2 ^ 63 }
     ensures { field 64 result
-        ≡ take 64 (drop (64 * i) (take prefix_len (word_bits prefix.now) ++ take len (word_bits words.now)) ++ replicate 64 false) }
+        ≡ take 64 (drop (64 * i) (take prefix_len (word_bits prefix.now) ++ take len (word_bits words.now))
+        ++ replicate 64 false) }
 {
     let at = 64 * i;
     if prefix_len <= at {

@@ -36,12 +36,13 @@ abbrev pub CanRefuseTyped : Ty → StreamFault → Type 0
 CanRefuseTyped wanted e = ((input : List ℕ) × (typed_answer wanted input ≡ Err e)) ⊎ IsFromOutside e
 
 -- the input was read to its end and is a good stream of the wanted type, and its text was written
-pub record RestoresTyped (wanted : Ty) (src_before src_now out_before out_now : Option (List ℕ)) : Type 0 where
-  pub bytes : List ℕ
-  pub taken : Takes src_before src_now bytes
-  pub ended : IsAtEnd src_now
-  pub good : typed_answer wanted bytes ≡ Ok true
-  pub written : Appends out_before out_now (restored_text bytes)
+pub record RestoresTyped (wanted : Ty) (src_before src_now out_before out_now : Option (List ℕ)) : Type 0
+  where
+    pub bytes : List ℕ
+    pub taken : Takes src_before src_now bytes
+    pub ended : IsAtEnd src_now
+    pub good : typed_answer wanted bytes ≡ Ok true
+    pub written : Appends out_before out_now (restored_text bytes)
 
 -- the first bytes were taken and no more, which begin with a good header of another type; nothing was written
 pub record HasOtherType (wanted : Ty) (src_before src_now out_before out_now : Option (List ℕ)) : Type 0 where
@@ -52,12 +53,16 @@ pub record HasOtherType (wanted : Ty) (src_before src_now out_before out_now : O
   pub unwritten : out_now ≡ out_before
 
 -- the stream is of the wanted type and was restored, or of the other
-abbrev pub RestoresWhere : Ty → Bool → Option (List ℕ) → Option (List ℕ) → Option (List ℕ) → Option (List ℕ) → Type 0
-RestoresWhere wanted true src_before src_now out_before out_now = RestoresTyped wanted src_before src_now out_before out_now
-RestoresWhere wanted false src_before src_now out_before out_now = HasOtherType wanted src_before src_now out_before out_now
+abbrev pub RestoresWhere : Ty → Bool → Option (List ℕ) → Option (List ℕ) → Option (List ℕ) → Option (List ℕ)
+    → Type 0
+RestoresWhere wanted true src_before src_now out_before out_now =
+    RestoresTyped wanted src_before src_now out_before out_now
+RestoresWhere wanted false src_before src_now out_before out_now =
+    HasOtherType wanted src_before src_now out_before out_now
 
 -- how a stream is restored where its values are of one type
-pub record RestoredWhere (wanted : Ty) (result : Result Bool StreamFault) (src_before src_now out_before out_now : Option (List ℕ)) : Type 0 where
+pub record RestoredWhere (wanted : Ty) (result : Result Bool StreamFault)
+    (src_before src_now out_before out_now : Option (List ℕ)) : Type 0 where
   pub answer : Answers result src_before (typed_answer wanted)
   pub possible : IfErr result (CanRefuseTyped wanted)
   pub ok : IfOk result (λ is. RestoresWhere wanted is src_before src_now out_before out_now)

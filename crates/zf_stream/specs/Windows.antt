@@ -25,11 +25,13 @@ left_of window = rest window.reader
 abbrev pub KnowsEnd : Window → Option (List ℕ) → Type 0
 KnowsEnd window src = window.ended ≡ true → IsAtEnd src
 
--- these bytes were taken of the source behind the bits that were left; of all these, what is left now is counted from a place that has moved by whole words
+-- these bytes were taken of the source behind the bits that were left; of all these, what is left now is
+-- counted from a place that has moved by whole words
 pub record Goes (src_before src_now : Option (List ℕ)) (old new : Window) (bytes : List ℕ) : Type 0 where
   pub taken : Takes src_before src_now bytes
   pub moved : ℕ
-  pub place : old.reader.at + length (left_of old ++ to_bits bytes) ≡ new.reader.at + 64 * moved + length (left_of new)
+  pub place : old.reader.at + length (left_of old ++ to_bits bytes)
+      ≡ new.reader.at + 64 * moved + length (left_of new)
 
 -- no bit was read, and what was taken of the source follows the bits that were left
 pub record Refills (src_before src_now : Option (List ℕ)) (old new : Window) : Type 0 where

@@ -119,7 +119,8 @@ fn write_slabs<T: Lane, S: Source, O: Sink>(
         (Gives (S.gave src.old) (S.gave src.new)) (O.contents out.old) (O.contents out.new)
         room.old.codes.bits room.new.codes.bits) }
     ensures err { OnErr result (Stops h.now (S.contents src.old) (S.contents src.new)
-        (Gives (S.gave src.old) (S.gave src.new)) (O.contents out.old) (O.contents out.new) room.old.codes.bits) }
+        (Gives (S.gave src.old) (S.gave src.new)) (O.contents out.old) (O.contents out.new)
+        room.old.codes.bits) }
     ensures refused { IfErr result (RefusesRaw (compress_answer h.now) (raw_len h.now)
         (S.contents src.old) (S.contents src.new)) }
     ensures few { OnOk result (length room.new.codes.bits < room.new.most) }
@@ -149,7 +150,8 @@ fn write_slabs<T: Lane, S: Source, O: Sink>(
     Ok(())
 }
 
-/// Reads one slab, an array of its own behind so many bytes, and writes its codes. The array's layout serves it.
+/// Reads one slab, an array of its own behind so many bytes, and writes its codes. The array's layout serves
+/// it.
 fn write_slab<T: Lane, S: Source, O: Sink>(
     layout: &Layout,
     part: &Header,
@@ -169,7 +171,8 @@ fn write_slab<T: Lane, S: Source, O: Sink>(
         (Gives (S.gave src.old) (S.gave src.new)) (O.contents out.old) (O.contents out.new)
         room.old.codes.bits room.new.codes.bits) }
     ensures err { IfErr result (BreaksSlab part.now taken (S.contents src.old) (S.contents src.new)
-        (Gives (S.gave src.old) (S.gave src.new)) (O.contents out.old) (O.contents out.new) room.old.codes.bits) }
+        (Gives (S.gave src.old) (S.gave src.new)) (O.contents out.old) (O.contents out.new)
+        room.old.codes.bits) }
     ensures gave_some { GivesSome (S.gave src.old) (S.gave src.new) }
     ensures few { OnOk result (length room.new.codes.bits < room.new.most) }
     ensures keeps { Keeps room.old room.new }

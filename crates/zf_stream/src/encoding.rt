@@ -27,8 +27,8 @@ use zf_dev::Sink;
 use zf_header::{Header, Mode};
 use zf_pad::Layout;
 
-/// Appends the codes of all blocks, in order. Where as many bits are at hand as the room keeps back, whole words are
-/// written.
+/// Appends the codes of all blocks, in order. Where as many bits are at hand as the room keeps back, whole
+/// words are written.
 pub(crate) fn write_codes<T: Lane, O: Sink>(
     layout: &Layout,
     h: &Header,
@@ -101,7 +101,8 @@ fn encode<T: Lane>(h: &Header, e: &Extent, block: &[T], s: &mut Scratch<T>, code
     requires scratch { s.old ≡ length h.now.shape }
     requires fits { longest_code h.now ≤ codes.old.room }
     ensures code { Appends codes.old codes.new
-        (block_code T.width (coding h.now.mode) (used_axes (length h.now.shape) e.now.size) (map T.value block.now)) }
+        (block_code T.width (coding h.now.mode) (used_axes (length h.now.shape) e.now.size)
+        (map T.value block.now)) }
     ensures scratch { s.new ≡ s.old }
 {
     let d = h.shape.dims();

@@ -43,8 +43,10 @@ pub(crate) fn read_values<T: Lane, S: Source>(
     requires piece { 8 ≤ length piece.old }
     requires fits { before + length values.old * byte_len T.width < 2 ^ 64 }
     ensures ok { OnOk result (ReadsValues T.width (length values.old)
-        (S.contents src.old) (S.contents src.new) (Gives (S.gave src.old) (S.gave src.new)) (map T.value values.new)) }
-    ensures err { IfErr result (LacksRaw before (length values.old * byte_len T.width) (S.contents src.old) (S.contents src.new)) }
+        (S.contents src.old) (S.contents src.new) (Gives (S.gave src.old) (S.gave src.new))
+        (map T.value values.new)) }
+    ensures err { IfErr result (LacksRaw before (length values.old * byte_len T.width) (S.contents src.old)
+        (S.contents src.new)) }
     ensures gave_some { GivesSome (S.gave src.old) (S.gave src.new) }
     ensures source { Reads S.Source (result ≡ Err Read) src.old src.new }
 {
@@ -62,7 +64,8 @@ pub(crate) fn read_values<T: Lane, S: Source>(
 
 /// Reads the end of the source, before which no byte is to come.
 pub(crate) fn read_end<S: Source>(src: &mut S) -> Result<(), StreamFault>
-    ensures ok { OnOk result (Takes (S.contents src.old) (S.contents src.new) [] × IsAtEnd (S.contents src.new)) }
+    ensures ok { OnOk result (Takes (S.contents src.old) (S.contents src.new) []
+        × IsAtEnd (S.contents src.new)) }
     ensures err { IfErr result (GoesOn (S.contents src.old) (S.contents src.new)) }
     ensures gave { OnOk result (Gives (S.gave src.old) (S.gave src.new) []) }
     ensures gave_some { GivesSome (S.gave src.old) (S.gave src.new) }
@@ -79,7 +82,8 @@ pub(crate) fn read_end<S: Source>(src: &mut S) -> Result<(), StreamFault>
 /// Reads until `buf` is full or the source is at its end.
 pub(crate) fn read_into<S: Source>(src: &mut S, buf: &mut [u8]) -> Result<usize, StreamFault>
     ensures bound { IfOk result (λ n. n ≤ length buf.old) }
-    ensures first { IfOk result (λ n. TakesFirst (length buf.old) (S.contents src.old) (S.contents src.new) (take n buf.new)) }
+    ensures first { IfOk result (λ n. TakesFirst (length buf.old) (S.contents src.old) (S.contents src.new)
+        (take n buf.new)) }
     ensures end { IfOk result (λ n. n < length buf.old → IsAtEnd (S.contents src.new)) }
     ensures lost { OnErr result (TakesAtMost (S.contents src.old) (S.contents src.new) (length buf.old)) }
     ensures some { TakesSome (S.contents src.old) (S.contents src.new) }

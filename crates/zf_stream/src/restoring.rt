@@ -53,9 +53,9 @@ pub fn restore<S: Source, O: Sink>(
     restore_behind(alloc, &h, header_len, &prefix[..count], src, out)
 }
 
-/// Restores a stream whose values are of this type, as [`restore`] does, and answers true. Of another type it answers
-/// false: the header was read, with 24 bytes taken at most, and nothing was written. Its errors are those of
-/// [`restore`].
+/// Restores a stream whose values are of this type, as [`restore`] does, and answers true. Of another type it
+/// answers false: the header was read, with 24 bytes taken at most, and nothing was written. Its errors are
+/// those of [`restore`].
 pub fn restore_where<S: Source, O: Sink>(
     alloc: Global,
     wanted: Ty,
@@ -119,7 +119,8 @@ fn restore_as<T: Lane, S: Source, O: Sink>(
     restore_rows(h, &mut room, src, out)
 }
 
-/// Restores what the codes behind the header say, in room that is there already, and judges what stands behind them.
+/// Restores what the codes behind the header say, in room that is there already, and judges what stands
+/// behind them.
 fn restore_rows<T: Lane, S: Source, O: Sink>(
     h: &Header,
     room: &mut RestoreRoom<T>,

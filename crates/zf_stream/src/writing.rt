@@ -78,8 +78,10 @@ pub(crate) fn write_values<T: Lane, O: Sink>(
     out: &mut O,
 ) -> Result<(), StreamFault>
     requires { 8 ≤ length piece.old }
-    ensures ok { OnOk result (Appends (O.contents out.old) (O.contents out.new) (raw T.width (map T.value values.now))) }
-    ensures err { OnErr result (AppendsPrefix (O.contents out.old) (O.contents out.new) (raw T.width (map T.value values.now))) }
+    ensures ok { OnOk result (Appends (O.contents out.old) (O.contents out.new)
+        (raw T.width (map T.value values.now))) }
+    ensures err { OnErr result (AppendsPrefix (O.contents out.old) (O.contents out.new)
+        (raw T.width (map T.value values.now))) }
     ensures sink { WritesOnly O.Sink result out.old out.new }
 {
     let len = value_len::<T>();
@@ -94,8 +96,8 @@ pub(crate) fn write_values<T: Lane, O: Sink>(
     Ok(())
 }
 
-/// Writes the values of an array that are kept in the order of blocks, in raster order as raw bytes, by way of `lines`
-/// and `piece`.
+/// Writes the values of an array that are kept in the order of blocks, in raster order as raw bytes, by way
+/// of `lines` and `piece`.
 pub(crate) fn write_stored<T: Lane, O: Sink>(
     shape: &Shape,
     stored: &[T],

@@ -36,9 +36,9 @@ fn calls_are_few(rt: HostRuntime) -> Result<(), Fail> {
 
 const ZEROS: [u8; 1000] = [0; 1000];
 
-// The header of an array, how many zero bytes are behind it, and the block whose code they cut. In all but the
-// last one, a slab of four rows has at least 256 MiB: int64 of 8192x4096x4, 16777216x8 at 77 bits a block and
-// 4096x4096x2x4 of int32 at 20 planes; then int32 of 4096x4096x8, and int64 of 134217728 at 128 planes.
+// The header of an array, how many zero bytes are behind it, and the block whose code they cut. In all but
+// the last one, a slab of four rows has at least 256 MiB: int64 of 8192x4096x4, 16777216x8 at 77 bits a block
+// and 4096x4096x2x4 of int32 at 20 planes; then int32 of 4096x4096x8, and int64 of 134217728 at 128 planes.
 const CUTS: [(&[u8], usize, u64); 7] = [
     (b"zfp\x45\xf9\xff\xf1\xff\x30\0\0\x88", 0, 0),
     (b"zfp\x45\xf9\xff\xf1\xff\x30\0\0\x88", 1000, 1142),

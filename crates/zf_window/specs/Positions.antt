@@ -27,7 +27,8 @@ following (n ∷ ns) (p ∷ ps) = if nat_lt (p + 1) n then (p + 1) ∷ ps else 0
 abbrev pub x_step : Window → ℕ
 x_step w = slice_index_or w.step 0 0
 
--- how many positions there are from position p of a window on along x, up to the end of the block and of the window
+-- how many positions there are from position p of a window on along x, up to the end of the block and of the
+-- window
 abbrev pub run_length : Window → Pos → ℕ
 run_length w p = min (4 - (position_at w p).x % 4) (slice_index_or w.size 0 0 - p.x)
 

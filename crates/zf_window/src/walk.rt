@@ -8,7 +8,8 @@ use crate::window::Window;
 use std::marker::Model;
 use zf_base::Pos;
 
-/// A walk over the positions of a window in raster order, x fastest: the window, and the number of the next position.
+/// A walk over the positions of a window in raster order, x fastest: the window, and the number of the next
+/// position.
 ///
 /// A step divides nothing, so that a walk costs less than `raster_at` of each number.
 ///

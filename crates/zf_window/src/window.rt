@@ -29,7 +29,8 @@ pub enum ViewFault {
 
 /// A part of an array: position `p` of it is position `origin + p * step` of the array, along each axis.
 ///
-/// It is seen as its origins, sizes and steps along the axes of the array, x first. No size and no step is zero.
+/// It is seen as its origins, sizes and steps along the axes of the array, x first. No size and no step is
+/// zero.
 #[derive(Clone, Copy, Debug, PartialEq, Eq)]
 pub struct Window {
     dims: u8,
@@ -52,9 +53,16 @@ impl Model for Window {
 
     ghost invariant = { λ w. IsWindowOf w.dims w.origin w.size w.step };
 
-    ghost inverse = { λ w. record { dims = length w.size; origin = with_unused 0 w.origin; size = with_unused 1 w.size; step = with_unused 1 w.step } };
+    ghost inverse = { λ w. record {
+      dims = length w.size;
+      origin = with_unused 0 w.origin;
+      size =
+          with_unused 1 w.size;
+      step = with_unused 1 w.step;
+    } };
 
-    ghost inverse_ok = { λ a h. same_from_fields (λ d o s t. record { dims = d; origin = o; size = s; step = t }) a.dims a.origin a.size a.step h.four_at_most h.unused };
+    ghost inverse_ok = { λ a h. same_from_fields (λ d o s t. record
+        { dims = d; origin = o; size = s; step = t }) a.dims a.origin a.size a.step h.four_at_most h.unused };
 }
 
 // The origin of an array, and steps to the next position.
@@ -97,7 +105,8 @@ impl Window {
         requires { AreUnused (length shape.now) origin size step }
         ensures window { IfOk result (λ w. w ≡ window_of (length shape.now) origin size step) }
         ensures inside { IfOk result (LiesIn shape.now) }
-        ensures fault { result_err result ≡ view_fault shape.now (window_of (length shape.now) origin size step) }
+        ensures fault { result_err result ≡ view_fault shape.now
+            (window_of (length shape.now) origin size step) }
     {
         let dims = shape.dims();
         if !has_no_zero(&size) {
@@ -164,7 +173,8 @@ impl Window {
         FIRST
     }
 
-    /// The position of the window behind `p` in raster order, x fastest; behind the last one comes the first. `p` lies in the window.
+    /// The position of the window behind `p` in raster order, x fastest; behind the last one comes the first.
+    /// `p` lies in the window.
     ///
     /// It divides nothing, so that a walk costs less than `raster_at` at each number.
     #[inline]
@@ -195,7 +205,8 @@ impl Window {
         product(&self.size)
     }
 
-    /// The window with one place of an axis alone, counted from 0 for x; `None` where there is no such axis or place.
+    /// The window with one place of an axis alone, counted from 0 for x; `None` where there is no such axis
+    /// or place.
     pub fn slice(&self, axis: u64, at: u64) -> Option<Window>
         ensures some { IfSome result (λ w. w ≡ sliced self.now axis at) }
         ensures found { IsSome result ↔ (has_place self.now axis at ≡ true) }
@@ -326,7 +337,8 @@ fn has_no_zero(p: &Pos) -> bool
 // Whether the last position of a window lies in a box of these sizes, along four axes.
 fn ends_within(shape: &Pos, origin: &Pos, size: &Pos, step: &Pos) -> bool
     requires { none_zero (axes size.now) ≡ true }
-    ensures { result ≡ is_inside (axes shape.now) (stepped (axes origin.now) (axes step.now) (map (λ n. n - 1) (axes size.now))) }
+    ensures { result ≡ is_inside (axes shape.now) (stepped (axes origin.now) (axes step.now)
+        (map (λ n. n - 1) (axes size.now))) }
 {
     is_last_below(shape.x, origin.x, size.x, step.x)
         && is_last_below(shape.y, origin.y, size.y, step.y)

@@ -10,7 +10,8 @@ use zf_dev::{MemSink, MemSource};
 use zf_header::{Header, MAX_PRECISION, MAX_RATE, Mode};
 use zf_stream::{compress, restore};
 
-// The type, the number of dimensions, the sizes, the mode, the raw values, the stream, and the values that zfp restores.
+// The type, the number of dimensions, the sizes, the mode, the raw values, the stream, and the values that
+// zfp restores.
 type Vector = (
     Ty,
     u8,

@@ -1,4 +1,5 @@
--- What a script does with a file by its access: which command it is, what the file is opened as, how the script is answered, and what is saved.
+-- What a script does with a file by its access: which command it is, what the file is opened as, how the
+-- script is answered, and what is saved.
 use Rattle.std.specs.Prelude.{ℕ, Bool, true, false, List, Option, Some, None, Result}
 use Rattle.zf_header.specs.declared.header.Mode.{Mode}
 use Rattle.zf_header.specs.declared.header.Mode.TheVariants.{Rate}

@@ -171,8 +171,8 @@ abbrev pub OfUsed : Bool → Type 0 → Type 0
 OfUsed true P = P
 OfUsed false P = ⊥
 
--- the statuses that no world determines: faults of the devices that a command comes to, and out of memory where it
--- takes any
+-- the statuses that no world determines: faults of the devices that a command comes to, and out of memory
+-- where it takes any
 abbrev pub MayFail : Status → Command → World → Type 0
 MayFail statuses.ReadFault c w = OfUsed ((meaning c).reads statuses.ReadFault) ((meaning c).opens w)
 MayFail statuses.WriteFault c w = OfUsed (meaning c).writes ((meaning c).works w)

@@ -1,4 +1,5 @@
--- What the program promises of every command: the words of the contract of the top call. No command is named here but in `back`.
+-- What the program promises of every command: the words of the contract of the top call. No command is named
+-- here but in `back`.
 use Rattle.std.specs.Prelude.{ℕ, ◌+◌, ◌≡◌, ◌≢◌, ◌<◌, ◌≤◌, ◌⊎◌, Bool, true, false, List, [], ◌∷◌, length, Option, Some, None, codes, All}
 use Rattle.zf_header.specs.declared.header.Header.{Header}
 use Rattle.zf_header.specs.declared.header.Mode.TheVariants.{Reversible}
@@ -38,14 +39,16 @@ abbrev pub IsOfCommand : Status → Type 0
 IsOfCommand (Usage k) = ⊥
 IsOfCommand status = Unit {0}
 
--- the whole text was written where the work was done, but for the saving maybe, and else a prefix of the draft
+-- the whole text was written where the work was done, but for the saving maybe, and else a prefix of the
+-- draft
 abbrev pub Writes : Status → List ℕ → List ℕ → Option (List ℕ) → Option (List ℕ) → Type 0
 Writes Done text draft before now = Appends before now text
 Writes (Lines n) text draft before now = Appends before now text
 Writes SaveFault text draft before now = Appends before now text
 Writes status text draft before now = AppendsPrefix before now draft
 
--- what is to be saved was saved. After a fault of the save nothing is known of that name, and after other statuses nothing was saved
+-- what is to be saved was saved. After a fault of the save nothing is known of that name, and after other
+-- statuses nothing was saved
 abbrev pub Saves : Option (List ℕ × List ℕ) → Status → Option Files → Option Files → Type 0
 Saves None status before now = KeepsFiles before now
 Saves (Some file) Done before now = SavesFile before now file.0 file.1
@@ -66,7 +69,8 @@ pub record Behaves (c : Command) (status : Status) (before now : Seen) : Type 0 
   pub taken : List ℕ
   pub takes : Takes before.src now.src taken
   pub extent : (meaning c).extent status world.input taken
-  pub written : Writes status ((meaning c).text world starved taken) ((meaning c).draft status ((meaning c).text world starved taken)) before.out now.out
+  pub written : Writes status ((meaning c).text world starved taken)
+      ((meaning c).draft status ((meaning c).text world starved taken)) before.out now.out
   pub saved : Saves ((meaning c).saved world starved) status before.shelf now.shelf
 
 -- a count rises only where the device may have been used
@@ -75,14 +79,16 @@ IsIdle true before now = Unit {0}
 IsIdle false before now = now ≡ before
 
 -- no fault without a cause: a count that rose. Where the source was sure never to fail, it still is
-pub record HasCauses (c : Command) (status : Status) (before now : Counts) (Sure Still : Type 0) : Type 0 where
-  pub reading : HasCause (status ≡ ReadFault) before.src now.src
-  pub writing : HasCause (status ≡ WriteFault) before.out now.out
-  pub no_reading : IsIdle ((meaning c).reads status) before.src now.src
-  pub no_writing : IsIdle (meaning c).writes before.out now.out
-  pub sure : Sure → (status ≢ ReadFault) × Still
+pub record HasCauses (c : Command) (status : Status) (before now : Counts) (Sure Still : Type 0) : Type 0
+  where
+    pub reading : HasCause (status ≡ ReadFault) before.src now.src
+    pub writing : HasCause (status ≡ WriteFault) before.out now.out
+    pub no_reading : IsIdle ((meaning c).reads status) before.src now.src
+    pub no_writing : IsIdle (meaning c).writes before.out now.out
+    pub sure : Sure → (status ≢ ReadFault) × Still
 
--- nothing was read behind the end that was seen: it was seen once more at most, and not at all where the source was not used
+-- nothing was read behind the end that was seen: it was seen once more at most, and not at all where the
+-- source was not used
 pub record StopsAtEnd (used : Bool) (before now : ℕ) : Type 0 where
   pub once : now ≤ before + 1
   pub unused : IsIdle used before now
@@ -101,7 +107,8 @@ pub record AreQuiet (before now : Counts) (shelf_before shelf_now : ℕ) : Type 
   pub out : IsQuiet before.out now.out
   pub shelf : IsQuiet shelf_before shelf_now
 
--- the status is the one that is stated for what the devices expose, or out of memory where memory is taken; it is no fault
+-- the status is the one that is stated for what the devices expose, or out of memory where memory is taken;
+-- it is no fault
 pub record IsComplete (c : Command) (status : Status) (before : Seen) : Type 0 where
   pub world : World
   pub exposed : IsExposed before world
@@ -130,7 +137,8 @@ stream_of None h bytes = stream_text h bytes
 stream_of (Some n) h bytes = narrow_text n h bytes
 
 -- the words are those of `restore`, and the source holds the reversible stream of these raw bytes
-pub record HoldsReversible (words : List (List ℕ)) (src : Option (List ℕ)) (kind : Option Narrow) (h : Header) (bytes : List ℕ) : Type 0 where
+pub record HoldsReversible (words : List (List ℕ)) (src : Option (List ℕ)) (kind : Option Narrow) (h : Header)
+    (bytes : List ℕ) : Type 0 where
   pub words_are : words ≡ restore_words kind
   pub header : IsHeader h
   pub typed : HasTypeOf kind h
@@ -146,7 +154,9 @@ pub record IsBack (status : Status) (before now : Option (List ℕ)) (bytes : Li
 
 -- what a reversible stream was made of comes back, unless a device failed or there was no memory
 abbrev pub GivesBack : List (List ℕ) → Status → Seen → Seen → Type 0
-GivesBack words status before now = (kind : Option Narrow) (h : Header) (bytes : List ℕ) → HoldsReversible words before.src kind h bytes → IsBack status before.out now.out bytes ⊎ IsFromOutside status
+GivesBack words status before now = (kind : Option Narrow) (h : Header) (bytes : List ℕ)
+    → HoldsReversible words before.src kind h bytes → IsBack status before.out now.out bytes
+    ⊎ IsFromOutside status
 
 -- the text was sent, whole where the count of faults did not rise, and else a prefix of it
 pub record Sends (text : List ℕ) (before now : Option (List ℕ)) (faults_before faults_now : ℕ) : Type 0 where

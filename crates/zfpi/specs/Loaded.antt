@@ -16,13 +16,17 @@ pub record HoldsFile (known : Option Files) (name bytes : List ℕ) : Type 0 whe
   pub held : HasFile known name bytes
   pub size : length bytes ≤ max_file
 
--- a file with these bytes is opened, and a script does with the subject what it does, by its access, with what the file says
+-- a file with these bytes is opened, and a script does with the subject what it does, by its access, with
+-- what the file says
 pub record StandsFor (s : Subject) (access : Access) (bytes : List ℕ) : Type 0 where
   pub said : Said
   pub opened : reading_of access bytes ≡ Ok said
-  pub replies : (starved script : List ℕ) → (ran_all s starved script).1 ≡ (answers_of access said starved script).0
-  pub starved : (starved script : List ℕ) → starved_lines s.setting starved 0 (lines_of script) s.start ≡ (answers_of access said starved script).1
-  pub file : (starved script : List ℕ) → s.filed (ended s.setting (ran_all s starved script).0) ≡ file_of access said starved script
+  pub replies : (starved script : List ℕ) → (ran_all s starved script).1
+      ≡ (answers_of access said starved script).0
+  pub starved : (starved script : List ℕ) → starved_lines s.setting starved 0 (lines_of script) s.start
+      ≡ (answers_of access said starved script).1
+  pub file : (starved script : List ℕ) → s.filed (ended s.setting (ran_all s starved script).0)
+      ≡ file_of access said starved script
 
 -- a file that was loaded may be refused so
 abbrev pub RefusesFile : Status → Type 0

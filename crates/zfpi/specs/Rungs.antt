@@ -1,4 +1,5 @@
--- What a command on a script promises on each rung of its way: behind the load, behind the script, and behind its last line.
+-- What a command on a script promises on each rung of its way: behind the load, behind the script, and behind
+-- its last line.
 use Rattle.std.specs.Prelude.{◌≡◌, ℕ, ◌≤◌, ◌⊎◌, ◌&&◌, true, [], List, length, Option, is_some}
 use Rattle.zf_dev.specs.Faults.{Rose, IsQuiet}
 use Rattle.zf_dev.specs.Shelf.{Files, KeepsFiles}
@@ -18,29 +19,41 @@ use Rattle.zfpi.specs.Loaded.{HoldsFile}
 use Rattle.zfpi.specs.Headline.{Saves, Behaves, HasCauses, StopsAtEnd, IsSent}
 
 module _ {B C : Type 0} (O : Sink B) (F : Shelf C) where
-  -- the file of this name that was loaded has these bytes, and the rest of the command did what the command does with it
-  pub record WorksOn {A : Type 0} (S : Source A) (c : Command) (name file : List ℕ) (status : Status) (src src_now : A) (out out_now : B) (shelf shelf_now : C) : Type 0 where
+  -- the file of this name that was loaded has these bytes, and the rest of the command did what the command
+  -- does with it
+  pub record WorksOn {A : Type 0} (S : Source A) (c : Command) (name file : List ℕ) (status : Status)
+      (src src_now : A) (out out_now : B) (shelf shelf_now : C) : Type 0 where
     pub behaves : (known : Option Files) → HoldsFile known name file → KeepsFiles known (F.files shelf)
-        → Behaves c status (seen (S.contents src) (O.contents out) known) (seen (S.contents src_now) (O.contents out_now) (F.files shelf_now))
-    pub causes : HasCauses c status (counts (S.faults src) (O.faults out)) (counts (S.faults src_now) (O.faults out_now)) (S.never_fails src) (S.never_fails src_now)
+        → Behaves c status (seen (S.contents src) (O.contents out) known)
+        (seen (S.contents src_now) (O.contents out_now) (F.files shelf_now))
+    pub causes : HasCauses c status (counts (S.faults src) (O.faults out))
+        (counts (S.faults src_now) (O.faults out_now)) (S.never_fails src) (S.never_fails src_now)
     pub stops : StopsAtEnd ((meaning c).reads status) (S.ends_seen src) (S.ends_seen src_now)
     pub once : SavesOnce F.saves F.faults c status shelf shelf_now
-    pub sent : O.is_flushed out → IsSent status (IsQuiet (O.faults out) (O.faults out_now)) (O.is_flushed out_now)
+    pub sent : O.is_flushed out → IsSent status (IsQuiet (O.faults out) (O.faults out_now))
+        (O.is_flushed out_now)
     pub still : F.never_fails shelf → F.never_fails shelf_now
 
   -- the script was read to its end too, and the rest did what the command does with it
-  pub record Answers (c : Command) (name file script : List ℕ) (status : Status) (out out_now : B) (shelf shelf_now : C) : Type 0 where
-    pub behaves : (known : Option Files) (src rest : Option (List ℕ)) → HoldsFile known name file → KeepsFiles known (F.files shelf) → Takes src rest script → IsAtEnd rest → length script ≤ max_script
-        → Behaves c status (seen src (O.contents out) known) (seen rest (O.contents out_now) (F.files shelf_now))
-    pub causes : (src : ℕ) → HasCauses c status (counts src (O.faults out)) (counts src (O.faults out_now)) (Unit {0}) (Unit {0})
+  pub record Answers (c : Command) (name file script : List ℕ) (status : Status) (out out_now : B)
+      (shelf shelf_now : C) : Type 0 where
+    pub behaves : (known : Option Files) (src rest : Option (List ℕ)) → HoldsFile known name file
+        → KeepsFiles known (F.files shelf) → Takes src rest script → IsAtEnd rest → length script ≤ max_script
+        → Behaves c status (seen src (O.contents out) known)
+        (seen rest (O.contents out_now) (F.files shelf_now))
+    pub causes : (src : ℕ) → HasCauses c status (counts src (O.faults out)) (counts src (O.faults out_now))
+        (Unit {0}) (Unit {0})
     pub read : (meaning c).reads status ≡ true
     pub once : SavesOnce F.saves F.faults c status shelf shelf_now
     pub sent : IsSent status (IsQuiet (O.faults out) (O.faults out_now)) (O.is_flushed out_now)
     pub still : F.never_fails shelf → F.never_fails shelf_now
 
-  -- all lines were run, with this status: the replies were handed on and this was saved, if anything is to be, unless one of both failed
-  pub record Closes (file : Option (List ℕ × List ℕ)) (status ended : Status) (out out_now : B) (shelf shelf_now : C) : Type 0 where
-    pub ends : (ended ≡ status) ⊎ ((ended ≡ SaveFault) × (is_some file ≡ true)) ⊎ ((ended ≡ WriteFault) × Rose (O.faults out) (O.faults out_now))
+  -- all lines were run, with this status: the replies were handed on and this was saved, if anything is to
+  -- be, unless one of both failed
+  pub record Closes (file : Option (List ℕ × List ℕ)) (status ended : Status) (out out_now : B)
+      (shelf shelf_now : C) : Type 0 where
+    pub ends : (ended ≡ status) ⊎ ((ended ≡ SaveFault) × (is_some file ≡ true))
+        ⊎ ((ended ≡ WriteFault) × Rose (O.faults out) (O.faults out_now))
     pub saves : Saves file ended (F.files shelf) (F.files shelf_now)
     pub step : Makes (is_some file && is_work_done ended) F.saves F.faults (ended ≡ SaveFault) shelf shelf_now
     pub stays : Appends (O.contents out) (O.contents out_now) []

@@ -31,7 +31,8 @@ abbrev pub lines_for : Option ℕ → List ℕ → ℕ
 lines_for (Some l) ns = l
 lines_for None ns = default_lines (blocks ns)
 
--- what a run does not change about an array of values of this width and so many bits a block: the cache makes the difference
+-- what a run does not change about an array of values of this width and so many bits a block: the cache makes
+-- the difference
 abbrev pub setting_over : Caching → Width → ℕ → Setting (List Bool)
 setting_over (Direct lines) w bits = array_setting w bits
 setting_over (TwoWay l) w bits = twoway_setting w bits
@@ -41,8 +42,8 @@ abbrev pub first_lines : Caching → List ℕ → ℕ
 first_lines (Direct lines) ns = lines_for lines ns
 first_lines (TwoWay l) ns = l
 
--- how a script is answered, by what the file says, the lines that found no memory, and the script: its replies, and the numbers of
--- the lines that say so
+-- how a script is answered, by what the file says, the lines that found no memory, and the script: its
+-- replies, and the numbers of the lines that say so
 abbrev pub Answering : Type 0
 Answering = Said → List ℕ → List ℕ → List Reply × List ℕ
 
@@ -52,7 +53,8 @@ ran_over caching said starved script =
     let h = said.header in
     let w = width_of h.ty in
     let bits = block_bits h.mode in
-    run (setting_over caching w bits) starved h.shape (open_array w bits h.shape said.codes (first_lines caching h.shape)) script
+    run (setting_over caching w bits) starved h.shape
+    (open_array w bits h.shape said.codes (first_lines caching h.shape)) script
 
 -- its lines that find no memory
 unfoldable pub starved_over : Caching → Said → List ℕ → List ℕ → List ℕ
@@ -60,11 +62,16 @@ starved_over caching said starved script =
     let h = said.header in
     let w = width_of h.ty in
     let bits = block_bits h.mode in
-    starved_lines (setting_over caching w bits) starved 0 (lines_of script) (session h.shape (open_array w bits h.shape said.codes (first_lines caching h.shape)) (whole h.shape))
+    starved_lines (setting_over caching w bits) starved 0 (lines_of script)
+    (session h.shape (open_array w bits h.shape said.codes (first_lines caching h.shape)) (whole h.shape))
 
 -- how it is answered
 abbrev pub run_answers : Caching → Answering
-run_answers caching said starved script = ((ran_over caching said starved script).1, starved_over caching said starved script)
+run_answers caching said starved script = (
+  (ran_over caching said starved script).1,
+  starved_over caching said
+      starved script,
+)
 
 -- the file that is saved then
 abbrev pub run_file : Caching → Said → List ℕ → List ℕ → List ℕ
@@ -77,8 +84,11 @@ unfoldable pub look_answers : Option ℕ → Answering
 look_answers lines said starved script =
     let h = said.header in
     let setting = look_setting (width_of h.ty) (coding_of h) in
-    let s = open_stream h said.codes (lines_for lines h.shape) in
-    ((look setting starved h.shape s script).1, starved_lines setting starved 0 (lines_of script) (session h.shape s (whole h.shape)))
+    let s = open_stream h said.codes (lines_for lines h.shape) in (
+      (look setting starved h.shape s script).1,
+      starved_lines setting starved 0 (lines_of script)
+          (session h.shape s (whole h.shape)),
+    )
 
 -- the status where so many lines are refused
 abbrev pub lines_status : ℕ → Status
@@ -88,7 +98,8 @@ lines_status (suc n) = statuses.Lines (suc n)
 -- the status of a script, where the file is opened so
 abbrev pub script_status : Answering → Result Said Status → List ℕ → List ℕ → Status
 script_status answers (Ok said) starved script =
-    if nat_lt max_script (length script) then statuses.ScriptLong else lines_status (count_by is_refusal (answers said starved script).0)
+    if nat_lt max_script (length script) then statuses.ScriptLong else lines_status
+    (count_by is_refusal (answers said starved script).0)
 script_status answers (Err status) starved script = status
 
 -- its text
@@ -97,7 +108,8 @@ script_text answers (Ok said) starved script = replies_text (answers said starve
 script_text answers (Err status) starved script = []
 
 -- what a run saves, and under which name
-abbrev pub saved_of : List ℕ → (Said → List ℕ → List ℕ → List ℕ) → Result Said Status → List ℕ → List ℕ → Option (List ℕ × List ℕ)
+abbrev pub saved_of : List ℕ → (Said → List ℕ → List ℕ → List ℕ) → Result Said Status → List ℕ → List ℕ
+    → Option (List ℕ × List ℕ)
 saved_of name file (Ok said) starved script = Some (name, file said starved script)
 saved_of name file (Err status) starved script = None
 

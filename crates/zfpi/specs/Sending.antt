@@ -16,7 +16,8 @@ abbrev pub EndsSent : Status → Status → Type 0 → Type 0
 EndsSent status ended Failed = (ended ≡ status) ⊎ ((ended ≡ WriteFault) × IsDone status × Failed)
 
 -- what was written was handed on, or the sink failed; what was written stays what it was
-pub record HandsOn (status ended : Status) (before now : Option (List ℕ)) (faults_before faults_now : ℕ) (Flushed : Type 0) : Type 0 where
+pub record HandsOn (status ended : Status) (before now : Option (List ℕ)) (faults_before faults_now : ℕ)
+    (Flushed : Type 0) : Type 0 where
   pub ends : EndsSent status ended (Rose faults_before faults_now)
   pub stays : Appends before now []
   pub kept : faults_before ≤ faults_now

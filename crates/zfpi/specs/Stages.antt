@@ -47,7 +47,8 @@ script_command scripts.Run name lines = commands.Run name (Direct lines)
 script_command scripts.Look name lines = commands.Look name lines
 
 -- these words begin a task for arrays of this type and shape, and then those behind follow
-pub record IsBegun (task : Task) (ty : Ty) (shape : List ℕ) (behind : List (List ℕ)) (words : List (List ℕ)) : Type 0 where
+pub record IsBegun (task : Task) (ty : Ty) (shape : List ℕ) (behind : List (List ℕ)) (words : List (List ℕ))
+    : Type 0 where
   pub task_is : IsTask task ty
   pub shape_is : IsShape shape
   pub words_are : words ≡ task_words task ty shape ++ behind

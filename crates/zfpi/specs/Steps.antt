@@ -14,8 +14,8 @@ is_work_done (Lines n) = true
 is_work_done SaveFault = true
 is_work_done status = false
 
--- just this step was made, and the fault comes only where it raised the count; or no step was, and there is no
--- such fault
+-- just this step was made, and the fault comes only where it raised the count; or no step was, and there is
+-- no such fault
 abbrev pub Makes : {F : Type 0} → Bool → (F → F → Type 0) → (F → ℕ) → Type 0 → F → F → Type 0
 Makes true step faults fault before now = step before now × HasCause fault (faults before) (faults now)
 Makes false step faults fault before now = (now ≡ before) × (fault → ⊥)

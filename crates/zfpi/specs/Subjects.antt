@@ -19,7 +19,8 @@ use Rattle.zf_run.specs.Sessions.{setting_of, start_of, look_setting_of, look_st
 use Rattle.zfpi.specs.declared.commands.target.Target.{Target}
 use Rattle.zfpi.specs.declared.commands.target.Target.TheVariants.{Direct, TwoWay, Look}
 
--- what no line changes, what the first one finds, and the file that is saved, if any, of what the last one leaves
+-- what no line changes, what the first one finds, and the file that is saved, if any, of what the last one
+-- leaves
 pub record Subject : Type 0 where
   pub setting : Setting (List Bool)
   pub start : Session (List Bool)
@@ -34,7 +35,8 @@ subject value w (Direct a) = record {
 }
 subject value w (TwoWay pair) = record {
   setting = two_setting_of w pair.store.header;
-  start = session pair.store.header.shape (pair_state value pair.store pair.cache) (whole pair.store.header.shape);
+  start = session pair.store.header.shape (pair_state value pair.store pair.cache)
+      (whole pair.store.header.shape);
   filed = λ s. Some (saved_file w (block_bits pair.store.header.mode) s.shape s.state);
 }
 subject value w (Look a) = record {
@@ -45,7 +47,8 @@ subject value w (Look a) = record {
 
 -- no line has been run on it: the cache is empty, and has room for the blocks, where a run asks for that
 abbrev pub IsFresh : {X : Type 0} {d : ℕ} → Target X d → Type 0
-IsFresh (TwoWay pair) = IsEmpty pair.cache (length pair.cache.tags) × HasRows pair.cache (blocks pair.store.header.shape)
+IsFresh (TwoWay pair) = IsEmpty pair.cache (length pair.cache.tags)
+    × HasRows pair.cache (blocks pair.store.header.shape)
 IsFresh (Direct a) = Unit {0}
 IsFresh (Look a) = Unit {0}
 
@@ -64,8 +67,11 @@ module _ (s : Subject) where
   abbrev pub ran_all : List ℕ → List ℕ → Session (List Bool) × List Reply
   ran_all starved script = run_lines s.setting starved 0 (lines_of script) s.start
 
-  -- a script was run on it. Where all lines were, this is the file of what they left, if any, once the run ended
-  pub record Ran (script : List ℕ) (old new : Option (List ℕ)) (file : Option (List ℕ)) (end : RunEnd) : Type 0 where
+  -- a script was run on it. Where all lines were, this is the file of what they left, if any, once the run
+  -- ended
+  pub record Ran (script : List ℕ) (old new : Option (List ℕ)) (file : Option (List ℕ)) (end : RunEnd) : Type
+      0 where
     pub starved : List ℕ
     pub last : Session (List Bool)
-    pub how : IsEnd (λ refused. RunsAll s.setting starved script s.start last old new refused × (file ≡ s.filed (ended s.setting last))) (StopsAt s.setting starved script s.start last old new) end
+    pub how : IsEnd (λ refused. RunsAll s.setting starved script s.start last old new refused
+        × (file ≡ s.filed (ended s.setting last))) (StopsAt s.setting starved script s.start last old new) end

@@ -96,10 +96,11 @@ caching_words (Direct lines) = lines_words lines
 caching_words (TwoWay l) = codes "twoway" ∷ decimal l ∷ []
 
 -- the first word of a command on a script, and then `NAME`, `NAME lines L` or `NAME twoway L`
-pub record IsOnScript (first : List ℕ) (name : List ℕ) (caching : Caching) (words : List (List ℕ)) : Type 0 where
-  pub named : IsName name
-  pub caching_is : IsCaching caching
-  pub words_are : words ≡ first ∷ name ∷ caching_words caching
+pub record IsOnScript (first : List ℕ) (name : List ℕ) (caching : Caching) (words : List (List ℕ)) : Type 0
+  where
+    pub named : IsName name
+    pub caching_is : IsCaching caching
+    pub words_are : words ≡ first ∷ name ∷ caching_words caching
 
 -- `bound NAME M`
 pub record IsBound (name : List ℕ) (most : ℕ) (words : List (List ℕ)) : Type 0 where

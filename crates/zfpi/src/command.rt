@@ -28,7 +28,8 @@ pub enum Access {
 pub enum Command {
     /// Raw values from the source; the stream that has this header to the sink.
     Compress(Header),
-    /// Raw narrow values from the source; the stream of the int32 values that stand for them, which has this header, to the sink.
+    /// Raw narrow values from the source; the stream of the int32 values that stand for them, which has this
+    /// header, to the sink.
     CompressNarrow(Narrow, Header),
     /// A stream from the source; its raw values to the sink.
     Restore,
@@ -43,25 +44,26 @@ pub enum Command {
         shape: Shape,
         bits: u32,
     },
-    /// The file of this name is an array, and a script from the source runs on it over such a cache; replies to the sink, and the array is
-    /// saved under the same name.
+    /// The file of this name is an array, and a script from the source runs on it over such a cache; replies
+    /// to the sink, and the array is saved under the same name.
     Run {
         name: Name,
         caching: Caching,
     },
-    /// The file of this name is a stream, and a script from the source that only reads looks at its values over a cache of so many lines, or
-    /// of as many as suit the stream; replies to the sink, and no file changes.
+    /// The file of this name is a stream, and a script from the source that only reads looks at its values
+    /// over a cache of so many lines, or of as many as suit the stream; replies to the sink, and no file
+    /// changes.
     Look {
         name: Name,
         lines: Option<u32>,
     },
-    /// The file of this name is a stream of a fixed rate; a line that says how far its values are at most from whatever was stored in it, if
-    /// that had magnitudes up to `most`, to the sink.
+    /// The file of this name is a stream of a fixed rate; a line that says how far its values are at most
+    /// from whatever was stored in it, if that had magnitudes up to `most`, to the sink.
     Bound {
         name: Name,
         most: u64,
     },
-    /// An array made from a number, which becomes the stream that has this header and is restored from it; a line that says what
-    /// became of it to the sink.
+    /// An array made from a number, which becomes the stream that has this header and is restored from it; a
+    /// line that says what became of it to the sink.
     Sample(Header, u64),
 }

@@ -25,8 +25,8 @@ use crate::words::parse;
 use std::alloc::Global;
 use zf_dev::{Shelf, Sink, Source, write_all};
 
-/// Does what the words after the program's name say, from `src` to `out` and with the files of `shelf`; where it is not done, a
-/// line on `err` says why.
+/// Does what the words after the program's name say, from `src` to `out` and with the files of `shelf`; where
+/// it is not done, a line on `err` says why.
 pub fn zfpi<S: Source, O: Sink, E: Sink, F: Shelf>(
     alloc: Global,
     words: &[String],
@@ -46,10 +46,12 @@ pub fn zfpi<S: Source, O: Sink, E: Sink, F: Shelf>(
     // Nothing is read behind the end that was seen.
     ensures stops { OfCommand (map string_bytes words.now) (λ c.
         StopsAtEnd ((meaning c).reads result) (S.ends_seen src.old) (S.ends_seen src.new)) }
-    ensures steps { OfCommand (map string_bytes words.now) (λ c. Steps F.loads F.saves F.faults c result shelf.old shelf.new) }
+    ensures steps { OfCommand (map string_bytes words.now)
+        (λ c. Steps F.loads F.saves F.faults c result shelf.old shelf.new) }
     ensures sure_shelf { F.never_fails shelf.old → (result ≢ Status.LoadFault) × F.never_fails shelf.new }
     // What was written was handed on where the work was done, and where the sink did not fail.
-    ensures sent { O.is_flushed out.old → IsSent result (IsQuiet (O.faults out.old) (O.faults out.new)) (O.is_flushed out.new) }
+    ensures sent { O.is_flushed out.old → IsSent result (IsQuiet (O.faults out.old) (O.faults out.new))
+        (O.is_flushed out.new) }
     ensures complete { AreQuiet
         (counts (S.faults src.old) (O.faults out.old)) (counts (S.faults src.new) (O.faults out.new))
         (F.faults shelf.old) (F.faults shelf.new)
@@ -58,7 +60,8 @@ pub fn zfpi<S: Source, O: Sink, E: Sink, F: Shelf>(
     ensures back { GivesBack (map string_bytes words.now) result
         (seen (S.contents src.old) (O.contents out.old) (F.files shelf.old))
         (seen (S.contents src.new) (O.contents out.new) (F.files shelf.new)) }
-    ensures message { Sends (error_line result) (E.contents err.old) (E.contents err.new) (E.faults err.old) (E.faults err.new) }
+    ensures message { Sends (error_line result) (E.contents err.old) (E.contents err.new) (E.faults err.old)
+        (E.faults err.new) }
     ensures message_sent { IsQuiet (E.faults err.old) (E.faults err.new) → E.is_flushed err.new }
 {
     let status = answer(alloc, words, src, out, shelf);
@@ -84,9 +87,11 @@ fn answer<S: Source, O: Sink, F: Shelf>(
         (S.never_fails src.old) (S.never_fails src.new)) }
     ensures stops { OfCommand (map string_bytes words.now) (λ c.
         StopsAtEnd ((meaning c).reads result) (S.ends_seen src.old) (S.ends_seen src.new)) }
-    ensures steps { OfCommand (map string_bytes words.now) (λ c. Steps F.loads F.saves F.faults c result shelf.old shelf.new) }
+    ensures steps { OfCommand (map string_bytes words.now)
+        (λ c. Steps F.loads F.saves F.faults c result shelf.old shelf.new) }
     ensures sure_shelf { F.never_fails shelf.old → (result ≢ Status.LoadFault) × F.never_fails shelf.new }
-    ensures sent { O.is_flushed out.old → IsSent result (IsQuiet (O.faults out.old) (O.faults out.new)) (O.is_flushed out.new) }
+    ensures sent { O.is_flushed out.old → IsSent result (IsQuiet (O.faults out.old) (O.faults out.new))
+        (O.is_flushed out.new) }
 {
     match parse(words) {
         Ok(command) => do_command(alloc, command, src, out, shelf),
@@ -112,7 +117,8 @@ fn do_command<S: Source, O: Sink, F: Shelf>(
     ensures stops { StopsAtEnd ((meaning command).reads result) (S.ends_seen src.old) (S.ends_seen src.new) }
     ensures steps { Steps F.loads F.saves F.faults command result shelf.old shelf.new }
     ensures sure_shelf { F.never_fails shelf.old → (result ≢ Status.LoadFault) × F.never_fails shelf.new }
-    ensures sent { O.is_flushed out.old → IsSent result (IsQuiet (O.faults out.old) (O.faults out.new)) (O.is_flushed out.new) }
+    ensures sent { O.is_flushed out.old → IsSent result (IsQuiet (O.faults out.old) (O.faults out.new))
+        (O.is_flushed out.new) }
 {
     match command {
         Command::Compress(header) => send(compress(alloc, header, src, out), out),
@@ -140,7 +146,8 @@ fn do_command<S: Source, O: Sink, F: Shelf>(
 
 // Sends the line of a status, and hands it on. A fault of the error output changes no status.
 fn report<E: Sink>(status: &Status, err: &mut E)
-    ensures message { Sends (error_line status.now) (E.contents err.old) (E.contents err.new) (E.faults err.old) (E.faults err.new) }
+    ensures message { Sends (error_line status.now) (E.contents err.old) (E.contents err.new)
+        (E.faults err.old) (E.faults err.new) }
     ensures sent { IsQuiet (E.faults err.old) (E.faults err.new) → E.is_flushed err.new }
 {
     tell(status, err);
@@ -149,7 +156,8 @@ fn report<E: Sink>(status: &Status, err: &mut E)
 
 // Writes the line of a status.
 fn tell<E: Sink>(status: &Status, err: &mut E)
-    ensures { Sends (error_line status.now) (E.contents err.old) (E.contents err.new) (E.faults err.old) (E.faults err.new) }
+    ensures { Sends (error_line status.now) (E.contents err.old) (E.contents err.new) (E.faults err.old)
+        (E.faults err.new) }
 {
     let _ = write_all(err, error_line(status).as_str().as_bytes());
 }

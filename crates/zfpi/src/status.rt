@@ -18,8 +18,8 @@ pub enum Status {
     Done,
     /// This many lines of the script were refused, at least one. All else was done.
     Lines(u64),
-    /// The words are no command. It is the number, from 0, of the first word that fits none, or of words where more are
-    /// missing.
+    /// The words are no command. It is the number, from 0, of the first word that fits none, or of words
+    /// where more are missing.
     Usage(u64),
     /// The raw values end after this many bytes, fewer than the shape needs.
     RawShort(u64),
@@ -27,7 +27,8 @@ pub enum Status {
     RawLong,
     /// The stream has no header that is read.
     Header(HeaderFault),
-    /// The code of this block is the first that ends too early; the number of blocks where only fill bits are missing.
+    /// The code of this block is the first that ends too early; the number of blocks where only fill bits are
+    /// missing.
     Truncated(u64),
     /// A bit of the fill is one.
     Pad,

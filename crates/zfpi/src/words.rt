@@ -20,7 +20,8 @@ use zf_narrow::Narrow;
 // The most lines of a cache.
 const MOST_LINES: u32 = 1 << 16;
 
-// What is done with the arrays of a header: raw values, or narrow ones, become their stream, or values are made from a number.
+// What is done with the arrays of a header: raw values, or narrow ones, become their stream, or values are
+// made from a number.
 #[derive(Clone, Copy, Debug)]
 enum Task {
     Compress,
@@ -60,8 +61,8 @@ enum Stage {
     Whole(Command),
 }
 
-/// The command that the words are. Else how many of them begin one: the number, from 0, of the first word that fits no
-/// command, or the number of words where more are missing.
+/// The command that the words are. Else how many of them begin one: the number, from 0, of the first word
+/// that fits no command, or the number of words where more are missing.
 pub fn parse(words: &[String]) -> Result<Command, u64>
     ensures command { IfOk result (λ c. IsSpelled c (map string_bytes words.now)) }
     ensures usage { IfErr result (λ k. IsUsage (map string_bytes words.now) k) }
@@ -228,7 +229,8 @@ fn behind_compress(word: &str) -> Option<Stage>
 
 // The stage that the first word of the mode leads to.
 fn behind_shape(task: Task, ty: Ty, shape: Shape, word: &str) -> Option<Stage>
-    ensures leads { IfSome result (λ next. (words : List (List ℕ)) → LeadsTo words (Stage.Shaped task ty shape)
+    ensures leads { IfSome result (λ next. (words : List (List ℕ))
+        → LeadsTo words (Stage.Shaped task ty shape)
         → LeadsTo (words ++ word.now ∷ []) next) }
     ensures none { IfNone result ((words : List (List ℕ)) → LeadsTo words (Stage.Shaped task ty shape)
         → BeginsCommand (words ++ word.now ∷ []) → ⊥) }
@@ -244,7 +246,8 @@ fn behind_shape(task: Task, ty: Ty, shape: Shape, word: &str) -> Option<Stage>
     }
 }
 
-// The stage that a word behind a whole command leads to: only a script can go on, with its cache, and `restore`, with a narrow type.
+// The stage that a word behind a whole command leads to: only a script can go on, with its cache, and
+// `restore`, with a narrow type.
 fn behind_whole(command: Command, word: &str) -> Option<Stage>
     ensures leads { IfSome result (λ next. (words : List (List ℕ)) → LeadsTo words (Stage.Whole command)
         → LeadsTo (words ++ word.now ∷ []) next) }
@@ -264,9 +267,11 @@ fn behind_whole(command: Command, word: &str) -> Option<Stage>
 
 // The stage that a word behind the file of a script leads to.
 fn behind_file(script: Script, name: Name, word: &str) -> Option<Stage>
-    ensures leads { IfSome result (λ next. (words : List (List ℕ)) → LeadsTo words (Stage.Whole (script_command script name None))
+    ensures leads { IfSome result (λ next. (words : List (List ℕ))
+        → LeadsTo words (Stage.Whole (script_command script name None))
         → LeadsTo (words ++ word.now ∷ []) next) }
-    ensures none { IfNone result ((words : List (List ℕ)) → LeadsTo words (Stage.Whole (script_command script name None))
+    ensures none { IfNone result ((words : List (List ℕ))
+        → LeadsTo words (Stage.Whole (script_command script name None))
         → BeginsCommand (words ++ word.now ∷ []) → ⊥) }
 {
     match word {
@@ -278,9 +283,11 @@ fn behind_file(script: Script, name: Name, word: &str) -> Option<Stage>
 
 // The stage that the word `twoway` behind the file of a script leads to: only a run has such a cache.
 fn behind_twoway(script: Script, name: Name) -> Option<Stage>
-    ensures leads { IfSome result (λ next. (words : List (List ℕ)) → LeadsTo words (Stage.Whole (script_command script name None))
+    ensures leads { IfSome result (λ next. (words : List (List ℕ))
+        → LeadsTo words (Stage.Whole (script_command script name None))
         → LeadsTo (words ++ codes "twoway" ∷ []) next) }
-    ensures none { IfNone result ((words : List (List ℕ)) → LeadsTo words (Stage.Whole (script_command script name None))
+    ensures none { IfNone result ((words : List (List ℕ))
+        → LeadsTo words (Stage.Whole (script_command script name None))
         → BeginsCommand (words ++ codes "twoway" ∷ []) → ⊥) }
 {
     match script {

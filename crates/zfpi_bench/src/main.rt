@@ -4,7 +4,8 @@
 //! zfpi_bench TYPE CALL ORDER ROUNDS
 //! ```
 //!
-//! The array has 1024 x 1024 values of int32 or int64, at 16 bits a value. A number is printed that comes of all that the calls gave.
+//! The array has 1024 x 1024 values of int32 or int64, at 16 bits a value. A number is printed that comes of
+//! all that the calls gave.
 #![tactic(auto)]
 
 mod bench;

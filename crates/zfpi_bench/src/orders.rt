@@ -17,7 +17,8 @@ use zf_view::{ElemIter, View, Window};
 // Sixteen bits for each value of a block.
 const BITS: u32 = 256;
 
-// Lines enough that each block has its own, and few enough that no block of a row is left when the next row comes.
+// Lines enough that each block has its own, and few enough that no block of a row is left when the next row
+// comes.
 const ALL: u32 = 65536;
 
 const FEW: u32 = 16;

@@ -12,4 +12,5 @@ use Rattle.zf_view.specs.Sums.{block_of}
 abbrev pub set_in : Format (List Bool) → List ℕ → State (List Bool) → Pos → ℤ → State (List Bool)
 set_in format ns s p v =
     let t = touch_for_writing format s (block_of ns p) in
-    with_values t (block_of ns p) (slice_set (t.values (block_of ns p)) (place_of (used_axes (length ns) p)) v)
+    with_values t (block_of ns p) (slice_set (t.values (block_of ns p)) (place_of (used_axes (length ns) p))
+    v)

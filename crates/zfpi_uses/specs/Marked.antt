@@ -36,9 +36,10 @@ marked a w v = run_changed a (position_at w first_place) (replicate (run_length 
 abbrev pub saved_of : Held → List ℕ
 saved_of a = saved_file w32 (block_bits a.header.mode) (shape a) (flush (format a) (state a))
 
--- the file held the first array; the sum is that of its values in the window, which the second still has; the third is the second with v
--- in the window's first run, and what is saved is its file
-pub record AreSteps (file : List ℕ) (w : Window) (v sum : ℤ) (saved : List ℕ) (opened read changed : Held) : Type 0 where
+-- the file held the first array; the sum is that of its values in the window, which the second still has; the
+-- third is the second with v in the window's first run, and what is saved is its file
+pub record AreSteps (file : List ℕ) (w : Window) (v sum : ℤ) (saved : List ℕ) (opened read changed : Held)
+    : Type 0 where
   pub opened_is : IsOpened file (header_of file) (stored opened)
   pub sum_is : sum ≡ sum_in (shape opened) (state opened) w (product w.size)
   pub read_is : IsUnwritten (state opened).codes (state opened).values (state read)
@@ -49,7 +50,8 @@ pub record AreSteps (file : List ℕ) (w : Window) (v sum : ℤ) (saved : List �
 
 -- a file was opened, summed, changed and saved
 abbrev pub IsMarked : List ℕ → Window → ℤ → ℤ → List ℕ → Type 0
-IsMarked file w v sum saved = (opened : Held) × ((read : Held) × ((changed : Held) × AreSteps file w v sum saved opened read changed))
+IsMarked file w v sum saved = (opened : Held) × ((read : Held)
+    × ((changed : Held) × AreSteps file w v sum saved opened read changed))
 
 -- why nothing was done
 abbrev pub IsCause : List ℕ → ℕ → ℕ → Fault → Type 0

@@ -1,5 +1,5 @@
-//! How the library is used, as callers that are proved: raw values become their stream and come back; the file of an array is opened, a window
-//! of it is summed, a run is written, and the file is saved.
+//! How the library is used, as callers that are proved: raw values become their stream and come back; the
+//! file of an array is opened, a window of it is summed, a run is written, and the file is saved.
 #![tactic(auto)]
 
 mod fault;

@@ -34,8 +34,8 @@ const NEXT: Pos = Pos {
     w: 1,
 };
 
-/// The sum of `count` values from place `first` on, of the array of int32 in one dimension that `file` holds; and its file once `v`
-/// was written over the first of them, as far as they lie in one block.
+/// The sum of `count` values from place `first` on, of the array of int32 in one dimension that `file` holds;
+/// and its file once `v` was written over the first of them, as far as they lie in one block.
 pub fn sum_and_mark(
     alloc: Global,
     file: Vec<u8>,
@@ -65,7 +65,8 @@ fn sum(array: &mut Array<i32, 1>, window: Window) -> i128
     View::bind(array, window).sum()
 }
 
-// Makes the values at the first position of a window and at those that follow be `v`, as far as they lie in one block.
+// Makes the values at the first position of a window and at those that follow be `v`, as far as they lie in
+// one block.
 fn mark(array: &mut Array<i32, 1>, window: Window, v: i32)
     requires lies { LiesIn (shape array.old) window }
     requires position { IsPosition window.size first_place }

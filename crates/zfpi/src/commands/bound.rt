@@ -23,8 +23,8 @@ use zf_dev::{Shelf, Sink, write_all};
 use zf_header::{Header, MAX_FILE, Mode, mode_number};
 use zf_index::IndexFault;
 
-/// Loads the file of this name, which is a stream of a fixed rate, and writes a line that says how far its values are at most from whatever was
-/// stored in it, if that had magnitudes up to `most`. No file changes.
+/// Loads the file of this name, which is a stream of a fixed rate, and writes a line that says how far its
+/// values are at most from whatever was stored in it, if that had magnitudes up to `most`. No file changes.
 pub fn bound<O: Sink, F: Shelf>(
     alloc: Global,
     name: &Name,
@@ -33,7 +33,8 @@ pub fn bound<O: Sink, F: Shelf>(
     shelf: &mut F,
 ) -> Status
     ensures behaves { (src : Option (List ℕ)) → Behaves (Bound name.now most) result
-        (seen src (O.contents out.old) (F.files shelf.old)) (seen src (O.contents out.new) (F.files shelf.new)) }
+        (seen src (O.contents out.old) (F.files shelf.old))
+        (seen src (O.contents out.new) (F.files shelf.new)) }
     ensures causes { (src : ℕ) → HasCauses (Bound name.now most) result
         (counts src (O.faults out.old)) (counts src (O.faults out.new)) (Unit {0}) (Unit {0}) }
     ensures steps { Steps F.loads F.saves F.faults (Bound name.now most) result shelf.old shelf.new }
@@ -47,8 +48,10 @@ pub fn bound<O: Sink, F: Shelf>(
 
 // The same with the file that was loaded.
 fn bound_file<O: Sink>(alloc: Global, name: &Name, most: u64, file: &[u8], out: &mut O) -> Status
-    ensures behaves { (src : Option (List ℕ)) (known now : Option Files) → HoldsFile known name.now file.now → KeepsFiles known now
-        → Behaves (Bound name.now most) result (seen src (O.contents out.old) known) (seen src (O.contents out.new) now) }
+    ensures behaves { (src : Option (List ℕ)) (known now : Option Files) → HoldsFile known name.now file.now
+        → KeepsFiles known now
+        → Behaves (Bound name.now most) result (seen src (O.contents out.old) known)
+        (seen src (O.contents out.new) now) }
     ensures causes { (src : ℕ) → HasCauses (Bound name.now most) result
         (counts src (O.faults out.old)) (counts src (O.faults out.new)) (Unit {0}) (Unit {0}) }
     ensures shelfless { IsShelfless result }
@@ -73,8 +76,10 @@ fn bound_stream<O: Sink>(
 ) -> Status
     requires header { HasHeader file.now header.now }
     requires rate { IsRate header.now.mode }
-    ensures behaves { (src : Option (List ℕ)) (known now : Option Files) → HoldsFile known name.now file.now → KeepsFiles known now
-        → Behaves (Bound name.now most) result (seen src (O.contents out.old) known) (seen src (O.contents out.new) now) }
+    ensures behaves { (src : Option (List ℕ)) (known now : Option Files) → HoldsFile known name.now file.now
+        → KeepsFiles known now
+        → Behaves (Bound name.now most) result (seen src (O.contents out.old) known)
+        (seen src (O.contents out.new) now) }
     ensures causes { (src : ℕ) → HasCauses (Bound name.now most) result
         (counts src (O.faults out.old)) (counts src (O.faults out.new)) (Unit {0}) (Unit {0}) }
     ensures shelfless { IsShelfless result }
@@ -101,7 +106,8 @@ fn certified(
     requires header { HasHeader file.now header.now }
     requires rate { IsRate header.now.mode }
     ensures good { OnOk result (IsGood file.now) }
-    ensures certified { IfOk result (λ c. IfOk (parse file.now) (λ said. c ≡ certified_of header.now said.codes most)) }
+    ensures certified { IfOk result (λ c. IfOk (parse file.now)
+        (λ said. c ≡ certified_of header.now said.codes most)) }
     ensures fault { IfErr result (λ e. IsFault (parse file.now) (stream_fault e)) }
 {
     match header.ty {

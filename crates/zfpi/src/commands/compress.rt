@@ -17,11 +17,13 @@ use zf_header::Header;
 pub fn compress<S: Source, O: Sink>(alloc: Global, h: Header, src: &mut S, out: &mut O) -> Status
     requires { (meaning (Compress h)).can_run }
     ensures behaves { (files : Option Files) → Behaves (Compress h) result
-        (seen (S.contents src.old) (O.contents out.old) files) (seen (S.contents src.new) (O.contents out.new) files) }
+        (seen (S.contents src.old) (O.contents out.old) files)
+        (seen (S.contents src.new) (O.contents out.new) files) }
     ensures causes { HasCauses (Compress h) result
         (counts (S.faults src.old) (O.faults out.old)) (counts (S.faults src.new) (O.faults out.new))
         (S.never_fails src.old) (S.never_fails src.new) }
-    ensures stops { StopsAtEnd ((meaning (Compress h)).reads result) (S.ends_seen src.old) (S.ends_seen src.new) }
+    ensures stops { StopsAtEnd ((meaning (Compress h)).reads result) (S.ends_seen src.old)
+        (S.ends_seen src.new) }
 {
     compress_begun::<S, O, Brand>(alloc, h, src, out)
 }
@@ -36,11 +38,13 @@ fn compress_begun<S: Source, O: Sink, K: Begun>(
     requires begun { K.ends_seen ≡ S.ends_seen src.old }
     requires can { (meaning (Compress h)).can_run }
     ensures behaves { (files : Option Files) → Behaves (Compress h) result
-        (seen (S.contents src.old) (O.contents out.old) files) (seen (S.contents src.new) (O.contents out.new) files) }
+        (seen (S.contents src.old) (O.contents out.old) files)
+        (seen (S.contents src.new) (O.contents out.new) files) }
     ensures causes { HasCauses (Compress h) result
         (counts (S.faults src.old) (O.faults out.old)) (counts (S.faults src.new) (O.faults out.new))
         (S.never_fails src.old) (S.never_fails src.new) }
-    ensures stops { StopsAtEnd ((meaning (Compress h)).reads result) (S.ends_seen src.old) (S.ends_seen src.new) }
+    ensures stops { StopsAtEnd ((meaning (Compress h)).reads result) (S.ends_seen src.old)
+        (S.ends_seen src.new) }
 {
     let mut source = UntilEnd::<S, K> {
         src,

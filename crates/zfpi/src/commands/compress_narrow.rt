@@ -1,4 +1,5 @@
-//! `compress` of narrow values: raw values of 8 or 16 bits to the stream of the int32 values that stand for them.
+//! `compress` of narrow values: raw values of 8 or 16 bits to the stream of the int32 values that stand for
+//! them.
 
 ghost use Rattle.std.specs.Prelude.{◌≡◌, Option};
 ghost use Rattle.zf_dev.specs.Shelf.{Files};
@@ -24,11 +25,13 @@ pub fn compress_narrow<S: Source, O: Sink>(
 ) -> Status
     requires { (meaning (CompressNarrow narrow h)).can_run }
     ensures behaves { (files : Option Files) → Behaves (CompressNarrow narrow h) result
-        (seen (S.contents src.old) (O.contents out.old) files) (seen (S.contents src.new) (O.contents out.new) files) }
+        (seen (S.contents src.old) (O.contents out.old) files)
+        (seen (S.contents src.new) (O.contents out.new) files) }
     ensures causes { HasCauses (CompressNarrow narrow h) result
         (counts (S.faults src.old) (O.faults out.old)) (counts (S.faults src.new) (O.faults out.new))
         (S.never_fails src.old) (S.never_fails src.new) }
-    ensures stops { StopsAtEnd ((meaning (CompressNarrow narrow h)).reads result) (S.ends_seen src.old) (S.ends_seen src.new) }
+    ensures stops { StopsAtEnd ((meaning (CompressNarrow narrow h)).reads result) (S.ends_seen src.old)
+        (S.ends_seen src.new) }
 {
     compress_narrow_begun::<S, O, Brand>(alloc, narrow, h, src, out)
 }
@@ -44,11 +47,13 @@ fn compress_narrow_begun<S: Source, O: Sink, K: Begun>(
     requires begun { K.ends_seen ≡ S.ends_seen src.old }
     requires can { (meaning (CompressNarrow narrow h)).can_run }
     ensures behaves { (files : Option Files) → Behaves (CompressNarrow narrow h) result
-        (seen (S.contents src.old) (O.contents out.old) files) (seen (S.contents src.new) (O.contents out.new) files) }
+        (seen (S.contents src.old) (O.contents out.old) files)
+        (seen (S.contents src.new) (O.contents out.new) files) }
     ensures causes { HasCauses (CompressNarrow narrow h) result
         (counts (S.faults src.old) (O.faults out.old)) (counts (S.faults src.new) (O.faults out.new))
         (S.never_fails src.old) (S.never_fails src.new) }
-    ensures stops { StopsAtEnd ((meaning (CompressNarrow narrow h)).reads result) (S.ends_seen src.old) (S.ends_seen src.new) }
+    ensures stops { StopsAtEnd ((meaning (CompressNarrow narrow h)).reads result) (S.ends_seen src.old)
+        (S.ends_seen src.new) }
 {
     let mut source = UntilEnd::<S, K> {
         src,

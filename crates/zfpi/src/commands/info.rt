@@ -11,10 +11,12 @@ use crate::commands::line::info_line;
 use crate::status::Status;
 use zf_dev::{Sink, Source, write_all};
 
-/// Reads the header that the source begins with, and writes a line that says it. The rest of the source is left.
+/// Reads the header that the source begins with, and writes a line that says it. The rest of the source is
+/// left.
 pub fn info<S: Source, O: Sink>(src: &mut S, out: &mut O) -> Status
     ensures behaves { (files : Option Files) → Behaves Info result
-        (seen (S.contents src.old) (O.contents out.old) files) (seen (S.contents src.new) (O.contents out.new) files) }
+        (seen (S.contents src.old) (O.contents out.old) files)
+        (seen (S.contents src.new) (O.contents out.new) files) }
     ensures causes { HasCauses Info result
         (counts (S.faults src.old) (O.faults out.old)) (counts (S.faults src.new) (O.faults out.new))
         (S.never_fails src.old) (S.never_fails src.new) }

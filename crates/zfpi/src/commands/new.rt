@@ -19,7 +19,8 @@ use zf_dev::Shelf;
 use zf_header::rate_bytes;
 use zf_store::Store;
 
-/// Saves an array of zeros of this type and shape, with `bits` bits per block, in place of what the name held.
+/// Saves an array of zeros of this type and shape, with `bits` bits per block, in place of what the name
+/// held.
 pub fn new<F: Shelf>(
     alloc: Global,
     name: &Name,

@@ -15,7 +15,8 @@ use zf_dev::{Begun, Sink, Source, UntilEnd};
 /// Reads a stream, and writes its raw values.
 pub fn restore<S: Source, O: Sink>(alloc: Global, src: &mut S, out: &mut O) -> Status
     ensures behaves { (files : Option Files) → Behaves Restore result
-        (seen (S.contents src.old) (O.contents out.old) files) (seen (S.contents src.new) (O.contents out.new) files) }
+        (seen (S.contents src.old) (O.contents out.old) files)
+        (seen (S.contents src.new) (O.contents out.new) files) }
     ensures causes { HasCauses Restore result
         (counts (S.faults src.old) (O.faults out.old)) (counts (S.faults src.new) (O.faults out.new))
         (S.never_fails src.old) (S.never_fails src.new) }
@@ -28,7 +29,8 @@ pub fn restore<S: Source, O: Sink>(alloc: Global, src: &mut S, out: &mut O) -> S
 fn restore_begun<S: Source, O: Sink, K: Begun>(alloc: Global, src: &mut S, out: &mut O) -> Status
     requires { K.ends_seen ≡ S.ends_seen src.old }
     ensures behaves { (files : Option Files) → Behaves Restore result
-        (seen (S.contents src.old) (O.contents out.old) files) (seen (S.contents src.new) (O.contents out.new) files) }
+        (seen (S.contents src.old) (O.contents out.old) files)
+        (seen (S.contents src.new) (O.contents out.new) files) }
     ensures causes { HasCauses Restore result
         (counts (S.faults src.old) (O.faults out.old)) (counts (S.faults src.new) (O.faults out.new))
         (S.never_fails src.old) (S.never_fails src.new) }

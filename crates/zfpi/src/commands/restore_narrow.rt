@@ -1,4 +1,5 @@
-//! `restore` of narrow values: a stream of int32 values to the raw values of 8 or 16 bits that they stand for.
+//! `restore` of narrow values: a stream of int32 values to the raw values of 8 or 16 bits that they stand
+//! for.
 
 ghost use Rattle.std.specs.Prelude.{◌≡◌, Option};
 ghost use Rattle.zf_dev.specs.Shelf.{Files};
@@ -21,11 +22,13 @@ pub fn restore_narrow<S: Source, O: Sink>(
     out: &mut O,
 ) -> Status
     ensures behaves { (files : Option Files) → Behaves (RestoreNarrow narrow) result
-        (seen (S.contents src.old) (O.contents out.old) files) (seen (S.contents src.new) (O.contents out.new) files) }
+        (seen (S.contents src.old) (O.contents out.old) files)
+        (seen (S.contents src.new) (O.contents out.new) files) }
     ensures causes { HasCauses (RestoreNarrow narrow) result
         (counts (S.faults src.old) (O.faults out.old)) (counts (S.faults src.new) (O.faults out.new))
         (S.never_fails src.old) (S.never_fails src.new) }
-    ensures stops { StopsAtEnd ((meaning (RestoreNarrow narrow)).reads result) (S.ends_seen src.old) (S.ends_seen src.new) }
+    ensures stops { StopsAtEnd ((meaning (RestoreNarrow narrow)).reads result) (S.ends_seen src.old)
+        (S.ends_seen src.new) }
 {
     restore_narrow_begun::<S, O, Brand>(alloc, narrow, src, out)
 }
@@ -39,11 +42,13 @@ fn restore_narrow_begun<S: Source, O: Sink, K: Begun>(
 ) -> Status
     requires { K.ends_seen ≡ S.ends_seen src.old }
     ensures behaves { (files : Option Files) → Behaves (RestoreNarrow narrow) result
-        (seen (S.contents src.old) (O.contents out.old) files) (seen (S.contents src.new) (O.contents out.new) files) }
+        (seen (S.contents src.old) (O.contents out.old) files)
+        (seen (S.contents src.new) (O.contents out.new) files) }
     ensures causes { HasCauses (RestoreNarrow narrow) result
         (counts (S.faults src.old) (O.faults out.old)) (counts (S.faults src.new) (O.faults out.new))
         (S.never_fails src.old) (S.never_fails src.new) }
-    ensures stops { StopsAtEnd ((meaning (RestoreNarrow narrow)).reads result) (S.ends_seen src.old) (S.ends_seen src.new) }
+    ensures stops { StopsAtEnd ((meaning (RestoreNarrow narrow)).reads result) (S.ends_seen src.old)
+        (S.ends_seen src.new) }
 {
     let mut source = UntilEnd::<S, K> {
         src,

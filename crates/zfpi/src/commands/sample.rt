@@ -13,8 +13,8 @@ use std::alloc::Global;
 use zf_dev::{Sink, write_all};
 use zf_header::Header;
 
-/// Makes an array of this type and shape from a number, compresses and restores it in memory, and writes a line that says what became of
-/// it.
+/// Makes an array of this type and shape from a number, compresses and restores it in memory, and writes a
+/// line that says what became of it.
 pub fn sample<O: Sink>(alloc: Global, h: Header, seed: u64, out: &mut O) -> Status
     requires { (meaning (Sample h seed)).can_run }
     ensures behaves { (src : Option (List ℕ)) (files : Option Files) → Behaves (Sample h seed) result

@@ -27,8 +27,9 @@ use zf_dev::{Shelf, Sink, Source, take_all};
 use zf_header::{MAX_FILE, Mode, mode_number};
 use zf_run::RunEnd;
 
-/// Loads the file of this name, reads a script to its end, does with the file by this access what it says, and
-/// hands the replies on. An array that was run on is then saved under the same name; no other file changes.
+/// Loads the file of this name, reads a script to its end, does with the file by this access what it says,
+/// and hands the replies on. An array that was run on is then saved under the same name; no other file
+/// changes.
 pub fn script<S: Source, O: Sink, F: Shelf>(
     alloc: Global,
     name: &Name,

@@ -27,8 +27,8 @@ pub fn line_count(lines: Option<u32>, shape: &Shape) -> u32
     }
 }
 
-/// Hands on the replies to a script that was run with this status, and then saves a file; the status stays, unless one of both
-/// fails. Where the replies were not handed on, nothing is saved.
+/// Hands on the replies to a script that was run with this status, and then saves a file; the status stays,
+/// unless one of both fails. Where the replies were not handed on, nothing is saved.
 pub fn save<O: Sink, F: Shelf>(
     name: &Name,
     file: &[u8],
@@ -37,7 +37,8 @@ pub fn save<O: Sink, F: Shelf>(
     shelf: &mut F,
 ) -> Status
     requires { IsDone status }
-    ensures { Closes O.Sink F.Shelf (Some (name.now, file.now)) status result out.old out.new shelf.old shelf.new }
+    ensures { Closes O.Sink F.Shelf (Some (name.now, file.now)) status result out.old out.new shelf.old
+        shelf.new }
 {
     if out.flush().is_err() {
         return Status::WriteFault;

@@ -37,8 +37,8 @@ pub struct Opened<T: Lane, const D: usize> {
     pub file: Vec<u8>,
 }
 
-/// The codes of a file with this header, and an empty cache of as many lines, raised to a power of two, with room for its
-/// blocks. The file becomes the bytes for saving.
+/// The codes of a file with this header, and an empty cache of as many lines, raised to a power of two, with
+/// room for its blocks. The file becomes the bytes for saving.
 pub fn open<T: Lane, const D: usize>(
     alloc: Global,
     header: &Header,
@@ -65,8 +65,8 @@ pub fn open<T: Lane, const D: usize>(
     Ok(Opened { store, cache, file })
 }
 
-/// Hands on the replies to a script that was run with this status, and saves the file of the codes, from bytes
-/// that are as many.
+/// Hands on the replies to a script that was run with this status, and saves the file of the codes, from
+/// bytes that are as many.
 pub fn save_store<T: Lane, const D: usize, O: Sink, F: Shelf>(
     name: &Name,
     store: &Store<T, D>,

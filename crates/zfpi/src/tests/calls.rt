@@ -61,7 +61,8 @@ impl Ended {
         self.shelf.file("a") == Some(file) && self.shelf.file("kept") == Some(KEPT)
     }
 
-    /// Whether the call ended as its row says, but for what is written, and saw the end of its input once at most.
+    /// Whether the call ended as its row says, but for what is written, and saw the end of its input once at
+    /// most.
     pub fn is_as_said(&self, row: &Row) -> bool {
         self.status == row.status
             && self.err.bytes() == row.line

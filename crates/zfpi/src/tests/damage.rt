@@ -30,7 +30,8 @@ struct Case {
     first: u64,
     // How a call ends up to which number.
     ends: &'static [(u64, Status)],
-    // What is written: all of it where the work is done, else a prefix, and nothing below the number `silent`.
+    // What is written: all of it where the work is done, else a prefix, and nothing below the number
+    // `silent`.
     text: &'static [u8],
     silent: u64,
     // How many bytes are left in the source where the work is done.

@@ -6,8 +6,8 @@ ghost use Rattle.zfpi.specs.Words.{shape_word};
 
 use zf_base::Shape;
 
-/// The number that a word says: `0`, or digits that do not begin with `0`, and no sign. `None`: it says no number
-/// below 2^64.
+/// The number that a word says: `0`, or digits that do not begin with `0`, and no sign. `None`: it says no
+/// number below 2^64.
 pub fn number_in(word: &str) -> Option<u64>
     ensures number { IfSome result (λ n. word.now ≡ decimal n) }
     ensures none { IfNone result ((n : ℕ) → n < 2 ^ 64 → word.now ≢ decimal n) }
