@@ -1,5 +1,6 @@
 pub mod Appending
 pub mod Counts
+pub mod Devices
 pub mod Giving
 mod Held
 mod Pieces

@@ -1,6 +1,6 @@
 -- How a compression of narrow values ends, from how that of their int32 bytes does.
 use Rattle.std.proofs.Common.{◌≡◌, refl, sym, ap, subst, ◌∙◌, ℕ, ◌+◌, ◌*◌, ◌/◌, ◌%◌, ◌≤◌, ◌<◌, ◌⊎◌, inl, inr, ⊎_elim, Bool, true, false, IsTrue, List, [], ◌++◌, length, drop, replicate, Option, Some, None, Result, Ok, Err, append-nil, length-append, arith}
-use Rattle.std.specs.Prelude.{IsErrAnd}
+use Rattle.std.specs.Prelude.{IsErrAnd, IfErr}
 use Rattle.std.proofs.lemmas.Bool.{cases_lt}
 use Rattle.std.proofs.lemmas.List.{drop_all, length-drop, length-replicate}
 use Rattle.std.specs.Int.{byte_len}
@@ -15,7 +15,7 @@ use Rattle.zf_dev.proofs.Taking.{Takes-to_end}
 use Rattle.zf_parse.specs.declared.fault.StreamFault.{StreamFault}
 use Rattle.zf_parse.specs.declared.fault.StreamFault.TheVariants as faults
 use Rattle.zf_parse.specs.Raw.{raw_len, length_answer, compress_answer, stream_text}
-use Rattle.zf_stream.specs.Outcomes.{Answers, CanRefuse, ShowsLength, Finishes, LeavesPrefix, WritesText, WritesPrefix, IsFromOutside}
+use Rattle.zf_stream.specs.Outcomes.{Compressed, CompressedGiven, Answers, CanRefuse, ShowsLength, Finishes, LeavesPrefix, WritesText, WritesPrefix, IsFromOutside}
 use Rattle.zf_stream.proofs.RawRows.{short_answer, long_answer, good_answer}
 use Rattle.zf_stream.proofs.Refusals.{CanRefuse-short, CanRefuse-long}
 use Rattle.zf_narrow.specs.declared.narrow.Narrow.{Narrow}
@@ -176,7 +176,7 @@ can_come h faults.Read can = tt
 can_come h faults.Write can = tt
 can_come h faults.Memory can = tt
 
-pub fault_possible : (n : Narrow) (h : Header) (e : StreamFault) → h.ty ≡ I32 → CanRefuse (compress_answer h) e → CanRefuse (compress_narrow_answer n h) (narrow_fault n e)
+fault_possible : (n : Narrow) (h : Header) (e : StreamFault) → h.ty ≡ I32 → CanRefuse (compress_answer h) e → CanRefuse (compress_narrow_answer n h) (narrow_fault n e)
 fault_possible n h (faults.RawShort k) int32 (inl is) =
     let says = length_says (raw_len h) is.0 (Err (faults.RawShort k)) is.1 in
     CanRefuse-short (narrow_len n h) (narrow_count n k) (count_few n k (product h.shape) (omega (arith, says.0, says.1, raw_len-int32 h int32)))
@@ -291,6 +291,24 @@ module _ (n : Narrow) (h : Header) (int32 : h.ty ≡ I32) (spent : Bool) (pendin
 
 -- ---- the promotion that the source had when the call began, and the one that it has now
 
+ok_is : (u : Unit {0}) (r : Result (Unit {0}) StreamFault) → r ≡ Ok u → r ≡ Err faults.Memory → ⊥
+ok_is u r ok same = cc
+
+-- memory is wanting where it was for the int32 bytes
+memory_short : (k : ℕ) → faults.RawShort k ≡ faults.Memory → ⊥
+memory_short k same = cc
+
+memory_is : (n : Narrow) (e : StreamFault) → narrow_fault n e ≡ faults.Memory → e ≡ faults.Memory
+memory_is n (faults.RawShort k) same = absurd (memory_short (narrow_count n k) same)
+memory_is n faults.RawLong same = same
+memory_is n (faults.Header f) same = same
+memory_is n (faults.Truncated k) same = same
+memory_is n faults.Pad same = same
+memory_is n faults.Trailing same = same
+memory_is n faults.Read same = same
+memory_is n faults.Write same = same
+memory_is n faults.Memory same = same
+
 pub record Runs (n : Narrow) (known now : Option (List ℕ)) (old new : Promotion) : Type 0 where
   pub same_old : old.narrow ≡ n
   pub at_old : old.at ≡ 4
@@ -345,7 +363,7 @@ module _ (n : Narrow) {known now : Option (List ℕ)} (old new : Promotion) (r :
   given_by h raw gives =
       gives.goes_on [] none_given ∙ ap (λ m. promoted_bytes m new.taken.bytes ++ replicate (zeros_given new.spent (listed new.half)) 0) r.same
 
-  pub run_compresses : (h : Header) (out0 out1 : Option (List ℕ)) → h.ty ≡ I32 → Finishes (compress_answer h) (stream_text h) (exposed old known) (exposed new now) out0 out1
+  run_compresses : (h : Header) (out0 out1 : Option (List ℕ)) → h.ty ≡ I32 → Finishes (compress_answer h) (stream_text h) (exposed old known) (exposed new now) out0 out1
       → WritesText (compress_answer h) (stream_text h) (Gives (HasGiven old) (HasGiven new)) out0 out1 → Finishes (compress_narrow_answer n h) (narrow_text n h) known now out0 out1
   run_compresses h out0 out1 int32 fin writes =
       compresses n h int32 new.spent (drop new.at new.value) (listed new.half) new.taken.bytes known now out0 out1 promotes
@@ -359,16 +377,39 @@ module _ (n : Narrow) {known now : Option (List ℕ)} (old new : Promotion) (r :
       subst (λ b. ShowsLength (raw_len h) (exposed_by n false [] [] known) b e) exposed_new
       (subst (λ a. ShowsLength (raw_len h) a (exposed new now) e) exposed_old shown)
 
-  pub run_shows : (h : Header) (e : StreamFault) → h.ty ≡ I32 → ShowsLength (raw_len h) (exposed old known) (exposed new now) e → ShowsLength (narrow_len n h) known now (narrow_fault n e)
+  run_shows : (h : Header) (e : StreamFault) → h.ty ≡ I32 → ShowsLength (raw_len h) (exposed old known) (exposed new now) e → ShowsLength (narrow_len n h) known now (narrow_fault n e)
   run_shows h e int32 shown = shows n h int32 new.spent (drop new.at new.value) (listed new.half) new.taken.bytes known now e promotes (shown_too h e shown)
 
-  pub run_leaves : (h : Header) (out0 out1 : Option (List ℕ)) → h.ty ≡ I32 → WritesPrefix (stream_text h) (Gives (HasGiven old) (HasGiven new)) out0 out1 → LeavesPrefix (narrow_text n h) known now out0 out1
+  run_leaves : (h : Header) (out0 out1 : Option (List ℕ)) → h.ty ≡ I32 → WritesPrefix (stream_text h) (Gives (HasGiven old) (HasGiven new)) out0 out1 → LeavesPrefix (narrow_text n h) known now out0 out1
   run_leaves h out0 out1 int32 writes =
       leaves n h int32 new.spent (drop new.at new.value) (listed new.half) new.taken.bytes known now out0 out1 promotes
       (record { bytes = writes.bytes; lost = writes.lost; given = given_by h (writes.bytes ++ writes.lost) writes.given; written = writes.written })
 
-  pub run_good_answers : (h : Header) → h.ty ≡ I32 → Answers (Ok tt) (exposed old known) (compress_answer h) → Answers (Ok tt) known (compress_narrow_answer n h)
+  run_good_answers : (h : Header) → h.ty ≡ I32 → Answers (Ok tt) (exposed old known) (compress_answer h) → Answers (Ok tt) known (compress_narrow_answer n h)
   run_good_answers h int32 answers = narrow_answers n h known (Ok tt) int32 (subst (λ a. Answers (Ok tt) a (compress_answer h)) exposed_old answers)
 
-  pub run_fault_answers : (h : Header) (e : StreamFault) → h.ty ≡ I32 → Answers (Err e) (exposed old known) (compress_answer h) → Answers (Err (narrow_fault n e)) known (compress_narrow_answer n h)
+  run_fault_answers : (h : Header) (e : StreamFault) → h.ty ≡ I32 → Answers (Err e) (exposed old known) (compress_answer h) → Answers (Err (narrow_fault n e)) known (compress_narrow_answer n h)
   run_fault_answers h e int32 answers = narrow_answers n h known (Err e) int32 (subst (λ a. Answers (Err e) a (compress_answer h)) exposed_old answers)
+
+  -- how it ends
+  pub run_good : (h : Header) (out0 out1 : Option (List ℕ)) → h.ty ≡ I32 → Compressed (compress_answer h) (stream_text h) (raw_len h) (Ok tt) (exposed old known) (exposed new now) out0 out1
+      → CompressedGiven (compress_answer h) (stream_text h) (Ok tt) (Gives (HasGiven old) (HasGiven new)) out0 out1 → Compressed (compress_narrow_answer n h) (narrow_text n h) (narrow_len n h) (Ok tt) known now out0 out1
+  run_good h out0 out1 int32 done given = record {
+    answer = run_good_answers h int32 done.answer;
+    possible = tt;
+    shows = tt;
+    ok = run_compresses h out0 out1 int32 done.ok given.ok;
+    err = tt;
+    unwritten = λ same. absurd (ok_is tt (Ok tt) refl same);
+  }
+
+  pub run_fault : (h : Header) (e : StreamFault) (out0 out1 : Option (List ℕ)) → h.ty ≡ I32 → Compressed (compress_answer h) (stream_text h) (raw_len h) (Err e) (exposed old known) (exposed new now) out0 out1
+      → CompressedGiven (compress_answer h) (stream_text h) (Err e) (Gives (HasGiven old) (HasGiven new)) out0 out1 → Compressed (compress_narrow_answer n h) (narrow_text n h) (narrow_len n h) (Err (narrow_fault n e)) known now out0 out1
+  run_fault h e out0 out1 int32 done given = record {
+    answer = run_fault_answers h e int32 done.answer;
+    possible = fault_possible n h e int32 done.possible;
+    shows = run_shows h e int32 done.shows;
+    ok = tt;
+    err = run_leaves h out0 out1 int32 given.err;
+    unwritten = λ same. let Same : Result (Unit {0}) StreamFault → Type 0 = λ q. IfErr q (λ x. narrow_fault n e ≡ x) in done.unwritten (ap Err (memory_is n e (subst Same same refl)));
+  }

@@ -1,5 +1,5 @@
 -- How a restoration of narrow values ends, from how that of their int32 bytes does.
-use Rattle.std.proofs.Common.{◌≡◌, refl, sym, ap, subst, ◌∙◌, ℕ, ◌+◌, ◌*◌, ◌%◌, ◌≤◌, inl, inr, ⊎_elim, cond, is_none, Bool, true, false, List, [], ◌∷◌, ◌++◌, length, take, drop, replicate, Option, Some, None, Result, Ok, Err, append_assoc, append-nil, length-append, take-append-drop, arith}
+use Rattle.std.proofs.Common.{◌≡◌, ◌≢◌, refl, sym, ap, subst, ◌∙◌, ℕ, ◌+◌, ◌*◌, ◌%◌, ◌≤◌, inl, inr, ⊎_elim, cond, is_none, Bool, true, false, List, [], ◌∷◌, ◌++◌, length, take, drop, replicate, Option, Some, None, Result, Ok, Err, append_assoc, append-nil, length-append, take-append-drop, arith}
 use Rattle.std.specs.Prelude.{IsErrAnd}
 use Rattle.std.proofs.lemmas.List.{nil_from_length, length-take}
 use Rattle.std.specs.Int.{byte_len}
@@ -12,11 +12,12 @@ use Rattle.zf_header.specs.HeaderFaults.{header_fault}
 use Rattle.zf_dev.specs.Sink.{Appends, AppendsPrefix}
 use Rattle.zf_dev.proofs.Appending.{AppendsPrefix-all, AppendsPrefix-more}
 use Rattle.zf_parse.specs.declared.fault.StreamFault.{StreamFault}
+use Rattle.zf_parse.specs.declared.fault.StreamFault.TheVariants as faults
 use Rattle.zf_parse.specs.Parsing.{header_of, code_bits, read_codes, longest_codes, restore_answer, restored_text}
 use Rattle.zf_parse.proofs.Steps.{header_or, blocks_text}
 use Rattle.zf_stream.specs.Outcomes.{Answers, LeavesPrefix}
 use Rattle.zf_stream.specs.Outcomes as outcomes
-use Rattle.zf_stream.specs.Typed.{answer_of_types, typed_answer, CanRefuseTyped, RestoresTyped, HasOtherType}
+use Rattle.zf_stream.specs.Typed.{answer_of_types, typed_answer, CanRefuseTyped, RestoresTyped, HasOtherType, RestoredWhere}
 use Rattle.zf_stream.specs.Restoring.{still}
 use Rattle.zf_parse.proofs.Enough.{length-restored_text}
 use Rattle.zf_narrow.specs.declared.narrow.Narrow.{Narrow}
@@ -25,7 +26,7 @@ use Rattle.zf_narrow.specs.declared.fault.NarrowFault.TheVariants.{NotNarrow, St
 use Rattle.zf_narrow.specs.declared.demotion.Demotion.{Demotion}
 use Rattle.zf_narrow.specs.RawNarrow.{demoted_bytes}
 use Rattle.zf_narrow.specs.Promoting.{listed}
-use Rattle.zf_narrow.specs.Texts.{answer_behind, restore_narrow_answer, IsFromOutside, AnswersNarrow, CanRefuseNarrow, RestoresNarrow, LeavesNarrowPrefix}
+use Rattle.zf_narrow.specs.Texts.{answer_behind, restore_narrow_answer, IsFromOutside, AnswersNarrow, CanRefuseNarrow, RestoresNarrow, LeavesNarrowPrefix, RestoredNarrow}
 use Rattle.zf_narrow.proofs.Whole.{demoted_bytes-append}
 
 -- ---- answers
@@ -56,8 +57,34 @@ narrow_answers (Some input) r answers = ⊎_elim (λ is. inl (ap narrow_of is �
 
 -- ---- refusals
 
-pub fault_possible : (e : StreamFault) → CanRefuseTyped I32 e → CanRefuseNarrow (Stream e)
+fault_possible : (e : StreamFault) → CanRefuseTyped I32 e → CanRefuseNarrow (Stream e)
 fault_possible e can = ⊎_elim (λ is. inl (is.0, sym (answer_is is.0) ∙ ap narrow_of is.1)) (λ out. inr out) can
+
+write_answers : (known : Option (List ℕ)) → AnswersNarrow (Err (Stream faults.Write)) known
+write_answers None = tt
+write_answers (Some input) = inr (inr (inl refl))
+
+-- the answer on a good header of another type
+wide_answer : (fault : Option HeaderFault) (ty : Ty) (answer : Result (Unit {0}) StreamFault) → fault ≡ None → ty ≢ I32 → answer_behind fault ty answer ≡ Err NotNarrow
+wide_answer (Some f) ty answer good other = absurd (cc)
+wide_answer None I32 answer good other = absurd (other refl)
+wide_answer None I64 answer good other = refl
+
+-- results that are not the same
+not_err : (u : Unit {0}) (e : NarrowFault) (r : Result (Unit {0}) NarrowFault) → r ≡ Ok u → r ≡ Err e → ⊥
+not_err u e r ok same = cc
+
+not_other : (e : StreamFault) (r : Result (Unit {0}) NarrowFault) → r ≡ Err (Stream e) → r ≡ Err NotNarrow → ⊥
+not_other e r is same = cc
+
+not_stream : (e : StreamFault) (r : Result (Unit {0}) NarrowFault) → r ≡ Err NotNarrow → r ≡ Err (Stream e) → ⊥
+not_stream e r is same = cc
+
+not_memory : (r : Result (Unit {0}) NarrowFault) → r ≡ Err (Stream faults.Write) → r ≡ Err (Stream faults.Memory) → ⊥
+not_memory r is same = cc
+
+inner : (e : StreamFault) (r : Result (Unit {0}) NarrowFault) → r ≡ Err (Stream e) → r ≡ Err (Stream faults.Memory) → e ≡ faults.Memory
+inner e r is same = cc
 
 -- ---- what was written
 
@@ -126,14 +153,14 @@ module _ (n : Narrow) {start now : Option (List ℕ)} {given owed taken part : L
       subst Written is d.written
 
   -- of nothing nothing
-  pub nothing_written : taken ++ part ≡ [] → Appends start now []
+  nothing_written : taken ++ part ≡ [] → Appends start now []
   nothing_written none =
       let no_taken : taken ≡ [] = prefix_empty taken part none in
       let no_given : given ≡ [] = prefix_empty given owed (d.made ∙ ap (demoted_bytes n) no_taken) in
       let Written : List ℕ → Type 0 = λ bs. Appends start now bs in
       subst Written no_given d.written
 
-  pub restores : {src0 src1 : Option (List ℕ)} → owed ≡ [] → RestoresTyped I32 src0 src1 (Some []) (Some (taken ++ part)) → RestoresNarrow n src0 src1 start now
+  restores : {src0 src1 : Option (List ℕ)} → owed ≡ [] → RestoresTyped I32 src0 src1 (Some []) (Some (taken ++ part)) → RestoresNarrow n src0 src1 start now
   restores {src0} {src1} none fin = record {
     bytes = fin.bytes;
     taken = fin.taken;
@@ -143,23 +170,72 @@ module _ (n : Narrow) {start now : Option (List ℕ)} {given owed taken part : L
   }
 
   -- the last byte that is owed was not written
-  pub restores_but_one : {src0 src1 : Option (List ℕ)} → RestoresTyped I32 src0 src1 (Some []) (Some (taken ++ part)) → LeavesNarrowPrefix n src0 src1 start now
+  restores_but_one : {src0 src1 : Option (List ℕ)} → RestoresTyped I32 src0 src1 (Some []) (Some (taken ++ part)) → LeavesNarrowPrefix n src0 src1 start now
   restores_but_one {src0} {src1} fin = record {
     bytes = fin.bytes;
     taken = fin.taken;
     written = prefix_written (restored_text fin.bytes) (AppendsPrefix-all (Some []) (Some (taken ++ part)) (restored_text fin.bytes) fin.written);
   }
 
-  pub leaves : {src0 src1 : Option (List ℕ)} → LeavesPrefix restored_text src0 src1 (Some []) (Some (taken ++ part)) → LeavesNarrowPrefix n src0 src1 start now
+  leaves : {src0 src1 : Option (List ℕ)} → LeavesPrefix restored_text src0 src1 (Some []) (Some (taken ++ part)) → LeavesNarrowPrefix n src0 src1 start now
   leaves {src0} {src1} left = record {
     bytes = left.bytes;
     taken = left.taken;
     written = prefix_written (restored_text left.bytes) left.written;
   }
 
-  pub leaves_other : {src0 src1 : Option (List ℕ)} → HasOtherType I32 src0 src1 (Some []) (Some (taken ++ part)) → LeavesNarrowPrefix n src0 src1 start now
+  leaves_other : {src0 src1 : Option (List ℕ)} → HasOtherType I32 src0 src1 (Some []) (Some (taken ++ part)) → LeavesNarrowPrefix n src0 src1 start now
   leaves_other {src0} {src1} other = record {
     bytes = other.bytes;
     taken = other.first.taken;
     written = (0, omega arith, nothing_written (some_inj other.unwritten));
   }
+
+  module _ {src0 src1 : Option (List ℕ)} where
+    -- all of it was restored, and no byte is owed
+    pub ends_good : owed ≡ [] → RestoredWhere I32 (Ok true) src0 src1 (Some []) (Some (taken ++ part)) → RestoredNarrow n (Ok tt) src0 src1 start now
+    ends_good none done = record {
+      answer = narrow_answers src0 (Ok true) done.answer;
+      possible = tt;
+      ok = restores none done.ok;
+      err = tt;
+      unwritten = tt;
+      other = λ same. absurd (not_err tt NotNarrow (Ok tt) refl same);
+      memory = λ same. absurd (not_err tt (Stream faults.Memory) (Ok tt) refl same);
+    }
+
+    -- the byte that is owed was not written
+    pub ends_unsettled : RestoredWhere I32 (Ok true) src0 src1 (Some []) (Some (taken ++ part)) → RestoredNarrow n (Err (Stream faults.Write)) src0 src1 start now
+    ends_unsettled done = record {
+      answer = write_answers src0;
+      possible = inr (inr (inl refl));
+      ok = tt;
+      err = restores_but_one done.ok;
+      unwritten = λ before. absurd before;
+      other = λ same. absurd (not_other faults.Write (Err (Stream faults.Write)) refl same);
+      memory = λ same. absurd (not_memory (Err (Stream faults.Write)) refl same);
+    }
+
+    -- its values are of the other type
+    pub ends_other : RestoredWhere I32 (Ok false) src0 src1 (Some []) (Some (taken ++ part)) → RestoredNarrow n (Err NotNarrow) src0 src1 start now
+    ends_other done = record {
+      answer = narrow_answers src0 (Ok false) done.answer;
+      possible = inl (done.ok.bytes, wide_answer (header_fault done.ok.bytes) (header_of done.ok.bytes).ty (restore_answer done.ok.bytes) done.ok.good done.ok.other);
+      ok = tt;
+      err = leaves_other done.ok;
+      unwritten = λ before. nothing_written (ap still done.ok.unwritten);
+      other = λ same. record { bytes = done.ok.bytes; first = done.ok.first; good = done.ok.good; other = done.ok.other };
+      memory = λ same. absurd (not_stream faults.Memory (Err NotNarrow) refl same);
+    }
+
+    -- it was refused
+    pub ends_refused : (e : StreamFault) → RestoredWhere I32 (Err e) src0 src1 (Some []) (Some (taken ++ part)) → RestoredNarrow n (Err (Stream e)) src0 src1 start now
+    ends_refused e done = record {
+      answer = narrow_answers src0 (Err e) done.answer;
+      possible = fault_possible e done.possible;
+      ok = tt;
+      err = leaves done.err;
+      unwritten = λ before. nothing_written (ap still (done.unwritten before));
+      other = λ same. absurd (not_other e (Err (Stream e)) refl same);
+      memory = λ same. done.memory (ap Err (inner e (Err (Stream e)) refl same));
+    }

@@ -1,5 +1,5 @@
 -- What `compress_narrow` and `restore_narrow` answer and write for an input, and how they end.
-use Rattle.std.specs.Prelude.{ℕ, ◌≡◌, ◌≢◌, ◌+◌, ◌-◌, ◌*◌, ◌/◌, ◌%◌, min, ◌⊎◌, List, Option, Some, None, Result, Ok, Err, IsErrAnd}
+use Rattle.std.specs.Prelude.{ℕ, ◌≡◌, ◌≢◌, ◌+◌, ◌-◌, ◌*◌, ◌/◌, ◌%◌, min, ◌⊎◌, List, [], Option, Some, None, Result, Ok, Err, IsErrAnd, IfErr, OnOk, OnErr}
 use Rattle.zf_spec.specs.Grid.{product}
 use Rattle.zf_base.specs.declared.lane.Ty.{Ty}
 use Rattle.zf_base.specs.declared.lane.Ty.TheVariants.{I32, I64}
@@ -11,6 +11,7 @@ use Rattle.zf_dev.specs.Sink.{Appends, AppendsPrefix}
 use Rattle.zf_parse.specs.declared.fault.StreamFault.{StreamFault}
 use Rattle.zf_parse.specs.declared.fault.StreamFault.TheVariants as faults
 use Rattle.zf_parse.specs.Raw.{length_answer, stream_text}
+use Rattle.zf_parse.specs.ReadStreams.{HasGoodHeader}
 use Rattle.zf_parse.specs.Parsing.{header_of, restore_answer, restored_text}
 use Rattle.zf_stream.specs.Outcomes as outcomes
 use Rattle.zf_stream.specs.Headed.{prefix_room}
@@ -103,3 +104,14 @@ pub record LeavesNarrowPrefix (n : Narrow) (src_before src_now out_before out_no
   pub bytes : List ℕ
   pub taken : Takes src_before src_now bytes
   pub written : AppendsPrefix out_before out_now (narrow_restored n bytes)
+
+-- how a stream is restored to narrow values: the result is the one that is stated for the input; on `Ok` its values were written, and on an error a prefix of
+-- them, but nothing where the header is bad or of another type, or where memory was wanting, which is said only behind a good header
+pub record RestoredNarrow (n : Narrow) (result : Result (Unit {0}) NarrowFault) (src_before src_now out_before out_now : Option (List ℕ)) : Type 0 where
+  pub answer : AnswersNarrow result src_before
+  pub possible : IfErr result CanRefuseNarrow
+  pub ok : OnOk result (RestoresNarrow n src_before src_now out_before out_now)
+  pub err : OnErr result (LeavesNarrowPrefix n src_before src_now out_before out_now)
+  pub unwritten : IfErr result (λ e. IsBeforeWriting e → Appends out_before out_now [])
+  pub other : result ≡ Err NotNarrow → HasWideType src_before src_now
+  pub memory : result ≡ Err (Stream faults.Memory) → HasGoodHeader src_before

@@ -1,11 +1,11 @@
 //! From raw narrow values to a stream.
 
-ghost use Rattle.std.specs.Prelude.{◌≡◌, ◌≢◌, IfErr, OnOk, OnErr, Err};
+ghost use Rattle.std.specs.Prelude.{◌≡◌, Err};
 ghost use Rattle.zf_base.specs.declared.lane.Ty.TheVariants as types;
 ghost use Rattle.zf_header.specs.HeaderBits.{IsMode};
-ghost use Rattle.zf_dev.specs.Faults.{HasCause};
-ghost use Rattle.zf_stream.specs.Outcomes.{CanRefuse, ShowsLength, Answers, Finishes, LeavesPrefix};
-ghost use Rattle.zf_parse.specs.declared.fault.StreamFault.TheVariants.{Read, Write, Memory};
+ghost use Rattle.zf_dev.specs.Devices.{Reads, Writes};
+ghost use Rattle.zf_stream.specs.Outcomes.{Compressed};
+ghost use Rattle.zf_parse.specs.declared.fault.StreamFault.TheVariants.{Read, Write};
 ghost use Rattle.zf_narrow.specs.Texts.{narrow_len, narrow_count, narrow_fault, compress_narrow_answer, narrow_text};
 
 use crate::Narrow;
@@ -37,24 +37,15 @@ pub fn compress_narrow<S: Source, O: Sink>(
 ) -> Result<(), StreamFault>
     requires mode { IsMode h.now.mode }
     requires int32 { h.now.ty ≡ types.I32 }
-    ensures answer { Answers result (S.contents src.old) (compress_narrow_answer n h.now) }
-    ensures possible { IfErr result (CanRefuse (compress_narrow_answer n h.now)) }
-    ensures length { IfErr result (ShowsLength (narrow_len n h.now) (S.contents src.old) (S.contents src.new)) }
-    ensures ok { OnOk result (Finishes (compress_narrow_answer n h.now) (narrow_text n h.now)
-        (S.contents src.old) (S.contents src.new) (O.contents out.old) (O.contents out.new)) }
-    ensures err { OnErr result (LeavesPrefix (narrow_text n h.now)
-        (S.contents src.old) (S.contents src.new) (O.contents out.old) (O.contents out.new)) }
-    ensures unwritten { result ≡ Err Memory → O.contents out.new ≡ O.contents out.old }
-    ensures same_source { S.kept src.new ≡ S.kept src.old }
-    ensures same_sink { O.kept out.new ≡ O.kept out.old }
-    ensures read_cause { HasCause (result ≡ Err Read) (S.faults src.old) (S.faults src.new) }
-    ensures write_cause { HasCause (result ≡ Err Write) (O.faults out.old) (O.faults out.new) }
-    ensures sure { S.never_fails src.old → (result ≢ Err Read) × S.never_fails src.new }
+    ensures outcome { Compressed (compress_narrow_answer n h.now) (narrow_text n h.now) (narrow_len n h.now) result
+        (S.contents src.old) (S.contents src.new) (O.contents out.old) (O.contents out.new) }
+    ensures source { Reads S.Source (result ≡ Err Read) src.old src.new }
+    ensures sink { Writes O.Sink (result ≡ Err Write) out.old out.new }
 {
     compress_begun::<S, O, Brand>(alloc, n, h, src, out)
 }
 
-// The same of a source that the call began with.
+// Compresses what a source gives that the call began with.
 fn compress_begun<S: Source, O: Sink, K: Begun>(
     alloc: Global,
     n: Narrow,
@@ -66,19 +57,10 @@ fn compress_begun<S: Source, O: Sink, K: Begun>(
     requires start { K.start ≡ S.contents src.old }
     requires mode { IsMode h.now.mode }
     requires int32 { h.now.ty ≡ types.I32 }
-    ensures answer { Answers result (S.contents src.old) (compress_narrow_answer n h.now) }
-    ensures possible { IfErr result (CanRefuse (compress_narrow_answer n h.now)) }
-    ensures length { IfErr result (ShowsLength (narrow_len n h.now) (S.contents src.old) (S.contents src.new)) }
-    ensures ok { OnOk result (Finishes (compress_narrow_answer n h.now) (narrow_text n h.now)
-        (S.contents src.old) (S.contents src.new) (O.contents out.old) (O.contents out.new)) }
-    ensures err { OnErr result (LeavesPrefix (narrow_text n h.now)
-        (S.contents src.old) (S.contents src.new) (O.contents out.old) (O.contents out.new)) }
-    ensures unwritten { result ≡ Err Memory → O.contents out.new ≡ O.contents out.old }
-    ensures same_source { S.kept src.new ≡ S.kept src.old }
-    ensures same_sink { O.kept out.new ≡ O.kept out.old }
-    ensures read_cause { HasCause (result ≡ Err Read) (S.faults src.old) (S.faults src.new) }
-    ensures write_cause { HasCause (result ≡ Err Write) (O.faults out.old) (O.faults out.new) }
-    ensures sure { S.never_fails src.old → (result ≢ Err Read) × S.never_fails src.new }
+    ensures outcome { Compressed (compress_narrow_answer n h.now) (narrow_text n h.now) (narrow_len n h.now) result
+        (S.contents src.old) (S.contents src.new) (O.contents out.old) (O.contents out.new) }
+    ensures source { Reads S.Source (result ≡ Err Read) src.old src.new }
+    ensures sink { Writes O.Sink (result ≡ Err Write) out.old out.new }
 {
     let mut source = Promoted::<S, K> {
         src,

@@ -1,7 +1,7 @@
 //! How far values were demoted: what is between int32 bytes and a sink of narrow bytes.
 
 ghost use Rattle.std.specs.Prelude.{◌≡◌, ◌%◌, ◌*◌, ◌<◌, ◌≤◌, ◌++◌, [], None, length, take, IsErr, IfOk, OnOk, OnErr};
-ghost use Rattle.zf_dev.specs.Faults.{HasCause};
+ghost use Rattle.zf_dev.specs.Devices.{AsksSink};
 ghost use Rattle.zf_narrow.specs.RawNarrow.{demoted_bytes};
 ghost use Rattle.zf_narrow.specs.Promoting.{listed};
 
@@ -59,9 +59,7 @@ impl Demotion {
         ensures taken { IfOk result (λ k. taken_so_far self.new ≡ taken_so_far self.old ++ take k bytes.now) }
         ensures untaken { OnErr result (taken_so_far self.new ≡ taken_so_far self.old) }
         ensures given { Gives self.old self.new (O.contents out.old) (O.contents out.new) }
-        ensures unchanged { OnOk result (O.faults out.new ≡ O.faults out.old) }
-        ensures same_sink { O.kept out.new ≡ O.kept out.old }
-        ensures cause { HasCause (IsErr result) (O.faults out.old) (O.faults out.new) }
+        ensures sink { AsksSink O.Sink result out.old out.new }
     {
         self.settle(out)?;
         if self.held == 0 && bytes.len() >= 4 {
@@ -78,9 +76,7 @@ impl Demotion {
         ensures taken { self.new.taken.bytes ≡ self.old.taken.bytes }
         ensures settled { OnOk result (self.new.owed ≡ None) }
         ensures given { Gives self.old self.new (O.contents out.old) (O.contents out.new) }
-        ensures unchanged { OnOk result (O.faults out.new ≡ O.faults out.old) }
-        ensures same_sink { O.kept out.new ≡ O.kept out.old }
-        ensures cause { HasCause (IsErr result) (O.faults out.old) (O.faults out.new) }
+        ensures sink { AsksSink O.Sink result out.old out.new }
     {
         if let Some(byte) = self.owed {
             let bytes = [byte];
@@ -101,9 +97,7 @@ impl Demotion {
         ensures taken { IfOk result (λ k. taken_so_far self.new ≡ taken_so_far self.old ++ take k bytes.now) }
         ensures untaken { OnErr result (taken_so_far self.new ≡ taken_so_far self.old) }
         ensures given { Gives self.old self.new (O.contents out.old) (O.contents out.new) }
-        ensures unchanged { OnOk result (O.faults out.new ≡ O.faults out.old) }
-        ensures same_sink { O.kept out.new ≡ O.kept out.old }
-        ensures cause { HasCause (IsErr result) (O.faults out.old) (O.faults out.new) }
+        ensures sink { AsksSink O.Sink result out.old out.new }
     {
         let held = self.held;
         let count = (4 - held).min(bytes.len());
@@ -131,9 +125,7 @@ impl Demotion {
         ensures taken { IfOk result (λ k. self.new.taken.bytes ≡ self.old.taken.bytes ++ take k raw.now) }
         ensures untaken { OnErr result (self.new.taken.bytes ≡ self.old.taken.bytes) }
         ensures given { Gives self.old self.new (O.contents out.old) (O.contents out.new) }
-        ensures unchanged { OnOk result (O.faults out.new ≡ O.faults out.old) }
-        ensures same_sink { O.kept out.new ≡ O.kept out.old }
-        ensures cause { HasCause (IsErr result) (O.faults out.old) (O.faults out.new) }
+        ensures sink { AsksSink O.Sink result out.old out.new }
     {
         let len = size(self.narrow);
         let count = (raw.len() / 4).min(PIECE / 2);

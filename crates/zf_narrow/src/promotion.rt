@@ -1,7 +1,7 @@
 //! How far values were promoted: what is between a source of narrow bytes and its int32 bytes.
 
 ghost use Rattle.std.specs.Prelude.{◌≡◌, ◌+◌, ◌-◌, ◌%◌, ◌<◌, ◌≤◌, ◌++◌, ◌↔◌, [], length, take, drop, replicate, IsTrue, IsOk, IsErr, IfOk, OnOk, OnErr};
-ghost use Rattle.zf_dev.specs.Faults.{HasCause};
+ghost use Rattle.zf_dev.specs.Devices.{AsksSource};
 ghost use Rattle.zf_dev.specs.Source.{Takes, Gives, IsAtEnd};
 ghost use Rattle.zf_narrow.specs.Values.{size_of};
 ghost use Rattle.zf_narrow.specs.Promoting.{listed};
@@ -78,10 +78,7 @@ impl Promotion {
         ensures gave_none { OnErr result (Gives (HasGiven self.old) (HasGiven self.new) []) }
         ensures taken { Logs self.old self.new (S.contents src.old) (S.contents src.new) }
         ensures at_end { IsTrue self.new.spent → IsAtEnd (S.contents src.new) }
-        ensures unchanged { OnOk result (S.faults src.new ≡ S.faults src.old) }
-        ensures same_source { S.kept src.new ≡ S.kept src.old }
-        ensures cause { HasCause (IsErr result) (S.faults src.old) (S.faults src.new) }
-        ensures sure { S.never_fails src.old → IsOk result × S.never_fails src.new }
+        ensures source { AsksSource S.Source result src.old src.new }
     {
         if self.at < 4 {
             return Ok(give(&self.value, &mut self.at, buf));
@@ -114,10 +111,7 @@ impl Promotion {
         ensures gave_none { OnErr result (Gives (HasGiven self.old) (HasGiven self.new) []) }
         ensures taken { Logs self.old self.new (S.contents src.old) (S.contents src.new) }
         ensures at_end { IsTrue self.new.spent → IsAtEnd (S.contents src.new) }
-        ensures unchanged { OnOk result (S.faults src.new ≡ S.faults src.old) }
-        ensures same_source { S.kept src.new ≡ S.kept src.old }
-        ensures cause { HasCause (IsErr result) (S.faults src.old) (S.faults src.new) }
-        ensures sure { S.never_fails src.old → IsOk result × S.never_fails src.new }
+        ensures source { AsksSource S.Source result src.old src.new }
     {
         let mut value = [0; 4];
         let count = self.read_values(src, &mut value)?;
@@ -146,10 +140,7 @@ impl Promotion {
         ensures rest { IfOk result (λ k. drop k buf.new ≡ drop k buf.old) }
         ensures end { IfOk result (λ k. k ≡ 0 → IsAtEnd (S.contents src.new)) }
         ensures err { OnErr result (TakesRaw self.old self.new (S.contents src.old) (S.contents src.new) []) }
-        ensures unchanged { OnOk result (S.faults src.new ≡ S.faults src.old) }
-        ensures same_source { S.kept src.new ≡ S.kept src.old }
-        ensures cause { HasCause (IsErr result) (S.faults src.old) (S.faults src.new) }
-        ensures sure { S.never_fails src.old → IsOk result × S.never_fails src.new }
+        ensures source { AsksSource S.Source result src.old src.new }
     {
         let len = size(self.narrow);
         let mut piece = [0; PIECE];

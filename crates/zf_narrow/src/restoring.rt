@@ -1,12 +1,10 @@
 //! From a stream to raw narrow values.
 
-ghost use Rattle.std.specs.Prelude.{◌≡◌, ◌≢◌, [], IfErr, OnOk, OnErr, Err};
-ghost use Rattle.zf_dev.specs.Faults.{HasCause};
-ghost use Rattle.zf_dev.specs.Sink.{Appends};
-ghost use Rattle.zf_parse.specs.ReadStreams.{HasGoodHeader};
-ghost use Rattle.zf_parse.specs.declared.fault.StreamFault.TheVariants.{Read, Write, Memory};
-ghost use Rattle.zf_narrow.specs.declared.fault.NarrowFault.TheVariants.{NotNarrow, Stream};
-ghost use Rattle.zf_narrow.specs.Texts.{AnswersNarrow, CanRefuseNarrow, RestoresNarrow, HasWideType, LeavesNarrowPrefix, IsBeforeWriting};
+ghost use Rattle.std.specs.Prelude.{◌≡◌, Err};
+ghost use Rattle.zf_dev.specs.Devices.{Reads, Writes};
+ghost use Rattle.zf_parse.specs.declared.fault.StreamFault.TheVariants.{Read, Write};
+ghost use Rattle.zf_narrow.specs.declared.fault.NarrowFault.TheVariants.{Stream};
+ghost use Rattle.zf_narrow.specs.Texts.{RestoredNarrow};
 
 use crate::begun::Begun;
 use crate::demoted::Demoted;
@@ -32,25 +30,15 @@ pub fn restore_narrow<S: Source, O: Sink>(
     src: &mut S,
     out: &mut O,
 ) -> Result<(), NarrowFault>
-    ensures answer { AnswersNarrow result (S.contents src.old) }
-    ensures possible { IfErr result CanRefuseNarrow }
-    ensures ok { OnOk result (RestoresNarrow n
-        (S.contents src.old) (S.contents src.new) (O.contents out.old) (O.contents out.new)) }
-    ensures err { OnErr result (LeavesNarrowPrefix n
-        (S.contents src.old) (S.contents src.new) (O.contents out.old) (O.contents out.new)) }
-    ensures unwritten { IfErr result (λ e. IsBeforeWriting e → Appends (O.contents out.old) (O.contents out.new) []) }
-    ensures other { result ≡ Err NotNarrow → HasWideType (S.contents src.old) (S.contents src.new) }
-    ensures memory { result ≡ Err (Stream Memory) → HasGoodHeader (S.contents src.old) }
-    ensures same_source { S.kept src.new ≡ S.kept src.old }
-    ensures same_sink { O.kept out.new ≡ O.kept out.old }
-    ensures read_cause { HasCause (result ≡ Err (Stream Read)) (S.faults src.old) (S.faults src.new) }
-    ensures write_cause { HasCause (result ≡ Err (Stream Write)) (O.faults out.old) (O.faults out.new) }
-    ensures sure { S.never_fails src.old → (result ≢ Err (Stream Read)) × S.never_fails src.new }
+    ensures outcome { RestoredNarrow n result
+        (S.contents src.old) (S.contents src.new) (O.contents out.old) (O.contents out.new) }
+    ensures source { Reads S.Source (result ≡ Err (Stream Read)) src.old src.new }
+    ensures sink { Writes O.Sink (result ≡ Err (Stream Write)) out.old out.new }
 {
     restore_begun::<S, O, Brand>(alloc, n, src, out)
 }
 
-// The same to a sink that the call began with.
+// Restores to a sink that the call began with.
 fn restore_begun<S: Source, O: Sink, K: Begun>(
     alloc: Global,
     n: Narrow,
@@ -59,20 +47,10 @@ fn restore_begun<S: Source, O: Sink, K: Begun>(
 ) -> Result<(), NarrowFault>
     requires narrow { K.narrow ≡ n }
     requires start { K.start ≡ O.contents out.old }
-    ensures answer { AnswersNarrow result (S.contents src.old) }
-    ensures possible { IfErr result CanRefuseNarrow }
-    ensures ok { OnOk result (RestoresNarrow n
-        (S.contents src.old) (S.contents src.new) (O.contents out.old) (O.contents out.new)) }
-    ensures err { OnErr result (LeavesNarrowPrefix n
-        (S.contents src.old) (S.contents src.new) (O.contents out.old) (O.contents out.new)) }
-    ensures unwritten { IfErr result (λ e. IsBeforeWriting e → Appends (O.contents out.old) (O.contents out.new) []) }
-    ensures other { result ≡ Err NotNarrow → HasWideType (S.contents src.old) (S.contents src.new) }
-    ensures memory { result ≡ Err (Stream Memory) → HasGoodHeader (S.contents src.old) }
-    ensures same_source { S.kept src.new ≡ S.kept src.old }
-    ensures same_sink { O.kept out.new ≡ O.kept out.old }
-    ensures read_cause { HasCause (result ≡ Err (Stream Read)) (S.faults src.old) (S.faults src.new) }
-    ensures write_cause { HasCause (result ≡ Err (Stream Write)) (O.faults out.old) (O.faults out.new) }
-    ensures sure { S.never_fails src.old → (result ≢ Err (Stream Read)) × S.never_fails src.new }
+    ensures outcome { RestoredNarrow n result
+        (S.contents src.old) (S.contents src.new) (O.contents out.old) (O.contents out.new) }
+    ensures source { Reads S.Source (result ≡ Err (Stream Read)) src.old src.new }
+    ensures sink { Writes O.Sink (result ≡ Err (Stream Write)) out.old out.new }
 {
     let mut sink = Demoted::<O, K> {
         out,

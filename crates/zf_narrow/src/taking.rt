@@ -1,7 +1,7 @@
 //! Reading whole narrow values from a source that may give any part of them.
 
 ghost use Rattle.std.specs.Prelude.{◌≡◌, ◌+◌, ◌%◌, ◌<◌, ◌≤◌, ◌++◌, [], length, take, IsOk, IsErr, IfOk, OnOk, OnErr};
-ghost use Rattle.zf_dev.specs.Faults.{HasCause};
+ghost use Rattle.zf_dev.specs.Devices.{AsksSource};
 ghost use Rattle.zf_dev.specs.Source.{IsAtEnd};
 ghost use Rattle.zf_narrow.specs.Values.{size_of};
 ghost use Rattle.zf_narrow.specs.Promoting.{listed, TakesValues, ReadsBehind};
@@ -26,10 +26,7 @@ pub(crate) fn take_values<S: Source>(
     ensures end { IfOk result (λ k. k ≡ 0 → IsAtEnd (S.contents src.new)) }
     ensures err { OnErr result (TakesValues n (S.contents src.old) (S.contents src.new) (listed half.old) (listed half.new) []) }
     ensures half { length (listed half.new) < size_of n }
-    ensures unchanged { OnOk result (S.faults src.new ≡ S.faults src.old) }
-    ensures same_source { S.kept src.new ≡ S.kept src.old }
-    ensures cause { HasCause (IsErr result) (S.faults src.old) (S.faults src.new) }
-    ensures sure { S.never_fails src.old → IsOk result × S.never_fails src.new }
+    ensures source { AsksSource S.Source result src.old src.new }
 {
     let held = put_half(half, piece);
     let count = read_behind(src, held, piece)?;
@@ -70,10 +67,7 @@ fn read_behind<S: Source>(src: &mut S, at: usize, piece: &mut [u8]) -> Result<us
     ensures ok { IfOk result (λ k. ReadsBehind (S.contents src.old) (S.contents src.new) (take at piece.old) (take (at + k) piece.new) k) }
     ensures end { IfOk result (λ k. k ≡ 0 → IsAtEnd (S.contents src.new)) }
     ensures err { OnErr result (ReadsBehind (S.contents src.old) (S.contents src.new) (take at piece.old) (take at piece.old) 0) }
-    ensures unchanged { OnOk result (S.faults src.new ≡ S.faults src.old) }
-    ensures same_source { S.kept src.new ≡ S.kept src.old }
-    ensures cause { HasCause (IsErr result) (S.faults src.old) (S.faults src.new) }
-    ensures sure { S.never_fails src.old → IsOk result × S.never_fails src.new }
+    ensures source { AsksSource S.Source result src.old src.new }
 {
     src.read(&mut piece[at..])
 }

@@ -3,6 +3,7 @@
 --     RawValues      values as raw bytes, one part after another
 --     WordBytes      the bytes of words, and the words of bytes
 --     OnErrors       what holds anyhow holds after an error
+--     Failing        calls that fail only where a device does, one after another
 --     Flowing        bits on their way through a writer to a sink
 --     Rows           the codes of an array, row by row
 --     RawRows        what is read of raw values
@@ -12,18 +13,22 @@
 --     PrefixesOfStreams    what was written of a stream
 --     Headed         what the first bytes of a source say of all of it
 --     Answering      what an answer says of the input
+--     Rooms          the rooms that an array is compressed and restored in, as they are used
+--     Endings        how compressing ends, put together
 --     Windows        the bits of a window, as it moves on
 --     SlabsBack      the blocks and the values of an array, slab by slab
 --     Restored       an array that is restored slab by slab
 --     RestoredAll    the end of an array that is restored
 --     FromPrefix      what is restored of a window, said of the whole stream
 --     OwnFaults      which faults are a call's own
+--     RestoreEndings how restoring ends, put together
 --     Refusals       each refusal is that of some input, or comes from outside
 --     TypedAnswers   what is answered where a stream is restored if its values are of one type
 pub mod LittleEndian
 pub mod RawValues
 pub mod WordBytes
 pub mod OnErrors
+pub mod Failing
 pub mod Flowing
 pub mod Rows
 pub mod RawRows
@@ -33,11 +38,14 @@ pub mod LookedAt
 pub mod PrefixesOfStreams
 pub mod Headed
 pub mod Answering
+pub mod Rooms
+pub mod Endings
 pub mod Windows
 pub mod SlabsBack
 pub mod Restored
 pub mod RestoredAll
 pub mod FromPrefix
 pub mod OwnFaults
+pub mod RestoreEndings
 pub mod Refusals
-mod TypedAnswers
+pub mod TypedAnswers

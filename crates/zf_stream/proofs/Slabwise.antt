@@ -1,5 +1,5 @@
 -- An array that is compressed slab by slab: one slab more, and where it stops.
-use Rattle.std.proofs.Common.{◌≡◌, ◌≢◌, refl, sym, ap, subst, ◌∙◌, ℕ, ◌+◌, ◌-◌, ◌*◌, ◌/◌, ◌%◌, ◌<◌, ◌≤◌, ◌^◌, ◌⊎◌, inl, inr, ⊎_elim, min, Bool, List, [], ◌++◌, length, map, mul_comm, Option, Some, None, append_assoc, length-append, arith}
+use Rattle.std.proofs.Common.{◌≡◌, refl, sym, ap, subst, ◌∙◌, ℕ, ◌+◌, ◌-◌, ◌*◌, ◌/◌, ◌%◌, ◌<◌, ◌≤◌, ◌^◌, ◌⊎◌, inl, inr, ⊎_elim, min, Bool, List, [], ◌++◌, length, map, mul_comm, Option, append_assoc, length-append, arith}
 use Rattle.std.proofs.lemmas.Bool.{cases_lt}
 use Rattle.std.proofs.lemmas.List.{append-nil}
 use Rattle.std.proofs.Math.Nat.{add-mul, mul-add, mul-le-mul_left, mul-le-mul_right}
@@ -16,19 +16,18 @@ use Rattle.zf_dev.specs.Source.{Takes, Gives, GivesSome}
 use Rattle.zf_dev.proofs.Taking.{Takes-append}
 use Rattle.zf_dev.proofs.Giving.{Gives-none, Gives-append}
 use Rattle.zf_parse.specs.declared.fault.StreamFault.{StreamFault}
-use Rattle.zf_parse.specs.declared.fault.StreamFault.TheVariants as faults
 use Rattle.zf_header.specs.declared.header.Mode.{Mode}
 use Rattle.zf_header.specs.declared.header.Mode.TheVariants.{Reversible, Rate, Precision}
 use Rattle.zf_block.specs.Room.{longest_rev, longest_prec}
 use mir.Val.{bits}
 use Rattle.zf_parse.specs.Parsing.{longest_code}
 use Rattle.zf_parse.specs.Raw.{raw_len, compress_answer}
-use Rattle.zf_stream.specs.Outcomes.{IsRefusal, CanRefuse}
+use Rattle.zf_stream.specs.Outcomes.{RefusesRaw}
 use Rattle.zf_stream.specs.Flows.{Flows, Spills}
 use Rattle.zf_stream.specs.Rows.{rows_len, code_of_block, codes_of_rows, ArePieces, Compresses, Stops, slab_codes, WritesSlab, BreaksSlab}
 use Rattle.zf_stream.proofs.Flowing.{Flows-more, Flows-next, Flows-spill, Spills-flows}
 use Rattle.zf_stream.proofs.Rows.{codes_of_rows-next}
-use Rattle.zf_stream.proofs.RawRows.{some_taken, refused_raw, possible_raw, wanted_raw}
+use Rattle.zf_stream.proofs.RawRows.{some_taken, raw_refused, write_refused}
 
 -- the rows of an array as an array of their own
 abbrev pub with_shape : Header → List ℕ → Header
@@ -64,7 +63,7 @@ pub record IsNext (h : Header) (row here : ℕ) : Type 0 where
   pub first : 4 * (row / 4) ≡ row
   pub slab : IsSlab h.shape (row / 4) here
 
-pub next_slab : (h : Header) (rows row : ℕ) → ArePieces h.shape rows → IsSlab h.shape 0 row → row < rows_of h.shape → (here : ℕ) → (here ≡ rows) ⊎ (here ≡ rows_of h.shape - row) → here ≤ rows → here ≤ rows_of h.shape - row → IsNext h row here
+next_slab : (h : Header) (rows row : ℕ) → ArePieces h.shape rows → IsSlab h.shape 0 row → row < rows_of h.shape → (here : ℕ) → (here ≡ rows) ⊎ (here ≡ rows_of h.shape - row) → here ≤ rows → here ≤ rows_of h.shape - row → IsNext h row here
 next_slab h rows row pieces whole more here least few within =
     let fours : row % 4 ≡ 0 = ⊎_elim (λ e. e) (λ e. absurd (omega (arith, e, more))) whole.whole in
     let first : 4 * (row / 4) ≡ row = omega arith in
@@ -80,8 +79,16 @@ next_slab h rows row pieces whole more here least few within =
       };
     }
 
+-- the smaller of two numbers is one of them
+least : (here rows all row n : ℕ) → here ≡ min rows (all - row) → all ≡ n → (here ≡ rows) ⊎ (here ≡ n - row)
+least here rows all row n is same = ⊎_elim (λ lt. inl (omega arith)) (λ le. inr (omega arith)) (cases_lt rows (all - row))
+
+pub next_here : (h : Header) (rows row all here : ℕ) → ArePieces h.shape rows → IsSlab h.shape 0 row → all ≡ rows_of h.shape → row < all → here ≡ min rows (all - row) → IsNext h row here
+next_here h rows row all here pieces whole all_is more is =
+    next_slab h rows row pieces whole (omega (arith, all_is, more)) here (least here rows all row (rows_of h.shape) is all_is) (omega (arith, is)) (omega (arith, is, all_is))
+
 module _ (h : Header) (row here : ℕ) (next : IsNext h row here) (whole : IsSlab h.shape 0 row) where
-  next_whole : IsSlab h.shape 0 (row + here)
+  pub next_whole : IsSlab h.shape 0 (row + here)
   next_whole = record {
     some_axis = whole.some_axis;
     within = omega (arith, next.first, next.slab.within);
@@ -169,21 +176,9 @@ module _ (h : Header) (row here : ℕ) (next : IsNext h row here) (whole : IsSla
     same_before : (before : ℕ) (e : StreamFault) → before ≡ rows_len h row → BreaksSlab (part_of h here) before mid now (Gives b c) out1 out2 left e → BreaksSlab (part_of h here) (length done.bytes) mid now (Gives b c) out1 out2 left e
     same_before before e is broken = let P : ℕ → Type 0 = λ n. BreaksSlab (part_of h here) n mid now (Gives b c) out1 out2 left e in subst P (is ∙ sym done.long) broken
 
-    pub slab_refused : (before : ℕ) (e : StreamFault) → before ≡ rows_len h row → BreaksSlab (part_of h here) before mid now (Gives b c) out1 out2 left e → IsRefusal src0 (compress_answer h) e
+    pub slab_refused : (before : ℕ) (e : StreamFault) → before ≡ rows_len h row → BreaksSlab (part_of h here) before mid now (Gives b c) out1 out2 left e → RefusesRaw (compress_answer h) (raw_len h) src0 now e
     slab_refused before e is broken =
-        ⊎_elim (λ lacks. refused_raw h src0 mid now done.bytes done.taken _ (within_all done.bytes done.long) e lacks.0) (λ failed. outside src0 failed.0) (same_before before e is broken)
-      where
-        outside : (known : Option (List ℕ)) → e ≡ faults.Write → IsRefusal known (compress_answer h) e
-        outside None is = tt
-        outside (Some all) is = inr (inr (inl is))
-
-    pub slab_possible : (before : ℕ) (e : StreamFault) → before ≡ rows_len h row → BreaksSlab (part_of h here) before mid now (Gives b c) out1 out2 left e → CanRefuse (compress_answer h) e
-    slab_possible before e is broken =
-        ⊎_elim (λ lacks. possible_raw h src0 mid now done.bytes done.taken _ (within_all done.bytes done.long) e lacks.0) (λ failed. inr (inr (inl failed.0))) (same_before before e is broken)
-
-    pub slab_wanted : (before : ℕ) (e : StreamFault) → before ≡ rows_len h row → BreaksSlab (part_of h here) before mid now (Gives b c) out1 out2 left e → e ≢ faults.Memory
-    slab_wanted before e is broken =
-        ⊎_elim (λ lacks. wanted_raw h src0 mid now done.bytes done.taken _ (within_all done.bytes done.long) e lacks.0) (λ failed memory. let no : faults.Write ≡ faults.Memory = sym failed.0 ∙ memory in cc) (same_before before e is broken)
+        ⊎_elim (λ lacks. raw_refused h src0 mid now done.bytes done.taken _ (within_all done.bytes done.long) e lacks.0) (λ failed. write_refused h src0 now e failed.0) (same_before before e is broken)
 
 -- ---- the sizes of a slab
 
@@ -192,7 +187,7 @@ pub record SlabSizes (h : Header) (rows here count len : ℕ) (shape : List ℕ)
   pub bytes_len : count * len ≡ rows_len h here
   pub values : count ≤ row_len h.shape * rows
 
-pub slab_sizes : (h : Header) (rows here count len : ℕ) (shape : List ℕ) → 1 ≤ length h.shape → here ≤ rows → shape ≡ with_rows here h.shape → count ≡ product shape → len ≡ byte_len (width_of h.ty) → SlabSizes h rows here count len shape
+slab_sizes : (h : Header) (rows here count len : ℕ) (shape : List ℕ) → 1 ≤ length h.shape → here ≤ rows → shape ≡ with_rows here h.shape → count ≡ product shape → len ≡ byte_len (width_of h.ty) → SlabSizes h rows here count len shape
 slab_sizes h rows here count len shape some few is count_is len_is =
     let many : count ≡ row_len h.shape * here = count_is ∙ ap product is ∙ product-with_rows here h.shape some in
     let size : count * len ≡ product shape * byte_len (width_of h.ty) = ap (λ n. n * len) count_is ∙ ap (λ n. product shape * n) len_is in
@@ -204,11 +199,25 @@ slab_sizes h rows here count len shape some few is count_is len_is =
     }
 
 -- the raw values of an array are not so many
-pub raw_small : (h : Header) (len row : ℕ) → 1 ≤ length h.shape → row ≤ rows_of h.shape → product h.shape ≤ 2 ^ 27 → len ≤ 8 → len ≡ byte_len (width_of h.ty) → rows_len h row ≤ 2 ^ 30
+raw_small : (h : Header) (len row : ℕ) → 1 ≤ length h.shape → row ≤ rows_of h.shape → product h.shape ≤ 2 ^ 27 → len ≤ 8 → len ≡ byte_len (width_of h.ty) → rows_len h row ≤ 2 ^ 30
 raw_small h len row some within few narrow is =
     let all = rows_len-le h row (rows_of h.shape) within in
     let whole : rows_len h (rows_of h.shape) ≡ product h.shape * byte_len (width_of h.ty) = ap (λ n. n * byte_len (width_of h.ty)) (sym (product-rows h.shape some)) in
     omega (arith, all, whole, mul-le-mul_right (byte_len (width_of h.ty)) few, narrow, is)
+
+-- the slab that comes next, and its sizes
+pub record NextSlab (h : Header) (rows row here count len : ℕ) (shape : List ℕ) : Type 0 where
+  pub next : IsNext h row here
+  pub sizes : SlabSizes h rows here count len shape
+  pub small : rows_len h (row + here) ≤ 2 ^ 30
+
+pub slab_next : (h : Header) (rows row all here count len : ℕ) (shape : List ℕ) → IsShape h.shape → ArePieces h.shape rows → IsSlab h.shape 0 row → all ≡ rows_of h.shape → row < all → here ≡ min rows (all - row)
+    → shape ≡ with_rows here h.shape → count ≡ product shape → len ≡ byte_len (width_of h.ty) → len ≤ 8 → NextSlab h rows row here count len shape
+slab_next h rows row all here count len shape is_shape pieces whole all_is more is shape_is count_is len_is narrow = record {
+  next = next_here h rows row all here pieces whole all_is more is;
+  sizes = slab_sizes h rows here count len shape whole.some_axis (omega (arith, is)) shape_is count_is len_is;
+  small = raw_small h len (row + here) whole.some_axis (omega (arith, is, all_is, more)) is_shape.not_too_large narrow len_is;
+}
 
 -- ---- the start, where no row is read
 

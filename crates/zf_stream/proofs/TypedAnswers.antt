@@ -1,21 +1,23 @@
 -- What is answered where a stream is restored if its values are of one type.
-use Rattle.std.proofs.Common.{◌≡◌, ◌≢◌, refl, sym, ap, ◌∙◌, ℕ, ◌≤◌, inl, inr, ⊎_elim, Bool, false, List, ◌++◌, Option, Some, None, Result, Ok, Err}
+use Rattle.std.proofs.Common.{◌≡◌, ◌≢◌, refl, sym, ap, subst, ◌∙◌, ℕ, ◌≤◌, inl, inr, ⊎_elim, Bool, true, false, List, ◌++◌, Option, Some, None, Result, Ok, Err, arith}
 use Rattle.std.specs.Prelude.{IsErrAnd}
 use Rattle.zf_base.specs.declared.lane.Ty.{Ty}
 use Rattle.zf_base.specs.declared.lane.Ty.TheVariants.{I32, I64}
 use Rattle.zf_header.specs.declared.header.Header.{Header}
 use Rattle.zf_header.specs.HeaderFaults.{header_fault}
-use Rattle.zf_dev.specs.Source.{Takes}
+use Rattle.zf_dev.specs.Source.{Takes, TakesSome}
 use Rattle.zf_parse.specs.declared.fault.StreamFault.{StreamFault}
 use Rattle.zf_parse.specs.declared.fault.StreamFault.TheVariants as faults
 use Rattle.zf_parse.specs.Parsing.{header_of, restore_answer}
 use Rattle.zf_parse.proofs.Steps.{header_or}
-use Rattle.zf_stream.specs.Outcomes.{Answers, IsPrefix, IsFromOutside}
+use Rattle.zf_stream.specs.Outcomes.{Answers, IsPrefix, TakesFirst, IsFromOutside}
 use Rattle.zf_parse.specs.ReadStreams.{BeginsWithHeader, IsFaultOf}
-use Rattle.zf_stream.specs.Restoring.{behind, FinishesBehind, CanRefuseBehind}
-use Rattle.zf_stream.specs.Typed.{with_true, answer_of_types, typed_answer, CanRefuseTyped, RestoresTyped}
+use Rattle.zf_stream.specs.Restoring.{behind, FinishesBehind, CanRefuseBehind, RestoredBehind}
+use Rattle.zf_stream.specs.Typed.{with_true, answer_of_types, typed_answer, CanRefuseTyped, RestoresTyped, RestoredWhere}
 use Rattle.zf_parse.proofs.Parsed.{begun_more, fault_first}
 use Rattle.zf_stream.proofs.FromPrefix.{Answers-known, Takes-known}
+use Rattle.zf_stream.proofs.Headed.{good_of_prefix}
+use Rattle.zf_stream.proofs.RestoreEndings.{answer_unread, nothing_written, unread_memory, bad_memory}
 
 same_types : (wanted ty : Ty) (answer : Result (Unit {0}) StreamFault) → ty ≡ wanted → answer_of_types wanted ty answer ≡ with_true answer
 same_types I32 ty answer is = ap (λ t. answer_of_types I32 t answer) is
@@ -35,7 +37,7 @@ typed_by wanted prefix more h len begun =
     ∙ ap (λ (g : Header). answer_of_types wanted g.ty (restore_answer (prefix ++ more))) (sym all.header)
 
 -- a fault of the header
-pub typed_fault : (wanted : Ty) (n : ℕ) (known : Option (List ℕ)) (prefix : List ℕ) (e : StreamFault) (r : Result Bool StreamFault) → 19 ≤ n → IsPrefix n known prefix → IsFaultOf prefix e → r ≡ Err e → Answers r known (typed_answer wanted)
+typed_fault : (wanted : Ty) (n : ℕ) (known : Option (List ℕ)) (prefix : List ℕ) (e : StreamFault) (r : Result Bool StreamFault) → 19 ≤ n → IsPrefix n known prefix → IsFaultOf prefix e → r ≡ Err e → Answers r known (typed_answer wanted)
 typed_fault wanted n None prefix e r within is fault result = tt
 typed_fault wanted n (Some all) prefix (faults.Header f) r within is fault result =
     let known : header_fault all ≡ Some f = sym (fault_first n all within) ∙ ap header_fault (sym is) ∙ fault in
@@ -50,14 +52,14 @@ typed_fault wanted n (Some all) prefix faults.Write r within is fault result = a
 typed_fault wanted n (Some all) prefix faults.Memory r within is fault result = absurd fault
 
 -- a good header of the other type
-pub typed_other : (wanted : Ty) (known src : Option (List ℕ)) (prefix : List ℕ) (h : Header) (len : ℕ) → Takes known src prefix → BeginsWithHeader prefix h len → h.ty ≢ wanted → Answers (Ok false) known (typed_answer wanted)
+typed_other : (wanted : Ty) (known src : Option (List ℕ)) (prefix : List ℕ) (h : Header) (len : ℕ) → Takes known src prefix → BeginsWithHeader prefix h len → h.ty ≢ wanted → Answers (Ok false) known (typed_answer wanted)
 typed_other wanted None src prefix h len taken begun other = tt
 typed_other wanted (Some all) None prefix h len taken begun other = absurd taken
 typed_other wanted (Some all) (Some rest) prefix h len taken begun other =
     inl (sym (ap (typed_answer wanted) taken ∙ typed_by wanted prefix rest h len begun ∙ other_types wanted h.ty (restore_answer (prefix ++ rest)) other))
 
 -- one of the wanted type
-pub typed_same : (wanted : Ty) (known src : Option (List ℕ)) (prefix : List ℕ) (h : Header) (len : ℕ) (r : Result (Unit {0}) StreamFault) → Takes known src prefix → BeginsWithHeader prefix h len → h.ty ≡ wanted
+typed_same : (wanted : Ty) (known src : Option (List ℕ)) (prefix : List ℕ) (h : Header) (len : ℕ) (r : Result (Unit {0}) StreamFault) → Takes known src prefix → BeginsWithHeader prefix h len → h.ty ≡ wanted
     → Answers r (behind prefix src) restore_answer → Answers (with_true r) known (typed_answer wanted)
 typed_same wanted known src prefix h len r taken begun same answers = by known src taken (Answers-known r known src prefix restore_answer taken answers)
   where
@@ -75,7 +77,7 @@ typed_same wanted known src prefix h len r taken begun same answers = by known s
         ⊎_elim (λ answer. inl (ap with_true answer ∙ sym is)) (λ out. inr (outside r out)) answers
 
 -- a good stream of the wanted type
-pub typed_done : (wanted : Ty) (known src now out0 out : Option (List ℕ)) (prefix : List ℕ) (h : Header) (len : ℕ) → Takes known src prefix → BeginsWithHeader prefix h len → h.ty ≡ wanted → FinishesBehind prefix src now out0 out
+typed_done : (wanted : Ty) (known src now out0 out : Option (List ℕ)) (prefix : List ℕ) (h : Header) (len : ℕ) → Takes known src prefix → BeginsWithHeader prefix h len → h.ty ≡ wanted → FinishesBehind prefix src now out0 out
     → RestoresTyped wanted known now out0 out
 typed_done wanted known src now out0 out prefix h len taken begun same fin =
     let bytes = fin.done.bytes in
@@ -90,7 +92,7 @@ typed_done wanted known src now out0 out prefix h len taken begun same fin =
     }
 
 -- a fault of a header is that of its bytes, and one behind it that of bytes behind it
-pub typed_possible_header : (wanted : Ty) (prefix : List ℕ) (e : StreamFault) → IsFaultOf prefix e → CanRefuseTyped wanted e
+typed_possible_header : (wanted : Ty) (prefix : List ℕ) (e : StreamFault) → IsFaultOf prefix e → CanRefuseTyped wanted e
 typed_possible_header wanted prefix (faults.Header f) fault = inl (prefix, ap (λ o. header_or o (answer_of_types wanted (header_of prefix).ty (restore_answer prefix))) fault)
 typed_possible_header wanted prefix (faults.RawShort m) fault = absurd fault
 typed_possible_header wanted prefix faults.RawLong fault = absurd fault
@@ -101,6 +103,70 @@ typed_possible_header wanted prefix faults.Read fault = absurd fault
 typed_possible_header wanted prefix faults.Write fault = absurd fault
 typed_possible_header wanted prefix faults.Memory fault = absurd fault
 
-pub typed_possible : (wanted : Ty) (prefix : List ℕ) (h : Header) (len : ℕ) (e : StreamFault) → BeginsWithHeader prefix h len → h.ty ≡ wanted → CanRefuseBehind prefix e → CanRefuseTyped wanted e
+typed_possible : (wanted : Ty) (prefix : List ℕ) (h : Header) (len : ℕ) (e : StreamFault) → BeginsWithHeader prefix h len → h.ty ≡ wanted → CanRefuseBehind prefix e → CanRefuseTyped wanted e
 typed_possible wanted prefix h len e begun same can =
     ⊎_elim (λ is. inl (prefix ++ is.0, typed_by wanted prefix is.0 h len begun ∙ same_types wanted h.ty (restore_answer (prefix ++ is.0)) same ∙ ap with_true is.1)) (λ out. inr out) can
+
+-- ---- how it ends
+
+-- the source failed
+pub where_unread : (wanted : Ty) (e : StreamFault) (known now out : Option (List ℕ)) → e ≡ faults.Read → TakesSome known now → RestoredWhere wanted (Err e) known now out out
+where_unread wanted e known now out is some = record {
+  answer = answer_unread known e (typed_answer wanted) is;
+  possible = inr (inl is);
+  ok = tt;
+  err = nothing_written known now out some;
+  unwritten = λ _. refl;
+  memory = λ same. absurd (unread_memory e is (Err e) refl same);
+}
+
+-- there is no good header
+pub where_header : (wanted : Ty) (prefix : List ℕ) (e : StreamFault) (known now out : Option (List ℕ)) → TakesFirst 24 known now prefix → IsFaultOf prefix e → RestoredWhere wanted (Err e) known now out out
+where_header wanted prefix e known now out first fault = record {
+  answer = typed_fault wanted 24 known prefix e (Err e) (omega arith) first.first fault refl;
+  possible = typed_possible_header wanted prefix e fault;
+  ok = tt;
+  err = nothing_written known now out (prefix, first.taken);
+  unwritten = λ _. refl;
+  memory = λ same. absurd (bad_memory prefix e fault (Err e) refl same);
+}
+
+ok_is : (x : Bool) (r : Result Bool StreamFault) → r ≡ Ok x → r ≡ Err faults.Memory → ⊥
+ok_is x r ok same = cc
+
+module _ (wanted : Ty) (prefix : List ℕ) (h : Header) (len : ℕ) (known src : Option (List ℕ)) (first : TakesFirst 24 known src prefix) (begun : BeginsWithHeader prefix h len) where
+  -- it is one of the other type
+  pub where_other : (out : Option (List ℕ)) → h.ty ≢ wanted → RestoredWhere wanted (Ok false) known src out out
+  where_other out other =
+      let Type_of : Header → Type 0 = λ g. g.ty ≢ wanted in
+      record {
+        answer = typed_other wanted known src prefix h len first.taken begun other;
+        possible = tt;
+        ok = record { bytes = prefix; first = first; good = begun.good; other = subst Type_of begun.header other; unwritten = refl };
+        err = tt;
+        unwritten = tt;
+        memory = λ same. absurd (ok_is false (Ok false) refl same);
+      }
+
+  module _ (same_type : h.ty ≡ wanted) {now out0 out : Option (List ℕ)} where
+    -- it was refused behind its header
+    pub where_failed : (e : StreamFault) → RestoredBehind prefix (Err e) src now out0 out → RestoredWhere wanted (Err e) known now out0 out
+    where_failed e rest = record {
+      answer = typed_same wanted known src prefix h len (Err e) first.taken begun same_type rest.answer;
+      possible = typed_possible wanted prefix h len e begun same_type rest.possible;
+      ok = tt;
+      err = record { bytes = rest.err.bytes; taken = Takes-known known src now prefix rest.err.bytes first.taken rest.err.taken; written = rest.err.written };
+      unwritten = rest.unwritten;
+      memory = λ _. good_of_prefix 24 known prefix (omega arith) first.first begun.good;
+    }
+
+    -- or restored
+    pub where_done : RestoredBehind prefix (Ok tt) src now out0 out → RestoredWhere wanted (Ok true) known now out0 out
+    where_done rest = record {
+      answer = typed_same wanted known src prefix h len (Ok tt) first.taken begun same_type rest.answer;
+      possible = tt;
+      ok = typed_done wanted known src now out0 out prefix h len first.taken begun same_type rest.ok;
+      err = tt;
+      unwritten = tt;
+      memory = λ same. absurd (ok_is true (Ok true) refl same);
+    }

@@ -1,6 +1,6 @@
 -- An array that is restored slab by slab: how far its codes were read, and its values written. The codes are those of the bits that were left in a window,
 -- and of the bytes that were taken of the source behind them.
-use Rattle.std.specs.Prelude.{ℕ, ◌≡◌, ◌+◌, ◌-◌, ◌*◌, ◌/◌, ◌⊎◌, ℤ, Bool, List, [], ◌++◌, map, length, drop, Option, Some, None, Result, Ok, Err}
+use Rattle.std.specs.Prelude.{ℕ, ◌≡◌, ◌+◌, ◌-◌, ◌*◌, ◌/◌, ◌<◌, ◌≤◌, ◌⊎◌, ℤ, Bool, List, [], ◌++◌, map, length, drop, Option, Some, None, Result, Ok, Err, IfErr, OnOk, OnErr}
 use Rattle.std.specs.Result.{result_map_both}
 use Rattle.zf_spec.specs.Grid.{blocks, upto, extent_of, block_of, blocks_of}
 use Rattle.zf_spec.specs.Codes.{existing_values}
@@ -16,7 +16,9 @@ use Rattle.zf_parse.specs.declared.fault.StreamFault.{StreamFault}
 use Rattle.zf_parse.specs.declared.fault.StreamFault.TheVariants as faults
 use Rattle.zf_parse.specs.Raw.{raw_bytes}
 use Rattle.zf_parse.specs.Parsing.{read_code, read_codes, said_behind, text_behind, restore_answer, restored_text}
-use Rattle.zf_stream.specs.Outcomes.{Finishes, IsFromOutside}
+use Rattle.zf_stream.specs.Outcomes.{Answers, Finishes, LeavesPrefix, IsFromOutside, IsBeforeWriting}
+use Rattle.zf_parse.specs.ReadStreams.{BeginsWithHeader}
+use Rattle.zf_stream.specs.Headed.{prefix_room}
 use Rattle.zf_stream.specs.Windows.{Window, left_of, Goes}
 
 -- bytes in front of what is still to come of a device
@@ -33,6 +35,20 @@ pub record FinishesBehind (prefix : List ℕ) (src_before src_now out_before out
 -- some input behind these bytes has this refusal, or it comes from outside
 abbrev pub CanRefuseBehind : List ℕ → StreamFault → Type 0
 CanRefuseBehind prefix e = ((more : List ℕ) × (restore_answer (prefix ++ more) ≡ Err e)) ⊎ IsFromOutside e
+
+-- how a stream is restored of which these bytes were read, with a good header
+pub record RestoredBehind (prefix : List ℕ) (result : Result (Unit {0}) StreamFault) (src_before src_now out_before out_now : Option (List ℕ)) : Type 0 where
+  pub answer : Answers result (behind prefix src_before) restore_answer
+  pub possible : IfErr result (CanRefuseBehind prefix)
+  pub ok : OnOk result (FinishesBehind prefix src_before src_now out_before out_now)
+  pub err : OnErr result (LeavesPrefix restored_text (behind prefix src_before) src_now out_before out_now)
+  pub unwritten : IfErr result (λ e. IsBeforeWriting e → out_now ≡ out_before)
+
+-- the first bytes of a stream were read, all of it where they are fewer than three words, and a header of so many bits begins them
+pub record IsBegun (prefix : List ℕ) (h : Header) (bits : ℕ) (src : Option (List ℕ)) : Type 0 where
+  pub begun : BeginsWithHeader prefix h bits
+  pub few : length prefix ≤ prefix_room
+  pub ended : length prefix < prefix_room → IsAtEnd src
 
 -- what is still to come, as far as the device exposes it
 abbrev pub still : Option (List ℕ) → List ℕ

@@ -1,5 +1,5 @@
 -- A stream that is restored where its values are of one type.
-use Rattle.std.specs.Prelude.{ℕ, ◌≡◌, ◌≢◌, ◌⊎◌, Bool, true, false, List, Option, Some, None, Result, Ok, Err}
+use Rattle.std.specs.Prelude.{ℕ, ◌≡◌, ◌≢◌, ◌⊎◌, Bool, true, false, List, Option, Some, None, Result, Ok, Err, IfOk, IfErr, OnErr}
 use Rattle.zf_base.specs.declared.lane.Ty.{Ty}
 use Rattle.zf_base.specs.declared.lane.Ty.TheVariants.{I32, I64}
 use Rattle.zf_header.specs.HeaderFaults.{header_fault}
@@ -7,7 +7,8 @@ use Rattle.zf_dev.specs.Source.{Takes, IsAtEnd}
 use Rattle.zf_dev.specs.Sink.{Appends}
 use Rattle.zf_parse.specs.declared.fault.StreamFault.{StreamFault}
 use Rattle.zf_parse.specs.declared.fault.StreamFault.TheVariants as faults
-use Rattle.zf_stream.specs.Outcomes.{IsFromOutside, TakesFirst}
+use Rattle.zf_parse.specs.ReadStreams.{HasGoodHeader}
+use Rattle.zf_stream.specs.Outcomes.{Answers, IsFromOutside, IsBeforeWriting, LeavesPrefix, TakesFirst}
 use Rattle.zf_stream.specs.Headed.{prefix_room}
 use Rattle.zf_parse.specs.Parsing.{header_of, restore_answer, restored_text}
 
@@ -54,3 +55,12 @@ pub record HasOtherType (wanted : Ty) (src_before src_now out_before out_now : O
 abbrev pub RestoresWhere : Ty → Bool → Option (List ℕ) → Option (List ℕ) → Option (List ℕ) → Option (List ℕ) → Type 0
 RestoresWhere wanted true src_before src_now out_before out_now = RestoresTyped wanted src_before src_now out_before out_now
 RestoresWhere wanted false src_before src_now out_before out_now = HasOtherType wanted src_before src_now out_before out_now
+
+-- how a stream is restored where its values are of one type
+pub record RestoredWhere (wanted : Ty) (result : Result Bool StreamFault) (src_before src_now out_before out_now : Option (List ℕ)) : Type 0 where
+  pub answer : Answers result src_before (typed_answer wanted)
+  pub possible : IfErr result (CanRefuseTyped wanted)
+  pub ok : IfOk result (λ is. RestoresWhere wanted is src_before src_now out_before out_now)
+  pub err : OnErr result (LeavesPrefix restored_text src_before src_now out_before out_now)
+  pub unwritten : IfErr result (λ e. IsBeforeWriting e → out_now ≡ out_before)
+  pub memory : result ≡ Err faults.Memory → HasGoodHeader src_before

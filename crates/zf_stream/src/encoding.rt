@@ -10,13 +10,15 @@ ghost use Rattle.zf_base.specs.Positions.{used_axes, IsExtent};
 ghost use Rattle.zf_bits.specs.Writer.{Appends};
 ghost use Rattle.zf_header.specs.HeaderBits.{coding};
 ghost use Rattle.zf_pad.specs.Rasters.{IsRaster};
-ghost use Rattle.zf_dev.specs.Faults.{HasCause};
+ghost use Rattle.zf_stream.specs.Outcomes.{WritesOnly};
 ghost use Rattle.zf_stream.specs.Flows.{Flows, Spills};
+ghost use Rattle.zf_stream.specs.Rooms.{IsRoomFor, Keeps};
 ghost use Rattle.zf_parse.specs.Parsing.{longest_code};
 ghost use Rattle.zf_parse.specs.declared.fault.StreamFault.TheVariants.{Write};
 ghost use Rattle.zf_spec.specs.Grid.{IsDimension};
 
 use crate::StreamFault;
+use crate::room::Room;
 use crate::writing::write_whole_words;
 use zf_base::{Extent, Lane};
 use zf_bits::BitWriter;
@@ -25,94 +27,68 @@ use zf_dev::Sink;
 use zf_header::{Header, Mode};
 use zf_pad::Layout;
 
-/// Appends the codes of all blocks, in order. Where as many as `most` bits are at hand, whole words are written.
+/// Appends the codes of all blocks, in order. Where as many bits are at hand as the room keeps back, whole words are
+/// written.
 pub(crate) fn write_codes<T: Lane, O: Sink>(
     layout: &Layout,
     h: &Header,
     values: &[T],
-    block: &mut [T],
-    s: &mut Scratch<T>,
-    codes: &mut BitWriter,
-    most: u64,
-    piece: &mut [u8],
+    room: &mut Room<T>,
     out: &mut O,
 ) -> Result<(), StreamFault>
     requires same_type { T.width ≡ width_of h.now.ty }
     requires raster { IsRaster h.now.shape layout.now }
     requires all { length values.now ≡ product h.now.shape }
-    requires whole { length block.old ≡ 4 ^ length h.now.shape }
-    requires scratch { s.old ≡ length h.now.shape }
-    requires piece { 8 ≤ length piece.old }
-    requires some { 64 ≤ most }
-    requires few { length codes.old.bits < most }
-    requires fits { most + longest_code h.now ≤ length codes.old.bits + codes.old.room }
-    ensures ok { OnOk result (Flows (O.contents out.old) (O.contents out.new)
-        (codes.old.bits ++ flat_map (λ c. c) (stream.codes T.width h.now.shape (coding h.now.mode) (map T.value values.now))) codes.new.bits) }
-    ensures err { OnErr result (Spills (O.contents out.old) (O.contents out.new)
-        (codes.old.bits ++ flat_map (λ c. c) (stream.codes T.width h.now.shape (coding h.now.mode) (map T.value values.now)))) }
-    ensures fault { IfErr result (λ e. e ≡ Write) }
-    ensures few { OnOk result (length codes.new.bits < most) }
-    ensures room { OnOk result (length codes.old.bits + codes.old.room ≤ length codes.new.bits + codes.new.room) }
-    ensures scratch { s.new ≡ s.old }
-    ensures same_sink { O.kept out.new ≡ O.kept out.old }
-    ensures cause { HasCause (result ≡ Err Write) (O.faults out.old) (O.faults out.new) }
+    requires room { IsRoomFor h.now room.old }
+    requires few { length room.old.codes.bits < room.old.most }
+    ensures ok { OnOk result (Flows (O.contents out.old) (O.contents out.new) (room.old.codes.bits
+        ++ flat_map (λ c. c) (stream.codes T.width h.now.shape (coding h.now.mode) (map T.value values.now)))
+        room.new.codes.bits) }
+    ensures err { OnErr result (Spills (O.contents out.old) (O.contents out.new) (room.old.codes.bits
+        ++ flat_map (λ c. c) (stream.codes T.width h.now.shape (coding h.now.mode) (map T.value values.now)))) }
+    ensures few { OnOk result (length room.new.codes.bits < room.new.most) }
+    ensures keeps { Keeps room.old room.new }
+    ensures sink { WritesOnly O.Sink result out.old out.new }
 {
     for b in 0..h.shape.blocks() {
-        write_code(layout, h, values, b, block, s, codes);
-        write_where_many(codes, most, piece, out)?;
+        write_code(layout, h, values, b, room);
+        write_where_many(room, out)?;
     }
     Ok(())
 }
 
-/// Writes the whole words of codes where as many as `most` bits are at hand.
-fn write_where_many<O: Sink>(
-    codes: &mut BitWriter,
-    most: u64,
-    piece: &mut [u8],
-    out: &mut O,
-) -> Result<(), StreamFault>
-    requires piece { 8 ≤ length piece.old }
-    requires some { 64 ≤ most }
-    ensures ok { OnOk result (Flows (O.contents out.old) (O.contents out.new) codes.old.bits codes.new.bits) }
-    ensures err { OnErr result (Spills (O.contents out.old) (O.contents out.new) codes.old.bits) }
-    ensures fault { IfErr result (λ e. e ≡ Write) }
-    ensures few { OnOk result (length codes.new.bits < most) }
-    ensures room { OnOk result (length codes.old.bits + codes.old.room ≤ length codes.new.bits + codes.new.room) }
-    ensures same_sink { O.kept out.new ≡ O.kept out.old }
-    ensures cause { HasCause (result ≡ Err Write) (O.faults out.old) (O.faults out.new) }
+/// Writes the whole words of codes where as many bits are at hand as the room keeps back.
+fn write_where_many<T: Lane, O: Sink>(room: &mut Room<T>, out: &mut O) -> Result<(), StreamFault>
+    ensures ok { OnOk result (Flows (O.contents out.old) (O.contents out.new)
+        room.old.codes.bits room.new.codes.bits) }
+    ensures err { OnErr result (Spills (O.contents out.old) (O.contents out.new) room.old.codes.bits) }
+    ensures few { OnOk result (length room.new.codes.bits < room.new.most) }
+    ensures keeps { Keeps room.old room.new }
+    ensures sink { WritesOnly O.Sink result out.old out.new }
 {
-    if codes.len() < most {
+    if room.codes.len() < room.most {
         return Ok(());
     }
-    write_whole_words(codes, piece, out)
+    write_whole_words(&mut room.codes, &mut room.piece, out)
 }
 
-/// Appends the code of block `b`, whose values are gathered in `block`.
+/// Appends the code of block `b`, whose values are gathered in the room.
 #[inline(always)]
-fn write_code<T: Lane>(
-    layout: &Layout,
-    h: &Header,
-    values: &[T],
-    b: u64,
-    block: &mut [T],
-    s: &mut Scratch<T>,
-    codes: &mut BitWriter,
-)
+fn write_code<T: Lane>(layout: &Layout, h: &Header, values: &[T], b: u64, room: &mut Room<T>)
     requires same_type { T.width ≡ width_of h.now.ty }
     requires raster { IsRaster h.now.shape layout.now }
     requires all { length values.now ≡ product h.now.shape }
     requires in_array { b < blocks h.now.shape }
-    requires whole { length block.old ≡ 4 ^ length h.now.shape }
-    requires scratch { s.old ≡ length h.now.shape }
-    requires fits { longest_code h.now ≤ codes.old.room }
-    ensures code { Appends codes.old codes.new
-        (block_code T.width (coding h.now.mode) (extent_of h.now.shape b) (block_of h.now.shape (map T.value values.now) b)) }
-    ensures scratch { s.new ≡ s.old }
+    requires scratch { room.old.scratch ≡ length h.now.shape }
+    requires fits { longest_code h.now ≤ room.old.codes.room }
+    ensures code { Appends room.old.codes room.new.codes (block_code T.width (coding h.now.mode)
+        (extent_of h.now.shape b) (block_of h.now.shape (map T.value values.now) b)) }
+    ensures keeps { Keeps room.old room.new }
 {
     // Known by this call: there are one to four dimensions.
     let _dims = h.shape.dims();
-    let e = zf_pad::gather_block(layout, &h.shape, b, values, block);
-    encode(h, &e, block, s, codes);
+    let e = zf_pad::gather_block(layout, &h.shape, b, values, &mut room.block);
+    encode(h, &e, &room.block, &mut room.scratch, &mut room.codes);
 }
 
 /// Appends the code of a block of which this part exists.

@@ -1,7 +1,7 @@
 //! The header that a source begins with.
 
 ghost use Rattle.std.specs.Prelude.{◌≡◌, ◌≢◌, ◌+◌, ◌≤◌, Err, IfOk, IfErr};
-ghost use Rattle.zf_dev.specs.Faults.{HasCause};
+ghost use Rattle.zf_dev.specs.Devices.{Reads};
 ghost use Rattle.zf_parse.specs.ReadStreams.{BeginsWithHeader, IsFaultOf};
 ghost use Rattle.zf_stream.specs.Headed.{ReadsHeader, LacksHeader};
 ghost use Rattle.zf_parse.specs.declared.fault.StreamFault.TheVariants.{Read};
@@ -23,9 +23,7 @@ pub fn read_header<S: Source>(src: &mut S) -> Result<(Header, u32), StreamFault>
     ensures err { IfErr result (LacksHeader (S.contents src.old) (S.contents src.new)) }
     // It reads no more once it saw the end.
     ensures seen { S.ends_seen src.new ≤ S.ends_seen src.old + 1 }
-    ensures same_source { S.kept src.new ≡ S.kept src.old }
-    ensures cause { HasCause (result ≡ Err Read) (S.faults src.old) (S.faults src.new) }
-    ensures sure { S.never_fails src.old → (result ≢ Err Read) × S.never_fails src.new }
+    ensures source { Reads S.Source (result ≡ Err Read) src.old src.new }
 {
     let mut bytes = [0; FULL_HEADER_BYTES];
     let count = read_into(src, &mut bytes)?;

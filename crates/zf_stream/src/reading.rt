@@ -3,8 +3,8 @@
 ghost use Rattle.std.specs.Prelude.{◌≡◌, ◌≢◌, ◌≤◌, ◌<◌, ◌*◌, ◌+◌, ◌^◌, [], map, length, take, IsOk, Err, IfOk, IfErr, OnOk, OnErr};
 ghost use Rattle.std.specs.Int.{byte_len};
 ghost use Rattle.zf_dev.specs.Source.{TakesSome, TakesAtMost, Takes, Gives, GivesSome, IsAtEnd, SeesEnd};
-ghost use Rattle.zf_dev.specs.Faults.{HasCause};
-ghost use Rattle.zf_stream.specs.Outcomes.{TakesFirst};
+ghost use Rattle.zf_dev.specs.Devices.{Reads};
+ghost use Rattle.zf_stream.specs.Outcomes.{TakesFirst, ReadsOnly};
 ghost use Rattle.zf_stream.specs.ReadRaw.{ReadsValues, LacksRaw, GoesOn};
 ghost use Rattle.zf_parse.specs.declared.fault.StreamFault.TheVariants.{Read};
 
@@ -24,9 +24,7 @@ pub(crate) fn read_raw<S: Source>(
     ensures err { IfErr result (LacksRaw before (length raw.old) (S.contents src.old) (S.contents src.new)) }
     ensures gave { OnOk result (Gives (S.gave src.old) (S.gave src.new) raw.new) }
     ensures gave_some { GivesSome (S.gave src.old) (S.gave src.new) }
-    ensures same_source { S.kept src.new ≡ S.kept src.old }
-    ensures cause { HasCause (result ≡ Err Read) (S.faults src.old) (S.faults src.new) }
-    ensures sure { S.never_fails src.old → (result ≢ Err Read) × S.never_fails src.new }
+    ensures source { Reads S.Source (result ≡ Err Read) src.old src.new }
 {
     let count = read_into(src, raw)?;
     if count < raw.len() {
@@ -48,9 +46,7 @@ pub(crate) fn read_values<T: Lane, S: Source>(
         (S.contents src.old) (S.contents src.new) (Gives (S.gave src.old) (S.gave src.new)) (map T.value values.new)) }
     ensures err { IfErr result (LacksRaw before (length values.old * byte_len T.width) (S.contents src.old) (S.contents src.new)) }
     ensures gave_some { GivesSome (S.gave src.old) (S.gave src.new) }
-    ensures same_source { S.kept src.new ≡ S.kept src.old }
-    ensures cause { HasCause (result ≡ Err Read) (S.faults src.old) (S.faults src.new) }
-    ensures sure { S.never_fails src.old → (result ≢ Err Read) × S.never_fails src.new }
+    ensures source { Reads S.Source (result ≡ Err Read) src.old src.new }
 {
     let len = value_len::<T>();
     let most = piece.len() / len;
@@ -70,9 +66,7 @@ pub(crate) fn read_end<S: Source>(src: &mut S) -> Result<(), StreamFault>
     ensures err { IfErr result (GoesOn (S.contents src.old) (S.contents src.new)) }
     ensures gave { OnOk result (Gives (S.gave src.old) (S.gave src.new) []) }
     ensures gave_some { GivesSome (S.gave src.old) (S.gave src.new) }
-    ensures same_source { S.kept src.new ≡ S.kept src.old }
-    ensures cause { HasCause (result ≡ Err Read) (S.faults src.old) (S.faults src.new) }
-    ensures sure { S.never_fails src.old → (result ≢ Err Read) × S.never_fails src.new }
+    ensures source { Reads S.Source (result ≡ Err Read) src.old src.new }
 {
     let mut more = [0];
     let count = read_into(src, &mut more)?;
@@ -93,10 +87,7 @@ pub(crate) fn read_into<S: Source>(src: &mut S, buf: &mut [u8]) -> Result<usize,
     ensures gave_some { GivesSome (S.gave src.old) (S.gave src.new) }
     ensures seen { IfOk result (λ n. SeesEnd (n < length buf.old) (S.ends_seen src.old) (S.ends_seen src.new)) }
     ensures unseen { OnErr result (S.ends_seen src.new ≤ S.ends_seen src.old) }
-    ensures fault { IfErr result (λ e. e ≡ Read) }
-    ensures same_source { S.kept src.new ≡ S.kept src.old }
-    ensures cause { HasCause (result ≡ Err Read) (S.faults src.old) (S.faults src.new) }
-    ensures sure { S.never_fails src.old → IsOk result × S.never_fails src.new }
+    ensures source { ReadsOnly S.Source result src.old src.new }
 {
     match fill(src, buf) {
         Ok(count) => Ok(count),

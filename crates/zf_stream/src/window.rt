@@ -3,7 +3,7 @@
 ghost use Rattle.std.specs.Prelude.{◌≡◌, ◌≢◌, ◌≤◌, ◌<◌, ◌+◌, ◌*◌, ◌^◌, ◌%◌, true, false, [], length, IsTrue, Err, IfOk, IfErr, OnOk, OnErr};
 ghost use Rattle.std.specs.Int.{div_ceil};
 ghost use Rattle.zf_spec.specs.Stream.{to_bits};
-ghost use Rattle.zf_dev.specs.Faults.{HasCause};
+ghost use Rattle.zf_stream.specs.Outcomes.{ReadsOnly};
 ghost use Rattle.zf_dev.specs.Source.{TakesSome};
 ghost use Rattle.zf_stream.specs.Windows.{left_of, KnowsEnd, Refills};
 ghost use Rattle.zf_parse.specs.declared.fault.StreamFault.TheVariants.{Read};
@@ -101,11 +101,8 @@ impl Window {
         ensures ok { OnOk result (Refills (S.contents src.old) (S.contents src.new) self.old self.new) }
         ensures ended { OnOk result (KnowsEnd self.new (S.contents src.new)) }
         ensures enough { OnOk result (self.new.ended ≡ false → need ≤ length (left_of self.new)) }
-        ensures fault { IfErr result (λ e. e ≡ Read) }
         ensures taken { OnErr result (TakesSome (S.contents src.old) (S.contents src.new)) }
-        ensures same_source { S.kept src.new ≡ S.kept src.old }
-        ensures cause { HasCause (result ≡ Err Read) (S.faults src.old) (S.faults src.new) }
-        ensures sure { S.never_fails src.old → (result ≢ Err Read) × S.never_fails src.new }
+        ensures source { ReadsOnly S.Source result src.old src.new }
     {
         if self.left() < need && !self.ended {
             self.refill(need, piece, src)?;
@@ -129,11 +126,8 @@ impl Window {
         ensures ok { OnOk result (Refills (S.contents src.old) (S.contents src.new) self.old self.new) }
         ensures ended { OnOk result (KnowsEnd self.new (S.contents src.new)) }
         ensures enough { OnOk result (self.new.ended ≡ false → need ≤ length (left_of self.new)) }
-        ensures fault { IfErr result (λ e. e ≡ Read) }
         ensures taken { OnErr result (TakesSome (S.contents src.old) (S.contents src.new)) }
-        ensures same_source { S.kept src.new ≡ S.kept src.old }
-        ensures cause { HasCause (result ≡ Err Read) (S.faults src.old) (S.faults src.new) }
-        ensures sure { S.never_fails src.old → (result ≢ Err Read) × S.never_fails src.new }
+        ensures source { ReadsOnly S.Source result src.old src.new }
     {
         self.move_down();
         while self.left() < need && !self.ended {
@@ -174,11 +168,8 @@ impl Window {
         ensures place { OnOk result (self.new.reader.at ≡ self.old.reader.at) }
         ensures ended { OnOk result (KnowsEnd self.new (S.contents src.new)) }
         ensures more { OnOk result (self.new.ended ≡ false → length (left_of self.old) < length (left_of self.new)) }
-        ensures fault { IfErr result (λ e. e ≡ Read) }
         ensures taken { OnErr result (TakesSome (S.contents src.old) (S.contents src.new)) }
-        ensures same_source { S.kept src.new ≡ S.kept src.old }
-        ensures cause { HasCause (result ≡ Err Read) (S.faults src.old) (S.faults src.new) }
-        ensures sure { S.never_fails src.old → (result ≢ Err Read) × S.never_fails src.new }
+        ensures source { ReadsOnly S.Source result src.old src.new }
     {
         let held = (self.bits / 64) as usize;
         let most = 8 * (self.words.len() - held).min(piece.len() / 8);

@@ -4,7 +4,7 @@ ghost use Rattle.std.specs.Prelude.{◌≡◌, ◌≤◌, ◌<◌, ◌*◌, ◌+
 ghost use Rattle.zf_spec.specs.Grid.{product};
 ghost use Rattle.zf_spec.specs.Stream.{raw};
 ghost use Rattle.zf_pad.specs.Stored.{raster_of};
-ghost use Rattle.zf_dev.specs.Faults.{HasCause};
+ghost use Rattle.zf_stream.specs.Outcomes.{WritesOnly};
 ghost use Rattle.zf_dev.specs.Sink.{Appends, AppendsPrefix};
 ghost use Rattle.zf_stream.specs.Flows.{bytes_in, Flows, Spills};
 ghost use Rattle.zf_parse.specs.declared.fault.StreamFault.TheVariants.{Write};
@@ -26,11 +26,9 @@ pub(crate) fn write_whole_words<O: Sink>(
     requires { 8 ≤ length piece.old }
     ensures ok { OnOk result (Flows (O.contents out.old) (O.contents out.new) codes.old.bits codes.new.bits) }
     ensures err { OnErr result (Spills (O.contents out.old) (O.contents out.new) codes.old.bits) }
-    ensures fault { IfErr result (λ e. e ≡ Write) }
     ensures few { OnOk result (length codes.new.bits < 64) }
-    ensures room { OnOk result (length codes.old.bits + codes.old.room ≤ length codes.new.bits + codes.new.room) }
-    ensures same_sink { O.kept out.new ≡ O.kept out.old }
-    ensures cause { HasCause (result ≡ Err Write) (O.faults out.old) (O.faults out.new) }
+    ensures room { length codes.old.bits + codes.old.room ≤ length codes.new.bits + codes.new.room }
+    ensures sink { WritesOnly O.Sink result out.old out.new }
 {
     let len = codes.len();
     let left = len % 64;
@@ -48,9 +46,7 @@ fn write_words<O: Sink>(words: &[u64], piece: &mut [u8], out: &mut O) -> Result<
     ensures ok { OnOk result (Appends (O.contents out.old) (O.contents out.new) (bytes_in words.now)) }
     ensures err { OnErr result (AppendsPrefix (O.contents out.old) (O.contents out.new) (bytes_in words.now)) }
     ensures words { All (λ v. v < 2 ^ 64) words.now }
-    ensures fault { IfErr result (λ e. e ≡ Write) }
-    ensures same_sink { O.kept out.new ≡ O.kept out.old }
-    ensures cause { HasCause (result ≡ Err Write) (O.faults out.old) (O.faults out.new) }
+    ensures sink { WritesOnly O.Sink result out.old out.new }
 {
     let most = piece.len() / 8;
     let mut at = 0;
@@ -67,9 +63,7 @@ fn write_words<O: Sink>(words: &[u64], piece: &mut [u8], out: &mut O) -> Result<
 pub(crate) fn write_bytes<O: Sink>(bytes: &[u8], out: &mut O) -> Result<(), StreamFault>
     ensures ok { OnOk result (Appends (O.contents out.old) (O.contents out.new) bytes.now) }
     ensures err { OnErr result (AppendsPrefix (O.contents out.old) (O.contents out.new) bytes.now) }
-    ensures fault { IfErr result (λ e. e ≡ Write) }
-    ensures same_sink { O.kept out.new ≡ O.kept out.old }
-    ensures cause { HasCause (result ≡ Err Write) (O.faults out.old) (O.faults out.new) }
+    ensures sink { WritesOnly O.Sink result out.old out.new }
 {
     match write_all(out, bytes) {
         Ok(()) => Ok(()),
@@ -86,9 +80,7 @@ pub(crate) fn write_values<T: Lane, O: Sink>(
     requires { 8 ≤ length piece.old }
     ensures ok { OnOk result (Appends (O.contents out.old) (O.contents out.new) (raw T.width (map T.value values.now))) }
     ensures err { OnErr result (AppendsPrefix (O.contents out.old) (O.contents out.new) (raw T.width (map T.value values.now))) }
-    ensures fault { IfErr result (λ e. e ≡ Write) }
-    ensures same_sink { O.kept out.new ≡ O.kept out.old }
-    ensures cause { HasCause (result ≡ Err Write) (O.faults out.old) (O.faults out.new) }
+    ensures sink { WritesOnly O.Sink result out.old out.new }
 {
     let len = value_len::<T>();
     let most = piece.len() / len;
@@ -118,9 +110,7 @@ pub(crate) fn write_stored<T: Lane, O: Sink>(
         (raw T.width (raster_of shape.now (map T.value stored.now)))) }
     ensures err { OnErr result (AppendsPrefix (O.contents out.old) (O.contents out.new)
         (raw T.width (raster_of shape.now (map T.value stored.now)))) }
-    ensures fault { IfErr result (λ e. e ≡ Write) }
-    ensures same_sink { O.kept out.new ≡ O.kept out.old }
-    ensures cause { HasCause (result ≡ Err Write) (O.faults out.old) (O.faults out.new) }
+    ensures sink { WritesOnly O.Sink result out.old out.new }
 {
     let all = shape.values();
     if shape.dims() == 1 {

@@ -1,21 +1,20 @@
 -- The rows so far were read, and their codes are on their way.
-use Rattle.std.proofs.Common.{◌≡◌, ◌+◌, ◌-◌, ◌≤◌, ◌<◌, length}
+use Rattle.std.proofs.Common.{◌≡◌, ◌-◌, ◌<◌, length}
 use Rattle.zf_pad.specs.Slabs.{rows_of}
 use Rattle.zf_dev.specs.Source.{Gives}
+use Rattle.zf_dev.specs.Devices.{Reads, Writes}
 use Rattle.zf_stream.specs.Rows.{rows_len, Compresses}
+use Rattle.zf_stream.specs.Rooms.{IsRoomOf, Keeps}
 use Rattle.zf_stream.proofs.compressing.write_slabs.Given as goal
 
 pub record SoFar (g : goal.Over) (l : goal.Live-loop-row g) : Type 0 where
-  pub done : Compresses l.h l.row (g.S.Source.contents l.fn.src) (g.S.Source.contents l.src) (Gives (g.S.Source.gave l.fn.src) (g.S.Source.gave l.src)) (g.O.Sink.contents l.fn.out) (g.O.Sink.contents l.out) l.fn.codes.bits l.codes.bits
+  pub done : Compresses l.h l.row (g.S.Source.contents l.fn.src) (g.S.Source.contents l.src) (Gives (g.S.Source.gave l.fn.src) (g.S.Source.gave l.src)) (g.O.Sink.contents l.fn.out) (g.O.Sink.contents l.out) l.fn.room.codes.bits l.room.codes.bits
   pub taken : l.taken ≡ rows_len l.h l.row
-  pub few : length l.codes.bits < l.most
-  pub room : length l.fn.codes.bits + l.fn.codes.room ≤ length l.codes.bits + l.codes.room
-  pub scratch : l.s ≡ l.fn.s
-  pub same_source : g.S.Source.kept l.src ≡ g.S.Source.kept l.fn.src
-  pub same_sink : g.O.Sink.kept l.out ≡ g.O.Sink.kept l.fn.out
-  pub reads : g.S.Source.faults l.fn.src ≤ g.S.Source.faults l.src
-  pub writes : g.O.Sink.faults l.fn.out ≤ g.O.Sink.faults l.out
-  pub sure : g.S.Source.never_fails l.fn.src → g.S.Source.never_fails l.src
+  pub few : length l.room.codes.bits < l.room.most
+  pub room : IsRoomOf g.T.Lane.width l.h (length l.values) l.room
+  pub keeps : Keeps l.fn.room l.room
+  pub source : Reads g.S.Source ⊥ l.fn.src l.src
+  pub sink : Writes g.O.Sink ⊥ l.fn.out l.out
 
 abbrev pub invariant-loop-row : goal.invariant-loop-row
 invariant-loop-row g l = SoFar g l

@@ -1,4 +1,4 @@
-use Rattle.std.proofs.Common.{◌≡◌, ◌-◌, ◌<◌, ◌≤◌, Bool, true, false, ℤ, List, [], ◌∷◌, ◌++◌, map, length, None, Ok, length-append, refl, sym, ap, subst, ◌∙◌, arith}
+use Rattle.std.proofs.Common.{◌≡◌, ◌^◌, ◌-◌, ◌<◌, ◌≤◌, Bool, true, false, ℤ, List, [], ◌∷◌, ◌++◌, map, length, None, Ok, length-append, refl, sym, ap, subst, ◌∙◌, arith}
 use Rattle.std.proofs.lemmas.List.{append-nil, length-map}
 use Rattle.std.proofs.lemmas.Result.{err_from_is_err_and}
 use Rattle.zf_spec.specs.Grid.{blocks, extent_of}
@@ -15,6 +15,9 @@ use Rattle.zf_stream.specs.Restoring.{stream_from, LacksSlab}
 use Rattle.zf_parse.proofs.Enough.{enough_for_one}
 use Rattle.zf_parse.proofs.Joining.{read_codes-next, read_codes-cut}
 use Rattle.zf_stream.proofs.Windows.{Goes-none, Goes-next, Goes-read, codes_refilled}
+use Rattle.zf_dev.proofs.Devices.{Reads-none, Reads-more, Reads-then}
+use Rattle.zf_stream.proofs.Rooms.{Stays-next, still_restores}
+use Rattle.zf_stream.proofs.Failing.{Reads-ok}
 use Rattle.zf_stream.proofs.decoding.read_slab.Goals as goal
 
 pub loop-b-init : goal.loop-b-init
@@ -25,16 +28,11 @@ loop-b-init g c =
       goes = Goes-none _ _;
       found = [];
       count = refl;
-      codes = ap (λ (s : List Bool). Ok ([], s)) (append-nil (left_of c.args.window.now));
+      codes = ap (λ (s : List Bool). Ok ([], s)) (append-nil (left_of c.args.room.now.window));
       stores = subst P (sym (ap (map g.T.Lane.value) c.clear.ensures.items)) (stores_none c.args.part.now.shape);
-      values = omega (arith, c.requires.values, c.clear.ensures.capacity);
-      capacity = omega (arith, c.clear.ensures.capacity);
-      whole = c.requires.whole;
-      room = refl;
-      ended = c.requires.ended;
-      same_source = refl;
-      faults = omega arith;
-      sure = λ sure. sure;
+      stays = record { rows = refl; longest = refl; held = refl; values = omega (arith, c.clear.ensures.capacity) };
+      ended = c.requires.room.ended;
+      source = Reads-none _;
     }
 
 pub returns-in_err-reach-clause-err : goal.returns-in_err-reach-clause-err
@@ -42,9 +40,9 @@ returns-in_err-reach-clause-err g c =
     let from = g.S.Source.contents c.args.src.now in
     let to = g.S.Source.contents c.reach.new.src in
     let more = c.in_err-reach.ensures.taken in
-    let Lacks : StreamFault → Type 0 = λ e. LacksSlab c.args.part.now c.args.first from to c.args.window.now e in
+    let Lacks : StreamFault → Type 0 = λ e. LacksSlab c.args.part.now c.args.first from to c.args.room.now.window e in
     let p = err_from_is_err_and c.from_residual.result c.from_residual.ensures.1 in
-    rw (p.1, p.2) (subst Lacks (sym c.in_err-reach.ensures.fault) (_, Takes-append _ _ _ _ _ c.loop-b.invariant.goes.taken more.1))
+    rw (p.1, p.2) (subst Lacks (sym c.in_err-reach.ensures.source.fault) (_, Takes-append _ _ _ _ _ c.loop-b.invariant.goes.taken more.1))
 
 -- a source that is not at its end would have given enough
 at_end : (ended : Bool) (Enough End : Type 0) → (ended ≡ false → Enough) → ¬ Enough → (ended ≡ true → End) → End
@@ -66,16 +64,16 @@ returns-in_default-clause-err g c =
     record {
       bytes = bytes;
       taken = Takes-append _ _ _ _ _ so_far.goes.taken refill.goes.taken;
-      ended = at_end window.ended (c.args.longest ≤ length (left_of window)) (IsAtEnd (g.S.Source.contents c.reach.new.src)) c.in_ok-reach.ensures.enough
-          (λ enough. enough_for_one h es (left_of window) (length-extent_of h.shape b) (omega (arith, enough, c.requires.longest)) none) c.in_ok-reach.ensures.ended;
+      ended = at_end window.ended (c.loop-b.room.longest ≤ length (left_of window)) (IsAtEnd (g.S.Source.contents c.reach.new.src)) c.in_ok-reach.ensures.enough
+          (λ enough. enough_for_one h es (left_of window) (length-extent_of h.shape b) (omega (arith, enough, so_far.stays.longest, c.requires.room.longest)) none) c.in_ok-reach.ensures.ended;
       block = b;
       number_is = refl;
-      codes = read_codes-cut h b (blocks h.shape) (stream_from c.args.window.now bytes) (left_of window) found
-          (omega (arith, c.loop-b-test.true, c.blocks-b-end.ensures.value)) (codes_refilled h b c.args.window.now so_far.bytes found so_far.codes refill) none;
+      codes = read_codes-cut h b (blocks h.shape) (stream_from c.args.room.now.window bytes) (left_of window) found
+          (omega (arith, c.loop-b-test.true, c.blocks-b-end.ensures.value)) (codes_refilled h b c.args.room.now.window so_far.bytes found so_far.codes refill) none;
     }
 
-pub read_block-requires-clause-values : goal.read_block-requires-clause-values
-read_block-requires-clause-values g c =
+pub read_block-read-requires-clause-values : goal.read_block-read-requires-clause-values
+read_block-read-requires-clause-values g c =
     let ns = c.args.part.now.shape in
     let so_far = c.loop-b.invariant in
     let value = g.T.Lane.value in
@@ -84,10 +82,11 @@ read_block-requires-clause-values g c =
       arith,
       so_far.stores.long,
       ap (stored_before ns) so_far.count,
-      length-map c.loop-b.stored.items value,
+      length-map c.loop-b.room.stored.items value,
       stored_within ns c.loop-b.b (blocks ns) lt,
       all_stored ns (omega (arith, lt)),
-      so_far.values,
+      so_far.stays.values,
+      c.requires.room.values,
     )
 
 pub loop-b-preserved : goal.loop-b-preserved
@@ -97,7 +96,7 @@ loop-b-preserved g c =
     let refill = c.in_ok-reach.ensures.ok in
     let so_far = c.loop-b.invariant in
     let bytes = so_far.bytes ++ refill.bytes in
-    let window = c.read_block.new.window in
+    let window = c.read_block-read.new.window in
     let mid = c.reach.new.self in
     let read = c.in-Some.ensures.some in
     let block = existing_values (extent_of h.shape b) read.block in
@@ -106,17 +105,12 @@ loop-b-preserved g c =
       goes = Goes-read (Goes-next so_far.goes refill.goes) c.in-Some.ensures.place;
       found = so_far.found ++ block ∷ [];
       count = length-append so_far.found (block ∷ []) ∙ omega (arith, so_far.count);
-      codes = read_codes-next h b (window.reader.at - mid.reader.at) (stream_from c.args.window.now bytes) (left_of mid) so_far.found block (left_of window)
-          (codes_refilled h b c.args.window.now so_far.bytes so_far.found so_far.codes refill) read.code read.passed;
+      codes = read_codes-next h b (window.reader.at - mid.reader.at) (stream_from c.args.room.now.window bytes) (left_of mid) so_far.found block (left_of window)
+          (codes_refilled h b c.args.room.now.window so_far.bytes so_far.found so_far.codes refill) read.code read.passed;
       stores = stores_more h.shape so_far.found b read.block _ _ so_far.count so_far.stores read.appended;
-      values = omega (arith, so_far.values, c.read_block.ensures.values);
-      capacity = omega (arith, so_far.capacity, c.read_block.ensures.values);
-      whole = c.read_block.auto.block ∙ so_far.whole;
-      room = c.read_block.ensures.room ∙ refill.room ∙ so_far.room;
-      ended = λ is. c.in_ok-reach.ensures.ended (sym c.read_block.ensures.ended ∙ is);
-      same_source = c.reach.ensures.same_source ∙ so_far.same_source;
-      faults = omega (arith, so_far.faults, c.reach.ensures.cause.0);
-      sure = λ sure. (c.reach.ensures.sure (so_far.sure sure)).1;
+      stays = Stays-next so_far.stays (record { rows = refl; longest = refl; held = c.read_block-read.ensures.room ∙ refill.room; values = c.read_block-read.ensures.values });
+      ended = λ is. c.in_ok-reach.ensures.ended (sym c.read_block-read.ensures.ended ∙ is);
+      source = Reads-more so_far.source c.reach.ensures.source.device;
     }
 
 pub returns-clause-ok : goal.returns-clause-ok
@@ -124,12 +118,12 @@ returns-clause-ok g c =
     let h = c.args.part.now in
     let so_far = c.loop-b.invariant in
     let all : c.loop-b.b ≡ blocks h.shape = omega (arith, c.loop-b-test.false, c.loop-b.auto.b-end, c.blocks-b-end.ensures.value) in
-    let stored = map g.T.Lane.value c.loop-b.stored.items in
+    let stored = map g.T.Lane.value c.loop-b.room.stored.items in
     record {
       bytes = so_far.bytes;
       goes = so_far.goes;
-      codes = ap (λ n. read_codes h 0 n (stream_from c.args.window.now so_far.bytes)) (sym all) ∙ so_far.codes
-          ∙ ap (λ (bs : List (List ℤ)). Ok (bs, left_of c.loop-b.window)) (blocks_stored h.shape so_far.found stored (so_far.count ∙ all) so_far.stores);
+      codes = ap (λ n. read_codes h 0 n (stream_from c.args.room.now.window so_far.bytes)) (sym all) ∙ so_far.codes
+          ∙ ap (λ (bs : List (List ℤ)). Ok (bs, left_of c.loop-b.room.window)) (blocks_stored h.shape so_far.found stored (so_far.count ∙ all) so_far.stores);
     }
 
 pub returns-clause-all : goal.returns-clause-all
@@ -141,6 +135,26 @@ returns-clause-all g c =
       arith,
       so_far.stores.long,
       ap (stored_before ns) (so_far.count ∙ all),
-      length-map c.loop-b.stored.items g.T.Lane.value,
+      length-map c.loop-b.room.stored.items g.T.Lane.value,
       all_stored ns (omega (arith, c.blocks-b-end.ensures.value, c.blocks-b-end.ensures.not_zero)),
     )
+
+pub reach-requires-clause-room : goal.reach-requires-clause-room
+reach-requires-clause-room g c = (still_restores c.requires.room c.loop-b.invariant.stays c.loop-b.invariant.ended).held
+
+pub reach-requires-clause-ended : goal.reach-requires-clause-ended
+reach-requires-clause-ended g c = c.loop-b.invariant.ended
+
+pub returns-in_err-reach-clause-source : goal.returns-in_err-reach-clause-source
+returns-in_err-reach-clause-source g c =
+    let p = err_from_is_err_and c.from_residual.result c.from_residual.ensures.1 in
+    rw (p.1, p.2) (Reads-then c.loop-b.invariant.source c.in_err-reach.ensures.source.device)
+
+pub returns-clause-source : goal.returns-clause-source
+returns-clause-source g c = Reads-ok tt c.loop-b.invariant.source
+
+pub read_block-read-requires-clause-size : goal.read_block-read-requires-clause-size
+read_block-read-requires-clause-size g c = c.block_len-size.ensures.value ∙ ap (λ d. 4 ^ d) c.dims.ensures.value
+
+pub read_block-read-requires-clause-lines : goal.read_block-read-requires-clause-lines
+read_block-read-requires-clause-lines g c = omega (arith, c.block_len-size.ensures.bound, c.loop-b.room.long, c.deref_mut-in-loop-b.ensures.len)

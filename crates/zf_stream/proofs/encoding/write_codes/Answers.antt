@@ -1,13 +1,17 @@
 use Rattle.std.proofs.Common.{◌≡◌, ℕ, ◌+◌, ◌-◌, ◌≤◌, Bool, List, ◌++◌, map, Option, sym, ap, subst, ◌∙◌, append_assoc, arith}
+use Rattle.std.proofs.lemmas.List.{append-nil}
 use Rattle.std.specs.List.{flat_map}
 use Rattle.zf_spec.specs.Grid.{blocks, upto, count_from, extent_of, block_of}
 use Rattle.zf_spec.specs.Stream.{block_code}
-use Rattle.zf_bits.proofs.Appending.{length-Appends}
 use Rattle.zf_header.specs.HeaderBits.{coding}
 use Rattle.zf_stream.specs.Flows.{Flows, Spills}
 use Rattle.zf_parse.proofs.Codes.{joined-more, joined-prefix}
-use Rattle.zf_stream.proofs.Flowing.{Flows-more, Flows-next, Flows-spill, Spills-more}
+use Rattle.zf_stream.proofs.Flowing.{Flows-none, Flows-more, Flows-next, Flows-spill, Spills-more}
 use Rattle.zf_stream.proofs.OnErrors.{on_err}
+use Rattle.std.proofs.lemmas.Result.{err_from_is_err_and}
+use Rattle.zf_dev.proofs.Devices.{Writes-none, Writes-more}
+use Rattle.zf_stream.proofs.Rooms.{Keeps-none, Keeps-next, room_kept}
+use Rattle.zf_stream.proofs.Failing.{WritesOnly-ok, WritesOnly-then}
 use Rattle.zf_stream.proofs.encoding.write_codes.Goals as goal
 
 module _ (f : ℕ → List Bool) (start : List Bool) where
@@ -34,7 +38,7 @@ returns-in_err-write_where_many-clause-err g c =
     let h = c.args.h.now in
     let b = c.loop-b.b in
     let f = λ (k : ℕ). block_code g.T.Lane.width (coding h.mode) (extent_of h.shape k) (block_of h.shape (map g.T.Lane.value c.args.values.now) k) in
-    let start = c.args.codes.now.bits in
+    let start = c.args.room.now.codes.bits in
     let more = one_more f start b c.loop-b.invariant.flows c.write_code.ensures.code.bits in
     on_err c.from_residual.result _
     (fewer f start (b + 1) (blocks h.shape) (omega (arith, c.loop-b-test.true, c.blocks-b-end.ensures.value)) (Flows-spill more c.in_err-write_where_many.ensures.err))
@@ -44,14 +48,35 @@ loop-b-preserved g c =
     let h = c.args.h.now in
     let b = c.loop-b.b in
     let f = λ (k : ℕ). block_code g.T.Lane.width (coding h.mode) (extent_of h.shape k) (block_of h.shape (map g.T.Lane.value c.args.values.now) k) in
-    let start = c.args.codes.now.bits in
+    let start = c.args.room.now.codes.bits in
     let more = one_more f start b c.loop-b.invariant.flows c.write_code.ensures.code.bits in
     record {
       flows = Flows-next more c.in_ok-write_where_many.ensures.ok;
       few = c.in_ok-write_where_many.ensures.few;
-      room = omega (arith, c.loop-b.invariant.room, c.in_ok-write_where_many.ensures.room, c.write_code.ensures.code.room, length-Appends c.write_code.ensures.code);
-      scratch = c.write_code.ensures.scratch ∙ c.loop-b.invariant.scratch;
-      whole = c.write_code.auto.block ∙ c.loop-b.invariant.whole;
-      same_sink = c.write_where_many.ensures.same_sink ∙ c.loop-b.invariant.same_sink;
-      faults = omega (arith, c.loop-b.invariant.faults, c.write_where_many.ensures.cause.0);
+      keeps = Keeps-next (Keeps-next c.loop-b.invariant.keeps c.write_code.ensures.keeps) c.write_where_many.ensures.keeps;
+      sink = Writes-more c.loop-b.invariant.sink c.write_where_many.ensures.sink.device;
     }
+
+pub returns-in_err-write_where_many-clause-keeps : goal.returns-in_err-write_where_many-clause-keeps
+returns-in_err-write_where_many-clause-keeps g c = Keeps-next (Keeps-next c.loop-b.invariant.keeps c.write_code.ensures.keeps) c.write_where_many.ensures.keeps
+
+pub returns-in_err-write_where_many-clause-sink : goal.returns-in_err-write_where_many-clause-sink
+returns-in_err-write_where_many-clause-sink g c =
+    let p = err_from_is_err_and c.from_residual.result c.from_residual.ensures.1 in
+    rw (p.1, p.2) (WritesOnly-then c.loop-b.invariant.sink c.in_err-write_where_many.ensures.sink)
+
+pub loop-b-init : goal.loop-b-init
+loop-b-init g c =
+    let out = g.O.Sink.contents c.args.out.now in
+    let start = c.args.room.now.codes.bits in
+    let Of : List Bool → Type 0 = λ bs. Flows out out bs start in
+    record { flows = subst Of (sym (append-nil start)) (Flows-none out start); few = c.requires.few; keeps = Keeps-none _; sink = Writes-none _ }
+
+pub write_code-requires-clause-scratch : goal.write_code-requires-clause-scratch
+write_code-requires-clause-scratch g c = (room_kept c.requires.room c.loop-b.invariant.keeps).scratch
+
+pub write_code-requires-clause-fits : goal.write_code-requires-clause-fits
+write_code-requires-clause-fits g c = omega (arith, (room_kept c.requires.room c.loop-b.invariant.keeps).fits, c.loop-b.invariant.few)
+
+pub returns-clause-sink : goal.returns-clause-sink
+returns-clause-sink g c = WritesOnly-ok tt c.loop-b.invariant.sink

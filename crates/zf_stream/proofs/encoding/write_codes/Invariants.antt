@@ -1,20 +1,19 @@
 -- The codes so far are on their way.
-use Rattle.std.proofs.Common.{◌≡◌, ◌+◌, ◌≤◌, ◌<◌, ◌++◌, ◌^◌, map, length}
+use Rattle.std.proofs.Common.{◌<◌, ◌++◌, map, length}
 use Rattle.std.specs.List.{flat_map}
 use Rattle.zf_spec.specs.Grid.{upto, extent_of, block_of}
 use Rattle.zf_spec.specs.Stream.{block_code}
 use Rattle.zf_header.specs.HeaderBits.{coding}
 use Rattle.zf_stream.specs.Flows.{Flows}
+use Rattle.zf_stream.specs.Rooms.{Keeps}
+use Rattle.zf_dev.specs.Devices.{Writes}
 use Rattle.zf_stream.proofs.encoding.write_codes.Given as goal
 
 pub record Coded (g : goal.Over) (l : goal.Live-loop-b g) : Type 0 where
-  pub flows : Flows (g.O.Sink.contents l.fn.out) (g.O.Sink.contents l.out) (l.fn.codes.bits ++ flat_map (λ c. c) (map (λ b. block_code g.T.Lane.width (coding l.h.mode) (extent_of l.h.shape b) (block_of l.h.shape (map g.T.Lane.value l.values) b)) (upto l.b))) l.codes.bits
-  pub few : length l.codes.bits < l.most
-  pub room : length l.fn.codes.bits + l.fn.codes.room ≤ length l.codes.bits + l.codes.room
-  pub scratch : l.s ≡ l.fn.s
-  pub whole : length l.block ≡ 4 ^ length l.h.shape
-  pub same_sink : g.O.Sink.kept l.out ≡ g.O.Sink.kept l.fn.out
-  pub faults : g.O.Sink.faults l.fn.out ≤ g.O.Sink.faults l.out
+  pub flows : Flows (g.O.Sink.contents l.fn.out) (g.O.Sink.contents l.out) (l.fn.room.codes.bits ++ flat_map (λ c. c) (map (λ b. block_code g.T.Lane.width (coding l.h.mode) (extent_of l.h.shape b) (block_of l.h.shape (map g.T.Lane.value l.values) b)) (upto l.b))) l.room.codes.bits
+  pub few : length l.room.codes.bits < l.room.most
+  pub keeps : Keeps l.fn.room l.room
+  pub sink : Writes g.O.Sink ⊥ l.fn.out l.out
 
 abbrev pub invariant-loop-b : goal.invariant-loop-b
 invariant-loop-b g l = Coded g l

@@ -7,6 +7,8 @@ use Rattle.zf_spec.specs.Stream.{values_from}
 use Rattle.zf_dev.proofs.Giving.{Gives-append}
 use Rattle.zf_stream.specs.ReadRaw.{LacksRaw}
 use Rattle.zf_stream.proofs.ReadingValues.{reads_more, lacks_behind}
+use Rattle.zf_dev.proofs.Devices.{Reads-more, Reads-then}
+use Rattle.zf_stream.proofs.Failing.{Reads-ok}
 use Rattle.zf_stream.proofs.reading.read_values.Goals as goal
 
 -- so many values fit into a piece
@@ -65,7 +67,13 @@ loop-at-preserved g c =
     record {
       within = omega (arith, c.loop-at-test.true, c.min-n.ensures);
       done = reads_more w value at n k xs ys old mid now more (omega (arith, c.loop-at-test.true)) count (long ∙ ap (λ j. n * j) c.value_len-len.ensures.value) are c.loop-at.invariant.done c.in_ok-read_raw.ensures.ok c.in_ok-read_raw.ensures.gave;
-      same_source = c.read_raw.ensures.same_source ∙ c.loop-at.invariant.same_source;
-      faults = omega (arith, c.loop-at.invariant.faults, c.read_raw.ensures.cause.0);
-      sure = λ sure. (c.read_raw.ensures.sure (c.loop-at.invariant.sure sure)).1;
+      source = Reads-more c.loop-at.invariant.source c.read_raw.ensures.source;
     }
+
+pub returns-in_err-read_raw-clause-source : goal.returns-in_err-read_raw-clause-source
+returns-in_err-read_raw-clause-source g c =
+    let p = err_from_is_err_and c.from_residual.result c.from_residual.ensures.1 in
+    rw (p.1, p.2) (Reads-then c.loop-at.invariant.source c.in_err-read_raw.ensures.source)
+
+pub returns-clause-source : goal.returns-clause-source
+returns-clause-source g c = Reads-ok tt c.loop-at.invariant.source

@@ -1,6 +1,4 @@
-use Rattle.std.proofs.Common.{◌≡◌, ℕ, ◌+◌, ◌-◌, ◌*◌, ◌/◌, ◌<◌, ◌≤◌, ◌^◌, ◌⊎◌, inl, inr, ⊎_elim, List, map, length, min, mul_comm, refl, sym, ap, subst, ◌∙◌, arith}
-use Rattle.std.proofs.lemmas.List.{length-take-le}
-use Rattle.std.proofs.lemmas.Bool.{cases_lt}
+use Rattle.std.proofs.Common.{◌≡◌, ℕ, ◌+◌, ◌-◌, ◌*◌, ◌/◌, ◌<◌, ◌≤◌, ◌^◌, List, map, length, min, mul_comm, ap, subst, ◌∙◌, arith}
 use Rattle.std.proofs.lemmas.Result.{err_from_is_err_and}
 use Rattle.std.proofs.Math.Nat.{mul-le-mul_left, mul-add}
 use Rattle.zf_spec.specs.Grid.{product, grid, blocks}
@@ -16,12 +14,11 @@ use Rattle.zf_stream.specs.Rows.{ArePieces}
 use Rattle.zf_stream.specs.Restoring.{ReadsSlab, LacksSlab}
 use Rattle.zf_stream.proofs.OnErrors.{on_err}
 use Rattle.zf_stream.proofs.Restored.{blocks_behind, slab_restored, slab_spilled, slab_cut, slab_lacked, Restores-none}
-use Rattle.zf_stream.proofs.Slabwise.{with_shape, part_of, IsNext, next_slab, longest_part}
+use Rattle.zf_stream.proofs.Slabwise.{with_shape, part_of, IsNext, next_here, next_whole}
+use Rattle.zf_dev.proofs.Devices.{Reads-none, Reads-more, Reads-then, Writes-none, Writes-more, Writes-then}
+use Rattle.zf_stream.proofs.Rooms.{Stays-none, Stays-next, still_restores_all, restores_part}
+use Rattle.zf_stream.proofs.Failing.{Reads-ok, Writes-ok}
 use Rattle.zf_stream.proofs.restoring.restore_slabs.Goals as goal
-
--- the smaller of two numbers is one of them
-least : (here rows all row n : ℕ) → here ≡ min rows (all - row) → all ≡ n → (here ≡ rows) ⊎ (here ≡ n - row)
-least here rows all row n is same = ⊎_elim (λ lt. inl (omega arith)) (λ le. inr (omega arith)) (cases_lt rows (all - row))
 
 -- the slab that comes next, of which so many rows are there
 record Slab (h : Header) (rows row here first : ℕ) (shape : List ℕ) : Type 0 where
@@ -32,22 +29,18 @@ record Slab (h : Header) (rows row here first : ℕ) (shape : List ℕ) : Type 0
   behind : first + blocks shape ≡ first_block h.shape ((row + here + 3) / 4)
   fits : first + blocks shape ≤ blocks h.shape
 
-slab_next : (h : Header) (rows row all here first : ℕ) (shape : List ℕ) → ArePieces h.shape rows → IsSlab h.shape 0 row → all ≡ rows_of h.shape → row < all → here ≡ min rows (all - row) → shape ≡ with_rows here h.shape
+slab_here : (h : Header) (rows row all here first : ℕ) (shape : List ℕ) → ArePieces h.shape rows → IsSlab h.shape 0 row → all ≡ rows_of h.shape → row < all → here ≡ min rows (all - row) → shape ≡ with_rows here h.shape
     → first ≡ first_block h.shape ((row + 3) / 4) → Slab h rows row here first shape
-slab_next h rows row all here first shape pieces whole all_is more here_is shape_is first_is =
+slab_here h rows row all here first shape pieces whole all_is more here_is shape_is first_is =
     let ns = h.shape in
-    let next = next_slab h rows row pieces whole (omega (arith, all_is, more)) here (least here rows all row (rows_of ns) here_is all_is) (omega (arith, here_is)) (omega (arith, here_is, all_is)) in
+    let next = next_here h rows row all here pieces whole all_is more here_is in
     let c = row / 4 in
     let down : (row + 3) / 4 ≡ c = omega (arith, next.first) in
     let rounded : (row + here + 3) / 4 ≡ c + (here + 3) / 4 = omega (arith, next.first) in
     let number : first ≡ first_block ns c = first_is ∙ ap (first_block ns) down in
     let many : blocks shape ≡ first_block ns ((here + 3) / 4) = ap blocks shape_is ∙ blocks-with_rows here ns whole.some_axis in
     let behind : first + blocks shape ≡ first_block ns ((row + here + 3) / 4) = omega (arith, number, many, ap (first_block ns) rounded, mul-add (row_len (grid ns)) c ((here + 3) / 4)) in
-    let upto_here : IsSlab ns 0 (row + here) = record {
-      some_axis = whole.some_axis;
-      within = omega (arith, next.first, next.slab.within);
-      whole = ⊎_elim (λ e. inl (omega (arith, e, next.first))) (λ e. inr (omega (arith, e, next.first))) next.slab.whole;
-    } in
+    let upto_here = next_whole h row here next whole in
     let rest = blocks_behind ns (row + here) upto_here in
     let few : here ≤ rows = omega (arith, here_is) in
     let count : product shape ≡ row_len ns * here = ap product shape_is ∙ product-with_rows here ns whole.some_axis in
@@ -62,36 +55,22 @@ slab_next h rows row all here first shape pieces whole all_is more here_is shape
 
 pub loop-row-init : goal.loop-row-init
 loop-row-init g c = record {
-  done = Restores-none c.args.h.now _ _ c.args.window.now c.dims.ensures.shape.some_dimension;
+  done = Restores-none c.args.h.now _ _ c.args.room.now.window c.dims-dims.ensures.shape.some_dimension;
   first = omega (arith, mul_comm (row_len (grid c.args.h.now.shape)) 0);
-  capacity = omega arith;
-  room = refl;
-  ended = c.requires.ended;
-  same_source = refl;
-  same_sink = refl;
-  reads = omega arith;
-  writes = omega arith;
-  sure = λ sure. sure;
+  room = c.requires.room;
+  stays = Stays-none _;
+  source = Reads-none _;
+  sink = Writes-none _;
 }
 
-pub read_slab-requires-clause-values : goal.read_slab-requires-clause-values
-read_slab-requires-clause-values g c =
-    let slab = slab_next c.args.h.now c.args.rows c.loop-row.row c.rows_of-all.result c.min-here.result c.loop-row.first c.with_rows.result c.requires.rows c.loop-row.invariant.done.whole c.rows_of-all.ensures c.loop-row-test.true c.min-here.ensures c.with_rows.ensures c.loop-row.invariant.first in
-    omega (arith, slab.within, c.loop-row.invariant.capacity, c.requires.values)
-
-pub read_slab-requires-clause-whole : goal.read_slab-requires-clause-whole
-read_slab-requires-clause-whole g c =
-    let dims : c.dims.result ≡ length c.with_rows.result = c.dims.ensures.value ∙ sym (ap length c.with_rows.ensures ∙ length-with_rows c.min-here.result c.args.h.now.shape) in
-    length-take-le c.block_len-size.result c.loop-row.lines (omega (arith, c.block_len-size.ensures.bound, c.loop-row.auto.lines, c.requires.lines))
-    ∙ c.block_len-size.ensures.value ∙ ap (λ d. 4 ^ d) dims
-
-pub read_slab-requires-clause-longest : goal.read_slab-requires-clause-longest
-read_slab-requires-clause-longest g c =
-    omega (arith, longest_part c.args.h.now c.with_rows.result (ap length c.with_rows.ensures ∙ length-with_rows c.min-here.result c.args.h.now.shape), c.requires.longest)
+pub read_slab-requires-clause-room : goal.read_slab-requires-clause-room
+read_slab-requires-clause-room g c =
+    let slab = slab_here c.args.h.now c.loop-row.room.rows c.loop-row.row c.rows_of-all.result c.min-here.result c.loop-row.first c.with_rows.result c.loop-row.invariant.room.rows c.loop-row.invariant.done.whole c.rows_of-all.ensures c.loop-row-test.true c.min-here.ensures c.with_rows.ensures c.loop-row.invariant.first in
+    restores_part c.with_rows.result _ (ap length c.with_rows.ensures ∙ length-with_rows c.min-here.result c.args.h.now.shape) slab.within c.loop-row.invariant.room.codes
 
 pub read_slab-requires-clause-numbers : goal.read_slab-requires-clause-numbers
 read_slab-requires-clause-numbers g c =
-    let slab = slab_next c.args.h.now c.args.rows c.loop-row.row c.rows_of-all.result c.min-here.result c.loop-row.first c.with_rows.result c.requires.rows c.loop-row.invariant.done.whole c.rows_of-all.ensures c.loop-row-test.true c.min-here.ensures c.with_rows.ensures c.loop-row.invariant.first in
+    let slab = slab_here c.args.h.now c.loop-row.room.rows c.loop-row.row c.rows_of-all.result c.min-here.result c.loop-row.first c.with_rows.result c.loop-row.invariant.room.rows c.loop-row.invariant.done.whole c.rows_of-all.ensures c.loop-row-test.true c.min-here.ensures c.with_rows.ensures c.loop-row.invariant.first in
     omega (arith, slab.fits, c.blocks-blocks.ensures.value, c.blocks-blocks.ensures.bound)
 
 pub returns-in_err-read_slab-clause-err : goal.returns-in_err-read_slab-clause-err
@@ -104,8 +83,8 @@ returns-in_err-read_slab-clause-refused g c =
     let e = c.in_err-read_slab.field-0.0 in
     let mid = g.S.Source.contents c.loop-row.src in
     let now = g.S.Source.contents c.read_slab.new.src in
-    let slab = slab_next c.args.h.now c.args.rows c.loop-row.row c.rows_of-all.result c.min-here.result c.loop-row.first c.with_rows.result c.requires.rows c.loop-row.invariant.done.whole c.rows_of-all.ensures c.loop-row-test.true c.min-here.ensures c.with_rows.ensures c.loop-row.invariant.first in
-    let P : List ℕ → Type 0 = λ s. LacksSlab (with_shape h s) c.loop-row.first mid now c.loop-row.window e in
+    let slab = slab_here c.args.h.now c.loop-row.room.rows c.loop-row.row c.rows_of-all.result c.min-here.result c.loop-row.first c.with_rows.result c.loop-row.invariant.room.rows c.loop-row.invariant.done.whole c.rows_of-all.ensures c.loop-row-test.true c.min-here.ensures c.with_rows.ensures c.loop-row.invariant.first in
+    let P : List ℕ → Type 0 = λ s. LacksSlab (with_shape h s) c.loop-row.first mid now c.loop-row.room.window e in
     let p = err_from_is_err_and c.from_residual.result c.from_residual.ensures.1 in
     rw (p.1, p.2) (slab_cut h c.loop-row.row c.min-here.result slab.next c.loop-row.invariant.done now c.loop-row.first e slab.number (subst P c.with_rows.ensures c.in_err-read_slab.ensures.err))
 
@@ -118,50 +97,63 @@ returns-in_err-write_stored-clause-err g c =
     let now = g.S.Source.contents c.read_slab.new.src in
     let out1 = g.O.Sink.contents c.loop-row.out in
     let out2 = g.O.Sink.contents c.write_stored.new.out in
-    let stored = map g.T.Lane.value c.read_slab.new.stored.items in
+    let stored = map g.T.Lane.value c.read_slab.new.room.stored.items in
     let values = raster_of shape stored in
-    let slab = slab_next c.args.h.now c.args.rows c.loop-row.row c.rows_of-all.result c.min-here.result c.loop-row.first c.with_rows.result c.requires.rows c.loop-row.invariant.done.whole c.rows_of-all.ensures c.loop-row-test.true c.min-here.ensures c.with_rows.ensures c.loop-row.invariant.first in
+    let slab = slab_here c.args.h.now c.loop-row.room.rows c.loop-row.row c.rows_of-all.result c.min-here.result c.loop-row.first c.with_rows.result c.loop-row.invariant.room.rows c.loop-row.invariant.done.whole c.rows_of-all.ensures c.loop-row-test.true c.min-here.ensures c.with_rows.ensures c.loop-row.invariant.first in
     let long : length values ≡ row_len h.shape * here = length-raster_of shape stored ∙ slab.count in
-    let P : List ℕ → Type 0 = λ s. ReadsSlab (with_shape h s) mid now c.loop-row.window c.read_slab.new.window values in
-    let read : ReadsSlab (part_of h here) mid now c.loop-row.window c.read_slab.new.window values = subst P c.with_rows.ensures c.in_ok-read_slab.ensures.ok in
+    let P : List ℕ → Type 0 = λ s. ReadsSlab (with_shape h s) mid now c.loop-row.room.window c.read_slab.new.room.window values in
+    let read : ReadsSlab (part_of h here) mid now c.loop-row.room.window c.read_slab.new.room.window values = subst P c.with_rows.ensures c.in_ok-read_slab.ensures.ok in
     let text : raw g.T.Lane.width (raster_of shape (map g.T.Lane.value c.deref.result.now)) ≡ raw_bytes h values =
-    ap (λ xs. raw g.T.Lane.width (raster_of shape (map g.T.Lane.value xs))) c.deref.ensures.value ∙ ap (λ w. raw w values) c.requires.same_type in
+    ap (λ xs. raw g.T.Lane.width (raster_of shape (map g.T.Lane.value xs))) c.deref.ensures.value ∙ ap (λ w. raw w values) c.requires.room.same_type in
     let Of : List ℕ → Type 0 = λ bs. AppendsPrefix out1 out2 bs in
     on_err c.from_residual-in_err-write_stored.result _ (slab_spilled h c.loop-row.row here slab.next c.loop-row.invariant.done values read long (subst Of text c.in_err-write_stored.ensures.err))
 
 pub overflow_add-first : goal.overflow_add-first
 overflow_add-first g c =
-    let slab = slab_next c.args.h.now c.args.rows c.loop-row.row c.rows_of-all.result c.min-here.result c.loop-row.first c.with_rows.result c.requires.rows c.loop-row.invariant.done.whole c.rows_of-all.ensures c.loop-row-test.true c.min-here.ensures c.with_rows.ensures c.loop-row.invariant.first in
+    let slab = slab_here c.args.h.now c.loop-row.room.rows c.loop-row.row c.rows_of-all.result c.min-here.result c.loop-row.first c.with_rows.result c.loop-row.invariant.room.rows c.loop-row.invariant.done.whole c.rows_of-all.ensures c.loop-row-test.true c.min-here.ensures c.with_rows.ensures c.loop-row.invariant.first in
     let below : c.loop-row.first + c.blocks-first.result < 2 ^ 64 = omega (arith, slab.fits, c.blocks-first.ensures.value, c.blocks-blocks.ensures.value, c.blocks-blocks.ensures.bound) in
     record { fits = below }
 
 pub loop-row-preserved : goal.loop-row-preserved
 loop-row-preserved g c =
     let h = c.args.h.now in
+    let kept = c.in_ok-read_slab.ensures.stays in
     let here = c.min-here.result in
     let shape = c.with_rows.result in
     let mid = g.S.Source.contents c.loop-row.src in
     let now = g.S.Source.contents c.read_slab.new.src in
     let out1 = g.O.Sink.contents c.loop-row.out in
     let out2 = g.O.Sink.contents c.write_stored.new.out in
-    let stored = map g.T.Lane.value c.read_slab.new.stored.items in
+    let stored = map g.T.Lane.value c.read_slab.new.room.stored.items in
     let values = raster_of shape stored in
-    let slab = slab_next c.args.h.now c.args.rows c.loop-row.row c.rows_of-all.result c.min-here.result c.loop-row.first c.with_rows.result c.requires.rows c.loop-row.invariant.done.whole c.rows_of-all.ensures c.loop-row-test.true c.min-here.ensures c.with_rows.ensures c.loop-row.invariant.first in
+    let slab = slab_here c.args.h.now c.loop-row.room.rows c.loop-row.row c.rows_of-all.result c.min-here.result c.loop-row.first c.with_rows.result c.loop-row.invariant.room.rows c.loop-row.invariant.done.whole c.rows_of-all.ensures c.loop-row-test.true c.min-here.ensures c.with_rows.ensures c.loop-row.invariant.first in
     let long : length values ≡ row_len h.shape * here = length-raster_of shape stored ∙ slab.count in
-    let P : List ℕ → Type 0 = λ s. ReadsSlab (with_shape h s) mid now c.loop-row.window c.read_slab.new.window values in
-    let read : ReadsSlab (part_of h here) mid now c.loop-row.window c.read_slab.new.window values = subst P c.with_rows.ensures c.in_ok-read_slab.ensures.ok in
+    let P : List ℕ → Type 0 = λ s. ReadsSlab (with_shape h s) mid now c.loop-row.room.window c.read_slab.new.room.window values in
+    let read : ReadsSlab (part_of h here) mid now c.loop-row.room.window c.read_slab.new.room.window values = subst P c.with_rows.ensures c.in_ok-read_slab.ensures.ok in
     let text : raw g.T.Lane.width (raster_of shape (map g.T.Lane.value c.deref.result.now)) ≡ raw_bytes h values =
-    ap (λ xs. raw g.T.Lane.width (raster_of shape (map g.T.Lane.value xs))) c.deref.ensures.value ∙ ap (λ w. raw w values) c.requires.same_type in
+    ap (λ xs. raw g.T.Lane.width (raster_of shape (map g.T.Lane.value xs))) c.deref.ensures.value ∙ ap (λ w. raw w values) c.requires.room.same_type in
     let Of : List ℕ → Type 0 = λ bs. Appends out1 out2 bs in
     record {
       done = slab_restored h c.loop-row.row here slab.next c.loop-row.invariant.done values read long (subst Of text c.in_ok-write_stored.ensures.ok);
       first = omega (arith, slab.behind, c.blocks-first.ensures.value);
-      capacity = omega (arith, c.loop-row.invariant.capacity, c.read_slab.ensures.values);
-      room = c.in_ok-read_slab.ensures.room ∙ c.loop-row.invariant.room;
-      ended = c.in_ok-read_slab.ensures.ended;
-      same_source = c.read_slab.ensures.same_source ∙ c.loop-row.invariant.same_source;
-      same_sink = c.write_stored.ensures.same_sink ∙ c.loop-row.invariant.same_sink;
-      reads = omega (arith, c.loop-row.invariant.reads, c.read_slab.ensures.cause.0);
-      writes = omega (arith, c.loop-row.invariant.writes, c.write_stored.ensures.cause.0);
-      sure = λ sure. (c.read_slab.ensures.sure (c.loop-row.invariant.sure sure)).1;
+      room = still_restores_all c.loop-row.invariant.room (record { rows = kept.rows; longest = kept.longest; held = kept.held; values = kept.values }) c.in_ok-read_slab.ensures.ended;
+      stays = Stays-next c.loop-row.invariant.stays (record { rows = kept.rows; longest = kept.longest; held = kept.held; values = kept.values });
+      source = Reads-more c.loop-row.invariant.source c.read_slab.ensures.source;
+      sink = Writes-more c.loop-row.invariant.sink c.write_stored.ensures.sink.device;
     }
+
+pub returns-in_err-read_slab-clause-source : goal.returns-in_err-read_slab-clause-source
+returns-in_err-read_slab-clause-source g c =
+    let p = err_from_is_err_and c.from_residual.result c.from_residual.ensures.1 in
+    rw (p.1, p.2) (Reads-then c.loop-row.invariant.source c.in_err-read_slab.ensures.source)
+
+pub returns-in_err-write_stored-clause-sink : goal.returns-in_err-write_stored-clause-sink
+returns-in_err-write_stored-clause-sink g c =
+    let p = err_from_is_err_and c.from_residual-in_err-write_stored.result c.from_residual-in_err-write_stored.ensures.1 in
+    rw (p.1, p.2) (Writes-then c.loop-row.invariant.sink c.in_err-write_stored.ensures.sink.device)
+
+pub returns-clause-source : goal.returns-clause-source
+returns-clause-source g c = Reads-ok tt c.loop-row.invariant.source
+
+pub returns-clause-sink : goal.returns-clause-sink
+returns-clause-sink g c = Writes-ok tt c.loop-row.invariant.sink

@@ -11,6 +11,9 @@ use Rattle.zf_dev.specs.Sink.{Appends, AppendsPrefix}
 use Rattle.zf_dev.proofs.Appending.{Appends-append, AppendsPrefix-append, AppendsPrefix-more}
 use Rattle.zf_stream.proofs.OnErrors.{on_err}
 use Rattle.zf_stream.proofs.RawValues.{raw-append}
+use Rattle.zf_dev.proofs.Devices.{Writes-more}
+use Rattle.zf_stream.proofs.Failing.{WritesOnly-ok, WritesOnly-then}
+use Rattle.std.proofs.lemmas.Result.{err_from_is_err_and}
 use Rattle.zf_stream.proofs.writing.write_stored.Goals as goal
 
 -- the bytes of some values more
@@ -56,8 +59,7 @@ loop-at-preserved g c =
       within = c.copy_lines-count.ensures.within;
       first = c.copy_lines-count.ensures.first;
       written = subst P (bytes_more w values at n) (Appends-append from mid to (raw w (take at values)) (raw w (take n (drop at values))) c.loop-at.invariant.written here);
-      same_sink = c.write_values-in-loop-at.ensures.same_sink ∙ c.loop-at.invariant.same_sink;
-      faults = omega (arith, c.loop-at.invariant.faults, c.write_values-in-loop-at.ensures.cause.0);
+      sink = Writes-more c.loop-at.invariant.sink c.write_values-in-loop-at.ensures.sink.device;
     }
 
 pub returns-clause-ok : goal.returns-clause-ok
@@ -90,3 +92,11 @@ returns-then-dims-eq1-clause-err g c =
     let P : List ℕ → Type 0 = λ bs. OnErr c.write_values.result (AppendsPrefix (g.O.Sink.contents c.args.out.now) (g.O.Sink.contents c.write_values.new.out) bs) in
     subst P (in_order g.T.Lane.width g.T.Lane.value c.args.shape.now c.args.stored.now c.dims.result c.values-all.result c.dims.ensures.value c.if-dims-eq1.true c.values-all.ensures.value c.requires.all)
     c.write_values.ensures.err
+
+pub returns-in_err-write_values-clause-sink : goal.returns-in_err-write_values-clause-sink
+returns-in_err-write_values-clause-sink g c =
+    let p = err_from_is_err_and c.from_residual.result c.from_residual.ensures.1 in
+    rw (p.1, p.2) (WritesOnly-then c.loop-at.invariant.sink c.in_err-write_values.ensures.sink)
+
+pub returns-clause-sink : goal.returns-clause-sink
+returns-clause-sink g c = WritesOnly-ok tt c.loop-at.invariant.sink

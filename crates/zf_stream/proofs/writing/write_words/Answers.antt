@@ -7,6 +7,9 @@ use Rattle.zf_dev.specs.Sink.{Appends, AppendsPrefix}
 use Rattle.zf_dev.proofs.Appending.{Appends-append, AppendsPrefix-append, AppendsPrefix-more}
 use Rattle.zf_stream.specs.Flows.{bytes_in}
 use Rattle.zf_stream.proofs.OnErrors.{on_err}
+use Rattle.zf_dev.proofs.Devices.{Writes-more}
+use Rattle.zf_stream.proofs.Failing.{WritesOnly-ok, WritesOnly-then}
+use Rattle.std.proofs.lemmas.Result.{err_from_is_err_and}
 use Rattle.zf_stream.proofs.writing.write_words.Goals as goal
 use Rattle.std.proofs.Math.Seq.{take-add}
 
@@ -58,8 +61,7 @@ loop-at-preserved g c =
     record {
       within = omega (arith, c.loop-at-test.true, c.min-n.ensures);
       written = subst P (sym (bytes_more words at n)) (Appends-append from mid to (bytes_in (take at words)) (bytes_in (take n (drop at words))) c.loop-at.invariant.written piece);
-      same_sink = c.write_bytes.ensures.same_sink ∙ c.loop-at.invariant.same_sink;
-      faults = omega (arith, c.loop-at.invariant.faults, c.write_bytes.ensures.cause.0);
+      sink = Writes-more c.loop-at.invariant.sink c.write_bytes.ensures.sink.device;
     }
 
 pub returns-in_err-write_bytes-clause-words : goal.returns-in_err-write_bytes-clause-words
@@ -67,3 +69,11 @@ returns-in_err-write_bytes-clause-words g c = All-from_get_or (λ v. v < 2 ^ 64)
 
 pub returns-clause-words : goal.returns-clause-words
 returns-clause-words g c = All-from_get_or (λ v. v < 2 ^ 64) c.args.words.now 0 (λ i within. (c.type_inv.words i).fits)
+
+pub returns-in_err-write_bytes-clause-sink : goal.returns-in_err-write_bytes-clause-sink
+returns-in_err-write_bytes-clause-sink g c =
+    let p = err_from_is_err_and c.from_residual.result c.from_residual.ensures.1 in
+    rw (p.1, p.2) (WritesOnly-then c.loop-at.invariant.sink c.in_err-write_bytes.ensures.sink)
+
+pub returns-clause-sink : goal.returns-clause-sink
+returns-clause-sink g c = WritesOnly-ok tt c.loop-at.invariant.sink

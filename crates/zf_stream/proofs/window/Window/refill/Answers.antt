@@ -1,7 +1,10 @@
-use Rattle.std.proofs.Common.{refl, sym, ◌∙◌, arith}
+use Rattle.std.proofs.Common.{sym, ◌∙◌, arith}
 use Rattle.zf_dev.proofs.Taking.{Takes-append}
 use Rattle.zf_stream.proofs.OnErrors.{on_err}
 use Rattle.zf_stream.proofs.Windows.{Refills-next, Refills-moved}
+use Rattle.zf_dev.proofs.Devices.{Reads-none, Reads-more}
+use Rattle.std.proofs.lemmas.Result.{err_from_is_err_and}
+use Rattle.zf_stream.proofs.Failing.{ReadsOnly-ok, ReadsOnly-then}
 use Rattle.zf_stream.proofs.window.Window.refill.Goals as goal
 
 pub loop-self-init : goal.loop-self-init
@@ -9,9 +12,7 @@ loop-self-init g c = record {
   refills = Refills-moved (g.S.Source.contents c.args.src.now) c.args.self.now c.move_down.new.self c.move_down.ensures.bits c.move_down.ensures.room c.move_down.ensures.place;
   place = omega (arith, c.move_down.ensures.place);
   ended = λ is. c.requires.ended (sym c.move_down.ensures.ended ∙ is);
-  same_source = refl;
-  faults = omega arith;
-  sure = λ sure. sure;
+  source = Reads-none _;
 }
 
 pub loop-self-preserved : goal.loop-self-preserved
@@ -19,12 +20,21 @@ loop-self-preserved g c = record {
   refills = Refills-next c.loop-self.invariant.refills c.in_ok-append.ensures.ok;
   place = omega (arith, c.in_ok-append.ensures.place, c.loop-self.invariant.place);
   ended = c.in_ok-append.ensures.ended;
-  same_source = c.append.ensures.same_source ∙ c.loop-self.invariant.same_source;
-  faults = omega (arith, c.loop-self.invariant.faults, c.append.ensures.cause.0);
-  sure = λ sure. (c.append.ensures.sure (c.loop-self.invariant.sure sure)).1;
+  source = Reads-more c.loop-self.invariant.source c.append.ensures.source.device;
 }
 
 pub returns-in_err-append-clause-taken : goal.returns-in_err-append-clause-taken
 returns-in_err-append-clause-taken g c =
     let more = c.in_err-append.ensures.taken in
     on_err c.from_residual.result _ (_, Takes-append _ _ _ _ _ c.loop-self.invariant.refills.goes.taken more.1)
+
+pub returns-in_err-append-clause-source : goal.returns-in_err-append-clause-source
+returns-in_err-append-clause-source g c =
+    let p = err_from_is_err_and c.from_residual.result c.from_residual.ensures.1 in
+    rw (p.1, p.2) (ReadsOnly-then c.loop-self.invariant.source c.in_err-append.ensures.source)
+
+pub returns-else-not-self-clause-source : goal.returns-else-not-self-clause-source
+returns-else-not-self-clause-source g c = ReadsOnly-ok tt c.loop-self.invariant.source
+
+pub returns-after-loop-self-clause-source : goal.returns-after-loop-self-clause-source
+returns-after-loop-self-clause-source g c = ReadsOnly-ok tt c.loop-self.invariant.source

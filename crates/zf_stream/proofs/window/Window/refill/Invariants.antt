@@ -1,15 +1,14 @@
 -- What was read so far was put behind what was left.
-use Rattle.std.proofs.Common.{◌≡◌, ℕ, suc, ◌-◌, ◌*◌, ◌<◌, ◌≤◌, Bool, cond, length}
+use Rattle.std.proofs.Common.{ℕ, suc, ◌-◌, ◌*◌, ◌<◌, Bool, cond, length}
 use Rattle.zf_stream.specs.Windows.{left_of, KnowsEnd, Refills}
+use Rattle.zf_dev.specs.Devices.{Reads}
 use Rattle.zf_stream.proofs.window.Window.refill.Given as goal
 
 pub record Filling (g : goal.Over) (l : goal.Live-loop-self g) : Type 0 where
   pub refills : Refills (g.S.Source.contents l.fn.src) (g.S.Source.contents l.src) l.fn.self l.self
   pub place : l.self.reader.at < 64
   pub ended : KnowsEnd l.self (g.S.Source.contents l.src)
-  pub same_source : g.S.Source.kept l.src ≡ g.S.Source.kept l.fn.src
-  pub faults : g.S.Source.faults l.fn.src ≤ g.S.Source.faults l.src
-  pub sure : g.S.Source.never_fails l.fn.src → g.S.Source.never_fails l.src
+  pub source : Reads g.S.Source ⊥ l.fn.src l.src
 
 abbrev pub invariant-loop-self : goal.invariant-loop-self
 invariant-loop-self g l = Filling g l

@@ -12,8 +12,8 @@ use Rattle.zfpi.proofs.commands.compress.compress_begun.Goals as goal
 pub returns-in-Ok-clause-behaves : goal.returns-in-Ok-clause-behaves
 returns-in-Ok-clause-behaves g c = λ files.
     let h = c.args.h in
-    let done = c.in-Ok.ensures.ok in
-    let src_is = c.src-1.given.1 (sym (ap (λ (q : _). q.0) c.compress.ensures.same_source)) in
+    let done = c.in-Ok.ensures.outcome.ok in
+    let src_is = c.src-1.given.1 (sym (ap (λ (q : _). q.0) c.compress.ensures.source.same)) in
     subst (λ s. Behaves (Compress c.args.h) Done (seen (g.S.Source.contents c.args.src.now) (g.O.Sink.contents c.args.out.now) files) (seen (g.S.Source.contents s) (g.O.Sink.contents c.compress.new.out) files)) (sym src_is)
     (Behaves-done (Compress h) done.bytes _ _ _ _ files (IsStreaming-compress h) (ap status_of (sym done.good)) done.taken done.ended done.written)
 
@@ -21,19 +21,19 @@ pub returns-in-Err-clause-behaves : goal.returns-in-Err-clause-behaves
 returns-in-Err-clause-behaves g c = λ files.
     let h = c.args.h in
     let e = c.in-Err.fault in
-    let done = c.in-Err.ensures in
+    let done = c.in-Err.ensures.outcome in
     let left = done.err in
-    let src_is = c.src-1.given.1 (sym (ap (λ (q : _). q.0) c.compress.ensures.same_source)) in
+    let src_is = c.src-1.given.1 (sym (ap (λ (q : _). q.0) c.compress.ensures.source.same)) in
     rw c.from.ensures (subst (λ s. Behaves (Compress c.args.h) (fault_status c.in-Err.fault) (seen (g.S.Source.contents c.args.src.now) (g.O.Sink.contents c.args.out.now) files) (seen (g.S.Source.contents s) (g.O.Sink.contents c.compress.new.out) files)) (sym src_is)
     (Behaves-fault (Compress h) (compress_answer h) e [] left.bytes _ _ _ _ files (IsStreaming-compress h) (λ w. refl) done.answer done.possible tt (λ input exposed memory. tt) left.taken
     (λ w. compress_prefix e (stream_text h left.bytes) _ _ left.written (λ starved. done.unwritten (ap Err starved)))))
 
 pub returns-in-Ok-clause-stops : goal.returns-in-Ok-clause-stops
 returns-in-Ok-clause-stops g c =
-    let src_is = c.src-1.given.1 (sym (ap (λ (q : _). q.0) c.compress.ensures.same_source)) in
+    let src_is = c.src-1.given.1 (sym (ap (λ (q : _). q.0) c.compress.ensures.source.same)) in
     subst (λ s. StopsAtEnd true (g.S.Source.ends_seen c.args.src.now) (g.S.Source.ends_seen s)) (sym src_is) (StopsAtEnd-begun _ _ _ c.requires.begun c.compress.new.src.once)
 
 pub returns-in-Err-clause-stops : goal.returns-in-Err-clause-stops
 returns-in-Err-clause-stops g c =
-    let src_is = c.src-1.given.1 (sym (ap (λ (q : _). q.0) c.compress.ensures.same_source)) in
+    let src_is = c.src-1.given.1 (sym (ap (λ (q : _). q.0) c.compress.ensures.source.same)) in
     subst (λ s. StopsAtEnd true (g.S.Source.ends_seen c.args.src.now) (g.S.Source.ends_seen s)) (sym src_is) (StopsAtEnd-begun _ _ _ c.requires.begun c.compress.new.src.once)

@@ -1,0 +1,102 @@
+-- How restoring ends, put together.
+use Rattle.std.proofs.Common.{◌≡◌, refl, sym, subst, ◌∙◌, ℕ, inl, inr, ⊎_elim, List, ◌++◌, Option, Some, None, Result, Err, arith}
+use Rattle.std.specs.Prelude.{IfErr, OnOk, OnErr}
+use Rattle.std.proofs.lemmas.Result.{IfErr-weaker}
+use Rattle.zf_spec.specs.Stream.{to_bits}
+use Rattle.zf_header.specs.declared.header.Header.{Header}
+use Rattle.zf_dev.specs.Source.{Takes, TakesSome}
+use Rattle.zf_parse.specs.declared.fault.StreamFault.{StreamFault}
+use Rattle.zf_parse.specs.declared.fault.StreamFault.TheVariants.{Read, Memory}
+use Rattle.zf_parse.specs.Parsing.{restore_answer, restored_text}
+use Rattle.zf_parse.specs.ReadStreams.{BeginsWithHeader, HasGoodHeader, IsFaultOf}
+use Rattle.zf_stream.specs.Outcomes.{Answers, LeavesPrefix, TakesFirst, Restored}
+use Rattle.zf_stream.specs.Windows.{Window}
+use Rattle.zf_stream.specs.Restoring.{behind, RestoredBehind, RestoresAll, LeavesRows, Refuses}
+use Rattle.zf_stream.proofs.Answering.{answer_of_refusal, answer_of_memory, after_err, on_ok_weaker}
+use Rattle.zf_dev.proofs.Appending.{AppendsPrefix-none}
+use Rattle.zf_stream.proofs.OwnFaults.{refused_later}
+use Rattle.zf_stream.proofs.Headed.{refusal_of_fault}
+use Rattle.zf_stream.proofs.Refusals.{CanRefuse-header}
+use Rattle.zf_stream.proofs.FromPrefix.{nothing_taken, finishes_behind, leaves_prefix, can_refuse, answers, Answers-known, Takes-known, Finishes-known}
+
+-- memory was wanting
+pub no_room : (prefix : List ℕ) (e : StreamFault) (src out : Option (List ℕ)) → e ≡ Memory → RestoredBehind prefix (Err e) src src out out
+no_room prefix e src out memory = record {
+  answer = answer_of_memory (Err e) e (behind prefix src) restore_answer refl memory;
+  possible = inr (inr (inr memory));
+  ok = tt;
+  err = nothing_taken prefix src out;
+  unwritten = λ _. refl;
+}
+
+-- the codes behind the header were restored, or refused
+pub restored_behind : (h : Header) (len : ℕ) (prefix : List ℕ) → BeginsWithHeader prefix h len → (w : Window) → w.reader.all ≡ to_bits prefix → w.reader.at ≡ len
+    → (r : Result (Unit {0}) StreamFault) (src now out0 out : Option (List ℕ)) → OnOk r (RestoresAll h src now out0 out w) → OnErr r (LeavesRows h src now out0 out w) → IfErr r (Refuses h src now w)
+    → RestoredBehind prefix r src now out0 out
+restored_behind h len prefix begun w all at r src now out0 out done left refused = record {
+  answer = answers h len prefix begun w all at r src now out0 out done refused;
+  possible = IfErr-weaker r (Refuses h src now w) _ (λ e refuses. can_refuse h len prefix begun w all at src now e refuses) refused;
+  ok = on_ok_weaker r done (λ all_done. finishes_behind h len prefix begun w all at all_done);
+  err = after_err r left (λ rows. leaves_prefix h len prefix begun w all at rows);
+  unwritten = IfErr-weaker r (Refuses h src now w) _ (λ e refuses before. absurd (refused_later h src now w e refuses before)) refused;
+}
+
+-- said of all of the source
+pub restored_known : (prefix : List ℕ) (r : Result (Unit {0}) StreamFault) (known src now out0 out : Option (List ℕ)) → Takes known src prefix → HasGoodHeader known → RestoredBehind prefix r src now out0 out → Restored r known now out0 out
+restored_known prefix r known src now out0 out taken good rest = record {
+  answer = Answers-known r known src prefix restore_answer taken rest.answer;
+  possible = IfErr-weaker r _ _ (λ e can. ⊎_elim (λ is. inl (prefix ++ is.0, is.1)) (λ outside. inr outside) can) rest.possible;
+  ok = on_ok_weaker r rest.ok (λ fin. Finishes-known known src prefix taken fin.done);
+  err = after_err r rest.err (λ left. record { bytes = left.bytes; taken = Takes-known known src now prefix left.bytes taken left.taken; written = left.written });
+  unwritten = rest.unwritten;
+  memory = λ _. good;
+}
+
+-- ---- before the header was known
+
+no_memory : {T : Type 0} (e f : StreamFault) → e ≡ f → (f ≡ Memory → ⊥) → (r : Result T StreamFault) → r ≡ Err e → r ≡ Err Memory → ⊥
+no_memory {T} e f is not_memory r err same =
+    let Same : Result T StreamFault → Type 0 = λ q. IfErr q (λ x. e ≡ x) in
+    not_memory (sym is ∙ subst Same (sym err ∙ same) refl)
+
+read_is : Read ≡ Memory → ⊥
+read_is same = cc
+
+pub unread_memory : {T : Type 0} (e : StreamFault) → e ≡ Read → (r : Result T StreamFault) → r ≡ Err e → r ≡ Err Memory → ⊥
+unread_memory {T} e is r err same = no_memory e Read is read_is r err same
+
+pub bad_memory : {T : Type 0} (prefix : List ℕ) (e : StreamFault) → IsFaultOf prefix e → (r : Result T StreamFault) → r ≡ Err e → r ≡ Err Memory → ⊥
+bad_memory {T} prefix e fault r err same =
+    let Same : Result T StreamFault → Type 0 = λ q. IfErr q (λ x. e ≡ x) in
+    let is : e ≡ Memory = subst Same (sym err ∙ same) refl in
+    let no : IsFaultOf prefix Memory = subst (IsFaultOf prefix) is fault in no
+
+pub answer_unread : {T : Type 0} (known : Option (List ℕ)) (e : StreamFault) (answer : List ℕ → Result T StreamFault) → e ≡ Read → Answers (Err e) known answer
+answer_unread {T} None e answer is = tt
+answer_unread {T} (Some input) e answer is = inr (inl is)
+
+-- some bytes were taken, and nothing was written
+pub nothing_written : (known now out : Option (List ℕ)) → TakesSome known now → LeavesPrefix restored_text known now out out
+nothing_written known now out some = record { bytes = some.0; taken = some.1; written = AppendsPrefix-none out (restored_text some.0) }
+
+-- the source failed
+pub restored_unread : (e : StreamFault) (known now out : Option (List ℕ)) → e ≡ Read → TakesSome known now → Restored (Err e) known now out out
+restored_unread e known now out is some = record {
+  answer = answer_unread known e restore_answer is;
+  possible = inr (inl is);
+  ok = tt;
+  err = nothing_written known now out some;
+  unwritten = λ _. refl;
+  memory = λ same. absurd (unread_memory e is (Err e) refl same);
+}
+
+-- there is no good header
+pub restored_header : (prefix : List ℕ) (e : StreamFault) (known now out : Option (List ℕ)) → TakesFirst 24 known now prefix → IsFaultOf prefix e → Restored (Err e) known now out out
+restored_header prefix e known now out first fault = record {
+  answer = answer_of_refusal (Err e) e known restore_answer refl (refusal_of_fault 24 known prefix e (omega arith) first.first fault);
+  possible = CanRefuse-header 24 prefix e (omega arith) first.within fault;
+  ok = tt;
+  err = nothing_written known now out (prefix, first.taken);
+  unwritten = λ _. refl;
+  memory = λ same. absurd (bad_memory prefix e fault (Err e) refl same);
+}

@@ -1,0 +1,78 @@
+//! The room that a stream is restored in.
+
+ghost use Rattle.std.specs.Prelude.{◌≡◌, ◌≤◌, ◌<◌, ◌+◌, ◌*◌, true, length, IfOk, vec_len, vec_capacity};
+ghost use Rattle.zf_spec.specs.Stream.{to_bits};
+ghost use Rattle.zf_base.specs.Widths.{width_of};
+ghost use Rattle.zf_pad.specs.Slabs.{row_len};
+ghost use Rattle.zf_parse.specs.Parsing.{longest_code};
+ghost use Rattle.zf_parse.specs.ReadStreams.{BeginsWithHeader};
+ghost use Rattle.zf_stream.specs.Rows.{ArePieces};
+
+use crate::room::PIECE;
+use crate::slabs::{most_rows, rows_of, with_rows};
+use crate::window::Window;
+use std::alloc::{AllocError, Global};
+use zf_base::Lane;
+use zf_header::Header;
+use zf_parse::longest_code;
+
+// How many values are brought in raster order at once, and so written: 128 KiB or more, and no block has more.
+const LINES: usize = 1 << 15;
+
+/// What a stream is restored in, so many rows at a time.
+#[derive(Drop)]
+pub(crate) struct RestoreRoom<T: Lane> {
+    pub(crate) rows: u64,
+    /// The bits of the stream that are held. No code has more than `longest`.
+    pub(crate) window: Window,
+    pub(crate) longest: u64,
+    /// The values of a slab, in the order of blocks.
+    pub(crate) stored: Vec<T>,
+    /// Values of a block, and then of the slab in raster order.
+    pub(crate) lines: Vec<T>,
+    /// Bytes on their way from the source or to the sink.
+    pub(crate) piece: Vec<u8>,
+    ghost long: { 256 ≤ vec_len lines },
+    ghost wide: { 8 ≤ vec_len piece },
+}
+
+/// Takes all memory for an array whose stream has these first bytes, the header among them.
+pub(crate) fn restore_room<T: Lane>(
+    alloc: Global,
+    h: &Header,
+    header_len: u32,
+    prefix: &[u8],
+) -> Result<RestoreRoom<T>, AllocError>
+    requires begun { BeginsWithHeader prefix.now h.now header_len }
+    requires same_type { T.width ≡ width_of h.now.ty }
+    requires few { length prefix.now ≤ 24 }
+    ensures rows { IfOk result (λ room. ArePieces h.now.shape room.rows) }
+    ensures longest { IfOk result (λ room. longest_code h.now ≤ room.longest) }
+    ensures held { IfOk result (λ room. room.longest + 64 ≤ 64 * room.window.room) }
+    ensures fill { IfOk result (λ room. 128 ≤ 64 * room.window.room) }
+    ensures values { IfOk result (λ room. row_len h.now.shape * room.rows ≤ vec_capacity room.stored) }
+    ensures bits { IfOk result (λ room. room.window.reader.all ≡ to_bits prefix.now) }
+    ensures place { IfOk result (λ room. room.window.reader.at ≡ header_len) }
+    ensures ended { IfOk result (λ room. room.window.ended ≡ true → length prefix.now < 24) }
+{
+    // tells that there is an axis
+    let _dims = h.shape.dims();
+    let rows = most_rows(&h.shape).min(rows_of(&h.shape));
+    let slab = with_rows(&h.shape, rows);
+    let longest = longest_code::<T>(h);
+    let first = (8 * PIECE).min(slab.blocks() * longest);
+    let window = Window::new(alloc, longest + first, prefix, u64::from(header_len))?;
+    let lines = vec![in alloc; T::zero(); LINES]?;
+    let piece = vec![in alloc; 0; PIECE as usize]?;
+    // Room for a slab is taken here, and written block by block: a stream that ends early needs no more than its
+    // values.
+    let stored = Vec::with_capacity(alloc, slab.values() as usize)?;
+    Ok(RestoreRoom {
+        rows,
+        window,
+        longest,
+        stored,
+        lines,
+        piece,
+    })
+}
