@@ -1,6 +1,6 @@
 -- Coefficients and planes as they are held in words.
---     A coefficient is a word that has its digits as bits. A plane is four words of 64 bits, one for each rank;
---     planes are numbered by their digit, the lowest first.
+--     A coefficient is a word that has its digits as bits. A plane is four words of 64 bits, one for each
+--     rank; planes are numbered by their digit, the lowest first.
 use Rattle.std.specs.Prelude.{ℕ, ℤ, pos, ◌≡◌, ◌<◌, Bool, false, List, map, slice_index_or}
 use Rattle.std.specs.Int.{Width}
 use mir.Val.{bits}

@@ -28,8 +28,8 @@ pub fn from_planes(planes: &[[u64; 4]], digits: &mut [u64])
     digits_of_planes(planes, digits);
 }
 
-/// Writes the digits of planes of any number of words, so that blocks of up to 64 coefficients have one word a
-/// plane.
+/// Writes the digits of planes of any number of words, so that blocks of up to 64 coefficients have one word
+/// a plane.
 #[inline(always)]
 pub fn digits_of_planes<P: Plane>(planes: &[P], digits: &mut [u64])
     requires planes { length planes.now ≤ 64 }
@@ -223,8 +223,8 @@ fn take_64<P: Plane>(planes: &[P], number: usize, digits: &mut [u64])
     }
 }
 
-/// Takes 64 digits of 64 planes. Where 32 planes beside one another have all the ones, as a budget mostly leaves it,
-/// no others are turned.
+/// Takes 64 digits of 64 planes. Where 32 planes beside one another have all the ones, as a budget mostly
+/// leaves it, no others are turned.
 #[inline(always)]
 fn take_64_of_64<P: Plane>(planes: &[P], number: usize, digits: &mut [u64])
     requires number { number < P.word_count }
@@ -334,8 +334,8 @@ fn join<const N: usize>(low: &[u64], high: &[u64], digits: &mut [u64])
     }
 }
 
-/// Each word has 32 digits of a rank below 32, and then those of the rank 32 above it; the digits stand behind `from`
-/// zeros.
+/// Each word has 32 digits of a rank below 32, and then those of the rank 32 above it; the digits stand
+/// behind `from` zeros.
 #[inline(always)]
 fn join_from(words: &[u64], from: usize, digits: &mut [u64])
     requires words { length words.now ≡ 32 }
