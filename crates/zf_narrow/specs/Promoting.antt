@@ -10,7 +10,8 @@ abbrev pub listed : Option ℕ → List ℕ
 listed None = []
 listed (Some byte) = byte ∷ []
 
--- the raw int32 bytes of what is still to come, behind the first byte of a value or none; nothing once the zero byte for half a value was given
+-- the raw int32 bytes of what is still to come, behind the first byte of a value or none; nothing once the
+-- zero byte for half a value was given
 abbrev pub coming : Narrow → Bool → List ℕ → List ℕ → List ℕ
 coming n true half left = []
 coming n false half left = promoted_all n (half ++ left)
@@ -20,8 +21,10 @@ abbrev pub exposed_by : Narrow → Bool → List ℕ → List ℕ → Option (Li
 exposed_by n spent pending half None = None
 exposed_by n spent pending half (Some left) = Some (pending ++ coming n spent half left)
 
--- some bytes were taken, which are these whole values, but for the first byte of a value before them and behind them
-pub record TakesValues (n : Narrow) (before now : Option (List ℕ)) (half_before half_now values : List ℕ) : Type 0 where
+-- some bytes were taken, which are these whole values, but for the first byte of a value before them and
+-- behind them
+pub record TakesValues (n : Narrow) (before now : Option (List ℕ))
+    (half_before half_now values : List ℕ) : Type 0 where
   pub bytes : List ℕ
   pub taken : Takes before now bytes
   pub parts : half_before ++ bytes ≡ values ++ half_now

@@ -1,5 +1,6 @@
 -- What `compress_narrow` and `restore_narrow` answer and write for an input, and how they end.
-use Rattle.std.specs.Prelude.{ℕ, ◌≡◌, ◌≢◌, ◌+◌, ◌-◌, ◌*◌, ◌/◌, ◌%◌, min, ◌⊎◌, List, [], Option, Some, None, Result, Ok, Err, IsErrAnd, IfErr, OnOk, OnErr}
+use Rattle.std.specs.Prelude.{ℕ, ◌≡◌, ◌≢◌, ◌+◌, ◌-◌, ◌*◌, ◌/◌, ◌%◌, min, ◌⊎◌, List, [], Option, Some, None}
+use Rattle.std.specs.Prelude.{Result, Ok, Err, IsErrAnd, IfErr, OnOk, OnErr}
 use Rattle.zf_spec.specs.Grid.{product}
 use Rattle.zf_base.specs.declared.lane.Ty.{Ty}
 use Rattle.zf_base.specs.declared.lane.Ty.TheVariants.{I32, I64}
@@ -40,7 +41,8 @@ narrow_fault n e = e
 abbrev pub compress_narrow_answer : Narrow → Header → List ℕ → Result (Unit {0}) StreamFault
 compress_narrow_answer n h bytes = length_answer (narrow_len n h) bytes
 
--- the stream of the values that stand for the whole narrow values of these bytes, continued with zeros or cut at the array's length
+-- the stream of the values that stand for the whole narrow values of these bytes, continued with zeros or cut
+-- at the array's length
 abbrev pub narrow_text : Narrow → Header → List ℕ → List ℕ
 narrow_text n h bytes = stream_text h (promoted_bytes n bytes)
 
@@ -53,7 +55,8 @@ answer_of_type I32 (Err e) = Err (Stream e)
 answer_of_type I64 answer = Err NotNarrow
 
 -- a fault of the header comes before the type, and that before all else
-abbrev pub answer_behind : Option HeaderFault → Ty → Result (Unit {0}) StreamFault → Result (Unit {0}) NarrowFault
+abbrev pub answer_behind : Option HeaderFault → Ty → Result (Unit {0}) StreamFault
+    → Result (Unit {0}) NarrowFault
 answer_behind (Some f) ty answer = Err (Stream (faults.Header f))
 answer_behind None ty answer = answer_of_type ty answer
 
@@ -85,7 +88,8 @@ abbrev pub CanRefuseNarrow : NarrowFault → Type 0
 CanRefuseNarrow e = ((input : List ℕ) × (restore_narrow_answer input ≡ Err e)) ⊎ IsFromOutside e
 
 -- the input was read to its end and is a good stream of int32, and its values were written
-pub record RestoresNarrow (n : Narrow) (src_before src_now out_before out_now : Option (List ℕ)) : Type 0 where
+pub record RestoresNarrow (n : Narrow) (src_before src_now out_before out_now : Option
+    (List ℕ)) : Type 0 where
   pub bytes : List ℕ
   pub taken : Takes src_before src_now bytes
   pub ended : IsAtEnd src_now
@@ -100,14 +104,18 @@ pub record HasWideType (src_before src_now : Option (List ℕ)) : Type 0 where
   pub other : (header_of bytes).ty ≢ I32
 
 -- some bytes were read, and a prefix of their values was written, maybe nothing
-pub record LeavesNarrowPrefix (n : Narrow) (src_before src_now out_before out_now : Option (List ℕ)) : Type 0 where
+pub record LeavesNarrowPrefix (n : Narrow) (src_before src_now out_before out_now : Option
+    (List ℕ)) : Type 0 where
   pub bytes : List ℕ
   pub taken : Takes src_before src_now bytes
   pub written : AppendsPrefix out_before out_now (narrow_restored n bytes)
 
--- how a stream is restored to narrow values: the result is the one that is stated for the input; on `Ok` its values were written, and on an error a prefix of
--- them, but nothing where the header is bad or of another type, or where memory was wanting, which is said only behind a good header
-pub record RestoredNarrow (n : Narrow) (result : Result (Unit {0}) NarrowFault) (src_before src_now out_before out_now : Option (List ℕ)) : Type 0 where
+-- how a stream is restored to narrow values: the result is the one that is stated for the input; on `Ok` its
+-- values were written, and on an error a prefix of
+-- them, but nothing where the header is bad or of another type, or where memory was wanting, which is said
+-- only behind a good header
+pub record RestoredNarrow (n : Narrow) (result : Result (Unit {0}) NarrowFault)
+    (src_before src_now out_before out_now : Option (List ℕ)) : Type 0 where
   pub answer : AnswersNarrow result src_before
   pub possible : IfErr result CanRefuseNarrow
   pub ok : OnOk result (RestoresNarrow n src_before src_now out_before out_now)

@@ -1,4 +1,5 @@
--- Values of 8 and 16 bits, and the int32 values that stand for them: zfp's promotion, by which the values of a type lie evenly around zero.
+-- Values of 8 and 16 bits, and the int32 values that stand for them: zfp's promotion, by which the values of
+-- a type lie evenly around zero.
 use Rattle.std.specs.Prelude.{ℕ, ◌/◌, ◌^◌, ℤ, pos, negsuc, ◌+ℤ◌, ◌-ℤ◌, ◌*ℤ◌, ◌≤ℤ◌}
 use Rattle.std.specs.Int.{Width, w8, w16, int_max, int_min}
 use Rattle.zf_narrow.specs.declared.narrow.Narrow.{Narrow}

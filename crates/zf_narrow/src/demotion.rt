@@ -1,6 +1,7 @@
 //! How far values were demoted: what is between int32 bytes and a sink of narrow bytes.
 
-ghost use Rattle.std.specs.Prelude.{◌≡◌, ◌%◌, ◌*◌, ◌<◌, ◌≤◌, ◌++◌, [], None, length, take, IsErr, IfOk, OnOk, OnErr};
+ghost use Rattle.std.specs.Prelude.{◌≡◌, ◌%◌, ◌*◌, ◌<◌, ◌≤◌, ◌++◌, [], None, length, take, IsErr, IfOk, OnOk};
+ghost use Rattle.std.specs.Prelude.{OnErr};
 ghost use Rattle.zf_dev.specs.Devices.{AsksSink};
 ghost use Rattle.zf_narrow.specs.RawNarrow.{demoted_bytes};
 ghost use Rattle.zf_narrow.specs.Promoting.{listed};
@@ -13,7 +14,8 @@ use zf_dev::{Failed, Sink};
 // The most narrow bytes that are written at a time.
 const PIECE: usize = 4096;
 
-/// What is kept of the int32 bytes that were taken: less than a value of them, and of the narrow bytes the second of a value whose first was written.
+/// What is kept of the int32 bytes that were taken: less than a value of them, and of the narrow bytes the
+/// second of a value whose first was written.
 #[derive(Drop)]
 pub(crate) struct Demotion {
     narrow: Narrow,

@@ -26,7 +26,8 @@ pub fn promote(n: Narrow, v: i32) -> i32
     }
 }
 
-/// The number of the type that an int32 value stands for: the one on whose step it lies, or next above, and the last one where it lies beyond.
+/// The number of the type that an int32 value stands for: the one on whose step it lies, or next above, and
+/// the last one where it lies beyond.
 pub fn demote(n: Narrow, v: i32) -> i32
     ensures value { result ≡ demoted n v }
     ensures narrow { IsNarrow n result }

@@ -1,6 +1,7 @@
 //! A source of raw narrow values as a source of raw int32 values: those that stand for them.
 
-ghost use Rattle.std.specs.Prelude.{◌≡◌, ◌<◌, ◌≤◌, [], length, take, drop, IsTrue, IsOk, IsErr, IfOk, OnOk, OnErr};
+ghost use Rattle.std.specs.Prelude.{◌≡◌, ◌<◌, ◌≤◌, [], length, take, drop, IsTrue, IsOk, IsErr, IfOk, OnOk};
+ghost use Rattle.std.specs.Prelude.{OnErr};
 ghost use Rattle.std.specs.Coded.{→_prop};
 ghost use Rattle.zf_dev.specs.Facts.{IsAtEnd-prop};
 ghost use Rattle.zf_dev.specs.Faults.{HasCause};
@@ -13,7 +14,8 @@ use crate::promotion::Promotion;
 use std::marker::PhantomData;
 use zf_dev::{Failed, Source};
 
-/// Gives the int32 bytes of the values that stand for the whole narrow values of `src`, and a zero byte where half a value is left over at its end.
+/// Gives the int32 bytes of the values that stand for the whole narrow values of `src`, and a zero byte where
+/// half a value is left over at its end.
 ///
 /// It reads no value before it gives the first byte of it.
 #[derive(Drop)]

@@ -1,6 +1,7 @@
 //! How far values were promoted: what is between a source of narrow bytes and its int32 bytes.
 
-ghost use Rattle.std.specs.Prelude.{◌≡◌, ◌+◌, ◌-◌, ◌%◌, ◌<◌, ◌≤◌, ◌++◌, ◌↔◌, [], length, take, drop, replicate, IsTrue, IsOk, IsErr, IfOk, OnOk, OnErr};
+ghost use Rattle.std.specs.Prelude.{◌≡◌, ◌+◌, ◌-◌, ◌%◌, ◌<◌, ◌≤◌, ◌++◌, ◌↔◌, [], length, take, drop};
+ghost use Rattle.std.specs.Prelude.{replicate, IsTrue, IsOk, IsErr, IfOk, OnOk, OnErr};
 ghost use Rattle.zf_dev.specs.Devices.{AsksSource};
 ghost use Rattle.zf_dev.specs.Source.{Takes, Gives, IsAtEnd};
 ghost use Rattle.zf_narrow.specs.Values.{size_of};
@@ -15,7 +16,8 @@ use zf_dev::{Failed, Source};
 // The most narrow bytes that are read at a time.
 const PIECE: usize = 4096;
 
-/// What is kept of the narrow bytes that were read: less than a value of them, and less than a value of the int32 bytes.
+/// What is kept of the narrow bytes that were read: less than a value of them, and less than a value of the
+/// int32 bytes.
 #[derive(Drop)]
 pub(crate) struct Promotion {
     narrow: Narrow,
@@ -70,10 +72,12 @@ impl Promotion {
         requires at_end { IsTrue self.old.spent → IsAtEnd (S.contents src.old) }
         ensures same_type { self.new.narrow ≡ self.old.narrow }
         ensures bound { IfOk result (λ k. k ≤ length buf.old) }
-        ensures given { IfOk result (λ k. Takes (exposed self.old (S.contents src.old)) (exposed self.new (S.contents src.new)) (take k buf.new)) }
+        ensures given { IfOk result (λ k. Takes (exposed self.old (S.contents src.old))
+            (exposed self.new (S.contents src.new)) (take k buf.new)) }
         ensures rest { IfOk result (λ k. drop k buf.new ≡ drop k buf.old) }
         ensures end { IfOk result (λ k. k ≡ 0 → IsAtEnd (exposed self.new (S.contents src.new))) }
-        ensures ungiven { OnErr result (Takes (exposed self.old (S.contents src.old)) (exposed self.new (S.contents src.new)) []) }
+        ensures ungiven { OnErr result (Takes (exposed self.old (S.contents src.old))
+            (exposed self.new (S.contents src.new)) []) }
         ensures gave { IfOk result (λ k. Gives (HasGiven self.old) (HasGiven self.new) (take k buf.new)) }
         ensures gave_none { OnErr result (Gives (HasGiven self.old) (HasGiven self.new) []) }
         ensures taken { Logs self.old self.new (S.contents src.old) (S.contents src.new) }
@@ -103,10 +107,12 @@ impl Promotion {
         requires unspent { ¬ IsTrue self.old.spent }
         ensures same_type { self.new.narrow ≡ self.old.narrow }
         ensures bound { IfOk result (λ k. k ≤ length buf.old) }
-        ensures given { IfOk result (λ k. Takes (exposed self.old (S.contents src.old)) (exposed self.new (S.contents src.new)) (take k buf.new)) }
+        ensures given { IfOk result (λ k. Takes (exposed self.old (S.contents src.old))
+            (exposed self.new (S.contents src.new)) (take k buf.new)) }
         ensures rest { IfOk result (λ k. drop k buf.new ≡ drop k buf.old) }
         ensures end { IfOk result (λ k. k ≡ 0 → IsAtEnd (exposed self.new (S.contents src.new))) }
-        ensures ungiven { OnErr result (Takes (exposed self.old (S.contents src.old)) (exposed self.new (S.contents src.new)) []) }
+        ensures ungiven { OnErr result (Takes (exposed self.old (S.contents src.old))
+            (exposed self.new (S.contents src.new)) []) }
         ensures gave { IfOk result (λ k. Gives (HasGiven self.old) (HasGiven self.new) (take k buf.new)) }
         ensures gave_none { OnErr result (Gives (HasGiven self.old) (HasGiven self.new) []) }
         ensures taken { Logs self.old self.new (S.contents src.old) (S.contents src.new) }
@@ -125,7 +131,8 @@ impl Promotion {
         Ok(given)
     }
 
-    // Reads the int32 bytes of as many whole values as come at once, at least one, and says how many: none at the end.
+    // Reads the int32 bytes of as many whole values as come at once, at least one, and says how many: none at
+    // the end.
     fn read_values<S: Source>(&mut self, src: &mut S, buf: &mut [u8]) -> Result<usize, Failed>
         requires room { 4 ≤ length buf.old }
         requires given { self.old.at ≡ 4 }
@@ -136,7 +143,8 @@ impl Promotion {
         ensures unspent { ¬ IsTrue self.new.spent }
         ensures bound { IfOk result (λ k. k ≤ length buf.old) }
         ensures some { IfOk result (λ k. 0 < k → 4 ≤ k) }
-        ensures values { IfOk result (λ k. TakesRaw self.old self.new (S.contents src.old) (S.contents src.new) (take k buf.new)) }
+        ensures values { IfOk result (λ k. TakesRaw self.old self.new (S.contents src.old)
+            (S.contents src.new) (take k buf.new)) }
         ensures rest { IfOk result (λ k. drop k buf.new ≡ drop k buf.old) }
         ensures end { IfOk result (λ k. k ≡ 0 → IsAtEnd (S.contents src.new)) }
         ensures err { OnErr result (TakesRaw self.old self.new (S.contents src.old) (S.contents src.new) []) }

@@ -1,6 +1,7 @@
 //! Reading whole narrow values from a source that may give any part of them.
 
-ghost use Rattle.std.specs.Prelude.{◌≡◌, ◌+◌, ◌%◌, ◌<◌, ◌≤◌, ◌++◌, [], length, take, IsOk, IsErr, IfOk, OnOk, OnErr};
+ghost use Rattle.std.specs.Prelude.{◌≡◌, ◌+◌, ◌%◌, ◌<◌, ◌≤◌, ◌++◌, [], length, take, IsOk, IsErr, IfOk, OnOk};
+ghost use Rattle.std.specs.Prelude.{OnErr};
 ghost use Rattle.zf_dev.specs.Devices.{AsksSource};
 ghost use Rattle.zf_dev.specs.Source.{IsAtEnd};
 ghost use Rattle.zf_narrow.specs.Values.{size_of};
@@ -10,7 +11,8 @@ use crate::Narrow;
 use crate::raw::size;
 use zf_dev::{Failed, Source};
 
-/// Reads as many whole values as come at once, at least one, into the start of `piece`, and says how many bytes they have: none at the end of the source.
+/// Reads as many whole values as come at once, at least one, into the start of `piece`, and says how many
+/// bytes they have: none at the end of the source.
 ///
 /// `half` is the first byte of a value whose second is still to come, before and after.
 pub(crate) fn take_values<S: Source>(
@@ -22,9 +24,11 @@ pub(crate) fn take_values<S: Source>(
     requires room { size_of n ≤ length piece.old }
     requires half { length (listed half.old) < size_of n }
     ensures bound { IfOk result (λ k. k ≤ length piece.old) }
-    ensures ok { IfOk result (λ k. TakesValues n (S.contents src.old) (S.contents src.new) (listed half.old) (listed half.new) (take k piece.new)) }
+    ensures ok { IfOk result (λ k. TakesValues n (S.contents src.old) (S.contents src.new) (listed half.old)
+        (listed half.new) (take k piece.new)) }
     ensures end { IfOk result (λ k. k ≡ 0 → IsAtEnd (S.contents src.new)) }
-    ensures err { OnErr result (TakesValues n (S.contents src.old) (S.contents src.new) (listed half.old) (listed half.new) []) }
+    ensures err { OnErr result (TakesValues n (S.contents src.old) (S.contents src.new) (listed half.old)
+        (listed half.new) []) }
     ensures half { length (listed half.new) < size_of n }
     ensures source { AsksSource S.Source result src.old src.new }
 {
@@ -64,9 +68,11 @@ fn put_half(half: &Option<u8>, piece: &mut [u8]) -> usize
 fn read_behind<S: Source>(src: &mut S, at: usize, piece: &mut [u8]) -> Result<usize, Failed>
     requires { at < length piece.old }
     ensures bound { IfOk result (λ k. at + k ≤ length piece.old) }
-    ensures ok { IfOk result (λ k. ReadsBehind (S.contents src.old) (S.contents src.new) (take at piece.old) (take (at + k) piece.new) k) }
+    ensures ok { IfOk result (λ k. ReadsBehind (S.contents src.old) (S.contents src.new) (take at piece.old)
+        (take (at + k) piece.new) k) }
     ensures end { IfOk result (λ k. k ≡ 0 → IsAtEnd (S.contents src.new)) }
-    ensures err { OnErr result (ReadsBehind (S.contents src.old) (S.contents src.new) (take at piece.old) (take at piece.old) 0) }
+    ensures err { OnErr result (ReadsBehind (S.contents src.old) (S.contents src.new) (take at piece.old)
+        (take at piece.old) 0) }
     ensures source { AsksSource S.Source result src.old src.new }
 {
     src.read(&mut piece[at..])

@@ -1,4 +1,5 @@
--- The values that are made of a number (this project's own). The words are those of SplitMix64 (Steele, Lea and Flood).
+-- The values that are made of a number (this project's own). The words are those of SplitMix64 (Steele, Lea
+-- and Flood).
 use Rattle.std.specs.Prelude.{ℕ, zero, suc, ◌/◌, ℤ, pos, List, [], ◌∷◌, map}
 use Rattle.std.specs.Int.{Width}
 use mir.Val.{bits}

@@ -13,7 +13,8 @@ use Rattle.zf_sample.specs.Made.{made_values}
 -- how many of n values of so many bytes each differ in two lists of raw bytes
 abbrev pub changes : ℕ → ℕ → List ℕ → List ℕ → ℕ
 changes len zero xs ys = 0
-changes len (suc n) xs ys = (if bytes_eq (take len xs) (take len ys) then 0 else 1) + changes len n (drop len xs) (drop len ys)
+changes len (suc n) xs ys = (if bytes_eq (take len xs) (take len ys) then 0 else 1) + changes len n
+    (drop len xs) (drop len ys)
 
 -- the raw values of the array
 abbrev pub made_bytes : Header → ℕ → List ℕ

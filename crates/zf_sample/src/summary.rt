@@ -31,7 +31,8 @@ pub struct Summary {
 // The most bytes that pass at once from one device in memory to another.
 const PIECE: usize = 1 << 16;
 
-/// Makes an array of the header's type and shape from a number, compresses it in the header's mode, restores the stream, and says what became of
+/// Makes an array of the header's type and shape from a number, compresses it in the header's mode, restores
+/// the stream, and says what became of
 /// it. `AllocError`: there was no memory.
 pub fn sample(alloc: Global, h: &Header, seed: u64) -> Result<Summary, AllocError>
     requires { IsMode h.now.mode }

@@ -29,7 +29,8 @@ pub(crate) fn raw_values<T: Lane>(
     Ok(bytes)
 }
 
-/// A value halved half as often as its type has bits, so that the difference of two is no surprise to a transform.
+/// A value halved half as often as its type has bits, so that the difference of two is no surprise to a
+/// transform.
 fn halved<T: Lane>(v: T) -> T
     ensures { T.value result ≡ halved (T.WIDTH / 2) (T.value v) }
 {
@@ -42,7 +43,8 @@ fn halved<T: Lane>(v: T) -> T
 
 /// Appends the raw bytes of a value.
 fn push_value<T: Lane>(v: T, bytes: &mut Vec<u8>) -> Result<(), AllocError>
-    ensures { OnOk result (bytes.new.items ≡ bytes.old.items ++ to_le_bytes T.width (cast_unsigned T.width (T.value v))) }
+    ensures { OnOk result (bytes.new.items ≡ bytes.old.items ++ to_le_bytes T.width
+        (cast_unsigned T.width (T.value v))) }
 {
     let all = v.to_word().to_le_bytes();
     bytes.extend_from_slice(&all[..(T::WIDTH / 8) as usize])

@@ -6,8 +6,10 @@ use Rattle.zf_dev.specs.Source.{Takes, TakesSome, IsAtEnd}
 use Rattle.zf_parse.specs.declared.fault.StreamFault.{StreamFault}
 use Rattle.zf_parse.specs.declared.fault.StreamFault.TheVariants.{RawShort, RawLong, Read}
 
--- the raw bytes of so many values were read, of which the source says that it gave them, and these are the values
-pub record ReadsValues (w : Width) (count : ℕ) (old new : Option (List ℕ)) (gives : List ℕ → Type 0) (values : List ℤ) : Type 0 where
+-- the raw bytes of so many values were read, of which the source says that it gave them, and these are the
+-- values
+pub record ReadsValues (w : Width) (count : ℕ) (old new : Option (List ℕ)) (gives : List ℕ → Type 0)
+    (values : List ℤ) : Type 0 where
   pub bytes : List ℕ
   pub taken : Takes old new bytes
   pub given : gives bytes

@@ -1,6 +1,7 @@
--- An array that is restored slab by slab: how far its codes were read, and its values written. The codes are those of the bits that were left in a window,
--- and of the bytes that were taken of the source behind them.
-use Rattle.std.specs.Prelude.{ℕ, ◌≡◌, ◌+◌, ◌-◌, ◌*◌, ◌/◌, ◌<◌, ◌≤◌, ◌⊎◌, ℤ, Bool, List, [], ◌++◌, map, length, drop, Option, Some, None, Result, Ok, Err, IfErr, OnOk, OnErr}
+-- An array that is restored slab by slab: how far its codes were read, and its values written. The codes are
+-- those of the bits that were left in a window, and of the bytes that were taken of the source behind them.
+use Rattle.std.specs.Prelude.{ℕ, ◌≡◌, ◌+◌, ◌-◌, ◌*◌, ◌/◌, ◌<◌, ◌≤◌, ◌⊎◌, ℤ, Bool, List, [], ◌++◌, map, length}
+use Rattle.std.specs.Prelude.{drop, Option, Some, None, Result, Ok, Err, IfErr, OnOk, OnErr}
 use Rattle.std.specs.Result.{result_map_both}
 use Rattle.zf_spec.specs.Grid.{blocks, upto, extent_of, block_of, blocks_of}
 use Rattle.zf_spec.specs.Codes.{existing_values}
@@ -15,7 +16,8 @@ use Rattle.zf_dev.specs.Sink.{Appends, AppendsPrefix}
 use Rattle.zf_parse.specs.declared.fault.StreamFault.{StreamFault}
 use Rattle.zf_parse.specs.declared.fault.StreamFault.TheVariants as faults
 use Rattle.zf_parse.specs.Raw.{raw_bytes}
-use Rattle.zf_parse.specs.Parsing.{read_code, read_codes, said_behind, text_behind, restore_answer, restored_text}
+use Rattle.zf_parse.specs.Parsing.{read_code, read_codes, said_behind, text_behind, restore_answer}
+use Rattle.zf_parse.specs.Parsing.{restored_text}
 use Rattle.zf_stream.specs.Outcomes.{Answers, Finishes, LeavesPrefix, IsFromOutside, IsBeforeWriting}
 use Rattle.zf_parse.specs.ReadStreams.{BeginsWithHeader}
 use Rattle.zf_stream.specs.Headed.{prefix_room}
@@ -27,7 +29,8 @@ behind prefix None = None
 behind prefix (Some left) = Some (prefix ++ left)
 
 -- the input behind these bytes was read to its end; all of it is a good stream, whose text was written
-pub record FinishesBehind (prefix : List ℕ) (src_before src_now out_before out_now : Option (List ℕ)) : Type 0 where
+pub record FinishesBehind (prefix : List ℕ)
+    (src_before src_now out_before out_now : Option (List ℕ)) : Type 0 where
   pub done : Finishes restore_answer restored_text (behind prefix src_before) src_now out_before out_now
   pub more : List ℕ
   pub begins : done.bytes ≡ prefix ++ more
@@ -37,14 +40,16 @@ abbrev pub CanRefuseBehind : List ℕ → StreamFault → Type 0
 CanRefuseBehind prefix e = ((more : List ℕ) × (restore_answer (prefix ++ more) ≡ Err e)) ⊎ IsFromOutside e
 
 -- how a stream is restored of which these bytes were read, with a good header
-pub record RestoredBehind (prefix : List ℕ) (result : Result (Unit {0}) StreamFault) (src_before src_now out_before out_now : Option (List ℕ)) : Type 0 where
+pub record RestoredBehind (prefix : List ℕ) (result : Result (Unit {0}) StreamFault)
+    (src_before src_now out_before out_now : Option (List ℕ)) : Type 0 where
   pub answer : Answers result (behind prefix src_before) restore_answer
   pub possible : IfErr result (CanRefuseBehind prefix)
   pub ok : OnOk result (FinishesBehind prefix src_before src_now out_before out_now)
   pub err : OnErr result (LeavesPrefix restored_text (behind prefix src_before) src_now out_before out_now)
   pub unwritten : IfErr result (λ e. IsBeforeWriting e → out_now ≡ out_before)
 
--- the first bytes of a stream were read, all of it where they are fewer than three words, and a header of so many bits begins them
+-- the first bytes of a stream were read, all of it where they are fewer than three words, and a header of so
+-- many bits begins them
 pub record IsBegun (prefix : List ℕ) (h : Header) (bits : ℕ) (src : Option (List ℕ)) : Type 0 where
   pub begun : BeginsWithHeader prefix h bits
   pub few : length prefix ≤ prefix_room
@@ -64,18 +69,23 @@ stream_from window bytes = left_of window ++ to_bits bytes
 -- the code of block b was read, and its values were put behind those before
 pub record ReadsStored (h : Header) (b : ℕ) (old new : Reader) (before now : List ℤ) : Type 0 where
   pub block : List ℤ
-  pub code : read_code (width_of h.ty) h.mode (extent_of h.shape b) (rest old) ≡ Some (existing_values (extent_of h.shape b) block, new.at - old.at)
+  pub code : read_code (width_of h.ty) h.mode (extent_of h.shape b) (rest old) ≡ Some
+      (existing_values (extent_of h.shape b) block, new.at - old.at)
   pub passed : rest new ≡ drop (new.at - old.at) (rest old)
   pub appended : AppendsBlock (extent_of h.shape b) block before now
 
 -- its codes were read, which are those of these values
-pub record ReadsSlab (part : Header) (src_before src_now : Option (List ℕ)) (old new : Window) (values : List ℤ) : Type 0 where
+pub record ReadsSlab (part : Header) (src_before src_now : Option (List ℕ)) (old new : Window)
+    (values : List ℤ) : Type 0 where
   pub bytes : List ℕ
   pub goes : Goes src_before src_now old new bytes
-  pub codes : read_codes part 0 (blocks part.shape) (stream_from old bytes) ≡ Ok (blocks_of part.shape values, left_of new)
+  pub codes : read_codes part 0 (blocks part.shape) (stream_from old bytes) ≡ Ok
+      (blocks_of part.shape values, left_of new)
 
--- the source ends within the code of this block of the array, of which the slab's blocks are those from the first on
-pub record CutsSlab (part : Header) (first number : ℕ) (src_before src_now : Option (List ℕ)) (old : Window) : Type 0 where
+-- the source ends within the code of this block of the array, of which the slab's blocks are those from the
+-- first on
+pub record CutsSlab (part : Header) (first number : ℕ) (src_before src_now : Option (List ℕ))
+    (old : Window) : Type 0 where
   pub bytes : List ℕ
   pub taken : Takes src_before src_now bytes
   pub ended : IsAtEnd src_now
@@ -84,7 +94,8 @@ pub record CutsSlab (part : Header) (first number : ℕ) (src_before src_now : O
   pub codes : read_codes part 0 (blocks part.shape) (stream_from old bytes) ≡ Err block
 
 abbrev pub LacksSlab : Header → ℕ → Option (List ℕ) → Option (List ℕ) → Window → StreamFault → Type 0
-LacksSlab part first src_before src_now old (faults.Truncated number) = CutsSlab part first number src_before src_now old
+LacksSlab part first src_before src_now old (faults.Truncated number) =
+    CutsSlab part first number src_before src_now old
 LacksSlab part first src_before src_now old faults.Read = TakesSome src_before src_now
 LacksSlab part first src_before src_now old e = ⊥
 
@@ -95,13 +106,15 @@ abbrev pub blocks_of_rows : List ℕ → ℕ → List ℤ → List (List ℤ)
 blocks_of_rows ns rows values = map (block_of ns values) (upto (first_block ns ((rows + 3) / 4)))
 
 -- the codes of its first rows were read, and their values written
-pub record Restores (h : Header) (rows : ℕ) (src_before src_now out_before out_now : Option (List ℕ)) (old new : Window) : Type 0 where
+pub record Restores (h : Header) (rows : ℕ) (src_before src_now out_before out_now : Option (List ℕ))
+    (old new : Window) : Type 0 where
   pub whole : IsSlab h.shape 0 rows
   pub bytes : List ℕ
   pub goes : Goes src_before src_now old new bytes
   pub values : List ℤ
   pub long : length values ≡ row_len h.shape * rows
-  pub codes : read_codes h 0 (first_block h.shape ((rows + 3) / 4)) (stream_from old bytes) ≡ Ok (blocks_of_rows h.shape rows values, left_of new)
+  pub codes : read_codes h 0 (first_block h.shape ((rows + 3) / 4)) (stream_from old bytes) ≡ Ok
+      (blocks_of_rows h.shape rows values, left_of new)
   pub written : Appends out_before out_now (raw_bytes h values)
 
 -- the raw values that are read of bits continued with zeros
@@ -110,25 +123,30 @@ text_of_codes h s = text_behind h s
 
 -- what is answered for bits of which so many came before
 abbrev pub answer_of_codes : Header → ℕ → List Bool → Result (List ℤ) StreamFault
-answer_of_codes h before s = result_map_both (λ said. said.values) (λ e. e) (said_behind h (before + length s) s)
+answer_of_codes h before s = result_map_both (λ said. said.values) (λ e. e)
+    (said_behind h (before + length s) s)
 
 -- some bytes were taken, and a prefix of the text was written
-pub record LeavesRows (h : Header) (src_before src_now out_before out_now : Option (List ℕ)) (old : Window) : Type 0 where
+pub record LeavesRows (h : Header) (src_before src_now out_before out_now : Option (List ℕ))
+    (old : Window) : Type 0 where
   pub bytes : List ℕ
   pub taken : Takes src_before src_now bytes
   pub written : AppendsPrefix out_before out_now (text_of_codes h (stream_from old bytes))
 
 -- the fault of all that was to come, unless it is one of a device
-pub record HasFault (h : Header) (src_before src_now : Option (List ℕ)) (old : Window) (e : StreamFault) : Type 0 where
+pub record HasFault (h : Header) (src_before src_now : Option (List ℕ)) (old : Window)
+    (e : StreamFault) : Type 0 where
   pub bytes : List ℕ
   pub taken : Takes src_before src_now bytes
   pub answer : answer_of_codes h old.reader.at (stream_from old (bytes ++ still src_now)) ≡ Err e
 
 abbrev pub Refuses : Header → Option (List ℕ) → Option (List ℕ) → Window → StreamFault → Type 0
-Refuses h src_before src_now old e = HasFault h src_before src_now old e ⊎ ((e ≡ faults.Read) ⊎ (e ≡ faults.Write))
+Refuses h src_before src_now old e = HasFault h src_before src_now old e ⊎
+    ((e ≡ faults.Read) ⊎ (e ≡ faults.Write))
 
 -- all that was to come was taken and is good, and its text was written
-pub record RestoresAll (h : Header) (src_before src_now out_before out_now : Option (List ℕ)) (old : Window) : Type 0 where
+pub record RestoresAll (h : Header) (src_before src_now out_before out_now : Option (List ℕ))
+    (old : Window) : Type 0 where
   pub bytes : List ℕ
   pub taken : Takes src_before src_now bytes
   pub ended : IsAtEnd src_now

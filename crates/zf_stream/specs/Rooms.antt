@@ -12,13 +12,16 @@ use Rattle.zf_stream.specs.Rows.{ArePieces}
 use Rattle.zf_stream.specs.declared.room.Room.{Room}
 use Rattle.zf_stream.specs.declared.restore_room.RestoreRoom.{RestoreRoom}
 
--- it is one for arrays of as many dimensions, with room for a block's code more than are kept back, and for the fill
-pub record IsRoomFor {X : Type 0} {l : Lane X} {e : PartialEq X} (h : Header) (room : Room X l e) : Type 0 where
+-- it is one for arrays of as many dimensions, with room for a block's code more than are kept back, and for
+-- the fill
+pub record IsRoomFor {X : Type 0} {l : Lane X} {e : PartialEq X} (h : Header)
+    (room : Room X l e) : Type 0 where
   pub scratch : room.scratch ≡ length h.shape
   pub fits : room.most + longest_code h + 64 ≤ length room.codes.bits + room.codes.room
 
 -- with as many values beside it, it is one for this array of values of such a width
-pub record IsRoomOf {X : Type 0} {l : Lane X} {e : PartialEq X} (w : Width) (h : Header) (count : ℕ) (room : Room X l e) : Type 0 where
+pub record IsRoomOf {X : Type 0} {l : Lane X} {e : PartialEq X} (w : Width) (h : Header) (count : ℕ)
+    (room : Room X l e) : Type 0 where
   pub same_type : w ≡ width_of h.ty
   pub rows : ArePieces h.shape room.rows
   pub values : count ≡ row_len h.shape * room.rows
@@ -31,8 +34,10 @@ pub record Keeps {X : Type 0} {l : Lane X} {e : PartialEq X} (old new : Room X l
   pub most : new.most ≡ old.most
   pub room : length old.codes.bits + old.codes.room ≤ length new.codes.bits + new.codes.room
 
--- there is room for each code of an array, for the fill behind them, and for so many of its values, and it is known where the source is at its end
-pub record CanRestore {X : Type 0} {l : Lane X} {e : PartialEq X} (h : Header) (count : ℕ) (src : Option (List ℕ)) (room : RestoreRoom X l e) : Type 0 where
+-- there is room for each code of an array, for the fill behind them, and for so many of its values, and it is
+-- known where the source is at its end
+pub record CanRestore {X : Type 0} {l : Lane X} {e : PartialEq X} (h : Header) (count : ℕ)
+    (src : Option (List ℕ)) (room : RestoreRoom X l e) : Type 0 where
   pub longest : longest_code h ≤ room.longest
   pub held : room.longest + 64 ≤ 64 * room.window.room
   pub fill : 128 ≤ 64 * room.window.room
@@ -40,7 +45,8 @@ pub record CanRestore {X : Type 0} {l : Lane X} {e : PartialEq X} (h : Header) (
   pub ended : KnowsEnd room.window src
 
 -- and for the values of the rows that are restored at a time, which have such a width
-pub record CanRestoreAll {X : Type 0} {l : Lane X} {e : PartialEq X} (w : Width) (h : Header) (src : Option (List ℕ)) (room : RestoreRoom X l e) : Type 0 where
+pub record CanRestoreAll {X : Type 0} {l : Lane X} {e : PartialEq X} (w : Width) (h : Header)
+    (src : Option (List ℕ)) (room : RestoreRoom X l e) : Type 0 where
   pub same_type : w ≡ width_of h.ty
   pub rows : ArePieces h.shape room.rows
   pub codes : CanRestore h (row_len h.shape * room.rows) src room

@@ -1,5 +1,6 @@
 -- A stream that is restored where its values are of one type.
-use Rattle.std.specs.Prelude.{ℕ, ◌≡◌, ◌≢◌, ◌⊎◌, Bool, true, false, List, Option, Some, None, Result, Ok, Err, IfOk, IfErr, OnErr}
+use Rattle.std.specs.Prelude.{ℕ, ◌≡◌, ◌≢◌, ◌⊎◌, Bool, true, false, List, Option, Some, None, Result, Ok, Err}
+use Rattle.std.specs.Prelude.{IfOk, IfErr, OnErr}
 use Rattle.zf_base.specs.declared.lane.Ty.{Ty}
 use Rattle.zf_base.specs.declared.lane.Ty.TheVariants.{I32, I64}
 use Rattle.zf_header.specs.HeaderFaults.{header_fault}
@@ -36,7 +37,8 @@ abbrev pub CanRefuseTyped : Ty → StreamFault → Type 0
 CanRefuseTyped wanted e = ((input : List ℕ) × (typed_answer wanted input ≡ Err e)) ⊎ IsFromOutside e
 
 -- the input was read to its end and is a good stream of the wanted type, and its text was written
-pub record RestoresTyped (wanted : Ty) (src_before src_now out_before out_now : Option (List ℕ)) : Type 0 where
+pub record RestoresTyped (wanted : Ty)
+    (src_before src_now out_before out_now : Option (List ℕ)) : Type 0 where
   pub bytes : List ℕ
   pub taken : Takes src_before src_now bytes
   pub ended : IsAtEnd src_now
@@ -52,12 +54,16 @@ pub record HasOtherType (wanted : Ty) (src_before src_now out_before out_now : O
   pub unwritten : out_now ≡ out_before
 
 -- the stream is of the wanted type and was restored, or of the other
-abbrev pub RestoresWhere : Ty → Bool → Option (List ℕ) → Option (List ℕ) → Option (List ℕ) → Option (List ℕ) → Type 0
-RestoresWhere wanted true src_before src_now out_before out_now = RestoresTyped wanted src_before src_now out_before out_now
-RestoresWhere wanted false src_before src_now out_before out_now = HasOtherType wanted src_before src_now out_before out_now
+abbrev pub RestoresWhere : Ty → Bool → Option (List ℕ) → Option (List ℕ) → Option (List ℕ) → Option (List ℕ)
+    → Type 0
+RestoresWhere wanted true src_before src_now out_before out_now =
+    RestoresTyped wanted src_before src_now out_before out_now
+RestoresWhere wanted false src_before src_now out_before out_now =
+    HasOtherType wanted src_before src_now out_before out_now
 
 -- how a stream is restored where its values are of one type
-pub record RestoredWhere (wanted : Ty) (result : Result Bool StreamFault) (src_before src_now out_before out_now : Option (List ℕ)) : Type 0 where
+pub record RestoredWhere (wanted : Ty) (result : Result Bool StreamFault)
+    (src_before src_now out_before out_now : Option (List ℕ)) : Type 0 where
   pub answer : Answers result src_before (typed_answer wanted)
   pub possible : IfErr result (CanRefuseTyped wanted)
   pub ok : IfOk result (λ is. RestoresWhere wanted is src_before src_now out_before out_now)

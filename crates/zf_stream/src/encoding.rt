@@ -27,7 +27,8 @@ use zf_dev::Sink;
 use zf_header::{Header, Mode};
 use zf_pad::Layout;
 
-/// Appends the codes of all blocks, in order. Where as many bits are at hand as the room keeps back, whole words are
+/// Appends the codes of all blocks, in order. Where as many bits are at hand as the room keeps back, whole
+/// words are
 /// written.
 pub(crate) fn write_codes<T: Lane, O: Sink>(
     layout: &Layout,
@@ -45,7 +46,8 @@ pub(crate) fn write_codes<T: Lane, O: Sink>(
         ++ flat_map (λ c. c) (stream.codes T.width h.now.shape (coding h.now.mode) (map T.value values.now)))
         room.new.codes.bits) }
     ensures err { OnErr result (Spills (O.contents out.old) (O.contents out.new) (room.old.codes.bits
-        ++ flat_map (λ c. c) (stream.codes T.width h.now.shape (coding h.now.mode) (map T.value values.now)))) }
+        ++ flat_map (λ c. c) (stream.codes T.width h.now.shape
+        (coding h.now.mode) (map T.value values.now)))) }
     ensures few { OnOk result (length room.new.codes.bits < room.new.most) }
     ensures keeps { Keeps room.old room.new }
     ensures sink { WritesOnly O.Sink result out.old out.new }
@@ -101,7 +103,8 @@ fn encode<T: Lane>(h: &Header, e: &Extent, block: &[T], s: &mut Scratch<T>, code
     requires scratch { s.old ≡ length h.now.shape }
     requires fits { longest_code h.now ≤ codes.old.room }
     ensures code { Appends codes.old codes.new
-        (block_code T.width (coding h.now.mode) (used_axes (length h.now.shape) e.now.size) (map T.value block.now)) }
+        (block_code T.width (coding h.now.mode) (used_axes (length h.now.shape) e.now.size)
+        (map T.value block.now)) }
     ensures scratch { s.new ≡ s.old }
 {
     let d = h.shape.dims();

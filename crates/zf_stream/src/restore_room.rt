@@ -16,7 +16,8 @@ use zf_base::Lane;
 use zf_header::Header;
 use zf_parse::longest_code;
 
-// How many values are brought in raster order at once, and so written: 128 KiB or more, and no block has more.
+// How many values are brought in raster order at once, and so written: 128 KiB or more, and no block has
+// more.
 const LINES: usize = 1 << 15;
 
 /// What a stream is restored in, so many rows at a time.
@@ -64,7 +65,8 @@ pub(crate) fn restore_room<T: Lane>(
     let window = Window::new(alloc, longest + first, prefix, u64::from(header_len))?;
     let lines = vec![in alloc; T::zero(); LINES]?;
     let piece = vec![in alloc; 0; PIECE as usize]?;
-    // Room for a slab is taken here, and written block by block: a stream that ends early needs no more than its
+    // Room for a slab is taken here, and written block by block: a stream that ends early needs no more than
+    // its
     // values.
     let stored = Vec::with_capacity(alloc, slab.values() as usize)?;
     Ok(RestoreRoom {

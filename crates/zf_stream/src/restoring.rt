@@ -8,7 +8,8 @@ ghost use Rattle.zf_stream.specs.Outcomes.{Restored};
 ghost use Rattle.zf_stream.specs.Typed.{RestoredWhere};
 ghost use Rattle.zf_stream.specs.Rooms.{CanRestoreAll, Stays};
 ghost use Rattle.zf_stream.specs.Windows.{KnowsEnd};
-ghost use Rattle.zf_stream.specs.Restoring.{RestoredBehind, IsBegun, Restores, LeavesRows, Refuses, RestoresAll};
+ghost use Rattle.zf_stream.specs.Restoring.{RestoredBehind, IsBegun, Restores, LeavesRows, Refuses};
+ghost use Rattle.zf_stream.specs.Restoring.{RestoresAll};
 ghost use Rattle.zf_parse.specs.declared.fault.StreamFault.TheVariants.{Read, Write};
 
 use crate::StreamFault;
@@ -53,7 +54,8 @@ pub fn restore<S: Source, O: Sink>(
     restore_behind(alloc, &h, header_len, &prefix[..count], src, out)
 }
 
-/// Restores a stream whose values are of this type, as [`restore`] does, and answers true. Of another type it answers
+/// Restores a stream whose values are of this type, as [`restore`] does, and answers true. Of another type it
+/// answers
 /// false: the header was read, with 24 bytes taken at most, and nothing was written. Its errors are those of
 /// [`restore`].
 pub fn restore_where<S: Source, O: Sink>(
@@ -119,7 +121,8 @@ fn restore_as<T: Lane, S: Source, O: Sink>(
     restore_rows(h, &mut room, src, out)
 }
 
-/// Restores what the codes behind the header say, in room that is there already, and judges what stands behind them.
+/// Restores what the codes behind the header say, in room that is there already, and judges what stands
+/// behind them.
 fn restore_rows<T: Lane, S: Source, O: Sink>(
     h: &Header,
     room: &mut RestoreRoom<T>,

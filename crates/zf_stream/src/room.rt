@@ -15,7 +15,8 @@ use zf_block::Scratch;
 use zf_header::{Header, LONG_HEADER_BITS};
 use zf_parse::longest_code;
 
-/// The most bytes that are read or written at a time: so many that the system is seldom called, and few beside a
+/// The most bytes that are read or written at a time: so many that the system is seldom called, and few
+/// beside a
 /// large slab.
 pub(crate) const PIECE: u64 = 1 << 18;
 
@@ -36,7 +37,8 @@ pub(crate) struct Room<T: Lane> {
     ghost wide: { 8 ≤ vec_len piece },
 }
 
-/// Takes all memory for an array: that of the values of some rows, and the room to compress them in. The header is at
+/// Takes all memory for an array: that of the values of some rows, and the room to compress them in. The
+/// header is at
 /// hand there.
 pub(crate) fn room_for<T: Lane>(alloc: Global, h: &Header) -> Result<(Vec<T>, Room<T>), AllocError>
     requires mode { IsMode h.now.mode }

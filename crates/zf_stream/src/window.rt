@@ -1,6 +1,7 @@
 //! A window of a stream's words, which is filled from a source.
 
-ghost use Rattle.std.specs.Prelude.{◌≡◌, ◌≢◌, ◌≤◌, ◌<◌, ◌+◌, ◌*◌, ◌^◌, ◌%◌, true, false, [], length, IsTrue, Err, IfOk, IfErr, OnOk, OnErr};
+ghost use Rattle.std.specs.Prelude.{◌≡◌, ◌≢◌, ◌≤◌, ◌<◌, ◌+◌, ◌*◌, ◌^◌, ◌%◌, true, false, [], length, IsTrue};
+ghost use Rattle.std.specs.Prelude.{Err, IfOk, IfErr, OnOk, OnErr};
 ghost use Rattle.std.specs.Int.{div_ceil};
 ghost use Rattle.zf_spec.specs.Stream.{to_bits};
 ghost use Rattle.zf_stream.specs.Outcomes.{ReadsOnly};
@@ -15,13 +16,15 @@ use std::marker::Model;
 use zf_bits::{BitReader, put_words_at};
 use zf_dev::Source;
 
-/// How many bytes are taken from a source before its window is made: whole words, and the longest header lies in them.
+/// How many bytes are taken from a source before its window is made: whole words, and the longest header lies
+/// in them.
 pub(crate) const PREFIX: usize = 24;
 
 // The words of the prefix, and one that may have been read in part.
 const SPARE: usize = 4;
 
-/// Bits of a stream that are held, of which some were read. Contracts see them with the place, and whether the source is known to be at its end.
+/// Bits of a stream that are held, of which some were read. Contracts see them with the place, and whether
+/// the source is known to be at its end.
 #[derive(Drop)]
 pub(crate) struct Window {
     words: Vec<u64>,
@@ -37,13 +40,22 @@ impl Model for Window {
 
     ghost Value = { Window };
 
-    ghost view = { λ w. record { reader = record { all = take w.bits (word_bits w.words.items); at = w.at }; room = length w.words.items; ended = w.ended } };
+    ghost view = { λ w. record {
+      reader = record {
+        all = take w.bits
+            (word_bits w.words.items);
+        at = w.at;
+      };
+      room = length w.words.items;
+      ended = w.ended;
+    } };
 
     ghost invariant = { λ w. IsHeld w.words.items w.bits w.at w.ended };
 }
 
 impl Window {
-    /// A window that holds the first bytes of a source, all of them where there are fewer than 24, and stands at bit `at`.
+    /// A window that holds the first bytes of a source, all of them where there are fewer than 24, and stands
+    /// at bit `at`.
     /// It has room for `most` bits and those before them.
     pub(crate) fn new(
         alloc: Global,
@@ -110,7 +122,8 @@ impl Window {
         Ok(())
     }
 
-    // The same where the source may still give some. This happens once in many blocks, and stands apart so that the test before it costs no call.
+    // The same where the source may still give some. This happens once in many blocks, and stands apart so
+    // that the test before it costs no call.
     #[cold]
     #[inline(never)]
     fn refill<S: Source>(
@@ -167,7 +180,8 @@ impl Window {
         ensures ok { OnOk result (Refills (S.contents src.old) (S.contents src.new) self.old self.new) }
         ensures place { OnOk result (self.new.reader.at ≡ self.old.reader.at) }
         ensures ended { OnOk result (KnowsEnd self.new (S.contents src.new)) }
-        ensures more { OnOk result (self.new.ended ≡ false → length (left_of self.old) < length (left_of self.new)) }
+        ensures more { OnOk result (self.new.ended ≡ false → length (left_of self.old) < length
+            (left_of self.new)) }
         ensures taken { OnErr result (TakesSome (S.contents src.old) (S.contents src.new)) }
         ensures source { ReadsOnly S.Source result src.old src.new }
     {
