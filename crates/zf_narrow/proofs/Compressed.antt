@@ -291,15 +291,9 @@ module _ (n : Narrow) (h : Header) (int32 : h.ty ≡ I32) (spent : Bool) (pendin
 
 -- ---- the promotion that the source had when the call began, and the one that it has now
 
-ok_is : (u : Unit {0}) (r : Result (Unit {0}) StreamFault) → r ≡ Ok u → r ≡ Err faults.Memory → ⊥
-ok_is u r ok same = cc
-
 -- memory is wanting where it was for the int32 bytes
-memory_short : (k : ℕ) → faults.RawShort k ≡ faults.Memory → ⊥
-memory_short k same = cc
-
 memory_is : (n : Narrow) (e : StreamFault) → narrow_fault n e ≡ faults.Memory → e ≡ faults.Memory
-memory_is n (faults.RawShort k) same = absurd (memory_short (narrow_count n k) same)
+memory_is n (faults.RawShort k) same = absurd cc
 memory_is n faults.RawLong same = same
 memory_is n (faults.Header f) same = same
 memory_is n (faults.Truncated k) same = same
@@ -400,7 +394,7 @@ module _ (n : Narrow) {known now : Option (List ℕ)} (old new : Promotion) (r :
     shows = tt;
     ok = run_compresses h out0 out1 int32 done.ok given.ok;
     err = tt;
-    unwritten = λ same. absurd (ok_is tt (Ok tt) refl same);
+    unwritten = λ same. absurd cc;
   }
 
   pub run_fault : (h : Header) (e : StreamFault) (out0 out1 : Option (List ℕ)) → h.ty ≡ I32 → Compressed (compress_answer h) (stream_text h) (raw_len h) (Err e) (exposed old known) (exposed new now) out0 out1

@@ -70,22 +70,6 @@ wide_answer (Some f) ty answer good other = absurd (cc)
 wide_answer None I32 answer good other = absurd (other refl)
 wide_answer None I64 answer good other = refl
 
--- results that are not the same
-not_err : (u : Unit {0}) (e : NarrowFault) (r : Result (Unit {0}) NarrowFault) → r ≡ Ok u → r ≡ Err e → ⊥
-not_err u e r ok same = cc
-
-not_other : (e : StreamFault) (r : Result (Unit {0}) NarrowFault) → r ≡ Err (Stream e) → r ≡ Err NotNarrow → ⊥
-not_other e r is same = cc
-
-not_stream : (e : StreamFault) (r : Result (Unit {0}) NarrowFault) → r ≡ Err NotNarrow → r ≡ Err (Stream e) → ⊥
-not_stream e r is same = cc
-
-not_memory : (r : Result (Unit {0}) NarrowFault) → r ≡ Err (Stream faults.Write) → r ≡ Err (Stream faults.Memory) → ⊥
-not_memory r is same = cc
-
-inner : (e : StreamFault) (r : Result (Unit {0}) NarrowFault) → r ≡ Err (Stream e) → r ≡ Err (Stream faults.Memory) → e ≡ faults.Memory
-inner e r is same = cc
-
 -- ---- what was written
 
 prefix_empty : (xs ys : List ℕ) → xs ++ ys ≡ [] → xs ≡ []
@@ -200,8 +184,8 @@ module _ (n : Narrow) {start now : Option (List ℕ)} {given owed taken part : L
       ok = restores none done.ok;
       err = tt;
       unwritten = tt;
-      other = λ same. absurd (not_err tt NotNarrow (Ok tt) refl same);
-      memory = λ same. absurd (not_err tt (Stream faults.Memory) (Ok tt) refl same);
+      other = λ same. absurd cc;
+      memory = λ same. absurd cc;
     }
 
     -- the byte that is owed was not written
@@ -212,8 +196,8 @@ module _ (n : Narrow) {start now : Option (List ℕ)} {given owed taken part : L
       ok = tt;
       err = restores_but_one done.ok;
       unwritten = λ before. absurd before;
-      other = λ same. absurd (not_other faults.Write (Err (Stream faults.Write)) refl same);
-      memory = λ same. absurd (not_memory (Err (Stream faults.Write)) refl same);
+      other = λ same. absurd cc;
+      memory = λ same. absurd cc;
     }
 
     -- its values are of the other type
@@ -225,7 +209,7 @@ module _ (n : Narrow) {start now : Option (List ℕ)} {given owed taken part : L
       err = leaves_other done.ok;
       unwritten = λ before. nothing_written (ap still done.ok.unwritten);
       other = λ same. record { bytes = done.ok.bytes; first = done.ok.first; good = done.ok.good; other = done.ok.other };
-      memory = λ same. absurd (not_stream faults.Memory (Err NotNarrow) refl same);
+      memory = λ same. absurd cc;
     }
 
     -- it was refused
@@ -236,6 +220,6 @@ module _ (n : Narrow) {start now : Option (List ℕ)} {given owed taken part : L
       ok = tt;
       err = leaves done.err;
       unwritten = λ before. nothing_written (ap still (done.unwritten before));
-      other = λ same. absurd (not_other e (Err (Stream e)) refl same);
-      memory = λ same. done.memory (ap Err (inner e (Err (Stream e)) refl same));
+      other = λ same. absurd cc;
+      memory = λ same. done.memory cc;
     }

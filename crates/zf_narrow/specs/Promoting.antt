@@ -23,8 +23,8 @@ exposed_by n spent pending half (Some left) = Some (pending ++ coming n spent ha
 
 -- some bytes were taken, which are these whole values, but for the first byte of a value before them and
 -- behind them
-pub record TakesValues (n : Narrow) (before now : Option (List ℕ)) (half_before half_now values : List ℕ)
-    : Type 0 where
+pub record TakesValues (n : Narrow) (before now : Option (List ℕ))
+    (half_before half_now values : List ℕ) : Type 0 where
   pub bytes : List ℕ
   pub taken : Takes before now bytes
   pub parts : half_before ++ bytes ≡ values ++ half_now

@@ -21,8 +21,8 @@ zeros_given true half = length half
 -- these are all int32 bytes that were given: those of the values that were read, but for the bytes that are
 -- pending, and the zero byte
 abbrev pub HasGiven : Promotion → List ℕ → Type 0
-HasGiven p given = given ++ drop p.at p.value ≡ promoted_bytes p.narrow p.taken.bytes
-    ++ replicate (zeros_given p.spent (listed p.half)) 0
+HasGiven p given = given ++ drop p.at p.value ≡ promoted_bytes p.narrow p.taken.bytes ++ replicate
+    (zeros_given p.spent (listed p.half)) 0
 
 -- some narrow bytes were read
 pub record Logs (old new : Promotion) (before now : Option (List ℕ)) : Type 0 where

@@ -1,5 +1,6 @@
 -- What `compress_narrow` and `restore_narrow` answer and write for an input, and how they end.
-use Rattle.std.specs.Prelude.{ℕ, ◌≡◌, ◌≢◌, ◌+◌, ◌-◌, ◌*◌, ◌/◌, ◌%◌, min, ◌⊎◌, List, [], Option, Some, None, Result, Ok, Err, IsErrAnd, IfErr, OnOk, OnErr}
+use Rattle.std.specs.Prelude.{ℕ, ◌≡◌, ◌≢◌, ◌+◌, ◌-◌, ◌*◌, ◌/◌, ◌%◌, min, ◌⊎◌, List, [], Option, Some, None}
+use Rattle.std.specs.Prelude.{Result, Ok, Err, IsErrAnd, IfErr, OnOk, OnErr}
 use Rattle.zf_spec.specs.Grid.{product}
 use Rattle.zf_base.specs.declared.lane.Ty.{Ty}
 use Rattle.zf_base.specs.declared.lane.Ty.TheVariants.{I32, I64}
@@ -87,13 +88,13 @@ abbrev pub CanRefuseNarrow : NarrowFault → Type 0
 CanRefuseNarrow e = ((input : List ℕ) × (restore_narrow_answer input ≡ Err e)) ⊎ IsFromOutside e
 
 -- the input was read to its end and is a good stream of int32, and its values were written
-pub record RestoresNarrow (n : Narrow) (src_before src_now out_before out_now : Option (List ℕ)) : Type 0
-  where
-    pub bytes : List ℕ
-    pub taken : Takes src_before src_now bytes
-    pub ended : IsAtEnd src_now
-    pub good : restore_narrow_answer bytes ≡ Ok tt
-    pub written : Appends out_before out_now (narrow_restored n bytes)
+pub record RestoresNarrow (n : Narrow) (src_before src_now out_before out_now : Option
+    (List ℕ)) : Type 0 where
+  pub bytes : List ℕ
+  pub taken : Takes src_before src_now bytes
+  pub ended : IsAtEnd src_now
+  pub good : restore_narrow_answer bytes ≡ Ok tt
+  pub written : Appends out_before out_now (narrow_restored n bytes)
 
 -- the first bytes were taken and no more, and they begin with a good header of another type
 pub record HasWideType (src_before src_now : Option (List ℕ)) : Type 0 where
@@ -103,15 +104,16 @@ pub record HasWideType (src_before src_now : Option (List ℕ)) : Type 0 where
   pub other : (header_of bytes).ty ≢ I32
 
 -- some bytes were read, and a prefix of their values was written, maybe nothing
-pub record LeavesNarrowPrefix (n : Narrow) (src_before src_now out_before out_now : Option (List ℕ)) : Type 0
-  where
-    pub bytes : List ℕ
-    pub taken : Takes src_before src_now bytes
-    pub written : AppendsPrefix out_before out_now (narrow_restored n bytes)
+pub record LeavesNarrowPrefix (n : Narrow) (src_before src_now out_before out_now : Option
+    (List ℕ)) : Type 0 where
+  pub bytes : List ℕ
+  pub taken : Takes src_before src_now bytes
+  pub written : AppendsPrefix out_before out_now (narrow_restored n bytes)
 
 -- how a stream is restored to narrow values: the result is the one that is stated for the input; on `Ok` its
--- values were written, and on an error a prefix of them, but nothing where the header is bad or of another
--- type, or where memory was wanting, which is said only behind a good header
+-- values were written, and on an error a prefix of
+-- them, but nothing where the header is bad or of another type, or where memory was wanting, which is said
+-- only behind a good header
 pub record RestoredNarrow (n : Narrow) (result : Result (Unit {0}) NarrowFault)
     (src_before src_now out_before out_now : Option (List ℕ)) : Type 0 where
   pub answer : AnswersNarrow result src_before

@@ -6,7 +6,8 @@ ghost use Rattle.zf_header.specs.HeaderBits.{IsMode};
 ghost use Rattle.zf_dev.specs.Devices.{Reads, Writes};
 ghost use Rattle.zf_stream.specs.Outcomes.{Compressed};
 ghost use Rattle.zf_parse.specs.declared.fault.StreamFault.TheVariants.{Read, Write};
-ghost use Rattle.zf_narrow.specs.Texts.{narrow_len, narrow_count, narrow_fault, compress_narrow_answer, narrow_text};
+ghost use Rattle.zf_narrow.specs.Texts.{narrow_len, narrow_count, narrow_fault, compress_narrow_answer};
+ghost use Rattle.zf_narrow.specs.Texts.{narrow_text};
 
 use crate::Narrow;
 use crate::begun::Begun;
@@ -37,8 +38,8 @@ pub fn compress_narrow<S: Source, O: Sink>(
 ) -> Result<(), StreamFault>
     requires mode { IsMode h.now.mode }
     requires int32 { h.now.ty ≡ types.I32 }
-    ensures outcome { Compressed (compress_narrow_answer n h.now) (narrow_text n h.now) (narrow_len n h.now)
-        result
+    ensures outcome { Compressed (compress_narrow_answer n h.now) (narrow_text n h.now)
+        (narrow_len n h.now) result
         (S.contents src.old) (S.contents src.new) (O.contents out.old) (O.contents out.new) }
     ensures source { Reads S.Source (result ≡ Err Read) src.old src.new }
     ensures sink { Writes O.Sink (result ≡ Err Write) out.old out.new }
@@ -58,8 +59,8 @@ fn compress_begun<S: Source, O: Sink, K: Begun>(
     requires start { K.start ≡ S.contents src.old }
     requires mode { IsMode h.now.mode }
     requires int32 { h.now.ty ≡ types.I32 }
-    ensures outcome { Compressed (compress_narrow_answer n h.now) (narrow_text n h.now) (narrow_len n h.now)
-        result
+    ensures outcome { Compressed (compress_narrow_answer n h.now) (narrow_text n h.now)
+        (narrow_len n h.now) result
         (S.contents src.old) (S.contents src.new) (O.contents out.old) (O.contents out.new) }
     ensures source { Reads S.Source (result ≡ Err Read) src.old src.new }
     ensures sink { Writes O.Sink (result ≡ Err Write) out.old out.new }

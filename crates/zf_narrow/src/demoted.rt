@@ -26,8 +26,8 @@ impl<'a, O: Sink, K: Begun> Demoted<'a, O, K> {
     /// Writes the byte that is owed, where one is.
     pub(crate) fn settle(&mut self) -> Result<(), Failed>
         ensures taken { taken_so_far self.new.demotion ≡ taken_so_far self.old.demotion }
-        ensures same_sink { (self.new.out.ghost_name ≡ self.old.out.ghost_name)
-            × (O.kept self.new.out.now ≡ O.kept self.old.out.now) }
+        ensures same_sink { (self.new.out.ghost_name ≡ self.old.out.ghost_name) ×
+            (O.kept self.new.out.now ≡ O.kept self.old.out.now) }
         ensures settled { OnOk result (self.new.demotion.owed ≡ None) }
         ensures unchanged { OnOk result (O.faults self.new.out.now ≡ O.faults self.old.out.now) }
         ensures cause { HasCause (IsErr result) (O.faults self.old.out.now) (O.faults self.new.out.now) }

@@ -1,6 +1,7 @@
 //! How far values were demoted: what is between int32 bytes and a sink of narrow bytes.
 
-ghost use Rattle.std.specs.Prelude.{◌≡◌, ◌%◌, ◌*◌, ◌<◌, ◌≤◌, ◌++◌, [], None, length, take, IsErr, IfOk, OnOk, OnErr};
+ghost use Rattle.std.specs.Prelude.{◌≡◌, ◌%◌, ◌*◌, ◌<◌, ◌≤◌, ◌++◌, [], None, length, take, IsErr, IfOk, OnOk};
+ghost use Rattle.std.specs.Prelude.{OnErr};
 ghost use Rattle.zf_dev.specs.Devices.{AsksSink};
 ghost use Rattle.zf_narrow.specs.RawNarrow.{demoted_bytes};
 ghost use Rattle.zf_narrow.specs.Promoting.{listed};

@@ -1,7 +1,8 @@
 //! Laws of narrow values. Each is a function with no parameters and an empty body, whose contract is the
 //! theorem.
 
-ghost use Rattle.std.specs.Prelude.{◌≡◌, ◌<◌, ◌≤◌, ◌%◌, ℕ, ℤ, ◌-ℤ◌, unsigned_abs, List, length, Ok, All, FitsSigned};
+ghost use Rattle.std.specs.Prelude.{◌≡◌, ◌<◌, ◌≤◌, ◌%◌, ℕ, ℤ, ◌-ℤ◌, unsigned_abs, List, length, Ok, All};
+ghost use Rattle.std.specs.Prelude.{FitsSigned};
 ghost use Rattle.std.specs.Int.{w32};
 ghost use Rattle.zf_narrow.specs.declared.narrow.Narrow.{Narrow};
 ghost use Rattle.zf_base.specs.declared.lane.Ty.TheVariants as types;
@@ -51,8 +52,8 @@ pub fn restored_values_stand_for_numbers()
 pub fn restore_narrow_undoes_compress_narrow()
     ensures answer { (n : Narrow) (h : Header) (bytes : List ℕ) → IsHeader h → h.ty ≡ types.I32
         → restore_narrow_answer (narrow_text n h bytes) ≡ Ok tt }
-    ensures reversible { (n : Narrow) (h : Header) (bytes : List ℕ) → IsHeader h → h.ty ≡ types.I32 → h.mode
-        ≡ Reversible
-        → length bytes ≡ narrow_len n h → All (λ b. b < 256) bytes → narrow_restored n (narrow_text n h bytes)
-        ≡ bytes }
+    ensures reversible { (n : Narrow) (h : Header) (bytes : List ℕ) → IsHeader h → h.ty ≡ types.I32
+        → h.mode ≡ Reversible
+        → length bytes ≡ narrow_len n h → All (λ b. b < 256) bytes
+        → narrow_restored n (narrow_text n h bytes) ≡ bytes }
 {}

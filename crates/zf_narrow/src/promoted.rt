@@ -1,6 +1,7 @@
 //! A source of raw narrow values as a source of raw int32 values: those that stand for them.
 
-ghost use Rattle.std.specs.Prelude.{◌≡◌, ◌<◌, ◌≤◌, [], length, take, drop, IsTrue, IsOk, IsErr, IfOk, OnOk, OnErr};
+ghost use Rattle.std.specs.Prelude.{◌≡◌, ◌<◌, ◌≤◌, [], length, take, drop, IsTrue, IsOk, IsErr, IfOk, OnOk};
+ghost use Rattle.std.specs.Prelude.{OnErr};
 ghost use Rattle.std.specs.Coded.{→_prop};
 ghost use Rattle.zf_dev.specs.Facts.{IsAtEnd-prop};
 ghost use Rattle.zf_dev.specs.Faults.{HasCause};

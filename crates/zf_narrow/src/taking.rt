@@ -1,6 +1,7 @@
 //! Reading whole narrow values from a source that may give any part of them.
 
-ghost use Rattle.std.specs.Prelude.{◌≡◌, ◌+◌, ◌%◌, ◌<◌, ◌≤◌, ◌++◌, [], length, take, IsOk, IsErr, IfOk, OnOk, OnErr};
+ghost use Rattle.std.specs.Prelude.{◌≡◌, ◌+◌, ◌%◌, ◌<◌, ◌≤◌, ◌++◌, [], length, take, IsOk, IsErr, IfOk, OnOk};
+ghost use Rattle.std.specs.Prelude.{OnErr};
 ghost use Rattle.zf_dev.specs.Devices.{AsksSource};
 ghost use Rattle.zf_dev.specs.Source.{IsAtEnd};
 ghost use Rattle.zf_narrow.specs.Values.{size_of};

@@ -32,7 +32,8 @@ pub struct Summary {
 const PIECE: usize = 1 << 16;
 
 /// Makes an array of the header's type and shape from a number, compresses it in the header's mode, restores
-/// the stream, and says what became of it. `AllocError`: there was no memory.
+/// the stream, and says what became of
+/// it. `AllocError`: there was no memory.
 pub fn sample(alloc: Global, h: &Header, seed: u64) -> Result<Summary, AllocError>
     requires { IsMode h.now.mode }
     ensures { IfOk result (λ summary. summary ≡ summary_of h.now seed) }

@@ -43,8 +43,8 @@ fn halved<T: Lane>(v: T) -> T
 
 /// Appends the raw bytes of a value.
 fn push_value<T: Lane>(v: T, bytes: &mut Vec<u8>) -> Result<(), AllocError>
-    ensures { OnOk result (bytes.new.items ≡ bytes.old.items
-        ++ to_le_bytes T.width (cast_unsigned T.width (T.value v))) }
+    ensures { OnOk result (bytes.new.items ≡ bytes.old.items ++ to_le_bytes T.width
+        (cast_unsigned T.width (T.value v))) }
 {
     let all = v.to_word().to_le_bytes();
     bytes.extend_from_slice(&all[..(T::WIDTH / 8) as usize])

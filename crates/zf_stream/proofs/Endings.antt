@@ -1,47 +1,62 @@
 -- How compressing ends, put together.
-use Rattle.std.proofs.Common.{◌≡◌, refl, sym, subst, ℕ, inr, List, [], Option, Some, None, Result, Ok, Err}
+use Rattle.std.proofs.Common.{◌≡◌, refl, sym, subst, ◌∙◌, ℕ, ◌<◌, inl, inr, Bool, List, [], ◌++◌, length, Option, Some, None, Result, Ok, Err}
 use Rattle.std.specs.Prelude.{IfErr, OnOk, OnErr}
-use Rattle.zf_dev.specs.Source.{Gives}
+use Rattle.zf_dev.specs.Source.{Gives, IsAtEnd}
 use Rattle.zf_dev.specs.declared.source.Source.{Ghosts as Source}
-use Rattle.zf_dev.specs.declared.sink.Sink.{Ghosts as Sink}
-use Rattle.zf_dev.specs.Devices.{Reads, Writes}
-use Rattle.zf_dev.proofs.Devices.{Reads-none, Reads-by, Writes-none, Writes-by}
+use Rattle.zf_dev.specs.Devices.{Reads}
+use Rattle.zf_dev.proofs.Devices.{Reads-none, Reads-by}
 use Rattle.zf_header.specs.declared.header.Header.{Header}
 use Rattle.zf_parse.specs.declared.fault.StreamFault.{StreamFault}
 use Rattle.zf_parse.specs.declared.fault.StreamFault.TheVariants.{Read, Write, Memory}
 use Rattle.zf_parse.specs.Raw.{raw_len, compress_answer, stream_text}
-use Rattle.zf_stream.specs.Outcomes.{IsRefusal, Finishes, LeavesPrefix, Compressed, CompressedGiven, RefusesRaw}
+use Rattle.zf_stream.specs.Outcomes.{IsRefusal, LeavesPrefix, WritesPrefix, Compressed, CompressedGiven, RefusesRaw}
+use Rattle.zf_stream.specs.Flows.{Flows, Spills}
+use Rattle.zf_stream.specs.Rows.{Compresses, Stops, Ends}
+use Rattle.zf_spec.specs.Stream.{fill}
+use Rattle.zf_pad.specs.Slabs.{rows_of}
+use Rattle.zf_header.specs.HeaderBits.{header_bits}
+use Rattle.zf_stream.proofs.Slabwise.{rows_len-all}
+use Rattle.zf_stream.proofs.PrefixesOfStreams.{prefix_where_stopped, prefix_of_given, given_at_end, prefix_at_end, text_at_end}
 use Rattle.zf_stream.proofs.Answering.{answer_of_refusal, answer_at_end, nothing_left, on_ok_weaker, after_err, text_from, prefix_from}
-use Rattle.zf_stream.proofs.RawRows.{write_refused}
+use Rattle.zf_stream.proofs.RawRows.{write_refused, good_answer}
 
-ok_is : (u : Unit {0}) (r : Result (Unit {0}) StreamFault) → r ≡ Ok u → r ≡ Err Memory → ⊥
-ok_is u r ok same = cc
-
-module _ (h : Header) {src0 src1 out0 out1 : Option (List ℕ)} where
-  -- on a refusal
-  pub stopped : (e : StreamFault) → RefusesRaw (compress_answer h) (raw_len h) src0 src1 e → LeavesPrefix (stream_text h) src0 src1 out0 out1
-      → Compressed (compress_answer h) (stream_text h) (raw_len h) (Err e) src0 src1 out0 out1
-  stopped e refuses left = let Same : Result (Unit {0}) StreamFault → Type 0 = λ q. IfErr q (λ x. e ≡ x) in record {
-    answer = answer_of_refusal (Err e) e src0 (compress_answer h) refl refuses.refused;
-    possible = refuses.possible;
-    shows = refuses.shows;
-    ok = tt;
-    err = left;
-    unwritten = λ same. absurd (refuses.unwanted (subst Same same refl));
+module _ (h : Header) {src0 src1 out0 out1 : Option (List ℕ)} {gives : List ℕ → Type 0} where
+  refusal : (e : StreamFault) → RefusesRaw (compress_answer h) (raw_len h) src0 src1 e → LeavesPrefix (stream_text h) src0 src1 out0 out1 → WritesPrefix (stream_text h) gives out0 out1
+      → Ends h (Err e) src0 src1 gives out0 out1
+  refusal e refuses left written = let Same : Result (Unit {0}) StreamFault → Type 0 = λ q. IfErr q (λ x. e ≡ x) in record {
+    outcome = record {
+      answer = answer_of_refusal (Err e) e src0 (compress_answer h) refl refuses.refused;
+      possible = refuses.possible;
+      shows = refuses.shows;
+      ok = tt;
+      err = left;
+      unwritten = λ same. absurd (refuses.unwanted (subst Same same refl));
+    };
+    given = record { ok = tt; err = written };
   }
 
-  -- where the last words were to be written
-  pub at_end : (r : Result (Unit {0}) StreamFault) → IfErr r (λ e. e ≡ Write) → OnOk r (Finishes (compress_answer h) (stream_text h) src0 src1 out0 out1)
-      → OnErr r (LeavesPrefix (stream_text h) src0 src1 out0 out1) → Compressed (compress_answer h) (stream_text h) (raw_len h) r src0 src1 out0 out1
-  at_end (Ok u) fault done left = record {
-    answer = answer_at_end (Ok u) src0 src1 (compress_answer h) done.bytes tt done.taken done.ended done.good;
-    possible = tt;
-    shows = tt;
-    ok = done;
-    err = tt;
-    unwritten = λ same. absurd (ok_is u (Ok u) refl same);
-  }
-  at_end (Err e) fault done left = stopped e (write_refused h src0 src1 e fault) left
+  -- where the work stopped, on a refusal
+  pub stopped : (e : StreamFault) → RefusesRaw (compress_answer h) (raw_len h) src0 src1 e → Stops h src0 src1 gives out0 out1 (header_bits h) → Ends h (Err e) src0 src1 gives out0 out1
+  stopped e refuses stops = refusal e refuses (prefix_where_stopped h stops) (prefix_of_given h stops)
+
+-- where the last words were to be written
+pub at_end : (h : Header) {src0 src1 out0 out1 out2 : Option (List ℕ)} {gives : List ℕ → Type 0} {left : List Bool} (r : Result (Unit {0}) StreamFault) (last : List Bool) → Compresses h (rows_of h.shape) src0 src1 gives out0 out1 (header_bits h) left → IsAtEnd src1
+    → IfErr r (λ e. e ≡ Write) → OnOk r (Flows out1 out2 (left ++ fill left) last) → OnOk r (length last < 64) → OnErr r (Spills out1 out2 (left ++ fill left)) → Ends h r src0 src1 gives out0 out2
+at_end h {src0} {src1} {out0} {out1} {out2} {gives} {left} (Ok u) last done ended fault flows few spills =
+    let good = good_answer (raw_len h) done.bytes (done.long ∙ rows_len-all h done.whole.some_axis) in
+    let written = text_at_end h done flows few in
+    record {
+      outcome = record {
+        answer = answer_at_end (Ok u) src0 src1 (compress_answer h) done.bytes tt done.taken ended good;
+        possible = tt;
+        shows = tt;
+        ok = record { bytes = done.bytes; taken = done.taken; ended = ended; good = good; written = written };
+        err = tt;
+        unwritten = λ same. absurd cc;
+      };
+      given = record { ok = record { bytes = done.bytes; given = done.given; good = good; written = written }; err = tt };
+    }
+at_end h {src0} {src1} {out0} {out1} {out2} {gives} {left} (Err e) last done ended fault flows few spills = refusal h e (write_refused h src0 src1 e fault) (prefix_at_end h done spills) (given_at_end h done spills)
 
 -- memory was wanting
 pub no_memory : (h : Header) (e : StreamFault) (src out : Option (List ℕ)) → e ≡ Memory → Compressed (compress_answer h) (stream_text h) (raw_len h) (Err e) src src out out
@@ -68,18 +83,6 @@ given_from {answer} {text} {r} {a} {b} {c} {out0} {out1} none given = record {
   err = after_err r given.err (λ writes. prefix_from none writes);
 }
 
--- ---- what is left of the devices
-
-module _ {T : Type 0} (r : Result T StreamFault) (e : StreamFault) (is : r ≡ Err e) (memory : e ≡ Memory) where
-  no_read : r ≡ Err e → e ≡ Memory → r ≡ Err Read → ⊥
-  no_read a b same = cc
-
-  no_write : r ≡ Err e → e ≡ Memory → r ≡ Err Write → ⊥
-  no_write a b same = cc
-
-  -- memory was wanting before they were asked
-  pub unread : {A : Type 0} {S : Source A} {a : A} → Reads S (r ≡ Err Read) a a
-  unread {A} {S} {a} = Reads-by (Reads-none a) (no_read is memory)
-
-  pub unasked : {A : Type 0} {O : Sink A} {a : A} → Writes O (r ≡ Err Write) a a
-  unasked {A} {O} {a} = Writes-by (Writes-none a) (no_write is memory)
+-- memory was wanting before the source was asked
+pub unread : {A T : Type 0} {S : Source A} {a : A} (r : Result T StreamFault) (e : StreamFault) → r ≡ Err e → e ≡ Memory → Reads S (r ≡ Err Read) a a
+unread {A} {T} {S} {a} r e is memory = Reads-by (Reads-none a) (λ same. cc)

@@ -8,13 +8,10 @@ use Rattle.zf_parse.specs.declared.fault.StreamFault.{StreamFault}
 use Rattle.zf_parse.specs.declared.fault.StreamFault.TheVariants.{Read, Write}
 use Rattle.zf_stream.specs.Outcomes.{ReadsOnly, WritesOnly}
 
-no_fault : {T : Type 0} (x : T) (e : StreamFault) (r : Result T StreamFault) → r ≡ Ok x → r ≡ Err e → ⊥
-no_fault x e r ok same = cc
-
 module _ {A T : Type 0} {S : Source A} where
   -- no call failed
   pub Reads-ok : {a b : A} (x : T) → Reads S ⊥ a b → Reads S (Ok x ≡ Err Read) a b
-  Reads-ok {a} {b} x reads = Reads-by reads (λ same. no_fault x Read (Ok x) refl same)
+  Reads-ok {a} {b} x reads = Reads-by reads (λ same. cc)
 
   pub ReadsOnly-ok : {a b : A} (x : T) → Reads S ⊥ a b → ReadsOnly S (Ok x) a b
   ReadsOnly-ok {a} {b} x reads = record { fault = tt; device = Reads-ok x reads }
@@ -25,7 +22,7 @@ module _ {A T : Type 0} {S : Source A} where
 
 module _ {A T : Type 0} {O : Sink A} where
   pub Writes-ok : {a b : A} (x : T) → Writes O ⊥ a b → Writes O (Ok x ≡ Err Write) a b
-  Writes-ok {a} {b} x writes = Writes-by writes (λ same. no_fault x Write (Ok x) refl same)
+  Writes-ok {a} {b} x writes = Writes-by writes (λ same. cc)
 
   pub WritesOnly-ok : {a b : A} (x : T) → Writes O ⊥ a b → WritesOnly O (Ok x) a b
   WritesOnly-ok {a} {b} x writes = record { fault = tt; device = Writes-ok x writes }

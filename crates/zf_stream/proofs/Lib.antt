@@ -4,6 +4,7 @@
 --     WordBytes      the bytes of words, and the words of bytes
 --     OnErrors       what holds anyhow holds after an error
 --     Failing        calls that fail only where a device does, one after another
+--     Piecewise      bytes that are written part by part
 --     Flowing        bits on their way through a writer to a sink
 --     Rows           the codes of an array, row by row
 --     RawRows        what is read of raw values
@@ -29,6 +30,7 @@ pub mod RawValues
 pub mod WordBytes
 pub mod OnErrors
 pub mod Failing
+pub mod Piecewise
 pub mod Flowing
 pub mod Rows
 pub mod RawRows

@@ -57,18 +57,6 @@ some_taken before wanted old new e lacks = ⊎_elim (λ short. (short.2.bytes, s
 pub some_more : (mid now : Option (List ℕ)) (e : StreamFault) → GoesOn mid now e → TakesSome mid now
 some_more mid now e more = ⊎_elim (λ long. (long.0 ∷ [], long.2)) (λ failed. failed.1) (more_is mid now e more)
 
-no_memory_read : faults.Read ≡ faults.Memory → ⊥
-no_memory_read is = cc
-
-no_memory_write : faults.Write ≡ faults.Memory → ⊥
-no_memory_write is = cc
-
-no_memory_short : (n : ℕ) → faults.RawShort n ≡ faults.Memory → ⊥
-no_memory_short n is = cc
-
-no_memory_long : faults.RawLong ≡ faults.Memory → ⊥
-no_memory_long is = cc
-
 module _ (h : Header) (known now : Option (List ℕ)) where
   outside : (known : Option (List ℕ)) (e : StreamFault) → IsFromOutside e → IsRefusal known (compress_answer h) e
   outside None e is = tt
@@ -78,12 +66,12 @@ module _ (h : Header) (known now : Option (List ℕ)) where
   pub read_refused : (e : StreamFault) → e ≡ faults.Read → RefusesRaw (compress_answer h) (raw_len h) known now e
   read_refused e is =
       let P : StreamFault → Type 0 = λ f. RefusesRaw (compress_answer h) (raw_len h) known now f in
-      subst P (sym is) (record { refused = outside known faults.Read (inl refl); possible = inr (inl refl); shows = tt; unwanted = no_memory_read })
+      subst P (sym is) (record { refused = outside known faults.Read (inl refl); possible = inr (inl refl); shows = tt; unwanted = λ is. cc })
 
   pub write_refused : (e : StreamFault) → e ≡ faults.Write → RefusesRaw (compress_answer h) (raw_len h) known now e
   write_refused e is =
       let P : StreamFault → Type 0 = λ f. RefusesRaw (compress_answer h) (raw_len h) known now f in
-      subst P (sym is) (record { refused = outside known faults.Write (inr (inl refl)); possible = inr (inr (inl refl)); shows = tt; unwanted = no_memory_write })
+      subst P (sym is) (record { refused = outside known faults.Write (inr (inl refl)); possible = inr (inr (inl refl)); shows = tt; unwanted = λ is. cc })
 
 -- fewer bytes than the array has
 module _ (h : Header) (known mid now : Option (List ℕ)) (bytes : List ℕ) (taken : Takes known mid bytes) (wanted : ℕ) (within : length bytes + wanted ≤ raw_len h) where
@@ -105,7 +93,7 @@ module _ (h : Header) (known mid now : Option (List ℕ)) (bytes : List ℕ) (ta
         refused = short_refusal short.0 known taken short.2;
         possible = CanRefuse-short (raw_len h) short.0 (omega (arith, short.2.count_is, short.2.few));
         shows = short.2.ended;
-        unwanted = no_memory_short short.0;
+        unwanted = λ is. cc;
       }))
       (λ failed. read_refused h known now e failed.0)
       (lacks_is (length bytes) wanted mid now e lacks)
@@ -135,7 +123,7 @@ module _ (h : Header) (known mid now : Option (List ℕ)) (bytes : List ℕ) (ta
         refused = long_refusal known mid now long.0 taken long.2;
         possible = CanRefuse-long (raw_len h);
         shows = (bytes ++ long.0 ∷ [], omega (arith, length-append bytes (long.0 ∷ []), all), Takes-append known mid now bytes (long.0 ∷ []) taken long.2);
-        unwanted = no_memory_long;
+        unwanted = λ is. cc;
       }))
       (λ failed. read_refused h known now e failed.0)
       (more_is mid now e more)

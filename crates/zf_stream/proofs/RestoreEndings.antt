@@ -54,22 +54,8 @@ restored_known prefix r known src now out0 out taken good rest = record {
 
 -- ---- before the header was known
 
-no_memory : {T : Type 0} (e f : StreamFault) → e ≡ f → (f ≡ Memory → ⊥) → (r : Result T StreamFault) → r ≡ Err e → r ≡ Err Memory → ⊥
-no_memory {T} e f is not_memory r err same =
-    let Same : Result T StreamFault → Type 0 = λ q. IfErr q (λ x. e ≡ x) in
-    not_memory (sym is ∙ subst Same (sym err ∙ same) refl)
-
-read_is : Read ≡ Memory → ⊥
-read_is same = cc
-
-pub unread_memory : {T : Type 0} (e : StreamFault) → e ≡ Read → (r : Result T StreamFault) → r ≡ Err e → r ≡ Err Memory → ⊥
-unread_memory {T} e is r err same = no_memory e Read is read_is r err same
-
 pub bad_memory : {T : Type 0} (prefix : List ℕ) (e : StreamFault) → IsFaultOf prefix e → (r : Result T StreamFault) → r ≡ Err e → r ≡ Err Memory → ⊥
-bad_memory {T} prefix e fault r err same =
-    let Same : Result T StreamFault → Type 0 = λ q. IfErr q (λ x. e ≡ x) in
-    let is : e ≡ Memory = subst Same (sym err ∙ same) refl in
-    let no : IsFaultOf prefix Memory = subst (IsFaultOf prefix) is fault in no
+bad_memory {T} prefix e fault r err same = let is : e ≡ Memory = cc in let no : IsFaultOf prefix Memory = subst (IsFaultOf prefix) is fault in no
 
 pub answer_unread : {T : Type 0} (known : Option (List ℕ)) (e : StreamFault) (answer : List ℕ → Result T StreamFault) → e ≡ Read → Answers (Err e) known answer
 answer_unread {T} None e answer is = tt
@@ -87,7 +73,7 @@ restored_unread e known now out is some = record {
   ok = tt;
   err = nothing_written known now out some;
   unwritten = λ _. refl;
-  memory = λ same. absurd (unread_memory e is (Err e) refl same);
+  memory = λ same. absurd cc;
 }
 
 -- there is no good header

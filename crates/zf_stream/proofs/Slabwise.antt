@@ -182,22 +182,6 @@ module _ (h : Header) (row here : ℕ) (next : IsNext h row here) (whole : IsSla
 
 -- ---- the sizes of a slab
 
-pub record SlabSizes (h : Header) (rows here count len : ℕ) (shape : List ℕ) : Type 0 where
-  pub bytes_are : count * len ≡ product shape * byte_len (width_of h.ty)
-  pub bytes_len : count * len ≡ rows_len h here
-  pub values : count ≤ row_len h.shape * rows
-
-slab_sizes : (h : Header) (rows here count len : ℕ) (shape : List ℕ) → 1 ≤ length h.shape → here ≤ rows → shape ≡ with_rows here h.shape → count ≡ product shape → len ≡ byte_len (width_of h.ty) → SlabSizes h rows here count len shape
-slab_sizes h rows here count len shape some few is count_is len_is =
-    let many : count ≡ row_len h.shape * here = count_is ∙ ap product is ∙ product-with_rows here h.shape some in
-    let size : count * len ≡ product shape * byte_len (width_of h.ty) = ap (λ n. n * len) count_is ∙ ap (λ n. product shape * n) len_is in
-    let all : count * len ≡ rows_len h here = ap (λ n. n * len) many ∙ ap (λ n. row_len h.shape * here * n) len_is in
-    record {
-      bytes_are = size;
-      bytes_len = all;
-      values = omega (arith, many, mul-le-mul_left (row_len h.shape) few);
-    }
-
 -- the raw values of an array are not so many
 raw_small : (h : Header) (len row : ℕ) → 1 ≤ length h.shape → row ≤ rows_of h.shape → product h.shape ≤ 2 ^ 27 → len ≤ 8 → len ≡ byte_len (width_of h.ty) → rows_len h row ≤ 2 ^ 30
 raw_small h len row some within few narrow is =
@@ -208,16 +192,23 @@ raw_small h len row some within few narrow is =
 -- the slab that comes next, and its sizes
 pub record NextSlab (h : Header) (rows row here count len : ℕ) (shape : List ℕ) : Type 0 where
   pub next : IsNext h row here
-  pub sizes : SlabSizes h rows here count len shape
+  pub bytes_are : count * len ≡ product shape * byte_len (width_of h.ty)
+  pub bytes_len : count * len ≡ rows_len h here
+  pub values : count ≤ row_len h.shape * rows
   pub small : rows_len h (row + here) ≤ 2 ^ 30
 
 pub slab_next : (h : Header) (rows row all here count len : ℕ) (shape : List ℕ) → IsShape h.shape → ArePieces h.shape rows → IsSlab h.shape 0 row → all ≡ rows_of h.shape → row < all → here ≡ min rows (all - row)
     → shape ≡ with_rows here h.shape → count ≡ product shape → len ≡ byte_len (width_of h.ty) → len ≤ 8 → NextSlab h rows row here count len shape
-slab_next h rows row all here count len shape is_shape pieces whole all_is more is shape_is count_is len_is narrow = record {
-  next = next_here h rows row all here pieces whole all_is more is;
-  sizes = slab_sizes h rows here count len shape whole.some_axis (omega (arith, is)) shape_is count_is len_is;
-  small = raw_small h len (row + here) whole.some_axis (omega (arith, is, all_is, more)) is_shape.not_too_large narrow len_is;
-}
+slab_next h rows row all here count len shape is_shape pieces whole all_is more is shape_is count_is len_is narrow =
+    let many : count ≡ row_len h.shape * here = count_is ∙ ap product shape_is ∙ product-with_rows here h.shape whole.some_axis in
+    let few : here ≤ rows = omega (arith, is) in
+    record {
+      next = next_here h rows row all here pieces whole all_is more is;
+      bytes_are = ap (λ n. n * len) count_is ∙ ap (λ n. product shape * n) len_is;
+      bytes_len = ap (λ n. n * len) many ∙ ap (λ n. row_len h.shape * here * n) len_is;
+      values = omega (arith, many, mul-le-mul_left (row_len h.shape) few);
+      small = raw_small h len (row + here) whole.some_axis (omega (arith, is, all_is, more)) is_shape.not_too_large narrow len_is;
+    }
 
 -- ---- the start, where no row is read
 

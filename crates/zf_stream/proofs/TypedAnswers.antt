@@ -17,7 +17,7 @@ use Rattle.zf_stream.specs.Typed.{with_true, answer_of_types, typed_answer, CanR
 use Rattle.zf_parse.proofs.Parsed.{begun_more, fault_first}
 use Rattle.zf_stream.proofs.FromPrefix.{Answers-known, Takes-known}
 use Rattle.zf_stream.proofs.Headed.{good_of_prefix}
-use Rattle.zf_stream.proofs.RestoreEndings.{answer_unread, nothing_written, unread_memory, bad_memory}
+use Rattle.zf_stream.proofs.RestoreEndings.{answer_unread, nothing_written, bad_memory}
 
 same_types : (wanted ty : Ty) (answer : Result (Unit {0}) StreamFault) → ty ≡ wanted → answer_of_types wanted ty answer ≡ with_true answer
 same_types I32 ty answer is = ap (λ t. answer_of_types I32 t answer) is
@@ -117,7 +117,7 @@ where_unread wanted e known now out is some = record {
   ok = tt;
   err = nothing_written known now out some;
   unwritten = λ _. refl;
-  memory = λ same. absurd (unread_memory e is (Err e) refl same);
+  memory = λ same. absurd cc;
 }
 
 -- there is no good header
@@ -131,9 +131,6 @@ where_header wanted prefix e known now out first fault = record {
   memory = λ same. absurd (bad_memory prefix e fault (Err e) refl same);
 }
 
-ok_is : (x : Bool) (r : Result Bool StreamFault) → r ≡ Ok x → r ≡ Err faults.Memory → ⊥
-ok_is x r ok same = cc
-
 module _ (wanted : Ty) (prefix : List ℕ) (h : Header) (len : ℕ) (known src : Option (List ℕ)) (first : TakesFirst 24 known src prefix) (begun : BeginsWithHeader prefix h len) where
   -- it is one of the other type
   pub where_other : (out : Option (List ℕ)) → h.ty ≢ wanted → RestoredWhere wanted (Ok false) known src out out
@@ -145,7 +142,7 @@ module _ (wanted : Ty) (prefix : List ℕ) (h : Header) (len : ℕ) (known src :
         ok = record { bytes = prefix; first = first; good = begun.good; other = subst Type_of begun.header other; unwritten = refl };
         err = tt;
         unwritten = tt;
-        memory = λ same. absurd (ok_is false (Ok false) refl same);
+        memory = λ same. absurd cc;
       }
 
   module _ (same_type : h.ty ≡ wanted) {now out0 out : Option (List ℕ)} where
@@ -168,5 +165,5 @@ module _ (wanted : Ty) (prefix : List ℕ) (h : Header) (len : ℕ) (known src :
       ok = typed_done wanted known src now out0 out prefix h len first.taken begun same_type rest.ok;
       err = tt;
       unwritten = tt;
-      memory = λ same. absurd (ok_is true (Ok true) refl same);
+      memory = λ same. absurd cc;
     }

@@ -24,7 +24,7 @@ pub record ReadsHeader (before now : Option (List ℕ)) (h : Header) (bits : ℕ
 
 -- no header was read: the first bytes of the source have this fault, or the source failed within them
 abbrev pub LacksHeader : Option (List ℕ) → Option (List ℕ) → StreamFault → Type 0
-LacksHeader before now (faults.Header f) = (bytes : List ℕ) × TakesFirst header_room before now bytes
-    × (header_fault bytes ≡ Some f)
+LacksHeader before now (faults.Header f) = (bytes : List ℕ) × TakesFirst header_room before now bytes ×
+    (header_fault bytes ≡ Some f)
 LacksHeader before now faults.Read = TakesAtMost before now header_room
 LacksHeader before now e = ⊥

@@ -1,6 +1,7 @@
 -- How a call that reads from a source and writes to a sink ends. What a device exposes of its bytes is
 -- `Some`, else `None`.
-use Rattle.std.specs.Prelude.{ℕ, ◌≡◌, ◌≢◌, ◌≤◌, ◌⊎◌, List, ◌++◌, length, take, Option, Some, None, Result, Ok, Err, IsErrAnd, IfErr, OnOk, OnErr}
+use Rattle.std.specs.Prelude.{ℕ, ◌≡◌, ◌≢◌, ◌≤◌, ◌⊎◌, List, ◌++◌, length, take, Option, Some, None, Result, Ok}
+use Rattle.std.specs.Prelude.{Err, IsErrAnd, IfErr, OnOk, OnErr}
 use Rattle.zf_dev.specs.declared.source.Source.{Ghosts as Source}
 use Rattle.zf_dev.specs.declared.sink.Sink.{Ghosts as Sink}
 use Rattle.zf_dev.specs.Devices.{Reads, Writes}
@@ -9,17 +10,18 @@ use Rattle.zf_dev.specs.Sink.{Appends, AppendsPrefix}
 use Rattle.zf_parse.specs.Parsing.{restore_answer, restored_text}
 use Rattle.zf_parse.specs.ReadStreams.{HasGoodHeader}
 use Rattle.zf_parse.specs.declared.fault.StreamFault.{StreamFault}
-use Rattle.zf_parse.specs.declared.fault.StreamFault.TheVariants.{RawShort, RawLong, Header, Read, Write, Memory}
+use Rattle.zf_parse.specs.declared.fault.StreamFault.TheVariants.{RawShort, RawLong, Header, Read, Write}
+use Rattle.zf_parse.specs.declared.fault.StreamFault.TheVariants.{Memory}
 
 -- a fault of a device, or out of memory: what no input determines
 abbrev pub IsFromOutside : StreamFault → Type 0
 IsFromOutside e = (e ≡ Read) ⊎ (e ≡ Write) ⊎ (e ≡ Memory)
 
 -- a call that asks a source alone fails only where the source does
-pub record ReadsOnly {A T : Type 0} (S : Source A) (result : Result T StreamFault) (old new : A) : Type 0
-  where
-    pub fault : IfErr result (λ e. e ≡ Read)
-    pub device : Reads S (result ≡ Err Read) old new
+pub record ReadsOnly {A T : Type 0} (S : Source A) (result : Result T StreamFault)
+    (old new : A) : Type 0 where
+  pub fault : IfErr result (λ e. e ≡ Read)
+  pub device : Reads S (result ≡ Err Read) old new
 
 -- and one that asks a sink alone only where the sink does
 pub record WritesOnly {A T : Type 0} (O : Sink A) (result : Result T StreamFault) (old new : A) : Type 0 where
@@ -71,8 +73,8 @@ pub record Finishes (answer : List ℕ → Result (Unit {0}) StreamFault) (text 
   pub written : Appends out_before out_now (text bytes)
 
 -- some bytes were read, and a prefix of their text was written, maybe nothing
-pub record LeavesPrefix (text : List ℕ → List ℕ) (src_before src_now out_before out_now : Option (List ℕ))
-    : Type 0 where
+pub record LeavesPrefix (text : List ℕ → List ℕ)
+    (src_before src_now out_before out_now : Option (List ℕ)) : Type 0 where
   pub bytes : List ℕ
   pub taken : Takes src_before src_now bytes
   pub written : AppendsPrefix out_before out_now (text bytes)
@@ -98,8 +100,8 @@ pub record WritesPrefix (text : List ℕ → List ℕ) (gives : List ℕ → Typ
 -- the input; on `Ok` its text was written, and on an error a prefix of one, but nothing where memory was
 -- wanting
 pub record Compressed (stated : List ℕ → Result (Unit {0}) StreamFault) (text : List ℕ → List ℕ) (wanted : ℕ)
-    (result : Result (Unit {0}) StreamFault)
-    (src_before src_now out_before out_now : Option (List ℕ)) : Type 0 where
+    (result : Result (Unit {0}) StreamFault) (src_before src_now out_before out_now : Option (List ℕ)) : Type
+    0 where
   pub answer : Answers result src_before stated
   pub possible : IfErr result (CanRefuse stated)
   pub shows : IfErr result (ShowsLength wanted src_before src_now)
@@ -110,8 +112,8 @@ pub record Compressed (stated : List ℕ → Result (Unit {0}) StreamFault) (tex
 -- the same of what a source says that it gave: on `Ok` the text of that was written, and on an error a prefix
 -- of it
 pub record CompressedGiven (answer : List ℕ → Result (Unit {0}) StreamFault) (text : List ℕ → List ℕ)
-    (result : Result (Unit {0}) StreamFault)
-    (gives : List ℕ → Type 0) (out_before out_now : Option (List ℕ)) : Type 0 where
+    (result : Result (Unit {0}) StreamFault) (gives : List ℕ → Type 0) (out_before out_now : Option (List ℕ))
+    : Type 0 where
   pub ok : OnOk result (WritesText answer text gives out_before out_now)
   pub err : OnErr result (WritesPrefix text gives out_before out_now)
 

@@ -1,6 +1,7 @@
 -- An array that is restored slab by slab: how far its codes were read, and its values written. The codes are
 -- those of the bits that were left in a window, and of the bytes that were taken of the source behind them.
-use Rattle.std.specs.Prelude.{ℕ, ◌≡◌, ◌+◌, ◌-◌, ◌*◌, ◌/◌, ◌<◌, ◌≤◌, ◌⊎◌, ℤ, Bool, List, [], ◌++◌, map, length, drop, Option, Some, None, Result, Ok, Err, IfErr, OnOk, OnErr}
+use Rattle.std.specs.Prelude.{ℕ, ◌≡◌, ◌+◌, ◌-◌, ◌*◌, ◌/◌, ◌<◌, ◌≤◌, ◌⊎◌, ℤ, Bool, List, [], ◌++◌, map, length}
+use Rattle.std.specs.Prelude.{drop, Option, Some, None, Result, Ok, Err, IfErr, OnOk, OnErr}
 use Rattle.std.specs.Result.{result_map_both}
 use Rattle.zf_spec.specs.Grid.{blocks, upto, extent_of, block_of, blocks_of}
 use Rattle.zf_spec.specs.Codes.{existing_values}
@@ -15,7 +16,8 @@ use Rattle.zf_dev.specs.Sink.{Appends, AppendsPrefix}
 use Rattle.zf_parse.specs.declared.fault.StreamFault.{StreamFault}
 use Rattle.zf_parse.specs.declared.fault.StreamFault.TheVariants as faults
 use Rattle.zf_parse.specs.Raw.{raw_bytes}
-use Rattle.zf_parse.specs.Parsing.{read_code, read_codes, said_behind, text_behind, restore_answer, restored_text}
+use Rattle.zf_parse.specs.Parsing.{read_code, read_codes, said_behind, text_behind, restore_answer}
+use Rattle.zf_parse.specs.Parsing.{restored_text}
 use Rattle.zf_stream.specs.Outcomes.{Answers, Finishes, LeavesPrefix, IsFromOutside, IsBeforeWriting}
 use Rattle.zf_parse.specs.ReadStreams.{BeginsWithHeader}
 use Rattle.zf_stream.specs.Headed.{prefix_room}
@@ -27,11 +29,11 @@ behind prefix None = None
 behind prefix (Some left) = Some (prefix ++ left)
 
 -- the input behind these bytes was read to its end; all of it is a good stream, whose text was written
-pub record FinishesBehind (prefix : List ℕ) (src_before src_now out_before out_now : Option (List ℕ)) : Type 0
-  where
-    pub done : Finishes restore_answer restored_text (behind prefix src_before) src_now out_before out_now
-    pub more : List ℕ
-    pub begins : done.bytes ≡ prefix ++ more
+pub record FinishesBehind (prefix : List ℕ)
+    (src_before src_now out_before out_now : Option (List ℕ)) : Type 0 where
+  pub done : Finishes restore_answer restored_text (behind prefix src_before) src_now out_before out_now
+  pub more : List ℕ
+  pub begins : done.bytes ≡ prefix ++ more
 
 -- some input behind these bytes has this refusal, or it comes from outside
 abbrev pub CanRefuseBehind : List ℕ → StreamFault → Type 0
@@ -67,8 +69,8 @@ stream_from window bytes = left_of window ++ to_bits bytes
 -- the code of block b was read, and its values were put behind those before
 pub record ReadsStored (h : Header) (b : ℕ) (old new : Reader) (before now : List ℤ) : Type 0 where
   pub block : List ℤ
-  pub code : read_code (width_of h.ty) h.mode (extent_of h.shape b) (rest old)
-      ≡ Some (existing_values (extent_of h.shape b) block, new.at - old.at)
+  pub code : read_code (width_of h.ty) h.mode (extent_of h.shape b) (rest old) ≡ Some
+      (existing_values (extent_of h.shape b) block, new.at - old.at)
   pub passed : rest new ≡ drop (new.at - old.at) (rest old)
   pub appended : AppendsBlock (extent_of h.shape b) block before now
 
@@ -77,13 +79,13 @@ pub record ReadsSlab (part : Header) (src_before src_now : Option (List ℕ)) (o
     (values : List ℤ) : Type 0 where
   pub bytes : List ℕ
   pub goes : Goes src_before src_now old new bytes
-  pub codes : read_codes part 0 (blocks part.shape) (stream_from old bytes)
-      ≡ Ok (blocks_of part.shape values, left_of new)
+  pub codes : read_codes part 0 (blocks part.shape) (stream_from old bytes) ≡ Ok
+      (blocks_of part.shape values, left_of new)
 
 -- the source ends within the code of this block of the array, of which the slab's blocks are those from the
 -- first on
-pub record CutsSlab (part : Header) (first number : ℕ) (src_before src_now : Option (List ℕ)) (old : Window)
-    : Type 0 where
+pub record CutsSlab (part : Header) (first number : ℕ) (src_before src_now : Option (List ℕ))
+    (old : Window) : Type 0 where
   pub bytes : List ℕ
   pub taken : Takes src_before src_now bytes
   pub ended : IsAtEnd src_now
@@ -111,8 +113,8 @@ pub record Restores (h : Header) (rows : ℕ) (src_before src_now out_before out
   pub goes : Goes src_before src_now old new bytes
   pub values : List ℤ
   pub long : length values ≡ row_len h.shape * rows
-  pub codes : read_codes h 0 (first_block h.shape ((rows + 3) / 4)) (stream_from old bytes)
-      ≡ Ok (blocks_of_rows h.shape rows values, left_of new)
+  pub codes : read_codes h 0 (first_block h.shape ((rows + 3) / 4)) (stream_from old bytes) ≡ Ok
+      (blocks_of_rows h.shape rows values, left_of new)
   pub written : Appends out_before out_now (raw_bytes h values)
 
 -- the raw values that are read of bits continued with zeros
@@ -125,26 +127,26 @@ answer_of_codes h before s = result_map_both (λ said. said.values) (λ e. e)
     (said_behind h (before + length s) s)
 
 -- some bytes were taken, and a prefix of the text was written
-pub record LeavesRows (h : Header) (src_before src_now out_before out_now : Option (List ℕ)) (old : Window)
-    : Type 0 where
+pub record LeavesRows (h : Header) (src_before src_now out_before out_now : Option (List ℕ))
+    (old : Window) : Type 0 where
   pub bytes : List ℕ
   pub taken : Takes src_before src_now bytes
   pub written : AppendsPrefix out_before out_now (text_of_codes h (stream_from old bytes))
 
 -- the fault of all that was to come, unless it is one of a device
-pub record HasFault (h : Header) (src_before src_now : Option (List ℕ)) (old : Window) (e : StreamFault)
-    : Type 0 where
+pub record HasFault (h : Header) (src_before src_now : Option (List ℕ)) (old : Window)
+    (e : StreamFault) : Type 0 where
   pub bytes : List ℕ
   pub taken : Takes src_before src_now bytes
   pub answer : answer_of_codes h old.reader.at (stream_from old (bytes ++ still src_now)) ≡ Err e
 
 abbrev pub Refuses : Header → Option (List ℕ) → Option (List ℕ) → Window → StreamFault → Type 0
-Refuses h src_before src_now old e = HasFault h src_before src_now old e
-    ⊎ ((e ≡ faults.Read) ⊎ (e ≡ faults.Write))
+Refuses h src_before src_now old e = HasFault h src_before src_now old e ⊎
+    ((e ≡ faults.Read) ⊎ (e ≡ faults.Write))
 
 -- all that was to come was taken and is good, and its text was written
-pub record RestoresAll (h : Header) (src_before src_now out_before out_now : Option (List ℕ)) (old : Window)
-    : Type 0 where
+pub record RestoresAll (h : Header) (src_before src_now out_before out_now : Option (List ℕ))
+    (old : Window) : Type 0 where
   pub bytes : List ℕ
   pub taken : Takes src_before src_now bytes
   pub ended : IsAtEnd src_now

@@ -14,10 +14,10 @@ use Rattle.zf_stream.specs.declared.restore_room.RestoreRoom.{RestoreRoom}
 
 -- it is one for arrays of as many dimensions, with room for a block's code more than are kept back, and for
 -- the fill
-pub record IsRoomFor {X : Type 0} {l : Lane X} {e : PartialEq X} (h : Header) (room : Room X l e) : Type 0
-  where
-    pub scratch : room.scratch ≡ length h.shape
-    pub fits : room.most + longest_code h + 64 ≤ length room.codes.bits + room.codes.room
+pub record IsRoomFor {X : Type 0} {l : Lane X} {e : PartialEq X} (h : Header)
+    (room : Room X l e) : Type 0 where
+  pub scratch : room.scratch ≡ length h.shape
+  pub fits : room.most + longest_code h + 64 ≤ length room.codes.bits + room.codes.room
 
 -- with as many values beside it, it is one for this array of values of such a width
 pub record IsRoomOf {X : Type 0} {l : Lane X} {e : PartialEq X} (w : Width) (h : Header) (count : ℕ)

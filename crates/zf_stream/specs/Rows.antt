@@ -1,5 +1,6 @@
 -- An array that is compressed row by row: how far its raw values were read, and its codes written.
 use Rattle.std.specs.Prelude.{ℕ, ◌≡◌, ◌+◌, ◌*◌, ◌/◌, ◌%◌, ◌≤◌, ◌⊎◌, Bool, List, ◌++◌, map, length, Option}
+use Rattle.std.specs.Prelude.{Result}
 use Rattle.std.specs.List.{flat_map}
 use Rattle.std.specs.Int.{byte_len}
 use Rattle.zf_spec.specs.Grid.{product, upto, extent_of, block_of}
@@ -11,6 +12,8 @@ use Rattle.zf_header.specs.HeaderBits.{coding}
 use Rattle.zf_dev.specs.Source.{Takes}
 use Rattle.zf_parse.specs.declared.fault.StreamFault.{StreamFault}
 use Rattle.zf_parse.specs.declared.fault.StreamFault.TheVariants.{Write}
+use Rattle.zf_parse.specs.Raw.{raw_len, compress_answer, stream_text}
+use Rattle.zf_stream.specs.Outcomes.{Compressed, CompressedGiven}
 use Rattle.zf_stream.specs.ReadRaw.{LacksRaw}
 use Rattle.zf_stream.specs.Flows.{Flows, Spills}
 
@@ -34,8 +37,8 @@ code_of_block h bytes b =
 
 -- the codes of the blocks of the first rows
 abbrev pub codes_of_rows : Header → ℕ → List ℕ → List Bool
-codes_of_rows h rows bytes = flat_map (λ c. c) (map (code_of_block h bytes)
-    (upto (first_block h.shape ((rows + 3) / 4))))
+codes_of_rows h rows bytes = flat_map (λ c. c)
+    (map (code_of_block h bytes) (upto (first_block h.shape ((rows + 3) / 4))))
 
 -- the first rows were read, and their codes are on their way behind these bits
 pub record Compresses (h : Header) (rows : ℕ) (src_before src_now : Option (List ℕ)) (gives : List ℕ → Type 0)
@@ -60,6 +63,14 @@ pub record Stops (h : Header) (src_before src_now : Option (List ℕ)) (gives : 
   pub given : gives (bytes ++ lost)
   pub long : length bytes ≡ rows_len h rows
   pub spills : Spills out_before out_now (bits ++ codes_of_rows h rows bytes)
+
+-- how compressing the array ends: what the devices expose, and what was made of what the source says that it
+-- gave
+pub record Ends (h : Header) (result : Result (Unit {0}) StreamFault) (src_before src_now : Option (List ℕ))
+    (gives : List ℕ → Type 0) (out_before out_now : Option (List ℕ)) : Type 0 where
+  pub outcome : Compressed (compress_answer h) (stream_text h)
+      (raw_len h) result src_before src_now out_before out_now
+  pub given : CompressedGiven (compress_answer h) (stream_text h) result gives out_before out_now
 
 -- ---- a slab, which is an array of its own
 
@@ -90,6 +101,6 @@ pub record SpillsSlab (part : Header) (src_before src_now : Option (List ℕ)) (
 abbrev pub BreaksSlab : Header → ℕ → Option (List ℕ) → Option (List ℕ) → (List ℕ → Type 0) → Option (List ℕ)
     → Option (List ℕ) → List Bool → StreamFault → Type 0
 BreaksSlab part before src_before src_now gives out_before out_now bits e =
-    (LacksRaw before (product part.shape * byte_len (width_of part.ty)) src_before src_now e
-    × (out_now ≡ out_before))
+    (LacksRaw before (product part.shape * byte_len (width_of part.ty)) src_before src_now e ×
+    (out_now ≡ out_before))
     ⊎ ((e ≡ Write) × SpillsSlab part src_before src_now gives out_before out_now bits)

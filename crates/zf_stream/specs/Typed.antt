@@ -1,5 +1,6 @@
 -- A stream that is restored where its values are of one type.
-use Rattle.std.specs.Prelude.{ℕ, ◌≡◌, ◌≢◌, ◌⊎◌, Bool, true, false, List, Option, Some, None, Result, Ok, Err, IfOk, IfErr, OnErr}
+use Rattle.std.specs.Prelude.{ℕ, ◌≡◌, ◌≢◌, ◌⊎◌, Bool, true, false, List, Option, Some, None, Result, Ok, Err}
+use Rattle.std.specs.Prelude.{IfOk, IfErr, OnErr}
 use Rattle.zf_base.specs.declared.lane.Ty.{Ty}
 use Rattle.zf_base.specs.declared.lane.Ty.TheVariants.{I32, I64}
 use Rattle.zf_header.specs.HeaderFaults.{header_fault}
@@ -36,13 +37,13 @@ abbrev pub CanRefuseTyped : Ty → StreamFault → Type 0
 CanRefuseTyped wanted e = ((input : List ℕ) × (typed_answer wanted input ≡ Err e)) ⊎ IsFromOutside e
 
 -- the input was read to its end and is a good stream of the wanted type, and its text was written
-pub record RestoresTyped (wanted : Ty) (src_before src_now out_before out_now : Option (List ℕ)) : Type 0
-  where
-    pub bytes : List ℕ
-    pub taken : Takes src_before src_now bytes
-    pub ended : IsAtEnd src_now
-    pub good : typed_answer wanted bytes ≡ Ok true
-    pub written : Appends out_before out_now (restored_text bytes)
+pub record RestoresTyped (wanted : Ty)
+    (src_before src_now out_before out_now : Option (List ℕ)) : Type 0 where
+  pub bytes : List ℕ
+  pub taken : Takes src_before src_now bytes
+  pub ended : IsAtEnd src_now
+  pub good : typed_answer wanted bytes ≡ Ok true
+  pub written : Appends out_before out_now (restored_text bytes)
 
 -- the first bytes were taken and no more, which begin with a good header of another type; nothing was written
 pub record HasOtherType (wanted : Ty) (src_before src_now out_before out_now : Option (List ℕ)) : Type 0 where

@@ -1,5 +1,6 @@
 -- A window of a stream: the bits of it that are held, of which some were read.
-use Rattle.std.specs.Prelude.{ℕ, ◌≡◌, ◌+◌, ◌*◌, ◌%◌, ◌^◌, ◌<◌, ◌≤◌, Bool, true, false, List, ◌++◌, length, Option}
+use Rattle.std.specs.Prelude.{ℕ, ◌≡◌, ◌+◌, ◌*◌, ◌%◌, ◌^◌, ◌<◌, ◌≤◌, Bool, true, false, List, ◌++◌, length}
+use Rattle.std.specs.Prelude.{Option}
 use Rattle.zf_spec.specs.Stream.{to_bits}
 use Rattle.zf_bits.specs.Reader.{Reader, rest}
 use Rattle.zf_dev.specs.Source.{Takes, IsAtEnd}
@@ -30,8 +31,8 @@ KnowsEnd window src = window.ended ≡ true → IsAtEnd src
 pub record Goes (src_before src_now : Option (List ℕ)) (old new : Window) (bytes : List ℕ) : Type 0 where
   pub taken : Takes src_before src_now bytes
   pub moved : ℕ
-  pub place : old.reader.at + length (left_of old ++ to_bits bytes)
-      ≡ new.reader.at + 64 * moved + length (left_of new)
+  pub place : old.reader.at + length (left_of old ++ to_bits bytes) ≡ new.reader.at + 64 * moved + length
+      (left_of new)
 
 -- no bit was read, and what was taken of the source follows the bits that were left
 pub record Refills (src_before src_now : Option (List ℕ)) (old new : Window) : Type 0 where

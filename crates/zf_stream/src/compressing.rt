@@ -12,7 +12,7 @@ ghost use Rattle.zf_dev.specs.Devices.{Reads, Writes};
 ghost use Rattle.zf_dev.specs.Source.{Gives, GivesSome};
 ghost use Rattle.zf_stream.specs.Outcomes.{Compressed, CompressedGiven, RefusesRaw};
 ghost use Rattle.zf_stream.specs.Rooms.{IsRoomFor, IsRoomOf, Keeps};
-ghost use Rattle.zf_stream.specs.Rows.{Compresses, Stops, WritesSlab, BreaksSlab};
+ghost use Rattle.zf_stream.specs.Rows.{Compresses, Stops, Ends, WritesSlab, BreaksSlab};
 ghost use Rattle.zf_parse.specs.declared.fault.StreamFault.TheVariants.{Read, Write};
 
 use crate::StreamFault;
@@ -89,9 +89,7 @@ fn write_stream<T: Lane, S: Source, O: Sink>(
 ) -> Result<(), StreamFault>
     requires room { IsRoomOf T.width h.now (length values.old) room.old }
     requires header { room.old.codes.bits ≡ header_bits h.now }
-    ensures outcome { Compressed (compress_answer h.now) (stream_text h.now) (raw_len h.now) result
-        (S.contents src.old) (S.contents src.new) (O.contents out.old) (O.contents out.new) }
-    ensures given { CompressedGiven (compress_answer h.now) (stream_text h.now) result
+    ensures ends { Ends h.now result (S.contents src.old) (S.contents src.new)
         (Gives (S.gave src.old) (S.gave src.new)) (O.contents out.old) (O.contents out.new) }
     ensures source { Reads S.Source (result ≡ Err Read) src.old src.new }
     ensures sink { Writes O.Sink (result ≡ Err Write) out.old out.new }
@@ -119,8 +117,8 @@ fn write_slabs<T: Lane, S: Source, O: Sink>(
         (Gives (S.gave src.old) (S.gave src.new)) (O.contents out.old) (O.contents out.new)
         room.old.codes.bits room.new.codes.bits) }
     ensures err { OnErr result (Stops h.now (S.contents src.old) (S.contents src.new)
-        (Gives (S.gave src.old) (S.gave src.new)) (O.contents out.old) (O.contents out.new)
-        room.old.codes.bits) }
+        (Gives (S.gave src.old) (S.gave src.new))
+        (O.contents out.old) (O.contents out.new) room.old.codes.bits) }
     ensures refused { IfErr result (RefusesRaw (compress_answer h.now) (raw_len h.now)
         (S.contents src.old) (S.contents src.new)) }
     ensures few { OnOk result (length room.new.codes.bits < room.new.most) }
@@ -171,8 +169,8 @@ fn write_slab<T: Lane, S: Source, O: Sink>(
         (Gives (S.gave src.old) (S.gave src.new)) (O.contents out.old) (O.contents out.new)
         room.old.codes.bits room.new.codes.bits) }
     ensures err { IfErr result (BreaksSlab part.now taken (S.contents src.old) (S.contents src.new)
-        (Gives (S.gave src.old) (S.gave src.new)) (O.contents out.old) (O.contents out.new)
-        room.old.codes.bits) }
+        (Gives (S.gave src.old) (S.gave src.new))
+        (O.contents out.old) (O.contents out.new) room.old.codes.bits) }
     ensures gave_some { GivesSome (S.gave src.old) (S.gave src.new) }
     ensures few { OnOk result (length room.new.codes.bits < room.new.most) }
     ensures keeps { Keeps room.old room.new }

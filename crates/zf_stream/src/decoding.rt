@@ -1,6 +1,7 @@
 //! The values of a slab.
 
-ghost use Rattle.std.specs.Prelude.{◌≡◌, ◌≢◌, ◌-◌, ◌+◌, ◌*◌, ◌<◌, ◌≤◌, ◌^◌, true, map, length, Err, IfErr, OnOk, OnErr, OnSome, IfNone, vec_len, vec_capacity};
+ghost use Rattle.std.specs.Prelude.{◌≡◌, ◌≢◌, ◌-◌, ◌+◌, ◌*◌, ◌<◌, ◌≤◌, ◌^◌, true, map, length, Err, IfErr};
+ghost use Rattle.std.specs.Prelude.{OnOk, OnErr, OnSome, IfNone, vec_len, vec_capacity};
 ghost use Rattle.zf_spec.specs.Grid.{product, blocks, extent_of};
 ghost use Rattle.zf_base.specs.Widths.{width_of};
 ghost use Rattle.zf_pad.specs.Stored.{HasWholeBlocks, raster_of};
@@ -24,7 +25,8 @@ use zf_parse::read_code;
 /// Reads the codes of a slab, an array of its own whose blocks are those of the array from block `first` on.
 ///
 /// The values take the place of those that are stored, in the order of blocks, where there is room for all of
-/// them. What is written of that room is what is needed for the codes that were read.
+/// them.
+/// What is written of that room is what is needed for the codes that were read.
 pub(crate) fn read_slab<T: Lane, S: Source>(
     part: &Header,
     first: u64,
@@ -36,8 +38,8 @@ pub(crate) fn read_slab<T: Lane, S: Source>(
     requires numbers { first + blocks part.now.shape < 2 ^ 64 }
     ensures ok { OnOk result (ReadsSlab part.now (S.contents src.old) (S.contents src.new)
         room.old.window room.new.window (raster_of part.now.shape (map T.value room.new.stored.items))) }
-    ensures err { IfErr result (LacksSlab part.now first (S.contents src.old) (S.contents src.new)
-        room.old.window) }
+    ensures err { IfErr result (LacksSlab part.now first (S.contents src.old)
+        (S.contents src.new) room.old.window) }
     ensures all { OnOk result (vec_len room.new.stored ≡ product part.now.shape) }
     ensures stays { OnOk result (Stays room.old room.new) }
     ensures ended { OnOk result (KnowsEnd room.new.window (S.contents src.new)) }
@@ -65,7 +67,8 @@ pub(crate) fn read_slab<T: Lane, S: Source>(
 }
 
 /// Reads the code of block `b`, whose values are so many, by way of `lines`, or answers `None` where the bits
-/// that are held end too early.
+/// that are
+/// held end too early.
 #[inline(always)]
 fn read_block<T: Lane>(
     part: &Header,

@@ -28,7 +28,8 @@ use zf_header::{Header, Mode};
 use zf_pad::Layout;
 
 /// Appends the codes of all blocks, in order. Where as many bits are at hand as the room keeps back, whole
-/// words are written.
+/// words are
+/// written.
 pub(crate) fn write_codes<T: Lane, O: Sink>(
     layout: &Layout,
     h: &Header,
@@ -45,7 +46,8 @@ pub(crate) fn write_codes<T: Lane, O: Sink>(
         ++ flat_map (λ c. c) (stream.codes T.width h.now.shape (coding h.now.mode) (map T.value values.now)))
         room.new.codes.bits) }
     ensures err { OnErr result (Spills (O.contents out.old) (O.contents out.new) (room.old.codes.bits
-        ++ flat_map (λ c. c) (stream.codes T.width h.now.shape (coding h.now.mode) (map T.value values.now)))) }
+        ++ flat_map (λ c. c) (stream.codes T.width h.now.shape
+        (coding h.now.mode) (map T.value values.now)))) }
     ensures few { OnOk result (length room.new.codes.bits < room.new.most) }
     ensures keeps { Keeps room.old room.new }
     ensures sink { WritesOnly O.Sink result out.old out.new }

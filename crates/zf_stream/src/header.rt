@@ -19,7 +19,8 @@ use zf_header::{FULL_HEADER_BYTES, Header};
 /// `Header(f)`: f is the first fault of the header; the same bytes were taken. `Read`: the source failed;
 /// some of these bytes, maybe none, were taken.
 pub fn read_header<S: Source>(src: &mut S) -> Result<(Header, u32), StreamFault>
-    ensures ok { IfOk result (λ found. ReadsHeader (S.contents src.old) (S.contents src.new) found.0 found.1) }
+    ensures ok { IfOk result (λ found. ReadsHeader (S.contents src.old)
+        (S.contents src.new) found.0 found.1) }
     ensures err { IfErr result (LacksHeader (S.contents src.old) (S.contents src.new)) }
     // It reads no more once it saw the end.
     ensures seen { S.ends_seen src.new ≤ S.ends_seen src.old + 1 }

@@ -10,7 +10,8 @@ ghost use Rattle.zf_header.specs.declared.header.Mode.TheVariants.{Reversible, R
 ghost use Rattle.zf_header.specs.HeaderBits.{IsHeader};
 ghost use Rattle.zf_header.specs.HeaderFaults.{header_fault};
 ghost use Rattle.zf_parse.specs.Raw.{raw_len, raw_bytes, stream_of, stream_text};
-ghost use Rattle.zf_parse.specs.Parsing.{Said, header_of, values_of_blocks, said_of, parse, restore_answer, restored_text};
+ghost use Rattle.zf_parse.specs.Parsing.{Said, header_of, values_of_blocks, said_of, parse, restore_answer};
+ghost use Rattle.zf_parse.specs.Parsing.{restored_text};
 ghost use Rattle.zf_parse.specs.declared.fault.StreamFault.{StreamFault};
 ghost use Rattle.zf_spec.specs.Numbers.{AreValues};
 
@@ -36,12 +37,13 @@ pub fn length_of_what_is_restored()
 /// A stream is good exactly where it is parsed, and bad for the same fault.
 pub fn restore_answers_as_parse_does()
     ensures ok { (bytes : List ℕ) → (restore_answer bytes ≡ Ok tt) ↔ IsOk (parse bytes) }
-    ensures err { (bytes : List ℕ) (e : StreamFault) → (restore_answer bytes ≡ Err e)
-        ↔ (parse bytes ≡ Err e) }
+    ensures err { (bytes : List ℕ) (e : StreamFault) → (restore_answer bytes ≡ Err e) ↔
+        (parse bytes ≡ Err e) }
 {}
 
 /// The stream of an array says its header, the codes of its blocks bit for bit, and its values, or what the
-/// fixed rate or the fixed precision makes of each block.
+/// fixed rate or the fixed precision
+/// makes of each block.
 pub fn a_stream_is_parsed()
     ensures header { (h : Header) (values : List ℤ) → IsHeader h → header_of (stream_of h values) ≡ h }
     ensures reversible { (h : Header) (values : List ℤ) → IsHeader h → h.mode ≡ Reversible
@@ -49,16 +51,17 @@ pub fn a_stream_is_parsed()
         → parse (stream_of h values) ≡ Ok (said_of h values values) }
     ensures rate { (h : Header) (values : List ℤ) (budget : ℕ) → IsHeader h → h.mode ≡ Rate budget
         → parse (stream_of h values) ≡ Ok (said_of h values (values_of_blocks h.shape
-        (map (λ b. round (width_of h.ty) budget (extent_of h.shape b) (block_of h.shape values b))
-        (upto (blocks h.shape))))) }
+        (map (λ b. round (width_of h.ty) budget (extent_of h.shape b)
+        (block_of h.shape values b)) (upto (blocks h.shape))))) }
     ensures precision { (h : Header) (values : List ℤ) (p : ℕ) → IsHeader h → h.mode ≡ Precision p
         → parse (stream_of h values) ≡ Ok (said_of h values (values_of_blocks h.shape
-        (map (λ b. round_prec (width_of h.ty) p (extent_of h.shape b) (block_of h.shape values b))
-        (upto (blocks h.shape))))) }
+        (map (λ b. round_prec (width_of h.ty) p (extent_of h.shape b)
+        (block_of h.shape values b)) (upto (blocks h.shape))))) }
 {}
 
 /// The stream of raw bytes is a good one. What is restored of it is these bytes, or the bytes of what the
-/// fixed rate or the fixed precision makes of each block.
+/// fixed rate or the fixed
+/// precision makes of each block.
 pub fn restore_undoes_compress()
     ensures answer { (h : Header) (bytes : List ℕ) → IsHeader h
         → restore_answer (stream_text h bytes) ≡ Ok tt }
@@ -67,11 +70,11 @@ pub fn restore_undoes_compress()
     ensures rate { (h : Header) (bytes : List ℕ) (budget : ℕ) → IsHeader h → h.mode ≡ Rate budget
         → let values = values_from (width_of h.ty) (product h.shape) bytes in
         restored_text (stream_text h bytes) ≡ raw_bytes h (values_of_blocks h.shape
-        (map (λ b. round (width_of h.ty) budget (extent_of h.shape b) (block_of h.shape values b))
-        (upto (blocks h.shape)))) }
+        (map (λ b. round (width_of h.ty) budget (extent_of h.shape b)
+        (block_of h.shape values b)) (upto (blocks h.shape)))) }
     ensures precision { (h : Header) (bytes : List ℕ) (p : ℕ) → IsHeader h → h.mode ≡ Precision p
         → let values = values_from (width_of h.ty) (product h.shape) bytes in
         restored_text (stream_text h bytes) ≡ raw_bytes h (values_of_blocks h.shape
-        (map (λ b. round_prec (width_of h.ty) p (extent_of h.shape b) (block_of h.shape values b))
-        (upto (blocks h.shape)))) }
+        (map (λ b. round_prec (width_of h.ty) p (extent_of h.shape b)
+        (block_of h.shape values b)) (upto (blocks h.shape)))) }
 {}

@@ -1,6 +1,7 @@
 //! Reading from a source: as many bytes as are wanted, and then the end.
 
-ghost use Rattle.std.specs.Prelude.{◌≡◌, ◌≢◌, ◌≤◌, ◌<◌, ◌*◌, ◌+◌, ◌^◌, [], map, length, take, IsOk, Err, IfOk, IfErr, OnOk, OnErr};
+ghost use Rattle.std.specs.Prelude.{◌≡◌, ◌≢◌, ◌≤◌, ◌<◌, ◌*◌, ◌+◌, ◌^◌, [], map, length, take, IsOk, Err};
+ghost use Rattle.std.specs.Prelude.{IfOk, IfErr, OnOk, OnErr};
 ghost use Rattle.std.specs.Int.{byte_len};
 ghost use Rattle.zf_dev.specs.Source.{TakesSome, TakesAtMost, Takes, Gives, GivesSome, IsAtEnd, SeesEnd};
 ghost use Rattle.zf_dev.specs.Devices.{Reads};
@@ -43,8 +44,8 @@ pub(crate) fn read_values<T: Lane, S: Source>(
     requires piece { 8 ≤ length piece.old }
     requires fits { before + length values.old * byte_len T.width < 2 ^ 64 }
     ensures ok { OnOk result (ReadsValues T.width (length values.old)
-        (S.contents src.old) (S.contents src.new) (Gives (S.gave src.old) (S.gave src.new))
-        (map T.value values.new)) }
+        (S.contents src.old) (S.contents src.new)
+        (Gives (S.gave src.old) (S.gave src.new)) (map T.value values.new)) }
     ensures err { IfErr result (LacksRaw before (length values.old * byte_len T.width) (S.contents src.old)
         (S.contents src.new)) }
     ensures gave_some { GivesSome (S.gave src.old) (S.gave src.new) }
@@ -64,8 +65,8 @@ pub(crate) fn read_values<T: Lane, S: Source>(
 
 /// Reads the end of the source, before which no byte is to come.
 pub(crate) fn read_end<S: Source>(src: &mut S) -> Result<(), StreamFault>
-    ensures ok { OnOk result (Takes (S.contents src.old) (S.contents src.new) []
-        × IsAtEnd (S.contents src.new)) }
+    ensures ok { OnOk result (Takes (S.contents src.old) (S.contents src.new) [] × IsAtEnd
+        (S.contents src.new)) }
     ensures err { IfErr result (GoesOn (S.contents src.old) (S.contents src.new)) }
     ensures gave { OnOk result (Gives (S.gave src.old) (S.gave src.new) []) }
     ensures gave_some { GivesSome (S.gave src.old) (S.gave src.new) }
@@ -89,7 +90,8 @@ pub(crate) fn read_into<S: Source>(src: &mut S, buf: &mut [u8]) -> Result<usize,
     ensures some { TakesSome (S.contents src.old) (S.contents src.new) }
     ensures gave { IfOk result (λ n. Gives (S.gave src.old) (S.gave src.new) (take n buf.new)) }
     ensures gave_some { GivesSome (S.gave src.old) (S.gave src.new) }
-    ensures seen { IfOk result (λ n. SeesEnd (n < length buf.old) (S.ends_seen src.old) (S.ends_seen src.new)) }
+    ensures seen { IfOk result (λ n. SeesEnd (n < length buf.old) (S.ends_seen src.old)
+        (S.ends_seen src.new)) }
     ensures unseen { OnErr result (S.ends_seen src.new ≤ S.ends_seen src.old) }
     ensures source { ReadsOnly S.Source result src.old src.new }
 {

@@ -8,7 +8,8 @@ ghost use Rattle.zf_stream.specs.Outcomes.{Restored};
 ghost use Rattle.zf_stream.specs.Typed.{RestoredWhere};
 ghost use Rattle.zf_stream.specs.Rooms.{CanRestoreAll, Stays};
 ghost use Rattle.zf_stream.specs.Windows.{KnowsEnd};
-ghost use Rattle.zf_stream.specs.Restoring.{RestoredBehind, IsBegun, Restores, LeavesRows, Refuses, RestoresAll};
+ghost use Rattle.zf_stream.specs.Restoring.{RestoredBehind, IsBegun, Restores, LeavesRows, Refuses};
+ghost use Rattle.zf_stream.specs.Restoring.{RestoresAll};
 ghost use Rattle.zf_parse.specs.declared.fault.StreamFault.TheVariants.{Read, Write};
 
 use crate::StreamFault;
@@ -54,8 +55,9 @@ pub fn restore<S: Source, O: Sink>(
 }
 
 /// Restores a stream whose values are of this type, as [`restore`] does, and answers true. Of another type it
-/// answers false: the header was read, with 24 bytes taken at most, and nothing was written. Its errors are
-/// those of [`restore`].
+/// answers
+/// false: the header was read, with 24 bytes taken at most, and nothing was written. Its errors are those of
+/// [`restore`].
 pub fn restore_where<S: Source, O: Sink>(
     alloc: Global,
     wanted: Ty,

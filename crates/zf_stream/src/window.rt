@@ -1,6 +1,7 @@
 //! A window of a stream's words, which is filled from a source.
 
-ghost use Rattle.std.specs.Prelude.{◌≡◌, ◌≢◌, ◌≤◌, ◌<◌, ◌+◌, ◌*◌, ◌^◌, ◌%◌, true, false, [], length, IsTrue, Err, IfOk, IfErr, OnOk, OnErr};
+ghost use Rattle.std.specs.Prelude.{◌≡◌, ◌≢◌, ◌≤◌, ◌<◌, ◌+◌, ◌*◌, ◌^◌, ◌%◌, true, false, [], length, IsTrue};
+ghost use Rattle.std.specs.Prelude.{Err, IfOk, IfErr, OnOk, OnErr};
 ghost use Rattle.std.specs.Int.{div_ceil};
 ghost use Rattle.zf_spec.specs.Stream.{to_bits};
 ghost use Rattle.zf_stream.specs.Outcomes.{ReadsOnly};
@@ -40,7 +41,11 @@ impl Model for Window {
     ghost Value = { Window };
 
     ghost view = { λ w. record {
-      reader = record { all = take w.bits (word_bits w.words.items); at = w.at };
+      reader = record {
+        all = take w.bits
+            (word_bits w.words.items);
+        at = w.at;
+      };
       room = length w.words.items;
       ended = w.ended;
     } };
@@ -50,7 +55,8 @@ impl Model for Window {
 
 impl Window {
     /// A window that holds the first bytes of a source, all of them where there are fewer than 24, and stands
-    /// at bit `at`. It has room for `most` bits and those before them.
+    /// at bit `at`.
+    /// It has room for `most` bits and those before them.
     pub(crate) fn new(
         alloc: Global,
         most: u64,
@@ -174,8 +180,8 @@ impl Window {
         ensures ok { OnOk result (Refills (S.contents src.old) (S.contents src.new) self.old self.new) }
         ensures place { OnOk result (self.new.reader.at ≡ self.old.reader.at) }
         ensures ended { OnOk result (KnowsEnd self.new (S.contents src.new)) }
-        ensures more { OnOk result (self.new.ended ≡ false → length (left_of self.old)
-            < length (left_of self.new)) }
+        ensures more { OnOk result (self.new.ended ≡ false → length (left_of self.old) < length
+            (left_of self.new)) }
         ensures taken { OnErr result (TakesSome (S.contents src.old) (S.contents src.new)) }
         ensures source { ReadsOnly S.Source result src.old src.new }
     {

@@ -1,6 +1,7 @@
 //! Words of a stream on their way to a sink.
 
-ghost use Rattle.std.specs.Prelude.{◌≡◌, ◌≤◌, ◌<◌, ◌*◌, ◌+◌, ◌≢◌, ◌^◌, All, map, length, Err, OnOk, OnErr, IfErr};
+ghost use Rattle.std.specs.Prelude.{◌≡◌, ◌≤◌, ◌<◌, ◌*◌, ◌+◌, ◌≢◌, ◌^◌, All, map, length, Err, OnOk, OnErr};
+ghost use Rattle.std.specs.Prelude.{IfErr};
 ghost use Rattle.zf_spec.specs.Grid.{product};
 ghost use Rattle.zf_spec.specs.Stream.{raw};
 ghost use Rattle.zf_pad.specs.Stored.{raster_of};
@@ -44,7 +45,8 @@ pub(crate) fn write_whole_words<O: Sink>(
 fn write_words<O: Sink>(words: &[u64], piece: &mut [u8], out: &mut O) -> Result<(), StreamFault>
     requires { 8 ≤ length piece.old }
     ensures ok { OnOk result (Appends (O.contents out.old) (O.contents out.new) (bytes_in words.now)) }
-    ensures err { OnErr result (AppendsPrefix (O.contents out.old) (O.contents out.new) (bytes_in words.now)) }
+    ensures err { OnErr result (AppendsPrefix (O.contents out.old) (O.contents out.new)
+        (bytes_in words.now)) }
     ensures words { All (λ v. v < 2 ^ 64) words.now }
     ensures sink { WritesOnly O.Sink result out.old out.new }
 {
@@ -97,7 +99,8 @@ pub(crate) fn write_values<T: Lane, O: Sink>(
 }
 
 /// Writes the values of an array that are kept in the order of blocks, in raster order as raw bytes, by way
-/// of `lines` and `piece`.
+/// of `lines`
+/// and `piece`.
 pub(crate) fn write_stored<T: Lane, O: Sink>(
     shape: &Shape,
     stored: &[T],

@@ -32,10 +32,10 @@ write_stream-requires-clause-room g c =
     }
 
 pub returns-clause-outcome : goal.returns-clause-outcome
-returns-clause-outcome g c = rw (← c.read_ahead.ensures.contents_stay) c.write_stream.ensures.outcome
+returns-clause-outcome g c = rw (← c.read_ahead.ensures.contents_stay) c.write_stream.ensures.ends.outcome
 
 pub returns-clause-given : goal.returns-clause-given
-returns-clause-given g c = given_from c.read_ahead.ensures.ungiven c.write_stream.ensures.given
+returns-clause-given g c = given_from c.read_ahead.ensures.ungiven c.write_stream.ensures.ends.given
 
 pub returns-clause-source : goal.returns-clause-source
 returns-clause-source g c = Reads-told c.read_ahead.ensures.kept c.read_ahead.ensures.faults_stay c.read_ahead.ensures.sure c.write_stream.ensures.source

@@ -29,17 +29,17 @@ loop-row-init g c = record {
 pub slice_bounds-write_slab-end : goal.slice_bounds-write_slab-end
 slice_bounds-write_slab-end g c =
     let slab = slab_next c.args.h.now c.loop-row.room.rows c.loop-row.row c.rows_of-all.result c.min-here.result c.values-count.result c.value_len.result c.with_rows.result c.dims-dims.ensures.shape c.loop-row.invariant.room.rows c.loop-row.invariant.done.whole c.rows_of-all.ensures c.loop-row-test.true c.min-here.ensures c.with_rows.ensures c.values-count.ensures.value (c.value_len.ensures.value ∙ ap byte_len c.requires.room.same_type) c.value_len.ensures.bound in
-    omega (arith, slab.sizes.values, c.loop-row.invariant.room.values)
+    omega (arith, slab.values, c.loop-row.invariant.room.values)
 
 pub slice_bounds-write_slab-end-in-loop-row : goal.slice_bounds-write_slab-end-in-loop-row
 slice_bounds-write_slab-end-in-loop-row g c =
     let slab = slab_next c.args.h.now c.loop-row.room.rows c.loop-row.row c.rows_of-all.result c.min-here.result c.values-count.result c.value_len.result c.with_rows.result c.dims-dims.ensures.shape c.loop-row.invariant.room.rows c.loop-row.invariant.done.whole c.rows_of-all.ensures c.loop-row-test.true c.min-here.ensures c.with_rows.ensures c.values-count.ensures.value (c.value_len.ensures.value ∙ ap byte_len c.requires.room.same_type) c.value_len.ensures.bound in
-    sym (length-take-le _ c.loop-row.values (omega (arith, slab.sizes.values, c.loop-row.invariant.room.values)))
+    sym (length-take-le _ c.loop-row.values (omega (arith, slab.values, c.loop-row.invariant.room.values)))
 
 pub write_slab-requires-clause-values : goal.write_slab-requires-clause-values
 write_slab-requires-clause-values g c =
     let slab = slab_next c.args.h.now c.loop-row.room.rows c.loop-row.row c.rows_of-all.result c.min-here.result c.values-count.result c.value_len.result c.with_rows.result c.dims-dims.ensures.shape c.loop-row.invariant.room.rows c.loop-row.invariant.done.whole c.rows_of-all.ensures c.loop-row-test.true c.min-here.ensures c.with_rows.ensures c.values-count.ensures.value (c.value_len.ensures.value ∙ ap byte_len c.requires.room.same_type) c.value_len.ensures.bound in
-    length-take-le _ c.loop-row.values (omega (arith, slab.sizes.values, c.loop-row.invariant.room.values)) ∙ c.values-count.ensures.value
+    length-take-le _ c.loop-row.values (omega (arith, slab.values, c.loop-row.invariant.room.values)) ∙ c.values-count.ensures.value
 
 pub write_slab-requires-clause-room : goal.write_slab-requires-clause-room
 write_slab-requires-clause-room g c = room_part c.with_rows.result (ap length c.with_rows.ensures ∙ length-with_rows c.min-here.result c.args.h.now.shape) c.loop-row.invariant.room.codes
@@ -47,7 +47,7 @@ write_slab-requires-clause-room g c = room_part c.with_rows.result (ap length c.
 pub write_slab-requires-clause-taken : goal.write_slab-requires-clause-taken
 write_slab-requires-clause-taken g c =
     let slab = slab_next c.args.h.now c.loop-row.room.rows c.loop-row.row c.rows_of-all.result c.min-here.result c.values-count.result c.value_len.result c.with_rows.result c.dims-dims.ensures.shape c.loop-row.invariant.room.rows c.loop-row.invariant.done.whole c.rows_of-all.ensures c.loop-row-test.true c.min-here.ensures c.with_rows.ensures c.values-count.ensures.value (c.value_len.ensures.value ∙ ap byte_len c.requires.room.same_type) c.value_len.ensures.bound in
-    omega (arith, slab.sizes.bytes_are, slab.sizes.bytes_len, c.loop-row.invariant.taken, rows_len-add c.args.h.now c.loop-row.row c.min-here.result, slab.small)
+    omega (arith, slab.bytes_are, slab.bytes_len, c.loop-row.invariant.taken, rows_len-add c.args.h.now c.loop-row.row c.min-here.result, slab.small)
 
 pub write_slab-requires-clause-raster : goal.write_slab-requires-clause-raster
 write_slab-requires-clause-raster g c =
@@ -59,7 +59,7 @@ write_slab-requires-clause-raster g c =
 pub overflow_add-taken : goal.overflow_add-taken
 overflow_add-taken g c =
     let slab = slab_next c.args.h.now c.loop-row.room.rows c.loop-row.row c.rows_of-all.result c.min-here.result c.values-count.result c.value_len.result c.with_rows.result c.dims-dims.ensures.shape c.loop-row.invariant.room.rows c.loop-row.invariant.done.whole c.rows_of-all.ensures c.loop-row-test.true c.min-here.ensures c.with_rows.ensures c.values-count.ensures.value (c.value_len.ensures.value ∙ ap byte_len c.requires.room.same_type) c.value_len.ensures.bound in
-    let below : c.loop-row.taken + c.values-count.result * c.value_len.result < 2 ^ 64 = omega (arith, slab.sizes.bytes_len, c.loop-row.invariant.taken, rows_len-add c.args.h.now c.loop-row.row c.min-here.result, slab.small) in
+    let below : c.loop-row.taken + c.values-count.result * c.value_len.result < 2 ^ 64 = omega (arith, slab.bytes_len, c.loop-row.invariant.taken, rows_len-add c.args.h.now c.loop-row.row c.min-here.result, slab.small) in
     record { fits = below }
 
 pub returns-in_err-write_slab-clause-err : goal.returns-in_err-write_slab-clause-err
@@ -104,7 +104,7 @@ loop-row-preserved g c =
     let P : List ℕ → Type 0 = λ s. WritesSlab (with_shape h s) (g.S.Source.contents c.loop-row.src) (g.S.Source.contents c.write_slab.new.src) (Gives (g.S.Source.gave c.loop-row.src) (g.S.Source.gave c.write_slab.new.src)) (g.O.Sink.contents c.loop-row.out) (g.O.Sink.contents c.write_slab.new.out) c.loop-row.room.codes.bits c.write_slab.new.room.codes.bits in
     record {
       done = slab_written h row here slab.next c.loop-row.invariant.done.whole c.loop-row.invariant.done (subst P c.with_rows.ensures c.in_ok-write_slab.ensures.ok);
-      taken = omega (arith, slab.sizes.bytes_len, c.loop-row.invariant.taken, rows_len-add h row here);
+      taken = omega (arith, slab.bytes_len, c.loop-row.invariant.taken, rows_len-add h row here);
       few = c.in_ok-write_slab.ensures.few;
       room = array_kept c.loop-row.invariant.room c.write_slab.ensures.keeps (search rules);
       keeps = Keeps-next c.loop-row.invariant.keeps c.write_slab.ensures.keeps;

@@ -1,64 +1,36 @@
 use Rattle.std.proofs.Common.{◌≡◌, ℕ, ◌+◌, ◌≤◌, ℤ, List, ◌++◌, map, length, take, drop, sym, ap, subst, ◌∙◌, take-append-drop, arith}
 use Rattle.std.proofs.lemmas.List.{take_all, take-map, length-map}
 use Rattle.std.specs.Prelude.{OnOk, OnErr}
-use Rattle.std.proofs.Math.Seq.{take-add}
 use Rattle.std.specs.Int.{Width}
 use Rattle.zf_spec.specs.Grid.{product}
 use Rattle.zf_spec.specs.Stream.{raw}
 use Rattle.zf_pad.specs.Stored.{raster_of}
 use Rattle.zf_pad.proofs.Stored.{length-raster_of, raster_of_one}
 use Rattle.zf_dev.specs.Sink.{Appends, AppendsPrefix}
-use Rattle.zf_dev.proofs.Appending.{Appends-append, AppendsPrefix-append, AppendsPrefix-more}
 use Rattle.zf_stream.proofs.OnErrors.{on_err}
 use Rattle.zf_stream.proofs.RawValues.{raw-append}
+use Rattle.zf_stream.proofs.Piecewise.{part_written, part_failed}
 use Rattle.zf_dev.proofs.Devices.{Writes-more}
 use Rattle.zf_stream.proofs.Failing.{WritesOnly-ok, WritesOnly-then}
 use Rattle.std.proofs.lemmas.Result.{err_from_is_err_and}
 use Rattle.zf_stream.proofs.writing.write_stored.Goals as goal
 
--- the bytes of some values more
-bytes_more : (w : Width) (values : List ℤ) (at n : ℕ) → raw w (take at values) ++ raw w (take n (drop at values)) ≡ raw w (take (at + n) values)
-bytes_more w values at n = sym (ap (raw w) (take-add at n values) ∙ raw-append w (take at values) (take n (drop at values)))
-
--- and of all that are left
-bytes_all : (w : Width) (values : List ℤ) (at n : ℕ) → (raw w (take at values) ++ raw w (take n (drop at values))) ++ raw w (drop (at + n) values) ≡ raw w values
-bytes_all w values at n =
-    ap (λ (bs : List ℕ). bs ++ raw w (drop (at + n) values)) (bytes_more w values at n)
-    ∙ sym (ap (raw w) (sym (take-append-drop (at + n) values)) ∙ raw-append w (take (at + n) values) (drop (at + n) values))
-
 pub returns-in_err-write_values-clause-err : goal.returns-in_err-write_values-clause-err
-returns-in_err-write_values-clause-err g c = on_err c.from_residual.result _ (
+returns-in_err-write_values-clause-err g c =
     let w = g.T.Lane.width in
     let values = raster_of c.args.shape.now (map g.T.Lane.value c.args.stored.now) in
-    let at = c.loop-at.at in
-    let n = c.copy_lines-count.result in
-    let from = g.O.Sink.contents c.args.out.now in
-    let mid = g.O.Sink.contents c.loop-at.out in
-    let to = g.O.Sink.contents c.write_values-in-loop-at.new.out in
-    let Of : List ℤ → Type 0 = λ vs. AppendsPrefix mid to (raw w vs) in
-    let P : List ℕ → Type 0 = λ bs. AppendsPrefix from to bs in
-    let here = subst Of c.copy_lines-count.ensures.values c.in_err-write_values.ensures.err in
-    let prefix = raw w (take at values) in
-    let next = raw w (take n (drop at values)) in
-    subst P (bytes_all w values at n)
-    (AppendsPrefix-more from to (prefix ++ next) (raw w (drop (at + n) values)) (AppendsPrefix-append from mid to prefix next c.loop-at.invariant.written here)))
+    let Of : List ℤ → Type 0 = λ vs. AppendsPrefix (g.O.Sink.contents c.loop-at.out) (g.O.Sink.contents c.write_values-in-loop-at.new.out) (raw w vs) in
+    on_err c.from_residual.result _ (part_failed (raw w) (raw-append w) values c.loop-at.at c.copy_lines-count.result _ _ _ c.loop-at.invariant.written (subst Of c.copy_lines-count.ensures.values c.in_err-write_values.ensures.err))
 
 pub loop-at-preserved : goal.loop-at-preserved
 loop-at-preserved g c =
     let w = g.T.Lane.width in
     let values = raster_of c.args.shape.now (map g.T.Lane.value c.args.stored.now) in
-    let at = c.loop-at.at in
-    let n = c.copy_lines-count.result in
-    let from = g.O.Sink.contents c.args.out.now in
-    let mid = g.O.Sink.contents c.loop-at.out in
-    let to = g.O.Sink.contents c.write_values-in-loop-at.new.out in
-    let Of : List ℤ → Type 0 = λ vs. Appends mid to (raw w vs) in
-    let P : List ℕ → Type 0 = λ bs. Appends from to bs in
-    let here = subst Of c.copy_lines-count.ensures.values c.in_ok-write_values.ensures.ok in
+    let Of : List ℤ → Type 0 = λ vs. Appends (g.O.Sink.contents c.loop-at.out) (g.O.Sink.contents c.write_values-in-loop-at.new.out) (raw w vs) in
     record {
       within = c.copy_lines-count.ensures.within;
       first = c.copy_lines-count.ensures.first;
-      written = subst P (bytes_more w values at n) (Appends-append from mid to (raw w (take at values)) (raw w (take n (drop at values))) c.loop-at.invariant.written here);
+      written = part_written (raw w) (raw-append w) values c.loop-at.at c.copy_lines-count.result _ _ _ c.loop-at.invariant.written (subst Of c.copy_lines-count.ensures.values c.in_ok-write_values.ensures.ok);
       sink = Writes-more c.loop-at.invariant.sink c.write_values-in-loop-at.ensures.sink.device;
     }
 

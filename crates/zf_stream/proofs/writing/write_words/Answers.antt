@@ -4,7 +4,7 @@ use Rattle.std.proofs.lemmas.List.Elements.{All-from_get_or}
 use Rattle.std.proofs.lemmas.Grind.{flat_map-append}
 use Rattle.std.specs.Int.{w64, to_le_bytes}
 use Rattle.zf_dev.specs.Sink.{Appends, AppendsPrefix}
-use Rattle.zf_dev.proofs.Appending.{Appends-append, AppendsPrefix-append, AppendsPrefix-more}
+use Rattle.zf_stream.proofs.Piecewise.{part_written, part_failed}
 use Rattle.zf_stream.specs.Flows.{bytes_in}
 use Rattle.zf_stream.proofs.OnErrors.{on_err}
 use Rattle.zf_dev.proofs.Devices.{Writes-more}
@@ -13,54 +13,33 @@ use Rattle.std.proofs.lemmas.Result.{err_from_is_err_and}
 use Rattle.zf_stream.proofs.writing.write_words.Goals as goal
 use Rattle.std.proofs.Math.Seq.{take-add}
 
--- the bytes of some words more
-bytes_more : (words : List ℕ) (at n : ℕ) → bytes_in (take (at + n) words) ≡ bytes_in (take at words) ++ bytes_in (take n (drop at words))
-bytes_more words at n = ap bytes_in (take-add at n words) ∙ flat_map-append (to_le_bytes w64) (take at words) (take n (drop at words))
-
--- those that were written, and those behind
-all_bytes : (words : List ℕ) (n : ℕ) → bytes_in (take n words) ++ bytes_in (drop n words) ≡ bytes_in words
-all_bytes words n = sym (flat_map-append (to_le_bytes w64) (take n words) (drop n words)) ∙ ap bytes_in (take-append-drop n words)
-
 -- what a piece was filled with
 filled : (put rest words : List ℕ) (at n m k : ℕ) → put ≡ bytes_in (take k (drop at words)) → k ≡ n → length put ≡ m → take m (put ++ rest) ≡ bytes_in (take n (drop at words))
 filled put rest words at n m k is count long = take_at put rest m long ∙ is ∙ ap (λ j. bytes_in (take j (drop at words))) count
 
 pub returns-in_err-write_bytes-clause-err : goal.returns-in_err-write_bytes-clause-err
-returns-in_err-write_bytes-clause-err g c = on_err c.from_residual.result _ (
+returns-in_err-write_bytes-clause-err g c =
     let words = c.args.words.now in
     let at = c.loop-at.at in
     let n = c.min-n.result in
-    let from = g.O.Sink.contents c.args.out.now in
-    let to = g.O.Sink.contents c.write_bytes.new.out in
-    let mid = g.O.Sink.contents c.loop-at.out in
-    let behind = bytes_in (drop (at + n) words) in
-    let prefix = bytes_in (take at words) in
     let count : at + n - at ≡ n = omega arith in
     let long : length c.put_bytes.new.bytes ≡ 8 * n = omega (arith, c.put_bytes.auto.bytes, c.min-n.ensures, length-take (8 * n) c.loop-at.piece, c.loop-at.auto.piece) in
     let same = filled c.put_bytes.new.bytes (drop (8 * n) c.loop-at.piece) words at n (8 * n) (at + n - at) c.put_bytes.ensures count long in
-    let Piece : List ℕ → Type 0 = λ bs. AppendsPrefix mid to bs in
-    let piece = subst Piece same c.in_err-write_bytes.ensures.err in
-    let P : List ℕ → Type 0 = λ bs. AppendsPrefix from to bs in
-    let parts = AppendsPrefix-append from mid to prefix (bytes_in (take n (drop at words))) c.loop-at.invariant.written piece in
-    subst P (ap (λ (bs : List ℕ). bs ++ behind) (sym (bytes_more words at n)) ∙ all_bytes words (at + n)) (AppendsPrefix-more from to (prefix ++ bytes_in (take n (drop at words))) behind parts))
+    let Piece : List ℕ → Type 0 = λ bs. AppendsPrefix (g.O.Sink.contents c.loop-at.out) (g.O.Sink.contents c.write_bytes.new.out) bs in
+    on_err c.from_residual.result _ (part_failed bytes_in (flat_map-append (to_le_bytes w64)) words at n _ _ _ c.loop-at.invariant.written (subst Piece same c.in_err-write_bytes.ensures.err))
 
 pub loop-at-preserved : goal.loop-at-preserved
 loop-at-preserved g c =
     let words = c.args.words.now in
     let at = c.loop-at.at in
     let n = c.min-n.result in
-    let from = g.O.Sink.contents c.args.out.now in
-    let to = g.O.Sink.contents c.write_bytes.new.out in
-    let mid = g.O.Sink.contents c.loop-at.out in
     let count : at + n - at ≡ n = omega arith in
     let long : length c.put_bytes.new.bytes ≡ 8 * n = omega (arith, c.put_bytes.auto.bytes, c.min-n.ensures, length-take (8 * n) c.loop-at.piece, c.loop-at.auto.piece) in
     let same = filled c.put_bytes.new.bytes (drop (8 * n) c.loop-at.piece) words at n (8 * n) (at + n - at) c.put_bytes.ensures count long in
-    let Piece : List ℕ → Type 0 = λ bs. Appends mid to bs in
-    let piece = subst Piece same c.in_ok-write_bytes.ensures.ok in
-    let P : List ℕ → Type 0 = λ bs. Appends from to bs in
+    let Piece : List ℕ → Type 0 = λ bs. Appends (g.O.Sink.contents c.loop-at.out) (g.O.Sink.contents c.write_bytes.new.out) bs in
     record {
       within = omega (arith, c.loop-at-test.true, c.min-n.ensures);
-      written = subst P (sym (bytes_more words at n)) (Appends-append from mid to (bytes_in (take at words)) (bytes_in (take n (drop at words))) c.loop-at.invariant.written piece);
+      written = part_written bytes_in (flat_map-append (to_le_bytes w64)) words at n _ _ _ c.loop-at.invariant.written (subst Piece same c.in_ok-write_bytes.ensures.ok);
       sink = Writes-more c.loop-at.invariant.sink c.write_bytes.ensures.sink.device;
     }
 
