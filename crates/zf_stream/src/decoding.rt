@@ -67,8 +67,7 @@ pub(crate) fn read_slab<T: Lane, S: Source>(
 }
 
 /// Reads the code of block `b`, whose values are so many, by way of `lines`, or answers `None` where the bits
-/// that are
-/// held end too early.
+/// that are held end too early.
 #[inline(always)]
 fn read_block<T: Lane>(
     part: &Header,

@@ -28,8 +28,7 @@ use zf_header::{Header, Mode};
 use zf_pad::Layout;
 
 /// Appends the codes of all blocks, in order. Where as many bits are at hand as the room keeps back, whole
-/// words are
-/// written.
+/// words are written.
 pub(crate) fn write_codes<T: Lane, O: Sink>(
     layout: &Layout,
     h: &Header,

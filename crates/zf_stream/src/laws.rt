@@ -60,8 +60,7 @@ pub fn a_stream_is_parsed()
 {}
 
 /// The stream of raw bytes is a good one. What is restored of it is these bytes, or the bytes of what the
-/// fixed rate or the fixed
-/// precision makes of each block.
+/// fixed rate or the fixed precision makes of each block.
 pub fn restore_undoes_compress()
     ensures answer { (h : Header) (bytes : List ℕ) → IsHeader h
         → restore_answer (stream_text h bytes) ≡ Ok tt }

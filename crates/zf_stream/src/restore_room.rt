@@ -66,8 +66,7 @@ pub(crate) fn restore_room<T: Lane>(
     let lines = vec![in alloc; T::zero(); LINES]?;
     let piece = vec![in alloc; 0; PIECE as usize]?;
     // Room for a slab is taken here, and written block by block: a stream that ends early needs no more than
-    // its
-    // values.
+    // its values.
     let stored = Vec::with_capacity(alloc, slab.values() as usize)?;
     Ok(RestoreRoom {
         rows,

@@ -55,9 +55,8 @@ pub fn restore<S: Source, O: Sink>(
 }
 
 /// Restores a stream whose values are of this type, as [`restore`] does, and answers true. Of another type it
-/// answers
-/// false: the header was read, with 24 bytes taken at most, and nothing was written. Its errors are those of
-/// [`restore`].
+/// answers false: the header was read, with 24 bytes taken at most, and nothing was written. Its errors are
+/// those of [`restore`].
 pub fn restore_where<S: Source, O: Sink>(
     alloc: Global,
     wanted: Ty,

@@ -16,8 +16,7 @@ use zf_header::{Header, LONG_HEADER_BITS};
 use zf_parse::longest_code;
 
 /// The most bytes that are read or written at a time: so many that the system is seldom called, and few
-/// beside a
-/// large slab.
+/// beside a large slab.
 pub(crate) const PIECE: u64 = 1 << 18;
 
 /// What an array is compressed in, so many rows at a time, beside the values of these rows.
@@ -38,8 +37,7 @@ pub(crate) struct Room<T: Lane> {
 }
 
 /// Takes all memory for an array: that of the values of some rows, and the room to compress them in. The
-/// header is at
-/// hand there.
+/// header is at hand there.
 pub(crate) fn room_for<T: Lane>(alloc: Global, h: &Header) -> Result<(Vec<T>, Room<T>), AllocError>
     requires mode { IsMode h.now.mode }
     requires same_type { T.width ≡ width_of h.now.ty }

@@ -99,8 +99,7 @@ pub(crate) fn write_values<T: Lane, O: Sink>(
 }
 
 /// Writes the values of an array that are kept in the order of blocks, in raster order as raw bytes, by way
-/// of `lines`
-/// and `piece`.
+/// of `lines` and `piece`.
 pub(crate) fn write_stored<T: Lane, O: Sink>(
     shape: &Shape,
     stored: &[T],
