@@ -34,12 +34,6 @@ bit_at-shl_high a s i h =
     let whole : a * 2 ^ s ≡ a * 2 ^ s + 0 = omega arith in
     ap (λ n. bit_at n i) whole ∙ bit_at_cat_high a s 0 i (pow_pos s) h
 
--- the n lowest bits, by a mask that is shifted down
-pub and_ones : (v n : ℕ) → n ≤ 64 → bit_and v (0xffff_ffff_ffff_ffff / 2 ^ (64 - n)) ≡ v % 2 ^ n
-and_ones v n within =
-    let back : 64 - (64 - n) ≡ n = omega arith in
-    ap (bit_and v) (ones_shr 64 (64 - n) (omega arith) ∙ ap (λ k. 2 ^ k - 1) back) ∙ and_mask v n
-
 -- the low half of a word and, above it, another
 pub low_half : (a b i : ℕ) → i < 32 → bit_at (bit_or (bit_and a 0xffff_ffff) (b * 0x1_0000_0000 % 2 ^ 64)) i ≡ bit_at a i
 low_half a b i h =

@@ -7,7 +7,7 @@ use zf_base::Pos;
 use zf_script::Cmd;
 
 /// A command by its kind: what it is about.
-#[derive(Clone, Copy, Debug, PartialEq, Eq)]
+#[derive(Clone, Copy)]
 pub enum Kind {
     /// It reads the array, or is about the cache; nothing that is stored changes.
     Read(ReadCmd),
@@ -26,7 +26,7 @@ pub enum Kind {
 }
 
 /// A command that reads the array, or is about the cache.
-#[derive(Clone, Copy, Debug, PartialEq, Eq)]
+#[derive(Clone, Copy)]
 pub enum ReadCmd {
     Get(Pos),
     Sum,
@@ -35,7 +35,7 @@ pub enum ReadCmd {
 }
 
 /// A command on the window.
-#[derive(Clone, Copy, Debug, PartialEq, Eq)]
+#[derive(Clone, Copy)]
 pub enum WindowCmd {
     View(Pos, Pos, Pos),
     Slice(u64, u64),
@@ -44,7 +44,7 @@ pub enum WindowCmd {
 }
 
 /// A command that changes values, or writes them back.
-#[derive(Clone, Copy, Debug, PartialEq, Eq)]
+#[derive(Clone, Copy)]
 pub enum WriteCmd {
     Set(Pos, i128),
     Add(Pos, i128),
@@ -54,14 +54,14 @@ pub enum WriteCmd {
 }
 
 /// A command that changes an array of one line for a block.
-#[derive(Clone, Copy, Debug, PartialEq, Eq)]
+#[derive(Clone, Copy)]
 pub enum ArrayCmd {
     Set(Pos, i128),
     Resize(u8, Pos),
 }
 
 /// A command on one view.
-#[derive(Clone, Copy, Debug, PartialEq, Eq)]
+#[derive(Clone, Copy)]
 pub enum ViewCmd {
     Get(Pos),
     Set(Pos, i128),

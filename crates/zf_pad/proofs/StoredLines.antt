@@ -86,9 +86,6 @@ module _ (n : ℕ) (ns ps : List ℕ) (first lines line x : ℕ) (h : IsLine ns 
     line_is = line_is ∙ ap (λ i. x % 4 + min 4 (n - 4 * (x / 4)) * i) h.line_is;
   }
 
-pub no_axes : IsLine [] [] 0 1 0
-no_axes = record { first_is = refl; lines_are = refl; line_is = refl }
-
 -- the value with a raster number
 pub value_on_line : (ns : List ℕ) (stored : List ℤ) (k first lines line : ℕ) → length ns ≤ 4 → k < product ns → IsLine (other_sizes ns) (coordinates (other_sizes ns) (k / line_len ns)) first lines line
     → get_or (raster_of ns stored) k (pos 0) ≡ get_or stored (place_on (line_len ns) first lines line (k % line_len ns)) (pos 0)

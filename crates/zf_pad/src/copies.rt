@@ -121,56 +121,10 @@ pub fn scatter<T: Lane>(layout: &Layout, e: &Extent, d: u8, block: &[T], values:
     ensures { IsScattered layout.now e.now
         (map T.value block.now) (map T.value values.old) (map T.value values.new) }
 {
-    if !has_whole_rows(layout, e) {
-        scatter_places(layout, e, d, block, values);
-    } else if d > 1 && is_whole(&e.size, d) {
-        scatter_whole(layout, e, d, block, values);
-    } else {
+    if has_whole_rows(layout, e) {
         scatter_rows(layout, e, d, block, values);
-    }
-}
-
-// Scatters a whole block of more than one dimension.
-fn scatter_whole<T: Lane>(layout: &Layout, e: &Extent, d: u8, block: &[T], values: &mut [T])
-    requires more { 1 < d }
-    requires whole { IsWholeBlock layout.now e.now d }
-    requires fits { CanCopy layout.now e.now d (length values.old) (length block.now) }
-    requires one_to_one { IsOneToOne layout.now e.now }
-    ensures { IsScattered layout.now e.now
-        (map T.value block.now) (map T.value values.old) (map T.value values.new) }
-{
-    match d {
-        2 => scatter_slices(layout, e, d, 1, block, values),
-        3 => scatter_slices(layout, e, d, 4, block, values),
-        _ => scatter_slices(layout, e, d, 16, block, values),
-    }
-}
-
-// Scatters so many slices of four rows.
-#[inline(always)]
-fn scatter_slices<T: Lane>(
-    layout: &Layout,
-    e: &Extent,
-    d: u8,
-    slices: usize,
-    block: &[T],
-    values: &mut [T],
-)
-    requires slices { 16 * slices ≡ 4 ^ d }
-    requires few { slices ≤ 16 }
-    requires whole { IsWholeBlock layout.now e.now d }
-    requires fits { CanCopy layout.now e.now d (length values.old) (length block.now) }
-    requires one_to_one { IsOneToOne layout.now e.now }
-    ensures { IsScattered layout.now e.now
-        (map T.value block.now) (map T.value values.old) (map T.value values.new) }
-{
-    let from_origin = layout.counted_from(&e.origin);
-    let step = layout.step.y as usize;
-    for slice in 0..slices {
-        let first = from_origin.index(&indices(4 * (4 * slice))) as usize;
-        for y in 0..4 {
-            copy_row(block, 4 * (4 * slice + y), values, first + y * step);
-        }
+    } else {
+        scatter_places(layout, e, d, block, values);
     }
 }
 

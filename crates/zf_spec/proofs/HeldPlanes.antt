@@ -28,6 +28,3 @@ unfolding planes_held
 get_or-planes_held size planes i d below =
     get_or-map (digits_held size) (reverse planes) i [] d (omega (arith, length-reverse planes))
     ∙ ap (digits_held size) (get_or-reverse planes i [] below)
-
-pub get_or-planes_held_past : (size : ℕ) (planes : List (List ℕ)) (i : ℕ) → length planes ≤ i → get_or (planes_held size planes) i [] ≡ []
-get_or-planes_held_past size planes i past = get_or_past (planes_held size planes) i [] (omega (arith, length-planes_held size planes))

@@ -6,7 +6,7 @@ use zf_header::Header;
 use zf_narrow::Narrow;
 
 /// The cache that a script runs over.
-#[derive(Clone, Copy, Debug)]
+#[derive(Clone, Copy)]
 pub enum Caching {
     /// Each block has one line. There are so many lines, or as many as suit the array.
     Direct(Option<u32>),
@@ -15,7 +15,7 @@ pub enum Caching {
 }
 
 /// What a script does with the file that it is for.
-#[derive(Clone, Copy, Debug)]
+#[derive(Clone, Copy)]
 pub enum Access {
     /// It runs on the array of the file, over such a cache, and the array is saved.
     Run(Caching),
@@ -24,7 +24,7 @@ pub enum Access {
 }
 
 /// What the program is asked to do.
-#[derive(Debug, Drop)]
+#[derive(Drop)]
 pub enum Command {
     /// Raw values from the source; the stream that has this header to the sink.
     Compress(Header),

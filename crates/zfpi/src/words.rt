@@ -22,7 +22,7 @@ const MOST_LINES: u32 = 1 << 16;
 
 // What is done with the arrays of a header: raw values, or narrow ones, become their stream, or values are
 // made from a number.
-#[derive(Clone, Copy, Debug)]
+#[derive(Clone, Copy)]
 enum Task {
     Compress,
     CompressNarrow(Narrow),
@@ -30,14 +30,14 @@ enum Task {
 }
 
 // What is done with a script: it is run on an array, which is saved then, or it looks at a stream.
-#[derive(Clone, Copy, Debug)]
+#[derive(Clone, Copy)]
 enum Script {
     Run,
     Look,
 }
 
 // How far the words have come.
-#[derive(Debug, Drop)]
+#[derive(Drop)]
 enum Stage {
     Start,
     Compressing,

@@ -13,7 +13,7 @@ const MOST: usize = 64;
 
 /// The name of a file of the shelf, which contracts see as its bytes: 1 to 64 letters, digits, `_`, `.` and
 /// `-`, of which the first is a letter or a digit.
-#[derive(Debug, Drop)]
+#[derive(Drop)]
 pub struct Name {
     text: ArrayString<MOST>,
 }
