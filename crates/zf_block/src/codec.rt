@@ -52,10 +52,12 @@ fn encode_any<C: BlockCode<T>, T: Lane>(
 {
     // A row needs no planes. Planes of up to 64 coefficients lie in one word each. Work room of a known size
     // is faster where it is small; it stands here, so that no block clears that of another size.
+    // Each arm says its number of dimensions as a number, so that what it calls is compiled for that one.
     match block.dims() {
         1 => write_row(code, block, out),
         2 => write_block(
             code,
+            2,
             block,
             &mut [T::zero(); 16],
             &mut [0; 16],
@@ -64,6 +66,7 @@ fn encode_any<C: BlockCode<T>, T: Lane>(
         ),
         3 => write_block(
             code,
+            3,
             block,
             &mut s.values,
             &mut s.digits,
@@ -72,6 +75,7 @@ fn encode_any<C: BlockCode<T>, T: Lane>(
         ),
         _ => write_block(
             code,
+            4,
             block,
             &mut s.values,
             &mut s.digits,
@@ -84,18 +88,17 @@ fn encode_any<C: BlockCode<T>, T: Lane>(
 /// Appends the code of a block of one dimension, straight from the digits of its coefficients.
 #[inline(always)]
 fn write_row<C: BlockCode<T>, T: Lane>(code: &C, block: &Partial<'_, T>, out: &mut BitWriter)
-    requires size { 4 ≡ 4 ^ block.now.d }
-    requires fits { C.longest code.now (4 ^ block.now.d) ≤ out.old.room }
+    requires row { 1 ≡ block.now.d }
+    requires fits { C.longest code.now 4 ≤ out.old.room }
     ensures { Appends out.old out.new (C.code_of code.now (planes_by T.width C.forth block.now)) }
 {
-    let d = block.dims();
     // Known by this call: as many values fit into memory.
     let _values = block.values();
     let mut values = [T::zero(); 4];
     let mut digits = [0; 4];
-    block.copy_padded(&mut values);
-    C::forward(d, &mut values);
-    to_digits(d, &values, &mut digits);
+    block.copy_padded(1, &mut values);
+    C::forward(1, &mut values);
+    to_digits(1, &values, &mut digits);
     code.write_four(&digits, out);
 }
 
@@ -103,19 +106,21 @@ fn write_row<C: BlockCode<T>, T: Lane>(code: &C, block: &Partial<'_, T>, out: &m
 #[inline(always)]
 fn write_block<C: BlockCode<T>, T: Lane, P: Plane>(
     code: &C,
+    d: u8,
     block: &Partial<'_, T>,
     values: &mut [T],
     digits: &mut [u64],
     planes: &mut [P],
     out: &mut BitWriter,
 )
-    requires values { length values.old ≡ 4 ^ block.now.d }
-    requires room { IsWorkRoom block.now.d P.word_count T.WIDTH digits.old planes.old }
-    requires fits { C.longest code.now (4 ^ block.now.d) ≤ out.old.room }
+    requires dimension { d ≡ block.now.d }
+    requires values { IsBlockOf d values.old }
+    requires room { IsWorkRoom d P.word_count T.WIDTH digits.old planes.old }
+    requires fits { C.longest code.now (4 ^ d) ≤ out.old.room }
     ensures { Appends out.old out.new (C.code_of code.now (planes_by T.width C.forth block.now)) }
 {
-    block.copy_padded(values);
-    make_planes::<C, T, P>(block.dims(), values, digits, planes);
+    block.copy_padded(d, values);
+    make_planes::<C, T, P>(d, values, digits, planes);
     code.write(block.len(), digits, planes, out);
 }
 

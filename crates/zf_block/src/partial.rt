@@ -80,15 +80,16 @@ impl<'a, T: Lane> Partial<'a, T> {
         is_all(T::zero(), self.values)
     }
 
-    /// Copies the values, padded.
+    /// Copies the values, padded. `d` is the number of dimensions, which the caller knows as a number.
     #[inline(always)]
-    pub(crate) fn copy_padded(&self, values: &mut [T])
-        requires { length values.old ≡ 4 ^ self.now.d }
+    pub(crate) fn copy_padded(&self, d: u8, values: &mut [T])
+        requires dimension { d ≡ self.now.d }
+        requires room { length values.old ≡ 4 ^ d }
         ensures { map T.value values.new ≡ pad self.now.sizes self.now.values }
     {
         // As many as there is room for, so that a copy into an array of a known length needs no call.
         let size = values.len();
         values.copy_from_slice(&self.values[..size]);
-        zf_pad::pad(self.e, self.d, values);
+        zf_pad::pad(self.e, d, values);
     }
 }

@@ -1,16 +1,17 @@
 -- Planes that are read from the greatest on, one after another.
-use Rattle.std.proofs.Common.{◌≡◌, ℕ, suc, ◌+◌, ◌-◌, ◌*◌, ◌<◌, ◌≤◌, ◌⊎◌, max, Bool, false, List, [], ◌∷◌, ◌++◌, length, map, take, drop, set, replicate, sym, ap, ◌∙◌, subst, arith}
+use Rattle.std.proofs.Common.{◌≡◌, ℕ, suc, ◌+◌, ◌-◌, ◌*◌, ◌<◌, ◌≤◌, ◌⊎◌, max, Bool, false, List, [], ◌∷◌, ◌++◌, length, map, take, drop, set, replicate, refl, sym, ap, ◌∙◌, subst, arith}
 use Rattle.std.specs.List.{All}
 use Rattle.std.proofs.lemmas.List.{length-map, length-replicate, take-replicate, drop-replicate, append_assoc, take-append-drop, replicate-append-replicate}
 use Rattle.std.proofs.lemmas.List.Elements.{All-set, All-replicate}
 use Rattle.zf_spec.specs.Numbers.{field}
 use Rattle.zf_spec.specs.Planes.{reach}
+use Rattle.zf_spec.specs.Kept.{kept_planes}
 use Rattle.zf_spec.specs.HeldPlanes.{digits_held, planes_held, IsClearFrom}
 use Rattle.zf_spec.proofs.Fields.{length-field}
 use Rattle.zf_spec.proofs.HeldPlanes.{length-digits_held}
 use Rattle.zf_spec.proofs.Reach.{reach-le}
 use Rattle.zf_bits.specs.Reader.{Reader, rest}
-use Rattle.zf_planes.specs.Decoding.{IsWindow, Takes, Lacks, ReadsPlane, plane_ahead, plane_bits, planes_ahead, planes_bits, ReadsTop}
+use Rattle.zf_planes.specs.Decoding.{IsWindow, Takes, Lacks, ReadsPlane, plane_ahead, plane_bits, planes_ahead, planes_bits, coded, coded_bits, IsSpent, ReadsTop}
 use Rattle.zf_planes.specs.WordPlanes.{IsReadAs}
 use Rattle.zf_planes.proofs.Passing.{Passes, Passes-start, Passes-part, Passes-end, Passes-lacks, Takes-rest}
 use Rattle.zf_planes.proofs.Peeking.{window_prefix, window_long}
@@ -132,11 +133,12 @@ all_planes i prec n size held whole rest_ahead within enough back is none =
     ∙ ap (λ (ps : List (List Bool)). ps ++ replicate (n - prec) zeros) (sym is)
 
 pub AreRead-over : {start now : Reader} {budget left prec size above i : ℕ} (planes : List (List ℕ)) → AreRead start now budget left prec size above i planes
-    → 1 ≤ size → prec ≤ length planes → (left ≡ 0) ⊎ (prec - i ≡ 0) → ReadsTop budget prec size start now planes left
+    → 1 ≤ size → prec ≤ length planes → (left ≡ 0) ⊎ (prec - i ≡ 0) → ReadsTop budget prec size (rest start) planes left
 AreRead-over {start} {now} {budget} {left} {prec} {size} {above} {i} planes read some enough none =
     let over = planes_over left (prec - i) size above (rest now) some read.ranks none in
+    let taken = Passes-end read.passes over.0 in
     record {
-      taken = Passes-end read.passes over.0;
+      bits = record { enough = taken.enough; spent = taken.spent };
       digits = all_planes i prec (length planes) size (planes_held size planes) _ _ read.within enough read.back read.digits over.1;
       clear = read.clear;
     }
@@ -164,3 +166,17 @@ next_known r p size n bits count digits len above s some within window read few 
       bits = rw (known.0, known.1, ← read.reached) at next.bits;
       digits = rw (known.0, known.1, ← read.reached) at next.digits;
     }
+
+-- ---- of a whole code
+
+pub bits_are : (budget prec size : ℕ) (s : List Bool) → planes_bits budget prec size 0 s ≡ coded_bits budget prec size s
+unfolding planes_bits
+bits_are budget prec size s = refl
+
+pub planes_are : (budget prec size : ℕ) (s : List Bool) → planes_ahead budget prec size 0 s ≡ kept_planes budget (coded budget prec size s)
+unfolding planes_ahead
+planes_are budget prec size s = refl
+
+pub spent_on : (budget left prec size : ℕ) (s : List Bool) → IsSpent budget left (planes_bits budget prec size 0 s) s → IsSpent budget left (coded_bits budget prec size s) s
+unfolding planes_bits
+spent_on budget left prec size s spent = spent

@@ -77,11 +77,16 @@ pub record ReadsPlane (size n : ℕ) (old new : Reader) (left after : ℕ) (word
     pub clear : IsClearFrom size words
     pub reached : above ≡ max n (reach (digits_held size words))
 
--- the code of the top p planes was read into words, the planes below are zero, and so much of the budget is
--- left
-pub record ReadsTop (budget p size : ℕ) (old new : Reader) (planes : List (List ℕ)) (after : ℕ) : Type 0 where
-  pub taken : Takes old new budget after (planes_bits budget p size 0 (rest old))
-  pub digits : planes_held size planes ≡ planes_ahead budget p size 0 (rest old)
+-- so many bits are there, and the budget has them
+pub record IsSpent (before after count : ℕ) (s : List Bool) : Type 0 where
+  pub enough : count ≤ length s
+  pub spent : after + count ≡ before
+
+-- the code of the top p planes, which these bits begin with, was read into words, the planes below are zero,
+-- and so much of the budget is left
+pub record ReadsTop (budget p size : ℕ) (s : List Bool) (planes : List (List ℕ)) (after : ℕ) : Type 0 where
+  pub bits : IsSpent budget after (planes_bits budget p size 0 s) s
+  pub digits : planes_held size planes ≡ planes_ahead budget p size 0 s
       ++ replicate (length planes - p) (replicate size false)
   pub clear : All (IsClearFrom size) planes
 

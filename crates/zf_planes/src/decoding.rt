@@ -197,20 +197,20 @@ pub(crate) fn read_by_runs<P: Plane>(
 }
 
 /// Reads the code of the top `prec` planes. All are zero before, and the other planes stay so. The answer is
-/// the cursor behind them.
+/// what is left of the budget.
 #[inline(always)]
-fn read_by_planes<'a, P: Plane>(
+fn read_by_planes<P: Plane>(
     budget: u64,
     prec: u32,
     size: usize,
-    reader: &BitReader<'a>,
+    reader: &BitReader<'_>,
     planes: &mut [P],
-) -> Option<Cursor<'a>>
+) -> Option<u64>
     requires planes { HasBlanks size prec P.word_count (length planes.old) (map P.words planes.old) }
     ensures short { IfNone result (length (rest reader.now)
         < planes_bits budget prec size 0 (rest reader.now)) }
-    ensures read { IfSome result (λ next. ReadsTop budget prec size reader.now next.reader
-        (map P.words planes.new) next.left) }
+    ensures read { IfSome result (λ left. ReadsTop budget prec size (rest reader.now)
+        (map P.words planes.new) left) }
 {
     let mut cursor = Cursor::new(budget, reader);
     let mut i = cursor.pass_zero_planes(prec) as usize;
@@ -227,22 +227,22 @@ fn read_by_planes<'a, P: Plane>(
             i += 1;
         }
     }
-    Some(cursor)
+    Some(cursor.left)
 }
 
 /// The same, by words where a plane lies in one: a program of its own for each such size.
-fn read_top<'a, P: Plane>(
+fn read_top<P: Plane>(
     budget: u64,
     prec: u32,
     size: usize,
-    reader: &BitReader<'a>,
+    reader: &BitReader<'_>,
     planes: &mut [P],
-) -> Option<Cursor<'a>>
+) -> Option<u64>
     requires planes { HasBlanks size prec P.word_count (length planes.old) (map P.words planes.old) }
     ensures short { IfNone result (length (rest reader.now)
         < planes_bits budget prec size 0 (rest reader.now)) }
-    ensures read { IfSome result (λ next. ReadsTop budget prec size reader.now next.reader
-        (map P.words planes.new) next.left) }
+    ensures read { IfSome result (λ left. ReadsTop budget prec size (rest reader.now)
+        (map P.words planes.new) left) }
 {
     match size {
         4 => read_in_words(budget, prec, 4, reader, planes),
@@ -282,9 +282,10 @@ pub fn read_planes<P: Plane>(
         ++ replicate (length planes.new - prec) (replicate size false)) }
     ensures clear { OnSome result (All (IsClearFrom size) (map P.words planes.new)) }
 {
-    let next = read_top(budget, prec, size, reader, planes)?;
-    *reader = next.reader;
-    Some(budget - next.left)
+    let left = read_top(budget, prec, size, reader, planes)?;
+    let count = budget - left;
+    reader.skip(count);
+    Some(count)
 }
 
 /// Reads the code of the top `prec` planes, of which `budget` bits were written, or all of it where it is

@@ -6,7 +6,7 @@ ghost use Rattle.zf_spec.specs.Planes.{code_from, reach, reach_of_all, planes_of
 ghost use Rattle.zf_spec.specs.Kept.{kept_planes};
 ghost use Rattle.zf_bits.specs.Reader.{rest, Reads};
 ghost use Rattle.zf_planes.specs.Moves.{LacksPlane, LacksPlanes, MovesOverOne, MovesOverPlanes, MovesOverSome};
-ghost use Rattle.zf_planes.specs.Decoding.{coded, coded_bits, plane_ahead, plane_bits, planes_ahead, planes_bits, Takes, Lacks};
+ghost use Rattle.zf_planes.specs.Decoding.{coded, coded_bits, plane_ahead, plane_bits, planes_ahead, planes_bits, IsSpent, Takes, Lacks};
 ghost use Rattle.zf_planes.specs.Fours.{string_planes};
 ghost use Rattle.zf_planes.specs.Lanes.{low_planes, lanes_in, AreBelow, IsGathered, gathered, ReadsPlanes};
 
@@ -275,21 +275,21 @@ fn read_lone(most: u32, cursor: &mut Cursor<'_>) -> PlanesInLanes
     lone
 }
 
-/// Digits that were read, and the cursor behind them.
-#[derive(Drop)]
-struct ReadDigits<'a> {
+/// Digits that were read, and what is left of the budget.
+#[derive(Clone, Copy)]
+struct ReadDigits {
     digits: Gathered,
-    next: Cursor<'a>,
+    left: u64,
 }
 
 /// Reads the code of the top `prec` planes of four digits, or of the first of them where all that are left
 /// are zero.
 #[inline(always)]
-fn read_gathered<'a>(budget: u64, prec: u32, reader: &BitReader<'a>) -> Option<ReadDigits<'a>>
+fn read_gathered(budget: u64, prec: u32, reader: &BitReader<'_>) -> Option<ReadDigits>
     requires planes { prec ≤ 64 }
     ensures short { IfNone result (length (rest reader.now) < planes_bits budget prec 4 0 (rest reader.now)) }
-    ensures bits { IfSome result (λ read. Takes reader.now read.next.reader budget read.next.left
-        (planes_bits budget prec 4 0 (rest reader.now))) }
+    ensures bits { IfSome result (λ read. IsSpent budget read.left (planes_bits budget prec 4 0
+        (rest reader.now)) (rest reader.now)) }
     ensures gathered { IfSome result (λ read. IsGathered read.digits.words read.digits.done read.digits.lanes
         read.digits.held) }
     ensures within { IfSome result (λ read. read.digits.done + read.digits.held ≤ prec) }
@@ -321,7 +321,7 @@ fn read_gathered<'a>(budget: u64, prec: u32, reader: &BitReader<'a>) -> Option<R
     }
     Some(ReadDigits {
         digits,
-        next: cursor,
+        left: cursor.left,
     })
 }
 
@@ -356,6 +356,7 @@ pub fn read_four(
 {
     let read = read_gathered(budget, prec, reader)?;
     *digits = digits_of(read.digits, width);
-    *reader = read.next.reader;
-    Some(budget - read.next.left)
+    let count = budget - read.left;
+    reader.skip(count);
+    Some(count)
 }

@@ -135,21 +135,21 @@ fn read_last<P: Plane>(size: usize, cursor: &mut Cursor<'_>) -> Option<PlaneRead
 }
 
 /// Reads the code of the top `prec` planes. All are zero before, and the other planes stay so. The answer is
-/// the cursor behind them.
+/// what is left of the budget.
 #[inline(always)]
-pub(crate) fn read_in_words<'a, P: Plane>(
+pub(crate) fn read_in_words<P: Plane>(
     budget: u64,
     prec: u32,
     size: usize,
-    reader: &BitReader<'a>,
+    reader: &BitReader<'_>,
     planes: &mut [P],
-) -> Option<Cursor<'a>>
+) -> Option<u64>
     requires size { size ≤ 64 }
     requires planes { HasBlanks size prec P.word_count (length planes.old) (map P.words planes.old) }
     ensures short { IfNone result (length (rest reader.now)
         < planes_bits budget prec size 0 (rest reader.now)) }
-    ensures read { IfSome result (λ next. ReadsTop budget prec size reader.now next.reader
-        (map P.words planes.new) next.left) }
+    ensures read { IfSome result (λ left. ReadsTop budget prec size (rest reader.now)
+        (map P.words planes.new) left) }
 {
     let mut cursor = Cursor::new(budget, reader);
     let mut i = cursor.pass_zero_planes(prec) as usize;
@@ -174,5 +174,5 @@ pub(crate) fn read_in_words<'a, P: Plane>(
         planes[k] = read.plane;
         i += 1;
     }
-    Some(cursor)
+    Some(cursor.left)
 }

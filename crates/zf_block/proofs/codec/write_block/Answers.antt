@@ -14,5 +14,5 @@ returns g c =
     Appends-same c.write.ensures
     (ap (g.C.BlockCode.code_of c.args.code.now)
     (ap (λ n. planes_held n planes) c.len.ensures.value
-    ∙ subst Made c.dims.ensures.value c.make_planes.ensures.0
+    ∙ subst Made c.requires.dimension c.make_planes.ensures.0
     ∙ ap (λ (vs : List ℤ). codes.planes w block.d (g.C.BlockCode.forth block.d vs)) c.copy_padded.ensures))

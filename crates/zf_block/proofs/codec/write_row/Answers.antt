@@ -14,5 +14,5 @@ returns g c =
     let Made : ℕ → Type 0 = λ d. planes_of n (digits_in n c.to_digits.new.digits) ≡ codes.planes w d (g.C.BlockCode.forth d values) in
     Appends-same c.write_four.ensures
     (ap (g.C.BlockCode.code_of c.args.code.now)
-    (subst Made c.dims-d.ensures.value (c.to_digits.ensures ∙ ap (codes.planes w c.dims-d.result) c.forward.ensures)
+    (subst Made c.requires.row (c.to_digits.ensures ∙ ap (codes.planes w 1) c.forward.ensures)
     ∙ ap (λ (vs : List ℤ). codes.planes w block.d (g.C.BlockCode.forth block.d vs)) c.copy_padded.ensures))

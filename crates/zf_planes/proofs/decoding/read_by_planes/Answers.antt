@@ -2,7 +2,6 @@ use Rattle.std.proofs.Common.{◌≡◌, ◌-◌, ◌≤◌, ◌⊎◌, inl, inr
 use Rattle.std.proofs.lemmas.List.{length-map}
 use Rattle.zf_planes.proofs.Passing.{if_none}
 use Rattle.zf_planes.proofs.PlanesRead.{AreRead-start, AreRead-more, AreRead-lacks, AreRead-over}
-use Rattle.zf_planes.proofs.decoding.read_by_planes.Goals.{then-loop-i-test+else-cursor-gt0, else-loop-i-test}
 use Rattle.zf_planes.proofs.decoding.read_by_planes.Goals as goal
 
 pub loop-i-init : goal.loop-i-init
@@ -34,12 +33,12 @@ loop-i-preserved g c =
 
 -- ---- no bit or no plane is left
 
-pub returns-clause-read : goal.returns-clause-read
-returns-clause-read g c =
+pub returns-else-cursor-gt0-clause-read : goal.returns-else-cursor-gt0-clause-read
+returns-else-cursor-gt0-clause-read g c =
     let planes = map g.P.Plane.words c.loop-i.planes in
-    let enough : c.args.prec ≤ length planes = omega (arith, length-map c.loop-i.planes g.P.Plane.words, c.loop-i.invariant.long, c.requires.planes.enough) in
-    let over : (c.loop-i.cursor.left ≡ 0) ⊎ (c.args.prec - c.loop-i.i ≡ 0) = elim c.loop-i-test.branch [
-      | then-loop-i-test+else-cursor-gt0 w ↦ inl (omega (arith, w.if-cursor-gt0.false))
-      | else-loop-i-test w ↦ inr (omega (arith, w.loop-i-test.false))
-    ] in
-    AreRead-over planes c.loop-i.invariant.read c.requires.planes.some enough over
+    AreRead-over planes c.loop-i.invariant.read c.requires.planes.some (omega (arith, length-map c.loop-i.planes g.P.Plane.words, c.loop-i.invariant.long, c.requires.planes.enough)) (inl (omega (arith, c.if-cursor-gt0.false)))
+
+pub returns-after-loop-i-clause-read : goal.returns-after-loop-i-clause-read
+returns-after-loop-i-clause-read g c =
+    let planes = map g.P.Plane.words c.loop-i.planes in
+    AreRead-over planes c.loop-i.invariant.read c.requires.planes.some (omega (arith, length-map c.loop-i.planes g.P.Plane.words, c.loop-i.invariant.long, c.requires.planes.enough)) (inr (omega (arith, c.loop-i-test.false)))

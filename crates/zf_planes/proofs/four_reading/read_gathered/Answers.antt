@@ -1,13 +1,12 @@
 use Rattle.std.proofs.Common.{◌≡◌, ℕ, ◌+◌, ◌-◌, ◌⊎◌, inl, inr, Bool, false, List, [], ◌∷◌, ◌++◌, replicate, refl, sym, ap, subst, ◌∙◌, arith}
-use Rattle.zf_bits.specs.Reader.{rest}
-use Rattle.zf_planes.specs.Decoding.{planes_ahead, planes_bits}
+use Rattle.zf_bits.specs.Reader.{Reader, rest}
+use Rattle.zf_planes.specs.Decoding.{planes_ahead, planes_bits, IsSpent}
 use Rattle.zf_planes.specs.Lanes.{gathered, ReadsPlanes}
 use Rattle.zf_planes.proofs.Lanes.{gathered_words, low_planes-zeros, four_below, no_lanes_below}
 use Rattle.zf_planes.proofs.LanesAhead.{FoursRead, FoursRead-more, gathered-more}
 use Rattle.zf_planes.proofs.LastRank.{three_through}
 use Rattle.zf_planes.proofs.Passing.{Passes-start, Passes-part, Passes-end, Passes-lacks, if_none}
 use Rattle.zf_planes.proofs.PlanesAhead.{planes_over, zero_planes}
-use Rattle.zf_planes.proofs.four_reading.read_gathered.Goals.{then-loop-digits-test+else-cursor-gt0, else-loop-digits-test}
 use Rattle.zf_planes.proofs.four_reading.read_gathered.Goals as goal
 
 -- ---- the planes of zeros at the top
@@ -83,21 +82,22 @@ loop-digits-preserved c = record { read = c.loop-cursor.invariant.read }
 
 -- ---- no bit or no plane is left
 
-over : (c : goal.Left-loop-digits) → (planes_bits c.loop-digits.cursor.left (c.args.prec - (c.loop-digits.digits.done + c.loop-digits.digits.held)) 4 c.loop-digits.above (rest c.loop-digits.cursor.reader) ≡ 0)
-    × (planes_ahead c.loop-digits.cursor.left (c.args.prec - (c.loop-digits.digits.done + c.loop-digits.digits.held)) 4 c.loop-digits.above (rest c.loop-digits.cursor.reader)
-    ≡ replicate (c.args.prec - (c.loop-digits.digits.done + c.loop-digits.digits.held)) (replicate 4 false))
-over c =
-    let planes = c.args.prec - (c.loop-digits.digits.done + c.loop-digits.digits.held) in
-    let none : (c.loop-digits.cursor.left ≡ 0) ⊎ (planes ≡ 0) = elim c.loop-digits-test.branch [
-      | then-loop-digits-test+else-cursor-gt0 w ↦ inl (omega (arith, w.if-cursor-gt0.false))
-      | else-loop-digits-test w ↦ inr (omega (arith, w.loop-digits-test.false))
-    ] in
-    planes_over c.loop-digits.cursor.left planes 4 c.loop-digits.above (rest c.loop-digits.cursor.reader) (omega arith) c.loop-digits.invariant.read.high none
+over : {start now : Reader} {budget left prec above : ℕ} {words : List ℕ} {done lanes held : ℕ} → FoursRead start now budget left prec above words done lanes held → (left ≡ 0) ⊎ (prec - (done + held) ≡ 0)
+    → IsSpent budget left (planes_bits budget prec 4 0 (rest start)) (rest start)
+    × (planes_ahead budget prec 4 0 (rest start) ≡ gathered words done lanes held ++ replicate (prec - (done + held)) (replicate 4 false))
+over {start} {now} {budget} {left} {prec} {above} {words} {done} {lanes} {held} read none =
+    let none_left = planes_over left (prec - (done + held)) 4 above (rest now) (omega arith) read.high none in
+    let taken = Passes-end read.passes none_left.0 in
+    (record { enough = taken.enough; spent = taken.spent }, read.planes ∙ ap (λ (ps : List (List Bool)). gathered words done lanes held ++ ps) none_left.1)
 
-pub returns-clause-bits : goal.returns-clause-bits
-returns-clause-bits c = Passes-end c.loop-digits.invariant.read.passes (over c).0
+pub returns-else-cursor-gt0-clause-bits : goal.returns-else-cursor-gt0-clause-bits
+returns-else-cursor-gt0-clause-bits c = (over c.loop-digits.invariant.read (inl (omega (arith, c.if-cursor-gt0.false)))).0
 
-pub returns-clause-digits : goal.returns-clause-digits
-returns-clause-digits c =
-    let digits = c.loop-digits.digits in
-    c.loop-digits.invariant.read.planes ∙ ap (λ (ps : List (List Bool)). gathered digits.words digits.done digits.lanes digits.held ++ ps) (over c).1
+pub returns-after-loop-digits-clause-bits : goal.returns-after-loop-digits-clause-bits
+returns-after-loop-digits-clause-bits c = (over c.loop-digits.invariant.read (inr (omega (arith, c.loop-digits-test.false)))).0
+
+pub returns-else-cursor-gt0-clause-digits : goal.returns-else-cursor-gt0-clause-digits
+returns-else-cursor-gt0-clause-digits c = (over c.loop-digits.invariant.read (inl (omega (arith, c.if-cursor-gt0.false)))).1
+
+pub returns-after-loop-digits-clause-digits : goal.returns-after-loop-digits-clause-digits
+returns-after-loop-digits-clause-digits c = (over c.loop-digits.invariant.read (inr (omega (arith, c.loop-digits-test.false)))).1

@@ -5,7 +5,6 @@ use Rattle.zf_spec.proofs.Reach.{reach-le}
 use Rattle.std.proofs.lemmas.List.{length-map}
 use Rattle.zf_planes.proofs.Passing.{if_none}
 use Rattle.zf_planes.proofs.PlanesRead.{AreRead-start, AreRead-more, AreRead-ranks, AreRead-lacks, AreRead-over}
-use Rattle.zf_planes.proofs.word_reading.read_in_words.Goals.{then-loop-i-2-test+else-cursor-gt0-2, else-loop-i-2-test}
 use Rattle.zf_planes.proofs.word_reading.read_in_words.Goals as goal
 
 -- ---- the planes of zeros at the top
@@ -63,12 +62,12 @@ loop-i-2-preserved g c =
       all = inl all;
     }
 
-pub returns-clause-read : goal.returns-clause-read
-returns-clause-read g c =
+pub returns-else-cursor-gt0-2-clause-read : goal.returns-else-cursor-gt0-2-clause-read
+returns-else-cursor-gt0-2-clause-read g c =
     let planes = map g.P.Plane.words c.loop-i-2.planes in
-    let enough : c.args.prec ≤ length planes = omega (arith, length-map c.loop-i-2.planes g.P.Plane.words, c.loop-i-2.invariant.long, c.requires.planes.enough) in
-    let over : (c.loop-i-2.cursor.left ≡ 0) ⊎ (c.args.prec - c.loop-i-2.i ≡ 0) = elim c.loop-i-2-test.branch [
-      | then-loop-i-2-test+else-cursor-gt0-2 w ↦ inl (omega (arith, w.if-cursor-gt0-2.false))
-      | else-loop-i-2-test w ↦ inr (omega (arith, w.loop-i-2-test.false))
-    ] in
-    AreRead-over planes c.loop-i-2.invariant.read c.requires.planes.some enough over
+    AreRead-over planes c.loop-i-2.invariant.read c.requires.planes.some (omega (arith, length-map c.loop-i-2.planes g.P.Plane.words, c.loop-i-2.invariant.long, c.requires.planes.enough)) (inl (omega (arith, c.if-cursor-gt0-2.false)))
+
+pub returns-after-loop-i-2-clause-read : goal.returns-after-loop-i-2-clause-read
+returns-after-loop-i-2-clause-read g c =
+    let planes = map g.P.Plane.words c.loop-i-2.planes in
+    AreRead-over planes c.loop-i-2.invariant.read c.requires.planes.some (omega (arith, length-map c.loop-i-2.planes g.P.Plane.words, c.loop-i-2.invariant.long, c.requires.planes.enough)) (inr (omega (arith, c.loop-i-2-test.false)))
